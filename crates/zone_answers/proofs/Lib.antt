@@ -1,0 +1,5 @@
+pub mod LineLemmas
+pub mod Loops
+pub mod MemoryLemmas
+pub mod RequestLemmas
+pub mod AnswerLemmas

@@ -1,0 +1,8 @@
+use Rattle.std.proofs.Common.{ap, ◌∙◌, sym}
+use Rattle.zone_answers.specs.AnswerLines.{ended}
+use Rattle.zone_answers.proofs.AnswerLemmas.{ended_lines}
+use Rattle.zone_answers.proofs.answer_lines.Answers.as_bytes.Goals as goal
+
+pub returns : goal.returns
+returns c =
+    c.deref.ensures.value ∙ sym (ended_lines 0 c.self.inside.ends.items c.self.inside.bytes.items c.self.invariant) ∙ ap ended c.self.view_is

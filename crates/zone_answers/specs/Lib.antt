@@ -1,0 +1,9 @@
+pub mod Lines
+pub mod LinesLeft
+pub mod Memory
+pub mod Outside
+pub mod Requests
+pub mod Asked
+pub mod Zones
+pub mod Schedules
+pub mod AnswerLines

@@ -1,0 +1,40 @@
+-- What a request line asks.
+use Rattle.std.specs.Prelude.{ℕ, ℤ, Bool, ◌==◌, ◌&&◌, List, length, drop, Option, Some, None, option_map, pos, neg_ℤ, codes, bytes_eq, nat_lt, nat_le, if◌then◌else◌, slice_index}
+use Rattle.std.specs.Char.{is_digit}
+use Rattle.std.specs.List.{before_first, after_first, list_all}
+use Rattle.std.specs.Str.{is_utf8}
+use Rattle.std.specs.Str.Parse.{digits_value}
+
+-- `at`: the local time of an instant in a zone; the zone's name, and nanoseconds from 1970-01-01 00:00:00 UTC
+pub data Request : Type 0 where
+  at : List ℕ → ℤ → Request
+
+abbrev pub is_space : ℕ → Bool
+is_space byte = byte == 32
+
+-- 1 to 30 ASCII digits
+abbrev pub is_number : List ℕ → Bool
+is_number digits = nat_lt 0 (length digits) && nat_le (length digits) 30 && list_all (λ c. is_digit c 10) digits
+
+abbrev pub is_negative : List ℕ → Bool
+is_negative text = slice_index text 0 == 45
+
+abbrev pub without_minus : List ℕ → List ℕ
+without_minus text = if is_negative text then drop 1 text else text
+
+-- the number of nanoseconds that an optional `-` and such digits write
+unfoldable pub nanoseconds_in : List ℕ → Option ℤ
+nanoseconds_in text =
+    let size = pos (digits_value 10 (without_minus text)) in
+    if is_number (without_minus text) then Some (if is_negative text then neg_ℤ size else size) else None
+
+-- `at NAME N` with one space at each gap, the name being one or more characters other than space
+abbrev pub form_of : List ℕ → Option Request
+form_of line =
+    let rest = after_first is_space line in
+    let name = before_first is_space rest in
+    if bytes_eq (before_first is_space line) (codes "at") && nat_lt 0 (length name) then option_map (at name) (nanoseconds_in (after_first is_space rest)) else None
+
+-- a line that is no text has no form
+unfoldable pub request_of : List ℕ → Option Request
+request_of line = if is_utf8 line then form_of line else None

@@ -1,0 +1,99 @@
+//! A request line.
+ghost use Rattle.std.specs.Prelude.{◌≡◌, true, false, IfSome, IfNone, option_map};
+ghost use Rattle.std.specs.Char.{is_digit};
+ghost use Rattle.std.specs.List.{before_first, after_first, list_all};
+ghost use Rattle.std.specs.Str.{is_utf8};
+ghost use Rattle.zone_answers.specs.Requests.{request_of, form_of, nanoseconds_in, is_number, is_space, without_minus};
+
+use std::str;
+
+/// The most digits of a number of nanoseconds.
+const MOST_DIGITS: usize = 30;
+
+/// What a request line asks.
+#[derive(Clone, Copy, Debug, PartialEq)]
+pub(crate) enum Request<'a> {
+    /// The local time of an instant: the zone's name, and nanoseconds from 1970-01-01 00:00:00 UTC.
+    At(&'a str, i128),
+}
+
+impl<'a> Request<'a> {
+    ghost use Rattle.zone_answers.specs.Asked.{asked};
+
+    /// Reads a line `at NAME N`, N being an optional `-` and 1 to 30 digits.
+    #[tactic(auto, unfolding(crate::specs::Requests::request_of))]
+    pub(crate) fn read(line: &'a [u8]) -> Option<Request<'a>>
+        ensures { option_map asked result ≡ request_of line.now }
+    {
+        match text_of(line) {
+            Some(text) => Request::parse(text),
+            None => None,
+        }
+    }
+
+    fn parse(text: &'a str) -> Option<Request<'a>>
+        ensures { option_map asked result ≡ form_of text.now }
+    {
+        let (word, rest) = cut_at_space(text);
+        let (name, number) = cut_at_space(rest);
+        if word != "at" || name.is_empty() {
+            return None;
+        }
+        Some(Request::At(name, nanoseconds(number)?))
+    }
+}
+
+/// The text that the bytes are, if they are UTF-8.
+fn text_of(bytes: &[u8]) -> Option<&str>
+    ensures text { IfSome result (λ text. (text.now ≡ bytes.now) × (is_utf8 bytes.now ≡ true)) }
+    ensures none { IfNone result (is_utf8 bytes.now ≡ false) }
+{
+    match str::from_utf8(bytes) {
+        Ok(text) => Some(text),
+        Err(_) => None,
+    }
+}
+
+/// The text before the first space, and the text after it.
+fn cut_at_space(text: &str) -> (&str, &str)
+    ensures front { result.0.now ≡ before_first is_space text.now }
+    ensures back { result.1.now ≡ after_first is_space text.now }
+{
+    match text.split_once(' ') {
+        Some(parts) => parts,
+        None => (text, ""),
+    }
+}
+
+/// The number that an optional `-` and 1 to 30 digits write.
+fn nanoseconds(text: &str) -> Option<i128>
+    ensures { result ≡ nanoseconds_in text.now }
+{
+    if is_number(without_minus(text.as_bytes())) {
+        text.parse().ok()
+    } else {
+        None
+    }
+}
+
+fn without_minus(text: &[u8]) -> &[u8]
+    ensures { result.now ≡ without_minus text.now }
+{
+    match text {
+        [b'-', digits @ ..] => digits,
+        _ => text,
+    }
+}
+
+/// Whether these are 1 to 30 digits.
+fn is_number(digits: &[u8]) -> bool
+    ensures { result ≡ is_number digits.now }
+{
+    !digits.is_empty() && digits.len() <= MOST_DIGITS && all_digits(digits)
+}
+
+fn all_digits(text: &[u8]) -> bool
+    ensures { result ≡ list_all (λ c. is_digit c 10) text.now }
+{
+    text.iter().all(|byte| char::from(*byte).is_digit(10))
+}
