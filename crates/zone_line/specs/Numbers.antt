@@ -1,7 +1,7 @@
 -- The numbers that stand in a column.
-use Rattle.std.specs.Prelude.{ℕ, ◌+◌, ◌-◌, ◌*◌, ◌&&◌, List, [], ◌∷◌, length, Option, Some, None, option_and_then, option_map, nat_lt, if◌then◌else◌, ℤ}
-use Rattle.std.specs.Char.{is_digit, is_ascii_digit}
-use Rattle.std.specs.List.{list_all}
+use Rattle.std.specs.Prelude.{ℕ, ◌+◌, ◌-◌, ◌*◌, Bool, ◌&&◌, List, [], ◌∷◌, length, Option, Some, None, option_and_then, option_map, nat_lt, if◌then◌else◌, ℤ}
+use Rattle.std.specs.Char.{is_ascii_digit}
+use Rattle.std.specs.Str.{all_ascii_digits}
 use Rattle.std.specs.Str.Parse.{without_leading_sign, signed_digits_value}
 use lib.Signed.{mag}
 
@@ -15,10 +15,13 @@ two_digits (ones ∷ []) = digit_of ones
 two_digits (tens ∷ ones ∷ []) = option_and_then (λ t. option_map (λ o. 10 * t + o) (digit_of ones)) (digit_of tens)
 two_digits _ = None
 
--- the number that Rust reads in a text as one from -half up to half, without half: an optional sign, then digits alone
+-- one ASCII digit or more, and nothing else
+abbrev pub is_numeral : List ℕ → Bool
+is_numeral text = nat_lt 0 (length text) && all_ascii_digits text
+
+-- the number that Rust reads in a text as one from -half up to half, without half: an optional sign, then digits
 unfoldable pub signed_in : ℕ → List ℕ → Option ℤ
 signed_in half text =
-    let digits = without_leading_sign text in
-    let number = signed_digits_value 10 text in
-    if nat_lt 0 (length digits) && list_all (λ c. is_digit c 10) digits && nat_lt (mag number) half
-    then Some number else None
+    if is_numeral (without_leading_sign text) && nat_lt (mag (signed_digits_value 10 text)) half
+    then Some (signed_digits_value 10 text)
+    else None
