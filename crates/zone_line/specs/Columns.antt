@@ -1,0 +1,62 @@
+-- The texts of the columns of a line, as its named groups take them.
+use Rattle.std.specs.Prelude.{ℕ, List, Option, Some, option_map, option_and_then, codes}
+use Rattle.zone_line.specs.Options.{◌>>=◌}
+use Rattle.zone_line.specs.Patterns.{match_in, group_in}
+use Rattle.zone_line.specs.Texts.{zone_text}
+use Rattle.zone_line.specs.declared.columns.ZoneColumns.{ZoneColumns}
+use Rattle.zone_line.specs.declared.columns.InfoColumns.{InfoColumns}
+
+-- the columns that a Zone line and a continuation share
+pub record InfoTexts : Type 0 where
+  pub gmtoff : List ℕ
+  pub rules : List ℕ
+  pub format : List ℕ
+  pub year : Option (List ℕ)
+  pub month : Option (List ℕ)
+  pub day : Option (List ℕ)
+  pub time : Option (List ℕ)
+
+-- the columns of a Zone line
+pub record ZoneTexts : Type 0 where
+  pub name : List ℕ
+  pub info : InfoTexts
+
+abbrev pub info_shown : InfoColumns → InfoTexts
+info_shown c = record {
+  gmtoff = c.gmtoff.now;
+  rules = c.rules.now;
+  format = c.format.now;
+  year = option_map (λ t. t.now) c.year;
+  month = option_map (λ t. t.now) c.month;
+  day = option_map (λ t. t.now) c.day;
+  time = option_map (λ t. t.now) c.time;
+}
+
+abbrev pub zone_shown : ZoneColumns → ZoneTexts
+zone_shown c = record { name = c.name.now; info = info_shown c.info }
+
+-- the columns from the parts of the groups; the first three have to have taken part
+unfoldable pub info_columns_of : (List ℕ → Option (List ℕ)) → Option InfoTexts
+info_columns_of part = do
+  gmtoff ← part (codes "gmtoff")
+  rules ← part (codes "rulessave")
+  format ← part (codes "format")
+  Some (record {
+    gmtoff = gmtoff;
+    rules = rules;
+    format = format;
+    year = part (codes "year");
+    month = part (codes "month");
+    day = part (codes "day");
+    time = part (codes "time");
+  })
+
+unfoldable pub zone_columns_of : (List ℕ → Option (List ℕ)) → Option ZoneTexts
+zone_columns_of part = do
+  name ← part (codes "name")
+  info ← info_columns_of part
+  Some (record { name = name; info = info })
+
+-- the columns of a line that the zone pattern matches
+unfoldable pub zone_columns : List ℕ → Option ZoneTexts
+zone_columns line = option_and_then (λ m. zone_columns_of (group_in zone_text line m)) (match_in zone_text line)

@@ -1,0 +1,25 @@
+-- The kind of a line: the first of the patterns, in their order, that matches it.
+use Rattle.std.specs.Prelude.{ℕ, List, [], ◌∷◌, Bool, Option, Some, None, option_map, is_some, if◌then◌else◌}
+use Rattle.zone_line.specs.Options.{first_some}
+use Rattle.zone_line.specs.Patterns.{match_in}
+use Rattle.zone_line.specs.Texts.{empty_text}
+use Rattle.zone_line.specs.Columns.{ZoneTexts, zone_columns, zone_shown}
+use Rattle.zone_line.specs.declared.kind.Kind as code
+use Rattle.zone_line.specs.declared.kind.Kind.TheVariants as kind
+
+-- a kind of line, with what the groups of its pattern take
+pub data LineKind : Type 0 where
+  space : LineKind
+  zone : ZoneTexts → LineKind
+
+-- the line is blank or a comment
+unfoldable pub is_blank : List ℕ → Bool
+is_blank line = is_some (match_in empty_text line)
+
+-- of the kinds that are told apart today: blank lines and comments, then Zone lines
+unfoldable pub kind_of : List ℕ → Option LineKind
+kind_of line = first_some ((if is_blank line then Some space else None) ∷ option_map zone (zone_columns line) ∷ [])
+
+abbrev pub kind_shown : code.Kind → LineKind
+kind_shown kind.Space = space
+kind_shown (kind.Zone columns) = zone (zone_shown columns)

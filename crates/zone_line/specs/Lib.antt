@@ -1,0 +1,10 @@
+pub mod Texts
+pub mod Patterns
+pub mod Options
+pub mod Columns
+pub mod Clocks
+pub mod Kinds
+pub mod Numbers
+pub mod Seconds
+pub mod Times
+pub mod FixedLines

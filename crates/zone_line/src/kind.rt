@@ -1,0 +1,10 @@
+//! The kind of a line: the first of the patterns that matches it.
+
+use crate::columns::ZoneColumns;
+
+/// A line's kind, with the texts of its columns.
+#[derive(Clone, Copy)]
+pub(crate) enum Kind<'a> {
+    Space,
+    Zone(ZoneColumns<'a>),
+}

@@ -1,0 +1,15 @@
+//! The texts of the patterns, in the syntax of the crate `regex`.
+
+/// A blank line, or a comment.
+pub(crate) const EMPTY: &str = r"^\s*(#.*)?$";
+
+/// A Zone line: the first line of a zone.
+pub(crate) const ZONE: &str =
+    r"^Zone\s+(?P<name>[A-Za-z0-9/_+-]+)\s+(?P<gmtoff>\S+)\s+(?P<rulessave>\S+)\s+(?P<format>\S+)\s*(?P<year>[0-9]+)?\s*(?P<month>[A-Za-z]+)?\s*(?P<day>[A-Za-z0-9><=]+)?\s*(?P<time>[0-9:]+[suwz]?)?\s*(#.*)?$";
+
+/// A time of hours and minutes.
+pub(crate) const HM: &str = r"^(?P<sign>-?)(?P<hour>\d{1,2}):(?P<minute>\d{2})(?P<flag>[wsugz])?$";
+
+/// A time of hours, minutes and seconds.
+pub(crate) const HMS: &str =
+    r"^(?P<sign>-?)(?P<hour>\d{1,2}):(?P<minute>\d{2}):(?P<second>\d{2})(?P<flag>[wsugz])?$";
