@@ -1,0 +1,4 @@
+pub mod SinkLemmas
+pub mod TextLemmas
+pub mod NumberLemmas
+pub mod Examples

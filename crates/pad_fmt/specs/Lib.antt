@@ -1,0 +1,10 @@
+pub mod Options
+pub mod Sink
+pub mod Buffer
+pub mod Padding
+pub mod PaddingLaws
+pub mod Metadata
+pub mod Text
+pub mod TextLaws
+pub mod Number
+pub mod NumberLaws

@@ -1,0 +1,26 @@
+-- What a text, a character and a truth value are due to give under their options.
+use Rattle.std.specs.Prelude.{ℕ, Bool, List, length, Option, Some, None, min, unwrap_or, if◌then◌else◌, codes}
+use Rattle.std.specs.Option.{option_map}
+use Rattle.std.specs.Fmt.{char_count, take_chars}
+use Rattle.pad_fmt.specs.Options.{Options}
+use Rattle.pad_fmt.specs.Padding.{padded}
+use Rattle.pad_fmt.specs.declared.options.Alignment.TheVariants.{Left}
+
+-- the text cut to so many characters as the precision says
+abbrev pub cut : Option ℕ → List ℕ → List ℕ
+cut None text = text
+cut (Some count) text = take_chars count text
+
+-- the text cut to the precision, and padded to the requested number of characters
+unfoldable pub shown_text : List ℕ → Options → List ℕ
+shown_text text f =
+    let body = cut f.precision text in
+    padded Left f (char_count body) body
+
+-- the bytes of a text, at most the precision
+abbrev pub text_width : List ℕ → Options → ℕ
+text_width text f = unwrap_or (option_map (min (length text)) f.precision) (length text)
+
+-- `true` or `false`
+abbrev pub truth_text : Bool → List ℕ
+truth_text truth = if truth then codes "true" else codes "false"
