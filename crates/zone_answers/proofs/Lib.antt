@@ -3,3 +3,5 @@ pub mod Loops
 pub mod MemoryLemmas
 pub mod RequestLemmas
 pub mod AnswerLemmas
+pub mod FaultLemmas
+pub mod ZoneLemmas

@@ -1,7 +1,7 @@
 -- The lines of a text begin with what stands before its first line feed.
-use Rattle.std.proofs.Common.{Some, None, ◌≡◌, ℕ, ◌<◌, ◌≤◌, ◌+◌, Bool, true, false, List, [], ◌∷◌, length, map, take, drop, refl, sym, ap, ◌∙◌, arith}
+use Rattle.std.proofs.Common.{Some, None, ◌≡◌, ℕ, suc, ◌-◌, ◌<◌, ◌≤◌, ◌+◌, Bool, true, false, List, [], ◌∷◌, length, map, take, drop, refl, sym, ap, ◌∙◌, arith}
 use Rattle.std.proofs.lemmas.Bool.{ltb-true, ltb-false}
-use Rattle.std.proofs.lemmas.List.{take_all, drop_all}
+use Rattle.std.proofs.lemmas.List.{take_all, drop_all, length-map}
 use Rattle.std.proofs.lemmas.List.Splits.{slice_split_first, slice_split-cons_no, length-slice_split}
 use Rattle.std.specs.Prelude.{nat_lt, count_by, cond, not}
 use Rattle.std.proofs.lemmas.Option.{none-some}
@@ -67,3 +67,37 @@ place_of_none bytes = by_place (nat_lt (position_or_len is_line_feed bytes) (len
         cond b (Some (position_or_len is_line_feed bytes)) None ≡ None → length bytes ≡ position_or_len is_line_feed bytes
     by_place true e none = absurd (none-some _ (sym none))
     by_place false e none = omega (arith, ltb-false _ _ e, prefix_len-le-length (λ x. not (is_line_feed x)) bytes)
+
+-- the bytes of the pieces, and one for each piece
+sizes : List (List ℕ) → ℕ
+sizes [] = 0
+sizes (piece ∷ pieces) = suc (length piece) + sizes pieces
+
+few_pieces : (pieces : List (List ℕ)) → length (without_last_empty pieces) ≤ sizes pieces - 1
+unfolding sizes
+few_pieces [] = omega arith
+few_pieces ([] ∷ []) = omega arith
+few_pieces ([] ∷ q ∷ qs) = omega (arith, few_pieces (q ∷ qs))
+few_pieces ((x ∷ xs) ∷ pieces) = omega (arith, few_pieces pieces)
+
+sizes_onto : (x : ℕ) (pieces : List (List ℕ)) → 0 < length pieces → sizes (onto_first x pieces) ≡ suc (sizes pieces)
+unfolding sizes
+sizes_onto x [] h = absurd (omega arith)
+sizes_onto x (piece ∷ pieces) h = omega arith
+
+sizes_of : (bytes : List ℕ) → sizes (slice_split is_line_feed bytes) ≡ suc (length bytes)
+unfolding sizes
+sizes_of [] = refl
+sizes_of (x ∷ xs) = by_head (is_line_feed x) (sizes_of xs)
+  where
+    by_head : (b : Bool) → sizes (slice_split is_line_feed xs) ≡ suc (length xs) →
+        sizes (cond b ([] ∷ slice_split is_line_feed xs) (onto_first x (slice_split is_line_feed xs))) ≡ suc (suc (length xs))
+    by_head true more = omega (arith, more)
+    by_head false more = sizes_onto x (slice_split is_line_feed xs) (omega (arith, length-slice_split is_line_feed xs)) ∙ ap suc more
+
+-- each line takes a byte or more
+pub few_lines : (bytes : List ℕ) → length (lines_of bytes) ≤ length bytes
+unfolding lines_of
+few_lines bytes =
+    let pieces = slice_split is_line_feed bytes in
+    omega (arith, length-map (without_last_empty pieces) strip_carriage_return, few_pieces pieces, sizes_of bytes)

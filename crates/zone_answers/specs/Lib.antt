@@ -7,3 +7,7 @@ pub mod Asked
 pub mod Zones
 pub mod Schedules
 pub mod AnswerLines
+pub mod Faults
+pub mod FaultLines
+pub mod Told
+pub mod ZonesShown

@@ -1,11 +1,10 @@
 //! A request line.
-ghost use Rattle.std.specs.Prelude.{◌≡◌, true, false, IfSome, IfNone, option_map};
+ghost use Rattle.std.specs.Prelude.{◌≡◌, option_map};
 ghost use Rattle.std.specs.Char.{is_digit};
 ghost use Rattle.std.specs.List.{before_first, after_first, list_all};
-ghost use Rattle.std.specs.Str.{is_utf8};
 ghost use Rattle.zone_answers.specs.Requests.{request_of, form_of, nanoseconds_in, is_number, is_space, without_minus};
 
-use std::str;
+use crate::text::text_of;
 
 /// The most digits of a number of nanoseconds.
 const MOST_DIGITS: usize = 30;
@@ -40,17 +39,6 @@ impl<'a> Request<'a> {
             return None;
         }
         Some(Request::At(name, nanoseconds(number)?))
-    }
-}
-
-/// The text that the bytes are, if they are UTF-8.
-fn text_of(bytes: &[u8]) -> Option<&str>
-    ensures text { IfSome result (λ text. (text.now ≡ bytes.now) × (is_utf8 bytes.now ≡ true)) }
-    ensures none { IfNone result (is_utf8 bytes.now ≡ false) }
-{
-    match str::from_utf8(bytes) {
-        Ok(text) => Some(text),
-        Err(_) => None,
     }
 }
 
