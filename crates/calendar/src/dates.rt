@@ -1,5 +1,5 @@
 //! The dates of day numbers.
-ghost use Rattle.std.specs.Prelude.{◌≡◌, pos, neg_ℤ, ◌≤ℤ◌};
+ghost use Rattle.std.specs.Prelude.{◌≡◌, ℤ, pos, neg_ℤ, ◌≤ℤ◌};
 ghost use Rattle.calendar.specs.Days.{day, IsDate, IsCountedYear};
 ghost use Rattle.calendar.specs.Dates.{year_of, month_of, day_of};
 
@@ -24,6 +24,11 @@ pub fn date_of(day_number: i32) -> CalendarDate
     ensures year { result.year ≡ year_of day_number }
     ensures month { result.month ≡ month_of day_number }
     ensures day { result.day ≡ day_of day_number }
+
+    // The days between a 1 January and a 31 December lie in the years between.
+    ensures between { (first last : ℤ) → IsCountedYear first → IsCountedYear last
+        → day first 1 1 ≤ℤ day_number → day_number ≤ℤ day last 12 31
+        → (first ≤ℤ result.year) × (result.year ≤ℤ last) }
 {
     let (years, day_of_year) = years_of_days((day_number + 5_102_072) as u32);
     let year = years as i32 - 11_999;

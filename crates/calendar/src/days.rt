@@ -1,6 +1,6 @@
 //! The day numbers of dates.
-ghost use Rattle.std.specs.Prelude.{◌≡◌, ◌+◌, ◌≤◌, pos, neg_ℤ, ◌+ℤ◌, ◌-ℤ◌, ◌≤ℤ◌};
-ghost use Rattle.calendar.specs.Days.{day as date_day, IsCountedYear};
+ghost use Rattle.std.specs.Prelude.{◌≡◌, ℤ, ◌≤◌, pos, neg_ℤ, ◌+ℤ◌, ◌-ℤ◌, ◌≤ℤ◌};
+ghost use Rattle.calendar.specs.Days.{day as date_day, IsCountedYear, IsDate};
 
 use crate::cycles::days_of_years;
 use crate::months::days_before_month;
@@ -16,6 +16,12 @@ pub fn day_number(year: i32, month: u8, day: u8) -> i32
     requires first_day { 1 ≤ day }
     requires last_day { day ≤ 31 }
     ensures value { result ≡ date_day year month day }
+
+    // The dates of some years lie between the first 1 January and the last 31 December.
+    ensures between { (first last : ℤ) → IsCountedYear first → IsCountedYear last
+        → first ≤ℤ year → year ≤ℤ last → IsDate year month day
+        → (date_day first 1 1 ≤ℤ result) × (result ≤ℤ date_day last 12 31) }
+
     ensures least { neg_ℤ (pos 4_371_953) ≤ℤ result }
     ensures greatest { result ≤ℤ pos 2_933_262 }
 {

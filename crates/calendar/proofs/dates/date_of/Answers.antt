@@ -4,7 +4,7 @@ use Rattle.calendar.specs.Dates.{year_of, month_of, day_of}
 use Rattle.calendar.specs.Cycles.{cycle_days}
 use Rattle.calendar.proofs.SignLemmas.{signed, signed_casts, natural}
 use Rattle.calendar.proofs.YearLemmas.{day-cycle, cycle_days-suc, cycle_days-rise}
-use Rattle.calendar.proofs.DateLemmas.{IsPlace, parts-of_day}
+use Rattle.calendar.proofs.DateLemmas.{IsPlace, parts-of_day, year-between}
 use Rattle.calendar.proofs.dates.date_of.Goals as goal
 
 -- the year with that place among those from -11999 on
@@ -69,3 +69,9 @@ returns-clause-month c = (parts_of c).1
 
 pub returns-clause-day : goal.returns-clause-day
 returns-clause-day c = (parts_of c).2
+
+pub returns-clause-between : goal.returns-clause-between
+returns-clause-between c = λ first last from to low high.
+    let number = returns-clause-number c in
+    let y = year_at c.years_of_days-years.result.0 in
+    year-between y c.month_and_day-month.result.0 c.month_and_day-month.result.1 first last (years_of c) from to c.month_and_day-month.ensures.date (rw number low) (rw number high)

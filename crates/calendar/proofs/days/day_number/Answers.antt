@@ -2,7 +2,7 @@ use Rattle.std.proofs.Common.{arith, ◌≡◌, ℕ, ◌+◌, ◌-◌, ℤ, pos,
 use Rattle.calendar.specs.Days.{day as date_day, days_through, IsCountedYear}
 use Rattle.calendar.proofs.SignLemmas.{signed, signed_casts}
 use Rattle.calendar.proofs.YearLemmas.{day-cycle}
-use Rattle.calendar.proofs.DateLemmas.{place_of, day-range}
+use Rattle.calendar.proofs.DateLemmas.{place_of, day-range, day-between}
 use Rattle.calendar.proofs.MonthLemmas.{days_through-two}
 use Rattle.calendar.proofs.days.day_number.Goals as goal
 
@@ -37,3 +37,8 @@ returns-clause-least c = omega (arith, signed_casts, sum_is c, range_is c)
 
 pub returns-clause-greatest : goal.returns-clause-greatest
 returns-clause-greatest c = omega (arith, signed_casts, sum_is c, range_is c)
+
+pub returns-clause-between : goal.returns-clause-between
+returns-clause-between c = λ first last from to low high date.
+    let inside = day-between c.args.year c.args.month c.args.day first last from to low high date in
+    (omega (arith, signed_casts, sum_is c, range_is c, inside), omega (arith, signed_casts, sum_is c, range_is c, inside))
