@@ -1,0 +1,5 @@
+pub mod SignLemmas
+pub mod YearLemmas
+pub mod MonthLemmas
+pub mod DateLemmas
+pub mod WorkedDays

@@ -1,0 +1,4 @@
+pub mod Cycles
+pub mod Dates
+pub mod Days
+pub mod Weekdays

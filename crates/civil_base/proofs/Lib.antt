@@ -1,0 +1,3 @@
+pub mod RangeLemmas
+pub mod DateTimeLemmas
+pub mod LayoutLemmas

@@ -1,0 +1,57 @@
+-- The ends of the ranges as numbers.
+use Rattle.std.specs.Int.{int_div_euclid}
+use Rattle.std.proofs.Common.{◌≡◌, refl, arith, ℕ, ◌<◌, ◌+ℤ◌, ℤ, pos, neg_ℤ, ◌≤ℤ◌, ◌*ℤ◌}
+use Rattle.calendar.specs.Days.{is_leap, days_in_year, days_in_month, days_after_zero, days_before_zero, year_start, days_through, days_into_year, day, IsCountedYear}
+use Rattle.calendar.proofs.SignLemmas.{signed}
+use Rattle.civil_base.specs.Clock.{nanos_per_day}
+use Rattle.civil_base.specs.Ranges.{IsDay, IsInYears}
+
+pub day-first : day (neg_ℤ (pos 9999)) 1 1 ≡ neg_ℤ (pos 4371587)
+unfolding is_leap days_in_year days_in_month days_after_zero days_before_zero year_start days_through days_into_year day
+day-first = refl
+
+pub day-last : day (pos 9999) 12 31 ≡ pos 2932896
+unfolding is_leap days_in_year days_in_month days_after_zero days_before_zero year_start days_through days_into_year day
+day-last = refl
+
+pub day-end : day (pos 10000) 1 1 ≡ pos 2932897
+unfolding is_leap days_in_year days_in_month days_after_zero days_before_zero year_start days_through days_into_year day
+day-end = refl
+
+-- the first and the last year of dates can be counted in
+pub counted-first : IsCountedYear (neg_ℤ (pos 9999))
+counted-first = record { first = omega (arith, signed); last = omega (arith, signed) }
+
+pub counted-last : IsCountedYear (pos 9999)
+counted-last = record { first = omega (arith, signed); last = omega (arith, signed) }
+
+pub day-counted : (k : ℤ) → IsDay k → (neg_ℤ (pos 4371953) ≤ℤ k) × (k ≤ℤ pos 2933262)
+day-counted k h = (omega (arith, signed, day-first), omega (arith, signed, day-last))
+
+-- a local time in the years, by numbers
+pub years-numbers : (x : ℤ) → IsInYears x → (neg_ℤ (pos 377705116800000000000) ≤ℤ x) × (x ≤ℤ pos 253402300799999999999)
+years-numbers x h = (omega (arith, signed, day-first), omega (arith, signed, day-end))
+
+pub years-from_numbers : (x : ℤ) → neg_ℤ (pos 377705116800000000000) ≤ℤ x → x ≤ℤ pos 253402300799999999999 → IsInYears x
+years-from_numbers x low high = record {
+  first = omega (arith, signed, day-first);
+  last = omega (arith, signed, day-end);
+}
+
+-- a day of the years and a time of day make a local time in the years
+pub years-joined : (k : ℤ) (t : ℕ) → IsDay k → t < nanos_per_day → IsInYears (k *ℤ pos nanos_per_day +ℤ pos t)
+years-joined k t h b = record {
+  first = omega (arith, signed, day-first);
+  last = omega (arith, signed, day-last, day-end);
+}
+
+-- and the day of a local time in the years is one of the years
+pub day-inside : (x : ℤ) → IsInYears x → IsDay (int_div_euclid x (pos nanos_per_day))
+day-inside x h = record {
+  first = omega (arith, signed, day-first);
+  last = omega (arith, signed, day-last, day-end);
+}
+
+-- a day of the years by numbers
+pub day-numbers : (k : ℤ) → IsDay k → (neg_ℤ (pos 4371587) ≤ℤ k) × (k ≤ℤ pos 2932896)
+day-numbers k h = (omega (arith, signed, day-first), omega (arith, signed, day-last))

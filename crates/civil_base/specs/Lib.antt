@@ -1,0 +1,6 @@
+pub mod Clock
+pub mod DateTimes
+pub mod Layout
+pub mod Months
+pub mod Offsets
+pub mod Ranges

@@ -1,0 +1,19 @@
+-- Offsets by hours, minutes and seconds.
+use Rattle.std.specs.Prelude.{ℕ, ◌+◌, ◌*◌, ◌≤◌, Bool, if◌then◌else◌, ℤ, pos, neg_ℤ, int_lt, unsigned_abs}
+use Rattle.std.specs.Ordering.{int_eq}
+
+-- whether the first part that isn't 0 is negative
+abbrev pub is_first_negative : ℤ → ℤ → ℤ → Bool
+is_first_negative h m s = if int_eq h (pos 0) then (if int_eq m (pos 0) then int_lt s (pos 0) else int_lt m (pos 0)) else int_lt h (pos 0)
+
+abbrev pub signed_by : Bool → ℕ → ℤ
+signed_by negative size = if negative then neg_ℤ (pos size) else pos size
+
+-- the seconds of the sizes of the parts, with the sign of the first part that isn't 0
+unfoldable pub offset_at : ℤ → ℤ → ℤ → ℤ
+offset_at h m s = signed_by (is_first_negative h m s) ((unsigned_abs h * 60 + unsigned_abs m) * 60 + unsigned_abs s)
+
+pub record IsOffsetParts (h m s : ℤ) : Type 0 where
+  pub hours : unsigned_abs h ≤ 25
+  pub minutes : unsigned_abs m ≤ 59
+  pub seconds : unsigned_abs s ≤ 59

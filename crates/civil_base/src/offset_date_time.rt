@@ -1,0 +1,156 @@
+//! Dates with a time of day and an offset from UTC.
+ghost use Rattle.std.specs.Prelude.{◌≡◌, ◌↔◌, pos, ◌+ℤ◌, ◌-ℤ◌, ◌*ℤ◌, IsTrue, IsOk, IfOk, IsSome, IfSome};
+ghost use Rattle.std.proofs.Common.{rules};
+ghost use Rattle.std.specs.Cmp.{partial_order_from_own_ties};
+ghost use Rattle.std.specs.Cmp.Rules.{comparing, hashing};
+ghost use Rattle.std.specs.Ordering.{on, int_eq, int_cmp, as_partial_cmp};
+ghost use Rattle.std.specs.Hash as fed;
+ghost use Rattle.calendar.specs.Dates.{year_of};
+ghost use Rattle.civil_base.specs.Layout.{day_part, time_part};
+ghost use Rattle.civil_base.specs.Ranges.{IsYear, IsInYears, IsOffset};
+ghost use Rattle.civil_base.specs.DateTimes.{local_of, offset_of, instant};
+
+use crate::{ComponentRange, Date, PlainDateTime, Time, UtcOffset};
+use std::cmp::Ordering;
+use std::hash::{Hash, Hasher};
+
+/// A date and a time of day with the offset at which a clock shows them. Equality, order and hash are those of the
+/// instant.
+#[derive(Clone, Copy, Debug)]
+pub struct OffsetDateTime {
+    local: PlainDateTime,
+    offset: UtcOffset,
+}
+
+impl OffsetDateTime {
+    /// 1970-01-01 00:00:00 UTC.
+    pub const UNIX_EPOCH: OffsetDateTime = OffsetDateTime {
+        local: PlainDateTime::UNIX_EPOCH,
+        offset: UtcOffset::UTC,
+    };
+
+    /// That date and time at that offset.
+    pub(crate) fn in_offset(local: PlainDateTime, offset: UtcOffset) -> OffsetDateTime
+        ensures local { local_of result ≡ local }
+        ensures offset { offset_of result ≡ offset }
+    {
+        OffsetDateTime { local, offset }
+    }
+
+    /// The instant that many nanoseconds after 1970-01-01 00:00:00 UTC, at UTC. It is refused exactly where its UTC
+    /// date lies outside the years -9999 to 9999.
+    pub fn from_unix_timestamp_nanos(timestamp: i128) -> Result<OffsetDateTime, ComponentRange>
+        ensures accepts { IsOk result ↔ IsInYears timestamp }
+        ensures instant { IfOk result (λ value. instant value ≡ timestamp) }
+        ensures offset { IfOk result (λ value. offset_of value ≡ pos 0) }
+    {
+        match PlainDateTime::at_nanos(timestamp) {
+            Some(local) => Ok(local.assume_utc()),
+            None => Err(ComponentRange),
+        }
+    }
+
+    /// The nanoseconds from 1970-01-01 00:00:00 UTC.
+    pub(crate) fn instant_nanos(self) -> i128
+        ensures value { result ≡ instant self }
+        ensures bound { IsInYears (result +ℤ pos 1000000000 *ℤ offset_of self) × IsOffset (offset_of self) }
+    {
+        self.local.nanos() - self.offset.nanos()
+    }
+
+    /// The date and time at the value's own offset.
+    pub(crate) fn local(self) -> PlainDateTime
+        ensures { result ≡ local_of self }
+    {
+        self.local
+    }
+
+    /// The date at the value's own offset.
+    pub fn date(self) -> Date
+        ensures { result ≡ day_part (local_of self) }
+    {
+        self.local.date()
+    }
+
+    /// The time of day at the value's own offset.
+    pub fn time(self) -> Time
+        ensures { result ≡ time_part (local_of self) }
+    {
+        self.local.time()
+    }
+
+    /// The year at the value's own offset, from -9999 to 9999.
+    pub fn year(self) -> i32
+        ensures value { result ≡ year_of (day_part (local_of self)) }
+        ensures bound { IsYear result }
+    {
+        self.local.year()
+    }
+
+    /// The offset.
+    pub fn offset(self) -> UtcOffset
+        ensures { result ≡ offset_of self }
+    {
+        self.offset
+    }
+
+    /// The same instant at another offset. There is none exactly where the date at that offset lies outside the years
+    /// -9999 to 9999.
+    pub fn to_offset(self, offset: UtcOffset) -> Option<OffsetDateTime>
+        ensures has { IsSome result ↔ IsInYears (instant self +ℤ pos 1000000000 *ℤ offset) }
+        ensures instant { IfSome result (λ value. instant value ≡ instant self) }
+        ensures offset { IfSome result (λ value. offset_of value ≡ offset) }
+    {
+        let local = PlainDateTime::at_nanos(self.instant_nanos() + offset.nanos())?;
+        Some(local.assume_offset(offset))
+    }
+}
+
+impl PartialEq for OffsetDateTime {
+    ghost eq = { on instant int_eq };
+
+    ghost laws = { Prim.search (comparing, rules) };
+
+    fn eq(&self, other: &OffsetDateTime) -> bool {
+        self.instant_nanos() == other.instant_nanos()
+    }
+}
+
+impl Eq for OffsetDateTime {
+    ghost laws = { Prim.search (comparing, rules) };
+}
+
+impl Ord for OffsetDateTime {
+    ghost cmp = { on instant int_cmp };
+
+    ghost total = { Prim.search (comparing, rules) };
+
+    ghost matches_partial_cmp = { Prim.search (comparing, rules) };
+
+    ghost matches_eq = { Prim.search (comparing, rules) };
+
+    fn cmp(&self, other: &OffsetDateTime) -> Ordering {
+        self.instant_nanos().cmp(&other.instant_nanos())
+    }
+}
+
+impl PartialOrd for OffsetDateTime {
+    ghost partial_cmp = { as_partial_cmp (on instant int_cmp) };
+
+    ghost laws = { partial_order_from_own_ties (Prim.search (comparing, rules))
+        (Prim.search (comparing, rules)) };
+
+    fn partial_cmp(&self, other: &OffsetDateTime) -> Option<Ordering> {
+        Some(self.cmp(other))
+    }
+}
+
+impl Hash for OffsetDateTime {
+    ghost hash_input = { λ value. fed.i128 (instant value) };
+
+    ghost respects_eq = { Prim.search (hashing, rules) };
+
+    fn hash<H: Hasher>(&self, state: &mut H) {
+        self.instant_nanos().hash(state);
+    }
+}

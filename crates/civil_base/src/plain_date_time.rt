@@ -1,0 +1,119 @@
+//! Dates with a time of day, with no offset.
+ghost use Rattle.std.specs.Prelude.{◌≡◌, ◌↔◌, pos, neg_ℤ, ◌≤ℤ◌, ◌+ℤ◌, ◌*ℤ◌, IsTrue, IsSome, IfSome};
+ghost use Rattle.calendar.specs.Dates.{year_of};
+ghost use Rattle.civil_base.specs.Clock.{nanos_per_day};
+ghost use Rattle.civil_base.specs.Layout.{day_part, time_part};
+ghost use Rattle.civil_base.specs.Ranges.{IsYear, IsInYears};
+
+use crate::{Date, OffsetDateTime, Time, UtcOffset};
+use std::marker::Model;
+
+const NANOS_PER_DAY: i128 = 86_400_000_000_000;
+
+// -9999-01-01 00:00:00, and the last nanosecond of 9999-12-31.
+const FIRST: i128 = -4_371_587 * NANOS_PER_DAY;
+
+const LAST: i128 = 2_932_897 * NANOS_PER_DAY - 1;
+
+/// A date and a time of day. Contracts see the nanoseconds from 1970-01-01 00:00:00.
+#[derive(Clone, Copy, Debug, PartialEq, Eq, PartialOrd, Ord, Hash)]
+pub struct PlainDateTime {
+    nanos: i128,
+}
+
+/// The name that `time` had for it.
+pub type PrimitiveDateTime = PlainDateTime;
+
+impl Model for PlainDateTime {
+    ghost use Rattle.std.specs.Prelude.{ℤ};
+    ghost use Rattle.civil_base.specs.Ranges.{IsInYears};
+
+    ghost Value = { ℤ };
+
+    ghost view = { λ local. local.nanos };
+
+    ghost invariant = { λ local. IsInYears local.nanos };
+
+    ghost inverse = { λ nanos. record { nanos = nanos } };
+}
+
+impl PlainDateTime {
+    ghost use Rattle.civil_base.specs.DateTimes.{local_of, offset_of};
+
+    /// 1970-01-01 00:00:00.
+    pub(crate) const UNIX_EPOCH: PlainDateTime = PlainDateTime { nanos: 0 };
+
+    /// That date and time.
+    pub fn new(date: Date, time: Time) -> PlainDateTime
+        ensures { result ≡ date *ℤ pos nanos_per_day +ℤ pos time }
+    {
+        PlainDateTime {
+            nanos: i128::from(date.day_number()) * NANOS_PER_DAY + i128::from(time.nanos_of_day()),
+        }
+    }
+
+    /// The date and time that many nanoseconds after 1970-01-01 00:00:00, if it lies in the years -9999 to 9999.
+    pub(crate) fn at_nanos(nanos: i128) -> Option<PlainDateTime>
+        ensures has { IsSome result ↔ IsInYears nanos }
+        ensures value { IfSome result (λ local. local ≡ nanos) }
+    {
+        if is_in_years(nanos) {
+            Some(PlainDateTime { nanos })
+        } else {
+            None
+        }
+    }
+
+    /// The nanoseconds from 1970-01-01 00:00:00.
+    pub(crate) fn nanos(self) -> i128
+        ensures value { result ≡ self }
+        ensures bound { IsInYears result }
+    {
+        self.nanos
+    }
+
+    /// The date.
+    pub fn date(self) -> Date
+        ensures { result ≡ day_part self }
+    {
+        Date::at_day(self.nanos.div_euclid(NANOS_PER_DAY) as i32)
+    }
+
+    /// The time of day.
+    pub fn time(self) -> Time
+        ensures { result ≡ time_part self }
+    {
+        Time::at_nanos(self.nanos.rem_euclid(NANOS_PER_DAY) as u64)
+    }
+
+    /// The year of the date, from -9999 to 9999.
+    pub fn year(self) -> i32
+        ensures value { result ≡ year_of (day_part self) }
+        ensures bound { IsYear result }
+    {
+        self.date().year()
+    }
+
+    /// The same date and time at that offset.
+    pub fn assume_offset(self, offset: UtcOffset) -> OffsetDateTime
+        ensures local { local_of result ≡ self }
+        ensures offset { offset_of result ≡ offset }
+    {
+        OffsetDateTime::in_offset(self, offset)
+    }
+
+    /// The same date and time at UTC.
+    pub fn assume_utc(self) -> OffsetDateTime
+        ensures local { local_of result ≡ self }
+        ensures offset { offset_of result ≡ pos 0 }
+    {
+        OffsetDateTime::in_offset(self, UtcOffset::UTC)
+    }
+}
+
+fn is_in_years(nanos: i128) -> bool
+    ensures { IsTrue result
+        ↔ ((neg_ℤ (pos 377_705_116_800_000_000_000) ≤ℤ nanos) × (nanos ≤ℤ pos 253_402_300_799_999_999_999)) }
+{
+    FIRST <= nanos && nanos <= LAST
+}
