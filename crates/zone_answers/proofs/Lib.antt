@@ -5,3 +5,6 @@ pub mod RequestLemmas
 pub mod AnswerLemmas
 pub mod FaultLemmas
 pub mod ZoneLemmas
+pub mod DateLemmas
+pub mod AnsweringLemmas
+pub mod ResponseLemmas

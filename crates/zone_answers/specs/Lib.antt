@@ -11,3 +11,6 @@ pub mod Faults
 pub mod FaultLines
 pub mod Told
 pub mod ZonesShown
+pub mod Due
+pub mod Words
+pub mod Responses

@@ -9,6 +9,9 @@ use Rattle.std.specs.Str.Parse.{digits_value}
 pub data Request : Type 0 where
   at : List ℕ → ℤ → Request
 
+abbrev pub name_of : Request → List ℕ
+name_of (at name instant) = name
+
 abbrev pub is_space : ℕ → Bool
 is_space byte = byte == 32
 

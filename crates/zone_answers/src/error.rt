@@ -28,3 +28,22 @@ impl From<AllocError> for AnswerError {
         AnswerError::NoMemory
     }
 }
+
+impl AnswerError {
+    ghost use Rattle.std.specs.Prelude.{◌≡◌, is_some};
+    ghost use Rattle.zone_answers.specs.Told.{fault_told};
+
+    /// Whether it is a fault of a text, and not want of memory.
+    pub fn is_fault(&self) -> bool
+        ensures { result ≡ is_some (fault_told self.now) }
+    {
+        match self {
+            AnswerError::NotBuilt(_)
+            | AnswerError::Request(_)
+            | AnswerError::UnknownZone(_)
+            | AnswerError::OffsetRange(_)
+            | AnswerError::Range(_) => true,
+            AnswerError::NoMemory => false,
+        }
+    }
+}

@@ -2,7 +2,7 @@
 ghost use Rattle.std.specs.Prelude.{◌≡◌, option_map};
 ghost use Rattle.std.specs.Char.{is_digit};
 ghost use Rattle.std.specs.List.{before_first, after_first, list_all};
-ghost use Rattle.zone_answers.specs.Requests.{request_of, form_of, nanoseconds_in, is_number, is_space, without_minus};
+ghost use Rattle.zone_answers.specs.Requests.{request_of, form_of, nanoseconds_in, is_number, is_space, name_of, without_minus};
 
 use crate::text::text_of;
 
@@ -27,6 +27,15 @@ impl<'a> Request<'a> {
         match text_of(line) {
             Some(text) => Request::parse(text),
             None => None,
+        }
+    }
+
+    /// The name of the zone.
+    pub(crate) fn name(&self) -> &'a str
+        ensures { result.now ≡ name_of (asked self.now) }
+    {
+        match self {
+            Request::At(name, _) => name,
         }
     }
 

@@ -7,10 +7,10 @@ use crate::outside;
 use crate::outside::{Shelf, Sink, Source};
 use std::alloc::{AllocError, Global};
 
-pub const LIMIT: usize = 16_777_216;
+pub(crate) const LIMIT: usize = 16_777_216;
 
 #[derive(Clone, Copy, Debug, PartialEq, Eq)]
-pub enum ReadEnd {
+pub(crate) enum ReadEnd {
     Failed,
     TooLong,
     NoMemory,
@@ -33,7 +33,7 @@ impl From<outside::Failed> for ReadEnd {
 }
 
 /// Reads to the end of the source, or past the limit.
-pub fn read_all<S: Source>(alloc: Global, source: &mut S) -> Result<Vec<u8>, ReadEnd>
+pub(crate) fn read_all<S: Source>(alloc: Global, source: &mut S) -> Result<Vec<u8>, ReadEnd>
     ensures bytes { IfOk result (λ bytes. IfSome (S.left source.old) (λ left. (bytes.items ≡ left) × (S.left source.new ≡ Some []))) }
     ensures within { IfOk result (λ bytes. length bytes.items ≤ LIMIT) }
     ensures later { S.faults source.old ≤ S.faults source.new }
@@ -56,7 +56,7 @@ pub fn read_all<S: Source>(alloc: Global, source: &mut S) -> Result<Vec<u8>, Rea
 }
 
 /// Reads the whole text of a name.
-pub fn fetch_all<H: Shelf>(alloc: Global, shelf: &mut H, name: &str) -> Result<Vec<u8>, ReadEnd>
+pub(crate) fn fetch_all<H: Shelf>(alloc: Global, shelf: &mut H, name: &str) -> Result<Vec<u8>, ReadEnd>
     requires { H.open_to shelf.old name.now }
     ensures bytes { IfOk result (λ bytes. IfSome (H.told shelf.old name.now) (λ text. (bytes.items ≡ text) × (H.left shelf.new ≡ Some []))) }
     ensures within { IfOk result (λ bytes. length bytes.items ≤ LIMIT) }
@@ -64,13 +64,15 @@ pub fn fetch_all<H: Shelf>(alloc: Global, shelf: &mut H, name: &str) -> Result<V
     ensures failed { IsErrOf result ReadEnd.Failed → Rose (H.faults shelf.old) (H.faults shelf.new) }
     ensures long { IsErrOf result ReadEnd.TooLong → TooMuch LIMIT (H.given shelf.old) (H.given shelf.new) }
     ensures long_text { IsErrOf result ReadEnd.TooLong → IfSome (H.told shelf.old name.now) (λ text. LIMIT < length text) }
+    ensures ok_given { OnOk result (H.given shelf.new ≤ H.given shelf.old + LIMIT) }
+    ensures failed_given { IsErrOf result ReadEnd.Failed → H.given shelf.new ≤ H.given shelf.old + LIMIT }
 {
     shelf.fetch(name)?;
     read_all(alloc, shelf)
 }
 
 /// Writes these bytes to their end.
-pub fn write_all<O: Sink>(sink: &mut O, bytes: &[u8]) -> Result<(), outside::Failed>
+pub(crate) fn write_all<O: Sink>(sink: &mut O, bytes: &[u8]) -> Result<(), outside::Failed>
     ensures ok { OnOk result (IfSome (O.taken sink.old) (λ had. O.taken sink.new ≡ Some (had ++ bytes.now))) }
     ensures later { O.faults sink.old ≤ O.faults sink.new }
     ensures failed { OnErr result (Rose (O.faults sink.old) (O.faults sink.new)) }

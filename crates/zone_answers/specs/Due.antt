@@ -1,0 +1,31 @@
+-- The bytes that are due for a source and its requests.
+use Rattle.std.specs.Prelude.{ℕ, List, [], ◌∷◌, ◌++◌, map}
+use Rattle.std.specs.Option.{option_map_or}
+use Rattle.zone_line.specs.FixedLines.{FixedValue}
+use Rattle.civil_base.specs.Layout.{zoned_text}
+use Rattle.zone_answers.specs.AnswerLines.{ended}
+use Rattle.zone_answers.specs.Faults.{fault}
+use Rattle.zone_answers.specs.FaultLines.{fault_line}
+use Rattle.zone_answers.specs.Lines.{lines_of}
+use Rattle.zone_answers.specs.Requests.{Request, at, name_of, request_of}
+use Rattle.zone_answers.specs.Schedules.{Schedule, schedule_of, total_at}
+use Rattle.zone_answers.specs.Zones.{values_of, zone_of}
+
+-- the line of a request of a zone with this schedule
+abbrev pub answer_at : Schedule → Request → List ℕ
+answer_at schedule (at name instant) = zoned_text instant (total_at schedule instant)
+
+-- the line of a request that is not refused
+abbrev pub answer_to : List FixedValue → Request → List ℕ
+answer_to values request = option_map_or (λ zone. answer_at (schedule_of zone) request) (zone_of values (name_of request)) []
+
+abbrev pub answer_line : List FixedValue → List ℕ → List ℕ
+answer_line values line = option_map_or (answer_to values) (request_of line) []
+
+-- one line for each request, in order
+unfoldable pub answer_lines : List ℕ → List ℕ → List (List ℕ)
+answer_lines source requests = map (answer_line (values_of source)) (lines_of requests)
+
+-- the lines, or the line of the fault, each followed by a line feed
+unfoldable pub due_bytes : List ℕ → List ℕ → List ℕ
+due_bytes source requests = option_map_or (λ f. fault_line f ++ 10 ∷ []) (fault source requests) (ended (answer_lines source requests))
