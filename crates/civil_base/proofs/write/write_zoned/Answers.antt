@@ -10,7 +10,7 @@ unfolding zoned_text
 returns-clause-text c =
     let value = c.args.value.now in
     let local = c.put_local-end.ensures.text ∙ ap local_text c.local.ensures in
-    let offset = c.spaced_offset.ensures ∙ ap (λ o. 32 ∷ offset_text o) c.offset.ensures in
+    let offset = c.spaced_offset.ensures.text ∙ ap (λ o. 32 ∷ offset_text o) c.offset.ensures in
     rw (local-instant value) (c.put.ensures.text ∙ ap (λ t. t ++ c.spaced_offset.result) local ∙ ap (λ t. local_text (local_of value) ++ t) offset)
 
 pub returns-clause-length : goal.returns-clause-length
@@ -18,5 +18,9 @@ unfolding zoned_text
 returns-clause-length c =
     let value = c.args.value.now in
     let local = c.put_local-end.ensures.end ∙ ap (λ x. length (local_text x)) c.local.ensures in
-    let offset = c.spaced_offset.ensures ∙ ap (λ o. 32 ∷ offset_text o) c.offset.ensures in
+    let offset = c.spaced_offset.ensures.text ∙ ap (λ o. 32 ∷ offset_text o) c.offset.ensures in
     rw (local-instant value) (omega (arith, local, ap length offset, c.put.ensures.end, length-append {A = ℕ}))
+
+pub returns-clause-years : goal.returns-clause-years
+returns-clause-years c =
+    rw (local-instant c.args.value.now, ← c.local.ensures) c.put_local-end.ensures.years
