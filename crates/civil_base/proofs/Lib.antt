@@ -7,3 +7,4 @@ pub mod FoundLemmas
 pub mod DayLemmas
 pub mod OffsetLemmas
 pub mod PartLemmas
+pub mod TextLemmas

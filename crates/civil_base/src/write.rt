@@ -1,5 +1,5 @@
 //! The texts of local times and of instants with an offset.
-ghost use Rattle.std.specs.Prelude.{◌≡◌, ◌+◌, ◌<◌, ◌≤◌, [], ◌∷◌, ◌++◌, length, take, pos, ◌+ℤ◌, ◌*ℤ◌, int_lt, if◌then◌else◌};
+ghost use Rattle.std.specs.Prelude.{◌≡◌, ℤ, ◌+◌, ◌<◌, ◌≤◌, [], ◌∷◌, ◌++◌, length, take, pos, ◌+ℤ◌, ◌*ℤ◌, int_lt, if◌then◌else◌};
 ghost use Rattle.civil_base.specs.DateTimes.{instant, offset_of};
 ghost use Rattle.civil_base.specs.Layout.{local_text, zoned_text, offset_text, year_sign, four_digits, two_digits, nine_digits};
 ghost use Rattle.civil_base.specs.Layout.{digit as digit_of};
@@ -15,6 +15,9 @@ pub fn write_local(value: &PlainDateTime, into: &mut [u8; 30]) -> usize
     ensures length { result ≡ length (local_text value.now) }
     ensures bound { result ≤ 30 }
     ensures years { IsInYears value.now }
+
+    // No other value has this text.
+    ensures only { (x : ℤ) → IsInYears x → local_text x ≡ local_text value.now → x ≡ value.now }
 {
     put_local(into, *value)
 }
@@ -29,6 +32,11 @@ pub fn write_zoned(value: &OffsetDateTime, into: &mut [u8; 40]) -> usize
     // Each value is in its ranges.
     ensures years { IsInYears (instant value.now +ℤ pos 1000000000 *ℤ offset_of value.now) }
     ensures offset { IsOffset (offset_of value.now) }
+
+    // No other value has this text.
+    ensures only { (t o : ℤ) → IsInYears (t +ℤ pos 1000000000 *ℤ o) → IsOffset o
+        → zoned_text t o ≡ zoned_text (instant value.now) (offset_of value.now)
+        → (t ≡ instant value.now) × (o ≡ offset_of value.now) }
 {
     let end = put_local(into, value.local());
     put(into, end, &spaced_offset(value.offset()))

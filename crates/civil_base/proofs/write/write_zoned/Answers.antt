@@ -1,8 +1,9 @@
 use Rattle.std.proofs.Common.{arith, ℕ, ◌++◌, ◌∷◌, length, ap, ◌∙◌}
 use Rattle.civil_base.specs.Layout.{local_text, zoned_text, offset_text}
-use Rattle.civil_base.specs.DateTimes.{local_of}
+use Rattle.civil_base.specs.DateTimes.{instant, offset_of, local_of}
 use Rattle.std.proofs.Common.{length-append}
 use Rattle.civil_base.proofs.DateTimeLemmas.{local-instant}
+use Rattle.civil_base.proofs.TextLemmas.{zoned_text-same}
 use Rattle.civil_base.proofs.write.write_zoned.Goals as goal
 
 pub returns-clause-text : goal.returns-clause-text
@@ -24,3 +25,9 @@ returns-clause-length c =
 pub returns-clause-years : goal.returns-clause-years
 returns-clause-years c =
     rw (local-instant c.args.value.now, ← c.local.ensures) c.put_local-end.ensures.years
+
+pub returns-clause-only : goal.returns-clause-only
+returns-clause-only c = λ t o years offset text.
+    let value = c.args.value.now in
+    let its_offset = rw c.offset.ensures at c.spaced_offset.ensures.bound in
+    zoned_text-same t o (instant value) (offset_of value) years offset (returns-clause-years c) its_offset text
