@@ -1,3 +1,10 @@
 pub mod RangeLemmas
 pub mod DateTimeLemmas
 pub mod LayoutLemmas
+pub mod DigitLemmas
+pub mod ClockLemmas
+pub mod FoundLemmas
+pub mod DayLemmas
+pub mod OffsetLemmas
+pub mod PartLemmas
+pub mod TextLemmas

@@ -14,10 +14,6 @@ pub day-last : day (pos 9999) 12 31 ≡ pos 2932896
 unfolding is_leap days_in_year days_in_month days_after_zero days_before_zero year_start days_through days_into_year day
 day-last = refl
 
-pub day-end : day (pos 10000) 1 1 ≡ pos 2932897
-unfolding is_leap days_in_year days_in_month days_after_zero days_before_zero year_start days_through days_into_year day
-day-end = refl
-
 -- the first and the last year of dates can be counted in
 pub counted-first : IsCountedYear (neg_ℤ (pos 9999))
 counted-first = record { first = omega (arith, signed); last = omega (arith, signed) }
@@ -26,32 +22,42 @@ pub counted-last : IsCountedYear (pos 9999)
 counted-last = record { first = omega (arith, signed); last = omega (arith, signed) }
 
 pub day-counted : (k : ℤ) → IsDay k → (neg_ℤ (pos 4371953) ≤ℤ k) × (k ≤ℤ pos 2933262)
-day-counted k h = (omega (arith, signed, day-first), omega (arith, signed, day-last))
+day-counted k h = (omega (arith, signed), omega (arith, signed))
 
 -- a local time in the years, by numbers
 pub years-numbers : (x : ℤ) → IsInYears x → (neg_ℤ (pos 377705116800000000000) ≤ℤ x) × (x ≤ℤ pos 253402300799999999999)
-years-numbers x h = (omega (arith, signed, day-first), omega (arith, signed, day-end))
+years-numbers x h = (omega (arith, signed), omega (arith, signed))
 
 pub years-from_numbers : (x : ℤ) → neg_ℤ (pos 377705116800000000000) ≤ℤ x → x ≤ℤ pos 253402300799999999999 → IsInYears x
 years-from_numbers x low high = record {
-  first = omega (arith, signed, day-first);
-  last = omega (arith, signed, day-end);
+  first = omega (arith, signed);
+  last = omega (arith, signed);
 }
 
 -- a day of the years and a time of day make a local time in the years
 pub years-joined : (k : ℤ) (t : ℕ) → IsDay k → t < nanos_per_day → IsInYears (k *ℤ pos nanos_per_day +ℤ pos t)
 years-joined k t h b = record {
-  first = omega (arith, signed, day-first);
-  last = omega (arith, signed, day-last, day-end);
+  first = omega (arith, signed);
+  last = omega (arith, signed);
 }
 
 -- and the day of a local time in the years is one of the years
 pub day-inside : (x : ℤ) → IsInYears x → IsDay (int_div_euclid x (pos nanos_per_day))
 day-inside x h = record {
-  first = omega (arith, signed, day-first);
-  last = omega (arith, signed, day-last, day-end);
+  first = omega (arith, signed);
+  last = omega (arith, signed);
 }
 
 -- a day of the years by numbers
 pub day-numbers : (k : ℤ) → IsDay k → (neg_ℤ (pos 4371587) ≤ℤ k) × (k ≤ℤ pos 2932896)
-day-numbers k h = (omega (arith, signed, day-first), omega (arith, signed, day-last))
+day-numbers k h = (omega (arith, signed), omega (arith, signed))
+
+-- the same by dates
+pub day-ends : (k : ℤ) → IsDay k → (day (neg_ℤ (pos 9999)) 1 1 ≤ℤ k) × (k ≤ℤ day (pos 9999) 12 31)
+day-ends k h = (omega (arith, signed, day-first), omega (arith, signed, day-last))
+
+pub day-from_ends : (k : ℤ) → day (neg_ℤ (pos 9999)) 1 1 ≤ℤ k → k ≤ℤ day (pos 9999) 12 31 → IsDay k
+day-from_ends k low high = record {
+  first = omega (arith, signed, day-first);
+  last = omega (arith, signed, day-last);
+}

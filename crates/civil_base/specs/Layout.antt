@@ -21,13 +21,9 @@ nine_digits n = digit n 100000000 ∷ digit n 10000000 ∷ digit n 1000000 ∷ d
 unfoldable pub year_sign : ℤ → List ℕ
 year_sign y = if int_lt y (pos 0) then 45 ∷ [] else []
 
--- `YYYY`, or `-YYYY` below the year 0
-unfoldable pub year_text : ℤ → List ℕ
-year_text y = year_sign y ++ four_digits (unsigned_abs y)
-
--- `YYYY-MM-DD`
-unfoldable pub date_text : ℤ → List ℕ
-date_text k = year_text (year_of k) ++ 45 ∷ two_digits (month_of k) ++ 45 ∷ two_digits (day_of k)
+-- `YYYY-MM-DD` of a day, without the sign of the year
+unfoldable pub date_digits : ℤ → List ℕ
+date_digits k = four_digits (unsigned_abs (year_of k)) ++ 45 ∷ two_digits (month_of k) ++ 45 ∷ two_digits (day_of k)
 
 -- `hh:mm:ss.nnnnnnnnn`
 unfoldable pub time_text : ℕ → List ℕ
@@ -40,9 +36,9 @@ day_part x = int_div_euclid x (pos nanos_per_day)
 unfoldable pub time_part : ℤ → ℕ
 time_part x = unsigned_abs (int_rem_euclid x (pos nanos_per_day))
 
--- `YYYY-MM-DD hh:mm:ss.nnnnnnnnn`
+-- `YYYY-MM-DD hh:mm:ss.nnnnnnnnn`, or `-YYYY..` below the year 0
 unfoldable pub local_text : ℤ → List ℕ
-local_text x = date_text (day_part x) ++ 32 ∷ time_text (time_part x)
+local_text x = year_sign (year_of (day_part x)) ++ date_digits (day_part x) ++ 32 ∷ time_text (time_part x)
 
 -- `+hh:mm:ss`, or `-hh:mm:ss` below zero
 unfoldable pub offset_text : ℤ → List ℕ

@@ -8,6 +8,7 @@ pub mod date;
 pub mod month;
 pub mod offset_date_time;
 pub mod plain_date_time;
+mod read;
 #[cfg(test)]
 mod tests;
 pub mod time;
@@ -19,6 +20,7 @@ pub use date::Date;
 pub use month::Month;
 pub use offset_date_time::OffsetDateTime;
 pub use plain_date_time::{PlainDateTime, PrimitiveDateTime};
+pub use read::{read_local, read_zoned};
 pub use time::Time;
 pub use utc_offset::UtcOffset;
 pub use write::{write_local, write_zoned};

@@ -109,7 +109,7 @@ impl OffsetDateTime {
 impl PartialEq for OffsetDateTime {
     ghost eq = { on instant int_eq };
 
-    ghost laws = { Prim.search (comparing, rules) };
+    ghost laws = { Prim.search (rules, comparing) };
 
     fn eq(&self, other: &OffsetDateTime) -> bool {
         self.instant_nanos() == other.instant_nanos()
@@ -117,17 +117,17 @@ impl PartialEq for OffsetDateTime {
 }
 
 impl Eq for OffsetDateTime {
-    ghost laws = { Prim.search (comparing, rules) };
+    ghost laws = { Prim.search (rules, comparing) };
 }
 
 impl Ord for OffsetDateTime {
     ghost cmp = { on instant int_cmp };
 
-    ghost total = { Prim.search (comparing, rules) };
+    ghost total = { Prim.search (rules, comparing) };
 
-    ghost matches_partial_cmp = { Prim.search (comparing, rules) };
+    ghost matches_partial_cmp = { Prim.search (rules, comparing) };
 
-    ghost matches_eq = { Prim.search (comparing, rules) };
+    ghost matches_eq = { Prim.search (rules, comparing) };
 
     fn cmp(&self, other: &OffsetDateTime) -> Ordering {
         self.instant_nanos().cmp(&other.instant_nanos())
@@ -137,8 +137,8 @@ impl Ord for OffsetDateTime {
 impl PartialOrd for OffsetDateTime {
     ghost partial_cmp = { as_partial_cmp (on instant int_cmp) };
 
-    ghost laws = { partial_order_from_own_ties (Prim.search (comparing, rules))
-        (Prim.search (comparing, rules)) };
+    ghost laws = { partial_order_from_own_ties (Prim.search (rules, comparing))
+        (Prim.search (rules, comparing)) };
 
     fn partial_cmp(&self, other: &OffsetDateTime) -> Option<Ordering> {
         Some(self.cmp(other))
@@ -148,7 +148,7 @@ impl PartialOrd for OffsetDateTime {
 impl Hash for OffsetDateTime {
     ghost hash_input = { λ value. fed.i128 (instant value) };
 
-    ghost respects_eq = { Prim.search (hashing, rules) };
+    ghost respects_eq = { Prim.search (rules, hashing) };
 
     fn hash<H: Hasher>(&self, state: &mut H) {
         self.instant_nanos().hash(state);

@@ -74,7 +74,8 @@ impl PlainDateTime {
 
     /// The date.
     pub fn date(self) -> Date
-        ensures { result ≡ day_part self }
+        ensures value { result ≡ day_part self }
+        ensures years { IsInYears self }
     {
         Date::at_day(self.nanos.div_euclid(NANOS_PER_DAY) as i32)
     }

@@ -1,5 +1,5 @@
 //! Offsets from UTC.
-ghost use Rattle.std.specs.Prelude.{◌≡◌, ◌↔◌, pos, ◌*ℤ◌, ◌<ℤ◌, ◌≤◌, int_div, int_rem, IsTrue, IsOk, IfOk};
+ghost use Rattle.std.specs.Prelude.{◌≡◌, ◌↔◌, pos, ◌*ℤ◌, ◌<ℤ◌, ◌<◌, ◌^◌, int_div, int_rem, IsTrue, IsOk, IfOk};
 ghost use Rattle.civil_base.specs.Ranges.{IsOffset};
 ghost use Rattle.civil_base.specs.Offsets.{offset_at, signed_by, IsOffsetParts};
 ghost use Rattle.civil_base.specs.Offsets.{is_first_negative as leads_negative};
@@ -146,9 +146,9 @@ fn is_first_negative(hours: i8, minutes: i8, seconds: i8) -> bool
     }
 }
 
-// The size with that sign.
-fn signed(negative: bool, size: u32) -> i32
-    requires { size ≤ 93_599 }
+/// The size with that sign.
+pub(crate) fn signed(negative: bool, size: u32) -> i32
+    requires { size < 2 ^ 31 }
     ensures { result ≡ signed_by negative size }
 {
     let size = size as i32;

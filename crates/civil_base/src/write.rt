@@ -1,9 +1,10 @@
 //! The texts of local times and of instants with an offset.
-ghost use Rattle.std.specs.Prelude.{◌≡◌, ◌+◌, ◌<◌, ◌≤◌, [], ◌∷◌, ◌++◌, length, take, pos, int_lt, if◌then◌else◌};
+ghost use Rattle.std.specs.Prelude.{◌≡◌, ℤ, ◌+◌, ◌<◌, ◌≤◌, [], ◌∷◌, ◌++◌, length, take, pos, ◌+ℤ◌, ◌*ℤ◌, int_lt, if◌then◌else◌};
 ghost use Rattle.civil_base.specs.DateTimes.{instant, offset_of};
 ghost use Rattle.civil_base.specs.Layout.{local_text, zoned_text, offset_text, year_sign, four_digits, two_digits, nine_digits};
 ghost use Rattle.civil_base.specs.Layout.{digit as digit_of};
 ghost use Rattle.civil_base.specs.Clock.{hour_of, minute_of, second_of};
+ghost use Rattle.civil_base.specs.Ranges.{IsInYears, IsOffset};
 
 use crate::{OffsetDateTime, PlainDateTime, Time, UtcOffset};
 
@@ -13,6 +14,10 @@ pub fn write_local(value: &PlainDateTime, into: &mut [u8; 30]) -> usize
     ensures text { take result into.new ≡ local_text value.now }
     ensures length { result ≡ length (local_text value.now) }
     ensures bound { result ≤ 30 }
+    ensures years { IsInYears value.now }
+
+    // No other value has this text.
+    ensures only { (x : ℤ) → IsInYears x → local_text x ≡ local_text value.now → x ≡ value.now }
 {
     put_local(into, *value)
 }
@@ -23,6 +28,15 @@ pub fn write_zoned(value: &OffsetDateTime, into: &mut [u8; 40]) -> usize
     ensures text { take result into.new ≡ zoned_text (instant value.now) (offset_of value.now) }
     ensures length { result ≡ length (zoned_text (instant value.now) (offset_of value.now)) }
     ensures bound { result ≤ 40 }
+
+    // Each value is in its ranges.
+    ensures years { IsInYears (instant value.now +ℤ pos 1000000000 *ℤ offset_of value.now) }
+    ensures offset { IsOffset (offset_of value.now) }
+
+    // No other value has this text.
+    ensures only { (t o : ℤ) → IsInYears (t +ℤ pos 1000000000 *ℤ o) → IsOffset o
+        → zoned_text t o ≡ zoned_text (instant value.now) (offset_of value.now)
+        → (t ≡ instant value.now) × (o ≡ offset_of value.now) }
 {
     let end = put_local(into, value.local());
     put(into, end, &spaced_offset(value.offset()))
@@ -34,6 +48,7 @@ fn put_local(into: &mut [u8], local: PlainDateTime) -> usize
     ensures text { take result into.new ≡ local_text local }
     ensures end { result ≡ length (local_text local) }
     ensures bound { result ≤ 30 }
+    ensures years { IsInYears local }
 {
     let (year, month, day) = local.date().to_calendar_date();
     let time = local.time();
@@ -124,7 +139,8 @@ fn nanosecond_bytes(nanosecond: u32) -> [u8; 9]
 }
 
 fn spaced_offset(offset: UtcOffset) -> [u8; 10]
-    ensures { result ≡ 32 ∷ offset_text offset }
+    ensures text { result ≡ 32 ∷ offset_text offset }
+    ensures bound { IsOffset offset }
 {
     let size = offset.whole_seconds().unsigned_abs();
     let (hours, minutes, seconds) = (size / 3600, size / 60 % 60, size % 60);

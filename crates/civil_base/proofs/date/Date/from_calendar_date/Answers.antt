@@ -1,6 +1,6 @@
 use Rattle.std.proofs.Common.{arith, pos, neg_ℤ, to_z, of_z, to_z-of_z, w32, ap}
 use Rattle.calendar.proofs.SignLemmas.{signed_casts}
-use Rattle.civil_base.proofs.RangeLemmas.{counted-first, counted-last}
+use Rattle.civil_base.proofs.RangeLemmas.{counted-first, counted-last, day-first, day-last}
 use Rattle.calendar.specs.Days.{IsDate, days_in_month}
 use Rattle.civil_base.proofs.date.Date.from_calendar_date.Goals as goal
 
@@ -18,4 +18,4 @@ invariant_of-result c =
       last_day = omega arith;
     } in
     let inside = c.day_number.ensures.between (neg_ℤ (pos 9999)) (pos 9999) counted-first counted-last (omega (arith, signed_casts)) (omega (arith, signed_casts)) (rw year date) in
-    record { first = omega (arith, signed_casts, inside.0); last = omega (arith, signed_casts, inside.1) }
+    record { first = omega (arith, signed_casts, inside.0, day-first); last = omega (arith, signed_casts, inside.1, day-last) }

@@ -30,8 +30,11 @@ at_day-requires c =
     let at = found c.self.inside.nanos c.self.invariant (search rules) c.div_euclid.result c.div_euclid.ensures in
     rw ((fits c.div_euclid.result at.0).1) at.0
 
-pub returns : goal.returns
+pub returns-clause-value : goal.returns-clause-value
 unfolding day_part
-returns c =
+returns-clause-value c =
     let at = found c.self.inside.nanos c.self.invariant (search rules) c.div_euclid.result c.div_euclid.ensures in
     c.at_day.ensures ∙ (fits c.div_euclid.result at.0).1 ∙ at.1 ∙ ap (λ x. int_div_euclid x (pos nanos_per_day)) c.self.view_is
+
+pub returns-clause-years : goal.returns-clause-years
+returns-clause-years c = rw (← c.self.view_is) c.self.invariant

@@ -1,0 +1,19 @@
+-- The day and the time of day of a local time.
+use Rattle.std.proofs.Common.{◌≡◌, arith, ◌<◌, ℤ, pos, ◌+ℤ◌, ◌*ℤ◌}
+use Rattle.calendar.proofs.SignLemmas.{signed}
+use Rattle.civil_base.specs.Clock.{nanos_per_day}
+use Rattle.civil_base.specs.Ranges.{IsDay, IsInYears}
+use Rattle.civil_base.specs.Layout.{day_part, time_part}
+use Rattle.civil_base.proofs.RangeLemmas.{day-inside}
+
+pub day_part-inside : (x : ℤ) → IsInYears x → IsDay (day_part x)
+unfolding day_part
+day_part-inside x h = day-inside x h
+
+pub time_part-inside : (x : ℤ) → time_part x < nanos_per_day
+unfolding time_part
+time_part-inside x = omega (arith, signed)
+
+pub parts-joined : (x : ℤ) → day_part x *ℤ pos nanos_per_day +ℤ pos (time_part x) ≡ x
+unfolding day_part time_part
+parts-joined x = omega (arith, signed)

@@ -1,0 +1,65 @@
+use Rattle.std.proofs.Common.{arith, ◌≡◌, ℕ, ◌++◌, ◌∷◌, List, length, take, Bool, true, false, ℤ, pos, ◌+ℤ◌, ◌*ℤ◌, ◌≤ℤ◌, ◌<ℤ◌, sym, ap, ◌∙◌}
+use Rattle.std.proofs.Common.{drop, get_or, Some, int_lt, ◌≢◌}
+use Rattle.std.proofs.lemmas.Int.{ints, by_lt_z}
+use Rattle.calendar.specs.Dates.{year_of}
+use Rattle.civil_base.specs.Clock.{nanos_per_day}
+use Rattle.civil_base.specs.Layout.{local_text, day_part, time_part}
+use Rattle.civil_base.proofs.FoundLemmas.{not_none, same_some}
+use Rattle.civil_base.proofs.PartLemmas.{day_part-inside, time_part-inside, parts-joined}
+use Rattle.civil_base.proofs.LayoutLemmas.{unsigned_text, local_text-sign, unsigned_text-shape, year_sign-negative, year_sign-other}
+use Rattle.civil_base.proofs.read.parse_local.Goals as goal
+
+-- what the first split finds in a local text
+abbrev Splits : ℤ → Bool → List ℕ → Type 0
+Splits x negative rest = (int_lt (year_of (day_part x)) (pos 0) ≡ negative) × (rest ≡ unsigned_text x)
+
+below : (y : ℤ) → y <ℤ pos 0 → int_lt y (pos 0) ≡ true
+below y h = grind (arith, ints)
+
+not_below : (y : ℤ) → pos 0 ≤ℤ y → int_lt y (pos 0) ≡ false
+not_below y h = grind (arith, ints)
+
+splits : (x : ℤ) (bytes rest : List ℕ) (negative : Bool) → local_text x ≡ bytes → ((r : List ℕ) → bytes ≡ 45 ∷ r → (negative ≡ true) × (rest ≡ r)) → (get_or bytes 0 0 ≢ 45 → (negative ≡ false) × (rest ≡ bytes)) → Splits x negative rest
+splits x bytes rest negative text minus none =
+    let y = year_of (day_part x) in
+    let pieces = sym text ∙ local_text-sign x in
+    by_lt_z y (pos 0)
+    (λ lt. let found = minus (unsigned_text x) (pieces ∙ ap (λ s. s ++ unsigned_text x) (year_sign-negative y lt)) in
+    (below y lt ∙ sym found.0, found.1))
+    (λ le. let whole = pieces ∙ ap (λ s. s ++ unsigned_text x) (year_sign-other y le) in
+    let found = none (λ e. (unsigned_text-shape x).3 (ap (λ l. get_or l 0 0) (sym whole) ∙ e)) in
+    (not_below y le ∙ sym found.0, found.1 ∙ whole))
+
+pub returns-then-unsigned-ne29 : goal.returns-then-unsigned-ne29
+returns-then-unsigned-ne29 c = record {
+  found = λ x years text.
+      let split = splits x c.args.bytes.now c.split_sign-negative.result.1.now c.split_sign-negative.result.0 text c.split_sign-negative.ensures.minus c.split_sign-negative.ensures.none in
+      absurd (c.if-unsigned-ne29.true (ap length split.1 ∙ (unsigned_text-shape x).0));
+}
+
+pub returns-in_err-date : goal.returns-in_err-date
+returns-in_err-date c = record {
+  found = λ x years text.
+      let split = splits x c.args.bytes.now c.split_sign-negative.result.1.now c.split_sign-negative.result.0 text c.split_sign-negative.ensures.minus c.split_sign-negative.ensures.none in
+      let date = c.parse_date.ensures.found (day_part x) (day_part-inside x years) split.0 (c.split_at.ensures.front ∙ ap (take 10) split.1 ∙ (unsigned_text-shape x).1) in
+      absurd (not_none c.parse_date.result (day_part x) date c.in_err-date.was);
+}
+
+pub returns-in_err-time : goal.returns-in_err-time
+returns-in_err-time c = record {
+  found = λ x years text.
+      let split = splits x c.args.bytes.now c.split_sign-negative.result.1.now c.split_sign-negative.result.0 text c.split_sign-negative.ensures.minus c.split_sign-negative.ensures.none in
+      let time = c.parse_time.ensures.found (time_part x) (time_part-inside x) (c.split_at.ensures.back ∙ ap (drop 10) split.1 ∙ (unsigned_text-shape x).2) in
+      absurd (not_none c.parse_time.result (time_part x) time c.in_err-time.was);
+}
+
+pub returns : goal.returns
+returns c = record {
+  found = λ x years text.
+      let split = splits x c.args.bytes.now c.split_sign-negative.result.1.now c.split_sign-negative.result.0 text c.split_sign-negative.ensures.minus c.split_sign-negative.ensures.none in
+      let date = c.parse_date.ensures.found (day_part x) (day_part-inside x years) split.0 (c.split_at.ensures.front ∙ ap (take 10) split.1 ∙ (unsigned_text-shape x).1) in
+      let time = c.parse_time.ensures.found (time_part x) (time_part-inside x) (c.split_at.ensures.back ∙ ap (drop 10) split.1 ∙ (unsigned_text-shape x).2) in
+      let day = same_some c.parse_date.result c.in_ok-date.date (day_part x) c.in_ok-date.was date in
+      let clock = same_some c.parse_time.result c.in_ok-time.time (time_part x) c.in_ok-time.was time in
+      ap Some (c.new.ensures ∙ ap (λ k. k *ℤ pos nanos_per_day +ℤ pos c.in_ok-time.time) day ∙ ap (λ t. day_part x *ℤ pos nanos_per_day +ℤ pos t) clock ∙ parts-joined x);
+}
