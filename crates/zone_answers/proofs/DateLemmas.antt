@@ -2,10 +2,9 @@
 use Rattle.std.proofs.Common.{◌≡◌, Bool, true, false, ◌&&◌, ℤ, pos, neg_ℤ, ◌*ℤ◌, ◌≤ℤ◌, ◌<ℤ◌, int_le, int_lt, sym, ap, ◌∙◌, arith}
 use Rattle.std.proofs.lemmas.Bool.{and_from, and_parts, false_from_ne_true}
 use Rattle.std.proofs.lemmas.Int.{ints}
-use Rattle.calendar.specs.Days.{day}
 use Rattle.civil_base.specs.Clock.{nanos_per_day}
 use Rattle.civil_base.specs.Ranges.{IsInYears}
-use Rattle.zone_answers.specs.Faults.{is_in_years}
+use Rattle.zone_answers.specs.LocalTimes.{first_time, is_in_years}
 
 le_pass : (a b : ℤ) → a ≤ℤ b → int_le a b ≡ true
 le_pass a b h = grind (arith, ints)
@@ -22,9 +21,9 @@ lt_from a b h = grind (arith, ints)
 pub years_pass : (x : ℤ) → IsInYears x → is_in_years x ≡ true
 years_pass x is = and_from _ _ (le_pass _ _ is.first) (lt_pass _ _ is.last)
 
-years_from : (x : ℤ) → is_in_years x ≡ true → IsInYears x
+pub years_from : (x : ℤ) → is_in_years x ≡ true → IsInYears x
 years_from x is =
-    let both = and_parts (int_le (day (neg_ℤ (pos 9999)) 1 1 *ℤ pos nanos_per_day) x) _ is in
+    let both = and_parts (int_le first_time x) _ is in
     record { first = le_from _ _ both.0; last = lt_from _ _ both.1 }
 
 pub years_fail : (x : ℤ) → (IsInYears x → ⊥) → is_in_years x ≡ false

@@ -8,3 +8,4 @@ pub mod ZoneLemmas
 pub mod DateLemmas
 pub mod AnsweringLemmas
 pub mod ResponseLemmas
+pub mod LocalLemmas

@@ -1,5 +1,5 @@
 -- The bytes that are due for a source and its requests.
-use Rattle.std.specs.Prelude.{ℕ, List, [], ◌∷◌, ◌++◌, map}
+use Rattle.std.specs.Prelude.{ℕ, ℤ, List, [], ◌∷◌, ◌++◌, map, codes}
 use Rattle.std.specs.Option.{option_map_or}
 use Rattle.zone_line.specs.FixedLines.{FixedValue}
 use Rattle.civil_base.specs.Layout.{zoned_text}
@@ -7,13 +7,24 @@ use Rattle.zone_answers.specs.AnswerLines.{ended}
 use Rattle.zone_answers.specs.Faults.{fault}
 use Rattle.zone_answers.specs.FaultLines.{fault_line}
 use Rattle.zone_answers.specs.Lines.{lines_of}
-use Rattle.zone_answers.specs.Requests.{Request, at, name_of, request_of}
-use Rattle.zone_answers.specs.Schedules.{Schedule, schedule_of, total_at}
+use Rattle.zone_answers.specs.Requests.{Request, at, local, name_of, request_of}
+use Rattle.zone_answers.specs.Schedules.{Schedule, schedule_of, total_at, instants}
 use Rattle.zone_answers.specs.Zones.{values_of, zone_of}
+
+-- these texts with bars between them
+abbrev pub with_bars : List (List ℕ) → List ℕ
+with_bars [] = codes "none"
+with_bars (text ∷ []) = text
+with_bars (text ∷ more ∷ texts) = text ++ codes " | " ++ with_bars (more ∷ texts)
+
+-- the texts of the instants that a zone with this schedule reads as the local time
+abbrev pub local_line : Schedule → ℤ → List ℕ
+local_line schedule time = with_bars (map (λ instant. zoned_text instant (total_at schedule instant)) (instants (total_at schedule) time))
 
 -- the line of a request of a zone with this schedule
 abbrev pub answer_at : Schedule → Request → List ℕ
 answer_at schedule (at name instant) = zoned_text instant (total_at schedule instant)
+answer_at schedule (local name time) = local_line schedule time
 
 -- the line of a request that is not refused
 abbrev pub answer_to : List FixedValue → Request → List ℕ

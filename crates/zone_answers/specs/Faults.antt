@@ -1,11 +1,10 @@
 -- Why a source or a request is refused, with the number of its line.
-use Rattle.std.specs.Prelude.{◌≡◌, ℕ, suc, Bool, true, false, ◌&&◌, List, [], ◌∷◌, ◌++◌, Option, Some, None, is_some, option_map, if◌then◌else◌, ℤ, pos, neg_ℤ, ◌+ℤ◌, ◌*ℤ◌, int_le, int_lt}
+use Rattle.std.specs.Prelude.{◌≡◌, ℕ, suc, Bool, true, false, ◌&&◌, List, [], ◌∷◌, ◌++◌, Option, Some, None, is_some, option_map, if◌then◌else◌, pos, ◌+ℤ◌, ◌*ℤ◌}
 use Rattle.std.specs.Option.{option_or, option_map_or}
-use Rattle.calendar.specs.Days.{day}
-use Rattle.civil_base.specs.Clock.{nanos_per_day}
+use Rattle.zone_answers.specs.LocalTimes.{is_in_years}
 use Rattle.zone_line.specs.FixedLines.{FixedValue, space, zone, other}
 use Rattle.zone_answers.specs.Lines.{lines_of}
-use Rattle.zone_answers.specs.Requests.{Request, at, name_of, request_of}
+use Rattle.zone_answers.specs.Requests.{Request, at, local, name_of, request_of}
 use Rattle.zone_answers.specs.Schedules.{Schedule, schedule_of, total_at, is_in_offset_range}
 use Rattle.zone_answers.specs.Zones.{source_value, values_of, zone_of}
 
@@ -33,12 +32,9 @@ first_unbuilt before n (line ∷ lines) =
 unfoldable pub source_fault : List ℕ → Option Fault
 source_fault source = option_map not_built (first_unbuilt [] 1 (lines_of source))
 
--- the date of a local time in nanoseconds lies in the years -9999 to 9999
-abbrev pub is_in_years : ℤ → Bool
-is_in_years x = int_le (day (neg_ℤ (pos 9999)) 1 1 *ℤ pos nanos_per_day) x && int_lt x (day (pos 10000) 1 1 *ℤ pos nanos_per_day)
-
--- the UTC date and the local date of an asked instant lie in those years
+-- the UTC date and the local date of an asked instant lie in the years -9999 to 9999
 abbrev pub has_dates : Schedule → Request → Bool
+has_dates schedule (local name time) = true
 has_dates schedule (at name instant) = is_in_years instant && is_in_years (instant +ℤ pos 1000000000 *ℤ total_at schedule instant)
 
 -- why the nth request is refused at a zone of this schedule

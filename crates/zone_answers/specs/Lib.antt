@@ -2,6 +2,7 @@ pub mod Lines
 pub mod LinesLeft
 pub mod Memory
 pub mod Outside
+pub mod LocalTimes
 pub mod Requests
 pub mod Asked
 pub mod Zones

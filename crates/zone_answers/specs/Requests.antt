@@ -3,14 +3,18 @@ use Rattle.std.specs.Prelude.{ℕ, ℤ, Bool, ◌==◌, ◌&&◌, List, length, 
 use Rattle.std.specs.Char.{is_digit}
 use Rattle.std.specs.List.{before_first, after_first, list_all}
 use Rattle.std.specs.Str.{is_utf8}
+use Rattle.zone_answers.specs.LocalTimes.{local_time_in}
 use Rattle.std.specs.Str.Parse.{digits_value}
 
--- `at`: the local time of an instant in a zone; the zone's name, and nanoseconds from 1970-01-01 00:00:00 UTC
+-- `at`: the local time of an instant in a zone; the zone's name, and nanoseconds from 1970-01-01 00:00:00 UTC.
+-- `local`: the instants that a zone reads as a local time; the name, and nanoseconds from the local 1970-01-01 00:00:00
 pub data Request : Type 0 where
   at : List ℕ → ℤ → Request
+  local : List ℕ → ℤ → Request
 
 abbrev pub name_of : Request → List ℕ
 name_of (at name instant) = name
+name_of (local name time) = name
 
 abbrev pub is_space : ℕ → Bool
 is_space byte = byte == 32
@@ -31,12 +35,17 @@ nanoseconds_in text =
     let size = pos (digits_value 10 (without_minus text)) in
     if is_number (without_minus text) then Some (if is_negative text then neg_ℤ size else size) else None
 
--- `at NAME N` with one space at each gap, the name being one or more characters other than space
+-- `at NAME N` or `local NAME TEXT`, with one space at each gap, the name being one or more characters other than space
 abbrev pub form_of : List ℕ → Option Request
 form_of line =
+    let word = before_first is_space line in
     let rest = after_first is_space line in
     let name = before_first is_space rest in
-    if bytes_eq (before_first is_space line) (codes "at") && nat_lt 0 (length name) then option_map (at name) (nanoseconds_in (after_first is_space rest)) else None
+    let value = after_first is_space rest in
+    if nat_lt 0 (length name)
+    then (if bytes_eq word (codes "at") then option_map (at name) (nanoseconds_in value)
+        else (if bytes_eq word (codes "local") then option_map (local name) (local_time_in value) else None))
+    else None
 
 -- a line that is no text has no form
 unfoldable pub request_of : List ℕ → Option Request

@@ -2,8 +2,9 @@
 ghost use Rattle.std.specs.Prelude.{◌≡◌, ◌≤◌, true, false, ◌&&◌, None, Some, pos, ◌+ℤ◌, ◌*ℤ◌, length, take, map, IfOk, IfErr, OnOk, IfSome, IfNone, IsSome};
 ghost use Rattle.civil_base.specs.DateTimes.{instant, offset_of};
 ghost use Rattle.civil_base.specs.Layout.{zoned_text};
-ghost use Rattle.zone_answers.specs.Due.{answer_at, answer_line, answer_lines};
-ghost use Rattle.zone_answers.specs.Faults.{IsValid, fault, first_refused, refusal, has_dates, is_in_years};
+ghost use Rattle.zone_answers.specs.Due.{answer_at, local_line, answer_line, answer_lines};
+ghost use Rattle.zone_answers.specs.Faults.{IsValid, fault, first_refused, refusal, has_dates};
+ghost use Rattle.zone_answers.specs.LocalTimes.{is_in_years};
 ghost use Rattle.zone_answers.specs.Lines.{lines_of};
 ghost use Rattle.zone_answers.specs.Schedules.{is_offset, schedule_of};
 ghost use Rattle.zone_answers.specs.Told.{fault_told};
@@ -16,7 +17,7 @@ use crate::lines::Lines;
 use crate::request::Request;
 use crate::whole::LIMIT;
 use crate::zones::FixedZone;
-use civil_base::{OffsetDateTime, UtcOffset, write_zoned};
+use civil_base::{OffsetDateTime, PlainDateTime, UtcOffset, write_zoned};
 use std::alloc::Global;
 use zone_line::LineParser;
 
@@ -98,13 +99,23 @@ fn utc_offset(seconds: i64) -> Option<UtcOffset>
 /// The date-time that answers the request at a zone of that offset, if it is one.
 #[tactic(auto, unfolding(crate::specs::Schedules::total_at))]
 fn answer_time(request: &Request<'_>, offset: UtcOffset) -> Option<OffsetDateTime>
+    requires { is_offset offset ≡ true }
     ensures none { IfNone result (has_dates (schedule_of offset) (asked request.now) ≡ false) }
     ensures some { IfSome result (λ _. has_dates (schedule_of offset) (asked request.now) ≡ true) }
     ensures shown { IfSome result (λ shown. zoned_text (instant shown) (offset_of shown) ≡ answer_at (schedule_of offset) (asked request.now)) }
 {
     match request {
         Request::At(_, nanoseconds) => local_time_at(*nanoseconds, offset),
+        Request::Local(_, local) => Some(local_time_in(*local, offset)),
     }
+}
+
+/// The local time at that offset.
+fn local_time_in(local: PlainDateTime, offset: UtcOffset) -> OffsetDateTime
+    requires { is_offset offset ≡ true }
+    ensures { zoned_text (instant result) (offset_of result) ≡ local_line (schedule_of offset) local }
+{
+    local.assume_offset(offset)
 }
 
 /// The local time of an instant at that offset, if its UTC date and its local date lie in the years -9999 to 9999.

@@ -2,9 +2,11 @@
 ghost use Rattle.std.specs.Prelude.{◌≡◌, option_map};
 ghost use Rattle.std.specs.Char.{is_digit};
 ghost use Rattle.std.specs.List.{before_first, after_first, list_all};
+ghost use Rattle.zone_answers.specs.LocalTimes.{local_time_in};
 ghost use Rattle.zone_answers.specs.Requests.{request_of, form_of, nanoseconds_in, is_number, is_space, name_of, without_minus};
 
 use crate::text::text_of;
+use civil_base::{PlainDateTime, read_local};
 
 /// The most digits of a number of nanoseconds.
 const MOST_DIGITS: usize = 30;
@@ -14,12 +16,14 @@ const MOST_DIGITS: usize = 30;
 pub(crate) enum Request<'a> {
     /// The local time of an instant: the zone's name, and nanoseconds from 1970-01-01 00:00:00 UTC.
     At(&'a str, i128),
+    /// The instants that a zone reads as a local time.
+    Local(&'a str, PlainDateTime),
 }
 
 impl<'a> Request<'a> {
     ghost use Rattle.zone_answers.specs.Asked.{asked};
 
-    /// Reads a line `at NAME N`, N being an optional `-` and 1 to 30 digits.
+    /// Reads a line `at NAME N`, N being an optional `-` and 1 to 30 digits, or `local NAME TEXT`, TEXT being a local text.
     #[tactic(auto, unfolding(crate::specs::Requests::request_of))]
     pub(crate) fn read(line: &'a [u8]) -> Option<Request<'a>>
         ensures { option_map asked result ≡ request_of line.now }
@@ -36,6 +40,7 @@ impl<'a> Request<'a> {
     {
         match self {
             Request::At(name, _) => name,
+            Request::Local(name, _) => name,
         }
     }
 
@@ -43,11 +48,15 @@ impl<'a> Request<'a> {
         ensures { option_map asked result ≡ form_of text.now }
     {
         let (word, rest) = cut_at_space(text);
-        let (name, number) = cut_at_space(rest);
-        if word != "at" || name.is_empty() {
+        let (name, value) = cut_at_space(rest);
+        if name.is_empty() {
             return None;
         }
-        Some(Request::At(name, nanoseconds(number)?))
+        match word {
+            "at" => Some(Request::At(name, nanoseconds(value)?)),
+            "local" => Some(Request::Local(name, local_time(value)?)),
+            _ => None,
+        }
     }
 }
 
@@ -60,6 +69,13 @@ fn cut_at_space(text: &str) -> (&str, &str)
         Some(parts) => parts,
         None => (text, ""),
     }
+}
+
+/// The local time with that text.
+fn local_time(text: &str) -> Option<PlainDateTime>
+    ensures { result ≡ local_time_in text.now }
+{
+    read_local(text)
 }
 
 /// The number that an optional `-` and 1 to 30 digits write.

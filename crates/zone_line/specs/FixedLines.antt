@@ -1,5 +1,5 @@
 -- What a line says of zones of one fixed offset.
-use Rattle.std.specs.Prelude.{ℕ, ℤ, List, Bool, ◌&&◌, Option, Some, None, option_and_then, is_none, codes, bytes_eq, nat_abs, nat_le, if◌then◌else◌}
+use Rattle.std.specs.Prelude.{ℕ, ℤ, List, Bool, ◌&&◌, Option, None, option_map, is_none, codes, bytes_eq, if◌then◌else◌}
 use Rattle.std.specs.Option.{option_map_or}
 use Rattle.zone_line.specs.Columns.{InfoTexts}
 use Rattle.zone_line.specs.Kinds.{LineKind, kind_of}
@@ -14,20 +14,16 @@ pub data FixedValue : Type 0 where
   zone : List ℕ → ℤ → FixedValue
   other : FixedValue
 
--- offsets from -25:59:59 to 25:59:59
-abbrev pub is_in_range : ℤ → Bool
-is_in_range offset = nat_le (nat_abs offset) 93599
-
 -- the line names no ruleset and no saving, and has no end
 abbrev pub is_for_good : InfoTexts → Bool
 is_for_good info = bytes_eq info.rules (codes "-")
     && is_none info.year && is_none info.month && is_none info.day && is_none info.time
 
--- the offset of such a line, where its column is a wall time in the range
+-- the offset of such a line, where its column is a wall time
 unfoldable pub fixed_offset : InfoTexts → Option ℤ
 fixed_offset info =
     if is_for_good info
-    then option_and_then (λ time. if is_in_range (seconds_of time) then Some (seconds_of time) else None) (wall_time_of info.gmtoff)
+    then option_map seconds_of (wall_time_of info.gmtoff)
     else None
 
 abbrev pub of_kind : LineKind → FixedValue

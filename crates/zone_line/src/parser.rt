@@ -60,9 +60,8 @@ impl LineParser {
     }
 
     /// Reads one line, as far as zones of one fixed offset need it: `Space` is a blank line or a
-    /// comment; `Zone` a Zone line whose GMTOFF is a wall time of at most 93,599 seconds in size,
-    /// whose RULES is a hyphen and which has no end; `Other` every other line. Only want of
-    /// memory is an error.
+    /// comment; `Zone` a Zone line whose GMTOFF is a wall time, whose RULES is a hyphen and which has
+    /// no end; `Other` every other line. Only want of memory is an error.
     pub fn read_fixed<'a>(&self, alloc: Global, input: &'a str) -> Result<FixedLine<'a>, AllocError>
         ensures { IfOk result (λ line. shown line ≡ fixed_value input.now) }
     {

@@ -14,9 +14,6 @@ use crate::time::{TimeSpec, TimeSpecAndType};
 use regex::{Matcher, Regex};
 use std::alloc::{AllocError, Global};
 
-/// The longest offset, in seconds: 25:59:59.
-const LONGEST: i64 = 93_599;
-
 /// Reads lines with matchers that are made once, by `LineParser::reader`.
 #[derive(Drop)]
 pub struct LineReader<'p> {
@@ -99,12 +96,8 @@ impl<'p> LineReader<'p> {
         if !info.is_for_good() {
             return None;
         }
-        let offset = self.wall_time(info.gmtoff)?.as_seconds();
-        if -LONGEST <= offset && offset <= LONGEST {
-            Some(offset)
-        } else {
-            None
-        }
+        let time = self.wall_time(info.gmtoff)?;
+        Some(time.as_seconds())
     }
 
     /// The amount of time in a column that has to be wall time.

@@ -32,7 +32,7 @@ fn fixed_lines(rt: HostRuntime) -> Result<(), Fail> {
         ("Zone A 0:00 Rules A", FixedLine::Other),
         ("Zone A 1:00u - A", FixedLine::Other),
         ("Zone A 1:00s - A", FixedLine::Other),
-        ("Zone A 26:00 - A", FixedLine::Other),
+        ("Zone A 26:00 - A", FixedLine::Zone("A", 93600)),
         ("Zone A 200 - A", FixedLine::Other),
         ("Zone A --1 - A", FixedLine::Other),
         ("Zone A \u{661}:00 - A", FixedLine::Other),
