@@ -9,3 +9,4 @@ pub mod DateLemmas
 pub mod AnsweringLemmas
 pub mod ResponseLemmas
 pub mod LocalLemmas
+pub mod ReadBackLemmas

@@ -15,3 +15,4 @@ pub mod ZonesShown
 pub mod Due
 pub mod Words
 pub mod Responses
+pub mod ReadBack

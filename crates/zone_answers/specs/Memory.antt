@@ -83,3 +83,9 @@ pub record HasRoom (taken room capacity step : ℕ) : Type 0 where
   pub within : taken ≤ room
   pub reserved : room ≤ capacity
   pub moves : 0 < step
+
+-- bytes that are always given: all of them, those still to come, and how many were given
+pub record SureState : Type 0 where
+  pub bytes : List ℕ
+  pub left : List ℕ
+  pub given : ℕ

@@ -1,9 +1,10 @@
 -- What was written of the due bytes.
-use Rattle.std.specs.Prelude.{◌≡◌, ◌≢◌, ◌≤◌, ℕ, List, ◌++◌, Option, Some, None, IfSome, IsSomeAnd, [], ◌∷◌}
-use Rattle.zone_answers.specs.Due.{due_bytes}
+use Rattle.std.specs.Prelude.{◌≡◌, ◌≢◌, ◌≤◌, ℕ, List, ◌++◌, Option, Some, None, IfSome, IsSomeAnd, All, [], ◌∷◌}
+use Rattle.zone_answers.specs.Due.{answer_lines, due_bytes}
 use Rattle.zone_answers.specs.Faults.{IsValid, fault}
 use Rattle.zone_answers.specs.Faults as faults
 use Rattle.zone_answers.specs.FaultLines.{fault_line}
+use Rattle.zone_answers.specs.ReadBack.{IsReadBack}
 use Rattle.zone_answers.specs.Outside.{Rose, GrewByPrefix}
 use Rattle.zone_answers.specs.declared.respond.Answered.{Answered}
 use Rattle.zone_answers.specs.declared.respond.Answered.TheVariants.{Done, Fault, Failed, NoMemory}
@@ -13,7 +14,7 @@ abbrev pub Wrote : List ℕ → List ℕ → Option (List ℕ) → Option (List 
 Wrote source requests before now = IfSome before (λ had. now ≡ Some (had ++ due_bytes source requests))
 
 abbrev pub Responds : List ℕ → List ℕ → Option (List ℕ) → Option (List ℕ) → ℕ → ℕ → Answered → Type 0
-Responds source requests before now faults_before faults Done = IsValid source requests × Wrote source requests before now
+Responds source requests before now faults_before faults Done = IsValid source requests × All IsReadBack (answer_lines source requests) × Wrote source requests before now
 Responds source requests before now faults_before faults Fault = (fault source requests ≢ None) × Wrote source requests before now
 Responds source requests before now faults_before faults Failed = Rose faults_before faults × IfSome before (λ had. GrewByPrefix had now (due_bytes source requests))
 Responds source requests before now faults_before faults NoMemory = now ≡ before

@@ -1,5 +1,5 @@
 //! The answers to the requests over a source.
-ghost use Rattle.std.specs.Prelude.{◌≡◌, ◌≤◌, true, false, ◌&&◌, None, Some, pos, ◌+ℤ◌, ◌*ℤ◌, length, take, map, IfOk, IfErr, OnOk, IfSome, IfNone, IsSome};
+ghost use Rattle.std.specs.Prelude.{◌≡◌, ◌≤◌, true, false, ◌&&◌, None, Some, pos, ◌+ℤ◌, ◌*ℤ◌, length, take, map, IfOk, IfErr, OnOk, IfSome, IfNone, IsSome, All};
 ghost use Rattle.civil_base.specs.DateTimes.{instant, offset_of};
 ghost use Rattle.civil_base.specs.Layout.{zoned_text};
 ghost use Rattle.zone_answers.specs.Due.{answer_at, local_line, answer_line, answer_lines};
@@ -7,6 +7,7 @@ ghost use Rattle.zone_answers.specs.Faults.{IsValid, fault, first_refused, refus
 ghost use Rattle.zone_answers.specs.LocalTimes.{is_in_years};
 ghost use Rattle.zone_answers.specs.Lines.{lines_of};
 ghost use Rattle.zone_answers.specs.Schedules.{is_offset, schedule_of};
+ghost use Rattle.zone_answers.specs.ReadBack.{IsReadBack};
 ghost use Rattle.zone_answers.specs.Told.{fault_told};
 ghost use Rattle.zone_answers.specs.ZonesShown.{zones_shown};
 ghost use Rattle.zone_answers.specs.Asked.{asked};
@@ -33,6 +34,7 @@ pub fn answers(
     requires requests { length requests.now ≤ LIMIT }
     ensures valid { OnOk result (IsValid source.now requests.now) }
     ensures lines { IfOk result (λ lines. lines ≡ answer_lines source.now requests.now) }
+    ensures read_back { OnOk result (All IsReadBack (answer_lines source.now requests.now)) }
     ensures err { IfErr result (λ error. IfSome (fault_told error) (λ f. fault source.now requests.now ≡ Some f)) }
 {
     let zones = FixedZone::read_all(alloc, parser, source)?;

@@ -13,6 +13,7 @@ mod respond;
 mod running;
 mod status;
 mod streams;
+mod sure;
 mod text;
 mod whole;
 mod zones;
@@ -25,6 +26,7 @@ pub use lines::Lines;
 pub use memory::{MemShelf, MemSink, MemSource};
 pub use running::run;
 pub use status::Status;
+pub use sure::{SureShelf, SureSink, SureSource, run_surely};
 pub use streams::{FileShelf, StdSink, StdSource};
 pub use outside::{Failed, Shelf, Sink, Source};
 

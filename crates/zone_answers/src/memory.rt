@@ -262,7 +262,7 @@ fn text_at_place(files: &[(String, Vec<u8>)], place: usize) -> &[u8]
     }
 }
 
-fn bytes_from(bytes: &[u8], at: usize) -> &[u8]
+pub(crate) fn bytes_from(bytes: &[u8], at: usize) -> &[u8]
     requires { at ≤ length bytes.now }
     ensures { result.now ≡ drop at bytes.now }
 {
@@ -270,7 +270,7 @@ fn bytes_from(bytes: &[u8], at: usize) -> &[u8]
 }
 
 /// Copies the front of these bytes to the front of the buffer, at most a step of them, and answers how many.
-fn copy_front(from: &[u8], step: usize, into: &mut [u8]) -> usize
+pub(crate) fn copy_front(from: &[u8], step: usize, into: &mut [u8]) -> usize
     requires moves { 0 < step }
     requires room { 0 < length into.old }
     ensures count { result ≡ min (min step (length into.old)) (length from.now) }

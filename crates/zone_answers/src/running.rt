@@ -1,8 +1,9 @@
 //! The top call.
-ghost use Rattle.std.specs.Prelude.{◌≡◌, ◌≢◌, ◌⊎◌, ◌↔◌, ◌+◌, ◌<◌, ◌≤◌, ℕ, ◌++◌, [], ◌∷◌, List, length, IfSome, IsNone, None, Some};
+ghost use Rattle.std.specs.Prelude.{◌≡◌, ◌≢◌, ◌⊎◌, ◌↔◌, ◌+◌, ◌<◌, ◌≤◌, ℕ, ◌++◌, [], ◌∷◌, List, length, IfSome, IsNone, All, None, Some};
 ghost use Rattle.zone_answers.specs.Outside.{Rose, TooMuch, GrewByPrefix};
-ghost use Rattle.zone_answers.specs.Due.{due_bytes};
+ghost use Rattle.zone_answers.specs.Due.{answer_lines, due_bytes};
 ghost use Rattle.zone_answers.specs.Faults.{IsValid, fault};
+ghost use Rattle.zone_answers.specs.ReadBack.{IsReadBack};
 ghost use Rattle.zone_answers.specs.Words.{only_word, EndsBy};
 
 use crate::outside::{Shelf, Sink, Source};
@@ -36,7 +37,7 @@ pub fn run<H: Shelf, I: Source, O: Sink>(
         × IfSome (I.left input.old) (λ _. I.left input.new ≡ Some []) }
     ensures done { result ≡ Status.Done →
         IfSome (only_word words.now) (λ word. IfSome (H.told shelf.old word) (λ source. IfSome (I.left input.old) (λ requests.
-        IsValid source requests × IfSome (O.taken output.old) (λ had. O.taken output.new ≡ Some (had ++ due_bytes source requests))))) }
+        IsValid source requests × All IsReadBack (answer_lines source requests) × IfSome (O.taken output.old) (λ had. O.taken output.new ≡ Some (had ++ due_bytes source requests))))) }
     ensures fault { result ≡ Status.Fault →
         IfSome (only_word words.now) (λ word. IfSome (H.told shelf.old word) (λ source. IfSome (I.left input.old) (λ requests.
         (fault source requests ≢ None) × IfSome (O.taken output.old) (λ had. O.taken output.new ≡ Some (had ++ due_bytes source requests))))) }

@@ -5,6 +5,7 @@ use Rattle.zone_answers.specs.Faults.{fault, first_refused}
 use Rattle.zone_answers.specs.Told.{fault_told}
 use Rattle.zone_answers.specs.ZonesShown.{zones_shown}
 use Rattle.zone_answers.specs.Lines.{lines_of}
+use Rattle.zone_answers.proofs.ReadBackLemmas.{lines_back}
 use Rattle.zone_answers.proofs.AnsweringLemmas.{lines_are, fault_is, fault_first, told_along}
 use Rattle.zone_answers.proofs.answering.answers.Goals as goal
 
@@ -18,6 +19,12 @@ returns-clause-valid c =
     let zones = zones_shown c.in_ok-zones.zones.items in
     let same = fault_is zones c.args.source.now c.args.requests.now c.in_ok-zones.ensures.ok c.in_ok-zones.ensures.zones in
     on_ok_weaker c.answer_all.result (λ none. sym same ∙ none) (rw c.deref.ensures.value at c.answer_all.ensures.valid)
+
+pub returns-clause-read_back : goal.returns-clause-read_back
+returns-clause-read_back c =
+    let zones = zones_shown c.in_ok-zones.zones.items in
+    let same = fault_is zones c.args.source.now c.args.requests.now c.in_ok-zones.ensures.ok c.in_ok-zones.ensures.zones in
+    on_ok_weaker c.answer_all.result (λ none. lines_back c.args.source.now c.args.requests.now (sym same ∙ none)) (rw c.deref.ensures.value at c.answer_all.ensures.valid)
 
 pub returns-clause-lines : goal.returns-clause-lines
 returns-clause-lines c =

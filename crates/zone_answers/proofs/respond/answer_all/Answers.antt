@@ -5,7 +5,7 @@ use Rattle.zone_answers.proofs.respond.answer_all.Goals as goal
 pub returns-in-Ok-write_all : goal.returns-in-Ok-write_all
 returns-in-Ok-write_all g c =
     let due = c.as_bytes.ensures ∙ due_valid c.args.source.now c.args.requests.now c.in-Ok.lines c.in-Ok.ensures.valid c.in-Ok.ensures.lines in
-    (c.in-Ok.ensures.valid, wrote c.args.source.now c.args.requests.now c.as_bytes.result.now _ _ due c.in-Ok-write_all.ensures.ok)
+    (c.in-Ok.ensures.valid, c.in-Ok.ensures.read_back, wrote c.args.source.now c.args.requests.now c.as_bytes.result.now _ _ due c.in-Ok-write_all.ensures.ok)
 
 pub returns-in-Ok : goal.returns-in-Ok
 returns-in-Ok g c =
