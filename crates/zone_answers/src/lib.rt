@@ -30,3 +30,6 @@ pub use sure::{SureShelf, SureSink, SureSource, run_surely};
 pub use streams::{FileShelf, StdSink, StdSource};
 pub use outside::{Failed, Shelf, Sink, Source};
 
+
+#[cfg(test)]
+mod tests;
