@@ -5,7 +5,6 @@ use crate::{
     pad_with_width, padded_width_of, unpadded_width_of,
 };
 use std::borrow::CowStr;
-use std::cmp::Ordering;
 use std::hash::{DefaultHasher, Hash, Hasher};
 use std::num::Wrapping;
 use std::process::Abort;
@@ -13,156 +12,141 @@ use std::rc::Rc;
 use std::sync::Arc;
 use std::test::Fail;
 
-// The bytes of a shown value, which the tests leave room for.
-fn shown<T: SmartDisplay>(rt: &impl Abort, value: &T, f: FormatterOptions) -> WriteBuffer<48> {
-    let mut out = WriteBuffer::new();
-    assert!(rt; value.fmt(&mut out, f).is_ok());
-    out
-}
-
-// Under a requested width of 8: no alignment, left, center, right; and what the widths say.
-fn is_padded<T: SmartDisplay>(rt: &impl Abort, value: &T, unpadded: usize, texts: [&str; 4]) {
+fn aligned(width: usize, align: Option<Alignment>) -> FormatterOptions {
     let mut f = FormatterOptions::default();
-    f.with_width(Some(8));
-    assert_eq!(rt; unpadded_width_of(value, f), unpadded);
-    assert_eq!(rt; padded_width_of(value, f), 8);
-    assert_eq!(rt; shown(rt, value, f).as_str(), texts[0]);
-    f.with_align(Some(Alignment::Left));
-    assert_eq!(rt; shown(rt, value, f).as_str(), texts[1]);
-    f.with_align(Some(Alignment::Center));
-    assert_eq!(rt; shown(rt, value, f).as_str(), texts[2]);
-    f.with_align(Some(Alignment::Right));
-    assert_eq!(rt; shown(rt, value, f).as_str(), texts[3]);
-    let mut out = WriteBuffer::<8>::new();
-    assert!(rt;
-        value
-            .fmt_with_metadata(&mut out, f, value.metadata(f))
-            .is_ok()
-    );
-    assert_eq!(rt; out.as_str(), texts[3]);
+    f.with_width(Some(width)).with_align(align);
+    f
 }
 
-const ABC: [&str; 4] = ["abc     ", "abc     ", "  abc   ", "     abc"];
+fn shows<T: SmartDisplay>(rt: &impl Abort, value: &T, f: FormatterOptions, text: &str) {
+    let mut out = WriteBuffer::<48>::new();
+    let is_ok = value.fmt(&mut out, f).is_ok();
+    assert!(rt; is_ok && out.as_str() == text, "{out} for {text}");
+}
 
-const FORTY_TWO: [&str; 4] = ["      42", "42      ", "   42   ", "      42"];
+// Under a requested width of 8: no alignment, left, center, right.
+fn is_padded<T: SmartDisplay>(rt: &impl Abort, value: &T, unpadded: usize, texts: [&str; 4]) {
+    let none = aligned(8, None);
+    assert_eq!(rt; unpadded_width_of(value, none), unpadded);
+    assert_eq!(rt; padded_width_of(value, none), 8);
+    shows(rt, value, none, texts[0]);
+    shows(rt, value, aligned(8, Some(Alignment::Left)), texts[1]);
+    shows(rt, value, aligned(8, Some(Alignment::Center)), texts[2]);
+    shows(rt, value, aligned(8, Some(Alignment::Right)), texts[3]);
+}
 
-const MINUS_SEVEN: [&str; 4] = ["      -7", "-7      ", "   -7   ", "      -7"];
+fn is_abc<T: SmartDisplay>(rt: &impl Abort, value: &T) {
+    let texts = ["abc     ", "abc     ", "  abc   ", "     abc"];
+    is_padded(rt, value, 3, texts);
+}
+
+fn is_forty_two<T: SmartDisplay>(rt: &impl Abort, value: &T) {
+    let texts = ["      42", "42      ", "   42   ", "      42"];
+    is_padded(rt, value, 2, texts);
+}
+
+fn is_minus_seven<T: SmartDisplay>(rt: &impl Abort, value: &T) {
+    let texts = ["      -7", "-7      ", "   -7   ", "      -7"];
+    is_padded(rt, value, 2, texts);
+}
+
+#[test]
+fn pads_words_and_characters(rt: HostRuntime) {
+    let texts = ["true    ", "true    ", "  true  ", "    true"];
+    is_padded(&rt, &true, 4, texts);
+    let texts = ["é       ", "é       ", "   é    ", "       é"];
+    is_padded(&rt, &'é', 2, texts);
+}
 
 #[test]
 fn pads_each_kind_of_text(rt: HostRuntime) -> Result<(), Fail> {
-    let alloc = rt.alloc();
-    is_padded(
-        &rt,
-        &true,
-        4,
-        ["true    ", "true    ", "  true  ", "    true"],
-    );
-    is_padded(
-        &rt,
-        &false,
-        5,
-        ["false   ", "false   ", " false  ", "   false"],
-    );
-    is_padded(
-        &rt,
-        &'x',
-        1,
-        ["x       ", "x       ", "   x    ", "       x"],
-    );
-    is_padded(&rt, &Text("abc"), 3, ABC);
-    is_padded(&rt, &String::from_str(alloc, "abc")?, 3, ABC);
-    is_padded(&rt, &CowStr::Borrowed("abc"), 3, ABC);
-    is_padded(&rt, &CowStr::Owned(String::from_str(alloc, "abc")?), 3, ABC);
+    is_abc(&rt, &Text("abc"));
+    is_abc(&rt, &String::from_str(rt.alloc(), "abc")?);
+    is_abc(&rt, &CowStr::Borrowed("abc"));
     let mut buffer = WriteBuffer::<5>::new();
     buffer.write_str("abc")?;
-    is_padded(&rt, &buffer, 3, ABC);
+    is_abc(&rt, &buffer);
     Ok(())
 }
 
 #[test]
 fn pads_each_kind_of_number(rt: HostRuntime) {
-    is_padded(&rt, &42u8, 2, FORTY_TWO);
-    is_padded(&rt, &42u16, 2, FORTY_TWO);
-    is_padded(&rt, &42u32, 2, FORTY_TWO);
-    is_padded(&rt, &42u64, 2, FORTY_TWO);
-    is_padded(&rt, &42u128, 2, FORTY_TWO);
-    is_padded(&rt, &42usize, 2, FORTY_TWO);
-    is_padded(&rt, &-7i8, 2, MINUS_SEVEN);
-    is_padded(&rt, &-7i16, 2, MINUS_SEVEN);
-    is_padded(&rt, &-7i32, 2, MINUS_SEVEN);
-    is_padded(&rt, &-7i64, 2, MINUS_SEVEN);
-    is_padded(&rt, &-7i128, 2, MINUS_SEVEN);
-    is_padded(&rt, &-7isize, 2, MINUS_SEVEN);
+    is_forty_two(&rt, &42u8);
+    is_forty_two(&rt, &42u16);
+    is_forty_two(&rt, &42u32);
+    is_forty_two(&rt, &42u64);
+    is_forty_two(&rt, &42u128);
+    is_forty_two(&rt, &42usize);
+    is_minus_seven(&rt, &-7i8);
+    is_minus_seven(&rt, &-7i16);
+    is_minus_seven(&rt, &-7i32);
+    is_minus_seven(&rt, &-7i64);
+    is_minus_seven(&rt, &-7i128);
+    is_minus_seven(&rt, &-7isize);
 }
 
 #[test]
 fn pads_each_kind_of_wrapper(rt: HostRuntime) -> Result<(), Fail> {
-    let alloc = rt.alloc();
     let mut number = 42u8;
-    is_padded(&rt, &&Text("abc"), 3, ABC);
-    is_padded(&rt, &&mut number, 2, FORTY_TWO);
-    is_padded(&rt, &Wrapping(-7i32), 2, MINUS_SEVEN);
-    is_padded(&rt, &Rc::new(alloc, 42u64)?, 2, FORTY_TWO);
-    is_padded(&rt, &Arc::new(alloc, Text("abc"))?, 3, ABC);
-    is_padded(&rt, &Box::new(alloc, -7i8)?, 2, MINUS_SEVEN);
+    is_forty_two(&rt, &&mut number);
+    is_forty_two(&rt, &&42u64);
+    is_minus_seven(&rt, &Wrapping(-7i32));
+    is_abc(&rt, &Rc::new(rt.alloc(), Text("abc"))?);
+    is_abc(&rt, &Arc::new(rt.alloc(), Text("abc"))?);
+    is_minus_seven(&rt, &Box::new(rt.alloc(), -7i8)?);
     Ok(())
 }
 
 #[test]
-fn shows_signs_zeros_and_precision(rt: HostRuntime) {
-    let mut f = FormatterOptions::default();
-    assert_eq!(rt;
-        shown(&rt, &u128::MAX, f).as_str(),
-        "340282366920938463463374607431768211455"
-    );
-    assert_eq!(rt;
-        shown(&rt, &i128::MIN, f).as_str(),
-        "-170141183460469231731687303715884105728"
-    );
-    f.with_precision(Some(2)).with_alternate(true);
-    assert_eq!(rt; shown(&rt, &true, f).as_str(), "tr");
-    assert_eq!(rt; shown(&rt, &42u8, f).as_str(), "42");
-    f.with_width(Some(8))
-        .with_fill('é')
-        .with_align(Some(Alignment::Center));
-    assert_eq!(rt; shown(&rt, &Text("äöü"), f).as_str(), "éééäöééé");
-    f.with_sign_plus(true);
-    assert_eq!(rt; unpadded_width_of(&42i16, f), 3);
-    f.with_sign_aware_zero_pad(true).with_precision(None);
-    assert_eq!(rt; shown(&rt, &42i16, f).as_str(), "+0000042");
-    assert_eq!(rt; shown(&rt, &-42i16, f).as_str(), "-0000042");
-    f.with_sign_minus(true);
+fn shows_signs_and_zeros(rt: HostRuntime) {
+    let mut f = aligned(8, Some(Alignment::Left));
+    f.with_sign_aware_zero_pad(true).with_sign_plus(true);
+    shows(&rt, &42i16, f, "+0000042");
+    shows(&rt, &-42i16, f, "-0000042");
+    f.with_sign_minus(true).with_alternate(true);
+    shows(&rt, &42u16, f, "00000042");
     assert_eq!(rt; unpadded_width_of(&42u16, f), 3);
-    assert_eq!(rt; shown(&rt, &42u16, f).as_str(), "00000042");
+    assert!(rt; f.alternate());
+}
+
+#[test]
+fn shows_the_longest_numbers(rt: HostRuntime) {
+    let f = FormatterOptions::default();
+    shows(
+        &rt,
+        &u128::MAX,
+        f,
+        "340282366920938463463374607431768211455",
+    );
+    shows(
+        &rt,
+        &i128::MIN,
+        f,
+        "-170141183460469231731687303715884105728",
+    );
 }
 
 #[test]
 fn a_fill_past_ascii_is_wider_than_the_width(rt: HostRuntime) {
-    let mut f = FormatterOptions::default();
-    f.with_width(Some(8))
-        .with_fill('é')
-        .with_align(Some(Alignment::Right));
-    let out = shown(&rt, &Text("abc"), f);
-    assert_eq!(rt; out.as_str(), "éééééabc");
-    assert_eq!(rt; out.as_bytes().len(), 13);
-    assert_eq!(rt; padded_width_of(&Text("abc"), f), 8);
-    let mut narrow = WriteBuffer::<12>::new();
-    assert_eq!(rt; Text("abc").fmt(&mut narrow, f), Err(Full));
-    assert_eq!(rt; narrow.as_str(), "ééééé");
+    let mut f = aligned(8, Some(Alignment::Center));
+    f.with_fill('é').with_precision(Some(2));
+    shows(&rt, &Text("äöü"), f, "éééäöééé");
+    assert_eq!(rt; padded_width_of(&Text("äöü"), f), 8);
+    let mut out = WriteBuffer::<15>::new();
+    assert_eq!(rt; Text("äöü").fmt(&mut out, f), Err(Full));
+    assert_eq!(rt; out.as_str(), "éééäöéé");
 }
 
 #[test]
 fn pads_a_text_of_given_width(rt: HostRuntime) {
-    let mut f = FormatterOptions::default();
-    f.with_width(Some(6)).with_align(Some(Alignment::Center));
-    let mut out = WriteBuffer::<6>::new();
+    let f = aligned(6, Some(Alignment::Center));
+    let mut out = WriteBuffer::<6>::default();
     assert!(rt; pad_with_width(&mut out, f, 3, "abc").is_ok());
     assert_eq!(rt; out.as_str(), " abc  ");
-    assert!(rt; pad_with_width(&mut out, f, 3, "abc").is_err());
 }
 
 #[test]
-fn buffers_hold_and_compare_texts(rt: HostRuntime) -> Result<(), Fail> {
+fn a_full_buffer_stays_as_it_is(rt: HostRuntime) {
     let mut buffer = WriteBuffer::<3>::new();
     assert_eq!(rt; buffer.write_str("abcd"), Err(Full));
     assert_eq!(rt; buffer.as_str(), "");
@@ -170,20 +154,12 @@ fn buffers_hold_and_compare_texts(rt: HostRuntime) -> Result<(), Fail> {
     assert_eq!(rt; buffer.remaining_capacity(), 0);
     assert_eq!(rt; buffer.write_char('d'), Err(Full));
     assert_eq!(rt; buffer.as_bytes(), b"abc".as_slice());
-    let mut other = WriteBuffer::<3>::default();
-    assert_eq!(rt; other.write_char('b'), Ok(()));
-    assert!(rt; buffer != other && buffer < other);
-    assert_eq!(rt; buffer.cmp(&other), Ordering::Less);
-    let mut longer = WriteBuffer::<9>::new();
-    longer.write_str("abc")?;
-    assert!(rt; buffer.same_text(&longer) && !other.same_text(&longer));
-    assert_eq!(rt; other.cmp_text(&longer), Ordering::Greater);
-    assert_eq!(rt; hash_of(&buffer), hash_of(&"abc"));
-    assert_eq!(rt;
-        format!(in rt.alloc(); "{buffer}|{buffer:>5}")?.as_str(),
-        "abc|  abc"
-    );
-    Ok(())
+}
+
+fn buffer_of<const SIZE: usize>(text: &str) -> WriteBuffer<SIZE> {
+    let mut buffer = WriteBuffer::new();
+    let _ = buffer.write_str(text);
+    buffer
 }
 
 fn hash_of<T: Hash>(value: &T) -> u64 {
@@ -193,29 +169,28 @@ fn hash_of<T: Hash>(value: &T) -> u64 {
 }
 
 #[test]
-fn options_and_metadata_give_what_was_set(rt: HostRuntime) {
-    let mut f = FormatterOptions::default();
+fn buffers_compare_and_print_as_texts(rt: HostRuntime) -> Result<(), Fail> {
+    let (b, abc) = (buffer_of::<3>("b"), buffer_of::<3>("abc"));
+    assert!(rt; b != abc && abc < b && abc.max(buffer_of("b")) == b);
+    let abc = buffer_of::<9>("abc");
+    assert!(rt; abc.same_text(&buffer_of::<3>("abc")) && b.cmp_text(&abc).is_gt());
+    assert!(rt; hash_of(&abc) == hash_of(&"abc"));
     assert_eq!(rt;
-        (f.fill(), f.align(), f.width(), f.precision()),
-        (' ', None, None, None)
+        format!(in rt.alloc(); "{abc}|{abc:>5}")?.as_str(),
+        "abc|  abc"
     );
-    f.with_fill('*')
-        .with_align(Some(Alignment::Left))
-        .with_width(Some(5))
-        .with_precision(Some(2));
-    assert_eq!(rt; (f.fill(), f.align()), ('*', Some(Alignment::Left)));
-    assert_eq!(rt; (f.width(), f.precision()), (Some(5), Some(2)));
-    f.with_sign_plus(true)
-        .with_alternate(true)
-        .with_sign_aware_zero_pad(true);
-    assert_eq!(rt; (f.sign_plus(), f.sign_minus()), (true, false));
-    assert_eq!(rt; (f.alternate(), f.sign_aware_zero_pad()), (true, true));
-    f.with_sign_minus(true);
-    assert_eq!(rt; (f.sign_plus(), f.sign_minus()), (false, true));
+    Ok(())
+}
+
+#[test]
+fn metadata_is_reused(rt: HostRuntime) {
+    let f = aligned(5, None);
     let value = 42u8;
-    let known: Metadata<'_, u8> = Metadata::new(2, &value, ());
-    let again = known.copy();
+    let known: Metadata<'_, u8> = value.metadata(f);
+    let copy = known.copy();
     let reused: Metadata<'_, &u8> = known.reuse();
-    assert_eq!(rt; (again.unpadded_width(), reused.unpadded_width()), (2, 2));
-    assert_eq!(rt; (reused.padded_width(f), *reused.get()), (5, ()));
+    assert!(rt; copy.unpadded_width() == 2 && reused.padded_width(f) == 5);
+    assert_eq!(rt; *reused.get(), ());
+    let mut out = WriteBuffer::<5>::new();
+    assert!(rt; value.fmt_with_metadata(&mut out, f, copy).is_ok());
 }
