@@ -18,7 +18,8 @@ pub past_inner_byte : (i n : ℕ) (text : List ℕ) → i < length text → is_c
 past_inner_byte i n [] within inner = absurd (omega arith)
 past_inner_byte zero n (b ∷ text) within inner = take_chars-cons n b text
     ∙ ap (λ t. if t then (if n == 0 then [] else b ∷ take_chars (n - 1) text) else b ∷ take_chars n text) inner
-past_inner_byte (suc i) n (b ∷ text) within inner = rw add-one (ap (λ l. b ∷ l) (rw add-one at (past_inner_byte i n text (omega arith) inner)))
+past_inner_byte (suc i) n (b ∷ text) within inner =
+    rw add-one (ap (λ l. b ∷ l) (rw add-one at (past_inner_byte i n text (omega arith) inner)))
 
 -- past the first byte of a character, one of them is
 pub past_first_byte : (i n : ℕ) (text : List ℕ) → i < length text → 0 < n → is_char_start (slice_index text i) ≡ true
@@ -27,10 +28,13 @@ past_first_byte i n [] within some first = absurd (omega arith)
 past_first_byte zero n (b ∷ text) within some first = take_chars-cons n b text
     ∙ ap (λ t. if t then (if n == 0 then [] else b ∷ take_chars (n - 1) text) else b ∷ take_chars n text) first
     ∙ ap (λ t. if t then [] else b ∷ take_chars (n - 1) text) (ne_eqb n 0 (omega arith))
-past_first_byte (suc i) n (b ∷ text) within some first = rw add-one (ap (λ l. b ∷ l) (rw add-one at (past_first_byte i n text (omega arith) some first)))
+past_first_byte (suc i) n (b ∷ text) within some first =
+    rw add-one (ap (λ l. b ∷ l) (rw add-one at (past_first_byte i n text (omega arith) some first)))
 
 -- where none is left, the text is cut before the first byte of a character
-pub cut_at_first_byte : (i : ℕ) (text : List ℕ) → i < length text → is_char_start (slice_index text i) ≡ true → take i text ++ take_chars 0 (drop i text) ≡ take i text
+pub cut_at_first_byte : (i : ℕ) (text : List ℕ) → i < length text → is_char_start (slice_index text i) ≡ true
+    → take i text ++ take_chars 0 (drop i text) ≡ take i text
 cut_at_first_byte i [] within first = absurd (omega arith)
 cut_at_first_byte zero (b ∷ text) within first = rw (take_chars-cons 0 b text, first) refl
-cut_at_first_byte (suc i) (b ∷ text) within first = ap (λ l. b ∷ l) (cut_at_first_byte i text (omega arith) first)
+cut_at_first_byte (suc i) (b ∷ text) within first =
+    ap (λ l. b ∷ l) (cut_at_first_byte i text (omega arith) first)

@@ -1,5 +1,5 @@
 -- Padding to a requested width.
-use Rattle.std.specs.Prelude.{ℕ, ◌-◌, ◌/◌, List, ◌++◌, unwrap_or, max, encode_utf8}
+use Rattle.std.specs.Prelude.{◌≡◌, ℕ, ◌-◌, ◌/◌, List, ◌++◌, length, unwrap_or, max, encode_utf8}
 use Rattle.std.specs.List.{repeat}
 use Rattle.pad_fmt.specs.Options.{Options}
 use Rattle.pad_fmt.specs.declared.options.Alignment.{Alignment}
@@ -12,6 +12,10 @@ requested f = unwrap_or f.width 0
 -- the greater of this width and the requested one
 abbrev pub padded_width : ℕ → Options → ℕ
 padded_width width f = max width (requested f)
+
+-- the bytes are as many as the padded width says
+abbrev pub HasPaddedWidth : List ℕ → ℕ → Options → Type 0
+HasPaddedWidth bytes width f = length bytes ≡ padded_width width f
 
 -- how many fill characters a text of this width lacks
 abbrev pub shortfall : Options → ℕ → ℕ

@@ -23,8 +23,10 @@ pub record TookPrefix {S : Type 0} (text : S → List ℕ) (room : S → ℕ) (o
 
 -- one piece: Ok exactly where the bytes fit, which the sink then took, and else Full, and no change
 abbrev pub Wrote : {S : Type 0} → (S → List ℕ) → (S → ℕ) → S → S → List ℕ → Result (Unit {0}) Full → Type 0
-Wrote text room old new bytes r = MatchResult r (λ _. Took text room old new bytes) (λ _. TookNothing text room old new bytes)
+Wrote text room old new bytes result =
+    MatchResult result (λ _. Took text room old new bytes) (λ _. TookNothing text room old new bytes)
 
 -- several pieces: Ok exactly where the bytes fit, which the sink then took, and else Full, and a prefix of them taken
 abbrev pub WroteInPieces : {S : Type 0} → (S → List ℕ) → (S → ℕ) → S → S → List ℕ → Result (Unit {0}) Full → Type 0
-WroteInPieces text room old new bytes r = MatchResult r (λ _. Took text room old new bytes) (λ _. TookPrefix text room old new bytes)
+WroteInPieces text room old new bytes result =
+    MatchResult result (λ _. Took text room old new bytes) (λ _. TookPrefix text room old new bytes)

@@ -1,5 +1,6 @@
 -- The width law of texts, characters and truth values: an ASCII character is one byte.
-use Rattle.std.specs.Prelude.{◌≡◌, ℕ, zero, suc, ◌+◌, ◌-◌, ◌<◌, Bool, true, false, List, [], ◌∷◌, length, take, Option, Some, None, unwrap_or, ◌==◌, min, if◌then◌else◌, refl, encode_utf8, codes}
+use Rattle.std.specs.Prelude.{◌≡◌, ℕ, zero, suc, ◌+◌, ◌-◌, ◌<◌, ◌==◌, min, Bool, true, false, if◌then◌else◌, refl}
+use Rattle.std.specs.Prelude.{List, [], ◌∷◌, length, take, Option, Some, None, unwrap_or, encode_utf8, codes}
 use Rattle.std.specs.Option.{option_map}
 use Rattle.std.specs.Str.{IsAscii}
 use Rattle.std.specs.Fmt.{char_count, take_chars, is_char_start}
@@ -10,7 +11,7 @@ use Rattle.std.proofs.lemmas.List.{length-take}
 use Rattle.std.proofs.lemmas.Str.{encode_ascii, IsAscii-take}
 use Rattle.std.proofs.lemmas.Str.Ascii.{IsAscii-cons, IsAscii-nil}
 use Rattle.pad_fmt.specs.Options.{Options}
-use Rattle.pad_fmt.specs.Padding.{padded_width}
+use Rattle.pad_fmt.specs.Padding.{padded_width, HasPaddedWidth}
 use Rattle.pad_fmt.specs.PaddingLaws.{length-padded}
 use Rattle.pad_fmt.specs.Text.{cut, shown_text, text_width, truth_text}
 use Rattle.pad_fmt.specs.declared.options.Alignment.TheVariants.{Left}
@@ -20,12 +21,14 @@ unfolding char_count
 char_count-empty = refl
 
 -- one step of `char_count`, and of `take_chars`
-pub char_count-cons : (b : ℕ) (text : List ℕ) → char_count (b ∷ text) ≡ (if is_char_start b then 1 else 0) + char_count text
+pub char_count-cons : (b : ℕ) (text : List ℕ)
+    → char_count (b ∷ text) ≡ (if is_char_start b then 1 else 0) + char_count text
 unfolding char_count
 char_count-cons b text = refl
 
 pub take_chars-cons : (n b : ℕ) (text : List ℕ)
-    → take_chars n (b ∷ text) ≡ (if is_char_start b then (if n == 0 then [] else b ∷ take_chars (n - 1) text) else b ∷ take_chars n text)
+    → take_chars n (b ∷ text)
+    ≡ (if is_char_start b then (if n == 0 then [] else b ∷ take_chars (n - 1) text) else b ∷ take_chars n text)
 unfolding take_chars
 take_chars-cons n b text = refl
 
@@ -46,7 +49,8 @@ take_chars-ascii : (n : ℕ) (text : List ℕ) → IsAscii text → take_chars n
 take_chars-ascii n [] ascii = take_chars-empty n ∙ sym (take-nil n)
 take_chars-ascii zero (b ∷ text) ascii = rw (take_chars-cons 0 b text, ascii_begins_char b (ascii 0)) refl
 take_chars-ascii (suc n) (b ∷ text) ascii =
-    let first : take_chars (suc n) (b ∷ text) ≡ b ∷ take_chars n text = grind (arith, take_chars-cons (suc n) b text, ascii_begins_char b (ascii 0)) in
+    let first : take_chars (suc n) (b ∷ text) ≡ b ∷ take_chars n text
+    = grind (arith, take_chars-cons (suc n) b text, ascii_begins_char b (ascii 0)) in
     first ∙ ap (λ l. b ∷ l) (take_chars-ascii n text (λ i. ascii (suc i)))
 
 cut-ascii : (precision : Option ℕ) (text : List ℕ) → IsAscii text → IsAscii (cut precision text)
@@ -60,24 +64,30 @@ length-cut (Some n) text ascii = rw (take_chars-ascii n text ascii) (length-take
 
 -- shared by all that is shown as a text
 length-shown_text : (text : List ℕ) (f : Options) → IsAscii text → f.fill < 128
-    → length (shown_text text f) ≡ padded_width (length (cut f.precision text)) f
+    → HasPaddedWidth (shown_text text f) (length (cut f.precision text)) f
 unfolding shown_text
 length-shown_text text f ascii ascii_fill =
     length-padded Left f (char_count (cut f.precision text)) (cut f.precision text) ascii_fill
     ∙ rw (char_count-ascii (cut f.precision text) (cut-ascii f.precision text ascii)) (omega arith)
 
-pub text_law : (text : List ℕ) (f : Options) → IsAscii text → f.fill < 128 → length (shown_text text f) ≡ padded_width (text_width text f) f
-text_law text f ascii ascii_fill = length-shown_text text f ascii ascii_fill ∙ ap (λ w. padded_width w f) (length-cut f.precision text ascii)
+pub text_law : (text : List ℕ) (f : Options) → IsAscii text → f.fill < 128
+    → HasPaddedWidth (shown_text text f) (text_width text f) f
+text_law text f ascii ascii_fill = length-shown_text text f ascii ascii_fill
+    ∙ ap (λ w. padded_width w f) (length-cut f.precision text ascii)
 
-uncut_law : (text : List ℕ) (f : Options) → IsAscii text → f.precision ≡ None → f.fill < 128 → length (shown_text text f) ≡ padded_width (length text) f
-uncut_law text f ascii uncut ascii_fill = length-shown_text text f ascii ascii_fill ∙ ap (λ p. padded_width (length (cut p text)) f) uncut
+uncut_law : (text : List ℕ) (f : Options) → IsAscii text → f.precision ≡ None → f.fill < 128
+    → HasPaddedWidth (shown_text text f) (length text) f
+uncut_law text f ascii uncut ascii_fill = length-shown_text text f ascii ascii_fill
+    ∙ ap (λ p. padded_width (length (cut p text)) f) uncut
 
-pub buffer_law : (text : List ℕ) (f : Options) → (IsAscii text × (f.precision ≡ None)) → f.fill < 128 → length (shown_text text f) ≡ padded_width (length text) f
+pub buffer_law : (text : List ℕ) (f : Options) → (IsAscii text × (f.precision ≡ None)) → f.fill < 128
+    → HasPaddedWidth (shown_text text f) (length text) f
 buffer_law text f (ascii, uncut) ascii_fill = uncut_law text f ascii uncut ascii_fill
 
 pub char_law : (c : ℕ) (f : Options) → ((c < 128) × (f.precision ≡ None)) → f.fill < 128
-    → length (shown_text (encode_utf8 c) f) ≡ padded_width (length (encode_utf8 c)) f
-char_law c f (ascii, uncut) ascii_fill = uncut_law (encode_utf8 c) f (rw (encode_ascii c ascii) (IsAscii-cons c [] ascii IsAscii-nil)) uncut ascii_fill
+    → HasPaddedWidth (shown_text (encode_utf8 c) f) (length (encode_utf8 c)) f
+char_law c f (ascii, uncut) ascii_fill =
+    uncut_law (encode_utf8 c) f (rw (encode_ascii c ascii) (IsAscii-cons c [] ascii IsAscii-nil)) uncut ascii_fill
 
 truth_text_ascii : (truth : Bool) → IsAscii (truth_text truth)
 truth_text_ascii true =
@@ -85,8 +95,9 @@ truth_text_ascii true =
     (IsAscii-cons 117 (codes "e") (lit< tt) (IsAscii-cons 101 [] (lit< tt) IsAscii-nil)))
 truth_text_ascii false =
     IsAscii-cons 102 (codes "alse") (lit< tt) (IsAscii-cons 97 (codes "lse") (lit< tt)
-    (IsAscii-cons 108 (codes "se") (lit< tt) (IsAscii-cons 115 (codes "e") (lit< tt) (IsAscii-cons 101 [] (lit< tt) IsAscii-nil))))
+    (IsAscii-cons 108 (codes "se") (lit< tt) (IsAscii-cons 115 (codes "e") (lit< tt)
+    (IsAscii-cons 101 [] (lit< tt) IsAscii-nil))))
 
 pub truth_law : (truth : Bool) (f : Options) → f.precision ≡ None → f.fill < 128
-    → length (shown_text (truth_text truth) f) ≡ padded_width (length (truth_text truth)) f
+    → HasPaddedWidth (shown_text (truth_text truth) f) (length (truth_text truth)) f
 truth_law truth f uncut ascii_fill = uncut_law (truth_text truth) f (truth_text_ascii truth) uncut ascii_fill

@@ -4,4 +4,5 @@ use Rattle.pad_fmt.proofs.number.+push_digits.Goals as goal
 
 pub returns-else-number-lt-PAST_64_BITS-clause-value : goal.returns-else-number-lt-PAST_64_BITS-clause-value
 returns-else-number-lt-PAST_64_BITS-clause-value t c =
-    rw (c.push_digit.ensures.value, c.push_digits.ensures.value, append_assoc, last_digit c.args.number (omega (arith, c.if-number-lt-PAST_64_BITS.false)) c.ranges.number.fits) refl
+    let last = last_digit c.args.number (omega (arith, c.if-number-lt-PAST_64_BITS.false)) c.ranges.number.fits in
+    rw (c.push_digit.ensures.value, c.push_digits.ensures.value, append_assoc, last) refl
