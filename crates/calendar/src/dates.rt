@@ -3,7 +3,7 @@ ghost use Rattle.std.specs.Prelude.{◌≡◌, ℤ, pos, neg_ℤ, ◌≤ℤ◌};
 ghost use Rattle.calendar.specs.Days.{day, IsDate, IsCountedYear};
 ghost use Rattle.calendar.specs.Dates.{year_of, month_of, day_of};
 
-use crate::cycles::years_of_days;
+use crate::cycles::{FIRST_DAY, FIRST_YEAR, years_of_days};
 use crate::months::month_and_day;
 
 /// A year, a month from 1 to 12 and a day of that month. The year before 1 is 0, and the year before that is -1.
@@ -30,8 +30,8 @@ pub fn date_of(day_number: i32) -> CalendarDate
         → day first 1 1 ≤ℤ day_number → day_number ≤ℤ day last 12 31
         → (first ≤ℤ result.year) × (result.year ≤ℤ last) }
 {
-    let (years, day_of_year) = years_of_days((day_number + 5_102_072) as u32);
-    let year = years as i32 - 11_999;
+    let (years, day_of_year) = years_of_days((day_number - FIRST_DAY) as u32);
+    let year = years as i32 + FIRST_YEAR;
     let (month, day) = month_and_day(year, day_of_year);
     CalendarDate { year, month, day }
 }

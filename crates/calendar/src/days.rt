@@ -2,7 +2,7 @@
 ghost use Rattle.std.specs.Prelude.{◌≡◌, ℤ, ◌≤◌, pos, neg_ℤ, ◌+ℤ◌, ◌-ℤ◌, ◌≤ℤ◌};
 ghost use Rattle.calendar.specs.Days.{day as date_day, IsCountedYear, IsDate};
 
-use crate::cycles::days_of_years;
+use crate::cycles::{FIRST_DAY, FIRST_YEAR, days_of_years};
 use crate::months::days_before_month;
 
 /// The day number of a date, where 0 is 1970-01-01.
@@ -35,5 +35,5 @@ fn first_day_of(year: i32) -> i32
     requires last { year ≤ℤ pos 10001 }
     ensures value { result ≡ date_day year 1 1 }
 {
-    days_of_years((year + 11_999) as u32) as i32 - 5_102_072
+    days_of_years((year - FIRST_YEAR) as u32) as i32 + FIRST_DAY
 }

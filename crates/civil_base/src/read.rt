@@ -23,9 +23,9 @@ pub fn read_local(text: &str) -> Option<PlainDateTime>
 {
     let bytes = text.as_bytes();
     let value = parse_local(bytes)?;
-    let mut written = [0; 30];
-    let end = write_local(&value, &mut written);
-    if &written[..end] == bytes {
+    let mut local = [0; 30];
+    let end = write_local(&value, &mut local);
+    if &local[..end] == bytes {
         Some(value)
     } else {
         None
@@ -45,9 +45,9 @@ pub fn read_zoned(text: &str) -> Option<OffsetDateTime>
 {
     let bytes = text.as_bytes();
     let value = parse_zoned(bytes)?;
-    let mut written = [0; 40];
-    let end = write_zoned(&value, &mut written);
-    if &written[..end] == bytes {
+    let mut zoned = [0; 40];
+    let end = write_zoned(&value, &mut zoned);
+    if &zoned[..end] == bytes {
         Some(value)
     } else {
         None
