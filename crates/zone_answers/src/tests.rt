@@ -1,4 +1,6 @@
 //! Whole runs over objects in memory, each fault line, and the adapters of the real file and streams.
+ghost use Rattle.std.specs.Prelude.{◌<◌};
+
 use crate::{
     AnswerError, FileShelf, MemShelf, MemSink, MemSource, Shelf, Sink, Source, Status, StdSink,
     StdSource, SureShelf, SureSink, SureSource, answers, run, run_surely, write_fault,

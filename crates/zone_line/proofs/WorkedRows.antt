@@ -5,7 +5,7 @@ use Rattle.zone_line.specs.Numbers.{two_digits, signed_in}
 use Rattle.zone_line.specs.Clocks.{ClockTexts}
 use Rattle.zone_line.specs.Seconds.{seconds_of, with_type}
 use Rattle.zone_line.specs.Times.{clock_time, clock_type, hours_alone}
-use Rattle.zone_line.specs.declared.time.TimeSpec.TheVariants.{Hours, HoursMinutes, HoursMinutesSeconds, Zero}
+use Rattle.zone_line.specs.declared.time.TimeSpec.TheVariants.{Hours, HoursMinutes, HoursMinutesSeconds}
 use Rattle.zone_line.specs.declared.time.TimeType.TheVariants.{Wall, Standard, UTC}
 
 seven : two_digits (codes "07") ≡ Some 7
