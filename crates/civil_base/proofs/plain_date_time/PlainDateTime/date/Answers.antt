@@ -1,5 +1,5 @@
-use Rattle.std.proofs.Common.{rules, arith, ◌≡◌, ◌≤◌, ◌<◌, ℕ, suc, ◌+◌, ◌-◌, ◌*◌, ◌/◌, ◌%◌, ◌++◌, ◌∷◌, [], List, length, take, Bool, true, false, nat_eq, nat_lt, ℤ, pos, negsuc, neg_ℤ, ◌+ℤ◌, ◌-ℤ◌, ◌*ℤ◌, ◌≤ℤ◌, ◌<ℤ◌, to_z, of_z, to_z-of_z, FitsSigned, w32, w64, refl, sym, ap, ◌∙◌, cond, unsigned_abs}
-use Rattle.calendar.proofs.SignLemmas.{signed, signed_casts, natural, floored}
+use Rattle.std.proofs.Common.{arith, ◌≡◌, ℕ, ◌/◌, ℤ, pos, ◌+ℤ◌, ◌-ℤ◌, to_z, of_z, w32, ◌∙◌}
+use Rattle.calendar.proofs.SignLemmas.{signed_casts}
 use Rattle.civil_base.specs.Layout.{day_part}
 use Rattle.civil_base.specs.Ranges.{IsDay}
 use Rattle.civil_base.proofs.PartLemmas.{day_part-blocks, day_part-inside}

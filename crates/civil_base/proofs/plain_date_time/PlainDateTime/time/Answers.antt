@@ -1,7 +1,4 @@
-use Rattle.std.proofs.Common.{rules, arith, ◌≡◌, ◌≤◌, ◌<◌, ℕ, suc, ◌+◌, ◌-◌, ◌*◌, ◌/◌, ◌%◌, ◌++◌, ◌∷◌, [], List, length, take, Bool, true, false, nat_eq, nat_lt, ℤ, pos, negsuc, neg_ℤ, ◌+ℤ◌, ◌-ℤ◌, ◌*ℤ◌, ◌≤ℤ◌, ◌<ℤ◌, to_z, of_z, to_z-of_z, FitsSigned, w32, w64, refl, sym, ap, ◌∙◌, cond, unsigned_abs}
-use Rattle.calendar.proofs.SignLemmas.{signed, signed_casts, natural, floored}
-use mir.Syntax.{w128}
-use Rattle.civil_base.specs.Layout.{time_part}
+use Rattle.std.proofs.Common.{sym, ◌∙◌}
 use Rattle.civil_base.proofs.PartLemmas.{time_part-blocks}
 use Rattle.civil_base.proofs.plain_date_time.PlainDateTime.time.Goals as goal
 
