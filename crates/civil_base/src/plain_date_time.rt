@@ -1,5 +1,5 @@
 //! Dates with a time of day, with no offset.
-ghost use Rattle.std.specs.Prelude.{◌≡◌, ◌↔◌, pos, neg_ℤ, ◌≤ℤ◌, ◌+ℤ◌, ◌*ℤ◌, IsTrue, IsSome, IfSome};
+ghost use Rattle.std.specs.Prelude.{◌≡◌, ◌↔◌, ◌+◌, ◌*◌, ◌<◌, pos, neg_ℤ, ◌≤ℤ◌, ◌+ℤ◌, ◌*ℤ◌, IsTrue, IsSome, IfSome};
 ghost use Rattle.calendar.specs.Dates.{year_of};
 ghost use Rattle.civil_base.specs.Clock.{nanos_per_day};
 ghost use Rattle.civil_base.specs.Layout.{day_part, time_part};
@@ -9,6 +9,13 @@ use crate::{Date, OffsetDateTime, Time, UtcOffset};
 use std::marker::Model;
 
 const NANOS_PER_DAY: i128 = 86_400_000_000_000;
+
+const NANOS_PER_BLOCK: u64 = 65_536;
+
+const BLOCKS_PER_DAY: u64 = 1_318_359_375;
+
+// The days from -9999-01-01 to 1970-01-01.
+const DAYS_BEFORE_EPOCH: i32 = 4_371_587;
 
 // -9999-01-01 00:00:00, and the last nanosecond of 9999-12-31.
 const FIRST: i128 = -4_371_587 * NANOS_PER_DAY;
@@ -72,19 +79,32 @@ impl PlainDateTime {
         self.nanos
     }
 
+    // The nanoseconds from the first date, in blocks and the rest. A day has a whole number of blocks, and their number
+    // fits 64 bits, which divide faster than 128.
+    fn blocks(self) -> (u64, u64)
+        ensures sum { pos (result.0 * 65536 + result.1) ≡ self +ℤ pos 377_705_116_800_000_000_000 }
+        ensures rest { result.1 < 65536 }
+        ensures years { IsInYears self }
+    {
+        let nanos = (self.nanos - FIRST) as u128;
+        ((nanos / 65_536) as u64, (nanos % 65_536) as u64)
+    }
+
     /// The date.
     pub fn date(self) -> Date
         ensures value { result ≡ day_part self }
         ensures years { IsInYears self }
     {
-        Date::at_day(self.nanos.div_euclid(NANOS_PER_DAY) as i32)
+        let (blocks, _) = self.blocks();
+        Date::at_day((blocks / BLOCKS_PER_DAY) as i32 - DAYS_BEFORE_EPOCH)
     }
 
     /// The time of day.
     pub fn time(self) -> Time
         ensures { result ≡ time_part self }
     {
-        Time::at_nanos(self.nanos.rem_euclid(NANOS_PER_DAY) as u64)
+        let (blocks, rest) = self.blocks();
+        Time::at_nanos(blocks % BLOCKS_PER_DAY * NANOS_PER_BLOCK + rest)
     }
 
     /// The year of the date, from -9999 to 9999.
