@@ -1,6 +1,6 @@
 -- Steps of the loops over a source and a sink.
-use Rattle.std.proofs.Common.{◌≡◌, ℕ, ◌+◌, ◌≤◌, ◌<◌, List, [], ◌∷◌, ◌++◌, length, take, drop, Option, Some, None, IfSome, refl, sym, ap, ◌∙◌, subst, arith}
-use Rattle.std.proofs.lemmas.List.{append_assoc, length-append, take-take, drop-take, take-append-drop, length-take-le, drop-drop, take_at, nil_from_length}
+use Rattle.std.proofs.Common.{◌≡◌, ℕ, ◌+◌, ◌≤◌, List, ◌++◌, length, take, drop, Option, Some, None, IfSome, refl, sym, ap, ◌∙◌, subst, arith}
+use Rattle.std.proofs.lemmas.List.{append_assoc, take-take, drop-take, take-append-drop, length-take-le, drop-drop, take_at, nil_from_length}
 use Rattle.zone_answers.specs.Outside.{Consumes}
 
 -- of these bytes, some were read and the rest is left

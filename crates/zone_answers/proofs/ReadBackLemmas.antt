@@ -1,22 +1,21 @@
 -- Over valid input each line is a text that is read back.
-use Rattle.std.proofs.Common.{◌≡◌, ◌≢◌, ℕ, zero, suc, ◌<◌, ◌≤◌, Bool, true, false, ◌&&◌, cond, List, [], ◌∷◌, length, map, Option, Some, None, option_map, refl, sym, ap, ◌∙◌, subst, arith, ℤ, pos, neg_ℤ, ◌+ℤ◌, ◌-ℤ◌, ◌*ℤ◌, ◌≤ℤ◌, unsigned_abs, get_or}
+use Rattle.std.proofs.Common.{◌≡◌, ℕ, zero, suc, ◌≤◌, Bool, true, false, ◌&&◌, cond, List, [], ◌∷◌, length, map, Option, Some, None, option_map, refl, sym, arith, ℤ, pos, ◌+ℤ◌, ◌-ℤ◌, ◌*ℤ◌, unsigned_abs}
 use Rattle.std.specs.Prelude.{All, bytes_eq, codes, nat_lt}
 use Rattle.std.specs.List.{before_first, after_first}
 use Rattle.std.specs.Option.{option_or, option_map_or}
 use Rattle.std.specs.Str.{is_utf8}
 use Rattle.std.proofs.lemmas.Bool.{and_parts, leb-true}
-use Rattle.std.proofs.lemmas.Option.{none-some, same_Some}
+use Rattle.std.proofs.lemmas.Option.{none-some}
 use Rattle.calendar.proofs.SignLemmas.{signed}
-use Rattle.civil_base.specs.Layout.{zoned_text}
-use Rattle.civil_base.specs.Ranges.{IsInYears, IsOffset}
-use Rattle.zone_line.specs.FixedLines.{FixedValue}
+use Rattle.civil_base.specs.Ranges.{IsOffset}
+use Rattle.zone_line.specs.Values.{LineValue}
 use Rattle.zone_answers.specs.Lines.{lines_of}
 use Rattle.zone_answers.specs.LocalTimes.{is_in_years, is_text_of, time_with, local_time_in}
-use Rattle.zone_answers.specs.Requests.{Request, at, local, name_of, is_space, nanoseconds_in, form_of, request_of}
-use Rattle.zone_answers.specs.Schedules.{schedule_of, total_at, is_offset, is_in_offset_range}
+use Rattle.zone_answers.specs.Requests.{Request, at, local, name_of, is_space, nanoseconds_in, request_of}
+use Rattle.zone_answers.specs.Schedules.{schedule_of, total_at, is_offset}
 use Rattle.zone_answers.specs.Zones.{values_of, zone_of}
-use Rattle.zone_answers.specs.Faults.{Fault, bad_request, unknown_zone, offset_range, range, has_dates, schedule_refusal, zone_refusal, refusal, first_refused, source_fault, fault, IsValid}
-use Rattle.zone_answers.specs.Due.{answer_at, answer_to, answer_line, answer_lines, local_line}
+use Rattle.zone_answers.specs.Faults.{Fault, request_not_text, bad_request, unknown_zone, offset_range, range, has_dates, schedule_refusal, zone_refusal, refusal, first_refused, source_fault, fault, IsValid}
+use Rattle.zone_answers.specs.Due.{answer_at, answer_to, answer_line, answer_lines}
 use Rattle.zone_answers.specs.ReadBack.{IsReadBack}
 use Rattle.zone_answers.proofs.DateLemmas.{years_from}
 use Rattle.zone_answers.proofs.LocalLemmas.{fixed_line}
@@ -42,7 +41,7 @@ at_years name (Some x) = tt
 
 request_years : (line : List ℕ) → HasYears (request_of line)
 unfolding HasYears request_of
-request_years line = by_text (is_utf8 line)
+request_years line = by_name (nat_lt 0 (length name))
   where
     rest : List ℕ
     rest = after_first is_space line
@@ -60,13 +59,9 @@ request_years line = by_text (is_utf8 line)
 
     by_name : (b : Bool) → HasYears (cond b
         (cond (bytes_eq (before_first is_space line) (codes "at")) (option_map (at name) (nanoseconds_in value))
-            (cond (bytes_eq (before_first is_space line) (codes "local")) (option_map (local name) (local_time_in value)) None)) None)
+        (cond (bytes_eq (before_first is_space line) (codes "local")) (option_map (local name) (local_time_in value)) None)) None)
     by_name true = by_word (bytes_eq (before_first is_space line) (codes "at")) (bytes_eq (before_first is_space line) (codes "local"))
     by_name false = tt
-
-    by_text : (b : Bool) → HasYears (cond b (form_of line) None)
-    by_text true = by_name (nat_lt 0 (length name))
-    by_text false = tt
 
 in_range : (o : ℤ) → is_offset o ≡ true → IsOffset o
 in_range o is =
@@ -97,8 +92,8 @@ at_zone n request o years accepted = by_range (is_offset o) refl accepted
     by_range false is refused = absurd (none-some _ (sym refused))
     by_range true is accepted_is = by_dates request (has_dates (schedule_of o) request) is refl years accepted_is
 
-line_back : (values : List FixedValue) (n : ℕ) (line : List ℕ) → refusal values n line ≡ None → IsReadBack (answer_line values line)
-line_back values n line accepted = by_form (request_of line) (request_years line) accepted
+line_back : (values : List LineValue) (n : ℕ) (line : List ℕ) → refusal values n line ≡ None → IsReadBack (answer_line values line)
+line_back values n line accepted = by_text (is_utf8 line) accepted
   where
     by_zone : (request : Request) (zone : Option ℤ) → HasYears (Some request) → option_map_or (λ z. schedule_refusal n request (schedule_of z)) zone (Some (unknown_zone n)) ≡ None →
         IsReadBack (option_map_or (λ z. answer_at (schedule_of z) request) zone [])
@@ -109,11 +104,15 @@ line_back values n line accepted = by_form (request_of line) (request_years line
     by_form None years refused = absurd (none-some _ (sym refused))
     by_form (Some request) years accepted_is = by_zone request (zone_of values (name_of request)) years accepted_is
 
+    by_text : (b : Bool) → cond b (option_map_or (zone_refusal values n) (request_of line) (Some (bad_request n))) (Some (request_not_text n)) ≡ None → IsReadBack (answer_line values line)
+    by_text false refused = absurd (none-some _ (sym refused))
+    by_text true accepted_is = by_form (request_of line) (request_years line) accepted_is
+
 both_none : (o p : Option Fault) → option_or o p ≡ None → (o ≡ None) × (p ≡ None)
 both_none None p h = (refl, h)
 both_none (Some x) p h = absurd (none-some _ (sym h))
 
-all_back : (values : List FixedValue) (n : ℕ) (lines : List (List ℕ)) → first_refused values n lines ≡ None → All IsReadBack (map (answer_line values) lines)
+all_back : (values : List LineValue) (n : ℕ) (lines : List (List ℕ)) → first_refused values n lines ≡ None → All IsReadBack (map (answer_line values) lines)
 all_back values n [] h k d within = absurd (omega arith)
 all_back values n (line ∷ lines) h zero d within = line_back values n line (both_none (refusal values n line) _ h).0
 all_back values n (line ∷ lines) h (suc k) d within = all_back values (suc n) lines (both_none (refusal values n line) _ h).1 k d (omega arith)

@@ -1,9 +1,9 @@
 -- What `parse` reads of a number of nanoseconds is what the definition says.
-use Rattle.std.proofs.Common.{◌≡◌, ℕ, zero, suc, ◌^◌, ◌<◌, ◌≤◌, ◌&&◌, Bool, true, false, cond, List, [], ◌∷◌, length, Option, Some, None, Result, Ok, Err, ℤ, refl, sym, ap, subst, ◌∙◌, arith, nat_lt, nat_le, ltb-true, lit<, lit≤}
-use Rattle.std.proofs.lemmas.Bool.{false_from_ne_true, and_parts, eqb-true, leb-true}
+use Rattle.std.proofs.Common.{◌≡◌, ℕ, zero, suc, ◌^◌, ◌<◌, ◌≤◌, ◌&&◌, Bool, true, false, cond, List, [], ◌∷◌, length, Some, Result, Ok, Err, ℤ, refl, ap, subst, ◌∙◌, arith, nat_lt, nat_le, ltb-true, lit<, lit≤}
+use Rattle.std.proofs.lemmas.Bool.{and_parts, eqb-true, leb-true}
 use Rattle.std.proofs.lemmas.Int.Digits.{digits_value-lt}
 use Rattle.std.proofs.Math.Nat.{pow-le-pow_right}
-use Rattle.std.specs.Prelude.{slice_index, drop, pos, neg_ℤ, nat_eq}
+use Rattle.std.specs.Prelude.{drop, pos, neg_ℤ, nat_eq}
 use Rattle.std.specs.Int.{w128}
 use Rattle.std.specs.Char.{is_digit}
 use Rattle.std.specs.List.{list_all}

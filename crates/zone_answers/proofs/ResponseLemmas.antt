@@ -1,12 +1,15 @@
 -- What was written is of the due bytes.
-use Rattle.std.proofs.Common.{◌≡◌, ◌≢◌, ◌≤◌, ℕ, List, [], ◌∷◌, ◌++◌, length, take, Option, Some, None, IfSome, IsSomeAnd, refl, sym, ap, ◌∙◌, subst}
+use Rattle.std.proofs.Common.{◌≡◌, ℕ, List, [], ◌∷◌, ◌++◌, Option, Some, None, IfSome, MatchOption, sym, ap, ◌∙◌}
 use Rattle.std.specs.Option.{option_map_or}
 use Rattle.zone_answers.specs.AnswerLines.{ended}
 use Rattle.zone_answers.specs.Due.{answer_lines, due_bytes}
 use Rattle.zone_answers.specs.Faults.{IsValid, fault}
 use Rattle.zone_answers.specs.Faults as faults
 use Rattle.zone_answers.specs.FaultLines.{fault_line}
-use Rattle.zone_answers.specs.Outside.{Rose, GrewByPrefix}
+use Rattle.zone_answers.specs.Outside.{GrewByPrefix}
+use Rattle.zone_answers.specs.Told.{fault_told, TellsOf}
+use Rattle.zone_answers.specs.declared.error.AnswerError.{AnswerError}
+use Rattle.zone_answers.specs.declared.error.AnswerError.TheVariants as errors
 use Rattle.zone_answers.specs.Responses.{Wrote, Responds, RespondsError}
 use Rattle.zone_answers.specs.declared.respond.Answered.{Answered}
 use Rattle.zone_answers.specs.declared.respond.Answered.TheVariants.{Done, Fault, Failed, NoMemory}
@@ -32,11 +35,15 @@ wrote_some source requests bytes None now is h = tt
 wrote_some source requests bytes (Some had) now is h = rw (← is) h
 
 -- an error's answer is an answer
-pub error_response : (source requests : List ℕ) (told : Option faults.Fault) (before now : Option (List ℕ)) (faults_before faults_now : ℕ) (result : Answered) →
-    IfSome told (λ f. fault source requests ≡ Some f) → RespondsError told before now faults_before faults_now result → Responds source requests before now faults_before faults_now result
-error_response source requests told before now fb f Done is h = absurd h
-error_response source requests None before now fb f Fault is h = absurd h
-error_response source requests (Some f) before now fb fn Fault is h = (λ none. let no = sym is ∙ none in absurd (cc), wrote source requests _ before now (due_fault source requests f is) h)
-error_response source requests None before now fb f Failed is h = absurd h.1
-error_response source requests (Some f) before now fb fn Failed is h = (h.0, wrote_some source requests _ before now (due_fault source requests f is) h.1)
-error_response source requests told before now fb f NoMemory is h = h
+pub error_response : (source requests : List ℕ) (error : AnswerError) (before now : Option (List ℕ)) (faults_before faults_now : ℕ) (result : Answered) →
+    TellsOf (fault source requests) error → RespondsError (fault_told error) before now faults_before faults_now result → Responds source requests before now faults_before faults_now result
+error_response source requests error before now fb fn result tells h = by_told (fault_told error) result tells h
+  where
+    by_told : (told : Option faults.Fault) (result : Answered) → MatchOption told (error ≡ errors.NoMemory) (λ f. fault source requests ≡ Some f) →
+        RespondsError told before now fb fn result → Responds source requests before now fb fn result
+    by_told told Done is h = absurd h
+    by_told None Fault is h = absurd h
+    by_told (Some f) Fault is h = (λ none. let no = sym is ∙ none in absurd (cc), wrote source requests _ before now (due_fault source requests f is) h)
+    by_told None Failed is h = absurd h.1
+    by_told (Some f) Failed is h = (h.0, wrote_some source requests _ before now (due_fault source requests f is) h.1)
+    by_told told NoMemory is h = h

@@ -1,7 +1,7 @@
 -- The bytes that are due for a source and its requests.
 use Rattle.std.specs.Prelude.{ℕ, ℤ, List, [], ◌∷◌, ◌++◌, map, codes}
 use Rattle.std.specs.Option.{option_map_or}
-use Rattle.zone_line.specs.FixedLines.{FixedValue}
+use Rattle.zone_line.specs.Values.{LineValue}
 use Rattle.civil_base.specs.Layout.{zoned_text}
 use Rattle.zone_answers.specs.AnswerLines.{ended}
 use Rattle.zone_answers.specs.Faults.{fault}
@@ -27,10 +27,10 @@ answer_at schedule (at name instant) = zoned_text instant (total_at schedule ins
 answer_at schedule (local name time) = local_line schedule time
 
 -- the line of a request that is not refused
-abbrev pub answer_to : List FixedValue → Request → List ℕ
+abbrev pub answer_to : List LineValue → Request → List ℕ
 answer_to values request = option_map_or (λ zone. answer_at (schedule_of zone) request) (zone_of values (name_of request)) []
 
-abbrev pub answer_line : List FixedValue → List ℕ → List ℕ
+abbrev pub answer_line : List LineValue → List ℕ → List ℕ
 answer_line values line = option_map_or (answer_to values) (request_of line) []
 
 -- one line for each request, in order

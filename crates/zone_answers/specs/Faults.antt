@@ -1,36 +1,59 @@
 -- Why a source or a request is refused, with the number of its line.
-use Rattle.std.specs.Prelude.{◌≡◌, ℕ, suc, Bool, true, false, ◌&&◌, List, [], ◌∷◌, ◌++◌, Option, Some, None, is_some, option_map, if◌then◌else◌, pos, ◌+ℤ◌, ◌*ℤ◌}
+use Rattle.std.specs.Prelude.{◌≡◌, ℕ, suc, Bool, true, false, ◌&&◌, ◌||◌, List, [], ◌∷◌, ◌++◌, Option, Some, None, is_some, Result, Ok, Err, if◌then◌else◌, pos, ◌+ℤ◌, ◌*ℤ◌}
 use Rattle.std.specs.Option.{option_or, option_map_or}
-use Rattle.zone_answers.specs.LocalTimes.{is_in_years}
-use Rattle.zone_line.specs.FixedLines.{FixedValue, space, zone, other}
+use Rattle.std.specs.Str.{is_utf8}
+use Rattle.zone_line.specs.Faults as line
+use Rattle.zone_line.specs.Lines.{value}
+use Rattle.zone_line.specs.Values.{SavingValue, no_saving, one_off, multiple, LineValue, space, zone, continuation, rule, link}
 use Rattle.zone_answers.specs.Lines.{lines_of}
+use Rattle.zone_answers.specs.LocalTimes.{is_in_years}
 use Rattle.zone_answers.specs.Requests.{Request, at, local, name_of, request_of}
 use Rattle.zone_answers.specs.Schedules.{Schedule, schedule_of, total_at, is_in_offset_range}
 use Rattle.zone_answers.specs.Zones.{source_value, values_of, zone_of}
 
--- a source line in a form that isn't built yet; a request in no form, one that names no zone, one of a zone with an
--- offset of 26 hours or more, and one whose date leaves the years -9999 to 9999
+-- a line that is no text, of the source or of the requests; a source line with a fault, and one in a form that isn't
+-- built yet; a request in no form, one that names no zone, one of a zone with an offset of 26 hours or more, and one
+-- whose date leaves the years -9999 to 9999
 pub data Fault : Type 0 where
+  source_not_text : ℕ → Fault
+  bad_line : ℕ → line.Fault → Fault
   not_built : ℕ → Fault
+  request_not_text : ℕ → Fault
   bad_request : ℕ → Fault
   unknown_zone : ℕ → Fault
   offset_range : ℕ → Fault
   range : ℕ → Fault
 
--- a source line of this value can't be taken after those of these values
-abbrev pub is_unbuilt : List FixedValue → FixedValue → Bool
-is_unbuilt before space = false
-is_unbuilt before (zone name offset) = is_some (zone_of before name)
-is_unbuilt before other = true
+abbrev pub names_ruleset : SavingValue → Bool
+names_ruleset no_saving = false
+names_ruleset (one_off amount) = false
+names_ruleset (multiple name) = true
 
--- the first line, these counted from n on, that can't be taken after the values before it
-abbrev pub first_unbuilt : List FixedValue → ℕ → List (List ℕ) → Option ℕ
-first_unbuilt before n [] = None
-first_unbuilt before n (line ∷ lines) =
-    if is_unbuilt before (source_value line) then Some n else first_unbuilt (before ++ source_value line ∷ []) (suc n) lines
+-- a line of this value isn't built yet, or is a second zone of a name, after those of these values
+abbrev pub is_unbuilt : List LineValue → LineValue → Bool
+is_unbuilt before space = false
+is_unbuilt before (zone name info) = names_ruleset info.saving || is_some (zone_of before name)
+is_unbuilt before (continuation info) = true
+is_unbuilt before (rule read) = true
+is_unbuilt before (link target name) = true
+
+-- what a line is refused for that has this value, after these values
+abbrev pub value_refusal : List LineValue → ℕ → Result LineValue line.Fault → Option Fault
+value_refusal before n (Ok read) = if is_unbuilt before read then Some (not_built n) else None
+value_refusal before n (Err refused) = Some (bad_line n refused)
+
+-- why the nth source line is refused after these values
+abbrev pub line_refusal : List LineValue → ℕ → List ℕ → Option Fault
+line_refusal before n line = if is_utf8 line then value_refusal before n (value line) else Some (source_not_text n)
+
+-- why the first of these source lines, counted from n on, is refused after these values, if one is
+abbrev pub first_line_refused : List LineValue → ℕ → List (List ℕ) → Option Fault
+first_line_refused before n [] = None
+first_line_refused before n (line ∷ lines) =
+    option_or (line_refusal before n line) (first_line_refused (before ++ source_value line ∷ []) (suc n) lines)
 
 unfoldable pub source_fault : List ℕ → Option Fault
-source_fault source = option_map not_built (first_unbuilt [] 1 (lines_of source))
+source_fault source = first_line_refused [] 1 (lines_of source)
 
 -- the UTC date and the local date of an asked instant lie in the years -9999 to 9999
 abbrev pub has_dates : Schedule → Request → Bool
@@ -43,14 +66,15 @@ schedule_refusal n request schedule =
     if is_in_offset_range schedule then (if has_dates schedule request then None else Some (range n)) else Some (offset_range n)
 
 -- why the nth request is refused where these are the source's values
-abbrev pub zone_refusal : List FixedValue → ℕ → Request → Option Fault
+abbrev pub zone_refusal : List LineValue → ℕ → Request → Option Fault
 zone_refusal values n request = option_map_or (λ zone. schedule_refusal n request (schedule_of zone)) (zone_of values (name_of request)) (Some (unknown_zone n))
 
-abbrev pub refusal : List FixedValue → ℕ → List ℕ → Option Fault
-refusal values n line = option_map_or (zone_refusal values n) (request_of line) (Some (bad_request n))
+abbrev pub refusal : List LineValue → ℕ → List ℕ → Option Fault
+refusal values n line =
+    if is_utf8 line then option_map_or (zone_refusal values n) (request_of line) (Some (bad_request n)) else Some (request_not_text n)
 
 -- why the first of these requests, counted from n on, is refused, if one is
-abbrev pub first_refused : List FixedValue → ℕ → List (List ℕ) → Option Fault
+abbrev pub first_refused : List LineValue → ℕ → List (List ℕ) → Option Fault
 first_refused values n [] = None
 first_refused values n (line ∷ lines) = option_or (refusal values n line) (first_refused values (suc n) lines)
 

@@ -1,5 +1,5 @@
 -- What the calls of the outside give, take and count.
-use Rattle.std.specs.Prelude.{◌≡◌, ℕ, ◌+◌, ◌-◌, ◌^◌, ◌<◌, ◌≤◌, min, List, [], ◌∷◌, ◌++◌, length, take, Option, Some, None, Result, MatchResult, IfSome, OnErr}
+use Rattle.std.specs.Prelude.{◌≡◌, ℕ, ◌+◌, ◌-◌, ◌^◌, ◌≤◌, min, List, [], ◌++◌, length, take, Option, Some, Result, MatchResult, IfSome, OnErr}
 
 -- the last value of a 64-bit counter, at which it stays
 abbrev pub last_count : ℕ

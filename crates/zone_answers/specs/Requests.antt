@@ -2,7 +2,6 @@
 use Rattle.std.specs.Prelude.{ℕ, ℤ, Bool, ◌==◌, ◌&&◌, List, length, drop, Option, Some, None, option_map, pos, neg_ℤ, codes, bytes_eq, nat_lt, nat_le, if◌then◌else◌, slice_index}
 use Rattle.std.specs.Char.{is_digit}
 use Rattle.std.specs.List.{before_first, after_first, list_all}
-use Rattle.std.specs.Str.{is_utf8}
 use Rattle.zone_answers.specs.LocalTimes.{local_time_in}
 use Rattle.std.specs.Str.Parse.{digits_value}
 
@@ -36,17 +35,13 @@ nanoseconds_in text =
     if is_number (without_minus text) then Some (if is_negative text then neg_ℤ size else size) else None
 
 -- `at NAME N` or `local NAME TEXT`, with one space at each gap, the name being one or more characters other than space
-abbrev pub form_of : List ℕ → Option Request
-form_of line =
+unfoldable pub request_of : List ℕ → Option Request
+request_of line =
     let word = before_first is_space line in
     let rest = after_first is_space line in
     let name = before_first is_space rest in
     let value = after_first is_space rest in
     if nat_lt 0 (length name)
     then (if bytes_eq word (codes "at") then option_map (at name) (nanoseconds_in value)
-        else (if bytes_eq word (codes "local") then option_map (local name) (local_time_in value) else None))
+    else (if bytes_eq word (codes "local") then option_map (local name) (local_time_in value) else None))
     else None
-
--- a line that is no text has no form
-unfoldable pub request_of : List ℕ → Option Request
-request_of line = if is_utf8 line then form_of line else None

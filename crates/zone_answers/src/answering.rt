@@ -8,19 +8,20 @@ ghost use Rattle.zone_answers.specs.LocalTimes.{is_in_years};
 ghost use Rattle.zone_answers.specs.Lines.{lines_of};
 ghost use Rattle.zone_answers.specs.Schedules.{is_offset, schedule_of};
 ghost use Rattle.zone_answers.specs.ReadBack.{IsReadBack};
-ghost use Rattle.zone_answers.specs.Told.{fault_told};
+ghost use Rattle.zone_answers.specs.Told.{fault_told, TellsOf};
 ghost use Rattle.zone_answers.specs.ZonesShown.{zones_shown};
 ghost use Rattle.zone_answers.specs.Asked.{asked};
 
 use crate::answer_lines::Answers;
-use crate::error::AnswerError;
+use crate::error::{AnswerError, Side};
 use crate::lines::Lines;
 use crate::request::Request;
+use crate::text::text_of;
 use crate::whole::LIMIT;
-use crate::zones::FixedZone;
+use crate::zones::{read_zones, total_named};
 use civil_base::{OffsetDateTime, PlainDateTime, UtcOffset, write_zoned};
 use std::alloc::Global;
-use zone_line::LineParser;
+use zone_line::{LineParser, Zone};
 
 /// Answers each request over the source, in order, or tells the first fault: that of the source, else that of the
 /// requests. Lines end at an LF, a CR before it is dropped, and they are numbered from 1.
@@ -35,21 +36,17 @@ pub fn answers(
     ensures valid { OnOk result (IsValid source.now requests.now) }
     ensures lines { IfOk result (λ lines. lines ≡ answer_lines source.now requests.now) }
     ensures read_back { OnOk result (All IsReadBack (answer_lines source.now requests.now)) }
-    ensures err { IfErr result (λ error. IfSome (fault_told error) (λ f. fault source.now requests.now ≡ Some f)) }
+    ensures err { IfErr result (TellsOf (fault source.now requests.now)) }
 {
-    let zones = FixedZone::read_all(alloc, parser, source)?;
+    let zones = read_zones(alloc, parser, source)?;
     answer_all(alloc, &zones, requests)
 }
 
 /// Answers each request at these zones.
-fn answer_all(
-    alloc: Global,
-    zones: &[FixedZone<'_>],
-    requests: &[u8],
-) -> Result<Answers, AnswerError>
+fn answer_all(alloc: Global, zones: &[Zone<'_>], requests: &[u8]) -> Result<Answers, AnswerError>
     ensures valid { OnOk result (first_refused (zones_shown zones.now) 1 (lines_of requests.now) ≡ None) }
     ensures lines { IfOk result (λ lines. lines ≡ map (answer_line (zones_shown zones.now)) (lines_of requests.now)) }
-    ensures err { IfErr result (λ error. IfSome (fault_told error) (λ f. first_refused (zones_shown zones.now) 1 (lines_of requests.now) ≡ Some f)) }
+    ensures err { IfErr result (TellsOf (first_refused (zones_shown zones.now) 1 (lines_of requests.now))) }
 {
     let mut answers = Answers::new(alloc);
     let mut number = 1;
@@ -64,7 +61,7 @@ fn answer_all(
 
 /// Writes the line of a request at the front of the array, and answers its length.
 fn answer(
-    zones: &[FixedZone<'_>],
+    zones: &[Zone<'_>],
     number: usize,
     line: &[u8],
     into: &mut [u8; 40],
@@ -74,10 +71,13 @@ fn answer(
     ensures bound { IfOk result (λ end. end ≤ 40) }
     ensures err { IfErr result (λ error. IsSome (fault_told error) × (refusal (zones_shown zones.now) number line.now ≡ fault_told error)) }
 {
-    let Some(request) = Request::read(line) else {
+    let Some(text) = text_of(line) else {
+        return Err(AnswerError::NotText(Side::Requests, number));
+    };
+    let Some(request) = Request::read(text) else {
         return Err(AnswerError::Request(number));
     };
-    let Some(seconds) = FixedZone::offset_of(zones, request.name()) else {
+    let Some(seconds) = total_named(zones, request.name()) else {
         return Err(AnswerError::UnknownZone(number));
     };
     let Some(offset) = utc_offset(seconds) else {

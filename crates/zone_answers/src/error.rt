@@ -1,10 +1,28 @@
 //! Why a source or a request is refused.
+
+ghost use Rattle.std.specs.Prelude.{◌≡◌, is_none};
+ghost use Rattle.zone_line.specs.Faults.{fault_of};
+
 use std::alloc::AllocError;
 
+/// The text that a line stands in.
+#[derive(Clone, Copy, Debug, PartialEq, Eq)]
+pub enum Side {
+    /// The source text.
+    Source,
+    /// The requests.
+    Requests,
+}
+
 /// The first fault of a source and its requests. Lines are numbered from 1.
-#[derive(Debug, Drop, PartialEq, Eq)]
+#[derive(Debug, Drop, PartialEq)]
 pub enum AnswerError {
-    /// The source line is no text, is in a form that isn't built yet, or has the name of an earlier zone.
+    /// The line is not UTF-8.
+    NotText(Side, usize),
+    /// The source line is refused for this; never for want of memory.
+    Line(usize, zone_line::Error),
+    /// The source line is a rule, a link or a continuation, names a ruleset, or has the name of an earlier zone: a form
+    /// that isn't built yet.
     NotBuilt(usize),
     /// The request is in no form.
     Request(usize),
@@ -30,20 +48,53 @@ impl From<AllocError> for AnswerError {
 }
 
 impl AnswerError {
-    ghost use Rattle.std.specs.Prelude.{◌≡◌, is_some};
+    ghost use Rattle.std.specs.Prelude.{◌≡◌, is_some, is_none, MatchOption, Some};
+    ghost use Rattle.zone_line.specs.Faults.{fault_of};
+    ghost use Rattle.zone_answers.specs.Faults.{bad_line};
     ghost use Rattle.zone_answers.specs.Told.{fault_told};
+    ghost use Rattle.zone_answers.specs.declared.error.AnswerError.TheVariants.{NoMemory};
+
+    /// The refusal of the nth source line, or want of memory.
+    pub(crate) fn of_line(number: usize, error: zone_line::Error) -> AnswerError
+        ensures { MatchOption (fault_of error) (result ≡ NoMemory) (λ f. fault_told result ≡ Some (bad_line number f)) }
+    {
+        match error {
+            zone_line::Error::NoMemory => AnswerError::NoMemory,
+            error => AnswerError::Line(number, error),
+        }
+    }
 
     /// Whether it is a fault of a text, and not want of memory.
     pub fn is_fault(&self) -> bool
         ensures { result ≡ is_some (fault_told self.now) }
     {
         match self {
-            AnswerError::NotBuilt(_)
+            AnswerError::NotText(_, _)
+            | AnswerError::NotBuilt(_)
             | AnswerError::Request(_)
             | AnswerError::UnknownZone(_)
             | AnswerError::OffsetRange(_)
             | AnswerError::Range(_) => true,
+            AnswerError::Line(_, error) => !is_memory(error),
             AnswerError::NoMemory => false,
         }
+    }
+}
+
+/// Whether memory ran out while a line was read.
+fn is_memory(error: &zone_line::Error) -> bool
+    ensures { result ≡ is_none (fault_of error.now) }
+{
+    match error {
+        zone_line::Error::FailedYearParse(_)
+        | zone_line::Error::FailedMonthParse(_)
+        | zone_line::Error::FailedWeekdayParse(_)
+        | zone_line::Error::InvalidLineType(_)
+        | zone_line::Error::TypeColumnContainedNonHyphen(_)
+        | zone_line::Error::CouldNotParseSaving(_)
+        | zone_line::Error::InvalidDaySpec(_)
+        | zone_line::Error::InvalidTimeSpecAndType(_)
+        | zone_line::Error::NonWallClockInTimeSpec(_) => false,
+        zone_line::Error::NoMemory => true,
     }
 }

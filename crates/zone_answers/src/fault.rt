@@ -1,9 +1,10 @@
 //! The line that tells a fault.
-ghost use Rattle.std.specs.Prelude.{◌≡◌, ◌≤◌, [], ◌∷◌, ◌++◌, length, take, IsSome, IfSome};
-ghost use Rattle.zone_answers.specs.FaultLines.{fault_line, line_with};
+ghost use Rattle.std.specs.Prelude.{◌≡◌, ◌+◌, ◌≤◌, [], ◌∷◌, ◌++◌, length, take, IsSome, IfSome};
+ghost use Rattle.zone_answers.specs.FaultLines.{fault_line, line_cause, line_with};
+ghost use Rattle.zone_line.specs.Faults.{fault_of};
 ghost use Rattle.zone_answers.specs.Told.{fault_told};
 
-use crate::error::AnswerError;
+use crate::error::{AnswerError, Side};
 use arrayvec::ArrayString;
 use itoa::Buffer;
 
@@ -22,8 +23,7 @@ pub fn write_fault(fault: &AnswerError, into: &mut [u8; 64]) -> usize
 
 /// The line of that side, number and cause, with its LF.
 fn line_text(side: &str, number: usize, cause: &str) -> ArrayString<64>
-    requires side { length side.now ≤ 8 }
-    requires cause { length cause.now ≤ 32 }
+    requires { length side.now + length cause.now ≤ 40 }
     ensures text { result.bytes ≡ line_with side.now number cause.now ++ 10 ∷ [] }
     ensures bound { length result.bytes ≤ 63 }
 {
@@ -41,15 +41,37 @@ fn line_text(side: &str, number: usize, cause: &str) -> ArrayString<64>
 fn parts(fault: &AnswerError) -> (&'static str, usize, &'static str)
     requires { IsSome (fault_told fault.now) }
     ensures line { IfSome (fault_told fault.now) (λ f. fault_line f ≡ line_with result.0.now result.1 result.2.now) }
-    ensures side { length result.0.now ≤ 8 }
-    ensures cause { length result.2.now ≤ 32 }
+    ensures short { length result.0.now + length result.2.now ≤ 40 }
 {
     match fault {
+        AnswerError::NotText(Side::Source, number) => ("source ", *number, "not text"),
+        AnswerError::NotText(Side::Requests, number) => ("request ", *number, "not text"),
+        AnswerError::Line(number, error) => ("source ", *number, line_cause(error)),
         AnswerError::NotBuilt(number) => ("source ", *number, "not built"),
         AnswerError::Request(number) => ("request ", *number, "request"),
         AnswerError::UnknownZone(number) => ("request ", *number, "unknown zone"),
         AnswerError::OffsetRange(number) => ("request ", *number, "offset range"),
         AnswerError::Range(number) => ("request ", *number, "range"),
         AnswerError::NoMemory => unreachable!(),
+    }
+}
+
+/// The name of a line's fault.
+fn line_cause(error: &zone_line::Error) -> &'static str
+    requires { IsSome (fault_of error.now) }
+    ensures cause { IfSome (fault_of error.now) (λ f. line_cause f ≡ result.now) }
+    ensures short { length result.now ≤ 33 }
+{
+    match error {
+        zone_line::Error::FailedYearParse(_) => "line FailedYearParse",
+        zone_line::Error::FailedMonthParse(_) => "line FailedMonthParse",
+        zone_line::Error::FailedWeekdayParse(_) => "line FailedWeekdayParse",
+        zone_line::Error::InvalidLineType(_) => "line InvalidLineType",
+        zone_line::Error::TypeColumnContainedNonHyphen(_) => "line TypeColumnContainedNonHyphen",
+        zone_line::Error::CouldNotParseSaving(_) => "line CouldNotParseSaving",
+        zone_line::Error::InvalidDaySpec(_) => "line InvalidDaySpec",
+        zone_line::Error::InvalidTimeSpecAndType(_) => "line InvalidTimeSpecAndType",
+        zone_line::Error::NonWallClockInTimeSpec(_) => "line NonWallClockInTimeSpec",
+        zone_line::Error::NoMemory => unreachable!(),
     }
 }

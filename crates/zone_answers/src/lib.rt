@@ -20,16 +20,15 @@ mod zones;
 
 pub use answer_lines::Answers;
 pub use answering::answers;
-pub use error::AnswerError;
+pub use error::{AnswerError, Side};
 pub use fault::write_fault;
 pub use lines::Lines;
 pub use memory::{MemShelf, MemSink, MemSource};
+pub use outside::{Failed, Shelf, Sink, Source};
 pub use running::run;
 pub use status::Status;
-pub use sure::{SureShelf, SureSink, SureSource, run_surely};
 pub use streams::{FileShelf, StdSink, StdSource};
-pub use outside::{Failed, Shelf, Sink, Source};
-
+pub use sure::{SureShelf, SureSink, SureSource, run_surely};
 
 #[cfg(test)]
 mod tests;

@@ -304,7 +304,12 @@ impl Model for MemSink {
 impl MemSink {
     /// A sink with room for `room` bytes, which takes at most `step` of them a write and fails the writes whose numbers
     /// are listed.
-    pub fn new(alloc: Global, room: usize, step: usize, fails: Vec<u64>) -> Result<MemSink, AllocError>
+    pub fn new(
+        alloc: Global,
+        room: usize,
+        step: usize,
+        fails: Vec<u64>,
+    ) -> Result<MemSink, AllocError>
         requires { 0 < step }
         ensures { IfOk result (λ s. s ≡ record { taken = []; room = room; step = step; calls = fresh_calls fails.items }) }
     {

@@ -3,9 +3,8 @@ ghost use Rattle.std.specs.Prelude.{◌≡◌, option_map};
 ghost use Rattle.std.specs.Char.{is_digit};
 ghost use Rattle.std.specs.List.{before_first, after_first, list_all};
 ghost use Rattle.zone_answers.specs.LocalTimes.{local_time_in};
-ghost use Rattle.zone_answers.specs.Requests.{request_of, form_of, nanoseconds_in, is_number, is_space, name_of, without_minus};
+ghost use Rattle.zone_answers.specs.Requests.{request_of, nanoseconds_in, is_number, is_space, name_of, without_minus};
 
-use crate::text::text_of;
 use civil_base::{PlainDateTime, read_local};
 
 /// The most digits of a number of nanoseconds.
@@ -23,17 +22,6 @@ pub(crate) enum Request<'a> {
 impl<'a> Request<'a> {
     ghost use Rattle.zone_answers.specs.Asked.{asked};
 
-    /// Reads a line `at NAME N`, N being an optional `-` and 1 to 30 digits, or `local NAME TEXT`, TEXT being a local text.
-    #[tactic(auto, unfolding(crate::specs::Requests::request_of))]
-    pub(crate) fn read(line: &'a [u8]) -> Option<Request<'a>>
-        ensures { option_map asked result ≡ request_of line.now }
-    {
-        match text_of(line) {
-            Some(text) => Request::parse(text),
-            None => None,
-        }
-    }
-
     /// The name of the zone.
     pub(crate) fn name(&self) -> &'a str
         ensures { result.now ≡ name_of (asked self.now) }
@@ -44,8 +32,10 @@ impl<'a> Request<'a> {
         }
     }
 
-    fn parse(text: &'a str) -> Option<Request<'a>>
-        ensures { option_map asked result ≡ form_of text.now }
+    /// Reads `at NAME N`, N being an optional `-` and 1 to 30 digits, or `local NAME TEXT`, TEXT being a local text.
+    #[tactic(auto, unfolding(crate::specs::Requests::request_of))]
+    pub(crate) fn read(text: &'a str) -> Option<Request<'a>>
+        ensures { option_map asked result ≡ request_of text.now }
     {
         let (word, rest) = cut_at_space(text);
         let (name, value) = cut_at_space(rest);

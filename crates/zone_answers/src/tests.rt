@@ -114,6 +114,16 @@ fn runs(rt: HostRuntime) -> Result<(), Fail> {
             "-9999-01-01 00:00:00.000000000 +00:00:00\n",
         ),
         (
+            "Zone O 1:00 1:00 O\n",
+            "at O 0\n",
+            "1970-01-01 02:00:00.000000000 +02:00:00\n",
+        ),
+        (
+            "Zone E 0:00 - E 2000 Jan 1 0:00u # ends\n",
+            "at E 0\n",
+            "1970-01-01 00:00:00.000000000 +00:00:00\n",
+        ),
+        (
             FIXED,
             "local Test/Fixed -9999-01-01 00:00:00.000000000\n",
             "-9999-01-01 00:00:00.000000000 +01:30:00\n",
@@ -138,6 +148,63 @@ fn faults(rt: HostRuntime) -> Result<(), Fail> {
             "Rule US 2007 max - Mar Sun>=8 2:00 1:00 D\n",
             "",
             "source 1: not built\n",
+        ),
+        (
+            "Zone A 0:00 - A 2000\n 1:00 - B\n",
+            "",
+            "source 2: not built\n",
+        ),
+        ("Zone A 0:00 Rules A\n", "", "source 1: not built\n"),
+        ("Link A B\n", "", "source 1: not built\n"),
+        (
+            "Rule EU 1977 1980 HEY Apr Sun>=1 1:00u 1:00 S\n",
+            "",
+            "source 1: line TypeColumnContainedNonHyphen\n",
+        ),
+        (
+            "link Australia/Sydney Australia/ACT\n",
+            "",
+            "source 1: line InvalidLineType\n",
+        ),
+        (
+            "Zone A 0:00 - X Jan\n",
+            "",
+            "source 1: line InvalidLineType\n",
+        ),
+        (
+            "Rule R 2000 only - Jan 32 0:00 0 -\n",
+            "",
+            "source 1: line InvalidDaySpec\n",
+        ),
+        (
+            "Rule R 2000 only - Jan Xyz>=40 0:00 0 -\n",
+            "",
+            "source 1: line FailedWeekdayParse\n",
+        ),
+        (
+            "Rule EU 1977 1980 - Febtober Sun>=1 1:00u 1:00 S\n",
+            "",
+            "source 1: line FailedMonthParse\n",
+        ),
+        (
+            "Zone A 0:00 - A 99999999999999999999\n",
+            "",
+            "source 1: line FailedYearParse\n",
+        ),
+        (
+            "Zone A 200 - A\n",
+            "",
+            "source 1: line InvalidTimeSpecAndType\n",
+        ),
+        (
+            "Zone A 1:00u - A\n",
+            "",
+            "source 1: line NonWallClockInTimeSpec\n",
+        ),
+        (
+            "Zone A 0:00 1 A\n",
+            "",
+            "source 1: line CouldNotParseSaving\n",
         ),
         (
             "\nZone A 0:00 - A\nZone A 1:00 - A\n",
@@ -190,7 +257,7 @@ fn faults(rt: HostRuntime) -> Result<(), Fail> {
 fn bytes_that_are_no_text(rt: HostRuntime) -> Result<(), Fail> {
     let alloc = rt.alloc();
     let outcome = run_over(alloc, &["source"], b"\xff", b"", 7, &NONE_FAILING)?;
-    assert_eq!(rt; outcome.sink.taken(), b"source 1: not built\n".as_slice());
+    assert_eq!(rt; outcome.sink.taken(), b"source 1: not text\n".as_slice());
     let outcome = run_over(
         alloc,
         &["source"],
@@ -199,7 +266,7 @@ fn bytes_that_are_no_text(rt: HostRuntime) -> Result<(), Fail> {
         7,
         &NONE_FAILING,
     )?;
-    assert_eq!(rt; outcome.sink.taken(), b"request 1: request\n".as_slice());
+    assert_eq!(rt; outcome.sink.taken(), b"request 1: not text\n".as_slice());
     Ok(())
 }
 
@@ -291,7 +358,10 @@ fn answers_are_lines(rt: HostRuntime) -> Result<(), Fail> {
         return Err(Fail::from("refused"));
     };
     assert_eq!(rt; lines.len(), 2);
-    assert_eq!(rt; lines.get(1).ok_or("no line")?, b"1970-01-01 01:29:59.999999999 +01:30:00".as_slice());
+    assert_eq!(rt;
+        lines.get(1).ok_or("no line")?,
+        b"1970-01-01 01:29:59.999999999 +01:30:00".as_slice()
+    );
     assert!(rt; lines.get(2).is_none());
     Ok(())
 }
@@ -301,7 +371,10 @@ fn the_longest_number_fits_a_fault_line(rt: HostRuntime) -> Result<(), Fail> {
     let mut line = [0; 64];
     let end = write_fault(&AnswerError::OffsetRange(usize::MAX), &mut line);
     assert!(rt; end <= 64);
-    assert_eq!(rt; &line[..end], b"request 18446744073709551615: offset range\n".as_slice());
+    assert_eq!(rt;
+        &line[..end],
+        b"request 18446744073709551615: offset range\n".as_slice()
+    );
     Ok(())
 }
 

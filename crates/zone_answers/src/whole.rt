@@ -56,7 +56,11 @@ pub(crate) fn read_all<S: Source>(alloc: Global, source: &mut S) -> Result<Vec<u
 }
 
 /// Reads the whole text of a name.
-pub(crate) fn fetch_all<H: Shelf>(alloc: Global, shelf: &mut H, name: &str) -> Result<Vec<u8>, ReadEnd>
+pub(crate) fn fetch_all<H: Shelf>(
+    alloc: Global,
+    shelf: &mut H,
+    name: &str,
+) -> Result<Vec<u8>, ReadEnd>
     requires { H.open_to shelf.old name.now }
     ensures bytes { IfOk result (λ bytes. IfSome (H.told shelf.old name.now) (λ text. (bytes.items ≡ text) × (H.left shelf.new ≡ Some []))) }
     ensures within { IfOk result (λ bytes. length bytes.items ≤ LIMIT) }

@@ -1,17 +1,18 @@
 -- What `parse` reads of a signed number is what the definition says.
-use Rattle.std.proofs.Common.{◌≡◌, ℕ, ◌^◌, List, length, true, sym, Result, Ok, Err, ℤ, nat_lt, lt-ltb, ltb-true}
+use Rattle.std.proofs.Common.{◌≡◌, ℕ, ◌^◌, List, length, true, sym, Result, Ok, Err, ℤ, nat_lt, rules, lt-ltb, ltb-true}
 use Rattle.std.proofs.lemmas.Bool.{false_from_ne_true, and_parts, cond-false}
-use Rattle.std.proofs.lemmas.Str.Parse.{IsNumeralModel, numerals_by_value, tells_all_ascii_digits}
+use Rattle.std.proofs.lemmas.Str.Parse.{IsNumeralModel, numerals_by_value}
 use Rattle.std.specs.Result.{result_ok}
-use Rattle.std.specs.Str.{all_ascii_digits}
+use Rattle.std.specs.Char.{is_ascii_digit}
+use Rattle.std.specs.List.{list_all}
 use Rattle.std.specs.Str.Parse.{ParsesSigned, digits_value, without_leading_sign}
 use mir.Syntax.{Width}
 use mir.Val.{hbits}
 use Rattle.zone_line.specs.Numbers.{is_numeral, signed_in}
 
 -- the test of each byte finds the digits that `parse` takes
-digits : IsNumeralModel (λ ds. all_ascii_digits ds ≡ true) (digits_value 10)
-digits = numerals_by_value _ tells_all_ascii_digits
+digits : IsNumeralModel (λ ds. list_all is_ascii_digit ds ≡ true) (digits_value 10)
+digits = numerals_by_value _ (search rules)
 
 -- `parse` at any width reads the number, or fails where there is none
 pub signed_read : {E : Type 0} (w : Width) (text : List ℕ) (r : Result ℤ E) → ParsesSigned w 10 text r →

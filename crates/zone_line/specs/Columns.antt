@@ -2,9 +2,11 @@
 use Rattle.std.specs.Prelude.{ℕ, List, Option, Some, option_map, option_and_then, codes}
 use Rattle.zone_line.specs.Options.{◌>>=◌}
 use Rattle.zone_line.specs.Patterns.{match_in, group_in}
-use Rattle.zone_line.specs.Texts.{zone_text}
+use Rattle.zone_line.specs.Texts.{zone_text, continuation_text, rule_text, link_text}
 use Rattle.zone_line.specs.declared.columns.ZoneColumns.{ZoneColumns}
 use Rattle.zone_line.specs.declared.columns.InfoColumns.{InfoColumns}
+use Rattle.zone_line.specs.declared.columns.RuleColumns.{RuleColumns}
+use Rattle.zone_line.specs.declared.columns.LinkColumns.{LinkColumns}
 
 -- the columns that a Zone line and a continuation share
 pub record InfoTexts : Type 0 where
@@ -21,6 +23,23 @@ pub record ZoneTexts : Type 0 where
   pub name : List ℕ
   pub info : InfoTexts
 
+-- the columns of a Rule line
+pub record RuleTexts : Type 0 where
+  pub name : List ℕ
+  pub from : List ℕ
+  pub to : List ℕ
+  pub kind : List ℕ
+  pub month : List ℕ
+  pub on : List ℕ
+  pub at : List ℕ
+  pub save : List ℕ
+  pub letters : List ℕ
+
+-- the columns of a Link line
+pub record LinkTexts : Type 0 where
+  pub target : List ℕ
+  pub name : List ℕ
+
 abbrev pub info_shown : InfoColumns → InfoTexts
 info_shown c = record {
   gmtoff = c.gmtoff.now;
@@ -34,6 +53,22 @@ info_shown c = record {
 
 abbrev pub zone_shown : ZoneColumns → ZoneTexts
 zone_shown c = record { name = c.name.now; info = info_shown c.info }
+
+abbrev pub rule_shown : RuleColumns → RuleTexts
+rule_shown c = record {
+  name = c.name.now;
+  from = c.from.now;
+  to = c.to.now;
+  kind = c.kind.now;
+  month = c.month.now;
+  on = c.on.now;
+  at = c.at.now;
+  save = c.save.now;
+  letters = c.letters.now;
+}
+
+abbrev pub link_shown : LinkColumns → LinkTexts
+link_shown c = record { target = c.target.now; name = c.name.now }
 
 -- the columns from the parts of the groups; the first three have to have taken part
 unfoldable pub info_columns_of : (List ℕ → Option (List ℕ)) → Option InfoTexts
@@ -60,3 +95,43 @@ zone_columns_of part = do
 -- the columns of a line that the zone pattern matches
 unfoldable pub zone_columns : List ℕ → Option ZoneTexts
 zone_columns line = option_and_then (λ m. zone_columns_of (group_in zone_text line m)) (match_in zone_text line)
+
+unfoldable pub rule_columns_of : (List ℕ → Option (List ℕ)) → Option RuleTexts
+rule_columns_of part = do
+  name ← part (codes "name")
+  from ← part (codes "from")
+  to ← part (codes "to")
+  kind ← part (codes "type")
+  month ← part (codes "in")
+  on ← part (codes "on")
+  at ← part (codes "at")
+  save ← part (codes "save")
+  letters ← part (codes "letters")
+  Some (record {
+    name = name;
+    from = from;
+    to = to;
+    kind = kind;
+    month = month;
+    on = on;
+    at = at;
+    save = save;
+    letters = letters;
+  })
+
+unfoldable pub link_columns_of : (List ℕ → Option (List ℕ)) → Option LinkTexts
+link_columns_of part = do
+  target ← part (codes "target")
+  name ← part (codes "name")
+  Some (record { target = target; name = name })
+
+-- likewise of the other patterns
+unfoldable pub continuation_columns : List ℕ → Option InfoTexts
+continuation_columns line =
+    option_and_then (λ m. info_columns_of (group_in continuation_text line m)) (match_in continuation_text line)
+
+unfoldable pub rule_columns : List ℕ → Option RuleTexts
+rule_columns line = option_and_then (λ m. rule_columns_of (group_in rule_text line m)) (match_in rule_text line)
+
+unfoldable pub link_columns : List ℕ → Option LinkTexts
+link_columns line = option_and_then (λ m. link_columns_of (group_in link_text line m)) (match_in link_text line)

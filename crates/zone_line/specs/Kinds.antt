@@ -3,7 +3,7 @@ use Rattle.std.specs.Prelude.{ℕ, List, [], ◌∷◌, Bool, Option, Some, None
 use Rattle.zone_line.specs.Options.{first_some}
 use Rattle.zone_line.specs.Patterns.{match_in}
 use Rattle.zone_line.specs.Texts.{empty_text}
-use Rattle.zone_line.specs.Columns.{ZoneTexts, zone_columns, zone_shown}
+use Rattle.zone_line.specs.Columns.{ZoneTexts, InfoTexts, RuleTexts, LinkTexts, zone_columns, continuation_columns, rule_columns, link_columns, zone_shown, info_shown, rule_shown, link_shown}
 use Rattle.zone_line.specs.declared.kind.Kind as code
 use Rattle.zone_line.specs.declared.kind.Kind.TheVariants as kind
 
@@ -11,15 +11,26 @@ use Rattle.zone_line.specs.declared.kind.Kind.TheVariants as kind
 pub data LineKind : Type 0 where
   space : LineKind
   zone : ZoneTexts → LineKind
+  continuation : InfoTexts → LineKind
+  rule : RuleTexts → LineKind
+  link : LinkTexts → LineKind
 
 -- the line is blank or a comment
 unfoldable pub is_blank : List ℕ → Bool
 is_blank line = is_some (match_in empty_text line)
 
--- of the kinds that are told apart today: blank lines and comments, then Zone lines
 unfoldable pub kind_of : List ℕ → Option LineKind
-kind_of line = first_some ((if is_blank line then Some space else None) ∷ option_map zone (zone_columns line) ∷ [])
+kind_of line = first_some (
+    (if is_blank line then Some space else None)
+    ∷ option_map zone (zone_columns line)
+    ∷ option_map continuation (continuation_columns line)
+    ∷ option_map rule (rule_columns line)
+    ∷ option_map link (link_columns line)
+    ∷ [])
 
 abbrev pub kind_shown : code.Kind → LineKind
 kind_shown kind.Space = space
 kind_shown (kind.Zone columns) = zone (zone_shown columns)
+kind_shown (kind.Continuation columns) = continuation (info_shown columns)
+kind_shown (kind.Rule columns) = rule (rule_shown columns)
+kind_shown (kind.Link columns) = link (link_shown columns)

@@ -1,7 +1,7 @@
 -- The numbers that stand in a column.
 use Rattle.std.specs.Prelude.{ℕ, ◌+◌, ◌-◌, ◌*◌, Bool, ◌&&◌, List, [], ◌∷◌, length, Option, Some, None, option_and_then, option_map, nat_lt, if◌then◌else◌, ℤ}
 use Rattle.std.specs.Char.{is_ascii_digit}
-use Rattle.std.specs.Str.{all_ascii_digits}
+use Rattle.std.specs.List.{list_all}
 use Rattle.std.specs.Str.Parse.{without_leading_sign, signed_digits_value}
 use lib.Signed.{mag}
 
@@ -17,7 +17,7 @@ two_digits _ = None
 
 -- one ASCII digit or more, and nothing else
 abbrev pub is_numeral : List ℕ → Bool
-is_numeral text = nat_lt 0 (length text) && all_ascii_digits text
+is_numeral text = nat_lt 0 (length text) && list_all is_ascii_digit text
 
 -- the number that Rust reads in a text as one from -half up to half, without half: an optional sign, then digits
 unfoldable pub signed_in : ℕ → List ℕ → Option ℤ

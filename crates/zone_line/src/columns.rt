@@ -1,5 +1,7 @@
 //! The texts of the columns of a line.
 ghost use Rattle.std.specs.Prelude.{◌≡◌, option_map};
+ghost use Rattle.zone_line.specs.Columns.{rule_shown, rule_columns_of, link_shown, link_columns_of};
+ghost use Rattle.zone_line.specs.DayColumns.{day_shown, day_columns_of};
 ghost use Rattle.zone_line.specs.Columns.{zone_shown, zone_columns_of, info_shown, info_columns_of};
 ghost use Rattle.zone_line.specs.Clocks.{clock_shown, minute_clock_of, second_clock_of};
 ghost use Rattle.zone_line.specs.Patterns.{captured};
@@ -26,6 +28,35 @@ pub(crate) struct InfoColumns<'a> {
     pub time: Option<&'a str>,
 }
 
+/// The columns of a Rule line.
+#[derive(Clone, Copy)]
+pub(crate) struct RuleColumns<'a> {
+    pub name: &'a str,
+    pub from: &'a str,
+    pub to: &'a str,
+    pub kind: &'a str,
+    pub month: &'a str,
+    pub on: &'a str,
+    pub at: &'a str,
+    pub save: &'a str,
+    pub letters: &'a str,
+}
+
+/// The columns of a Link line.
+#[derive(Clone, Copy)]
+pub(crate) struct LinkColumns<'a> {
+    pub target: &'a str,
+    pub name: &'a str,
+}
+
+/// The parts of a day on one side of a number.
+#[derive(Clone, Copy)]
+pub(crate) struct DayColumns<'a> {
+    pub weekday: &'a str,
+    pub sign: &'a str,
+    pub day: &'a str,
+}
+
 /// The parts of a time with a colon.
 #[derive(Clone, Copy)]
 pub(crate) struct ClockColumns<'a> {
@@ -37,17 +68,13 @@ pub(crate) struct ClockColumns<'a> {
 }
 
 impl InfoColumns<'_> {
-    ghost use Rattle.zone_line.specs.FixedLines.{is_for_good};
+    ghost use Rattle.zone_line.specs.Lines.{has_yearless_end};
 
-    /// Whether the line names no ruleset and no saving, and has no end.
-    pub(crate) fn is_for_good(&self) -> bool
-        ensures { result ≡ is_for_good (info_shown self.now) }
+    /// Whether some column of an end is there, beside the year.
+    pub(crate) fn has_yearless_end(&self) -> bool
+        ensures { result ≡ has_yearless_end (info_shown self.now) }
     {
-        self.rules == "-"
-            && self.year.is_none()
-            && self.month.is_none()
-            && self.day.is_none()
-            && self.time.is_none()
+        self.month.is_some() || self.day.is_some() || self.time.is_some()
     }
 }
 
@@ -75,6 +102,47 @@ pub(crate) fn info_columns<'a>(captures: &Captures<'_, 'a>) -> Option<InfoColumn
         month: part(captures, "month"),
         day: part(captures, "day"),
         time: part(captures, "time"),
+    })
+}
+
+/// The columns that the captures of a Rule line show.
+#[tactic(auto, unfolding(crate::specs::Columns::rule_columns_of))]
+pub(crate) fn rule_columns<'a>(captures: &Captures<'_, 'a>) -> Option<RuleColumns<'a>>
+    ensures { option_map rule_shown result ≡ rule_columns_of (captured captures.now) }
+{
+    Some(RuleColumns {
+        name: part(captures, "name")?,
+        from: part(captures, "from")?,
+        to: part(captures, "to")?,
+        kind: part(captures, "type")?,
+        month: part(captures, "in")?,
+        on: part(captures, "on")?,
+        at: part(captures, "at")?,
+        save: part(captures, "save")?,
+        letters: part(captures, "letters")?,
+    })
+}
+
+/// The columns that the captures of a Link line show.
+#[tactic(auto, unfolding(crate::specs::Columns::link_columns_of))]
+pub(crate) fn link_columns<'a>(captures: &Captures<'_, 'a>) -> Option<LinkColumns<'a>>
+    ensures { option_map link_shown result ≡ link_columns_of (captured captures.now) }
+{
+    Some(LinkColumns {
+        target: part(captures, "target")?,
+        name: part(captures, "name")?,
+    })
+}
+
+/// The parts that the captures of a day on one side of a number show.
+#[tactic(auto, unfolding(crate::specs::DayColumns::day_columns_of))]
+pub(crate) fn day_columns<'a>(captures: &Captures<'_, 'a>) -> Option<DayColumns<'a>>
+    ensures { option_map day_shown result ≡ day_columns_of (captured captures.now) }
+{
+    Some(DayColumns {
+        weekday: part(captures, "weekday")?,
+        sign: part(captures, "sign")?,
+        day: part(captures, "day")?,
     })
 }
 

@@ -1,6 +1,8 @@
 //! Numbers in a column.
 ghost use Rattle.std.specs.Prelude.{◌≡◌, ◌^◌, ◌<◌, IfSome};
-ghost use Rattle.zone_line.specs.Numbers.{digit_of, two_digits, signed_in};
+ghost use Rattle.std.specs.Char.{is_ascii_digit};
+ghost use Rattle.std.specs.List.{list_all};
+ghost use Rattle.zone_line.specs.Numbers.{digit_of, two_digits, signed_in, is_numeral};
 
 /// The value of one or two ASCII digits.
 #[tactic(auto, unfolding(crate::specs::Numbers::two_digits))]
@@ -20,6 +22,27 @@ pub(crate) fn small_number(text: &str) -> Option<i8>
     ensures { result ≡ signed_in (2 ^ 7) text.now }
 {
     text.parse::<i8>().ok()
+}
+
+/// The number of 64 bits that Rust reads in the text.
+pub(crate) fn large_number(text: &str) -> Option<i64>
+    ensures { result ≡ signed_in (2 ^ 63) text.now }
+{
+    text.parse::<i64>().ok()
+}
+
+/// Whether the text is of ASCII digits alone, of which there is one at least.
+pub(crate) fn is_numeral(text: &str) -> bool
+    ensures { result ≡ is_numeral text.now }
+{
+    !text.is_empty() && are_digits(text)
+}
+
+/// Whether the text is of ASCII digits alone.
+fn are_digits(text: &str) -> bool
+    ensures { result ≡ list_all is_ascii_digit text.now }
+{
+    text.bytes().all(|byte| byte.is_ascii_digit())
 }
 
 /// The value of an ASCII digit.

@@ -1,9 +1,18 @@
 //! The compiled patterns.
-ghost use Rattle.std.specs.Prelude.{◌≡◌, IfOk};
 ghost use Rattle.zone_line.specs.Patterns.{IsBuiltFrom};
-ghost use Rattle.zone_line.specs.Texts.{empty_text, zone_text, hm_text, hms_text};
+ghost use Rattle.zone_line.specs.Texts.{
+  empty_text,
+  zone_text,
+  continuation_text,
+  rule_text,
+  link_text,
+  day_text,
+  hm_text,
+  hms_text,
+};
 
-use crate::fixed::FixedLine;
+use crate::error::Error;
+use crate::line::Line;
 use crate::patterns::compile;
 use crate::reader::LineReader;
 use crate::texts;
@@ -18,54 +27,67 @@ pub struct NotBuilt;
 /// searches for what its text says.
 #[derive(Drop)]
 pub struct LineParser {
-    empty: Regex,
-    zone: Regex,
-    hm: Regex,
-    hms: Regex,
+    pub(crate) empty: Regex,
+    pub(crate) zone: Regex,
+    pub(crate) continuation: Regex,
+    pub(crate) rule: Regex,
+    pub(crate) link: Regex,
+    pub(crate) day: Regex,
+    pub(crate) hm: Regex,
+    pub(crate) hms: Regex,
     ghost empty_is: { IsBuiltFrom empty_text empty },
     ghost zone_is: { IsBuiltFrom zone_text zone },
+    ghost continuation_is: { IsBuiltFrom continuation_text continuation },
+    ghost rule_is: { IsBuiltFrom rule_text rule },
+    ghost link_is: { IsBuiltFrom link_text link },
+    ghost day_is: { IsBuiltFrom day_text day },
     ghost hm_is: { IsBuiltFrom hm_text hm },
     ghost hms_is: { IsBuiltFrom hms_text hms },
 }
 
 impl LineParser {
-    ghost use Rattle.zone_line.specs.FixedLines.{fixed_value, shown};
+    ghost use Rattle.zone_line.specs.Faults.{Tells};
+    ghost use Rattle.zone_line.specs.Lines.{value};
+    ghost use Rattle.zone_line.specs.Values.{line_value};
 
     /// Compiles the patterns. `NotBuilt` comes where the crate `regex` refuses one of them.
     pub fn new(alloc: Global) -> Result<LineParser, NotBuilt> {
-        let Ok(empty) = compile(alloc, texts::EMPTY) else {
-            return Err(NotBuilt);
-        };
-        let Ok(zone) = compile(alloc, texts::ZONE) else {
-            return Err(NotBuilt);
-        };
-        let Ok(hm) = compile(alloc, texts::HM) else {
-            return Err(NotBuilt);
-        };
-        let Ok(hms) = compile(alloc, texts::HMS) else {
-            return Err(NotBuilt);
-        };
+        match LineParser::compiled(alloc) {
+            Ok(parser) => Ok(parser),
+            Err(_) => Err(NotBuilt),
+        }
+    }
+
+    /// Compiles the patterns, or answers the first refusal.
+    fn compiled(alloc: Global) -> Result<LineParser, regex::Error> {
         Ok(LineParser {
-            empty,
-            zone,
-            hm,
-            hms,
+            empty: compile(alloc, texts::EMPTY)?,
+            zone: compile(alloc, texts::ZONE)?,
+            continuation: compile(alloc, texts::CONTINUATION)?,
+            rule: compile(alloc, texts::RULE)?,
+            link: compile(alloc, texts::LINK)?,
+            day: compile(alloc, texts::DAY)?,
+            hm: compile(alloc, texts::HM)?,
+            hms: compile(alloc, texts::HMS)?,
         })
     }
 
     /// What reads lines with matchers that are made once. A caller that goes over a whole text
     /// uses one reader. Only want of memory is an error.
     pub fn reader(&self, alloc: Global) -> Result<LineReader<'_>, AllocError> {
-        LineReader::new(alloc, &self.empty, &self.zone, &self.hm, &self.hms)
+        LineReader::new(alloc, self)
     }
 
-    /// Reads one line, as far as zones of one fixed offset need it: `Space` is a blank line or a
-    /// comment; `Zone` a Zone line whose GMTOFF is a wall time, whose RULES is a hyphen and which has
-    /// no end; `Other` every other line. Only want of memory is an error.
-    pub fn read_fixed<'a>(&self, alloc: Global, input: &'a str) -> Result<FixedLine<'a>, AllocError>
-        ensures { IfOk result (λ line. shown line ≡ fixed_value input.now) }
+    /// Reads one line. Its kind is that of the first pattern that matches: blank, Zone,
+    /// continuation, Rule, Link. Its columns are then read in order: of a rule FROM, TO, TYPE, IN,
+    /// ON, AT and SAVE; of a zone line GMTOFF, RULES and the end's year, month, day and time. The
+    /// first that has no value is the error. A line of no kind is `InvalidLineType`, and so, after
+    /// RULES, is one whose end has no year. Columns of an end after one that is missing are not
+    /// read.
+    pub fn parse_str<'a>(&self, alloc: Global, input: &'a str) -> Result<Line<'a>, Error>
+        ensures { Tells line_value result (value input.now) }
     {
         let mut reader = self.reader(alloc)?;
-        Ok(reader.read_fixed(input))
+        reader.parse_str(alloc, input)
     }
 }

@@ -1,17 +1,24 @@
 //! The patterns' matchers, for many lines in turn.
-ghost use Rattle.std.specs.Prelude.{◌≡◌, IfOk, option_map};
-ghost use Rattle.zone_line.specs.Patterns.{IsBuiltFrom, Searches};
-ghost use Rattle.zone_line.specs.Texts.{empty_text, zone_text, hm_text, hms_text};
-
-use crate::clock::{clock_time, clock_type, hours_alone, if_wall, no_time};
-use crate::columns::{
-    ClockColumns, InfoColumns, ZoneColumns, minute_clock, second_clock, zone_columns,
+ghost use Rattle.std.specs.Prelude.{◌≡◌, option_map};
+ghost use Rattle.zone_line.specs.Patterns.{Searches};
+ghost use Rattle.zone_line.specs.Texts.{
+  empty_text,
+  zone_text,
+  continuation_text,
+  rule_text,
+  link_text,
+  day_text,
+  hm_text,
+  hms_text,
 };
-use crate::fixed::FixedLine;
-use crate::kind::Kind;
+
+use crate::columns::{
+    ClockColumns, DayColumns, InfoColumns, LinkColumns, RuleColumns, ZoneColumns, day_columns,
+    info_columns, link_columns, minute_clock, rule_columns, second_clock, zone_columns,
+};
+use crate::parser::LineParser;
 use crate::patterns::search;
-use crate::time::{TimeSpec, TimeSpecAndType};
-use regex::{Matcher, Regex};
+use regex::Matcher;
 use std::alloc::{AllocError, Global};
 
 /// Reads lines with matchers that are made once, by `LineParser::reader`.
@@ -19,142 +26,110 @@ use std::alloc::{AllocError, Global};
 pub struct LineReader<'p> {
     empty: Matcher<'p>,
     zone: Matcher<'p>,
+    continuation: Matcher<'p>,
+    rule: Matcher<'p>,
+    link: Matcher<'p>,
+    day: Matcher<'p>,
     hm: Matcher<'p>,
     hms: Matcher<'p>,
     ghost empty_is: { Searches empty_text empty },
     ghost zone_is: { Searches zone_text zone },
+    ghost continuation_is: { Searches continuation_text continuation },
+    ghost rule_is: { Searches rule_text rule },
+    ghost link_is: { Searches link_text link },
+    ghost day_is: { Searches day_text day },
     ghost hm_is: { Searches hm_text hm },
     ghost hms_is: { Searches hms_text hms },
 }
 
 impl<'p> LineReader<'p> {
-    ghost use Rattle.zone_line.specs.Columns.{zone_columns, zone_shown, info_shown};
-    ghost use Rattle.zone_line.specs.Clocks.{minute_clock, second_clock, clock_in, clock_shown};
-    ghost use Rattle.zone_line.specs.FixedLines.{fixed_value, fixed_offset, shown};
-    ghost use Rattle.zone_line.specs.Kinds.{kind_of, kind_shown, is_blank};
-    ghost use Rattle.zone_line.specs.Times.{time_of, wall_time_of};
+    ghost use Rattle.zone_line.specs.Columns.{
+      zone_columns,
+      zone_shown,
+      continuation_columns,
+      info_shown,
+      rule_columns,
+      rule_shown,
+      link_columns,
+      link_shown,
+    };
+    ghost use Rattle.zone_line.specs.Clocks.{minute_clock, second_clock, clock_shown};
+    ghost use Rattle.zone_line.specs.DayColumns.{day_columns, day_shown};
+    ghost use Rattle.zone_line.specs.Kinds.{is_blank};
 
-    /// The matchers of the patterns.
-    pub(crate) fn new(
-        alloc: Global,
-        empty: &'p Regex,
-        zone: &'p Regex,
-        hm: &'p Regex,
-        hms: &'p Regex,
-    ) -> Result<LineReader<'p>, AllocError>
-        requires empty_is { IsBuiltFrom empty_text empty.now }
-        requires zone_is { IsBuiltFrom zone_text zone.now }
-        requires hm_is { IsBuiltFrom hm_text hm.now }
-        requires hms_is { IsBuiltFrom hms_text hms.now }
-    {
-        let empty = empty.matcher(alloc)?;
-        let zone = zone.matcher(alloc)?;
-        let hm = hm.matcher(alloc)?;
-        let hms = hms.matcher(alloc)?;
+    /// The matchers of the parser's patterns.
+    pub(crate) fn new(alloc: Global, parser: &'p LineParser) -> Result<LineReader<'p>, AllocError> {
+        let empty = parser.empty.matcher(alloc)?;
+        let zone = parser.zone.matcher(alloc)?;
+        let continuation = parser.continuation.matcher(alloc)?;
+        let rule = parser.rule.matcher(alloc)?;
+        let link = parser.link.matcher(alloc)?;
+        let day = parser.day.matcher(alloc)?;
+        let hm = parser.hm.matcher(alloc)?;
+        let hms = parser.hms.matcher(alloc)?;
         Ok(LineReader {
             empty,
             zone,
+            continuation,
+            rule,
+            link,
+            day,
             hm,
             hms,
         })
     }
 
-    /// Reads one line, as `LineParser::read_fixed` does.
-    #[tactic(auto, unfolding(crate::specs::FixedLines::fixed_value))]
-    pub fn read_fixed<'a>(&mut self, input: &'a str) -> FixedLine<'a>
-        ensures { shown result ≡ fixed_value input.now }
-    {
-        match self.kind(input) {
-            Some(Kind::Space) => FixedLine::Space,
-            Some(Kind::Zone(columns)) => match self.fixed_offset(&columns.info) {
-                Some(offset) => FixedLine::Zone(columns.name, offset),
-                None => FixedLine::Other,
-            },
-            None => FixedLine::Other,
-        }
-    }
-
-    /// The kind of a line, with the texts of its columns.
-    #[tactic(auto, unfolding(crate::specs::Kinds::kind_of))]
-    fn kind<'a>(&mut self, line: &'a str) -> Option<Kind<'a>>
-        ensures { option_map kind_shown result ≡ kind_of line.now }
-    {
-        if self.is_blank(line) {
-            return Some(Kind::Space);
-        }
-        match self.zone_columns(line) {
-            Some(columns) => Some(Kind::Zone(columns)),
-            None => None,
-        }
-    }
-
-    /// The offset of a line without rules and without an end.
-    #[tactic(auto, unfolding(crate::specs::FixedLines::fixed_offset))]
-    fn fixed_offset(&mut self, info: &InfoColumns<'_>) -> Option<i64>
-        ensures { result ≡ fixed_offset (info_shown info.now) }
-    {
-        if !info.is_for_good() {
-            return None;
-        }
-        let time = self.wall_time(info.gmtoff)?;
-        Some(time.as_seconds())
-    }
-
-    /// The amount of time in a column that has to be wall time.
-    fn wall_time(&mut self, text: &str) -> Option<TimeSpec>
-        ensures { result ≡ wall_time_of text.now }
-    {
-        if_wall(self.time(text)?)
-    }
-
-    /// The time in a column.
-    #[tactic(auto, unfolding(crate::specs::Times::time_of))]
-    fn time(&mut self, text: &str) -> Option<TimeSpecAndType>
-        ensures { result ≡ time_of text.now }
-    {
-        if let Some(time) = no_time(text) {
-            return Some(time);
-        }
-        if let Some(time) = hours_alone(text) {
-            return Some(time);
-        }
-        let parts = self.clock(text)?;
-        Some(clock_time(&parts)?.with_type(clock_type(parts.flag)))
-    }
-
-    /// The parts of a time with one colon or two.
-    fn clock<'a>(&mut self, text: &'a str) -> Option<ClockColumns<'a>>
-        ensures { option_map clock_shown result ≡ clock_in text.now }
-    {
-        match self.minute_clock(text) {
-            Some(parts) => Some(parts),
-            None => self.second_clock(text),
-        }
-    }
-
     /// Whether a line is blank or a comment.
-    fn is_blank(&mut self, line: &str) -> bool
+    pub(crate) fn is_blank(&mut self, line: &str) -> bool
         ensures { result ≡ is_blank line.now }
     {
         self.empty.is_match(line)
     }
 
     /// The columns of a Zone line.
-    fn zone_columns<'a>(&mut self, line: &'a str) -> Option<ZoneColumns<'a>>
+    pub(crate) fn zone_columns<'a>(&mut self, line: &'a str) -> Option<ZoneColumns<'a>>
         ensures { option_map zone_shown result ≡ zone_columns line.now }
     {
         zone_columns(&search(&mut self.zone, line)?)
     }
 
+    /// The columns of a continuation.
+    pub(crate) fn continuation_columns<'a>(&mut self, line: &'a str) -> Option<InfoColumns<'a>>
+        ensures { option_map info_shown result ≡ continuation_columns line.now }
+    {
+        info_columns(&search(&mut self.continuation, line)?)
+    }
+
+    /// The columns of a Rule line.
+    pub(crate) fn rule_columns<'a>(&mut self, line: &'a str) -> Option<RuleColumns<'a>>
+        ensures { option_map rule_shown result ≡ rule_columns line.now }
+    {
+        rule_columns(&search(&mut self.rule, line)?)
+    }
+
+    /// The columns of a Link line.
+    pub(crate) fn link_columns<'a>(&mut self, line: &'a str) -> Option<LinkColumns<'a>>
+        ensures { option_map link_shown result ≡ link_columns line.now }
+    {
+        link_columns(&search(&mut self.link, line)?)
+    }
+
+    /// The parts of a day on one side of a number.
+    pub(crate) fn day_columns<'a>(&mut self, text: &'a str) -> Option<DayColumns<'a>>
+        ensures { option_map day_shown result ≡ day_columns text.now }
+    {
+        day_columns(&search(&mut self.day, text)?)
+    }
+
     /// The parts of hours and minutes.
-    fn minute_clock<'a>(&mut self, text: &'a str) -> Option<ClockColumns<'a>>
+    pub(crate) fn minute_clock<'a>(&mut self, text: &'a str) -> Option<ClockColumns<'a>>
         ensures { option_map clock_shown result ≡ minute_clock text.now }
     {
         minute_clock(&search(&mut self.hm, text)?)
     }
 
     /// The parts of hours, minutes and seconds.
-    fn second_clock<'a>(&mut self, text: &'a str) -> Option<ClockColumns<'a>>
+    pub(crate) fn second_clock<'a>(&mut self, text: &'a str) -> Option<ClockColumns<'a>>
         ensures { option_map clock_shown result ≡ second_clock text.now }
     {
         second_clock(&search(&mut self.hms, text)?)

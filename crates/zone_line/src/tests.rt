@@ -1,53 +1,200 @@
-//! Lines of fixed zones, and lines that are none.
-use crate::{FixedLine, LineParser};
+//! Vectors of the ported crate, faults and their texts, names, and days of months.
+use crate::{
+    ChangeTime, DaySpec, Error, Line, LineParser, Month, Rule, Saving, TimeSpec, TimeSpecAndType,
+    TimeType, Weekday, Year, Zone, ZoneInfo,
+};
 use std::test::Fail;
 
+mod source;
+
 #[test]
-fn fixed_lines(rt: HostRuntime) -> Result<(), Fail> {
+fn a_rule(rt: HostRuntime) -> Result<(), Fail> {
     let alloc = rt.alloc();
     let parser = LineParser::new(alloc).ok().ok_or("not built")?;
+    let line = parser.parse_str(alloc, "Rule\tGreece\t1976\tonly\t-\tOct\t10\t2:00s\t0\t-")?;
+    let rule = Rule {
+        name: "Greece",
+        from_year: Year::Number(1976),
+        to_year: None,
+        month: Month::October,
+        day: DaySpec::Ordinal(10),
+        time: TimeSpec::HoursMinutes(2, 0).with_type(TimeType::Standard),
+        time_to_add: TimeSpec::Hours(0),
+        letters: None,
+    };
+    assert_eq!(rt; line, Line::Rule(rule));
+    Ok(())
+}
+
+#[test]
+fn a_zone(rt: HostRuntime) -> Result<(), Fail> {
+    let alloc = rt.alloc();
+    let parser = LineParser::new(alloc).ok().ok_or("not built")?;
+    let text = "Zone  Australia/Adelaide  9:30    Aus         AC%sT   1971 Oct 31  2:00:00";
+    let line = parser.parse_str(alloc, text)?;
+    let time = TimeSpecAndType(TimeSpec::HoursMinutesSeconds(2, 0, 0), TimeType::Wall);
+    let end = ChangeTime::UntilTime(
+        Year::Number(1971),
+        Month::October,
+        DaySpec::Ordinal(31),
+        time,
+    );
+    let info = ZoneInfo {
+        utc_offset: TimeSpec::HoursMinutes(9, 30),
+        saving: Saving::Multiple("Aus"),
+        format: "AC%sT",
+        time: Some(end),
+    };
+    let zone = Zone {
+        name: "Australia/Adelaide",
+        info,
+    };
+    assert_eq!(rt; line, Line::Zone(zone));
+    Ok(())
+}
+
+#[test]
+fn faults(rt: HostRuntime) -> Result<(), Fail> {
+    let alloc = rt.alloc();
+    let parser = LineParser::new(alloc).ok().ok_or("not built")?;
+    let mut reader = parser.reader(alloc)?;
     let rows = [
+        ("Golf", "line with invalid format: \"Golf\""),
+        ("link A B", "line with invalid format: \"link A B\""),
         (
-            "Zone Test/Fixed 1:30 - TST",
-            FixedLine::Zone("Test/Fixed", 5400),
-        ),
-        ("Zone X -0:14:44 - LMT", FixedLine::Zone("X", -884)),
-        (
-            "Zone\tEtc/GMT-14\t14\t-\t%z",
-            FixedLine::Zone("Etc/GMT-14", 50400),
+            "Zone A 0:00 - X Jan",
+            "line with invalid format: \"Zone A 0:00 - X Jan\"",
         ),
         (
-            "Zone Etc/UTC 0 - UTC # universal",
-            FixedLine::Zone("Etc/UTC", 0),
+            "Rule R 0x7 only - Apr 1 1:00 1:00 S",
+            "failed to parse as a year value: \"0x7\"",
         ),
-        ("Zone N - - N", FixedLine::Zone("N", 0)),
-        ("Zone W 1:00w - W", FixedLine::Zone("W", 3600)),
-        ("Zone Far -25:59:59 - F", FixedLine::Zone("Far", -93599)),
-        ("", FixedLine::Space),
-        ("\t ", FixedLine::Space),
-        ("# Zone A 0:00 - A", FixedLine::Space),
-        ("Zone A 0:00 - A 2000", FixedLine::Other),
-        ("Zone A 0:00 - A Jan", FixedLine::Other),
-        ("Zone A 0:00 1:00 A", FixedLine::Other),
-        ("Zone A 0:00 Rules A", FixedLine::Other),
-        ("Zone A 1:00u - A", FixedLine::Other),
-        ("Zone A 1:00s - A", FixedLine::Other),
-        ("Zone A 26:00 - A", FixedLine::Zone("A", 93600)),
-        ("Zone A 200 - A", FixedLine::Other),
-        ("Zone A --1 - A", FixedLine::Other),
-        ("Zone A \u{661}:00 - A", FixedLine::Other),
-        ("Zone A 1:00", FixedLine::Other),
-        (" 1:00 - B", FixedLine::Other),
-        ("zone A 1:00 - A", FixedLine::Other),
-        ("Link A B", FixedLine::Other),
         (
-            "Rule US 2007 max - Mar Sun>=8 2:00 1:00 D",
-            FixedLine::Other,
+            "Rule EU 1977 1980 - Febtober Sun>=1 1:00u 1:00 S",
+            "failed to parse as a month value: \"febtober\"",
+        ),
+        (
+            "Rule R 2000 only - Jan XYZ>=40 0:00 0 -",
+            "failed to parse as a weekday value: \"xyz\"",
+        ),
+        (
+            "Rule R 2000 only - Jan lastXyz 0:00 0 -",
+            "failed to parse as a weekday value: \"xyz\"",
+        ),
+        (
+            "Rule EU 1977 1980 HEY Apr Sun>=1 1:00u 1:00 S",
+            "'type' column is not a hyphen but has the value: \"HEY\"",
+        ),
+        ("Zone A 0:00 1 A", "failed to parse RULES column: \"1\""),
+        (
+            "Rule R 2000 only - Jan 32 0:00 0 -",
+            "invalid day specification ('ON'): \"32\"",
+        ),
+        (
+            "Rule R 2000 only - Jan 0 0:00 0 -",
+            "invalid day specification ('ON'): \"0\"",
+        ),
+        (
+            "Rule R 2000 only - Jan Sun>=40 0:00 0 -",
+            "invalid day specification ('ON'): \"Sun>=40\"",
+        ),
+        ("Zone A 200 - A", "invalid time: \"200\""),
+        ("Zone A --1 - A", "invalid time: \"--1\""),
+        ("Zone A \u{661}:00 - A", "invalid time: \"\u{661}:00\""),
+        (
+            "Zone A 1:00u - A",
+            "time value not given as wall time: \"1:00u\"",
+        ),
+        (
+            "Zone A 1:00 2:00s A",
+            "time value not given as wall time: \"2:00s\"",
         ),
     ];
-    for (text, line) in rows {
-        let read = parser.read_fixed(alloc, text)?;
-        assert_eq!(rt; read, line);
+    for (text, told) in rows {
+        match reader.parse_str(alloc, text) {
+            Ok(_) => return Err(Fail::from("no refusal")),
+            Err(error) => {
+                let shown = format!(in alloc; "{error}")?;
+                assert_eq!(rt; shown.as_str(), told);
+            }
+        }
     }
+    let shown = format!(in alloc; "{}", Error::NoMemory)?;
+    assert_eq!(rt; shown.as_str(), "out of memory");
+    Ok(())
+}
+
+#[test]
+fn names(rt: HostRuntime) -> Result<(), Fail> {
+    let alloc = rt.alloc();
+    assert_eq!(rt; Year::parse(alloc, "MAX")?, Year::Maximum);
+    assert_eq!(rt; Month::parse(alloc, "Aug")?, Month::August);
+    assert_eq!(rt; Weekday::parse(alloc, "sun")?, Weekday::Sunday);
+    Ok(())
+}
+
+#[test]
+fn timestamps(rt: HostRuntime) -> Result<(), Fail> {
+    let year = ChangeTime::UntilYear(Year::Number(1900));
+    assert!(rt; year.is_dated());
+    assert_eq!(rt; year.to_timestamp(), -2_208_988_800);
+    let time = TimeSpec::Hours(9).with_type(TimeType::Wall);
+    let sunday = DaySpec::Last(Weekday::Sunday);
+    let end = ChangeTime::UntilTime(Year::Number(2000), Month::February, sunday, time);
+    assert!(rt; end.is_dated());
+    assert_eq!(rt; end.to_timestamp(), 951_642_000);
+    Ok(())
+}
+
+#[test]
+fn concrete_days(rt: HostRuntime) -> Result<(), Fail> {
+    let sunday = DaySpec::FirstOnOrAfter(Weekday::Sunday, 25);
+    assert_eq!(rt;
+        sunday.to_concrete_day(1932, Month::April),
+        Some((Month::May, 1))
+    );
+    let friday = DaySpec::LastOnOrBefore(Weekday::Friday, 1);
+    assert_eq!(rt;
+        friday.to_concrete_day(2012, Month::April),
+        Some((Month::March, 30))
+    );
+    let monday = DaySpec::Last(Weekday::Monday);
+    assert_eq!(rt;
+        monday.to_concrete_day(2016, Month::February),
+        Some((Month::February, 29))
+    );
+    let rows = [
+        (Month::January, 25, 25),
+        (Month::February, 29, 22),
+        (Month::March, 28, 21),
+        (Month::April, 25, 25),
+        (Month::May, 30, 23),
+        (Month::June, 27, 20),
+        (Month::July, 25, 25),
+        (Month::August, 29, 22),
+        (Month::September, 26, 26),
+        (Month::October, 31, 24),
+        (Month::November, 28, 21),
+        (Month::December, 26, 26),
+    ];
+    let later = DaySpec::FirstOnOrAfter(Weekday::Monday, 20);
+    for (month, last, first) in rows {
+        assert_eq!(rt; monday.to_concrete_day(2016, month), Some((month, last)));
+        assert_eq!(rt; later.to_concrete_day(2016, month), Some((month, first)));
+    }
+    Ok(())
+}
+
+#[test]
+fn days_of_another_year(rt: HostRuntime) -> Result<(), Fail> {
+    let before = DaySpec::LastOnOrBefore(Weekday::Sunday, 1);
+    assert_eq!(rt; before.to_concrete_day(2000, Month::January), None);
+    let after = DaySpec::FirstOnOrAfter(Weekday::Monday, 31);
+    assert_eq!(rt; after.to_concrete_day(2024, Month::December), None);
+    let written = DaySpec::Ordinal(31);
+    assert_eq!(rt;
+        written.to_concrete_day(2023, Month::February),
+        Some((Month::February, 31))
+    );
     Ok(())
 }

@@ -1,5 +1,5 @@
 //! Times of day and amounts of time, as the columns of a line write them.
-ghost use Rattle.std.specs.Prelude.{◌≡◌};
+ghost use Rattle.std.specs.Prelude.{◌≡◌, pos, neg_ℤ, ◌≤ℤ◌};
 ghost use Rattle.zone_line.specs.Seconds.{seconds_of, with_type};
 
 /// A time of day or an amount of time, as it was written. A negative one has each of its parts
@@ -34,7 +34,9 @@ pub struct TimeSpecAndType(pub TimeSpec, pub TimeType);
 impl TimeSpec {
     /// The time in seconds: 3,600 for each hour and 60 for each minute. `Zero` is 0.
     pub fn as_seconds(self) -> i64
-        ensures { result ≡ seconds_of self }
+        ensures value { result ≡ seconds_of self }
+        ensures least { neg_ℤ (pos 500_000) ≤ℤ result }
+        ensures greatest { result ≤ℤ pos 500_000 }
     {
         match self {
             TimeSpec::Hours(hours) => hours as i64 * 3_600,

@@ -1,10 +1,6 @@
-use Rattle.std.proofs.Common.{ap, sym, ◌∙◌, ◌≡◌, List, ℕ}
+use Rattle.std.proofs.Common.{sym, ◌∙◌}
 use Rattle.std.proofs.lemmas.Result.{MatchResult-weaker, IfOk-weaker, on_ok_weaker, err_from_is_err_and}
-use Rattle.zone_answers.specs.Due.{answer_lines}
-use Rattle.zone_answers.specs.Faults.{fault, first_refused}
-use Rattle.zone_answers.specs.Told.{fault_told}
 use Rattle.zone_answers.specs.ZonesShown.{zones_shown}
-use Rattle.zone_answers.specs.Lines.{lines_of}
 use Rattle.zone_answers.proofs.ReadBackLemmas.{lines_back}
 use Rattle.zone_answers.proofs.AnsweringLemmas.{lines_are, fault_is, fault_first, told_along}
 use Rattle.zone_answers.proofs.answering.answers.Goals as goal
@@ -38,4 +34,4 @@ returns-clause-err c =
     let zones = zones_shown c.in_ok-zones.zones.items in
     let same = fault_is zones c.args.source.now c.args.requests.now c.in_ok-zones.ensures.ok c.in_ok-zones.ensures.zones in
     MatchResult-weaker c.answer_all.result (rw c.deref.ensures.value at c.answer_all.ensures.err) (λ _ h. h)
-    (λ error told. told_along (fault_told error) _ _ same told)
+    (λ error told. told_along error _ _ same told)

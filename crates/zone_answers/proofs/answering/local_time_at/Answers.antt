@@ -1,5 +1,4 @@
-use Rattle.std.proofs.Common.{ap, sym, ◌∙◌, ◌≡◌, ◌&&◌, ◌+ℤ◌, ◌*ℤ◌, pos, ℤ, true, false, to_z-of_z, refl}
-use Rattle.civil_base.specs.Ranges.{IsInYears}
+use Rattle.std.proofs.Common.{◌≡◌, ◌+ℤ◌, ◌*ℤ◌, pos, true, false, to_z-of_z, refl}
 use Rattle.zone_answers.specs.LocalTimes.{is_in_years}
 use Rattle.zone_answers.proofs.DateLemmas.{years_pass, years_fail}
 use Rattle.zone_answers.proofs.answering.local_time_at.Goals as goal

@@ -1,5 +1,5 @@
-use Rattle.std.proofs.Common.{ap, sym, ◌∙◌, pos, ◌-ℤ◌, ◌*ℤ◌}
-use Rattle.civil_base.specs.DateTimes.{instant, local_of, offset_of}
+use Rattle.std.proofs.Common.{pos, ◌-ℤ◌, ◌*ℤ◌}
+use Rattle.civil_base.specs.DateTimes.{instant}
 use Rattle.zone_answers.proofs.LocalLemmas.{fixed_line}
 use Rattle.zone_answers.proofs.answering.local_time_in.Goals as goal
 

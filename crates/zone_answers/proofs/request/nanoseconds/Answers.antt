@@ -1,5 +1,5 @@
-use Rattle.std.proofs.Common.{sym, ap, ◌∙◌, cond, None}
-use Rattle.zone_answers.specs.Requests.{nanoseconds_in, is_number, without_minus}
+use Rattle.std.proofs.Common.{sym, ◌∙◌}
+use Rattle.zone_answers.specs.Requests.{nanoseconds_in}
 use Rattle.zone_answers.proofs.RequestLemmas.{number_parsed}
 use Rattle.zone_answers.proofs.request.nanoseconds.Goals as goal
 

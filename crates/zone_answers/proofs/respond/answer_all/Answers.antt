@@ -1,4 +1,4 @@
-use Rattle.std.proofs.Common.{ap, sym, ◌∙◌, ◌≡◌}
+use Rattle.std.proofs.Common.{◌∙◌}
 use Rattle.zone_answers.proofs.ResponseLemmas.{due_valid, wrote, wrote_some, error_response}
 use Rattle.zone_answers.proofs.respond.answer_all.Goals as goal
 
@@ -14,4 +14,4 @@ returns-in-Ok g c =
 
 pub returns : goal.returns
 returns g c =
-    error_response c.args.source.now c.args.requests.now _ _ _ _ _ c.write_error.result c.in-Err.ensures.err c.write_error.ensures
+    error_response c.args.source.now c.args.requests.now c.in-Err.error _ _ _ _ c.write_error.result c.in-Err.ensures.err c.write_error.ensures

@@ -1,4 +1,4 @@
-use Rattle.std.proofs.Common.{◌≡◌, ℕ, ◌+◌, ◌-◌, ◌≤◌, min, List, ◌++◌, length, Some, IfSome, vec_len}
+use Rattle.std.proofs.Common.{◌≡◌, ◌+◌, ◌-◌, ◌≤◌, min, length, IfSome, vec_len}
 use Rattle.zone_answers.specs.Outside.{last_count}
 use Rattle.zone_answers.proofs.Loops.{HasRead}
 use Rattle.zone_answers.proofs.whole.read_all.Given as goal

@@ -1,6 +1,5 @@
-use Rattle.std.proofs.Common.{sym, arith, ap, ◌∙◌, ◌≤◌, ◌<◌, length, subst}
+use Rattle.std.proofs.Common.{sym, arith, ap, ◌≤◌, ◌<◌, length}
 use Rattle.std.proofs.lemmas.Option.{slice_get_past}
-use Rattle.std.specs.Prelude.{slice_get}
 use Rattle.zone_answers.proofs.AnswerLemmas.{line_at, lies_within, length_lines}
 use Rattle.zone_answers.proofs.answer_lines.Answers.get.Goals as goal
 

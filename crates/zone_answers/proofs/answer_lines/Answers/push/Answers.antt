@@ -1,6 +1,4 @@
-use Rattle.std.proofs.Common.{ap, ◌∙◌, sym, arith, ◌≡◌, ◌+◌, ◌++◌, ◌∷◌, [], length}
-use Rattle.std.proofs.lemmas.List.{length-append}
-use Rattle.zone_answers.specs.AnswerLines.{lines_between, AreEnds}
+use Rattle.std.proofs.Common.{ap, ◌∙◌, length}
 use Rattle.zone_answers.proofs.AnswerLemmas.{more_lines, more_ends, long_line}
 use Rattle.zone_answers.proofs.answer_lines.Answers.push.Goals as goal
 

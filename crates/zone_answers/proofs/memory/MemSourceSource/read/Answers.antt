@@ -1,5 +1,4 @@
 use Rattle.zone_answers.proofs.Loops.{consumed_at}
-use Rattle.zone_answers.specs.Memory.{text_chosen}
 use Rattle.zone_answers.proofs.memory.MemSourceSource.read.Goals as goal
 
 pub returns-clause-bytes : goal.returns-clause-bytes

@@ -1,0 +1,96 @@
+-- The values of a line's columns, each a value or a fault.
+use Rattle.std.specs.Prelude.{ℕ, ℤ, pos, List, [], ◌∷◌, take, drop, Bool, ◌&&◌, ◌||◌, Option, Some, None, option_map, option_and_then, ok_or, Result, Ok, Err, codes, bytes_eq, nat_eq, int_le, if◌then◌else◌, ◌^◌}
+use Rattle.std.specs.Char.{is_ascii_alphabetic}
+use Rattle.std.specs.List.{list_all}
+use Rattle.std.specs.Option.{option_map_or}
+use Rattle.zone_line.specs.Faults.{Fault, failed_year_parse, failed_month_parse, failed_weekday_parse, type_column_contained_non_hyphen, invalid_day_spec, invalid_time_spec_and_type, non_wall_clock_in_time_spec}
+use Rattle.zone_line.specs.Results.{◌>>=◌}
+use Rattle.zone_line.specs.Names.{lower}
+use Rattle.zone_line.specs.Numbers.{is_numeral, signed_in}
+use Rattle.zone_line.specs.Years.{year_named}
+use Rattle.zone_line.specs.Months.{month_named}
+use Rattle.zone_line.specs.Weekdays.{weekday_named}
+use Rattle.zone_line.specs.Times.{time_of, if_wall}
+use Rattle.zone_line.specs.DayColumns.{DayTexts, day_columns}
+use Rattle.zone_line.specs.declared.year.Year.{Year}
+use Rattle.zone_line.specs.declared.month.Month.{Month}
+use Rattle.zone_line.specs.declared.weekday.Weekday.{Weekday}
+use Rattle.zone_line.specs.declared.time.TimeSpec.{TimeSpec}
+use Rattle.zone_line.specs.declared.time.TimeSpecAndType.{TimeSpecAndType}
+use Rattle.zone_line.specs.declared.day.DaySpec.{DaySpec}
+use Rattle.zone_line.specs.declared.day.DaySpec.TheVariants.{Ordinal, Last, LastOnOrBefore, FirstOnOrAfter}
+
+abbrev pub year_field : List ℕ → Result Year Fault
+year_field text = ok_or (year_named text) (failed_year_parse text)
+
+-- the last year of a rule: `only` is none of its own
+unfoldable pub to_field : List ℕ → Result (Option Year) Fault
+to_field text = if bytes_eq text (codes "only") then Ok None else (do
+  year ← year_field text
+  Ok (Some year))
+
+-- the fault of a month or a weekday holds the text in ASCII lower case
+abbrev pub month_field : List ℕ → Result Month Fault
+month_field text = ok_or (month_named text) (failed_month_parse (lower text))
+
+abbrev pub weekday_field : List ℕ → Result Weekday Fault
+weekday_field text = ok_or (weekday_named text) (failed_weekday_parse (lower text))
+
+-- a hyphen, of ASCII or U+2010
+abbrev pub type_field : List ℕ → Result (List ℕ) Fault
+type_field text =
+    if bytes_eq text (codes "-") || bytes_eq text (226 ∷ 128 ∷ 144 ∷ []) then Ok text
+    else Err (type_column_contained_non_hyphen text)
+
+-- a hyphen is no letters
+abbrev pub letters_of : List ℕ → Option (List ℕ)
+letters_of text = if bytes_eq text (codes "-") then None else Some text
+
+abbrev pub time_field : List ℕ → Result TimeSpecAndType Fault
+time_field text = ok_or (time_of text) (invalid_time_spec_and_type text)
+
+-- a time that has to be the wall's
+unfoldable pub wall_field : List ℕ → Result TimeSpec Fault
+wall_field text = do
+  time ← time_field text
+  ok_or (if_wall time) (non_wall_clock_in_time_spec text)
+
+-- 1 to 31, by ASCII digits alone
+abbrev pub day_number : List ℕ → Option ℤ
+day_number text =
+    if is_numeral text
+    then option_and_then (λ n. if int_le (pos 1) n && int_le n (pos 31) then Some n else None) (signed_in (2 ^ 7) text)
+    else None
+
+-- the day on or before or the day on or after, by the sign
+abbrev pub sided : List ℕ → Weekday → ℤ → DaySpec
+sided sign weekday number =
+    if bytes_eq sign (codes "<=") then LastOnOrBefore weekday number else FirstOnOrAfter weekday number
+
+-- the weekday is read before the number
+unfoldable pub sided_day : List ℕ → DayTexts → Result DaySpec Fault
+sided_day text columns = do
+  weekday ← weekday_field columns.weekday
+  number ← ok_or (day_number columns.day) (invalid_day_spec text)
+  Ok (sided columns.sign weekday number)
+
+-- the last such weekday of the month
+unfoldable pub last_weekday : List ℕ → Result DaySpec Fault
+last_weekday text = do
+  weekday ← weekday_field text
+  Ok (Last weekday)
+
+-- what follows `last` in a text that begins with it
+abbrev pub after_last : List ℕ → Option (List ℕ)
+after_last text = if bytes_eq (take 4 text) (codes "last") then Some (drop 4 text) else None
+
+-- a number, `last` and a weekday, or a weekday on one side of a number
+unfoldable pub day_field : List ℕ → Result DaySpec Fault
+day_field text =
+    if is_numeral text then ok_or (option_map Ordinal (day_number text)) (invalid_day_spec text)
+    else option_map_or last_weekday (after_last text) (
+    option_map_or (sided_day text) (day_columns text) (Err (invalid_day_spec text)))
+
+-- ASCII letters, hyphens and underscores alone
+abbrev pub is_ruleset_name : List ℕ → Bool
+is_ruleset_name text = list_all (λ c. nat_eq c 45 || nat_eq c 95 || is_ascii_alphabetic c) text
