@@ -1,0 +1,4 @@
+pub mod KeyedMaps
+pub mod Appended
+pub mod InOrder
+pub mod Permuted

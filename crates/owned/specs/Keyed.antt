@@ -1,0 +1,19 @@
+-- Entries with texts as keys, as a finite map from the bytes of the texts.
+use Rattle.std.specs.Prelude.{ℕ, List, map, string_bytes}
+use Rattle.std.specs.declared.cmp.Ordering.{Ordering}
+use Rattle.std.specs.declared.string.String.{String}
+use Rattle.std.specs.Cmp.Lexicographic.{slice_cmp}
+use Rattle.std.specs.Ordering.{nat_cmp}
+use Rattle.std.specs.FinMap.{FinMap, from_entries}
+
+-- the order of texts by their bytes: the first two that differ decide, and else the lengths do
+abbrev pub text_cmp : List ℕ → List ℕ → Ordering
+text_cmp = slice_cmp nat_cmp
+
+-- each key as its bytes
+abbrev pub by_bytes : {Y X : Type 0} → List (String Y × X) → List (List ℕ × X)
+by_bytes entries = map (λ entry. (string_bytes entry.0, entry.1)) entries
+
+-- the map from the bytes of each key to its value
+abbrev pub keyed : {Y X : Type 0} → List (String Y × X) → FinMap text_cmp X
+keyed entries = from_entries (by_bytes entries)

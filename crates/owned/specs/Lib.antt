@@ -1,0 +1,4 @@
+pub mod Bytes
+pub mod InOrder
+pub mod Keyed
+pub mod Listed

@@ -1,0 +1,17 @@
+//! Texts, lists and maps that own what they hold, seen by their values.
+//!
+//! Each is a collection of std under a type of its own, so that contracts compare texts by their bytes, lists by their
+//! items and maps as finite maps without an order. Each is made from std's collection and gives it back, and takes no
+//! memory for that.
+#![tactic(auto)]
+
+mod items;
+mod map;
+mod text;
+
+pub use items::Items;
+pub use map::TextMap;
+pub use text::Text;
+
+#[cfg(test)]
+mod tests;
