@@ -1,53 +1,35 @@
--- Answers and refusals depend only on the zones that are found.
-use Rattle.std.proofs.Common.{cond, ◌≡◌, ℕ, suc, List, [], ◌∷◌, map, Option, Some, None, MatchOption, refl, sym, ap, subst, ◌∙◌}
-use Rattle.std.specs.Option.{option_or, option_map_or}
-use Rattle.std.specs.Str.{is_utf8}
-use Rattle.zone_line.specs.Values.{LineValue}
+-- Answers and refusals at the zones of a table, and over the source whose table it is.
+use Rattle.std.proofs.Common.{◌≡◌, ℕ, List, map, reverse, Option, Some, None, MatchOption, sym, ap, subst, ◌∙◌}
+use Rattle.std.specs.Option.{option_or}
+use Rattle.zone_table.specs.Resolved.{resolved_in, resolved_in-IsTableOf}
+use Rattle.zone_table.specs.Tables.{IsTableOf}
+use Rattle.zone_table.specs.declared.table.Table.{Table}
 use Rattle.zone_answers.specs.Lines.{lines_of}
-use Rattle.zone_answers.specs.Requests.{Request, name_of, request_of}
-use Rattle.zone_answers.specs.Schedules.{schedule_of}
-use Rattle.zone_answers.specs.Zones.{values_of}
-use Rattle.zone_answers.specs.Faults.{Fault, request_not_text, unknown_zone, bad_request, schedule_refusal, zone_refusal, refusal, first_refused, source_fault, fault}
+use Rattle.zone_answers.specs.Zones.{values_of, zone_in}
+use Rattle.zone_answers.specs.Faults.{Fault, first_refused, source_fault, fault}
 use Rattle.zone_answers.specs.Told.{fault_told, TellsOf}
 use Rattle.zone_answers.specs.declared.error.AnswerError.{AnswerError}
 use Rattle.zone_answers.specs.declared.error.AnswerError.TheVariants.{NoMemory}
-use Rattle.zone_answers.specs.Due.{answer_at, answer_to, answer_line, answer_lines}
-use Rattle.zone_answers.proofs.ZoneLemmas.{SameZones}
+use Rattle.zone_answers.specs.Due.{answer_line, answer_lines}
 
-same_refusal : (xs ys : List LineValue) (n : ℕ) (line : List ℕ) → SameZones xs ys → refusal xs n line ≡ refusal ys n line
-same_refusal xs ys n line same = ap (λ o. cond (is_utf8 line) o (Some (request_not_text n))) (by_form (request_of line))
-  where
-    by_form : (o : Option Request) → option_map_or (zone_refusal xs n) o (Some (bad_request n)) ≡ option_map_or (zone_refusal ys n) o (Some (bad_request n))
-    by_form None = refl
-    by_form (Some request) = ap (λ zone. option_map_or (λ z. schedule_refusal n request (schedule_of z)) zone (Some (unknown_zone n))) (same (name_of request))
+-- names find in the table of a source what they find in the source
+zones_are : (table : Table) (source : List ℕ) → IsTableOf table (values_of source) → resolved_in table ≡ zone_in source
+unfolding zone_in
+zones_are table source is = λ i name. resolved_in-IsTableOf table (reverse (values_of source)) is name i
 
-same_refused : (xs ys : List LineValue) (n : ℕ) (lines : List (List ℕ)) → SameZones xs ys → first_refused xs n lines ≡ first_refused ys n lines
-same_refused xs ys n [] same = refl
-same_refused xs ys n (line ∷ lines) same = (λ i. option_or (same_refusal xs ys n line same i) (same_refused xs ys (suc n) lines same i))
-
-same_line : (xs ys : List LineValue) (line : List ℕ) → SameZones xs ys → answer_line xs line ≡ answer_line ys line
-same_line xs ys line same = by_form (request_of line)
-  where
-    by_form : (o : Option Request) → option_map_or (answer_to xs) o [] ≡ option_map_or (answer_to ys) o []
-    by_form None = refl
-    by_form (Some request) = ap (λ zone. option_map_or (λ z. answer_at (schedule_of z) request) zone []) (same (name_of request))
-
-same_lines : (xs ys : List LineValue) (lines : List (List ℕ)) → SameZones xs ys → map (answer_line xs) lines ≡ map (answer_line ys) lines
-same_lines xs ys [] same = refl
-same_lines xs ys (line ∷ lines) same = (λ i. same_line xs ys line same i ∷ same_lines xs ys lines same i)
-
--- the answers at the zones that were read are the answers over the source
-pub lines_are : (zones : List LineValue) (source requests : List ℕ) → SameZones zones (values_of source) → map (answer_line zones) (lines_of requests) ≡ answer_lines source requests
+-- the answers at the zones of the table are the answers over the source
+pub lines_are : (table : Table) (source requests : List ℕ) → IsTableOf table (values_of source) →
+    map (answer_line (resolved_in table)) (lines_of requests) ≡ answer_lines source requests
 unfolding answer_lines
-lines_are zones source requests same = same_lines zones (values_of source) (lines_of requests) same
+lines_are table source requests is = ap (λ zones. map (answer_line zones) (lines_of requests)) (zones_are table source is)
 
--- over a source without a fault, the first fault is the first refusal at its zones
-pub fault_is : (zones : List LineValue) (source requests : List ℕ) → source_fault source ≡ None → SameZones zones (values_of source) →
-    first_refused zones 1 (lines_of requests) ≡ fault source requests
+-- over a source without a fault, the first fault is the first refusal at the zones of its table
+pub fault_is : (table : Table) (source requests : List ℕ) → source_fault source ≡ None → IsTableOf table (values_of source) →
+    first_refused (resolved_in table) 1 (lines_of requests) ≡ fault source requests
 unfolding fault
-fault_is zones source requests sound same =
-    same_refused zones (values_of source) 1 (lines_of requests) same
-    ∙ ap (λ o. option_or o (first_refused (values_of source) 1 (lines_of requests))) (sym sound)
+fault_is table source requests sound is =
+    ap (λ zones. first_refused zones 1 (lines_of requests)) (zones_are table source is)
+    ∙ ap (λ o. option_or o (first_refused (zone_in source) 1 (lines_of requests))) (sym sound)
 
 -- the fault of a source comes first
 pub fault_first : (source requests : List ℕ) (error : AnswerError) → TellsOf (source_fault source) error → TellsOf (fault source requests) error
@@ -55,9 +37,9 @@ unfolding fault
 fault_first source requests error h = by_told (fault_told error) h
   where
     by_told : (told : Option Fault) → MatchOption told (error ≡ NoMemory) (λ f. source_fault source ≡ Some f) →
-        MatchOption told (error ≡ NoMemory) (λ f. option_or (source_fault source) (first_refused (values_of source) 1 (lines_of requests)) ≡ Some f)
+        MatchOption told (error ≡ NoMemory) (λ f. option_or (source_fault source) (first_refused (zone_in source) 1 (lines_of requests)) ≡ Some f)
     by_told None h = h
-    by_told (Some f) h = ap (λ o. option_or o (first_refused (values_of source) 1 (lines_of requests))) h
+    by_told (Some f) h = ap (λ o. option_or o (first_refused (zone_in source) 1 (lines_of requests))) h
 
 -- an error tells of what is equal to what it tells of
 pub told_along : (error : AnswerError) (first second : Option Fault) → first ≡ second → TellsOf first error → TellsOf second error

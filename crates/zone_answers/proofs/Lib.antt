@@ -1,10 +1,8 @@
 pub mod LineLemmas
-pub mod Loops
-pub mod MemoryLemmas
 pub mod RequestLemmas
 pub mod AnswerLemmas
 pub mod FaultLemmas
-pub mod ZoneLemmas
+pub mod JoinLemmas
 pub mod DateLemmas
 pub mod AnsweringLemmas
 pub mod ResponseLemmas

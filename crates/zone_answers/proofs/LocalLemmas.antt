@@ -12,7 +12,7 @@ use Rattle.civil_base.specs.Layout.{local_text, zoned_text}
 use Rattle.civil_base.specs.Ranges.{IsInYears}
 use Rattle.zone_answers.specs.Due.{with_bars, local_line}
 use Rattle.zone_answers.specs.LocalTimes.{first_time, end_of_times, is_in_years, is_text_of, nth_time, time_with, local_time_in}
-use Rattle.zone_answers.specs.Schedules.{schedule_of, total_at, offsets_below, offsets, instants, is_offset}
+use Rattle.zone_answers.specs.Schedules.{fixed, total_at, offsets_below, offsets, instants, is_offset}
 use Rattle.zone_answers.proofs.DateLemmas.{years_pass, years_from}
 
 -- the one local time with a text
@@ -90,14 +90,14 @@ one_left o (suc n) low high = by_head (int_eq o (pos n -ℤ pos 93599)) refl (on
         more (grind (arith, ints, is_not))
 
 -- a zone of one offset has one instant for each local time
-fixed_instants : (o time : ℤ) → is_offset o ≡ true → instants (total_at (schedule_of o)) time ≡ (time -ℤ pos 1000000000 *ℤ o) ∷ []
+fixed_instants : (o time : ℤ) → is_offset o ≡ true → instants (total_at (fixed o)) time ≡ (time -ℤ pos 1000000000 *ℤ o) ∷ []
 unfolding instants total_at offsets
 fixed_instants o time is =
     let small : unsigned_abs o ≤ 93599 = leb-true _ _ is in
     ap (map (λ p. time -ℤ pos 1000000000 *ℤ p)) (one_left o 187199 (omega (arith, signed, small)) (omega (arith, signed, small)))
 
 -- a local time in a zone of one offset is shown at that offset
-pub fixed_line : (o time t p : ℤ) → is_offset o ≡ true → t ≡ time -ℤ pos 1000000000 *ℤ o → p ≡ o → zoned_text t p ≡ local_line (schedule_of o) time
+pub fixed_line : (o time t p : ℤ) → is_offset o ≡ true → t ≡ time -ℤ pos 1000000000 *ℤ o → p ≡ o → zoned_text t p ≡ local_line (fixed o) time
 unfolding total_at
 fixed_line o time t p is there same =
     (λ i. zoned_text (there i) (same i)) ∙ ap (λ ts. with_bars (map (λ t. zoned_text t o) ts)) (sym (fixed_instants o time is))

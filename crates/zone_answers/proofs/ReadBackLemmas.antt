@@ -8,13 +8,13 @@ use Rattle.std.proofs.lemmas.Bool.{and_parts, leb-true}
 use Rattle.std.proofs.lemmas.Option.{none-some}
 use Rattle.calendar.proofs.SignLemmas.{signed}
 use Rattle.civil_base.specs.Ranges.{IsOffset}
-use Rattle.zone_line.specs.Values.{LineValue}
+use Rattle.zone_table.specs.declared.zone.ZoneInfo.{ZoneInfo}
 use Rattle.zone_answers.specs.Lines.{lines_of}
 use Rattle.zone_answers.specs.LocalTimes.{is_in_years, is_text_of, time_with, local_time_in}
 use Rattle.zone_answers.specs.Requests.{Request, at, local, name_of, is_space, nanoseconds_in, request_of}
-use Rattle.zone_answers.specs.Schedules.{schedule_of, total_at, is_offset}
-use Rattle.zone_answers.specs.Zones.{values_of, zone_of}
-use Rattle.zone_answers.specs.Faults.{Fault, request_not_text, bad_request, unknown_zone, offset_range, range, has_dates, schedule_refusal, zone_refusal, refusal, first_refused, source_fault, fault, IsValid}
+use Rattle.zone_answers.specs.Schedules.{fixed, schedule_of, total_of, total_at, is_offset}
+use Rattle.zone_answers.specs.Zones.{zone_in}
+use Rattle.zone_answers.specs.Faults.{Fault, request_not_text, bad_request, unknown_zone, offset_range, range, has_dates, schedule_refusal, zone_refusal, request_refusal, first_refused, source_fault, fault, IsValid}
 use Rattle.zone_answers.specs.Due.{answer_at, answer_to, answer_line, answer_lines}
 use Rattle.zone_answers.specs.ReadBack.{IsReadBack}
 use Rattle.zone_answers.proofs.DateLemmas.{years_from}
@@ -69,11 +69,11 @@ in_range o is =
     record { first = omega (arith, signed, small); last = omega (arith, signed, small) }
 
 -- the answer to a request that a zone of this offset doesn't refuse
-at_zone : (n : ℕ) (request : Request) (o : ℤ) → HasYears (Some request) → schedule_refusal n request (schedule_of o) ≡ None → IsReadBack (answer_at (schedule_of o) request)
+at_zone : (n : ℕ) (request : Request) (o : ℤ) → HasYears (Some request) → schedule_refusal n request (fixed o) ≡ None → IsReadBack (answer_at (fixed o) request)
 unfolding HasYears total_at
 at_zone n request o years accepted = by_range (is_offset o) refl accepted
   where
-    by_dates : (request : Request) (b : Bool) → is_offset o ≡ true → has_dates (schedule_of o) request ≡ b → HasYears (Some request) → cond b None (Some (range n)) ≡ None → IsReadBack (answer_at (schedule_of o) request)
+    by_dates : (request : Request) (b : Bool) → is_offset o ≡ true → has_dates (fixed o) request ≡ b → HasYears (Some request) → cond b None (Some (range n)) ≡ None → IsReadBack (answer_at (fixed o) request)
     by_dates request false is dates years refused = absurd (none-some _ (sym refused))
     by_dates (at name instant) true is dates years accepted_is =
         let both = and_parts (is_in_years instant) _ dates in
@@ -88,23 +88,28 @@ at_zone n request o years accepted = by_range (is_offset o) refl accepted
           text_is = sym (fixed_line o time (time -ℤ pos 1000000000 *ℤ o) o is refl refl);
         }
 
-    by_range : (b : Bool) → is_offset o ≡ b → cond (b && true) (cond (has_dates (schedule_of o) request) None (Some (range n))) (Some (offset_range n)) ≡ None → IsReadBack (answer_at (schedule_of o) request)
+    by_range : (b : Bool) → is_offset o ≡ b → cond (b && true) (cond (has_dates (fixed o) request) None (Some (range n))) (Some (offset_range n)) ≡ None → IsReadBack (answer_at (fixed o) request)
     by_range false is refused = absurd (none-some _ (sym refused))
-    by_range true is accepted_is = by_dates request (has_dates (schedule_of o) request) is refl years accepted_is
+    by_range true is accepted_is = by_dates request (has_dates (fixed o) request) is refl years accepted_is
 
-line_back : (values : List LineValue) (n : ℕ) (line : List ℕ) → refusal values n line ≡ None → IsReadBack (answer_line values line)
-line_back values n line accepted = by_text (is_utf8 line) accepted
+-- of a zone with these lines
+at_lines : (n : ℕ) (request : Request) (zone : List ZoneInfo) → HasYears (Some request) → schedule_refusal n request (schedule_of zone) ≡ None → IsReadBack (answer_at (schedule_of zone) request)
+at_lines n request [] years accepted = at_zone n request (pos 0) years accepted
+at_lines n request (line ∷ more) years accepted = at_zone n request (total_of line) years accepted
+
+line_back : (zones : List ℕ → Option (List ZoneInfo)) (n : ℕ) (line : List ℕ) → request_refusal zones n line ≡ None → IsReadBack (answer_line zones line)
+line_back zones n line accepted = by_text (is_utf8 line) accepted
   where
-    by_zone : (request : Request) (zone : Option ℤ) → HasYears (Some request) → option_map_or (λ z. schedule_refusal n request (schedule_of z)) zone (Some (unknown_zone n)) ≡ None →
+    by_zone : (request : Request) (zone : Option (List ZoneInfo)) → HasYears (Some request) → option_map_or (λ z. schedule_refusal n request (schedule_of z)) zone (Some (unknown_zone n)) ≡ None →
         IsReadBack (option_map_or (λ z. answer_at (schedule_of z) request) zone [])
     by_zone request None years refused = absurd (none-some _ (sym refused))
-    by_zone request (Some o) years accepted_is = at_zone n request o years accepted_is
+    by_zone request (Some zone) years accepted_is = at_lines n request zone years accepted_is
 
-    by_form : (o : Option Request) → HasYears o → option_map_or (zone_refusal values n) o (Some (bad_request n)) ≡ None → IsReadBack (option_map_or (answer_to values) o [])
+    by_form : (o : Option Request) → HasYears o → option_map_or (zone_refusal zones n) o (Some (bad_request n)) ≡ None → IsReadBack (option_map_or (answer_to zones) o [])
     by_form None years refused = absurd (none-some _ (sym refused))
-    by_form (Some request) years accepted_is = by_zone request (zone_of values (name_of request)) years accepted_is
+    by_form (Some request) years accepted_is = by_zone request (zones (name_of request)) years accepted_is
 
-    by_text : (b : Bool) → cond b (option_map_or (zone_refusal values n) (request_of line) (Some (bad_request n))) (Some (request_not_text n)) ≡ None → IsReadBack (answer_line values line)
+    by_text : (b : Bool) → cond b (option_map_or (zone_refusal zones n) (request_of line) (Some (bad_request n))) (Some (request_not_text n)) ≡ None → IsReadBack (answer_line zones line)
     by_text false refused = absurd (none-some _ (sym refused))
     by_text true accepted_is = by_form (request_of line) (request_years line) accepted_is
 
@@ -112,12 +117,12 @@ both_none : (o p : Option Fault) → option_or o p ≡ None → (o ≡ None) × 
 both_none None p h = (refl, h)
 both_none (Some x) p h = absurd (none-some _ (sym h))
 
-all_back : (values : List LineValue) (n : ℕ) (lines : List (List ℕ)) → first_refused values n lines ≡ None → All IsReadBack (map (answer_line values) lines)
-all_back values n [] h k d within = absurd (omega arith)
-all_back values n (line ∷ lines) h zero d within = line_back values n line (both_none (refusal values n line) _ h).0
-all_back values n (line ∷ lines) h (suc k) d within = all_back values (suc n) lines (both_none (refusal values n line) _ h).1 k d (omega arith)
+all_back : (zones : List ℕ → Option (List ZoneInfo)) (n : ℕ) (lines : List (List ℕ)) → first_refused zones n lines ≡ None → All IsReadBack (map (answer_line zones) lines)
+all_back zones n [] h k d within = absurd (omega arith)
+all_back zones n (line ∷ lines) h zero d within = line_back zones n line (both_none (request_refusal zones n line) _ h).0
+all_back zones n (line ∷ lines) h (suc k) d within = all_back zones (suc n) lines (both_none (request_refusal zones n line) _ h).1 k d (omega arith)
 
 -- each line of the answers over valid input
 pub lines_back : (source requests : List ℕ) → IsValid source requests → All IsReadBack (answer_lines source requests)
 unfolding fault answer_lines
-lines_back source requests valid = all_back (values_of source) 1 (lines_of requests) (both_none (source_fault source) _ valid).1
+lines_back source requests valid = all_back (zone_in source) 1 (lines_of requests) (both_none (source_fault source) _ valid).1

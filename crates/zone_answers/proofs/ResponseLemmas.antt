@@ -6,7 +6,7 @@ use Rattle.zone_answers.specs.Due.{answer_lines, due_bytes}
 use Rattle.zone_answers.specs.Faults.{IsValid, fault}
 use Rattle.zone_answers.specs.Faults as faults
 use Rattle.zone_answers.specs.FaultLines.{fault_line}
-use Rattle.zone_answers.specs.Outside.{GrewByPrefix}
+use Rattle.zone_outside.specs.Outside.{GrewByPrefix}
 use Rattle.zone_answers.specs.Told.{fault_told, TellsOf}
 use Rattle.zone_answers.specs.declared.error.AnswerError.{AnswerError}
 use Rattle.zone_answers.specs.declared.error.AnswerError.TheVariants as errors

@@ -12,7 +12,9 @@ use Rattle.zone_line.specs.Faults.{
   invalid_time_spec_and_type,
   non_wall_clock_in_time_spec,
 }
-use Rattle.zone_answers.specs.Faults.{Fault, source_not_text, bad_line, not_built, request_not_text, bad_request, unknown_zone, offset_range, range}
+use Rattle.zone_answers.specs.declared.error.BuildKind.{BuildKind}
+use Rattle.zone_answers.specs.declared.error.BuildKind.TheVariants.{SurpriseContinuationLine, UnknownRuleset, DuplicateLink, DuplicateZone}
+use Rattle.zone_answers.specs.Faults.{Fault, source_not_text, bad_line, bad_join, not_built, request_not_text, bad_request, unknown_zone, offset_range, range}
 
 abbrev pub line_with : List ℕ → ℕ → List ℕ → List ℕ
 line_with side n cause = ((side ++ decimal n) ++ codes ": ") ++ cause
@@ -29,9 +31,17 @@ line_cause (invalid_day_spec text) = codes "line InvalidDaySpec"
 line_cause (invalid_time_spec_and_type text) = codes "line InvalidTimeSpecAndType"
 line_cause (non_wall_clock_in_time_spec text) = codes "line NonWallClockInTimeSpec"
 
+-- the name of a refusal to join
+abbrev pub build_cause : BuildKind → List ℕ
+build_cause SurpriseContinuationLine = codes "build SurpriseContinuationLine"
+build_cause UnknownRuleset = codes "build UnknownRuleset"
+build_cause DuplicateLink = codes "build DuplicateLink"
+build_cause DuplicateZone = codes "build DuplicateZone"
+
 abbrev pub fault_line : Fault → List ℕ
 fault_line (source_not_text n) = line_with (codes "source ") n (codes "not text")
 fault_line (bad_line n refused) = line_with (codes "source ") n (line_cause refused)
+fault_line (bad_join n kind) = line_with (codes "source ") n (build_cause kind)
 fault_line (not_built n) = line_with (codes "source ") n (codes "not built")
 fault_line (request_not_text n) = line_with (codes "request ") n (codes "not text")
 fault_line (bad_request n) = line_with (codes "request ") n (codes "request")

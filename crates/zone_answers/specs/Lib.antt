@@ -1,7 +1,5 @@
 pub mod Lines
 pub mod LinesLeft
-pub mod Memory
-pub mod Outside
 pub mod LocalTimes
 pub mod Requests
 pub mod Asked
@@ -11,8 +9,8 @@ pub mod AnswerLines
 pub mod Faults
 pub mod FaultLines
 pub mod Told
-pub mod ZonesShown
 pub mod Due
 pub mod Words
 pub mod Responses
 pub mod ReadBack
+pub mod Joining

@@ -1,16 +1,34 @@
 -- The schedule of a zone, and the offset that it has in force.
-use Rattle.std.specs.Prelude.{ℕ, zero, suc, Bool, ◌&&◌, List, [], ◌∷◌, map, filter, ℤ, pos, ◌-ℤ◌, ◌*ℤ◌, int_le, nat_le, nat_abs}
+use Rattle.std.specs.Prelude.{ℕ, zero, suc, Bool, ◌&&◌, List, [], ◌∷◌, map, filter, ℤ, pos, ◌+ℤ◌, ◌-ℤ◌, ◌*ℤ◌, int_le, nat_le, nat_abs}
 use Rattle.std.specs.List.{list_all}
 use Rattle.std.specs.Ordering.{int_eq}
+use Rattle.zone_table.specs.declared.zone.Saving.{Saving}
+use Rattle.zone_table.specs.declared.zone.Saving.TheVariants.{NoSaving, OneOff, Multiple}
+use Rattle.zone_table.specs.declared.zone.ZoneInfo.{ZoneInfo}
 
 -- the total offset before the first shift, and the shifts: each a second since 1970-01-01 00:00:00 UTC and the total from then on
 pub record Schedule : Type 0 where
   pub first : ℤ
   pub shifts : List (ℤ × ℤ)
 
--- a zone of one line has its offset for good
-abbrev pub schedule_of : ℤ → Schedule
-schedule_of offset = record { first = offset; shifts = [] }
+-- the same total for good
+abbrev pub fixed : ℤ → Schedule
+fixed total = record { first = total; shifts = [] }
+
+-- the seconds that are added to a line's offset as long as it holds; a ruleset's come with rules
+abbrev pub saved_seconds : Saving → ℤ
+saved_seconds NoSaving = pos 0
+saved_seconds (OneOff seconds) = seconds
+saved_seconds (Multiple name) = pos 0
+
+-- a line's offset with what is added to it
+abbrev pub total_of : ZoneInfo → ℤ
+total_of line = line.offset +ℤ saved_seconds line.saving
+
+-- the schedule of a zone with these lines: a zone of one line has its total for good
+abbrev pub schedule_of : List ZoneInfo → Schedule
+schedule_of [] = fixed (pos 0)
+schedule_of (line ∷ more) = fixed (total_of line)
 
 abbrev pub last_total : ℤ → List (ℤ × ℤ) → ℤ
 last_total total [] = total

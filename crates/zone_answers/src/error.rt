@@ -14,6 +14,19 @@ pub enum Side {
     Requests,
 }
 
+/// Why a source line does not join those before it.
+#[derive(Clone, Copy, Debug, PartialEq, Eq)]
+pub enum BuildKind {
+    /// It is a continuation with no zone to belong to.
+    SurpriseContinuationLine,
+    /// It is a Zone line under a ruleset that no earlier line defines.
+    UnknownRuleset,
+    /// It is a link with the new name of an earlier link.
+    DuplicateLink,
+    /// It is a Zone line with the name of an earlier zone.
+    DuplicateZone,
+}
+
 /// The first fault of a source and its requests. Lines are numbered from 1.
 #[derive(Debug, Drop, PartialEq)]
 pub enum AnswerError {
@@ -21,8 +34,9 @@ pub enum AnswerError {
     NotText(Side, usize),
     /// The source line is refused for this; never for want of memory.
     Line(usize, zone_line::Error),
-    /// The source line is a rule, a link or a continuation, names a ruleset, or has the name of an earlier zone: a form
-    /// that isn't built yet.
+    /// The source line reads, and does not join those before it.
+    Build(usize, BuildKind),
+    /// The source line is a continuation, or a Zone line under a ruleset: a form that isn't built yet.
     NotBuilt(usize),
     /// The request is in no form.
     Request(usize),
@@ -50,7 +64,8 @@ impl From<AllocError> for AnswerError {
 impl AnswerError {
     ghost use Rattle.std.specs.Prelude.{◌≡◌, is_some, is_none, MatchOption, Some};
     ghost use Rattle.zone_line.specs.Faults.{fault_of};
-    ghost use Rattle.zone_answers.specs.Faults.{bad_line};
+    ghost use Rattle.zone_table.specs.Built.{refusal_of};
+    ghost use Rattle.zone_answers.specs.Faults.{bad_line, bad_join, kind_of};
     ghost use Rattle.zone_answers.specs.Told.{fault_told};
     ghost use Rattle.zone_answers.specs.declared.error.AnswerError.TheVariants.{NoMemory};
 
@@ -64,12 +79,27 @@ impl AnswerError {
         }
     }
 
+    /// Why the nth source line does not join those before it, or want of memory.
+    pub(crate) fn of_join(number: usize, error: &zone_table::Error) -> AnswerError
+        ensures { MatchOption (refusal_of error.now) (result ≡ NoMemory) (λ refused. fault_told result ≡ Some (bad_join number (kind_of refused))) }
+    {
+        let kind = match error {
+            zone_table::Error::SurpriseContinuationLine => BuildKind::SurpriseContinuationLine,
+            zone_table::Error::UnknownRuleset(_) => BuildKind::UnknownRuleset,
+            zone_table::Error::DuplicateLink(_) => BuildKind::DuplicateLink,
+            zone_table::Error::DuplicateZone => BuildKind::DuplicateZone,
+            zone_table::Error::NoMemory => return AnswerError::NoMemory,
+        };
+        AnswerError::Build(number, kind)
+    }
+
     /// Whether it is a fault of a text, and not want of memory.
     pub fn is_fault(&self) -> bool
         ensures { result ≡ is_some (fault_told self.now) }
     {
         match self {
             AnswerError::NotText(_, _)
+            | AnswerError::Build(_, _)
             | AnswerError::NotBuilt(_)
             | AnswerError::Request(_)
             | AnswerError::UnknownZone(_)

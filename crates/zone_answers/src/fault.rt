@@ -1,10 +1,10 @@
 //! The line that tells a fault.
 ghost use Rattle.std.specs.Prelude.{◌≡◌, ◌+◌, ◌≤◌, [], ◌∷◌, ◌++◌, length, take, IsSome, IfSome};
-ghost use Rattle.zone_answers.specs.FaultLines.{fault_line, line_cause, line_with};
+ghost use Rattle.zone_answers.specs.FaultLines.{fault_line, build_cause, line_cause, line_with};
 ghost use Rattle.zone_line.specs.Faults.{fault_of};
 ghost use Rattle.zone_answers.specs.Told.{fault_told};
 
-use crate::error::{AnswerError, Side};
+use crate::error::{AnswerError, BuildKind, Side};
 use arrayvec::ArrayString;
 use itoa::Buffer;
 
@@ -47,12 +47,26 @@ fn parts(fault: &AnswerError) -> (&'static str, usize, &'static str)
         AnswerError::NotText(Side::Source, number) => ("source ", *number, "not text"),
         AnswerError::NotText(Side::Requests, number) => ("request ", *number, "not text"),
         AnswerError::Line(number, error) => ("source ", *number, line_cause(error)),
+        AnswerError::Build(number, kind) => ("source ", *number, build_cause(*kind)),
         AnswerError::NotBuilt(number) => ("source ", *number, "not built"),
         AnswerError::Request(number) => ("request ", *number, "request"),
         AnswerError::UnknownZone(number) => ("request ", *number, "unknown zone"),
         AnswerError::OffsetRange(number) => ("request ", *number, "offset range"),
         AnswerError::Range(number) => ("request ", *number, "range"),
         AnswerError::NoMemory => unreachable!(),
+    }
+}
+
+/// The name of a refusal to join.
+fn build_cause(kind: BuildKind) -> &'static str
+    ensures cause { build_cause kind ≡ result.now }
+    ensures short { length result.now ≤ 33 }
+{
+    match kind {
+        BuildKind::SurpriseContinuationLine => "build SurpriseContinuationLine",
+        BuildKind::UnknownRuleset => "build UnknownRuleset",
+        BuildKind::DuplicateLink => "build DuplicateLink",
+        BuildKind::DuplicateZone => "build DuplicateZone",
     }
 }
 

@@ -1,4 +1,4 @@
-//! Answers requests over the source text of the tz database: the outside as traits, and the top call.
+//! Answers requests over the source text of the tz database: the top call, over the outside as traits.
 #![tactic(auto)]
 
 mod answer_lines;
@@ -6,29 +6,26 @@ mod answering;
 mod error;
 mod fault;
 pub mod lines;
-pub mod memory;
-pub mod outside;
 mod request;
 mod respond;
 mod running;
+mod schedule;
 mod status;
-mod streams;
-mod sure;
+mod table;
 mod text;
-mod whole;
-mod zones;
 
 pub use answer_lines::Answers;
 pub use answering::answers;
-pub use error::{AnswerError, Side};
+pub use error::{AnswerError, BuildKind, Side};
 pub use fault::write_fault;
 pub use lines::Lines;
-pub use memory::{MemShelf, MemSink, MemSource};
-pub use outside::{Failed, Shelf, Sink, Source};
-pub use running::run;
+pub use running::{run, run_surely};
 pub use status::Status;
-pub use streams::{FileShelf, StdSink, StdSource};
-pub use sure::{SureShelf, SureSink, SureSource, run_surely};
+pub use table::read_table;
+pub use zone_outside::{
+    Failed, FileShelf, MemShelf, MemSink, MemSource, Shelf, Sink, Source, StdSink, StdSource,
+    SureShelf, SureSink, SureSource,
+};
 
 #[cfg(test)]
 mod tests;

@@ -6,10 +6,9 @@ ghost use Rattle.zone_answers.specs.Told.{fault_told};
 use crate::answering::answers;
 use crate::error::AnswerError;
 use crate::fault::write_fault;
-use crate::outside::Sink;
-use crate::whole::{LIMIT, write_all};
 use std::alloc::Global;
 use zone_line::LineParser;
+use zone_outside::{LIMIT, Sink, write_all};
 
 /// What was written.
 #[derive(Clone, Copy, Debug, PartialEq, Eq)]

@@ -1,17 +1,18 @@
 //! The top call.
 ghost use Rattle.std.specs.Prelude.{◌≡◌, ◌≢◌, ◌⊎◌, ◌↔◌, ◌+◌, ◌<◌, ◌≤◌, ℕ, ◌++◌, [], ◌∷◌, List, length, IfSome, IsNone, All, None, Some};
-ghost use Rattle.zone_answers.specs.Outside.{Rose, TooMuch, GrewByPrefix};
+ghost use Rattle.zone_outside.specs.Outside.{Rose, TooMuch, GrewByPrefix};
 ghost use Rattle.zone_answers.specs.Due.{answer_lines, due_bytes};
 ghost use Rattle.zone_answers.specs.Faults.{IsValid, fault};
 ghost use Rattle.zone_answers.specs.ReadBack.{IsReadBack};
 ghost use Rattle.zone_answers.specs.Words.{only_word, EndsBy};
 
-use crate::outside::{Shelf, Sink, Source};
 use crate::respond::{Answered, answer_all};
 use crate::status::Status;
-use crate::whole::{LIMIT, ReadEnd, fetch_all, read_all};
 use std::alloc::Global;
 use zone_line::LineParser;
+use zone_outside::{
+    LIMIT, ReadEnd, Shelf, Sink, Source, SureShelf, SureSink, SureSource, fetch_all, read_all,
+};
 
 /// Answers the requests of the input over the named text of the shelf, and writes the answers, or the first fault, to
 /// the output.
@@ -86,4 +87,19 @@ pub fn run<H: Shelf, I: Source, O: Sink>(
         Answered::Failed => Status::Write,
         Answered::NoMemory => Status::NoMemory,
     }
+}
+
+/// A run over objects that never fail ends neither for a failed read nor for a failed write.
+pub fn run_surely(
+    alloc: Global,
+    parser: &LineParser,
+    words: &[String],
+    shelf: &mut SureShelf,
+    input: &mut SureSource,
+    output: &mut SureSink,
+) -> Status
+    ensures read { result ≢ Status.Read }
+    ensures write { result ≢ Status.Write }
+{
+    run(alloc, parser, words, shelf, input, output)
 }

@@ -1,20 +1,69 @@
-//! Whole runs over objects in memory, each fault line, and the adapters of the real file and streams.
+//! Whole runs over objects in memory, and each fault line.
 ghost use Rattle.std.specs.Prelude.{◌<◌};
 
 use crate::{
-    AnswerError, FileShelf, MemShelf, MemSink, MemSource, Shelf, Sink, Source, Status, StdSink,
-    StdSource, SureShelf, SureSink, SureSource, answers, run, run_surely, write_fault,
+    AnswerError, MemShelf, MemSink, MemSource, Status, SureShelf, SureSink, SureSource, answers,
+    read_table, run, run_surely, write_fault,
 };
-use std::alloc::Global;
+use std::alloc::{AllocError, Global};
 use std::process::Abort;
 use std::test::Fail;
 use zone_line::LineParser;
 
 const FIXED: &str = "Zone Test/Fixed 1:30 - TST\n";
 
-const FAR: &str = "Zone Far 26:00 - F\n";
+/// A source, its requests and what is written, with bars between them and `;` for each line feed. A row without a
+/// source has that of the row above it.
+const RUNS: &str = "\
+||
+Zone Test/Fixed 1:30 - TST;|at Test/Fixed 0;|1970-01-01 01:30:00.000000000 +01:30:00;
+|at Test/Fixed -1|1970-01-01 01:29:59.999999999 +01:30:00;
+|at Test/Fixed 0;at Test/Fixed -0;|1970-01-01 01:30:00.000000000 +01:30:00;1970-01-01 01:30:00.000000000 +01:30:00;
+|local Test/Fixed 1970-01-01 01:30:00.000000000;|1970-01-01 01:30:00.000000000 +01:30:00;
+|local Test/Fixed -9999-01-01 00:00:00.000000000;|-9999-01-01 00:00:00.000000000 +01:30:00;
+Zone Test/Fixed 1:30 - TST\r;|at Test/Fixed 0\r;|1970-01-01 01:30:00.000000000 +01:30:00;
+Zone U 0:00 - U;|at U -377705116800000000000;|-9999-01-01 00:00:00.000000000 +00:00:00;
+Zone O 1:00 1:00 O;|at O 0;|1970-01-01 02:00:00.000000000 +02:00:00;
+Zone E 0:00 - E 2000 Jan 1 0:00u # ends;|at E 0;|1970-01-01 00:00:00.000000000 +00:00:00;
+Rule US 2007 max - Mar Sun>=8 2:00 1:00 D;||
+Zone A 1:00 - A;Link A B;Link B C;|at B 0;|1970-01-01 01:00:00.000000000 +01:00:00;
+";
 
-const UTC: &str = "Zone U 0:00 - U\n";
+/// The same, where what is written is the line of a fault.
+const FAULTS: &str = "\
+Zone A 0:00 - A 2000; 1:00 - B;||source 2: not built;
+Rule R 2000 only - Jan 1 0:00 0 -;Zone A 0:00 R A;||source 2: not built;
+ 1:00 - B;||source 1: build SurpriseContinuationLine;
+Zone A 0:00 - A;Zone A 0:00 X A;||source 2: build UnknownRuleset;
+;Zone A 0:00 - A;Zone A 1:00 - B;|what|source 3: build DuplicateZone;
+Link a b;Link c b;||source 2: build DuplicateLink;
+Zone A 1:00 - A;Link A B;Link B C;|at C 0;|request 1: unknown zone;
+Rule EU 1977 1980 HEY Apr Sun>=1 1:00u 1:00 S;||source 1: line TypeColumnContainedNonHyphen;
+link Australia/Sydney Australia/ACT;||source 1: line InvalidLineType;
+Zone A 0:00 - X Jan;||source 1: line InvalidLineType;
+Rule R 2000 only - Jan 32 0:00 0 -;||source 1: line InvalidDaySpec;
+Rule R 2000 only - Jan Xyz>=40 0:00 0 -;||source 1: line FailedWeekdayParse;
+Rule EU 1977 1980 - Febtober Sun>=1 1:00u 1:00 S;||source 1: line FailedMonthParse;
+Zone A 0:00 - A 99999999999999999999;||source 1: line FailedYearParse;
+Zone A 200 - A;||source 1: line InvalidTimeSpecAndType;
+Zone A 1:00u - A;||source 1: line NonWallClockInTimeSpec;
+Zone A 0:00 1 A;||source 1: line CouldNotParseSaving;
+Zone Test/Fixed 1:30 - TST;|at Test/Fixed 0;what;|request 2: request;
+|at Test/Fixed 0;;|request 2: request;
+|at  Test/Fixed 0;|request 1: request;
+|at Test/Fixed 0 ;|request 1: request;
+|at Test/Fixed +0;|request 1: request;
+|at Test/Fixed -;|request 1: request;
+|At Test/Fixed 0;|request 1: request;
+|at Test/Fixed 9999999999999999999999999999999;|request 1: request;
+|local Test/Fixed 1970-02-30 00:00:00.000000000;|request 1: request;
+|at Test/Other 0;|request 1: unknown zone;
+|at Test/Fixed 253402300799999999999;|request 1: range;
+|at Test/Fixed 999999999999999999999999999999;|request 1: range;
+Zone Far 26:00 - F;|at Far 0;|request 1: offset range;
+|local Far -0000-01-01 00:00:00.000000000;|request 1: request;
+Zone U 0:00 - U;|at U -377705116800000000001;|request 1: range;
+";
 
 /// The calls of each object that fail.
 #[derive(Clone, Copy)]
@@ -41,10 +90,19 @@ fn parser(alloc: Global) -> Result<LineParser, Fail> {
     Ok(LineParser::new(alloc).ok().ok_or("not built")?)
 }
 
+/// The words between spaces.
+fn words_of(alloc: Global, text: &str) -> Result<Vec<String>, AllocError> {
+    let mut words = Vec::new(alloc);
+    for word in text.split_whitespace() {
+        words.push(String::from_str(alloc, word)?)?;
+    }
+    Ok(words)
+}
+
 /// Runs over a shelf that has the source as `source`, all objects moving at most a step at a time.
 fn run_over(
     alloc: Global,
-    words: &[&str],
+    words: &str,
     source: &[u8],
     requests: &[u8],
     step: usize,
@@ -53,256 +111,114 @@ fn run_over(
     requires { 0 < step }
 {
     let parser = parser(alloc)?;
-    let mut names = Vec::new(alloc);
-    for word in words {
-        names.push(String::from_str(alloc, word)?)?;
-    }
+    let words = words_of(alloc, words)?;
     let mut files = Vec::new(alloc);
     files.push((String::from_str(alloc, "source")?, source.to_vec(alloc)?))?;
     let mut shelf = MemShelf::new(files, step, failing.shelf.to_vec(alloc)?);
     let mut input = MemSource::new(requests.to_vec(alloc)?, step, failing.input.to_vec(alloc)?);
     let mut sink = MemSink::new(alloc, 200, step, failing.output.to_vec(alloc)?)?;
-    let status = run(alloc, &parser, &names, &mut shelf, &mut input, &mut sink);
+    let status = run(alloc, &parser, &words, &mut shelf, &mut input, &mut sink);
     Ok(Outcome { status, sink })
 }
 
-/// Asserts what a run over this source and these requests writes.
+/// Asserts how a run ends and what it writes, where no call fails.
 fn expect(
     rt: &impl Abort,
     alloc: Global,
-    source: &str,
-    requests: &str,
-    output: &str,
+    texts: (&[u8], &[u8]),
+    code: u8,
+    output: &[u8],
 ) -> Result<(), Fail> {
-    let outcome = run_over(
-        alloc,
-        &["source"],
-        source.as_bytes(),
-        requests.as_bytes(),
-        7,
-        &NONE_FAILING,
-    )?;
-    assert_eq!(rt; outcome.sink.taken(), output.as_bytes());
-    let is_fault = output.starts_with("source ") || output.starts_with("request ");
-    assert_eq!(rt; outcome.status.code(), if is_fault { 2 } else { 0 });
+    let outcome = run_over(alloc, "source", texts.0, texts.1, 7, &NONE_FAILING)?;
+    assert_eq!(rt; outcome.sink.taken(), output);
+    assert_eq!(rt; outcome.status.code(), code);
+    Ok(())
+}
+
+/// Asserts that a run over one zone and one request ends so, with nothing written.
+fn expect_silent(
+    rt: &impl Abort,
+    alloc: Global,
+    words: &str,
+    failing: &Failing<'_>,
+    code: u8,
+) -> Result<(), Fail> {
+    let requests = b"at Test/Fixed 0";
+    let outcome = run_over(alloc, words, FIXED.as_bytes(), requests, 7, failing)?;
+    assert_eq!(rt; outcome.status.code(), code);
+    assert!(rt; outcome.sink.taken().is_empty());
+    Ok(())
+}
+
+/// The bytes of a field of a table.
+fn field_of(alloc: Global, field: Option<&str>) -> Result<Vec<u8>, Fail> {
+    let mut bytes = field.ok_or("no field")?.as_bytes().to_vec(alloc)?;
+    for byte in &mut bytes {
+        if *byte == b';' {
+            *byte = b'\n';
+        }
+    }
+    Ok(bytes)
+}
+
+/// Asserts each row of a table.
+fn expect_all(rt: &impl Abort, alloc: Global, table: &str, code: u8) -> Result<(), Fail> {
+    let mut source = Vec::new(alloc);
+    for row in table.lines() {
+        let mut fields = row.split('|');
+        let own = field_of(alloc, fields.next())?;
+        if !own.is_empty() {
+            source = own;
+        }
+        let requests = field_of(alloc, fields.next())?;
+        let output = field_of(alloc, fields.next())?;
+        expect(rt, alloc, (&source, &requests), code, &output)?;
+    }
     Ok(())
 }
 
 #[test]
 fn runs(rt: HostRuntime) -> Result<(), Fail> {
-    let alloc = rt.alloc();
-    let rows = [
-        ("", "", ""),
-        (
-            FIXED,
-            "at Test/Fixed 0\n",
-            "1970-01-01 01:30:00.000000000 +01:30:00\n",
-        ),
-        (
-            FIXED,
-            "at Test/Fixed -1",
-            "1970-01-01 01:29:59.999999999 +01:30:00\n",
-        ),
-        (
-            "Zone Test/Fixed 1:30 - TST\r\n",
-            "at Test/Fixed 0\r\n",
-            "1970-01-01 01:30:00.000000000 +01:30:00\n",
-        ),
-        (
-            UTC,
-            "at U -377705116800000000000\n",
-            "-9999-01-01 00:00:00.000000000 +00:00:00\n",
-        ),
-        (
-            "Zone O 1:00 1:00 O\n",
-            "at O 0\n",
-            "1970-01-01 02:00:00.000000000 +02:00:00\n",
-        ),
-        (
-            "Zone E 0:00 - E 2000 Jan 1 0:00u # ends\n",
-            "at E 0\n",
-            "1970-01-01 00:00:00.000000000 +00:00:00\n",
-        ),
-        (
-            FIXED,
-            "local Test/Fixed -9999-01-01 00:00:00.000000000\n",
-            "-9999-01-01 00:00:00.000000000 +01:30:00\n",
-        ),
-        (
-            FIXED,
-            "local Test/Fixed 1970-01-01 01:30:00.000000000\nat Test/Fixed -0\n",
-            "1970-01-01 01:30:00.000000000 +01:30:00\n1970-01-01 01:30:00.000000000 +01:30:00\n",
-        ),
-    ];
-    for (source, requests, output) in rows {
-        expect(&rt, alloc, source, requests, output)?;
-    }
-    Ok(())
+    expect_all(&rt, rt.alloc(), RUNS, 0)
 }
 
 #[test]
 fn faults(rt: HostRuntime) -> Result<(), Fail> {
-    let alloc = rt.alloc();
-    let rows = [
-        (
-            "Rule US 2007 max - Mar Sun>=8 2:00 1:00 D\n",
-            "",
-            "source 1: not built\n",
-        ),
-        (
-            "Zone A 0:00 - A 2000\n 1:00 - B\n",
-            "",
-            "source 2: not built\n",
-        ),
-        ("Zone A 0:00 Rules A\n", "", "source 1: not built\n"),
-        ("Link A B\n", "", "source 1: not built\n"),
-        (
-            "Rule EU 1977 1980 HEY Apr Sun>=1 1:00u 1:00 S\n",
-            "",
-            "source 1: line TypeColumnContainedNonHyphen\n",
-        ),
-        (
-            "link Australia/Sydney Australia/ACT\n",
-            "",
-            "source 1: line InvalidLineType\n",
-        ),
-        (
-            "Zone A 0:00 - X Jan\n",
-            "",
-            "source 1: line InvalidLineType\n",
-        ),
-        (
-            "Rule R 2000 only - Jan 32 0:00 0 -\n",
-            "",
-            "source 1: line InvalidDaySpec\n",
-        ),
-        (
-            "Rule R 2000 only - Jan Xyz>=40 0:00 0 -\n",
-            "",
-            "source 1: line FailedWeekdayParse\n",
-        ),
-        (
-            "Rule EU 1977 1980 - Febtober Sun>=1 1:00u 1:00 S\n",
-            "",
-            "source 1: line FailedMonthParse\n",
-        ),
-        (
-            "Zone A 0:00 - A 99999999999999999999\n",
-            "",
-            "source 1: line FailedYearParse\n",
-        ),
-        (
-            "Zone A 200 - A\n",
-            "",
-            "source 1: line InvalidTimeSpecAndType\n",
-        ),
-        (
-            "Zone A 1:00u - A\n",
-            "",
-            "source 1: line NonWallClockInTimeSpec\n",
-        ),
-        (
-            "Zone A 0:00 1 A\n",
-            "",
-            "source 1: line CouldNotParseSaving\n",
-        ),
-        (
-            "\nZone A 0:00 - A\nZone A 1:00 - A\n",
-            "what",
-            "source 3: not built\n",
-        ),
-        (FIXED, "at Test/Fixed 0\nwhat\n", "request 2: request\n"),
-        (FIXED, "at Test/Fixed 0\n\n", "request 2: request\n"),
-        (FIXED, "at  Test/Fixed 0\n", "request 1: request\n"),
-        (FIXED, "at Test/Fixed 0 \n", "request 1: request\n"),
-        (FIXED, "at Test/Fixed +0\n", "request 1: request\n"),
-        (FIXED, "at Test/Fixed -\n", "request 1: request\n"),
-        (FIXED, "At Test/Fixed 0\n", "request 1: request\n"),
-        (
-            FIXED,
-            "local Test/Fixed 1970-02-30 00:00:00.000000000\n",
-            "request 1: request\n",
-        ),
-        (FIXED, "at Test/Other 0\n", "request 1: unknown zone\n"),
-        (FAR, "at Far 0\n", "request 1: offset range\n"),
-        (
-            FAR,
-            "local Far -0000-01-01 00:00:00.000000000\n",
-            "request 1: request\n",
-        ),
-        (
-            FIXED,
-            "at Test/Fixed 253402300799999999999\n",
-            "request 1: range\n",
-        ),
-        (UTC, "at U -377705116800000000001\n", "request 1: range\n"),
-        (
-            FIXED,
-            "at Test/Fixed 999999999999999999999999999999\n",
-            "request 1: range\n",
-        ),
-        (
-            FIXED,
-            "at Test/Fixed 9999999999999999999999999999999\n",
-            "request 1: request\n",
-        ),
-    ];
-    for (source, requests, output) in rows {
-        expect(&rt, alloc, source, requests, output)?;
-    }
-    Ok(())
+    expect_all(&rt, rt.alloc(), FAULTS, 2)
 }
 
 #[test]
 fn bytes_that_are_no_text(rt: HostRuntime) -> Result<(), Fail> {
     let alloc = rt.alloc();
-    let outcome = run_over(alloc, &["source"], b"\xff", b"", 7, &NONE_FAILING)?;
-    assert_eq!(rt; outcome.sink.taken(), b"source 1: not text\n".as_slice());
-    let outcome = run_over(
+    expect(&rt, alloc, (b"\xff", b""), 2, b"source 1: not text\n")?;
+    expect(
+        &rt,
         alloc,
-        &["source"],
-        FIXED.as_bytes(),
-        b"at \xff 0",
-        7,
-        &NONE_FAILING,
-    )?;
-    assert_eq!(rt; outcome.sink.taken(), b"request 1: not text\n".as_slice());
-    Ok(())
+        (FIXED.as_bytes(), b"\xff"),
+        2,
+        b"request 1: not text\n",
+    )
 }
 
 #[test]
-fn other_statuses(rt: HostRuntime) -> Result<(), Fail> {
+fn words_and_failed_reads(rt: HostRuntime) -> Result<(), Fail> {
     let alloc = rt.alloc();
-    let source = FIXED.as_bytes();
-    let requests = b"at Test/Fixed 0\n";
-    let words: [(&[&str], u8); 4] = [
-        (&[], 1),
-        (&["source", "source"], 1),
-        (&["missing"], 3),
-        (&["source"], 0),
-    ];
-    for (words, code) in words {
-        let outcome = run_over(alloc, words, source, requests, 7, &NONE_FAILING)?;
-        assert_eq!(rt; outcome.status.code(), code);
-        assert!(rt; code == 0 || outcome.sink.taken().is_empty());
-    }
+    expect_silent(&rt, alloc, "", &NONE_FAILING, 1)?;
+    expect_silent(&rt, alloc, "source source", &NONE_FAILING, 1)?;
+    expect_silent(&rt, alloc, "missing", &NONE_FAILING, 3)?;
     for call in 1..6 {
-        let shelf = Failing {
+        let failing = Failing {
             shelf: &[call],
             ..NONE_FAILING
         };
-        let outcome = run_over(alloc, &["source"], source, requests, 7, &shelf)?;
-        assert_eq!(rt; outcome.status.code(), 3);
-        assert!(rt; outcome.sink.taken().is_empty());
+        expect_silent(&rt, alloc, "source", &failing, 3)?;
     }
     for call in 1..4 {
-        let input = Failing {
+        let failing = Failing {
             input: &[call],
             ..NONE_FAILING
         };
-        let outcome = run_over(alloc, &["source"], source, requests, 7, &input)?;
-        assert_eq!(rt; outcome.status.code(), 3);
-        assert!(rt; outcome.sink.taken().is_empty());
+        expect_silent(&rt, alloc, "source", &failing, 3)?;
     }
     Ok(())
 }
@@ -314,16 +230,27 @@ fn a_failed_write_leaves_a_prefix(rt: HostRuntime) -> Result<(), Fail> {
         output: &[11],
         ..NONE_FAILING
     };
-    let outcome = run_over(
-        alloc,
-        &["source"],
-        FIXED.as_bytes(),
-        b"at Test/Fixed 0\n",
-        1,
-        &failing,
-    )?;
+    let requests = b"at Test/Fixed 0\n";
+    let outcome = run_over(alloc, "source", FIXED.as_bytes(), requests, 1, &failing)?;
     assert_eq!(rt; outcome.status.code(), 4);
     assert_eq!(rt; outcome.sink.taken(), b"1970-01-01".as_slice());
+    Ok(())
+}
+
+/// Asserts how a run over that many spaces and no requests ends.
+fn expect_spaces(
+    rt: &impl Abort,
+    alloc: Global,
+    parser: &LineParser,
+    count: usize,
+    code: u8,
+) -> Result<(), Fail> {
+    let words = words_of(alloc, "any")?;
+    let mut shelf = SureShelf::new(vec![in alloc; b' '; count]?);
+    let mut input = SureSource::new(Vec::new(alloc));
+    let mut output = SureSink::new();
+    let status = run_surely(alloc, parser, &words, &mut shelf, &mut input, &mut output);
+    assert_eq!(rt; status.code(), code);
     Ok(())
 }
 
@@ -331,18 +258,8 @@ fn a_failed_write_leaves_a_prefix(rt: HostRuntime) -> Result<(), Fail> {
 fn a_text_past_the_limit(rt: HostRuntime) -> Result<(), Fail> {
     let alloc = rt.alloc();
     let parser = parser(alloc)?;
-    let mut words = Vec::new(alloc);
-    words.push(String::from_str(alloc, "any")?)?;
-    let mut shelf = SureShelf::new(vec![in alloc; b' '; 16_777_217]?);
-    let mut input = SureSource::new(Vec::new(alloc));
-    let mut output = SureSink::new();
-    let status = run_surely(alloc, &parser, &words, &mut shelf, &mut input, &mut output);
-    assert_eq!(rt; status.code(), 6);
-    let mut shelf = SureShelf::new(vec![in alloc; b' '; 16_777_216]?);
-    let mut input = SureSource::new(Vec::new(alloc));
-    let status = run_surely(alloc, &parser, &words, &mut shelf, &mut input, &mut output);
-    assert_eq!(rt; status.code(), 0);
-    Ok(())
+    expect_spaces(&rt, alloc, &parser, 16_777_216, 0)?;
+    expect_spaces(&rt, alloc, &parser, 16_777_217, 6)
 }
 
 #[test]
@@ -379,29 +296,13 @@ fn the_longest_number_fits_a_fault_line(rt: HostRuntime) -> Result<(), Fail> {
 }
 
 #[test]
-fn a_missing_file_is_a_fault(rt: HostRuntime) -> Result<(), Fail> {
-    let mut shelf = FileShelf::new(rt);
-    assert!(rt; shelf.fetch("/dev/null/missing").is_err());
-    let mut piece = [0; 8];
-    assert_eq!(rt; shelf.read(&mut piece).ok(), Some(0));
-    assert!(rt; shelf.fetch("/dev/null").is_ok());
-    assert_eq!(rt; shelf.read(&mut piece).ok(), Some(0));
-    Ok(())
-}
-
-#[test]
-fn standard_input_gives_the_reader(rt: HostRuntime) -> Result<(), Fail> {
-    let mut source = StdSource::new(b"ab".as_slice());
-    let mut piece = [0; 8];
-    assert_eq!(rt; source.read(&mut piece).ok(), Some(2));
-    assert_eq!(rt; &piece[..2], b"ab".as_slice());
-    assert_eq!(rt; source.read(&mut piece).ok(), Some(0));
-    Ok(())
-}
-
-#[test]
-fn standard_output_takes_bytes(rt: HostRuntime) -> Result<(), Fail> {
-    let mut sink = StdSink::new(rt);
-    assert_eq!(rt; sink.write(b"\n").ok(), Some(1));
+fn a_table_is_read(rt: HostRuntime) -> Result<(), Fail> {
+    let alloc = rt.alloc();
+    let parser = parser(alloc)?;
+    let Ok(table) = read_table(alloc, &parser, FIXED.as_bytes()) else {
+        return Err(Fail::from("refused"));
+    };
+    let lines = table.get_zoneset("Test/Fixed").ok_or("no zone")?;
+    assert_eq!(rt; lines.len(), 1);
     Ok(())
 }

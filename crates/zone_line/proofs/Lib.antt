@@ -1,3 +1,4 @@
+pub mod BoundLemmas
 pub mod NumberLemmas
 pub mod PatternLemmas
 pub mod WeekdayLemmas

@@ -19,3 +19,4 @@ pub mod Values
 pub mod Lines
 pub mod Days
 pub mod Ends
+pub mod Bounds

@@ -33,8 +33,7 @@ impl ChangeTime {
             return false;
         }
         let day = self.end_day();
-        day.has_day_number()
-            && is_in_year(day.named_day(year as i32, self.end_month()), year as i32)
+        day.has_day_number() && is_in_year(day.day_number(year, self.end_month()), year as i32)
     }
 
     /// The seconds from 1970-01-01 00:00 to the date and the time as they are written, whatever
@@ -42,7 +41,9 @@ impl ChangeTime {
     /// time 0:00.
     pub fn to_timestamp(&self) -> i64
         requires { IsTrue (is_dated self.now) }
-        ensures { result ≡ wall self.now }
+        ensures value { result ≡ wall self.now }
+        ensures least { neg_ℤ (pos 500_000_000_000) ≤ℤ result }
+        ensures greatest { result ≤ℤ pos 500_000_000_000 }
     {
         86_400 * i64::from(self.day_number()) + self.end_seconds()
     }
@@ -65,8 +66,7 @@ impl ChangeTime {
         ensures least { neg_ℤ (pos 5_000_000) ≤ℤ result }
         ensures greatest { result ≤ℤ pos 5_000_000 }
     {
-        self.end_day()
-            .named_day(self.year() as i32, self.end_month())
+        self.end_day().day_number(self.year(), self.end_month())
     }
 
     /// The year.

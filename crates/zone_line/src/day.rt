@@ -35,7 +35,7 @@ impl DaySpec {
         requires number { IsTrue (has_day_number self.now) }
         ensures { result ≡ concrete_day self.now year month }
     {
-        let day = self.named_day(year as i32, month);
+        let day = self.day_number(year, month);
         if !is_in_year(day, year as i32) {
             return None;
         }
@@ -45,8 +45,9 @@ impl DaySpec {
         }
     }
 
-    /// Whether a number in it is from 1 to 31.
-    pub(crate) fn has_day_number(&self) -> bool
+    /// Whether a day number in it is from 1 to 31. Where it has none, as the last Sunday, the
+    /// answer is yes.
+    pub fn has_day_number(&self) -> bool
         ensures { result ≡ has_day_number self.now }
     {
         match *self {
@@ -57,9 +58,11 @@ impl DaySpec {
         }
     }
 
-    /// The day number, where 0 is 1970-01-01, of the day that this names.
+    /// The number of days from 1970-01-01 to the day that this names in a month of a year from 1
+    /// to 9999. A number past the month's end counts on, so that the day may lie in another month,
+    /// and in another year. The number is from 1 to 31.
     #[tactic(auto, unfolding(crate::specs::Days::named_day))]
-    pub(crate) fn named_day(&self, year: i32, month: Month) -> i32
+    pub fn day_number(&self, year: i64, month: Month) -> i32
         requires first_year { pos 1 ≤ℤ year }
         requires last_year { year ≤ℤ pos 9999 }
         requires number { IsTrue (has_day_number self.now) }
@@ -88,7 +91,7 @@ fn is_day_number(number: i8) -> bool
 }
 
 /// The day of that number in a month, or past its end.
-fn day_of_month(year: i32, month: Month, number: i8) -> i32
+fn day_of_month(year: i64, month: Month, number: i8) -> i32
     requires first_year { pos 1 ≤ℤ year }
     requires last_year { year ≤ℤ pos 9999 }
     requires number { IsTrue (is_day_number number) }
@@ -96,17 +99,18 @@ fn day_of_month(year: i32, month: Month, number: i8) -> i32
     ensures least { neg_ℤ (pos 4_371_953) ≤ℤ result }
     ensures greatest { result ≤ℤ pos 2_933_262 }
 {
-    day_number(year, month.number() as u8, number as u8)
+    day_number(year as i32, month.number() as u8, number as u8)
 }
 
 /// The last day of a month.
-fn last_of_month(year: i32, month: Month) -> i32
+fn last_of_month(year: i64, month: Month) -> i32
     requires first_year { pos 1 ≤ℤ year }
     requires last_year { year ≤ℤ pos 9999 }
     ensures value { result ≡ day_at year (month_number month) (days_in_month year (month_number month)) }
     ensures least { neg_ℤ (pos 4_371_953) ≤ℤ result }
     ensures greatest { result ≤ℤ pos 2_933_262 }
 {
+    let year = year as i32;
     let of_year = month.number() as u8;
     day_number(year, of_year, month_length(year, of_year))
 }

@@ -46,6 +46,8 @@ pub struct LineParser {
 }
 
 impl LineParser {
+    ghost use Rattle.std.specs.Prelude.{IfOk, IsTrue};
+    ghost use Rattle.zone_line.specs.Bounds.{is_bounded_line};
     ghost use Rattle.zone_line.specs.Faults.{Tells};
     ghost use Rattle.zone_line.specs.Lines.{value};
     ghost use Rattle.zone_line.specs.Values.{line_value};
@@ -83,9 +85,11 @@ impl LineParser {
     /// ON, AT and SAVE; of a zone line GMTOFF, RULES and the end's year, month, day and time. The
     /// first that has no value is the error. A line of no kind is `InvalidLineType`, and so, after
     /// RULES, is one whose end has no year. Columns of an end after one that is missing are not
-    /// read.
+    /// read. Each day number in a line that is read is from 1 to 31, and each amount of time in it
+    /// at most 1,000,000 seconds.
     pub fn parse_str<'a>(&self, alloc: Global, input: &'a str) -> Result<Line<'a>, Error>
-        ensures { Tells line_value result (value input.now) }
+        ensures value { Tells line_value result (value input.now) }
+        ensures bounded { IfOk result (λ line. IsTrue (is_bounded_line (line_value line))) }
     {
         let mut reader = self.reader(alloc)?;
         reader.parse_str(alloc, input)

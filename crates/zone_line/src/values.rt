@@ -1,5 +1,5 @@
 //! The values of whole lines.
-ghost use Rattle.std.specs.Prelude.{◌≡◌, option_map};
+ghost use Rattle.std.specs.Prelude.{◌≡◌, option_map, IfOk, IsTrue};
 
 use crate::change::ChangeTime;
 use crate::columns::{InfoColumns, RuleColumns};
@@ -12,6 +12,7 @@ use crate::reader::LineReader;
 use std::alloc::Global;
 
 impl LineReader<'_> {
+    ghost use Rattle.zone_line.specs.Bounds.{is_bounded_line};
     ghost use Rattle.zone_line.specs.Columns.{info_shown, rule_shown, zone_shown};
     ghost use Rattle.zone_line.specs.Faults.{Tells, told};
     ghost use Rattle.zone_line.specs.Kinds.{kind_of, kind_shown};
@@ -20,7 +21,8 @@ impl LineReader<'_> {
 
     /// Reads one line, as `LineParser::parse_str` does.
     pub fn parse_str<'a>(&mut self, alloc: Global, input: &'a str) -> Result<Line<'a>, Error>
-        ensures { Tells line_value result (value input.now) }
+        ensures value { Tells line_value result (value input.now) }
+        ensures bounded { IfOk result (λ line. IsTrue (is_bounded_line (line_value line))) }
     {
         match self.value(input) {
             Ok(line) => Ok(line),

@@ -1,0 +1,47 @@
+-- Steps of the loops over a source and a sink.
+use Rattle.std.proofs.Common.{◌≡◌, ℕ, ◌+◌, ◌≤◌, List, ◌++◌, length, take, drop, Option, Some, None, IfSome, refl, sym, ap, ◌∙◌, subst, arith}
+use Rattle.std.proofs.Math.Seq.{drop-append_seam}
+use Rattle.std.proofs.lemmas.List.{append_assoc, take-take, drop-take, take-append-drop, length-take-le, drop-drop, take_at, nil_from_length}
+use Rattle.zone_outside.specs.Outside.{Consumes, LeavesRest}
+
+-- of these bytes, some were read and the rest is left
+pub record HasRead (read : List ℕ) (left : Option (List ℕ)) (bytes : List ℕ) : Type 0 where
+  pub rest : List ℕ
+  pub parts : bytes ≡ read ++ rest
+  pub left_is : left ≡ Some rest
+
+-- after some bytes were read, and n more, the rest is left
+pub rest_left : (first mid new : Option (List ℕ)) (read into : List ℕ) (n : ℕ) → IfSome first (HasRead read mid) → IfSome mid (λ bytes. Consumes bytes new into n) → LeavesRest first new
+rest_left None mid new read into n had more = tt
+rest_left (Some bytes) mid new read into n had more = (length (read ++ take n into), step.left_is ∙ ap Some (sym (ap (drop (length (read ++ take n into))) parts ∙ drop-append_seam (read ++ take n into) step.rest)))
+  where
+    step : Consumes had.rest new into n
+    step = subst (λ o. IfSome o (λ bytes. Consumes bytes new into n)) had.left_is more
+
+    parts : bytes ≡ (read ++ take n into) ++ step.rest
+    parts = had.parts ∙ ap (λ t. read ++ t) step.parts ∙ sym (append_assoc read (take n into) step.rest)
+
+-- after the first bytes of a text, a sink took the next n
+pub taken_more : (bytes piece : List ℕ) (at n : ℕ) (first mid new : Option (List ℕ)) → piece ≡ drop at bytes → IfSome first (λ had. mid ≡ Some (had ++ take at bytes)) → IfSome mid (λ had. new ≡ Some (had ++ take n piece))
+    → IfSome first (λ had. new ≡ Some (had ++ take (at + n) bytes))
+taken_more bytes piece at n None mid new p h k = tt
+taken_more bytes piece at n (Some had) mid new p h k =
+    let now = subst (λ o. IfSome o (λ had. new ≡ Some (had ++ take n piece))) h k in
+    let parts : take at bytes ++ take n (drop at bytes) ≡ take (at + n) bytes =
+    (λ i. sym (take-take at (at + n) bytes (omega arith)) i ++ sym (drop-take at n bytes) i) ∙ take-append-drop at (take (at + n) bytes) in
+    now ∙ ap (λ t. Some ((had ++ take at bytes) ++ take n t)) p ∙ ap Some (append_assoc had _ _ ∙ ap (λ t. had ++ t) parts)
+
+-- the front of some bytes was copied to the front of a buffer
+pub consumed : (from into part : List ℕ) (n : ℕ) → part ≡ take n from → n ≤ length from → (n ≡ 0 → length from ≡ 0) → Consumes from (Some (drop n from)) (part ++ drop n into) n
+consumed from into part n is fits ended =
+    let long : length part ≡ n = ap length is ∙ length-take-le n from fits in
+    record {
+      rest = drop n from;
+      parts = sym (take-append-drop n from) ∙ (λ i. (sym is ∙ sym (take_at part (drop n into) n long)) i ++ drop n from);
+      left_is = refl;
+      ended = λ z. ap (λ k. drop k from) z ∙ nil_from_length from (ended z);
+    }
+
+-- the same of what is left from a place on
+pub consumed_at : (bytes into : List ℕ) (at n : ℕ) → Consumes (drop at bytes) (Some (drop n (drop at bytes))) into n → Consumes (drop at bytes) (Some (drop (at + n) bytes)) into n
+consumed_at bytes into at n h = let step : drop n (drop at bytes) ≡ drop (at + n) bytes = drop-drop n at bytes in rw (← step) h

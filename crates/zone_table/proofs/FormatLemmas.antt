@@ -1,0 +1,44 @@
+-- What a search for `%s` and for a slash says of a text.
+use Rattle.std.proofs.Common.{◌≡◌, ℕ, ◌+◌, Bool, true, false, not, ◌||◌, cond, List, [], ◌∷◌, ◌++◌, length, refl, sym, ap, ◌∙◌, codes, arith, true≢false}
+use Rattle.std.specs.List.{list_any, position_or_len}
+use Rattle.std.specs.Str.Iter.{HasSubslice}
+use Rattle.zone_table.specs.Formats.{is_placeholder, has_placeholder, is_slash}
+
+or-true : (b : Bool) → (b || true) ≡ true
+or-true true = refl
+or-true false = refl
+
+pub has_placeholder-within : (before after : List ℕ) → has_placeholder (before ++ (codes "%s" ++ after)) ≡ true
+unfolding has_placeholder
+has_placeholder-within [] after = refl
+has_placeholder-within (x ∷ []) after = or-true (is_placeholder x 37)
+has_placeholder-within (x ∷ y ∷ before) after = ap (λ b. is_placeholder x y || b) (has_placeholder-within (y ∷ before) after) ∙ or-true (is_placeholder x y)
+
+placeholder_here : (x y : ℕ) (rest : List ℕ) → is_placeholder x y ≡ true → HasSubslice (x ∷ y ∷ rest) (codes "%s")
+placeholder_here x y rest here =
+    let first : x ≡ 37 = grind arith in
+    let second : y ≡ 115 = grind arith in
+    ([], rest, (λ i. first i ∷ second i ∷ rest))
+
+pub placeholder_within : (text : List ℕ) → has_placeholder text ≡ true → HasSubslice text (codes "%s")
+unfolding has_placeholder
+placeholder_within [] there = absurd (true≢false (sym there))
+placeholder_within (x ∷ []) there = absurd (true≢false (sym there))
+placeholder_within (x ∷ y ∷ rest) there = by (is_placeholder x y) refl there (placeholder_within (y ∷ rest))
+  where
+    by : (b : Bool) → is_placeholder x y ≡ b → (b || has_placeholder (y ∷ rest)) ≡ true
+        → (has_placeholder (y ∷ rest) ≡ true → HasSubslice (y ∷ rest) (codes "%s")) → HasSubslice (x ∷ y ∷ rest) (codes "%s")
+    by true here there later = placeholder_here x y rest here
+    by false apart there later =
+        let found = later there in
+        (x ∷ found.0, found.1, ap (λ l. x ∷ l) found.2)
+
+-- the first slash is sought up to the end of a text only where no slash stands in it
+pub list_any-none : (text : List ℕ) → position_or_len is_slash text ≡ length text → list_any is_slash text ≡ false
+list_any-none [] end = refl
+list_any-none (x ∷ text) end = by (is_slash x) end (list_any-none text)
+  where
+    by : (b : Bool) → cond (not b) (1 + position_or_len is_slash text) 0 ≡ length (x ∷ text)
+        → (position_or_len is_slash text ≡ length text → list_any is_slash text ≡ false) → (b || list_any is_slash text) ≡ false
+    by true end later = absurd (omega arith)
+    by false end later = later (omega arith)

@@ -1,0 +1,36 @@
+-- The definitions on worked rows.
+use Rattle.std.specs.Prelude.{◌≡◌, pos, Some, None, codes, refl}
+use Rattle.zone_table.specs.Formats.{format_of, filled, has_placeholder, abbreviation}
+use Rattle.zone_table.specs.declared.format.Format.TheVariants.{Constant, Alternate, Placeholder}
+
+placeholder_named : format_of (codes "E%sT") ≡ Placeholder (codes "E%sT")
+unfolding format_of has_placeholder
+placeholder_named = refl
+
+first_slash_cuts : format_of (codes "GMT/BST/%s") ≡ Alternate (codes "GMT") (codes "BST/%s")
+unfolding format_of has_placeholder
+first_slash_cuts = refl
+
+constant_named : format_of (codes "%T") ≡ Constant (codes "%T")
+unfolding format_of has_placeholder
+constant_named = refl
+
+letters_stand : abbreviation (Placeholder (codes "E%sT")) (pos 3600) (Some (codes "D")) ≡ codes "EDT"
+unfolding filled
+letters_stand = refl
+
+every_placeholder : filled (codes "ab") (codes "%s%s") ≡ codes "abab"
+unfolding filled
+every_placeholder = refl
+
+-- letters are not read for a `%s` of their own
+letters_stay : filled (codes "s%") (codes "%%s") ≡ codes "%s%"
+unfolding filled
+letters_stay = refl
+
+no_letters : abbreviation (Placeholder (codes "%%sT%")) (pos 0) None ≡ codes "%T%"
+unfolding filled
+no_letters = refl
+
+saving_decides : abbreviation (Alternate (codes "GMT") (codes "BST")) (pos 3600) (Some (codes "S")) ≡ codes "BST"
+saving_decides = refl

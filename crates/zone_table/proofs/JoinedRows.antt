@@ -1,0 +1,60 @@
+-- Worked rows of what lines join to, whatever their rules and zone lines say. Each list has the latest first.
+use Rattle.std.specs.Prelude.{◌≡◌, [], ◌∷◌, Option, Some, None, codes, refl}
+use Rattle.zone_line.specs.declared.change.ChangeTime.{ChangeTime}
+use Rattle.zone_line.specs.declared.time.TimeSpec.{TimeSpec}
+use Rattle.zone_line.specs.Values.{SavingValue, no_saving, multiple, InfoValue, RuleValue, space, zone, continuation, rule, link}
+use Rattle.zone_table.specs.Joined.{zone_of, owner}
+use Rattle.zone_table.specs.Owned.{owned_info}
+use Rattle.zone_table.specs.Refusals.{surprise_continuation_line, unknown_ruleset, duplicate_link, duplicate_zone, refusal}
+use Rattle.zone_table.specs.Resolved.{resolved}
+
+-- a zone line with that saving
+abbrev with_saving : TimeSpec → SavingValue → Option ChangeTime → InfoValue
+with_saving offset saving end = record { utc_offset = offset; saving = saving; format = codes "F"; time = end }
+
+module _ (offset : TimeSpec) (end : Option ChangeTime) (first second : InfoValue) (r : RuleValue) where
+  -- a blank line does not close a zone
+  continued : zone_of (continuation second ∷ space ∷ zone (codes "A") first ∷ []) (codes "A") ≡ owned_info first ∷ owned_info second ∷ []
+  continued = refl
+
+  -- a zone after another takes the continuations from then on
+  apart : zone_of (continuation second ∷ zone (codes "B") first ∷ zone (codes "A") first ∷ []) (codes "A") ≡ owned_info first ∷ []
+  apart = refl
+
+  -- rules and links close it
+  closed_by_rule : owner (space ∷ rule r ∷ zone (codes "A") first ∷ []) ≡ None
+  closed_by_rule = refl
+
+  closed_by_link : owner (link (codes "A") (codes "B") ∷ zone (codes "A") first ∷ []) ≡ None
+  closed_by_link = refl
+
+  surprise : refusal (link (codes "A") (codes "B") ∷ zone (codes "A") first ∷ []) (continuation second) ≡ Some surprise_continuation_line
+  surprise = refl
+
+  -- a zone of an earlier name that names an unknown ruleset
+  unknown : refusal (zone (codes "A") first ∷ []) (zone (codes "A") (with_saving offset (multiple (codes "X")) end)) ≡ Some (unknown_ruleset (codes "X"))
+  unknown = refl
+
+  duplicate : refusal (space ∷ zone (codes "A") first ∷ []) (zone (codes "A") (with_saving offset no_saving end)) ≡ Some duplicate_zone
+  duplicate = refl
+
+  -- the ruleset of a continuation is not tested
+  untested : refusal (zone (codes "A") first ∷ []) (continuation (with_saving offset (multiple (codes "X")) end)) ≡ None
+  untested = refl
+
+  second_link : refusal (link (codes "a") (codes "b") ∷ []) (link (codes "c") (codes "b")) ≡ Some (duplicate_link (codes "b"))
+  second_link = refl
+
+  -- a zone is no bar to a link of its name, and then it is found first
+  link_of_zone_name : refusal (zone (codes "B") first ∷ zone (codes "A") second ∷ []) (link (codes "A") (codes "B")) ≡ None
+  link_of_zone_name = refl
+
+  zone_before_link : resolved (link (codes "A") (codes "B") ∷ zone (codes "B") first ∷ zone (codes "A") second ∷ []) (codes "B") ≡ Some (owned_info first ∷ [])
+  zone_before_link = refl
+
+  -- one link is followed, and no second
+  one_link : resolved (link (codes "B") (codes "C") ∷ link (codes "A") (codes "B") ∷ zone (codes "A") first ∷ []) (codes "B") ≡ Some (owned_info first ∷ [])
+  one_link = refl
+
+  two_links : resolved (link (codes "B") (codes "C") ∷ link (codes "A") (codes "B") ∷ zone (codes "A") first ∷ []) (codes "C") ≡ None
+  two_links = refl

@@ -1,0 +1,15 @@
+pub mod BoolLemmas
+pub mod BoundedLemmas
+pub mod BoundedValues
+pub mod FilledLemmas
+pub mod FormatLemmas
+mod FormatRows
+pub mod JoinedRows
+pub mod MapValues
+mod NameRows
+mod OrderLemmas
+pub mod OwnedBounds
+pub mod SecondsLemmas
+mod SlashLemmas
+pub mod Steps
+mod TreeLemmas

@@ -1,0 +1,11 @@
+use Rattle.std.proofs.Common.{rules, refl, ◌∙◌}
+use Rattle.std.specs.List.{list_all}
+use Rattle.std.proofs.lemmas.Iterator.Consumers.{YieldsList-from_rest}
+use Rattle.std.proofs.lemmas.Iterator.Search.{all_from_yields_List}
+use Rattle.zone_table.specs.Bounds.{is_bounded_info}
+use Rattle.zone_table.proofs.table.Table.has_bounded_lines.Goals as goal
+
+pub returns : goal.returns
+returns c =
+    all_from_yields_List (list_all is_bounded_info) _ _ c.all.result c.all.ensures.ran (YieldsList-from_rest c.values.result refl) (λ x b q k. search rules)
+    ∙ c.values.ensures.all (list_all is_bounded_info)

@@ -1,0 +1,13 @@
+pub mod BoundedTables
+pub mod Bounds
+pub mod Built
+pub mod Formats
+pub mod Joined
+pub mod Moments
+pub mod NameTree
+pub mod Owned
+pub mod Placed
+pub mod Refusals
+pub mod Resolved
+pub mod Shown
+pub mod Tables

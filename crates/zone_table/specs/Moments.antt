@@ -1,0 +1,50 @@
+-- When rules fire.
+use Rattle.std.specs.Prelude.{ℤ, pos, ◌+ℤ◌, ◌-ℤ◌, ◌*ℤ◌, int_le, Bool, true, false, ◌&&◌, Option, Some, unwrap_or}
+use Rattle.zone_line.specs.Days.{named_day}
+use Rattle.zone_line.specs.declared.time.TimeType.{TimeType}
+use Rattle.zone_line.specs.declared.time.TimeType.TheVariants.{Wall, Standard, UTC}
+use Rattle.zone_line.specs.declared.year.Year.{Year}
+use Rattle.zone_line.specs.declared.year.Year.TheVariants.{Minimum, Maximum, Number}
+use Rattle.zone_table.specs.declared.rule.RuleInfo.{RuleInfo}
+
+-- the year is a number
+abbrev pub is_number : Year → Bool
+is_number (Number n) = true
+is_number _ = false
+
+-- the last year of a rule is not the first of all years
+abbrev pub has_last_year : Option Year → Bool
+has_last_year (Some Minimum) = false
+has_last_year _ = true
+
+abbrev pub has_years : RuleInfo → Bool
+has_years rule = is_number rule.from_year && has_last_year rule.to_year
+
+-- the first of two years is at most the second, which is a number; the first of all years is below each, the last above
+abbrev pub is_at_most : Year → ℤ → Bool
+is_at_most Minimum year = true
+is_at_most Maximum year = false
+is_at_most (Number n) year = int_le n year
+
+abbrev pub is_at_least : Year → ℤ → Bool
+is_at_least Minimum year = false
+is_at_least Maximum year = true
+is_at_least (Number n) year = int_le year n
+
+-- the last year of a rule; where it has none of its own it is the first
+abbrev pub last_year : RuleInfo → Year
+last_year rule = unwrap_or rule.to_year rule.from_year
+
+abbrev pub applies_to_year : RuleInfo → ℤ → Bool
+applies_to_year rule year = is_at_most rule.from_year year && is_at_least (last_year rule) year
+
+-- a time of day by a clock, in universal time
+abbrev pub utc_time : TimeType → ℤ → ℤ → ℤ → ℤ
+utc_time UTC time utc_offset dst_offset = time
+utc_time Standard time utc_offset dst_offset = time -ℤ utc_offset
+utc_time Wall time utc_offset dst_offset = time -ℤ (utc_offset +ℤ dst_offset)
+
+-- the seconds from 1970-01-01 00:00 in universal time to the rule's time on its day of that year
+abbrev pub moment : RuleInfo → ℤ → ℤ → ℤ → ℤ
+moment rule year utc_offset dst_offset =
+    pos 86400 *ℤ named_day rule.day year rule.month +ℤ utc_time rule.time_type rule.time utc_offset dst_offset

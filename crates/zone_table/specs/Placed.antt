@@ -1,0 +1,15 @@
+-- Children beside their parts, with their texts as bytes.
+use Rattle.std.specs.Prelude.{ℕ, List}
+use Rattle.std.specs.declared.cmp.Ordering.{Ordering}
+use Rattle.std.specs.Ordering.{ordering_then}
+use Rattle.owned.specs.Keyed.{text_cmp}
+use Rattle.zone_table.specs.NameTree.{ChildValue, child_cmp}
+use Rattle.zone_table.specs.Shown.{child_value}
+use Rattle.zone_table.specs.declared.structure.Placed.{Placed}
+
+abbrev pub placed_value : Placed → List ℕ × ChildValue
+placed_value placed = (placed.part.now, child_value placed.child)
+
+-- by part, and then by child
+abbrev pub placed_cmp : List ℕ × ChildValue → List ℕ × ChildValue → Ordering
+placed_cmp a b = ordering_then (text_cmp a.0 b.0) (child_cmp a.1 b.1)

@@ -1,0 +1,25 @@
+//! Lines of tz source text joined to a table of rulesets, zones and links.
+//!
+//! The forms are those of the crate `parse-zoneinfo`: rules by the name of their ruleset, the lines of each zone in
+//! order, and links from a new name to the one that stands.
+#![tactic(auto)]
+
+mod bounds;
+mod builder;
+mod error;
+mod format;
+mod rule;
+mod structure;
+mod table;
+mod zone;
+
+pub use builder::TableBuilder;
+pub use error::Error;
+pub use format::Format;
+pub use rule::RuleInfo;
+pub use structure::{Child, Iter, Structure, TableStructure, TableStructureEntry};
+pub use table::Table;
+pub use zone::{Saving, ZoneInfo};
+
+#[cfg(test)]
+mod tests;

@@ -1,0 +1,181 @@
+//! Rules.
+ghost use Rattle.std.specs.Prelude.{◌≡◌, pos, neg_ℤ, ◌≤ℤ◌, ◌+ℤ◌, ◌*ℤ◌, IfOk, IsTrue, option_map};
+ghost use Rattle.zone_line.specs.Bounds.{are_small_seconds};
+ghost use Rattle.zone_line.specs.Days.{has_day_number, is_in_year, named_day};
+ghost use Rattle.zone_line.specs.Values.{rule_value};
+ghost use Rattle.zone_table.specs.Moments.{
+  is_number,
+  has_last_year,
+  has_years,
+  is_at_most,
+  is_at_least,
+  applies_to_year,
+  utc_time,
+  moment,
+};
+ghost use Rattle.zone_table.specs.Owned.{owned_rule};
+
+use owned::Text;
+use std::alloc::{AllocError, Global};
+use zone_line::{DaySpec, Month, TimeType, Year};
+
+/// A rule of a ruleset.
+#[derive(Debug, Drop, PartialEq)]
+pub struct RuleInfo {
+    /// The first year of the rule.
+    pub from_year: Year,
+    /// The last year of the rule, or none where the first is the only one.
+    pub to_year: Option<Year>,
+    /// The month in which the rule fires.
+    pub month: Month,
+    /// The day on which it fires.
+    pub day: DaySpec,
+    /// The time of day at which it fires, in seconds.
+    pub time: i64,
+    /// The clock that this time is read on.
+    pub time_type: TimeType,
+    /// The saving from then on, in seconds.
+    pub time_to_add: i64,
+    /// The letters of the abbreviation.
+    pub letters: Option<Text>,
+}
+
+impl RuleInfo {
+    /// The owned form of a rule: its times are seconds, and its name is not kept.
+    pub fn from_line(alloc: Global, info: zone_line::Rule<'_>) -> Result<RuleInfo, AllocError>
+        ensures { IfOk result (λ owned. owned ≡ owned_rule (rule_value info.entry)) }
+    {
+        Ok(RuleInfo {
+            from_year: info.from_year,
+            to_year: info.to_year,
+            month: info.month,
+            day: info.day,
+            time: info.time.0.as_seconds(),
+            time_type: info.time.1,
+            time_to_add: info.time_to_add.as_seconds(),
+            letters: owned_letters(alloc, info.letters)?,
+        })
+    }
+
+    /// Whether the years of the rule can be compared with a year: the first is a number, and the
+    /// last isn't `Minimum`.
+    pub fn has_years(&self) -> bool
+        ensures { result ≡ has_years self.now }
+    {
+        is_number(self.from_year) && has_last_year(self.to_year)
+    }
+
+    /// Whether the rule fires in a year: its first year is at most that one, and its last at least.
+    /// A rule with no last year of its own fires in its first year alone.
+    pub fn applies_to_year(&self, year: i64) -> bool
+        requires { IsTrue (has_years self.now) }
+        ensures { result ≡ applies_to_year self.now year }
+    {
+        let last = match self.to_year {
+            Some(last) => last,
+            None => self.from_year,
+        };
+        is_at_most(self.from_year, year) && is_at_least(last, year)
+    }
+
+    /// When the rule fires in a year, in seconds from 1970-01-01 00:00 UTC, under a standard offset
+    /// and a saving in force before it, both in seconds. A wall time is read with both, a standard
+    /// time with the offset alone, and a time of UTC with neither.
+    pub fn absolute_datetime(&self, year: i64, utc_offset: i64, dst_offset: i64) -> i64
+        requires first_year { pos 1 ≤ℤ year }
+        requires last_year { year ≤ℤ pos 9999 }
+        requires number { IsTrue (has_day_number self.now.day) }
+        requires in_year { IsTrue (is_in_year (named_day self.now.day year self.now.month) year) }
+        requires time { IsTrue (are_small_seconds self.now.time) }
+        requires offset { IsTrue (are_small_seconds utc_offset) }
+        requires saving { IsTrue (are_small_seconds dst_offset) }
+        ensures value { result ≡ moment self.now year utc_offset dst_offset }
+        ensures least { neg_ℤ (pos 500_000_000_000) ≤ℤ result }
+        ensures greatest { result ≤ℤ pos 500_000_000_000 }
+    {
+        let day = self.day.day_number(year, self.month);
+        let time = utc_time(self.time_type, self.time, utc_offset, dst_offset);
+        after_days(day, time)
+    }
+}
+
+/// A time of day by a clock, in UTC, all in seconds.
+fn utc_time(clock: TimeType, time: i64, utc_offset: i64, dst_offset: i64) -> i64
+    requires time { IsTrue (are_small_seconds time) }
+    requires offset { IsTrue (are_small_seconds utc_offset) }
+    requires saving { IsTrue (are_small_seconds dst_offset) }
+    ensures value { result ≡ utc_time clock time utc_offset dst_offset }
+    ensures least { neg_ℤ (pos 3_000_000) ≤ℤ result }
+    ensures greatest { result ≤ℤ pos 3_000_000 }
+{
+    match clock {
+        TimeType::UTC => time,
+        TimeType::Standard => time - utc_offset,
+        TimeType::Wall => time - (utc_offset + dst_offset),
+    }
+}
+
+/// The seconds to a time of a day from 0:00 of the day 0.
+fn after_days(day: i32, time: i64) -> i64
+    requires first_day { neg_ℤ (pos 5_000_000) ≤ℤ day }
+    requires last_day { day ≤ℤ pos 5_000_000 }
+    requires least_time { neg_ℤ (pos 3_000_000) ≤ℤ time }
+    requires greatest_time { time ≤ℤ pos 3_000_000 }
+    ensures value { result ≡ pos 86400 *ℤ day +ℤ time }
+    ensures least { neg_ℤ (pos 500_000_000_000) ≤ℤ result }
+    ensures greatest { result ≤ℤ pos 500_000_000_000 }
+{
+    86_400 * i64::from(day) + time
+}
+
+/// Whether the year is a number.
+fn is_number(year: Year) -> bool
+    ensures { result ≡ is_number year }
+{
+    match year {
+        Year::Number(_) => true,
+        Year::Minimum | Year::Maximum => false,
+    }
+}
+
+/// Whether the last year of a rule isn't the first of all years.
+fn has_last_year(year: Option<Year>) -> bool
+    ensures { result ≡ has_last_year year }
+{
+    match year {
+        Some(Year::Minimum) => false,
+        Some(Year::Number(_) | Year::Maximum) | None => true,
+    }
+}
+
+/// Whether the first year is at most the second.
+fn is_at_most(first: Year, year: i64) -> bool
+    ensures { result ≡ is_at_most first year }
+{
+    match first {
+        Year::Minimum => true,
+        Year::Number(first) => first <= year,
+        Year::Maximum => false,
+    }
+}
+
+/// Whether the first year is at least the second.
+fn is_at_least(last: Year, year: i64) -> bool
+    ensures { result ≡ is_at_least last year }
+{
+    match last {
+        Year::Minimum => false,
+        Year::Number(last) => year <= last,
+        Year::Maximum => true,
+    }
+}
+
+/// The letters, owned.
+fn owned_letters(alloc: Global, letters: Option<&str>) -> Result<Option<Text>, AllocError>
+    ensures { IfOk result (λ owned. owned ≡ option_map (λ text. text.now) letters.entry) }
+{
+    match letters {
+        Some(letters) => Ok(Some(Text::new(alloc, letters)?)),
+        None => Ok(None),
+    }
+}

@@ -1,0 +1,98 @@
+//! Abbreviations, owned forms, and moments that are known from outside.
+use crate::{Format, RuleInfo, Saving, ZoneInfo};
+use owned::Text;
+use std::test::Fail;
+use zone_line::{DaySpec, Month, TimeSpec, TimeType, Weekday, Year};
+
+#[test]
+fn abbreviations(rt: HostRuntime) -> Result<(), Fail> {
+    let alloc = rt.alloc();
+    let rows = [
+        ("E%sT", 3_600, Some("D"), "EDT"),
+        ("E%sT", 0, None, "ET"),
+        ("%s/B%sT", 0, Some("S"), "%s"),
+        ("%s/B%sT", 1_200, Some("S"), "B%sT"),
+        ("-05", 0, Some("S"), "-05"),
+    ];
+    for (template, saving, letters, text) in rows {
+        let format = Format::new(alloc, template)?;
+        assert_eq!(rt; format.format(alloc, saving, letters)?.as_str(), text);
+    }
+    let constant = Format::Constant(Text::new(alloc, "TST")?);
+    assert_eq!(rt; constant.format_constant(alloc)?.as_str(), "TST");
+    Ok(())
+}
+
+/// The rule by which New York's clocks go forward.
+fn forward() -> zone_line::Rule<'static> {
+    zone_line::Rule {
+        name: "US",
+        from_year: Year::Number(2007),
+        to_year: Some(Year::Maximum),
+        month: Month::March,
+        day: DaySpec::FirstOnOrAfter(Weekday::Sunday, 8),
+        time: TimeSpec::HoursMinutes(2, 0).with_type(TimeType::Wall),
+        time_to_add: TimeSpec::HoursMinutes(1, 0),
+        letters: Some("D"),
+    }
+}
+
+#[test]
+fn a_rule(rt: HostRuntime) -> Result<(), Fail> {
+    let alloc = rt.alloc();
+    let rule = RuleInfo::from_line(alloc, forward())?;
+    assert_eq!(rt; (rule.time, rule.time_to_add), (7_200, 3_600));
+    assert!(rt; rule.has_years());
+    assert!(rt; rule.applies_to_year(2007) && !rule.applies_to_year(2006));
+    Ok(())
+}
+
+#[test]
+fn a_zone(rt: HostRuntime) -> Result<(), Fail> {
+    let alloc = rt.alloc();
+    let line = zone_line::ZoneInfo {
+        utc_offset: TimeSpec::HoursMinutes(-5, 0),
+        saving: zone_line::Saving::Multiple("US"),
+        format: "E%sT",
+        time: None,
+    };
+    let zone = ZoneInfo::from_line(alloc, line)?;
+    let owned = ZoneInfo {
+        offset: -18_000,
+        saving: Saving::Multiple(Text::new(alloc, "US")?),
+        format: Format::Placeholder(Text::new(alloc, "E%sT")?),
+        end_time: None,
+    };
+    assert!(rt; zone == owned);
+    Ok(())
+}
+
+#[test]
+fn new_york_goes_forward(rt: HostRuntime) {
+    let rule = RuleInfo {
+        from_year: Year::Number(2007),
+        to_year: Some(Year::Maximum),
+        month: Month::March,
+        day: DaySpec::FirstOnOrAfter(Weekday::Sunday, 8),
+        time: 7_200,
+        time_type: TimeType::Wall,
+        time_to_add: 3_600,
+        letters: None,
+    };
+    assert_eq!(rt; rule.absolute_datetime(2024, -18_000, 0), 1_710_054_000);
+}
+
+#[test]
+fn sydney_goes_back(rt: HostRuntime) {
+    let rule = RuleInfo {
+        from_year: Year::Number(2008),
+        to_year: Some(Year::Maximum),
+        month: Month::April,
+        day: DaySpec::FirstOnOrAfter(Weekday::Sunday, 1),
+        time: 7_200,
+        time_type: TimeType::Standard,
+        time_to_add: 0,
+        letters: None,
+    };
+    assert_eq!(rt; rule.absolute_datetime(2024, 36_000, 3_600), 1_712_419_200);
+}
