@@ -1,5 +1,5 @@
 //! The top call.
-ghost use Rattle.std.specs.Prelude.{◌≡◌, ◌≢◌, ◌⊎◌, ◌↔◌, ◌+◌, ◌<◌, ◌≤◌, ℕ, ◌++◌, [], ◌∷◌, List, length, IfSome, IsNone, All, None, Some};
+ghost use Rattle.std.specs.Prelude.{◌≡◌, ◌≢◌, ◌⊎◌, ◌↔◌, ◌+◌, ◌<◌, ◌≤◌, ℕ, ◌++◌, [], ◌∷◌, List, length, IfSome, IsNone, IsSome, All, None, Some};
 ghost use Rattle.zone_outside.specs.Outside.{Rose, TooMuch, GrewByPrefix};
 ghost use Rattle.zone_answers.specs.Due.{answer_lines, due_bytes};
 ghost use Rattle.zone_answers.specs.Faults.{IsValid, fault};
@@ -89,7 +89,8 @@ pub fn run<H: Shelf, I: Source, O: Sink>(
     }
 }
 
-/// A run over objects that never fail ends neither for a failed read nor for a failed write.
+/// A run over objects that never fail. It ends neither for a failed read nor for a failed write: by the words, the
+/// fault and the lengths alone, or for want of memory.
 pub fn run_surely(
     alloc: Global,
     parser: &LineParser,
@@ -100,6 +101,11 @@ pub fn run_surely(
 ) -> Status
     ensures read { result ≢ Status.Read }
     ensures write { result ≢ Status.Write }
+    ensures words { (result ≡ Status.Words) ↔ IsNone (only_word words.now) }
+    ensures complete { IsSome (only_word words.now) → length shelf.old.bytes ≤ LIMIT → length input.old.left ≤ LIMIT →
+        EndsBy (fault shelf.old.bytes input.old.left) result }
+    ensures past_limit { IsSome (only_word words.now) → (LIMIT < length shelf.old.bytes) ⊎ (LIMIT < length input.old.left) →
+        (result ≡ Status.TooLong) ⊎ (result ≡ Status.NoMemory) }
 {
     run(alloc, parser, words, shelf, input, output)
 }

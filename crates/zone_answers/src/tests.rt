@@ -2,8 +2,8 @@
 ghost use Rattle.std.specs.Prelude.{◌<◌};
 
 use crate::{
-    AnswerError, MemShelf, MemSink, MemSource, Status, SureShelf, SureSink, SureSource, answers,
-    read_table, run, run_surely, write_fault,
+    AnswerError, Answers, MemShelf, MemSink, MemSource, Status, SureShelf, SureSink, SureSource,
+    answers, read_table, run, run_surely, write_fault,
 };
 use std::alloc::{AllocError, Global};
 use std::process::Abort;
@@ -275,12 +275,15 @@ fn answers_are_lines(rt: HostRuntime) -> Result<(), Fail> {
         return Err(Fail::from("refused"));
     };
     assert_eq!(rt; lines.len(), 2);
-    assert_eq!(rt;
-        lines.get(1).ok_or("no line")?,
-        b"1970-01-01 01:29:59.999999999 +01:30:00".as_slice()
-    );
-    assert!(rt; lines.get(2).is_none());
+    let last = b"1970-01-01 01:29:59.999999999 +01:30:00";
+    expect_line(&rt, &lines, 1, Some(last));
+    expect_line(&rt, &lines, 2, None);
     Ok(())
+}
+
+/// Asserts the line at a place.
+fn expect_line(rt: &impl Abort, lines: &Answers, place: usize, line: Option<&[u8]>) {
+    assert_eq!(rt; lines.get(place), line);
 }
 
 #[test]

@@ -67,7 +67,8 @@ pub fn read_all<S: Source>(alloc: Global, source: &mut S) -> Result<Vec<u8>, Rea
 
 /// Reads the whole text of a name, of at most 16,777,216 bytes.
 ///
-/// `Failed` comes where the name can't be fetched or a read fails, and `TooLong` as soon as more than the limit was given.
+/// `Failed` comes where the name can't be fetched or a read fails, and `TooLong` as soon as more than the limit was
+/// given. After a refusal the shelf may have given a first part of the text, or still have what was left before.
 pub fn fetch_all<H: Shelf>(alloc: Global, shelf: &mut H, name: &str) -> Result<Vec<u8>, ReadEnd>
     requires { H.open_to shelf.old name.now }
     ensures names { KeepsNames (H.told shelf.old) (H.told shelf.new) (H.open_to shelf.old) (H.open_to shelf.new) }
