@@ -1,5 +1,5 @@
 //! The top call.
-ghost use Rattle.std.specs.Prelude.{◌≡◌, ◌≢◌, ◌⊎◌, ◌↔◌, ◌+◌, ◌<◌, ◌≤◌, ℕ, ◌++◌, [], ◌∷◌, List, length, IfSome, IsNone, IsSome, All, None, Some};
+ghost use Rattle.std.specs.Prelude.{◌≡◌, ◌≢◌, ◌⊎◌, ◌↔◌, ◌+◌, ◌<◌, ◌≤◌, ℕ, ◌++◌, [], List, length, IfSome, IsNone, IsSome, All, None, Some};
 ghost use Rattle.zone_outside.specs.Outside.{Rose, TooMuch, GrewByPrefix};
 ghost use Rattle.zone_answers.specs.Due.{answer_lines, due_bytes};
 ghost use Rattle.zone_answers.specs.Faults.{IsValid, fault};

@@ -1,5 +1,5 @@
 //! The schedules of zones.
-ghost use Rattle.std.specs.Prelude.{◌≡◌, pos, neg_ℤ, ◌≤ℤ◌, IsTrue};
+ghost use Rattle.std.specs.Prelude.{◌≡◌, IsTrue};
 ghost use Rattle.std.specs.List.{list_all};
 ghost use Rattle.zone_table.specs.Bounds.{is_bounded_info};
 ghost use Rattle.zone_answers.specs.Schedules.{schedule_of, fixed, saved_seconds, total_of};

@@ -1,5 +1,5 @@
 //! The table of a source.
-ghost use Rattle.std.specs.Prelude.{◌≡◌, ◌≤◌, ◌∷◌, [], ◌++◌, List, None, Some, length, IfOk, IfErr, OnOk, IfSome};
+ghost use Rattle.std.specs.Prelude.{◌≡◌, ◌≤◌, None, Some, length, IfOk, IfErr, OnOk};
 ghost use Rattle.zone_line.specs.Values.{info_value, line_value};
 ghost use Rattle.zone_table.specs.BoundedTables.{IsBoundedTable};
 ghost use Rattle.zone_table.specs.Tables.{IsTableOf};

@@ -1,5 +1,5 @@
 //! A source read to its end, and bytes written whole.
-ghost use Rattle.std.specs.Prelude.{◌≡◌, ℕ, ◌+◌, ◌<◌, ◌≤◌, List, [], ◌++◌, length, IfOk, OnOk, OnErr, IfSome, Some, IsErrOf};
+ghost use Rattle.std.specs.Prelude.{◌≡◌, ◌+◌, ◌<◌, ◌≤◌, [], ◌++◌, length, IfOk, OnOk, OnErr, IfSome, Some, IsErrOf};
 ghost use Rattle.zone_outside.specs.declared.whole.ReadEnd.TheVariants.{Failed, NoMemory};
 ghost use Rattle.zone_outside.specs.Outside.{Counted, GrewByPrefix, KeepsNames, LeavesRest, Rose, TooMuch};
 

@@ -9,7 +9,7 @@ ghost use Rattle.owned.specs.Keyed.{text_cmp};
 ghost use Rattle.std.specs.Map.Iter.{deref};
 ghost use Rattle.std.specs.FinMap as map;
 ghost use Rattle.zone_table.specs.NameTree.{children_in, name_tree, submodule_of, tree_of, time_zone_of};
-ghost use Rattle.zone_table.specs.Shown.{child_value, entry_value};
+ghost use Rattle.zone_table.specs.Shown.{entry_value};
 ghost use Rattle.zone_table.specs.Placed.{placed_cmp, placed_value};
 
 use crate::table::Table;
