@@ -4,8 +4,8 @@ use Rattle.std.proofs.lemmas.List.{reverse-append}
 use Rattle.std.specs.List.{list_all}
 use Rattle.std.specs.Option.{option_or}
 use Rattle.std.specs.Str.{is_utf8}
-use Rattle.zone_line.specs.Bounds.{is_bounded_line}
-use Rattle.zone_line.specs.Values.{LineValue}
+use Rattle.zone_values.specs.Bounds.{is_bounded_line}
+use Rattle.zone_values.specs.Values.{LineValue}
 use Rattle.zone_line.specs.Lines.{value}
 use Rattle.zone_table.specs.Built.{Built, StandsFor, Joins}
 use Rattle.zone_table.specs.Refusals.{refusal, Accepted}

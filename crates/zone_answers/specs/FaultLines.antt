@@ -1,7 +1,7 @@
 -- The lines that tell a fault.
 use Rattle.std.specs.Prelude.{ℕ, List, ◌++◌, codes, decimal}
-use Rattle.zone_line.specs.Faults as line
-use Rattle.zone_line.specs.Faults.{
+use Rattle.zone_values.specs.Faults as line
+use Rattle.zone_values.specs.Faults.{
   failed_year_parse,
   failed_month_parse,
   failed_weekday_parse,

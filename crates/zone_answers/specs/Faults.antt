@@ -2,9 +2,9 @@
 use Rattle.std.specs.Prelude.{◌≡◌, ℕ, suc, Bool, true, false, ◌&&◌, List, [], ◌∷◌, ◌++◌, Option, Some, None, option_map, reverse, Result, Ok, Err, if◌then◌else◌, pos, ◌+ℤ◌, ◌*ℤ◌}
 use Rattle.std.specs.Option.{option_or, option_map_or}
 use Rattle.std.specs.Str.{is_utf8}
-use Rattle.zone_line.specs.Faults as line
+use Rattle.zone_values.specs.Faults as line
 use Rattle.zone_line.specs.Lines.{value}
-use Rattle.zone_line.specs.Values.{SavingValue, no_saving, one_off, multiple, LineValue, space, zone, continuation, rule, link}
+use Rattle.zone_values.specs.Values.{SavingValue, no_saving, one_off, multiple, LineValue, space, zone, continuation, rule, link}
 use Rattle.zone_table.specs.Refusals.{Refusal, surprise_continuation_line, unknown_ruleset, duplicate_link, duplicate_zone, refusal}
 use Rattle.zone_table.specs.declared.zone.ZoneInfo.{ZoneInfo}
 use Rattle.zone_answers.specs.declared.error.BuildKind.{BuildKind}

@@ -1,7 +1,7 @@
 -- How a source line joins those before it, where a builder stands for these.
 use Rattle.std.specs.Prelude.{◌≡◌, ℕ, List, [], ◌∷◌, ◌++◌, true, None}
-use Rattle.zone_line.specs.Bounds.{is_bounded_line}
-use Rattle.zone_line.specs.Values.{LineValue}
+use Rattle.zone_values.specs.Bounds.{is_bounded_line}
+use Rattle.zone_values.specs.Values.{LineValue}
 use Rattle.zone_table.specs.Built.{Built, StandsFor}
 use Rattle.zone_answers.specs.Faults.{line_refusal}
 use Rattle.zone_answers.specs.Told.{TellsOf}

@@ -1,6 +1,6 @@
 -- The fault that the code's error tells; want of memory tells none.
 use Rattle.std.specs.Prelude.{◌≡◌, ℕ, Option, Some, None, MatchOption, option_map}
-use Rattle.zone_line.specs.Faults.{fault_of}
+use Rattle.zone_values.specs.Faults.{fault_of}
 use Rattle.zone_answers.specs.Faults.{Fault, source_not_text, bad_line, bad_join, not_built, request_not_text, bad_request, unknown_zone, offset_range, range}
 use Rattle.zone_answers.specs.declared.error.AnswerError.{AnswerError}
 use Rattle.zone_answers.specs.declared.error.AnswerError.TheVariants as error

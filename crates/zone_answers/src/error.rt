@@ -1,7 +1,7 @@
 //! Why a source or a request is refused.
 
 ghost use Rattle.std.specs.Prelude.{◌≡◌, is_none};
-ghost use Rattle.zone_line.specs.Faults.{fault_of};
+ghost use Rattle.zone_values.specs.Faults.{fault_of};
 
 use std::alloc::AllocError;
 
@@ -63,7 +63,7 @@ impl From<AllocError> for AnswerError {
 
 impl AnswerError {
     ghost use Rattle.std.specs.Prelude.{◌≡◌, is_some, is_none, MatchOption, Some};
-    ghost use Rattle.zone_line.specs.Faults.{fault_of};
+    ghost use Rattle.zone_values.specs.Faults.{fault_of};
     ghost use Rattle.zone_table.specs.Built.{refusal_of};
     ghost use Rattle.zone_answers.specs.Faults.{bad_line, bad_join, kind_of};
     ghost use Rattle.zone_answers.specs.Told.{fault_told};

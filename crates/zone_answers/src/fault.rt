@@ -1,7 +1,7 @@
 //! The line that tells a fault.
 ghost use Rattle.std.specs.Prelude.{◌≡◌, ◌+◌, ◌≤◌, [], ◌∷◌, ◌++◌, length, take, IsSome, IfSome};
 ghost use Rattle.zone_answers.specs.FaultLines.{fault_line, build_cause, line_cause, line_with};
-ghost use Rattle.zone_line.specs.Faults.{fault_of};
+ghost use Rattle.zone_values.specs.Faults.{fault_of};
 ghost use Rattle.zone_answers.specs.Told.{fault_told};
 
 use crate::error::{AnswerError, BuildKind, Side};

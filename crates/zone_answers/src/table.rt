@@ -1,6 +1,6 @@
 //! The table of a source.
 ghost use Rattle.std.specs.Prelude.{◌≡◌, ◌≤◌, None, Some, length, IfOk, IfErr, OnOk};
-ghost use Rattle.zone_line.specs.Values.{info_value, line_value};
+ghost use Rattle.zone_values.specs.Values.{info_value, line_value};
 ghost use Rattle.zone_table.specs.BoundedTables.{IsBoundedTable};
 ghost use Rattle.zone_table.specs.Tables.{IsTableOf};
 ghost use Rattle.zone_answers.specs.Faults.{is_unbuilt, names_ruleset, source_fault};

@@ -7,30 +7,34 @@ use Rattle.std.specs.Str.Parse.{without_leading_sign, signed_digits_value}
 use Rattle.std.proofs.lemmas.Int.{ints}
 use Rattle.std.proofs.lemmas.Grind.{common_steps}
 use lib.Signed.{mag}
-use Rattle.zone_line.specs.Bounds.{are_small_seconds, is_bounded_end, is_bounded_saving, is_bounded_info, is_bounded_rule, is_bounded_line}
+use Rattle.zone_values.specs.Bounds.{are_small_seconds, is_bounded_end, is_bounded_saving, is_bounded_info, is_bounded_rule, is_bounded_line}
 use Rattle.zone_line.specs.Clocks.{ClockTexts, clock_in, minute_clock}
 use Rattle.zone_line.specs.Columns.{InfoTexts, RuleTexts}
 use Rattle.zone_line.specs.DayColumns.{DayTexts, day_columns}
-use Rattle.zone_line.specs.Days.{is_day_number, has_day_number}
-use Rattle.zone_line.specs.Faults.{Fault, invalid_day_spec, invalid_line_type}
-use Rattle.zone_line.specs.Fields.{year_field, to_field, month_field, weekday_field, type_field, day_number, sided_day, last_weekday, after_last, day_field, time_field, wall_field, is_ruleset_name}
+use Rattle.zone_values.specs.Days.{is_day_of_month, has_day_of_month}
+use Rattle.zone_values.specs.Faults.{Fault, invalid_day_spec, invalid_line_type}
+use Rattle.zone_values.specs.Months.{month_field}
+use Rattle.zone_values.specs.Weekdays.{weekday_field}
+use Rattle.zone_values.specs.Years.{year_field}
+use Rattle.zone_line.specs.Fields.{to_field, type_field, day_of_month, sided_day, last_weekday, after_last, day_field, time_field, wall_field, is_ruleset_name}
 use Rattle.zone_line.specs.Kinds.{LineKind, kind_of}
 use Rattle.zone_line.specs.Kinds as kind
 use Rattle.zone_line.specs.Lines.{one_off_field, saving_field, until, has_yearless_end, some_end, end_of, info_of, rule_of, value_of_kind, value}
-use Rattle.zone_line.specs.Numbers.{is_numeral, signed_in, two_digits, digit_of}
+use Rattle.zone_values.specs.Numbers.{is_numeral, signed_in}
+use Rattle.zone_line.specs.Digits.{two_digits, digit_of}
 use Rattle.zone_line.specs.Options.{first_some}
 use Rattle.zone_line.specs.Results as results
-use Rattle.zone_line.specs.Seconds.{seconds_of, with_type}
+use Rattle.zone_values.specs.Seconds.{seconds_of, with_type}
 use Rattle.zone_line.specs.Times.{no_time, hours_alone, is_bare, signed, clock_type, clock_time, time_of, if_wall, if_by_wall}
-use Rattle.zone_line.specs.Values.{SavingValue, InfoValue, RuleValue, LineValue}
-use Rattle.zone_line.specs.declared.change.ChangeTime.{ChangeTime}
-use Rattle.zone_line.specs.declared.day.DaySpec.{DaySpec}
-use Rattle.zone_line.specs.declared.day.DaySpec.TheVariants.{Ordinal, LastOnOrBefore, FirstOnOrAfter}
-use Rattle.zone_line.specs.declared.time.TimeSpec.{TimeSpec}
-use Rattle.zone_line.specs.declared.time.TimeSpec.TheVariants.{Hours, HoursMinutes, HoursMinutesSeconds, Zero}
-use Rattle.zone_line.specs.declared.time.TimeSpecAndType.{TimeSpecAndType}
-use Rattle.zone_line.specs.declared.time.TimeType.{TimeType}
-use Rattle.zone_line.specs.declared.time.TimeType.TheVariants.{Wall, Standard, UTC}
+use Rattle.zone_values.specs.Values.{SavingValue, InfoValue, RuleValue, LineValue}
+use Rattle.zone_values.specs.declared.change.ChangeTime.{ChangeTime}
+use Rattle.zone_values.specs.declared.day.DaySpec.{DaySpec}
+use Rattle.zone_values.specs.declared.day.DaySpec.TheVariants.{Ordinal, LastOnOrBefore, FirstOnOrAfter}
+use Rattle.zone_values.specs.declared.time.TimeSpec.{TimeSpec}
+use Rattle.zone_values.specs.declared.time.TimeSpec.TheVariants.{Hours, HoursMinutes, HoursMinutesSeconds, Zero}
+use Rattle.zone_values.specs.declared.time.TimeSpecAndType.{TimeSpecAndType}
+use Rattle.zone_values.specs.declared.time.TimeType.{TimeType}
+use Rattle.zone_values.specs.declared.time.TimeType.TheVariants.{Wall, Standard, UTC}
 
 -- what passes through the steps of a reading
 onward : {A B E : Type 0} (P : A → Type 0) (Q : B → Type 0) (r : Result A E) (next : A → Result B E)
@@ -192,22 +196,22 @@ wall_field-small text = onward Timed HasSmallSeconds (time_field text) _ (time_f
 
 -- days
 abbrev Numbered : DaySpec → Type 0
-Numbered day = IsTrue (has_day_number day)
+Numbered day = IsTrue (has_day_of_month day)
 
-day_number-passes : (text : List ℕ) → IfSome (day_number text) (λ n. IsTrue (is_day_number n))
-day_number-passes text = some_where (λ n. IsTrue (is_day_number n)) (is_numeral text) _
+day_of_month-passes : (text : List ℕ) → IfSome (day_of_month text) (λ n. IsTrue (is_day_of_month n))
+day_of_month-passes text = some_where (λ n. IsTrue (is_day_of_month n)) (is_numeral text) _
     (λ _. some_of (signed_in (2 ^ 7) text))
   where
-    some_of : (o : Option ℤ) → IfSome (option_and_then (λ n. if is_day_number n then Some n else None) o) (λ n. IsTrue (is_day_number n))
+    some_of : (o : Option ℤ) → IfSome (option_and_then (λ n. if is_day_of_month n then Some n else None) o) (λ n. IsTrue (is_day_of_month n))
     some_of None = tt
-    some_of (Some n) = some_where (λ n. IsTrue (is_day_number n)) (is_day_number n) (Some n) (λ passed. passed)
+    some_of (Some n) = some_where (λ n. IsTrue (is_day_of_month n)) (is_day_of_month n) (Some n) (λ passed. passed)
 
 sided_day-passes : (text : List ℕ) (columns : DayTexts) → IfOk (sided_day text columns) Numbered
 unfolding sided_day
 sided_day-passes text columns =
     onward (λ _. Unit {0}) Numbered (weekday_field columns.weekday) _ (any_ok (weekday_field columns.weekday)) (λ weekday _.
-    onward (λ n. IsTrue (is_day_number n)) Numbered (ok_or (day_number columns.day) (invalid_day_spec text)) _
-    (ok_where (λ n. IsTrue (is_day_number n)) (day_number columns.day) _ (day_number-passes columns.day))
+    onward (λ n. IsTrue (is_day_of_month n)) Numbered (ok_or (day_of_month columns.day) (invalid_day_spec text)) _
+    (ok_where (λ n. IsTrue (is_day_of_month n)) (day_of_month columns.day) _ (day_of_month-passes columns.day))
     (λ number passed. either Numbered (bytes_eq columns.sign (codes "<=")) (LastOnOrBefore weekday number) (FirstOnOrAfter weekday number) passed passed))
 
 last_weekday-passes : (text : List ℕ) → IfOk (last_weekday text) Numbered
@@ -217,8 +221,8 @@ last_weekday-passes text = onward (λ _. Unit {0}) Numbered (weekday_field text)
 day_field-passes : (text : List ℕ) → IfOk (day_field text) Numbered
 unfolding day_field
 day_field-passes text = ok_either Numbered (is_numeral text) _ _
-    (ok_where Numbered (option_map Ordinal (day_number text)) _
-    (some_mapped (λ n. IsTrue (is_day_number n)) Numbered (day_number text) Ordinal (day_number-passes text) (λ n passed. passed)))
+    (ok_where Numbered (option_map Ordinal (day_of_month text)) _
+    (some_mapped (λ n. IsTrue (is_day_of_month n)) Numbered (day_of_month text) Ordinal (day_of_month-passes text) (λ n passed. passed)))
     (after (after_last text) (day_columns text))
   where
     sided_or : (o : Option DayTexts) → IfOk (option_map_or (sided_day text) o (Err (invalid_day_spec text))) Numbered
@@ -247,12 +251,12 @@ until-bounded year (Some month) None time =
 until-bounded year (Some month) (Some day) None =
     onward Any Bounded (year_field year) _ (any_ok (year_field year)) (λ y _.
     onward Any Bounded (month_field month) _ (any_ok (month_field month)) (λ m _.
-    onward Numbered Bounded (day_field day) _ (day_field-passes day) (λ d numbered. both (has_day_number d) true numbered refl)))
+    onward Numbered Bounded (day_field day) _ (day_field-passes day) (λ d numbered. both (has_day_of_month d) true numbered refl)))
 until-bounded year (Some month) (Some day) (Some time) =
     onward Any Bounded (year_field year) _ (any_ok (year_field year)) (λ y _.
     onward Any Bounded (month_field month) _ (any_ok (month_field month)) (λ m _.
     onward Numbered Bounded (day_field day) _ (day_field-passes day) (λ d numbered.
-    onward Timed Bounded (time_field time) _ (time_field-small time) (λ t small. both (has_day_number d) _ numbered small))))
+    onward Timed Bounded (time_field time) _ (time_field-small time) (λ t small. both (has_day_of_month d) _ numbered small))))
 
 -- lines
 abbrev BoundedSaving : SavingValue → Type 0

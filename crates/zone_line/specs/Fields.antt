@@ -3,38 +3,25 @@ use Rattle.std.specs.Prelude.{ℕ, ℤ, pos, List, [], ◌∷◌, take, drop, Bo
 use Rattle.std.specs.Char.{is_ascii_alphabetic}
 use Rattle.std.specs.List.{list_all}
 use Rattle.std.specs.Option.{option_map_or}
-use Rattle.zone_line.specs.Faults.{Fault, failed_year_parse, failed_month_parse, failed_weekday_parse, type_column_contained_non_hyphen, invalid_day_spec, invalid_time_spec_and_type, non_wall_clock_in_time_spec}
+use Rattle.zone_values.specs.Faults.{Fault, type_column_contained_non_hyphen, invalid_day_spec, invalid_time_spec_and_type, non_wall_clock_in_time_spec}
 use Rattle.zone_line.specs.Results.{◌>>=◌}
-use Rattle.zone_line.specs.Names.{lower}
-use Rattle.zone_line.specs.Numbers.{is_numeral, signed_in}
-use Rattle.zone_line.specs.Years.{year_named}
-use Rattle.zone_line.specs.Months.{month_named}
-use Rattle.zone_line.specs.Weekdays.{weekday_named}
+use Rattle.zone_values.specs.Numbers.{is_numeral, signed_in}
+use Rattle.zone_values.specs.Years.{year_field}
+use Rattle.zone_values.specs.Weekdays.{weekday_field}
 use Rattle.zone_line.specs.Times.{time_of, if_wall}
 use Rattle.zone_line.specs.DayColumns.{DayTexts, day_columns}
-use Rattle.zone_line.specs.declared.year.Year.{Year}
-use Rattle.zone_line.specs.declared.month.Month.{Month}
-use Rattle.zone_line.specs.declared.weekday.Weekday.{Weekday}
-use Rattle.zone_line.specs.declared.time.TimeSpec.{TimeSpec}
-use Rattle.zone_line.specs.declared.time.TimeSpecAndType.{TimeSpecAndType}
-use Rattle.zone_line.specs.declared.day.DaySpec.{DaySpec}
-use Rattle.zone_line.specs.declared.day.DaySpec.TheVariants.{Ordinal, Last, LastOnOrBefore, FirstOnOrAfter}
-
-abbrev pub year_field : List ℕ → Result Year Fault
-year_field text = ok_or (year_named text) (failed_year_parse text)
+use Rattle.zone_values.specs.declared.year.Year.{Year}
+use Rattle.zone_values.specs.declared.weekday.Weekday.{Weekday}
+use Rattle.zone_values.specs.declared.time.TimeSpec.{TimeSpec}
+use Rattle.zone_values.specs.declared.time.TimeSpecAndType.{TimeSpecAndType}
+use Rattle.zone_values.specs.declared.day.DaySpec.{DaySpec}
+use Rattle.zone_values.specs.declared.day.DaySpec.TheVariants.{Ordinal, Last, LastOnOrBefore, FirstOnOrAfter}
 
 -- the last year of a rule: `only` is none of its own
 unfoldable pub to_field : List ℕ → Result (Option Year) Fault
 to_field text = if bytes_eq text (codes "only") then Ok None else (do
   year ← year_field text
   Ok (Some year))
-
--- the fault of a month or a weekday holds the text in ASCII lower case
-abbrev pub month_field : List ℕ → Result Month Fault
-month_field text = ok_or (month_named text) (failed_month_parse (lower text))
-
-abbrev pub weekday_field : List ℕ → Result Weekday Fault
-weekday_field text = ok_or (weekday_named text) (failed_weekday_parse (lower text))
 
 -- a hyphen, of ASCII or U+2010
 abbrev pub type_field : List ℕ → Result (List ℕ) Fault
@@ -56,8 +43,8 @@ wall_field text = do
   ok_or (if_wall time) (non_wall_clock_in_time_spec text)
 
 -- 1 to 31, by ASCII digits alone
-abbrev pub day_number : List ℕ → Option ℤ
-day_number text =
+abbrev pub day_of_month : List ℕ → Option ℤ
+day_of_month text =
     if is_numeral text
     then option_and_then (λ n. if int_le (pos 1) n && int_le n (pos 31) then Some n else None) (signed_in (2 ^ 7) text)
     else None
@@ -71,7 +58,7 @@ sided sign weekday number =
 unfoldable pub sided_day : List ℕ → DayTexts → Result DaySpec Fault
 sided_day text columns = do
   weekday ← weekday_field columns.weekday
-  number ← ok_or (day_number columns.day) (invalid_day_spec text)
+  number ← ok_or (day_of_month columns.day) (invalid_day_spec text)
   Ok (sided columns.sign weekday number)
 
 -- the last such weekday of the month
@@ -87,7 +74,7 @@ after_last text = if bytes_eq (take 4 text) (codes "last") then Some (drop 4 tex
 -- a number, `last` and a weekday, or a weekday on one side of a number
 unfoldable pub day_field : List ℕ → Result DaySpec Fault
 day_field text =
-    if is_numeral text then ok_or (option_map Ordinal (day_number text)) (invalid_day_spec text)
+    if is_numeral text then ok_or (option_map Ordinal (day_of_month text)) (invalid_day_spec text)
     else option_map_or last_weekday (after_last text) (
     option_map_or (sided_day text) (day_columns text) (Err (invalid_day_spec text)))
 

@@ -1,16 +1,18 @@
 -- The value of a line: tables from the texts of its columns to values; the first fault is the fault.
 use Rattle.std.specs.Prelude.{ℕ, List, Bool, ◌||◌, Option, Some, None, is_some, Result, Ok, Err, codes, bytes_eq, if◌then◌else◌}
 use Rattle.std.specs.Option.{option_map_or}
-use Rattle.zone_line.specs.Faults.{Fault, invalid_line_type, could_not_parse_saving}
+use Rattle.zone_values.specs.Faults.{Fault, invalid_line_type, could_not_parse_saving}
 use Rattle.zone_line.specs.Results.{◌>>=◌}
 use Rattle.zone_line.specs.Columns.{InfoTexts, RuleTexts}
 use Rattle.zone_line.specs.Clocks.{minute_clock}
 use Rattle.zone_line.specs.Kinds.{LineKind, kind_of}
 use Rattle.zone_line.specs.Kinds as kind
-use Rattle.zone_line.specs.Fields.{year_field, to_field, type_field, month_field, day_field, time_field, wall_field, letters_of, is_ruleset_name}
-use Rattle.zone_line.specs.Values.{SavingValue, no_saving, one_off, multiple, InfoValue, RuleValue, LineValue, space, zone, continuation, rule, link}
-use Rattle.zone_line.specs.declared.change.ChangeTime.{ChangeTime}
-use Rattle.zone_line.specs.declared.change.ChangeTime.TheVariants.{UntilYear, UntilMonth, UntilDay, UntilTime}
+use Rattle.zone_values.specs.Months.{month_field}
+use Rattle.zone_values.specs.Years.{year_field}
+use Rattle.zone_line.specs.Fields.{to_field, type_field, day_field, time_field, wall_field, letters_of, is_ruleset_name}
+use Rattle.zone_values.specs.Values.{SavingValue, no_saving, one_off, multiple, InfoValue, RuleValue, LineValue, space, zone, continuation, rule, link}
+use Rattle.zone_values.specs.declared.change.ChangeTime.{ChangeTime}
+use Rattle.zone_values.specs.declared.change.ChangeTime.TheVariants.{UntilYear, UntilMonth, UntilDay, UntilTime}
 
 -- a text that the pattern of hours and minutes matches is an amount of time
 unfoldable pub one_off_field : List ℕ → Result SavingValue Fault

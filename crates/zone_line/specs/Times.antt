@@ -4,14 +4,15 @@ use Rattle.std.specs.Char.{is_ascii_digit}
 use Rattle.std.specs.List.{list_all, list_any}
 use Rattle.std.specs.Option.{option_map_or}
 use Rattle.zone_line.specs.Options.{◌>>=◌, first_some}
-use Rattle.zone_line.specs.Numbers.{two_digits, signed_in}
+use Rattle.zone_values.specs.Numbers.{signed_in}
+use Rattle.zone_line.specs.Digits.{two_digits}
 use Rattle.zone_line.specs.Clocks.{ClockTexts, clock_in}
-use Rattle.zone_line.specs.Seconds.{with_type}
-use Rattle.zone_line.specs.declared.time.TimeSpec.{TimeSpec}
-use Rattle.zone_line.specs.declared.time.TimeSpec.TheVariants.{Hours, HoursMinutes, HoursMinutesSeconds, Zero}
-use Rattle.zone_line.specs.declared.time.TimeType.{TimeType}
-use Rattle.zone_line.specs.declared.time.TimeType.TheVariants.{Wall, Standard, UTC}
-use Rattle.zone_line.specs.declared.time.TimeSpecAndType.{TimeSpecAndType}
+use Rattle.zone_values.specs.Seconds.{with_type}
+use Rattle.zone_values.specs.declared.time.TimeSpec.{TimeSpec}
+use Rattle.zone_values.specs.declared.time.TimeSpec.TheVariants.{Hours, HoursMinutes, HoursMinutesSeconds, Zero}
+use Rattle.zone_values.specs.declared.time.TimeType.{TimeType}
+use Rattle.zone_values.specs.declared.time.TimeType.TheVariants.{Wall, Standard, UTC}
+use Rattle.zone_values.specs.declared.time.TimeSpecAndType.{TimeSpecAndType}
 
 -- a hyphen is no time at all
 abbrev pub no_time : List ℕ → Option TimeSpecAndType

@@ -1,34 +1,17 @@
 //! The values of a line's columns, where they take no pattern.
 ghost use Rattle.std.specs.Prelude.{◌≡◌, option_map};
-ghost use Rattle.zone_line.specs.Faults.{told};
+ghost use Rattle.zone_values.specs.Faults.{told};
 ghost use Rattle.zone_line.specs.Fields.{
-  year_field,
   to_field,
-  month_field,
-  weekday_field,
   type_field,
   letters_of,
   after_last,
-  day_number,
+  day_of_month,
   is_ruleset_name,
 };
 
-use crate::fault::Fault;
-use crate::month::Month;
-use crate::names::{month_named, weekday_named, year_named};
 use crate::number::{is_numeral, small_number};
-use crate::weekday::Weekday;
-use crate::year::Year;
-
-/// A year.
-pub(crate) fn year_field(text: &str) -> Result<Year, Fault<'_>>
-    ensures { told (λ year. year) result ≡ year_field text.now }
-{
-    match year_named(text) {
-        Some(year) => Ok(year),
-        None => Err(Fault::Year(text)),
-    }
-}
+use zone_values::{Fault, Year};
 
 /// The last year of a rule: `only` is none of its own.
 #[tactic(auto, unfolding(crate::specs::Fields::to_field))]
@@ -38,27 +21,7 @@ pub(crate) fn to_field(text: &str) -> Result<Option<Year>, Fault<'_>>
     if text == "only" {
         return Ok(None);
     }
-    Ok(Some(year_field(text)?))
-}
-
-/// A month.
-pub(crate) fn month_field(text: &str) -> Result<Month, Fault<'_>>
-    ensures { told (λ month. month) result ≡ month_field text.now }
-{
-    match month_named(text) {
-        Some(month) => Ok(month),
-        None => Err(Fault::Month(text)),
-    }
-}
-
-/// A weekday.
-pub(crate) fn weekday_field(text: &str) -> Result<Weekday, Fault<'_>>
-    ensures { told (λ weekday. weekday) result ≡ weekday_field text.now }
-{
-    match weekday_named(text) {
-        Some(weekday) => Ok(weekday),
-        None => Err(Fault::Weekday(text)),
-    }
+    Ok(Some(Year::read(text)?))
 }
 
 /// The TYPE column of a rule, which has to be a hyphen, of ASCII or U+2010.
@@ -87,8 +50,8 @@ pub(crate) fn after_last(text: &str) -> Option<&str>
 }
 
 /// A day of the month: ASCII digits alone, from 1 to 31.
-pub(crate) fn day_number(text: &str) -> Option<i8>
-    ensures { result ≡ day_number text.now }
+pub(crate) fn day_of_month(text: &str) -> Option<i8>
+    ensures { result ≡ day_of_month text.now }
 {
     if !is_numeral(text) {
         return None;

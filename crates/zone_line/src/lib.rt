@@ -4,38 +4,22 @@
 //! them: blank lines and comments, Zone lines, their continuations, Rule lines and Link lines.
 #![tactic(auto)]
 
-mod change;
-mod clock;
 mod columns;
-mod day;
-mod error;
-mod fault;
 mod fields;
 mod kind;
-mod line;
-mod month;
-mod names;
 mod number;
 mod parser;
 mod patterns;
 mod reader;
 mod texts;
-mod time;
-mod times;
-mod values;
-mod weekday;
-mod year;
+mod time_texts;
 
-pub use change::ChangeTime;
-pub use day::DaySpec;
-pub use error::Error;
-pub use line::{Line, Link, Rule, Saving, Zone, ZoneInfo};
-pub use month::Month;
 pub use parser::{LineParser, NotBuilt};
 pub use reader::LineReader;
-pub use time::{TimeSpec, TimeSpecAndType, TimeType};
-pub use weekday::Weekday;
-pub use year::Year;
+pub use zone_values::{
+    ChangeTime, DaySpec, Error, Fault, Line, Link, Month, Rule, Saving, TimeSpec, TimeSpecAndType,
+    TimeType, Weekday, Year, Zone, ZoneInfo,
+};
 
 #[cfg(test)]
 mod tests;

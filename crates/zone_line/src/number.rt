@@ -2,10 +2,11 @@
 ghost use Rattle.std.specs.Prelude.{◌≡◌, ◌^◌, ◌<◌, IfSome};
 ghost use Rattle.std.specs.Char.{is_ascii_digit};
 ghost use Rattle.std.specs.List.{list_all};
-ghost use Rattle.zone_line.specs.Numbers.{digit_of, two_digits, signed_in, is_numeral};
+ghost use Rattle.zone_values.specs.Numbers.{signed_in, is_numeral};
+ghost use Rattle.zone_line.specs.Digits.{digit_of, two_digits};
 
 /// The value of one or two ASCII digits.
-#[tactic(auto, unfolding(crate::specs::Numbers::two_digits))]
+#[tactic(auto, unfolding(crate::specs::Digits::two_digits))]
 pub(crate) fn two_digits(text: &str) -> Option<u8>
     ensures value { result ≡ two_digits text.now }
     ensures bound { IfSome result (λ number. number < 100) }
@@ -22,13 +23,6 @@ pub(crate) fn small_number(text: &str) -> Option<i8>
     ensures { result ≡ signed_in (2 ^ 7) text.now }
 {
     text.parse::<i8>().ok()
-}
-
-/// The number of 64 bits that Rust reads in the text.
-pub(crate) fn large_number(text: &str) -> Option<i64>
-    ensures { result ≡ signed_in (2 ^ 63) text.now }
-{
-    text.parse::<i64>().ok()
 }
 
 /// Whether the text is of ASCII digits alone, of which there is one at least.

@@ -11,13 +11,12 @@ ghost use Rattle.zone_line.specs.Texts.{
   hms_text,
 };
 
-use crate::error::Error;
-use crate::line::Line;
 use crate::patterns::compile;
 use crate::reader::LineReader;
 use crate::texts;
 use regex::Regex;
 use std::alloc::{AllocError, Global};
+use zone_values::{Error, Line};
 
 /// The crate `regex` refused a pattern, for want of memory or for its size.
 #[derive(Clone, Copy, Debug, PartialEq, Eq)]
@@ -47,10 +46,10 @@ pub struct LineParser {
 
 impl LineParser {
     ghost use Rattle.std.specs.Prelude.{IfOk, IsTrue};
-    ghost use Rattle.zone_line.specs.Bounds.{is_bounded_line};
-    ghost use Rattle.zone_line.specs.Faults.{Tells};
+    ghost use Rattle.zone_values.specs.Bounds.{is_bounded_line};
+    ghost use Rattle.zone_values.specs.Faults.{Tells};
     ghost use Rattle.zone_line.specs.Lines.{value};
-    ghost use Rattle.zone_line.specs.Values.{line_value};
+    ghost use Rattle.zone_values.specs.Values.{line_value};
 
     /// Compiles the patterns. `NotBuilt` comes where the crate `regex` refuses one of them.
     pub fn new(alloc: Global) -> Result<LineParser, NotBuilt> {

@@ -12,6 +12,9 @@ ghost use Rattle.zone_line.specs.Texts.{
   hms_text,
 };
 
+mod lines;
+mod matched_fields;
+
 use crate::columns::{
     ClockColumns, DayColumns, InfoColumns, LinkColumns, RuleColumns, ZoneColumns, day_columns,
     info_columns, link_columns, minute_clock, rule_columns, second_clock, zone_columns,

@@ -6,8 +6,8 @@ use Rattle.std.proofs.lemmas.List.{reverse-append}
 use Rattle.std.proofs.lemmas.List.Folds.{list_all-append}
 use Rattle.std.proofs.lemmas.List.Sums.{list_all-from_AllPass}
 use Rattle.owned.specs.Listed.{listed}
-use Rattle.zone_line.specs.Bounds.{is_bounded_line}
-use Rattle.zone_line.specs.Values.{LineValue, space, zone, continuation, rule, link}
+use Rattle.zone_values.specs.Bounds.{is_bounded_line}
+use Rattle.zone_values.specs.Values.{LineValue, space, zone, continuation, rule, link}
 use Rattle.zone_table.proofs.BoolLemmas.{both, first, second}
 use Rattle.zone_table.proofs.OwnedBounds.{owned_info-bounded}
 use Rattle.zone_table.specs.BoundedTables.{IsBoundedTable}

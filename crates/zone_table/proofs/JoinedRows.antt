@@ -1,8 +1,8 @@
 -- Worked rows of what lines join to, whatever their rules and zone lines say. Each list has the latest first.
 use Rattle.std.specs.Prelude.{◌≡◌, [], ◌∷◌, Option, Some, None, codes, refl}
-use Rattle.zone_line.specs.declared.change.ChangeTime.{ChangeTime}
-use Rattle.zone_line.specs.declared.time.TimeSpec.{TimeSpec}
-use Rattle.zone_line.specs.Values.{SavingValue, no_saving, multiple, InfoValue, RuleValue, space, zone, continuation, rule, link}
+use Rattle.zone_values.specs.declared.change.ChangeTime.{ChangeTime}
+use Rattle.zone_values.specs.declared.time.TimeSpec.{TimeSpec}
+use Rattle.zone_values.specs.Values.{SavingValue, no_saving, multiple, InfoValue, RuleValue, space, zone, continuation, rule, link}
 use Rattle.zone_table.specs.Joined.{zone_of, owner}
 use Rattle.zone_table.specs.Owned.{owned_info}
 use Rattle.zone_table.specs.Refusals.{surprise_continuation_line, unknown_ruleset, duplicate_link, duplicate_zone, refusal}

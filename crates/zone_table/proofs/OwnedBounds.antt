@@ -2,15 +2,15 @@
 use Rattle.std.specs.Prelude.{IsTrue, true, ◌&&◌, Option, Some, None}
 use Rattle.std.specs.Option.{option_map_or}
 use Rattle.std.proofs.lemmas.Bool.{and_parts}
-use Rattle.zone_line.specs.Bounds as line
-use Rattle.zone_line.specs.Bounds.{are_small_seconds}
-use Rattle.zone_line.specs.Days.{has_day_number}
-use Rattle.zone_line.specs.Ends.{end_day, end_seconds}
-use Rattle.zone_line.specs.Seconds.{seconds_of}
-use Rattle.zone_line.specs.Values.{SavingValue, no_saving, one_off, multiple, InfoValue, RuleValue}
-use Rattle.zone_line.specs.declared.change.ChangeTime.{ChangeTime}
+use Rattle.zone_values.specs.Bounds as line
+use Rattle.zone_values.specs.Bounds.{are_small_seconds}
+use Rattle.zone_values.specs.Days.{has_day_of_month}
+use Rattle.zone_values.specs.Ends.{end_day, end_seconds}
+use Rattle.zone_values.specs.Seconds.{seconds_of}
+use Rattle.zone_values.specs.Values.{SavingValue, no_saving, one_off, multiple, InfoValue, RuleValue}
+use Rattle.zone_values.specs.declared.change.ChangeTime.{ChangeTime}
 use Rattle.zone_table.proofs.BoolLemmas.{both}
-use Rattle.zone_table.specs.Bounds.{is_bounded_rule, is_bounded_saving, has_end_day_number, is_bounded_info}
+use Rattle.zone_table.specs.Bounds.{is_bounded_rule, is_bounded_saving, is_bounded_info}
 use Rattle.zone_table.specs.Owned.{owned_rule, owned_saving, owned_info}
 
 pub owned_rule-bounded : (rule : RuleValue) → IsTrue (line.is_bounded_rule rule) → IsTrue (is_bounded_rule (owned_rule rule))
@@ -28,6 +28,6 @@ owned_info-bounded info bounded =
     saving (one_off amount) held = held
     saving (multiple name) held = held
 
-    end : (time : Option ChangeTime) → IsTrue (option_map_or line.is_bounded_end time true) → IsTrue (option_map_or has_end_day_number time true)
+    end : (time : Option ChangeTime) → IsTrue (option_map_or line.is_bounded_end time true) → IsTrue (option_map_or (λ end. has_day_of_month (end_day end)) time true)
     end None held = held
-    end (Some time) held = (and_parts (has_day_number (end_day time)) (are_small_seconds (end_seconds time)) held).0
+    end (Some time) held = (and_parts (has_day_of_month (end_day time)) (are_small_seconds (end_seconds time)) held).0

@@ -2,27 +2,23 @@
 -- 1,000,000 in size.
 use Rattle.std.specs.Prelude.{Bool, true, ◌&&◌}
 use Rattle.std.specs.Option.{option_map_or}
-use Rattle.zone_line.specs.Bounds.{are_small_seconds}
-use Rattle.zone_line.specs.Days.{has_day_number}
-use Rattle.zone_line.specs.Ends.{end_day}
-use Rattle.zone_line.specs.declared.change.ChangeTime.{ChangeTime}
+use Rattle.zone_values.specs.Bounds.{are_small_seconds}
+use Rattle.zone_values.specs.Days.{has_day_of_month}
+use Rattle.zone_values.specs.Ends.{end_day}
 use Rattle.zone_table.specs.declared.rule.RuleInfo.{RuleInfo}
 use Rattle.zone_table.specs.declared.zone.Saving.{Saving}
 use Rattle.zone_table.specs.declared.zone.Saving.TheVariants.{OneOff}
 use Rattle.zone_table.specs.declared.zone.ZoneInfo.{ZoneInfo}
 
 abbrev pub is_bounded_rule : RuleInfo → Bool
-is_bounded_rule rule = has_day_number rule.day && are_small_seconds rule.time && are_small_seconds rule.time_to_add
+is_bounded_rule rule = has_day_of_month rule.day && are_small_seconds rule.time && are_small_seconds rule.time_to_add
 
 abbrev pub is_bounded_saving : Saving → Bool
 is_bounded_saving (OneOff amount) = are_small_seconds amount
 is_bounded_saving _ = true
 
 -- where an end has no day of its own, it is the first
-abbrev pub has_end_day_number : ChangeTime → Bool
-has_end_day_number end = has_day_number (end_day end)
-
 abbrev pub is_bounded_info : ZoneInfo → Bool
 is_bounded_info info = are_small_seconds info.offset
     && is_bounded_saving info.saving
-    && option_map_or has_end_day_number info.end_time true
+    && option_map_or (λ end. has_day_of_month (end_day end)) info.end_time true

@@ -1,7 +1,7 @@
 -- What a builder is seen as, and the values that it stands for.
 use Rattle.std.specs.Prelude.{◌≡◌, ℕ, List, [], ◌∷◌, ◌++◌, Option, Some, None, IfSome, reverse, refl, string_bytes}
 use Rattle.std.specs.Coded.{Coded, code_by, coded×, coded_list, coded_ℕ, coded_option}
-use Rattle.zone_line.specs.Values.{LineValue}
+use Rattle.zone_values.specs.Values.{LineValue}
 use Rattle.zone_table.specs.Joined.{owner}
 use Rattle.zone_table.specs.Refusals.{Refusal, surprise_continuation_line, unknown_ruleset, duplicate_link, duplicate_zone, refusal, Accepted}
 use Rattle.zone_table.specs.Tables.{IsTableOfLatest}

@@ -1,6 +1,6 @@
 -- The owned forms of what lines say.
-use Rattle.zone_line.specs.Seconds.{seconds_of}
-use Rattle.zone_line.specs.Values.{SavingValue, no_saving, one_off, multiple, InfoValue, RuleValue}
+use Rattle.zone_values.specs.Seconds.{seconds_of}
+use Rattle.zone_values.specs.Values.{SavingValue, no_saving, one_off, multiple, InfoValue, RuleValue}
 use Rattle.zone_table.specs.Formats.{format_of}
 use Rattle.zone_table.specs.declared.rule.RuleInfo.{RuleInfo}
 use Rattle.zone_table.specs.declared.zone.Saving as code

@@ -2,7 +2,7 @@
 use Rattle.std.specs.Prelude.{◌≡◌, ℕ, Bool, List, [], ◌∷◌, Option, Some, None, is_some, if◌then◌else◌}
 use Rattle.std.specs.Option.{option_or}
 use Rattle.owned.specs.Listed.{listed}
-use Rattle.zone_line.specs.Values.{SavingValue, multiple, LineValue, zone, continuation, link}
+use Rattle.zone_values.specs.Values.{SavingValue, multiple, LineValue, zone, continuation, link}
 use Rattle.zone_table.specs.Joined.{rules_of, zone_of, link_of, owner}
 
 pub data Refusal : Type 0 where

@@ -2,7 +2,7 @@
 use Rattle.std.specs.Prelude.{◌≡◌, ℕ, List, reverse}
 use Rattle.std.specs.FinMap.{get}
 use Rattle.owned.specs.Listed.{listed}
-use Rattle.zone_line.specs.Values.{LineValue}
+use Rattle.zone_values.specs.Values.{LineValue}
 use Rattle.zone_table.specs.Joined.{rules_of, zone_of, link_of}
 use Rattle.zone_table.specs.declared.table.Table.{Table}
 

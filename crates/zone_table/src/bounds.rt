@@ -1,12 +1,11 @@
 //! Whether the numbers of rules and zone lines are small: day numbers from 1 to 31, seconds at most 1,000,000 in size.
 ghost use Rattle.std.specs.Prelude.{◌≡◌};
 ghost use Rattle.std.specs.List.{list_all};
-ghost use Rattle.zone_line.specs.Bounds.{are_small_seconds};
-ghost use Rattle.zone_table.specs.Bounds.{is_bounded_rule, is_bounded_info, has_end_day_number};
+ghost use Rattle.zone_values.specs.Bounds.{are_small_seconds};
+ghost use Rattle.zone_table.specs.Bounds.{is_bounded_rule, is_bounded_info};
 
 use crate::rule::RuleInfo;
 use crate::zone::{Saving, ZoneInfo};
-use zone_line::ChangeTime;
 
 /// Whether all the rules are bounded.
 pub(crate) fn are_bounded_rules(rules: &[RuleInfo]) -> bool
@@ -25,7 +24,7 @@ pub(crate) fn are_bounded_lines(lines: &[ZoneInfo]) -> bool
 fn is_bounded_rule(rule: &RuleInfo) -> bool
     ensures { result ≡ is_bounded_rule rule.now }
 {
-    rule.day.has_day_number() && are_small_seconds(rule.time) && are_small_seconds(rule.time_to_add)
+    rule.day.has_day_of_month() && are_small_seconds(rule.time) && are_small_seconds(rule.time_to_add)
 }
 
 fn is_bounded_info(info: &ZoneInfo) -> bool
@@ -36,21 +35,10 @@ fn is_bounded_info(info: &ZoneInfo) -> bool
         _ => true,
     };
     let end = match info.end_time {
-        Some(end) => has_day_number(end),
+        Some(end) => end.has_day_of_month(),
         None => true,
     };
     are_small_seconds(info.offset) && saving && end
-}
-
-/// Whether the day number of an end is from 1 to 31. A missing day is the first.
-fn has_day_number(end: ChangeTime) -> bool
-    ensures { result ≡ has_end_day_number end }
-{
-    match end {
-        ChangeTime::UntilYear(_) | ChangeTime::UntilMonth(..) => true,
-        ChangeTime::UntilDay(_, _, day) | ChangeTime::UntilTime(_, _, day, _) =>
-            day.has_day_number(),
-    }
 }
 
 fn are_small_seconds(seconds: i64) -> bool

@@ -3,9 +3,9 @@
 //! Each accepted line changes what the builder stands for, and a refused one changes nothing.
 ghost use Rattle.std.specs.Prelude.{◌≡◌, [], List, OnOk, OnErr, IfErr};
 ghost use Rattle.std.specs.List.{AllPass};
-ghost use Rattle.zone_line.specs.Bounds.{is_bounded_line};
-ghost use Rattle.zone_line.specs.Values.{LineValue, line_value};
-ghost use Rattle.zone_line.specs.declared.line.Line.TheVariants as kind;
+ghost use Rattle.zone_values.specs.Bounds.{is_bounded_line};
+ghost use Rattle.zone_values.specs.Values.{LineValue, line_value};
+ghost use Rattle.zone_values.specs.declared.line.Line.TheVariants as kind;
 ghost use Rattle.zone_table.specs.BoundedTables.{IsBoundedTable};
 ghost use Rattle.zone_table.specs.Built.{StandsFor, Joins, IsCause};
 ghost use Rattle.zone_table.specs.Tables.{IsTableOf};
@@ -18,7 +18,7 @@ use crate::zone::ZoneInfo;
 use owned::Text;
 use std::alloc::Global;
 use std::marker::Model;
-use zone_line::{Line, Link, Rule, Saving, Zone};
+use zone_values::{Line, Link, Rule, Saving, Zone};
 
 /// A table that is built line by line. Contracts see the table so far and the name of the zone that is open, if one is:
 /// the zone to which a continuation would be appended.
@@ -106,7 +106,7 @@ impl TableBuilder {
     /// [`Error::SurpriseContinuationLine`] where no zone is open; [`Error::NoMemory`].
     pub fn add_continuation_line(
         &mut self,
-        continuation_line: zone_line::ZoneInfo<'_>,
+        continuation_line: zone_values::ZoneInfo<'_>,
     ) -> Result<(), Error>
         ensures ok { OnOk result (Joins self.old self.new (line_value (kind.Continuation continuation_line.entry))) }
         ensures err { OnErr result (self.new ≡ self.old) }

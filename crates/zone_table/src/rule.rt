@@ -1,8 +1,8 @@
 //! Rules.
 ghost use Rattle.std.specs.Prelude.{◌≡◌, pos, neg_ℤ, ◌≤ℤ◌, ◌+ℤ◌, ◌*ℤ◌, IfOk, IsTrue, option_map};
-ghost use Rattle.zone_line.specs.Bounds.{are_small_seconds};
-ghost use Rattle.zone_line.specs.Days.{has_day_number, is_in_year, named_day};
-ghost use Rattle.zone_line.specs.Values.{rule_value};
+ghost use Rattle.zone_values.specs.Bounds.{are_small_seconds};
+ghost use Rattle.zone_values.specs.Days.{has_day_of_month, is_in_year, named_day};
+ghost use Rattle.zone_values.specs.Values.{rule_value};
 ghost use Rattle.zone_table.specs.Moments.{
   is_number,
   has_last_year,
@@ -17,7 +17,7 @@ ghost use Rattle.zone_table.specs.Owned.{owned_rule};
 
 use owned::Text;
 use std::alloc::{AllocError, Global};
-use zone_line::{DaySpec, Month, TimeType, Year};
+use zone_values::{DaySpec, Month, TimeType, Year};
 
 /// A rule of a ruleset.
 #[derive(Debug, Drop, PartialEq)]
@@ -42,7 +42,7 @@ pub struct RuleInfo {
 
 impl RuleInfo {
     /// The owned form of a rule: its times are seconds, and its name is not kept.
-    pub fn from_line(alloc: Global, info: zone_line::Rule<'_>) -> Result<RuleInfo, AllocError>
+    pub fn from_line(alloc: Global, info: zone_values::Rule<'_>) -> Result<RuleInfo, AllocError>
         ensures { IfOk result (λ owned. owned ≡ owned_rule (rule_value info.entry)) }
     {
         Ok(RuleInfo {
@@ -84,7 +84,7 @@ impl RuleInfo {
     pub fn absolute_datetime(&self, year: i64, utc_offset: i64, dst_offset: i64) -> i64
         requires first_year { pos 1 ≤ℤ year }
         requires last_year { year ≤ℤ pos 9999 }
-        requires number { IsTrue (has_day_number self.now.day) }
+        requires number { IsTrue (has_day_of_month self.now.day) }
         requires in_year { IsTrue (is_in_year (named_day self.now.day year self.now.month) year) }
         requires time { IsTrue (are_small_seconds self.now.time) }
         requires offset { IsTrue (are_small_seconds utc_offset) }

@@ -3,7 +3,7 @@ ghost use Rattle.std.specs.Prelude.{◌≡◌, ◌↔◌, IsTrue, IfSome, [], Li
 ghost use Rattle.std.specs.FinMap.{values};
 ghost use Rattle.std.specs.List.{list_all};
 ghost use Rattle.std.specs.Option.{option_copied};
-ghost use Rattle.zone_line.specs.Values.{LineValue};
+ghost use Rattle.zone_values.specs.Values.{LineValue};
 ghost use Rattle.zone_table.specs.BoundedTables.{IsBoundedTable};
 ghost use Rattle.zone_table.specs.Bounds.{is_bounded_rule, is_bounded_info};
 ghost use Rattle.zone_table.specs.Resolved.{resolved, resolved_in};

@@ -1,12 +1,12 @@
 //! The lines of zones.
 ghost use Rattle.std.specs.Prelude.{◌≡◌, IfOk};
-ghost use Rattle.zone_line.specs.Values.{info_value, saving_value};
+ghost use Rattle.zone_values.specs.Values.{info_value, saving_value};
 ghost use Rattle.zone_table.specs.Owned.{owned_info, owned_saving};
 
 use crate::format::Format;
 use owned::Text;
 use std::alloc::{AllocError, Global};
-use zone_line::ChangeTime;
+use zone_values::ChangeTime;
 
 /// What is added to a zone line's offset.
 #[derive(Debug, Drop, PartialEq)]
@@ -34,13 +34,13 @@ pub struct ZoneInfo {
 
 impl Saving {
     /// The owned form of what is added to a zone line's offset.
-    fn from_line(alloc: Global, saving: zone_line::Saving<'_>) -> Result<Saving, AllocError>
+    fn from_line(alloc: Global, saving: zone_values::Saving<'_>) -> Result<Saving, AllocError>
         ensures { IfOk result (λ owned. owned ≡ owned_saving (saving_value saving.entry)) }
     {
         Ok(match saving {
-            zone_line::Saving::NoSaving => Saving::NoSaving,
-            zone_line::Saving::OneOff(amount) => Saving::OneOff(amount.as_seconds()),
-            zone_line::Saving::Multiple(name) => Saving::Multiple(Text::new(alloc, name)?),
+            zone_values::Saving::NoSaving => Saving::NoSaving,
+            zone_values::Saving::OneOff(amount) => Saving::OneOff(amount.as_seconds()),
+            zone_values::Saving::Multiple(name) => Saving::Multiple(Text::new(alloc, name)?),
         })
     }
 }
@@ -48,7 +48,7 @@ impl Saving {
 impl ZoneInfo {
     /// The owned form of a zone line or a continuation: its offset and its saving are seconds, and
     /// its format is read.
-    pub fn from_line(alloc: Global, info: zone_line::ZoneInfo<'_>) -> Result<ZoneInfo, AllocError>
+    pub fn from_line(alloc: Global, info: zone_values::ZoneInfo<'_>) -> Result<ZoneInfo, AllocError>
         ensures { IfOk result (λ owned. owned ≡ owned_info (info_value info.entry)) }
     {
         Ok(ZoneInfo {

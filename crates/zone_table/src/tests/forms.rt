@@ -2,7 +2,7 @@
 use crate::{Format, RuleInfo, Saving, ZoneInfo};
 use owned::Text;
 use std::test::Fail;
-use zone_line::{DaySpec, Month, TimeSpec, TimeType, Weekday, Year};
+use zone_values::{DaySpec, Month, TimeSpec, TimeType, Weekday, Year};
 
 #[test]
 fn abbreviations(rt: HostRuntime) -> Result<(), Fail> {
@@ -24,8 +24,8 @@ fn abbreviations(rt: HostRuntime) -> Result<(), Fail> {
 }
 
 /// The rule by which New York's clocks go forward.
-fn forward() -> zone_line::Rule<'static> {
-    zone_line::Rule {
+fn forward() -> zone_values::Rule<'static> {
+    zone_values::Rule {
         name: "US",
         from_year: Year::Number(2007),
         to_year: Some(Year::Maximum),
@@ -50,9 +50,9 @@ fn a_rule(rt: HostRuntime) -> Result<(), Fail> {
 #[test]
 fn a_zone(rt: HostRuntime) -> Result<(), Fail> {
     let alloc = rt.alloc();
-    let line = zone_line::ZoneInfo {
+    let line = zone_values::ZoneInfo {
         utc_offset: TimeSpec::HoursMinutes(-5, 0),
-        saving: zone_line::Saving::Multiple("US"),
+        saving: zone_values::Saving::Multiple("US"),
         format: "E%sT",
         time: None,
     };

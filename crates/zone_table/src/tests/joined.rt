@@ -2,52 +2,94 @@
 use crate::{Error, Table, TableBuilder};
 use std::alloc::Global;
 use std::test::Fail;
-use zone_line::{LineParser, LineReader};
+use zone_values::{DaySpec, Line, Link, Month, Rule, Saving, TimeSpec, TimeType, Year, Zone, ZoneInfo};
 
-/// The table of the source's lines, without those that are refused, and the text of the last refusal.
-fn join(alloc: Global, reader: &mut LineReader<'_>, source: &str) -> Result<(Table, String), Fail> {
+/// A rule of that ruleset.
+fn rule(name: &str) -> Line<'_> {
+    Line::Rule(Rule {
+        name,
+        from_year: Year::Number(2000),
+        to_year: None,
+        month: Month::January,
+        day: DaySpec::Ordinal(1),
+        time: TimeSpec::Zero.with_type(TimeType::Wall),
+        time_to_add: TimeSpec::Zero,
+        letters: None,
+    })
+}
+
+/// What a zone line says that adds this saving to UTC.
+fn info(saving: Saving<'_>) -> ZoneInfo<'_> {
+    ZoneInfo {
+        utc_offset: TimeSpec::Zero,
+        saving,
+        format: "A",
+        time: None,
+    }
+}
+
+/// The first line of a zone.
+fn zone<'a>(name: &'a str, saving: Saving<'a>) -> Line<'a> {
+    let info = info(saving);
+    Line::Zone(Zone { name, info })
+}
+
+/// A further line.
+fn further(saving: Saving<'_>) -> Line<'_> {
+    Line::Continuation(info(saving))
+}
+
+/// Another name.
+fn link<'a>(existing: &'a str, new: &'a str) -> Line<'a> {
+    Line::Link(Link { existing, new })
+}
+
+/// The table of the lines, without those that are refused, and the text of the last refusal.
+fn join(alloc: Global, lines: &[Line<'_>]) -> Result<(Table, String), Fail> {
     let mut builder = TableBuilder::new(alloc);
     let mut told = String::from_str(alloc, "joined")?;
-    for text in source.lines() {
-        let line = reader.parse_str(alloc, text)?;
-        if let Err(error) = builder.add_line(line) {
+    for line in lines {
+        if let Err(error) = builder.add_line(*line) {
             told = format!(in alloc; "{error}")?;
         }
     }
     Ok((builder.build(), told))
 }
 
+/// The lines are joined with this refusal as the last.
+fn tells(rt: HostRuntime, lines: &[Line<'_>], wanted: &str) -> Result<(), Fail> {
+    let (_, told) = join(rt.alloc(), lines)?;
+    assert_eq!(rt; told.as_str(), wanted);
+    Ok(())
+}
+
 #[test]
-fn refusals(rt: HostRuntime) -> Result<(), Fail> {
-    let alloc = rt.alloc();
-    let parser = LineParser::new(alloc).ok().ok_or("not built")?;
-    let mut reader = parser.reader(alloc)?;
+fn continuations_with_no_zone(rt: HostRuntime) -> Result<(), Fail> {
     let surprise = "continuation line follows line that isn't a zone definition line";
+    let none = Saving::NoSaving;
+    tells(rt, &[further(none)], surprise)?;
+    tells(rt, &[zone("A", none), link("A", "B"), further(none)], surprise)?;
+    tells(rt, &[zone("A", none), rule("R"), further(none)], surprise)?;
+    tells(rt, &[zone("A", none), Line::Space, further(Saving::Multiple("X"))], "joined")
+}
+
+#[test]
+fn names_that_stand(rt: HostRuntime) -> Result<(), Fail> {
+    let none = Saving::NoSaving;
+    let under_x = zone("A", Saving::Multiple("X"));
     let unknown = "zone definition refers to a ruleset that isn't defined";
+    tells(rt, &[zone("A", none), under_x], unknown)?;
+    tells(rt, &[rule("X"), under_x], "joined")?;
     let second_zone = "zone line with name that already exists";
+    tells(rt, &[zone("A", none), zone("A", none)], second_zone)?;
     let second_link = "link line with name that already exists";
-    let rows = [
-        (" 1:00 - B", surprise),
-        ("Zone A 0:00 - A 2000\nLink A B\n 1:00 - B", surprise),
-        (
-            "Zone A 0:00 - A 2000\nRule R 2000 only - Jan 1 0:00 0 -\n 1:00 - B",
-            surprise,
-        ),
-        ("Zone A 0:00 - A 2000\n\n# comment\n 1:00 X B", "joined"),
-        ("Zone A 0:00 - A\nZone A 0:00 X A", unknown),
-        (
-            "Rule X 2000 only - Jan 1 0:00 0 -\nZone A 0:00 X A",
-            "joined",
-        ),
-        ("Zone A 0:00 - A\nZone A 1:00 - B", second_zone),
-        ("Link a b\nLink c b", second_link),
-        ("Zone b 0:00 - A\nLink a b", "joined"),
-    ];
-    for (source, wanted) in rows {
-        let (_, told) = join(alloc, &mut reader, source)?;
-        assert_eq!(rt; told.as_str(), wanted);
-    }
-    let shown = format!(in alloc; "{}", Error::NoMemory)?;
+    tells(rt, &[link("a", "b"), link("c", "b")], second_link)?;
+    tells(rt, &[zone("b", none), link("a", "b")], "joined")
+}
+
+#[test]
+fn want_of_memory(rt: HostRuntime) -> Result<(), Fail> {
+    let shown = format!(in rt.alloc(); "{}", Error::NoMemory)?;
     assert_eq!(rt; shown.as_str(), "out of memory");
     Ok(())
 }
@@ -55,10 +97,16 @@ fn refusals(rt: HostRuntime) -> Result<(), Fail> {
 #[test]
 fn zones_by_their_names(rt: HostRuntime) -> Result<(), Fail> {
     let alloc = rt.alloc();
-    let parser = LineParser::new(alloc).ok().ok_or("not built")?;
-    let mut reader = parser.reader(alloc)?;
-    let source = "Zone A 1:00 - A 2000\n 2:00 - A\nZone D 3:00 - D\nLink A B\nLink B C\nLink A D";
-    let (table, _) = join(alloc, &mut reader, source)?;
+    let none = Saving::NoSaving;
+    let lines = [
+        zone("A", none),
+        further(none),
+        zone("D", none),
+        link("A", "B"),
+        link("B", "C"),
+        link("A", "D"),
+    ];
+    let (table, _) = join(alloc, &lines)?;
     assert_eq!(rt; table.get_zoneset("A").ok_or("A")?.len(), 2);
     assert_eq!(rt; table.get_zoneset("B").ok_or("B")?.len(), 2);
     assert_eq!(rt; table.get_zoneset("D").ok_or("D")?.len(), 1);

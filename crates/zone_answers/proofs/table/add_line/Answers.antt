@@ -1,5 +1,5 @@
 use Rattle.std.proofs.Common.{sym, ◌∙◌}
-use Rattle.zone_line.specs.Values.{line_value}
+use Rattle.zone_values.specs.Values.{line_value}
 use Rattle.zone_answers.proofs.JoinLemmas.{taken, unbuilt}
 use Rattle.zone_answers.proofs.table.add_line.Goals as goal
 

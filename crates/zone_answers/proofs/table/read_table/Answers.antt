@@ -3,7 +3,7 @@ use Rattle.std.proofs.lemmas.List.{append_assoc, append-nil}
 use Rattle.std.proofs.lemmas.List.Folds.{list_all-append}
 use Rattle.std.proofs.lemmas.List.Sums.{AllPass-from_list_all}
 use Rattle.std.proofs.lemmas.Result.{err_from_is_err_and}
-use Rattle.zone_line.specs.Bounds.{is_bounded_line}
+use Rattle.zone_values.specs.Bounds.{is_bounded_line}
 use Rattle.zone_table.specs.Tables.{IsTableOf}
 use Rattle.zone_answers.specs.LinesLeft.{lines_left}
 use Rattle.zone_answers.specs.Faults.{source_fault, first_line_refused}

@@ -1,5 +1,5 @@
 use Rattle.std.proofs.Common.{◌≡◌, ◌∙◌}
-use Rattle.zone_line.specs.Values.{info_value}
+use Rattle.zone_values.specs.Values.{info_value}
 use Rattle.zone_table.specs.Owned.{owned_info}
 use Rattle.zone_table.proofs.Steps.{continuation_joins, with_item}
 use Rattle.zone_table.proofs.builder.TableBuilder.add_continuation_line.Goals as goal

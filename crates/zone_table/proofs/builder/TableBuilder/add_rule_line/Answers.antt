@@ -1,5 +1,5 @@
 use Rattle.std.proofs.Common.{ap, ◌∙◌}
-use Rattle.zone_line.specs.Values.{rule_value}
+use Rattle.zone_values.specs.Values.{rule_value}
 use Rattle.zone_table.proofs.Steps.{rule_joins, with_item}
 use Rattle.zone_table.proofs.builder.TableBuilder.add_rule_line.Goals as goal
 

@@ -1,0 +1,136 @@
+//! The columns of a line that take a pattern: times, days and the RULES column.
+ghost use Rattle.std.specs.Prelude.{◌≡◌, option_map};
+ghost use Rattle.zone_values.specs.Faults.{told};
+ghost use Rattle.zone_line.specs.DayColumns.{day_shown};
+ghost use Rattle.zone_line.specs.Fields.{sided_day, last_weekday};
+
+use crate::columns::{ClockColumns, DayColumns};
+use crate::fields::{after_last, day_of_month, is_ruleset_name};
+use crate::number::is_numeral;
+use crate::reader::LineReader;
+use crate::time_texts::{clock_time, clock_type, hours_alone, if_wall, no_time};
+use zone_values::{DaySpec, Fault, Saving, TimeSpec, TimeSpecAndType, Weekday};
+
+impl LineReader<'_> {
+    ghost use Rattle.zone_line.specs.Clocks.{clock_in, clock_shown};
+    ghost use Rattle.zone_values.specs.Faults.{told};
+    ghost use Rattle.zone_line.specs.Fields.{time_field, wall_field, day_field};
+    ghost use Rattle.zone_line.specs.Lines.{saving_field, one_off_field};
+    ghost use Rattle.zone_line.specs.Times.{time_of};
+    ghost use Rattle.zone_values.specs.Values.{saving_value};
+
+    /// The parts of a time with one colon or two.
+    fn clock<'a>(&mut self, text: &'a str) -> Option<ClockColumns<'a>>
+        ensures { option_map clock_shown result ≡ clock_in text.now }
+    {
+        match self.minute_clock(text) {
+            Some(parts) => Some(parts),
+            None => self.second_clock(text),
+        }
+    }
+
+    /// The time that a text is.
+    #[tactic(auto, unfolding(crate::specs::Times::time_of))]
+    fn time(&mut self, text: &str) -> Option<TimeSpecAndType>
+        ensures { result ≡ time_of text.now }
+    {
+        if let Some(time) = no_time(text) {
+            return Some(time);
+        }
+        if let Some(time) = hours_alone(text) {
+            return Some(time);
+        }
+        let parts = self.clock(text)?;
+        Some(clock_time(&parts)?.with_type(clock_type(parts.flag)))
+    }
+
+    /// A time with its clock.
+    pub(crate) fn time_field<'a>(&mut self, text: &'a str) -> Result<TimeSpecAndType, Fault<'a>>
+        ensures { told (λ time. time) result ≡ time_field text.now }
+    {
+        match self.time(text) {
+            Some(time) => Ok(time),
+            None => Err(Fault::Time(text)),
+        }
+    }
+
+    /// A time that has to be the wall's.
+    #[tactic(auto, unfolding(crate::specs::Fields::wall_field))]
+    pub(crate) fn wall_field<'a>(&mut self, text: &'a str) -> Result<TimeSpec, Fault<'a>>
+        ensures { told (λ time. time) result ≡ wall_field text.now }
+    {
+        let time = self.time_field(text)?;
+        match if_wall(time) {
+            Some(time) => Ok(time),
+            None => Err(Fault::NonWallClock(text)),
+        }
+    }
+
+    /// The RULES column: a hyphen, the name of a ruleset, or an amount of time.
+    #[tactic(auto, unfolding(crate::specs::Lines::saving_field))]
+    pub(crate) fn saving_field<'a>(&mut self, text: &'a str) -> Result<Saving<'a>, Fault<'a>>
+        ensures { told saving_value result ≡ saving_field text.now }
+    {
+        if text == "-" {
+            return Ok(Saving::NoSaving);
+        }
+        if is_ruleset_name(text) {
+            return Ok(Saving::Multiple(text));
+        }
+        match self.minute_clock(text) {
+            Some(_) => self.one_off_field(text),
+            None => Err(Fault::Saving(text)),
+        }
+    }
+
+    /// A saving that holds as long as the line.
+    #[tactic(auto, unfolding(crate::specs::Lines::one_off_field))]
+    fn one_off_field<'a>(&mut self, text: &'a str) -> Result<Saving<'a>, Fault<'a>>
+        ensures { told saving_value result ≡ one_off_field text.now }
+    {
+        let amount = self.wall_field(text)?;
+        Ok(Saving::OneOff(amount))
+    }
+
+    /// A day of a month: a number, `last` and a weekday, or a weekday on one side of a number.
+    #[tactic(auto, unfolding(crate::specs::Fields::day_field))]
+    pub(crate) fn day_field<'a>(&mut self, text: &'a str) -> Result<DaySpec, Fault<'a>>
+        ensures { told (λ day. day) result ≡ day_field text.now }
+    {
+        if is_numeral(text) {
+            return match day_of_month(text) {
+                Some(number) => Ok(DaySpec::Ordinal(number)),
+                None => Err(Fault::DaySpec(text)),
+            };
+        }
+        if let Some(weekday) = after_last(text) {
+            return last_day(weekday);
+        }
+        match self.day_columns(text) {
+            Some(columns) => sided_day(text, &columns),
+            None => Err(Fault::DaySpec(text)),
+        }
+    }
+}
+
+/// The last such weekday of a month.
+#[tactic(auto, unfolding(crate::specs::Fields::last_weekday))]
+fn last_day(weekday: &str) -> Result<DaySpec, Fault<'_>>
+    ensures { told (λ day. day) result ≡ last_weekday weekday.now }
+{
+    let weekday = Weekday::read(weekday)?;
+    Ok(DaySpec::Last(weekday))
+}
+
+/// A weekday on one side of a number; the weekday is read before the number.
+#[tactic(auto, unfolding(crate::specs::Fields::sided_day))]
+fn sided_day<'a>(text: &'a str, columns: &DayColumns<'a>) -> Result<DaySpec, Fault<'a>>
+    ensures { told (λ day. day) result ≡ sided_day text.now (day_shown columns.now) }
+{
+    let weekday = Weekday::read(columns.weekday)?;
+    match day_of_month(columns.day) {
+        Some(number) if columns.sign == "<=" => Ok(DaySpec::LastOnOrBefore(weekday, number)),
+        Some(number) => Ok(DaySpec::FirstOnOrAfter(weekday, number)),
+        None => Err(Fault::DaySpec(text)),
+    }
+}

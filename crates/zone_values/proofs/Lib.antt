@@ -1,0 +1,2 @@
+pub mod WeekdayLemmas
+mod WorkedRows

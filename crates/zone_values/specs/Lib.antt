@@ -1,0 +1,12 @@
+pub mod Numbers
+pub mod ReadNumbers
+pub mod Names
+pub mod Faults
+pub mod Years
+pub mod Months
+pub mod Weekdays
+pub mod Seconds
+pub mod Values
+pub mod Days
+pub mod Ends
+pub mod Bounds

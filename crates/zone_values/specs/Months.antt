@@ -1,0 +1,50 @@
+-- The months, by their names and numbers.
+use Rattle.std.specs.Prelude.{ℕ, List, Option, Some, None, ok_or, Result, ◌==◌, codes, if◌then◌else◌}
+use Rattle.zone_values.specs.Faults.{Fault, failed_month_parse}
+use Rattle.zone_values.specs.Names.{is_name, lower}
+use Rattle.zone_values.specs.declared.month.Month.{Month}
+use Rattle.zone_values.specs.declared.month.Month.TheVariants.{January, February, March, April, May, June, July, August, September, October, November, December}
+
+-- from 1 to 12
+abbrev pub month_number : Month → ℕ
+month_number January = 1
+month_number February = 2
+month_number March = 3
+month_number April = 4
+month_number May = 5
+month_number June = 6
+month_number July = 7
+month_number August = 8
+month_number September = 9
+month_number October = 10
+month_number November = 11
+month_number December = 12
+
+-- the month of that number, from 1 to 12
+abbrev pub month_numbered : ℕ → Month
+month_numbered n =
+    if n == 1 then January else if n == 2 then February else if n == 3 then March
+    else if n == 4 then April else if n == 5 then May else if n == 6 then June
+    else if n == 7 then July else if n == 8 then August else if n == 9 then September
+    else if n == 10 then October else if n == 11 then November else December
+
+-- the month of that English name
+unfoldable pub month_named : List ℕ → Option Month
+month_named text =
+    if is_name (codes "jan") (codes "january") text then Some January
+    else if is_name (codes "feb") (codes "february") text then Some February
+    else if is_name (codes "mar") (codes "march") text then Some March
+    else if is_name (codes "apr") (codes "april") text then Some April
+    else if is_name (codes "may") (codes "may") text then Some May
+    else if is_name (codes "jun") (codes "june") text then Some June
+    else if is_name (codes "jul") (codes "july") text then Some July
+    else if is_name (codes "aug") (codes "august") text then Some August
+    else if is_name (codes "sep") (codes "september") text then Some September
+    else if is_name (codes "oct") (codes "october") text then Some October
+    else if is_name (codes "nov") (codes "november") text then Some November
+    else if is_name (codes "dec") (codes "december") text then Some December
+    else None
+
+-- the fault holds the text in ASCII lower case
+abbrev pub month_field : List ℕ → Result Month Fault
+month_field text = ok_or (month_named text) (failed_month_parse (lower text))

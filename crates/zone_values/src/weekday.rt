@@ -1,0 +1,60 @@
+//! Days of the week.
+ghost use Rattle.std.specs.Prelude.{◌≡◌, ◌<◌};
+ghost use Rattle.zone_values.specs.Faults.{Tells, told};
+ghost use Rattle.zone_values.specs.Weekdays.{weekday_number, weekday_field};
+
+use crate::error::Error;
+use crate::fault::Fault;
+use crate::names::weekday_named;
+use std::alloc::Global;
+
+/// A day of the week.
+#[derive(Clone, Copy, Debug, PartialEq)]
+pub enum Weekday {
+    Sunday,
+    Monday,
+    Tuesday,
+    Wednesday,
+    Thursday,
+    Friday,
+    Saturday,
+}
+
+impl Weekday {
+    /// Reads an English name of a weekday, in full or in three letters, without regard to ASCII
+    /// case. `FailedWeekdayParse` holds every other text, in ASCII lower case.
+    pub fn parse(alloc: Global, input: &str) -> Result<Weekday, Error>
+        ensures { Tells (λ weekday. weekday) result (weekday_field input.now) }
+    {
+        match Weekday::read(input) {
+            Ok(weekday) => Ok(weekday),
+            Err(fault) => Err(fault.error(alloc)),
+        }
+    }
+
+    /// The same with no memory: the fault borrows the text.
+    pub fn read(text: &str) -> Result<Weekday, Fault<'_>>
+        ensures { told (λ weekday. weekday) result ≡ weekday_field text.now }
+    {
+        match weekday_named(text) {
+            Some(weekday) => Ok(weekday),
+            None => Err(Fault::Weekday(text)),
+        }
+    }
+
+    /// The number of the weekday, from 0 for Sunday to 6 for Saturday.
+    pub(crate) fn number(self) -> u8
+        ensures value { result ≡ weekday_number self }
+        ensures bound { result < 7 }
+    {
+        match self {
+            Weekday::Sunday => 0,
+            Weekday::Monday => 1,
+            Weekday::Tuesday => 2,
+            Weekday::Wednesday => 3,
+            Weekday::Thursday => 4,
+            Weekday::Friday => 5,
+            Weekday::Saturday => 6,
+        }
+    }
+}
