@@ -1,14 +1,18 @@
 -- The definitions evaluated on days that are known from outside.
 use Rattle.std.proofs.Common.{◌≡◌, refl, List, [], ◌∷◌, map, ℤ, pos, neg_ℤ}
-use Rattle.calendar.specs.Days.{is_leap, days_in_year, days_in_month, days_after_zero, days_before_zero, year_start, days_through, days_into_year, day}
+use Rattle.calendar.specs.Days.{is_leap, days_in_year, days_in_month, days_after_zero, days_before_zero, year_start, days_through}
+use Rattle.calendar.specs.Days.{days_into_year, day}
 use Rattle.calendar.specs.Weekdays.{weekday_of}
 
 abbrev day_numbers : List ℤ
 day_numbers =
-    neg_ℤ (pos 4371587) ∷ neg_ℤ (pos 719529) ∷ neg_ℤ (pos 719469) ∷ neg_ℤ (pos 719162) ∷ neg_ℤ (pos 135081) ∷ neg_ℤ (pos 40587) ∷ neg_ℤ (pos 25508) ∷ neg_ℤ (pos 1) ∷ pos 11016 ∷ pos 47541 ∷ pos 2932896 ∷ []
+    neg_ℤ (pos 4371587) ∷ neg_ℤ (pos 719529) ∷ neg_ℤ (pos 719469) ∷ neg_ℤ (pos 719162) ∷ neg_ℤ (pos 135081) ∷ neg_ℤ (pos 40587) ∷
+    neg_ℤ (pos 25508) ∷ neg_ℤ (pos 1) ∷ pos 11016 ∷ pos 47541 ∷ pos 2932896 ∷ []
 
 -- -9999-01-01, -0001-12-31, 0000-02-29, 0001-01-01, 1600-02-29, 1858-11-17, 1900-03-01, 1969-12-31, 2000-02-29, 2100-03-01, 9999-12-31
-worked_days : day (neg_ℤ (pos 9999)) 1 1 ∷ day (neg_ℤ (pos 1)) 12 31 ∷ day (pos 0) 2 29 ∷ day (pos 1) 1 1 ∷ day (pos 1600) 2 29 ∷ day (pos 1858) 11 17 ∷ day (pos 1900) 3 1 ∷ day (pos 1969) 12 31 ∷ day (pos 2000) 2 29 ∷ day (pos 2100) 3 1 ∷ day (pos 9999) 12 31 ∷ [] ≡ day_numbers
+worked_days : day (neg_ℤ (pos 9999)) 1 1 ∷ day (neg_ℤ (pos 1)) 12 31 ∷ day (pos 0) 2 29 ∷ day (pos 1) 1 1 ∷ day (pos 1600) 2 29 ∷
+    day (pos 1858) 11 17 ∷ day (pos 1900) 3 1 ∷ day (pos 1969) 12 31 ∷ day (pos 2000) 2 29 ∷ day (pos 2100) 3 1 ∷ day (pos 9999) 12 31 ∷
+    [] ≡ day_numbers
 unfolding is_leap days_in_year days_in_month days_after_zero days_before_zero year_start days_through days_into_year day
 worked_days = refl
 

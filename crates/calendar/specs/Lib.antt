@@ -1,4 +1,9 @@
 pub mod Cycles
+pub mod DateLaws
 pub mod Dates
 pub mod Days
+pub mod MonthLaws
+pub mod Orders
+pub mod Signs
 pub mod Weekdays
+pub mod YearLaws

@@ -2,7 +2,7 @@
 use Rattle.std.proofs.Common.{◌≡◌, ℤ, pos, neg_ℤ}
 use Rattle.calendar.specs.Days.{day, IsDate}
 use Rattle.calendar.specs.Dates.{year_of, month_of, day_of}
-use Rattle.calendar.proofs.DateLemmas.{day_parts, year-between}
+use Rattle.calendar.specs.DateLaws.{day_parts, year-between}
 use Rattle.civil_base.specs.Ranges.{IsYear, IsDay}
 use Rattle.civil_base.proofs.RangeLemmas.{counted-first, counted-last, day-counted, day-ends}
 

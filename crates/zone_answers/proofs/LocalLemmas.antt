@@ -6,8 +6,8 @@ use Rattle.std.proofs.lemmas.Bool.Decides.{Decides-int_eq}
 use Rattle.std.proofs.lemmas.Slice.Eq.{bytes_eq-Decides}
 use Rattle.std.proofs.lemmas.Int.{ints}
 use Rattle.std.specs.Int.Signed.{le_z_yes}
-use Rattle.calendar.proofs.SignLemmas.{signed, natural}
-use Rattle.calendar.proofs.DateLemmas.{last_with-is}
+use Rattle.calendar.specs.Signs.{signed, natural}
+use Rattle.calendar.specs.DateLaws.{last_with-is}
 use Rattle.civil_base.specs.Layout.{local_text, zoned_text}
 use Rattle.civil_base.specs.Ranges.{IsInYears}
 use Rattle.zone_answers.specs.Due.{with_bars, local_line}

@@ -6,7 +6,7 @@ use Rattle.std.specs.Option.{option_or, option_map_or}
 use Rattle.std.specs.Str.{is_utf8}
 use Rattle.std.proofs.lemmas.Bool.{and_parts, leb-true}
 use Rattle.std.proofs.lemmas.Option.{none-some}
-use Rattle.calendar.proofs.SignLemmas.{signed}
+use Rattle.calendar.specs.Signs.{signed}
 use Rattle.civil_base.specs.Ranges.{IsOffset}
 use Rattle.zone_table.specs.declared.zone.ZoneInfo.{ZoneInfo}
 use Rattle.zone_answers.specs.Lines.{lines_of}

@@ -6,7 +6,7 @@ use Rattle.std.proofs.lemmas.Int.{ints, int_rem_euclid_is}
 use Rattle.std.specs.Int.{int_rem_euclid}
 use Rattle.std.specs.Prelude.{unsigned_abs}
 use Rattle.calendar.specs.Weekdays.{weekday_of}
-use Rattle.calendar.proofs.DateLemmas.{last_with-is}
+use Rattle.calendar.specs.DateLaws.{last_with-is}
 use Rattle.zone_values.specs.Days.{first_from, last_up_to}
 
 -- the remainder of a number n further on, from a multiple of 7 that makes the number a natural one

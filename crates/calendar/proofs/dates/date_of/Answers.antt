@@ -2,9 +2,9 @@ use Rattle.std.proofs.Common.{arith, ◌≡◌, ◌≤◌, ◌<◌, ℕ, ◌+◌
 use Rattle.calendar.specs.Days.{IsCountedYear}
 use Rattle.calendar.specs.Dates.{year_of, month_of, day_of}
 use Rattle.calendar.specs.Cycles.{cycle_days}
-use Rattle.calendar.proofs.SignLemmas.{signed, signed_casts, natural}
-use Rattle.calendar.proofs.YearLemmas.{day-cycle, cycle_days-suc, cycle_days-rise}
-use Rattle.calendar.proofs.DateLemmas.{IsPlace, parts-of_day, year-between}
+use Rattle.calendar.specs.Signs.{signed, signed_casts, natural}
+use Rattle.calendar.specs.YearLaws.{day-cycle, cycle_days-suc, cycle_days-rise}
+use Rattle.calendar.specs.DateLaws.{IsPlace, parts-of_day, year-between}
 use Rattle.calendar.proofs.dates.date_of.Goals as goal
 
 -- the year with that place among those from -11999 on
@@ -43,7 +43,15 @@ returns-clause-number c =
     let n = c.years_of_days-years.result.0 in
     let y = year_at n in
     let all = counted c.args.day_number c.requires.first c.requires.last in
-    omega (arith, signed, all, day-cycle y c.month_and_day-month.result.0 c.month_and_day-month.result.1 n (place_is n (few_of c)), c.years_of_days-years.ensures.sum, c.month_and_day-month.ensures.value, c.month_and_day-month.ensures.date.first_day)
+    omega (
+      arith,
+      signed,
+      all,
+      day-cycle y c.month_and_day-month.result.0 c.month_and_day-month.result.1 n (place_is n (few_of c)),
+      c.years_of_days-years.ensures.sum,
+      c.month_and_day-month.ensures.value,
+      c.month_and_day-month.ensures.date.first_day,
+    )
 
 years_of : (c : goal.After-month_and_day-month) → IsCountedYear (year_at c.years_of_days-years.result.0)
 years_of c =
@@ -54,9 +62,11 @@ years_of c =
     let place = place_is n (few_of c) in
     record { first = omega (arith, signed); last = omega (arith, signed) }
 
-parts_of : (c : goal.After-month_and_day-month) → (year_at c.years_of_days-years.result.0 ≡ year_of c.args.day_number) × (c.month_and_day-month.result.0 ≡ month_of c.args.day_number) × (c.month_and_day-month.result.1 ≡ day_of c.args.day_number)
+parts_of : (c : goal.After-month_and_day-month) → (year_at c.years_of_days-years.result.0 ≡ year_of c.args.day_number) ×
+    (c.month_and_day-month.result.0 ≡ month_of c.args.day_number) × (c.month_and_day-month.result.1 ≡ day_of c.args.day_number)
 parts_of c =
-    parts-of_day c.args.day_number (year_at c.years_of_days-years.result.0) c.month_and_day-month.result.0 c.month_and_day-month.result.1 (returns-clause-number c) (years_of c) c.month_and_day-month.ensures.date
+    parts-of_day c.args.day_number (year_at c.years_of_days-years.result.0) c.month_and_day-month.result.0 c.month_and_day-month.result.1
+    (returns-clause-number c) (years_of c) c.month_and_day-month.ensures.date
 
 pub returns-clause-years : goal.returns-clause-years
 returns-clause-years c = years_of c
@@ -74,4 +84,5 @@ pub returns-clause-between : goal.returns-clause-between
 returns-clause-between c = λ first last from to low high.
     let number = returns-clause-number c in
     let y = year_at c.years_of_days-years.result.0 in
-    year-between y c.month_and_day-month.result.0 c.month_and_day-month.result.1 first last (years_of c) from to c.month_and_day-month.ensures.date (rw number low) (rw number high)
+    year-between y c.month_and_day-month.result.0 c.month_and_day-month.result.1 first last
+    (years_of c) from to c.month_and_day-month.ensures.date (rw number low) (rw number high)

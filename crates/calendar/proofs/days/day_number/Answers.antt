@@ -1,9 +1,9 @@
 use Rattle.std.proofs.Common.{arith, ◌≡◌, ℕ, ◌+◌, ◌-◌, ℤ, pos, neg_ℤ, ◌+ℤ◌, ◌≤ℤ◌, to_z-of_z, ap, ◌∙◌, unsigned_abs}
 use Rattle.calendar.specs.Days.{day as date_day, days_through, IsCountedYear}
-use Rattle.calendar.proofs.SignLemmas.{signed, signed_casts}
-use Rattle.calendar.proofs.YearLemmas.{day-cycle}
-use Rattle.calendar.proofs.DateLemmas.{place_of, day-range, day-between}
-use Rattle.calendar.proofs.MonthLemmas.{days_through-two}
+use Rattle.calendar.specs.Signs.{signed, signed_casts}
+use Rattle.calendar.specs.YearLaws.{day-cycle}
+use Rattle.calendar.specs.DateLaws.{place_of, day-range, day-between}
+use Rattle.calendar.specs.MonthLaws.{days_through-two}
 use Rattle.calendar.proofs.days.day_number.Goals as goal
 
 -- a date lies as far past its year's first day as the days before its month and before it in that say
@@ -23,7 +23,8 @@ sum_is c =
     let months = c.days_before_month.ensures.value ∙ ap (λ y. days_through y (c.args.month - 1)) year in
     omega (arith, signed_casts, from_first c.args.year c.args.month c.args.day c.requires.year, first, months)
 
-range_is : (c : goal.After-from-2) → (neg_ℤ (pos 4371953) ≤ℤ date_day c.args.year c.args.month c.args.day) × (date_day c.args.year c.args.month c.args.day ≤ℤ pos 2933262)
+range_is : (c : goal.After-from-2) → (neg_ℤ (pos 4371953) ≤ℤ date_day c.args.year c.args.month c.args.day) ×
+    (date_day c.args.year c.args.month c.args.day ≤ℤ pos 2933262)
 range_is c = day-range c.args.year c.args.month c.args.day c.requires.year (omega arith) (omega arith) (omega arith) (omega arith)
 
 pub overflow_add-result : goal.overflow_add-result

@@ -1,7 +1,7 @@
 use Rattle.std.proofs.Common.{arith, ◌≡◌, pos, ◌+ℤ◌, to_z, of_z, w32, unsigned_abs}
-use Rattle.calendar.proofs.SignLemmas.{signed_casts}
-use Rattle.calendar.proofs.YearLemmas.{day-cycle}
-use Rattle.calendar.proofs.MonthLemmas.{days_through-two}
+use Rattle.calendar.specs.Signs.{signed_casts}
+use Rattle.calendar.specs.YearLaws.{day-cycle}
+use Rattle.calendar.specs.MonthLaws.{days_through-two}
 use Rattle.calendar.proofs.days.first_day_of.Goals as goal
 
 pub returns : goal.returns

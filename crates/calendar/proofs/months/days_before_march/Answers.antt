@@ -1,5 +1,5 @@
 use Rattle.std.proofs.Common.{arith}
-use Rattle.calendar.proofs.YearLemmas.{days_in_year-cases}
+use Rattle.calendar.specs.YearLaws.{days_in_year-cases}
 use Rattle.calendar.proofs.months.days_before_march.Goals as goal
 
 pub returns-then-is_leap_year-clause-value : goal.returns-then-is_leap_year-clause-value

@@ -1,6 +1,6 @@
 use Rattle.std.proofs.Common.{arith, ◌≡◌, ◌≤◌, ℕ, ◌-◌, ◌*◌, ℤ, to_z-of_z, inl, inr, ap}
 use Rattle.calendar.specs.Days.{days_through, days_in_year}
-use Rattle.calendar.proofs.MonthLemmas.{days_through-two, days_through-late}
+use Rattle.calendar.specs.MonthLaws.{days_through-two, days_through-late}
 use Rattle.calendar.proofs.months.days_before_month.Goals as goal
 use Rattle.std.proofs.lemmas.Bool.{cases_lt}
 

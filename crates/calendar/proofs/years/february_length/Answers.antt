@@ -1,6 +1,6 @@
 use Rattle.std.proofs.Common.{arith}
-use Rattle.calendar.proofs.MonthLemmas.{days_in_month-february}
-use Rattle.calendar.proofs.YearLemmas.{days_in_year-cases}
+use Rattle.calendar.specs.MonthLaws.{days_in_month-february}
+use Rattle.calendar.specs.YearLaws.{days_in_year-cases}
 use Rattle.calendar.proofs.years.february_length.Goals as goal
 
 pub returns-then-is_leap_year-clause-value : goal.returns-then-is_leap_year-clause-value

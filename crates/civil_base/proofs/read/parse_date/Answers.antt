@@ -1,8 +1,8 @@
 use Rattle.std.proofs.Common.{arith, ◌≡◌, ◌-◌, length, take, to_z-of_z, FitsSigned, w32, sym, ap, ◌∙◌, unsigned_abs}
-use Rattle.calendar.proofs.SignLemmas.{signed, signed_casts}
+use Rattle.calendar.specs.Signs.{signed, signed_casts}
 use Rattle.std.proofs.Common.{drop}
-use Rattle.calendar.proofs.SignLemmas.{one_sided}
-use Rattle.calendar.proofs.MonthLemmas.{days_in_month-bounds}
+use Rattle.calendar.specs.Signs.{one_sided}
+use Rattle.calendar.specs.MonthLaws.{days_in_month-bounds}
 use Rattle.calendar.specs.Dates.{year_of, month_of, day_of}
 use Rattle.civil_base.specs.Layout.{date_digits}
 use Rattle.civil_base.specs.Offsets.{signed_by}

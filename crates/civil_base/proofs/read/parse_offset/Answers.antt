@@ -1,7 +1,7 @@
 use Rattle.std.proofs.Common.{rules, arith, ◌≡◌, ◌≤◌, ◌+◌, ◌-◌, ◌*◌, ◌/◌, ◌%◌, length, take, nat_eq, pos, to_z-of_z, FitsSigned, w32, ap, ◌∙◌, unsigned_abs}
-use Rattle.calendar.proofs.SignLemmas.{signed}
+use Rattle.calendar.specs.Signs.{signed}
 use Rattle.std.proofs.Common.{drop, get_or, int_lt}
-use Rattle.calendar.proofs.SignLemmas.{one_sided}
+use Rattle.calendar.specs.Signs.{one_sided}
 use Rattle.civil_base.specs.Layout.{offset_text}
 use Rattle.civil_base.specs.Offsets.{signed_by}
 use Rattle.civil_base.proofs.OffsetLemmas.{signed_by-size, minus_is}

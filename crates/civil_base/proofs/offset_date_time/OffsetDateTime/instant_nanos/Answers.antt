@@ -1,6 +1,6 @@
 use Rattle.std.proofs.Common.{arith, ◌≡◌, ℤ, pos, ◌+ℤ◌, ◌-ℤ◌, ◌*ℤ◌, to_z, of_z, FitsSigned, ap, ◌∙◌}
 use mir.Syntax.{w128}
-use Rattle.calendar.proofs.SignLemmas.{signed, signed_casts}
+use Rattle.calendar.specs.Signs.{signed, signed_casts}
 use Rattle.civil_base.proofs.RangeLemmas.{years-numbers}
 use Rattle.civil_base.specs.DateTimes.{local_of, offset_of, instant}
 use Rattle.civil_base.specs.Ranges.{IsInYears, IsOffset}

@@ -1,5 +1,5 @@
 use Rattle.std.proofs.Common.{arith, ◌≡◌, ℤ, pos, ◌+ℤ◌, ◌*ℤ◌, to_z, of_z, FitsSigned, refl, ◌∙◌}
-use Rattle.calendar.proofs.SignLemmas.{signed, signed_casts}
+use Rattle.calendar.specs.Signs.{signed, signed_casts}
 use mir.Syntax.{w128}
 use Rattle.civil_base.proofs.RangeLemmas.{years-numbers}
 use Rattle.civil_base.specs.Ranges.{IsInYears, IsOffset}

@@ -3,7 +3,7 @@ use Rattle.std.proofs.Common.{◌≡◌, ℕ, zero, suc, ◌+◌, ◌-◌, ◌*�
 use Rattle.std.proofs.lemmas.Bool.Decides.{nat_tests}
 use Rattle.calendar.specs.Days.{is_leap, days_in_year, days_after_zero, days_before_zero, year_start, day, days_into_year, days_through}
 use Rattle.calendar.specs.Cycles.{cycle_days}
-use Rattle.calendar.proofs.SignLemmas.{signed}
+use Rattle.calendar.specs.Signs.{signed}
 
 -- the day that a leap year has more
 abbrev leap_day_of : Bool → ℕ
@@ -14,7 +14,8 @@ unfolding days_in_year
 days_in_year-leap y = grind arith
 
 -- a leap year is one more multiple of 4, less the one of 100, with the one of 400
-leap_counts : (y : ℤ) (n : ℕ) → unsigned_abs y ≡ n → leap_day_of (is_leap y) + (n + 3) / 4 + n / 100 + (n + 399) / 400 ≡ n / 4 + 1 + (n + 99) / 100 + n / 400
+leap_counts : (y : ℤ) (n : ℕ) → unsigned_abs y ≡ n → leap_day_of (is_leap y) + (n + 3) / 4 + n / 100 + (n + 399) / 400 ≡ n / 4 + 1 +
+    (n + 99) / 100 + n / 400
 unfolding is_leap
 leap_counts y n e = grind (arith, nat_tests)
 
@@ -48,7 +49,8 @@ unfolding days_through
 days_through-none y = refl
 
 -- a date is its year's start and its place in the year
-pub day-cycle : (y : ℤ) (m d n : ℕ) → y +ℤ pos 11999 ≡ pos n → day y m d +ℤ pos 5102072 ≡ pos (cycle_days n + days_through y (m - 1) + (d - 1))
+pub day-cycle : (y : ℤ) (m d n : ℕ) → y +ℤ pos 11999 ≡ pos n → day y m d +ℤ pos 5102072 ≡ pos
+    (cycle_days n + days_through y (m - 1) + (d - 1))
 unfolding day days_into_year
 day-cycle y m d n e =
     omega (arith, signed, year_start-cycle y n e, year_start-cycle (pos 1970) 13969 refl)

@@ -27,7 +27,12 @@ days_through-two y = grind arith
 pub days_through-march : (y : ℤ) (k : ℕ) → k ≤ 10 → days_through y (suc (suc k)) + 306 ≡ (153 * k + 2) / 5 + days_in_year y
 days_through-march y zero h = omega (arith, days_through-two y)
 days_through-march y (suc k) h =
-    omega (arith, days_through-march y k (omega arith), days_through-suc y (suc (suc k)), days_in_month-other y (suc (suc (suc k))) (omega arith) (omega arith))
+    omega (
+      arith,
+      days_through-march y k (omega arith),
+      days_through-suc y (suc (suc k)),
+      days_in_month-other y (suc (suc (suc k))) (omega arith) (omega arith),
+    )
 
 -- the days before the month m
 pub days_through-late : (y : ℤ) (m : ℕ) → 3 ≤ m → m ≤ 13 → days_through y (m - 1) + 306 ≡ (153 * m - 457) / 5 + days_in_year y
@@ -60,7 +65,8 @@ unfolding days_in_year
 days_in_year-bounds y = grind arith
 
 -- a day of the year from March on, as a month and a day of it
-pub march_month : (y : ℤ) (k : ℕ) → k < 306 → days_through y ((5 * k + 2) / 153 + 3 - 1) + ((5 * k + 2) % 153 / 5 + 1) + 306 ≡ k + days_in_year y + 1
+pub march_month : (y : ℤ) (k : ℕ) → k < 306 → days_through y ((5 * k + 2) / 153 + 3 - 1) +
+    ((5 * k + 2) % 153 / 5 + 1) + 306 ≡ k + days_in_year y + 1
 march_month y k h =
     omega (arith, days_through-late y ((5 * k + 2) / 153 + 3) (omega arith) (omega arith))
 
