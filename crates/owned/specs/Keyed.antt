@@ -1,10 +1,10 @@
 -- Entries with texts as keys, as a finite map from the bytes of the texts.
-use Rattle.std.specs.Prelude.{ℕ, List, map, string_bytes}
+use Rattle.std.specs.Prelude.{ℕ, Bool, List, IsTrue, IfSome, map, string_bytes}
 use Rattle.std.specs.declared.cmp.Ordering.{Ordering}
 use Rattle.std.specs.declared.string.String.{String}
 use Rattle.std.specs.Cmp.Lexicographic.{slice_cmp}
 use Rattle.std.specs.Ordering.{nat_cmp}
-use Rattle.std.specs.FinMap.{FinMap, from_entries}
+use Rattle.std.specs.FinMap.{FinMap, from_entries, get}
 
 -- the order of texts by their bytes: the first two that differ decide, and else the lengths do
 abbrev pub text_cmp : List ℕ → List ℕ → Ordering
@@ -17,3 +17,7 @@ by_bytes entries = map (λ entry. (string_bytes entry.0, entry.1)) entries
 -- the map from the bytes of each key to its value
 abbrev pub keyed : {Y X : Type 0} → List (String Y × X) → FinMap text_cmp X
 keyed entries = from_entries (by_bytes entries)
+
+-- the test passes at the value of each key
+abbrev pub EachPasses : {X : Type 0} → (X → Bool) → FinMap text_cmp X → Type 0
+EachPasses test texts = (name : List ℕ) → IfSome (get texts name) (λ value. IsTrue (test value))

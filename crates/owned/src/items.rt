@@ -1,8 +1,15 @@
 //! A list.
-ghost use Rattle.std.specs.Prelude.{◌≡◌, ◌++◌, ◌∷◌, [], OnOk, OnErr};
+ghost use Rattle.std.specs.Prelude.{◌≡◌, ◌==◌, ◌<◌, ◌++◌, ◌∷◌, [], OnOk, OnErr, length, take, swap, slice_get, slice_set, slice_index_or};
+ghost use Rattle.std.specs.Borrow.{Lends, sem};
+ghost use Rattle.std.specs.Fn.{ComputesKey};
+ghost use Rattle.std.specs.List.{remove};
+ghost use Rattle.std.specs.List.Sorted.{IsPermutation};
+ghost use Rattle.std.specs.Option.{option_copied};
+ghost use Rattle.owned.specs.Sorted.{stable_sort, by_key};
 
 use std::alloc::{AllocError, Global};
 use std::marker::Model;
+use std::ops::{Index, IndexMut};
 
 /// A list that owns its items. Contracts see the items in order.
 #[derive(Drop)]
@@ -61,5 +68,103 @@ impl<T> Items<T> {
     {
         self.vec.push(item)?;
         Ok(())
+    }
+
+    /// How many items there are.
+    pub fn len(&self) -> usize
+        ensures { result ≡ length self.now }
+    {
+        self.vec.as_slice().len()
+    }
+
+    /// Whether there is no item.
+    pub fn is_empty(&self) -> bool
+        ensures { result ≡ (length self.now == 0) }
+    {
+        self.vec.as_slice().is_empty()
+    }
+
+    /// The item at an index, or none past the end.
+    pub fn get(&self, index: usize) -> Option<&T>
+        ensures { option_copied result ≡ slice_get self.now index }
+    {
+        self.vec.as_slice().get(index)
+    }
+
+    /// Puts an item at an index, and gives back the one that was there.
+    pub fn replace(&mut self, index: usize, item: T) -> T
+        requires { index < length self.old }
+        ensures before { result ≡ slice_index_or self.old index result }
+        ensures after { self.new ≡ slice_set self.old index item }
+    {
+        std::mem::replace(&mut self.vec[index], item)
+    }
+
+    /// Puts two items each in the other's place.
+    pub fn swap(&mut self, a: usize, b: usize)
+        requires a { a < length self.old }
+        requires b { b < length self.old }
+        ensures { self.new ≡ swap self.old a b }
+    {
+        self.vec.swap(a, b);
+    }
+
+    /// Takes out the item at an index; those behind it move up by one.
+    pub fn remove(&mut self, index: usize) -> T
+        requires { index < length self.old }
+        ensures before { result ≡ slice_index_or self.old index result }
+        ensures after { self.new ≡ remove self.old index }
+    {
+        self.vec.remove(index)
+    }
+
+    /// Keeps the first `count` items. A longer count keeps all.
+    pub fn truncate(&mut self, count: usize)
+    where
+        T: Drop,
+        ensures { self.new ≡ take count self.old }
+    {
+        self.vec.truncate(count);
+    }
+
+    /// Sorts by what the closure answers of each item; items with equal answers keep their order. The closure has to answer
+    /// by the item alone. On an error nothing moves.
+    pub fn sort_by_key<K: Ord, F: FnMut(&T) -> K>(&mut self, key_of: F) -> Result<(), AllocError>
+    where
+        K: Drop,
+        requires { F.IsAlwaysCallable key_of }
+        ensures ok { (key : T → K) → ComputesKey F.FnMut key key_of → OnOk result (self.new ≡ stable_sort (by_key K.cmp key) self.old) }
+        ensures err { OnErr result (self.new ≡ self.old) }
+        ensures permutation { IsPermutation self.old self.new }
+    {
+        self.vec.sort_by_key(key_of)?;
+        Ok(())
+    }
+}
+
+impl<T> Index<usize> for Items<T> {
+    type Output = T;
+
+    ghost can_index = { λ items index. index < length items };
+
+    ghost index_gives = { λ items index item. item ≡ slice_index_or items index item };
+
+    fn index(&self, index: usize) -> &T
+        requires { index < length self.now }
+        ensures { result.now ≡ slice_index_or self.now index result.now }
+    {
+        &self.vec.as_slice()[index]
+    }
+}
+
+impl<T> IndexMut<usize> for Items<T> {
+    ghost use Rattle.owned.specs.contracts.items.Items.{the_row};
+
+    fn index_mut(&mut self, index: usize) -> &mut T
+        requires { index < length self.old }
+        ensures* writes_back { sem 𝓛 (Lends (the_row T.row) T.row self.entry result (slice_set self.old index)) }
+        ensures value { result.now ≡ slice_index_or self.old index result.now }
+    {
+        &mut self.vec[index]
     }
 }

@@ -1,11 +1,11 @@
 //! A map from texts.
-ghost use Rattle.std.specs.Prelude.{◌≡◌, Bool, ◌++◌, ◌∷◌, [], IfOk, OnOk, OnErr, map as each, unwrap_or};
+ghost use Rattle.std.specs.Prelude.{◌≡◌, ◌↔◌, Bool, IsTrue, ◌++◌, ◌∷◌, [], IfOk, OnOk, OnErr, map as each, unwrap_or};
 ghost use Rattle.std.specs.List.{list_all};
 ghost use Rattle.std.specs.List.Sorted.{IsPermutation};
 ghost use Rattle.std.specs.Map.Iter.{ShowsInOrder, deref};
 ghost use Rattle.std.specs.Option.{option_copied};
 ghost use Rattle.std.specs.FinMap as map;
-ghost use Rattle.owned.specs.Keyed.{keyed};
+ghost use Rattle.owned.specs.Keyed.{keyed, EachPasses};
 
 use crate::items::Items;
 use std::alloc::{AllocError, Global};
@@ -82,6 +82,7 @@ impl<V> TextMap<V> {
     pub fn values(&self) -> Values<'_, String, V>
         ensures each_once { IsPermutation (map.values self.now) result }
         ensures all { (test : V → Bool) → list_all test result ≡ list_all test (map.values self.now) }
+        ensures passing { (test : V → Bool) → IsTrue (list_all test result) ↔ EachPasses test self.now }
         ensures runs { ShowsInOrder (deref {X = V}) }
     {
         self.hashed.values()

@@ -36,3 +36,33 @@ fn a_text_is_its_bytes(rt: HostRuntime) -> Result<(), Fail> {
     assert!(rt; targets.get("Test/M").ok_or("target")?.as_str() == "Europe/Madrid");
     Ok(())
 }
+
+#[test]
+fn items_of_one_key_keep_their_order(rt: HostRuntime) -> Result<(), Fail> {
+    let alloc = rt.alloc();
+    let mut items = Items::from_vec(vec![in alloc;
+        (3u8, 'a'),
+        (1, 'b'),
+        (3, 'c'),
+        (2, 'd'),
+        (1, 'e'),
+    ]?);
+    items.sort_by_key(|item| item.0)?;
+    assert!(rt; items.as_slice() == [(1, 'b'), (1, 'e'), (2, 'd'), (3, 'a'), (3, 'c')].as_slice());
+    Ok(())
+}
+
+#[test]
+fn items_move_in_place(rt: HostRuntime) -> Result<(), Fail> {
+    let alloc = rt.alloc();
+    let mut items = Items::from_vec(vec![in alloc; (1u8, 'a'), (2, 'b'), (3, 'c'), (4, 'd')]?);
+    items.swap(0, 3);
+    items[3].0 = 9;
+    assert!(rt; items.remove(1) == (2, 'b'));
+    assert!(rt; items.replace(1, (7, 'x')) == (3, 'c'));
+    assert!(rt; items.as_slice() == [(4, 'd'), (7, 'x'), (9, 'a')].as_slice());
+    items.truncate(2);
+    assert!(rt; items.len() == 2 && !items.is_empty() && items.get(2).is_none());
+    assert!(rt; items[1] == (7, 'x'));
+    Ok(())
+}

@@ -1,0 +1,12 @@
+use Rattle.std.proofs.Common.{◌∙◌, ap}
+use Rattle.std.proofs.lemmas.List.Sorted.{ranks_by}
+use Rattle.owned.specs.Sorted.{stable_sort, by_key}
+use Rattle.owned.proofs.StableSorts.{the_stable_sort}
+use Rattle.owned.proofs.items.Items.sort_by_key.Goals as goal
+
+-- std's sort rises and keeps ties, so its list is the one that the definition gives
+pub returns-clause-ok : goal.returns-clause-ok
+returns-clause-ok g c key computes =
+    let sorts = c.in_ok-sort_by_key.ensures in
+    the_stable_sort _ (ranks_by g.met.K.Ord.total key) _ _ (sorts.sorted key computes) (sorts.stable key computes)
+    ∙ ap (stable_sort (by_key g.K.Ord.cmp key)) c.self.view_is
