@@ -6,8 +6,6 @@ use Rattle.std.specs.List.{IsDistinct, list_all}
 use Rattle.std.specs.Map.{lookup, keys_of, values_of}
 use Rattle.std.specs.Str.{bytes_eq}
 use Rattle.std.specs.String.{string_eq, string_eq_equiv}
-use Rattle.std.specs.Ordering.{eq_by_cmp}
-use Rattle.std.specs.Cmp.{eq_by_cmp_equiv}
 use Rattle.std.specs.Cmp.Lexicographic.{nat_list_cmp_total}
 use Rattle.std.specs.HashMap.{HashMap, UpdatesBy}
 use Rattle.std.specs.FinMap.{FinMap, get, insert, find, same_map, get-insert, get-from_entries, slice_cmp-IsAntisymmetric, nat_cmp-IsAntisymmetric}
@@ -15,6 +13,7 @@ use Rattle.std.proofs.lemmas.List.Sums.{AllPass-from_list_all, list_all-from_All
 use Rattle.std.proofs.lemmas.Map.Text.{is_eq-slice_cmp, hash_map_updates_text}
 use Rattle.std.proofs.lemmas.Map.Views.{All-values_from_lookup, IfSome-lookup_from_All}
 use Rattle.owned.specs.Keyed.{text_cmp, keyed, by_bytes, EachPasses}
+use Rattle.owned.specs.KeyedLaws.{tied_texts}
 
 find-by_bytes : {Y X : Type 0} (es : List (String Y × X)) (q : List ℕ) → find text_cmp q (by_bytes es) ≡ lookup (λ k. bytes_eq q (string_bytes k)) es
 find-by_bytes [] q = refl
@@ -27,9 +26,6 @@ get-keyed es q = get-from_entries nat_list_cmp_total (by_bytes es) q ∙ find-by
 -- maps that answer alike are one
 pub same_texts : {X : Type 0} (m n : FinMap text_cmp X) → ((q : List ℕ) → get m q ≡ get n q) → m ≡ n
 same_texts m n h = same_map nat_list_cmp_total (slice_cmp-IsAntisymmetric nat_cmp-IsAntisymmetric) m n h
-
-pub tied_texts : (q bs : List ℕ) → eq_by_cmp text_cmp q bs ≡ bytes_eq bs q
-tied_texts q bs = (eq_by_cmp_equiv nat_list_cmp_total).symm q bs ∙ is_eq-slice_cmp bs q
 
 -- a value put at a text
 pub keyed_updates : {Y X S : Type 0} (bs : List ℕ) (m n : HashMap (String Y) X S) (v : X)

@@ -1,6 +1,5 @@
 pub mod KeyedMaps
-pub mod Appended
-pub mod InOrder
+pub mod DistinctKeys
 pub mod Permuted
 pub mod SortedRows
 pub mod StableSorts

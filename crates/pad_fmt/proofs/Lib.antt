@@ -1,4 +1,3 @@
 pub mod SinkLemmas
 pub mod TextLemmas
-pub mod NumberLemmas
 pub mod Examples

@@ -1,6 +1,7 @@
 pub mod Options
 pub mod Sink
 pub mod Buffer
+pub mod Exact
 pub mod Padding
 pub mod PaddingLaws
 pub mod Metadata

@@ -1,11 +1,12 @@
 -- The width law of whole numbers: what is due has as many bytes as its padded width says.
 use Rattle.std.specs.Prelude.{◌≡◌, ℕ, ℤ, ◌+◌, ◌<◌, Bool, true, false, List, [], ◌++◌, length, ◌||◌}
-use Rattle.std.specs.Prelude.{unsigned_abs, if◌then◌else◌, codes}
+use Rattle.std.specs.Prelude.{unsigned_abs, if◌then◌else◌, codes, not, refl}
 use Rattle.std.specs.List.{repeat}
 use Rattle.std.specs.Int.{is_negative}
 use Rattle.std.specs.Fmt.{decimal}
 use Rattle.std.proofs.Common.{arith, ap, sym, ◌∙◌, length-append}
 use Rattle.pad_fmt.specs.Options.{Options}
+use Rattle.pad_fmt.specs.Exact.{is_exact_unsigned, is_exact_signed}
 use Rattle.pad_fmt.specs.Padding.{padded_width, HasPaddedWidth, shortfall, padded}
 use Rattle.pad_fmt.specs.PaddingLaws.{length-repeat_byte, length-padded}
 use Rattle.pad_fmt.specs.Number.{sign_text, shown_number, shown_unsigned, unsigned_width, shown_signed, signed_width}
@@ -33,10 +34,18 @@ number_law sign magnitude f ascii = by_zeros f.sign_aware_zero_pad
     by_zeros false = omega
         (arith, length-padded Right f width (sign ++ digits) ascii, length-append sign digits)
 
-pub unsigned_law : (n : ℕ) (f : Options) → f.sign_minus ≡ false → f.fill < 128
+-- what the test says
+not_set : (flag : Bool) → not flag ≡ true → flag ≡ false
+not_set true is = cc
+not_set false is = refl
+
+pub unsigned_law : (n : ℕ) (f : Options) → is_exact_unsigned n f ≡ true → f.fill < 128
     → HasPaddedWidth (shown_unsigned n f) (unsigned_width n f) f
-unsigned_law n f no_minus ascii = by_plus f.sign_plus
+unsigned_law n f exact ascii = by_plus f.sign_plus
   where
+    no_minus : f.sign_minus ≡ false
+    no_minus = not_set f.sign_minus exact
+
     by_plus : (plus : Bool)
         → HasPaddedWidth (shown_number (if plus then codes "+" else []) n f)
         (length (decimal n) + (if plus || f.sign_minus then 1 else 0)) f
@@ -45,5 +54,5 @@ unsigned_law n f no_minus ascii = by_plus f.sign_plus
         ∙ ap (λ w. padded_width w f) (omega arith)
         ∙ ap (λ (minus : Bool). padded_width (length (decimal n) + (if minus then 1 else 0)) f) (sym no_minus)
 
-pub signed_law : (z : ℤ) (f : Options) → Unit {0} → f.fill < 128 → HasPaddedWidth (shown_signed z f) (signed_width z f) f
+pub signed_law : (z : ℤ) (f : Options) → is_exact_signed z f ≡ true → f.fill < 128 → HasPaddedWidth (shown_signed z f) (signed_width z f) f
 signed_law z f _ ascii = number_law (sign_text (is_negative z) f) (unsigned_abs z) f ascii

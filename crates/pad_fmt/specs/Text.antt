@@ -1,5 +1,5 @@
 -- What a text, a character and a truth value are due to give under their options.
-use Rattle.std.specs.Prelude.{ℕ, Bool, List, length, Option, Some, None, min, unwrap_or, if◌then◌else◌, codes}
+use Rattle.std.specs.Prelude.{ℕ, Bool, List, length, Option, Some, None, min, unwrap_or, if◌then◌else◌, codes, encode_utf8}
 use Rattle.std.specs.Option.{option_map}
 use Rattle.std.specs.Fmt.{char_count, take_chars}
 use Rattle.pad_fmt.specs.Options.{Options}
@@ -21,6 +21,18 @@ shown_text text f =
 abbrev pub text_width : List ℕ → Options → ℕ
 text_width text f = unwrap_or (option_map (min (length text)) f.precision) (length text)
 
+-- the bytes of a buffer, whatever the precision
+abbrev pub buffer_width : List ℕ → Options → ℕ
+buffer_width text f = length text
+
+-- the bytes of a character, whatever the precision
+abbrev pub char_width : ℕ → Options → ℕ
+char_width c f = length (encode_utf8 c)
+
 -- `true` or `false`
 abbrev pub truth_text : Bool → List ℕ
 truth_text truth = if truth then codes "true" else codes "false"
+
+-- 4 or 5, whatever the precision
+abbrev pub truth_width : Bool → Options → ℕ
+truth_width truth f = length (truth_text truth)

@@ -1,11 +1,13 @@
 -- The width law of texts, characters and truth values: an ASCII character is one byte.
 use Rattle.std.specs.Prelude.{◌≡◌, ℕ, zero, suc, ◌+◌, ◌-◌, ◌<◌, ◌==◌, min, Bool, true, false, if◌then◌else◌, refl}
 use Rattle.std.specs.Prelude.{List, [], ◌∷◌, length, take, Option, Some, None, unwrap_or, encode_utf8, codes}
-use Rattle.std.specs.Option.{option_map}
+use Rattle.std.specs.Option.{option_map, is_none}
+use Rattle.std.specs.Char.{is_ascii}
 use Rattle.std.specs.Str.{IsAscii}
 use Rattle.std.specs.Fmt.{char_count, take_chars, is_char_start}
 use Rattle.std.proofs.Common.{arith, lit<, ap, sym, ◌∙◌}
 use Rattle.std.proofs.Math.Seq.{take-nil}
+use Rattle.std.proofs.lemmas.Bool.{and_parts}
 use Rattle.std.proofs.lemmas.Bool.Decides.{nat_tests}
 use Rattle.std.proofs.lemmas.List.{length-take}
 use Rattle.std.proofs.lemmas.Str.{encode_ascii, IsAscii-take}
@@ -13,7 +15,8 @@ use Rattle.std.proofs.lemmas.Str.Ascii.{IsAscii-cons, IsAscii-nil}
 use Rattle.pad_fmt.specs.Options.{Options}
 use Rattle.pad_fmt.specs.Padding.{padded_width, HasPaddedWidth}
 use Rattle.pad_fmt.specs.PaddingLaws.{length-padded}
-use Rattle.pad_fmt.specs.Text.{cut, shown_text, text_width, truth_text}
+use Rattle.pad_fmt.specs.Exact.{is_uncut, is_ascii_text, is_exact_truth, is_exact_char, is_exact_text, is_exact_buffer}
+use Rattle.pad_fmt.specs.Text.{cut, shown_text, text_width, buffer_width, char_width, truth_text, truth_width}
 use Rattle.pad_fmt.specs.declared.options.Alignment.TheVariants.{Left}
 
 pub char_count-empty : char_count [] ≡ 0
@@ -70,24 +73,42 @@ length-shown_text text f ascii ascii_fill =
     length-padded Left f (char_count (cut f.precision text)) (cut f.precision text) ascii_fill
     ∙ rw (char_count-ascii (cut f.precision text) (cut-ascii f.precision text ascii)) (omega arith)
 
-pub text_law : (text : List ℕ) (f : Options) → IsAscii text → f.fill < 128
+-- what the tests say
+ascii_char : (c : ℕ) → is_ascii c ≡ true → c < 128
+ascii_char c is = grind (arith, nat_tests)
+
+ascii_text : (text : List ℕ) → is_ascii_text text ≡ true → IsAscii text
+ascii_text [] is = IsAscii-nil
+ascii_text (b ∷ text) is =
+    let parts = and_parts (is_ascii b) (is_ascii_text text) is in
+    IsAscii-cons b text (ascii_char b parts.0) (ascii_text text parts.1)
+
+uncut : (precision : Option ℕ) → is_none precision ≡ true → precision ≡ None
+uncut None is = refl
+uncut (Some n) is = cc
+
+pub text_law : (text : List ℕ) (f : Options) → is_exact_text text f ≡ true → f.fill < 128
     → HasPaddedWidth (shown_text text f) (text_width text f) f
-text_law text f ascii ascii_fill = length-shown_text text f ascii ascii_fill
-    ∙ ap (λ w. padded_width w f) (length-cut f.precision text ascii)
+text_law text f exact ascii_fill = length-shown_text text f (ascii_text text exact) ascii_fill
+    ∙ ap (λ w. padded_width w f) (length-cut f.precision text (ascii_text text exact))
 
 uncut_law : (text : List ℕ) (f : Options) → IsAscii text → f.precision ≡ None → f.fill < 128
     → HasPaddedWidth (shown_text text f) (length text) f
 uncut_law text f ascii uncut ascii_fill = length-shown_text text f ascii ascii_fill
     ∙ ap (λ p. padded_width (length (cut p text)) f) uncut
 
-pub buffer_law : (text : List ℕ) (f : Options) → (IsAscii text × (f.precision ≡ None)) → f.fill < 128
-    → HasPaddedWidth (shown_text text f) (length text) f
-buffer_law text f (ascii, uncut) ascii_fill = uncut_law text f ascii uncut ascii_fill
+pub buffer_law : (text : List ℕ) (f : Options) → is_exact_buffer text f ≡ true → f.fill < 128
+    → HasPaddedWidth (shown_text text f) (buffer_width text f) f
+buffer_law text f exact ascii_fill =
+    let parts = and_parts (is_ascii_text text) (is_uncut f) exact in
+    uncut_law text f (ascii_text text parts.0) (uncut f.precision parts.1) ascii_fill
 
-pub char_law : (c : ℕ) (f : Options) → ((c < 128) × (f.precision ≡ None)) → f.fill < 128
-    → HasPaddedWidth (shown_text (encode_utf8 c) f) (length (encode_utf8 c)) f
-char_law c f (ascii, uncut) ascii_fill =
-    uncut_law (encode_utf8 c) f (rw (encode_ascii c ascii) (IsAscii-cons c [] ascii IsAscii-nil)) uncut ascii_fill
+pub char_law : (c : ℕ) (f : Options) → is_exact_char c f ≡ true → f.fill < 128
+    → HasPaddedWidth (shown_text (encode_utf8 c) f) (char_width c f) f
+char_law c f exact ascii_fill =
+    let parts = and_parts (is_ascii c) (is_uncut f) exact in
+    let ascii = ascii_char c parts.0 in
+    uncut_law (encode_utf8 c) f (rw (encode_ascii c ascii) (IsAscii-cons c [] ascii IsAscii-nil)) (uncut f.precision parts.1) ascii_fill
 
 truth_text_ascii : (truth : Bool) → IsAscii (truth_text truth)
 truth_text_ascii true =
@@ -98,6 +119,6 @@ truth_text_ascii false =
     (IsAscii-cons 108 (codes "se") (lit< tt) (IsAscii-cons 115 (codes "e") (lit< tt)
     (IsAscii-cons 101 [] (lit< tt) IsAscii-nil))))
 
-pub truth_law : (truth : Bool) (f : Options) → f.precision ≡ None → f.fill < 128
-    → HasPaddedWidth (shown_text (truth_text truth) f) (length (truth_text truth)) f
-truth_law truth f uncut ascii_fill = uncut_law (truth_text truth) f (truth_text_ascii truth) uncut ascii_fill
+pub truth_law : (truth : Bool) (f : Options) → is_exact_truth truth f ≡ true → f.fill < 128
+    → HasPaddedWidth (shown_text (truth_text truth) f) (truth_width truth f) f
+truth_law truth f exact ascii_fill = uncut_law (truth_text truth) f (truth_text_ascii truth) (uncut f.precision exact) ascii_fill

@@ -66,10 +66,7 @@ impl<const SIZE: usize> WriteBuffer<SIZE> {
         ensures ok { OnOk result (self.new ≡ self.old ++ text.now) }
         ensures full { OnErr result (self.new ≡ self.old) }
     {
-        match self.written.try_push_str(text) {
-            Ok(()) => Ok(()),
-            Err(_) => Err(Full),
-        }
+        self.written.try_push_str(text).map_err(|_| Full)
     }
 
     /// Whether both texts have the same bytes, whatever the two sizes are.
@@ -101,17 +98,11 @@ impl<const SIZE: usize> TextSink for WriteBuffer<SIZE> {
     ghost room = { λ buffer. SIZE - length buffer };
 
     fn write_str(&mut self, string: &str) -> Result<(), Full> {
-        match self.written.try_push_str(string) {
-            Ok(()) => Ok(()),
-            Err(_) => Err(Full),
-        }
+        self.written.try_push_str(string).map_err(|_| Full)
     }
 
     fn write_char(&mut self, c: char) -> Result<(), Full> {
-        match self.written.try_push(c) {
-            Ok(()) => Ok(()),
-            Err(_) => Err(Full),
-        }
+        self.written.try_push(c).map_err(|_| Full)
     }
 }
 

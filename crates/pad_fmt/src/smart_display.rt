@@ -1,5 +1,5 @@
 //! Values that know the width of their text.
-ghost use Rattle.std.specs.Prelude.{◌≡◌, ℕ, ◌<◌, List, length};
+ghost use Rattle.std.specs.Prelude.{◌≡◌, ℕ, ◌<◌, Bool, IsTrue, List, length};
 ghost use Rattle.pad_fmt.specs.Sink.{WroteInPieces};
 ghost use Rattle.pad_fmt.specs.Options.{Options};
 ghost use Rattle.pad_fmt.specs.Padding.{padded_width};
@@ -26,7 +26,7 @@ pub trait SmartDisplay: Sized {
     ghost wide: { Self → Options → ℕ };
 
     // Whether that width is exact under the options.
-    ghost exact: { Self → Options → Type 0 };
+    ghost exact: { Self → Options → Bool };
 
     /// The width of the value's text under the options, without padding, in bytes.
     fn metadata(&self, f: FormatterOptions) -> Metadata<'_, Self>
@@ -50,7 +50,7 @@ pub trait SmartDisplay: Sized {
     fn fmt<S: TextSink>(&self, out: &mut S, f: FormatterOptions) -> Result<(), Full>
         ensures wrote { WroteInPieces S.text S.room out.old out.new (due self.now f) result };
 
-    ghost width_law: { (value : Self) (f : Options) → exact value f → f.fill < 128 →
+    ghost width_law: { (value : Self) (f : Options) → IsTrue (exact value f) → f.fill < 128 →
         length (due value f) ≡ padded_width (wide value f) f };
 }
 
@@ -65,7 +65,7 @@ pub fn unpadded_width_of<T: SmartDisplay>(value: &T, f: FormatterOptions) -> usi
 /// is ASCII.
 pub fn padded_width_of<T: SmartDisplay>(value: &T, f: FormatterOptions) -> usize
     ensures value { result ≡ padded_width (T.wide value.now f) f }
-    ensures exact { T.exact value.now f → f.fill < 128 → length (T.due value.now f) ≡ result }
+    ensures exact { IsTrue (T.exact value.now f) → f.fill < 128 → length (T.due value.now f) ≡ result }
 {
     value.metadata(f).padded_width(f)
 }

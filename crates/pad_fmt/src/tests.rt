@@ -143,6 +143,9 @@ fn pads_a_text_of_given_width(rt: HostRuntime) {
     let mut out = WriteBuffer::<6>::default();
     assert!(rt; pad_with_width(&mut out, f, 3, "abc").is_ok());
     assert_eq!(rt; out.as_str(), " abc  ");
+    let mut out = WriteBuffer::<8>::default();
+    assert!(rt; pad_with_width(&mut out, f, 1, "abc").is_ok());
+    assert_eq!(rt; out.as_str(), "  abc   ");
 }
 
 #[test]

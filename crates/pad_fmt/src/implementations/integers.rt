@@ -1,6 +1,6 @@
 //! Whole numbers: decimal digits, on the right where no alignment is set.
-ghost use Rattle.std.specs.Prelude.{◌≡◌, false};
 ghost use Rattle.pad_fmt.specs.Sink.{WroteInPieces};
+ghost use Rattle.pad_fmt.specs.Exact.{is_exact_unsigned, is_exact_signed};
 ghost use Rattle.pad_fmt.specs.Number.{shown_unsigned, unsigned_width, shown_signed, signed_width};
 ghost use Rattle.pad_fmt.specs.NumberLaws.{unsigned_law, signed_law};
 
@@ -16,7 +16,7 @@ impl SmartDisplay for u8 {
 
     ghost wide = { unsigned_width };
 
-    ghost exact = { λ _ f. f.sign_minus ≡ false };
+    ghost exact = { is_exact_unsigned };
 
     ghost width_law = { unsigned_law };
 
@@ -48,7 +48,7 @@ impl SmartDisplay for u16 {
 
     ghost wide = { unsigned_width };
 
-    ghost exact = { λ _ f. f.sign_minus ≡ false };
+    ghost exact = { is_exact_unsigned };
 
     ghost width_law = { unsigned_law };
 
@@ -80,7 +80,7 @@ impl SmartDisplay for u32 {
 
     ghost wide = { unsigned_width };
 
-    ghost exact = { λ _ f. f.sign_minus ≡ false };
+    ghost exact = { is_exact_unsigned };
 
     ghost width_law = { unsigned_law };
 
@@ -112,7 +112,7 @@ impl SmartDisplay for u64 {
 
     ghost wide = { unsigned_width };
 
-    ghost exact = { λ _ f. f.sign_minus ≡ false };
+    ghost exact = { is_exact_unsigned };
 
     ghost width_law = { unsigned_law };
 
@@ -144,7 +144,7 @@ impl SmartDisplay for u128 {
 
     ghost wide = { unsigned_width };
 
-    ghost exact = { λ _ f. f.sign_minus ≡ false };
+    ghost exact = { is_exact_unsigned };
 
     ghost width_law = { unsigned_law };
 
@@ -176,7 +176,7 @@ impl SmartDisplay for usize {
 
     ghost wide = { unsigned_width };
 
-    ghost exact = { λ _ f. f.sign_minus ≡ false };
+    ghost exact = { is_exact_unsigned };
 
     ghost width_law = { unsigned_law };
 
@@ -208,7 +208,7 @@ impl SmartDisplay for i8 {
 
     ghost wide = { signed_width };
 
-    ghost exact = { λ _ _. Unit {0} };
+    ghost exact = { is_exact_signed };
 
     ghost width_law = { signed_law };
 
@@ -244,7 +244,7 @@ impl SmartDisplay for i16 {
 
     ghost wide = { signed_width };
 
-    ghost exact = { λ _ _. Unit {0} };
+    ghost exact = { is_exact_signed };
 
     ghost width_law = { signed_law };
 
@@ -280,7 +280,7 @@ impl SmartDisplay for i32 {
 
     ghost wide = { signed_width };
 
-    ghost exact = { λ _ _. Unit {0} };
+    ghost exact = { is_exact_signed };
 
     ghost width_law = { signed_law };
 
@@ -316,7 +316,7 @@ impl SmartDisplay for i64 {
 
     ghost wide = { signed_width };
 
-    ghost exact = { λ _ _. Unit {0} };
+    ghost exact = { is_exact_signed };
 
     ghost width_law = { signed_law };
 
@@ -352,7 +352,7 @@ impl SmartDisplay for i128 {
 
     ghost wide = { signed_width };
 
-    ghost exact = { λ _ _. Unit {0} };
+    ghost exact = { is_exact_signed };
 
     ghost width_law = { signed_law };
 
@@ -384,7 +384,7 @@ impl SmartDisplay for isize {
 
     ghost wide = { signed_width };
 
-    ghost exact = { λ _ _. Unit {0} };
+    ghost exact = { is_exact_signed };
 
     ghost width_law = { signed_law };
 

@@ -1,10 +1,10 @@
 //! Texts, characters and truth values, on the left where no alignment is set.
-ghost use Rattle.std.specs.Prelude.{◌≡◌, ◌<◌, None, length, encode_utf8};
+ghost use Rattle.std.specs.Prelude.{◌≡◌, encode_utf8};
 ghost use Rattle.std.specs.Cow.{cow_str_bytes};
-ghost use Rattle.std.specs.Str.{IsAscii};
 ghost use Rattle.std.specs.String.{string_bytes};
 ghost use Rattle.pad_fmt.specs.Sink.{WroteInPieces};
-ghost use Rattle.pad_fmt.specs.Text.{shown_text, text_width, truth_text};
+ghost use Rattle.pad_fmt.specs.Exact.{is_exact_truth, is_exact_char, is_exact_text, is_exact_buffer};
+ghost use Rattle.pad_fmt.specs.Text.{shown_text, text_width, truth_text, truth_width, char_width, buffer_width};
 ghost use Rattle.pad_fmt.specs.TextLaws.{text_law, truth_law, char_law, buffer_law};
 
 use crate::buffer::WriteBuffer;
@@ -20,9 +20,9 @@ impl SmartDisplay for bool {
 
     ghost due = { λ b. shown_text (truth_text b) };
 
-    ghost wide = { λ b _. length (truth_text b) };
+    ghost wide = { truth_width };
 
-    ghost exact = { λ _ f. f.precision ≡ None };
+    ghost exact = { is_exact_truth };
 
     ghost width_law = { truth_law };
 
@@ -52,9 +52,9 @@ impl SmartDisplay for char {
 
     ghost due = { λ c. shown_text (encode_utf8 c) };
 
-    ghost wide = { λ c _. length (encode_utf8 c) };
+    ghost wide = { char_width };
 
-    ghost exact = { λ c f. (c < 128) × (f.precision ≡ None) };
+    ghost exact = { is_exact_char };
 
     ghost width_law = { char_law };
 
@@ -87,7 +87,7 @@ impl SmartDisplay for Text<'_> {
 
     ghost wide = { λ t. text_width t.0.now };
 
-    ghost exact = { λ t _. IsAscii t.0.now };
+    ghost exact = { λ t. is_exact_text t.0.now };
 
     ghost width_law = { λ t. text_law t.0.now };
 
@@ -119,7 +119,7 @@ impl SmartDisplay for String {
 
     ghost wide = { λ t. text_width (string_bytes t) };
 
-    ghost exact = { λ t _. IsAscii (string_bytes t) };
+    ghost exact = { λ t. is_exact_text (string_bytes t) };
 
     ghost width_law = { λ t. text_law (string_bytes t) };
 
@@ -151,7 +151,7 @@ impl SmartDisplay for CowStr<'_, Global> {
 
     ghost wide = { λ t. text_width (cow_str_bytes t) };
 
-    ghost exact = { λ t _. IsAscii (cow_str_bytes t) };
+    ghost exact = { λ t. is_exact_text (cow_str_bytes t) };
 
     ghost width_law = { λ t. text_law (cow_str_bytes t) };
 
@@ -181,9 +181,9 @@ impl<const SIZE: usize> SmartDisplay for WriteBuffer<SIZE> {
 
     ghost due = { shown_text };
 
-    ghost wide = { λ b _. length b };
+    ghost wide = { buffer_width };
 
-    ghost exact = { λ b f. IsAscii b × (f.precision ≡ None) };
+    ghost exact = { is_exact_buffer };
 
     ghost width_law = { buffer_law };
 

@@ -15,7 +15,8 @@ use Rattle.std.proofs.lemmas.List.Sorted.{IsPermutation-map, list_any-IsPermutat
 use Rattle.std.proofs.lemmas.Map.Keys.{IsDistinct-IsPermutation}
 use Rattle.std.proofs.lemmas.Map.Text.{is_eq-slice_cmp}
 use Rattle.owned.specs.Keyed.{text_cmp}
-use Rattle.owned.proofs.InOrder.{same_rising, Rises-keys, Rises-viewed, sorted_from_distinct, IsDistinct-viewed, IsDistinct-unviewed}
+use Rattle.owned.specs.InOrderLaws.{same_rising, rises-viewed}
+use Rattle.owned.proofs.DistinctKeys.{rises-keys, sorted_from_distinct, IsDistinct-viewed, IsDistinct-unviewed}
 use Rattle.owned.proofs.Permuted.{entries-keyed, keys-by_bytes}
 use Rattle.owned.proofs.map.TextMap.keys.Goals as goal
 
@@ -30,10 +31,10 @@ returns g c =
     let order = IsPermutation-map deref found sorted c.in_ok-sort.ensures.permutation in
     let distinct = IsDistinct-IsPermutation (eq_by_cmp text_cmp) (eq_by_cmp_equiv nat_list_cmp_total).symm (each deref found) (each deref sorted) order
     (subst (IsDistinct (eq_by_cmp text_cmp)) (sym listed) (IsDistinct-viewed string_eq (eq_by_cmp text_cmp) string_bytes (λ x y. sym (is_eq-slice_cmp (string_bytes x) (string_bytes y))) (keys hashed) c.keys.ensures.unique)) in
-    let rises = Rises-viewed (λ x y. text_cmp x.now y.now) text_cmp deref (λ x y. refl) sorted
+    let rises = rises-viewed (λ x y. text_cmp x.now y.now) text_cmp deref (λ x y. refl) sorted
     (sorted_from_distinct (λ x y. text_cmp x.now y.now) (on_texts deref) sorted c.in_ok-sort.ensures.sorted (IsDistinct-unviewed (eq_by_cmp text_cmp) deref sorted distinct)) in
     let had = IsPermutation-map (λ e. e.0) _ _ (entries-keyed hashed.entries c.keys.ensures.unique) in
-    same_rising nat_list_cmp_total (slice_cmp-IsAntisymmetric nat_cmp-IsAntisymmetric) _ _ rises (Rises-keys c.args.self.now)
+    same_rising nat_list_cmp_total (slice_cmp-IsAntisymmetric nat_cmp-IsAntisymmetric) _ _ rises (rises-keys c.args.self.now)
     (λ q. sym (list_any-IsPermutation (eq_by_cmp text_cmp q) (each deref found) (each deref sorted) order)
     ∙ ap (list_any (eq_by_cmp text_cmp q)) (listed ∙ sym (keys-by_bytes hashed.entries))
     ∙ sym (list_any-IsPermutation (eq_by_cmp text_cmp q) _ _ had)

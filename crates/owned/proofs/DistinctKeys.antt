@@ -1,0 +1,68 @@
+-- Keys that differ: in order they strictly rise.
+use Rattle.std.proofs.Common.{◌≡◌, Bool, true, false, List, [], ◌∷◌, map, cond, refl, sym, ap, ◌∙◌, subst}
+use Rattle.std.specs.Prelude.{T, ◌&&◌}
+use Rattle.std.specs.declared.cmp.Ordering.{Ordering}
+use Rattle.std.specs.Cmp.{IsTotalOrder, eq_by_cmp_equiv}
+use Rattle.std.specs.FinMap.{FinMap, keys, entries, entries_sorted, is_sorted}
+use Rattle.std.specs.FinMap.Entries.{below_all}
+use Rattle.std.specs.List.{AllByRecursion, IsDistinct, dedup_from}
+use Rattle.std.specs.List.Sorted.{IsStrictlySortedBy, IsSorted}
+use Rattle.std.specs.Ordering.{is_lt, eq_by_cmp}
+use Rattle.std.proofs.lemmas.List.Kept.{IsStrictlySortedBy-dedup}
+use Rattle.std.proofs.lemmas.Map.Keys.{IsDistinct-head, IsDistinct-tail}
+use Rattle.owned.specs.InOrderLaws.{tagged, RisesStrictly}
+
+true_from_T : (b : Bool) → T b → b ≡ true
+true_from_T true h = refl
+true_from_T false h = absurd h
+
+below_keys : {K X : Type 0} (R : K → K → Ordering) (x : K) (es : List (K × X)) → below_all R x es ≡ below_all R x (tagged (map (λ e. e.0) es))
+below_keys R x [] = refl
+below_keys R x (e ∷ es) = ap (λ b. is_lt (R x e.0) && b) (below_keys R x es)
+
+sorted_keys : {K X : Type 0} (R : K → K → Ordering) (es : List (K × X)) → is_sorted R es ≡ is_sorted R (tagged (map (λ e. e.0) es))
+sorted_keys R [] = refl
+sorted_keys R (e ∷ es) = λ i. below_keys R e.0 es i && sorted_keys R es i
+
+-- the keys of a finite map
+pub rises-keys : {K X : Type 0} {R : K → K → Ordering} (m : FinMap R X) → RisesStrictly R (keys m)
+rises-keys {R = R} m = sym (sorted_keys R (entries m)) ∙ true_from_T (is_sorted R (entries m)) (entries_sorted m)
+
+apart_viewed : {X K : Type 0} (E : X → X → Bool) (F : K → K → Bool) (view : X → K) → ((x y : X) → E x y ≡ F (view x) (view y))
+    → (x : X) (ys : List X) → AllByRecursion (λ y. E x y ≡ false) ys → AllByRecursion (λ k. F (view x) k ≡ false) (map view ys)
+apart_viewed E F view tied x [] h = tt
+apart_viewed E F view tied x (y ∷ ys) h = (sym (tied x y) ∙ h.0, apart_viewed E F view tied x ys h.1)
+
+-- what a list shows is distinct where the list is, and the other way round
+pub IsDistinct-viewed : {X K : Type 0} (E : X → X → Bool) (F : K → K → Bool) (view : X → K) → ((x y : X) → E x y ≡ F (view x) (view y))
+    → (xs : List X) → IsDistinct E xs → IsDistinct F (map view xs)
+unfolding IsDistinct
+IsDistinct-viewed E F view tied [] h = tt
+IsDistinct-viewed E F view tied (x ∷ xs) h = (apart_viewed E F view tied x xs h.0, IsDistinct-viewed E F view tied xs h.1)
+
+apart_unviewed : {X K : Type 0} (F : K → K → Bool) (view : X → K) (x : X) (ys : List X)
+    → AllByRecursion (λ k. F (view x) k ≡ false) (map view ys) → AllByRecursion (λ y. F (view x) (view y) ≡ false) ys
+apart_unviewed F view x [] h = tt
+apart_unviewed F view x (y ∷ ys) h = (h.0, apart_unviewed F view x ys h.1)
+
+pub IsDistinct-unviewed : {X K : Type 0} (F : K → K → Bool) (view : X → K) (xs : List X)
+    → IsDistinct F (map view xs) → IsDistinct (λ x y. F (view x) (view y)) xs
+unfolding IsDistinct
+IsDistinct-unviewed F view [] h = tt
+IsDistinct-unviewed F view (x ∷ xs) h = (apart_unviewed F view x xs h.0, IsDistinct-unviewed F view xs h.1)
+
+undoubled : {X : Type 0} (E : X → X → Bool) → ((x y : X) → E x y ≡ E y x) → (x : X) (xs : List X)
+    → AllByRecursion (λ y. E x y ≡ false) xs → IsDistinct E xs → dedup_from E x xs ≡ x ∷ xs
+undoubled E flips x [] h d = refl
+undoubled E flips x (y ∷ ys) h d =
+    ap (λ b. cond b (dedup_from E x ys) (x ∷ dedup_from E y ys)) (flips y x ∙ h.0)
+    ∙ ap (λ zs. x ∷ zs) (undoubled E flips y ys (IsDistinct-head E y ys d) (IsDistinct-tail E y ys d))
+
+-- a list in order whose items differ strictly rises
+pub sorted_from_distinct : {X : Type 0} (R : X → X → Ordering) (o : IsTotalOrder R) (xs : List X)
+    → IsSorted R xs → IsDistinct (eq_by_cmp R) xs → IsStrictlySortedBy R xs
+sorted_from_distinct R o [] up d = IsStrictlySortedBy-dedup o {E = eq_by_cmp R} (λ x y. refl) [] up
+sorted_from_distinct R o (x ∷ xs) up d =
+    let E = eq_by_cmp R in
+    subst (IsStrictlySortedBy R) (undoubled E ((eq_by_cmp_equiv o).symm) x xs (IsDistinct-head E x xs d) (IsDistinct-tail E x xs d))
+    (IsStrictlySortedBy-dedup o {E = E} (λ x y. refl) (x ∷ xs) up)
