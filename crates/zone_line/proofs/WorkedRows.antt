@@ -1,7 +1,8 @@
 -- The definitions at worked rows.
 use Rattle.std.proofs.Common.{◌≡◌, [], ◌∷◌, Some, None, Ok, Err, refl, pos, negsuc}
 use Rattle.std.specs.Prelude.{codes}
-use Rattle.zone_values.specs.Faults.{invalid_day_spec}
+use Rattle.zone_values.specs.Faults.{refused}
+use Rattle.zone_values.specs.declared.fault.FaultKind.TheVariants.{InvalidDaySpec}
 use Rattle.zone_values.specs.Numbers.{signed_in}
 use Rattle.zone_values.specs.Seconds.{with_type}
 use Rattle.zone_values.specs.Weekdays.{weekday_named}
@@ -53,6 +54,6 @@ last_sunday_of_a_month : day_field (codes "lastSun") ≡ Ok (Last Sunday)
 unfolding day_field last_weekday weekday_named
 last_sunday_of_a_month = refl
 
-no_day : day_field (codes "32") ≡ Err (invalid_day_spec (codes "32"))
+no_day : day_field (codes "32") ≡ Err (refused InvalidDaySpec (codes "32"))
 unfolding day_field signed_in
 no_day = refl

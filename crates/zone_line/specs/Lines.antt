@@ -1,7 +1,8 @@
 -- The value of a line: tables from the texts of its columns to values; the first fault is the fault.
 use Rattle.std.specs.Prelude.{ℕ, List, Bool, ◌||◌, Option, Some, None, is_some, Result, Ok, Err, codes, bytes_eq, if◌then◌else◌}
 use Rattle.std.specs.Option.{option_map_or}
-use Rattle.zone_values.specs.Faults.{Fault, invalid_line_type, could_not_parse_saving}
+use Rattle.zone_values.specs.Faults.{Fault, refused}
+use Rattle.zone_values.specs.declared.fault.FaultKind.TheVariants.{InvalidLineType, CouldNotParseSaving}
 use Rattle.zone_line.specs.Results.{◌>>=◌}
 use Rattle.zone_line.specs.Columns.{InfoTexts, RuleTexts}
 use Rattle.zone_line.specs.Clocks.{minute_clock}
@@ -26,7 +27,7 @@ saving_field text =
     if bytes_eq text (codes "-") then Ok no_saving
     else if is_ruleset_name text then Ok (multiple text)
     else if is_some (minute_clock text) then one_off_field text
-    else Err (could_not_parse_saving text)
+    else Err (refused CouldNotParseSaving text)
 
 -- an end with a year, by the columns that follow it; those after the first that is missing are not read
 unfoldable pub until : List ℕ → Option (List ℕ) → Option (List ℕ) → Option (List ℕ) → Result ChangeTime Fault
@@ -64,7 +65,7 @@ unfoldable pub end_of : List ℕ → InfoTexts → Result (Option ChangeTime) Fa
 end_of line columns = option_map_or
     (λ year. some_end year columns)
     columns.year
-    (if has_yearless_end columns then Err (invalid_line_type line) else Ok None)
+    (if has_yearless_end columns then Err (refused InvalidLineType line) else Ok None)
 
 unfoldable pub info_of : List ℕ → InfoTexts → Result InfoValue Fault
 info_of line columns = do
@@ -108,4 +109,4 @@ value_of_kind line (kind.link columns) = Ok (link columns.target columns.name)
 
 -- a line of no kind is a fault
 unfoldable pub value : List ℕ → Result LineValue Fault
-value line = option_map_or (value_of_kind line) (kind_of line) (Err (invalid_line_type line))
+value line = option_map_or (value_of_kind line) (kind_of line) (Err (refused InvalidLineType line))

@@ -17,7 +17,7 @@ mod time_texts;
 pub use parser::{LineParser, NotBuilt};
 pub use reader::LineReader;
 pub use zone_values::{
-    ChangeTime, DaySpec, Error, Fault, Line, Link, Month, Rule, Saving, TimeSpec, TimeSpecAndType,
+    ChangeTime, DaySpec, Error, Fault, FaultKind, Line, Link, Month, Rule, Saving, TimeSpec, TimeSpecAndType,
     TimeType, Weekday, Year, Zone, ZoneInfo,
 };
 

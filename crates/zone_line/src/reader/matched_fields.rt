@@ -9,7 +9,7 @@ use crate::fields::{after_last, day_of_month, is_ruleset_name};
 use crate::number::is_numeral;
 use crate::reader::LineReader;
 use crate::time_texts::{clock_time, clock_type, hours_alone, if_wall, no_time};
-use zone_values::{DaySpec, Fault, Saving, TimeSpec, TimeSpecAndType, Weekday};
+use zone_values::{DaySpec, Fault, FaultKind, Saving, TimeSpec, TimeSpecAndType, Weekday};
 
 impl LineReader<'_> {
     ghost use Rattle.zone_line.specs.Clocks.{clock_in, clock_shown};
@@ -50,7 +50,7 @@ impl LineReader<'_> {
     {
         match self.time(text) {
             Some(time) => Ok(time),
-            None => Err(Fault::Time(text)),
+            None => Err(Fault { kind: FaultKind::InvalidTimeSpecAndType, text }),
         }
     }
 
@@ -62,7 +62,7 @@ impl LineReader<'_> {
         let time = self.time_field(text)?;
         match if_wall(time) {
             Some(time) => Ok(time),
-            None => Err(Fault::NonWallClock(text)),
+            None => Err(Fault { kind: FaultKind::NonWallClockInTimeSpec, text }),
         }
     }
 
@@ -79,7 +79,7 @@ impl LineReader<'_> {
         }
         match self.minute_clock(text) {
             Some(_) => self.one_off_field(text),
-            None => Err(Fault::Saving(text)),
+            None => Err(Fault { kind: FaultKind::CouldNotParseSaving, text }),
         }
     }
 
@@ -100,7 +100,7 @@ impl LineReader<'_> {
         if is_numeral(text) {
             return match day_of_month(text) {
                 Some(number) => Ok(DaySpec::Ordinal(number)),
-                None => Err(Fault::DaySpec(text)),
+                None => Err(Fault { kind: FaultKind::InvalidDaySpec, text }),
             };
         }
         if let Some(weekday) = after_last(text) {
@@ -108,7 +108,7 @@ impl LineReader<'_> {
         }
         match self.day_columns(text) {
             Some(columns) => sided_day(text, &columns),
-            None => Err(Fault::DaySpec(text)),
+            None => Err(Fault { kind: FaultKind::InvalidDaySpec, text }),
         }
     }
 }
@@ -131,6 +131,6 @@ fn sided_day<'a>(text: &'a str, columns: &DayColumns<'a>) -> Result<DaySpec, Fau
     match day_of_month(columns.day) {
         Some(number) if columns.sign == "<=" => Ok(DaySpec::LastOnOrBefore(weekday, number)),
         Some(number) => Ok(DaySpec::FirstOnOrAfter(weekday, number)),
-        None => Err(Fault::DaySpec(text)),
+        None => Err(Fault { kind: FaultKind::InvalidDaySpec, text }),
     }
 }
