@@ -13,14 +13,14 @@ use Rattle.zone_line.specs.Columns.{InfoTexts, RuleTexts}
 use Rattle.zone_line.specs.DayColumns.{DayTexts, day_columns}
 use Rattle.zone_values.specs.Days.{is_day_of_month, has_day_of_month}
 use Rattle.zone_values.specs.Faults.{Fault, refused}
-use Rattle.zone_values.specs.declared.fault.FaultKind.TheVariants.{InvalidDaySpec, InvalidLineType}
+use Rattle.zone_values.specs.declared.fault.FaultKind.TheVariants.{CouldNotParseSaving, InvalidDaySpec, InvalidLineType}
 use Rattle.zone_values.specs.Months.{month_field}
 use Rattle.zone_values.specs.Weekdays.{weekday_field}
 use Rattle.zone_values.specs.Years.{year_field}
 use Rattle.zone_line.specs.Fields.{to_field, type_field, day_of_month, sided_day, last_weekday, after_last, day_field, time_field, wall_field, is_ruleset_name}
 use Rattle.zone_line.specs.Kinds.{LineKind, kind_of}
 use Rattle.zone_line.specs.Kinds as kind
-use Rattle.zone_line.specs.Lines.{one_off_field, saving_field, until, has_yearless_end, some_end, end_of, info_of, rule_of, value_of_kind, value}
+use Rattle.zone_line.specs.Lines.{one_off_of, saving_field, until, has_yearless_end, some_end, end_of, info_of, rule_of, value_of_kind, value}
 use Rattle.zone_values.specs.Numbers.{is_numeral, signed_in}
 use Rattle.zone_line.specs.Digits.{two_digits, digit_of}
 use Rattle.zone_line.specs.Options.{first_some}
@@ -272,16 +272,22 @@ BoundedInfo info = IsTrue (is_bounded_info info)
 abbrev BoundedRule : RuleValue → Type 0
 BoundedRule r = IsTrue (is_bounded_rule r)
 
-one_off_field-bounded : (text : List ℕ) → IfOk (one_off_field text) BoundedSaving
-unfolding one_off_field
-one_off_field-bounded text = onward HasSmallSeconds BoundedSaving (wall_field text) _ (wall_field-small text) (λ amount small. small)
+one_off_of-bounded : (text : List ℕ) (parts : ClockTexts) → IfOk (one_off_of text parts) BoundedSaving
+unfolding one_off_of
+one_off_of-bounded text parts =
+    onward HasSmallSeconds BoundedSaving (ok_or (clock_time parts) _) _ (ok_where HasSmallSeconds (clock_time parts) _ (clock_time-small parts)) (λ time small.
+    onward HasSmallSeconds BoundedSaving (ok_or (if_wall (with_type time (clock_type parts.flag))) _) _
+    (ok_where HasSmallSeconds (if_wall (with_type time (clock_type parts.flag))) _ (if_wall-small (with_type time (clock_type parts.flag)) small)) (λ amount held. held))
 
 saving_field-bounded : (text : List ℕ) → IfOk (saving_field text) BoundedSaving
 unfolding saving_field
 saving_field-bounded text =
     ok_either BoundedSaving (bytes_eq text (codes "-")) _ _ refl (
-    ok_either BoundedSaving (is_ruleset_name text) _ _ refl (
-    ok_either BoundedSaving (is_some (minute_clock text)) _ _ (one_off_field-bounded text) tt))
+    ok_either BoundedSaving (is_ruleset_name text) _ _ refl (by (minute_clock text)))
+  where
+    by : (parts : Option ClockTexts) → IfOk (option_map_or (one_off_of text) parts (Err (refused CouldNotParseSaving text))) BoundedSaving
+    by None = tt
+    by (Some parts) = one_off_of-bounded text parts
 
 end_of-bounded : (line : List ℕ) (columns : InfoTexts) → IfOk (end_of line columns) BoundedEnd
 unfolding end_of some_end

@@ -31,7 +31,10 @@ pub(crate) fn type_field(text: &str) -> Result<&str, Fault<'_>>
     if text == "-" || text == "\u{2010}" {
         Ok(text)
     } else {
-        Err(Fault { kind: FaultKind::TypeColumnContainedNonHyphen, text })
+        Err(Fault {
+            kind: FaultKind::TypeColumnContainedNonHyphen,
+            text,
+        })
     }
 }
 

@@ -43,7 +43,10 @@ impl Month {
     {
         match month_named(text) {
             Some(month) => Ok(month),
-            None => Err(Fault { kind: FaultKind::FailedMonthParse, text }),
+            None => Err(Fault {
+                kind: FaultKind::FailedMonthParse,
+                text,
+            }),
         }
     }
 

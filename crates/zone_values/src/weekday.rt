@@ -38,7 +38,10 @@ impl Weekday {
     {
         match weekday_named(text) {
             Some(weekday) => Ok(weekday),
-            None => Err(Fault { kind: FaultKind::FailedWeekdayParse, text }),
+            None => Err(Fault {
+                kind: FaultKind::FailedWeekdayParse,
+                text,
+            }),
         }
     }
 

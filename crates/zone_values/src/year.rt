@@ -37,7 +37,10 @@ impl Year {
     {
         match year_named(text) {
             Some(year) => Ok(year),
-            None => Err(Fault { kind: FaultKind::FailedYearParse, text }),
+            None => Err(Fault {
+                kind: FaultKind::FailedYearParse,
+                text,
+            }),
         }
     }
 }
