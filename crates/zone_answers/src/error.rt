@@ -105,26 +105,8 @@ impl AnswerError {
             | AnswerError::UnknownZone(_)
             | AnswerError::OffsetRange(_)
             | AnswerError::Range(_) => true,
-            AnswerError::Line(_, error) => !is_memory(error),
+            AnswerError::Line(_, error) => error.kind().is_some(),
             AnswerError::NoMemory => false,
         }
-    }
-}
-
-/// Whether memory ran out while a line was read.
-fn is_memory(error: &zone_line::Error) -> bool
-    ensures { result ≡ is_none (fault_of error.now) }
-{
-    match error {
-        zone_line::Error::FailedYearParse(_)
-        | zone_line::Error::FailedMonthParse(_)
-        | zone_line::Error::FailedWeekdayParse(_)
-        | zone_line::Error::InvalidLineType(_)
-        | zone_line::Error::TypeColumnContainedNonHyphen(_)
-        | zone_line::Error::CouldNotParseSaving(_)
-        | zone_line::Error::InvalidDaySpec(_)
-        | zone_line::Error::InvalidTimeSpecAndType(_)
-        | zone_line::Error::NonWallClockInTimeSpec(_) => false,
-        zone_line::Error::NoMemory => true,
     }
 }

@@ -12,14 +12,15 @@ use Rattle.zone_line.specs.Clocks.{ClockTexts, clock_in, minute_clock}
 use Rattle.zone_line.specs.Columns.{InfoTexts, RuleTexts}
 use Rattle.zone_line.specs.DayColumns.{DayTexts, day_columns}
 use Rattle.zone_values.specs.Days.{is_day_of_month, has_day_of_month}
-use Rattle.zone_values.specs.Faults.{Fault, invalid_day_spec, invalid_line_type}
+use Rattle.zone_values.specs.Faults.{Fault, refused}
+use Rattle.zone_values.specs.declared.fault.FaultKind.TheVariants.{CouldNotParseSaving, InvalidDaySpec, InvalidLineType}
 use Rattle.zone_values.specs.Months.{month_field}
 use Rattle.zone_values.specs.Weekdays.{weekday_field}
 use Rattle.zone_values.specs.Years.{year_field}
 use Rattle.zone_line.specs.Fields.{to_field, type_field, day_of_month, sided_day, last_weekday, after_last, day_field, time_field, wall_field, is_ruleset_name}
 use Rattle.zone_line.specs.Kinds.{LineKind, kind_of}
 use Rattle.zone_line.specs.Kinds as kind
-use Rattle.zone_line.specs.Lines.{one_off_field, saving_field, until, has_yearless_end, some_end, end_of, info_of, rule_of, value_of_kind, value}
+use Rattle.zone_line.specs.Lines.{one_off_of, saving_field, until, has_yearless_end, some_end, end_of, info_of, rule_of, value_of_kind, value}
 use Rattle.zone_values.specs.Numbers.{is_numeral, signed_in}
 use Rattle.zone_line.specs.Digits.{two_digits, digit_of}
 use Rattle.zone_line.specs.Options.{first_some}
@@ -210,7 +211,7 @@ sided_day-passes : (text : List ℕ) (columns : DayTexts) → IfOk (sided_day te
 unfolding sided_day
 sided_day-passes text columns =
     onward (λ _. Unit {0}) Numbered (weekday_field columns.weekday) _ (any_ok (weekday_field columns.weekday)) (λ weekday _.
-    onward (λ n. IsTrue (is_day_of_month n)) Numbered (ok_or (day_of_month columns.day) (invalid_day_spec text)) _
+    onward (λ n. IsTrue (is_day_of_month n)) Numbered (ok_or (day_of_month columns.day) (refused InvalidDaySpec text)) _
     (ok_where (λ n. IsTrue (is_day_of_month n)) (day_of_month columns.day) _ (day_of_month-passes columns.day))
     (λ number passed. either Numbered (bytes_eq columns.sign (codes "<=")) (LastOnOrBefore weekday number) (FirstOnOrAfter weekday number) passed passed))
 
@@ -225,12 +226,12 @@ day_field-passes text = ok_either Numbered (is_numeral text) _ _
     (some_mapped (λ n. IsTrue (is_day_of_month n)) Numbered (day_of_month text) Ordinal (day_of_month-passes text) (λ n passed. passed)))
     (after (after_last text) (day_columns text))
   where
-    sided_or : (o : Option DayTexts) → IfOk (option_map_or (sided_day text) o (Err (invalid_day_spec text))) Numbered
+    sided_or : (o : Option DayTexts) → IfOk (option_map_or (sided_day text) o (Err (refused InvalidDaySpec text))) Numbered
     sided_or None = tt
     sided_or (Some columns) = sided_day-passes text columns
 
     after : (o : Option (List ℕ)) (p : Option DayTexts)
-        → IfOk (option_map_or last_weekday o (option_map_or (sided_day text) p (Err (invalid_day_spec text)))) Numbered
+        → IfOk (option_map_or last_weekday o (option_map_or (sided_day text) p (Err (refused InvalidDaySpec text)))) Numbered
     after None p = sided_or p
     after (Some rest) p = last_weekday-passes rest
 
@@ -271,23 +272,29 @@ BoundedInfo info = IsTrue (is_bounded_info info)
 abbrev BoundedRule : RuleValue → Type 0
 BoundedRule r = IsTrue (is_bounded_rule r)
 
-one_off_field-bounded : (text : List ℕ) → IfOk (one_off_field text) BoundedSaving
-unfolding one_off_field
-one_off_field-bounded text = onward HasSmallSeconds BoundedSaving (wall_field text) _ (wall_field-small text) (λ amount small. small)
+one_off_of-bounded : (text : List ℕ) (parts : ClockTexts) → IfOk (one_off_of text parts) BoundedSaving
+unfolding one_off_of
+one_off_of-bounded text parts =
+    onward HasSmallSeconds BoundedSaving (ok_or (clock_time parts) _) _ (ok_where HasSmallSeconds (clock_time parts) _ (clock_time-small parts)) (λ time small.
+    onward HasSmallSeconds BoundedSaving (ok_or (if_wall (with_type time (clock_type parts.flag))) _) _
+    (ok_where HasSmallSeconds (if_wall (with_type time (clock_type parts.flag))) _ (if_wall-small (with_type time (clock_type parts.flag)) small)) (λ amount held. held))
 
 saving_field-bounded : (text : List ℕ) → IfOk (saving_field text) BoundedSaving
 unfolding saving_field
 saving_field-bounded text =
     ok_either BoundedSaving (bytes_eq text (codes "-")) _ _ refl (
-    ok_either BoundedSaving (is_ruleset_name text) _ _ refl (
-    ok_either BoundedSaving (is_some (minute_clock text)) _ _ (one_off_field-bounded text) tt))
+    ok_either BoundedSaving (is_ruleset_name text) _ _ refl (by (minute_clock text)))
+  where
+    by : (parts : Option ClockTexts) → IfOk (option_map_or (one_off_of text) parts (Err (refused CouldNotParseSaving text))) BoundedSaving
+    by None = tt
+    by (Some parts) = one_off_of-bounded text parts
 
 end_of-bounded : (line : List ℕ) (columns : InfoTexts) → IfOk (end_of line columns) BoundedEnd
 unfolding end_of some_end
 end_of-bounded line columns = by columns.year
   where
     by : (year : Option (List ℕ))
-        → IfOk (option_map_or (λ year. some_end year columns) year (if has_yearless_end columns then Err (invalid_line_type line) else Ok None))
+        → IfOk (option_map_or (λ year. some_end year columns) year (if has_yearless_end columns then Err (refused InvalidLineType line) else Ok None))
         BoundedEnd
     by None = ok_either BoundedEnd (has_yearless_end columns) _ _ tt refl
     by (Some year) = onward Bounded _ (until year columns.month columns.day columns.time) _
@@ -326,7 +333,7 @@ value-bounded : (line : List ℕ) → IfOk (value line) (λ v. IsTrue (is_bounde
 unfolding value
 value-bounded line = by (kind_of line)
   where
-    by : (k : Option LineKind) → IfOk (option_map_or (value_of_kind line) k (Err (invalid_line_type line))) (λ v. IsTrue (is_bounded_line v))
+    by : (k : Option LineKind) → IfOk (option_map_or (value_of_kind line) k (Err (refused InvalidLineType line))) (λ v. IsTrue (is_bounded_line v))
     by None = tt
     by (Some k) = kind-bounded line k
 

@@ -1,3 +1,4 @@
 pub mod BoundLemmas
+mod OrderLaws
 pub mod PatternLemmas
-mod WorkedRows
+mod WorkedFields

@@ -3,7 +3,8 @@ use Rattle.std.specs.Prelude.{ℕ, ℤ, pos, List, [], ◌∷◌, take, drop, Bo
 use Rattle.std.specs.Char.{is_ascii_alphabetic}
 use Rattle.std.specs.List.{list_all}
 use Rattle.std.specs.Option.{option_map_or}
-use Rattle.zone_values.specs.Faults.{Fault, type_column_contained_non_hyphen, invalid_day_spec, invalid_time_spec_and_type, non_wall_clock_in_time_spec}
+use Rattle.zone_values.specs.Faults.{Fault, refused}
+use Rattle.zone_values.specs.declared.fault.FaultKind.TheVariants.{TypeColumnContainedNonHyphen, InvalidDaySpec, InvalidTimeSpecAndType, NonWallClockInTimeSpec}
 use Rattle.zone_line.specs.Results.{◌>>=◌}
 use Rattle.zone_values.specs.Numbers.{is_numeral, signed_in}
 use Rattle.zone_values.specs.Years.{year_field}
@@ -27,20 +28,20 @@ to_field text = if bytes_eq text (codes "only") then Ok None else (do
 abbrev pub type_field : List ℕ → Result (List ℕ) Fault
 type_field text =
     if bytes_eq text (codes "-") || bytes_eq text (226 ∷ 128 ∷ 144 ∷ []) then Ok text
-    else Err (type_column_contained_non_hyphen text)
+    else Err (refused TypeColumnContainedNonHyphen text)
 
 -- a hyphen is no letters
 abbrev pub letters_of : List ℕ → Option (List ℕ)
 letters_of text = if bytes_eq text (codes "-") then None else Some text
 
 abbrev pub time_field : List ℕ → Result TimeSpecAndType Fault
-time_field text = ok_or (time_of text) (invalid_time_spec_and_type text)
+time_field text = ok_or (time_of text) (refused InvalidTimeSpecAndType text)
 
 -- a time that has to be the wall's
 unfoldable pub wall_field : List ℕ → Result TimeSpec Fault
 wall_field text = do
   time ← time_field text
-  ok_or (if_wall time) (non_wall_clock_in_time_spec text)
+  ok_or (if_wall time) (refused NonWallClockInTimeSpec text)
 
 -- 1 to 31, by ASCII digits alone
 abbrev pub day_of_month : List ℕ → Option ℤ
@@ -58,7 +59,7 @@ sided sign weekday number =
 unfoldable pub sided_day : List ℕ → DayTexts → Result DaySpec Fault
 sided_day text columns = do
   weekday ← weekday_field columns.weekday
-  number ← ok_or (day_of_month columns.day) (invalid_day_spec text)
+  number ← ok_or (day_of_month columns.day) (refused InvalidDaySpec text)
   Ok (sided columns.sign weekday number)
 
 -- the last such weekday of the month
@@ -74,9 +75,9 @@ after_last text = if bytes_eq (take 4 text) (codes "last") then Some (drop 4 tex
 -- a number, `last` and a weekday, or a weekday on one side of a number
 unfoldable pub day_field : List ℕ → Result DaySpec Fault
 day_field text =
-    if is_numeral text then ok_or (option_map Ordinal (day_of_month text)) (invalid_day_spec text)
+    if is_numeral text then ok_or (option_map Ordinal (day_of_month text)) (refused InvalidDaySpec text)
     else option_map_or last_weekday (after_last text) (
-    option_map_or (sided_day text) (day_columns text) (Err (invalid_day_spec text)))
+    option_map_or (sided_day text) (day_columns text) (Err (refused InvalidDaySpec text)))
 
 -- ASCII letters, hyphens and underscores alone
 abbrev pub is_ruleset_name : List ℕ → Bool

@@ -1,10 +1,13 @@
 -- The value of a line: tables from the texts of its columns to values; the first fault is the fault.
-use Rattle.std.specs.Prelude.{ℕ, List, Bool, ◌||◌, Option, Some, None, is_some, Result, Ok, Err, codes, bytes_eq, if◌then◌else◌}
+use Rattle.std.specs.Prelude.{ℕ, List, Bool, ◌||◌, Option, Some, None, is_some, ok_or, Result, Ok, Err, codes, bytes_eq, if◌then◌else◌}
 use Rattle.std.specs.Option.{option_map_or}
-use Rattle.zone_values.specs.Faults.{Fault, invalid_line_type, could_not_parse_saving}
+use Rattle.zone_values.specs.Faults.{Fault, refused}
+use Rattle.zone_values.specs.declared.fault.FaultKind.TheVariants.{InvalidLineType, CouldNotParseSaving, InvalidTimeSpecAndType, NonWallClockInTimeSpec}
 use Rattle.zone_line.specs.Results.{◌>>=◌}
 use Rattle.zone_line.specs.Columns.{InfoTexts, RuleTexts}
-use Rattle.zone_line.specs.Clocks.{minute_clock}
+use Rattle.zone_values.specs.Seconds.{with_type}
+use Rattle.zone_line.specs.Clocks.{ClockTexts, minute_clock}
+use Rattle.zone_line.specs.Times.{clock_time, clock_type, if_wall}
 use Rattle.zone_line.specs.Kinds.{LineKind, kind_of}
 use Rattle.zone_line.specs.Kinds as kind
 use Rattle.zone_values.specs.Months.{month_field}
@@ -14,10 +17,11 @@ use Rattle.zone_values.specs.Values.{SavingValue, no_saving, one_off, multiple, 
 use Rattle.zone_values.specs.declared.change.ChangeTime.{ChangeTime}
 use Rattle.zone_values.specs.declared.change.ChangeTime.TheVariants.{UntilYear, UntilMonth, UntilDay, UntilTime}
 
--- a text that the pattern of hours and minutes matches is an amount of time
-unfoldable pub one_off_field : List ℕ → Result SavingValue Fault
-one_off_field text = do
-  amount ← wall_field text
+-- an amount of time by its hours and minutes, which has to be the wall's
+unfoldable pub one_off_of : List ℕ → ClockTexts → Result SavingValue Fault
+one_off_of text parts = do
+  time ← ok_or (clock_time parts) (refused InvalidTimeSpecAndType text)
+  amount ← ok_or (if_wall (with_type time (clock_type parts.flag))) (refused NonWallClockInTimeSpec text)
   Ok (one_off amount)
 
 -- the RULES column: a hyphen, the name of a ruleset, or an amount of time
@@ -25,8 +29,7 @@ unfoldable pub saving_field : List ℕ → Result SavingValue Fault
 saving_field text =
     if bytes_eq text (codes "-") then Ok no_saving
     else if is_ruleset_name text then Ok (multiple text)
-    else if is_some (minute_clock text) then one_off_field text
-    else Err (could_not_parse_saving text)
+    else option_map_or (one_off_of text) (minute_clock text) (Err (refused CouldNotParseSaving text))
 
 -- an end with a year, by the columns that follow it; those after the first that is missing are not read
 unfoldable pub until : List ℕ → Option (List ℕ) → Option (List ℕ) → Option (List ℕ) → Result ChangeTime Fault
@@ -64,7 +67,7 @@ unfoldable pub end_of : List ℕ → InfoTexts → Result (Option ChangeTime) Fa
 end_of line columns = option_map_or
     (λ year. some_end year columns)
     columns.year
-    (if has_yearless_end columns then Err (invalid_line_type line) else Ok None)
+    (if has_yearless_end columns then Err (refused InvalidLineType line) else Ok None)
 
 unfoldable pub info_of : List ℕ → InfoTexts → Result InfoValue Fault
 info_of line columns = do
@@ -108,4 +111,4 @@ value_of_kind line (kind.link columns) = Ok (link columns.target columns.name)
 
 -- a line of no kind is a fault
 unfoldable pub value : List ℕ → Result LineValue Fault
-value line = option_map_or (value_of_kind line) (kind_of line) (Err (invalid_line_type line))
+value line = option_map_or (value_of_kind line) (kind_of line) (Err (refused InvalidLineType line))

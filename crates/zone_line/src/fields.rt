@@ -11,7 +11,7 @@ ghost use Rattle.zone_line.specs.Fields.{
 };
 
 use crate::number::{is_numeral, small_number};
-use zone_values::{Fault, Year};
+use zone_values::{Fault, FaultKind, Year};
 
 /// The last year of a rule: `only` is none of its own.
 #[tactic(auto, unfolding(crate::specs::Fields::to_field))]
@@ -31,7 +31,10 @@ pub(crate) fn type_field(text: &str) -> Result<&str, Fault<'_>>
     if text == "-" || text == "\u{2010}" {
         Ok(text)
     } else {
-        Err(Fault::TypeColumn(text))
+        Err(Fault {
+            kind: FaultKind::TypeColumnContainedNonHyphen,
+            text,
+        })
     }
 }
 

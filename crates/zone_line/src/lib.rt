@@ -17,8 +17,8 @@ mod time_texts;
 pub use parser::{LineParser, NotBuilt};
 pub use reader::LineReader;
 pub use zone_values::{
-    ChangeTime, DaySpec, Error, Fault, Line, Link, Month, Rule, Saving, TimeSpec, TimeSpecAndType,
-    TimeType, Weekday, Year, Zone, ZoneInfo,
+    ChangeTime, DaySpec, Error, Fault, FaultKind, Line, Link, Month, Rule, Saving, TimeSpec,
+    TimeSpecAndType, TimeType, Weekday, Year, Zone, ZoneInfo,
 };
 
 #[cfg(test)]

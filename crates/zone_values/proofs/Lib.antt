@@ -1,2 +1,4 @@
+mod DayLaws
 pub mod WeekdayLemmas
-mod WorkedRows
+mod WorkedDays
+mod WorkedNames

@@ -1,6 +1,7 @@
 -- The months, by their names and numbers.
 use Rattle.std.specs.Prelude.{ℕ, List, Option, Some, None, ok_or, Result, ◌==◌, codes, if◌then◌else◌}
-use Rattle.zone_values.specs.Faults.{Fault, failed_month_parse}
+use Rattle.zone_values.specs.Faults.{Fault, refused}
+use Rattle.zone_values.specs.declared.fault.FaultKind.TheVariants.{FailedMonthParse}
 use Rattle.zone_values.specs.Names.{is_name, lower}
 use Rattle.zone_values.specs.declared.month.Month.{Month}
 use Rattle.zone_values.specs.declared.month.Month.TheVariants.{January, February, March, April, May, June, July, August, September, October, November, December}
@@ -47,4 +48,4 @@ month_named text =
 
 -- the fault holds the text in ASCII lower case
 abbrev pub month_field : List ℕ → Result Month Fault
-month_field text = ok_or (month_named text) (failed_month_parse (lower text))
+month_field text = ok_or (month_named text) (refused FailedMonthParse (lower text))

@@ -1,6 +1,7 @@
 -- The days of the week, by their names.
 use Rattle.std.specs.Prelude.{ℕ, List, Option, Some, None, ok_or, Result, codes, if◌then◌else◌}
-use Rattle.zone_values.specs.Faults.{Fault, failed_weekday_parse}
+use Rattle.zone_values.specs.Faults.{Fault, refused}
+use Rattle.zone_values.specs.declared.fault.FaultKind.TheVariants.{FailedWeekdayParse}
 use Rattle.zone_values.specs.Names.{is_name, lower}
 use Rattle.zone_values.specs.declared.weekday.Weekday.{Weekday}
 use Rattle.zone_values.specs.declared.weekday.Weekday.TheVariants.{Sunday, Monday, Tuesday, Wednesday, Thursday, Friday, Saturday}
@@ -29,4 +30,4 @@ weekday_named text =
 
 -- the fault holds the text in ASCII lower case
 abbrev pub weekday_field : List ℕ → Result Weekday Fault
-weekday_field text = ok_or (weekday_named text) (failed_weekday_parse (lower text))
+weekday_field text = ok_or (weekday_named text) (refused FailedWeekdayParse (lower text))

@@ -1,6 +1,7 @@
 -- The years, by their texts.
 use Rattle.std.specs.Prelude.{ℕ, ◌^◌, List, Option, Some, option_map, ok_or, Result, codes, if◌then◌else◌}
-use Rattle.zone_values.specs.Faults.{Fault, failed_year_parse}
+use Rattle.zone_values.specs.Faults.{Fault, refused}
+use Rattle.zone_values.specs.declared.fault.FaultKind.TheVariants.{FailedYearParse}
 use Rattle.zone_values.specs.Names.{is_name}
 use Rattle.zone_values.specs.Numbers.{signed_in}
 use Rattle.zone_values.specs.declared.year.Year.{Year}
@@ -14,4 +15,4 @@ year_named text =
     else option_map Number (signed_in (2 ^ 63) text)
 
 abbrev pub year_field : List ℕ → Result Year Fault
-year_field text = ok_or (year_named text) (failed_year_parse text)
+year_field text = ok_or (year_named text) (refused FailedYearParse text)

@@ -1,4 +1,5 @@
 //! Why a line is refused.
+use crate::fault::FaultKind;
 use std::alloc::AllocError;
 use thiserror::Error;
 
@@ -46,5 +47,28 @@ impl From<AllocError> for Error {
 
     fn from(_error: AllocError) -> Error {
         Error::NoMemory
+    }
+}
+
+impl Error {
+    ghost use Rattle.std.specs.Prelude.{◌≡◌, option_map};
+    ghost use Rattle.zone_values.specs.Faults.{fault_of};
+
+    /// What was refused, or none where memory ran out.
+    pub fn kind(&self) -> Option<FaultKind>
+        ensures { result ≡ option_map (λ fault. fault.kind) (fault_of self.now) }
+    {
+        Some(match self {
+            Error::FailedYearParse(_) => FaultKind::FailedYearParse,
+            Error::FailedMonthParse(_) => FaultKind::FailedMonthParse,
+            Error::FailedWeekdayParse(_) => FaultKind::FailedWeekdayParse,
+            Error::InvalidLineType(_) => FaultKind::InvalidLineType,
+            Error::TypeColumnContainedNonHyphen(_) => FaultKind::TypeColumnContainedNonHyphen,
+            Error::CouldNotParseSaving(_) => FaultKind::CouldNotParseSaving,
+            Error::InvalidDaySpec(_) => FaultKind::InvalidDaySpec,
+            Error::InvalidTimeSpecAndType(_) => FaultKind::InvalidTimeSpecAndType,
+            Error::NonWallClockInTimeSpec(_) => FaultKind::NonWallClockInTimeSpec,
+            Error::NoMemory => return None,
+        })
     }
 }

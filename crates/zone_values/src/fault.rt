@@ -1,23 +1,77 @@
-//! What is wrong with a line, as texts of the line itself.
-ghost use Rattle.std.specs.Prelude.{◌≡◌, Some, IfOk, IfSome, map, string_bytes};
-ghost use Rattle.std.specs.Char.{to_ascii_lowercase};
-ghost use Rattle.zone_values.specs.Faults.{fault_shown, fault_of};
+//! What is wrong with a line: a kind, and the text of the line that is refused.
+ghost use Rattle.std.specs.Prelude.{◌≡◌, ◌≤◌, length, Some, IfOk, IfSome, string_bytes};
+ghost use Rattle.zone_values.specs.Faults.{fault_shown, fault_of, fault_name, refused, told_text};
 
 use crate::error::Error;
 use std::alloc::{AllocError, Global};
 
-/// What `Error` tells, with the refused text borrowed.
-#[derive(Clone, Copy)]
-pub enum Fault<'a> {
-    Year(&'a str),
-    Month(&'a str),
-    Weekday(&'a str),
-    LineType(&'a str),
-    TypeColumn(&'a str),
-    Saving(&'a str),
-    DaySpec(&'a str),
-    Time(&'a str),
-    NonWallClock(&'a str),
+/// What a text was to be and is not; `Error` says more of each.
+#[derive(Clone, Copy, Debug, PartialEq, Eq)]
+pub enum FaultKind {
+    /// A year.
+    FailedYearParse,
+    /// A month.
+    FailedMonthParse,
+    /// A weekday.
+    FailedWeekdayParse,
+    /// A line.
+    InvalidLineType,
+    /// The TYPE column of a rule.
+    TypeColumnContainedNonHyphen,
+    /// A RULES column.
+    CouldNotParseSaving,
+    /// A day of a month.
+    InvalidDaySpec,
+    /// A time with its clock.
+    InvalidTimeSpecAndType,
+    /// A time by the wall's clock.
+    NonWallClockInTimeSpec,
+}
+
+/// A refused text, borrowed, with what it was to be.
+#[derive(Clone, Copy, Debug, PartialEq)]
+pub struct Fault<'a> {
+    /// What the text was to be.
+    pub kind: FaultKind,
+    /// The text as it stands in the line.
+    pub text: &'a str,
+}
+
+impl FaultKind {
+    /// The name of the kind, which is that of its variant of `Error`.
+    pub fn name(self) -> &'static str
+        ensures name { result.now ≡ fault_name self }
+        ensures short { length result.now ≤ 28 }
+    {
+        match self {
+            FaultKind::FailedYearParse => "FailedYearParse",
+            FaultKind::FailedMonthParse => "FailedMonthParse",
+            FaultKind::FailedWeekdayParse => "FailedWeekdayParse",
+            FaultKind::InvalidLineType => "InvalidLineType",
+            FaultKind::TypeColumnContainedNonHyphen => "TypeColumnContainedNonHyphen",
+            FaultKind::CouldNotParseSaving => "CouldNotParseSaving",
+            FaultKind::InvalidDaySpec => "InvalidDaySpec",
+            FaultKind::InvalidTimeSpecAndType => "InvalidTimeSpecAndType",
+            FaultKind::NonWallClockInTimeSpec => "NonWallClockInTimeSpec",
+        }
+    }
+
+    /// The error of this kind that holds the text.
+    fn error(self, text: String) -> Error
+        ensures { fault_of result ≡ Some (refused self (string_bytes text)) }
+    {
+        match self {
+            FaultKind::FailedYearParse => Error::FailedYearParse(text),
+            FaultKind::FailedMonthParse => Error::FailedMonthParse(text),
+            FaultKind::FailedWeekdayParse => Error::FailedWeekdayParse(text),
+            FaultKind::InvalidLineType => Error::InvalidLineType(text),
+            FaultKind::TypeColumnContainedNonHyphen => Error::TypeColumnContainedNonHyphen(text),
+            FaultKind::CouldNotParseSaving => Error::CouldNotParseSaving(text),
+            FaultKind::InvalidDaySpec => Error::InvalidDaySpec(text),
+            FaultKind::InvalidTimeSpecAndType => Error::InvalidTimeSpecAndType(text),
+            FaultKind::NonWallClockInTimeSpec => Error::NonWallClockInTimeSpec(text),
+        }
+    }
 }
 
 impl Fault<'_> {
@@ -25,39 +79,20 @@ impl Fault<'_> {
     pub fn error(self, alloc: Global) -> Error
         ensures { IfSome (fault_of result) (λ fault. fault ≡ fault_shown self.entry) }
     {
-        match self.copied(alloc) {
-            Ok(error) => error,
+        match self.told_text(alloc) {
+            Ok(text) => self.kind.error(text),
             Err(_) => Error::NoMemory,
         }
     }
 
-    /// The error, with its text copied.
-    fn copied(self, alloc: Global) -> Result<Error, AllocError>
-        ensures { IfOk result (λ error. fault_of error ≡ Some (fault_shown self.entry)) }
+    /// A copy of the text, that of a month or a weekday in ASCII lower case.
+    fn told_text(&self, alloc: Global) -> Result<String, AllocError>
+        ensures { IfOk result (λ copy. string_bytes copy ≡ told_text self.now.kind self.now.text.now) }
     {
-        Ok(match self {
-            Fault::Year(text) => Error::FailedYearParse(String::from_str(alloc, text)?),
-            Fault::Month(text) => Error::FailedMonthParse(lowercase(alloc, text)?),
-            Fault::Weekday(text) => Error::FailedWeekdayParse(lowercase(alloc, text)?),
-            Fault::LineType(text) => Error::InvalidLineType(String::from_str(alloc, text)?),
-            Fault::TypeColumn(text) => {
-                Error::TypeColumnContainedNonHyphen(String::from_str(alloc, text)?)
-            }
-            Fault::Saving(text) => Error::CouldNotParseSaving(String::from_str(alloc, text)?),
-            Fault::DaySpec(text) => Error::InvalidDaySpec(String::from_str(alloc, text)?),
-            Fault::Time(text) => Error::InvalidTimeSpecAndType(String::from_str(alloc, text)?),
-            Fault::NonWallClock(text) => {
-                Error::NonWallClockInTimeSpec(String::from_str(alloc, text)?)
-            }
-        })
+        let mut copy = String::from_str(alloc, self.text)?;
+        if self.kind == FaultKind::FailedMonthParse || self.kind == FaultKind::FailedWeekdayParse {
+            copy.make_ascii_lowercase();
+        }
+        Ok(copy)
     }
-}
-
-/// A copy of the text in ASCII lower case.
-fn lowercase(alloc: Global, text: &str) -> Result<String, AllocError>
-    ensures { IfOk result (λ copy. string_bytes copy ≡ map to_ascii_lowercase text.now) }
-{
-    let mut copy = String::from_str(alloc, text)?;
-    copy.make_ascii_lowercase();
-    Ok(copy)
 }

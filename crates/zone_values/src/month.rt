@@ -4,7 +4,7 @@ ghost use Rattle.zone_values.specs.Faults.{Tells, told};
 ghost use Rattle.zone_values.specs.Months.{month_number, month_numbered, month_field};
 
 use crate::error::Error;
-use crate::fault::Fault;
+use crate::fault::{Fault, FaultKind};
 use crate::names::month_named;
 use std::alloc::Global;
 
@@ -43,7 +43,10 @@ impl Month {
     {
         match month_named(text) {
             Some(month) => Ok(month),
-            None => Err(Fault::Month(text)),
+            None => Err(Fault {
+                kind: FaultKind::FailedMonthParse,
+                text,
+            }),
         }
     }
 
@@ -71,6 +74,8 @@ impl Month {
 
     /// The month of that number, from 1 to 12.
     pub(crate) fn numbered(number: u8) -> Month
+        requires first { 1 ≤ number }
+        requires last { number ≤ 12 }
         ensures { result ≡ month_numbered number }
     {
         match number {
@@ -85,7 +90,8 @@ impl Month {
             9 => Month::September,
             10 => Month::October,
             11 => Month::November,
-            _ => Month::December,
+            12 => Month::December,
+            _ => unreachable!(),
         }
     }
 }

@@ -1,5 +1,6 @@
-//! Names, ends and days of months.
-use crate::{ChangeTime, DaySpec, Month, TimeSpec, TimeType, Weekday, Year};
+//! Names, faults, ends and days of months.
+use crate::{ChangeTime, DaySpec, Error, Month, TimeSpec, TimeType, Weekday, Year};
+use std::alloc::Global;
 use std::test::Fail;
 
 #[test]
@@ -8,6 +9,56 @@ fn names(rt: HostRuntime) -> Result<(), Fail> {
     assert_eq!(rt; Year::parse(alloc, "MAX")?, Year::Maximum);
     assert_eq!(rt; Month::parse(alloc, "Aug")?, Month::August);
     assert_eq!(rt; Weekday::parse(alloc, "sun")?, Weekday::Sunday);
+    Ok(())
+}
+
+/// Whether the error is of the kind that has its variant's name.
+fn has_its_name(alloc: Global, error: Error) -> Result<bool, Fail> {
+    let kind = error.kind().ok_or("no kind")?;
+    let shown = format!(in alloc; "{error:?}")?;
+    let named = format!(in alloc; "{}(\"x\")", kind.name())?;
+    Ok(shown.as_str() == named.as_str())
+}
+
+#[test]
+fn kinds_of_faults(rt: HostRuntime) -> Result<(), Fail> {
+    let alloc = rt.alloc();
+    let x = "x";
+    assert!(rt; has_its_name(alloc, Error::FailedYearParse(String::from_str(alloc, x)?))?);
+    assert!(rt; has_its_name(alloc, Error::FailedMonthParse(String::from_str(alloc, x)?))?);
+    assert!(rt;
+        has_its_name(
+            alloc,
+            Error::FailedWeekdayParse(String::from_str(alloc, x)?)
+        )?
+    );
+    assert!(rt; has_its_name(alloc, Error::InvalidLineType(String::from_str(alloc, x)?))?);
+    assert!(rt;
+        has_its_name(
+            alloc,
+            Error::TypeColumnContainedNonHyphen(String::from_str(alloc, x)?)
+        )?
+    );
+    assert!(rt;
+        has_its_name(
+            alloc,
+            Error::CouldNotParseSaving(String::from_str(alloc, x)?)
+        )?
+    );
+    assert!(rt; has_its_name(alloc, Error::InvalidDaySpec(String::from_str(alloc, x)?))?);
+    assert!(rt;
+        has_its_name(
+            alloc,
+            Error::InvalidTimeSpecAndType(String::from_str(alloc, x)?)
+        )?
+    );
+    assert!(rt;
+        has_its_name(
+            alloc,
+            Error::NonWallClockInTimeSpec(String::from_str(alloc, x)?)
+        )?
+    );
+    assert!(rt; Error::NoMemory.kind().is_none());
     Ok(())
 }
 
@@ -21,6 +72,9 @@ fn timestamps(rt: HostRuntime) -> Result<(), Fail> {
     let end = ChangeTime::UntilTime(Year::Number(2000), Month::February, sunday, time);
     assert!(rt; end.is_dated());
     assert_eq!(rt; end.to_timestamp(), 951_642_000);
+    assert_eq!(rt; (end.year(), end.end_year()), (2000, Year::Number(2000)));
+    assert_eq!(rt; end.time_type(), TimeType::Wall);
+    assert!(rt; end.has_year() && end.has_day_of_month() && end.lies_in_its_year());
     Ok(())
 }
 
@@ -67,6 +121,7 @@ fn concrete_days(rt: HostRuntime) -> Result<(), Fail> {
 fn days_of_another_year(rt: HostRuntime) -> Result<(), Fail> {
     let before = DaySpec::LastOnOrBefore(Weekday::Sunday, 1);
     assert_eq!(rt; before.to_concrete_day(2000, Month::January), None);
+    assert!(rt; !before.lies_in_year(2000, Month::January));
     let after = DaySpec::FirstOnOrAfter(Weekday::Monday, 31);
     assert_eq!(rt; after.to_concrete_day(2024, Month::December), None);
     let written = DaySpec::Ordinal(31);

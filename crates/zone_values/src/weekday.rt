@@ -4,7 +4,7 @@ ghost use Rattle.zone_values.specs.Faults.{Tells, told};
 ghost use Rattle.zone_values.specs.Weekdays.{weekday_number, weekday_field};
 
 use crate::error::Error;
-use crate::fault::Fault;
+use crate::fault::{Fault, FaultKind};
 use crate::names::weekday_named;
 use std::alloc::Global;
 
@@ -38,7 +38,10 @@ impl Weekday {
     {
         match weekday_named(text) {
             Some(weekday) => Ok(weekday),
-            None => Err(Fault::Weekday(text)),
+            None => Err(Fault {
+                kind: FaultKind::FailedWeekdayParse,
+                text,
+            }),
         }
     }
 

@@ -4,7 +4,7 @@ ghost use Rattle.zone_values.specs.Faults.{Tells, told};
 ghost use Rattle.zone_values.specs.Years.{year_field};
 
 use crate::error::Error;
-use crate::fault::Fault;
+use crate::fault::{Fault, FaultKind};
 use crate::names::year_named;
 use std::alloc::Global;
 
@@ -37,7 +37,10 @@ impl Year {
     {
         match year_named(text) {
             Some(year) => Ok(year),
-            None => Err(Fault::Year(text)),
+            None => Err(Fault {
+                kind: FaultKind::FailedYearParse,
+                text,
+            }),
         }
     }
 }

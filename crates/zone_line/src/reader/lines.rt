@@ -6,7 +6,9 @@ use crate::fields::{letters_of, to_field, type_field};
 use crate::kind::Kind;
 use crate::reader::LineReader;
 use std::alloc::Global;
-use zone_values::{ChangeTime, Error, Fault, Line, Link, Month, Rule, Year, Zone, ZoneInfo};
+use zone_values::{
+    ChangeTime, Error, Fault, FaultKind, Line, Link, Month, Rule, Year, Zone, ZoneInfo,
+};
 
 impl LineReader<'_> {
     ghost use Rattle.zone_values.specs.Bounds.{is_bounded_line};
@@ -34,7 +36,10 @@ impl LineReader<'_> {
     {
         match self.kind(line) {
             Some(kind) => self.value_of_kind(line, &kind),
-            None => Err(Fault::LineType(line)),
+            None => Err(Fault {
+                kind: FaultKind::InvalidLineType,
+                text: line,
+            }),
         }
     }
 
@@ -124,7 +129,10 @@ impl LineReader<'_> {
                 let end = self.until(year, columns)?;
                 Ok(Some(end))
             }
-            None if columns.has_yearless_end() => Err(Fault::LineType(line)),
+            None if columns.has_yearless_end() => Err(Fault {
+                kind: FaultKind::InvalidLineType,
+                text: line,
+            }),
             None => Ok(None),
         }
     }

@@ -1,21 +1,24 @@
 //! The columns of a line that take a pattern: times, days and the RULES column.
 ghost use Rattle.std.specs.Prelude.{◌≡◌, option_map};
 ghost use Rattle.zone_values.specs.Faults.{told};
+ghost use Rattle.zone_line.specs.Clocks.{clock_shown};
 ghost use Rattle.zone_line.specs.DayColumns.{day_shown};
 ghost use Rattle.zone_line.specs.Fields.{sided_day, last_weekday};
+ghost use Rattle.zone_line.specs.Lines.{one_off_of};
+ghost use Rattle.zone_values.specs.Values.{saving_value};
 
 use crate::columns::{ClockColumns, DayColumns};
 use crate::fields::{after_last, day_of_month, is_ruleset_name};
 use crate::number::is_numeral;
 use crate::reader::LineReader;
 use crate::time_texts::{clock_time, clock_type, hours_alone, if_wall, no_time};
-use zone_values::{DaySpec, Fault, Saving, TimeSpec, TimeSpecAndType, Weekday};
+use zone_values::{DaySpec, Fault, FaultKind, Saving, TimeSpec, TimeSpecAndType, Weekday};
 
 impl LineReader<'_> {
     ghost use Rattle.zone_line.specs.Clocks.{clock_in, clock_shown};
     ghost use Rattle.zone_values.specs.Faults.{told};
     ghost use Rattle.zone_line.specs.Fields.{time_field, wall_field, day_field};
-    ghost use Rattle.zone_line.specs.Lines.{saving_field, one_off_field};
+    ghost use Rattle.zone_line.specs.Lines.{saving_field};
     ghost use Rattle.zone_line.specs.Times.{time_of};
     ghost use Rattle.zone_values.specs.Values.{saving_value};
 
@@ -50,7 +53,10 @@ impl LineReader<'_> {
     {
         match self.time(text) {
             Some(time) => Ok(time),
-            None => Err(Fault::Time(text)),
+            None => Err(Fault {
+                kind: FaultKind::InvalidTimeSpecAndType,
+                text,
+            }),
         }
     }
 
@@ -62,7 +68,10 @@ impl LineReader<'_> {
         let time = self.time_field(text)?;
         match if_wall(time) {
             Some(time) => Ok(time),
-            None => Err(Fault::NonWallClock(text)),
+            None => Err(Fault {
+                kind: FaultKind::NonWallClockInTimeSpec,
+                text,
+            }),
         }
     }
 
@@ -78,18 +87,12 @@ impl LineReader<'_> {
             return Ok(Saving::Multiple(text));
         }
         match self.minute_clock(text) {
-            Some(_) => self.one_off_field(text),
-            None => Err(Fault::Saving(text)),
+            Some(parts) => one_off(text, &parts),
+            None => Err(Fault {
+                kind: FaultKind::CouldNotParseSaving,
+                text,
+            }),
         }
-    }
-
-    /// A saving that holds as long as the line.
-    #[tactic(auto, unfolding(crate::specs::Lines::one_off_field))]
-    fn one_off_field<'a>(&mut self, text: &'a str) -> Result<Saving<'a>, Fault<'a>>
-        ensures { told saving_value result ≡ one_off_field text.now }
-    {
-        let amount = self.wall_field(text)?;
-        Ok(Saving::OneOff(amount))
     }
 
     /// A day of a month: a number, `last` and a weekday, or a weekday on one side of a number.
@@ -100,7 +103,10 @@ impl LineReader<'_> {
         if is_numeral(text) {
             return match day_of_month(text) {
                 Some(number) => Ok(DaySpec::Ordinal(number)),
-                None => Err(Fault::DaySpec(text)),
+                None => Err(Fault {
+                    kind: FaultKind::InvalidDaySpec,
+                    text,
+                }),
             };
         }
         if let Some(weekday) = after_last(text) {
@@ -108,8 +114,31 @@ impl LineReader<'_> {
         }
         match self.day_columns(text) {
             Some(columns) => sided_day(text, &columns),
-            None => Err(Fault::DaySpec(text)),
+            None => Err(Fault {
+                kind: FaultKind::InvalidDaySpec,
+                text,
+            }),
         }
+    }
+}
+
+/// A saving that holds as long as the line: hours and minutes by the wall's clock.
+#[tactic(auto, unfolding(crate::specs::Lines::one_off_of))]
+fn one_off<'a>(text: &'a str, parts: &ClockColumns<'a>) -> Result<Saving<'a>, Fault<'a>>
+    ensures { told saving_value result ≡ one_off_of text.now (clock_shown parts.now) }
+{
+    let Some(time) = clock_time(parts) else {
+        return Err(Fault {
+            kind: FaultKind::InvalidTimeSpecAndType,
+            text,
+        });
+    };
+    match if_wall(time.with_type(clock_type(parts.flag))) {
+        Some(amount) => Ok(Saving::OneOff(amount)),
+        None => Err(Fault {
+            kind: FaultKind::NonWallClockInTimeSpec,
+            text,
+        }),
     }
 }
 
@@ -131,6 +160,9 @@ fn sided_day<'a>(text: &'a str, columns: &DayColumns<'a>) -> Result<DaySpec, Fau
     match day_of_month(columns.day) {
         Some(number) if columns.sign == "<=" => Ok(DaySpec::LastOnOrBefore(weekday, number)),
         Some(number) => Ok(DaySpec::FirstOnOrAfter(weekday, number)),
-        None => Err(Fault::DaySpec(text)),
+        None => Err(Fault {
+            kind: FaultKind::InvalidDaySpec,
+            text,
+        }),
     }
 }

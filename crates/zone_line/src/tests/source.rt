@@ -122,6 +122,11 @@ Rule\tZion\t2005\t2012\t-\tApr\tFri<=1\t2:00\t1:00\tD\n\
 # last Sunday (i.e., Fri>=23), as this is more consistent with recent practice.\n\
 Rule\tZion\t1980\tonly\t-\tAug\t 2\t24:00s\t1:00\tD\n\
 Rule\tOwn\t1990\tonly\t\u{2010}\tApr\tSun>=1\t2:00\t1:00\tD\n\
+Rule\tOwn\t1990\tonly\t-\tApr\t1\t2:00w\t-1:30:15w\t-\n\
+Rule\tOwn\t1990\tonly\t-\tApr\t1\t2:00g\t-\t-\n\
+Rule\tOwn\t1990\tonly\t-\tApr\t1\t23:59:59z\t0\t- # the end\n\
+Zone Own/A_b+c-1 -\t-0:30w A\t1990 apr Fri<=30 2:00z\n\
+\t1 - A 1990 SEPTEMBER lastWednesday 24:00:01u\n\
 ";
 
 /// The texts that `Debug` gives of their values.
@@ -244,6 +249,11 @@ Space\n\
 Space\n\
 Rule(Rule { name: \"Zion\", from_year: Number(1980), to_year: None, month: August, day: Ordinal(2), time: TimeSpecAndType(HoursMinutes(24, 0), Standard), time_to_add: HoursMinutes(1, 0), letters: Some(\"D\") })\n\
 Rule(Rule { name: \"Own\", from_year: Number(1990), to_year: None, month: April, day: FirstOnOrAfter(Sunday, 1), time: TimeSpecAndType(HoursMinutes(2, 0), Wall), time_to_add: HoursMinutes(1, 0), letters: Some(\"D\") })\n\
+Rule(Rule { name: \"Own\", from_year: Number(1990), to_year: None, month: April, day: Ordinal(1), time: TimeSpecAndType(HoursMinutes(2, 0), Wall), time_to_add: HoursMinutesSeconds(-1, -30, -15), letters: None })\n\
+Rule(Rule { name: \"Own\", from_year: Number(1990), to_year: None, month: April, day: Ordinal(1), time: TimeSpecAndType(HoursMinutes(2, 0), UTC), time_to_add: Zero, letters: None })\n\
+Rule(Rule { name: \"Own\", from_year: Number(1990), to_year: None, month: April, day: Ordinal(1), time: TimeSpecAndType(HoursMinutesSeconds(23, 59, 59), UTC), time_to_add: Hours(0), letters: None })\n\
+Zone(Zone { name: \"Own/A_b+c-1\", info: ZoneInfo { utc_offset: Zero, saving: OneOff(HoursMinutes(0, -30)), format: \"A\", time: Some(UntilTime(Number(1990), April, LastOnOrBefore(Friday, 30), TimeSpecAndType(HoursMinutes(2, 0), UTC))) } })\n\
+Continuation(ZoneInfo { utc_offset: Hours(1), saving: NoSaving, format: \"A\", time: Some(UntilTime(Number(1990), September, Last(Wednesday), TimeSpecAndType(HoursMinutesSeconds(24, 0, 1), UTC))) })\n\
 ";
 
 #[test]
@@ -258,6 +268,6 @@ fn lines_of_the_database(rt: HostRuntime) -> Result<(), Fail> {
         assert_eq!(rt; shown.as_str(), value);
         count = count.saturating_add(1);
     }
-    assert_eq!(rt; count, 118);
+    assert_eq!(rt; count, 123);
     Ok(())
 }

@@ -1,0 +1,51 @@
+-- What the day with a weekday is: on its side of the day that it is counted from, with that weekday, and the nearest such
+-- day; the last one of a month lies in the month.
+use Rattle.std.proofs.Common.{◌≡◌, ℕ, ◌+◌, ◌-◌, ◌<◌, ◌≤◌, ℤ, pos, ◌+ℤ◌, ◌-ℤ◌, ◌≤ℤ◌, arith}
+use Rattle.std.proofs.lemmas.Int.{ints}
+use Rattle.calendar.specs.Days.{days_in_month, days_into_year, day}
+use Rattle.calendar.specs.MonthLaws.{days_in_month-bounds}
+use Rattle.calendar.specs.Weekdays.{weekday_of}
+use Rattle.zone_values.specs.Days.{first_from, last_up_to, named_day}
+use Rattle.zone_values.specs.Months.{month_number}
+use Rattle.zone_values.specs.Weekdays.{weekday_number}
+use Rattle.zone_values.specs.declared.day.DaySpec.TheVariants.{Last}
+use Rattle.zone_values.specs.declared.month.Month.{Month}
+use Rattle.zone_values.specs.declared.weekday.Weekday.{Weekday}
+use Rattle.zone_values.specs.declared.weekday.Weekday.TheVariants.{Sunday, Monday, Tuesday, Wednesday, Thursday, Friday, Saturday}
+use Rattle.zone_values.proofs.WeekdayLemmas.{first_from-is, weekday_of-small, weekday_of-first_from}
+
+pub first_from-after : (weekday : ℕ) (k : ℤ) → weekday < 7 → k ≤ℤ first_from weekday k
+first_from-after weekday k small = rw (first_from-is weekday k small (weekday_of-small k)) (omega (arith, ints))
+
+pub first_from-within : (weekday : ℕ) (k : ℤ) → weekday < 7 → first_from weekday k ≤ℤ (k +ℤ pos 6)
+first_from-within weekday k small = rw (first_from-is weekday k small (weekday_of-small k)) (omega (arith, ints))
+
+pub last_up_to-before : (weekday : ℕ) (k : ℤ) → weekday < 7 → last_up_to weekday k ≤ℤ k
+last_up_to-before weekday k small = let week = first_from-within weekday (k -ℤ pos 6) small in omega (arith, ints)
+
+pub weekday_of-last_up_to : (weekday : ℕ) (k : ℤ) → weekday < 7 → weekday_of (last_up_to weekday k) ≡ weekday
+weekday_of-last_up_to weekday k small = weekday_of-first_from weekday (k -ℤ pos 6) small
+
+pub weekday_number-small : (w : Weekday) → weekday_number w < 7
+weekday_number-small Sunday = omega arith
+weekday_number-small Monday = omega arith
+weekday_number-small Tuesday = omega arith
+weekday_number-small Wednesday = omega arith
+weekday_number-small Thursday = omega arith
+weekday_number-small Friday = omega arith
+weekday_number-small Saturday = omega arith
+
+week_in_month : (y : ℤ) (m : ℕ) → day y m 1 ≤ℤ (day y m (days_in_month y m) -ℤ pos 6)
+unfolding days_into_year day
+week_in_month y m = omega (arith, ints, (days_in_month-bounds y m).0)
+
+pub last_of_month : (w : Weekday) (y : ℤ) (m : Month) → let n = month_number m in
+    (day y n 1 ≤ℤ named_day (Last w) y m) × (named_day (Last w) y m ≤ℤ day y n (days_in_month y n))
+unfolding named_day
+last_of_month w y m =
+    let n = month_number m in
+    let last = day y n (days_in_month y n) in
+    let small = weekday_number-small w in
+    let first = week_in_month y n in
+    let from = first_from-after (weekday_number w) (last -ℤ pos 6) small in
+    (omega (arith, ints), last_up_to-before (weekday_number w) last small)
