@@ -16,7 +16,7 @@ unfolding format_of has_placeholder
 constant_named = refl
 
 letters_stand : abbreviation (Placeholder (codes "E%sT")) (pos 3600) (Some (codes "D")) ≡ codes "EDT"
-unfolding filled
+unfolding abbreviation filled
 letters_stand = refl
 
 every_placeholder : filled (codes "ab") (codes "%s%s") ≡ codes "abab"
@@ -29,8 +29,9 @@ unfolding filled
 letters_stay = refl
 
 no_letters : abbreviation (Placeholder (codes "%%sT%")) (pos 0) None ≡ codes "%T%"
-unfolding filled
+unfolding abbreviation filled
 no_letters = refl
 
 saving_decides : abbreviation (Alternate (codes "GMT") (codes "BST")) (pos 3600) (Some (codes "S")) ≡ codes "BST"
+unfolding abbreviation
 saving_decides = refl

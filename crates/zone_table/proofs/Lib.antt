@@ -1,11 +1,9 @@
-pub mod BoolLemmas
 pub mod BoundedLemmas
 pub mod BoundedValues
 pub mod FilledLemmas
 pub mod FormatLemmas
 mod FormatRows
 pub mod JoinedRows
-pub mod MapValues
 mod NameRows
 mod OrderLemmas
 pub mod OwnedBounds
