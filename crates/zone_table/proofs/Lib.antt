@@ -6,7 +6,9 @@ mod FormatRows
 pub mod JoinedRows
 mod NameRows
 mod OrderLemmas
+mod OwnedRows
 pub mod OwnedBounds
+mod RuleRows
 pub mod SecondsLemmas
 mod SlashLemmas
 pub mod Steps

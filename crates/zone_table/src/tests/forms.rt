@@ -13,6 +13,7 @@ fn abbreviations(rt: HostRuntime) -> Result<(), Fail> {
         ("%s/B%sT", 0, Some("S"), "%s"),
         ("%s/B%sT", 1_200, Some("S"), "B%sT"),
         ("-05", 0, Some("S"), "-05"),
+        ("IST/GMT", -3_600, None, "GMT"),
     ];
     for (template, saving, letters, text) in rows {
         let format = Format::new(alloc, template)?;
@@ -44,6 +45,7 @@ fn a_rule(rt: HostRuntime) -> Result<(), Fail> {
     assert_eq!(rt; (rule.time, rule.time_to_add), (7_200, 3_600));
     assert!(rt; rule.has_years());
     assert!(rt; rule.applies_to_year(2007) && !rule.applies_to_year(2006));
+    assert!(rt; rule.letters() == Some("D"));
     Ok(())
 }
 
@@ -80,19 +82,4 @@ fn new_york_goes_forward(rt: HostRuntime) {
         letters: None,
     };
     assert_eq!(rt; rule.absolute_datetime(2024, -18_000, 0), 1_710_054_000);
-}
-
-#[test]
-fn sydney_goes_back(rt: HostRuntime) {
-    let rule = RuleInfo {
-        from_year: Year::Number(2008),
-        to_year: Some(Year::Maximum),
-        month: Month::April,
-        day: DaySpec::FirstOnOrAfter(Weekday::Sunday, 1),
-        time: 7_200,
-        time_type: TimeType::Standard,
-        time_to_add: 0,
-        letters: None,
-    };
-    assert_eq!(rt; rule.absolute_datetime(2024, 36_000, 3_600), 1_712_419_200);
 }

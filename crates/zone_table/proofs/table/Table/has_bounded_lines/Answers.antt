@@ -1,4 +1,4 @@
-use Rattle.std.proofs.Common.{rules, ◌≡◌, Bool, true, refl, sym, ◌∙◌}
+use Rattle.std.proofs.Common.{rules, refl, sym, ◌∙◌}
 use Rattle.std.specs.List.{list_all}
 use Rattle.std.proofs.lemmas.Iterator.Consumers.{YieldsList-from_rest}
 use Rattle.std.proofs.lemmas.Iterator.Search.{all_from_yields_List}
