@@ -124,24 +124,40 @@ fn want_of_memory(rt: HostRuntime) -> Result<(), Fail> {
     Ok(())
 }
 
+/// How many lines the table has under each of the names, with `-` where it has no such zone.
+fn counts(alloc: Global, table: &Table, names: &str) -> Result<String, Fail> {
+    let mut text = String::new(alloc);
+    for name in names.split_whitespace() {
+        match table.get_zoneset(name) {
+            Some(lines) => text.push_str(format!(in alloc; "{name}{} ", lines.len())?.as_str())?,
+            None => text.push_str(format!(in alloc; "{name}- ")?.as_str())?,
+        }
+    }
+    Ok(text)
+}
+
 #[test]
 fn zones_by_their_names(rt: HostRuntime) -> Result<(), Fail> {
     let alloc = rt.alloc();
-    let none = Saving::NoSaving;
+    let (first, second) = (zone("A", Saving::NoSaving), zone("D", Saving::NoSaving));
     let lines = [
-        zone("A", none),
-        further(none),
-        zone("D", none),
+        first,
+        further(Saving::NoSaving),
+        second,
         link("A", "B"),
         link("B", "C"),
         link("A", "D"),
     ];
     let (table, _) = join(alloc, &lines)?;
-    assert!(rt; table.is_bounded() && table.get_ruleset("R").is_none());
-    assert_eq!(rt; table.get_zoneset("A").ok_or("A")?.len(), 2);
-    assert_eq!(rt; table.get_zoneset("B").ok_or("B")?.len(), 2);
-    assert_eq!(rt; table.get_zoneset("D").ok_or("D")?.len(), 1);
-    assert!(rt; table.get_zoneset("C").is_none());
-    assert!(rt; Table::new(alloc).get_zoneset("A").is_none());
+    assert_eq!(rt; counts(alloc, &table, "A B C D")?.as_str(), "A2 B2 C- D1 ");
+    Ok(())
+}
+
+#[test]
+fn rulesets_by_their_names(rt: HostRuntime) -> Result<(), Fail> {
+    let (table, _) = join(rt.alloc(), &[rule("R"), rule("R")])?;
+    let found = table.get_ruleset("R").ok_or("R")?.len();
+    assert!(rt; found == 2 && table.get_ruleset("S").is_none());
+    assert!(rt; table.is_bounded());
     Ok(())
 }
