@@ -28,18 +28,7 @@ sorted_keys R (e ∷ es) = λ i. below_keys R e.0 es i && sorted_keys R es i
 pub rises-keys : {K X : Type 0} {R : K → K → Ordering} (m : FinMap R X) → RisesStrictly R (keys m)
 rises-keys {R = R} m = sym (sorted_keys R (entries m)) ∙ true_from_T (is_sorted R (entries m)) (entries_sorted m)
 
-apart_viewed : {X K : Type 0} (E : X → X → Bool) (F : K → K → Bool) (view : X → K) → ((x y : X) → E x y ≡ F (view x) (view y))
-    → (x : X) (ys : List X) → AllByRecursion (λ y. E x y ≡ false) ys → AllByRecursion (λ k. F (view x) k ≡ false) (map view ys)
-apart_viewed E F view tied x [] h = tt
-apart_viewed E F view tied x (y ∷ ys) h = (sym (tied x y) ∙ h.0, apart_viewed E F view tied x ys h.1)
-
--- what a list shows is distinct where the list is, and the other way round
-pub IsDistinct-viewed : {X K : Type 0} (E : X → X → Bool) (F : K → K → Bool) (view : X → K) → ((x y : X) → E x y ≡ F (view x) (view y))
-    → (xs : List X) → IsDistinct E xs → IsDistinct F (map view xs)
-unfolding IsDistinct
-IsDistinct-viewed E F view tied [] h = tt
-IsDistinct-viewed E F view tied (x ∷ xs) h = (apart_viewed E F view tied x xs h.0, IsDistinct-viewed E F view tied xs h.1)
-
+-- a list is distinct where what it shows is
 apart_unviewed : {X K : Type 0} (F : K → K → Bool) (view : X → K) (x : X) (ys : List X)
     → AllByRecursion (λ k. F (view x) k ≡ false) (map view ys) → AllByRecursion (λ y. F (view x) (view y) ≡ false) ys
 apart_unviewed F view x [] h = tt

@@ -73,8 +73,16 @@ impl<V> TextMap<V> {
     pub fn keys(&self, alloc: Global) -> Result<Vec<&str>, AllocError>
         ensures { IfOk result (λ keys. each deref keys.items ≡ map.keys self.now) }
     {
-        let mut keys: Vec<&str> = self.hashed.keys().map(|key| key.as_str()).collect(alloc)?;
+        let mut keys = self.keys_in_any_order(alloc)?;
         keys.sort()?;
+        Ok(keys)
+    }
+
+    /// The keys, each once, in an order that is left open.
+    pub fn keys_in_any_order(&self, alloc: Global) -> Result<Vec<&str>, AllocError>
+        ensures { IfOk result (λ keys. IsPermutation (map.keys self.now) (each deref keys.items)) }
+    {
+        let keys: Vec<&str> = self.hashed.keys().map(|key| key.as_str()).collect(alloc)?;
         Ok(keys)
     }
 

@@ -8,7 +8,7 @@ use Rattle.std.proofs.lemmas.List.Sums.{list_all-from_AllPass}
 use Rattle.owned.specs.Listed.{listed}
 use Rattle.zone_values.specs.Bounds.{is_bounded_line}
 use Rattle.zone_values.specs.Values.{LineValue, space, zone, continuation, rule, link}
-use Rattle.zone_table.proofs.BoolLemmas.{both, first, second}
+use Rattle.std.proofs.lemmas.Bool.{and_from, and_parts}
 use Rattle.zone_table.proofs.OwnedBounds.{owned_info-bounded}
 use Rattle.zone_table.specs.BoundedTables.{IsBoundedTable}
 use Rattle.zone_table.specs.Bounds.{is_bounded_rule, is_bounded_info}
@@ -17,39 +17,43 @@ use Rattle.zone_table.specs.Tables.{IsTableOfLatest, IsTableOf}
 use Rattle.zone_table.specs.declared.table.Table.{Table}
 
 -- a list passes with an item at its end that may be left out
-more_pass : {X : Type 0} (test : X → Bool) (xs : List X) (here : Bool) (x : X) → IsTrue (list_all test xs) → IsTrue (test x) → IsTrue (list_all test (xs ++ cond here (x ∷ []) []))
-more_pass test xs true x passes last = list_all-append test xs (x ∷ []) ∙ both _ _ passes (both _ _ last refl)
-more_pass test xs false x passes last = list_all-append test xs [] ∙ both _ _ passes refl
+more_pass : {X : Type 0} (test : X → Bool) (xs : List X) (here : Bool) (x : X)
+    → list_all test xs ≡ true → test x ≡ true → list_all test (xs ++ cond here (x ∷ []) []) ≡ true
+more_pass test xs true x passes last = list_all-append test xs (x ∷ []) ∙ and_from _ _ passes (and_from _ _ last refl)
+more_pass test xs false x passes last = list_all-append test xs [] ∙ and_from _ _ passes refl
 
-reverse_passes : {X : Type 0} (test : X → Bool) (xs : List X) → IsTrue (list_all test xs) → IsTrue (list_all test (reverse xs))
+reverse_passes : {X : Type 0} (test : X → Bool) (xs : List X) → list_all test xs ≡ true → list_all test (reverse xs) ≡ true
 reverse_passes test [] passes = refl
 reverse_passes test (x ∷ xs) passes =
-    ap (list_all test) (reverse-append (x ∷ []) xs) ∙ more_pass test (reverse xs) true x (reverse_passes test xs (second _ _ passes)) (first _ _ passes)
+    let parts = and_parts (test x) (list_all test xs) passes in
+    ap (list_all test) (reverse-append (x ∷ []) xs) ∙ more_pass test (reverse xs) true x (reverse_passes test xs parts.1) parts.0
 
-value_passes : (value : LineValue) (before : List LineValue) → IsTrue (list_all is_bounded_line (value ∷ before)) → IsTrue (is_bounded_line value)
-value_passes value before passes = first (is_bounded_line value) (list_all is_bounded_line before) passes
+-- the first of bounded values is bounded, and so are the rest
+parts_of : (value : LineValue) (before : List LineValue) → list_all is_bounded_line (value ∷ before) ≡ true
+    → (is_bounded_line value ≡ true) × (list_all is_bounded_line before ≡ true)
+parts_of value before passes = and_parts (is_bounded_line value) (list_all is_bounded_line before) passes
 
-rest_passes : (value : LineValue) (before : List LineValue) → IsTrue (list_all is_bounded_line (value ∷ before)) → IsTrue (list_all is_bounded_line before)
-rest_passes value before passes = second (is_bounded_line value) (list_all is_bounded_line before) passes
-
-rules_pass : (latest : List LineValue) → IsTrue (list_all is_bounded_line latest) → (name : List ℕ) → IsTrue (list_all is_bounded_rule (rules_of latest name))
+rules_pass : (latest : List LineValue) → list_all is_bounded_line latest ≡ true → (name : List ℕ) → list_all is_bounded_rule (rules_of latest name) ≡ true
 rules_pass [] passes name = refl
 rules_pass (rule r ∷ before) passes name =
-    more_pass is_bounded_rule (rules_of before name) _ _ (rules_pass before (rest_passes (rule r) before passes) name) (value_passes (rule r) before passes)
-rules_pass (space ∷ before) passes name = rules_pass before (rest_passes space before passes) name
-rules_pass (zone zone_name info ∷ before) passes name = rules_pass before (rest_passes (zone zone_name info) before passes) name
-rules_pass (continuation info ∷ before) passes name = rules_pass before (rest_passes (continuation info) before passes) name
-rules_pass (link existing new_name ∷ before) passes name = rules_pass before (rest_passes (link existing new_name) before passes) name
+    let parts = parts_of (rule r) before passes in
+    more_pass is_bounded_rule (rules_of before name) _ _ (rules_pass before parts.1 name) parts.0
+rules_pass (space ∷ before) passes name = rules_pass before (parts_of space before passes).1 name
+rules_pass (zone zone_name info ∷ before) passes name = rules_pass before (parts_of (zone zone_name info) before passes).1 name
+rules_pass (continuation info ∷ before) passes name = rules_pass before (parts_of (continuation info) before passes).1 name
+rules_pass (link existing new_name ∷ before) passes name = rules_pass before (parts_of (link existing new_name) before passes).1 name
 
-lines_pass : (latest : List LineValue) → IsTrue (list_all is_bounded_line latest) → (name : List ℕ) → IsTrue (list_all is_bounded_info (zone_of latest name))
+lines_pass : (latest : List LineValue) → list_all is_bounded_line latest ≡ true → (name : List ℕ) → list_all is_bounded_info (zone_of latest name) ≡ true
 lines_pass [] passes name = refl
 lines_pass (zone zone_name info ∷ before) passes name =
-    more_pass is_bounded_info (zone_of before name) _ _ (lines_pass before (rest_passes (zone zone_name info) before passes) name) (owned_info-bounded info (value_passes (zone zone_name info) before passes))
+    let parts = parts_of (zone zone_name info) before passes in
+    more_pass is_bounded_info (zone_of before name) _ _ (lines_pass before parts.1 name) (owned_info-bounded info parts.0)
 lines_pass (continuation info ∷ before) passes name =
-    more_pass is_bounded_info (zone_of before name) _ _ (lines_pass before (rest_passes (continuation info) before passes) name) (owned_info-bounded info (value_passes (continuation info) before passes))
-lines_pass (space ∷ before) passes name = lines_pass before (rest_passes space before passes) name
-lines_pass (rule r ∷ before) passes name = lines_pass before (rest_passes (rule r) before passes) name
-lines_pass (link existing new_name ∷ before) passes name = lines_pass before (rest_passes (link existing new_name) before passes) name
+    let parts = parts_of (continuation info) before passes in
+    more_pass is_bounded_info (zone_of before name) _ _ (lines_pass before parts.1 name) (owned_info-bounded info parts.0)
+lines_pass (space ∷ before) passes name = lines_pass before (parts_of space before passes).1 name
+lines_pass (rule r ∷ before) passes name = lines_pass before (parts_of (rule r) before passes).1 name
+lines_pass (link existing new_name ∷ before) passes name = lines_pass before (parts_of (link existing new_name) before passes).1 name
 
 listed_passes : {X : Type 0} (test : X → Bool) (xs : List X) → IsTrue (list_all test xs) → IfSome (listed xs) (λ ys. IsTrue (list_all test ys))
 listed_passes test [] passes = tt

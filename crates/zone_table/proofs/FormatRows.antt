@@ -1,5 +1,5 @@
 -- The definitions on worked rows.
-use Rattle.std.specs.Prelude.{◌≡◌, pos, Some, None, codes, refl}
+use Rattle.std.specs.Prelude.{◌≡◌, pos, negsuc, Some, None, codes, refl}
 use Rattle.zone_table.specs.Formats.{format_of, filled, has_placeholder, abbreviation}
 use Rattle.zone_table.specs.declared.format.Format.TheVariants.{Constant, Alternate, Placeholder}
 
@@ -16,7 +16,7 @@ unfolding format_of has_placeholder
 constant_named = refl
 
 letters_stand : abbreviation (Placeholder (codes "E%sT")) (pos 3600) (Some (codes "D")) ≡ codes "EDT"
-unfolding filled
+unfolding abbreviation filled
 letters_stand = refl
 
 every_placeholder : filled (codes "ab") (codes "%s%s") ≡ codes "abab"
@@ -29,8 +29,18 @@ unfolding filled
 letters_stay = refl
 
 no_letters : abbreviation (Placeholder (codes "%%sT%")) (pos 0) None ≡ codes "%T%"
-unfolding filled
+unfolding abbreviation filled
 no_letters = refl
 
+-- a saving below 0 is one, as in Dublin's winter
+negative_saving : abbreviation (Alternate (codes "IST") (codes "GMT")) (negsuc 3599) None ≡ codes "GMT"
+unfolding abbreviation
+negative_saving = refl
+
+no_saving_is_standard : abbreviation (Alternate (codes "IST") (codes "GMT")) (pos 0) None ≡ codes "IST"
+unfolding abbreviation
+no_saving_is_standard = refl
+
 saving_decides : abbreviation (Alternate (codes "GMT") (codes "BST")) (pos 3600) (Some (codes "S")) ≡ codes "BST"
+unfolding abbreviation
 saving_decides = refl

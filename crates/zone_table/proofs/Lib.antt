@@ -1,14 +1,14 @@
-pub mod BoolLemmas
 pub mod BoundedLemmas
 pub mod BoundedValues
 pub mod FilledLemmas
 pub mod FormatLemmas
 mod FormatRows
 pub mod JoinedRows
-pub mod MapValues
 mod NameRows
 mod OrderLemmas
+mod OwnedRows
 pub mod OwnedBounds
+mod RuleRows
 pub mod SecondsLemmas
 mod SlashLemmas
 pub mod Steps

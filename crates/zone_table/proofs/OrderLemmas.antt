@@ -14,7 +14,7 @@ use Rattle.std.proofs.lemmas.List.Sorted.{list_any-IsPermutation}
 use Rattle.std.proofs.lemmas.Map.Text.{is_eq-slice_cmp}
 use Rattle.owned.specs.InOrder.{in_order}
 use Rattle.owned.specs.Keyed.{text_cmp}
-use Rattle.owned.proofs.InOrder.{in_order_is, or_twice, Rises-viewed, sorted_from_rises}
+use Rattle.owned.specs.InOrderLaws.{in_order_is, or_twice, rises-viewed, sorted_from_rises}
 use Rattle.zone_table.specs.contracts.structure.ChildOrd.TheImpl as child_order
 use Rattle.zone_table.specs.contracts.structure.ChildPartialEq.TheImpl as child_equality
 use Rattle.zone_table.specs.contracts.structure.PlacedOrd.TheImpl as placed_order
@@ -69,7 +69,7 @@ in_order_from_sort xs sorted left moved up kept =
     let up : IsSorted by_value sorted = subst (λ (R : Placed → Placed → Ordering). IsSorted R sorted) (λ i x y. placed_tied x y i) up in
     let strict = subst (IsStrictlySortedBy by_value) (sym (dedup_is placed_equality.ghosts.eq sorted left kept)) (IsStrictlySortedBy-dedup (on_total placed_value placed_total) placed_equal sorted up) in
     in_order_is placed_total placed_same (map placed_value xs) (map placed_value left)
-    (sorted_from_rises placed_cmp (map placed_value left) (Rises-viewed by_value placed_cmp placed_value (λ x y. refl) left strict))
+    (sorted_from_rises placed_cmp (map placed_value left) (rises-viewed by_value placed_cmp placed_value (λ x y. refl) left strict))
     (λ test. any-map test placed_value left
     ∙ ap (list_any (λ x. test (placed_value x))) (dedup_is placed_equality.ghosts.eq sorted left kept)
     ∙ any-dedup placed_equality.ghosts.eq (λ x. test (placed_value x)) (λ x y e. ap test (placed_same (placed_value x) (placed_value y) (tied _ (sym (placed_equal x y) ∙ e)))) sorted

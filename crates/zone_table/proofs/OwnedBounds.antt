@@ -1,7 +1,7 @@
 -- The owned form of a line that is bounded is bounded.
 use Rattle.std.specs.Prelude.{IsTrue, true, ◌&&◌, Option, Some, None}
 use Rattle.std.specs.Option.{option_map_or}
-use Rattle.std.proofs.lemmas.Bool.{and_parts}
+use Rattle.std.proofs.lemmas.Bool.{and_from, and_parts}
 use Rattle.zone_values.specs.Bounds as line
 use Rattle.zone_values.specs.Bounds.{are_small_seconds}
 use Rattle.zone_values.specs.Days.{has_day_of_month}
@@ -9,7 +9,6 @@ use Rattle.zone_values.specs.Ends.{end_day, end_seconds}
 use Rattle.zone_values.specs.Seconds.{seconds_of}
 use Rattle.zone_values.specs.Values.{SavingValue, no_saving, one_off, multiple, InfoValue, RuleValue}
 use Rattle.zone_values.specs.declared.change.ChangeTime.{ChangeTime}
-use Rattle.zone_table.proofs.BoolLemmas.{both}
 use Rattle.zone_table.specs.Bounds.{is_bounded_rule, is_bounded_saving, is_bounded_info}
 use Rattle.zone_table.specs.Owned.{owned_rule, owned_saving, owned_info}
 
@@ -21,7 +20,7 @@ owned_info-bounded info bounded =
     let offset = are_small_seconds (seconds_of info.utc_offset) in
     let parts = and_parts (offset && line.is_bounded_saving info.saving) (option_map_or line.is_bounded_end info.time true) bounded in
     let amounts = and_parts offset (line.is_bounded_saving info.saving) parts.0 in
-    both _ _ (both offset _ amounts.0 (saving info.saving amounts.1)) (end info.time parts.1)
+    and_from _ _ (and_from offset _ amounts.0 (saving info.saving amounts.1)) (end info.time parts.1)
   where
     saving : (s : SavingValue) → IsTrue (line.is_bounded_saving s) → IsTrue (is_bounded_saving (owned_saving s))
     saving no_saving held = held

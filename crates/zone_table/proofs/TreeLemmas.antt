@@ -6,13 +6,14 @@ use Rattle.std.specs.declared.cmp.Ordering.TheVariants.{Less, Equal, Greater}
 use Rattle.std.specs.Cmp.{IsTotalOrder, on_total, then_total, tied_itself}
 use Rattle.std.specs.Cmp.Lexicographic.{nat_list_cmp_total, bytes_decides}
 use Rattle.std.specs.FinMap.{IsAntisymmetric, slice_cmp-IsAntisymmetric, nat_cmp-IsAntisymmetric}
-use Rattle.std.specs.List.{AllByRecursion, AllAdjacentBelow, IsChunkByPrefix, filter, list_any}
-use Rattle.std.specs.List.Sorted.{IsStrictlySortedBy}
+use Rattle.std.specs.List.{AllByRecursion, AllAdjacentBelow, IsChunkByPrefix, filter, flat_map, list_any}
+use Rattle.std.specs.List.Sorted.{IsPermutation, IsStrictlySortedBy}
 use Rattle.std.specs.Ordering.{is_eq, ordering_reverse, ordering_then}
 use Rattle.std.specs.Str.{bytes_eq}
 use Rattle.std.proofs.lemmas.List.{map-append, get_or_append_left}
 use Rattle.std.proofs.lemmas.List.Elements.{filter-append}
 use Rattle.std.proofs.lemmas.List.Folds.{list_any-append}
+use Rattle.std.proofs.lemmas.List.Sorted.{list_any-IsPermutation}
 use Rattle.std.proofs.lemmas.Map.Keys.{sorted_head, sorted_tail}
 use Rattle.std.proofs.lemmas.Map.Text.{is_eq-slice_cmp}
 use Rattle.std.proofs.Math.Bool.{or_assoc}
@@ -20,8 +21,8 @@ use Rattle.std.proofs.Math.Numerals.{add-one}
 use Rattle.std.proofs.Math.Seq.{get_or-append_seam}
 use Rattle.owned.specs.InOrder.{in_order}
 use Rattle.owned.specs.Keyed.{text_cmp}
-use Rattle.owned.proofs.InOrder.{in_order_is, same_in_order, sorted_in_order, any-in_order, below-in_order, or_twice}
-use Rattle.zone_table.specs.NameTree.{ChildValue, submodule, time_zone, child_cmp, EntryValue, children_of, tree_of}
+use Rattle.owned.specs.InOrderLaws.{in_order_is, same_in_order, sorted_in_order, any-in_order, below-in_order, or_twice}
+use Rattle.zone_table.specs.NameTree.{ChildValue, submodule, time_zone, child_cmp, EntryValue, children_in, children_of, tree_of}
 use Rattle.zone_table.specs.Shown.{child_value}
 use Rattle.zone_table.specs.Placed.{placed_cmp, placed_value}
 use Rattle.zone_table.specs.declared.structure.Placed.{Placed}
@@ -98,6 +99,25 @@ same_tree ps qs alike =
     let parts = same_in_order nat_list_cmp_total text_same (map (λ p. p.0) ps) (map (λ p. p.0) qs) (λ test. any-map test (λ p. p.0) ps ∙ alike (λ p. test p.0) ∙ sym (any-map test (λ p. p.0) qs)) in
     let children = λ (part : List ℕ). same_in_order child_total child_same (children_of part ps) (children_of part qs) (λ test. any-children test part ps ∙ alike (λ p. bytes_eq part p.0 && test p.1) ∙ sym (any-children test part qs)) in
     λ i. map (λ part. record { name = part; children = children part i }) (parts i)
+
+-- the same names, in another order
+pub same_names : (ks ls ms ns : List (List ℕ)) → IsPermutation ks ms → IsPermutation ls ns
+    → (test : List ℕ → Bool) → list_any test (ms ++ ns) ≡ list_any test (ks ++ ls)
+same_names ks ls ms ns first second test =
+    list_any-append test ms ns
+    ∙ (λ i. sym (list_any-IsPermutation test ks ms first) i || sym (list_any-IsPermutation test ls ns second) i)
+    ∙ sym (list_any-append test ks ls)
+
+any-children_of : (test : List ℕ × ChildValue → Bool) (names : List (List ℕ))
+    → list_any test (flat_map children_in names) ≡ list_any (λ name. list_any test (children_in name)) names
+any-children_of test [] = refl
+any-children_of test (name ∷ names) =
+    list_any-append test (children_in name) (flat_map children_in names) ∙ ap (λ b. list_any test (children_in name) || b) (any-children_of test names)
+
+-- names with the same items give the same children
+pub same_children : (ks ls : List (List ℕ)) → ((test : List ℕ → Bool) → list_any test ks ≡ list_any test ls)
+    → (test : List ℕ × ChildValue → Bool) → list_any test (flat_map children_in ks) ≡ list_any test (flat_map children_in ls)
+same_children ks ls same test = any-children_of test ks ∙ same (λ name. list_any test (children_in name)) ∙ sym (any-children_of test ls)
 
 names_of_entries : (entry : List ℕ → EntryValue) → ((part : List ℕ) → (entry part).name ≡ part) → (parts : List (List ℕ)) → map (λ e. e.name) (map entry parts) ≡ parts
 names_of_entries entry named [] = refl

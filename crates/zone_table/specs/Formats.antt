@@ -35,7 +35,7 @@ filled letters (byte ∷ next ∷ rest) =
     else byte ∷ filled letters (next ∷ rest)
 
 -- the abbreviation under a saving, in seconds, and a rule's letters; no letters are no bytes
-abbrev pub abbreviation : Format → ℤ → Option (List ℕ) → List ℕ
+unfoldable pub abbreviation : Format → ℤ → Option (List ℕ) → List ℕ
 abbreviation (Constant text) saving letters = text
 abbreviation (Alternate standard dst) saving letters = if int_eq saving (pos 0) then standard else dst
 abbreviation (Placeholder text) saving letters = filled (unwrap_or letters []) text

@@ -32,19 +32,20 @@ is_at_least Maximum year = true
 is_at_least (Number n) year = int_le year n
 
 -- the last year of a rule; where it has none of its own it is the first
-abbrev pub last_year : RuleInfo → Year
+unfoldable pub last_year : RuleInfo → Year
 last_year rule = unwrap_or rule.to_year rule.from_year
 
-abbrev pub applies_to_year : RuleInfo → ℤ → Bool
+unfoldable pub applies_to_year : RuleInfo → ℤ → Bool
 applies_to_year rule year = is_at_most rule.from_year year && is_at_least (last_year rule) year
 
--- a time of day by a clock, in universal time
-abbrev pub utc_time : TimeType → ℤ → ℤ → ℤ → ℤ
-utc_time UTC time utc_offset dst_offset = time
-utc_time Standard time utc_offset dst_offset = time -ℤ utc_offset
-utc_time Wall time utc_offset dst_offset = time -ℤ (utc_offset +ℤ dst_offset)
+-- what a clock shows, in universal time: the wall's clock is ahead by the offset and the saving, that of standard time by
+-- the offset
+unfoldable pub instant_of : TimeType → ℤ → ℤ → ℤ → ℤ
+instant_of UTC local utc_offset dst_offset = local
+instant_of Standard local utc_offset dst_offset = local -ℤ utc_offset
+instant_of Wall local utc_offset dst_offset = local -ℤ (utc_offset +ℤ dst_offset)
 
--- the seconds from 1970-01-01 00:00 in universal time to the rule's time on its day of that year
-abbrev pub moment : RuleInfo → ℤ → ℤ → ℤ → ℤ
+-- when the clock of the rule shows its time on its day of that year
+unfoldable pub moment : RuleInfo → ℤ → ℤ → ℤ → ℤ
 moment rule year utc_offset dst_offset =
-    pos 86400 *ℤ named_day rule.day year rule.month +ℤ utc_time rule.time_type rule.time utc_offset dst_offset
+    instant_of rule.time_type (pos 86400 *ℤ named_day rule.day year rule.month +ℤ rule.time) utc_offset dst_offset

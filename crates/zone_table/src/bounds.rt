@@ -24,7 +24,9 @@ pub(crate) fn are_bounded_lines(lines: &[ZoneInfo]) -> bool
 fn is_bounded_rule(rule: &RuleInfo) -> bool
     ensures { result ≡ is_bounded_rule rule.now }
 {
-    rule.day.has_day_of_month() && are_small_seconds(rule.time) && are_small_seconds(rule.time_to_add)
+    rule.day.has_day_of_month()
+        && are_small_seconds(rule.time)
+        && are_small_seconds(rule.time_to_add)
 }
 
 fn is_bounded_info(info: &ZoneInfo) -> bool

@@ -52,6 +52,7 @@ impl Format {
     /// The abbreviation under a saving in seconds and the letters of a rule. A `Constant` is its
     /// text, an `Alternate` its standard text where the saving is 0 and else its other text, and in
     /// a `Placeholder` the letters, or nothing, stand for each `%s`.
+    #[tactic(auto, unfolding(crate::specs::Formats::abbreviation))]
     pub fn format(
         &self,
         alloc: Global,

@@ -10,11 +10,11 @@ ghost use Rattle.zone_table.specs.Moments.{
   is_at_most,
   is_at_least,
   applies_to_year,
-  utc_time,
   moment,
 };
 ghost use Rattle.zone_table.specs.Owned.{owned_rule};
 
+use crate::moment::{after_days, instant_of};
 use owned::Text;
 use std::alloc::{AllocError, Global};
 use zone_values::{DaySpec, Month, TimeType, Year};
@@ -57,6 +57,16 @@ impl RuleInfo {
         })
     }
 
+    /// The letters of the abbreviation, or none where the rule has a `-` for them.
+    pub fn letters(&self) -> Option<&str>
+        ensures { option_map (λ text. text.now) result ≡ self.now.letters }
+    {
+        match &self.letters {
+            Some(letters) => Some(letters.as_str()),
+            None => None,
+        }
+    }
+
     /// Whether the years of the rule can be compared with a year: the first is a number, and the
     /// last isn't `Minimum`.
     pub fn has_years(&self) -> bool
@@ -67,6 +77,7 @@ impl RuleInfo {
 
     /// Whether the rule fires in a year: its first year is at most that one, and its last at least.
     /// A rule with no last year of its own fires in its first year alone.
+    #[tactic(auto, unfolding(crate::specs::Moments::applies_to_year, crate::specs::Moments::last_year))]
     pub fn applies_to_year(&self, year: i64) -> bool
         requires { IsTrue (has_years self.now) }
         ensures { result ≡ applies_to_year self.now year }
@@ -81,6 +92,7 @@ impl RuleInfo {
     /// When the rule fires in a year, in seconds from 1970-01-01 00:00 UTC, under a standard offset
     /// and a saving in force before it, both in seconds. A wall time is read with both, a standard
     /// time with the offset alone, and a time of UTC with neither.
+    #[tactic(auto, unfolding(crate::specs::Moments::moment))]
     pub fn absolute_datetime(&self, year: i64, utc_offset: i64, dst_offset: i64) -> i64
         requires first_year { pos 1 ≤ℤ year }
         requires last_year { year ≤ℤ pos 9999 }
@@ -93,39 +105,9 @@ impl RuleInfo {
         ensures least { neg_ℤ (pos 500_000_000_000) ≤ℤ result }
         ensures greatest { result ≤ℤ pos 500_000_000_000 }
     {
-        let day = self.day.day_number(year, self.month);
-        let time = utc_time(self.time_type, self.time, utc_offset, dst_offset);
-        after_days(day, time)
+        let local = after_days(self.day.day_number(year, self.month), self.time);
+        instant_of(self.time_type, local, utc_offset, dst_offset)
     }
-}
-
-/// A time of day by a clock, in UTC, all in seconds.
-fn utc_time(clock: TimeType, time: i64, utc_offset: i64, dst_offset: i64) -> i64
-    requires time { IsTrue (are_small_seconds time) }
-    requires offset { IsTrue (are_small_seconds utc_offset) }
-    requires saving { IsTrue (are_small_seconds dst_offset) }
-    ensures value { result ≡ utc_time clock time utc_offset dst_offset }
-    ensures least { neg_ℤ (pos 3_000_000) ≤ℤ result }
-    ensures greatest { result ≤ℤ pos 3_000_000 }
-{
-    match clock {
-        TimeType::UTC => time,
-        TimeType::Standard => time - utc_offset,
-        TimeType::Wall => time - (utc_offset + dst_offset),
-    }
-}
-
-/// The seconds to a time of a day from 0:00 of the day 0.
-fn after_days(day: i32, time: i64) -> i64
-    requires first_day { neg_ℤ (pos 5_000_000) ≤ℤ day }
-    requires last_day { day ≤ℤ pos 5_000_000 }
-    requires least_time { neg_ℤ (pos 3_000_000) ≤ℤ time }
-    requires greatest_time { time ≤ℤ pos 3_000_000 }
-    ensures value { result ≡ pos 86400 *ℤ day +ℤ time }
-    ensures least { neg_ℤ (pos 500_000_000_000) ≤ℤ result }
-    ensures greatest { result ≤ℤ pos 500_000_000_000 }
-{
-    86_400 * i64::from(day) + time
 }
 
 /// Whether the year is a number.

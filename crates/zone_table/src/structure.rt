@@ -203,8 +203,8 @@ impl Structure for Table {
     ghost names = { λ table. map.keys table.zonesets ++ map.keys table.links };
 
     fn structure(&self, alloc: Global) -> Result<TableStructure<'_>, AllocError> {
-        let mut names = self.zonesets.keys(alloc)?;
-        let links = self.links.keys(alloc)?;
+        let mut names = self.zonesets.keys_in_any_order(alloc)?;
+        let links = self.links.keys_in_any_order(alloc)?;
         names.extend_from_slice(links.as_slice())?;
         let mut placed = place_all(alloc, names.as_slice())?;
         put_in_order(&mut placed)?;

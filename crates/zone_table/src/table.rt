@@ -1,9 +1,10 @@
 //! The table.
 ghost use Rattle.std.specs.Prelude.{◌≡◌, ◌↔◌, IsTrue, IfSome, [], List, reverse};
-ghost use Rattle.std.specs.FinMap.{values};
+ghost use Rattle.std.specs.FinMap.{get};
 ghost use Rattle.std.specs.List.{list_all};
 ghost use Rattle.std.specs.Option.{option_copied};
 ghost use Rattle.zone_values.specs.Values.{LineValue};
+ghost use Rattle.owned.specs.Keyed.{EachPasses};
 ghost use Rattle.zone_table.specs.BoundedTables.{IsBoundedTable};
 ghost use Rattle.zone_table.specs.Bounds.{is_bounded_rule, is_bounded_info};
 ghost use Rattle.zone_table.specs.Resolved.{resolved, resolved_in};
@@ -38,6 +39,15 @@ impl Table {
         }
     }
 
+    /// The rules of that name in order, or none where no rule has it.
+    pub fn get_ruleset(&self, name: &str) -> Option<&[RuleInfo]>
+        ensures found { option_copied result ≡ get self.now.rulesets name.now }
+        ensures bounded { IsBoundedTable self.now → IfSome result (λ rules. IsTrue (list_all is_bounded_rule rules.now)) }
+    {
+        let rules = self.rulesets.get(name)?;
+        Some(rules.as_slice())
+    }
+
     /// The lines of the zone of that name, else those of the zone that the link of that name leads to, else none. One
     /// link is followed at most.
     pub fn get_zoneset(&self, zone_name: &str) -> Option<&[ZoneInfo]>
@@ -63,7 +73,7 @@ impl Table {
     }
 
     fn has_bounded_rules(&self) -> bool
-        ensures { result ≡ list_all (list_all is_bounded_rule) (values self.now.rulesets) }
+        ensures { IsTrue result ↔ EachPasses (list_all is_bounded_rule) self.now.rulesets }
     {
         self.rulesets
             .values()
@@ -71,7 +81,7 @@ impl Table {
     }
 
     fn has_bounded_lines(&self) -> bool
-        ensures { result ≡ list_all (list_all is_bounded_info) (values self.now.zonesets) }
+        ensures { IsTrue result ↔ EachPasses (list_all is_bounded_info) self.now.zonesets }
     {
         self.zonesets
             .values()

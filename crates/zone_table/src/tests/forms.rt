@@ -4,22 +4,31 @@ use owned::Text;
 use std::test::Fail;
 use zone_values::{DaySpec, Month, TimeSpec, TimeType, Weekday, Year};
 
+/// Format, saving and letters, with `-` for no letters, and the abbreviation that they give.
+const ABBREVIATIONS: &str =
+    "E%sT 3600 D EDT\nE%sT 0 - ET\n%s/B%sT 0 S %s\n%s/B%sT 1200 S B%sT\n-05 0 S -05\nIST/GMT -3600 - GMT";
+
 #[test]
 fn abbreviations(rt: HostRuntime) -> Result<(), Fail> {
     let alloc = rt.alloc();
-    let rows = [
-        ("E%sT", 3_600, Some("D"), "EDT"),
-        ("E%sT", 0, None, "ET"),
-        ("%s/B%sT", 0, Some("S"), "%s"),
-        ("%s/B%sT", 1_200, Some("S"), "B%sT"),
-        ("-05", 0, Some("S"), "-05"),
-    ];
-    for (template, saving, letters, text) in rows {
-        let format = Format::new(alloc, template)?;
-        assert_eq!(rt; format.format(alloc, saving, letters)?.as_str(), text);
+    for row in ABBREVIATIONS.lines() {
+        let mut words = row.split_whitespace();
+        let format = Format::new(alloc, words.next().ok_or("format")?)?;
+        let saving = words.next().ok_or("saving")?.parse::<i64>()?;
+        let letters = words.next().filter(|letters| *letters != "-");
+        let abbreviation = words.next().ok_or("abbreviation")?;
+        assert_eq!(rt;
+            format.format(alloc, saving, letters)?.as_str(),
+            abbreviation
+        );
     }
-    let constant = Format::Constant(Text::new(alloc, "TST")?);
-    assert_eq!(rt; constant.format_constant(alloc)?.as_str(), "TST");
+    Ok(())
+}
+
+#[test]
+fn a_constant(rt: HostRuntime) -> Result<(), Fail> {
+    let constant = Format::Constant(Text::new(rt.alloc(), "TST")?);
+    assert_eq!(rt; constant.format_constant(rt.alloc())?.as_str(), "TST");
     Ok(())
 }
 
@@ -44,6 +53,7 @@ fn a_rule(rt: HostRuntime) -> Result<(), Fail> {
     assert_eq!(rt; (rule.time, rule.time_to_add), (7_200, 3_600));
     assert!(rt; rule.has_years());
     assert!(rt; rule.applies_to_year(2007) && !rule.applies_to_year(2006));
+    assert!(rt; rule.letters() == Some("D"));
     Ok(())
 }
 
@@ -80,19 +90,4 @@ fn new_york_goes_forward(rt: HostRuntime) {
         letters: None,
     };
     assert_eq!(rt; rule.absolute_datetime(2024, -18_000, 0), 1_710_054_000);
-}
-
-#[test]
-fn sydney_goes_back(rt: HostRuntime) {
-    let rule = RuleInfo {
-        from_year: Year::Number(2008),
-        to_year: Some(Year::Maximum),
-        month: Month::April,
-        day: DaySpec::FirstOnOrAfter(Weekday::Sunday, 1),
-        time: 7_200,
-        time_type: TimeType::Standard,
-        time_to_add: 0,
-        letters: None,
-    };
-    assert_eq!(rt; rule.absolute_datetime(2024, 36_000, 3_600), 1_712_419_200);
 }

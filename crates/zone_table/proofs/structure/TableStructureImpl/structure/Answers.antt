@@ -7,10 +7,10 @@ use Rattle.std.specs.Map.Iter.{deref}
 use Rattle.std.proofs.lemmas.List.{map-append}
 use Rattle.owned.specs.InOrder.{in_order}
 use Rattle.owned.specs.Keyed.{text_cmp}
-use Rattle.owned.proofs.InOrder.{sorted_in_order, any-in_order}
+use Rattle.owned.specs.InOrderLaws.{sorted_in_order, any-in_order}
 use Rattle.zone_table.specs.NameTree.{children_in, tree_of, name_tree}
 use Rattle.zone_table.specs.Placed.{placed_cmp, placed_value}
-use Rattle.zone_table.proofs.TreeLemmas.{placed_total, placed_same, same_tree, names_sorted}
+use Rattle.zone_table.proofs.TreeLemmas.{placed_total, placed_same, same_tree, same_names, same_children, names_sorted}
 use Rattle.zone_table.proofs.structure.TableStructureImpl.structure.Goals as goal
 
 pub entries_of-requires : goal.entries_of-requires
@@ -21,16 +21,20 @@ entries_of-requires c =
 pub returns : goal.returns
 unfolding name_tree
 returns c =
+    let table = c.args.self.now in
     let placed = each placed_value c.in_ok-placed.placed.items in
     let put = ap (each placed_value) c.as_slice-3.ensures.value ∙ c.in_ok-put_in_order.ensures in
-    let all = c.as_slice-2.ensures.value ∙ c.in_ok-extend_from_slice.ensures.items ∙ ap (λ links. c.in_ok-names.names.items ++ links) c.as_slice.ensures.value in
-    let names : each deref c.as_slice-2.result.now ≡ map.keys c.args.self.now.zonesets ++ map.keys c.args.self.now.links =
-    ap (each deref) all ∙ map-append deref c.in_ok-names.names.items c.in_ok-links.links.items ∙ (λ i. c.in_ok-names.ensures i ++ c.in_ok-links.ensures i) in
-    let tree =
-    c.in_ok-entries_of.ensures
-    ∙ ap tree_of put
-    ∙ same_tree (in_order placed_cmp placed) placed (λ test. any-in_order placed_same test placed) in
+    let zones = c.in_ok-names.names.items in
+    let links = c.in_ok-links.links.items in
+    let all : c.as_slice-2.result.now ≡ zones ++ links =
+    c.as_slice-2.ensures.value ∙ c.in_ok-extend_from_slice.ensures.items ∙ ap (λ more. zones ++ more) c.as_slice.ensures.value in
+    let given : placed ≡ flat_map children_in (each deref zones ++ each deref links) =
+    c.in_ok-placed.ensures ∙ ap (λ names. flat_map children_in (each deref names)) all ∙ ap (flat_map children_in) (map-append deref zones links) in
+    let named : tree_of placed ≡ tree_of (flat_map children_in (map.keys table.zonesets ++ map.keys table.links)) =
+    ap tree_of given ∙ same_tree _ _ (same_children _ _ (same_names _ _ _ _ c.in_ok-names.ensures c.in_ok-links.ensures)) in
+    let tree : _ ≡ tree_of placed =
+    c.in_ok-entries_of.ensures ∙ ap tree_of put ∙ same_tree (in_order placed_cmp placed) placed (λ test. any-in_order placed_same test placed) in
     record {
-      value = tree ∙ ap tree_of (c.in_ok-placed.ensures ∙ ap (flat_map children_in) names);
+      value = tree ∙ named;
       in_order = subst (λ entries. IsStrictlySortedBy text_cmp (each (λ entry. entry.name) entries)) (sym tree) (names_sorted placed);
     }
