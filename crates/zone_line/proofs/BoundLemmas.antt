@@ -1,5 +1,8 @@
 -- The values of lines are bounded.
-use Rattle.std.proofs.Common.{◌≡◌, ℕ, ◌+◌, ◌-◌, ◌*◌, ◌^◌, ◌<◌, ℤ, pos, negsuc, neg_ℤ, ◌≤ℤ◌, Bool, true, false, ◌&&◌, nat_lt, List, [], ◌∷◌, Option, Some, None, Result, Ok, Err, IfOk, IfSome, IsTrue, refl, sym, subst, arith, codes, bytes_eq, ltb-true, true≢false}
+use Rattle.std.proofs.Common.{
+  ◌≡◌, ℕ, ◌+◌, ◌-◌, ◌*◌, ◌^◌, ◌<◌, ℤ, pos, negsuc, neg_ℤ, ◌≤ℤ◌, Bool, true, false, ◌&&◌, nat_lt, List, [], ◌∷◌, Option, Some,
+  None, Result, Ok, Err, IfOk, IfSome, IsTrue, refl, sym, subst, arith, codes, bytes_eq, ltb-true, true≢false,
+}
 use Rattle.std.specs.Prelude.{option_map, option_and_then, is_some, if◌then◌else◌}
 use Rattle.std.specs.Char.{is_ascii_digit}
 use Rattle.std.specs.Option.{option_map_or, ok_or}
@@ -7,7 +10,9 @@ use Rattle.std.specs.Str.Parse.{without_leading_sign, signed_digits_value}
 use Rattle.std.proofs.lemmas.Int.{ints}
 use Rattle.std.proofs.lemmas.Grind.{common_steps}
 use lib.Signed.{mag}
-use Rattle.zone_values.specs.Bounds.{are_small_seconds, is_bounded_end, is_bounded_saving, is_bounded_info, is_bounded_rule, is_bounded_line}
+use Rattle.zone_values.specs.Bounds.{
+  are_small_seconds, is_bounded_end, is_bounded_saving, is_bounded_info, is_bounded_rule, is_bounded_line,
+}
 use Rattle.zone_line.specs.Clocks.{ClockTexts, clock_in, minute_clock}
 use Rattle.zone_line.specs.Columns.{InfoTexts, RuleTexts}
 use Rattle.zone_line.specs.DayColumns.{DayTexts, day_columns}
@@ -17,10 +22,14 @@ use Rattle.zone_values.specs.declared.fault.FaultKind.TheVariants.{CouldNotParse
 use Rattle.zone_values.specs.Months.{month_field}
 use Rattle.zone_values.specs.Weekdays.{weekday_field}
 use Rattle.zone_values.specs.Years.{year_field}
-use Rattle.zone_line.specs.Fields.{to_field, type_field, day_of_month, sided_day, last_weekday, after_last, day_field, time_field, wall_field, is_ruleset_name}
+use Rattle.zone_line.specs.Fields.{
+  to_field, type_field, day_of_month, sided_day, last_weekday, after_last, day_field, time_field, wall_field, is_ruleset_name,
+}
 use Rattle.zone_line.specs.Kinds.{LineKind, kind_of}
 use Rattle.zone_line.specs.Kinds as kind
-use Rattle.zone_line.specs.Lines.{one_off_of, saving_field, until, has_yearless_end, some_end, end_of, info_of, rule_of, value_of_kind, value}
+use Rattle.zone_line.specs.Lines.{
+  one_off_of, saving_field, until, has_yearless_end, some_end, end_of, info_of, rule_of, value_of_kind, value,
+}
 use Rattle.zone_values.specs.Numbers.{is_numeral, signed_in}
 use Rattle.zone_line.specs.Digits.{two_digits, digit_of}
 use Rattle.zone_line.specs.Options.{first_some}
@@ -145,14 +154,16 @@ clock_time-small c =
   where
     by : (hour minute : ℕ) → hour < 100 → minute < 100 → (second : Option (List ℕ))
         → IfSome (option_map_or
-        (λ text. option_map (λ second. HoursMinutesSeconds (signed c.sign hour) (signed c.sign minute) (signed c.sign second)) (two_digits text))
+        (λ text.
+        option_map (λ second. HoursMinutesSeconds (signed c.sign hour) (signed c.sign minute) (signed c.sign second)) (two_digits text))
         second
         (Some (HoursMinutes (signed c.sign hour) (signed c.sign minute)))) HasSmallSeconds
     by hour minute few small None =
         minutes-small _ _ (signed-within c.sign hour few) (signed-within c.sign minute small)
     by hour minute few small (Some text) =
         some_mapped (λ n. n < 100) HasSmallSeconds (two_digits text) _ (two_digits-small text)
-        (λ second least. seconds-small _ _ _ (signed-within c.sign hour few) (signed-within c.sign minute small) (signed-within c.sign second least))
+        (λ second least.
+        seconds-small _ _ _ (signed-within c.sign hour few) (signed-within c.sign minute small) (signed-within c.sign second least))
 
 abbrev Timed : TimeSpecAndType → Type 0
 Timed time = HasSmallSeconds time.0
@@ -203,7 +214,8 @@ day_of_month-passes : (text : List ℕ) → IfSome (day_of_month text) (λ n. Is
 day_of_month-passes text = some_where (λ n. IsTrue (is_day_of_month n)) (is_numeral text) _
     (λ _. some_of (signed_in (2 ^ 7) text))
   where
-    some_of : (o : Option ℤ) → IfSome (option_and_then (λ n. if is_day_of_month n then Some n else None) o) (λ n. IsTrue (is_day_of_month n))
+    some_of : (o : Option ℤ) →
+    IfSome (option_and_then (λ n. if is_day_of_month n then Some n else None) o) (λ n. IsTrue (is_day_of_month n))
     some_of None = tt
     some_of (Some n) = some_where (λ n. IsTrue (is_day_of_month n)) (is_day_of_month n) (Some n) (λ passed. passed)
 
@@ -213,7 +225,8 @@ sided_day-passes text columns =
     onward (λ _. Unit {0}) Numbered (weekday_field columns.weekday) _ (any_ok (weekday_field columns.weekday)) (λ weekday _.
     onward (λ n. IsTrue (is_day_of_month n)) Numbered (ok_or (day_of_month columns.day) (refused InvalidDaySpec text)) _
     (ok_where (λ n. IsTrue (is_day_of_month n)) (day_of_month columns.day) _ (day_of_month-passes columns.day))
-    (λ number passed. either Numbered (bytes_eq columns.sign (codes "<=")) (LastOnOrBefore weekday number) (FirstOnOrAfter weekday number) passed passed))
+    (λ number passed.
+    either Numbered (bytes_eq columns.sign (codes "<=")) (LastOnOrBefore weekday number) (FirstOnOrAfter weekday number) passed passed))
 
 last_weekday-passes : (text : List ℕ) → IfOk (last_weekday text) Numbered
 unfolding last_weekday
@@ -275,9 +288,11 @@ BoundedRule r = IsTrue (is_bounded_rule r)
 one_off_of-bounded : (text : List ℕ) (parts : ClockTexts) → IfOk (one_off_of text parts) BoundedSaving
 unfolding one_off_of
 one_off_of-bounded text parts =
-    onward HasSmallSeconds BoundedSaving (ok_or (clock_time parts) _) _ (ok_where HasSmallSeconds (clock_time parts) _ (clock_time-small parts)) (λ time small.
-    onward HasSmallSeconds BoundedSaving (ok_or (if_wall (with_type time (clock_type parts.flag))) _) _
-    (ok_where HasSmallSeconds (if_wall (with_type time (clock_type parts.flag))) _ (if_wall-small (with_type time (clock_type parts.flag)) small)) (λ amount held. held))
+    onward HasSmallSeconds BoundedSaving (ok_or (clock_time parts) _) _
+    (ok_where HasSmallSeconds (clock_time parts) _ (clock_time-small parts)) (λ time small.
+    let timed = with_type time (clock_type parts.flag) in
+    onward HasSmallSeconds BoundedSaving (ok_or (if_wall timed) _) _
+    (ok_where HasSmallSeconds (if_wall timed) _ (if_wall-small timed small)) (λ amount held. held))
 
 saving_field-bounded : (text : List ℕ) → IfOk (saving_field text) BoundedSaving
 unfolding saving_field
@@ -294,7 +309,8 @@ unfolding end_of some_end
 end_of-bounded line columns = by columns.year
   where
     by : (year : Option (List ℕ))
-        → IfOk (option_map_or (λ year. some_end year columns) year (if has_yearless_end columns then Err (refused InvalidLineType line) else Ok None))
+        → IfOk (option_map_or (λ year. some_end year columns) year
+        (if has_yearless_end columns then Err (refused InvalidLineType line) else Ok None))
         BoundedEnd
     by None = ok_either BoundedEnd (has_yearless_end columns) _ _ tt refl
     by (Some year) = onward Bounded _ (until year columns.month columns.day columns.time) _
@@ -323,8 +339,10 @@ rule_of-bounded columns =
 kind-bounded : (line : List ℕ) (k : LineKind) → IfOk (value_of_kind line k) (λ v. IsTrue (is_bounded_line v))
 unfolding value_of_kind
 kind-bounded line kind.space = refl
-kind-bounded line (kind.zone columns) = onward BoundedInfo _ (info_of line columns.info) _ (info_of-bounded line columns.info) (λ info bounded. bounded)
-kind-bounded line (kind.continuation columns) = onward BoundedInfo _ (info_of line columns) _ (info_of-bounded line columns) (λ info bounded. bounded)
+kind-bounded line (kind.zone columns) =
+    onward BoundedInfo _ (info_of line columns.info) _ (info_of-bounded line columns.info) (λ info bounded. bounded)
+kind-bounded line (kind.continuation columns) =
+    onward BoundedInfo _ (info_of line columns) _ (info_of-bounded line columns) (λ info bounded. bounded)
 kind-bounded line (kind.rule columns) = onward BoundedRule _ (rule_of columns) _ (rule_of-bounded columns) (λ r bounded. bounded)
 kind-bounded line (kind.link columns) = refl
 
@@ -333,7 +351,8 @@ value-bounded : (line : List ℕ) → IfOk (value line) (λ v. IsTrue (is_bounde
 unfolding value
 value-bounded line = by (kind_of line)
   where
-    by : (k : Option LineKind) → IfOk (option_map_or (value_of_kind line) k (Err (refused InvalidLineType line))) (λ v. IsTrue (is_bounded_line v))
+    by : (k : Option LineKind) →
+    IfOk (option_map_or (value_of_kind line) k (Err (refused InvalidLineType line))) (λ v. IsTrue (is_bounded_line v))
     by None = tt
     by (Some k) = kind-bounded line k
 

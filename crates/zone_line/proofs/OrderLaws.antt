@@ -9,6 +9,7 @@ use Rattle.zone_values.specs.Seconds.{with_type}
 use Rattle.zone_values.specs.Values.{one_off}
 use Rattle.zone_values.specs.declared.fault.FaultKind.TheVariants.{InvalidDaySpec, InvalidTimeSpecAndType, NonWallClockInTimeSpec}
 use Rattle.zone_values.specs.declared.time.TimeSpec.{TimeSpec}
+use Rattle.zone_values.specs.declared.time.TimeSpecAndType.{TimeSpecAndType}
 use Rattle.zone_line.specs.Clocks.{ClockTexts, minute_clock, clock_in}
 use Rattle.zone_line.specs.Columns.{InfoTexts, RuleTexts}
 use Rattle.zone_line.specs.DayColumns.{DayTexts}
@@ -67,15 +68,24 @@ order_of_a_day : (text : List ℕ) (c : DayTexts) → day_of_month c.day ≡ Non
 unfolding sided_day
 order_of_a_day text c no_number = step (weekday_field c.weekday) _ _ (λ weekday. rw no_number refl)
 
+abbrev timed : ClockTexts → Option TimeSpec → Option TimeSpecAndType
+timed parts time = option_map (λ time. with_type time (clock_type parts.flag)) time
+
 -- an amount of time in RULES is read as one of GMTOFF or SAVE, since a text with a colon is no hyphen and no hours alone
 amount_of_time : (text : List ℕ) (parts : ClockTexts) → minute_clock text ≡ Some parts → no_time text ≡ None → hours_alone text ≡ None →
     one_off_of text parts ≡ results.◌>>=◌ (wall_field text) (λ amount. Ok (one_off amount))
 unfolding one_off_of wall_field time_of
 amount_of_time text parts matched no_hyphen no_hours = rw (no_hyphen, no_hours, matched) (by (clock_time parts))
   where
-    by : (time : Option TimeSpec) → results.◌>>=◌ (ok_or time (refused InvalidTimeSpecAndType text)) (λ time.
-        results.◌>>=◌ (ok_or (if_wall (with_type time (clock_type parts.flag))) (refused NonWallClockInTimeSpec text)) (λ amount. Ok (one_off amount)))
-        ≡ results.◌>>=◌ (results.◌>>=◌ (ok_or (first_some (option_map (λ time. with_type time (clock_type parts.flag)) time ∷ [])) (refused InvalidTimeSpecAndType text)) (λ time.
-        ok_or (if_wall time) (refused NonWallClockInTimeSpec text))) (λ amount. Ok (one_off amount))
+    abbrev if_timed : {A : Type 0} → Option A → Result A Fault
+    if_timed time = ok_or time (refused InvalidTimeSpecAndType text)
+
+    abbrev if_by_wall : TimeSpecAndType → Result TimeSpec Fault
+    if_by_wall time = ok_or (if_wall time) (refused NonWallClockInTimeSpec text)
+
+    by : (time : Option TimeSpec) →
+        results.◌>>=◌ (if_timed time) (λ time.
+        results.◌>>=◌ (if_by_wall (with_type time (clock_type parts.flag))) (λ amount. Ok (one_off amount)))
+        ≡ results.◌>>=◌ (results.◌>>=◌ (if_timed (first_some (timed parts time ∷ []))) if_by_wall) (λ amount. Ok (one_off amount))
     by None = refl
     by (Some time) = refl

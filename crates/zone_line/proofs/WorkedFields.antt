@@ -25,7 +25,9 @@ use Rattle.zone_line.specs.Clocks.{ClockTexts}
 use Rattle.zone_line.specs.Columns.{InfoTexts}
 use Rattle.zone_line.specs.DayColumns.{DayTexts}
 use Rattle.zone_line.specs.Digits.{two_digits}
-use Rattle.zone_line.specs.Fields.{to_field, type_field, letters_of, day_of_month, day_field, sided_day, last_weekday, wall_field, is_ruleset_name}
+use Rattle.zone_line.specs.Fields.{
+  to_field, type_field, letters_of, day_of_month, day_field, sided_day, last_weekday, wall_field, is_ruleset_name,
+}
 use Rattle.zone_line.specs.Lines.{saving_field, until, some_end, end_of}
 use Rattle.zone_line.specs.Times.{no_time, hours_alone, clock_time, clock_type, if_wall, time_of}
 
@@ -38,12 +40,13 @@ digits = refl
 hyphens : map no_time (codes "-" ∷ codes "" ∷ codes "0" ∷ []) ≡ Some (with_type Zero Wall) ∷ None ∷ None ∷ []
 hyphens = refl
 
-hours : map hours_alone (codes "2" ∷ codes "-128" ∷ codes "127" ∷ []) ≡ Some (with_type (Hours (pos 2)) Wall) ∷ Some (with_type (Hours (negsuc 127)) Wall)
-    ∷ Some (with_type (Hours (pos 127)) Wall) ∷ []
+hours : map hours_alone (codes "2" ∷ codes "-128" ∷ codes "127" ∷ [])
+    ≡ Some (with_type (Hours (pos 2)) Wall) ∷ Some (with_type (Hours (negsuc 127)) Wall) ∷ Some (with_type (Hours (pos 127)) Wall) ∷ []
 unfolding signed_in
 hours = refl
 
-no_hours : map hours_alone (codes "" ∷ codes "+1" ∷ codes "--1" ∷ codes "1-2" ∷ codes "200" ∷ codes "1:00" ∷ []) ≡ None ∷ None ∷ None ∷ None ∷ None ∷ None ∷ []
+no_hours : map hours_alone (codes "" ∷ codes "+1" ∷ codes "--1" ∷ codes "1-2" ∷ codes "200" ∷ codes "1:00" ∷ [])
+    ≡ None ∷ None ∷ None ∷ None ∷ None ∷ None ∷ []
 unfolding signed_in
 no_hours = refl
 
@@ -53,7 +56,8 @@ clock sign hour minute second = record { sign = sign; hour = hour; minute = minu
 -- the sign holds for every part
 clocks : map clock_time (clock (codes "") (codes "2") (codes "00") None ∷ clock (codes "-") (codes "3") (codes "30") None
     ∷ clock (codes "-") (codes "0") (codes "14") (Some (codes "44")) ∷ clock (codes "") (codes "24") (codes "99") (Some (codes "99")) ∷ [])
-    ≡ Some (HoursMinutes (pos 2) (pos 0)) ∷ Some (HoursMinutes (negsuc 2) (negsuc 29)) ∷ Some (HoursMinutesSeconds (pos 0) (negsuc 13) (negsuc 43))
+    ≡ Some (HoursMinutes (pos 2) (pos 0)) ∷ Some (HoursMinutes (negsuc 2) (negsuc 29))
+    ∷ Some (HoursMinutesSeconds (pos 0) (negsuc 13) (negsuc 43))
     ∷ Some (HoursMinutesSeconds (pos 24) (pos 99) (pos 99)) ∷ []
 unfolding clock_time two_digits
 clocks = refl
@@ -69,7 +73,8 @@ amounts : map wall_field (codes "-" ∷ codes "-3" ∷ []) ≡ Ok Zero ∷ Ok (H
 unfolding wall_field time_of signed_in
 amounts = refl
 
-last_years : map to_field (codes "only" ∷ codes "2007" ∷ codes "max" ∷ []) ≡ Ok None ∷ Ok (Some (Number (pos 2007))) ∷ Ok (Some Maximum) ∷ []
+last_years : map to_field (codes "only" ∷ codes "2007" ∷ codes "max" ∷ [])
+    ≡ Ok None ∷ Ok (Some (Number (pos 2007))) ∷ Ok (Some Maximum) ∷ []
 unfolding to_field year_named signed_in
 last_years = refl
 
@@ -96,24 +101,29 @@ abbrev sided : List ℕ → List ℕ → List ℕ → DayTexts
 sided weekday sign day = record { weekday = weekday; sign = sign; day = day }
 
 sided_days : map (sided_day (codes "the day"))
-    (sided (codes "Sun") (codes ">=") (codes "8") ∷ sided (codes "Fri") (codes "<=") (codes "1") ∷ sided (codes "Sun") (codes "<=") (codes "32")
+    (sided (codes "Sun") (codes ">=") (codes "8") ∷ sided (codes "Fri") (codes "<=") (codes "1")
+    ∷ sided (codes "Sun") (codes "<=") (codes "32")
     ∷ sided (codes "Xyz") (codes ">=") (codes "40") ∷ [])
     ≡ Ok (FirstOnOrAfter Sunday (pos 8)) ∷ Ok (LastOnOrBefore Friday (pos 1)) ∷ Err (refused InvalidDaySpec (codes "the day"))
     ∷ Err (refused FailedWeekdayParse (codes "xyz")) ∷ []
 unfolding sided_day weekday_named signed_in
 sided_days = refl
 
-rulesets : map is_ruleset_name (codes "US" ∷ codes "C-Eur" ∷ codes "a_b" ∷ codes "1:00" ∷ codes "R1" ∷ []) ≡ true ∷ true ∷ true ∷ false ∷ false ∷ []
+rulesets : map is_ruleset_name (codes "US" ∷ codes "C-Eur" ∷ codes "a_b" ∷ codes "1:00" ∷ codes "R1" ∷ [])
+    ≡ true ∷ true ∷ true ∷ false ∷ false ∷ []
 rulesets = refl
 
-savings : map saving_field (codes "-" ∷ codes "US" ∷ codes "--" ∷ []) ≡ Ok no_saving ∷ Ok (multiple (codes "US")) ∷ Ok (multiple (codes "--")) ∷ []
+savings : map saving_field (codes "-" ∷ codes "US" ∷ codes "--" ∷ [])
+    ≡ Ok no_saving ∷ Ok (multiple (codes "US")) ∷ Ok (multiple (codes "--")) ∷ []
 unfolding saving_field
 savings = refl
 
 -- the columns after the first that is missing are not read
 ends : until (codes "1991") None (Some (codes "29")) (Some (codes "2")) ∷ until (codes "1991") (Some (codes "Sep")) None (Some (codes "2"))
-    ∷ until (codes "1991") (Some (codes "Sep")) (Some (codes "29")) None ∷ until (codes "1991") (Some (codes "Sep")) (Some (codes "29")) (Some (codes "2")) ∷ []
-    ≡ Ok (UntilYear (Number (pos 1991))) ∷ Ok (UntilMonth (Number (pos 1991)) September) ∷ Ok (UntilDay (Number (pos 1991)) September (Ordinal (pos 29)))
+    ∷ until (codes "1991") (Some (codes "Sep")) (Some (codes "29")) None
+    ∷ until (codes "1991") (Some (codes "Sep")) (Some (codes "29")) (Some (codes "2")) ∷ []
+    ≡ Ok (UntilYear (Number (pos 1991))) ∷ Ok (UntilMonth (Number (pos 1991)) September)
+    ∷ Ok (UntilDay (Number (pos 1991)) September (Ordinal (pos 29)))
     ∷ Ok (UntilTime (Number (pos 1991)) September (Ordinal (pos 29)) (with_type (Hours (pos 2)) Wall)) ∷ []
 unfolding until year_named month_named day_field time_of signed_in
 ends = refl
@@ -131,7 +141,8 @@ ended year month day time = record {
 
 -- an end without a year, by each of its columns alone
 yearless_ends : map (end_of (codes "the line"))
-    (ended None None None None ∷ ended None (Some (codes "Sep")) None None ∷ ended None None (Some (codes "29")) None ∷ ended None None None (Some (codes "2")) ∷ [])
+    (ended None None None None ∷ ended None (Some (codes "Sep")) None None ∷ ended None None (Some (codes "29")) None
+    ∷ ended None None None (Some (codes "2")) ∷ [])
     ≡ Ok None ∷ Err (refused InvalidLineType (codes "the line")) ∷ Err (refused InvalidLineType (codes "the line"))
     ∷ Err (refused InvalidLineType (codes "the line")) ∷ []
 unfolding end_of

@@ -1,4 +1,5 @@
 mod DayLaws
 pub mod WeekdayLemmas
+mod WorkedBounds
 mod WorkedDays
 mod WorkedNames

@@ -6,7 +6,9 @@ use Rattle.zone_line.proofs.reader.LineReader.continuation_columns.Goals as goal
 
 pub returns : goal.returns
 unfolding continuation_columns
-returns c = c.info_columns.ensures ∙ carried info_columns_of continuation_text c.args.line.now c.in_ok-search.field-0 (c.in_ok-search.ensures.found continuation_text c.args.self.now.continuation_is)
+returns c =
+    let found = c.in_ok-search.ensures.found continuation_text c.args.self.now.continuation_is in
+    c.info_columns.ensures ∙ carried info_columns_of continuation_text c.args.line.now c.in_ok-search.field-0 found
 
 pub returns-in_err-search : goal.returns-in_err-search
 unfolding continuation_columns

@@ -6,7 +6,9 @@ use Rattle.zone_line.proofs.reader.LineReader.day_columns.Goals as goal
 
 pub returns : goal.returns
 unfolding day_columns
-returns c = c.day_columns.ensures ∙ carried day_columns_of day_text c.args.text.now c.in_ok-search.field-0 (c.in_ok-search.ensures.found day_text c.args.self.now.day_is)
+returns c =
+    let found = c.in_ok-search.ensures.found day_text c.args.self.now.day_is in
+    c.day_columns.ensures ∙ carried day_columns_of day_text c.args.text.now c.in_ok-search.field-0 found
 
 pub returns-in_err-search : goal.returns-in_err-search
 unfolding day_columns

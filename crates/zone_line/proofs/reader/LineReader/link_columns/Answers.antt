@@ -6,7 +6,9 @@ use Rattle.zone_line.proofs.reader.LineReader.link_columns.Goals as goal
 
 pub returns : goal.returns
 unfolding link_columns
-returns c = c.link_columns.ensures ∙ carried link_columns_of link_text c.args.line.now c.in_ok-search.field-0 (c.in_ok-search.ensures.found link_text c.args.self.now.link_is)
+returns c =
+    let found = c.in_ok-search.ensures.found link_text c.args.self.now.link_is in
+    c.link_columns.ensures ∙ carried link_columns_of link_text c.args.line.now c.in_ok-search.field-0 found
 
 pub returns-in_err-search : goal.returns-in_err-search
 unfolding link_columns

@@ -6,7 +6,9 @@ use Rattle.zone_line.proofs.reader.LineReader.second_clock.Goals as goal
 
 pub returns : goal.returns
 unfolding second_clock
-returns c = c.second_clock.ensures ∙ carried second_clock_of hms_text c.args.text.now c.in_ok-search.field-0 (c.in_ok-search.ensures.found hms_text c.args.self.now.hms_is)
+returns c =
+    let found = c.in_ok-search.ensures.found hms_text c.args.self.now.hms_is in
+    c.second_clock.ensures ∙ carried second_clock_of hms_text c.args.text.now c.in_ok-search.field-0 found
 
 pub returns-in_err-search : goal.returns-in_err-search
 unfolding second_clock

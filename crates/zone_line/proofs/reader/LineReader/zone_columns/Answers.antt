@@ -6,7 +6,9 @@ use Rattle.zone_line.proofs.reader.LineReader.zone_columns.Goals as goal
 
 pub returns : goal.returns
 unfolding zone_columns
-returns c = c.zone_columns.ensures ∙ carried zone_columns_of zone_text c.args.line.now c.in_ok-search.field-0 (c.in_ok-search.ensures.found zone_text c.args.self.now.zone_is)
+returns c =
+    let found = c.in_ok-search.ensures.found zone_text c.args.self.now.zone_is in
+    c.zone_columns.ensures ∙ carried zone_columns_of zone_text c.args.line.now c.in_ok-search.field-0 found
 
 pub returns-in_err-search : goal.returns-in_err-search
 unfolding zone_columns
