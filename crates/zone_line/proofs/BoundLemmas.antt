@@ -215,7 +215,7 @@ day_of_month-passes text = some_where (λ n. IsTrue (is_day_of_month n)) (is_num
     (λ _. some_of (signed_in (2 ^ 7) text))
   where
     some_of : (o : Option ℤ) →
-    IfSome (option_and_then (λ n. if is_day_of_month n then Some n else None) o) (λ n. IsTrue (is_day_of_month n))
+        IfSome (option_and_then (λ n. if is_day_of_month n then Some n else None) o) (λ n. IsTrue (is_day_of_month n))
     some_of None = tt
     some_of (Some n) = some_where (λ n. IsTrue (is_day_of_month n)) (is_day_of_month n) (Some n) (λ passed. passed)
 
@@ -352,7 +352,7 @@ unfolding value
 value-bounded line = by (kind_of line)
   where
     by : (k : Option LineKind) →
-    IfOk (option_map_or (value_of_kind line) k (Err (refused InvalidLineType line))) (λ v. IsTrue (is_bounded_line v))
+        IfOk (option_map_or (value_of_kind line) k (Err (refused InvalidLineType line))) (λ v. IsTrue (is_bounded_line v))
     by None = tt
     by (Some k) = kind-bounded line k
 

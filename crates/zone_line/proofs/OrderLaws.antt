@@ -71,21 +71,21 @@ order_of_a_day text c no_number = step (weekday_field c.weekday) _ _ (λ weekday
 abbrev timed : ClockTexts → Option TimeSpec → Option TimeSpecAndType
 timed parts time = option_map (λ time. with_type time (clock_type parts.flag)) time
 
+abbrev if_timed : {A : Type 0} → List ℕ → Option A → Result A Fault
+if_timed text time = ok_or time (refused InvalidTimeSpecAndType text)
+
+abbrev if_by_wall : List ℕ → TimeSpecAndType → Result TimeSpec Fault
+if_by_wall text time = ok_or (if_wall time) (refused NonWallClockInTimeSpec text)
+
 -- an amount of time in RULES is read as one of GMTOFF or SAVE, since a text with a colon is no hyphen and no hours alone
 amount_of_time : (text : List ℕ) (parts : ClockTexts) → minute_clock text ≡ Some parts → no_time text ≡ None → hours_alone text ≡ None →
     one_off_of text parts ≡ results.◌>>=◌ (wall_field text) (λ amount. Ok (one_off amount))
 unfolding one_off_of wall_field time_of
 amount_of_time text parts matched no_hyphen no_hours = rw (no_hyphen, no_hours, matched) (by (clock_time parts))
   where
-    abbrev if_timed : {A : Type 0} → Option A → Result A Fault
-    if_timed time = ok_or time (refused InvalidTimeSpecAndType text)
-
-    abbrev if_by_wall : TimeSpecAndType → Result TimeSpec Fault
-    if_by_wall time = ok_or (if_wall time) (refused NonWallClockInTimeSpec text)
-
     by : (time : Option TimeSpec) →
-        results.◌>>=◌ (if_timed time) (λ time.
-        results.◌>>=◌ (if_by_wall (with_type time (clock_type parts.flag))) (λ amount. Ok (one_off amount)))
-        ≡ results.◌>>=◌ (results.◌>>=◌ (if_timed (first_some (timed parts time ∷ []))) if_by_wall) (λ amount. Ok (one_off amount))
+        results.◌>>=◌ (if_timed text time) (λ time.
+        results.◌>>=◌ (if_by_wall text (with_type time (clock_type parts.flag))) (λ amount. Ok (one_off amount)))
+        ≡ results.◌>>=◌ (results.◌>>=◌ (if_timed text (first_some (timed parts time ∷ []))) (if_by_wall text)) (λ amount. Ok (one_off amount))
     by None = refl
     by (Some time) = refl
