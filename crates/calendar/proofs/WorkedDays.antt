@@ -20,3 +20,16 @@ worked_days = refl
 worked_weekdays : map weekday_of day_numbers ≡ 1 ∷ 5 ∷ 2 ∷ 1 ∷ 2 ∷ 3 ∷ 4 ∷ 3 ∷ 2 ∷ 1 ∷ 5 ∷ []
 unfolding weekday_of
 worked_weekdays = refl
+
+-- by their names: 31 days but for February, April, June, September and November
+worked_months : map (days_in_month (pos 2023)) (1 ∷ 2 ∷ 3 ∷ 4 ∷ 5 ∷ 6 ∷ 7 ∷ 8 ∷ 9 ∷ 10 ∷ 11 ∷ 12 ∷ [])
+    ≡ 31 ∷ 28 ∷ 31 ∷ 30 ∷ 31 ∷ 30 ∷ 31 ∷ 31 ∷ 30 ∷ 31 ∷ 30 ∷ 31 ∷ []
+unfolding is_leap days_in_month
+worked_months = refl
+
+-- February in 2024, 1900, 2000, 2100, 0, -1, -4, -100 and -400
+worked_februaries : map (λ y. days_in_month y 2)
+    (pos 2024 ∷ pos 1900 ∷ pos 2000 ∷ pos 2100 ∷ pos 0 ∷ neg_ℤ (pos 1) ∷ neg_ℤ (pos 4) ∷ neg_ℤ (pos 100) ∷ neg_ℤ (pos 400) ∷ [])
+    ≡ 29 ∷ 28 ∷ 29 ∷ 28 ∷ 29 ∷ 28 ∷ 29 ∷ 28 ∷ 29 ∷ []
+unfolding is_leap days_in_month
+worked_februaries = refl

@@ -2,7 +2,7 @@
 use Rattle.std.proofs.Common.{refl, ◌≡◌, ℕ, zero, suc, ◌-◌, ◌<◌, ◌≤◌, inl, inr, Bool, true, false, sym, ap, ◌∙◌, arith, ℤ, pos}
 use Rattle.std.proofs.Common.{neg_ℤ, ◌+ℤ◌, ◌-ℤ◌, ◌≤ℤ◌, ◌<ℤ◌, int_le, unsigned_abs}
 use Rattle.std.proofs.lemmas.Int.{by_lt_z}
-use Rattle.calendar.specs.Days.{days_through, days_in_month, day, IsDate, IsCountedYear}
+use Rattle.calendar.specs.Days.{days_in_year, days_through, days_in_month, days_into_year, day, IsDate, IsCountedYear}
 use Rattle.calendar.specs.Dates.{last_with, year_of, month_of, day_of}
 use Rattle.calendar.specs.Signs.{signed, natural}
 use Rattle.calendar.specs.Orders.{le_pass, le_fail, le_from_pass, le_from_fail}
@@ -127,6 +127,43 @@ day_of-day y m d years date =
     ∙ last_with-is (λ n. int_le (day y m n) k) 31 d (omega (arith, date.last_day, days_in_month-bounds y m))
     (λ _. le_pass (day y m d) k (omega (arith, signed)))
     (λ j p q. le_fail (day y m j) k (omega (arith, signed, from_day y m d j years date.first_day (omega arith))))
+
+-- a date lies as far past its year's first day as the days before its month and before it in that say
+pub day-into_year : (y : ℤ) (m d : ℕ) → IsCountedYear y → day y m d ≡ day y 1 1 +ℤ pos (days_into_year y m d)
+unfolding days_into_year
+day-into_year y m d years =
+    let n = unsigned_abs (y +ℤ pos 11999) in
+    let here = place_of y years in
+    omega (arith, signed, day-cycle y m d n here, day-cycle y 1 1 n here, days_through-two y)
+
+-- 31 December is the last of its year's days
+pub day-last_of_year : (y : ℤ) → IsCountedYear y → day y 12 31 +ℤ pos 1 ≡ day y 1 1 +ℤ pos (days_in_year y)
+day-last_of_year y years =
+    let n = unsigned_abs (y +ℤ pos 11999) in
+    let here = place_of y years in
+    omega (
+      arith,
+      signed,
+      day-cycle y 12 31 n here,
+      day-cycle y 1 1 n here,
+      days_through-two y,
+      days_through-all y,
+      days_through-step y 12 (omega arith),
+      days_in_month-december y,
+    )
+
+-- the days of a year before a date of it are fewer than the year has
+pub days_into_year-bound : (y : ℤ) (m d : ℕ) → IsDate y m d → days_into_year y m d < days_in_year y
+unfolding days_into_year
+days_into_year-bound y m d date =
+    omega (
+      arith,
+      days_through-all y,
+      days_through-step y m date.first_month,
+      days_through-rise y m 12 date.last_month,
+      date.first_day,
+      date.last_day,
+    )
 
 -- a day number in a counted year, and one more month past it
 pub day-range : (y : ℤ) (m d : ℕ) → IsCountedYear y → 1 ≤ m → m ≤ 12 → 1 ≤ d → d ≤ 31

@@ -5,6 +5,9 @@ pub mod DigitLemmas
 pub mod ClockLemmas
 pub mod FoundLemmas
 pub mod DayLemmas
+pub mod LocalTimeLemmas
 pub mod OffsetLemmas
 pub mod PartLemmas
 pub mod TextLemmas
+pub mod WorkedTexts
+pub mod OrdinalLemmas

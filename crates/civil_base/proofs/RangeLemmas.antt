@@ -4,13 +4,14 @@ use Rattle.std.proofs.Common.{◌≡◌, refl, arith, ℕ, ◌<◌, ◌+ℤ◌, 
 use Rattle.calendar.specs.Days.{is_leap, days_in_year, days_in_month, days_after_zero, days_before_zero, year_start, days_through, days_into_year, day, IsCountedYear}
 use Rattle.calendar.specs.Signs.{signed}
 use Rattle.civil_base.specs.Clock.{nanos_per_day}
-use Rattle.civil_base.specs.Ranges.{IsDay, IsInYears}
+use Rattle.civil_base.specs.Ranges.{first_day, last_day, IsDay, IsInYears}
+use Rattle.civil_base.specs.RangeLaws.{years_begin, years_end, years_between}
 
-pub day-first : day (neg_ℤ (pos 9999)) 1 1 ≡ neg_ℤ (pos 4371587)
+pub day-first : day (neg_ℤ (pos 9999)) 1 1 ≡ first_day
 unfolding is_leap days_in_year days_in_month days_after_zero days_before_zero year_start days_through days_into_year day
 day-first = refl
 
-pub day-last : day (pos 9999) 12 31 ≡ pos 2932896
+pub day-last : day (pos 9999) 12 31 ≡ last_day
 unfolding is_leap days_in_year days_in_month days_after_zero days_before_zero year_start days_through days_into_year day
 day-last = refl
 
@@ -24,28 +25,15 @@ counted-last = record { first = omega (arith, signed); last = omega (arith, sign
 pub day-counted : (k : ℤ) → IsDay k → (neg_ℤ (pos 4371953) ≤ℤ k) × (k ≤ℤ pos 2933262)
 day-counted k h = (omega (arith, signed), omega (arith, signed))
 
--- a local time in the years, by numbers
-pub years-numbers : (x : ℤ) → IsInYears x → (neg_ℤ (pos 377705116800000000000) ≤ℤ x) × (x ≤ℤ pos 253402300799999999999)
-years-numbers x h = (omega (arith, signed), omega (arith, signed))
-
-pub years-from_numbers : (x : ℤ) → neg_ℤ (pos 377705116800000000000) ≤ℤ x → x ≤ℤ pos 253402300799999999999 → IsInYears x
-years-from_numbers x low high = record {
-  first = omega (arith, signed);
-  last = omega (arith, signed);
-}
-
 -- a day of the years and a time of day make a local time in the years
 pub years-joined : (k : ℤ) (t : ℕ) → IsDay k → t < nanos_per_day → IsInYears (k *ℤ pos nanos_per_day +ℤ pos t)
-years-joined k t h b = record {
-  first = omega (arith, signed);
-  last = omega (arith, signed);
-}
+years-joined k t h b = years_between (k *ℤ pos nanos_per_day +ℤ pos t) (omega (arith, signed)) (omega (arith, signed))
 
 -- and the day of a local time in the years is one of the years
 pub day-inside : (x : ℤ) → IsInYears x → IsDay (int_div_euclid x (pos nanos_per_day))
 day-inside x h = record {
-  first = omega (arith, signed);
-  last = omega (arith, signed);
+  first = omega (arith, signed, years_begin x h);
+  last = omega (arith, signed, years_end x h);
 }
 
 -- a day of the years by numbers

@@ -1,5 +1,5 @@
 -- Texts tell values apart.
-use Rattle.std.proofs.Common.{◌≡◌, refl, arith, ap, sym, ◌∙◌, ℕ, ℤ, pos, ◌<◌, ◌≤◌, ◌/◌, ◌%◌, ◌+ℤ◌, ◌*ℤ◌, ◌≢◌, nat_eq, int_lt, ◌∷◌, ◌++◌, length, take, drop, get_or, unsigned_abs, length-append}
+use Rattle.std.proofs.Common.{◌≡◌, refl, arith, ap, sym, ◌∙◌, ℕ, ℤ, pos, ◌<◌, ◌/◌, ◌%◌, ◌+ℤ◌, ◌*ℤ◌, ◌≢◌, nat_eq, int_lt, ◌∷◌, ◌++◌, length, take, drop, get_or, unsigned_abs, length-append}
 use Rattle.std.proofs.lemmas.List.{take_at, drop_at}
 use Rattle.std.proofs.lemmas.Int.{by_lt_z}
 use Rattle.calendar.specs.Days.{day}
@@ -9,6 +9,8 @@ use Rattle.calendar.specs.MonthLaws.{days_in_month-bounds}
 use Rattle.civil_base.specs.Clock.{nanos_per_day, hour_of, minute_of, second_of, nanosecond_of, time_at}
 use Rattle.civil_base.specs.Layout.{two_digits, four_digits, nine_digits, year_sign, date_digits, time_text, day_part, time_part, local_text, offset_text, zoned_text}
 use Rattle.civil_base.specs.Ranges.{IsDay, IsInYears, IsOffset}
+use Rattle.civil_base.specs.Instants.{local_at}
+use Rattle.civil_base.specs.RangeLaws.{offset_size}
 use Rattle.civil_base.proofs.ClockLemmas.{clock_parts, time_at-parts}
 use Rattle.civil_base.proofs.DayLemmas.{date_of-day}
 use Rattle.civil_base.proofs.DigitLemmas.{four_digits-halves, nine_digits-parts}
@@ -111,8 +113,8 @@ unfolding offset_text
 offset_text-same o p h i e =
     let m = unsigned_abs o in
     let n = unsigned_abs p in
-    let small : m ≤ 93599 = omega (arith, signed, one_sided o) in
-    let little : n ≤ 93599 = omega (arith, signed, one_sided p) in
+    let small = offset_size o h in
+    let little = offset_size p i in
     let hours = two_digits-same (m / 3600) (n / 3600) (omega arith) (omega arith) (ap (λ l. take 2 (drop 1 l)) e) in
     let minutes = two_digits-same (m / 60 % 60) (n / 60 % 60) (omega arith) (omega arith) (ap (λ l. take 2 (drop 4 l)) e) in
     let seconds = two_digits-same (m % 60) (n % 60) (omega arith) (omega arith) (ap (drop 7) e) in
@@ -121,11 +123,11 @@ offset_text-same o p h i e =
     sym (signed_by-size o) ∙ ap (λ t. signed_by t m) sign ∙ ap (signed_by (int_lt p (pos 0))) size ∙ signed_by-size p
 
 -- two zoned texts are equal only where the instants and the offsets are
-pub zoned_text-same : (t o u p : ℤ) → IsInYears (t +ℤ pos 1000000000 *ℤ o) → IsOffset o → IsInYears (u +ℤ pos 1000000000 *ℤ p) → IsOffset p → zoned_text t o ≡ zoned_text u p → (t ≡ u) × (o ≡ p)
+pub zoned_text-same : (t o u p : ℤ) → IsInYears (local_at t o) → IsOffset o → IsInYears (local_at u p) → IsOffset p → zoned_text t o ≡ zoned_text u p → (t ≡ u) × (o ≡ p)
 unfolding zoned_text
 zoned_text-same t o u p h i j k e =
-    let x = t +ℤ pos 1000000000 *ℤ o in
-    let z = u +ℤ pos 1000000000 *ℤ p in
+    let x = local_at t o in
+    let z = local_at u p in
     let long = ap length e in
     let first = length-append (local_text x) (32 ∷ offset_text o) in
     let second = length-append (local_text z) (32 ∷ offset_text p) in

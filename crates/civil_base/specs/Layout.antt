@@ -1,7 +1,8 @@
 -- The texts of local times and of instants with an offset.
-use Rattle.std.specs.Prelude.{ℕ, ◌+◌, ◌/◌, ◌%◌, List, [], ◌∷◌, ◌++◌, if◌then◌else◌, ℤ, pos, ◌+ℤ◌, ◌*ℤ◌, int_lt, unsigned_abs}
+use Rattle.std.specs.Prelude.{ℕ, ◌+◌, ◌/◌, ◌%◌, List, [], ◌∷◌, ◌++◌, if◌then◌else◌, ℤ, pos, int_lt, unsigned_abs}
 use Rattle.std.specs.Int.{int_div_euclid, int_rem_euclid}
 use Rattle.calendar.specs.Dates.{year_of, month_of, day_of}
+use Rattle.civil_base.specs.Instants.{local_at}
 use Rattle.civil_base.specs.Clock.{nanos_per_day, hour_of, minute_of, second_of, nanosecond_of}
 
 -- the decimal digit of n at the place of that power of ten
@@ -48,4 +49,4 @@ offset_text o =
 
 -- the local text of the instant t at the offset o, a space and the offset's text
 unfoldable pub zoned_text : ℤ → ℤ → List ℕ
-zoned_text t o = local_text (t +ℤ pos 1000000000 *ℤ o) ++ 32 ∷ offset_text o
+zoned_text t o = local_text (local_at t o) ++ 32 ∷ offset_text o

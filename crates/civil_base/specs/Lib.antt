@@ -1,6 +1,10 @@
 pub mod Clock
 pub mod DateTimes
+pub mod Instants
 pub mod Layout
-pub mod Months
+pub mod LocalTimes
 pub mod Offsets
+pub mod OrderLaws
+pub mod Ordinals
+pub mod RangeLaws
 pub mod Ranges

@@ -1,15 +1,17 @@
 //! Dates with a time of day and an offset from UTC.
-ghost use Rattle.std.specs.Prelude.{◌≡◌, ◌↔◌, pos, ◌+ℤ◌, ◌-ℤ◌, ◌*ℤ◌, IsTrue, IsOk, IfOk, IsSome, IfSome};
+ghost use Rattle.std.specs.Prelude.{◌≡◌, ◌*◌, ◌≤◌, pos, unsigned_abs, is_ok, IfOk, is_some, IfSome};
 ghost use Rattle.std.proofs.Common.{rules};
 ghost use Rattle.std.specs.Cmp.{partial_order_from_own_ties};
 ghost use Rattle.std.specs.Cmp.Rules.{comparing, hashing};
 ghost use Rattle.std.specs.Ordering.{on, int_eq, int_cmp, as_partial_cmp};
 ghost use Rattle.std.specs.Hash as fed;
 ghost use Rattle.calendar.specs.Dates.{year_of};
+ghost use Rattle.civil_base.specs.Instants.{local_at, nanos_of, seconds_of};
 ghost use Rattle.civil_base.specs.Layout.{day_part, time_part};
-ghost use Rattle.civil_base.specs.Ranges.{IsYear, IsInYears, IsOffset};
+ghost use Rattle.civil_base.specs.Ranges.{IsYear, is_in_years, IsInYears, IsOffset, far_seconds};
 ghost use Rattle.civil_base.specs.DateTimes.{local_of, offset_of, instant};
 
+use crate::instants::{nanos_of, seconds_of};
 use crate::{ComponentRange, Date, PlainDateTime, Time, UtcOffset};
 use std::cmp::Ordering;
 use std::hash::{Hash, Hasher};
@@ -37,10 +39,32 @@ impl OffsetDateTime {
         OffsetDateTime { local, offset }
     }
 
+    /// The date and time at that offset of the instant that many nanoseconds after 1970-01-01 00:00:00 UTC, if its date
+    /// lies in the years -9999 to 9999.
+    pub(crate) fn at_instant(nanos: i128, offset: UtcOffset) -> Option<OffsetDateTime>
+        requires { unsigned_abs nanos ≤ far_seconds * 1000000000 }
+        ensures has { is_some result ≡ is_in_years (local_at nanos offset) }
+        ensures instant { IfSome result (λ value. instant value ≡ nanos) }
+        ensures offset { IfSome result (λ value. offset_of value ≡ offset) }
+    {
+        let local = PlainDateTime::at_instant(nanos, offset)?;
+        Some(local.assume_offset(offset))
+    }
+
+    /// The instant that many seconds after 1970-01-01 00:00:00 UTC, at UTC. It is refused exactly where its UTC date
+    /// lies outside the years -9999 to 9999.
+    pub fn from_unix_timestamp(timestamp: i64) -> Result<OffsetDateTime, ComponentRange>
+        ensures accepts { is_ok result ≡ is_in_years (nanos_of timestamp) }
+        ensures instant { IfOk result (λ value. instant value ≡ nanos_of timestamp) }
+        ensures offset { IfOk result (λ value. offset_of value ≡ pos 0) }
+    {
+        OffsetDateTime::from_unix_timestamp_nanos(nanos_of(timestamp))
+    }
+
     /// The instant that many nanoseconds after 1970-01-01 00:00:00 UTC, at UTC. It is refused exactly where its UTC
     /// date lies outside the years -9999 to 9999.
     pub fn from_unix_timestamp_nanos(timestamp: i128) -> Result<OffsetDateTime, ComponentRange>
-        ensures accepts { IsOk result ↔ IsInYears timestamp }
+        ensures accepts { is_ok result ≡ is_in_years timestamp }
         ensures instant { IfOk result (λ value. instant value ≡ timestamp) }
         ensures offset { IfOk result (λ value. offset_of value ≡ pos 0) }
     {
@@ -51,11 +75,21 @@ impl OffsetDateTime {
     }
 
     /// The nanoseconds from 1970-01-01 00:00:00 UTC.
-    pub(crate) fn instant_nanos(self) -> i128
+    pub fn unix_timestamp_nanos(self) -> i128
         ensures value { result ≡ instant self }
-        ensures bound { IsInYears (result +ℤ pos 1000000000 *ℤ offset_of self) × IsOffset (offset_of self) }
+        ensures bound { unsigned_abs result ≤ far_seconds * 1000000000 }
+        ensures years { IsInYears (local_at result (offset_of self)) }
+        ensures offset { IsOffset (offset_of self) }
     {
-        self.local.nanos() - self.offset.nanos()
+        self.local.instant_with(self.offset)
+    }
+
+    /// The whole seconds from 1970-01-01 00:00:00 UTC, rounded down.
+    pub fn unix_timestamp(self) -> i64
+        ensures value { result ≡ seconds_of (instant self) }
+        ensures bound { unsigned_abs result ≤ far_seconds }
+    {
+        seconds_of(self.unix_timestamp_nanos())
     }
 
     /// The date and time at the value's own offset.
@@ -97,12 +131,11 @@ impl OffsetDateTime {
     /// The same instant at another offset. There is none exactly where the date at that offset lies outside the years
     /// -9999 to 9999.
     pub fn to_offset(self, offset: UtcOffset) -> Option<OffsetDateTime>
-        ensures has { IsSome result ↔ IsInYears (instant self +ℤ pos 1000000000 *ℤ offset) }
+        ensures has { is_some result ≡ is_in_years (local_at (instant self) offset) }
         ensures instant { IfSome result (λ value. instant value ≡ instant self) }
         ensures offset { IfSome result (λ value. offset_of value ≡ offset) }
     {
-        let local = PlainDateTime::at_nanos(self.instant_nanos() + offset.nanos())?;
-        Some(local.assume_offset(offset))
+        OffsetDateTime::at_instant(self.unix_timestamp_nanos(), offset)
     }
 }
 
@@ -112,7 +145,7 @@ impl PartialEq for OffsetDateTime {
     ghost laws = { Prim.search (rules, comparing) };
 
     fn eq(&self, other: &OffsetDateTime) -> bool {
-        self.instant_nanos() == other.instant_nanos()
+        self.unix_timestamp_nanos() == other.unix_timestamp_nanos()
     }
 }
 
@@ -130,7 +163,8 @@ impl Ord for OffsetDateTime {
     ghost matches_eq = { Prim.search (rules, comparing) };
 
     fn cmp(&self, other: &OffsetDateTime) -> Ordering {
-        self.instant_nanos().cmp(&other.instant_nanos())
+        self.unix_timestamp_nanos()
+            .cmp(&other.unix_timestamp_nanos())
     }
 }
 
@@ -151,6 +185,6 @@ impl Hash for OffsetDateTime {
     ghost respects_eq = { Prim.search (rules, hashing) };
 
     fn hash<H: Hasher>(&self, state: &mut H) {
-        self.instant_nanos().hash(state);
+        self.unix_timestamp_nanos().hash(state);
     }
 }

@@ -1,9 +1,10 @@
 //! Dates with a time of day, with no offset.
-ghost use Rattle.std.specs.Prelude.{◌≡◌, ◌↔◌, ◌+◌, ◌*◌, ◌<◌, pos, neg_ℤ, ◌≤ℤ◌, ◌+ℤ◌, ◌*ℤ◌, IsTrue, IsSome, IfSome};
+ghost use Rattle.std.specs.Prelude.{◌≡◌, ◌↔◌, ◌+◌, ◌*◌, ◌<◌, pos, neg_ℤ, ◌+ℤ◌, ◌*ℤ◌, ◌≤◌, is_some, IfSome, unsigned_abs};
 ghost use Rattle.calendar.specs.Dates.{year_of};
 ghost use Rattle.civil_base.specs.Clock.{nanos_per_day};
+ghost use Rattle.civil_base.specs.Instants.{local_at, instant_at};
 ghost use Rattle.civil_base.specs.Layout.{day_part, time_part};
-ghost use Rattle.civil_base.specs.Ranges.{IsYear, IsInYears};
+ghost use Rattle.civil_base.specs.Ranges.{IsYear, is_in_years, IsInYears, IsOffset, far_seconds};
 
 use crate::{Date, OffsetDateTime, Time, UtcOffset};
 use std::marker::Model;
@@ -44,6 +45,7 @@ impl Model for PlainDateTime {
     ghost inverse = { λ nanos. record { nanos = nanos } };
 }
 
+#[tactic(auto, using(crate::specs::RangeLaws::ranges))]
 impl PlainDateTime {
     ghost use Rattle.civil_base.specs.DateTimes.{local_of, offset_of};
 
@@ -61,7 +63,7 @@ impl PlainDateTime {
 
     /// The date and time that many nanoseconds after 1970-01-01 00:00:00, if it lies in the years -9999 to 9999.
     pub(crate) fn at_nanos(nanos: i128) -> Option<PlainDateTime>
-        ensures has { IsSome result ↔ IsInYears nanos }
+        ensures has { is_some result ≡ is_in_years nanos }
         ensures value { IfSome result (λ local. local ≡ nanos) }
     {
         if is_in_years(nanos) {
@@ -69,6 +71,26 @@ impl PlainDateTime {
         } else {
             None
         }
+    }
+
+    /// The date and time at an instant, in nanoseconds from 1970-01-01 00:00:00 UTC, at that offset, if it lies in the
+    /// years -9999 to 9999.
+    pub(crate) fn at_instant(nanos: i128, offset: UtcOffset) -> Option<PlainDateTime>
+        requires { unsigned_abs nanos ≤ far_seconds * 1000000000 }
+        ensures has { is_some result ≡ is_in_years (local_at nanos offset) }
+        ensures value { IfSome result (λ local. local ≡ local_at nanos offset) }
+    {
+        PlainDateTime::at_nanos(nanos + offset.nanos())
+    }
+
+    /// The instant of the date and time at that offset, in nanoseconds from 1970-01-01 00:00:00 UTC.
+    pub(crate) fn instant_with(self, offset: UtcOffset) -> i128
+        ensures value { result ≡ instant_at self offset }
+        ensures bound { unsigned_abs result ≤ far_seconds * 1000000000 }
+        ensures years { IsInYears self }
+        ensures offset { IsOffset offset }
+    {
+        self.nanos() - offset.nanos()
     }
 
     /// The nanoseconds from 1970-01-01 00:00:00.
@@ -133,8 +155,7 @@ impl PlainDateTime {
 }
 
 fn is_in_years(nanos: i128) -> bool
-    ensures { IsTrue result
-        ↔ ((neg_ℤ (pos 377_705_116_800_000_000_000) ≤ℤ nanos) × (nanos ≤ℤ pos 253_402_300_799_999_999_999)) }
+    ensures { result ≡ is_in_years nanos }
 {
     FIRST <= nanos && nanos <= LAST
 }

@@ -1,10 +1,12 @@
 //! Values read back from their texts.
 //!
 //! A text is read loosely, the value found is written, and the two texts are compared.
-ghost use Rattle.std.specs.Prelude.{◌≡◌, ◌≢◌, ℕ, ℤ, ◌+◌, ◌-◌, ◌<◌, ◌≤◌, pos, ◌+ℤ◌, ◌*ℤ◌, int_lt, [], ◌∷◌, ◌++◌, List, length, min, slice_index, true, false, IfSome, IsSomeAnd, MatchOption};
+ghost use Rattle.std.specs.Prelude.{◌≡◌, ◌≢◌, ℕ, ℤ, ◌+◌, ◌-◌, ◌<◌, ◌≤◌, pos, int_lt, [], ◌∷◌, ◌++◌, List, length, min, slice_index, true, false, IfSome, IsSomeAnd, MatchOption};
 ghost use Rattle.calendar.specs.Dates.{year_of};
 ghost use Rattle.civil_base.specs.Clock.{nanos_per_day};
 ghost use Rattle.civil_base.specs.DateTimes.{offset_of, instant};
+ghost use Rattle.civil_base.specs.Instants.{local_at};
+ghost use Rattle.civil_base.specs.LocalTimes.{local_time_in};
 ghost use Rattle.civil_base.specs.Layout.{local_text, zoned_text, date_digits, time_text, offset_text, two_digits, four_digits, nine_digits};
 ghost use Rattle.civil_base.specs.Ranges.{IsDay, IsInYears, IsOffset};
 
@@ -16,6 +18,17 @@ use crate::{
 /// The date and time with the local text `YYYY-MM-DD hh:mm:ss.nnnnnnnnn`, with a `-` before a year below 0. There is none
 /// exactly where the text is no such text: each value has one spelling, and nothing stands before or after it.
 pub fn read_local(text: &str) -> Option<PlainDateTime>
+    ensures value { result ≡ local_time_in text.now }
+    ensures exact { MatchOption result ((x : ℤ) → IsInYears x → local_text x ≢ text.now)
+        (λ value. local_text value ≡ text.now) }
+    ensures years { IfSome result IsInYears }
+    ensures only { IfSome result (λ value. (x : ℤ) → IsInYears x → local_text x ≡ text.now → x ≡ value) }
+{
+    value_with(text)
+}
+
+// The same, by what the text says of the value.
+fn value_with(text: &str) -> Option<PlainDateTime>
     ensures exact { MatchOption result ((x : ℤ) → IsInYears x → local_text x ≢ text.now)
         (λ value. local_text value ≡ text.now) }
     ensures years { IfSome result IsInYears }
@@ -36,11 +49,11 @@ pub fn read_local(text: &str) -> Option<PlainDateTime>
 /// exactly where the text is no such text: each value has one spelling, and nothing stands before or after it.
 pub fn read_zoned(text: &str) -> Option<OffsetDateTime>
     ensures exact { MatchOption result
-        ((t o : ℤ) → IsInYears (t +ℤ pos 1000000000 *ℤ o) → IsOffset o → zoned_text t o ≢ text.now)
+        ((t o : ℤ) → IsInYears (local_at t o) → IsOffset o → zoned_text t o ≢ text.now)
         (λ value. zoned_text (instant value) (offset_of value) ≡ text.now) }
     ensures years { IfSome result (λ value.
-        IsInYears (instant value +ℤ pos 1000000000 *ℤ offset_of value) × IsOffset (offset_of value)) }
-    ensures only { IfSome result (λ value. (t o : ℤ) → IsInYears (t +ℤ pos 1000000000 *ℤ o) → IsOffset o
+        IsInYears (local_at (instant value) (offset_of value)) × IsOffset (offset_of value)) }
+    ensures only { IfSome result (λ value. (t o : ℤ) → IsInYears (local_at t o) → IsOffset o
         → zoned_text t o ≡ text.now → (t ≡ instant value) × (o ≡ offset_of value)) }
 {
     let bytes = text.as_bytes();
@@ -56,7 +69,7 @@ pub fn read_zoned(text: &str) -> Option<OffsetDateTime>
 
 // The value whose zoned text this is; any value or none for another text.
 fn parse_zoned(bytes: &[u8]) -> Option<OffsetDateTime>
-    ensures found { (t o : ℤ) → IsInYears (t +ℤ pos 1000000000 *ℤ o) → IsOffset o → zoned_text t o ≡ bytes.now
+    ensures found { (t o : ℤ) → IsInYears (local_at t o) → IsOffset o → zoned_text t o ≡ bytes.now
         → IsSomeAnd result (λ value. (instant value ≡ t) × (offset_of value ≡ o)) }
 {
     if bytes.len() < 10 {

@@ -1,6 +1,11 @@
+ghost use Rattle.std.specs.Prelude.{◌≡◌, pos, neg_ℤ};
+ghost use Rattle.calendar.specs.Days.{day as day_at};
+ghost use Rattle.civil_base.specs.Clock.{time_at};
+ghost use Rattle.civil_base.specs.DateTimes.{instant, offset_of};
+
 use super::{
-    ComponentRange, Date, Month, OffsetDateTime, PlainDateTime, Time, UtcOffset, read_local,
-    read_zoned, write_local, write_zoned,
+    ComponentRange, Date, Month, OffsetDateTime, PlainDateTime, SignedDuration, Time, Timestamp,
+    UtcDateTime, UtcOffset, Weekday, read_local, read_zoned, write_local, write_zoned,
 };
 use std::alloc::AllocError;
 use std::hash::{DefaultHasher, Hash, Hasher};
@@ -134,12 +139,6 @@ fn takes_dates_apart(rt: HostRuntime) {
             assert_eq!(rt; (date.year(), date.month(), date.day()), (year, month, day));
         }
     }
-    assert_eq!(rt; Month::try_from(2), Ok(Month::February));
-    assert_eq!(rt; Month::try_from(13), Err(ComponentRange));
-    assert_eq!(rt; u8::from(Month::October), 10);
-    assert_eq!(rt; Month::December.next(), Month::January);
-    assert_eq!(rt; Month::January.previous(), Month::December);
-    assert_eq!(rt; Month::February.length(2000), 29);
 }
 
 #[test]
@@ -207,9 +206,222 @@ fn compares_date_times_by_their_instants(rt: HostRuntime) {
     assert!(rt; is_ordered(&rising) && !is_ordered(&falling));
 }
 
+// What the constants are.
+fn first_date() -> Date
+    ensures { result ≡ day_at (neg_ℤ (pos 9999)) 1 1 }
+{
+    Date::MIN
+}
+
+fn last_date() -> Date
+    ensures { result ≡ day_at (pos 9999) 12 31 }
+{
+    Date::MAX
+}
+
+#[tactic(auto, unfolding(crate::specs::Clock::time_at))]
+fn midnight() -> Time
+    ensures { result ≡ time_at 0 0 0 0 }
+{
+    Time::MIDNIGHT
+}
+
+fn no_offset() -> UtcOffset
+    ensures { result ≡ pos 0 }
+{
+    UtcOffset::UTC
+}
+
+fn epoch() -> OffsetDateTime
+    ensures instant { instant result ≡ pos 0 }
+    ensures offset { offset_of result ≡ pos 0 }
+{
+    OffsetDateTime::UNIX_EPOCH
+}
+
+fn utc_epoch() -> UtcDateTime
+    ensures { result ≡ pos 0 }
+{
+    UtcDateTime::UNIX_EPOCH
+}
+
+fn instant_epoch() -> Timestamp
+    ensures { result ≡ pos 0 }
+{
+    Timestamp::UNIX_EPOCH
+}
+
 #[test]
-fn says_that_a_component_is_out_of_range(rt: HostRuntime) -> Result<(), AllocError> {
-    let text = format!(in rt.alloc(); "{ComponentRange}")?;
-    assert_eq!(rt; text.as_str(), "component out of range");
-    Ok(())
+fn names_the_ends(rt: HostRuntime) {
+    assert_eq!(rt;
+        first_date().next_day().and_then(|date| date.previous_day()),
+        Some(Date::MIN)
+    );
+    assert_eq!(rt;
+        (first_date().previous_day(), last_date().next_day()),
+        (None, None)
+    );
+    assert_eq!(rt; epoch().time(), midnight());
+    assert_eq!(rt; epoch().offset(), no_offset());
+    assert_eq!(rt;
+        utc_epoch().unix_timestamp_nanos(),
+        instant_epoch().as_nanoseconds()
+    );
+}
+
+// Year, month, day, day of the year, Julian day and weekday, by Python's `datetime`, in cycles of 400 years before year 1.
+const DATES: &str = "\
+-9999 1 1 1 -1930999 Monday
+-9999 12 31 365 -1930635 Monday
+-401 3 1 60 1574657 Monday
+-400 2 29 60 1575022 Tuesday
+-101 12 31 365 1684535 Sunday
+-100 2 28 59 1684594 Wednesday
+-4 12 31 366 1719964 Tuesday
+-1 1 1 1 1720695 Friday
+0 2 29 60 1721119 Tuesday
+0 12 31 366 1721425 Sunday
+1 1 1 1 1721426 Monday
+4 2 29 60 1722580 Sunday
+100 3 1 60 1757644 Monday
+400 12 31 366 1867522 Sunday
+1582 10 15 288 2299161 Friday
+1600 2 29 60 2305507 Tuesday
+1700 3 1 60 2342032 Monday
+1900 2 28 59 2415079 Wednesday
+1969 12 31 365 2440587 Wednesday
+1970 1 1 1 2440588 Thursday
+2000 2 29 60 2451604 Tuesday
+2000 12 31 366 2451910 Sunday
+2023 12 31 365 2460310 Sunday
+2024 12 30 365 2460675 Monday
+2100 3 1 60 2488129 Monday
+9996 12 31 366 5372389 Tuesday
+9999 12 31 365 5373484 Friday
+";
+
+struct Row {
+    year: i32,
+    ordinal: u16,
+    julian_day: i32,
+    weekday: Weekday,
+    date: Date,
+}
+
+fn read_row(line: &str) -> Option<Row> {
+    let mut words = line.split_whitespace();
+    let year = words.next()?.parse::<i32>().ok()?;
+    let month = Month::try_from(words.next()?.parse::<u8>().ok()?).ok()?;
+    let date = Date::from_calendar_date(year, month, words.next()?.parse::<u8>().ok()?).ok()?;
+    Some(Row {
+        year,
+        ordinal: words.next()?.parse::<u16>().ok()?,
+        julian_day: words.next()?.parse::<i32>().ok()?,
+        weekday: words.next()?.parse::<Weekday>().ok()?,
+        date,
+    })
+}
+
+#[test]
+fn counts_the_days_of_dates(rt: HostRuntime) {
+    let mut read = 0;
+    for line in DATES.lines() {
+        if let Some(row) = read_row(line) {
+            let date = row.date;
+            assert_eq!(rt; date.to_ordinal_date(), (row.year, row.ordinal), "{line}");
+            assert_eq!(rt;
+                Date::from_ordinal_date(row.year, row.ordinal),
+                Ok(date),
+                "{line}"
+            );
+            assert_eq!(rt; date.to_julian_day(), row.julian_day, "{line}");
+            assert_eq!(rt; Date::from_julian_day(row.julian_day), Ok(date), "{line}");
+            assert_eq!(rt; date.weekday(), row.weekday, "{line}");
+            read += 1;
+        }
+    }
+    assert_eq!(rt; read, DATES.lines().count());
+    assert_eq!(rt; Date::from_ordinal_date(2023, 366), Err(ComponentRange));
+    assert_eq!(rt; Date::from_ordinal_date(2024, 0), Err(ComponentRange));
+    assert_eq!(rt; Date::from_ordinal_date(10_000, 1), Err(ComponentRange));
+    assert_eq!(rt; Date::from_julian_day(-1_931_000), Err(ComponentRange));
+    assert_eq!(rt; Date::from_julian_day(5_373_485), Err(ComponentRange));
+    assert_eq!(rt; Date::from_julian_day(i32::MIN), Err(ComponentRange));
+    assert_eq!(rt; Date::MAX.ordinal(), 365);
+}
+
+#[test]
+fn moves_dates_by_whole_days(rt: HostRuntime) {
+    let epoch = OffsetDateTime::UNIX_EPOCH.date();
+    for (nanos, after, before) in [
+        (86_400_000_000_000, Some(2_440_589), Some(2_440_587)),
+        (86_399_999_999_999, Some(2_440_588), Some(2_440_588)),
+        (-86_399_999_999_999, Some(2_440_588), Some(2_440_588)),
+        (-86_400_000_000_000, Some(2_440_587), Some(2_440_589)),
+        (
+            2_932_896 * 86_400_000_000_000,
+            Some(5_373_484),
+            Some(-492_308),
+        ),
+        (2_932_897 * 86_400_000_000_000, None, Some(-492_309)),
+        (-4_371_588 * 86_400_000_000_000, None, None),
+    ] {
+        if let Some(length) = SignedDuration::from_whole_nanoseconds(nanos) {
+            let later = epoch.checked_add(length);
+            assert_eq!(rt; later.map(|date| date.to_julian_day()), after, "{nanos}");
+            let earlier = epoch.checked_sub(length);
+            assert_eq!(rt; earlier.map(|date| date.to_julian_day()), before, "{nanos}");
+        }
+    }
+}
+
+#[test]
+fn tells_instants_apart(rt: HostRuntime) {
+    for (nanos, seconds) in [
+        (-1, -1),
+        (-1_000_000_000, -1),
+        (999_999_999, 0),
+        (1_000_000_000, 1),
+    ] {
+        let value = OffsetDateTime::from_unix_timestamp_nanos(nanos);
+        assert_eq!(rt; value.map(|value| value.unix_timestamp()), Ok(seconds));
+        assert_eq!(rt; value.map(|value| value.unix_timestamp_nanos()), Ok(nanos));
+        let utc = UtcDateTime::from_unix_timestamp_nanos(nanos);
+        assert_eq!(rt; utc.map(|utc| utc.unix_timestamp()), Ok(seconds));
+        assert_eq!(rt;
+            utc.map(|utc| utc.to_offset(UtcOffset::UTC)),
+            value.map(Some)
+        );
+    }
+    assert_eq!(rt;
+        OffsetDateTime::from_unix_timestamp(253_402_300_800),
+        Err(ComponentRange)
+    );
+    assert_eq!(rt;
+        UtcDateTime::from_unix_timestamp(-377_705_116_801),
+        Err(ComponentRange)
+    );
+    let epoch = OffsetDateTime::from_unix_timestamp(0);
+    assert_eq!(rt; epoch, Ok(OffsetDateTime::UNIX_EPOCH));
+    assert_eq!(rt;
+        UtcDateTime::new(Date::MIN, Time::MIDNIGHT).unix_timestamp(),
+        -377_705_116_800
+    );
+    let early = Timestamp::from_milliseconds(-5001);
+    assert_eq!(rt;
+        early.map(|early| early.as_nanoseconds()),
+        Ok(-5_001_000_000)
+    );
+    assert_eq!(rt; Timestamp::new(-6, 999_000_000), early);
+    assert_eq!(rt; Timestamp::new(0, 1_000_000_000), Err(ComponentRange));
+    assert_eq!(rt; Timestamp::from_seconds(0), Ok(Timestamp::UNIX_EPOCH));
+    assert_eq!(rt;
+        Timestamp::from_nanoseconds(253_402_300_800_000_000_000),
+        Err(ComponentRange)
+    );
+    assert_eq!(rt; early.map(|early| early < Timestamp::UNIX_EPOCH), Ok(true));
+    assert_eq!(rt;
+        early.map(|early| hash_of(&early)),
+        Timestamp::new(-6, 999_000_000).map(|same| hash_of(&same))
+    );
 }

@@ -1,6 +1,6 @@
 //! Offsets from UTC.
-ghost use Rattle.std.specs.Prelude.{◌≡◌, ◌↔◌, pos, ◌*ℤ◌, ◌<ℤ◌, ◌<◌, ◌^◌, int_div, int_rem, IsTrue, IsOk, IfOk};
-ghost use Rattle.civil_base.specs.Ranges.{IsOffset};
+ghost use Rattle.std.specs.Prelude.{◌≡◌, ◌↔◌, pos, ◌*ℤ◌, ◌<ℤ◌, ◌<◌, ◌^◌, int_div, int_rem, IsTrue, IsOk, IfOk, is_ok};
+ghost use Rattle.civil_base.specs.Ranges.{is_offset, IsOffset};
 ghost use Rattle.civil_base.specs.Offsets.{offset_at, signed_by, IsOffsetParts};
 ghost use Rattle.civil_base.specs.Offsets.{is_first_negative as leads_negative};
 
@@ -26,6 +26,7 @@ impl Model for UtcOffset {
     ghost inverse = { λ seconds. record { seconds = seconds } };
 }
 
+#[tactic(auto, using(crate::specs::RangeLaws::ranges))]
 impl UtcOffset {
     /// No offset.
     pub const UTC: UtcOffset = UtcOffset { seconds: 0 };
@@ -52,13 +53,14 @@ impl UtcOffset {
 
     /// The offset of that many seconds. It is refused exactly past 93,599 seconds in size.
     pub fn from_whole_seconds(seconds: i32) -> Result<UtcOffset, ComponentRange>
-        ensures accepts { IsOk result ↔ IsOffset seconds }
+        ensures accepts { is_ok result ≡ is_offset seconds }
         ensures value { IfOk result (λ offset. offset ≡ seconds) }
     {
-        if seconds < -93_599 || seconds > 93_599 {
-            return Err(ComponentRange);
+        if is_offset(seconds) {
+            Ok(UtcOffset { seconds })
+        } else {
+            Err(ComponentRange)
         }
-        Ok(UtcOffset { seconds })
     }
 
     /// The seconds, from -93,599 to 93,599.
@@ -131,6 +133,14 @@ impl UtcOffset {
     {
         self.seconds < 0
     }
+}
+
+// Whether an offset has so many seconds.
+#[tactic(auto, unfolding(crate::specs::Ranges::is_offset))]
+fn is_offset(seconds: i32) -> bool
+    ensures { result ≡ is_offset seconds }
+{
+    seconds.unsigned_abs() <= 93_599
 }
 
 // Whether the first part that isn't 0 is negative.

@@ -1,6 +1,7 @@
 //! The texts of local times and of instants with an offset.
-ghost use Rattle.std.specs.Prelude.{◌≡◌, ℤ, ◌+◌, ◌<◌, ◌≤◌, [], ◌∷◌, ◌++◌, length, take, pos, ◌+ℤ◌, ◌*ℤ◌, int_lt, if◌then◌else◌};
+ghost use Rattle.std.specs.Prelude.{◌≡◌, ℤ, ◌+◌, ◌<◌, ◌≤◌, [], ◌∷◌, ◌++◌, length, take, pos, int_lt, if◌then◌else◌};
 ghost use Rattle.civil_base.specs.DateTimes.{instant, offset_of};
+ghost use Rattle.civil_base.specs.Instants.{local_at};
 ghost use Rattle.civil_base.specs.Layout.{local_text, zoned_text, offset_text, year_sign, four_digits, two_digits, nine_digits};
 ghost use Rattle.civil_base.specs.Layout.{digit as digit_of};
 ghost use Rattle.civil_base.specs.Clock.{hour_of, minute_of, second_of};
@@ -30,11 +31,11 @@ pub fn write_zoned(value: &OffsetDateTime, into: &mut [u8; 40]) -> usize
     ensures bound { result ≤ 40 }
 
     // Each value is in its ranges.
-    ensures years { IsInYears (instant value.now +ℤ pos 1000000000 *ℤ offset_of value.now) }
+    ensures years { IsInYears (local_at (instant value.now) (offset_of value.now)) }
     ensures offset { IsOffset (offset_of value.now) }
 
     // No other value has this text.
-    ensures only { (t o : ℤ) → IsInYears (t +ℤ pos 1000000000 *ℤ o) → IsOffset o
+    ensures only { (t o : ℤ) → IsInYears (local_at t o) → IsOffset o
         → zoned_text t o ≡ zoned_text (instant value.now) (offset_of value.now)
         → (t ≡ instant value.now) × (o ≡ offset_of value.now) }
 {

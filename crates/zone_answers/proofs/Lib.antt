@@ -3,7 +3,6 @@ pub mod RequestLemmas
 pub mod AnswerLemmas
 pub mod FaultLemmas
 pub mod JoinLemmas
-pub mod DateLemmas
 pub mod AnsweringLemmas
 pub mod ResponseLemmas
 pub mod LocalLemmas

@@ -1,23 +1,22 @@
 -- Over valid input each line is a text that is read back.
-use Rattle.std.proofs.Common.{◌≡◌, ℕ, zero, suc, ◌≤◌, Bool, true, false, ◌&&◌, cond, List, [], ◌∷◌, length, map, Option, Some, None, option_map, refl, sym, arith, ℤ, pos, ◌+ℤ◌, ◌-ℤ◌, ◌*ℤ◌, unsigned_abs}
+use Rattle.std.proofs.Common.{◌≡◌, ℕ, zero, suc, Bool, true, false, ◌&&◌, cond, List, [], ◌∷◌, length, map, Option, Some, None, option_map, refl, sym, arith, ℤ, pos, ◌+ℤ◌, ◌-ℤ◌, ◌*ℤ◌}
 use Rattle.std.specs.Prelude.{All, bytes_eq, codes, nat_lt}
 use Rattle.std.specs.List.{before_first, after_first}
 use Rattle.std.specs.Option.{option_or, option_map_or}
 use Rattle.std.specs.Str.{is_utf8}
-use Rattle.std.proofs.lemmas.Bool.{and_parts, leb-true}
+use Rattle.std.proofs.lemmas.Bool.{and_parts}
 use Rattle.std.proofs.lemmas.Option.{none-some}
 use Rattle.calendar.specs.Signs.{signed}
-use Rattle.civil_base.specs.Ranges.{IsOffset}
+use Rattle.civil_base.specs.Ranges.{is_in_years, is_offset}
 use Rattle.zone_table.specs.declared.zone.ZoneInfo.{ZoneInfo}
 use Rattle.zone_answers.specs.Lines.{lines_of}
-use Rattle.zone_answers.specs.LocalTimes.{is_in_years, is_text_of, time_with, local_time_in}
+use Rattle.civil_base.specs.LocalTimes.{is_text_of, time_with, local_time_in}
 use Rattle.zone_answers.specs.Requests.{Request, at, local, name_of, is_space, nanoseconds_in, request_of}
-use Rattle.zone_answers.specs.Schedules.{fixed, schedule_of, total_of, total_at, is_offset}
+use Rattle.zone_answers.specs.Schedules.{fixed, schedule_of, total_of, total_at}
 use Rattle.zone_answers.specs.Zones.{zone_in}
 use Rattle.zone_answers.specs.Faults.{Fault, request_not_text, bad_request, unknown_zone, offset_range, range, has_dates, schedule_refusal, zone_refusal, request_refusal, first_refused, source_fault, fault, IsValid}
 use Rattle.zone_answers.specs.Due.{answer_at, answer_to, answer_line, answer_lines}
 use Rattle.zone_answers.specs.ReadBack.{IsReadBack}
-use Rattle.zone_answers.proofs.DateLemmas.{years_from}
 use Rattle.zone_answers.proofs.LocalLemmas.{fixed_line}
 
 -- the local time of a request lies in the years
@@ -63,11 +62,6 @@ request_years line = by_name (nat_lt 0 (length name))
     by_name true = by_word (bytes_eq (before_first is_space line) (codes "at")) (bytes_eq (before_first is_space line) (codes "local"))
     by_name false = tt
 
-in_range : (o : ℤ) → is_offset o ≡ true → IsOffset o
-in_range o is =
-    let small : unsigned_abs o ≤ 93599 = leb-true _ _ is in
-    record { first = omega (arith, signed, small); last = omega (arith, signed, small) }
-
 -- the answer to a request that a zone of this offset doesn't refuse
 at_zone : (n : ℕ) (request : Request) (o : ℤ) → HasYears (Some request) → schedule_refusal n request (fixed o) ≡ None → IsReadBack (answer_at (fixed o) request)
 unfolding HasYears total_at
@@ -77,14 +71,14 @@ at_zone n request o years accepted = by_range (is_offset o) refl accepted
     by_dates request false is dates years refused = absurd (none-some _ (sym refused))
     by_dates (at name instant) true is dates years accepted_is =
         let both = and_parts (is_in_years instant) _ dates in
-        record { instant = instant; offset = o; years = years_from _ both.1; range = in_range o is; text_is = refl }
+        record { instant = instant; offset = o; years = both.1; range = is; text_is = refl }
     by_dates (local name time) true is dates years accepted_is =
         let back : (time -ℤ pos 1000000000 *ℤ o) +ℤ pos 1000000000 *ℤ o ≡ time = omega (arith, signed) in
         record {
           instant = time -ℤ pos 1000000000 *ℤ o;
           offset = o;
-          years = rw back (years_from _ years);
-          range = in_range o is;
+          years = rw back years;
+          range = is;
           text_is = sym (fixed_line o time (time -ℤ pos 1000000000 *ℤ o) o is refl refl);
         }
 

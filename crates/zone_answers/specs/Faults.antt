@@ -10,7 +10,7 @@ use Rattle.zone_table.specs.declared.zone.ZoneInfo.{ZoneInfo}
 use Rattle.zone_answers.specs.declared.error.BuildKind.{BuildKind}
 use Rattle.zone_answers.specs.declared.error.BuildKind.TheVariants.{SurpriseContinuationLine, UnknownRuleset, DuplicateLink, DuplicateZone}
 use Rattle.zone_answers.specs.Lines.{lines_of}
-use Rattle.zone_answers.specs.LocalTimes.{is_in_years}
+use Rattle.civil_base.specs.Ranges.{is_in_years}
 use Rattle.zone_answers.specs.Requests.{Request, at, local, name_of, request_of}
 use Rattle.zone_answers.specs.Schedules.{Schedule, schedule_of, total_at, is_in_offset_range}
 use Rattle.zone_answers.specs.Zones.{source_value, zone_in}

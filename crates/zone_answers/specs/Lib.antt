@@ -1,6 +1,5 @@
 pub mod Lines
 pub mod LinesLeft
-pub mod LocalTimes
 pub mod Requests
 pub mod Asked
 pub mod Zones

@@ -2,11 +2,11 @@
 ghost use Rattle.std.specs.Prelude.{◌≡◌, ◌≤◌, true, false, ◌&&◌, None, Some, pos, ◌+ℤ◌, ◌*ℤ◌, length, take, map, IfOk, IfErr, OnOk, IfSome, IfNone, IsSome, All};
 ghost use Rattle.civil_base.specs.DateTimes.{instant, offset_of};
 ghost use Rattle.civil_base.specs.Layout.{zoned_text};
+ghost use Rattle.civil_base.specs.Ranges.{is_in_years, is_offset};
 ghost use Rattle.zone_answers.specs.Due.{answer_at, local_line, answer_line, answer_lines};
 ghost use Rattle.zone_answers.specs.Faults.{IsValid, fault, first_refused, request_refusal, has_dates};
-ghost use Rattle.zone_answers.specs.LocalTimes.{is_in_years};
 ghost use Rattle.zone_answers.specs.Lines.{lines_of};
-ghost use Rattle.zone_answers.specs.Schedules.{is_offset, fixed};
+ghost use Rattle.zone_answers.specs.Schedules.{fixed};
 ghost use Rattle.zone_answers.specs.ReadBack.{IsReadBack};
 ghost use Rattle.zone_answers.specs.Told.{fault_told, TellsOf};
 ghost use Rattle.zone_table.specs.BoundedTables.{IsBoundedTable};
@@ -95,6 +95,7 @@ fn answer(
 }
 
 /// The offset of that many seconds, if it is less than 26 hours in size.
+#[tactic(auto, unfolding(civil_base::specs::Ranges::is_offset))]
 fn utc_offset(seconds: i64) -> Option<UtcOffset>
     ensures some { IfSome result (λ offset. (offset ≡ seconds) × (is_offset seconds ≡ true)) }
     ensures none { IfNone result (is_offset seconds ≡ false) }

@@ -2,7 +2,7 @@
 ghost use Rattle.std.specs.Prelude.{◌≡◌, option_map};
 ghost use Rattle.std.specs.Char.{is_digit};
 ghost use Rattle.std.specs.List.{before_first, after_first, list_all};
-ghost use Rattle.zone_answers.specs.LocalTimes.{local_time_in};
+ghost use Rattle.civil_base.specs.LocalTimes.{local_time_in};
 ghost use Rattle.zone_answers.specs.Requests.{request_of, nanoseconds_in, is_number, is_space, name_of, without_minus};
 
 use civil_base::{PlainDateTime, read_local};

@@ -1,27 +1,19 @@
-use Rattle.std.proofs.Common.{arith, ◌≡◌, ℕ, ◌+◌, ◌-◌, ℤ, pos, neg_ℤ, ◌+ℤ◌, ◌≤ℤ◌, to_z-of_z, ap, ◌∙◌, unsigned_abs}
-use Rattle.calendar.specs.Days.{day as date_day, days_through, IsCountedYear}
-use Rattle.calendar.specs.Signs.{signed, signed_casts}
-use Rattle.calendar.specs.YearLaws.{day-cycle}
-use Rattle.calendar.specs.DateLaws.{place_of, day-range, day-between}
-use Rattle.calendar.specs.MonthLaws.{days_through-two}
+use Rattle.std.proofs.Common.{arith, ◌≡◌, ◌-◌, pos, neg_ℤ, ◌+ℤ◌, ◌≤ℤ◌, to_z-of_z, ap, ◌∙◌}
+use Rattle.calendar.specs.Days.{day as date_day, days_through, days_into_year}
+use Rattle.calendar.specs.Signs.{signed_casts}
+use Rattle.calendar.specs.DateLaws.{day-into_year, day-range, day-between}
 use Rattle.calendar.proofs.days.day_number.Goals as goal
-
--- a date lies as far past its year's first day as the days before its month and before it in that say
-from_first : (y : ℤ) (m d : ℕ) → IsCountedYear y → date_day y m d ≡ date_day y 1 1 +ℤ pos (days_through y (m - 1) + (d - 1))
-from_first y m d years =
-    let n = unsigned_abs (y +ℤ pos 11999) in
-    let here = place_of y years in
-    omega (arith, signed, day-cycle y m d n here, day-cycle y 1 1 n here, days_through-two y)
 
 abbrev Sum : goal.After-from-2 → Type 0
 Sum c = c.first_day_of.result +ℤ c.from-2.result ≡ date_day c.args.year c.args.month c.args.day
 
 sum_is : (c : goal.After-from-2) → Sum c
+unfolding days_into_year
 sum_is c =
     let year = to_z-of_z c.ranges.year in
     let first = c.first_day_of.ensures.value ∙ ap (λ y. date_day y 1 1) year in
     let months = c.days_before_month.ensures.value ∙ ap (λ y. days_through y (c.args.month - 1)) year in
-    omega (arith, signed_casts, from_first c.args.year c.args.month c.args.day c.requires.year, first, months)
+    omega (arith, signed_casts, day-into_year c.args.year c.args.month c.args.day c.requires.year, first, months)
 
 range_is : (c : goal.After-from-2) → (neg_ℤ (pos 4371953) ≤ℤ date_day c.args.year c.args.month c.args.day) ×
     (date_day c.args.year c.args.month c.args.day ≤ℤ pos 2933262)

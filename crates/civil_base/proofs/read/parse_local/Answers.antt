@@ -1,6 +1,7 @@
-use Rattle.std.proofs.Common.{arith, ◌≡◌, ℕ, ◌++◌, ◌∷◌, List, length, take, Bool, true, false, ℤ, pos, ◌+ℤ◌, ◌*ℤ◌, ◌≤ℤ◌, ◌<ℤ◌, sym, ap, ◌∙◌}
+use Rattle.std.proofs.Common.{◌≡◌, ℕ, ◌++◌, ◌∷◌, List, length, take, Bool, true, false, ℤ, pos, ◌+ℤ◌, ◌*ℤ◌, sym, ap, ◌∙◌}
 use Rattle.std.proofs.Common.{drop, get_or, Some, int_lt, ◌≢◌}
-use Rattle.std.proofs.lemmas.Int.{ints, by_lt_z}
+use Rattle.std.proofs.lemmas.Int.{by_lt_z}
+use Rattle.calendar.specs.Orders.{lt_pass, lt_fail}
 use Rattle.calendar.specs.Dates.{year_of}
 use Rattle.civil_base.specs.Clock.{nanos_per_day}
 use Rattle.civil_base.specs.Layout.{local_text, day_part, time_part}
@@ -13,22 +14,16 @@ use Rattle.civil_base.proofs.read.parse_local.Goals as goal
 abbrev Splits : ℤ → Bool → List ℕ → Type 0
 Splits x negative rest = (int_lt (year_of (day_part x)) (pos 0) ≡ negative) × (rest ≡ unsigned_text x)
 
-below : (y : ℤ) → y <ℤ pos 0 → int_lt y (pos 0) ≡ true
-below y h = grind (arith, ints)
-
-not_below : (y : ℤ) → pos 0 ≤ℤ y → int_lt y (pos 0) ≡ false
-not_below y h = grind (arith, ints)
-
 splits : (x : ℤ) (bytes rest : List ℕ) (negative : Bool) → local_text x ≡ bytes → ((r : List ℕ) → bytes ≡ 45 ∷ r → (negative ≡ true) × (rest ≡ r)) → (get_or bytes 0 0 ≢ 45 → (negative ≡ false) × (rest ≡ bytes)) → Splits x negative rest
 splits x bytes rest negative text minus none =
     let y = year_of (day_part x) in
     let pieces = sym text ∙ local_text-sign x in
     by_lt_z y (pos 0)
     (λ lt. let found = minus (unsigned_text x) (pieces ∙ ap (λ s. s ++ unsigned_text x) (year_sign-negative y lt)) in
-    (below y lt ∙ sym found.0, found.1))
+    (lt_pass y (pos 0) lt ∙ sym found.0, found.1))
     (λ le. let whole = pieces ∙ ap (λ s. s ++ unsigned_text x) (year_sign-other y le) in
     let found = none (λ e. (unsigned_text-shape x).3 (ap (λ l. get_or l 0 0) (sym whole) ∙ e)) in
-    (not_below y le ∙ sym found.0, found.1 ∙ whole))
+    (lt_fail y (pos 0) le ∙ sym found.0, found.1 ∙ whole))
 
 pub returns-then-unsigned-ne29 : goal.returns-then-unsigned-ne29
 returns-then-unsigned-ne29 c = record {

@@ -1,8 +1,7 @@
-use Rattle.std.proofs.Common.{rules, arith, ◌≡◌, ◌≤◌, ◌+◌, ◌-◌, ◌*◌, ◌/◌, ◌%◌, length, take, nat_eq, pos, to_z-of_z, FitsSigned, w32, ap, ◌∙◌, unsigned_abs}
-use Rattle.calendar.specs.Signs.{signed}
+use Rattle.std.proofs.Common.{rules, arith, ◌≡◌, ◌+◌, ◌-◌, ◌*◌, ◌/◌, ◌%◌, length, take, nat_eq, pos, to_z-of_z, FitsSigned, w32, ap, ◌∙◌, unsigned_abs}
 use Rattle.std.proofs.Common.{drop, get_or, int_lt}
-use Rattle.calendar.specs.Signs.{one_sided}
 use Rattle.civil_base.specs.Layout.{offset_text}
+use Rattle.civil_base.specs.RangeLaws.{offset_size}
 use Rattle.civil_base.specs.Offsets.{signed_by}
 use Rattle.civil_base.proofs.OffsetLemmas.{signed_by-size, minus_is}
 use Rattle.civil_base.proofs.FoundLemmas.{result_ok-found}
@@ -13,7 +12,7 @@ unfolding offset_text
 returns c = record {
   found = λ o within text.
       let size = unsigned_abs o in
-      let small : size ≤ 93599 = omega (arith, signed, one_sided o) in
+      let small = offset_size o within in
       let hours = c.two-hours.ensures.value (size / 3600) (omega arith) (ap (λ l. take 2 (drop 2 l)) text) in
       let minutes = c.two-minutes.ensures.value (size / 60 % 60) (omega arith) (ap (λ l. take 2 (drop 5 l)) text) in
       let seconds = c.two-seconds.ensures.value (size % 60) (omega arith) (ap (λ l. take (length l - 8) (drop 8 l)) text) in
@@ -22,5 +21,5 @@ returns c = record {
       let value = c.signed.ensures ∙ ap (λ t. signed_by t ((c.from.result * 60 + c.from-2.result) * 60 + c.from-3.result)) sign ∙ ap (signed_by (int_lt o (pos 0))) whole ∙ signed_by-size o in
       let f : FitsSigned w32 c.signed.result = search rules in
       let made = rw (to_z-of_z f, value) at c.from_whole_seconds.ensures in
-      c.ok.ensures.value ∙ result_ok-found c.from_whole_seconds.result o (made.accepts.1 within) made.value;
+      c.ok.ensures.value ∙ result_ok-found c.from_whole_seconds.result o (made.accepts ∙ within) made.value;
 }

@@ -1,7 +1,8 @@
-use Rattle.std.proofs.Common.{arith, ◌≡◌, ◌≤◌, ℕ, ◌-◌, ◌∷◌, List, length, take, ℤ, pos, ◌+ℤ◌, ◌*ℤ◌, sym, ap, ◌∙◌}
+use Rattle.std.proofs.Common.{arith, ◌≡◌, ◌≤◌, ℕ, ◌-◌, ◌∷◌, List, length, take, ℤ, sym, ap, ◌∙◌}
 use Rattle.calendar.specs.Signs.{signed}
 use Rattle.std.proofs.Common.{drop, length-append}
 use Rattle.std.proofs.lemmas.List.{take_at, drop_at}
+use Rattle.civil_base.specs.Instants.{local_at}
 use Rattle.civil_base.specs.Layout.{local_text, offset_text, zoned_text}
 use Rattle.civil_base.proofs.FoundLemmas.{not_none, same_some}
 use Rattle.civil_base.proofs.DateTimeLemmas.{instant-parts}
@@ -11,13 +12,13 @@ use Rattle.civil_base.proofs.read.parse_zoned.Goals as goal
 -- the two parts of a zoned text
 record IsSplit (t o : ℤ) (bytes : List ℕ) : Type 0 where
   pub enough : 10 ≤ length bytes
-  pub front : take (length bytes - 10) bytes ≡ local_text (t +ℤ pos 1000000000 *ℤ o)
+  pub front : take (length bytes - 10) bytes ≡ local_text (local_at t o)
   pub back : drop (length bytes - 10) bytes ≡ 32 ∷ offset_text o
 
 split : (t o : ℤ) (bytes : List ℕ) → zoned_text t o ≡ bytes → IsSplit t o bytes
 unfolding zoned_text
 split t o bytes text =
-    let local = local_text (t +ℤ pos 1000000000 *ℤ o) in
+    let local = local_text (local_at t o) in
     let offset = 32 ∷ offset_text o in
     let long = sym (ap length text) ∙ length-append local offset in
     let tail = offset_text-length o in
@@ -39,8 +40,8 @@ pub returns-in_err-local : goal.returns-in_err-local
 returns-in_err-local c = record {
   found = λ t o years offset text.
       let parts = split t o c.args.bytes.now text in
-      let local = c.parse_local.ensures.found (t +ℤ pos 1000000000 *ℤ o) years (sym (c.split_at.ensures.front ∙ parts.front)) in
-      absurd (not_none c.parse_local.result (t +ℤ pos 1000000000 *ℤ o) local c.in_err-local.was);
+      let local = c.parse_local.ensures.found (local_at t o) years (sym (c.split_at.ensures.front ∙ parts.front)) in
+      absurd (not_none c.parse_local.result (local_at t o) local c.in_err-local.was);
 }
 
 pub returns-in_err-offset : goal.returns-in_err-offset
@@ -55,7 +56,7 @@ pub returns : goal.returns
 returns c = record {
   found = λ t o years offset text.
       let parts = split t o c.args.bytes.now text in
-      let local = same_some c.parse_local.result c.in_ok-local.local (t +ℤ pos 1000000000 *ℤ o) c.in_ok-local.was (c.parse_local.ensures.found (t +ℤ pos 1000000000 *ℤ o) years (sym (c.split_at.ensures.front ∙ parts.front))) in
+      let local = same_some c.parse_local.result c.in_ok-local.local (local_at t o) c.in_ok-local.was (c.parse_local.ensures.found (local_at t o) years (sym (c.split_at.ensures.front ∙ parts.front))) in
       let moved = same_some c.parse_offset.result c.in_ok-offset.offset o c.in_ok-offset.was (c.parse_offset.ensures.found o offset (c.split_at.ensures.back ∙ parts.back)) in
       let value = c.assume_offset.result in
       let its_offset = c.assume_offset.ensures.offset ∙ moved in

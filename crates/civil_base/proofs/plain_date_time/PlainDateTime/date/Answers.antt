@@ -3,6 +3,7 @@ use Rattle.calendar.specs.Signs.{signed_casts}
 use Rattle.civil_base.specs.Layout.{day_part}
 use Rattle.civil_base.specs.Ranges.{IsDay}
 use Rattle.civil_base.proofs.PartLemmas.{day_part-blocks, day_part-inside}
+use Rattle.civil_base.specs.RangeLaws.{years_begin, years_end}
 use Rattle.civil_base.proofs.plain_date_time.PlainDateTime.date.Goals as goal
 
 -- the day number that the code subtracts to
@@ -15,3 +16,21 @@ returns-clause-value c =
     let blocks = c.blocks-blocks in
     let at = day_part-blocks x blocks.result.0 blocks.result.1 blocks.ensures.sum blocks.ensures.rest in
     c.at_day.ensures ∙ kept (blocks.result.0 / 1318359375) (day_part x) (day_part-inside x blocks.ensures.years) at
+
+pub overflow_cast-blocks : goal.overflow_cast-blocks
+overflow_cast-blocks c =
+    let x = c.args.self in
+    omega (arith, signed_casts, c.blocks-blocks.ensures.sum, years_begin x c.blocks-blocks.ensures.years, years_end x c.blocks-blocks.ensures.years)
+
+pub overflow_sub-blocks : goal.overflow_sub-blocks
+overflow_sub-blocks c =
+    let x = c.args.self in
+    omega (arith, signed_casts, c.blocks-blocks.ensures.sum, years_begin x c.blocks-blocks.ensures.years, years_end x c.blocks-blocks.ensures.years)
+
+pub at_day-requires : goal.at_day-requires
+at_day-requires c =
+    let x = c.args.self in
+    let blocks = c.blocks-blocks in
+    let at = day_part-blocks x blocks.result.0 blocks.result.1 blocks.ensures.sum blocks.ensures.rest in
+    let inside = day_part-inside x blocks.ensures.years in
+    rw (kept (blocks.result.0 / 1318359375) (day_part x) inside at) inside

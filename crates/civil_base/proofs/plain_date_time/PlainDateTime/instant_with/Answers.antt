@@ -1,0 +1,34 @@
+use Rattle.std.proofs.Common.{arith, ◌≡◌, ◌≤◌, ◌*◌, ℤ, unsigned_abs}
+use Rattle.calendar.specs.Signs.{signed, signed_casts, one_sided}
+use Rattle.civil_base.specs.Instants.{instant_at}
+use Rattle.civil_base.specs.Ranges.{IsInYears, IsOffset, far_seconds}
+use Rattle.civil_base.specs.RangeLaws.{years_begin, years_end, offset_size}
+use Rattle.civil_base.proofs.plain_date_time.PlainDateTime.instant_with.Goals as goal
+
+pub overflow_sub-result : goal.overflow_sub-result
+overflow_sub-result c =
+    omega (
+      arith,
+      signed_casts,
+      years_begin c.nanos.result c.nanos.ensures.bound,
+      years_end c.nanos.result c.nanos.ensures.bound,
+      offset_size c.args.offset c.nanos-2.ensures.bound,
+    )
+
+pub returns-clause-value : goal.returns-clause-value
+returns-clause-value c =
+    omega (
+      arith,
+      signed_casts,
+      years_begin c.nanos.result c.nanos.ensures.bound,
+      years_end c.nanos.result c.nanos.ensures.bound,
+      offset_size c.args.offset c.nanos-2.ensures.bound,
+    )
+
+-- an instant that clocks show lies near the years
+near : (n x o : ℤ) → n ≡ instant_at x o → IsInYears x → IsOffset o → unsigned_abs n ≤ far_seconds * 1000000000
+near n x o e years small =
+    omega (arith, signed, one_sided n, years_begin x years, years_end x years, offset_size o small)
+
+pub returns-clause-bound : goal.returns-clause-bound
+returns-clause-bound c = near _ c.args.self c.args.offset (returns-clause-value c) (rw (← c.nanos.ensures.value) c.nanos.ensures.bound) c.nanos-2.ensures.bound

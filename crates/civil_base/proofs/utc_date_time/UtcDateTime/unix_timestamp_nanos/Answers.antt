@@ -1,0 +1,9 @@
+use Rattle.std.proofs.Common.{rules, to_z-of_z, FitsSigned}
+use mir.Syntax.{w128}
+use Rattle.civil_base.specs.RangeLaws.{years_near}
+use Rattle.civil_base.proofs.utc_date_time.UtcDateTime.unix_timestamp_nanos.Goals as goal
+
+pub returns-clause-bound : goal.returns-clause-bound
+returns-clause-bound c =
+    let fits : FitsSigned w128 c.self.inside.nanos = search rules in
+    rw (to_z-of_z fits) (years_near c.self.inside.nanos c.self.invariant)

@@ -1,0 +1,22 @@
+//! Seconds and nanoseconds from 1970-01-01 00:00:00 UTC.
+ghost use Rattle.std.specs.Prelude.{◌≡◌, ◌*◌, ◌≤◌, unsigned_abs};
+ghost use Rattle.civil_base.specs.Instants.{nanos_of, seconds_of};
+ghost use Rattle.civil_base.specs.Ranges.{far_seconds};
+
+const NANOS_PER_SECOND: i128 = 1_000_000_000;
+
+/// The nanoseconds of whole seconds.
+pub(crate) fn nanos_of(seconds: i64) -> i128
+    ensures { result ≡ nanos_of seconds }
+{
+    i128::from(seconds) * NANOS_PER_SECOND
+}
+
+/// The whole seconds of the nanoseconds of an instant, rounded down.
+pub(crate) fn seconds_of(nanos: i128) -> i64
+    requires { unsigned_abs nanos ≤ far_seconds * 1000000000 }
+    ensures value { result ≡ seconds_of nanos }
+    ensures bound { unsigned_abs result ≤ far_seconds }
+{
+    nanos.div_euclid(NANOS_PER_SECOND) as i64
+}
