@@ -1,0 +1,12 @@
+pub mod Needs
+pub mod Lines
+pub mod Windows
+pub mod Firings
+pub mod Fires
+pub mod Listing
+pub mod Entries
+pub mod Collapse
+pub mod Faults
+pub mod Compiled
+pub mod Bounds
+pub mod Schedules

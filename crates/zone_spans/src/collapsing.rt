@@ -1,0 +1,3 @@
+//! The collapse.
+use crate::span::FixedTimespanSet;
+pub fn collapse(set: &mut FixedTimespanSet) {}

@@ -1,0 +1,2 @@
+//! The spans of a table's zones.
+pub trait TableTransitions {}
