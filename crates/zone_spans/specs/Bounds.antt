@@ -2,6 +2,7 @@
 use Rattle.std.specs.Prelude.{◌≡◌, ℤ, pos, neg_ℤ, int_le, Bool, true, false, not, ◌&&◌, IsTrue, Option, Some, None}
 use Rattle.std.specs.List.{list_all}
 use Rattle.std.specs.Option.{option_map_or}
+use Rattle.zone_line.specs.Bounds.{are_small_seconds}
 use Rattle.zone_line.specs.Days.{named_day, is_in_year, has_day_number}
 use Rattle.zone_line.specs.Ends.{end_day, is_dated}
 use Rattle.zone_line.specs.declared.change.ChangeTime.{ChangeTime}
@@ -9,7 +10,8 @@ use Rattle.zone_table.specs.Bounds.{is_bounded_info, is_bounded_rule}
 use Rattle.zone_table.specs.Moments.{has_years}
 use Rattle.zone_table.specs.declared.rule.RuleInfo.{RuleInfo}
 use Rattle.zone_spans.specs.Entries.{Entry}
-use Rattle.zone_spans.specs.Faults.{ends_in_no_year, is_outside, leaves_year}
+use Rattle.zone_spans.specs.Faults.{ends_in_no_year, is_outside, lacks_years, leaves_year}
+use Rattle.zone_spans.specs.Firings.{Firing}
 use Rattle.zone_spans.specs.Lines.{Line}
 use Rattle.zone_spans.specs.declared.span.FixedTimespan.{FixedTimespan}
 use Rattle.zone_spans.specs.declared.span.FixedTimespanSet.{FixedTimespanSet}
@@ -23,6 +25,12 @@ is_bounded_span span = is_small span.utc_offset && is_small span.dst_offset
 
 abbrev pub is_bounded_entry : Entry → Bool
 is_bounded_entry e = is_small e.0 && is_bounded_span e.1
+
+abbrev pub is_bounded_firing : Firing → Bool
+is_bounded_firing f = is_small f.time && are_small_seconds f.rule.time_to_add
+
+abbrev pub is_start : Option ℤ → Bool
+is_start start = option_map_or is_small start true
 
 abbrev pub is_bounded : FixedTimespanSet → Bool
 is_bounded set = is_bounded_span set.first && list_all is_bounded_entry set.rest
@@ -51,5 +59,5 @@ can_fire year rule = is_bounded_rule rule && has_years rule && not (is_outside r
 pub record IsSound (line : Line) : Type 0 where
   pub bounded : IsTrue (is_bounded_line line)
   pub year : ends_in_no_year line ≡ false
-  pub years : IsTrue (list_all has_years line.rules)
+  pub years : lacks_years line ≡ false
   pub days : leaves_year line ≡ false

@@ -2,7 +2,7 @@
 use Rattle.std.specs.Prelude.{Bool, List, [], ◌∷◌, ◌++◌, map, find, Option, Some, None, option_map, ℤ, pos, ◌+ℤ◌, int_lt, if◌then◌else◌}
 use Rattle.std.specs.Ordering.{int_eq}
 use Rattle.zone_table.specs.Formats.{abbreviation}
-use Rattle.zone_spans.specs.Needs.{stable_sort}
+use Rattle.owned.specs.Sorted.{stable_sort}
 use Rattle.zone_spans.specs.Windows.{line_end}
 use Rattle.zone_spans.specs.Lines.{Line, is_ruled, fixed_saving}
 use Rattle.zone_spans.specs.Firings.{Firing, firings, last_saving}
@@ -39,15 +39,16 @@ abbrev pub at_start : Option ℤ → Option FixedTimespan → List Entry
 at_start (Some start) (Some span) = (start, span) ∷ []
 at_start _ _ = []
 
-abbrev pub start_span : Line → Option ℤ → Option FixedTimespan
-start_span line None = None
-start_span line (Some start) = option_map (span_of line) (start_firing start (firings line))
+-- the entry at the start of a ruled line with these firings
+abbrev pub start_entry : Line → Option ℤ → List Firing → List Entry
+start_entry line None fs = []
+start_entry line (Some start) fs = at_start (Some start) (option_map (span_of line) (start_firing start fs))
 
 -- of a line with that start: the firings that it lists, and then the entry at its start
 unfoldable pub entries_of : Line → Option ℤ → List Entry
 entries_of line start =
     if is_ruled line.info.saving
-    then map (entry_of line) (listed start (firings line)) ++ at_start start (start_span line start)
+    then map (entry_of line) (listed start (firings line)) ++ start_entry line start (firings line)
     else at_start start (Some (fixed_span line))
 
 -- where the next line starts

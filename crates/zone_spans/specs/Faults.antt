@@ -19,11 +19,17 @@ abbrev pub first_met : List (Bool × SpanFault) → Option SpanFault
 first_met [] = None
 first_met ((met, fault) ∷ others) = if met then Some fault else first_met others
 
+abbrev pub is_unknown : Rulesets → ZoneInfo → Bool
+is_unknown rulesets info = not (is_known rulesets info.saving)
+
 abbrev pub all_but_last : List ZoneInfo → List ZoneInfo
 all_but_last infos = take (length infos - 1) infos
 
 abbrev pub ends_in_no_year : Line → Bool
 ends_in_no_year line = option_map_or (λ end. not (is_dated_year (end_year end))) line.end false
+
+abbrev pub lacks_years : Line → Bool
+lacks_years line = not (list_all has_years line.rules)
 
 -- in one of the first n years from 1800 on
 unfoldable pub some_year : (ℤ → Bool) → ℕ → Bool
@@ -49,14 +55,24 @@ abbrev pub begins_ruled : List Line → Bool
 begins_ruled [] = true
 begins_ruled (line ∷ lines) = is_ruled line.info.saving
 
+-- the tests over all lines before anything is expanded, in their order
+unfoldable pub line_fault : List ZoneInfo → List Line → Option SpanFault
+line_fault infos lines = first_met (
+      (list_any (λ info. is_none info.end_time) (all_but_last infos), MissingUntil)
+      ∷ (list_any ends_in_no_year lines, YearRange)
+      ∷ (list_any lacks_years lines, RuleYears)
+      ∷ (list_any leaves_year lines, DayRange)
+      ∷ []
+    )
+
 unfoldable pub schedule_fault : Rulesets → List ZoneInfo → Option SpanFault
 schedule_fault rulesets infos =
     let lines = zone_lines rulesets infos in
     first_met (
-      (list_any (λ info. not (is_known rulesets info.saving)) infos, UnknownRuleset)
+      (list_any (is_unknown rulesets) infos, UnknownRuleset)
       ∷ (list_any (λ info. is_none info.end_time) (all_but_last infos), MissingUntil)
       ∷ (list_any ends_in_no_year lines, YearRange)
-      ∷ (list_any (λ line. not (list_all has_years line.rules)) lines, RuleYears)
+      ∷ (list_any lacks_years lines, RuleYears)
       ∷ (list_any leaves_year lines, DayRange)
       ∷ (begins_ruled lines && not (list_any is_standard (raw_entries lines)), NoStandardSpan)
       ∷ []

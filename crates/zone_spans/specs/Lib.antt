@@ -6,7 +6,9 @@ pub mod Fires
 pub mod Listing
 pub mod Entries
 pub mod Collapse
+pub mod Places
 pub mod Faults
+pub mod Causes
 pub mod Compiled
 pub mod Bounds
 pub mod Schedules

@@ -37,10 +37,13 @@ abbrev pub rules_named : Rulesets → Saving → List RuleInfo
 rules_named rulesets (Multiple name) = unwrap_or (rulesets name) []
 rules_named rulesets _ = []
 
-abbrev pub line_of : Rulesets → ZoneInfo → Option ChangeTime → Line
-line_of rulesets info end = record { info = info; rules = rules_named rulesets info.saving; end = end }
+-- the end of the first of these lines, where others follow
+abbrev pub end_before : List ZoneInfo → Option ChangeTime
+end_before [] = None
+end_before (info ∷ []) = None
+end_before (info ∷ next ∷ infos) = info.end_time
 
 unfoldable pub zone_lines : Rulesets → List ZoneInfo → List Line
 zone_lines rulesets [] = []
-zone_lines rulesets (info ∷ []) = line_of rulesets info None ∷ []
-zone_lines rulesets (info ∷ next ∷ infos) = line_of rulesets info info.end_time ∷ zone_lines rulesets (next ∷ infos)
+zone_lines rulesets (info ∷ infos) =
+    record { info = info; rules = rules_named rulesets info.saving; end = end_before (info ∷ infos) } ∷ zone_lines rulesets infos

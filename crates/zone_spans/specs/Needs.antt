@@ -1,5 +1,5 @@
 -- Stand-ins.
-use Rattle.std.specs.Prelude.{ℤ, ◌+ℤ◌, ◌-ℤ◌, Bool, cond, List, [], ◌∷◌}
+use Rattle.std.specs.Prelude.{ℤ, ◌+ℤ◌, ◌-ℤ◌}
 use Rattle.zone_line.specs.declared.time.TimeType.{TimeType}
 use Rattle.zone_line.specs.declared.time.TimeType.TheVariants.{Wall, Standard, UTC}
 use Rattle.zone_line.specs.declared.change.ChangeTime.{ChangeTime}
@@ -13,12 +13,3 @@ abbrev pub instant_of : TimeType → ℤ → ℤ → ℤ → ℤ
 instant_of UTC local utc_offset dst_offset = local
 instant_of Standard local utc_offset dst_offset = local -ℤ utc_offset
 instant_of Wall local utc_offset dst_offset = local -ℤ (utc_offset +ℤ dst_offset)
-
--- before the first element that it is not above
-unfoldable pub put_in : {X : Type 0} → (X → X → Bool) → X → List X → List X
-put_in lt x [] = x ∷ []
-put_in lt x (y ∷ ys) = cond (lt y x) (y ∷ put_in lt x ys) (x ∷ y ∷ ys)
-
-unfoldable pub stable_sort : {X : Type 0} → (X → X → Bool) → List X → List X
-stable_sort lt [] = []
-stable_sort lt (x ∷ xs) = put_in lt x (stable_sort lt xs)

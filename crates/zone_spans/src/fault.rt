@@ -7,7 +7,7 @@ ghost use Rattle.zone_line.specs.Ends.{end_day, end_year, is_dated_year};
 ghost use Rattle.zone_table.specs.Bounds.{is_bounded_rule};
 ghost use Rattle.zone_table.specs.Moments.{has_years};
 ghost use Rattle.zone_spans.specs.Bounds.{is_bounded_line};
-ghost use Rattle.zone_spans.specs.Faults.{all_but_last, ends_in_no_year, some_year, is_outside, ends_outside, leaves_year};
+ghost use Rattle.zone_spans.specs.Faults.{all_but_last, lacks_years, line_fault, ends_in_no_year, some_year, is_outside, ends_outside, leaves_year};
 
 use crate::line::Line;
 use crate::needs::{has_year, lies_in_its_year, lies_in_year};
@@ -46,14 +46,41 @@ impl From<AllocError> for SpanFault {
     }
 }
 
+/// The first fault that keeps known lines from being expanded.
+#[tactic(auto, unfolding(crate::specs::Faults::line_fault))]
+pub(crate) fn line_fault(infos: &[ZoneInfo], lines: &[Line<'_>]) -> Option<SpanFault>
+    requires { IsTrue (list_all is_bounded_line lines.now) }
+    ensures { result ≡ line_fault infos.now lines.now }
+{
+    if misses_end(infos) {
+        return Some(SpanFault::MissingUntil);
+    }
+    if some_ends_in_no_year(lines) {
+        return Some(SpanFault::YearRange);
+    }
+    if some_lacks_years(lines) {
+        return Some(SpanFault::RuleYears);
+    }
+    if some_leaves_year(lines) {
+        return Some(SpanFault::DayRange);
+    }
+    None
+}
+
 /// Whether a line other than the last has no end.
-pub(crate) fn misses_end(lines: &[ZoneInfo]) -> bool
+fn misses_end(lines: &[ZoneInfo]) -> bool
     ensures { result ≡ list_any (λ info. is_none info.end_time) (all_but_last lines.now) }
 {
     match lines.split_last() {
-        Some((_, others)) => others.iter().any(has_no_end),
+        Some((_, others)) => some_has_no_end(others),
         None => false,
     }
+}
+
+fn some_has_no_end(lines: &[ZoneInfo]) -> bool
+    ensures { result ≡ list_any (λ info. is_none info.end_time) lines.now }
+{
+    lines.iter().any(has_no_end)
 }
 
 fn has_no_end(line: &ZoneInfo) -> bool
@@ -62,8 +89,34 @@ fn has_no_end(line: &ZoneInfo) -> bool
     line.end_time.is_none()
 }
 
+fn some_ends_in_no_year(lines: &[Line<'_>]) -> bool
+    ensures { result ≡ list_any ends_in_no_year lines.now }
+{
+    lines.iter().any(ends_in_no_year)
+}
+
+fn some_lacks_years(lines: &[Line<'_>]) -> bool
+    ensures { result ≡ list_any lacks_years lines.now }
+{
+    lines.iter().any(lacks_years)
+}
+
+fn some_leaves_year(lines: &[Line<'_>]) -> bool
+    requires bounded { IsTrue (list_all is_bounded_line lines.now) }
+    requires year { list_any ends_in_no_year lines.now ≡ false }
+    requires years { list_any lacks_years lines.now ≡ false }
+    ensures { result ≡ list_any leaves_year lines.now }
+{
+    for line in lines {
+        if leaves_year(line) {
+            return true;
+        }
+    }
+    false
+}
+
 /// Whether a line's end is in no year from 1 to 9999.
-pub(crate) fn ends_in_no_year(line: &Line<'_>) -> bool
+fn ends_in_no_year(line: &Line<'_>) -> bool
     ensures { result ≡ ends_in_no_year line.now }
 {
     match line.end {
@@ -73,18 +126,24 @@ pub(crate) fn ends_in_no_year(line: &Line<'_>) -> bool
 }
 
 /// Whether a rule of the line has years that can't be compared.
-pub(crate) fn lacks_years(line: &Line<'_>) -> bool
-    ensures { result ≡ not (list_all has_years line.now.rules) }
+fn lacks_years(line: &Line<'_>) -> bool
+    ensures { result ≡ lacks_years line.now }
 {
-    !line.rules.iter().all(|rule| rule.has_years())
+    !have_years(line.rules)
+}
+
+fn have_years(rules: &[RuleInfo]) -> bool
+    ensures { result ≡ list_all has_years rules.now }
+{
+    rules.iter().all(|rule| rule.has_years())
 }
 
 /// Whether the day of the line's end lies in another year, or that of a rule in a year that the line expands.
 #[tactic(auto, unfolding(crate::specs::Faults::leaves_year))]
-pub(crate) fn leaves_year(line: &Line<'_>) -> bool
+fn leaves_year(line: &Line<'_>) -> bool
     requires bounded { IsTrue (is_bounded_line line.now) }
     requires year { ends_in_no_year line.now ≡ false }
-    requires years { IsTrue (list_all has_years line.now.rules) }
+    requires years { lacks_years line.now ≡ false }
     ensures { result ≡ leaves_year line.now }
 {
     if ends_outside(line.end) {

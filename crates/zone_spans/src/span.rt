@@ -1,10 +1,11 @@
 //! Spans of time in which an offset is in force.
-ghost use Rattle.std.specs.Prelude.{◌≡◌, IsTrue};
+ghost use Rattle.std.specs.Prelude.{◌≡◌, IfOk, IsTrue};
 ghost use Rattle.std.specs.List.{list_all};
 ghost use Rattle.zone_spans.specs.Bounds.{is_small, is_bounded_span, is_bounded_entry, is_bounded};
 ghost use Rattle.zone_spans.specs.Entries.{total};
 
 use owned::{Items, Text};
+use std::alloc::{AllocError, Global};
 
 /// What is in force for a time: an offset, a saving and a name.
 #[derive(Debug, Drop, PartialEq, Eq)]
@@ -35,6 +36,17 @@ impl FixedTimespan {
         self.utc_offset + self.dst_offset
     }
 
+    /// A copy.
+    pub(crate) fn copy(&self, alloc: Global) -> Result<FixedTimespan, AllocError>
+        ensures { IfOk result (λ copy. copy ≡ self.now) }
+    {
+        Ok(FixedTimespan {
+            utc_offset: self.utc_offset,
+            dst_offset: self.dst_offset,
+            name: Text::new(alloc, self.name.as_str())?,
+        })
+    }
+
     fn is_bounded(&self) -> bool
         ensures { result ≡ is_bounded_span self.now }
     {
@@ -47,8 +59,14 @@ impl FixedTimespanSet {
     pub fn is_bounded(&self) -> bool
         ensures { result ≡ is_bounded self.now }
     {
-        self.first.is_bounded() && self.rest.as_slice().iter().all(is_bounded_entry)
+        self.first.is_bounded() && are_bounded(self.rest.as_slice())
     }
+}
+
+fn are_bounded(entries: &[(i64, FixedTimespan)]) -> bool
+    ensures { result ≡ list_all is_bounded_entry entries.now }
+{
+    entries.iter().all(is_bounded_entry)
 }
 
 fn is_bounded_entry(entry: &(i64, FixedTimespan)) -> bool

@@ -3,7 +3,7 @@ ghost use Rattle.std.specs.Prelude.{◌≡◌, ◌<◌, ◌≤◌, ◌-◌, ◌�
 ghost use Rattle.std.specs.List.{IsFirstBest, list_all};
 ghost use Rattle.zone_line.specs.Bounds.{are_small_seconds};
 ghost use Rattle.zone_table.specs.Moments.{applies_to_year, has_years, moment};
-ghost use Rattle.zone_spans.specs.Bounds.{IsSound, can_fire, has_moment, is_end};
+ghost use Rattle.zone_spans.specs.Bounds.{IsSound, can_fire, has_moment, is_bounded_firing, is_end, is_small};
 ghost use Rattle.zone_spans.specs.Fires.{Fires, after};
 ghost use Rattle.zone_spans.specs.Firings.{firings_of_years, is_earlier, is_over, line_firings, year_firings, years_expanded};
 ghost use Rattle.zone_spans.specs.Windows.{line_end};
@@ -38,7 +38,8 @@ impl<'a> Applying<'a> {
         requires rule { IsTrue (has_moment year self.now) }
         requires offset { IsTrue (are_small_seconds offset) }
         requires saving { IsTrue (are_small_seconds saving) }
-        ensures { result ≡ moment self.now year offset saving }
+        ensures value { result ≡ moment self.now year offset saving }
+        ensures small { IsTrue (is_small result) }
     {
         self.rule.absolute_datetime(year, offset, saving)
     }
@@ -150,9 +151,11 @@ fn fire_year<'a>(
     requires end { IsTrue (is_end line.now.end) }
     requires offset { IsTrue (are_small_seconds line.now.info.offset) }
     requires saving { IsTrue (are_small_seconds saving) }
+    requires bounded { IsTrue (list_all is_bounded_firing fired.old.items) }
     ensures fired { IfOk result (λ last. Fires fired.new.items last
         (after fired.old.items (year_firings year line.now.info.offset line.now.end saving line.now.rules))) }
     ensures small { IfOk result (λ last. IsTrue (are_small_seconds last)) }
+    ensures bounded { IfOk result (λ _. IsTrue (list_all is_bounded_firing fired.new.items)) }
 {
     take_applying(left, line.rules, year)?;
     let offset = line.info.offset;
@@ -184,6 +187,7 @@ fn fire_years<'a>(alloc: Global, line: &Line<'a>) -> Result<LineFirings<'a>, All
     ensures fired { IfOk result (λ r. Fires r.fired.items r.last_saving
         (firings_of_years line.now.info.offset line.now.end line.now.rules (years_expanded line.now.end))) }
     ensures small { IfOk result (λ r. IsTrue (are_small_seconds r.last_saving)) }
+    ensures bounded { IfOk result (λ r. IsTrue (list_all is_bounded_firing r.fired.items)) }
 {
     let mut fired = Vec::new(alloc);
     let mut left = Vec::new(alloc);
@@ -201,6 +205,7 @@ pub(crate) fn fire_line<'a>(alloc: Global, line: &Line<'a>) -> Result<LineFiring
     requires { IsSound line.now }
     ensures fired { IfOk result (λ r. Fires r.fired.items r.last_saving (line_firings line.now)) }
     ensures small { IfOk result (λ r. IsTrue (are_small_seconds r.last_saving)) }
+    ensures bounded { IfOk result (λ r. IsTrue (list_all is_bounded_firing r.fired.items)) }
 {
     if line.is_ruled() {
         fire_years(alloc, line)
