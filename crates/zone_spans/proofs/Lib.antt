@@ -1,0 +1,4 @@
+pub mod BoundLemmas
+pub mod StepLemmas
+pub mod PutLemmas
+pub mod CollapseLaws

@@ -1,5 +1,5 @@
 -- Sizes under which sums of times and offsets fit, and what a line has to be to be expanded.
-use Rattle.std.specs.Prelude.{◌≡◌, ℤ, pos, neg_ℤ, int_le, Bool, true, false, not, ◌&&◌, IsTrue, Option, Some, None}
+use Rattle.std.specs.Prelude.{◌≡◌, ℤ, pos, neg_ℤ, ◌≤ℤ◌, int_le, Bool, true, false, not, ◌&&◌, IsTrue, Option, Some, None}
 use Rattle.std.specs.List.{list_all}
 use Rattle.std.specs.Option.{option_map_or}
 use Rattle.zone_line.specs.Bounds.{are_small_seconds}
@@ -25,6 +25,15 @@ is_bounded_span span = is_small span.utc_offset && is_small span.dst_offset
 
 abbrev pub is_bounded_entry : Entry → Bool
 is_bounded_entry e = is_small e.0 && is_bounded_span e.1
+
+-- the same of an entry, as bounds
+abbrev pub IsSmall : ℤ → Type 0
+IsSmall z = (neg_ℤ (pos 1099511627776) ≤ℤ z) × (z ≤ℤ pos 1099511627776)
+
+pub record IsSmallEntry (e : Entry) : Type 0 where
+  pub time : IsSmall e.0
+  pub utc : IsSmall e.1.utc_offset
+  pub dst : IsSmall e.1.dst_offset
 
 abbrev pub is_bounded_firing : Firing → Bool
 is_bounded_firing f = is_small f.time && are_small_seconds f.rule.time_to_add

@@ -1,7 +1,7 @@
 //! The collapse.
 ghost use Rattle.std.specs.Prelude.{◌≡◌, ◌<◌, ◌≤◌, ◌+◌, ◌+ℤ◌, length, All, IsTrue, reverse, []};
 ghost use Rattle.std.specs.List.{list_all};
-ghost use Rattle.zone_spans.specs.Bounds.{is_bounded, is_bounded_entry};
+ghost use Rattle.zone_spans.specs.Bounds.{IsSmallEntry, is_bounded, is_bounded_entry};
 ghost use Rattle.zone_spans.specs.Collapse.{is_same_span, is_no_later, kept_of, without_first, collapsed, LocalEndsRise, TimesRise};
 ghost use Rattle.zone_spans.specs.Entries.{Entry, total};
 ghost use Rattle.zone_spans.specs.Places.{IsRespanned, IsMoved, IsStep};
@@ -17,8 +17,8 @@ fn is_same_span(a: &FixedTimespan, b: &FixedTimespan) -> bool
 
 /// The local time of the entry's instant where `before` is in force.
 fn local_time(entry: &(i64, FixedTimespan), before: &(i64, FixedTimespan)) -> i64
-    requires entry { IsTrue (is_bounded_entry entry.now) }
-    requires before { IsTrue (is_bounded_entry before.now) }
+    requires entry { IsSmallEntry entry.now }
+    requires before { IsSmallEntry before.now }
     ensures { result ≡ entry.now.0 +ℤ total before.now.1 }
 {
     entry.0 + before.1.total_offset()
@@ -30,9 +30,9 @@ fn is_no_later(
     last: &(i64, FixedTimespan),
     before: &(i64, FixedTimespan),
 ) -> bool
-    requires entry { IsTrue (is_bounded_entry entry.now) }
-    requires last { IsTrue (is_bounded_entry last.now) }
-    requires before { IsTrue (is_bounded_entry before.now) }
+    requires entry { IsSmallEntry entry.now }
+    requires last { IsSmallEntry last.now }
+    requires before { IsSmallEntry before.now }
     ensures { result ≡ is_no_later entry.now last.now before.now }
 {
     local_time(entry, last) <= local_time(last, before)
@@ -42,9 +42,9 @@ fn is_no_later(
 fn respan(rest: &mut Entries, place: usize, from: usize)
     requires order { place < from }
     requires within { from < length rest.old }
-    requires bounded { All (λ e. IsTrue (is_bounded_entry e)) rest.old }
+    requires bounded { All IsSmallEntry rest.old }
     ensures put { IsRespanned rest.old rest.new place from }
-    ensures bounded { All (λ e. IsTrue (is_bounded_entry e)) rest.new }
+    ensures bounded { All IsSmallEntry rest.new }
 {
     let time = rest[place].0;
     rest.swap(place, from);
@@ -55,9 +55,9 @@ fn respan(rest: &mut Entries, place: usize, from: usize)
 fn keep(rest: &mut Entries, place: usize, from: usize)
     requires order { place ≤ from }
     requires within { from < length rest.old }
-    requires bounded { All (λ e. IsTrue (is_bounded_entry e)) rest.old }
+    requires bounded { All IsSmallEntry rest.old }
     ensures put { IsMoved rest.old rest.new place from }
-    ensures bounded { All (λ e. IsTrue (is_bounded_entry e)) rest.new }
+    ensures bounded { All IsSmallEntry rest.new }
 {
     rest.swap(place, from);
 }
@@ -66,9 +66,10 @@ fn keep(rest: &mut Entries, place: usize, from: usize)
 fn step(rest: &mut Entries, kept: usize, from: usize) -> usize
     requires order { kept ≤ from }
     requires within { from < length rest.old }
-    requires bounded { All (λ e. IsTrue (is_bounded_entry e)) rest.old }
+    requires count { from < usize.MAX }
+    requires bounded { All IsSmallEntry rest.old }
     ensures step { IsStep rest.old rest.new kept from result }
-    ensures bounded { All (λ e. IsTrue (is_bounded_entry e)) rest.new }
+    ensures bounded { All IsSmallEntry rest.new }
     ensures count { result ≤ from + 1 }
 {
     if kept >= 2 && is_no_later(&rest[from], &rest[kept - 1], &rest[kept - 2]) {
