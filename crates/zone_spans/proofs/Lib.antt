@@ -2,3 +2,4 @@ pub mod BoundLemmas
 pub mod StepLemmas
 pub mod PutLemmas
 pub mod CollapseLaws
+pub mod FiringLemmas
