@@ -4,11 +4,11 @@ use Rattle.std.proofs.lemmas.Int.{ints}
 use Rattle.std.proofs.lemmas.List.{get_or_default, append-nil}
 use Rattle.std.specs.Cmp.{IsStrictWeakOrder}
 use Rattle.std.specs.List.{IsFirstBest, remove}
-use Rattle.zone_line.specs.declared.change.ChangeTime.{ChangeTime}
-use Rattle.zone_line.specs.declared.day.DaySpec.TheVariants.{Ordinal}
-use Rattle.zone_line.specs.declared.month.Month.TheVariants.{January}
-use Rattle.zone_line.specs.declared.time.TimeType.TheVariants.{Wall}
-use Rattle.zone_line.specs.declared.year.Year.TheVariants.{Minimum}
+use Rattle.zone_values.specs.declared.change.ChangeTime.{ChangeTime}
+use Rattle.zone_values.specs.declared.day.DaySpec.TheVariants.{Ordinal}
+use Rattle.zone_values.specs.declared.month.Month.TheVariants.{January}
+use Rattle.zone_values.specs.declared.time.TimeType.TheVariants.{Wall}
+use Rattle.zone_values.specs.declared.year.Year.TheVariants.{Minimum}
 use Rattle.zone_table.specs.Moments.{moment}
 use Rattle.zone_table.specs.declared.rule.RuleInfo.{RuleInfo}
 use Rattle.zone_spans.specs.Firings.{Firing, Fired, earliest, fired, is_earlier, is_over}

@@ -2,10 +2,10 @@
 use Rattle.std.specs.Prelude.{◌≡◌, ℤ, pos, neg_ℤ, ◌≤ℤ◌, int_le, Bool, true, false, not, ◌&&◌, IsTrue, Option, Some, None}
 use Rattle.std.specs.List.{list_all}
 use Rattle.std.specs.Option.{option_map_or}
-use Rattle.zone_line.specs.Bounds.{are_small_seconds}
-use Rattle.zone_line.specs.Days.{named_day, is_in_year, has_day_number}
-use Rattle.zone_line.specs.Ends.{end_day, is_dated}
-use Rattle.zone_line.specs.declared.change.ChangeTime.{ChangeTime}
+use Rattle.zone_values.specs.Bounds.{are_small_seconds}
+use Rattle.zone_values.specs.Days.{named_day, is_in_year, has_day_of_month}
+use Rattle.zone_values.specs.Ends.{end_day, is_dated}
+use Rattle.zone_values.specs.declared.change.ChangeTime.{ChangeTime}
 use Rattle.zone_table.specs.Bounds.{is_bounded_info, is_bounded_rule}
 use Rattle.zone_table.specs.Moments.{has_years}
 use Rattle.zone_table.specs.declared.rule.RuleInfo.{RuleInfo}
@@ -49,7 +49,7 @@ unfoldable pub is_bounded_line : Line → Bool
 is_bounded_line line =
     is_bounded_info line.info
     && list_all is_bounded_rule line.rules
-    && option_map_or (λ end. has_day_number (end_day end)) line.end true
+    && option_map_or (λ end. has_day_of_month (end_day end)) line.end true
 
 -- an end that is there has a day
 abbrev pub is_end : Option ChangeTime → Bool

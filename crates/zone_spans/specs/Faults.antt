@@ -2,9 +2,9 @@
 use Rattle.std.specs.Prelude.{ℕ, zero, suc, ◌+◌, ◌-◌, Bool, true, false, not, ◌&&◌, ◌||◌, if◌then◌else◌, List, [], ◌∷◌, length, take, Option, Some, None, is_none, ℤ, pos}
 use Rattle.std.specs.List.{list_any, list_all}
 use Rattle.std.specs.Option.{option_map_or}
-use Rattle.zone_line.specs.Days.{named_day, is_in_year}
-use Rattle.zone_line.specs.Ends.{end_year, year_number, is_dated_year, day_of_end}
-use Rattle.zone_line.specs.declared.change.ChangeTime.{ChangeTime}
+use Rattle.zone_values.specs.Days.{named_day, is_in_year}
+use Rattle.zone_values.specs.Ends.{end_year, year_number, is_dated_year, day_of_end}
+use Rattle.zone_values.specs.declared.change.ChangeTime.{ChangeTime}
 use Rattle.zone_table.specs.Moments.{has_years, applies_to_year}
 use Rattle.zone_table.specs.declared.rule.RuleInfo.{RuleInfo}
 use Rattle.zone_table.specs.declared.zone.ZoneInfo.{ZoneInfo}

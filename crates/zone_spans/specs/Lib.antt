@@ -1,4 +1,3 @@
-pub mod Needs
 pub mod Lines
 pub mod Windows
 pub mod Firings

@@ -3,7 +3,7 @@ ghost use Rattle.std.specs.Prelude.{◌≡◌, ◌++◌, List, All, IfOk, IfSome
 ghost use Rattle.std.specs.List.{list_all};
 ghost use Rattle.std.specs.Option.{option_map_or};
 ghost use Rattle.owned.specs.Sorted.{stable_sort};
-ghost use Rattle.zone_line.specs.Bounds.{are_small_seconds};
+ghost use Rattle.zone_values.specs.Bounds.{are_small_seconds};
 ghost use Rattle.zone_table.specs.Formats.{abbreviation};
 ghost use Rattle.zone_spans.specs.Bounds.{IsSound, is_bounded_entry, is_bounded_firing, is_bounded_span, is_small, is_start};
 ghost use Rattle.zone_spans.specs.Entries.{
@@ -29,7 +29,6 @@ ghost use Rattle.zone_spans.specs.Listing.{listed, listed_from, start_firing};
 use crate::firing::Firing;
 use crate::line::Line;
 use crate::listing::{place_at, start_firing};
-use crate::needs::letters;
 use crate::span::FixedTimespan;
 use crate::year::{LineFirings, fire_line, line_end};
 use owned::{Items, Text};
@@ -64,7 +63,7 @@ fn span_of(
     Ok(FixedTimespan {
         utc_offset: line.info.offset,
         dst_offset: saving,
-        name: name_of(alloc, &line.info.format, saving, letters(firing.rule))?,
+        name: name_of(alloc, &line.info.format, saving, firing.rule.letters())?,
     })
 }
 

@@ -2,18 +2,17 @@
 ghost use Rattle.std.specs.Prelude.{◌≡◌, ◌≤◌, ◌≤ℤ◌, IsTrue, Bool, true, false, not, pos, is_none};
 ghost use Rattle.std.specs.List.{list_all, list_any};
 ghost use Rattle.std.specs.Option.{option_map_or};
-ghost use Rattle.zone_line.specs.Days.{has_day_number};
-ghost use Rattle.zone_line.specs.Ends.{end_day, end_year, is_dated_year};
+ghost use Rattle.zone_values.specs.Days.{has_day_of_month};
+ghost use Rattle.zone_values.specs.Ends.{end_day, end_year, is_dated_year};
 ghost use Rattle.zone_table.specs.Bounds.{is_bounded_rule};
 ghost use Rattle.zone_table.specs.Moments.{has_years};
 ghost use Rattle.zone_spans.specs.Bounds.{is_bounded_line};
 ghost use Rattle.zone_spans.specs.Faults.{all_but_last, lacks_years, line_fault, ends_in_no_year, some_year, is_outside, ends_outside, leaves_year};
 
 use crate::line::Line;
-use crate::needs::{has_year, lies_in_its_year, lies_in_year};
 use crate::year::years_expanded;
 use std::alloc::AllocError;
-use zone_line::ChangeTime;
+use zone_values::ChangeTime;
 use zone_table::{RuleInfo, ZoneInfo};
 
 /// Why a zone has no schedule. Over the whole zone the first of these that is met comes.
@@ -120,7 +119,7 @@ fn ends_in_no_year(line: &Line<'_>) -> bool
     ensures { result ≡ ends_in_no_year line.now }
 {
     match line.end {
-        Some(end) => !has_year(&end),
+        Some(end) => !end.has_year(),
         None => false,
     }
 }
@@ -156,11 +155,11 @@ fn leaves_year(line: &Line<'_>) -> bool
 /// Whether the day of an end lies in another year than the end's.
 fn ends_outside(end: Option<ChangeTime>) -> bool
     requires year { IsTrue (option_map_or (λ e. is_dated_year (end_year e)) end true) }
-    requires day { IsTrue (option_map_or (λ e. has_day_number (end_day e)) end true) }
+    requires day { IsTrue (option_map_or (λ e. has_day_of_month (end_day e)) end true) }
     ensures { result ≡ option_map_or ends_outside end false }
 {
     match end {
-        Some(end) => !lies_in_its_year(&end),
+        Some(end) => !end.lies_in_its_year(),
         None => false,
     }
 }
@@ -204,5 +203,5 @@ fn is_outside(rule: &RuleInfo, year: i64) -> bool
     requires last_year { year ≤ℤ pos 9999 }
     ensures { result ≡ is_outside rule.now year }
 {
-    rule.applies_to_year(year) && !lies_in_year(&rule.day, year, rule.month)
+    rule.applies_to_year(year) && !rule.day.lies_in_year(year, rule.month)
 }

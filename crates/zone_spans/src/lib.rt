@@ -9,7 +9,6 @@ mod fault;
 mod firing;
 mod line;
 mod listing;
-mod needs;
 mod span;
 mod transitions;
 mod year;

@@ -10,11 +10,10 @@ ghost use Rattle.zone_spans.specs.Faults.{is_unknown};
 ghost use Rattle.zone_spans.specs.Lines.{end_before, fixed_saving, is_known, is_ruled, rules_named, zone_lines};
 
 use crate::fault::SpanFault;
-use crate::needs::get_ruleset;
 use owned::Items;
 use std::alloc::Global;
 use std::marker::Model;
-use zone_line::ChangeTime;
+use zone_values::ChangeTime;
 use zone_table::{RuleInfo, Saving, Table, ZoneInfo};
 
 /// A line with the rules that it names, and its end where it is not the last.
@@ -70,7 +69,7 @@ fn rules_named<'a>(table: &'a Table, saving: &Saving) -> Result<&'a [RuleInfo], 
 {
     match saving {
         Saving::NoSaving | Saving::OneOff(_) => Ok(&[]),
-        Saving::Multiple(name) => match get_ruleset(table, name.as_str()) {
+        Saving::Multiple(name) => match table.get_ruleset(name.as_str()) {
             Some(rules) => Ok(rules),
             None => Err(SpanFault::UnknownRuleset),
         },

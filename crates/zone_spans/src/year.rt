@@ -1,7 +1,7 @@
 //! The firings of a line, year by year.
 ghost use Rattle.std.specs.Prelude.{◌≡◌, ◌<◌, ◌≤◌, ◌-◌, ◌≤ℤ◌, ◌++◌, pos, neg_ℤ, min, nat_abs, All, IfOk, IsTrue, Some, None, filter, length};
 ghost use Rattle.std.specs.List.{IsFirstBest, list_all};
-ghost use Rattle.zone_line.specs.Bounds.{are_small_seconds};
+ghost use Rattle.zone_values.specs.Bounds.{are_small_seconds};
 ghost use Rattle.zone_table.specs.Moments.{applies_to_year, has_years, moment};
 ghost use Rattle.zone_spans.specs.Bounds.{IsSound, can_fire, has_moment, is_bounded_firing, is_end, is_small};
 ghost use Rattle.zone_spans.specs.Fires.{Fires, after};
@@ -10,11 +10,10 @@ ghost use Rattle.zone_spans.specs.Windows.{line_end};
 
 use crate::firing::Firing;
 use crate::line::Line;
-use crate::needs::{instant_of, time_type};
 use std::alloc::{AllocError, Global};
 use std::marker::Model;
-use zone_line::ChangeTime;
-use zone_table::RuleInfo;
+use zone_values::ChangeTime;
+use zone_table::{RuleInfo, instant_of};
 
 /// A rule that applies to a year.
 #[derive(Drop)]
@@ -55,7 +54,7 @@ pub(crate) fn line_end(end: &ChangeTime, offset: i64, saving: i64) -> i64
     ensures least { neg_ℤ (pos 500_002_000_000) ≤ℤ result }
     ensures greatest { result ≤ℤ pos 500_002_000_000 }
 {
-    instant_of(time_type(end), end.to_timestamp(), offset, saving)
+    instant_of(end.time_type(), end.to_timestamp(), offset, saving)
 }
 
 /// Whether the time is at or after the line's end under the saving in force.

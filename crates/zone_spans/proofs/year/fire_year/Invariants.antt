@@ -1,6 +1,6 @@
 use Rattle.std.proofs.Common.{◌≡◌, ◌++◌, All, IsTrue, vec_len}
 use Rattle.std.specs.List.{list_all}
-use Rattle.zone_line.specs.Bounds.{are_small_seconds}
+use Rattle.zone_values.specs.Bounds.{are_small_seconds}
 use Rattle.zone_spans.specs.Bounds.{has_moment, is_bounded_firing}
 use Rattle.zone_spans.specs.Firings.{year_firings}
 use Rattle.zone_spans.proofs.FiringLemmas.{left_firings}

@@ -1,6 +1,6 @@
 use Rattle.std.proofs.Common.{IsTrue}
 use Rattle.std.specs.List.{list_all}
-use Rattle.zone_line.specs.Bounds.{are_small_seconds}
+use Rattle.zone_values.specs.Bounds.{are_small_seconds}
 use Rattle.zone_spans.specs.Bounds.{is_bounded_firing}
 use Rattle.zone_spans.specs.Fires.{Fires}
 use Rattle.zone_spans.specs.Firings.{firings_of_years}
