@@ -3,3 +3,5 @@ pub mod StepLemmas
 pub mod PutLemmas
 pub mod CollapseLaws
 pub mod FiringLemmas
+pub mod SoundLemmas
+pub mod YearLemmas

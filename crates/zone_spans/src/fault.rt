@@ -187,7 +187,7 @@ fn is_outside_in_some_year(rule: &RuleInfo, count: u16) -> bool
     ensures { result ≡ some_year (is_outside rule.now) count }
 {
     for i in 0..count {
-        if is_outside(rule, 1_800 + i64::from(i)) {
+        if is_outside(rule, i64::from(1_800 + i)) {
             return true;
         }
     }

@@ -192,7 +192,7 @@ fn fire_years<'a>(alloc: Global, line: &Line<'a>) -> Result<LineFirings<'a>, All
     let mut left = Vec::new(alloc);
     let mut last_saving = 0;
     for i in 0..years_expanded(line.end) {
-        let year = 1_800 + i64::from(i);
+        let year = i64::from(1_800 + i);
         last_saving = fire_year(&mut fired, &mut left, line, year, last_saving)?;
     }
     Ok(LineFirings { fired, last_saving })
