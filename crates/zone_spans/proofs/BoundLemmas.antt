@@ -1,5 +1,5 @@
 -- Small numbers, as tests and as bounds.
-use Rattle.std.proofs.Common.{◌≡◌, Bool, true, false, ◌&&◌, List, ℤ, pos, neg_ℤ, ◌≤ℤ◌, All, refl, arith, IsTrue}
+use Rattle.std.proofs.Common.{Bool, true, false, ◌&&◌, List, ℤ, All, refl, arith, IsTrue}
 use Rattle.std.proofs.lemmas.Grind.{common_steps}
 use Rattle.std.proofs.lemmas.List.Sums.{AllPass-from_list_all, list_all-from_AllPass}
 use Rattle.std.specs.List.{list_all}

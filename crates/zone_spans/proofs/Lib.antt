@@ -5,3 +5,7 @@ pub mod CollapseLaws
 pub mod FiringLemmas
 pub mod SoundLemmas
 pub mod YearLemmas
+pub mod FoundLemmas
+pub mod EntryLemmas
+pub mod LineLemmas
+pub mod CompiledLemmas

@@ -1,5 +1,5 @@
 -- An entry that takes the span of another, and a first entry that goes.
-use Rattle.std.proofs.Common.{◌≡◌, ℕ, suc, ◌+◌, ◌<◌, ◌≤◌, Bool, true, false, cond, List, [], ◌∷◌, ◌++◌, length, get_or, set, take, drop, ℤ, refl, sym, ap, ◌∙◌, subst, arith, to_z, of_z, w64, SFits}
+use Rattle.std.proofs.Common.{◌≡◌, ℕ, suc, ◌+◌, ◌<◌, true, false, cond, List, [], ◌∷◌, ◌++◌, length, get_or, set, take, drop, refl, sym, ap, ◌∙◌, subst, arith, to_z, of_z, w64, SFits}
 use Rattle.std.specs.List.{swap, remove}
 use Rattle.std.proofs.lemmas.Int.{to_z-of_z}
 use Rattle.std.proofs.lemmas.List.{length-set, take-set-le, drop-set-lt, get_or-set_same, get_or-set_other, get_or_default}

@@ -1,5 +1,5 @@
 -- The first thing that keeps a zone from having a schedule.
-use Rattle.std.specs.Prelude.{ℕ, zero, suc, ◌+◌, ◌-◌, Bool, true, false, not, ◌&&◌, ◌||◌, if◌then◌else◌, List, [], ◌∷◌, length, take, Option, Some, None, is_none, ℤ, pos}
+use Rattle.std.specs.Prelude.{ℕ, zero, suc, ◌+◌, ◌-◌, Bool, true, false, not, ◌&&◌, ◌||◌, if◌then◌else◌, List, [], ◌∷◌, ◌++◌, length, take, Option, Some, None, is_none, ℤ, pos}
 use Rattle.std.specs.List.{list_any, list_all}
 use Rattle.std.specs.Option.{option_map_or}
 use Rattle.zone_values.specs.Days.{named_day, is_in_year}
@@ -55,25 +55,23 @@ abbrev pub begins_ruled : List Line → Bool
 begins_ruled [] = true
 begins_ruled (line ∷ lines) = is_ruled line.info.saving
 
--- the tests over all lines before anything is expanded, in their order
+-- the tests that take nothing but a zone's lines, in their order
+abbrev pub line_tests : List ZoneInfo → List Line → List (Bool × SpanFault)
+line_tests infos lines =
+    (list_any (λ info. is_none info.end_time) (all_but_last infos), MissingUntil)
+    ∷ (list_any ends_in_no_year lines, YearRange)
+    ∷ (list_any lacks_years lines, RuleYears)
+    ∷ (list_any leaves_year lines, DayRange)
+    ∷ []
+
+-- the test of the entries
+abbrev pub entry_test : List Line → Bool × SpanFault
+entry_test lines = (begins_ruled lines && not (list_any is_standard (raw_entries lines)), NoStandardSpan)
+
 unfoldable pub line_fault : List ZoneInfo → List Line → Option SpanFault
-line_fault infos lines = first_met (
-      (list_any (λ info. is_none info.end_time) (all_but_last infos), MissingUntil)
-      ∷ (list_any ends_in_no_year lines, YearRange)
-      ∷ (list_any lacks_years lines, RuleYears)
-      ∷ (list_any leaves_year lines, DayRange)
-      ∷ []
-    )
+line_fault infos lines = first_met (line_tests infos lines)
 
 unfoldable pub schedule_fault : Rulesets → List ZoneInfo → Option SpanFault
 schedule_fault rulesets infos =
     let lines = zone_lines rulesets infos in
-    first_met (
-      (list_any (is_unknown rulesets) infos, UnknownRuleset)
-      ∷ (list_any (λ info. is_none info.end_time) (all_but_last infos), MissingUntil)
-      ∷ (list_any ends_in_no_year lines, YearRange)
-      ∷ (list_any lacks_years lines, RuleYears)
-      ∷ (list_any leaves_year lines, DayRange)
-      ∷ (begins_ruled lines && not (list_any is_standard (raw_entries lines)), NoStandardSpan)
-      ∷ []
-      )
+    first_met ((list_any (is_unknown rulesets) infos, UnknownRuleset) ∷ (line_tests infos lines ++ entry_test lines ∷ []))

@@ -125,7 +125,8 @@ fn push_listed(
 {
     let place = place_at(start, fired);
     push_above(entries, alloc, line, start, &fired[..place])?;
-    push_all(entries, alloc, line, &fired[place..])
+    push_all(entries, alloc, line, &fired[place..])?;
+    Ok(())
 }
 
 /// Adds the entry at the start, where there is one.
@@ -275,7 +276,9 @@ fn first_standard(
     alloc: Global,
     entries: &[(i64, FixedTimespan)],
 ) -> Result<Option<FixedTimespan>, AllocError>
-    ensures { IfOk result (λ first. first ≡ option_map (λ e. e.1) (find is_standard entries.now)) }
+    requires { IsTrue (list_all is_bounded_entry entries.now) }
+    ensures first { IfOk result (λ first. first ≡ option_map (λ e. e.1) (find is_standard entries.now)) }
+    ensures bounded { IfOk result (λ first. IfSome first (λ span. IsTrue (is_bounded_span span))) }
 {
     for entry in entries {
         if is_standard(entry) {

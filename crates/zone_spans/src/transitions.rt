@@ -74,10 +74,12 @@ fn compile(alloc: Global, table: &Table, infos: &[ZoneInfo]) -> Result<FixedTime
     ensures times { IfOk result (λ set. TimesRise set.rest) }
     ensures law { IfOk result (λ set. LocalEndsRise set.rest) }
 {
-    let lines = zone_lines(alloc, table, infos)?;
-    match line_fault(infos, lines.as_slice()) {
-        Some(fault) => Err(fault),
-        None => expand(alloc, lines.as_slice()),
+    match zone_lines(alloc, table, infos) {
+        Ok(lines) => match line_fault(infos, lines.as_slice()) {
+            Some(fault) => Err(fault),
+            None => expand(alloc, lines.as_slice()),
+        },
+        Err(fault) => Err(fault),
     }
 }
 

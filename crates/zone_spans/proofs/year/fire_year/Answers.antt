@@ -1,4 +1,4 @@
-use Rattle.std.proofs.Common.{◌≡◌, ◌<◌, ◌++◌, ◌∷◌, [], sym, ap, ◌∙◌, subst, arith, rules, to_z, of_z, w64, SFits, ℤ, length, false, true, List, Option, All, IsTrue, filter, refl}
+use Rattle.std.proofs.Common.{◌≡◌, ◌++◌, ◌∷◌, [], sym, ap, ◌∙◌, subst, arith, rules, to_z, of_z, w64, SFits, ℤ, length, false, List, Option, All, IsTrue, filter}
 use Rattle.std.specs.List.{IsFirstBest, list_all, remove}
 use Rattle.std.proofs.lemmas.Int.{to_z-of_z}
 use Rattle.std.proofs.lemmas.List.{append_assoc, nil_from_length}
@@ -8,7 +8,7 @@ use Rattle.zone_values.specs.declared.change.ChangeTime.{ChangeTime}
 use Rattle.zone_table.specs.Moments.{applies_to_year, has_years, moment}
 use Rattle.zone_table.specs.declared.rule.RuleInfo.{RuleInfo}
 use Rattle.zone_spans.specs.Bounds.{can_fire, has_moment, is_bounded_firing, is_small}
-use Rattle.zone_spans.specs.Fires.{Fires, after}
+use Rattle.zone_spans.specs.Fires.{after}
 use Rattle.zone_spans.specs.Firings.{Firing, is_earlier, is_over, year_firings}
 use Rattle.zone_spans.specs.Lines.{Line}
 use Rattle.zone_spans.proofs.BoundLemmas.{both}

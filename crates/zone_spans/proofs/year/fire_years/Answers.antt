@@ -1,10 +1,10 @@
-use Rattle.std.proofs.Common.{◌≡◌, ◌+◌, ◌<◌, ℤ, List, Option, pos, refl, sym, ap, ◌∙◌, subst, arith, rules, to_z, of_z, w64, SFits, IsTrue}
+use Rattle.std.proofs.Common.{◌<◌, Option, refl, sym, ap, ◌∙◌, subst, rules, to_z, of_z, w64, SFits, IsTrue}
 use Rattle.std.specs.List.{list_all}
 use Rattle.std.proofs.lemmas.Int.{to_z-of_z}
 use Rattle.zone_values.specs.Bounds.{are_small_seconds}
 use Rattle.zone_values.specs.declared.change.ChangeTime.{ChangeTime}
 use Rattle.zone_spans.specs.Bounds.{can_fire, is_bounded_firing, is_end}
-use Rattle.zone_spans.specs.Firings.{Firing, firings_of_years, years_expanded}
+use Rattle.zone_spans.specs.Firings.{firings_of_years, years_expanded}
 use Rattle.zone_spans.specs.Lines.{Line}
 use Rattle.zone_spans.proofs.SoundLemmas.{sound_end, sound_offset, sound_rules}
 use Rattle.zone_spans.proofs.YearLemmas.{fires_more}
