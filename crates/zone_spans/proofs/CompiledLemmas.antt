@@ -1,0 +1,189 @@
+-- The way from the tests of a zone's lines to its spans.
+use Rattle.std.proofs.Common.{◌≡◌, Bool, true, false, not, ◌&&◌, ◌||◌, cond, List, [], ◌∷◌, ◌++◌, find, Option, Some, None, option_map, Result, Err, ℤ, ◌≤ℤ◌, int_lt, All, IsTrue, refl, sym, ap, ◌∙◌, subst, arith}
+use Rattle.std.proofs.lemmas.Int.{ints}
+use Rattle.std.proofs.lemmas.List.Sums.{AllPass-from_list_all}
+use Rattle.std.specs.Cmp.{IsStrictWeakOrder}
+use Rattle.std.specs.List.{list_all, list_any}
+use Rattle.owned.specs.Sorted.{put_in, stable_sort}
+use Rattle.owned.specs.SortedLaws.{Rises, Rises-stable_sort}
+use Rattle.zone_table.specs.declared.zone.ZoneInfo.{ZoneInfo}
+use Rattle.zone_spans.specs.declared.fault.SpanFault.{SpanFault}
+use Rattle.zone_spans.specs.declared.fault.SpanFault.TheVariants.{UnknownRuleset, MissingUntil, YearRange, RuleYears, DayRange, NoStandardSpan, NoMemory}
+use Rattle.zone_spans.specs.declared.span.FixedTimespanSet.{FixedTimespanSet}
+use Rattle.zone_spans.specs.Bounds.{IsSound, is_bounded_line}
+use Rattle.zone_spans.specs.Causes.{IsDue, IsUnknown}
+use Rattle.zone_spans.specs.Collapse.{TimesRise}
+use Rattle.zone_spans.specs.Compiled.{compiled, set_of, set_of_lines, unless}
+use Rattle.zone_spans.specs.Entries.{Entry, first_span, fixed_span, is_sooner, is_standard, raw_entries, sorted_entries}
+use Rattle.zone_spans.specs.Faults.{begins_ruled, entry_test, first_met, is_unknown, line_fault, line_tests, schedule_fault}
+use Rattle.zone_spans.specs.Lines.{Line, Rulesets, is_ruled, zone_lines}
+use Rattle.zone_spans.proofs.BoundLemmas.{first, second}
+use Rattle.zone_spans.proofs.SoundLemmas.{none_at}
+
+first_met_more : (tests others : List (Bool × SpanFault)) (fault : SpanFault) → first_met tests ≡ Some fault → first_met (tests ++ others) ≡ Some fault
+first_met_more [] others fault h = cc
+first_met_more (t ∷ tests) others fault h =
+    elim (t.0) as (λ b. cond b (Some t.1) (first_met tests) ≡ Some fault → cond b (Some t.1) (first_met (tests ++ others)) ≡ Some fault) [
+      | true ↦ λ k. k
+      | false ↦ λ k. first_met_more tests others fault k
+    ] h
+
+first_met_later : (tests others : List (Bool × SpanFault)) → first_met tests ≡ None → first_met (tests ++ others) ≡ first_met others
+first_met_later [] others h = refl
+first_met_later (t ∷ tests) others h =
+    elim (t.0) as (λ b. cond b (Some t.1) (first_met tests) ≡ None → cond b (Some t.1) (first_met (tests ++ others)) ≡ first_met others) [
+      | true ↦ λ k. cc
+      | false ↦ λ k. first_met_later tests others k
+    ] h
+
+none_met : (t : Bool) (fault : SpanFault) (others : Option SpanFault) → cond t (Some fault) others ≡ None → (t ≡ false) × (others ≡ None)
+none_met true fault others h = cc
+none_met false fault others h = (refl, h)
+
+-- a fault that is the definition's is due
+is_due : (fault : SpanFault) (due : Result FixedTimespanSet SpanFault) → due ≡ Err fault → IsDue fault due
+is_due UnknownRuleset due h = h
+is_due MissingUntil due h = h
+is_due YearRange due h = h
+is_due RuleYears due h = h
+is_due DayRange due h = h
+is_due NoStandardSpan due h = h
+is_due NoMemory due h = tt
+
+-- a ruleset that is not there is the first fault
+pub unknown_due : (rulesets : Rulesets) (infos : List ZoneInfo) (fault : SpanFault) → IsUnknown fault (list_any (is_unknown rulesets) infos)
+    → IsDue fault (compiled rulesets infos)
+unfolding compiled schedule_fault
+unknown_due rulesets infos UnknownRuleset h =
+    let lines = zone_lines rulesets infos in
+    let others = first_met (line_tests infos lines ++ entry_test lines ∷ []) in
+    ap (λ b. unless (cond b (Some UnknownRuleset) others) (set_of_lines lines)) h
+unknown_due rulesets infos MissingUntil h = absurd h
+unknown_due rulesets infos YearRange h = absurd h
+unknown_due rulesets infos RuleYears h = absurd h
+unknown_due rulesets infos DayRange h = absurd h
+unknown_due rulesets infos NoStandardSpan h = absurd h
+unknown_due rulesets infos NoMemory h = tt
+
+-- a zone of known rulesets has the fault of its lines, or the one of its entries
+known_fault : (rulesets : Rulesets) (infos : List ZoneInfo) → list_any (is_unknown rulesets) infos ≡ false
+    → (fault : SpanFault) → line_fault infos (zone_lines rulesets infos) ≡ Some fault → schedule_fault rulesets infos ≡ Some fault
+unfolding schedule_fault line_fault
+known_fault rulesets infos known fault is =
+    let lines = zone_lines rulesets infos in
+    ap (λ b. cond b (Some UnknownRuleset) (first_met (line_tests infos lines ++ entry_test lines ∷ []))) known
+    ∙ first_met_more (line_tests infos lines) (entry_test lines ∷ []) fault is
+
+known_rest : (rulesets : Rulesets) (infos : List ZoneInfo) → list_any (is_unknown rulesets) infos ≡ false
+    → line_fault infos (zone_lines rulesets infos) ≡ None
+    → schedule_fault rulesets infos
+    ≡ cond (begins_ruled (zone_lines rulesets infos) && not (list_any is_standard (raw_entries (zone_lines rulesets infos)))) (Some NoStandardSpan) None
+unfolding schedule_fault line_fault
+known_rest rulesets infos known is =
+    let lines = zone_lines rulesets infos in
+    ap (λ b. cond b (Some UnknownRuleset) (first_met (line_tests infos lines ++ entry_test lines ∷ []))) known
+    ∙ first_met_later (line_tests infos lines) (entry_test lines ∷ []) is
+
+pub fault_due : (rulesets : Rulesets) (infos : List ZoneInfo) (lines : List Line) (fault : SpanFault) → lines ≡ zone_lines rulesets infos
+    → list_any (is_unknown rulesets) infos ≡ false → line_fault infos lines ≡ Some fault → IsDue fault (compiled rulesets infos)
+unfolding compiled
+fault_due rulesets infos lines fault same known is =
+    is_due fault (compiled rulesets infos)
+    (ap (λ f. unless f (set_of_lines (zone_lines rulesets infos)))
+      (known_fault rulesets infos known fault (ap (line_fault infos) (sym same) ∙ is)))
+
+or_turned : (a b c : Bool) → (a || (b || c)) ≡ (b || (a || c))
+or_turned true true c = refl
+or_turned true false c = refl
+or_turned false true c = refl
+or_turned false false c = refl
+
+any_put : {X : Type 0} (lt : X → X → Bool) (p : X → Bool) (x : X) (ys : List X) → list_any p (put_in lt x ys) ≡ (p x || list_any p ys)
+any_put lt p x [] = refl
+any_put lt p x (y ∷ ys) =
+    elim (lt y x) as (λ b. list_any p (cond b (y ∷ put_in lt x ys) (x ∷ y ∷ ys)) ≡ (p x || (p y || list_any p ys))) [
+      | true ↦ ap (λ b. p y || b) (any_put lt p x ys) ∙ or_turned (p y) (p x) (list_any p ys)
+      | false ↦ refl
+    ]
+
+any_sorted : {X : Type 0} (lt : X → X → Bool) (p : X → Bool) (xs : List X) → list_any p (stable_sort lt xs) ≡ list_any p xs
+any_sorted lt p [] = refl
+any_sorted lt p (x ∷ xs) = any_put lt p x (stable_sort lt xs) ∙ ap (λ b. p x || b) (any_sorted lt p xs)
+
+none_found : {X : Type 0} (p : X → Bool) (xs : List X) → list_any p xs ≡ false → find p xs ≡ None
+none_found p [] none = refl
+none_found p (x ∷ xs) none =
+    elim (p x) as (λ b. (b || list_any p xs) ≡ false → cond b (Some x) (find p xs) ≡ None) [
+      | true ↦ λ h. cc
+      | false ↦ λ h. none_found p xs h
+    ] none
+
+is_no : (a : Bool) → IsTrue (not a) → a ≡ false
+is_no true h = cc
+is_no false h = refl
+
+-- where no entry has no saving, a ruled zone has no first span
+no_first : (lines : List Line) → (begins_ruled lines && not (list_any is_standard (raw_entries lines))) ≡ true
+    → first_span lines (sorted_entries lines) ≡ None
+unfolding first_span sorted_entries
+no_first [] h = refl
+no_first (line ∷ lines) h =
+    let raw = raw_entries (line ∷ lines) in
+    let none = is_no (list_any is_standard raw) (second (is_ruled line.info.saving) _ h) in
+    ap (λ b. cond b (option_map (λ (e : Entry). e.1) (find is_standard (stable_sort is_sooner raw))) (Some (fixed_span line))) (first (is_ruled line.info.saving) _ h)
+    ∙ ap (option_map (λ (e : Entry). e.1)) (none_found is_standard (stable_sort is_sooner raw) (any_sorted is_sooner is_standard raw ∙ none))
+
+set_due : (lines : List Line) (b : Bool) → b ≡ (begins_ruled lines && not (list_any is_standard (raw_entries lines)))
+    → unless (cond b (Some NoStandardSpan) None) (set_of_lines lines) ≡ set_of_lines lines
+unfolding set_of_lines
+set_due lines true is = sym (ap (λ f. set_of f (sorted_entries lines)) (no_first lines (sym is)))
+set_due lines false is = refl
+
+-- lines with no fault of their own give what is due
+pub rest_due : (rulesets : Rulesets) (infos : List ZoneInfo) (lines : List Line) → lines ≡ zone_lines rulesets infos
+    → list_any (is_unknown rulesets) infos ≡ false → line_fault infos lines ≡ None → compiled rulesets infos ≡ set_of_lines lines
+unfolding compiled
+rest_due rulesets infos lines same known is =
+    ap (λ f. unless f (set_of_lines (zone_lines rulesets infos))) (known_rest rulesets infos known (ap (line_fault infos) (sym same) ∙ is))
+    ∙ set_due (zone_lines rulesets infos) _ refl ∙ ap set_of_lines (sym same)
+
+-- bounded lines with no fault of their own are sound
+pub all_sound : (infos : List ZoneInfo) (lines : List Line) → IsTrue (list_all is_bounded_line lines) → line_fault infos lines ≡ None → All IsSound lines
+unfolding line_fault
+all_sound infos lines bounded is k d l =
+    let later = (none_met _ MissingUntil _ is).1 in
+    let year = none_met _ YearRange _ later in
+    let years = none_met _ RuleYears _ year.1 in
+    let days = none_met _ DayRange _ years.1 in
+    record {
+      bounded = AllPass-from_list_all is_bounded_line lines bounded k d l;
+      year = none_at _ lines year.0 k d l;
+      years = none_at _ lines years.0 k d l;
+      days = none_at _ lines days.0 k d l;
+    }
+
+int_lt_one_way : (a b : ℤ) → int_lt a b ≡ true → int_lt b a ≡ false
+int_lt_one_way a b h = grind (arith, ints)
+
+int_lt_chain : (a b c : ℤ) → int_lt a b ≡ false → int_lt b c ≡ false → int_lt a c ≡ false
+int_lt_chain a b c h k = grind (arith, ints)
+
+not_before : (a b : ℤ) → int_lt b a ≡ false → a ≤ℤ b
+not_before a b h = grind (arith, ints)
+
+sooner_ranks : IsStrictWeakOrder is_sooner
+sooner_ranks = record {
+  one_way = λ x y h. int_lt_one_way x.0 y.0 h;
+  chain = λ x y z h k. int_lt_chain x.0 y.0 z.0 h k;
+}
+
+times_of : (es : List Entry) → Rises is_sooner es → TimesRise es
+times_of [] r = tt
+times_of (a ∷ []) r = tt
+times_of (a ∷ b ∷ es) r = (not_before a.0 b.0 r.0.0, times_of (b ∷ es) r.1)
+
+-- the times of sorted entries don't fall
+pub times_sorted : (lines : List Line) (es : List Entry) → es ≡ sorted_entries lines → TimesRise es
+unfolding sorted_entries
+times_sorted lines es is =
+    subst TimesRise (sym is) (times_of (stable_sort is_sooner (raw_entries lines)) (Rises-stable_sort is_sooner sooner_ranks (raw_entries lines)))

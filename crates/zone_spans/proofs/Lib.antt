@@ -1,0 +1,11 @@
+pub mod BoundLemmas
+pub mod StepLemmas
+pub mod PutLemmas
+pub mod CollapseLaws
+pub mod FiringLemmas
+pub mod SoundLemmas
+pub mod YearLemmas
+pub mod FoundLemmas
+pub mod EntryLemmas
+pub mod LineLemmas
+pub mod CompiledLemmas

@@ -1,0 +1,21 @@
+use Rattle.std.proofs.Common.{◌≡◌, length, drop, sym, ◌∙◌, subst, arith}
+use Rattle.std.specs.List.{list_any}
+use Rattle.zone_spans.specs.Faults.{leaves_year}
+use Rattle.zone_spans.proofs.SoundLemmas.{any_here, any_behind, any_nowhere}
+use Rattle.zone_spans.proofs.fault.some_leaves_year.Goals as goal
+
+pub returns-then-leaves_year : goal.returns-then-leaves_year
+returns-then-leaves_year c =
+    any_here leaves_year c.args.lines.now c.loop-line.line-index c.line-item.result (omega arith) c.line-item.is c.loop-line.invariant
+    (sym c.leaves_year.ensures ∙ c.if-leaves_year.true)
+
+pub loop-line-preserved : goal.loop-line-preserved
+loop-line-preserved c =
+    any_behind leaves_year c.args.lines.now c.loop-line.line-index c.line-item.result (omega arith) c.line-item.is c.loop-line.invariant
+    (sym c.leaves_year.ensures ∙ c.if-leaves_year.false)
+
+pub returns : goal.returns
+returns c =
+    let lines = c.args.lines.now in
+    let end : c.loop-line.line-index ≡ length lines = omega arith in
+    any_nowhere leaves_year lines (subst (λ n. list_any leaves_year (drop n lines) ≡ list_any leaves_year lines) end c.loop-line.invariant)

@@ -1,0 +1,14 @@
+use Rattle.std.proofs.Common.{IsTrue}
+use Rattle.std.specs.List.{list_all}
+use Rattle.zone_values.specs.Bounds.{are_small_seconds}
+use Rattle.zone_spans.specs.Bounds.{is_bounded_firing}
+use Rattle.zone_spans.specs.Fires.{Fires}
+use Rattle.zone_spans.specs.Firings.{firings_of_years}
+use Rattle.zone_spans.proofs.year.fire_years.Given as goal
+
+abbrev pub invariant-loop-i : goal.invariant-loop-i
+invariant-loop-i l = record {
+  fired : Fires l.fired.items l.last_saving (firings_of_years l.line.info.offset l.line.end l.line.rules l.i);
+  small : IsTrue (are_small_seconds l.last_saving);
+  bounded : IsTrue (list_all is_bounded_firing l.fired.items);
+}

@@ -1,0 +1,72 @@
+-- Sizes under which sums of times and offsets fit, and what a line has to be to be expanded.
+use Rattle.std.specs.Prelude.{◌≡◌, ℤ, pos, neg_ℤ, ◌≤ℤ◌, int_le, Bool, true, false, not, ◌&&◌, IsTrue, Option, Some, None}
+use Rattle.std.specs.List.{list_all}
+use Rattle.std.specs.Option.{option_map_or}
+use Rattle.zone_values.specs.Bounds.{are_small_seconds}
+use Rattle.zone_values.specs.Days.{named_day, is_in_year, has_day_of_month}
+use Rattle.zone_values.specs.Ends.{end_day, is_dated}
+use Rattle.zone_values.specs.declared.change.ChangeTime.{ChangeTime}
+use Rattle.zone_table.specs.Bounds.{is_bounded_info, is_bounded_rule}
+use Rattle.zone_table.specs.Moments.{has_years}
+use Rattle.zone_table.specs.declared.rule.RuleInfo.{RuleInfo}
+use Rattle.zone_spans.specs.Entries.{Entry}
+use Rattle.zone_spans.specs.Faults.{ends_in_no_year, is_outside, lacks_years, leaves_year}
+use Rattle.zone_spans.specs.Firings.{Firing}
+use Rattle.zone_spans.specs.Lines.{Line}
+use Rattle.zone_spans.specs.declared.span.FixedTimespan.{FixedTimespan}
+use Rattle.zone_spans.specs.declared.span.FixedTimespanSet.{FixedTimespanSet}
+
+-- at most 2^40 in size
+abbrev pub is_small : ℤ → Bool
+is_small z = int_le (neg_ℤ (pos 1099511627776)) z && int_le z (pos 1099511627776)
+
+abbrev pub is_bounded_span : FixedTimespan → Bool
+is_bounded_span span = is_small span.utc_offset && is_small span.dst_offset
+
+abbrev pub is_bounded_entry : Entry → Bool
+is_bounded_entry e = is_small e.0 && is_bounded_span e.1
+
+-- the same of an entry, as bounds
+abbrev pub IsSmall : ℤ → Type 0
+IsSmall z = (neg_ℤ (pos 1099511627776) ≤ℤ z) × (z ≤ℤ pos 1099511627776)
+
+pub record IsSmallEntry (e : Entry) : Type 0 where
+  pub time : IsSmall e.0
+  pub utc : IsSmall e.1.utc_offset
+  pub dst : IsSmall e.1.dst_offset
+
+abbrev pub is_bounded_firing : Firing → Bool
+is_bounded_firing f = is_small f.time && are_small_seconds f.rule.time_to_add
+
+abbrev pub is_start : Option ℤ → Bool
+is_start start = option_map_or is_small start true
+
+abbrev pub is_bounded : FixedTimespanSet → Bool
+is_bounded set = is_bounded_span set.first && list_all is_bounded_entry set.rest
+
+-- the numbers of the line, of its rules and of its end are small
+unfoldable pub is_bounded_line : Line → Bool
+is_bounded_line line =
+    is_bounded_info line.info
+    && list_all is_bounded_rule line.rules
+    && option_map_or (λ end. has_day_of_month (end_day end)) line.end true
+
+-- an end that is there has a day
+abbrev pub is_end : Option ChangeTime → Bool
+is_end None = true
+is_end (Some end) = is_dated end
+
+-- the rule has a moment in the year
+abbrev pub has_moment : ℤ → RuleInfo → Bool
+has_moment year rule = is_bounded_rule rule && is_in_year (named_day rule.day year rule.month) year
+
+-- the rule has one, if it applies to the year
+unfoldable pub can_fire : ℤ → RuleInfo → Bool
+can_fire year rule = is_bounded_rule rule && has_years rule && not (is_outside rule year)
+
+-- what a line has to be to be expanded
+pub record IsSound (line : Line) : Type 0 where
+  pub bounded : IsTrue (is_bounded_line line)
+  pub year : ends_in_no_year line ≡ false
+  pub years : lacks_years line ≡ false
+  pub days : leaves_year line ≡ false

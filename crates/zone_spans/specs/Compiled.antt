@@ -1,0 +1,33 @@
+-- The set of spans that a zone's lines give, or why there is none.
+use Rattle.std.specs.Prelude.{◌≡◌, List, Option, Some, None, Result, Ok, Err}
+use Rattle.zone_table.specs.declared.zone.ZoneInfo.{ZoneInfo}
+use Rattle.zone_spans.specs.Collapse.{collapsed}
+use Rattle.zone_spans.specs.Entries.{Entry, first_span, sorted_entries}
+use Rattle.zone_spans.specs.Faults.{schedule_fault}
+use Rattle.zone_spans.specs.Lines.{Line, Rulesets, zone_lines}
+use Rattle.zone_spans.specs.declared.fault.SpanFault.{SpanFault}
+use Rattle.zone_spans.specs.declared.fault.SpanFault.TheVariants.{NoStandardSpan, NoMemory}
+use Rattle.zone_spans.specs.declared.span.FixedTimespan.{FixedTimespan}
+use Rattle.zone_spans.specs.declared.span.FixedTimespanSet.{FixedTimespanSet}
+
+-- the first span, and what the collapse keeps of the entries
+abbrev pub set_of : Option FixedTimespan → List Entry → Result FixedTimespanSet SpanFault
+set_of None entries = Err NoStandardSpan
+set_of (Some first) entries = Ok (record { first = first; rest = collapsed first entries })
+
+unfoldable pub set_of_lines : List Line → Result FixedTimespanSet SpanFault
+set_of_lines lines = set_of (first_span lines (sorted_entries lines)) (sorted_entries lines)
+
+abbrev pub unless : Option SpanFault → Result FixedTimespanSet SpanFault → Result FixedTimespanSet SpanFault
+unless (Some fault) set = Err fault
+unless None set = set
+
+unfoldable pub compiled : Rulesets → List ZoneInfo → Result FixedTimespanSet SpanFault
+compiled rulesets infos = unless (schedule_fault rulesets infos) (set_of_lines (zone_lines rulesets infos))
+
+-- a call's answer beside what is due, which is none where there is no zone; want of memory may come in place of any
+abbrev pub Tells : Result (Option FixedTimespanSet) SpanFault → Option (Result FixedTimespanSet SpanFault) → Type 0
+Tells (Err NoMemory) due = Unit {0}
+Tells (Err fault) due = due ≡ Some (Err fault)
+Tells (Ok None) due = due ≡ None
+Tells (Ok (Some set)) due = due ≡ Some (Ok set)

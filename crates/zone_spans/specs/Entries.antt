@@ -1,0 +1,81 @@
+-- The entries of a zone.
+use Rattle.std.specs.Prelude.{Bool, List, [], ◌∷◌, ◌++◌, map, find, Option, Some, None, option_map, ℤ, pos, ◌+ℤ◌, int_lt, if◌then◌else◌}
+use Rattle.std.specs.Ordering.{int_eq}
+use Rattle.zone_table.specs.Formats.{abbreviation}
+use Rattle.owned.specs.Sorted.{stable_sort}
+use Rattle.zone_spans.specs.Windows.{line_end}
+use Rattle.zone_spans.specs.Lines.{Line, is_ruled, fixed_saving}
+use Rattle.zone_spans.specs.Firings.{Firing, firings, last_saving}
+use Rattle.zone_spans.specs.Listing.{listed, start_firing}
+use Rattle.zone_spans.specs.declared.span.FixedTimespan.{FixedTimespan}
+
+-- a second from 1970 on, and what is in force from then on
+abbrev pub Entry : Type 0
+Entry = ℤ × FixedTimespan
+
+abbrev pub total : FixedTimespan → ℤ
+total span = span.utc_offset +ℤ span.dst_offset
+
+-- what a firing puts in force
+abbrev pub span_of : Line → Firing → FixedTimespan
+span_of line f = record {
+  utc_offset = line.info.offset;
+  dst_offset = f.rule.time_to_add;
+  name = abbreviation line.info.format f.rule.time_to_add f.rule.letters;
+}
+
+abbrev pub entry_of : Line → Firing → Entry
+entry_of line f = (f.time, span_of line f)
+
+-- what a line that is not ruled puts in force
+abbrev pub fixed_span : Line → FixedTimespan
+fixed_span line = record {
+  utc_offset = line.info.offset;
+  dst_offset = fixed_saving line.info.saving;
+  name = abbreviation line.info.format (fixed_saving line.info.saving) None;
+}
+
+abbrev pub at_start : Option ℤ → Option FixedTimespan → List Entry
+at_start (Some start) (Some span) = (start, span) ∷ []
+at_start _ _ = []
+
+-- the entry at the start of a ruled line with these firings
+abbrev pub start_entry : Line → Option ℤ → List Firing → List Entry
+start_entry line None fs = []
+start_entry line (Some start) fs = at_start (Some start) (option_map (span_of line) (start_firing start fs))
+
+-- of a line with that start: the firings that it lists, and then the entry at its start
+unfoldable pub entries_of : Line → Option ℤ → List Entry
+entries_of line start =
+    if is_ruled line.info.saving
+    then map (entry_of line) (listed start (firings line)) ++ start_entry line start (firings line)
+    else at_start start (Some (fixed_span line))
+
+-- where the next line starts
+unfoldable pub next_start : Line → Option ℤ
+next_start line = option_map (λ end. line_end end line.info.offset (last_saving line)) line.end
+
+-- line by line
+unfoldable pub entries_from : Option ℤ → List Line → List Entry
+entries_from start [] = []
+entries_from start (line ∷ lines) = entries_of line start ++ entries_from (next_start line) lines
+
+abbrev pub raw_entries : List Line → List Entry
+raw_entries lines = entries_from None lines
+
+abbrev pub is_sooner : Entry → Entry → Bool
+is_sooner a b = int_lt a.0 b.0
+
+-- in order of time; those of one time stay as they are
+unfoldable pub sorted_entries : List Line → List Entry
+sorted_entries lines = stable_sort is_sooner (raw_entries lines)
+
+abbrev pub is_standard : Entry → Bool
+is_standard e = int_eq e.1.dst_offset (pos 0)
+
+-- what holds before all entries: what the first line puts in force, or the first entry with no saving where that line is ruled
+unfoldable pub first_span : List Line → List Entry → Option FixedTimespan
+first_span [] entries = None
+first_span (line ∷ lines) entries =
+    if is_ruled line.info.saving then option_map (λ e. e.1) (find is_standard entries)
+    else Some (fixed_span line)

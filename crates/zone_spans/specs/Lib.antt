@@ -1,0 +1,13 @@
+pub mod Lines
+pub mod Windows
+pub mod Firings
+pub mod Fires
+pub mod Listing
+pub mod Entries
+pub mod Collapse
+pub mod Places
+pub mod Faults
+pub mod Causes
+pub mod Compiled
+pub mod Bounds
+pub mod Schedules

@@ -1,0 +1,61 @@
+-- The schedule of a zone, and the offset that it has in force.
+use Rattle.std.specs.Prelude.{ℕ, zero, suc, Bool, ◌&&◌, List, [], ◌∷◌, map, filter, Result, Ok, Err, ℤ, pos, ◌-ℤ◌, ◌*ℤ◌, int_le, nat_le, nat_abs}
+use Rattle.std.specs.List.{list_all}
+use Rattle.std.specs.Ordering.{int_eq}
+use Rattle.zone_table.specs.declared.zone.ZoneInfo.{ZoneInfo}
+use Rattle.zone_spans.specs.Compiled.{compiled}
+use Rattle.zone_spans.specs.Entries.{total}
+use Rattle.zone_spans.specs.Lines.{Rulesets}
+use Rattle.zone_spans.specs.declared.fault.SpanFault.{SpanFault}
+use Rattle.zone_spans.specs.declared.span.FixedTimespanSet.{FixedTimespanSet}
+
+-- the total offset before the first shift, and the shifts: each a second since 1970-01-01 00:00:00 UTC and the total from then on
+pub record Schedule : Type 0 where
+  pub first : ℤ
+  pub shifts : List (ℤ × ℤ)
+
+-- the same total for good
+abbrev pub fixed : ℤ → Schedule
+fixed total = record { first = total; shifts = [] }
+
+-- the totals of a set of spans
+unfoldable pub totals_of : FixedTimespanSet → Schedule
+totals_of set = record { first = total set.first; shifts = map (λ e. (e.0, total e.1)) set.rest }
+
+abbrev pub shown_by : Result FixedTimespanSet SpanFault → Schedule
+shown_by (Ok set) = totals_of set
+shown_by (Err fault) = fixed (pos 0)
+
+-- the schedule of a zone with these lines; no offset where there is a fault
+unfoldable pub schedule_of : Rulesets → List ZoneInfo → Schedule
+schedule_of rulesets lines = shown_by (compiled rulesets lines)
+
+abbrev pub last_total : ℤ → List (ℤ × ℤ) → ℤ
+last_total total [] = total
+last_total total (shift ∷ shifts) = last_total shift.1 shifts
+
+-- the total in force at an instant in nanoseconds: that of the last shift at or before it
+unfoldable pub total_at : Schedule → ℤ → ℤ
+total_at schedule instant = last_total schedule.first (filter (λ shift. int_le (shift.0 *ℤ pos 1000000000) instant) schedule.shifts)
+
+-- less than 26 hours in size
+abbrev pub is_offset : ℤ → Bool
+is_offset total = nat_le (nat_abs total) 93599
+
+-- every total is an offset
+abbrev pub is_in_offset_range : Schedule → Bool
+is_in_offset_range schedule = is_offset schedule.first && list_all (λ shift. is_offset shift.1) schedule.shifts
+
+-- the first whole numbers from -93,599 on, the greatest first
+abbrev pub offsets_below : ℕ → List ℤ
+offsets_below zero = []
+offsets_below (suc n) = (pos n -ℤ pos 93599) ∷ offsets_below n
+
+-- the offsets, from 93,599 down to -93,599
+unfoldable pub offsets : List ℤ
+offsets = offsets_below 187199
+
+-- the instants that are read as a local time where this total is in force at each: by time, those that some offset gives
+unfoldable pub instants : (ℤ → ℤ) → ℤ → List ℤ
+instants total time =
+    map (λ o. time -ℤ pos 1000000000 *ℤ o) (filter (λ o. int_eq (total (time -ℤ pos 1000000000 *ℤ o)) o) offsets)

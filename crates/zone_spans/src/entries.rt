@@ -1,0 +1,296 @@
+//! The entries of a zone.
+ghost use Rattle.std.specs.Prelude.{◌≡◌, ◌++◌, List, All, IfOk, IfSome, IsTrue, Some, pos, filter, find, int_lt, map, None, option_map};
+ghost use Rattle.std.specs.List.{list_all};
+ghost use Rattle.std.specs.Option.{option_map_or};
+ghost use Rattle.owned.specs.Sorted.{stable_sort};
+ghost use Rattle.zone_values.specs.Bounds.{are_small_seconds};
+ghost use Rattle.zone_table.specs.Formats.{abbreviation};
+ghost use Rattle.zone_spans.specs.Bounds.{IsSound, is_bounded_entry, is_bounded_firing, is_bounded_span, is_small, is_start};
+ghost use Rattle.zone_spans.specs.Entries.{
+  Entry,
+  span_of,
+  entry_of,
+  fixed_span,
+  at_start,
+  start_entry,
+  entries_of,
+  next_start,
+  entries_from,
+  raw_entries,
+  is_sooner,
+  sorted_entries,
+  is_standard,
+  first_span,
+};
+ghost use Rattle.zone_spans.specs.Firings.{firings};
+ghost use Rattle.zone_spans.specs.Windows.{line_end};
+ghost use Rattle.zone_spans.specs.Listing.{listed, listed_from, start_firing};
+
+use crate::firing::Firing;
+use crate::line::Line;
+use crate::listing::{place_at, start_firing};
+use crate::span::FixedTimespan;
+use crate::year::{LineFirings, fire_line, line_end};
+use owned::{Items, Text};
+use std::alloc::{AllocError, Global};
+use zone_table::Format;
+
+/// Entries in order of time, or on the way there: a time in seconds from 1970-01-01 00:00 UTC, and what is in force from
+/// then on.
+pub(crate) type Entries = Items<(i64, FixedTimespan)>;
+
+/// The name under a saving and the letters of a rule.
+fn name_of(
+    alloc: Global,
+    format: &Format,
+    saving: i64,
+    letters: Option<&str>,
+) -> Result<Text, AllocError>
+    ensures { IfOk result (λ name. name ≡ abbreviation format.now saving (option_map (λ t. t.now) letters.entry)) }
+{
+    Ok(Text::from_string(format.format(alloc, saving, letters)?))
+}
+
+/// What a firing puts in force.
+fn span_of(
+    alloc: Global,
+    line: &Line<'_>,
+    firing: &Firing<'_>,
+) -> Result<FixedTimespan, AllocError>
+    ensures { IfOk result (λ span. span ≡ span_of line.now firing.now) }
+{
+    let saving = firing.rule.time_to_add;
+    Ok(FixedTimespan {
+        utc_offset: line.info.offset,
+        dst_offset: saving,
+        name: name_of(alloc, &line.info.format, saving, firing.rule.letters())?,
+    })
+}
+
+/// What a line that is not ruled puts in force.
+fn fixed_span(alloc: Global, line: &Line<'_>) -> Result<FixedTimespan, AllocError>
+    ensures { IfOk result (λ span. span ≡ fixed_span line.now) }
+{
+    let saving = line.fixed_saving();
+    Ok(FixedTimespan {
+        utc_offset: line.info.offset,
+        dst_offset: saving,
+        name: name_of(alloc, &line.info.format, saving, None)?,
+    })
+}
+
+/// Adds an entry for each of the firings.
+fn push_all(
+    entries: &mut Entries,
+    alloc: Global,
+    line: &Line<'_>,
+    fired: &[Firing<'_>],
+) -> Result<(), AllocError>
+    ensures { IfOk result (λ _. entries.new ≡ entries.old ++ map (entry_of line.now) fired.now) }
+{
+    for firing in fired {
+        entries.push((firing.time, span_of(alloc, line, firing)?))?;
+    }
+    Ok(())
+}
+
+/// Adds an entry for each of the firings above the start.
+fn push_above(
+    entries: &mut Entries,
+    alloc: Global,
+    line: &Line<'_>,
+    start: i64,
+    fired: &[Firing<'_>],
+) -> Result<(), AllocError>
+    ensures { IfOk result (λ _. entries.new ≡ entries.old ++ map (entry_of line.now) (filter (λ f. int_lt start f.time) fired.now)) }
+{
+    for firing in fired {
+        if firing.is_above(start) {
+            entries.push((firing.time, span_of(alloc, line, firing)?))?;
+        }
+    }
+    Ok(())
+}
+
+/// Adds an entry for each of the firings that a line with that start lists.
+#[tactic(auto, unfolding(crate::specs::Listing::listed_from))]
+fn push_listed(
+    entries: &mut Entries,
+    alloc: Global,
+    line: &Line<'_>,
+    start: i64,
+    fired: &[Firing<'_>],
+) -> Result<(), AllocError>
+    ensures { IfOk result (λ _. entries.new ≡ entries.old ++ map (entry_of line.now) (listed_from start fired.now)) }
+{
+    let place = place_at(start, fired);
+    push_above(entries, alloc, line, start, &fired[..place])?;
+    push_all(entries, alloc, line, &fired[place..])?;
+    Ok(())
+}
+
+/// Adds the entry at the start, where there is one.
+fn push_start(
+    entries: &mut Entries,
+    alloc: Global,
+    line: &Line<'_>,
+    start: i64,
+    fired: &[Firing<'_>],
+) -> Result<(), AllocError>
+    ensures { IfOk result (λ _. entries.new ≡ entries.old ++ at_start (Some start) (option_map (span_of line.now) (start_firing start fired.now))) }
+{
+    if let Some(firing) = start_firing(start, fired) {
+        entries.push((start, span_of(alloc, line, firing)?))?;
+    }
+    Ok(())
+}
+
+/// Adds the entries of a ruled line with that start and these firings.
+fn push_ruled(
+    entries: &mut Entries,
+    alloc: Global,
+    line: &Line<'_>,
+    start: Option<i64>,
+    fired: &[Firing<'_>],
+) -> Result<(), AllocError>
+    ensures { IfOk result (λ _. entries.new ≡ entries.old
+        ++ (map (entry_of line.now) (listed start fired.now) ++ start_entry line.now start fired.now)) }
+{
+    match start {
+        Some(start) => {
+            push_listed(entries, alloc, line, start, fired)?;
+            push_start(entries, alloc, line, start, fired)
+        }
+        None => push_all(entries, alloc, line, fired),
+    }
+}
+
+/// Adds the entry of a line with that start that is not ruled.
+fn push_fixed(
+    entries: &mut Entries,
+    alloc: Global,
+    line: &Line<'_>,
+    start: Option<i64>,
+) -> Result<(), AllocError>
+    ensures { IfOk result (λ _. entries.new ≡ entries.old ++ at_start start (Some (fixed_span line.now))) }
+{
+    if let Some(start) = start {
+        entries.push((start, fixed_span(alloc, line)?))?;
+    }
+    Ok(())
+}
+
+/// Adds the entries of a line with that start, and gives the start of the next line.
+#[tactic(auto, unfolding(crate::specs::Entries::entries_of, crate::specs::Entries::next_start))]
+fn push_line(
+    entries: &mut Entries,
+    alloc: Global,
+    line: &Line<'_>,
+    start: Option<i64>,
+) -> Result<Option<i64>, AllocError>
+    requires { IsSound line.now }
+    ensures entries { IfOk result (λ _. entries.new ≡ entries.old ++ entries_of line.now start) }
+    ensures next { IfOk result (λ next. next ≡ next_start line.now) }
+    ensures bounded { IfOk result (λ next. IsTrue (is_start start) → IsTrue (is_start next) × IsTrue (list_all is_bounded_entry (entries_of line.now start))) }
+{
+    let LineFirings { fired, last_saving } = fire_line(alloc, line)?;
+    if line.is_ruled() {
+        push_ruled(entries, alloc, line, start, &fired)?;
+    } else {
+        push_fixed(entries, alloc, line, start)?;
+    }
+    Ok(next_start(line, last_saving))
+}
+
+/// Where the next line starts, after that saving.
+fn next_start(line: &Line<'_>, last_saving: i64) -> Option<i64>
+    requires sound { IsSound line.now }
+    requires saving { IsTrue (are_small_seconds last_saving) }
+    ensures value { result ≡ option_map (λ end. line_end end line.now.info.offset last_saving) line.now.end }
+    ensures bounded { IsTrue (is_start result) }
+{
+    match line.end {
+        Some(end) => Some(line_end(&end, line.info.offset, last_saving)),
+        None => None,
+    }
+}
+
+/// The entries of a zone, line by line.
+fn raw_entries(alloc: Global, lines: &[Line<'_>]) -> Result<Entries, AllocError>
+    requires { All IsSound lines.now }
+    ensures raw { IfOk result (λ entries. entries ≡ raw_entries lines.now) }
+    ensures bounded { IfOk result (λ entries. IsTrue (list_all is_bounded_entry entries)) }
+{
+    let mut entries = Items::new(alloc);
+    let mut start = None;
+    for line in lines {
+        start = push_line(&mut entries, alloc, line, start)?;
+    }
+    Ok(entries)
+}
+
+/// The entries of a zone in order of time. Entries of one time keep their order.
+#[tactic(auto, unfolding(crate::specs::Entries::sorted_entries))]
+pub(crate) fn sorted_entries(alloc: Global, lines: &[Line<'_>]) -> Result<Entries, AllocError>
+    requires { All IsSound lines.now }
+    ensures sorted { IfOk result (λ entries. entries ≡ sorted_entries lines.now) }
+    ensures bounded { IfOk result (λ entries. IsTrue (list_all is_bounded_entry entries)) }
+{
+    let mut entries = raw_entries(alloc, lines)?;
+    sort(&mut entries)?;
+    Ok(entries)
+}
+
+/// Sorts by time. Entries of one time keep their order.
+fn sort(entries: &mut Entries) -> Result<(), AllocError>
+    requires { IsTrue (list_all is_bounded_entry entries.old) }
+    ensures sorted { IfOk result (λ _. entries.new ≡ stable_sort is_sooner entries.old) }
+    ensures bounded { IfOk result (λ _. IsTrue (list_all is_bounded_entry entries.new)) }
+{
+    entries.sort_by_key(|entry| entry.0)?;
+    Ok(())
+}
+
+/// What holds before all entries: what the first line puts in force, or the first entry with no saving where that line is
+/// ruled.
+#[tactic(auto, unfolding(crate::specs::Entries::first_span))]
+pub(crate) fn first_span(
+    alloc: Global,
+    lines: &[Line<'_>],
+    entries: &Entries,
+) -> Result<Option<FixedTimespan>, AllocError>
+    requires lines { All IsSound lines.now }
+    requires entries { IsTrue (list_all is_bounded_entry entries.now) }
+    ensures first { IfOk result (λ first. first ≡ first_span lines.now entries.now) }
+    ensures bounded { IfOk result (λ first. IfSome first (λ span. IsTrue (is_bounded_span span))) }
+{
+    match lines.first() {
+        Some(line) if line.is_ruled() => first_standard(alloc, entries.as_slice()),
+        Some(line) => Ok(Some(fixed_span(alloc, line)?)),
+        None => Ok(None),
+    }
+}
+
+/// A copy of what the first entry with no saving puts in force.
+fn first_standard(
+    alloc: Global,
+    entries: &[(i64, FixedTimespan)],
+) -> Result<Option<FixedTimespan>, AllocError>
+    requires { IsTrue (list_all is_bounded_entry entries.now) }
+    ensures first { IfOk result (λ first. first ≡ option_map (λ e. e.1) (find is_standard entries.now)) }
+    ensures bounded { IfOk result (λ first. IfSome first (λ span. IsTrue (is_bounded_span span))) }
+{
+    for entry in entries {
+        if is_standard(entry) {
+            return Ok(Some(entry.1.copy(alloc)?));
+        }
+    }
+    Ok(None)
+}
+
+/// Whether the entry has no saving.
+fn is_standard(entry: &(i64, FixedTimespan)) -> bool
+    ensures { result ≡ is_standard entry.now }
+{
+    entry.1.dst_offset == 0
+}

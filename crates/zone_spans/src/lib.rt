@@ -1,0 +1,19 @@
+//! The schedule of a zone: what its lines and rulesets put in force, and when.
+//!
+//! The rules are those of the crate `parse-zoneinfo`, but that the clock of a line's end is honoured.
+#![tactic(auto)]
+
+mod collapsing;
+mod entries;
+mod fault;
+mod firing;
+mod line;
+mod listing;
+mod span;
+mod transitions;
+mod year;
+
+pub use collapsing::collapse;
+pub use fault::SpanFault;
+pub use span::{FixedTimespan, FixedTimespanSet};
+pub use transitions::TableTransitions;

@@ -1,0 +1,108 @@
+//! The spans of a table's zones.
+ghost use Rattle.std.specs.Prelude.{◌≡◌, ℕ, All, IfErr, IfOk, IfSome, IsTrue, List, Ok, Option, Some, None, find, option_map};
+ghost use Rattle.std.specs.FinMap.{get};
+ghost use Rattle.std.specs.List.{list_all};
+ghost use Rattle.zone_table.specs.BoundedTables.{IsBoundedTable};
+ghost use Rattle.zone_table.specs.Bounds.{is_bounded_info};
+ghost use Rattle.zone_table.specs.Resolved.{resolved_in};
+ghost use Rattle.zone_table.specs.declared.zone.ZoneInfo.{ZoneInfo};
+ghost use Rattle.zone_spans.specs.Bounds.{IsSound, is_bounded, is_bounded_entry, is_bounded_span};
+ghost use Rattle.zone_spans.specs.Causes.{IsDue};
+ghost use Rattle.zone_spans.specs.Collapse.{LocalEndsRise, TimesRise};
+ghost use Rattle.zone_spans.specs.Compiled.{Tells, compiled, set_of_lines};
+ghost use Rattle.zone_spans.specs.Entries.{first_span, is_standard};
+ghost use Rattle.zone_spans.specs.Lines.{Rulesets};
+
+use crate::collapsing::collapse;
+use crate::entries::{first_span, sorted_entries};
+use crate::fault::{SpanFault, line_fault};
+use crate::line::{Line, zone_lines};
+use crate::span::FixedTimespanSet;
+use std::alloc::Global;
+use zone_table::{Table, ZoneInfo};
+
+/// What has rulesets and zones by their names.
+pub trait TableTransitions {
+    /// The rules of each ruleset.
+    ghost rulesets: { Self → Rulesets };
+
+    /// The lines of the zone that a name finds.
+    ghost zones: { Self → List ℕ → Option (List ZoneInfo) };
+
+    /// All numbers are small.
+    ghost IsBounded: { Self → Type 0 };
+
+    /// What is in force when in the zone that a name finds, or none where it finds none.
+    ///
+    /// # Errors
+    ///
+    /// The first fault of the zone in the order of `SpanFault`, or `NoMemory`.
+    fn timespans(&self, alloc: Global, zone_name: &str) -> Result<Option<FixedTimespanSet>, SpanFault>
+        requires { IsBounded self.now }
+        ensures told { Tells result (option_map (compiled (rulesets self.now)) (zones self.now zone_name.now)) }
+        ensures bounded { IfOk result (λ found. IfSome found (λ set. IsTrue (is_bounded set))) }
+        ensures times { IfOk result (λ found. IfSome found (λ set. TimesRise set.rest)) }
+        ensures law { IfOk result (λ found. IfSome found (λ set. LocalEndsRise set.rest)) };
+}
+
+impl TableTransitions for Table {
+    ghost rulesets = { λ table. get table.rulesets };
+
+    ghost zones = { resolved_in };
+
+    ghost IsBounded = { IsBoundedTable };
+
+    fn timespans(&self, alloc: Global, zone_name: &str) -> Result<Option<FixedTimespanSet>, SpanFault> {
+        match self.get_zoneset(zone_name) {
+            Some(lines) => match compile(alloc, self, lines) {
+                Ok(set) => Ok(Some(set)),
+                Err(fault) => Err(fault),
+            },
+            None => Ok(None),
+        }
+    }
+}
+
+/// The spans of a zone with these lines.
+#[tactic(auto, unfolding(crate::specs::Compiled::compiled))]
+fn compile(alloc: Global, table: &Table, infos: &[ZoneInfo]) -> Result<FixedTimespanSet, SpanFault>
+    requires table { IsBoundedTable table.now }
+    requires lines { IsTrue (list_all is_bounded_info infos.now) }
+    ensures ok { IfOk result (λ set. compiled (get table.now.rulesets) infos.now ≡ Ok set) }
+    ensures err { IfErr result (λ fault. IsDue fault (compiled (get table.now.rulesets) infos.now)) }
+    ensures bounded { IfOk result (λ set. IsTrue (is_bounded set)) }
+    ensures times { IfOk result (λ set. TimesRise set.rest) }
+    ensures law { IfOk result (λ set. LocalEndsRise set.rest) }
+{
+    match zone_lines(alloc, table, infos) {
+        Ok(lines) => match line_fault(infos, lines.as_slice()) {
+            Some(fault) => Err(fault),
+            None => expand(alloc, lines.as_slice()),
+        },
+        Err(fault) => Err(fault),
+    }
+}
+
+/// The spans of lines that have no fault of their own.
+#[tactic(auto, unfolding(crate::specs::Compiled::set_of_lines))]
+fn expand(alloc: Global, lines: &[Line<'_>]) -> Result<FixedTimespanSet, SpanFault>
+    requires { All IsSound lines.now }
+    ensures ok { IfOk result (λ set. set_of_lines lines.now ≡ Ok set) }
+    ensures err { IfErr result (λ fault. IsDue fault (set_of_lines lines.now)) }
+    ensures bounded { IfOk result (λ set. IsTrue (is_bounded set)) }
+    ensures times { IfOk result (λ set. TimesRise set.rest) }
+    ensures law { IfOk result (λ set. LocalEndsRise set.rest) }
+{
+    let entries = sorted_entries(alloc, lines)?;
+    match first_span(alloc, lines, &entries)? {
+        Some(first) => {
+            let mut set = FixedTimespanSet {
+                first,
+                rest: entries,
+            };
+            collapse(&mut set);
+            Ok(set)
+        }
+        None => Err(SpanFault::NoStandardSpan),
+    }
+}

@@ -1,0 +1,217 @@
+//! The firings of a line, year by year.
+ghost use Rattle.std.specs.Prelude.{◌≡◌, ◌<◌, ◌≤◌, ◌-◌, ◌≤ℤ◌, ◌++◌, pos, neg_ℤ, min, nat_abs, All, IfOk, IsTrue, Some, None, filter, length};
+ghost use Rattle.std.specs.List.{IsFirstBest, list_all};
+ghost use Rattle.zone_values.specs.Bounds.{are_small_seconds};
+ghost use Rattle.zone_table.specs.Moments.{applies_to_year, has_years, moment};
+ghost use Rattle.zone_spans.specs.Bounds.{IsSound, can_fire, has_moment, is_bounded_firing, is_end, is_small};
+ghost use Rattle.zone_spans.specs.Fires.{Fires, after};
+ghost use Rattle.zone_spans.specs.Firings.{firings_of_years, is_earlier, is_over, line_firings, year_firings, years_expanded};
+ghost use Rattle.zone_spans.specs.Windows.{line_end};
+
+use crate::firing::Firing;
+use crate::line::Line;
+use std::alloc::{AllocError, Global};
+use std::marker::Model;
+use zone_values::ChangeTime;
+use zone_table::{RuleInfo, instant_of};
+
+/// A rule that applies to a year.
+#[derive(Drop)]
+struct Applying<'a> {
+    rule: &'a RuleInfo,
+}
+
+impl<'a> Model for Applying<'a> {
+    ghost use Rattle.zone_table.specs.declared.rule.RuleInfo.{RuleInfo};
+
+    ghost Value = { RuleInfo };
+
+    ghost view = { λ applying. applying.rule.now };
+}
+
+impl<'a> Applying<'a> {
+    /// When the rule fires in the year.
+    fn moment(&self, year: i64, offset: i64, saving: i64) -> i64
+        requires first_year { pos 1 ≤ℤ year }
+        requires last_year { year ≤ℤ pos 9999 }
+        requires rule { IsTrue (has_moment year self.now) }
+        requires offset { IsTrue (are_small_seconds offset) }
+        requires saving { IsTrue (are_small_seconds saving) }
+        ensures value { result ≡ moment self.now year offset saving }
+        ensures small { IsTrue (is_small result) }
+    {
+        self.rule.absolute_datetime(year, offset, saving)
+    }
+}
+
+/// When a line ends, under an offset and a saving.
+#[tactic(auto, unfolding(crate::specs::Windows::line_end))]
+pub(crate) fn line_end(end: &ChangeTime, offset: i64, saving: i64) -> i64
+    requires end { IsTrue (is_end (Some end.now)) }
+    requires offset { IsTrue (are_small_seconds offset) }
+    requires saving { IsTrue (are_small_seconds saving) }
+    ensures value { result ≡ line_end end.now offset saving }
+    ensures least { neg_ℤ (pos 500_002_000_000) ≤ℤ result }
+    ensures greatest { result ≤ℤ pos 500_002_000_000 }
+{
+    instant_of(end.time_type(), end.to_timestamp(), offset, saving)
+}
+
+/// Whether the time is at or after the line's end under the saving in force.
+fn is_over(end: Option<ChangeTime>, offset: i64, saving: i64, time: i64) -> bool
+    requires end { IsTrue (is_end end) }
+    requires offset { IsTrue (are_small_seconds offset) }
+    requires saving { IsTrue (are_small_seconds saving) }
+    ensures { result ≡ is_over end offset saving time }
+{
+    match end {
+        Some(end) => line_end(&end, offset, saving) <= time,
+        None => false,
+    }
+}
+
+/// How many years from 1800 on a line expands: to 2099, or to the year of its end.
+#[tactic(auto, unfolding(crate::specs::Firings::years_expanded))]
+pub(crate) fn years_expanded(end: Option<ChangeTime>) -> u16
+    requires { IsTrue (is_end end) }
+    ensures value { result ≡ years_expanded end }
+    ensures most { result ≤ 300 }
+{
+    match end {
+        Some(end) => years_to(end.year()),
+        None => 300,
+    }
+}
+
+/// How many years there are from 1800 to that one, at most 300.
+fn years_to(year: i64) -> u16
+    requires first { pos 1 ≤ℤ year }
+    requires last { year ≤ℤ pos 9999 }
+    ensures value { result ≡ min 300 (nat_abs year - 1799) }
+{
+    if year < 1_800 {
+        0
+    } else if year < 2_100 {
+        (year - 1_799) as u16
+    } else {
+        300
+    }
+}
+
+/// Puts into `left` those of the rules that apply to the year.
+fn take_applying<'a>(
+    left: &mut Vec<Applying<'a>>,
+    rules: &'a [RuleInfo],
+    year: i64,
+) -> Result<(), AllocError>
+    requires { IsTrue (list_all has_years rules.now) }
+    ensures { IfOk result (λ _. left.new.items ≡ filter (λ r. applies_to_year r year) rules.now) }
+{
+    left.clear();
+    for rule in rules {
+        if rule.applies_to_year(year) {
+            left.push(Applying { rule })?;
+        }
+    }
+    Ok(())
+}
+
+/// The place of the first of the earliest of the rules.
+fn place_of_first(rules: &[Applying<'_>], year: i64, offset: i64, saving: i64) -> usize
+    requires some { 0 < length rules.now }
+    requires first_year { pos 1 ≤ℤ year }
+    requires last_year { year ≤ℤ pos 9999 }
+    requires rules { All (λ r. IsTrue (has_moment year r)) rules.now }
+    requires offset { IsTrue (are_small_seconds offset) }
+    requires saving { IsTrue (are_small_seconds saving) }
+    ensures { IsFirstBest (is_earlier year offset saving) rules.now (length rules.now) result }
+{
+    let mut best = 0;
+    for i in 1..rules.len() {
+        if rules[i].moment(year, offset, saving) < rules[best].moment(year, offset, saving) {
+            best = i;
+        }
+    }
+    best
+}
+
+/// Adds the firings of a year, which begins with that saving, and gives the saving after them.
+#[tactic(auto, unfolding(crate::specs::Firings::year_firings))]
+fn fire_year<'a>(
+    fired: &mut Vec<Firing<'a>>,
+    left: &mut Vec<Applying<'a>>,
+    line: &Line<'a>,
+    year: i64,
+    saving: i64,
+) -> Result<i64, AllocError>
+    requires first_year { pos 1 ≤ℤ year }
+    requires last_year { year ≤ℤ pos 9999 }
+    requires rules { IsTrue (list_all (can_fire year) line.now.rules) }
+    requires end { IsTrue (is_end line.now.end) }
+    requires offset { IsTrue (are_small_seconds line.now.info.offset) }
+    requires saving { IsTrue (are_small_seconds saving) }
+    requires bounded { IsTrue (list_all is_bounded_firing fired.old.items) }
+    ensures fired { IfOk result (λ last. Fires fired.new.items last
+        (after fired.old.items (year_firings year line.now.info.offset line.now.end saving line.now.rules))) }
+    ensures small { IfOk result (λ last. IsTrue (are_small_seconds last)) }
+    ensures bounded { IfOk result (λ _. IsTrue (list_all is_bounded_firing fired.new.items)) }
+{
+    take_applying(left, line.rules, year)?;
+    let offset = line.info.offset;
+    let mut in_force = saving;
+    'firing: while !left.is_empty() {
+        let place = place_of_first(left, year, offset, in_force);
+        let next = left.remove(place);
+        let time = next.moment(year, offset, in_force);
+        if is_over(line.end, offset, in_force, time) {
+            break;
+        }
+        let rule = next.rule;
+        in_force = rule.time_to_add;
+        fired.push(Firing { time, rule })?;
+    }
+    Ok(in_force)
+}
+
+/// The firings of a line, and the saving after them.
+#[derive(Drop)]
+pub(crate) struct LineFirings<'a> {
+    pub(crate) fired: Vec<Firing<'a>>,
+    pub(crate) last_saving: i64,
+}
+
+/// The firings of the years that a line expands.
+fn fire_years<'a>(alloc: Global, line: &Line<'a>) -> Result<LineFirings<'a>, AllocError>
+    requires { IsSound line.now }
+    ensures fired { IfOk result (λ r. Fires r.fired.items r.last_saving
+        (firings_of_years line.now.info.offset line.now.end line.now.rules (years_expanded line.now.end))) }
+    ensures small { IfOk result (λ r. IsTrue (are_small_seconds r.last_saving)) }
+    ensures bounded { IfOk result (λ r. IsTrue (list_all is_bounded_firing r.fired.items)) }
+{
+    let mut fired = Vec::new(alloc);
+    let mut left = Vec::new(alloc);
+    let mut last_saving = 0;
+    for i in 0..years_expanded(line.end) {
+        let year = i64::from(1_800 + i);
+        last_saving = fire_year(&mut fired, &mut left, line, year, last_saving)?;
+    }
+    Ok(LineFirings { fired, last_saving })
+}
+
+/// The firings of a line: none where it is not ruled.
+#[tactic(auto, unfolding(crate::specs::Firings::line_firings))]
+pub(crate) fn fire_line<'a>(alloc: Global, line: &Line<'a>) -> Result<LineFirings<'a>, AllocError>
+    requires { IsSound line.now }
+    ensures fired { IfOk result (λ r. Fires r.fired.items r.last_saving (line_firings line.now)) }
+    ensures small { IfOk result (λ r. IsTrue (are_small_seconds r.last_saving)) }
+    ensures bounded { IfOk result (λ r. IsTrue (list_all is_bounded_firing r.fired.items)) }
+{
+    if line.is_ruled() {
+        fire_years(alloc, line)
+    } else {
+        Ok(LineFirings {
+            fired: Vec::new(alloc),
+            last_saving: line.fixed_saving(),
+        })
+    }
+}
