@@ -1,5 +1,5 @@
 -- Date-times with an offset, as numbers.
-use Rattle.std.specs.Prelude.{ℤ}
+use Rattle.std.specs.Prelude.{◌≡◌, refl, ℤ}
 use Rattle.civil_base.specs.Instants.{instant_at}
 use Rattle.civil_base.specs.declared.offset_date_time.OffsetDateTime.{OffsetDateTime}
 
@@ -14,3 +14,15 @@ offset_of value = value.offset
 -- the nanoseconds from 1970-01-01 00:00 UTC
 unfoldable pub instant : OffsetDateTime → ℤ
 instant value = instant_at (local_of value) (offset_of value)
+
+-- that local time at that offset
+unfoldable pub at_offset : ℤ → ℤ → OffsetDateTime
+at_offset local offset = record { local = local; offset = offset }
+
+pub offset_of-at_offset : (local offset : ℤ) → offset_of (at_offset local offset) ≡ offset
+unfolding offset_of at_offset
+offset_of-at_offset local offset = refl
+
+pub instant-at_offset : (local offset : ℤ) → instant (at_offset local offset) ≡ instant_at local offset
+unfolding instant local_of offset_of at_offset
+instant-at_offset local offset = refl

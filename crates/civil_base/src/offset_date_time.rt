@@ -9,7 +9,7 @@ ghost use Rattle.calendar.specs.Dates.{year_of};
 ghost use Rattle.civil_base.specs.Instants.{local_at, nanos_of, seconds_of};
 ghost use Rattle.civil_base.specs.Layout.{day_part, time_part};
 ghost use Rattle.civil_base.specs.Ranges.{IsYear, is_in_years, IsInYears, IsOffset, far_seconds};
-ghost use Rattle.civil_base.specs.DateTimes.{local_of, offset_of, instant};
+ghost use Rattle.civil_base.specs.DateTimes.{local_of, offset_of, instant, at_offset};
 
 use crate::instants::{nanos_of, seconds_of};
 use crate::{ComponentRange, Date, PlainDateTime, Time, UtcOffset};
@@ -33,6 +33,7 @@ impl OffsetDateTime {
 
     /// That date and time at that offset.
     pub(crate) fn in_offset(local: PlainDateTime, offset: UtcOffset) -> OffsetDateTime
+        ensures value { result ≡ at_offset local offset }
         ensures local { local_of result ≡ local }
         ensures offset { offset_of result ≡ offset }
     {

@@ -47,7 +47,7 @@ impl Model for PlainDateTime {
 
 #[tactic(auto, using(crate::specs::RangeLaws::ranges))]
 impl PlainDateTime {
-    ghost use Rattle.civil_base.specs.DateTimes.{local_of, offset_of};
+    ghost use Rattle.civil_base.specs.DateTimes.{local_of, offset_of, at_offset};
 
     /// 1970-01-01 00:00:00.
     pub(crate) const UNIX_EPOCH: PlainDateTime = PlainDateTime { nanos: 0 };
@@ -139,6 +139,7 @@ impl PlainDateTime {
 
     /// The same date and time at that offset.
     pub fn assume_offset(self, offset: UtcOffset) -> OffsetDateTime
+        ensures value { result ≡ at_offset self offset }
         ensures local { local_of result ≡ self }
         ensures offset { offset_of result ≡ offset }
     {

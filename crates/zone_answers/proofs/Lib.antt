@@ -1,9 +1,7 @@
-pub mod LineLemmas
 pub mod RequestLemmas
 pub mod AnswerLemmas
-pub mod FaultLemmas
-pub mod JoinLemmas
 pub mod AnsweringLemmas
 pub mod ResponseLemmas
-pub mod LocalLemmas
 pub mod ReadBackLemmas
+pub mod ShowingLemmas
+pub mod ZoneLemmas

@@ -1,16 +1,17 @@
 -- What was written is of the due bytes.
 use Rattle.std.proofs.Common.{◌≡◌, ℕ, List, [], ◌∷◌, ◌++◌, Option, Some, None, IfSome, MatchOption, sym, ap, ◌∙◌}
 use Rattle.std.specs.Option.{option_map_or}
+use Rattle.zone_outside.specs.Outside.{GrewByPrefix}
 use Rattle.zone_answers.specs.AnswerLines.{ended}
 use Rattle.zone_answers.specs.Due.{answer_lines, due_bytes}
 use Rattle.zone_answers.specs.Faults.{IsValid, fault}
 use Rattle.zone_answers.specs.Faults as faults
 use Rattle.zone_answers.specs.FaultLines.{fault_line}
-use Rattle.zone_outside.specs.Outside.{GrewByPrefix}
 use Rattle.zone_answers.specs.Told.{fault_told, TellsOf}
+use Rattle.zone_answers.specs.Seen.{OutputSeen, Grew, GrewBySome}
+use Rattle.zone_answers.specs.Responses.{Responds, RespondsError}
 use Rattle.zone_answers.specs.declared.error.AnswerError.{AnswerError}
 use Rattle.zone_answers.specs.declared.error.AnswerError.TheVariants as errors
-use Rattle.zone_answers.specs.Responses.{Wrote, Responds, RespondsError}
 use Rattle.zone_answers.specs.declared.respond.Answered.{Answered}
 use Rattle.zone_answers.specs.declared.respond.Answered.TheVariants.{Done, Fault, Failed, NoMemory}
 
@@ -25,22 +26,27 @@ due_fault : (source requests : List ℕ) (f : faults.Fault) → fault source req
 unfolding due_bytes
 due_fault source requests f is = ap (λ o. option_map_or (λ f. fault_line f ++ 10 ∷ []) o (ended (answer_lines source requests))) (sym is)
 
-pub wrote : (source requests bytes : List ℕ) (before now : Option (List ℕ)) → bytes ≡ due_bytes source requests → IfSome before (λ had. now ≡ Some (had ++ bytes)) → Wrote source requests before now
-wrote source requests bytes None now is h = tt
-wrote source requests bytes (Some had) now is h = h ∙ ap (λ b. Some (had ++ b)) is
+grew_told : (taken now : Option (List ℕ)) (bytes due : List ℕ) → bytes ≡ due → IfSome taken (λ had. now ≡ Some (had ++ bytes)) → IfSome taken (λ had. now ≡ Some (had ++ due))
+grew_told None now bytes due is h = tt
+grew_told (Some had) now bytes due is h = h ∙ ap (λ b. Some (had ++ b)) is
 
-pub wrote_some : (source requests bytes : List ℕ) (before now : Option (List ℕ)) → bytes ≡ due_bytes source requests → IfSome before (λ had. GrewByPrefix had now bytes) →
-    IfSome before (λ had. GrewByPrefix had now (due_bytes source requests))
-wrote_some source requests bytes None now is h = tt
-wrote_some source requests bytes (Some had) now is h = rw (← is) h
+grew_some_told : (taken now : Option (List ℕ)) (bytes due : List ℕ) → bytes ≡ due → IfSome taken (λ had. GrewByPrefix had now bytes) → IfSome taken (λ had. GrewByPrefix had now due)
+grew_some_told None now bytes due is h = tt
+grew_some_told (Some had) now bytes due is h = rw (← is) h
+
+pub wrote : (source requests bytes : List ℕ) (before now : OutputSeen) → bytes ≡ due_bytes source requests → Grew before now bytes → Grew before now (due_bytes source requests)
+wrote source requests bytes before now is h = grew_told before.taken now.taken bytes (due_bytes source requests) is h
+
+pub wrote_some : (source requests bytes : List ℕ) (before now : OutputSeen) → bytes ≡ due_bytes source requests → GrewBySome before now bytes → GrewBySome before now (due_bytes source requests)
+wrote_some source requests bytes before now is h = grew_some_told before.taken now.taken bytes (due_bytes source requests) is h
 
 -- an error's answer is an answer
-pub error_response : (source requests : List ℕ) (error : AnswerError) (before now : Option (List ℕ)) (faults_before faults_now : ℕ) (result : Answered) →
-    TellsOf (fault source requests) error → RespondsError (fault_told error) before now faults_before faults_now result → Responds source requests before now faults_before faults_now result
-error_response source requests error before now fb fn result tells h = by_told (fault_told error) result tells h
+pub error_response : (source requests : List ℕ) (error : AnswerError) (before now : OutputSeen) (result : Answered) →
+    TellsOf (fault source requests) error → RespondsError (fault_told error) before now result → Responds source requests before now result
+error_response source requests error before now result tells h = by_told (fault_told error) result tells h
   where
     by_told : (told : Option faults.Fault) (result : Answered) → MatchOption told (error ≡ errors.NoMemory) (λ f. fault source requests ≡ Some f) →
-        RespondsError told before now fb fn result → Responds source requests before now fb fn result
+        RespondsError told before now result → Responds source requests before now result
     by_told told Done is h = absurd h
     by_told None Fault is h = absurd h
     by_told (Some f) Fault is h = (λ none. let no = sym is ∙ none in absurd (cc), wrote source requests _ before now (due_fault source requests f is) h)

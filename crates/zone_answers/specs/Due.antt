@@ -1,41 +1,53 @@
 -- The bytes that are due for a source and its requests.
 use Rattle.std.specs.Prelude.{ℕ, ℤ, Option, List, [], ◌∷◌, ◌++◌, map, codes}
+use Rattle.std.specs.List.{flat_map}
 use Rattle.std.specs.Option.{option_map_or}
-use Rattle.zone_table.specs.declared.zone.ZoneInfo.{ZoneInfo}
 use Rattle.civil_base.specs.Layout.{zoned_text}
 use Rattle.zone_answers.specs.AnswerLines.{ended}
 use Rattle.zone_answers.specs.Faults.{fault}
 use Rattle.zone_answers.specs.FaultLines.{fault_line}
-use Rattle.zone_answers.specs.Lines.{lines_of}
+use Rattle.zone_answers.specs.Found.{Found, schedule_found, found_in}
 use Rattle.zone_answers.specs.Requests.{Request, at, local, name_of, request_of}
-use Rattle.zone_answers.specs.Schedules.{Schedule, schedule_of, total_at, instants}
-use Rattle.zone_answers.specs.Zones.{zone_in}
+use Rattle.zone_source.specs.Lines.{lines_of}
+use Rattle.zone_spans.specs.Schedules.{Schedule, total_at}
+use Rattle.tz_lookup.specs.InForce.{in_force, all_in_force}
+
+-- the instants that answer a request of a zone with this schedule, by time, each at the offset in force
+unfoldable pub shown_at : Schedule → Request → List (ℤ × ℤ)
+shown_at schedule (at name instant) = in_force (total_at schedule) instant ∷ []
+shown_at schedule (local name time) = all_in_force (total_at schedule) time
+
+-- these texts, each after a bar
+abbrev pub after_bars : List (List ℕ) → List ℕ
+after_bars [] = []
+after_bars (text ∷ texts) = codes " | " ++ text ++ after_bars texts
 
 -- these texts with bars between them
 abbrev pub with_bars : List (List ℕ) → List ℕ
 with_bars [] = codes "none"
-with_bars (text ∷ []) = text
-with_bars (text ∷ more ∷ texts) = text ++ codes " | " ++ with_bars (more ∷ texts)
+with_bars (text ∷ texts) = text ++ after_bars texts
 
--- the texts of the instants that a zone with this schedule reads as the local time
-abbrev pub local_line : Schedule → ℤ → List ℕ
-local_line schedule time = with_bars (map (λ instant. zoned_text instant (total_at schedule instant)) (instants (total_at schedule) time))
+abbrev pub text_shown : ℤ × ℤ → List ℕ
+text_shown shown = zoned_text shown.0 shown.1
 
--- the line of a request of a zone with this schedule
-abbrev pub answer_at : Schedule → Request → List ℕ
-answer_at schedule (at name instant) = zoned_text instant (total_at schedule instant)
-answer_at schedule (local name time) = local_line schedule time
+-- what is shown by a request line that is not refused, where names find this
+unfoldable pub shown_by : (List ℕ → Found) → List ℕ → List (ℤ × ℤ)
+shown_by names line = option_map_or (λ request. shown_at (schedule_found (names (name_of request))) request) (request_of line) []
 
--- the line of a request that is not refused, where names find these zones
-abbrev pub answer_to : (List ℕ → Option (List ZoneInfo)) → Request → List ℕ
-answer_to zones request = option_map_or (λ zone. answer_at (schedule_of zone) request) (zones (name_of request)) []
+abbrev pub line_shown : List (ℤ × ℤ) → List ℕ
+line_shown shown = with_bars (map text_shown shown)
 
-abbrev pub answer_line : (List ℕ → Option (List ZoneInfo)) → List ℕ → List ℕ
-answer_line zones line = option_map_or (answer_to zones) (request_of line) []
+-- all that is shown, in order
+unfoldable pub shown : List ℕ → List ℕ → List (ℤ × ℤ)
+shown source requests = flat_map (shown_by (found_in source)) (lines_of requests)
+
+-- the line of a request line that is not refused
+abbrev pub answer_line : (List ℕ → Found) → List ℕ → List ℕ
+answer_line names line = line_shown (shown_by names line)
 
 -- one line for each request, in order
 unfoldable pub answer_lines : List ℕ → List ℕ → List (List ℕ)
-answer_lines source requests = map (answer_line (zone_in source)) (lines_of requests)
+answer_lines source requests = map (answer_line (found_in source)) (lines_of requests)
 
 -- the lines, or the line of the fault, each followed by a line feed
 unfoldable pub due_bytes : List ℕ → List ℕ → List ℕ

@@ -1,12 +1,10 @@
--- Texts that are read back.
-use Rattle.std.specs.Prelude.{◌≡◌, ℕ, List, ℤ, pos, ◌+ℤ◌, ◌*ℤ◌}
-use Rattle.civil_base.specs.Layout.{zoned_text}
+-- Instants whose texts are read back.
+use Rattle.std.specs.Prelude.{ℤ}
+use Rattle.civil_base.specs.Instants.{local_at}
 use Rattle.civil_base.specs.Ranges.{IsInYears, IsOffset}
 
--- the text of an instant at an offset, whose local date lies in the years: `read_zoned` reads it as that instant at that offset
-pub record IsReadBack (text : List ℕ) : Type 0 where
-  pub instant : ℤ
-  pub offset : ℤ
-  pub years : IsInYears (instant +ℤ pos 1000000000 *ℤ offset)
-  pub range : IsOffset offset
-  pub text_is : text ≡ zoned_text instant offset
+-- `read_zoned` reads the text of the instant at the offset as that instant at that offset: the offset is one, and the
+-- local date lies in the years
+pub record IsReadBack (shown : ℤ × ℤ) : Type 0 where
+  pub years : IsInYears (local_at shown.0 shown.1)
+  pub range : IsOffset shown.1

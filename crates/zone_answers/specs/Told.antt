@@ -1,27 +1,50 @@
 -- The fault that the code's error tells; want of memory tells none.
 use Rattle.std.specs.Prelude.{◌≡◌, ℕ, Option, Some, None, MatchOption, option_map}
 use Rattle.zone_values.specs.Faults.{fault_of}
-use Rattle.zone_answers.specs.Faults.{Fault, source_not_text, bad_line, bad_join, not_built, request_not_text, bad_request, unknown_zone, offset_range, range}
+use Rattle.zone_source.specs.Faults as source
+use Rattle.zone_source.specs.Told.{told_by_source, IsTold}
+use Rattle.zone_source.specs.declared.error.SourceError.{SourceError}
+use Rattle.zone_spans.specs.declared.fault.SpanFault.{SpanFault}
+use Rattle.zone_spans.specs.declared.fault.SpanFault.TheVariants as span_fault
+use Rattle.tz_lookup.specs.declared.compile.ZoneFault.{ZoneFault}
+use Rattle.tz_lookup.specs.declared.compile.ZoneFault.TheVariants as zone_fault
+use Rattle.zone_answers.specs.Faults.{Fault, of_source, request_not_text, bad_request, unknown_zone, bad_schedule, offset_range, range}
 use Rattle.zone_answers.specs.declared.error.AnswerError.{AnswerError}
 use Rattle.zone_answers.specs.declared.error.AnswerError.TheVariants as error
 use Rattle.zone_answers.specs.declared.error.Side.{Side}
 use Rattle.zone_answers.specs.declared.error.Side.TheVariants.{Source, Requests}
 
 abbrev pub not_text : Side → ℕ → Fault
-not_text Source n = source_not_text n
+not_text Source n = of_source (source.not_text n)
 not_text Requests n = request_not_text n
+
+-- why a zone has no schedule
+abbrev pub span_told : SpanFault → Option SpanFault
+span_told span_fault.NoMemory = None
+span_told fault = Some fault
 
 abbrev pub fault_told : AnswerError → Option Fault
 fault_told (error.NotText side n) = Some (not_text side n)
-fault_told (error.Line n e) = option_map (bad_line n) (fault_of e)
-fault_told (error.Build n kind) = Some (bad_join n kind)
-fault_told (error.NotBuilt n) = Some (not_built n)
+fault_told (error.Line n e) = option_map (λ f. of_source (source.bad_line n f)) (fault_of e)
+fault_told (error.Build n kind) = Some (of_source (source.bad_join n kind))
 fault_told (error.Request n) = Some (bad_request n)
 fault_told (error.UnknownZone n) = Some (unknown_zone n)
+fault_told (error.Schedule n fault) = option_map (bad_schedule n) (span_told fault)
 fault_told (error.OffsetRange n) = Some (offset_range n)
 fault_told (error.Range n) = Some (range n)
 fault_told error.NoMemory = None
 
--- the error tells this fault; it tells none only as want of memory, so no line's error is that
+-- the error tells the fault that was found, or memory ran out
 abbrev pub TellsOf : Option Fault → AnswerError → Type 0
-TellsOf found e = MatchOption (fault_told e) (e ≡ error.NoMemory) (λ f. found ≡ Some f)
+TellsOf found e = IsTold fault_told error.NoMemory found e
+
+-- it tells the fault of the source
+abbrev pub TellsSame : SourceError → AnswerError → Type 0
+TellsSame source_error e = MatchOption (told_by_source source_error) (e ≡ error.NoMemory) (λ f. fault_told e ≡ Some (of_source f))
+
+-- why the zone that the nth request names can't be asked
+abbrev pub RefusesZone : ℕ → ZoneFault → AnswerError → Type 0
+RefusesZone n zone_fault.UnknownZone e = e ≡ error.UnknownZone n
+RefusesZone n (zone_fault.Schedule fault) e = e ≡ error.Schedule n fault
+RefusesZone n zone_fault.OffsetRange e = e ≡ error.OffsetRange n
+RefusesZone n zone_fault.NoMemory e = e ≡ error.NoMemory

@@ -1,9 +1,8 @@
 //! Why a source or a request is refused.
 
-ghost use Rattle.std.specs.Prelude.{◌≡◌, is_none};
-ghost use Rattle.zone_values.specs.Faults.{fault_of};
-
 use std::alloc::AllocError;
+use tz_lookup::{SpanFault, ZoneFault};
+use zone_source::{BuildKind, SourceError};
 
 /// The text that a line stands in.
 #[derive(Clone, Copy, Debug, PartialEq, Eq)]
@@ -12,19 +11,6 @@ pub enum Side {
     Source,
     /// The requests.
     Requests,
-}
-
-/// Why a source line does not join those before it.
-#[derive(Clone, Copy, Debug, PartialEq, Eq)]
-pub enum BuildKind {
-    /// It is a continuation with no zone to belong to.
-    SurpriseContinuationLine,
-    /// It is a Zone line under a ruleset that no earlier line defines.
-    UnknownRuleset,
-    /// It is a link with the new name of an earlier link.
-    DuplicateLink,
-    /// It is a Zone line with the name of an earlier zone.
-    DuplicateZone,
 }
 
 /// The first fault of a source and its requests. Lines are numbered from 1.
@@ -36,12 +22,12 @@ pub enum AnswerError {
     Line(usize, zone_line::Error),
     /// The source line reads, and does not join those before it.
     Build(usize, BuildKind),
-    /// The source line is a continuation, or a Zone line under a ruleset: a form that isn't built yet.
-    NotBuilt(usize),
     /// The request is in no form.
     Request(usize),
     /// The request names no zone.
     UnknownZone(usize),
+    /// The named zone has no schedule, for this; never for want of memory.
+    Schedule(usize, SpanFault),
     /// The named zone has an offset of 26 hours or more.
     OffsetRange(usize),
     /// The UTC date or the local date of the asked instant lies outside the years -9999 to 9999.
@@ -61,36 +47,36 @@ impl From<AllocError> for AnswerError {
     }
 }
 
-impl AnswerError {
-    ghost use Rattle.std.specs.Prelude.{◌≡◌, is_some, is_none, MatchOption, Some};
-    ghost use Rattle.zone_values.specs.Faults.{fault_of};
-    ghost use Rattle.zone_table.specs.Built.{refusal_of};
-    ghost use Rattle.zone_answers.specs.Faults.{bad_line, bad_join, kind_of};
-    ghost use Rattle.zone_answers.specs.Told.{fault_told};
-    ghost use Rattle.zone_answers.specs.declared.error.AnswerError.TheVariants.{NoMemory};
+impl From<SourceError> for AnswerError {
+    ghost use Rattle.zone_answers.specs.Told.{TellsSame};
 
-    /// The refusal of the nth source line, or want of memory.
-    pub(crate) fn of_line(number: usize, error: zone_line::Error) -> AnswerError
-        ensures { MatchOption (fault_of error) (result ≡ NoMemory) (λ f. fault_told result ≡ Some (bad_line number f)) }
-    {
+    ghost from_gives = { TellsSame };
+
+    fn from(error: SourceError) -> AnswerError {
         match error {
-            zone_line::Error::NoMemory => AnswerError::NoMemory,
-            error => AnswerError::Line(number, error),
+            SourceError::NotText(number) => AnswerError::NotText(Side::Source, number),
+            SourceError::Line(number, error) => AnswerError::Line(number, error),
+            SourceError::Build(number, kind) => AnswerError::Build(number, kind),
+            SourceError::NoMemory => AnswerError::NoMemory,
         }
     }
+}
 
-    /// Why the nth source line does not join those before it, or want of memory.
-    pub(crate) fn of_join(number: usize, error: &zone_table::Error) -> AnswerError
-        ensures { MatchOption (refusal_of error.now) (result ≡ NoMemory) (λ refused. fault_told result ≡ Some (bad_join number (kind_of refused))) }
+impl AnswerError {
+    ghost use Rattle.std.specs.Prelude.{◌≡◌, is_some};
+    ghost use Rattle.tz_lookup.specs.Compiles.{IsZoneFault};
+    ghost use Rattle.zone_answers.specs.Told.{fault_told, RefusesZone};
+
+    /// Why the zone that the nth request names can't be asked, or want of memory.
+    pub(crate) fn of_zone(number: usize, fault: ZoneFault) -> AnswerError
+        ensures { RefusesZone number fault result }
     {
-        let kind = match error {
-            zone_table::Error::SurpriseContinuationLine => BuildKind::SurpriseContinuationLine,
-            zone_table::Error::UnknownRuleset(_) => BuildKind::UnknownRuleset,
-            zone_table::Error::DuplicateLink(_) => BuildKind::DuplicateLink,
-            zone_table::Error::DuplicateZone => BuildKind::DuplicateZone,
-            zone_table::Error::NoMemory => return AnswerError::NoMemory,
-        };
-        AnswerError::Build(number, kind)
+        match fault {
+            ZoneFault::UnknownZone => AnswerError::UnknownZone(number),
+            ZoneFault::Schedule(fault) => AnswerError::Schedule(number, fault),
+            ZoneFault::OffsetRange => AnswerError::OffsetRange(number),
+            ZoneFault::NoMemory => AnswerError::NoMemory,
+        }
     }
 
     /// Whether it is a fault of a text, and not want of memory.
@@ -98,15 +84,10 @@ impl AnswerError {
         ensures { result ≡ is_some (fault_told self.now) }
     {
         match self {
-            AnswerError::NotText(_, _)
-            | AnswerError::Build(_, _)
-            | AnswerError::NotBuilt(_)
-            | AnswerError::Request(_)
-            | AnswerError::UnknownZone(_)
-            | AnswerError::OffsetRange(_)
-            | AnswerError::Range(_) => true,
             AnswerError::Line(_, error) => error.kind().is_some(),
+            AnswerError::Schedule(_, fault) => *fault != SpanFault::NoMemory,
             AnswerError::NoMemory => false,
+            _ => true,
         }
     }
 }

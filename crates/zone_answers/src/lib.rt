@@ -5,27 +5,23 @@ mod answer_lines;
 mod answering;
 mod error;
 mod fault;
-pub mod lines;
 mod request;
 mod respond;
 mod running;
-mod schedule;
-mod status;
-mod table;
-mod text;
+mod showing;
+mod zones;
 
 pub use answer_lines::Answers;
-pub use answering::answers;
-pub use error::{AnswerError, BuildKind, Side};
+pub use answering::{answers, read_table};
+pub use error::{AnswerError, Side};
 pub use fault::write_fault;
-pub use lines::Lines;
 pub use running::{run, run_surely};
-pub use status::Status;
-pub use table::read_table;
-pub use zone_outside::{
-    Failed, FileShelf, MemShelf, MemSink, MemSource, Shelf, Sink, Source, StdSink, StdSource,
-    SureShelf, SureSink, SureSource,
+pub use tz_lookup::ZoneFault;
+pub use zone_source::{
+    BuildKind, Failed, FileShelf, Lines, MemShelf, MemSink, MemSource, Shelf, Sink, Source, Status,
+    StdSink, StdSource, SureShelf, SureSink, SureSource,
 };
+pub use zones::open_zone;
 
 #[cfg(test)]
 mod tests;

@@ -1,6 +1,7 @@
 //! The answers to two texts, written to an output.
 ghost use Rattle.std.specs.Prelude.{◌≤◌, length};
 ghost use Rattle.zone_answers.specs.Responses.{Responds, RespondsError};
+ghost use Rattle.zone_answers.specs.Seen.{output_seen};
 ghost use Rattle.zone_answers.specs.Told.{fault_told};
 
 use crate::answering::answers;
@@ -8,7 +9,7 @@ use crate::error::AnswerError;
 use crate::fault::write_fault;
 use std::alloc::Global;
 use zone_line::LineParser;
-use zone_outside::{LIMIT, Sink, write_all};
+use zone_source::{LIMIT, Sink, write_all};
 
 /// What was written.
 #[derive(Clone, Copy, Debug, PartialEq, Eq)]
@@ -24,7 +25,7 @@ pub(crate) enum Answered {
 }
 
 /// Answers the requests over the source, and writes the lines or the first fault.
-pub(crate) fn answer_all<O: Sink>(
+pub(crate) fn respond<O: Sink>(
     alloc: Global,
     parser: &LineParser,
     source: &[u8],
@@ -33,7 +34,7 @@ pub(crate) fn answer_all<O: Sink>(
 ) -> Answered
     requires source { length source.now ≤ LIMIT }
     requires requests { length requests.now ≤ LIMIT }
-    ensures { Responds source.now requests.now (O.taken output.old) (O.taken output.new) (O.faults output.old) (O.faults output.new) result }
+    ensures { Responds source.now requests.now (output_seen O.Sink output.old) (output_seen O.Sink output.new) result }
 {
     match answers(alloc, parser, source, requests) {
         Ok(lines) => match write_all(output, lines.as_bytes()) {
@@ -46,7 +47,7 @@ pub(crate) fn answer_all<O: Sink>(
 
 /// Writes the line of the fault, if the error tells one.
 fn write_error<O: Sink>(output: &mut O, error: &AnswerError) -> Answered
-    ensures { RespondsError (fault_told error.now) (O.taken output.old) (O.taken output.new) (O.faults output.old) (O.faults output.new) result }
+    ensures { RespondsError (fault_told error.now) (output_seen O.Sink output.old) (output_seen O.Sink output.new) result }
 {
     if !error.is_fault() {
         return Answered::NoMemory;

@@ -11,3 +11,4 @@ pub mod Causes
 pub mod Compiled
 pub mod Bounds
 pub mod Schedules
+pub mod ScheduleLaws

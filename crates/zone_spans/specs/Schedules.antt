@@ -1,7 +1,9 @@
 -- The schedule of a zone, and the offset that it has in force.
-use Rattle.std.specs.Prelude.{ℕ, zero, suc, Bool, ◌&&◌, List, [], ◌∷◌, map, filter, Result, Ok, Err, ℤ, pos, ◌-ℤ◌, ◌*ℤ◌, int_le, nat_le, nat_abs}
+use Rattle.std.specs.Prelude.{ℕ, zero, suc, Bool, ◌&&◌, List, [], ◌∷◌, map, filter, Result, Ok, Err, ℤ, pos, ◌-ℤ◌, ◌*ℤ◌, int_le}
 use Rattle.std.specs.List.{list_all}
 use Rattle.std.specs.Ordering.{int_eq}
+use Rattle.civil_base.specs.Instants.{instant_at}
+use Rattle.civil_base.specs.Ranges.{is_offset}
 use Rattle.zone_table.specs.declared.zone.ZoneInfo.{ZoneInfo}
 use Rattle.zone_spans.specs.Compiled.{compiled}
 use Rattle.zone_spans.specs.Entries.{total}
@@ -38,24 +40,23 @@ last_total total (shift ∷ shifts) = last_total shift.1 shifts
 unfoldable pub total_at : Schedule → ℤ → ℤ
 total_at schedule instant = last_total schedule.first (filter (λ shift. int_le (shift.0 *ℤ pos 1000000000) instant) schedule.shifts)
 
--- less than 26 hours in size
-abbrev pub is_offset : ℤ → Bool
-is_offset total = nat_le (nat_abs total) 93599
-
 -- every total is an offset
 abbrev pub is_in_offset_range : Schedule → Bool
 is_in_offset_range schedule = is_offset schedule.first && list_all (λ shift. is_offset shift.1) schedule.shifts
 
--- the first whole numbers from -93,599 on, the greatest first
-abbrev pub offsets_below : ℕ → List ℤ
-offsets_below zero = []
-offsets_below (suc n) = (pos n -ℤ pos 93599) ∷ offsets_below n
+-- n whole numbers, from the first on down
+abbrev pub down_from : ℤ → ℕ → List ℤ
+down_from o zero = []
+down_from o (suc n) = o ∷ down_from (o -ℤ pos 1) n
+
+-- how many there are from -93,599 to 93,599
+unfoldable pub offset_count : ℕ
+offset_count = 187199
 
 -- the offsets, from 93,599 down to -93,599
 unfoldable pub offsets : List ℤ
-offsets = offsets_below 187199
+offsets = down_from (pos 93599) offset_count
 
 -- the instants that are read as a local time where this total is in force at each: by time, those that some offset gives
 unfoldable pub instants : (ℤ → ℤ) → ℤ → List ℤ
-instants total time =
-    map (λ o. time -ℤ pos 1000000000 *ℤ o) (filter (λ o. int_eq (total (time -ℤ pos 1000000000 *ℤ o)) o) offsets)
+instants total time = map (instant_at time) (filter (λ o. int_eq (total (instant_at time o)) o) offsets)

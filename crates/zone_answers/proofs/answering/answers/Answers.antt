@@ -1,7 +1,7 @@
 use Rattle.std.proofs.Common.{sym, ◌∙◌}
 use Rattle.std.proofs.lemmas.Result.{MatchResult-weaker, IfOk-weaker, on_ok_weaker, err_from_is_err_and}
-use Rattle.zone_answers.proofs.ReadBackLemmas.{lines_back}
 use Rattle.zone_answers.proofs.AnsweringLemmas.{lines_are, fault_is, fault_first, told_along}
+use Rattle.zone_answers.proofs.ReadBackLemmas.{shown_back}
 use Rattle.zone_answers.proofs.answering.answers.Goals as goal
 
 pub returns-in_err-table-clause-err : goal.returns-in_err-table-clause-err
@@ -17,7 +17,7 @@ returns-clause-valid c =
 pub returns-clause-read_back : goal.returns-clause-read_back
 returns-clause-read_back c =
     let same = fault_is c.in_ok-table.table c.args.source.now c.args.requests.now c.in_ok-table.ensures.ok c.in_ok-table.ensures.table in
-    on_ok_weaker c.answer_all.result (λ none. lines_back c.args.source.now c.args.requests.now (sym same ∙ none)) c.answer_all.ensures.valid
+    on_ok_weaker c.answer_all.result (λ none. shown_back c.args.source.now c.args.requests.now (sym same ∙ none)) c.answer_all.ensures.valid
 
 pub returns-clause-lines : goal.returns-clause-lines
 returns-clause-lines c =

@@ -1,0 +1,14 @@
+use Rattle.std.proofs.Common.{◌≡◌, ◌+◌, ◌-◌, ◌<◌, ◌++◌, length}
+use Rattle.std.specs.Option.{ForSome}
+use Rattle.tz_lookup.specs.Sets.{schedule_of}
+use Rattle.tz_lookup.specs.Scans.{spans_from, so_far}
+use Rattle.tz_lookup.proofs.scan.first_spans_at.Given as goal
+
+-- what was found and what is left to look at make the whole
+abbrev pub invariant-loop-i : goal.invariant-loop-i
+invariant-loop-i l = record {
+  within : ForSome l.first (λ k. k < l.i);
+  exact :
+      so_far l.first ++ spans_from (schedule_of l.set) l.second l.i (length l.set.others + 1 - l.i)
+      ≡ spans_from (schedule_of l.set) l.second 0 (length l.set.others + 1);
+}

@@ -1,0 +1,26 @@
+-- Instants and the offsets in force at them, as a zone gives a total for each instant.
+use Rattle.std.specs.Prelude.{◌≡◌, ◌↔◌, List, map, Contains, AllPairs, ℤ, pos, ◌+ℤ◌, ◌*ℤ◌, ◌<ℤ◌}
+use Rattle.civil_base.specs.DateTimes.{instant, offset_of}
+use Rattle.civil_base.specs.declared.offset_date_time.OffsetDateTime.{OffsetDateTime}
+use Rattle.zone_spans.specs.Schedules.{instants}
+
+-- an instant, and the total in force at it
+abbrev pub in_force : (ℤ → ℤ) → ℤ → ℤ × ℤ
+in_force total t = (t, total t)
+
+-- the instant and the offset of a date-time
+unfoldable pub shown_of : OffsetDateTime → ℤ × ℤ
+shown_of value = (instant value, offset_of value)
+
+-- the instants that are read as a local time, by time, each with the total in force
+unfoldable pub all_in_force : (ℤ → ℤ) → ℤ → List (ℤ × ℤ)
+all_in_force total time = map (in_force total) (instants total time)
+
+-- the totals in force at those instants, by time
+unfoldable pub totals_at : (ℤ → ℤ) → ℤ → List ℤ
+totals_at total time = map total (instants total time)
+
+-- in other words of the list of those instants: it rises, and holds an instant exactly where that is read as the local time
+pub record AreInstants (total : ℤ → ℤ) (time : ℤ) (ts : List ℤ) : Type 0 where
+  pub rising : AllPairs (λ s t. s <ℤ t) ts
+  pub exact : (t : ℤ) → Contains ts t ↔ (t +ℤ pos 1000000000 *ℤ total t ≡ time)

@@ -1,0 +1,12 @@
+pub mod Spans
+pub mod Sets
+pub mod Search
+pub mod Faults
+pub mod InForce
+pub mod Answers
+pub mod Results
+pub mod Scans
+pub mod InstantsLeft
+pub mod FixedZones
+pub mod Zones
+pub mod Compiles

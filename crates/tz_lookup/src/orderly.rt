@@ -1,0 +1,29 @@
+//! Whether a set is orderly.
+ghost use Rattle.std.specs.Prelude.{◌↔◌, IsTrue, ◌≤ℤ◌};
+ghost use Rattle.tz_lookup.specs.Sets.{schedule_of, IsAccepted, IsOrderlyZone};
+
+use crate::set::FixedTimespanSet;
+
+/// Whether local starts don't fall, local ends don't fall, and no local time lies in a span and in the next but one, of a
+/// set that can be looked up. It looks at each span once; a zone of the set remembers it.
+pub fn is_orderly(set: &FixedTimespanSet) -> bool
+    requires { IsAccepted (schedule_of set.now) }
+    ensures { IsTrue result ↔ IsOrderlyZone (schedule_of set.now) }
+{
+    for i in 1..set.entry_count() {
+        let start = set.start_of(i);
+        let next_start = set.start_of(i + 1);
+        let last_end = set.end_of(i - 1);
+        let end = set.end_of(i);
+        if !are_in_order(start, next_start, last_end, end) {
+            return false;
+        }
+    }
+    true
+}
+
+fn are_in_order(start: i64, next_start: i64, last_end: i64, end: i64) -> bool
+    ensures { IsTrue result ↔ ((start ≤ℤ next_start) × (last_end ≤ℤ end) × (last_end ≤ℤ next_start)) }
+{
+    start <= next_start && last_end <= end && last_end <= next_start
+}

@@ -1,6 +1,0 @@
-use Rattle.zone_answers.specs.LinesLeft.{lines_left}
-use Rattle.zone_answers.proofs.JoinLemmas.{HasJoined}
-use Rattle.zone_answers.proofs.table.read_table.Given as goal
-
-abbrev pub invariant-loop-line : goal.invariant-loop-line
-invariant-loop-line l = HasJoined l.source l.builder l.number (lines_left l.line-iterator)

@@ -1,0 +1,125 @@
+//! The text that answers a request.
+ghost use Rattle.std.specs.Prelude.{◌≡◌, ◌++◌, ◌∷◌, [], true, false, IfOk, IfNone, IfSome, IsTrue, OnOk, map};
+ghost use Rattle.civil_base.specs.Layout.{zoned_text};
+ghost use Rattle.tz_lookup.specs.Answers.{listed};
+ghost use Rattle.tz_lookup.specs.InForce.{all_in_force, in_force, shown_of};
+ghost use Rattle.tz_lookup.specs.InstantsLeft.{dates_left};
+ghost use Rattle.tz_lookup.specs.Sets.{schedule_of};
+ghost use Rattle.tz_lookup.specs.Zones.{set_of};
+ghost use Rattle.zone_spans.specs.Schedules.{total_at};
+ghost use Rattle.zone_answers.specs.Asked.{asked};
+ghost use Rattle.zone_answers.specs.Due.{line_shown, shown_at, text_shown};
+ghost use Rattle.zone_answers.specs.Faults.{are_in_years, has_dates};
+
+use crate::request::Request;
+use civil_base::{OffsetDateTime, PlainDateTime, write_zoned};
+use std::alloc::AllocError;
+use tz_lookup::{InstantsLocal, OffsetDateTimeExt, OffsetResult, PrimitiveDateTimeExt, Tz};
+
+/// Adds the line of a request of the zone to an empty text, without its LF. It adds none and answers no where the UTC date
+/// or the local date of an asked instant lies outside the years -9999 to 9999.
+#[tactic(auto, unfolding(crate::specs::Due::shown_at, crate::specs::Faults::has_dates))]
+pub(crate) fn show(
+    zone: &Tz<'_>,
+    request: &Request<'_>,
+    text: &mut Vec<u8>,
+) -> Result<bool, AllocError>
+    requires { text.old.items ≡ [] }
+    ensures dates { IfOk result (λ has. has ≡ has_dates (schedule_of (set_of zone.now)) (asked request.now)) }
+    ensures line { IfOk result (λ has. IsTrue has → text.new.items ≡ line_shown (shown_at (schedule_of (set_of zone.now)) (asked request.now))) }
+{
+    match request {
+        Request::At(_, nanoseconds) => match date_time_at(zone, *nanoseconds) {
+            Some(shown) => {
+                add_text(&shown, text)?;
+                Ok(true)
+            }
+            None => Ok(false),
+        },
+        Request::Local(_, local) => {
+            show_local(zone, local, text)?;
+            Ok(true)
+        }
+    }
+}
+
+/// The date and time in the zone at an instant, if its UTC date and its local date lie in the years -9999 to 9999.
+fn date_time_at(zone: &Tz<'_>, nanoseconds: i128) -> Option<OffsetDateTime>
+    ensures none { IfNone result (are_in_years nanoseconds (total_at (schedule_of (set_of zone.now)) nanoseconds) ≡ false) }
+    ensures some { IfSome result (λ _. are_in_years nanoseconds (total_at (schedule_of (set_of zone.now)) nanoseconds) ≡ true) }
+    ensures shown { IfSome result (λ shown. shown_of shown ≡ in_force (total_at (schedule_of (set_of zone.now))) nanoseconds) }
+{
+    let Ok(at_utc) = OffsetDateTime::from_unix_timestamp_nanos(nanoseconds) else {
+        return None;
+    };
+    match at_utc.to_timezone(zone) {
+        Some(shown) => Some(shown),
+        None => None,
+    }
+}
+
+/// Adds the texts of the instants that the zone reads as the local time.
+fn show_local(zone: &Tz<'_>, local: &PlainDateTime, text: &mut Vec<u8>) -> Result<(), AllocError>
+    requires { text.old.items ≡ [] }
+    ensures { OnOk result (text.new.items ≡ line_shown (all_in_force (total_at (schedule_of (set_of zone.now))) local.now)) }
+{
+    if zone.is_orderly() {
+        show_result(local.assume_timezone(zone), text)
+    } else {
+        show_each(zone.instants_local(local), text)
+    }
+}
+
+/// Adds the texts of at most two instants.
+fn show_result(
+    dates: OffsetResult<OffsetDateTime>,
+    text: &mut Vec<u8>,
+) -> Result<(), AllocError>
+    requires { text.old.items ≡ [] }
+    ensures { OnOk result (text.new.items ≡ line_shown (map shown_of (listed dates))) }
+{
+    match dates {
+        OffsetResult::None => add_bytes(b"none", text),
+        OffsetResult::Some(only) => add_text(&only, text),
+        OffsetResult::Ambiguous(first, second) => {
+            add_text(&first, text)?;
+            add_bytes(b" | ", text)?;
+            add_text(&second, text)
+        }
+    }
+}
+
+/// Adds the texts of all that is left of the instants.
+fn show_each(dates: InstantsLocal<'_>, text: &mut Vec<u8>) -> Result<(), AllocError>
+    requires { text.old.items ≡ [] }
+    ensures { OnOk result (text.new.items ≡ line_shown (map shown_of (dates_left dates.entry))) }
+{
+    let mut is_first = true;
+    for date in dates {
+        if !is_first {
+            add_bytes(b" | ", text)?;
+        }
+        add_text(&date, text)?;
+        is_first = false;
+    }
+    if is_first {
+        add_bytes(b"none", text)?;
+    }
+    Ok(())
+}
+
+/// Adds the zoned text of a date-time.
+fn add_text(shown: &OffsetDateTime, text: &mut Vec<u8>) -> Result<(), AllocError>
+    ensures { OnOk result (text.new.items ≡ text.old.items ++ text_shown (shown_of shown.now)) }
+{
+    let mut zoned = [0; 40];
+    let end = write_zoned(shown, &mut zoned);
+    add_bytes(&zoned[..end], text)
+}
+
+fn add_bytes(bytes: &[u8], text: &mut Vec<u8>) -> Result<(), AllocError>
+    ensures { OnOk result (text.new.items ≡ text.old.items ++ bytes.now) }
+{
+    text.extend_from_slice(bytes)?;
+    Ok(())
+}

@@ -1,0 +1,26 @@
+//! The source text of zones, read as a whole: its lines, the table that they join to, and the first fault of it.
+//!
+//! Programs over a source file stand on this crate: it also has the statuses that they end with and the lines that tell a
+//! fault, and it gives the outside on.
+#![tactic(auto)]
+
+mod error;
+mod fault_line;
+pub mod lines;
+mod status;
+mod table;
+mod text;
+
+pub use error::{BuildKind, SourceError};
+pub use fault_line::{FaultText, write_fault_line};
+pub use lines::Lines;
+pub use status::Status;
+pub use table::read_table;
+pub use text::text_of;
+pub use zone_outside::{
+    Failed, FileShelf, LIMIT, MemShelf, MemSink, MemSource, ReadEnd, Shelf, Sink, Source, StdSink,
+    StdSource, SureShelf, SureSink, SureSource, fetch_all, read_all, write_all,
+};
+
+#[cfg(test)]
+mod tests;
