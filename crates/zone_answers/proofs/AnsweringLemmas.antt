@@ -1,15 +1,17 @@
 -- Answers and refusals at the zones of a table, and over the source whose table it is.
-use Rattle.std.proofs.Common.{◌≡◌, ℕ, List, map, reverse, Option, Some, None, MatchOption, option_map, sym, ap, subst, ◌∙◌}
-use Rattle.std.specs.FinMap.{get}
+use Rattle.std.proofs.Common.{◌≡◌, ℕ, List, map, reverse, Option, Some, None, MatchOption, option_map, refl, sym, ap, subst, ◌∙◌}
 use Rattle.std.specs.Option.{option_or}
-use Rattle.zone_source.specs.Faults.{SourceFault, source_fault}
+use Rattle.std.proofs.lemmas.Option.{none-some}
+use Rattle.zone_values.specs.Faults as line
+use Rattle.zone_values.specs.declared.fault.FaultKind.{FaultKind}
+use Rattle.zone_source.specs.Faults.{SourceFault, source_fault, bad_line}
 use Rattle.zone_source.specs.Lines.{lines_of}
 use Rattle.zone_source.specs.Told.{told_by_source, TellsOfSource}
 use Rattle.zone_source.specs.Zones.{values_of, zone_in, rules_in}
 use Rattle.zone_source.specs.declared.error.SourceError.{SourceError}
 use Rattle.zone_source.specs.declared.error.SourceError.TheVariants as source_error
 use Rattle.zone_spans.specs.Compiled.{compiled}
-use Rattle.zone_table.specs.Resolved.{resolved_in, resolved_in-IsTableOf}
+use Rattle.zone_table.specs.Resolved.{resolved_in-IsTableOf}
 use Rattle.zone_table.specs.Tables.{IsTableOf}
 use Rattle.zone_table.specs.declared.table.Table.{Table}
 use Rattle.zone_answers.specs.Due.{answer_line, answer_lines}
@@ -60,9 +62,21 @@ told_same found from error h same = by_told (told_by_source from) h same
   where
     by_answer : (told : Option Fault) (f : SourceFault) → told ≡ Some (of_source f) → found ≡ Some f →
         MatchOption told (error ≡ NoMemory) (λ g. option_map of_source found ≡ Some g)
-    by_answer told f is found_is = rw is (ap (option_map of_source) found_is)
+    by_answer told f is there = rw is (ap (option_map of_source) there)
 
     by_told : (told : Option SourceFault) → MatchOption told (from ≡ source_error.NoMemory) (λ f. found ≡ Some f) →
         MatchOption told (error ≡ NoMemory) (λ f. fault_told error ≡ Some (of_source f)) → TellsOf (option_map of_source found) error
-    by_told None h same = rw same same
+    by_told None h same = subst (λ e. TellsOf (option_map of_source found) e) (sym same) refl
     by_told (Some f) h same = by_answer (fault_told error) f same h
+
+-- the error of a line is told with its number
+pub line_told : (n : ℕ) (kind : FaultKind) (found : Option line.Fault) (error : AnswerError) → Some kind ≡ option_map (λ f. f.kind) found →
+    fault_told error ≡ option_map (λ f. of_source (bad_line n f)) found →
+    MatchOption (option_map (bad_line n) found) (error ≡ NoMemory) (λ f. fault_told error ≡ Some (of_source f))
+line_told n kind None error is told = absurd (none-some _ (sym is))
+line_told n kind (Some f) error is told = told
+
+pub none_told : (n : ℕ) (found : Option line.Fault) → None ≡ option_map (λ f. f.kind) found →
+    MatchOption (option_map (bad_line n) found) (NoMemory ≡ NoMemory) (λ f. fault_told NoMemory ≡ Some (of_source f))
+none_told n None is = refl
+none_told n (Some f) is = absurd (none-some _ is)

@@ -5,3 +5,5 @@ pub mod ResponseLemmas
 pub mod ReadBackLemmas
 pub mod ShowingLemmas
 pub mod ZoneLemmas
+pub mod RefusalLemmas
+pub mod EndLemmas

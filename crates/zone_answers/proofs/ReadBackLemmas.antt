@@ -1,5 +1,5 @@
 -- Over valid input each instant that is shown is read back.
-use Rattle.std.proofs.Common.{◌≡◌, ℕ, zero, suc, Bool, true, false, cond, List, [], ◌∷◌, ◌++◌, length, map, filter, Option, Some, None, option_map, Ok, Err, refl, sym, ap, ◌∙◌, subst, arith, ℤ, pos, ◌+ℤ◌, ◌-ℤ◌, ◌*ℤ◌}
+use Rattle.std.proofs.Common.{◌≡◌, ℕ, zero, suc, Bool, true, false, cond, List, [], ◌∷◌, length, map, filter, Option, Some, None, option_map, Ok, Err, refl, sym, ap, ◌∙◌, arith, ℤ}
 use Rattle.std.specs.Prelude.{All, bytes_eq, codes, nat_lt}
 use Rattle.std.specs.List.{before_first, after_first, flat_map}
 use Rattle.std.specs.Option.{option_or, option_map_or}
@@ -19,7 +19,7 @@ use Rattle.zone_spans.specs.ScheduleLaws.{total_is_offset}
 use Rattle.tz_lookup.specs.InForce.{in_force, all_in_force}
 use Rattle.zone_answers.specs.Requests.{Request, at, local, name_of, is_space, nanoseconds_in, request_of}
 use Rattle.zone_answers.specs.Found.{Found, schedule_found, found_in}
-use Rattle.zone_answers.specs.Faults.{Fault, request_not_text, bad_request, unknown_zone, offset_range, range, has_dates, schedule_refusal, found_refusal, request_refusal, first_refused, source_refusal, fault, IsValid}
+use Rattle.zone_answers.specs.Faults.{Fault, request_not_text, bad_request, offset_range, range, has_dates, schedule_refusal, found_refusal, request_refusal, first_refused, source_refusal, fault, IsValid}
 use Rattle.zone_answers.specs.Due.{shown_at, shown_by, shown}
 use Rattle.zone_answers.specs.ReadBack.{IsReadBack}
 
@@ -77,10 +77,13 @@ one_back : (shown : ℤ × ℤ) → IsReadBack shown → All IsReadBack (shown �
 one_back shown back zero d within = back
 one_back shown back (suc k) d within = absurd (omega arith)
 
+none_back : All IsReadBack []
+none_back k d within = absurd (omega arith)
+
 -- each instant of a local time
 each_back : (total : ℤ → ℤ) (x : ℤ) → is_in_years x ≡ true → ((t : ℤ) → is_offset (total t) ≡ true) → (os : List ℤ) →
     All IsReadBack (map (in_force total) (map (instant_at x) (filter (λ o. int_eq (total (instant_at x o)) o) os)))
-each_back total x years small [] k d within = absurd (omega arith)
+each_back total x years small [] = none_back
 each_back total x years small (o ∷ os) = by_test (int_eq (total (instant_at x o)) o) refl (each_back total x years small os)
   where
     left : List ℤ
@@ -92,9 +95,6 @@ each_back total x years small (o ∷ os) = by_test (int_eq (total (instant_at x 
     by_test true is rest =
         All-append IsReadBack (in_force total (instant_at x o) ∷ []) (map (in_force total) (map (instant_at x) left))
         (one_back (in_force total (instant_at x o)) (read_at total x o years (small (instant_at x o)) ((Decides-int_eq (total (instant_at x o)) o).0 is))) rest
-
-none_back : All IsReadBack []
-none_back k d within = absurd (omega arith)
 
 all_in_force_back : (schedule : Schedule) (x : ℤ) → is_in_years x ≡ true → is_in_offset_range schedule ≡ true → All IsReadBack (all_in_force (total_at schedule) x)
 unfolding all_in_force instants

@@ -1,5 +1,5 @@
 -- How a run ends.
-use Rattle.std.specs.Prelude.{◌≡◌, ◌≢◌, ◌⊎◌, ◌↔◌, ◌+◌, ◌<◌, ◌≤◌, ℕ, List, [], length, Option, None, Some, IsNone, All}
+use Rattle.std.specs.Prelude.{◌≡◌, ◌≢◌, ◌⊎◌, ◌↔◌, ◌+◌, ◌<◌, ◌≤◌, [], length, Option, None, Some, IsNone, All}
 use Rattle.zone_outside.specs.Outside.{Rose, TooMuch}
 use Rattle.zone_outside.specs.declared.whole.TheConstants.{LIMIT}
 use Rattle.zone_answers.specs.Due.{shown, due_bytes}

@@ -12,4 +12,3 @@ pub mod ReadBack
 pub mod Responses
 pub mod Ends
 pub mod Opened
-pub mod Asking

@@ -1,5 +1,5 @@
 -- What was written of the due bytes.
-use Rattle.std.specs.Prelude.{◌≡◌, ◌≢◌, ℕ, List, ◌++◌, Option, Some, None, IsSomeAnd, All, [], ◌∷◌}
+use Rattle.std.specs.Prelude.{◌≡◌, ◌≢◌, ℕ, List, ◌++◌, Option, None, IsSomeAnd, All, [], ◌∷◌}
 use Rattle.zone_answers.specs.Due.{shown, due_bytes}
 use Rattle.zone_answers.specs.Faults.{IsValid, fault}
 use Rattle.zone_answers.specs.Faults as faults

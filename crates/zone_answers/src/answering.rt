@@ -8,7 +8,7 @@ ghost use Rattle.zone_table.specs.Tables.{IsTableOf};
 ghost use Rattle.zone_answers.specs.Due.{answer_line, answer_lines, shown};
 ghost use Rattle.zone_answers.specs.Faults.{IsValid, fault, first_refused, request_refusal, source_refusal};
 ghost use Rattle.zone_answers.specs.Found.{found_in_table};
-ghost use Rattle.zone_answers.specs.Asking.{table_of};
+ghost use Rattle.zone_answers.specs.Opened.{table_of, AreOpened};
 ghost use Rattle.zone_answers.specs.ReadBack.{IsReadBack};
 ghost use Rattle.zone_answers.specs.Told.{TellsOf};
 
@@ -84,9 +84,11 @@ fn answer(
     line: &[u8],
     text: &mut Vec<u8>,
 ) -> Result<(), AnswerError>
+    requires { AreOpened zones.old }
     ensures accepted { OnOk result (request_refusal (found_in_table (table_of zones.old)) number line.now ≡ None) }
     ensures text { OnOk result (text.new.items ≡ answer_line (found_in_table (table_of zones.old)) line.now) }
     ensures same { table_of zones.new ≡ table_of zones.old }
+    ensures opened { AreOpened zones.new }
     ensures err { IfErr result (TellsOf (request_refusal (found_in_table (table_of zones.old)) number line.now)) }
 {
     let Some(asked) = text_of(line) else {
@@ -95,10 +97,10 @@ fn answer(
     let Some(request) = Request::read(asked) else {
         return Err(AnswerError::Request(number));
     };
-    let zone = match zones.find(request.name()) {
-        Ok(zone) => zone,
-        Err(fault) => return Err(AnswerError::of_zone(number, fault)),
-    };
+    if let Err(fault) = zones.open(request.name()) {
+        return Err(AnswerError::of_zone(number, fault));
+    }
+    let zone = zones.find(request.name());
     text.clear();
     match show(&zone, &request, text) {
         Ok(true) => Ok(()),

@@ -55,7 +55,10 @@ impl From<SourceError> for AnswerError {
     fn from(error: SourceError) -> AnswerError {
         match error {
             SourceError::NotText(number) => AnswerError::NotText(Side::Source, number),
-            SourceError::Line(number, error) => AnswerError::Line(number, error),
+            SourceError::Line(number, error) => match error.kind() {
+                Some(_) => AnswerError::Line(number, error),
+                None => AnswerError::NoMemory,
+            },
             SourceError::Build(number, kind) => AnswerError::Build(number, kind),
             SourceError::NoMemory => AnswerError::NoMemory,
         }

@@ -14,7 +14,7 @@ ghost use Rattle.zone_answers.specs.Faults.{are_in_years, has_dates};
 use crate::request::Request;
 use civil_base::{OffsetDateTime, PlainDateTime, write_zoned};
 use std::alloc::AllocError;
-use tz_lookup::{InstantsLocal, OffsetDateTimeExt, OffsetResult, PrimitiveDateTimeExt, Tz};
+use tz_lookup::{OffsetDateTimeExt, OffsetResult, PrimitiveDateTimeExt, Tz};
 
 /// Adds the line of a request of the zone to an empty text, without its LF. It adds none and answers no where the UTC date
 /// or the local date of an asked instant lies outside the years -9999 to 9999.
@@ -66,7 +66,7 @@ fn show_local(zone: &Tz<'_>, local: &PlainDateTime, text: &mut Vec<u8>) -> Resul
     if zone.is_orderly() {
         show_result(local.assume_timezone(zone), text)
     } else {
-        show_each(zone.instants_local(local), text)
+        show_each(zone, local, text)
     }
 }
 
@@ -89,13 +89,13 @@ fn show_result(
     }
 }
 
-/// Adds the texts of all that is left of the instants.
-fn show_each(dates: InstantsLocal<'_>, text: &mut Vec<u8>) -> Result<(), AllocError>
+/// Adds the texts of each instant.
+fn show_each(zone: &Tz<'_>, local: &PlainDateTime, text: &mut Vec<u8>) -> Result<(), AllocError>
     requires { text.old.items ≡ [] }
-    ensures { OnOk result (text.new.items ≡ line_shown (map shown_of (dates_left dates.entry))) }
+    ensures { OnOk result (text.new.items ≡ line_shown (all_in_force (total_at (schedule_of (set_of zone.now))) local.now)) }
 {
     let mut is_first = true;
-    for date in dates {
+    for date in zone.instants_local(local) {
         if !is_first {
             add_bytes(b" | ", text)?;
         }

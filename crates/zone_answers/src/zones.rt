@@ -1,10 +1,8 @@
 //! The zones that requests name, each compiled once.
-ghost use Rattle.std.specs.Prelude.{◌≡◌, ℕ, List, IfOk, IfErr, IfSome};
-ghost use Rattle.std.specs.FinMap.{get};
+ghost use Rattle.std.specs.Prelude.{◌≡◌, IfOk, IfErr};
 ghost use Rattle.zone_table.specs.BoundedTables.{IsBoundedTable};
 ghost use Rattle.tz_lookup.specs.Compiles.{compiled_in, IsCompiledAs, IsZoneFault};
 ghost use Rattle.tz_lookup.specs.Sets.{schedule_of, IsAccepted};
-ghost use Rattle.zone_answers.specs.Opened.{IsOpened};
 
 use owned::TextMap;
 use std::alloc::Global;
@@ -39,21 +37,20 @@ pub(crate) struct Zones<'t> {
     alloc: Global,
     table: &'t Table,
     opened: TextMap<Opened>,
-    ghost bounded: { IsBoundedTable table.now },
-    ghost each: { (name : List ℕ) → IfSome (get opened name) (IsOpened table.now name) },
 }
 
 impl<'t> Zones<'t> {
-    ghost use Rattle.std.specs.Prelude.{◌≡◌, IfOk, IfErr};
+    ghost use Rattle.std.specs.Prelude.{◌≡◌, true, is_some, IfErr, OnOk};
+    ghost use Rattle.std.specs.FinMap.{get};
     ghost use Rattle.zone_table.specs.BoundedTables.{IsBoundedTable};
     ghost use Rattle.tz_lookup.specs.Compiles.{compiled_in, IsZoneFault};
-    ghost use Rattle.zone_answers.specs.Asking.{table_of};
-    ghost use Rattle.zone_answers.specs.Opened.{HasSpans};
+    ghost use Rattle.zone_answers.specs.Opened.{table_of, AreOpened, HasSpans};
 
     /// No zone of this table was asked for yet.
     pub(crate) fn new(alloc: Global, table: &'t Table) -> Zones<'t>
         requires { IsBoundedTable table.now }
-        ensures { table_of result ≡ table.now }
+        ensures table { table_of result ≡ table.now }
+        ensures opened { AreOpened result }
     {
         Zones {
             alloc,
@@ -62,29 +59,32 @@ impl<'t> Zones<'t> {
         }
     }
 
-    /// The zone that a name finds. It is compiled where it is asked for the first time.
-    pub(crate) fn find(&mut self, name: &str) -> Result<Tz<'_>, ZoneFault>
-        ensures ok { IfOk result (HasSpans (compiled_in (table_of self.old) name.now)) }
+    /// Compiles the zone that a name finds, where it is asked for the first time. On an error the zones are as before.
+    pub(crate) fn open(&mut self, name: &str) -> Result<(), ZoneFault>
+        requires { AreOpened self.old }
+        ensures there { OnOk result (is_some (get self.new.opened name.now) ≡ true) }
         ensures err { IfErr result (IsZoneFault (compiled_in (table_of self.old) name.now)) }
         ensures same { table_of self.new ≡ table_of self.old }
+        ensures opened { AreOpened self.new }
     {
-        if !self.opened.contains_key(name) {
-            self.open(name)?;
+        if self.opened.contains_key(name) {
+            return Ok(());
         }
-        match self.opened.get(name) {
-            Some(opened) => Ok(Tz::marked(&opened.set, opened.orderly)),
-            None => unreachable!(),
-        }
-    }
-
-    /// Compiles the zone that a name finds, and keeps it.
-    fn open(&mut self, name: &str) -> Result<(), ZoneFault>
-        ensures err { IfErr result (IsZoneFault (compiled_in (table_of self.old) name.now)) }
-        ensures same { table_of self.new ≡ table_of self.old }
-    {
         let set = open_zone(self.alloc, self.table, name)?;
         let orderly = tz_lookup::is_orderly(&set);
         self.opened.insert(self.alloc, name, Opened { set, orderly })?;
         Ok(())
+    }
+
+    /// The opened zone that a name finds.
+    pub(crate) fn find(&self, name: &str) -> Tz<'_>
+        requires opened { AreOpened self.now }
+        requires there { is_some (get self.now.opened name.now) ≡ true }
+        ensures { HasSpans (compiled_in (table_of self.now) name.now) result }
+    {
+        match self.opened.get(name) {
+            Some(opened) => Tz::marked(&opened.set, opened.orderly),
+            None => unreachable!(),
+        }
     }
 }

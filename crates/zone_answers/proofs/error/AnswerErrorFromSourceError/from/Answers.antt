@@ -1,8 +1,10 @@
-use Rattle.std.proofs.Common.{◌≡◌, ℕ, Option, Some, None, MatchOption, option_map, refl}
+use Rattle.std.proofs.Common.{refl, sym, ◌∙◌}
 use Rattle.zone_values.specs.Faults.{fault_of}
-use Rattle.zone_values.specs.Faults as line
-use Rattle.zone_source.specs.Faults as source
+use Rattle.zone_answers.proofs.AnsweringLemmas.{line_told, none_told}
 use Rattle.zone_answers.proofs.error.AnswerErrorFromSourceError.from.Goals as goal
 
-pub returns-in-Line : goal.returns-in-Line
-returns-in-Line c = ?
+pub returns-in-Some : goal.returns-in-Some
+returns-in-Some c = rw c.in-Line.is (line_told c.in-Line.number c.in-Some.field-0 (fault_of c.in-Line.error) _ (sym c.in-Some.is ∙ c.kind.ensures) refl)
+
+pub returns-in-None : goal.returns-in-None
+returns-in-None c = rw c.in-Line.is (none_told c.in-Line.number (fault_of c.in-Line.error) (sym c.in-None.is ∙ c.kind.ensures))
