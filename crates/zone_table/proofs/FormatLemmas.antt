@@ -1,5 +1,6 @@
 -- What a search for `%s` and for a slash says of a text.
-use Rattle.std.proofs.Common.{◌≡◌, ℕ, ◌+◌, Bool, true, false, not, ◌||◌, cond, List, [], ◌∷◌, ◌++◌, length, refl, sym, ap, ◌∙◌, codes, arith, true≢false}
+use Rattle.std.proofs.Common.{◌≡◌, ℕ, ◌+◌, Bool, true, false, not, ◌||◌, cond, List}
+use Rattle.std.proofs.Common.{[], ◌∷◌, ◌++◌, length, refl, sym, ap, ◌∙◌, codes, arith, true≢false}
 use Rattle.std.specs.List.{list_any, position_or_len}
 use Rattle.std.specs.Str.Iter.{HasSubslice}
 use Rattle.zone_table.specs.Formats.{is_placeholder, has_placeholder, is_slash}
@@ -12,7 +13,8 @@ pub has_placeholder-within : (before after : List ℕ) → has_placeholder (befo
 unfolding has_placeholder
 has_placeholder-within [] after = refl
 has_placeholder-within (x ∷ []) after = or-true (is_placeholder x 37)
-has_placeholder-within (x ∷ y ∷ before) after = ap (λ b. is_placeholder x y || b) (has_placeholder-within (y ∷ before) after) ∙ or-true (is_placeholder x y)
+has_placeholder-within (x ∷ y ∷ before) after =
+    ap (λ b. is_placeholder x y || b) (has_placeholder-within (y ∷ before) after) ∙ or-true (is_placeholder x y)
 
 placeholder_here : (x y : ℕ) (rest : List ℕ) → is_placeholder x y ≡ true → HasSubslice (x ∷ y ∷ rest) (codes "%s")
 placeholder_here x y rest here =

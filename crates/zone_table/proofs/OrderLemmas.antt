@@ -43,17 +43,23 @@ child_equal (child.TimeZone a) (child.Submodule b) = refl
 child_equal (child.TimeZone a) (child.TimeZone b) = sym (is_eq-slice_cmp a.now b.now)
 
 placed_equal : (x y : Placed) → placed_equality.ghosts.eq x y ≡ is_eq (placed_cmp (placed_value x) (placed_value y))
-placed_equal x y = both_tied _ _ (text_cmp x.part.now y.part.now) (child_cmp (child_value x.child) (child_value y.child)) (sym (is_eq-slice_cmp x.part.now y.part.now)) (child_equal x.child y.child)
+placed_equal x y =
+    both_tied _ _ (text_cmp x.part.now y.part.now) (child_cmp (child_value x.child) (child_value y.child))
+        (sym (is_eq-slice_cmp x.part.now y.part.now)) (child_equal x.child y.child)
 
-any-dedup_from : {X : Type 0} (same : X → X → Bool) (test : X → Bool) → ((x y : X) → same x y ≡ true → test x ≡ test y) → (k : X) (xs : List X) → list_any test (dedup_from same k xs) ≡ (test k || list_any test xs)
+any-dedup_from : {X : Type 0} (same : X → X → Bool) (test : X → Bool) → ((x y : X) → same x y ≡ true → test x ≡ test y)
+    → (k : X) (xs : List X) → list_any test (dedup_from same k xs) ≡ (test k || list_any test xs)
 any-dedup_from same test alike k [] = refl
 any-dedup_from same test alike k (x ∷ xs) =
-    elim (same x k) as (λ b. same x k ≡ b → list_any test (cond b (dedup_from same k xs) (k ∷ dedup_from same x xs)) ≡ (test k || (test x || list_any test xs))) [
-      | true ↦ λ e. any-dedup_from same test alike k xs ∙ or_twice (test k) (list_any test xs) ∙ ap (λ b. test k || (b || list_any test xs)) (sym (alike x k e))
+    elim (same x k) as (λ b. same x k ≡ b
+        → list_any test (cond b (dedup_from same k xs) (k ∷ dedup_from same x xs)) ≡ (test k || (test x || list_any test xs))) [
+      | true ↦ λ e. any-dedup_from same test alike k xs ∙ or_twice (test k) (list_any test xs)
+          ∙ ap (λ b. test k || (b || list_any test xs)) (sym (alike x k e))
       | false ↦ λ _. ap (λ b. test k || b) (any-dedup_from same test alike x xs)
     ] refl
 
-any-dedup : {X : Type 0} (same : X → X → Bool) (test : X → Bool) → ((x y : X) → same x y ≡ true → test x ≡ test y) → (xs : List X) → list_any test (dedup same xs) ≡ list_any test xs
+any-dedup : {X : Type 0} (same : X → X → Bool) (test : X → Bool) → ((x y : X) → same x y ≡ true → test x ≡ test y) → (xs : List X)
+    → list_any test (dedup same xs) ≡ list_any test xs
 any-dedup same test alike [] = refl
 any-dedup same test alike (x ∷ xs) = any-dedup_from same test alike x xs
 
@@ -62,16 +68,20 @@ tied Less e = cc
 tied Equal e = refl
 tied Greater e = cc
 
-pub in_order_from_sort : (xs sorted left : List Placed) → IsPermutation xs sorted → IsSorted placed_order.ghosts.cmp sorted → IsFiltered (DiffersFromLast placed_equality.ghosts.eq) [] sorted left
+pub in_order_from_sort : (xs sorted left : List Placed) → IsPermutation xs sorted → IsSorted placed_order.ghosts.cmp sorted
+    → IsFiltered (DiffersFromLast placed_equality.ghosts.eq) [] sorted left
     → map placed_value left ≡ in_order placed_cmp (map placed_value xs)
 in_order_from_sort xs sorted left moved up kept =
     let by_value = λ (x y : Placed). placed_cmp (placed_value x) (placed_value y) in
     let up : IsSorted by_value sorted = subst (λ (R : Placed → Placed → Ordering). IsSorted R sorted) (λ i x y. placed_tied x y i) up in
-    let strict = subst (IsStrictlySortedBy by_value) (sym (dedup_is placed_equality.ghosts.eq sorted left kept)) (IsStrictlySortedBy-dedup (on_total placed_value placed_total) placed_equal sorted up) in
+    let strict =
+        subst (IsStrictlySortedBy by_value) (sym (dedup_is placed_equality.ghosts.eq sorted left kept))
+            (IsStrictlySortedBy-dedup (on_total placed_value placed_total) placed_equal sorted up) in
     in_order_is placed_total placed_same (map placed_value xs) (map placed_value left)
     (sorted_from_rises placed_cmp (map placed_value left) (rises-viewed by_value placed_cmp placed_value (λ x y. refl) left strict))
     (λ test. any-map test placed_value left
     ∙ ap (list_any (λ x. test (placed_value x))) (dedup_is placed_equality.ghosts.eq sorted left kept)
-    ∙ any-dedup placed_equality.ghosts.eq (λ x. test (placed_value x)) (λ x y e. ap test (placed_same (placed_value x) (placed_value y) (tied _ (sym (placed_equal x y) ∙ e)))) sorted
+    ∙ any-dedup placed_equality.ghosts.eq (λ x. test (placed_value x))
+    (λ x y e. ap test (placed_same (placed_value x) (placed_value y) (tied _ (sym (placed_equal x y) ∙ e)))) sorted
     ∙ sym (list_any-IsPermutation (λ x. test (placed_value x)) xs sorted moved)
     ∙ sym (any-map test placed_value xs))
