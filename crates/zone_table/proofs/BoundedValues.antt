@@ -79,4 +79,4 @@ pub bounded_values : (table : Table) (values : List LineValue) → IsTableOf tab
     → IsBoundedTable table
 bounded_values table values is bounded =
     bounded_latest table (reverse values) is
-        (reverse_passes is_bounded_line values (list_all-from_AllPass is_bounded_line values bounded))
+    (reverse_passes is_bounded_line values (list_all-from_AllPass is_bounded_line values bounded))

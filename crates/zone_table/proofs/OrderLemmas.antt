@@ -45,14 +45,14 @@ child_equal (child.TimeZone a) (child.TimeZone b) = sym (is_eq-slice_cmp a.now b
 placed_equal : (x y : Placed) → placed_equality.ghosts.eq x y ≡ is_eq (placed_cmp (placed_value x) (placed_value y))
 placed_equal x y =
     both_tied _ _ (text_cmp x.part.now y.part.now) (child_cmp (child_value x.child) (child_value y.child))
-        (sym (is_eq-slice_cmp x.part.now y.part.now)) (child_equal x.child y.child)
+    (sym (is_eq-slice_cmp x.part.now y.part.now)) (child_equal x.child y.child)
 
 any-dedup_from : {X : Type 0} (same : X → X → Bool) (test : X → Bool) → ((x y : X) → same x y ≡ true → test x ≡ test y)
     → (k : X) (xs : List X) → list_any test (dedup_from same k xs) ≡ (test k || list_any test xs)
 any-dedup_from same test alike k [] = refl
 any-dedup_from same test alike k (x ∷ xs) =
     elim (same x k) as (λ b. same x k ≡ b
-        → list_any test (cond b (dedup_from same k xs) (k ∷ dedup_from same x xs)) ≡ (test k || (test x || list_any test xs))) [
+    → list_any test (cond b (dedup_from same k xs) (k ∷ dedup_from same x xs)) ≡ (test k || (test x || list_any test xs))) [
       | true ↦ λ e. any-dedup_from same test alike k xs ∙ or_twice (test k) (list_any test xs)
           ∙ ap (λ b. test k || (b || list_any test xs)) (sym (alike x k e))
       | false ↦ λ _. ap (λ b. test k || b) (any-dedup_from same test alike x xs)
@@ -75,8 +75,8 @@ in_order_from_sort xs sorted left moved up kept =
     let by_value = λ (x y : Placed). placed_cmp (placed_value x) (placed_value y) in
     let up : IsSorted by_value sorted = subst (λ (R : Placed → Placed → Ordering). IsSorted R sorted) (λ i x y. placed_tied x y i) up in
     let strict =
-        subst (IsStrictlySortedBy by_value) (sym (dedup_is placed_equality.ghosts.eq sorted left kept))
-            (IsStrictlySortedBy-dedup (on_total placed_value placed_total) placed_equal sorted up) in
+    subst (IsStrictlySortedBy by_value) (sym (dedup_is placed_equality.ghosts.eq sorted left kept))
+    (IsStrictlySortedBy-dedup (on_total placed_value placed_total) placed_equal sorted up) in
     in_order_is placed_total placed_same (map placed_value xs) (map placed_value left)
     (sorted_from_rises placed_cmp (map placed_value left) (rises-viewed by_value placed_cmp placed_value (λ x y. refl) left strict))
     (λ test. any-map test placed_value left

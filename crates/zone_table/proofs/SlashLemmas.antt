@@ -17,13 +17,13 @@ passes_at_place : (test : ℕ → Bool) (xs : List ℕ) → position_or_len test
 passes_at_place test [] h = absurd (omega arith)
 passes_at_place test (x ∷ xs) h =
     elim (test x) as (λ b. cond (not b) (1 + prefix_len (λ y. not (test y)) xs) 0 < length (x ∷ xs)
-        → (b || list_any test xs) ≡ true) [ true ↦ λ _. refl | false ↦ λ h. passes_at_place test xs (omega arith) ] h
+    → (b || list_any test xs) ≡ true) [ true ↦ λ _. refl | false ↦ λ h. passes_at_place test xs (omega arith) ] h
 
 passes_nowhere : (test : ℕ → Bool) (xs : List ℕ) → position_or_len test xs ≡ length xs → list_any test xs ≡ false
 passes_nowhere test [] h = refl
 passes_nowhere test (x ∷ xs) h =
     elim (test x) as (λ b. cond (not b) (1 + prefix_len (λ y. not (test y)) xs) 0 ≡ length (x ∷ xs)
-        → (b || list_any test xs) ≡ false) [ true ↦ λ h. absurd (omega arith) | false ↦ λ h. passes_nowhere test xs (omega arith) ] h
+    → (b || list_any test xs) ≡ false) [ true ↦ λ h. absurd (omega arith) | false ↦ λ h. passes_nowhere test xs (omega arith) ] h
 
 pub first_uncut : (part : List ℕ) → position_or_len is_slash part ≡ length part → submodule_of part ≡ None
 first_uncut part h =
@@ -40,7 +40,7 @@ no_slash (x ∷ xs) h =
 pub last_uncut : (name : List ℕ) → NoCharPasses (λ d. d == 47) name → time_zone_of name ≡ None
 last_uncut name h =
     ap (λ b. cond b (Some (before_last is_slash name, time_zone (after_last is_slash name))) None)
-        (no_slash name (λ i below. NoCharPasses-char 47 name i h (lit< tt) below))
+    (no_slash name (λ i below. NoCharPasses-char 47 name i h (lit< tt) below))
 
 apart_from_slash : (x : ℕ) → (x ≡ 47 → ⊥) → not (is_slash x) ≡ true
 apart_from_slash x h =
@@ -53,7 +53,7 @@ after_slash name j some within h at =
     suffix_len_is (λ b. not (is_slash b)) name j 0 within
     (λ k from below.
     let there : get_or (drop j name) (k - j) 0 ≡ get_or name k 0 =
-        get_or-drop j name (k - j) 0 ∙ ap (λ n. get_or name n 0) (omega arith) in
+    get_or-drop j name (k - j) 0 ∙ ap (λ n. get_or name n 0) (omega arith) in
     let inside : k - j < length (drop j name) = omega (arith, length-drop j name) in
     apart_from_slash (get_or name k 0) (λ e. NoCharPasses-char 47 (drop j name) (k - j) h (lit< tt) inside (there ∙ e)))
     (λ _. ap (λ b. not (is_slash b)) at)

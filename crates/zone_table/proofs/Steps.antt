@@ -27,7 +27,7 @@ joined_latest : (inside old new : Built) (value : LineValue) → inside ≡ old
     → ((before : List LineValue) → StandsForLatest inside before → StandsForLatest new (value ∷ before)) → Joins old new value
 joined_latest inside old new value same step = λ values stands.
     subst (StandsForLatest new) (sym (reverse-append values (value ∷ [])))
-        (step (reverse values) (subst (λ built. StandsForLatest built (reverse values)) (sym same) stands))
+    (step (reverse values) (subst (λ built. StandsForLatest built (reverse values)) (sym same) stands))
 
 -- a list of the map with an item at its end
 abbrev pub with_item : {X : Type 0} → FinMap text_cmp (List X) → List ℕ → X → FinMap text_cmp (List X)
@@ -41,7 +41,7 @@ rule_joins built old same r rulesets is = joined_latest built old _ _ same (λ b
   joined = record {
     rulesets =
         λ name. ap (λ m. get m name) is
-            ∙ appended built.table.rulesets (rules_of before) r.name (owned_rule r) stands.joined.rulesets name;
+        ∙ appended built.table.rulesets (rules_of before) r.name (owned_rule r) stands.joined.rulesets name;
     zonesets = stands.joined.zonesets;
     links = stands.joined.links;
   };
@@ -120,7 +120,7 @@ link_joins built old same existing name links fresh is = joined_latest built old
     zonesets = stands.joined.zonesets;
     links =
         λ n. ap (λ m. get m n) is ∙ get-inserted built.table.links name n existing
-            ∙ ap (cond (bytes_eq name n) (Some existing)) (stands.joined.links n);
+        ∙ ap (cond (bytes_eq name n) (Some existing)) (stands.joined.links n);
   };
   open_zone = refl;
 })

@@ -92,8 +92,8 @@ any-children : (test : ChildValue → Bool) (part : List ℕ) (ps : List (List �
 any-children test part [] = refl
 any-children test part (p ∷ ps) =
     elim (bytes_eq part p.0)
-        as (λ b. list_any test (map (λ q. q.1) (cond b (p ∷ filter (λ q. bytes_eq part q.0) ps) (filter (λ q. bytes_eq part q.0) ps)))
-            ≡ ((b && test p.1) || list_any (λ q. bytes_eq part q.0 && test q.1) ps)) [
+    as (λ b. list_any test (map (λ q. q.1) (cond b (p ∷ filter (λ q. bytes_eq part q.0) ps) (filter (λ q. bytes_eq part q.0) ps)))
+    ≡ ((b && test p.1) || list_any (λ q. bytes_eq part q.0 && test q.1) ps)) [
       | true ↦ ap (λ b. test p.1 || b) (any-children test part ps)
       | false ↦ any-children test part ps
     ]
@@ -103,11 +103,11 @@ pub same_tree : (ps qs : List (List ℕ × ChildValue)) → ((test : List ℕ ×
 unfolding tree_of
 same_tree ps qs alike =
     let parts =
-        same_in_order nat_list_cmp_total text_same (map (λ p. p.0) ps) (map (λ p. p.0) qs)
-            (λ test. any-map test (λ p. p.0) ps ∙ alike (λ p. test p.0) ∙ sym (any-map test (λ p. p.0) qs)) in
+    same_in_order nat_list_cmp_total text_same (map (λ p. p.0) ps) (map (λ p. p.0) qs)
+    (λ test. any-map test (λ p. p.0) ps ∙ alike (λ p. test p.0) ∙ sym (any-map test (λ p. p.0) qs)) in
     let children =
-        λ (part : List ℕ). same_in_order child_total child_same (children_of part ps) (children_of part qs)
-            (λ test. any-children test part ps ∙ alike (λ p. bytes_eq part p.0 && test p.1) ∙ sym (any-children test part qs)) in
+    λ (part : List ℕ). same_in_order child_total child_same (children_of part ps) (children_of part qs)
+    (λ test. any-children test part ps ∙ alike (λ p. bytes_eq part p.0 && test p.1) ∙ sym (any-children test part qs)) in
     λ i. map (λ part. record { name = part; children = children part i }) (parts i)
 
 -- the same names, in another order
@@ -123,7 +123,7 @@ any-children_of : (test : List ℕ × ChildValue → Bool) (names : List (List �
 any-children_of test [] = refl
 any-children_of test (name ∷ names) =
     list_any-append test (children_in name) (flat_map children_in names)
-        ∙ ap (λ b. list_any test (children_in name) || b) (any-children_of test names)
+    ∙ ap (λ b. list_any test (children_in name) || b) (any-children_of test names)
 
 -- names with the same items give the same children
 pub same_children : (ks ls : List (List ℕ)) → ((test : List ℕ → Bool) → list_any test ks ≡ list_any test ls)
@@ -140,8 +140,8 @@ pub names_sorted : (ps : List (List ℕ × ChildValue)) → IsStrictlySortedBy t
 unfolding tree_of
 names_sorted ps =
     subst (IsStrictlySortedBy text_cmp)
-        (sym (names_of_entries (λ part. record { name = part; children = in_order child_cmp (children_of part ps) }) (λ part. refl)
-            (in_order text_cmp (map (λ p. p.0) ps))))
+    (sym (names_of_entries (λ part. record { name = part; children = in_order child_cmp (children_of part ps) }) (λ part. refl)
+    (in_order text_cmp (map (λ p. p.0) ps))))
     (sorted_in_order nat_list_cmp_total (map (λ p. p.0) ps))
 
 -- ---- one run of children under one part, and then the others
@@ -164,7 +164,7 @@ own_children : (part : List ℕ) (run : List (List ℕ × ChildValue)) → AllBy
 own_children part [] h = refl
 own_children part (p ∷ run) h =
     ap (λ b. map (λ q. q.1) (cond b (p ∷ filter (λ q. bytes_eq part q.0) run) (filter (λ q. bytes_eq part q.0) run)))
-        ((bytes_decides part p.0).1 (sym h.0))
+    ((bytes_decides part p.0).1 (sym h.0))
     ∙ ap (λ cs. p.1 ∷ cs) (own_children part run h.1)
 
 no_children : (part : List ℕ) (ps : List (List ℕ × ChildValue)) → AllByRecursion (λ p. bytes_eq part p.0 ≡ false) ps
@@ -172,13 +172,13 @@ no_children : (part : List ℕ) (ps : List (List ℕ × ChildValue)) → AllByRe
 no_children part [] h = refl
 no_children part (p ∷ ps) h =
     ap (λ b. map (λ q. q.1) (cond b (p ∷ filter (λ q. bytes_eq part q.0) ps) (filter (λ q. bytes_eq part q.0) ps))) h.0
-        ∙ no_children part ps h.1
+    ∙ no_children part ps h.1
 
 children-append : (part : List ℕ) (ps qs : List (List ℕ × ChildValue))
     → children_of part (ps ++ qs) ≡ children_of part ps ++ children_of part qs
 children-append part ps qs =
     ap (map (λ p. p.1)) (filter-append (λ p. bytes_eq part p.0) ps qs)
-        ∙ map-append (λ p. p.1) (filter (λ p. bytes_eq part p.0) ps) (filter (λ p. bytes_eq part p.0) qs)
+    ∙ map-append (λ p. p.1) (filter (λ p. bytes_eq part p.0) ps) (filter (λ p. bytes_eq part p.0) qs)
 
 apart : (a b : List ℕ) → text_cmp a b ≡ Less → bytes_eq a b ≡ false
 apart a b h = sym (is_eq-slice_cmp a b) ∙ ap is_eq h
@@ -243,8 +243,8 @@ others_above : (p : List ℕ × ChildValue) (run others : List (List ℕ × Chil
 others_above p run [] up differ = tt
 others_above p run (y ∷ ys) up differ =
     let next =
-        first_above p y (differ y ys refl)
-            (every_right (λ q. placed_cmp p q ≡ Less) run (y ∷ ys) (sorted_head placed_cmp p (run ++ y ∷ ys) up)).0 in (
+    first_above p y (differ y ys refl)
+    (every_right (λ q. placed_cmp p q ≡ Less) run (y ∷ ys) (sorted_head placed_cmp p (run ++ y ∷ ys) up)).0 in (
       next,
       every_weaker (λ q. placed_cmp y q ≡ Less) (λ q. text_cmp p.0 q.0 ≡ Less) (λ q below. part_above p.0 y q next below) ys
           (sorted_head placed_cmp y ys (sorted_right placed_cmp (p ∷ run) (y ∷ ys) up)),
@@ -255,23 +255,25 @@ any_of_run : (test : List ℕ → Bool) (part : List ℕ) (run : List (List ℕ 
 any_of_run test part [] h = elim (test part) as (λ b. (b || false) ≡ b) [ true ↦ refl | false ↦ refl ]
 any_of_run test part (p ∷ run) h =
     ap (λ q. test part || (test q || list_any test (map (λ r. r.0) run))) h.0 ∙ sym (or_twice (test part) _)
-        ∙ any_of_run test part run h.1
+    ∙ any_of_run test part run h.1
 
 parts_of_run : (p : List ℕ × ChildValue) (run others : List (List ℕ × ChildValue)) → AllByRecursion (λ q. q.0 ≡ p.0) run
     → AllByRecursion (λ q. text_cmp p.0 q.0 ≡ Less) others
     → p.0 ∷ in_order text_cmp (map (λ q. q.0) others) ≡ in_order text_cmp (map (λ q. q.0) (p ∷ run ++ others))
 unfolding IsStrictlySortedBy
 parts_of_run p run others same above =
-    in_order_is nat_list_cmp_total text_same (map (λ q. q.0) (p ∷ run ++ others)) (p.0 ∷ in_order text_cmp (map (λ q. q.0) others))
-    (below-in_order text_same p.0 (map (λ q. q.0) others)
-        (every_map (λ part. text_cmp p.0 part ≡ Less) (λ q. q.0) others above), sorted_in_order nat_list_cmp_total
-            (map (λ q. q.0) others))
+    in_order_is nat_list_cmp_total text_same (map (λ q. q.0) (p ∷ run ++ others)) (p.0 ∷ in_order text_cmp (map (λ q. q.0) others)) (
+      below-in_order text_same p.0 (map (λ q. q.0) others)
+          (every_map (λ part. text_cmp p.0 part ≡ Less) (λ q. q.0) others above),
+      sorted_in_order nat_list_cmp_total
+          (map (λ q. q.0) others),
+    )
     (λ test. ap (λ b. test p.0 || b) (any-in_order text_same test (map (λ q. q.0) others))
     ∙ ap (λ b. b || list_any test (map (λ q. q.0) others)) (sym (any_of_run test p.0 run same))
     ∙ or_assoc (test p.0) _ _
     ∙ ap (λ b. test p.0 || b)
     (sym (list_any-append test (map (λ q. q.0) run) (map (λ q. q.0) others))
-        ∙ ap (list_any test) (sym (map-append (λ q. q.0) run others))))
+    ∙ ap (list_any test) (sym (map-append (λ q. q.0) run others))))
 
 -- the entries of other parts do not see the run
 entries_apart : (f g : List ℕ → EntryValue) (part : List ℕ) (parts : List (List ℕ))
@@ -291,8 +293,8 @@ run_children : (p : List ℕ × ChildValue) (run others : List (List ℕ × Chil
 run_children p run others same above up =
     let own = own_children p.0 (p ∷ run) (refl, same) in
     let none =
-        no_children p.0 others
-            (every_weaker (λ q. text_cmp p.0 q.0 ≡ Less) (λ q. bytes_eq p.0 q.0 ≡ false) (λ q h. apart p.0 q.0 h) others above) in
+    no_children p.0 others
+    (every_weaker (λ q. text_cmp p.0 q.0 ≡ Less) (λ q. bytes_eq p.0 q.0 ≡ false) (λ q h. apart p.0 q.0 h) others above) in
     ap (in_order child_cmp) (children-append p.0 (p ∷ run) others ∙ (λ i. own i ++ none i) ∙ append_nothing (map (λ q. q.1) (p ∷ run)))
     ∙ sym (in_order_is child_total child_same (map (λ q. q.1) (p ∷ run)) (map (λ q. q.1) (p ∷ run))
     (run_sorted p.0 (p ∷ run) others (refl, same) up) (λ test. refl))
@@ -313,8 +315,8 @@ pub run_first : (p : List ℕ × ChildValue) (run others : List (List ℕ × Chi
 unfolding tree_of
 run_first p run others same above up =
     let entry =
-        λ (ps : List (List ℕ × ChildValue)) (part : List ℕ). let e : EntryValue =
-            record { name = part; children = in_order child_cmp (children_of part ps) } in e in
+    λ (ps : List (List ℕ × ChildValue)) (part : List ℕ). let e : EntryValue =
+    record { name = part; children = in_order child_cmp (children_of part ps) } in e in
     ap (map (entry (p ∷ run ++ others))) (sym (parts_of_run p run others same above))
     ∙ (λ i. record { name = p.0; children = run_children p run others same above up i }
     ∷ entries_apart (entry (p ∷ run ++ others)) (entry others) p.0 (in_order text_cmp (map (λ q. q.0) others))
@@ -334,7 +336,7 @@ shown_apart view p run (x ∷ xs) cut y zs e =
     let next : get_or rs n x ≡ x = get_or-append_seam (p ∷ run) x xs x in
     let first : view x ≡ y = ap (λ l. get_or l 0 y) e in
     (λ i. bytes_eq (sym last i) (sym first i).0) ∙ ap (λ q. bytes_eq (view (get_or rs (n - 1) x)).0 (view q).0) (sym next)
-        ∙ cut.1 (omega (arith, length-append (p ∷ run) (x ∷ xs))) x
+    ∙ cut.1 (omega (arith, length-append (p ∷ run) (x ∷ xs))) x
 
 pub run_step : {X : Type 0} (view : X → List ℕ × ChildValue) (run ys rs : List X) → rs ≡ run ++ ys → 0 < length run
     → IsChunkByPrefix (λ x y. bytes_eq (view x).0 (view y).0) rs (length run)
@@ -345,17 +347,19 @@ pub run_step : {X : Type 0} (view : X → List ℕ × ChildValue) (run ys rs : L
 run_step view [] ys rs e some cut up = absurd (omega arith)
 run_step view (p ∷ run) ys rs e some cut up =
     let cut : IsChunkByPrefix (λ x y. bytes_eq (view x).0 (view y).0) (p ∷ run ++ ys) (length (p ∷ run)) =
-        subst (λ zs. IsChunkByPrefix (λ x y. bytes_eq (view x).0 (view y).0) zs (length (p ∷ run))) e cut in
+    subst (λ zs. IsChunkByPrefix (λ x y. bytes_eq (view x).0 (view y).0) zs (length (p ∷ run))) e cut in
     let all : map view rs ≡ view p ∷ map view run ++ map view ys = ap (map view) e ∙ map-append view (p ∷ run) ys in
     let up : IsStrictlySortedBy placed_cmp (view p ∷ map view run ++ map view ys) = subst (IsStrictlySortedBy placed_cmp) all up in
     let same =
-        every_from_places (λ q. (view q).0 ≡ (view p).0) (p ∷ run)
-            (λ k d below. ap (λ q. (view q).0) (sym (get_or_append_left (p ∷ run) ys d k below))
-                ∙ one_part (λ q. (view q).0) (p ∷ run ++ ys) (length (p ∷ run)) cut.0 k d below) in
+    every_from_places (λ q. (view q).0 ≡ (view p).0) (p ∷ run)
+    (λ k d below. ap (λ q. (view q).0) (sym (get_or_append_left (p ∷ run) ys d k below))
+    ∙ one_part (λ q. (view q).0) (p ∷ run ++ ys) (length (p ∷ run)) cut.0 k d below) in
     let run_same = every_map (λ q. q.0 ≡ (view p).0) view run same.1 in
-    let above = others_above (view p) (map view run) (map view ys) up (shown_apart view p run ys cut) in
-    (sorted_right placed_cmp (view p ∷ map view run) (map view ys) up, λ d. ap tree_of all
-        ∙ run_first (view p) (map view run) (map view ys) run_same above up)
+    let above = others_above (view p) (map view run) (map view ys) up (shown_apart view p run ys cut) in (
+      sorted_right placed_cmp (view p ∷ map view run) (map view ys) up,
+      λ d. ap tree_of all
+          ∙ run_first (view p) (map view run) (map view ys) run_same above up,
+    )
 
 pub tree_of_nothing : {X : Type 0} (view : X → List ℕ × ChildValue) (xs : List X) → length xs ≡ 0 → tree_of (map view xs) ≡ []
 unfolding tree_of

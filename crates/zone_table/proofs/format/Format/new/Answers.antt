@@ -18,9 +18,9 @@ constant template text whole same there = rw (whole, there) (ap Constant same)
 pub returns-then-has_placeholder : goal.returns-then-has_placeholder
 returns-then-has_placeholder c =
     placeholder _ _ (list_any-none c.args.template.now (search rules)) c.in_ok-text.ensures
-        (sym c.has_placeholder.ensures ∙ c.if-has_placeholder.true)
+    (sym c.has_placeholder.ensures ∙ c.if-has_placeholder.true)
 
 pub returns-else-has_placeholder : goal.returns-else-has_placeholder
 returns-else-has_placeholder c =
     constant _ _ (list_any-none c.args.template.now (search rules)) c.in_ok-text.ensures
-        (sym c.has_placeholder.ensures ∙ c.if-has_placeholder.false)
+    (sym c.has_placeholder.ensures ∙ c.if-has_placeholder.false)
