@@ -2,8 +2,7 @@
 use Rattle.std.proofs.Common.{◌≡◌, Bool, true, false, cond, List, [], ◌∷◌, map, refl, sym, ap, ◌∙◌, subst}
 use Rattle.std.specs.Prelude.{◌||◌}
 use Rattle.std.specs.declared.cmp.Ordering.{Ordering}
-use Rattle.std.specs.declared.cmp.Ordering.TheVariants.{Less, Equal, Greater}
-use Rattle.std.specs.Cmp.{on_total, both_tied}
+use Rattle.std.specs.Cmp.{Equal-is, on_total, both_tied}
 use Rattle.std.specs.List.{dedup, dedup_from, list_any}
 use Rattle.std.specs.List.Retain.{IsFiltered, DiffersFromLast}
 use Rattle.std.specs.List.Sorted.{IsPermutation, IsSorted, IsStrictlySortedBy}
@@ -63,11 +62,6 @@ any-dedup : {X : Type 0} (same : X → X → Bool) (test : X → Bool) → ((x y
 any-dedup same test alike [] = refl
 any-dedup same test alike (x ∷ xs) = any-dedup_from same test alike x xs
 
-tied : (r : Ordering) → is_eq r ≡ true → r ≡ Equal
-tied Less e = cc
-tied Equal e = refl
-tied Greater e = cc
-
 pub in_order_from_sort : (xs sorted left : List Placed) → IsPermutation xs sorted → IsSorted placed_order.ghosts.cmp sorted
     → IsFiltered (DiffersFromLast placed_equality.ghosts.eq) [] sorted left
     → map placed_value left ≡ in_order placed_cmp (map placed_value xs)
@@ -82,6 +76,6 @@ in_order_from_sort xs sorted left moved up kept =
     (λ test. any-map test placed_value left
     ∙ ap (list_any (λ x. test (placed_value x))) (dedup_is placed_equality.ghosts.eq sorted left kept)
     ∙ any-dedup placed_equality.ghosts.eq (λ x. test (placed_value x))
-    (λ x y e. ap test (placed_same (placed_value x) (placed_value y) (tied _ (sym (placed_equal x y) ∙ e)))) sorted
+    (λ x y e. ap test (placed_same (placed_value x) (placed_value y) ((Equal-is (placed_cmp (placed_value x) (placed_value y))).0 (sym (placed_equal x y) ∙ e)))) sorted
     ∙ sym (list_any-IsPermutation (λ x. test (placed_value x)) xs sorted moved)
     ∙ sym (any-map test placed_value xs))

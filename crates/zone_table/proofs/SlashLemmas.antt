@@ -19,7 +19,7 @@ passes_at_place test (x ∷ xs) h =
     elim (test x) as (λ b. cond (not b) (1 + prefix_len (λ y. not (test y)) xs) 0 < length (x ∷ xs)
     → (b || list_any test xs) ≡ true) [ true ↦ λ _. refl | false ↦ λ h. passes_at_place test xs (omega arith) ] h
 
-passes_nowhere : (test : ℕ → Bool) (xs : List ℕ) → position_or_len test xs ≡ length xs → list_any test xs ≡ false
+pub passes_nowhere : (test : ℕ → Bool) (xs : List ℕ) → position_or_len test xs ≡ length xs → list_any test xs ≡ false
 passes_nowhere test [] h = refl
 passes_nowhere test (x ∷ xs) h =
     elim (test x) as (λ b. cond (not b) (1 + prefix_len (λ y. not (test y)) xs) 0 ≡ length (x ∷ xs)

@@ -11,7 +11,7 @@ use Rattle.std.specs.List.{AllByRecursion, AllAdjacentBelow, IsChunkByPrefix, fi
 use Rattle.std.specs.List.Sorted.{IsPermutation, IsStrictlySortedBy}
 use Rattle.std.specs.Ordering.{is_eq, ordering_reverse, ordering_then}
 use Rattle.std.specs.Str.{bytes_eq}
-use Rattle.std.proofs.lemmas.List.{map-append, get_or_append_left}
+use Rattle.std.proofs.lemmas.List.{append-nil, map-append, get_or_append_left}
 use Rattle.std.proofs.lemmas.List.Elements.{filter-append}
 use Rattle.std.proofs.lemmas.List.Folds.{list_any-append}
 use Rattle.std.proofs.lemmas.List.Sorted.{list_any-IsPermutation}
@@ -282,10 +282,6 @@ entries_apart : (f g : List ℕ → EntryValue) (part : List ℕ) (parts : List 
 entries_apart f g part [] alike h = refl
 entries_apart f g part (other ∷ parts) alike h = λ i. alike other h.0 i ∷ entries_apart f g part parts alike h.1 i
 
-pub append_nothing : {X : Type 0} (xs : List X) → xs ++ [] ≡ xs
-append_nothing [] = refl
-append_nothing (x ∷ xs) = ap (λ ys. x ∷ ys) (append_nothing xs)
-
 run_children : (p : List ℕ × ChildValue) (run others : List (List ℕ × ChildValue)) → AllByRecursion (λ q. q.0 ≡ p.0) run
     → AllByRecursion (λ q. text_cmp p.0 q.0 ≡ Less) others
     → IsStrictlySortedBy placed_cmp (p ∷ run ++ others)
@@ -295,7 +291,7 @@ run_children p run others same above up =
     let none =
     no_children p.0 others
     (every_weaker (λ q. text_cmp p.0 q.0 ≡ Less) (λ q. bytes_eq p.0 q.0 ≡ false) (λ q h. apart p.0 q.0 h) others above) in
-    ap (in_order child_cmp) (children-append p.0 (p ∷ run) others ∙ (λ i. own i ++ none i) ∙ append_nothing (map (λ q. q.1) (p ∷ run)))
+    ap (in_order child_cmp) (children-append p.0 (p ∷ run) others ∙ (λ i. own i ++ none i) ∙ append-nil (map (λ q. q.1) (p ∷ run)))
     ∙ sym (in_order_is child_total child_same (map (λ q. q.1) (p ∷ run)) (map (λ q. q.1) (p ∷ run))
     (run_sorted p.0 (p ∷ run) others (refl, same) up) (λ test. refl))
 

@@ -2,12 +2,12 @@ use Rattle.std.proofs.Common.{rules, ◌≡◌, ◌++◌, ◌∷◌, [], sym, ap
 use Rattle.std.proofs.Common.{map as each}
 use Rattle.std.specs.Slice.Iter.{chunk_by_rest, chunk_by_callee}
 use Rattle.std.specs.Str.{bytes_eq}
-use Rattle.std.proofs.lemmas.List.{map-append}
+use Rattle.std.proofs.lemmas.List.{append-nil, map-append}
 use Rattle.std.proofs.lemmas.List.Sorted.{answers_always}
 use Rattle.zone_table.specs.NameTree.{tree_of}
 use Rattle.zone_table.specs.Shown.{entry_value}
 use Rattle.zone_table.specs.Placed.{placed_value}
-use Rattle.zone_table.proofs.TreeLemmas.{run_step, append_nothing, tree_of_nothing}
+use Rattle.zone_table.proofs.TreeLemmas.{run_step, tree_of_nothing}
 use Rattle.zone_table.proofs.structure.entries_of.Goals as goal
 
 pub loop-run-preserved : goal.loop-run-preserved
@@ -35,6 +35,6 @@ loop-run-preserved c =
 pub returns : goal.returns
 returns c =
     let so_far = each entry_value c.loop-run.entries.items in
-    sym (append_nothing so_far)
+    sym (append-nil so_far)
     ∙ ap (λ vs. so_far ++ vs) (sym (tree_of_nothing placed_value (chunk_by_rest c.loop-run.run-iterator) c.in-None.ensures.steps.0))
     ∙ c.loop-run.invariant.missing
