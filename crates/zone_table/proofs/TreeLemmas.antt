@@ -1,6 +1,7 @@
 -- The hierarchy of children in order, run by run.
 use Rattle.std.proofs.Common.{◌≡◌, ℕ, zero, suc, ◌-◌, ◌<◌, Bool, true, false, cond, List, []}
 use Rattle.std.proofs.Common.{◌∷◌, ◌++◌, map, length, get_or, refl, sym, ap, ◌∙◌, subst, arith, length-append}
+use Rattle.std.specs.Borrow.{Bor}
 use Rattle.std.specs.Prelude.{◌||◌, ◌&&◌}
 use Rattle.std.specs.declared.cmp.Ordering.{Ordering}
 use Rattle.std.specs.declared.cmp.Ordering.TheVariants.{Less, Equal, Greater}
@@ -26,7 +27,7 @@ use Rattle.owned.specs.InOrderLaws.{in_order_is, same_in_order, sorted_in_order,
 use Rattle.zone_table.specs.NameTree.{ChildValue, submodule, time_zone, child_cmp, EntryValue, children_in, children_of, tree_of}
 use Rattle.zone_table.specs.Shown.{child_value}
 use Rattle.zone_table.specs.Placed.{placed_cmp, placed_value}
-use Rattle.zone_table.specs.declared.structure.Placed.{Placed}
+use Rattle.zone_table.specs.declared.structure.Child.{Child}
 
 -- ---- the orders
 
@@ -364,6 +365,6 @@ tree_of_nothing view (x ∷ xs) e = absurd (omega arith)
 
 -- ---- the code's children
 
-pub shown_children : (xs : List Placed) → map (λ x. child_value x.child) xs ≡ map (λ p. p.1) (map placed_value xs)
+pub shown_children : (xs : List (Bor (List ℕ) × Child)) → map (λ x. child_value x.1) xs ≡ map (λ p. p.1) (map placed_value xs)
 shown_children [] = refl
-shown_children (x ∷ xs) = ap (λ cs. child_value x.child ∷ cs) (shown_children xs)
+shown_children (x ∷ xs) = ap (λ cs. child_value x.1 ∷ cs) (shown_children xs)

@@ -14,11 +14,11 @@ pub loop-run-preserved : goal.loop-run-preserved
 loop-run-preserved c =
     let cut = c.in-Some.ensures.steps in
     let answers =
-    answers_always _ (λ a r. r ≡ bytes_eq a.0.now.part.now a.1.0.now.part.now) (chunk_by_callee c.loop-run.run-iterator)
+    answers_always _ (λ a r. r ≡ bytes_eq a.0.now.0.now a.1.0.now.0.now) (chunk_by_callee c.loop-run.run-iterator)
     (λ f a r f' k. search rules) in
     let left =
     run_step placed_value c.in-Some.run'.now (chunk_by_rest c.next.new.self) (chunk_by_rest c.loop-run.run-iterator) cut.0 cut.1
-    (cut.2 (λ x y. bytes_eq x.part.now y.part.now) answers).1 c.loop-run.invariant.sorted in
+    (cut.2 (λ x y. bytes_eq x.0.now y.0.now) answers).1 c.loop-run.invariant.sorted in
     let so_far = c.loop-run.entries.items in
     let rest = tree_of (each placed_value (chunk_by_rest c.next.new.self)) in
     let entry = c.in_ok-entry_of.ensures in
