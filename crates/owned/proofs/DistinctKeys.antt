@@ -16,7 +16,8 @@ true_from_T : (b : Bool) → T b → b ≡ true
 true_from_T true h = refl
 true_from_T false h = absurd h
 
-below_keys : {K X : Type 0} (R : K → K → Ordering) (x : K) (es : List (K × X)) → below_all R x es ≡ below_all R x (tagged (map (λ e. e.0) es))
+below_keys : {K X : Type 0} (R : K → K → Ordering) (x : K) (es : List (K × X))
+    → below_all R x es ≡ below_all R x (tagged (map (λ e. e.0) es))
 below_keys R x [] = refl
 below_keys R x (e ∷ es) = ap (λ b. is_lt (R x e.0) && b) (below_keys R x es)
 

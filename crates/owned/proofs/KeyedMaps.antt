@@ -8,14 +8,16 @@ use Rattle.std.specs.Str.{bytes_eq}
 use Rattle.std.specs.String.{string_eq, string_eq_equiv}
 use Rattle.std.specs.Cmp.Lexicographic.{nat_list_cmp_total}
 use Rattle.std.specs.HashMap.{HashMap, UpdatesBy}
-use Rattle.std.specs.FinMap.{FinMap, get, insert, find, same_map, get-insert, get-from_entries, slice_cmp-IsAntisymmetric, nat_cmp-IsAntisymmetric}
+use Rattle.std.specs.FinMap.{FinMap, get, insert, find}
+use Rattle.std.specs.FinMap.{same_map, get-insert, get-from_entries, slice_cmp-IsAntisymmetric, nat_cmp-IsAntisymmetric}
 use Rattle.std.proofs.lemmas.List.Sums.{AllPass-from_list_all, list_all-from_AllPass}
 use Rattle.std.proofs.lemmas.Map.Text.{is_eq-slice_cmp, hash_map_updates_text}
 use Rattle.std.proofs.lemmas.Map.Views.{All-values_from_lookup, IfSome-lookup_from_All}
 use Rattle.owned.specs.Keyed.{text_cmp, keyed, by_bytes, EachPasses}
 use Rattle.owned.specs.KeyedLaws.{tied_texts}
 
-find-by_bytes : {Y X : Type 0} (es : List (String Y × X)) (q : List ℕ) → find text_cmp q (by_bytes es) ≡ lookup (λ k. bytes_eq q (string_bytes k)) es
+find-by_bytes : {Y X : Type 0} (es : List (String Y × X)) (q : List ℕ)
+    → find text_cmp q (by_bytes es) ≡ lookup (λ k. bytes_eq q (string_bytes k)) es
 find-by_bytes [] q = refl
 find-by_bytes (e ∷ es) q = λ i. cond (is_eq-slice_cmp q (string_bytes e.0) i) (Some e.1) (find-by_bytes es q i)
 
@@ -36,13 +38,18 @@ keyed_updates bs m n v h = same_texts _ _ (λ q.
     ∙ sym (get-insert nat_list_cmp_total (keyed m.entries) bs v q))
 
 -- a test of all values is a test of what each text finds
-pub each_passes : {Y X : Type 0} (test : X → Bool) (es : List (String Y × X)) → list_all test (values_of es) ≡ true → EachPasses test (keyed es)
+pub each_passes : {Y X : Type 0} (test : X → Bool) (es : List (String Y × X)) → list_all test (values_of es) ≡ true
+    → EachPasses test (keyed es)
 each_passes test es all name =
-    let passes = IfSome-lookup_from_All (λ v. test v ≡ true) (λ k. bytes_eq name (string_bytes k)) es (AllPass-from_list_all test (values_of es) all) in
+    let passes =
+    IfSome-lookup_from_All (λ v. test v ≡ true) (λ k. bytes_eq name (string_bytes k)) es
+    (AllPass-from_list_all test (values_of es) all) in
     subst (λ found. IfSome found (λ v. test v ≡ true)) (sym (get-keyed es name)) passes
 
-pub all_pass : {Y X : Type 0} (test : X → Bool) (es : List (String Y × X)) → IsDistinct string_eq (keys_of es) → EachPasses test (keyed es)
+pub all_pass : {Y X : Type 0} (test : X → Bool) (es : List (String Y × X)) → IsDistinct string_eq (keys_of es)
+    → EachPasses test (keyed es)
     → list_all test (values_of es) ≡ true
 all_pass {Y} test es distinct each =
-    let found = λ (k : String Y). subst (λ found. IfSome found (λ v. test v ≡ true)) (get-keyed es (string_bytes k)) (each (string_bytes k)) in
+    let found =
+    λ (k : String Y). subst (λ found. IfSome found (λ v. test v ≡ true)) (get-keyed es (string_bytes k)) (each (string_bytes k)) in
     list_all-from_AllPass test (values_of es) (All-values_from_lookup string_eq_equiv (λ v. test v ≡ true) es distinct found)

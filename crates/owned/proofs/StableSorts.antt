@@ -28,8 +28,10 @@ module _ {X : Type 0} (below : X → X → Bool) where
 
   rises : (xs : List X) → ((i j : ℕ) (d : X) → i ≤ j → j < length xs → below (get_or xs j d) (get_or xs i d) ≡ false) → Rises below xs
   rises [] h = tt
-  rises (x ∷ xs) h =
-      (none_below x xs (λ k d l. h 0 (suc k) d (omega arith) (omega (arith, l))), rises xs (λ i j d le l. h (suc i) (suc j) d (omega (arith, le)) (omega (arith, l))))
+  rises (x ∷ xs) h = (
+    none_below x xs (λ k d l. h 0 (suc k) d (omega arith) (omega (arith, l))),
+    rises xs (λ i j d le l. h (suc i) (suc j) d (omega (arith, le)) (omega (arith, l))),
+  )
 
 module _ {X : Type 0} (below : X → X → Bool) (order : IsStrictWeakOrder below) where
   below_itself : (x : X) → below x x ≡ false
@@ -39,7 +41,8 @@ module _ {X : Type 0} (below : X → X → Bool) (order : IsStrictWeakOrder belo
   ties_itself x = ties_both below x x (below_itself x) (below_itself x)
 
   -- where one ties with y, y is not below what none is below
-  not_below : (y a : X) (zs : List X) → NoneBelow below a zs → (w : X) (ws : List X) → filter (ties below y) zs ≡ w ∷ ws → below y a ≡ false
+  not_below : (y a : X) (zs : List X) → NoneBelow below a zs → (w : X) (ws : List X) → filter (ties below y) zs ≡ w ∷ ws
+      → below y a ≡ false
   not_below y a [] none w ws h = cc
   not_below y a (v ∷ vs) none w ws h =
       elim (ties below y v)
@@ -48,7 +51,8 @@ module _ {X : Type 0} (below : X → X → Bool) (order : IsStrictWeakOrder belo
         | false ↦ λ t e. not_below y a vs none.1 w ws e
       ] refl h
 
-  not_below_from : (y a : X) (zs : List X) → NoneBelow below a zs → (w : X) (ws : List X) → filter (ties below y) (a ∷ zs) ≡ w ∷ ws → below y a ≡ false
+  not_below_from : (y a : X) (zs : List X) → NoneBelow below a zs → (w : X) (ws : List X) → filter (ties below y) (a ∷ zs) ≡ w ∷ ws
+      → below y a ≡ false
   not_below_from y a zs none w ws h =
       elim (ties below y a)
       as (λ b. ties below y a ≡ b → cond b (a ∷ filter (ties below y) zs) (filter (ties below y) zs) ≡ w ∷ ws → below y a ≡ false) [
@@ -70,7 +74,8 @@ module _ {X : Type 0} (below : X → X → Bool) (order : IsStrictWeakOrder belo
   same_head x y xs ys h = cc
 
   -- two lists that rise, with ties alike, are one
-  same_order : (ys zs : List X) → Rises below ys → Rises below zs → ((x : X) → filter (ties below x) ys ≡ filter (ties below x) zs) → ys ≡ zs
+  same_order : (ys zs : List X) → Rises below ys → Rises below zs → ((x : X) → filter (ties below x) ys ≡ filter (ties below x) zs)
+      → ys ≡ zs
   same_order [] [] up up' h = refl
   same_order [] (z ∷ zs) up up' h = let e = h z ∙ tied_with_itself z zs in cc
   same_order (y ∷ ys) [] up up' h = let e = sym (h y) ∙ tied_with_itself y ys in cc
@@ -83,7 +88,8 @@ module _ {X : Type 0} (below : X → X → Bool) (order : IsStrictWeakOrder belo
       let rest = same_order ys zs up.1 up'.1 (λ x. same_rest (ties below x y) y z _ _ head (tied x)) in
       λ i. head i ∷ rest i
 
-  swapped : (a b : Bool) (x y : X) (zs : List X) → (a && b) ≡ false → cond a (y ∷ cond b (x ∷ zs) zs) (cond b (x ∷ zs) zs) ≡ cond b (x ∷ cond a (y ∷ zs) zs) (cond a (y ∷ zs) zs)
+  swapped : (a b : Bool) (x y : X) (zs : List X) → (a && b) ≡ false
+      → cond a (y ∷ cond b (x ∷ zs) zs) (cond b (x ∷ zs) zs) ≡ cond b (x ∷ cond a (y ∷ zs) zs) (cond a (y ∷ zs) zs)
   swapped true true x y zs h = absurd (false≢true (sym h))
   swapped true false x y zs h = refl
   swapped false b x y zs h = refl
@@ -111,9 +117,11 @@ module _ {X : Type 0} (below : X → X → Bool) (order : IsStrictWeakOrder belo
 
   ties_stable_sort : (q : X) (xs : List X) → filter (ties below q) (stable_sort below xs) ≡ filter (ties below q) xs
   ties_stable_sort q [] = refl
-  ties_stable_sort q (x ∷ xs) = ties_put_in q x (stable_sort below xs) ∙ ap (λ zs. cond (ties below q x) (x ∷ zs) zs) (ties_stable_sort q xs)
+  ties_stable_sort q (x ∷ xs) =
+      ties_put_in q x (stable_sort below xs) ∙ ap (λ zs. cond (ties below q x) (x ∷ zs) zs) (ties_stable_sort q xs)
 
   -- what std says of a stable sort leaves one list
   pub the_stable_sort : (xs ys : List X) → IsSortedBy below ys → IsStableBy below xs ys → ys ≡ stable_sort below xs
   the_stable_sort xs ys up stable =
-      same_order ys (stable_sort below xs) (rises below ys (sorted_far below order ys up)) (Rises-stable_sort below order xs) (λ q. stable q ∙ sym (ties_stable_sort q xs))
+      same_order ys (stable_sort below xs) (rises below ys (sorted_far below order ys up)) (Rises-stable_sort below order xs)
+      (λ q. stable q ∙ sym (ties_stable_sort q xs))

@@ -122,7 +122,8 @@ any-insert_key : {K : Type 0} {R : K → K → Ordering} → IsAntisymmetric R �
 any-insert_key same test [] k = refl
 any-insert_key {R = R} same test (x ∷ xs) k =
     elim (R k x)
-    as (λ r. R k x ≡ r → list_any test (match_ordering r (k ∷ x ∷ xs) (x ∷ xs) (x ∷ insert_key R xs k)) ≡ (test k || (test x || list_any test xs))) [
+    as (λ r. R k x ≡ r → list_any test (match_ordering r (k ∷ x ∷ xs) (x ∷ xs) (x ∷ insert_key R xs k))
+    ≡ (test k || (test x || list_any test xs))) [
       | Less ↦ λ _. refl
       | Equal ↦ λ tie. or_twice (test x) (list_any test xs) ∙ ap (λ y. test y || (test x || list_any test xs)) (sym (same k x tie))
       | Greater ↦ λ _. ap (λ b. test x || b) (any-insert_key same test xs k) ∙ turned (test x) (test k) (list_any test xs)

@@ -29,7 +29,8 @@ unlisted (x ∷ xs) = refl
 -- lists by their names, after an item was put at the end of one of them
 pub appended : {X : Type 0} (m : FinMap text_cmp (List X)) (f : List ℕ → List X) (name : List ℕ) (item : X)
     → ((n : List ℕ) → get m n ≡ listed (f n))
-    → (n : List ℕ) → get (insert m name (unwrap_or (get m name) [] ++ item ∷ [])) n ≡ listed (f n ++ cond (bytes_eq name n) (item ∷ []) [])
+    → (n : List ℕ) → get (insert m name (unwrap_or (get m name) [] ++ item ∷ [])) n
+    ≡ listed (f n ++ cond (bytes_eq name n) (item ∷ []) [])
 appended m f name item h n =
     get-inserted m name n _
     ∙ elim (bytes_eq name n)

@@ -84,38 +84,38 @@ impl<T> Items<T> {
         self.vec.as_slice().is_empty()
     }
 
-    /// The item at an index, or none past the end.
-    pub fn get(&self, index: usize) -> Option<&T>
-        ensures { option_copied result ≡ slice_get self.now index }
+    /// The item at a place, which counts from 0, or none past the end.
+    pub fn get(&self, place: usize) -> Option<&T>
+        ensures { option_copied result ≡ slice_get self.now place }
     {
-        self.vec.as_slice().get(index)
+        self.vec.as_slice().get(place)
     }
 
-    /// Puts an item at an index, and gives back the one that was there.
-    pub fn replace(&mut self, index: usize, item: T) -> T
-        requires { index < length self.old }
-        ensures before { result ≡ slice_index_or self.old index result }
-        ensures after { self.new ≡ slice_set self.old index item }
+    /// Puts an item at a place, and gives back the one that was there.
+    pub fn replace(&mut self, place: usize, item: T) -> T
+        requires within { place < length self.old }
+        ensures before { result ≡ slice_index_or self.old place result }
+        ensures after { self.new ≡ slice_set self.old place item }
     {
-        std::mem::replace(&mut self.vec[index], item)
+        std::mem::replace(&mut self.vec[place], item)
     }
 
     /// Puts two items each in the other's place.
-    pub fn swap(&mut self, a: usize, b: usize)
-        requires a { a < length self.old }
-        requires b { b < length self.old }
-        ensures { self.new ≡ swap self.old a b }
+    pub fn swap(&mut self, one: usize, other: usize)
+        requires one { one < length self.old }
+        requires other { other < length self.old }
+        ensures { self.new ≡ swap self.old one other }
     {
-        self.vec.swap(a, b);
+        self.vec.swap(one, other);
     }
 
-    /// Takes out the item at an index; those behind it move up by one.
-    pub fn remove(&mut self, index: usize) -> T
-        requires { index < length self.old }
-        ensures before { result ≡ slice_index_or self.old index result }
-        ensures after { self.new ≡ remove self.old index }
+    /// Takes out the item at a place; those behind it move up by one.
+    pub fn remove(&mut self, place: usize) -> T
+        requires within { place < length self.old }
+        ensures before { result ≡ slice_index_or self.old place result }
+        ensures after { self.new ≡ remove self.old place }
     {
-        self.vec.remove(index)
+        self.vec.remove(place)
     }
 
     /// Keeps the first `count` items. A longer count keeps all.
@@ -135,7 +135,7 @@ impl<T> Items<T> {
         requires { F.IsAlwaysCallable key_of }
         ensures ok { (key : T → K) → ComputesKey F.FnMut key key_of → OnOk result (self.new ≡ stable_sort (by_key K.cmp key) self.old) }
         ensures err { OnErr result (self.new ≡ self.old) }
-        ensures permutation { IsPermutation self.old self.new }
+        ensures same_items { IsPermutation self.old self.new }
     {
         self.vec.sort_by_key(key_of)?;
         Ok(())
@@ -145,26 +145,26 @@ impl<T> Items<T> {
 impl<T> Index<usize> for Items<T> {
     type Output = T;
 
-    ghost can_index = { λ items index. index < length items };
+    ghost can_index = { λ items place. place < length items };
 
-    ghost index_gives = { λ items index item. item ≡ slice_index_or items index item };
+    ghost index_gives = { λ items place item. item ≡ slice_index_or items place item };
 
-    fn index(&self, index: usize) -> &T
-        requires { index < length self.now }
-        ensures { result.now ≡ slice_index_or self.now index result.now }
+    fn index(&self, place: usize) -> &T
+        requires within { place < length self.now }
+        ensures { result.now ≡ slice_index_or self.now place result.now }
     {
-        &self.vec.as_slice()[index]
+        &self.vec.as_slice()[place]
     }
 }
 
 impl<T> IndexMut<usize> for Items<T> {
     ghost use Rattle.owned.specs.contracts.items.Items.{the_row};
 
-    fn index_mut(&mut self, index: usize) -> &mut T
-        requires { index < length self.old }
-        ensures* writes_back { sem 𝓛 (Lends (the_row T.row) T.row self.entry result (slice_set self.old index)) }
-        ensures value { result.now ≡ slice_index_or self.old index result.now }
+    fn index_mut(&mut self, place: usize) -> &mut T
+        requires within { place < length self.old }
+        ensures* writes_back { sem 𝓛 (Lends (the_row T.row) T.row self.entry result (slice_set self.old place)) }
+        ensures value { result.now ≡ slice_index_or self.old place result.now }
     {
-        &mut self.vec[index]
+        &mut self.vec[place]
     }
 }

@@ -66,7 +66,8 @@ signed_width_of_all = refl
 exact_truth : (is_exact_truth true default_options ≡ true) × (is_exact_truth true (at_most 9) ≡ false)
 exact_truth = (refl, refl)
 
-exact_char : (is_exact_char 127 default_options ≡ true) × (is_exact_char 128 default_options ≡ false) × (is_exact_char 97 (at_most 9) ≡ false)
+exact_char : (is_exact_char 127 default_options ≡ true) × (is_exact_char 128 default_options ≡ false)
+    × (is_exact_char 97 (at_most 9) ≡ false)
 exact_char = (refl, refl, refl)
 
 exact_text : (is_exact_text (codes "ab") (at_most 1) ≡ true) × (is_exact_text (97 ∷ 195 ∷ 169 ∷ []) default_options ≡ false)

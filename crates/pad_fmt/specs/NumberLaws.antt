@@ -54,5 +54,6 @@ unsigned_law n f exact ascii = by_plus f.sign_plus
         ∙ ap (λ w. padded_width w f) (omega arith)
         ∙ ap (λ (minus : Bool). padded_width (length (decimal n) + (if minus then 1 else 0)) f) (sym no_minus)
 
-pub signed_law : (z : ℤ) (f : Options) → is_exact_signed z f ≡ true → f.fill < 128 → HasPaddedWidth (shown_signed z f) (signed_width z f) f
+pub signed_law : (z : ℤ) (f : Options) → is_exact_signed z f ≡ true → f.fill < 128
+    → HasPaddedWidth (shown_signed z f) (signed_width z f) f
 signed_law z f _ ascii = number_law (sign_text (is_negative z) f) (unsigned_abs z) f ascii

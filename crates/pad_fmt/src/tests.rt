@@ -54,6 +54,7 @@ fn is_minus_seven<T: SmartDisplay>(rt: &impl Abort, value: &T) {
 fn pads_words_and_characters(rt: HostRuntime) {
     let texts = ["true    ", "true    ", "  true  ", "    true"];
     is_padded(&rt, &true, 4, texts);
+    shows(&rt, &false, FormatterOptions::default(), "false");
     let texts = ["é       ", "é       ", "   é    ", "       é"];
     is_padded(&rt, &'é', 2, texts);
 }
@@ -106,7 +107,9 @@ fn shows_signs_and_zeros(rt: HostRuntime) {
     f.with_sign_minus(true).with_alternate(true);
     shows(&rt, &42u16, f, "00000042");
     assert_eq!(rt; unpadded_width_of(&42u16, f), 3);
-    assert!(rt; f.alternate());
+    assert!(rt; f.alternate() && !f.sign_plus());
+    f.with_sign_plus(true);
+    assert!(rt; f.sign_plus() && !f.sign_minus());
 }
 
 #[test]

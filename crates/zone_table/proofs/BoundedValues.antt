@@ -33,7 +33,8 @@ parts_of : (value : LineValue) (before : List LineValue) → list_all is_bounded
     → (is_bounded_line value ≡ true) × (list_all is_bounded_line before ≡ true)
 parts_of value before passes = and_parts (is_bounded_line value) (list_all is_bounded_line before) passes
 
-rules_pass : (latest : List LineValue) → list_all is_bounded_line latest ≡ true → (name : List ℕ) → list_all is_bounded_rule (rules_of latest name) ≡ true
+rules_pass : (latest : List LineValue) → list_all is_bounded_line latest ≡ true → (name : List ℕ)
+    → list_all is_bounded_rule (rules_of latest name) ≡ true
 rules_pass [] passes name = refl
 rules_pass (rule r ∷ before) passes name =
     let parts = parts_of (rule r) before passes in
@@ -43,7 +44,8 @@ rules_pass (zone zone_name info ∷ before) passes name = rules_pass before (par
 rules_pass (continuation info ∷ before) passes name = rules_pass before (parts_of (continuation info) before passes).1 name
 rules_pass (link existing new_name ∷ before) passes name = rules_pass before (parts_of (link existing new_name) before passes).1 name
 
-lines_pass : (latest : List LineValue) → list_all is_bounded_line latest ≡ true → (name : List ℕ) → list_all is_bounded_info (zone_of latest name) ≡ true
+lines_pass : (latest : List LineValue) → list_all is_bounded_line latest ≡ true → (name : List ℕ)
+    → list_all is_bounded_info (zone_of latest name) ≡ true
 lines_pass [] passes name = refl
 lines_pass (zone zone_name info ∷ before) passes name =
     let parts = parts_of (zone zone_name info) before passes in
@@ -55,20 +57,26 @@ lines_pass (space ∷ before) passes name = lines_pass before (parts_of space be
 lines_pass (rule r ∷ before) passes name = lines_pass before (parts_of (rule r) before passes).1 name
 lines_pass (link existing new_name ∷ before) passes name = lines_pass before (parts_of (link existing new_name) before passes).1 name
 
-listed_passes : {X : Type 0} (test : X → Bool) (xs : List X) → IsTrue (list_all test xs) → IfSome (listed xs) (λ ys. IsTrue (list_all test ys))
+listed_passes : {X : Type 0} (test : X → Bool) (xs : List X) → IsTrue (list_all test xs)
+    → IfSome (listed xs) (λ ys. IsTrue (list_all test ys))
 listed_passes test [] passes = tt
 listed_passes test (x ∷ xs) passes = passes
 
 -- what a map has of a list that passes
-found_passes : {X : Type 0} (test : X → Bool) (xs : List X) (found : Option (List X)) → found ≡ listed xs → IsTrue (list_all test xs) → IfSome found (λ ys. IsTrue (list_all test ys))
-found_passes test xs found is passes = subst (λ found. IfSome found (λ ys. IsTrue (list_all test ys))) (sym is) (listed_passes test xs passes)
+found_passes : {X : Type 0} (test : X → Bool) (xs : List X) (found : Option (List X)) → found ≡ listed xs → IsTrue (list_all test xs)
+    → IfSome found (λ ys. IsTrue (list_all test ys))
+found_passes test xs found is passes =
+    subst (λ found. IfSome found (λ ys. IsTrue (list_all test ys))) (sym is) (listed_passes test xs passes)
 
-bounded_latest : (table : Table) (latest : List LineValue) → IsTableOfLatest table latest → IsTrue (list_all is_bounded_line latest) → IsBoundedTable table
+bounded_latest : (table : Table) (latest : List LineValue) → IsTableOfLatest table latest → IsTrue (list_all is_bounded_line latest)
+    → IsBoundedTable table
 bounded_latest table latest is passes = record {
   rules = λ name. found_passes is_bounded_rule (rules_of latest name) _ (is.rulesets name) (rules_pass latest passes name);
   zones = λ name. found_passes is_bounded_info (zone_of latest name) _ (is.zonesets name) (lines_pass latest passes name);
 }
 
-pub bounded_values : (table : Table) (values : List LineValue) → IsTableOf table values → AllPass is_bounded_line values → IsBoundedTable table
+pub bounded_values : (table : Table) (values : List LineValue) → IsTableOf table values → AllPass is_bounded_line values
+    → IsBoundedTable table
 bounded_values table values is bounded =
-    bounded_latest table (reverse values) is (reverse_passes is_bounded_line values (list_all-from_AllPass is_bounded_line values bounded))
+    bounded_latest table (reverse values) is
+    (reverse_passes is_bounded_line values (list_all-from_AllPass is_bounded_line values bounded))

@@ -1,8 +1,8 @@
 -- What a search for `%s` and for a slash says of a text.
-use Rattle.std.proofs.Common.{◌≡◌, ℕ, ◌+◌, Bool, true, false, not, ◌||◌, cond, List, [], ◌∷◌, ◌++◌, length, refl, sym, ap, ◌∙◌, codes, arith, true≢false}
-use Rattle.std.specs.List.{list_any, position_or_len}
+use Rattle.std.proofs.Common.{◌≡◌, ℕ, Bool, true, false, ◌||◌, List}
+use Rattle.std.proofs.Common.{[], ◌∷◌, ◌++◌, refl, sym, ap, ◌∙◌, codes, arith, true≢false}
 use Rattle.std.specs.Str.Iter.{HasSubslice}
-use Rattle.zone_table.specs.Formats.{is_placeholder, has_placeholder, is_slash}
+use Rattle.zone_table.specs.Formats.{is_placeholder, has_placeholder}
 
 or-true : (b : Bool) → (b || true) ≡ true
 or-true true = refl
@@ -12,7 +12,8 @@ pub has_placeholder-within : (before after : List ℕ) → has_placeholder (befo
 unfolding has_placeholder
 has_placeholder-within [] after = refl
 has_placeholder-within (x ∷ []) after = or-true (is_placeholder x 37)
-has_placeholder-within (x ∷ y ∷ before) after = ap (λ b. is_placeholder x y || b) (has_placeholder-within (y ∷ before) after) ∙ or-true (is_placeholder x y)
+has_placeholder-within (x ∷ y ∷ before) after =
+    ap (λ b. is_placeholder x y || b) (has_placeholder-within (y ∷ before) after) ∙ or-true (is_placeholder x y)
 
 placeholder_here : (x y : ℕ) (rest : List ℕ) → is_placeholder x y ≡ true → HasSubslice (x ∷ y ∷ rest) (codes "%s")
 placeholder_here x y rest here =
@@ -32,13 +33,3 @@ placeholder_within (x ∷ y ∷ rest) there = by (is_placeholder x y) refl there
     by false apart there later =
         let found = later there in
         (x ∷ found.0, found.1, ap (λ l. x ∷ l) found.2)
-
--- the first slash is sought up to the end of a text only where no slash stands in it
-pub list_any-none : (text : List ℕ) → position_or_len is_slash text ≡ length text → list_any is_slash text ≡ false
-list_any-none [] end = refl
-list_any-none (x ∷ text) end = by (is_slash x) end (list_any-none text)
-  where
-    by : (b : Bool) → cond (not b) (1 + position_or_len is_slash text) 0 ≡ length (x ∷ text)
-        → (position_or_len is_slash text ≡ length text → list_any is_slash text ≡ false) → (b || list_any is_slash text) ≡ false
-    by true end later = absurd (omega arith)
-    by false end later = later (omega arith)

@@ -1,16 +1,26 @@
 -- Worked rows of what lines join to, whatever their rules and zone lines say. Each list has the latest first.
-use Rattle.std.specs.Prelude.{◌≡◌, [], ◌∷◌, Option, Some, None, codes, refl}
+use Rattle.std.specs.Prelude.{◌≡◌, ℕ, List, [], ◌∷◌, Option, Some, None, codes, refl}
 use Rattle.zone_values.specs.declared.change.ChangeTime.{ChangeTime}
 use Rattle.zone_values.specs.declared.time.TimeSpec.{TimeSpec}
 use Rattle.zone_values.specs.Values.{SavingValue, no_saving, multiple, InfoValue, RuleValue, space, zone, continuation, rule, link}
-use Rattle.zone_table.specs.Joined.{zone_of, owner}
-use Rattle.zone_table.specs.Owned.{owned_info}
+use Rattle.zone_table.specs.Joined.{rules_of, zone_of, owner}
+use Rattle.zone_table.specs.Owned.{owned_rule, owned_info}
 use Rattle.zone_table.specs.Refusals.{surprise_continuation_line, unknown_ruleset, duplicate_link, duplicate_zone, refusal}
 use Rattle.zone_table.specs.Resolved.{resolved}
 
 -- a zone line with that saving
 abbrev with_saving : TimeSpec → SavingValue → Option ChangeTime → InfoValue
 with_saving offset saving end = record { utc_offset = offset; saving = saving; format = codes "F"; time = end }
+
+-- the rule with that name
+abbrev named : List ℕ → RuleValue → RuleValue
+named name r = record r { name = name }
+
+module _ (r s t : RuleValue) where
+  -- the rules of a name in order, without those of another
+  rules_in_order : rules_of (rule (named (codes "R") t) ∷ rule (named (codes "S") s) ∷ rule (named (codes "R") r) ∷ []) (codes "R")
+      ≡ owned_rule r ∷ owned_rule t ∷ []
+  rules_in_order = refl
 
 module _ (offset : TimeSpec) (end : Option ChangeTime) (first second : InfoValue) (r : RuleValue) where
   -- a blank line does not close a zone
@@ -32,7 +42,8 @@ module _ (offset : TimeSpec) (end : Option ChangeTime) (first second : InfoValue
   surprise = refl
 
   -- a zone of an earlier name that names an unknown ruleset
-  unknown : refusal (zone (codes "A") first ∷ []) (zone (codes "A") (with_saving offset (multiple (codes "X")) end)) ≡ Some (unknown_ruleset (codes "X"))
+  unknown : refusal (zone (codes "A") first ∷ []) (zone (codes "A") (with_saving offset (multiple (codes "X")) end))
+      ≡ Some (unknown_ruleset (codes "X"))
   unknown = refl
 
   duplicate : refusal (space ∷ zone (codes "A") first ∷ []) (zone (codes "A") (with_saving offset no_saving end)) ≡ Some duplicate_zone
@@ -49,11 +60,13 @@ module _ (offset : TimeSpec) (end : Option ChangeTime) (first second : InfoValue
   link_of_zone_name : refusal (zone (codes "B") first ∷ zone (codes "A") second ∷ []) (link (codes "A") (codes "B")) ≡ None
   link_of_zone_name = refl
 
-  zone_before_link : resolved (link (codes "A") (codes "B") ∷ zone (codes "B") first ∷ zone (codes "A") second ∷ []) (codes "B") ≡ Some (owned_info first ∷ [])
+  zone_before_link : resolved (link (codes "A") (codes "B") ∷ zone (codes "B") first ∷ zone (codes "A") second ∷ []) (codes "B")
+      ≡ Some (owned_info first ∷ [])
   zone_before_link = refl
 
   -- one link is followed, and no second
-  one_link : resolved (link (codes "B") (codes "C") ∷ link (codes "A") (codes "B") ∷ zone (codes "A") first ∷ []) (codes "B") ≡ Some (owned_info first ∷ [])
+  one_link : resolved (link (codes "B") (codes "C") ∷ link (codes "A") (codes "B") ∷ zone (codes "A") first ∷ []) (codes "B")
+      ≡ Some (owned_info first ∷ [])
   one_link = refl
 
   two_links : resolved (link (codes "B") (codes "C") ∷ link (codes "A") (codes "B") ∷ zone (codes "A") first ∷ []) (codes "C") ≡ None

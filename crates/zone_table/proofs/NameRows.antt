@@ -9,6 +9,13 @@ two_levels : name_tree (codes "a/b/d" ∷ codes "a/e" ∷ codes "a/b/c" ∷ [])
 unfolding name_tree tree_of
 two_levels = refl
 
+-- submodules stand before time zones, whatever their names
+submodules_first : name_tree (codes "a/b" ∷ codes "a/z/c" ∷ [])
+    ≡ record { name = codes "a"; children = submodule (codes "z") ∷ time_zone (codes "b") ∷ [] }
+    ∷ record { name = codes "a/z"; children = time_zone (codes "c") ∷ [] } ∷ []
+unfolding name_tree tree_of
+submodules_first = refl
+
 -- the front up to the first slash gets the rest
 three_slashes : name_tree (codes "a/b/c/d" ∷ [])
     ≡ record { name = codes "a"; children = submodule (codes "b/c") ∷ [] }

@@ -1,9 +1,10 @@
 -- What a sort and a removal of doubles make of children, by the order that is derived for them.
-use Rattle.std.proofs.Common.{◌≡◌, Bool, true, false, cond, List, [], ◌∷◌, map, refl, sym, ap, ◌∙◌, subst}
-use Rattle.std.specs.Prelude.{◌||◌}
+use Rattle.std.proofs.Common.{◌≡◌, ℕ, Bool, true, false, cond, List, [], ◌∷◌, map, refl, sym, ap, ◌∙◌, subst}
+use Rattle.std.specs.Borrow.{Bor}
+use Rattle.std.specs.Prelude.{◌||◌, ◌&&◌}
+use Rattle.std.specs.Str.{bytes_eq}
 use Rattle.std.specs.declared.cmp.Ordering.{Ordering}
-use Rattle.std.specs.declared.cmp.Ordering.TheVariants.{Less, Equal, Greater}
-use Rattle.std.specs.Cmp.{on_total, both_tied}
+use Rattle.std.specs.Cmp.{Equal-is, on_total, both_tied}
 use Rattle.std.specs.List.{dedup, dedup_from, list_any}
 use Rattle.std.specs.List.Retain.{IsFiltered, DiffersFromLast}
 use Rattle.std.specs.List.Sorted.{IsPermutation, IsSorted, IsStrictlySortedBy}
@@ -17,11 +18,8 @@ use Rattle.owned.specs.Keyed.{text_cmp}
 use Rattle.owned.specs.InOrderLaws.{in_order_is, or_twice, rises-viewed, sorted_from_rises}
 use Rattle.zone_table.specs.contracts.structure.ChildOrd.TheImpl as child_order
 use Rattle.zone_table.specs.contracts.structure.ChildPartialEq.TheImpl as child_equality
-use Rattle.zone_table.specs.contracts.structure.PlacedOrd.TheImpl as placed_order
-use Rattle.zone_table.specs.contracts.structure.PlacedPartialEq.TheImpl as placed_equality
 use Rattle.zone_table.specs.declared.structure.Child as code
 use Rattle.zone_table.specs.declared.structure.Child.TheVariants as child
-use Rattle.zone_table.specs.declared.structure.Placed.{Placed}
 use Rattle.zone_table.specs.NameTree.{child_cmp}
 use Rattle.zone_table.specs.Shown.{child_value}
 use Rattle.zone_table.specs.Placed.{placed_cmp, placed_value}
@@ -33,8 +31,18 @@ child_tied (child.Submodule a) (child.TimeZone b) = refl
 child_tied (child.TimeZone a) (child.Submodule b) = refl
 child_tied (child.TimeZone a) (child.TimeZone b) = refl
 
-placed_tied : (x y : Placed) → placed_order.ghosts.cmp x y ≡ placed_cmp (placed_value x) (placed_value y)
-placed_tied x y = ap (ordering_then (text_cmp x.part.now y.part.now)) (child_tied x.child y.child)
+-- a child beside its part, and the order and the equality of such pairs
+abbrev Pair : Type 0
+Pair = Bor (List ℕ) × code.Child
+
+abbrev pair_cmp : Pair → Pair → Ordering
+pair_cmp x y = ordering_then (text_cmp x.0.now y.0.now) (child_order.ghosts.cmp x.1 y.1)
+
+abbrev pair_eq : Pair → Pair → Bool
+pair_eq x y = bytes_eq x.0.now y.0.now && child_equality.ghosts.eq x.1 y.1
+
+placed_tied : (x y : Pair) → pair_cmp x y ≡ placed_cmp (placed_value x) (placed_value y)
+placed_tied x y = ap (ordering_then (text_cmp x.0.now y.0.now)) (child_tied x.1 y.1)
 
 child_equal : (x y : code.Child) → child_equality.ghosts.eq x y ≡ is_eq (child_cmp (child_value x) (child_value y))
 child_equal (child.Submodule a) (child.Submodule b) = sym (is_eq-slice_cmp a.now b.now)
@@ -42,36 +50,41 @@ child_equal (child.Submodule a) (child.TimeZone b) = refl
 child_equal (child.TimeZone a) (child.Submodule b) = refl
 child_equal (child.TimeZone a) (child.TimeZone b) = sym (is_eq-slice_cmp a.now b.now)
 
-placed_equal : (x y : Placed) → placed_equality.ghosts.eq x y ≡ is_eq (placed_cmp (placed_value x) (placed_value y))
-placed_equal x y = both_tied _ _ (text_cmp x.part.now y.part.now) (child_cmp (child_value x.child) (child_value y.child)) (sym (is_eq-slice_cmp x.part.now y.part.now)) (child_equal x.child y.child)
+placed_equal : (x y : Pair) → pair_eq x y ≡ is_eq (placed_cmp (placed_value x) (placed_value y))
+placed_equal x y =
+    both_tied _ _ (text_cmp x.0.now y.0.now) (child_cmp (child_value x.1) (child_value y.1))
+    (sym (is_eq-slice_cmp x.0.now y.0.now)) (child_equal x.1 y.1)
 
-any-dedup_from : {X : Type 0} (same : X → X → Bool) (test : X → Bool) → ((x y : X) → same x y ≡ true → test x ≡ test y) → (k : X) (xs : List X) → list_any test (dedup_from same k xs) ≡ (test k || list_any test xs)
+any-dedup_from : {X : Type 0} (same : X → X → Bool) (test : X → Bool) → ((x y : X) → same x y ≡ true → test x ≡ test y)
+    → (k : X) (xs : List X) → list_any test (dedup_from same k xs) ≡ (test k || list_any test xs)
 any-dedup_from same test alike k [] = refl
 any-dedup_from same test alike k (x ∷ xs) =
-    elim (same x k) as (λ b. same x k ≡ b → list_any test (cond b (dedup_from same k xs) (k ∷ dedup_from same x xs)) ≡ (test k || (test x || list_any test xs))) [
-      | true ↦ λ e. any-dedup_from same test alike k xs ∙ or_twice (test k) (list_any test xs) ∙ ap (λ b. test k || (b || list_any test xs)) (sym (alike x k e))
+    elim (same x k) as (λ b. same x k ≡ b
+    → list_any test (cond b (dedup_from same k xs) (k ∷ dedup_from same x xs)) ≡ (test k || (test x || list_any test xs))) [
+      | true ↦ λ e. any-dedup_from same test alike k xs ∙ or_twice (test k) (list_any test xs)
+          ∙ ap (λ b. test k || (b || list_any test xs)) (sym (alike x k e))
       | false ↦ λ _. ap (λ b. test k || b) (any-dedup_from same test alike x xs)
     ] refl
 
-any-dedup : {X : Type 0} (same : X → X → Bool) (test : X → Bool) → ((x y : X) → same x y ≡ true → test x ≡ test y) → (xs : List X) → list_any test (dedup same xs) ≡ list_any test xs
+any-dedup : {X : Type 0} (same : X → X → Bool) (test : X → Bool) → ((x y : X) → same x y ≡ true → test x ≡ test y) → (xs : List X)
+    → list_any test (dedup same xs) ≡ list_any test xs
 any-dedup same test alike [] = refl
 any-dedup same test alike (x ∷ xs) = any-dedup_from same test alike x xs
 
-tied : (r : Ordering) → is_eq r ≡ true → r ≡ Equal
-tied Less e = cc
-tied Equal e = refl
-tied Greater e = cc
-
-pub in_order_from_sort : (xs sorted left : List Placed) → IsPermutation xs sorted → IsSorted placed_order.ghosts.cmp sorted → IsFiltered (DiffersFromLast placed_equality.ghosts.eq) [] sorted left
+pub in_order_from_sort : (xs sorted left : List Pair) → IsPermutation xs sorted → IsSorted pair_cmp sorted
+    → IsFiltered (DiffersFromLast pair_eq) [] sorted left
     → map placed_value left ≡ in_order placed_cmp (map placed_value xs)
 in_order_from_sort xs sorted left moved up kept =
-    let by_value = λ (x y : Placed). placed_cmp (placed_value x) (placed_value y) in
-    let up : IsSorted by_value sorted = subst (λ (R : Placed → Placed → Ordering). IsSorted R sorted) (λ i x y. placed_tied x y i) up in
-    let strict = subst (IsStrictlySortedBy by_value) (sym (dedup_is placed_equality.ghosts.eq sorted left kept)) (IsStrictlySortedBy-dedup (on_total placed_value placed_total) placed_equal sorted up) in
+    let by_value = λ (x y : Pair). placed_cmp (placed_value x) (placed_value y) in
+    let up : IsSorted by_value sorted = subst (λ (R : Pair → Pair → Ordering). IsSorted R sorted) (λ i x y. placed_tied x y i) up in
+    let strict =
+    subst (IsStrictlySortedBy by_value) (sym (dedup_is pair_eq sorted left kept))
+    (IsStrictlySortedBy-dedup (on_total placed_value placed_total) placed_equal sorted up) in
     in_order_is placed_total placed_same (map placed_value xs) (map placed_value left)
     (sorted_from_rises placed_cmp (map placed_value left) (rises-viewed by_value placed_cmp placed_value (λ x y. refl) left strict))
     (λ test. any-map test placed_value left
-    ∙ ap (list_any (λ x. test (placed_value x))) (dedup_is placed_equality.ghosts.eq sorted left kept)
-    ∙ any-dedup placed_equality.ghosts.eq (λ x. test (placed_value x)) (λ x y e. ap test (placed_same (placed_value x) (placed_value y) (tied _ (sym (placed_equal x y) ∙ e)))) sorted
+    ∙ ap (list_any (λ x. test (placed_value x))) (dedup_is pair_eq sorted left kept)
+    ∙ any-dedup pair_eq (λ x. test (placed_value x))
+    (λ x y e. ap test (placed_same (placed_value x) (placed_value y) ((Equal-is (placed_cmp (placed_value x) (placed_value y))).0 (sym (placed_equal x y) ∙ e)))) sorted
     ∙ sym (list_any-IsPermutation (λ x. test (placed_value x)) xs sorted moved)
     ∙ sym (any-map test placed_value xs))

@@ -27,6 +27,7 @@ owned_info-bounded info bounded =
     saving (one_off amount) held = held
     saving (multiple name) held = held
 
-    end : (time : Option ChangeTime) → IsTrue (option_map_or line.is_bounded_end time true) → IsTrue (option_map_or (λ end. has_day_of_month (end_day end)) time true)
+    end : (time : Option ChangeTime) → IsTrue (option_map_or line.is_bounded_end time true)
+        → IsTrue (option_map_or (λ end. has_day_of_month (end_day end)) time true)
     end None held = held
     end (Some time) held = (and_parts (has_day_of_month (end_day time)) (are_small_seconds (end_seconds time)) held).0

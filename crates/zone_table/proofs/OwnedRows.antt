@@ -65,7 +65,8 @@ whole_zone : owned_info zone_line ≡ zone
 unfolding format_of has_placeholder
 whole_zone = refl
 
-other_savings : (owned_saving no_saving ≡ saving.NoSaving) × (owned_saving (one_off (HoursMinutes (pos 0) (pos 20))) ≡ saving.OneOff (pos 1200))
+other_savings : (owned_saving no_saving ≡ saving.NoSaving)
+    × (owned_saving (one_off (HoursMinutes (pos 0) (pos 20))) ≡ saving.OneOff (pos 1200))
 other_savings = (refl, refl)
 
 -- ---- bounds: each test passes, and fails alone
@@ -77,16 +78,20 @@ greatest : (is_bounded_rule (record rule { time = negsuc 999999; time_to_add = p
     × (is_bounded_info (record zone { offset = pos 1000000; saving = saving.OneOff (negsuc 999999) }) ≡ true)
 greatest = (refl, refl)
 
-no_day_of_a_month : (is_bounded_rule (record rule { day = Ordinal (pos 0) }) ≡ false) × (is_bounded_rule (record rule { day = LastOnOrBefore Sunday (pos 32) }) ≡ false)
+no_day_of_a_month : (is_bounded_rule (record rule { day = Ordinal (pos 0) }) ≡ false)
+    × (is_bounded_rule (record rule { day = LastOnOrBefore Sunday (pos 32) }) ≡ false)
 no_day_of_a_month = (refl, refl)
 
-late_rule : (is_bounded_rule (record rule { time = pos 1000001 }) ≡ false) × (is_bounded_rule (record rule { time = negsuc 1000000 }) ≡ false)
+late_rule : (is_bounded_rule (record rule { time = pos 1000001 }) ≡ false)
+    × (is_bounded_rule (record rule { time = negsuc 1000000 }) ≡ false)
 late_rule = (refl, refl)
 
-much_saving : (is_bounded_rule (record rule { time_to_add = pos 1000001 }) ≡ false) × (is_bounded_info (record zone { saving = saving.OneOff (negsuc 1000000) }) ≡ false)
+much_saving : (is_bounded_rule (record rule { time_to_add = pos 1000001 }) ≡ false)
+    × (is_bounded_info (record zone { saving = saving.OneOff (negsuc 1000000) }) ≡ false)
 much_saving = (refl, refl)
 
-far_offset : (is_bounded_info (record zone { offset = negsuc 1000000 }) ≡ false) × (is_bounded_info (record zone { offset = pos 1000001 }) ≡ false)
+far_offset : (is_bounded_info (record zone { offset = negsuc 1000000 }) ≡ false)
+    × (is_bounded_info (record zone { offset = pos 1000001 }) ≡ false)
 far_offset = (refl, refl)
 
 no_day_of_the_end : (is_bounded_info (record zone { end_time = Some (UntilDay (Number (pos 2007)) March (Ordinal (pos 32))) }) ≡ false)

@@ -47,7 +47,8 @@ to_the_last = (refl, refl)
 abbrev one_year : RuleInfo
 one_year = of_years (Number (pos 2007)) None
 
-only_its_year : (applies_to_year one_year (pos 2006) ≡ false) × (applies_to_year one_year (pos 2007) ≡ true) × (applies_to_year one_year (pos 2008) ≡ false)
+only_its_year : (applies_to_year one_year (pos 2006) ≡ false) × (applies_to_year one_year (pos 2007) ≡ true)
+    × (applies_to_year one_year (pos 2008) ≡ false)
 unfolding applies_to_year last_year
 only_its_year = (refl, refl, refl)
 
@@ -56,7 +57,8 @@ for_good : applies_to_year (of_years (Number (pos 2007)) (Some Maximum)) (pos 99
 unfolding applies_to_year last_year
 for_good = refl
 
-comparable : (has_years four_years ≡ true) × (has_years one_year ≡ true) × (has_years (of_years (Number (pos 2007)) (Some Maximum)) ≡ true)
+comparable : (has_years four_years ≡ true) × (has_years one_year ≡ true)
+    × (has_years (of_years (Number (pos 2007)) (Some Maximum)) ≡ true)
 comparable = (refl, refl, refl)
 
 -- a first year that is no number, and `minimum` as the last
@@ -68,29 +70,22 @@ incomparable = (refl, refl, refl)
 
 -- a rule for good on that day at 2:00 of that clock
 abbrev at_two : Month → DaySpec → TimeType → RuleInfo
-at_two month day clock = record (of_years (Number (pos 2007)) (Some Maximum)) { month = month; day = day; time = pos 7200; time_type = clock }
+at_two month day clock =
+    record (of_years (Number (pos 2007)) (Some Maximum)) { month = month; day = day; time = pos 7200; time_type = clock }
 
--- New York, 2024-03-10 07:00 UTC, and in summer time 2024-11-03 06:00
-new_york_forward : moment (at_two March (FirstOnOrAfter Sunday (pos 8)) Wall) (pos 2024) (negsuc 17999) (pos 0) ≡ pos 1710054000
-unfolding moment instant_of named_day first_from last_with weekday_of is_leap days_in_year days_in_month days_after_zero year_start days_through days_into_year day
-new_york_forward = refl
-
-new_york_back : moment (at_two November (FirstOnOrAfter Sunday (pos 1)) Wall) (pos 2024) (negsuc 17999) (pos 3600) ≡ pos 1730613600
-unfolding moment instant_of named_day first_from last_with weekday_of is_leap days_in_year days_in_month days_after_zero year_start days_through days_into_year day
-new_york_back = refl
-
--- Sydney in summer time by standard time, 2024-04-06 16:00 UTC
-sydney_back : moment (at_two April (FirstOnOrAfter Sunday (pos 1)) Standard) (pos 2024) (pos 36000) (pos 3600) ≡ pos 1712419200
-unfolding moment instant_of named_day first_from last_with weekday_of is_leap days_in_year days_in_month days_after_zero year_start days_through days_into_year day
-sydney_back = refl
-
--- Paris at 1:00 UTC, 2024-03-31
-paris_forward : moment (record (at_two March (Last Sunday) UTC) { time = pos 3600 }) (pos 2024) (pos 3600) (pos 0) ≡ pos 1711846800
-unfolding moment instant_of named_day first_from last_with weekday_of is_leap days_in_year days_in_month days_after_zero year_start days_through days_into_year day
-paris_forward = refl
+-- New York, 2024-03-10 07:00 UTC, and in summer time 2024-11-03 06:00; Sydney in summer time by standard time, 2024-04-06
+-- 16:00; Paris at 1:00 UTC, 2024-03-31
+known_moments : (moment (at_two March (FirstOnOrAfter Sunday (pos 8)) Wall) (pos 2024) (negsuc 17999) (pos 0) ≡ pos 1710054000)
+    × (moment (at_two November (FirstOnOrAfter Sunday (pos 1)) Wall) (pos 2024) (negsuc 17999) (pos 3600) ≡ pos 1730613600)
+    × (moment (at_two April (FirstOnOrAfter Sunday (pos 1)) Standard) (pos 2024) (pos 36000) (pos 3600) ≡ pos 1712419200)
+    × (moment (record (at_two March (Last Sunday) UTC) { time = pos 3600 }) (pos 2024) (pos 3600) (pos 0) ≡ pos 1711846800)
+unfolding moment instant_of named_day first_from last_with weekday_of day year_start days_after_zero days_through days_into_year
+    days_in_year days_in_month is_leap
+known_moments = (refl, refl, refl, refl)
 
 -- 1:00 by each clock, at an offset of an hour and a saving of half an hour
-by_each_clock : (instant_of Wall (pos 3600) (pos 3600) (pos 1800) ≡ negsuc 1799) × (instant_of Standard (pos 3600) (pos 3600) (pos 1800) ≡ pos 0)
+by_each_clock : (instant_of Wall (pos 3600) (pos 3600) (pos 1800) ≡ negsuc 1799)
+    × (instant_of Standard (pos 3600) (pos 3600) (pos 1800) ≡ pos 0)
     × (instant_of UTC (pos 3600) (pos 3600) (pos 1800) ≡ pos 3600)
 unfolding instant_of
 by_each_clock = (refl, refl, refl)

@@ -3,7 +3,8 @@ use Rattle.std.specs.Prelude.{◌≡◌, ℕ, List, [], ◌∷◌, ◌++◌, Opt
 use Rattle.std.specs.Coded.{Coded, code_by, coded×, coded_list, coded_ℕ, coded_option}
 use Rattle.zone_values.specs.Values.{LineValue}
 use Rattle.zone_table.specs.Joined.{owner}
-use Rattle.zone_table.specs.Refusals.{Refusal, surprise_continuation_line, unknown_ruleset, duplicate_link, duplicate_zone, refusal, Accepted}
+use Rattle.zone_table.specs.Refusals.{Refusal, surprise_continuation_line, unknown_ruleset}
+use Rattle.zone_table.specs.Refusals.{duplicate_link, duplicate_zone, refusal, Accepted}
 use Rattle.zone_table.specs.Tables.{IsTableOfLatest}
 use Rattle.zone_table.specs.declared.error.Error.{Error}
 use Rattle.zone_table.specs.declared.error.Error.TheVariants as error
@@ -45,4 +46,5 @@ refusal_of error.NoMemory = None
 
 -- the error tells why the value may not follow the values that the builder stood for, whatever these were, or memory ran out
 abbrev pub IsCause : Built → LineValue → Error → Type 0
-IsCause old value e = IfSome (refusal_of e) (λ refused. (values : List LineValue) → StandsFor old values → refusal (reverse values) value ≡ Some refused)
+IsCause old value e =
+    IfSome (refusal_of e) (λ refused. (values : List LineValue) → StandsFor old values → refusal (reverse values) value ≡ Some refused)

@@ -54,7 +54,9 @@ children_of part pairs = map (λ pair. pair.1) (filter (λ pair. bytes_eq part p
 
 -- each part in order, with its children in order
 unfoldable pub tree_of : List (List ℕ × ChildValue) → List EntryValue
-tree_of pairs = map (λ part. record { name = part; children = in_order child_cmp (children_of part pairs) }) (in_order text_cmp (map (λ pair. pair.0) pairs))
+tree_of pairs =
+    map (λ part. record { name = part; children = in_order child_cmp (children_of part pairs) })
+    (in_order text_cmp (map (λ pair. pair.0) pairs))
 
 unfoldable pub name_tree : List (List ℕ) → List EntryValue
 name_tree names = tree_of (flat_map children_in names)

@@ -1,14 +1,15 @@
 -- Children beside their parts, with their texts as bytes.
 use Rattle.std.specs.Prelude.{ℕ, List}
 use Rattle.std.specs.declared.cmp.Ordering.{Ordering}
+use Rattle.std.specs.Borrow.{Bor}
 use Rattle.std.specs.Ordering.{ordering_then}
 use Rattle.owned.specs.Keyed.{text_cmp}
 use Rattle.zone_table.specs.NameTree.{ChildValue, child_cmp}
 use Rattle.zone_table.specs.Shown.{child_value}
-use Rattle.zone_table.specs.declared.structure.Placed.{Placed}
+use Rattle.zone_table.specs.declared.structure.Child.{Child}
 
-abbrev pub placed_value : Placed → List ℕ × ChildValue
-placed_value placed = (placed.part.now, child_value placed.child)
+abbrev pub placed_value : Bor (List ℕ) × Child → List ℕ × ChildValue
+placed_value placed = (placed.0.now, child_value placed.1)
 
 -- by part, and then by child
 abbrev pub placed_cmp : List ℕ × ChildValue → List ℕ × ChildValue → Ordering

@@ -109,43 +109,31 @@ pub trait Structure {
 }
 
 /// A child beside the part that it stands under.
-#[derive(Clone, Copy, PartialEq, Eq, PartialOrd, Ord)]
-struct Placed<'t> {
-    part: &'t str,
-    child: Child<'t>,
+type Placed<'t> = (&'t str, Child<'t>);
+
+/// A name as a time zone under its part before the last slash, or none where it has no slash.
+fn time_zone(name: &str) -> Option<Placed<'_>>
+    ensures { option_map placed_value result ≡ time_zone_of name.now }
+{
+    let (part, zone) = name.rsplit_once('/')?;
+    Some((part, Child::TimeZone(zone)))
 }
 
-impl<'t> Placed<'t> {
-    /// A name as a time zone under its part before the last slash, or none where it has no slash.
-    fn time_zone(name: &'t str) -> Option<Placed<'t>>
-        ensures { option_map placed_value result ≡ time_zone_of name.now }
-    {
-        let (part, zone) = name.rsplit_once('/')?;
-        Some(Placed {
-            part,
-            child: Child::TimeZone(zone),
-        })
-    }
-
-    /// A part as a submodule under its front up to the first slash, or none where it has no slash.
-    fn submodule(part: &'t str) -> Option<Placed<'t>>
-        ensures { option_map placed_value result ≡ submodule_of part.now }
-    {
-        let (front, rest) = part.split_once('/')?;
-        Some(Placed {
-            part: front,
-            child: Child::Submodule(rest),
-        })
-    }
+/// A part as a submodule under its front up to the first slash, or none where it has no slash.
+fn submodule(part: &str) -> Option<Placed<'_>>
+    ensures { option_map placed_value result ≡ submodule_of part.now }
+{
+    let (front, rest) = part.split_once('/')?;
+    Some((front, Child::Submodule(rest)))
 }
 
 /// Adds the children that a name gives.
 fn place<'t>(placed: &mut Vec<Placed<'t>>, name: &'t str) -> Result<(), AllocError>
     ensures { OnOk result (each placed_value placed.new.items ≡ each placed_value placed.old.items ++ children_in name.now) }
 {
-    if let Some(zone) = Placed::time_zone(name) {
+    if let Some(zone) = time_zone(name) {
         placed.push(zone)?;
-        if let Some(submodule) = Placed::submodule(zone.part) {
+        if let Some(submodule) = submodule(zone.0) {
             placed.push(submodule)?;
         }
     }
@@ -180,7 +168,7 @@ fn entry_of<'t>(
 ) -> Result<TableStructureEntry<'t>, AllocError>
     ensures { IfOk result (λ entry. entry_value entry ≡ record { name = name.now; children = each (λ pair. pair.1) (each placed_value placed.now) }) }
 {
-    let children = placed.iter().map(|placed| placed.child).collect(alloc)?;
+    let children = placed.iter().map(|placed| placed.1).collect(alloc)?;
     Ok(TableStructureEntry { name, children })
 }
 
@@ -193,8 +181,8 @@ fn entries_of<'t>(
     ensures { IfOk result (λ entries. each entry_value entries.items ≡ tree_of (each placed_value placed.now)) }
 {
     let mut entries = Vec::new(alloc);
-    for run in placed.chunk_by(|a, b| a.part == b.part) {
-        entries.push(entry_of(alloc, run[0].part, run)?)?;
+    for run in placed.chunk_by(|a, b| a.0 == b.0) {
+        entries.push(entry_of(alloc, run[0].0, run)?)?;
     }
     Ok(entries)
 }

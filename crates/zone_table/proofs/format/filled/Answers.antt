@@ -7,7 +7,8 @@ use Rattle.zone_table.proofs.FilledLemmas.{replaced}
 use Rattle.zone_table.proofs.format.filled.Goals as goal
 
 by_text : {Y E : Type 0} (letters pattern : Bor (List ℕ)) (text : List ℕ) (result : Result (String Y) E) → pattern.now ≡ codes "%s"
-    → IfOk result (λ t. (n : ℕ) × ReplacesMatches (λ p. FindsText p.now) (λ p q. q.now ≡ p.now) letters.now n pattern text (string_bytes t))
+    → IfOk result (λ t. (n : ℕ)
+    × ReplacesMatches (λ p. FindsText p.now) (λ p q. q.now ≡ p.now) letters.now n pattern text (string_bytes t))
     → IfOk result (λ whole. string_bytes whole ≡ filled letters.now text)
 by_text letters pattern text (Ok t) named gives = replaced letters pattern gives.0 text (string_bytes t) named gives.1
 by_text letters pattern text (Err e) named gives = tt

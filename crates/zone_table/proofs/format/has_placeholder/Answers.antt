@@ -16,4 +16,5 @@ agree false text found = elim (cases_Bool (has_placeholder text)) [
 ]
 
 pub returns : goal.returns
-returns c = agree c.contains.result c.args.text.now (contains_text c.contains.result (codes "%s") c.args.text.now c.contains.ensures.cases)
+returns c =
+    agree c.contains.result c.args.text.now (contains_text c.contains.result (codes "%s") c.args.text.now c.contains.ensures.cases)

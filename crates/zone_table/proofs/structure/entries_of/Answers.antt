@@ -2,19 +2,23 @@ use Rattle.std.proofs.Common.{rules, ◌≡◌, ◌++◌, ◌∷◌, [], sym, ap
 use Rattle.std.proofs.Common.{map as each}
 use Rattle.std.specs.Slice.Iter.{chunk_by_rest, chunk_by_callee}
 use Rattle.std.specs.Str.{bytes_eq}
-use Rattle.std.proofs.lemmas.List.{map-append}
+use Rattle.std.proofs.lemmas.List.{append-nil, map-append}
 use Rattle.std.proofs.lemmas.List.Sorted.{answers_always}
 use Rattle.zone_table.specs.NameTree.{tree_of}
 use Rattle.zone_table.specs.Shown.{entry_value}
 use Rattle.zone_table.specs.Placed.{placed_value}
-use Rattle.zone_table.proofs.TreeLemmas.{run_step, append_nothing, tree_of_nothing}
+use Rattle.zone_table.proofs.TreeLemmas.{run_step, tree_of_nothing}
 use Rattle.zone_table.proofs.structure.entries_of.Goals as goal
 
 pub loop-run-preserved : goal.loop-run-preserved
 loop-run-preserved c =
     let cut = c.in-Some.ensures.steps in
-    let answers = answers_always _ (λ a r. r ≡ bytes_eq a.0.now.part.now a.1.0.now.part.now) (chunk_by_callee c.loop-run.run-iterator) (λ f a r f' k. search rules) in
-    let left = run_step placed_value c.in-Some.run'.now (chunk_by_rest c.next.new.self) (chunk_by_rest c.loop-run.run-iterator) cut.0 cut.1 (cut.2 (λ x y. bytes_eq x.part.now y.part.now) answers).1 c.loop-run.invariant.sorted in
+    let answers =
+    answers_always _ (λ a r. r ≡ bytes_eq a.0.now.0.now a.1.0.now.0.now) (chunk_by_callee c.loop-run.run-iterator)
+    (λ f a r f' k. search rules) in
+    let left =
+    run_step placed_value c.in-Some.run'.now (chunk_by_rest c.next.new.self) (chunk_by_rest c.loop-run.run-iterator) cut.0 cut.1
+    (cut.2 (λ x y. bytes_eq x.0.now y.0.now) answers).1 c.loop-run.invariant.sorted in
     let so_far = c.loop-run.entries.items in
     let rest = tree_of (each placed_value (chunk_by_rest c.next.new.self)) in
     let entry = c.in_ok-entry_of.ensures in
@@ -31,6 +35,6 @@ loop-run-preserved c =
 pub returns : goal.returns
 returns c =
     let so_far = each entry_value c.loop-run.entries.items in
-    sym (append_nothing so_far)
+    sym (append-nil so_far)
     ∙ ap (λ vs. so_far ++ vs) (sym (tree_of_nothing placed_value (chunk_by_rest c.loop-run.run-iterator) c.in-None.ensures.steps.0))
     ∙ c.loop-run.invariant.missing

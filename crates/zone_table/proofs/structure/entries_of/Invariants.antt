@@ -11,5 +11,6 @@ use Rattle.zone_table.proofs.structure.entries_of.Given as goal
 abbrev pub invariant-loop-run : goal.invariant-loop-run
 invariant-loop-run l = record {
   sorted : IsStrictlySortedBy placed_cmp (each placed_value (chunk_by_rest l.run-iterator));
-  missing : each entry_value l.entries.items ++ tree_of (each placed_value (chunk_by_rest l.run-iterator)) ≡ tree_of (each placed_value l.placed);
+  missing : each entry_value l.entries.items ++ tree_of (each placed_value (chunk_by_rest l.run-iterator))
+      ≡ tree_of (each placed_value l.placed);
 }

@@ -26,7 +26,8 @@ returns-in-Some-clause-err g c =
     let old = c.self.inside.hashed in
     let found = sym c.in-Some.ensures.value in
     on_err_weaker c.push.result (λ stayed.
-    ap keyed ((c.get_mut.follows.holds c.push.new.self).0 ∙ set_value_same (λ k. bytes_eq name (string_bytes k)) old.entries c.push.new.self (found ∙ ap Some (sym stayed)))
+    ap keyed ((c.get_mut.follows.holds c.push.new.self).0
+    ∙ set_value_same (λ k. bytes_eq name (string_bytes k)) old.entries c.push.new.self (found ∙ ap Some (sym stayed)))
     ∙ c.self.view_is)
     c.push.ensures.err
 
@@ -38,5 +39,6 @@ returns-in_ok-insert-in-None-clause-ok g c =
     let pushed : c.push-in-None.new.self ≡ unwrap_or (map.get c.args.self.now name) [] ++ c.args.item ∷ [] =
     c.in_ok-push-in-None.ensures.ok ∙ ap (λ xs. xs ++ c.args.item ∷ []) (c.new-items.ensures ∙ ap (λ o. unwrap_or o []) (sym none)) in
     let same = c.get_mut.follows.holds-at-none in
-    keyed_updates (string_bytes c.in_ok-key-in-None.key) c.get_mut.follows.lender-at-none c.insert.new.self c.push-in-None.new.self c.in_ok-insert-in-None.ensures.updates
+    keyed_updates (string_bytes c.in_ok-key-in-None.key) c.get_mut.follows.lender-at-none c.insert.new.self c.push-in-None.new.self
+    c.in_ok-insert-in-None.ensures.updates
     ∙ (λ i. map.insert ((ap (λ h. keyed h.entries) same ∙ c.self.view_is) i) (c.in_ok-key-in-None.ensures.ok i) (pushed i))

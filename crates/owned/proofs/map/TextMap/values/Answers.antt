@@ -21,7 +21,8 @@ returns g c =
       each_once = each_once;
       all = λ test. sym (list_all-permuted test _ _ each_once);
       passing = λ test. (
-        λ all. subst (EachPasses test) c.self.view_is (each_passes test es (subst (λ vs. list_all test vs ≡ true) c.values.ensures.rest all)),
+        λ all. subst (EachPasses test) c.self.view_is
+            (each_passes test es (subst (λ vs. list_all test vs ≡ true) c.values.ensures.rest all)),
         λ each. subst (λ vs. list_all test vs ≡ true) (sym c.values.ensures.rest)
             (all_pass test es c.values.ensures.unique (subst (EachPasses test) (sym c.self.view_is) each)),
       );

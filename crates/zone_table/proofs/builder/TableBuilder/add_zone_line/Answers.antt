@@ -12,7 +12,9 @@ returns-clause-ok c =
     let is = c.in_ok-append.ensures.ok ∙ ap (with_item table.zonesets name) c.in_ok-info.ensures in
     let has : HasRuleset table info.saving = elim c.match-zone_line.branch [
       | in-Multiple+else-not-contains_key w ↦
-          subst (λ saving. HasRuleset table (saving_value saving)) (sym w.in-Multiple.is) (sym w.contains_key.ensures ∙ w.if-not-contains_key.false)
+          subst (λ saving. HasRuleset table (saving_value saving)) (sym w.in-Multiple.is)
+          (sym w.contains_key.ensures ∙ w.if-not-contains_key.false)
       | in_default w ↦ not_by_ruleset table _ w.in_default.not-Multiple
     ] in
-    zone_joins _ _ c.self.view_is name c.in_ok-name.name info c.append.new.self has (sym c.contains_key-2.ensures ∙ c.if-contains_key.false) c.in_ok-name.ensures is
+    zone_joins _ _ c.self.view_is name c.in_ok-name.name info c.append.new.self has
+    (sym c.contains_key-2.ensures ∙ c.if-contains_key.false) c.in_ok-name.ensures is

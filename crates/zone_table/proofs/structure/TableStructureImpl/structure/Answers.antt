@@ -29,11 +29,13 @@ returns c =
     let all : c.as_slice-2.result.now ≡ zones ++ links =
     c.as_slice-2.ensures.value ∙ c.in_ok-extend_from_slice.ensures.items ∙ ap (λ more. zones ++ more) c.as_slice.ensures.value in
     let given : placed ≡ flat_map children_in (each deref zones ++ each deref links) =
-    c.in_ok-placed.ensures ∙ ap (λ names. flat_map children_in (each deref names)) all ∙ ap (flat_map children_in) (map-append deref zones links) in
+    c.in_ok-placed.ensures ∙ ap (λ names. flat_map children_in (each deref names)) all
+    ∙ ap (flat_map children_in) (map-append deref zones links) in
     let named : tree_of placed ≡ tree_of (flat_map children_in (map.keys table.zonesets ++ map.keys table.links)) =
     ap tree_of given ∙ same_tree _ _ (same_children _ _ (same_names _ _ _ _ c.in_ok-names.ensures c.in_ok-links.ensures)) in
     let tree : _ ≡ tree_of placed =
-    c.in_ok-entries_of.ensures ∙ ap tree_of put ∙ same_tree (in_order placed_cmp placed) placed (λ test. any-in_order placed_same test placed) in
+    c.in_ok-entries_of.ensures ∙ ap tree_of put
+    ∙ same_tree (in_order placed_cmp placed) placed (λ test. any-in_order placed_same test placed) in
     record {
       value = tree ∙ named;
       in_order = subst (λ entries. IsStrictlySortedBy text_cmp (each (λ entry. entry.name) entries)) (sym tree) (names_sorted placed);

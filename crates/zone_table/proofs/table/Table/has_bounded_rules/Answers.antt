@@ -7,6 +7,8 @@ use Rattle.zone_table.proofs.table.Table.has_bounded_rules.Goals as goal
 
 pub returns : goal.returns
 returns c =
-    let all = all_from_yields_List (list_all is_bounded_rule) _ _ c.all.result c.all.ensures.ran (YieldsList-from_rest c.values.result refl) (λ x b q k. search rules) in
+    let all =
+    all_from_yields_List (list_all is_bounded_rule) _ _ c.all.result c.all.ensures.ran (YieldsList-from_rest c.values.result refl)
+    (λ x b q k. search rules) in
     let passing = c.values.ensures.passing (list_all is_bounded_rule) in
     (λ is. passing.0 (sym all ∙ is), λ each. all ∙ passing.1 each)
