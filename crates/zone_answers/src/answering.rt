@@ -95,7 +95,6 @@ fn answer(
 }
 
 /// The offset of that many seconds, if it is less than 26 hours in size.
-#[tactic(auto, unfolding(civil_base::specs::Ranges::is_offset))]
 fn utc_offset(seconds: i64) -> Option<UtcOffset>
     ensures some { IfSome result (λ offset. (offset ≡ seconds) × (is_offset seconds ≡ true)) }
     ensures none { IfNone result (is_offset seconds ≡ false) }
