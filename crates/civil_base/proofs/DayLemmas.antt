@@ -17,7 +17,8 @@ date_of-day k h =
     let counted = day-counted k h in
     let parts = day_parts k counted.0 counted.1 in
     let ends = day-ends k h in
-    let years = year-between (year_of k) (month_of k) (day_of k) (neg_ℤ (pos 9999)) (pos 9999) parts.0 counted-first counted-last parts.1.date (rw parts.1.number ends.0) (rw parts.1.number ends.1) in
+    let years = year-between (year_of k) (month_of k) (day_of k) (neg_ℤ (pos 9999))
+    (pos 9999) parts.0 counted-first counted-last parts.1.date (rw parts.1.number ends.0) (rw parts.1.number ends.1) in
     record {
       year = record { first = years.0; last = years.1 };
       date = parts.1.date;

@@ -4,7 +4,8 @@ use Rattle.std.proofs.Common.{drop, take, get_or, ◌≢◌, ◌<ℤ◌, ◌≤�
 use Rattle.std.proofs.lemmas.Int.{ints}
 use Rattle.calendar.specs.Dates.{year_of, month_of, day_of}
 use Rattle.civil_base.specs.Clock.{hour_of, minute_of, second_of, nanosecond_of}
-use Rattle.civil_base.specs.Layout.{offset_text, two_digits, four_digits, nine_digits, year_sign, date_digits, time_text, day_part, time_part, local_text}
+use Rattle.civil_base.specs.Layout.{offset_text, two_digits, four_digits, nine_digits, year_sign, date_digits, time_text}
+use Rattle.civil_base.specs.Layout.{day_part, time_part, local_text}
 
 abbrev pub date_piece : ℕ → ℕ → ℕ → List ℕ
 date_piece y m d = four_digits y ++ 45 ∷ two_digits m ++ 45 ∷ two_digits d
@@ -12,7 +13,10 @@ date_piece y m d = four_digits y ++ 45 ∷ two_digits m ++ 45 ∷ two_digits d
 abbrev pub second_piece : ℕ → ℕ → ℕ → List ℕ
 second_piece h m s = 32 ∷ two_digits h ++ 58 ∷ two_digits m ++ 58 ∷ two_digits s ++ 46 ∷ []
 
-pub local_text-pieces : (x : ℤ) → local_text x ≡ ((year_sign (year_of (day_part x)) ++ date_piece (unsigned_abs (year_of (day_part x))) (month_of (day_part x)) (day_of (day_part x))) ++ second_piece (hour_of (time_part x)) (minute_of (time_part x)) (second_of (time_part x))) ++ nine_digits (nanosecond_of (time_part x))
+pub local_text-pieces : (x : ℤ) → local_text x ≡ ((year_sign (year_of (day_part x))
+    ++ date_piece (unsigned_abs (year_of (day_part x))) (month_of (day_part x)) (day_of (day_part x)))
+    ++ second_piece (hour_of (time_part x)) (minute_of (time_part x)) (second_of (time_part x)))
+    ++ nine_digits (nanosecond_of (time_part x))
 unfolding local_text date_digits time_text
 local_text-pieces x = simp append_assoc
 
@@ -29,7 +33,10 @@ unfolding year_sign
 year_sign-other y h = grind (arith, ints)
 
 -- what is written piece by piece is the local text
-pub local_text-written : (x : ℤ) (sign date second whole D S N : List ℕ) (Y : ℤ) (y m d t n : ℕ) → sign ≡ year_sign Y → date ≡ sign ++ D → second ≡ date ++ S → whole ≡ second ++ N → D ≡ date_piece y m d → S ≡ second_piece (hour_of t) (minute_of t) (second_of t) → N ≡ nine_digits n → y ≡ unsigned_abs Y → Y ≡ year_of (day_part x) → m ≡ month_of (day_part x) → d ≡ day_of (day_part x) → n ≡ nanosecond_of t → t ≡ time_part x → whole ≡ local_text x
+pub local_text-written : (x : ℤ) (sign date second whole D S N : List ℕ) (Y : ℤ) (y m d t n : ℕ) → sign ≡ year_sign Y → date ≡ sign ++ D
+    → second ≡ date ++ S → whole ≡ second ++ N → D ≡ date_piece y m d → S ≡ second_piece (hour_of t) (minute_of t) (second_of t)
+    → N ≡ nine_digits n → y ≡ unsigned_abs Y → Y ≡ year_of (day_part x) → m ≡ month_of (day_part x) → d ≡ day_of (day_part x)
+    → n ≡ nanosecond_of t → t ≡ time_part x → whole ≡ local_text x
 local_text-written x sign date second whole D S N Y y m d t n e1 e2 e3 e4 dates seconds nanos size year month day nano time =
     rw (local_text-pieces x, e4, e3, e2, e1, dates, seconds, nanos, nano, time, size, year, month, day) refl
 
@@ -41,7 +48,8 @@ pub local_text-sign : (x : ℤ) → local_text x ≡ year_sign (year_of (day_par
 unfolding local_text
 local_text-sign x = simp append_assoc
 
-pub unsigned_text-shape : (x : ℤ) → (length (unsigned_text x) ≡ 29) × (take 10 (unsigned_text x) ≡ date_digits (day_part x)) × (drop 10 (unsigned_text x) ≡ 32 ∷ time_text (time_part x)) × (get_or (unsigned_text x) 0 0 ≢ 45)
+pub unsigned_text-shape : (x : ℤ) → (length (unsigned_text x) ≡ 29) × (take 10 (unsigned_text x) ≡ date_digits (day_part x)) ×
+    (drop 10 (unsigned_text x) ≡ 32 ∷ time_text (time_part x)) × (get_or (unsigned_text x) 0 0 ≢ 45)
 unfolding date_digits time_text
 unsigned_text-shape x = (refl, refl, refl, (λ e. omega arith))
 

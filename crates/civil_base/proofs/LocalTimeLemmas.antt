@@ -54,7 +54,8 @@ found text v place back within is =
 room : end_of_times ≤ℤ (pos (2 ^ 70) +ℤ first_time)
 room = le_z_yes tt
 
-pub local_time-read : (text : List ℕ) (r : Option ℤ) → MatchOption r ((x : ℤ) → IsInYears x → local_text x ≢ text) (λ v. local_text v ≡ text)
+pub local_time-read : (text : List ℕ) (r : Option ℤ) → MatchOption r ((x : ℤ) → IsInYears x
+    → local_text x ≢ text) (λ v. local_text v ≡ text)
     → IfSome r IsInYears → IfSome r (λ v. (x : ℤ) → IsInYears x → local_text x ≡ text → x ≡ v) → r ≡ local_time_in text
 unfolding local_time_in
 local_time-read text None none years only =

@@ -34,7 +34,15 @@ year_inside y m d year date =
     record { first = omega (arith, signed, inside.0, day-first); last = omega (arith, signed, inside.1, day-last) }
 
 new_year : (y : ℤ) → IsDate y 1 1
-new_year y = record { first_month = omega arith; last_month = omega arith; first_day = omega arith; last_day = omega (arith, days_in_month-january y) }
+new_year y = record {
+  first_month = omega arith;
+  last_month = omega arith;
+  first_day = omega arith;
+  last_day = omega (
+    arith,
+    days_in_month-january y,
+  );
+}
 
 pub new_year-inside : (y : ℤ) → IsYear y → IsDay (day y 1 1)
 new_year-inside y year = year_inside y 1 1 year (new_year y)

@@ -1,7 +1,8 @@
 -- The ends of the ranges as numbers.
 use Rattle.std.specs.Int.{int_div_euclid}
 use Rattle.std.proofs.Common.{◌≡◌, refl, arith, ℕ, ◌<◌, ◌+ℤ◌, ℤ, pos, neg_ℤ, ◌≤ℤ◌, ◌*ℤ◌}
-use Rattle.calendar.specs.Days.{is_leap, days_in_year, days_in_month, days_after_zero, days_before_zero, year_start, days_through, days_into_year, day, IsCountedYear}
+use Rattle.calendar.specs.Days.{is_leap, days_in_year, days_in_month, days_after_zero, days_before_zero, year_start, days_through}
+use Rattle.calendar.specs.Days.{days_into_year, day, IsCountedYear}
 use Rattle.calendar.specs.Signs.{signed}
 use Rattle.civil_base.specs.Clock.{nanos_per_day}
 use Rattle.civil_base.specs.Ranges.{first_day, last_day, IsDay, IsInYears}

@@ -8,7 +8,8 @@ use Rattle.calendar.specs.DateLaws.{year_of-day, month_of-day, day_of-day}
 use Rattle.calendar.specs.Signs.{signed}
 use Rattle.civil_base.specs.Clock.{nanos_per_day, hour_of, minute_of, second_of, nanosecond_of, time_at}
 use Rattle.civil_base.specs.Instants.{seconds_of}
-use Rattle.civil_base.specs.Layout.{two_digits, four_digits, year_sign, date_digits, time_text, day_part, time_part, local_text, offset_text}
+use Rattle.civil_base.specs.Layout.{two_digits, four_digits, year_sign, date_digits, time_text, day_part, time_part, local_text}
+use Rattle.civil_base.specs.Layout.{offset_text}
 use Rattle.civil_base.specs.Offsets.{offset_at}
 use Rattle.civil_base.specs.Ordinals.{ordinal_day}
 use Rattle.civil_base.specs.Ranges.{is_in_years, is_offset}
@@ -66,20 +67,20 @@ worked_offsets = refl
 -- 25:59:59 is an offset, 26:00:00 is none
 worked_offset_range : map is_offset (pos 93599 ∷ pos 93600 ∷ pos 0 ∷ neg_ℤ (pos 93599) ∷ neg_ℤ (pos 93600) ∷ [])
     ≡ true ∷ false ∷ true ∷ true ∷ false ∷ []
-unfolding is_offset
 worked_offset_range = refl
 
 -- the first part that isn't 0 gives its sign
-worked_offset_parts : offset_at (pos 25) (pos 59) (pos 59) ∷ offset_at (neg_ℤ (pos 1)) (pos 30) (pos 15) ∷ offset_at (pos 0) (neg_ℤ (pos 30)) (pos 15)
+worked_offset_parts : offset_at (pos 25) (pos 59) (pos 59) ∷ offset_at (neg_ℤ (pos 1)) (pos 30) (pos 15) ∷
+    offset_at (pos 0) (neg_ℤ (pos 30)) (pos 15)
     ∷ offset_at (pos 0) (pos 0) (neg_ℤ (pos 15)) ∷ offset_at (pos 1) (neg_ℤ (pos 30)) (neg_ℤ (pos 15)) ∷ []
     ≡ pos 93599 ∷ neg_ℤ (pos 5415) ∷ neg_ℤ (pos 1815) ∷ neg_ℤ (pos 15) ∷ pos 5415 ∷ []
 unfolding offset_at
 worked_offset_parts = refl
 
 -- -9999-01-01 00:00, the nanosecond before it, the end of 9999-12-31 and the nanosecond before it
-worked_years : map is_in_years (neg_ℤ (pos 377705116800000000000) ∷ neg_ℤ (pos 377705116800000000001) ∷ pos 253402300800000000000 ∷ pos 253402300799999999999 ∷ [])
+worked_years : map is_in_years (neg_ℤ (pos 377705116800000000000) ∷ neg_ℤ (pos 377705116800000000001) ∷ pos 253402300800000000000 ∷
+    pos 253402300799999999999 ∷ [])
     ≡ true ∷ false ∷ false ∷ true ∷ []
-unfolding is_in_years
 worked_years = refl
 
 worked_seconds : map seconds_of (neg_ℤ (pos 1) ∷ neg_ℤ (pos 1000000000) ∷ neg_ℤ (pos 1000000001) ∷ pos 999999999 ∷ pos 1000000000 ∷ [])
@@ -88,12 +89,14 @@ unfolding seconds_of
 worked_seconds = refl
 
 -- 12:34:56.789012345
-worked_time : hour_of 45296789012345 ∷ minute_of 45296789012345 ∷ second_of 45296789012345 ∷ nanosecond_of 45296789012345 ∷ time_at 12 34 56 789012345 ∷ []
+worked_time : hour_of 45296789012345 ∷ minute_of 45296789012345 ∷ second_of 45296789012345 ∷ nanosecond_of 45296789012345 ∷
+    time_at 12 34 56 789012345 ∷ []
     ≡ 12 ∷ 34 ∷ 56 ∷ 789012345 ∷ 45296789012345 ∷ []
 unfolding hour_of minute_of second_of nanosecond_of time_at
 worked_time = refl
 
 -- the last day of a leap year is its 366th, and 1 March of a common year its 60th
-worked_ordinals : ordinal_day (pos 2024) 366 ∷ ordinal_day (pos 2023) 60 ∷ ordinal_day (neg_ℤ (pos 4)) 366 ∷ [] ≡ day (pos 2024) 12 31 ∷ day (pos 2023) 3 1 ∷ day (neg_ℤ (pos 4)) 12 31 ∷ []
+worked_ordinals : ordinal_day (pos 2024) 366 ∷ ordinal_day (pos 2023) 60 ∷ ordinal_day (neg_ℤ (pos 4)) 366 ∷ [] ≡ day (pos 2024) 12 31 ∷
+    day (pos 2023) 3 1 ∷ day (neg_ℤ (pos 4)) 12 31 ∷ []
 unfolding ordinal_day is_leap days_in_year days_in_month days_after_zero days_before_zero year_start days_through days_into_year day
 worked_ordinals = refl

@@ -16,7 +16,8 @@ abbrev pub four_digits : ℕ → List ℕ
 four_digits n = digit n 1000 ∷ digit n 100 ∷ digit n 10 ∷ digit n 1 ∷ []
 
 abbrev pub nine_digits : ℕ → List ℕ
-nine_digits n = digit n 100000000 ∷ digit n 10000000 ∷ digit n 1000000 ∷ digit n 100000 ∷ digit n 10000 ∷ digit n 1000 ∷ digit n 100 ∷ digit n 10 ∷ digit n 1 ∷ []
+nine_digits n = digit n 100000000 ∷ digit n 10000000 ∷ digit n 1000000 ∷ digit n 100000 ∷ digit n 10000 ∷ digit n 1000 ∷ digit n 100 ∷
+    digit n 10 ∷ digit n 1 ∷ []
 
 -- `-` before a year below 0
 unfoldable pub year_sign : ℤ → List ℕ

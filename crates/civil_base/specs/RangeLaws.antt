@@ -5,15 +5,13 @@ use Rattle.std.proofs.lemmas.Bool.{and_from, and_parts, leb-true}
 use Rattle.std.proofs.lemmas.Bool.Decides.{nat_tests}
 use Rattle.calendar.specs.Orders.{le_pass, lt_pass, le_from_pass, lt_from_pass}
 use Rattle.calendar.specs.Signs.{signed, signed_casts, one_sided}
-use Rattle.civil_base.specs.Ranges.{first_time, end_of_times, is_in_years, IsInYears, is_offset, IsOffset, far_seconds}
+use Rattle.civil_base.specs.Ranges.{first_time, end_of_times, IsInYears, IsOffset, far_seconds}
 
 -- a local time in the years lies between -9999-01-01 00:00 and the end of 9999-12-31
 pub years_begin : (x : ℤ) → IsInYears x → neg_ℤ (pos 377705116800000000000) ≤ℤ x
-unfolding is_in_years
 years_begin x h = le_from_pass first_time x (and_parts (int_le first_time x) _ h).0
 
 pub years_end : (x : ℤ) → IsInYears x → x <ℤ pos 253402300800000000000
-unfolding is_in_years
 years_end x h = lt_from_pass x end_of_times (and_parts (int_le first_time x) _ h).1
 
 -- and is a near instant
@@ -22,15 +20,12 @@ years_near x h = omega (arith, signed, one_sided x, years_begin x h, years_end x
 
 -- and each that lies there is in the years
 pub years_between : (x : ℤ) → neg_ℤ (pos 377705116800000000000) ≤ℤ x → x <ℤ pos 253402300800000000000 → IsInYears x
-unfolding is_in_years
 years_between x low high = and_from _ _ (le_pass first_time x low) (lt_pass x end_of_times high)
 
 pub offset_size : (o : ℤ) → IsOffset o → unsigned_abs o ≤ 93599
-unfolding is_offset
 offset_size o h = leb-true _ _ h
 
 pub offset_by_size : (o : ℤ) → unsigned_abs o ≤ 93599 → IsOffset o
-unfolding is_offset
 offset_by_size o h = grind (arith, nat_tests)
 
 pub offset_least : (o : ℤ) → IsOffset o → neg_ℤ (pos 93599) ≤ℤ o

@@ -27,14 +27,14 @@ abbrev pub end_of_times : ℤ
 end_of_times = (last_day +ℤ pos 1) *ℤ pos nanos_per_day
 
 -- the date of a local time lies in those years
-unfoldable pub is_in_years : ℤ → Bool
+abbrev pub is_in_years : ℤ → Bool
 is_in_years x = int_le first_time x && int_lt x end_of_times
 
 abbrev pub IsInYears : ℤ → Type 0
 IsInYears x = IsTrue (is_in_years x)
 
 -- so many seconds are an offset: less than 26 hours in size
-unfoldable pub is_offset : ℤ → Bool
+abbrev pub is_offset : ℤ → Bool
 is_offset o = nat_le (unsigned_abs o) 93599
 
 abbrev pub IsOffset : ℤ → Type 0

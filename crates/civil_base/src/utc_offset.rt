@@ -136,7 +136,6 @@ impl UtcOffset {
 }
 
 // Whether an offset has so many seconds.
-#[tactic(auto, unfolding(crate::specs::Ranges::is_offset))]
 fn is_offset(seconds: i32) -> bool
     ensures { result ≡ is_offset seconds }
 {

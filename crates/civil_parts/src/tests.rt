@@ -1,3 +1,6 @@
+ghost use Rattle.std.specs.Prelude.{◌≡◌, pos};
+ghost use Rattle.civil_parts.specs.Durations.{longest, shortest};
+
 use super::{
     ComponentRange, ConversionRange, InvalidVariant, Month, SignedDuration, StdDuration, Weekday,
 };
@@ -10,48 +13,54 @@ fn hash_of<T: Hash>(value: &T) -> u64 {
     state.finish()
 }
 
+// The names of the months and of the weekdays, in order.
+const MONTHS: &str =
+    "January February March April May June July August September October November December";
+
+const WEEKDAYS: &str = "Monday Tuesday Wednesday Thursday Friday Saturday Sunday";
+
 #[test]
 fn names_months(rt: HostRuntime) -> Result<(), AllocError> {
-    let names =
-        "January February March April May June July August September October November December";
-    let mut number = 0;
-    for name in names.split_whitespace() {
-        number += 1;
-        let month = name.parse::<Month>();
-        assert_eq!(rt; month.map(u8::from), Ok(number), "{name}");
-        assert_eq!(rt; Month::try_from(number), month.map_err(|_| ComponentRange));
-        let shown = format!(in rt.alloc(); "{}", month.unwrap_or(Month::May))?;
+    let mut month = Month::December;
+    for name in MONTHS.split_whitespace() {
+        month = month.next();
+        let shown = format!(in rt.alloc(); "{month}")?;
         assert_eq!(rt; shown.as_str(), name);
+        assert_eq!(rt; name.parse::<Month>(), Ok(month));
+        assert_eq!(rt; Month::try_from(u8::from(month)), Ok(month));
     }
     for text in ["", "january", "Jan", "JANUARY", "January ", "Monday"] {
         assert_eq!(rt; text.parse::<Month>(), Err(InvalidVariant), "{text}");
     }
-    assert_eq!(rt; Month::try_from(0), Err(ComponentRange));
-    assert_eq!(rt; Month::try_from(13), Err(ComponentRange));
-    assert_eq!(rt; Month::December.next(), Month::January);
-    assert_eq!(rt; Month::January.previous(), Month::December);
-    assert_eq!(rt; Month::February.length(2000), 29);
+    assert_eq!(rt;
+        (Month::try_from(0), Month::try_from(13)),
+        (Err(ComponentRange), Err(ComponentRange))
+    );
+    assert_eq!(rt;
+        (Month::January.previous(), Month::February.length(2000)),
+        (Month::December, 29)
+    );
     assert_eq!(rt; hash_of(&Month::May), hash_of(&Month::April.next()));
     Ok(())
 }
 
 #[test]
 fn names_weekdays(rt: HostRuntime) -> Result<(), AllocError> {
-    let mut number = 0;
-    for name in "Monday Tuesday Wednesday Thursday Friday Saturday Sunday".split_whitespace() {
-        number += 1;
-        let day = name.parse::<Weekday>();
-        assert_eq!(rt;
-            day.map(|day| day.number_from_monday()),
-            Ok(number),
-            "{name}"
-        );
-        let shown = format!(in rt.alloc(); "{}", day.unwrap_or(Weekday::Friday))?;
+    let mut day = Weekday::Sunday;
+    for name in WEEKDAYS.split_whitespace() {
+        day = day.next();
+        let shown = format!(in rt.alloc(); "{day}")?;
         assert_eq!(rt; shown.as_str(), name);
+        assert_eq!(rt; name.parse::<Weekday>(), Ok(day));
     }
     for text in ["", "monday", "Mon", "Sunday "] {
         assert_eq!(rt; text.parse::<Weekday>(), Err(InvalidVariant), "{text}");
     }
+    Ok(())
+}
+
+#[test]
+fn counts_weekdays(rt: HostRuntime) {
     let sunday = Weekday::Sunday;
     assert_eq!(rt;
         (sunday.nth_next(255), sunday.nth_prev(255)),
@@ -76,7 +85,25 @@ fn names_weekdays(rt: HostRuntime) -> Result<(), AllocError> {
         (7, 6)
     );
     assert_eq!(rt; hash_of(&sunday), hash_of(&Weekday::Saturday.next()));
-    Ok(())
+}
+
+// What the constants are.
+fn zero() -> SignedDuration
+    ensures { result ≡ pos 0 }
+{
+    SignedDuration::ZERO
+}
+
+fn least() -> SignedDuration
+    ensures { result ≡ shortest }
+{
+    SignedDuration::MIN
+}
+
+fn greatest() -> SignedDuration
+    ensures { result ≡ longest }
+{
+    SignedDuration::MAX
 }
 
 #[test]
@@ -94,7 +121,7 @@ fn makes_lengths_of_their_parts(rt: HostRuntime) {
         let made = SignedDuration::from_parts(seconds, nanoseconds);
         assert_eq!(rt; made.map(|length| length.whole_nanoseconds()), whole);
     }
-    let (least, greatest) = (SignedDuration::MIN, SignedDuration::MAX);
+    let (least, greatest) = (least(), greatest());
     assert_eq!(rt;
         SignedDuration::from_parts(i64::MIN, -999_999_999),
         Some(least)
@@ -108,12 +135,12 @@ fn makes_lengths_of_their_parts(rt: HostRuntime) {
         (i64::MIN, -999_999_999)
     );
     assert_eq!(rt; least.whole_days(), -106_751_991_167_300);
-    assert!(rt; least < SignedDuration::ZERO && SignedDuration::ZERO < greatest);
+    assert!(rt; least < zero() && zero() < greatest);
 }
 
 #[test]
 fn adds_and_cuts_lengths(rt: HostRuntime) {
-    let (zero, greatest) = (SignedDuration::ZERO, SignedDuration::MAX);
+    let (zero, greatest) = (zero(), greatest());
     if let Some(short) = SignedDuration::from_whole_nanoseconds(-86_399_999_999_999) {
         assert_eq!(rt; (short.whole_days(), short.whole_seconds()), (0, -86_399));
         assert_eq!(rt; short.subsec_nanoseconds(), -999_999_999);

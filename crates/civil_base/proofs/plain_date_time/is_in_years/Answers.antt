@@ -9,11 +9,9 @@ last_is : (x : ℤ) → le_z x (pos 253402300799999999999) ≡ lt_z x (pos 25340
 last_is x = grind (arith, ints)
 
 then_is : (n x : ℤ) → n ≡ x → le_z (negsuc 377705116799999999999) n ≡ true → le_z n (pos 253402300799999999999) ≡ is_in_years x
-unfolding is_in_years
 then_is n x e h = rw (← e, h) (last_is n)
 
 else_is : (n x : ℤ) → n ≡ x → le_z (negsuc 377705116799999999999) n ≡ false → le_z (negsuc 377705116799999999999) n ≡ is_in_years x
-unfolding is_in_years
 else_is n x e h = rw (← e, h) refl
 
 pub returns-then-nanos-ge-FIRST : goal.returns-then-nanos-ge-FIRST

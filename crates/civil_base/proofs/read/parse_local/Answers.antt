@@ -14,7 +14,9 @@ use Rattle.civil_base.proofs.read.parse_local.Goals as goal
 abbrev Splits : ℤ → Bool → List ℕ → Type 0
 Splits x negative rest = (int_lt (year_of (day_part x)) (pos 0) ≡ negative) × (rest ≡ unsigned_text x)
 
-splits : (x : ℤ) (bytes rest : List ℕ) (negative : Bool) → local_text x ≡ bytes → ((r : List ℕ) → bytes ≡ 45 ∷ r → (negative ≡ true) × (rest ≡ r)) → (get_or bytes 0 0 ≢ 45 → (negative ≡ false) × (rest ≡ bytes)) → Splits x negative rest
+splits : (x : ℤ) (bytes rest : List ℕ) (negative : Bool) → local_text x ≡ bytes
+    → ((r : List ℕ) → bytes ≡ 45 ∷ r → (negative ≡ true) × (rest ≡ r)) → (get_or bytes 0 0 ≢ 45 → (negative ≡ false) × (rest ≡ bytes))
+    → Splits x negative rest
 splits x bytes rest negative text minus none =
     let y = year_of (day_part x) in
     let pieces = sym text ∙ local_text-sign x in
@@ -36,7 +38,8 @@ pub returns-in_err-date : goal.returns-in_err-date
 returns-in_err-date c = record {
   found = λ x years text.
       let split = splits x c.args.bytes.now c.split_sign-negative.result.1.now c.split_sign-negative.result.0 text c.split_sign-negative.ensures.minus c.split_sign-negative.ensures.none in
-      let date = c.parse_date.ensures.found (day_part x) (day_part-inside x years) split.0 (c.split_at.ensures.front ∙ ap (take 10) split.1 ∙ (unsigned_text-shape x).1) in
+      let date = c.parse_date.ensures.found (day_part x) (day_part-inside x years) split.0 (c.split_at.ensures.front
+      ∙ ap (take 10) split.1 ∙ (unsigned_text-shape x).1) in
       absurd (not_none c.parse_date.result (day_part x) date c.in_err-date.was);
 }
 
@@ -44,7 +47,8 @@ pub returns-in_err-time : goal.returns-in_err-time
 returns-in_err-time c = record {
   found = λ x years text.
       let split = splits x c.args.bytes.now c.split_sign-negative.result.1.now c.split_sign-negative.result.0 text c.split_sign-negative.ensures.minus c.split_sign-negative.ensures.none in
-      let time = c.parse_time.ensures.found (time_part x) (time_part-inside x) (c.split_at.ensures.back ∙ ap (drop 10) split.1 ∙ (unsigned_text-shape x).2) in
+      let time = c.parse_time.ensures.found (time_part x) (time_part-inside x) (c.split_at.ensures.back ∙ ap (drop 10) split.1
+      ∙ (unsigned_text-shape x).2) in
       absurd (not_none c.parse_time.result (time_part x) time c.in_err-time.was);
 }
 
@@ -52,9 +56,12 @@ pub returns : goal.returns
 returns c = record {
   found = λ x years text.
       let split = splits x c.args.bytes.now c.split_sign-negative.result.1.now c.split_sign-negative.result.0 text c.split_sign-negative.ensures.minus c.split_sign-negative.ensures.none in
-      let date = c.parse_date.ensures.found (day_part x) (day_part-inside x years) split.0 (c.split_at.ensures.front ∙ ap (take 10) split.1 ∙ (unsigned_text-shape x).1) in
-      let time = c.parse_time.ensures.found (time_part x) (time_part-inside x) (c.split_at.ensures.back ∙ ap (drop 10) split.1 ∙ (unsigned_text-shape x).2) in
+      let date = c.parse_date.ensures.found (day_part x) (day_part-inside x years) split.0 (c.split_at.ensures.front
+      ∙ ap (take 10) split.1 ∙ (unsigned_text-shape x).1) in
+      let time = c.parse_time.ensures.found (time_part x) (time_part-inside x) (c.split_at.ensures.back ∙ ap (drop 10) split.1
+      ∙ (unsigned_text-shape x).2) in
       let day = same_some c.parse_date.result c.in_ok-date.date (day_part x) c.in_ok-date.was date in
       let clock = same_some c.parse_time.result c.in_ok-time.time (time_part x) c.in_ok-time.was time in
-      ap Some (c.new.ensures ∙ ap (λ k. k *ℤ pos nanos_per_day +ℤ pos c.in_ok-time.time) day ∙ ap (λ t. day_part x *ℤ pos nanos_per_day +ℤ pos t) clock ∙ parts-joined x);
+      ap Some (c.new.ensures ∙ ap (λ k. k *ℤ pos nanos_per_day +ℤ pos c.in_ok-time.time) day
+      ∙ ap (λ t. day_part x *ℤ pos nanos_per_day +ℤ pos t) clock ∙ parts-joined x);
 }

@@ -1,4 +1,5 @@
-use Rattle.std.proofs.Common.{rules, arith, ◌≡◌, ◌+◌, ◌-◌, ◌*◌, ◌/◌, ◌%◌, length, take, nat_eq, pos, to_z-of_z, FitsSigned, w32, ap, ◌∙◌, unsigned_abs}
+use Rattle.std.proofs.Common.{rules, arith, ◌≡◌, ◌+◌, ◌-◌, ◌*◌, ◌/◌, ◌%◌, length, take, nat_eq, pos, to_z-of_z, FitsSigned, w32}
+use Rattle.std.proofs.Common.{ap, ◌∙◌, unsigned_abs}
 use Rattle.std.proofs.Common.{drop, get_or, int_lt}
 use Rattle.civil_base.specs.Layout.{offset_text}
 use Rattle.civil_base.specs.RangeLaws.{offset_size}
@@ -18,7 +19,8 @@ returns c = record {
       let seconds = c.two-seconds.ensures.value (size % 60) (omega arith) (ap (λ l. take (length l - 8) (drop 8 l)) text) in
       let sign = ap (λ l. nat_eq (get_or l 1 0) 45) text ∙ minus_is (int_lt o (pos 0)) in
       let whole : (c.from.result * 60 + c.from-2.result) * 60 + c.from-3.result ≡ size = omega arith in
-      let value = c.signed.ensures ∙ ap (λ t. signed_by t ((c.from.result * 60 + c.from-2.result) * 60 + c.from-3.result)) sign ∙ ap (signed_by (int_lt o (pos 0))) whole ∙ signed_by-size o in
+      let value = c.signed.ensures ∙ ap (λ t. signed_by t ((c.from.result * 60 + c.from-2.result) * 60 + c.from-3.result)) sign
+      ∙ ap (signed_by (int_lt o (pos 0))) whole ∙ signed_by-size o in
       let f : FitsSigned w32 c.signed.result = search rules in
       let made = rw (to_z-of_z f, value) at c.from_whole_seconds.ensures in
       c.ok.ensures.value ∙ result_ok-found c.from_whole_seconds.result o (made.accepts ∙ within) made.value;

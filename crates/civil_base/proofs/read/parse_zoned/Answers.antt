@@ -56,8 +56,10 @@ pub returns : goal.returns
 returns c = record {
   found = λ t o years offset text.
       let parts = split t o c.args.bytes.now text in
-      let local = same_some c.parse_local.result c.in_ok-local.local (local_at t o) c.in_ok-local.was (c.parse_local.ensures.found (local_at t o) years (sym (c.split_at.ensures.front ∙ parts.front))) in
-      let moved = same_some c.parse_offset.result c.in_ok-offset.offset o c.in_ok-offset.was (c.parse_offset.ensures.found o offset (c.split_at.ensures.back ∙ parts.back)) in
+      let local = same_some c.parse_local.result c.in_ok-local.local (local_at t o) c.in_ok-local.was
+      (c.parse_local.ensures.found (local_at t o) years (sym (c.split_at.ensures.front ∙ parts.front))) in
+      let moved = same_some c.parse_offset.result c.in_ok-offset.offset o c.in_ok-offset.was
+      (c.parse_offset.ensures.found o offset (c.split_at.ensures.back ∙ parts.back)) in
       let value = c.assume_offset.result in
       let its_offset = c.assume_offset.ensures.offset ∙ moved in
       let its_local = c.assume_offset.ensures.local ∙ local in

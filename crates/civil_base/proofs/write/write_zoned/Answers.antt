@@ -12,7 +12,8 @@ returns-clause-text c =
     let value = c.args.value.now in
     let local = c.put_local-end.ensures.text ∙ ap local_text c.local.ensures in
     let offset = c.spaced_offset.ensures.text ∙ ap (λ o. 32 ∷ offset_text o) c.offset.ensures in
-    rw (local-instant value) (c.put.ensures.text ∙ ap (λ t. t ++ c.spaced_offset.result) local ∙ ap (λ t. local_text (local_of value) ++ t) offset)
+    rw (local-instant value) (c.put.ensures.text ∙ ap (λ t. t ++ c.spaced_offset.result) local
+    ∙ ap (λ t. local_text (local_of value) ++ t) offset)
 
 pub returns-clause-length : goal.returns-clause-length
 unfolding zoned_text

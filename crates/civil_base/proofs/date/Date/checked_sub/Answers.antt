@@ -10,5 +10,6 @@ moved k a d h e small = omega (arith, signed_casts, one_sided d)
 pub returns-clause-has : goal.returns-clause-has
 returns-clause-has c =
     let fits : FitsSigned w32 c.day_number.result = search rules in
-    let sum = moved c.day_number.result c.from.result c.whole_days.result c.day_number.ensures.bound (c.from.ensures ∙ to_z-of_z fits) c.whole_days.ensures.bound in
+    let sum = moved c.day_number.result c.from.result c.whole_days.result c.day_number.ensures.bound (c.from.ensures
+    ∙ to_z-of_z fits) c.whole_days.ensures.bound in
     rw (sum, c.day_number.ensures.value, c.whole_days.ensures.value) at c.with_day.ensures.has

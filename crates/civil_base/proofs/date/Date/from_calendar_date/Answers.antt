@@ -17,5 +17,6 @@ invariant_of-result c =
       first_day = omega arith;
       last_day = omega arith;
     } in
-    let inside = c.day_number.ensures.between (neg_ℤ (pos 9999)) (pos 9999) counted-first counted-last (omega (arith, signed_casts)) (omega (arith, signed_casts)) (rw year date) in
+    let inside = c.day_number.ensures.between (neg_ℤ (pos 9999)) (pos 9999) counted-first counted-last (omega (arith, signed_casts))
+    (omega (arith, signed_casts)) (rw year date) in
     record { first = omega (arith, signed_casts, inside.0, day-first); last = omega (arith, signed_casts, inside.1, day-last) }

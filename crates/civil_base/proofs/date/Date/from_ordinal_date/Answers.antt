@@ -20,7 +20,8 @@ parts_of c =
     let same = c.year_length.ensures ∙ ap days_in_year (to_z-of_z c.ranges.year) in
     (record { first = omega (arith, signed_casts); last = omega (arith, signed_casts) }, record { first = omega arith; last = omega arith })
 
-sum_of : (c : goal.After-from) → to_z w32 (of_z w32 (to_z w32 (of_z w32 c.day_number.result) +ℤ to_z w32 (of_z w32 c.from.result))) ≡ ordinal_day c.args.year c.args.ordinal
+sum_of : (c : goal.After-from) → to_z w32 (of_z w32 (to_z w32 (of_z w32 c.day_number.result) +ℤ to_z w32
+    (of_z w32 c.from.result))) ≡ ordinal_day c.args.year c.args.ordinal
 sum_of c =
     let parts = parts_of c in
     computed c.args.year c.day_number.result c.args.ordinal c.from.result parts.0 parts.1

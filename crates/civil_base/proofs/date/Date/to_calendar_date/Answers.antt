@@ -11,8 +11,15 @@ date_of-date-requires-clause-last c = omega (arith, signed_casts, day-counted c.
 
 pub returns-clause-range : goal.returns-clause-range
 returns-clause-range c =
-    let number : to_z w32 (of_z w32 c.self.inside.day_number) ≡ c.self.inside.day_number = omega (arith, signed_casts, day-counted c.self.inside.day_number c.self.invariant) in
+    let number : to_z w32 (of_z w32 c.self.inside.day_number) ≡ c.self.inside.day_number = omega (
+      arith,
+      signed_casts,
+      day-counted c.self.inside.day_number c.self.invariant,
+    ) in
     let ends = day-ends c.self.inside.day_number c.self.invariant in
-    let years = c.date_of-date.ensures.between (neg_ℤ (pos 9999)) (pos 9999) counted-first counted-last (rw number ends.0) (rw number ends.1) in
-    let year : to_z w32 (of_z w32 c.date_of-date.result.year) ≡ c.date_of-date.result.year = omega (arith, signed_casts) in
-    (record { first = omega (arith, signed_casts); last = omega (arith, signed_casts) }, rw (year, c.month_with.ensures) c.date_of-date.ensures.date)
+    let years = c.date_of-date.ensures.between (neg_ℤ (pos 9999)) (pos 9999) counted-first counted-last (rw number ends.0)
+    (rw number ends.1) in
+    let year : to_z w32 (of_z w32 c.date_of-date.result.year) ≡ c.date_of-date.result.year = omega (arith, signed_casts) in (
+      record { first = omega (arith, signed_casts); last = omega (arith, signed_casts) },
+      rw (year, c.month_with.ensures) c.date_of-date.ensures.date,
+    )

@@ -20,12 +20,24 @@ returns-clause-value c =
 pub overflow_cast-blocks : goal.overflow_cast-blocks
 overflow_cast-blocks c =
     let x = c.args.self in
-    omega (arith, signed_casts, c.blocks-blocks.ensures.sum, years_begin x c.blocks-blocks.ensures.years, years_end x c.blocks-blocks.ensures.years)
+    omega (
+      arith,
+      signed_casts,
+      c.blocks-blocks.ensures.sum,
+      years_begin x c.blocks-blocks.ensures.years,
+      years_end x c.blocks-blocks.ensures.years,
+    )
 
 pub overflow_sub-blocks : goal.overflow_sub-blocks
 overflow_sub-blocks c =
     let x = c.args.self in
-    omega (arith, signed_casts, c.blocks-blocks.ensures.sum, years_begin x c.blocks-blocks.ensures.years, years_end x c.blocks-blocks.ensures.years)
+    omega (
+      arith,
+      signed_casts,
+      c.blocks-blocks.ensures.sum,
+      years_begin x c.blocks-blocks.ensures.years,
+      years_end x c.blocks-blocks.ensures.years,
+    )
 
 pub at_day-requires : goal.at_day-requires
 at_day-requires c =

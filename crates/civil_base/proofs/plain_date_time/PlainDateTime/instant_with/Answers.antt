@@ -31,4 +31,5 @@ near n x o e years small =
     omega (arith, signed, one_sided n, years_begin x years, years_end x years, offset_size o small)
 
 pub returns-clause-bound : goal.returns-clause-bound
-returns-clause-bound c = near _ c.args.self c.args.offset (returns-clause-value c) (rw (← c.nanos.ensures.value) c.nanos.ensures.bound) c.nanos-2.ensures.bound
+returns-clause-bound c = near _ c.args.self c.args.offset (returns-clause-value c)
+    (rw (← c.nanos.ensures.value) c.nanos.ensures.bound) c.nanos-2.ensures.bound

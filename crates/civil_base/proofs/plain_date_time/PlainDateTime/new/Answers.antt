@@ -10,5 +10,6 @@ invariant_of-result c =
     let k = c.day_number.result in
     let t = c.nanos_of_day.result in
     let days = day-numbers k c.day_number.ensures.bound in
-    let same : to_z w128 (of_z w128 (to_z w128 (of_z w128 (to_z w128 (of_z w128 c.from.result) *ℤ pos 86400000000000)) +ℤ to_z w128 (of_z w128 c.from-2.result))) ≡ k *ℤ pos nanos_per_day +ℤ pos t = omega (arith, signed_casts) in
+    let same : to_z w128 (of_z w128 (to_z w128 (of_z w128 (to_z w128 (of_z w128 c.from.result) *ℤ pos 86400000000000)) +ℤ to_z w128
+    (of_z w128 c.from-2.result))) ≡ k *ℤ pos nanos_per_day +ℤ pos t = omega (arith, signed_casts) in
     rw same (years-joined k t c.day_number.ensures.bound c.nanos_of_day.ensures.bound)

@@ -9,10 +9,20 @@ size_of : (negative : Bool) (n : ℕ) (r : ℤ) → r ≡ signed_by negative n �
 size_of negative n r e = grind (arith, ints)
 
 -- the parts as the code reads them
-value_is : (h m s : ℤ) (i j k : ℕ) (negative : Bool) (r : ℤ) → FitsSigned w8 h → FitsSigned w8 m → FitsSigned w8 s → i ≡ unsigned_abs (to_z w8 (of_z w8 h)) → j ≡ unsigned_abs (to_z w8 (of_z w8 m)) → k ≡ unsigned_abs (to_z w8 (of_z w8 s)) → negative ≡ is_first_negative (to_z w8 (of_z w8 h)) (to_z w8 (of_z w8 m)) (to_z w8 (of_z w8 s)) → r ≡ signed_by negative ((i * 60 + j) * 60 + k) → r ≡ offset_at h m s
+value_is : (h m s : ℤ) (i j k : ℕ) (negative : Bool) (r : ℤ) → FitsSigned w8 h → FitsSigned w8 m → FitsSigned w8 s
+    → i ≡ unsigned_abs (to_z w8 (of_z w8 h)) → j ≡ unsigned_abs (to_z w8 (of_z w8 m)) → k ≡ unsigned_abs (to_z w8 (of_z w8 s))
+    → negative ≡ is_first_negative (to_z w8 (of_z w8 h)) (to_z w8 (of_z w8 m)) (to_z w8 (of_z w8 s))
+    → r ≡ signed_by negative ((i * 60 + j) * 60 + k) → r ≡ offset_at h m s
 unfolding offset_at
 value_is h m s i j k negative r fh fm fs hours minutes seconds sign value =
-    value ∙ ap (λ n. signed_by negative ((n * 60 + j) * 60 + k)) (rw (to_z-of_z fh) at hours) ∙ ap (λ n. signed_by negative ((unsigned_abs h * 60 + n) * 60 + k)) (rw (to_z-of_z fm) at minutes) ∙ ap (λ n. signed_by negative ((unsigned_abs h * 60 + unsigned_abs m) * 60 + n)) (rw (to_z-of_z fs) at seconds) ∙ ap (λ t. signed_by t ((unsigned_abs h * 60 + unsigned_abs m) * 60 + unsigned_abs s)) (rw (to_z-of_z fh, to_z-of_z fm, to_z-of_z fs) at sign)
+    value ∙ ap (λ n. signed_by negative ((n * 60 + j) * 60 + k)) (rw (to_z-of_z fh) at hours)
+    ∙ ap (λ n. signed_by negative ((unsigned_abs h * 60 + n) * 60 + k)) (rw (to_z-of_z fm) at minutes)
+    ∙ ap (λ n. signed_by negative ((unsigned_abs h * 60 + unsigned_abs m) * 60 + n)) (rw (to_z-of_z fs) at seconds)
+    ∙ ap (λ t. signed_by t ((unsigned_abs h * 60 + unsigned_abs m) * 60 + unsigned_abs s)) (rw (
+      to_z-of_z fh,
+      to_z-of_z fm,
+      to_z-of_z fs,
+    ) at sign)
 
 pub returns-clause-value : goal.returns-clause-value
 returns-clause-value c =
@@ -23,4 +33,7 @@ pub invariant_of-result : goal.invariant_of-result
 invariant_of-result c =
     let size : (c.from.result * 60 + c.from-2.result) * 60 + c.from-3.result ≤ 93599 = omega arith in
     let fits : FitsSigned w32 c.signed.result = search rules in
-    rw (to_z-of_z fits) (offset_by_size c.signed.result (omega (arith, size_of c.is_first_negative.result _ c.signed.result c.signed.ensures)))
+    rw (to_z-of_z fits) (offset_by_size c.signed.result (omega (
+      arith,
+      size_of c.is_first_negative.result _ c.signed.result c.signed.ensures,
+    )))

@@ -1,4 +1,5 @@
-use Rattle.std.proofs.Common.{arith, ◌≡◌, ◌≤◌, true, ℤ, pos, ◌+ℤ◌, ◌*ℤ◌, to_z, of_z, to_z-of_z, FitsSigned, w32, w64, unsigned_abs, ◌∙◌, sym}
+use Rattle.std.proofs.Common.{arith, ◌≡◌, ◌≤◌, true, ℤ, pos, ◌+ℤ◌, ◌*ℤ◌, to_z, of_z, to_z-of_z, FitsSigned, w32, w64}
+use Rattle.std.proofs.Common.{unsigned_abs, ◌∙◌, sym}
 use mir.Syntax.{w128}
 use Rattle.std.proofs.lemmas.Bool.{and_parts, leb-true}
 use Rattle.calendar.specs.Signs.{signed_casts, one_sided}
@@ -19,13 +20,15 @@ is_length s n f h = record {
 -- what the code computes
 abbrev Computed : ℤ → ℤ → ℤ → ℤ → Type 0
 Computed s n a b =
-    to_z w128 (of_z w128 (to_z w128 (of_z w128 (to_z w128 (of_z w128 a) *ℤ pos 1000000000)) +ℤ to_z w128 (of_z w128 b))) ≡ s *ℤ pos 1000000000 +ℤ n
+    to_z w128 (of_z w128 (to_z w128 (of_z w128 (to_z w128 (of_z w128 a) *ℤ pos 1000000000)) +ℤ to_z w128
+    (of_z w128 b))) ≡ s *ℤ pos 1000000000 +ℤ n
 
 computed : (s n a b : ℤ) → FitsSigned w64 s → unsigned_abs n ≤ 999999999 → a ≡ s → b ≡ n → Computed s n a b
 computed s n a b f h e k = omega (arith, signed_casts, one_sided n)
 
 -- the parts as the code tests them
-tested : (s n : ℤ) → FitsSigned w64 s → FitsSigned w32 n → true ≡ are_parts (to_z w64 (of_z w64 s)) (to_z w32 (of_z w32 n)) → are_parts s n ≡ true
+tested : (s n : ℤ) → FitsSigned w64 s → FitsSigned w32 n → true ≡ are_parts (to_z w64 (of_z w64 s)) (to_z w32 (of_z w32 n))
+    → are_parts s n ≡ true
 tested s n f g h = sym (rw (to_z-of_z f, to_z-of_z g) at h)
 
 parts_of : (c : goal.After-from_whole_nanoseconds) → are_parts c.args.seconds c.args.nanoseconds ≡ true
