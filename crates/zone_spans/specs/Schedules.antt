@@ -40,7 +40,7 @@ last_total total (shift ∷ shifts) = last_total shift.1 shifts
 unfoldable pub total_at : Schedule → ℤ → ℤ
 total_at schedule instant = last_total schedule.first (filter (λ shift. int_le (shift.0 *ℤ pos 1000000000) instant) schedule.shifts)
 
--- every total is an offset
+-- every total is less than 26 hours in size
 abbrev pub is_in_offset_range : Schedule → Bool
 is_in_offset_range schedule = is_offset schedule.first && list_all (λ shift. is_offset shift.1) schedule.shifts
 

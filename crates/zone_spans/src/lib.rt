@@ -9,6 +9,7 @@ mod fault;
 mod firing;
 mod line;
 mod listing;
+mod quiet;
 mod span;
 mod transitions;
 mod year;
@@ -17,3 +18,6 @@ pub use collapsing::collapse;
 pub use fault::SpanFault;
 pub use span::{FixedTimespan, FixedTimespanSet};
 pub use transitions::TableTransitions;
+
+#[cfg(test)]
+mod tests;

@@ -23,7 +23,7 @@ loop-i-preserved c =
       count = c.step-kept.ensures.count;
       bounded = c.step-kept.ensures.bounded;
       kept = kept_more_of c.loop-i.rest c.step-kept.new.rest c.loop-i.kept c.step-kept.result c.loop-i.i (omega arith) step
-      ∙ c.loop-i.invariant.kept;
+          ∙ c.loop-i.invariant.kept;
     }
 
 pub returns-clause-kept : goal.returns-clause-kept
@@ -37,4 +37,5 @@ returns-clause-kept c =
 pub returns-clause-bounded : goal.returns-clause-bounded
 returns-clause-bounded c =
     bounded_entries c.truncate.new.self
-    (subst (λ (es : List Entry). All IsSmallEntry es) (sym c.truncate.ensures) (All-take IsSmallEntry c.loop-i.kept c.loop-i.rest c.loop-i.invariant.bounded))
+    (subst (λ (es : List Entry). All IsSmallEntry es) (sym c.truncate.ensures)
+    (All-take IsSmallEntry c.loop-i.kept c.loop-i.rest c.loop-i.invariant.bounded))
