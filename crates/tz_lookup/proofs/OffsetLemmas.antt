@@ -7,7 +7,6 @@ use Rattle.civil_base.specs.Ranges.{is_offset}
 use Rattle.civil_base.specs.RangeLaws.{offset_least, offset_greatest}
 
 pub offset_test : (o : ℤ) → (int_le (neg_ℤ (pos 93599)) o && int_le o (pos 93599)) ≡ is_offset o
-unfolding is_offset
 offset_test (pos n) = grind (arith, nat_tests, ints)
 offset_test (negsuc n) = grind (arith, nat_tests, ints)
 

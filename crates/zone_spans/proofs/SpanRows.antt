@@ -4,7 +4,6 @@ use Rattle.std.specs.Ordering.{int_eq}
 use Rattle.calendar.specs.Days.{days_after_zero, year_start, days_through, days_into_year, day, is_leap, days_in_year, days_in_month}
 use Rattle.calendar.specs.Dates.{last_with}
 use Rattle.calendar.specs.Weekdays.{weekday_of}
-use Rattle.civil_base.specs.Ranges.{is_offset}
 use Rattle.zone_values.specs.Days.{named_day, first_from, is_in_year}
 use Rattle.zone_values.specs.declared.change.ChangeTime.{ChangeTime}
 use Rattle.zone_values.specs.declared.change.ChangeTime.TheVariants.{UntilYear, UntilDay, UntilTime}
@@ -283,5 +282,4 @@ in_range : map is_in_offset_range (
     ∷ record { first = pos 93600; shifts = [] }
     ∷ record { first = pos 0; shifts = (pos 0, pos 0) ∷ (pos 1, negsuc 93599) ∷ [] } ∷ []
     ) ≡ true ∷ false ∷ false ∷ []
-unfolding is_in_offset_range is_offset
 in_range = refl
