@@ -7,3 +7,4 @@ pub mod ShowingLemmas
 pub mod ZoneLemmas
 pub mod RefusalLemmas
 pub mod EndLemmas
+pub mod AnswerRows

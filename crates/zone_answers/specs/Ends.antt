@@ -1,7 +1,7 @@
 -- How a run ends.
 use Rattle.std.specs.Prelude.{◌≡◌, ◌≢◌, ◌⊎◌, ◌↔◌, ◌+◌, ◌<◌, ◌≤◌, [], length, Option, None, Some, IsNone, All}
 use Rattle.zone_outside.specs.Outside.{Rose, TooMuch}
-use Rattle.zone_outside.specs.declared.whole.TheConstants.{LIMIT}
+use Rattle.zone_outside.specs.Limit.{text_limit}
 use Rattle.zone_answers.specs.Due.{shown, due_bytes}
 use Rattle.zone_answers.specs.Faults.{Fault, fault, IsValid}
 use Rattle.zone_answers.specs.ReadBack.{IsReadBack}
@@ -48,14 +48,14 @@ pub record Ends (task : Option Task) (before now : Seen) (end : Status) : Type 0
 
   -- 6: too much was given; then nothing but 6 or want of memory is answered
   pub too_long : end ≡ status.TooLong →
-      (TooMuch LIMIT before.shelf.given now.shelf.given × (now.input ≡ before.input)) ⊎ TooMuch LIMIT before.input.given now.input.given
-  pub too_much : (before.shelf.given + LIMIT < now.shelf.given) ⊎ (before.input.given + LIMIT < now.input.given) → IsPastLimit end
+      (TooMuch text_limit before.shelf.given now.shelf.given × (now.input ≡ before.input)) ⊎ TooMuch text_limit before.input.given now.input.given
+  pub too_much : (before.shelf.given + text_limit < now.shelf.given) ⊎ (before.input.given + text_limit < now.input.given) → IsPastLimit end
 
   -- nothing is written but by 0, 2 and 4
   pub silent : IsSilent end → now.output ≡ before.output
 
   -- where the texts are told and no call fails, the status is by the fault or by the lengths, or memory ran out
   pub complete : NoneFailed before now → IfTold task before (λ source requests.
-      length source ≤ LIMIT → length requests ≤ LIMIT → EndsBy (fault source requests) end)
+      length source ≤ text_limit → length requests ≤ text_limit → EndsBy (fault source requests) end)
   pub past_limit : NoneFailed before now → IfTold task before (λ source requests.
-      (LIMIT < length source) ⊎ (LIMIT < length requests) → IsPastLimit end)
+      (text_limit < length source) ⊎ (text_limit < length requests) → IsPastLimit end)

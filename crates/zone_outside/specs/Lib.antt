@@ -1,3 +1,4 @@
 pub mod Outside
 pub mod Memory
 pub mod Streams
+pub mod Limit
