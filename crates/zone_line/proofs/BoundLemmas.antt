@@ -1,9 +1,44 @@
 -- The values of lines are bounded.
 use Rattle.std.proofs.Common.{
-  ◌≡◌, ℕ, ◌+◌, ◌-◌, ◌*◌, ◌^◌, ◌<◌, ℤ, pos, negsuc, neg_ℤ, ◌≤ℤ◌, Bool, true, false, ◌&&◌, nat_lt, List, [], ◌∷◌, Option, Some,
-  None, Result, Ok, Err, IfOk, IfSome, IsTrue, refl, sym, subst, arith, codes, bytes_eq, ltb-true, true≢false,
+  ◌≡◌,
+  ℕ,
+  ◌+◌,
+  ◌-◌,
+  ◌*◌,
+  ◌^◌,
+  ◌<◌,
+  ℤ,
+  pos,
+  negsuc,
+  neg_ℤ,
+  ◌≤ℤ◌,
+  Bool,
+  true,
+  false,
+  ◌&&◌,
+  nat_lt,
+  List,
+  [],
+  ◌∷◌,
+  Option,
+  Some,
+  None,
+  Result,
+  Ok,
+  Err,
+  IfOk,
+  IfSome,
+  IsTrue,
+  refl,
+  sym,
+  subst,
+  arith,
+  codes,
+  bytes_eq,
+  ltb-true,
+  true≢false,
 }
-use Rattle.std.specs.Prelude.{option_map, option_and_then, is_some, if◌then◌else◌}
+use Rattle.std.specs.Prelude.{option_map, option_and_then, if◌then◌else◌}
 use Rattle.std.specs.Char.{is_ascii_digit}
 use Rattle.std.specs.Option.{option_map_or, ok_or}
 use Rattle.std.specs.Str.Parse.{without_leading_sign, signed_digits_value}
@@ -11,7 +46,12 @@ use Rattle.std.proofs.lemmas.Int.{ints}
 use Rattle.std.proofs.lemmas.Grind.{common_steps}
 use lib.Signed.{mag}
 use Rattle.zone_values.specs.Bounds.{
-  are_small_seconds, is_bounded_end, is_bounded_saving, is_bounded_info, is_bounded_rule, is_bounded_line,
+  are_small_seconds,
+  is_bounded_end,
+  is_bounded_saving,
+  is_bounded_info,
+  is_bounded_rule,
+  is_bounded_line,
 }
 use Rattle.zone_line.specs.Clocks.{ClockTexts, clock_in, minute_clock}
 use Rattle.zone_line.specs.Columns.{InfoTexts, RuleTexts}
@@ -23,12 +63,30 @@ use Rattle.zone_values.specs.Months.{month_field}
 use Rattle.zone_values.specs.Weekdays.{weekday_field}
 use Rattle.zone_values.specs.Years.{year_field}
 use Rattle.zone_line.specs.Fields.{
-  to_field, type_field, day_of_month, sided_day, last_weekday, after_last, day_field, time_field, wall_field, is_ruleset_name,
+  to_field,
+  type_field,
+  day_of_month,
+  sided_day,
+  last_weekday,
+  after_last,
+  day_field,
+  time_field,
+  wall_field,
+  is_ruleset_name,
 }
 use Rattle.zone_line.specs.Kinds.{LineKind, kind_of}
 use Rattle.zone_line.specs.Kinds as kind
 use Rattle.zone_line.specs.Lines.{
-  one_off_of, saving_field, until, has_yearless_end, some_end, end_of, info_of, rule_of, value_of_kind, value,
+  one_off_of,
+  saving_field,
+  until,
+  has_yearless_end,
+  some_end,
+  end_of,
+  info_of,
+  rule_of,
+  value_of_kind,
+  value,
 }
 use Rattle.zone_values.specs.Numbers.{is_numeral, signed_in}
 use Rattle.zone_line.specs.Digits.{two_digits, digit_of}

@@ -10,7 +10,7 @@ use Rattle.zone_values.specs.Values.{one_off}
 use Rattle.zone_values.specs.declared.fault.FaultKind.TheVariants.{InvalidDaySpec, InvalidTimeSpecAndType, NonWallClockInTimeSpec}
 use Rattle.zone_values.specs.declared.time.TimeSpec.{TimeSpec}
 use Rattle.zone_values.specs.declared.time.TimeSpecAndType.{TimeSpecAndType}
-use Rattle.zone_line.specs.Clocks.{ClockTexts, minute_clock, clock_in}
+use Rattle.zone_line.specs.Clocks.{ClockTexts, minute_clock}
 use Rattle.zone_line.specs.Columns.{InfoTexts, RuleTexts}
 use Rattle.zone_line.specs.DayColumns.{DayTexts}
 use Rattle.zone_line.specs.Fields.{to_field, type_field, day_field, time_field, wall_field, sided_day, day_of_month}

@@ -1,5 +1,5 @@
 -- The definitions of fields at worked rows.
-use Rattle.std.proofs.Common.{◌≡◌, ℕ, List, [], ◌∷◌, map, Bool, true, false, Option, Some, None, Result, Ok, Err, refl, pos, negsuc}
+use Rattle.std.proofs.Common.{◌≡◌, ℕ, List, [], ◌∷◌, map, true, false, Option, Some, None, Ok, Err, refl, pos, negsuc}
 use Rattle.std.specs.Prelude.{codes}
 use Rattle.zone_values.specs.Faults.{refused}
 use Rattle.zone_values.specs.Months.{month_named}
@@ -26,7 +26,15 @@ use Rattle.zone_line.specs.Columns.{InfoTexts}
 use Rattle.zone_line.specs.DayColumns.{DayTexts}
 use Rattle.zone_line.specs.Digits.{two_digits}
 use Rattle.zone_line.specs.Fields.{
-  to_field, type_field, letters_of, day_of_month, day_field, sided_day, last_weekday, wall_field, is_ruleset_name,
+  to_field,
+  type_field,
+  letters_of,
+  day_of_month,
+  day_field,
+  sided_day,
+  last_weekday,
+  wall_field,
+  is_ruleset_name,
 }
 use Rattle.zone_line.specs.Lines.{saving_field, until, some_end, end_of}
 use Rattle.zone_line.specs.Times.{no_time, hours_alone, clock_time, clock_type, if_wall, time_of}

@@ -1,14 +1,41 @@
 -- The values of a line's columns, each a value or a fault.
 use Rattle.std.specs.Prelude.{
-  ℕ, ℤ, pos, List, [], ◌∷◌, take, drop, Bool, ◌&&◌, ◌||◌, Option, Some, None, option_map, option_and_then, ok_or, Result, Ok, Err,
-  codes, bytes_eq, nat_eq, int_le, if◌then◌else◌, ◌^◌,
+  ℕ,
+  ℤ,
+  pos,
+  List,
+  [],
+  ◌∷◌,
+  take,
+  drop,
+  Bool,
+  ◌&&◌,
+  ◌||◌,
+  Option,
+  Some,
+  None,
+  option_map,
+  option_and_then,
+  ok_or,
+  Result,
+  Ok,
+  Err,
+  codes,
+  bytes_eq,
+  nat_eq,
+  int_le,
+  if◌then◌else◌,
+  ◌^◌,
 }
 use Rattle.std.specs.Char.{is_ascii_alphabetic}
 use Rattle.std.specs.List.{list_all}
 use Rattle.std.specs.Option.{option_map_or}
 use Rattle.zone_values.specs.Faults.{Fault, refused}
 use Rattle.zone_values.specs.declared.fault.FaultKind.TheVariants.{
-  TypeColumnContainedNonHyphen, InvalidDaySpec, InvalidTimeSpecAndType, NonWallClockInTimeSpec,
+  TypeColumnContainedNonHyphen,
+  InvalidDaySpec,
+  InvalidTimeSpecAndType,
+  NonWallClockInTimeSpec,
 }
 use Rattle.zone_line.specs.Results.{◌>>=◌}
 use Rattle.zone_values.specs.Numbers.{is_numeral, signed_in}

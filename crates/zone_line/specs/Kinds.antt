@@ -4,8 +4,18 @@ use Rattle.zone_line.specs.Options.{first_some}
 use Rattle.zone_line.specs.Patterns.{match_in}
 use Rattle.zone_line.specs.Texts.{empty_text}
 use Rattle.zone_line.specs.Columns.{
-  ZoneTexts, InfoTexts, RuleTexts, LinkTexts, zone_columns, continuation_columns, rule_columns, link_columns, zone_shown,
-  info_shown, rule_shown, link_shown,
+  ZoneTexts,
+  InfoTexts,
+  RuleTexts,
+  LinkTexts,
+  zone_columns,
+  continuation_columns,
+  rule_columns,
+  link_columns,
+  zone_shown,
+  info_shown,
+  rule_shown,
+  link_shown,
 }
 use Rattle.zone_line.specs.declared.kind.Kind as code
 use Rattle.zone_line.specs.declared.kind.Kind.TheVariants as kind

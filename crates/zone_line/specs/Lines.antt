@@ -3,7 +3,10 @@ use Rattle.std.specs.Prelude.{ℕ, List, Bool, ◌||◌, Option, Some, None, is_
 use Rattle.std.specs.Option.{option_map_or}
 use Rattle.zone_values.specs.Faults.{Fault, refused}
 use Rattle.zone_values.specs.declared.fault.FaultKind.TheVariants.{
-  InvalidLineType, CouldNotParseSaving, InvalidTimeSpecAndType, NonWallClockInTimeSpec,
+  InvalidLineType,
+  CouldNotParseSaving,
+  InvalidTimeSpecAndType,
+  NonWallClockInTimeSpec,
 }
 use Rattle.zone_line.specs.Results.{◌>>=◌}
 use Rattle.zone_line.specs.Columns.{InfoTexts, RuleTexts}
@@ -16,7 +19,18 @@ use Rattle.zone_values.specs.Months.{month_field}
 use Rattle.zone_values.specs.Years.{year_field}
 use Rattle.zone_line.specs.Fields.{to_field, type_field, day_field, time_field, wall_field, letters_of, is_ruleset_name}
 use Rattle.zone_values.specs.Values.{
-  SavingValue, no_saving, one_off, multiple, InfoValue, RuleValue, LineValue, space, zone, continuation, rule, link,
+  SavingValue,
+  no_saving,
+  one_off,
+  multiple,
+  InfoValue,
+  RuleValue,
+  LineValue,
+  space,
+  zone,
+  continuation,
+  rule,
+  link,
 }
 use Rattle.zone_values.specs.declared.change.ChangeTime.{ChangeTime}
 use Rattle.zone_values.specs.declared.change.ChangeTime.TheVariants.{UntilYear, UntilMonth, UntilDay, UntilTime}

@@ -1,7 +1,24 @@
 -- The value of a time column.
 use Rattle.std.specs.Prelude.{
-  ℕ, ℤ, pos, neg_ℤ, List, [], ◌∷◌, Bool, ◌||◌, Option, Some, None, option_map, option_and_then, codes, bytes_eq, nat_eq,
-  if◌then◌else◌, ◌^◌,
+  ℕ,
+  ℤ,
+  pos,
+  neg_ℤ,
+  List,
+  [],
+  ◌∷◌,
+  Bool,
+  ◌||◌,
+  Option,
+  Some,
+  None,
+  option_map,
+  option_and_then,
+  codes,
+  bytes_eq,
+  nat_eq,
+  if◌then◌else◌,
+  ◌^◌,
 }
 use Rattle.std.specs.Char.{is_ascii_digit}
 use Rattle.std.specs.List.{list_all, list_any}

@@ -6,6 +6,7 @@ use crate::{
 use std::test::Fail;
 
 mod source;
+mod values;
 
 #[test]
 fn a_rule(rt: HostRuntime) -> Result<(), Fail> {

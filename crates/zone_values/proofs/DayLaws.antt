@@ -1,6 +1,6 @@
 -- What the day with a weekday is: on its side of the day that it is counted from, with that weekday, and the nearest such
 -- day; the last one of a month lies in the month.
-use Rattle.std.proofs.Common.{◌≡◌, ℕ, ◌+◌, ◌-◌, ◌<◌, ◌≤◌, ℤ, pos, ◌+ℤ◌, ◌-ℤ◌, ◌≤ℤ◌, arith}
+use Rattle.std.proofs.Common.{◌≡◌, ℕ, ◌<◌, ℤ, pos, ◌+ℤ◌, ◌-ℤ◌, ◌≤ℤ◌, arith}
 use Rattle.std.proofs.lemmas.Int.{ints}
 use Rattle.calendar.specs.Days.{days_in_month, days_into_year, day}
 use Rattle.calendar.specs.MonthLaws.{days_in_month-bounds}

@@ -1,6 +1,26 @@
 -- The weekdays of later days, and the day of a week with a weekday.
 use Rattle.std.proofs.Common.{
-  ◌≡◌, ℕ, ◌+◌, ◌-◌, ◌*◌, ◌%◌, ◌<◌, ℤ, pos, negsuc, ◌+ℤ◌, ◌-ℤ◌, ◌≤ℤ◌, refl, ap, arith, lit<, eqb, eq-eqb, inl, inr,
+  ◌≡◌,
+  ℕ,
+  ◌+◌,
+  ◌-◌,
+  ◌*◌,
+  ◌%◌,
+  ◌<◌,
+  ℤ,
+  pos,
+  negsuc,
+  ◌+ℤ◌,
+  ◌-ℤ◌,
+  ◌≤ℤ◌,
+  refl,
+  ap,
+  arith,
+  lit<,
+  eqb,
+  eq-eqb,
+  inl,
+  inr,
 }
 use Rattle.std.proofs.lemmas.Bool.{cases_lt}
 use Rattle.std.proofs.lemmas.Bool.Decides.{nat_tests}
@@ -18,7 +38,7 @@ rem_further z j m n natural =
     let here : int_rem_euclid z (pos 7) ≡ pos (m % 7) = int_rem_euclid_is z (pos 7) 7 j m (lit< tt) refl natural in
     let further : (z +ℤ pos n) +ℤ pos (j * 7) ≡ pos (m + n) = omega (arith, ints) in
     let there : int_rem_euclid (z +ℤ pos n) (pos 7) ≡ pos ((m + n) % 7) =
-        int_rem_euclid_is (z +ℤ pos n) (pos 7) 7 j (m + n) (lit< tt) refl further in
+    int_rem_euclid_is (z +ℤ pos n) (pos 7) 7 j (m + n) (lit< tt) refl further in
     rw (here, there) (omega arith)
 
 rem_on : (z : ℤ) (n : ℕ) →

@@ -1,8 +1,17 @@
 -- The days that rules and ends name, and the moments of ends, at worked rows.
-use Rattle.std.proofs.Common.{◌≡◌, ◌+◌, ℕ, List, [], ◌∷◌, map, Bool, true, false, Some, None, refl, ℤ, pos, negsuc, arith}
+use Rattle.std.proofs.Common.{◌≡◌, [], ◌∷◌, map, true, false, Some, None, refl, pos, negsuc, arith}
 use Rattle.std.proofs.lemmas.Int.{ints}
 use Rattle.calendar.specs.Days.{
-  is_leap, days_in_year, days_in_month, days_after_zero, year_start, days_through, days_into_year, day, IsDate, IsCountedYear,
+  is_leap,
+  days_in_year,
+  days_in_month,
+  days_after_zero,
+  year_start,
+  days_through,
+  days_into_year,
+  day,
+  IsDate,
+  IsCountedYear,
 }
 use Rattle.calendar.specs.DateLaws.{month_of-day, day_of-day}
 use Rattle.calendar.specs.Dates.{last_with}
@@ -13,14 +22,11 @@ use Rattle.zone_values.specs.Seconds.{seconds_of, with_type}
 use Rattle.zone_values.specs.Weekdays.{weekday_number}
 use Rattle.zone_values.specs.declared.change.ChangeTime.{ChangeTime}
 use Rattle.zone_values.specs.declared.change.ChangeTime.TheVariants.{UntilYear, UntilMonth, UntilDay, UntilTime}
-use Rattle.zone_values.specs.declared.day.DaySpec.{DaySpec}
 use Rattle.zone_values.specs.declared.day.DaySpec.TheVariants.{Ordinal, Last, LastOnOrBefore, FirstOnOrAfter}
 use Rattle.zone_values.specs.declared.month.Month.TheVariants.{January, February, March, April, May, June, October, November, December}
-use Rattle.zone_values.specs.declared.time.TimeSpec.{TimeSpec}
 use Rattle.zone_values.specs.declared.time.TimeSpec.TheVariants.{Hours, HoursMinutes, HoursMinutesSeconds, Zero}
-use Rattle.zone_values.specs.declared.time.TimeType.TheVariants.{Wall, Standard, UTC}
+use Rattle.zone_values.specs.declared.time.TimeType.TheVariants.{Wall, Standard}
 use Rattle.zone_values.specs.declared.weekday.Weekday.TheVariants.{Sunday, Monday, Tuesday, Wednesday, Thursday, Friday, Saturday}
-use Rattle.zone_values.specs.declared.year.Year.{Year}
 use Rattle.zone_values.specs.declared.year.Year.TheVariants.{Minimum, Maximum, Number}
 
 -- the days of the week from Sunday, 2024-07-14, on
@@ -78,7 +84,7 @@ unfolding
 concrete_sunday =
     let counted : IsCountedYear (pos 1932) = record { first = omega (arith, ints); last = omega (arith, ints) } in
     let date : IsDate (pos 1932) 5 1 =
-        record { first_month = omega arith; last_month = omega arith; first_day = omega arith; last_day = omega arith } in
+    record { first_month = omega arith; last_month = omega arith; first_day = omega arith; last_day = omega arith } in
     rw (month_of-day (pos 1932) 5 1 counted date, day_of-day (pos 1932) 5 1 counted date) refl
 
 days_of_months : map has_day_of_month (Ordinal (pos 0) ∷ Ordinal (pos 1) ∷ Ordinal (pos 31) ∷ Ordinal (pos 32) ∷ Last Sunday

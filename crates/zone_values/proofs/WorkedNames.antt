@@ -1,5 +1,5 @@
 -- The names of months, weekdays and years, at worked rows.
-use Rattle.std.proofs.Common.{◌≡◌, ℕ, List, [], ◌∷◌, map, Option, Some, None, Err, refl, pos, negsuc}
+use Rattle.std.proofs.Common.{◌≡◌, ℕ, List, [], ◌∷◌, map, Some, None, Err, refl, pos, negsuc}
 use Rattle.std.specs.Prelude.{codes}
 use Rattle.zone_values.specs.Faults.{refused}
 use Rattle.zone_values.specs.Months.{month_number, month_numbered, month_named, month_field}

@@ -1,5 +1,5 @@
 -- What is wrong with a line: a kind, and the text that is refused.
-use Rattle.std.specs.Prelude.{◌≡◌, ℕ, List, map, Option, Some, None, Result, Ok, Err, IfSome, string_bytes, codes}
+use Rattle.std.specs.Prelude.{◌≡◌, ℕ, List, Option, Some, None, Result, Ok, Err, IfSome, string_bytes, codes}
 use Rattle.std.specs.Result.{result_map_both}
 use Rattle.zone_values.specs.Names.{lower}
 use Rattle.zone_values.specs.declared.error.Error.{Error}

@@ -5,7 +5,18 @@ use Rattle.zone_values.specs.declared.fault.FaultKind.TheVariants.{FailedMonthPa
 use Rattle.zone_values.specs.Names.{is_name, lower}
 use Rattle.zone_values.specs.declared.month.Month.{Month}
 use Rattle.zone_values.specs.declared.month.Month.TheVariants.{
-  January, February, March, April, May, June, July, August, September, October, November, December,
+  January,
+  February,
+  March,
+  April,
+  May,
+  June,
+  July,
+  August,
+  September,
+  October,
+  November,
+  December,
 }
 
 -- from 1 to 12

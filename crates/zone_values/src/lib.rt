@@ -25,6 +25,3 @@ pub use month::Month;
 pub use time::{TimeSpec, TimeSpecAndType, TimeType};
 pub use weekday::Weekday;
 pub use year::Year;
-
-#[cfg(test)]
-mod tests;

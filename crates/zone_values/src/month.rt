@@ -37,7 +37,7 @@ impl Month {
         }
     }
 
-    /// The same with no memory: the fault borrows the text.
+    /// Reads the same texts, and takes no memory: the fault borrows a text that is none of them.
     pub fn read(text: &str) -> Result<Month, Fault<'_>>
         ensures { told (λ month. month) result ≡ month_field text.now }
     {

@@ -32,7 +32,7 @@ impl Weekday {
         }
     }
 
-    /// The same with no memory: the fault borrows the text.
+    /// Reads the same texts, and takes no memory: the fault borrows a text that is none of them.
     pub fn read(text: &str) -> Result<Weekday, Fault<'_>>
         ensures { told (λ weekday. weekday) result ≡ weekday_field text.now }
     {

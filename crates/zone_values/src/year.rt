@@ -31,7 +31,7 @@ impl Year {
         }
     }
 
-    /// The same with no memory: the fault borrows the text.
+    /// Reads the same texts, and takes no memory: the fault borrows a text that is none of them.
     pub fn read(text: &str) -> Result<Year, Fault<'_>>
         ensures { told (λ year. year) result ≡ year_field text.now }
     {
