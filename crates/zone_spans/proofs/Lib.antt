@@ -9,3 +9,5 @@ pub mod FoundLemmas
 pub mod EntryLemmas
 pub mod LineLemmas
 pub mod CompiledLemmas
+pub mod FiringRows
+mod SpanRows
