@@ -1,5 +1,6 @@
 -- The entries of zones, the collapse and the faults, at worked rows.
 use Rattle.std.specs.Prelude.{◌≡◌, ℕ, List, [], ◌∷◌, map, Option, Some, None, Ok, Err, ℤ, pos, negsuc, codes, true, false, refl}
+use Rattle.std.specs.Ordering.{int_eq}
 use Rattle.calendar.specs.Days.{days_after_zero, year_start, days_through, days_into_year, day, is_leap, days_in_year, days_in_month}
 use Rattle.calendar.specs.Dates.{last_with}
 use Rattle.calendar.specs.Weekdays.{weekday_of}
@@ -15,7 +16,7 @@ use Rattle.zone_values.specs.declared.weekday.Weekday.TheVariants.{Sunday}
 use Rattle.zone_values.specs.declared.year.Year.TheVariants.{Minimum, Maximum, Number}
 use Rattle.zone_table.specs.Formats.{abbreviation, filled}
 use Rattle.zone_table.specs.Moments.{applies_to_year, instant_of, last_year, moment}
-use Rattle.zone_table.specs.declared.format.Format.TheVariants.{Constant, Alternate}
+use Rattle.zone_table.specs.declared.format.Format.TheVariants.{Constant, Placeholder}
 use Rattle.zone_table.specs.declared.rule.RuleInfo.{RuleInfo}
 use Rattle.zone_table.specs.declared.zone.Saving.{Saving}
 use Rattle.zone_table.specs.declared.zone.Saving.TheVariants.{NoSaving, OneOff, Multiple}
@@ -67,3 +68,157 @@ knot : compiled none (line (pos 36000) NoSaving (codes "A") (Some (UntilYear (Nu
     })
 unfolding compiled schedule_fault leaves_year zone_lines set_of_lines first_span sorted_entries entries_from entries_of next_start line_firings years_expanded abbreviation line_end is_in_year instant_of named_day is_leap days_in_year days_in_month days_after_zero year_start days_through days_into_year day collapsed kept_of kept_with without_first
 knot = refl
+
+-- a rule of these years that fires at 0:00 of the wall's clock
+abbrev at_midnight : ℤ → ℤ → ℤ → Option (List ℕ) → RuleInfo
+at_midnight first last saving letters =
+    record (yearly January (Ordinal (pos 1)) (pos 0) saving []) { from_year = Number first; to_year = Some (Number last); letters = letters }
+
+-- the first lines of `Europe/Madrid` with its rules of 1918, the second of which is by standard time: an entry at the start of the second
+-- line has the name of the first rule that ends a saving, and the second rule's firing of 1919 is past the line's end
+abbrev spain : List RuleInfo
+spain = record (at_midnight (pos 1918) (pos 1918) (pos 3600) (Some (codes "S"))) { month = April; day = Ordinal (pos 15); time = pos 82800 }
+    ∷ record (at_midnight (pos 1918) (pos 1919) (pos 0) None) { month = October; day = Ordinal (pos 6); time = pos 86400; time_type = Standard } ∷ []
+
+madrid : compiled (all spain) (line (negsuc 883) NoSaving (codes "LMT") (Some (UntilTime (Number (pos 1901)) January (Ordinal (pos 1)) (record { 0 = Zero; 1 = UTC })))
+      ∷ record (line (pos 0) (Multiple (codes "Spain")) [] (Some (UntilYear (Number (pos 1919))))) { format = Placeholder (codes "WE%sT") }
+      ∷ line (pos 3600) NoSaving (codes "CET") None ∷ [])
+    ≡ Ok (record {
+      first = span (negsuc 883) (pos 0) (codes "LMT");
+      rest = (negsuc 2177452799, span (pos 0) (pos 0) (codes "WET")) ∷ (negsuc 1631926799, span (pos 0) (pos 3600) (codes "WEST"))
+        ∷ (negsuc 1616889599, span (pos 0) (pos 0) (codes "WET")) ∷ (negsuc 1609459199, span (pos 3600) (pos 0) (codes "CET")) ∷ [];
+    })
+unfolding compiled schedule_fault leaves_year some_year is_outside zone_lines set_of_lines first_span sorted_entries entries_from entries_of next_start listed_from start_firing line_firings years_expanded firings_of_years year_firings fired earliest applies_to_year last_year moment abbreviation filled line_end is_in_year instant_of named_day is_leap days_in_year days_in_month days_after_zero year_start days_through days_into_year day collapsed kept_of kept_with without_first
+madrid = refl
+
+-- a ruled first line begins with its first entry of no saving, which here comes second
+abbrev turned : List RuleInfo
+turned = at_midnight (pos 1800) (pos 1800) (pos 3600) (Some (codes "A")) ∷ at_midnight (pos 1801) (pos 1801) (pos 0) (Some (codes "B")) ∷ []
+
+standard_first : set_of_lines (record { info = record (line (pos 0) (Multiple []) [] None) { format = Placeholder (codes "%s") }; rules = turned; end = None } ∷ [])
+    ≡ Ok (record {
+      first = span (pos 0) (pos 0) (codes "B");
+      rest = (negsuc 5364662399, span (pos 0) (pos 3600) (codes "A")) ∷ (negsuc 5333129999, span (pos 0) (pos 0) (codes "B")) ∷ [];
+    })
+unfolding set_of_lines first_span sorted_entries entries_from entries_of next_start line_firings years_expanded firings_of_years year_firings fired earliest applies_to_year last_year moment abbreviation filled instant_of named_day is_leap days_in_year days_in_month days_after_zero year_start days_through days_into_year day collapsed kept_of kept_with without_first
+standard_first = refl
+
+-- the next line starts under the last saving of the one before it, and without one
+saving_stays : compiled (all (at_midnight (pos 1800) (pos 1800) (pos 3600) None ∷ []))
+      (line (pos 0) (Multiple []) (codes "A") (Some (UntilYear (Number (pos 1801)))) ∷ line (pos 0) NoSaving (codes "B") None ∷ [])
+    ≡ Ok (record {
+      first = span (pos 0) (pos 0) (codes "B");
+      rest = (negsuc 5364662399, span (pos 0) (pos 3600) (codes "A")) ∷ (negsuc 5333129999, span (pos 0) (pos 0) (codes "B")) ∷ [];
+    })
+unfolding compiled schedule_fault leaves_year some_year is_outside zone_lines set_of_lines first_span sorted_entries entries_from entries_of next_start listed_from start_firing line_firings years_expanded firings_of_years year_firings fired earliest applies_to_year last_year moment abbreviation filled line_end is_in_year instant_of named_day is_leap days_in_year days_in_month days_after_zero year_start days_through days_into_year day collapsed kept_of kept_with without_first
+saving_stays = refl
+
+-- ---- faults
+
+-- January's last Sunday on or before the 1st: in 1800, which began on a Wednesday, a day of 1799
+abbrev outside : RuleInfo
+outside = record (at_midnight (pos 1800) (pos 1800) (pos 3600) None) { day = LastOnOrBefore Sunday (pos 1) }
+
+rules_outside : is_outside outside (pos 1800) ∷ is_outside outside (pos 1801) ∷ is_outside (at_midnight (pos 1800) (pos 1800) (pos 0) None) (pos 1800) ∷ []
+    ≡ true ∷ false ∷ false ∷ []
+unfolding is_outside applies_to_year last_year is_in_year named_day first_from last_with weekday_of is_leap days_in_year days_in_month days_after_zero year_start days_through days_into_year day
+rules_outside = refl
+
+-- 300 years from 1800 on
+years_of_300 : some_year (λ y. int_eq y (pos 2099)) 300 ∷ some_year (λ y. int_eq y (pos 2100)) 300 ∷ some_year (λ y. int_eq y (pos 1800)) 1
+    ∷ some_year (λ y. int_eq y (pos 1799)) 300 ∷ [] ≡ true ∷ false ∷ true ∷ false ∷ []
+unfolding some_year
+years_of_300 = refl
+
+-- a rule whose first year is no number
+abbrev yearless : RuleInfo
+yearless = record outside { from_year = Minimum }
+
+abbrev ruled : Option ChangeTime → ZoneInfo
+ruled end = line (pos 0) (Multiple (codes "R")) (codes "A") end
+
+abbrev plain : Option ChangeTime → ZoneInfo
+plain end = line (pos 0) NoSaving (codes "B") end
+
+abbrev saving : ZoneInfo
+saving = line (pos 0) (OneOff (pos 3600)) (codes "C") None
+
+abbrev in_1800 : Option ChangeTime
+in_1800 = Some (UntilYear (Number (pos 1800)))
+
+-- each fault comes before the ones that follow it, which are met here too
+faults : schedule_fault none (ruled None ∷ saving ∷ [])
+    ∷ schedule_fault (all []) (plain None ∷ plain (Some (UntilYear Minimum)) ∷ saving ∷ [])
+    ∷ schedule_fault (all (yearless ∷ [])) (ruled (Some (UntilYear (Number (pos 10000)))) ∷ saving ∷ [])
+    ∷ schedule_fault (all (yearless ∷ [])) (ruled in_1800 ∷ saving ∷ [])
+    ∷ schedule_fault (all (outside ∷ [])) (ruled in_1800 ∷ saving ∷ [])
+    ∷ schedule_fault (all []) (ruled in_1800 ∷ saving ∷ []) ∷ []
+    ≡ map Some (UnknownRuleset ∷ MissingUntil ∷ YearRange ∷ RuleYears ∷ DayRange ∷ NoStandardSpan ∷ [])
+unfolding schedule_fault leaves_year some_year is_outside zone_lines entries_from entries_of next_start listed_from start_firing line_firings years_expanded firings_of_years year_firings fired earliest applies_to_year last_year moment abbreviation line_end is_in_year instant_of named_day first_from last_with weekday_of is_leap days_in_year days_in_month days_after_zero year_start days_through days_into_year day
+faults = refl
+
+-- no line; an end in the year 0; an end whose day is of 1799
+more_faults : schedule_fault none [] ∷ schedule_fault none (plain (Some (UntilYear (Number (pos 0)))) ∷ saving ∷ [])
+    ∷ schedule_fault none (plain (Some (UntilDay (Number (pos 1800)) January (LastOnOrBefore Sunday (pos 1)))) ∷ saving ∷ []) ∷ []
+    ≡ map Some (NoStandardSpan ∷ YearRange ∷ DayRange ∷ [])
+unfolding schedule_fault leaves_year zone_lines entries_from entries_of next_start listed_from start_firing line_firings years_expanded abbreviation line_end is_in_year instant_of named_day first_from last_with weekday_of is_leap days_in_year days_in_month days_after_zero year_start days_through days_into_year day
+more_faults = refl
+
+-- the end of the last line has no part in anything, and a fixed first line needs no entry without a saving
+no_faults : schedule_fault none (plain (Some (UntilYear Minimum)) ∷ []) ∷ schedule_fault none (plain in_1800 ∷ saving ∷ []) ∷ [] ≡ None ∷ None ∷ []
+unfolding schedule_fault leaves_year zone_lines entries_from entries_of next_start line_firings years_expanded abbreviation line_end is_in_year instant_of named_day is_leap days_in_year days_in_month days_after_zero year_start days_through days_into_year day
+no_faults = refl
+
+-- ---- the collapse
+
+-- the entries of `Australia/Sydney` that parse-zoneinfo's own test has, with a first span that one of them has too
+abbrev aest : FixedTimespan
+aest = span (pos 36000) (pos 0) (codes "AEST")
+
+abbrev aedt : FixedTimespan
+aedt = span (pos 36000) (pos 3600) (codes "AEDT")
+
+abbrev zzz : FixedTimespan
+zzz = span (pos 0) (pos 0) (codes "zzz")
+
+sydney : collapsed zzz ((negsuc 2214259199, aest) ∷ (negsuc 1680508799, aedt) ∷ (negsuc 1669892399, aedt) ∷ (negsuc 1665392399, aest)
+      ∷ (negsuc 1601719199, zzz) ∷ (negsuc 687052799, aest) ∷ (negsuc 94730399, aest) ∷ (negsuc 71135999, aedt) ∷ (negsuc 55411199, aest)
+      ∷ (negsuc 37267199, aedt) ∷ (negsuc 25775999, aest) ∷ (negsuc 5817599, aedt) ∷ [])
+    ≡ (negsuc 2214259199, aest) ∷ (negsuc 1680508799, aedt) ∷ (negsuc 1665392399, aest)
+      ∷ (negsuc 1601719199, zzz) ∷ (negsuc 687052799, aest) ∷ (negsuc 71135999, aedt) ∷ (negsuc 55411199, aest)
+      ∷ (negsuc 37267199, aedt) ∷ (negsuc 25775999, aest) ∷ (negsuc 5817599, aedt) ∷ []
+unfolding collapsed kept_of kept_with without_first
+sydney = refl
+
+-- an entry that comes no later than the local end of the span before gives its span, at the time of that one, whatever span it is; a second
+-- later it is kept
+abbrev then : ℤ → FixedTimespan → List Entry
+then time d = collapsed (span (pos 0) (pos 0) (codes "A"))
+    ((pos 100000, span (pos 3600) (pos 0) (codes "B")) ∷ (pos 200000, span (pos 0) (pos 0) (codes "C")) ∷ (time, d) ∷ [])
+
+gives : then (pos 201000) (span (pos 7200) (pos 0) (codes "D")) ∷ then (pos 201000) (span (pos 3600) (pos 0) (codes "B"))
+    ∷ then (pos 203600) (span (pos 0) (pos 0) (codes "C")) ∷ then (pos 203601) (span (pos 7200) (pos 0) (codes "D")) ∷ []
+    ≡ ((pos 100000, span (pos 3600) (pos 0) (codes "B")) ∷ (pos 200000, span (pos 7200) (pos 0) (codes "D")) ∷ [])
+    ∷ ((pos 100000, span (pos 3600) (pos 0) (codes "B")) ∷ (pos 200000, span (pos 3600) (pos 0) (codes "B")) ∷ [])
+    ∷ ((pos 100000, span (pos 3600) (pos 0) (codes "B")) ∷ (pos 200000, span (pos 0) (pos 0) (codes "C")) ∷ [])
+    ∷ ((pos 100000, span (pos 3600) (pos 0) (codes "B")) ∷ (pos 200000, span (pos 0) (pos 0) (codes "C")) ∷ (pos 203601, span (pos 7200) (pos 0) (codes "D")) ∷ [])
+    ∷ []
+unfolding collapsed kept_of kept_with without_first
+gives = refl
+
+-- a name alone makes another span, and the first kept entry goes where it says what holds before it
+names : collapsed zzz ((pos 1, zzz) ∷ (pos 2, span (pos 0) (pos 0) (codes "z")) ∷ (pos 3, zzz) ∷ (pos 4, zzz) ∷ [])
+    ≡ (pos 2, span (pos 0) (pos 0) (codes "z")) ∷ (pos 3, zzz) ∷ []
+unfolding collapsed kept_of kept_with without_first
+names = refl
+
+-- ---- totals
+
+-- from the second of an entry on, and of two at one second the last; a nanosecond before it is in the span before
+abbrev changes : Schedule
+changes = totals_of (record { first = zzz; rest = (negsuc 0, span (pos 3600) (pos 0) []) ∷ (pos 10, span (pos 3600) (pos 3600) []) ∷ (pos 10, span (pos 0) (negsuc 3599) []) ∷ [] })
+
+totals : map (total_at changes) (negsuc 1000000000 ∷ negsuc 999999999 ∷ negsuc 0 ∷ pos 9999999999 ∷ pos 10000000000 ∷ [])
+    ≡ pos 0 ∷ pos 3600 ∷ pos 3600 ∷ pos 3600 ∷ negsuc 3599 ∷ []
+unfolding totals_of total_at
+totals = refl
