@@ -90,7 +90,7 @@ unfolding compiled
 fault_due rulesets infos lines fault same known is =
     is_due fault (compiled rulesets infos)
     (ap (λ f. unless f (set_of_lines (zone_lines rulesets infos)))
-      (known_fault rulesets infos known fault (ap (line_fault infos) (sym same) ∙ is)))
+    (known_fault rulesets infos known fault (ap (line_fault infos) (sym same) ∙ is)))
 
 or_turned : (a b c : Bool) → (a || (b || c)) ≡ (b || (a || c))
 or_turned true true c = refl

@@ -102,8 +102,10 @@ pub year_fires : (year offset : ℤ) (end : Option ChangeTime) (saving : ℤ) (x
     → IsFirstBest (is_earlier year offset saving) xs (length xs) b → x ≡ get_or xs b x
     → is_over end offset saving (moment x year offset saving) ≡ false
     → left_firings year offset end saving xs
-    ≡ (record { time = moment x year offset saving; rule = x } ∷ (left_firings year offset end x.time_to_add (remove xs b)).0,
-      (left_firings year offset end x.time_to_add (remove xs b)).1)
+    ≡ (
+      record { time = moment x year offset saving; rule = x } ∷ (left_firings year offset end x.time_to_add (remove xs b)).0,
+      (left_firings year offset end x.time_to_add (remove xs b)).1,
+    )
 year_fires year offset end saving xs b x h is goes =
     let later = left_firings year offset end x.time_to_add (remove xs b) in
     year_next year offset end saving xs b x h is

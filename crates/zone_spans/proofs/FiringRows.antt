@@ -80,8 +80,11 @@ before_the_end = refl
 
 -- of two at one moment the first listed fires first, and then the other an hour earlier: times of a year can fall
 ties : fired 2 (pos 1800) (pos 0) None (pos 0) (at_second (pos 0) (pos 3600) (codes "A") ∷ at_second (pos 0) (pos 0) (codes "B") ∷ [])
-    ≡ (record { time = negsuc 5364662399; rule = at_second (pos 0) (pos 3600) (codes "A") }
-      ∷ record { time = negsuc 5364665999; rule = at_second (pos 0) (pos 0) (codes "B") } ∷ [], pos 0)
+    ≡ (
+      record { time = negsuc 5364662399; rule = at_second (pos 0) (pos 3600) (codes "A") }
+          ∷ record { time = negsuc 5364665999; rule = at_second (pos 0) (pos 0) (codes "B") } ∷ [],
+      pos 0,
+    )
 unfolding fired earliest moment instant_of named_day is_leap days_in_year days_in_month days_after_zero year_start days_through days_into_year day
 ties = refl
 
@@ -101,9 +104,9 @@ years = refl
 -- 2000-01-01 00:00 by each clock, an hour ahead and a saving of an hour; a day alone is the wall's
 ends : map (λ end. line_end end (pos 3600) (pos 3600))
     (UntilTime (Number (pos 2000)) January (Ordinal (pos 1)) (record { 0 = Zero; 1 = Wall })
-      ∷ UntilTime (Number (pos 2000)) January (Ordinal (pos 1)) (record { 0 = Zero; 1 = Standard })
-      ∷ UntilTime (Number (pos 2000)) January (Ordinal (pos 1)) (record { 0 = Zero; 1 = UTC })
-      ∷ UntilYear (Number (pos 2000)) ∷ [])
+    ∷ UntilTime (Number (pos 2000)) January (Ordinal (pos 1)) (record { 0 = Zero; 1 = Standard })
+    ∷ UntilTime (Number (pos 2000)) January (Ordinal (pos 1)) (record { 0 = Zero; 1 = UTC })
+    ∷ UntilYear (Number (pos 2000)) ∷ [])
     ≡ pos 946677600 ∷ pos 946681200 ∷ pos 946684800 ∷ pos 946677600 ∷ []
 unfolding line_end instant_of named_day is_leap days_in_year days_in_month days_after_zero year_start days_through days_into_year day
 ends = refl
@@ -127,11 +130,11 @@ above_the_start = refl
 
 -- no entry at the start where a firing is there; else the last before it, in firing order; else the first with no saving; else none
 starts : map (start_firing (pos 100)) (
-      (at (pos 50) (pos 0) ∷ at (pos 100) (pos 1) ∷ [])
-      ∷ (at (pos 90) (pos 0) ∷ at (pos 50) (pos 7) ∷ at (pos 150) (pos 0) ∷ [])
-      ∷ (at (pos 150) (pos 7) ∷ at (pos 160) (pos 0) ∷ at (pos 170) (pos 0) ∷ [])
-      ∷ (at (pos 150) (pos 7) ∷ [])
-      ∷ [] ∷ []
+    (at (pos 50) (pos 0) ∷ at (pos 100) (pos 1) ∷ [])
+    ∷ (at (pos 90) (pos 0) ∷ at (pos 50) (pos 7) ∷ at (pos 150) (pos 0) ∷ [])
+    ∷ (at (pos 150) (pos 7) ∷ at (pos 160) (pos 0) ∷ at (pos 170) (pos 0) ∷ [])
+    ∷ (at (pos 150) (pos 7) ∷ [])
+    ∷ [] ∷ []
     )
     ≡ None ∷ Some (at (pos 50) (pos 7)) ∷ Some (at (pos 160) (pos 0)) ∷ None ∷ None ∷ []
 unfolding start_firing

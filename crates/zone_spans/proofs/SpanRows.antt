@@ -53,15 +53,15 @@ all rules name = Some rules
 
 -- `Zone Test/Mark 1:00 1:00 A 2000 Jan 1 0:00s`, ` 0:00 - B`
 standard_end : compiled none (line (pos 3600) (OneOff (pos 3600)) (codes "A") (Some (UntilTime (Number (pos 2000)) January (Ordinal (pos 1)) (record { 0 = Zero; 1 = Standard })))
-      ∷ line (pos 0) NoSaving (codes "B") None ∷ [])
+    ∷ line (pos 0) NoSaving (codes "B") None ∷ [])
     ≡ Ok (record { first = span (pos 3600) (pos 3600) (codes "A"); rest = (pos 946681200, span (pos 0) (pos 0) (codes "B")) ∷ [] })
 unfolding compiled schedule_fault leaves_year zone_lines set_of_lines first_span sorted_entries entries_from entries_of next_start line_firings years_expanded abbreviation line_end is_in_year instant_of named_day is_leap days_in_year days_in_month days_after_zero year_start days_through days_into_year day collapsed kept_of kept_with without_first
 standard_end = refl
 
 -- `Zone Test/Knot 10:00 - A 2000`, ` 5:00 - B 1999 Dec 31 20:00`, ` 0:00 - C`: both stay, though the second began before the local end of the first
 knot : compiled none (line (pos 36000) NoSaving (codes "A") (Some (UntilYear (Number (pos 2000))))
-      ∷ line (pos 18000) NoSaving (codes "B") (Some (UntilTime (Number (pos 1999)) December (Ordinal (pos 31)) (record { 0 = Hours (pos 20); 1 = Wall })))
-      ∷ line (pos 0) NoSaving (codes "C") None ∷ [])
+    ∷ line (pos 18000) NoSaving (codes "B") (Some (UntilTime (Number (pos 1999)) December (Ordinal (pos 31)) (record { 0 = Hours (pos 20); 1 = Wall })))
+    ∷ line (pos 0) NoSaving (codes "C") None ∷ [])
     ≡ Ok (record {
       first = span (pos 36000) (pos 0) (codes "A");
       rest = (pos 946648800, span (pos 18000) (pos 0) (codes "B")) ∷ (pos 946652400, span (pos 0) (pos 0) (codes "C")) ∷ [];
@@ -81,12 +81,12 @@ spain = record (at_midnight (pos 1918) (pos 1918) (pos 3600) (Some (codes "S")))
     ∷ record (at_midnight (pos 1918) (pos 1919) (pos 0) None) { month = October; day = Ordinal (pos 6); time = pos 86400; time_type = Standard } ∷ []
 
 madrid : compiled (all spain) (line (negsuc 883) NoSaving (codes "LMT") (Some (UntilTime (Number (pos 1901)) January (Ordinal (pos 1)) (record { 0 = Zero; 1 = UTC })))
-      ∷ record (line (pos 0) (Multiple (codes "Spain")) [] (Some (UntilYear (Number (pos 1919))))) { format = Placeholder (codes "WE%sT") }
-      ∷ line (pos 3600) NoSaving (codes "CET") None ∷ [])
+    ∷ record (line (pos 0) (Multiple (codes "Spain")) [] (Some (UntilYear (Number (pos 1919))))) { format = Placeholder (codes "WE%sT") }
+    ∷ line (pos 3600) NoSaving (codes "CET") None ∷ [])
     ≡ Ok (record {
       first = span (negsuc 883) (pos 0) (codes "LMT");
       rest = (negsuc 2177452799, span (pos 0) (pos 0) (codes "WET")) ∷ (negsuc 1631926799, span (pos 0) (pos 3600) (codes "WEST"))
-        ∷ (negsuc 1616889599, span (pos 0) (pos 0) (codes "WET")) ∷ (negsuc 1609459199, span (pos 3600) (pos 0) (codes "CET")) ∷ [];
+          ∷ (negsuc 1616889599, span (pos 0) (pos 0) (codes "WET")) ∷ (negsuc 1609459199, span (pos 3600) (pos 0) (codes "CET")) ∷ [];
     })
 unfolding compiled schedule_fault leaves_year some_year is_outside zone_lines set_of_lines first_span sorted_entries entries_from entries_of next_start listed_from start_firing line_firings years_expanded firings_of_years year_firings fired earliest applies_to_year last_year moment abbreviation filled line_end is_in_year instant_of named_day is_leap days_in_year days_in_month days_after_zero year_start days_through days_into_year day collapsed kept_of kept_with without_first
 madrid = refl
@@ -105,7 +105,7 @@ standard_first = refl
 
 -- the next line starts under the last saving of the one before it, and without one
 saving_stays : compiled (all (at_midnight (pos 1800) (pos 1800) (pos 3600) None ∷ []))
-      (line (pos 0) (Multiple []) (codes "A") (Some (UntilYear (Number (pos 1801)))) ∷ line (pos 0) NoSaving (codes "B") None ∷ [])
+    (line (pos 0) (Multiple []) (codes "A") (Some (UntilYear (Number (pos 1801)))) ∷ line (pos 0) NoSaving (codes "B") None ∷ [])
     ≡ Ok (record {
       first = span (pos 0) (pos 0) (codes "B");
       rest = (negsuc 5364662399, span (pos 0) (pos 3600) (codes "A")) ∷ (negsuc 5333129999, span (pos 0) (pos 0) (codes "B")) ∷ [];
@@ -182,11 +182,11 @@ abbrev zzz : FixedTimespan
 zzz = span (pos 0) (pos 0) (codes "zzz")
 
 sydney : collapsed zzz ((negsuc 2214259199, aest) ∷ (negsuc 1680508799, aedt) ∷ (negsuc 1669892399, aedt) ∷ (negsuc 1665392399, aest)
-      ∷ (negsuc 1601719199, zzz) ∷ (negsuc 687052799, aest) ∷ (negsuc 94730399, aest) ∷ (negsuc 71135999, aedt) ∷ (negsuc 55411199, aest)
-      ∷ (negsuc 37267199, aedt) ∷ (negsuc 25775999, aest) ∷ (negsuc 5817599, aedt) ∷ [])
+    ∷ (negsuc 1601719199, zzz) ∷ (negsuc 687052799, aest) ∷ (negsuc 94730399, aest) ∷ (negsuc 71135999, aedt) ∷ (negsuc 55411199, aest)
+    ∷ (negsuc 37267199, aedt) ∷ (negsuc 25775999, aest) ∷ (negsuc 5817599, aedt) ∷ [])
     ≡ (negsuc 2214259199, aest) ∷ (negsuc 1680508799, aedt) ∷ (negsuc 1665392399, aest)
-      ∷ (negsuc 1601719199, zzz) ∷ (negsuc 687052799, aest) ∷ (negsuc 71135999, aedt) ∷ (negsuc 55411199, aest)
-      ∷ (negsuc 37267199, aedt) ∷ (negsuc 25775999, aest) ∷ (negsuc 5817599, aedt) ∷ []
+    ∷ (negsuc 1601719199, zzz) ∷ (negsuc 687052799, aest) ∷ (negsuc 71135999, aedt) ∷ (negsuc 55411199, aest)
+    ∷ (negsuc 37267199, aedt) ∷ (negsuc 25775999, aest) ∷ (negsuc 5817599, aedt) ∷ []
 unfolding collapsed kept_of kept_with without_first
 sydney = refl
 

@@ -20,9 +20,9 @@ fires_more offset end rules n fired fired' year saving saving' is f g =
     let at : n + 1 ≡ suc n = add-one n in
     record {
       firings = g.firings ∙ (λ i. f.firings i ++ (year_firings (is i) offset end (f.saving i) rules).0)
-      ∙ ap (λ k. (firings_of_years offset end rules k).0) (sym at);
+          ∙ ap (λ k. (firings_of_years offset end rules k).0) (sym at);
       saving = g.saving ∙ (λ i. (year_firings (is i) offset end (f.saving i) rules).1)
-      ∙ ap (λ k. (firings_of_years offset end rules k).1) (sym at);
+          ∙ ap (λ k. (firings_of_years offset end rules k).1) (sym at);
     }
 
 pub one_more : (fired : List Firing) (f : Firing) → IsTrue (list_all is_bounded_firing fired) → IsTrue (is_bounded_firing f)

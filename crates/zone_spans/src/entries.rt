@@ -52,11 +52,7 @@ fn name_of(
 }
 
 /// What a firing puts in force.
-fn span_of(
-    alloc: Global,
-    line: &Line<'_>,
-    firing: &Firing<'_>,
-) -> Result<FixedTimespan, AllocError>
+fn span_of(alloc: Global, line: &Line<'_>, firing: &Firing<'_>) -> Result<FixedTimespan, AllocError>
     ensures { IfOk result (λ span. span ≡ span_of line.now firing.now) }
 {
     let saving = firing.rule.time_to_add;

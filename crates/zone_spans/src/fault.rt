@@ -12,8 +12,8 @@ ghost use Rattle.zone_spans.specs.Faults.{all_but_last, lacks_years, line_fault,
 use crate::line::Line;
 use crate::year::years_expanded;
 use std::alloc::AllocError;
-use zone_values::ChangeTime;
 use zone_table::{RuleInfo, ZoneInfo};
+use zone_values::ChangeTime;
 
 /// Why a zone has no schedule. Over the whole zone the first of these that is met comes.
 #[derive(Clone, Copy, Debug, PartialEq, Eq)]

@@ -13,8 +13,8 @@ use crate::fault::SpanFault;
 use owned::Items;
 use std::alloc::Global;
 use std::marker::Model;
-use zone_values::ChangeTime;
 use zone_table::{RuleInfo, Saving, Table, ZoneInfo};
+use zone_values::ChangeTime;
 
 /// A line with the rules that it names, and its end where it is not the last.
 #[derive(Drop)]
@@ -53,7 +53,6 @@ impl<'a> Line<'a> {
         }
     }
 }
-
 
 /// The rules that a saving names: none where it names none.
 ///

@@ -37,7 +37,11 @@ pub trait TableTransitions {
     /// # Errors
     ///
     /// The first fault of the zone in the order of `SpanFault`, or `NoMemory`.
-    fn timespans(&self, alloc: Global, zone_name: &str) -> Result<Option<FixedTimespanSet>, SpanFault>
+    fn timespans(
+        &self,
+        alloc: Global,
+        zone_name: &str,
+    ) -> Result<Option<FixedTimespanSet>, SpanFault>
         requires { IsBounded self.now }
         ensures told { Tells result (option_map (compiled (rulesets self.now)) (zones self.now zone_name.now)) }
         ensures bounded { IfOk result (λ found. IfSome found (λ set. IsTrue (is_bounded set))) }
@@ -52,7 +56,11 @@ impl TableTransitions for Table {
 
     ghost IsBounded = { IsBoundedTable };
 
-    fn timespans(&self, alloc: Global, zone_name: &str) -> Result<Option<FixedTimespanSet>, SpanFault> {
+    fn timespans(
+        &self,
+        alloc: Global,
+        zone_name: &str,
+    ) -> Result<Option<FixedTimespanSet>, SpanFault> {
         match self.get_zoneset(zone_name) {
             Some(lines) => match compile(alloc, self, lines) {
                 Ok(set) => Ok(Some(set)),

@@ -12,8 +12,8 @@ use crate::firing::Firing;
 use crate::line::Line;
 use std::alloc::{AllocError, Global};
 use std::marker::Model;
-use zone_values::ChangeTime;
 use zone_table::{RuleInfo, instant_of};
+use zone_values::ChangeTime;
 
 /// A rule that applies to a year.
 #[derive(Drop)]

@@ -23,7 +23,7 @@ loop-i-preserved c =
       count = c.step-kept.ensures.count;
       bounded = c.step-kept.ensures.bounded;
       kept = kept_more_of c.loop-i.rest c.step-kept.new.rest c.loop-i.kept c.step-kept.result c.loop-i.i (omega arith) step
-      ∙ c.loop-i.invariant.kept;
+          ∙ c.loop-i.invariant.kept;
     }
 
 pub returns-clause-kept : goal.returns-clause-kept

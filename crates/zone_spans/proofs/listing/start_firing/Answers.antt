@@ -14,4 +14,4 @@ returns-then-place_at-fired c =
     let test : nat_lt (position_or_len (is_at c.args.start) fs) (length fs) ≡ true =
     lt-ltb _ _ (subst (λ k. k < length fs) place c.if-place_at-fired.true) in
     sym (ap (λ b. if b then None else option_or (find (λ f. int_lt f.time c.args.start) (reverse fs))
-      (find (λ f. int_eq f.rule.time_to_add (pos 0)) fs)) test)
+    (find (λ f. int_eq f.rule.time_to_add (pos 0)) fs)) test)

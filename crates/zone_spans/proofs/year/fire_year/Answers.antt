@@ -62,7 +62,7 @@ firing-preserved c =
     let step = year_fires year offset end saving left place rule best rule_is goes in
     let firing : Firing = record { time = moment rule year offset saving; rule = rule } in
     let left_is : left_firings year offset end (to_z w64 (of_z w64 c.next.inside.rule.now.time_to_add)) c.remove-next.new.self.items
-        ≡ left_firings year offset end rule.time_to_add (remove left place) = λ i. left_firings year offset end (next_is i) (c.remove-next.ensures.items i) in
+    ≡ left_firings year offset end rule.time_to_add (remove left place) = λ i. left_firings year offset end (next_is i) (c.remove-next.ensures.items i) in
     let pushed : c.push.new.self.items ≡ c.firing.fired.items ++ firing ∷ [] =
     c.in_ok-push.ensures.items ∙ (λ i. c.firing.fired.items ++ record { time = time_is i; rule = shown i } ∷ []) in
     let here = subst (λ (r : RuleInfo). IsTrue (has_moment year r)) (sym rule_is) (c.firing.invariant.moments place rule best.0) in
@@ -70,13 +70,13 @@ firing-preserved c =
     let in_time = subst (λ t. IsTrue (is_small t)) c.moment-time.ensures.value c.moment-time.ensures.small in
     record {
       fired = (λ i. pushed i ++ (left_is i).0) ∙ append_assoc c.firing.fired.items (firing ∷ []) _
-      ∙ ap (λ p. c.firing.fired.items ++ p.0) (sym step) ∙ c.firing.invariant.fired;
+          ∙ ap (λ p. c.firing.fired.items ++ p.0) (sym step) ∙ c.firing.invariant.fired;
       last = (λ i. (left_is i).1) ∙ ap (λ p. p.1) (sym step) ∙ c.firing.invariant.last;
       moments = subst (λ (rs : List RuleInfo). All (λ r. IsTrue (has_moment year r)) rs) (sym c.remove-next.ensures.items)
-      (all_remove (λ (r : RuleInfo). IsTrue (has_moment year r)) left place c.firing.invariant.moments);
+          (all_remove (λ (r : RuleInfo). IsTrue (has_moment year r)) left place c.firing.invariant.moments);
       small = subst (λ s. IsTrue (are_small_seconds s)) (sym next_is) small;
       bounded = subst (λ (fs : List Firing). IsTrue (list_all is_bounded_firing fs)) (sym pushed)
-      (one_more c.firing.fired.items firing c.firing.invariant.bounded (both (is_small firing.time) _ in_time small));
+          (one_more c.firing.fired.items firing c.firing.invariant.bounded (both (is_small firing.time) _ in_time small));
     }
 
 -- the year, the offset and the saving as they were passed

@@ -46,8 +46,8 @@ loop-i-preserved c =
     let fired = c.in_ok-last_saving.ensures.fired in
     record {
       fired = fires_more line.info.offset line.end line.rules c.loop-i.i c.loop-i.fired.items c.fire_year.new.fired.items
-      (to_z w64 (of_z w64 c.from-year.result)) (to_z w64 c.loop-i.last_saving-bits) (to_z w64 (of_z w64 c.in_ok-last_saving.last_saving))
-      year_is c.loop-i.invariant.fired (record { firings = fired.firings; saving = last_is ∙ fired.saving });
+          (to_z w64 (of_z w64 c.from-year.result)) (to_z w64 c.loop-i.last_saving-bits) (to_z w64 (of_z w64 c.in_ok-last_saving.last_saving))
+          year_is c.loop-i.invariant.fired (record { firings = fired.firings; saving = last_is ∙ fired.saving });
       small = subst (λ s. IsTrue (are_small_seconds s)) (sym last_is) c.in_ok-last_saving.ensures.small;
       bounded = c.in_ok-last_saving.ensures.bounded;
     }

@@ -1,0 +1,3 @@
+//! The collapse, a zone of two yearly rules, and each fault.
+mod collapses;
+mod zones;
