@@ -12,7 +12,7 @@ use std::marker::Model;
 use std::ops::{Index, IndexMut};
 
 /// A list that owns its items. Contracts see the items in order.
-#[derive(Drop)]
+#[derive(Debug, Drop)]
 pub struct Items<T> {
     vec: Vec<T>,
 }
@@ -167,4 +167,22 @@ impl<T> IndexMut<usize> for Items<T> {
     {
         &mut self.vec[index]
     }
+}
+
+impl<T: PartialEq> PartialEq for Items<T> {
+    ghost use Rattle.std.specs.Cmp.Lexicographic.{pointwise, lists_per};
+
+    ghost eq = { pointwise T.eq };
+
+    ghost laws = { lists_per T.PartialEq.laws };
+
+    fn eq(&self, other: &Self) -> bool {
+        self.vec == other.vec
+    }
+}
+
+impl<T: Eq> Eq for Items<T> {
+    ghost use Rattle.std.specs.Cmp.Lexicographic.{lists_equiv};
+
+    ghost laws = { lists_equiv T.Eq.laws };
 }

@@ -4,7 +4,7 @@ use Rattle.std.specs.Ordering.{int_eq}
 use Rattle.calendar.specs.Days.{days_after_zero, year_start, days_through, days_into_year, day, is_leap, days_in_year, days_in_month}
 use Rattle.calendar.specs.Dates.{last_with}
 use Rattle.calendar.specs.Weekdays.{weekday_of}
-use Rattle.owned.specs.Sorted.{stable_sort}
+use Rattle.civil_base.specs.Ranges.{is_offset}
 use Rattle.zone_values.specs.Days.{named_day, first_from, is_in_year}
 use Rattle.zone_values.specs.declared.change.ChangeTime.{ChangeTime}
 use Rattle.zone_values.specs.declared.change.ChangeTime.TheVariants.{UntilYear, UntilMonth, UntilDay, UntilTime}
@@ -31,7 +31,7 @@ use Rattle.zone_spans.specs.Faults.{is_outside, leaves_year, schedule_fault, som
 use Rattle.zone_spans.specs.Firings.{earliest, fired, firings_of_years, line_firings, year_firings, years_expanded}
 use Rattle.zone_spans.specs.Lines.{Line, Rulesets, zone_lines}
 use Rattle.zone_spans.specs.Listing.{listed_from, start_firing}
-use Rattle.zone_spans.specs.Schedules.{Schedule, total_at, totals_of}
+use Rattle.zone_spans.specs.Schedules.{Schedule, is_in_offset_range, total_at, totals_of}
 use Rattle.zone_spans.specs.Windows.{line_end}
 use Rattle.zone_spans.proofs.FiringRows.{yearly}
 
@@ -197,10 +197,10 @@ then time d = collapsed (span (pos 0) (pos 0) (codes "A"))
     ((pos 100000, span (pos 3600) (pos 0) (codes "B")) ∷ (pos 200000, span (pos 0) (pos 0) (codes "C")) ∷ (time, d) ∷ [])
 
 gives : then (pos 201000) (span (pos 7200) (pos 0) (codes "D")) ∷ then (pos 201000) (span (pos 3600) (pos 0) (codes "B"))
-    ∷ then (pos 203600) (span (pos 0) (pos 0) (codes "C")) ∷ then (pos 203601) (span (pos 7200) (pos 0) (codes "D")) ∷ []
+    ∷ then (pos 203600) (span (pos 7200) (pos 0) (codes "D")) ∷ then (pos 203601) (span (pos 7200) (pos 0) (codes "D")) ∷ []
     ≡ ((pos 100000, span (pos 3600) (pos 0) (codes "B")) ∷ (pos 200000, span (pos 7200) (pos 0) (codes "D")) ∷ [])
     ∷ ((pos 100000, span (pos 3600) (pos 0) (codes "B")) ∷ (pos 200000, span (pos 3600) (pos 0) (codes "B")) ∷ [])
-    ∷ ((pos 100000, span (pos 3600) (pos 0) (codes "B")) ∷ (pos 200000, span (pos 0) (pos 0) (codes "C")) ∷ [])
+    ∷ ((pos 100000, span (pos 3600) (pos 0) (codes "B")) ∷ (pos 200000, span (pos 7200) (pos 0) (codes "D")) ∷ [])
     ∷ ((pos 100000, span (pos 3600) (pos 0) (codes "B")) ∷ (pos 200000, span (pos 0) (pos 0) (codes "C")) ∷ (pos 203601, span (pos 7200) (pos 0) (codes "D")) ∷ [])
     ∷ []
 unfolding collapsed kept_of kept_with without_first
@@ -222,3 +222,17 @@ totals : map (total_at changes) (negsuc 1000000000 ∷ negsuc 999999999 ∷ negs
     ≡ pos 0 ∷ pos 3600 ∷ pos 3600 ∷ pos 3600 ∷ negsuc 3599 ∷ []
 unfolding totals_of total_at
 totals = refl
+
+-- an offset of the same total is another span where the parts differ
+parts : collapsed zzz ((pos 1, span (pos 3600) (pos 0) (codes "x")) ∷ (pos 100000, span (pos 0) (pos 3600) (codes "x")) ∷ [])
+    ≡ (pos 1, span (pos 3600) (pos 0) (codes "x")) ∷ (pos 100000, span (pos 0) (pos 3600) (codes "x")) ∷ []
+unfolding collapsed kept_of kept_with without_first
+parts = refl
+
+in_range : map is_in_offset_range (
+      record { first = pos 93599; shifts = (pos 0, negsuc 93598) ∷ [] }
+      ∷ record { first = pos 93600; shifts = [] }
+      ∷ record { first = pos 0; shifts = (pos 0, pos 0) ∷ (pos 1, negsuc 93599) ∷ [] } ∷ []
+    ) ≡ true ∷ false ∷ false ∷ []
+unfolding is_in_offset_range is_offset
+in_range = refl

@@ -1,7 +1,8 @@
 -- The schedule of a zone, and the offset that it has in force.
-use Rattle.std.specs.Prelude.{ℕ, zero, suc, Bool, ◌&&◌, List, [], ◌∷◌, map, filter, Result, Ok, Err, ℤ, pos, ◌-ℤ◌, ◌*ℤ◌, int_le, nat_le, nat_abs}
+use Rattle.std.specs.Prelude.{ℕ, zero, suc, Bool, ◌&&◌, List, [], ◌∷◌, map, filter, Result, Ok, Err, ℤ, pos, ◌-ℤ◌, ◌*ℤ◌, int_le}
 use Rattle.std.specs.List.{list_all}
 use Rattle.std.specs.Ordering.{int_eq}
+use Rattle.civil_base.specs.Ranges.{is_offset}
 use Rattle.zone_table.specs.declared.zone.ZoneInfo.{ZoneInfo}
 use Rattle.zone_spans.specs.Compiled.{compiled}
 use Rattle.zone_spans.specs.Entries.{total}
@@ -38,12 +39,8 @@ last_total total (shift ∷ shifts) = last_total shift.1 shifts
 unfoldable pub total_at : Schedule → ℤ → ℤ
 total_at schedule instant = last_total schedule.first (filter (λ shift. int_le (shift.0 *ℤ pos 1000000000) instant) schedule.shifts)
 
--- less than 26 hours in size
-abbrev pub is_offset : ℤ → Bool
-is_offset total = nat_le (nat_abs total) 93599
-
--- every total is an offset
-abbrev pub is_in_offset_range : Schedule → Bool
+-- every total is less than 26 hours in size
+unfoldable pub is_in_offset_range : Schedule → Bool
 is_in_offset_range schedule = is_offset schedule.first && list_all (λ shift. is_offset shift.1) schedule.shifts
 
 -- the first whole numbers from -93,599 on, the greatest first

@@ -19,7 +19,7 @@ pub struct FixedTimespan {
 }
 
 /// What is in force at each instant.
-#[derive(Drop)]
+#[derive(Debug, Drop, PartialEq, Eq)]
 pub struct FixedTimespanSet {
     /// What is in force before the first entry.
     pub first: FixedTimespan,
