@@ -8,6 +8,7 @@ pub mod YearLemmas
 pub mod FoundLemmas
 pub mod EntryLemmas
 pub mod LineLemmas
+pub mod QuietLemmas
 pub mod CompiledLemmas
 pub mod FiringRows
 mod SpanRows

@@ -1,5 +1,5 @@
 -- The entries of zones, the collapse and the faults, at worked rows.
-use Rattle.std.specs.Prelude.{◌≡◌, ℕ, List, [], ◌∷◌, map, Option, Some, None, Ok, Err, ℤ, pos, negsuc, codes, true, false, refl}
+use Rattle.std.specs.Prelude.{◌≡◌, ℕ, List, [], ◌∷◌, map, Option, Some, None, Ok, ℤ, pos, negsuc, codes, true, false, refl}
 use Rattle.std.specs.Ordering.{int_eq}
 use Rattle.calendar.specs.Days.{days_after_zero, year_start, days_through, days_into_year, day, is_leap, days_in_year, days_in_month}
 use Rattle.calendar.specs.Dates.{last_with}
@@ -7,13 +7,13 @@ use Rattle.calendar.specs.Weekdays.{weekday_of}
 use Rattle.civil_base.specs.Ranges.{is_offset}
 use Rattle.zone_values.specs.Days.{named_day, first_from, is_in_year}
 use Rattle.zone_values.specs.declared.change.ChangeTime.{ChangeTime}
-use Rattle.zone_values.specs.declared.change.ChangeTime.TheVariants.{UntilYear, UntilMonth, UntilDay, UntilTime}
+use Rattle.zone_values.specs.declared.change.ChangeTime.TheVariants.{UntilYear, UntilDay, UntilTime}
 use Rattle.zone_values.specs.declared.day.DaySpec.TheVariants.{Ordinal, LastOnOrBefore}
 use Rattle.zone_values.specs.declared.month.Month.TheVariants.{January, April, October, December}
 use Rattle.zone_values.specs.declared.time.TimeSpec.TheVariants.{Hours, Zero}
 use Rattle.zone_values.specs.declared.time.TimeType.TheVariants.{Wall, Standard, UTC}
 use Rattle.zone_values.specs.declared.weekday.Weekday.TheVariants.{Sunday}
-use Rattle.zone_values.specs.declared.year.Year.TheVariants.{Minimum, Maximum, Number}
+use Rattle.zone_values.specs.declared.year.Year.TheVariants.{Minimum, Number}
 use Rattle.zone_table.specs.Formats.{abbreviation, filled}
 use Rattle.zone_table.specs.Moments.{applies_to_year, instant_of, last_year, moment}
 use Rattle.zone_table.specs.declared.format.Format.TheVariants.{Constant, Placeholder}
@@ -21,7 +21,6 @@ use Rattle.zone_table.specs.declared.rule.RuleInfo.{RuleInfo}
 use Rattle.zone_table.specs.declared.zone.Saving.{Saving}
 use Rattle.zone_table.specs.declared.zone.Saving.TheVariants.{NoSaving, OneOff, Multiple}
 use Rattle.zone_table.specs.declared.zone.ZoneInfo.{ZoneInfo}
-use Rattle.zone_spans.specs.declared.fault.SpanFault.{SpanFault}
 use Rattle.zone_spans.specs.declared.fault.SpanFault.TheVariants.{UnknownRuleset, MissingUntil, YearRange, RuleYears, DayRange, NoStandardSpan}
 use Rattle.zone_spans.specs.declared.span.FixedTimespan.{FixedTimespan}
 use Rattle.zone_spans.specs.Collapse.{collapsed, kept_of, kept_with, without_first}
@@ -29,7 +28,7 @@ use Rattle.zone_spans.specs.Compiled.{compiled, set_of_lines}
 use Rattle.zone_spans.specs.Entries.{Entry, entries_from, entries_of, first_span, next_start, sorted_entries}
 use Rattle.zone_spans.specs.Faults.{is_outside, leaves_year, schedule_fault, some_year}
 use Rattle.zone_spans.specs.Firings.{earliest, fired, firings_of_years, line_firings, year_firings, years_expanded}
-use Rattle.zone_spans.specs.Lines.{Line, Rulesets, zone_lines}
+use Rattle.zone_spans.specs.Lines.{Rulesets, zone_lines}
 use Rattle.zone_spans.specs.Listing.{listed_from, start_firing}
 use Rattle.zone_spans.specs.Schedules.{Schedule, is_in_offset_range, total_at, totals_of}
 use Rattle.zone_spans.specs.Windows.{line_end}

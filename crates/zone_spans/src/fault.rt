@@ -10,6 +10,7 @@ ghost use Rattle.zone_spans.specs.Bounds.{is_bounded_line};
 ghost use Rattle.zone_spans.specs.Faults.{all_but_last, lacks_years, line_fault, ends_in_no_year, some_year, is_outside, ends_outside, leaves_year};
 
 use crate::line::Line;
+use crate::quiet::years_before;
 use crate::year::years_expanded;
 use std::alloc::AllocError;
 use zone_table::{RuleInfo, ZoneInfo};
@@ -186,7 +187,8 @@ fn is_outside_in_some_year(rule: &RuleInfo, count: u16) -> bool
     requires most { count ≤ 300 }
     ensures { result ≡ some_year (is_outside rule.now) count }
 {
-    for i in 0..count {
+    let first = years_before(rule, count);
+    for i in first..count {
         if is_outside(rule, i64::from(1_800 + i)) {
             return true;
         }

@@ -9,6 +9,7 @@ mod fault;
 mod firing;
 mod line;
 mod listing;
+mod quiet;
 mod span;
 mod transitions;
 mod year;

@@ -10,6 +10,7 @@ ghost use Rattle.zone_spans.specs.Windows.{line_end};
 
 use crate::firing::Firing;
 use crate::line::Line;
+use crate::quiet::years_before_all;
 use std::alloc::{AllocError, Global};
 use std::marker::Model;
 use zone_table::{RuleInfo, instant_of};
@@ -191,7 +192,9 @@ fn fire_years<'a>(alloc: Global, line: &Line<'a>) -> Result<LineFirings<'a>, All
     let mut fired = Vec::new(alloc);
     let mut left = Vec::new(alloc);
     let mut last_saving = 0;
-    for i in 0..years_expanded(line.end) {
+    let count = years_expanded(line.end);
+    let first = years_before_all(line.rules, count);
+    for i in first..count {
         let year = i64::from(1_800 + i);
         last_saving = fire_year(&mut fired, &mut left, line, year, last_saving)?;
     }

@@ -1,11 +1,12 @@
 use Rattle.std.proofs.Common.{◌≡◌, false, sym, ap, ◌∙◌, subst, arith, rules, w64, SFits}
 use Rattle.std.proofs.lemmas.Int.{to_z-of_z}
 use Rattle.zone_spans.specs.Faults.{is_outside, some_year}
-use Rattle.zone_spans.proofs.SoundLemmas.{year_at, year_more, no_years}
+use Rattle.zone_spans.proofs.QuietLemmas.{quiet_days}
+use Rattle.zone_spans.proofs.SoundLemmas.{year_at, year_more}
 use Rattle.zone_spans.proofs.fault.is_outside_in_some_year.Goals as goal
 
 pub loop-i-init : goal.loop-i-init
-loop-i-init c = no_years (is_outside c.args.rule.now)
+loop-i-init c = quiet_days c.args.rule.now c.years_before-first.result c.years_before-first.ensures.before
 
 pub returns-then-is_outside : goal.returns-then-is_outside
 returns-then-is_outside c =

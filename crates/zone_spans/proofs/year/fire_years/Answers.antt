@@ -1,23 +1,30 @@
-use Rattle.std.proofs.Common.{◌<◌, Option, refl, sym, ap, ◌∙◌, subst, rules, to_z, of_z, w64, SFits, IsTrue}
+use Rattle.std.proofs.Common.{◌<◌, List, Option, refl, sym, ap, ◌∙◌, subst, rules, to_z, of_z, w64, SFits, IsTrue}
 use Rattle.std.specs.List.{list_all}
 use Rattle.std.proofs.lemmas.Int.{to_z-of_z}
 use Rattle.zone_values.specs.Bounds.{are_small_seconds}
 use Rattle.zone_values.specs.declared.change.ChangeTime.{ChangeTime}
 use Rattle.zone_spans.specs.Bounds.{can_fire, is_bounded_firing, is_end}
-use Rattle.zone_spans.specs.Firings.{firings_of_years, years_expanded}
+use Rattle.zone_spans.specs.Firings.{years_expanded}
+use Rattle.zone_table.specs.declared.rule.RuleInfo.{RuleInfo}
 use Rattle.zone_spans.specs.Lines.{Line}
+use Rattle.zone_spans.specs.Quiet.{AppliesToNone}
+use Rattle.zone_spans.proofs.QuietLemmas.{quiet_years}
 use Rattle.zone_spans.proofs.SoundLemmas.{sound_end, sound_offset, sound_rules}
 use Rattle.zone_spans.proofs.YearLemmas.{fires_more}
 use Rattle.zone_spans.proofs.year.fire_years.Goals as goal
 
-pub years_expanded-i-end-requires : goal.years_expanded-i-end-requires
-years_expanded-i-end-requires c =
+pub years_expanded-count-requires : goal.years_expanded-count-requires
+years_expanded-count-requires c =
     subst (λ (e : Option ChangeTime). IsTrue (is_end e)) (ap (λ (l : Line). l.end) (sym c.line.view_is)) (sound_end c.args.line.now c.requires)
 
 pub loop-i-init : goal.loop-i-init
-unfolding firings_of_years
-loop-i-init c = record {
-  fired = record { firings = c.new-fired.ensures.items; saving = refl };
+loop-i-init c =
+    let line = c.args.line.now in
+    let before = subst (λ (rs : List RuleInfo). AppliesToNone rs c.years_before_all-first.result) (ap (λ (l : Line). l.rules) c.line.view_is)
+    c.years_before_all-first.ensures.before in
+    let quiet = sym (quiet_years line.info.offset line.end line.rules c.years_before_all-first.result before) in
+    record {
+  fired = record { firings = c.new-fired.ensures.items ∙ ap (λ p. p.0) quiet; saving = ap (λ p. p.1) quiet };
   small = refl;
   bounded = ap (list_all is_bounded_firing) c.new-fired.ensures.items;
 }
@@ -26,7 +33,7 @@ pub fire_year-requires-clause-rules : goal.fire_year-requires-clause-rules
 fire_year-requires-clause-rules c =
     let f : SFits w64 c.from-year.result = search rules in
     let year_is = to_z-of_z w64 c.from-year.result f ∙ c.from-year.ensures in
-    let count = c.years_expanded-i-end.ensures.value ∙ ap (λ (l : Line). years_expanded l.end) c.line.view_is in
+    let count = c.years_expanded-count.ensures.value ∙ ap (λ (l : Line). years_expanded l.end) c.line.view_is in
     subst (λ y. IsTrue (list_all (can_fire y) c.args.line.now.rules)) (sym year_is)
     (sound_rules c.args.line.now c.requires c.loop-i.i (subst (λ n. c.loop-i.i < n) count c.loop-i-test.true))
 
