@@ -30,9 +30,11 @@ unfolding kept_with
 falls_with [] e f = tt
 falls_with (k ∷ []) e f = elim (is_same_span e.1 k.1) as (λ b. Falls (cond b (k ∷ []) (e ∷ k ∷ []))) [ true ↦ tt | false ↦ tt ]
 falls_with (k ∷ j ∷ ks) e f =
-    elim (is_no_later e k j) as (λ b. is_no_later e k j ≡ b → Falls (cond b ((k.0, e.1) ∷ j ∷ ks) (cond (is_same_span e.1 k.1) (k ∷ j ∷ ks) (e ∷ k ∷ j ∷ ks)))) [
+    elim (is_no_later e k j) as (λ b. is_no_later e k j ≡ b → Falls
+    (cond b ((k.0, e.1) ∷ j ∷ ks) (cond (is_same_span e.1 k.1) (k ∷ j ∷ ks) (e ∷ k ∷ j ∷ ks)))) [
       | true ↦ λ h. respanned_falls e k j ks f
-      | false ↦ λ h. elim (is_same_span e.1 k.1) as (λ b. Falls (cond b (k ∷ j ∷ ks) (e ∷ k ∷ j ∷ ks))) [ true ↦ f | false ↦ pushed e k j ks h f ]
+      | false ↦ λ h. elim (is_same_span e.1 k.1) as (λ b. Falls
+          (cond b (k ∷ j ∷ ks) (e ∷ k ∷ j ∷ ks))) [ true ↦ f | false ↦ pushed e k j ks h f ]
     ] refl
 
 falls_of : (es ks : List Entry) → Falls ks → Falls (kept_of ks es)
@@ -47,7 +49,8 @@ onto (k ∷ ks) acc = onto ks (k ∷ acc)
 
 onto_is : (ks acc : List Entry) → onto ks acc ≡ reverse ks ++ acc
 onto_is [] acc = refl
-onto_is (k ∷ ks) acc = onto_is ks (k ∷ acc) ∙ sym (append_assoc (reverse ks) (k ∷ []) acc) ∙ ap (λ (xs : List Entry). xs ++ acc) (sym (reverse-append (k ∷ []) ks))
+onto_is (k ∷ ks) acc = onto_is ks (k ∷ acc) ∙ sym (append_assoc (reverse ks) (k ∷ []) acc)
+    ∙ ap (λ (xs : List Entry). xs ++ acc) (sym (reverse-append (k ∷ []) ks))
 
 reversed : (ks : List Entry) → onto ks [] ≡ reverse ks
 reversed ks = onto_is ks [] ∙ append-nil (reverse ks)
@@ -77,14 +80,16 @@ rise_tail e (a ∷ b ∷ es) r = r.1
 rise_without : (first : FixedTimespan) (es : List Entry) → LocalEndsRise es → LocalEndsRise (without_first first es)
 unfolding without_first
 rise_without first [] r = tt
-rise_without first (e ∷ es) r = elim (is_same_span e.1 first) as (λ b. LocalEndsRise (cond b es (e ∷ es))) [ true ↦ rise_tail e es r | false ↦ r ]
+rise_without first (e ∷ es) r = elim (is_same_span e.1 first) as
+    (λ b. LocalEndsRise (cond b es (e ∷ es))) [ true ↦ rise_tail e es r | false ↦ r ]
 
 -- the local ends of the kept spans after the first strictly rise, whatever the entries
 pub local_ends_rise : (first : FixedTimespan) (entries : List Entry) → LocalEndsRise (collapsed first entries)
 unfolding collapsed
 local_ends_rise first entries =
     let kept = kept_of [] entries in
-    let rises : LocalEndsRise (reverse kept) = subst LocalEndsRise (reversed kept) (rise_onto kept [] (falls_of entries [] tt) (joins_none kept)) in
+    let rises : LocalEndsRise (reverse kept) = subst LocalEndsRise (reversed kept)
+    (rise_onto kept [] (falls_of entries [] tt) (joins_none kept)) in
     rise_without first (reverse kept) rises
 
 -- times at or above t that don't fall, and times at or below t that don't rise
@@ -120,12 +125,21 @@ unfolding kept_with
 fall_with t [] e h f = (le_self e.0, tt)
 fall_with t (k ∷ []) e h f =
     let far = le_chain k.0 t e.0 f.0 h in
-    elim (is_same_span e.1 k.1) as (λ b. FallFrom e.0 (cond b (k ∷ []) (e ∷ k ∷ []))) [ true ↦ (far, tt) | false ↦ (le_self e.0, (far, tt)) ]
+    elim (is_same_span e.1 k.1) as (λ b. FallFrom e.0 (cond b (k ∷ []) (e ∷ k ∷ []))) [
+      | true ↦ (far, tt)
+      | false ↦
+          (le_self e.0, (far, tt))
+    ]
 fall_with t (k ∷ j ∷ ks) e h f =
     let far = le_chain k.0 t e.0 f.0 h in
-    elim (is_no_later e k j) as (λ b. FallFrom e.0 (cond b ((k.0, e.1) ∷ j ∷ ks) (cond (is_same_span e.1 k.1) (k ∷ j ∷ ks) (e ∷ k ∷ j ∷ ks)))) [
+    elim (is_no_later e k j) as (λ b. FallFrom e.0 (cond b ((k.0, e.1) ∷ j ∷ ks)
+    (cond (is_same_span e.1 k.1) (k ∷ j ∷ ks) (e ∷ k ∷ j ∷ ks)))) [
       | true ↦ (far, f.1)
-      | false ↦ elim (is_same_span e.1 k.1) as (λ b. FallFrom e.0 (cond b (k ∷ j ∷ ks) (e ∷ k ∷ j ∷ ks))) [ true ↦ (far, f.1) | false ↦ (le_self e.0, (far, f.1)) ]
+      | false ↦ elim (is_same_span e.1 k.1) as (λ b. FallFrom e.0 (cond b (k ∷ j ∷ ks) (e ∷ k ∷ j ∷ ks))) [
+        | true ↦
+            (far, f.1)
+        | false ↦ (le_self e.0, (far, f.1))
+      ]
     ]
 
 -- some time bounds what is kept
@@ -152,7 +166,8 @@ times_without : (first : FixedTimespan) (es : List Entry) → TimesRise es → T
 unfolding without_first
 times_without first [] r = tt
 times_without first (e ∷ []) r = elim (is_same_span e.1 first) as (λ b. TimesRise (cond b [] (e ∷ []))) [ true ↦ tt | false ↦ tt ]
-times_without first (e ∷ a ∷ es) r = elim (is_same_span e.1 first) as (λ b. TimesRise (cond b (a ∷ es) (e ∷ a ∷ es))) [ true ↦ r.1 | false ↦ r ]
+times_without first (e ∷ a ∷ es) r = elim (is_same_span e.1 first) as
+    (λ b. TimesRise (cond b (a ∷ es) (e ∷ a ∷ es))) [ true ↦ r.1 | false ↦ r ]
 
 -- times that don't fall before don't fall after
 pub times_still_rise : (first : FixedTimespan) (entries : List Entry) → TimesRise entries → TimesRise (collapsed first entries)

@@ -18,9 +18,11 @@ use Rattle.zone_spans.specs.Entries.{Entry, first_span, fixed_span, is_sooner, i
 use Rattle.zone_spans.specs.Faults.{begins_ruled, entry_test, first_met, is_unknown, line_fault, line_tests, schedule_fault}
 use Rattle.zone_spans.specs.Lines.{Line, Rulesets, is_ruled, zone_lines}
 use Rattle.zone_spans.proofs.BoundLemmas.{first, second}
+use Rattle.zone_spans.proofs.FiringLemmas.{int_lt_chain, int_lt_one_way}
 use Rattle.zone_spans.proofs.SoundLemmas.{none_at}
 
-first_met_more : (tests others : List (Bool × SpanFault)) (fault : SpanFault) → first_met tests ≡ Some fault → first_met (tests ++ others) ≡ Some fault
+first_met_more : (tests others : List (Bool × SpanFault)) (fault : SpanFault) → first_met tests ≡ Some fault
+    → first_met (tests ++ others) ≡ Some fault
 first_met_more [] others fault h = cc
 first_met_more (t ∷ tests) others fault h =
     elim (t.0) as (λ b. cond b (Some t.1) (first_met tests) ≡ Some fault → cond b (Some t.1) (first_met (tests ++ others)) ≡ Some fault) [
@@ -77,7 +79,8 @@ known_fault rulesets infos known fault is =
 known_rest : (rulesets : Rulesets) (infos : List ZoneInfo) → list_any (is_unknown rulesets) infos ≡ false
     → line_fault infos (zone_lines rulesets infos) ≡ None
     → schedule_fault rulesets infos
-    ≡ cond (begins_ruled (zone_lines rulesets infos) && not (list_any is_standard (raw_entries (zone_lines rulesets infos)))) (Some NoStandardSpan) None
+    ≡ cond (begins_ruled (zone_lines rulesets infos) && not (list_any is_standard (raw_entries (zone_lines rulesets infos))))
+    (Some NoStandardSpan) None
 unfolding schedule_fault line_fault
 known_rest rulesets infos known is =
     let lines = zone_lines rulesets infos in
@@ -130,8 +133,10 @@ no_first [] h = refl
 no_first (line ∷ lines) h =
     let raw = raw_entries (line ∷ lines) in
     let none = is_no (list_any is_standard raw) (second (is_ruled line.info.saving) _ h) in
-    ap (λ b. cond b (option_map (λ (e : Entry). e.1) (find is_standard (stable_sort is_sooner raw))) (Some (fixed_span line))) (first (is_ruled line.info.saving) _ h)
-    ∙ ap (option_map (λ (e : Entry). e.1)) (none_found is_standard (stable_sort is_sooner raw) (any_sorted is_sooner is_standard raw ∙ none))
+    ap (λ b. cond b (option_map (λ (e : Entry). e.1) (find is_standard (stable_sort is_sooner raw))) (Some (fixed_span line)))
+    (first (is_ruled line.info.saving) _ h)
+    ∙ ap (option_map (λ (e : Entry). e.1)) (none_found is_standard (stable_sort is_sooner raw)
+    (any_sorted is_sooner is_standard raw ∙ none))
 
 set_due : (lines : List Line) (b : Bool) → b ≡ (begins_ruled lines && not (list_any is_standard (raw_entries lines)))
     → unless (cond b (Some NoStandardSpan) None) (set_of_lines lines) ≡ set_of_lines lines
@@ -148,7 +153,8 @@ rest_due rulesets infos lines same known is =
     ∙ set_due (zone_lines rulesets infos) _ refl ∙ ap set_of_lines (sym same)
 
 -- bounded lines with no fault of their own are sound
-pub all_sound : (infos : List ZoneInfo) (lines : List Line) → IsTrue (list_all is_bounded_line lines) → line_fault infos lines ≡ None → All IsSound lines
+pub all_sound : (infos : List ZoneInfo) (lines : List Line) → IsTrue (list_all is_bounded_line lines)
+    → line_fault infos lines ≡ None → All IsSound lines
 unfolding line_fault
 all_sound infos lines bounded is k d l =
     let later = (none_met _ MissingUntil _ is).1 in
@@ -161,12 +167,6 @@ all_sound infos lines bounded is k d l =
       years = none_at _ lines years.0 k d l;
       days = none_at _ lines days.0 k d l;
     }
-
-int_lt_one_way : (a b : ℤ) → int_lt a b ≡ true → int_lt b a ≡ false
-int_lt_one_way a b h = grind (arith, ints)
-
-int_lt_chain : (a b c : ℤ) → int_lt a b ≡ false → int_lt b c ≡ false → int_lt a c ≡ false
-int_lt_chain a b c h k = grind (arith, ints)
 
 not_before : (a b : ℤ) → int_lt b a ≡ false → a ≤ℤ b
 not_before a b h = grind (arith, ints)
@@ -186,4 +186,5 @@ times_of (a ∷ b ∷ es) r = (not_before a.0 b.0 r.0.0, times_of (b ∷ es) r.1
 pub times_sorted : (lines : List Line) (es : List Entry) → es ≡ sorted_entries lines → TimesRise es
 unfolding sorted_entries
 times_sorted lines es is =
-    subst TimesRise (sym is) (times_of (stable_sort is_sooner (raw_entries lines)) (Rises-stable_sort is_sooner sooner_ranks (raw_entries lines)))
+    subst TimesRise (sym is) (times_of (stable_sort is_sooner (raw_entries lines))
+    (Rises-stable_sort is_sooner sooner_ranks (raw_entries lines)))

@@ -35,10 +35,12 @@ to_end n xs = take_all (length xs - n) (drop n xs) (omega (arith, length-drop n 
 pub small_is : (z : ℤ) → IsTrue (are_small_seconds z) → IsTrue (is_small z)
 small_is z small = grind (arith, common_steps)
 
-bounded_entry_of : (line : Line) (f : Firing) → IsTrue (are_small_seconds line.info.offset) → IsTrue (is_bounded_firing f) → IsTrue (is_bounded_entry (entry_of line f))
+bounded_entry_of : (line : Line) (f : Firing) → IsTrue (are_small_seconds line.info.offset) → IsTrue (is_bounded_firing f)
+    → IsTrue (is_bounded_entry (entry_of line f))
 bounded_entry_of line f offset bounded =
     both (is_small f.time) _ (first (is_small f.time) _ bounded)
-    (both (is_small line.info.offset) _ (small_is line.info.offset offset) (small_is f.rule.time_to_add (second (is_small f.time) _ bounded)))
+    (both (is_small line.info.offset) _ (small_is line.info.offset offset)
+    (small_is f.rule.time_to_add (second (is_small f.time) _ bounded)))
 
 bounded_map : (line : Line) (fs : List Firing) → IsTrue (are_small_seconds line.info.offset) → IsTrue (list_all is_bounded_firing fs)
     → IsTrue (list_all is_bounded_entry (map (entry_of line) fs))
@@ -47,7 +49,8 @@ bounded_map line (f ∷ fs) offset bounded =
     both (is_bounded_entry (entry_of line f)) _ (bounded_entry_of line f offset (first (is_bounded_firing f) _ bounded))
     (bounded_map line fs offset (second (is_bounded_firing f) _ bounded))
 
-bounded_listed : (start : Option ℤ) (fs : List Firing) → IsTrue (list_all is_bounded_firing fs) → IsTrue (list_all is_bounded_firing (listed start fs))
+bounded_listed : (start : Option ℤ) (fs : List Firing) → IsTrue (list_all is_bounded_firing fs)
+    → IsTrue (list_all is_bounded_firing (listed start fs))
 unfolding listed_from
 bounded_listed None fs bounded = bounded
 bounded_listed (Some start) fs bounded =
@@ -75,44 +78,54 @@ reverse_passes q (x ∷ xs) all =
     ap (list_all q) (reverse-append (x ∷ []) xs) ∙ list_all-append q (reverse xs) (x ∷ [])
     ∙ both (list_all q (reverse xs)) _ (reverse_passes q xs (second (q x) _ all)) (both (q x) _ (first (q x) _ all) refl)
 
-either_passes : {X : Type 0} (q : X → Bool) (a b : Option X) → IfSome a (λ x. IsTrue (q x)) → IfSome b (λ x. IsTrue (q x)) → IfSome (option_or a b) (λ x. IsTrue (q x))
+either_passes : {X : Type 0} (q : X → Bool) (a b : Option X) → IfSome a (λ x. IsTrue (q x)) → IfSome b (λ x. IsTrue (q x))
+    → IfSome (option_or a b) (λ x. IsTrue (q x))
 either_passes q None b h k = k
 either_passes q (Some x) b h k = h
 
-start_passes : (b : Bool) (a : Option Firing) → IfSome a (λ f. IsTrue (is_bounded_firing f)) → IfSome (cond b None a) (λ f. IsTrue (is_bounded_firing f))
+start_passes : (b : Bool) (a : Option Firing) → IfSome a (λ f. IsTrue (is_bounded_firing f))
+    → IfSome (cond b None a) (λ f. IsTrue (is_bounded_firing f))
 start_passes true a h = tt
 start_passes false a h = h
 
-bounded_start : (start : ℤ) (fs : List Firing) → IsTrue (list_all is_bounded_firing fs) → IfSome (start_firing start fs) (λ f. IsTrue (is_bounded_firing f))
+bounded_start : (start : ℤ) (fs : List Firing) → IsTrue (list_all is_bounded_firing fs)
+    → IfSome (start_firing start fs) (λ f. IsTrue (is_bounded_firing f))
 unfolding start_firing
 bounded_start start fs bounded =
-    start_passes _ _ (either_passes is_bounded_firing (find (λ f. int_lt f.time start) (reverse fs)) (find (λ f. int_eq f.rule.time_to_add (pos 0)) fs)
+    start_passes _ _ (either_passes is_bounded_firing (find (λ f. int_lt f.time start) (reverse fs))
+    (find (λ f. int_eq f.rule.time_to_add (pos 0)) fs)
     (find_passes (λ f. int_lt f.time start) is_bounded_firing (reverse fs) (reverse_passes is_bounded_firing fs bounded))
     (find_passes (λ f. int_eq f.rule.time_to_add (pos 0)) is_bounded_firing fs bounded))
 
 bounded_at : (line : Line) (start : ℤ) (found : Option Firing) → IsTrue (are_small_seconds line.info.offset) → IsTrue (is_small start)
-    → IfSome found (λ f. IsTrue (is_bounded_firing f)) → IsTrue (list_all is_bounded_entry (at_start (Some start) (option_map (span_of line) found)))
+    → IfSome found (λ f. IsTrue (is_bounded_firing f)) → IsTrue
+    (list_all is_bounded_entry (at_start (Some start) (option_map (span_of line) found)))
 bounded_at line start None offset small bounded = refl
 bounded_at line start (Some f) offset small bounded =
     both (is_bounded_entry (start, span_of line f)) _
     (both (is_small start) _ small (second (is_small f.time) _ (bounded_entry_of line f offset bounded))) refl
 
-bounded_start_entry : (line : Line) (start : Option ℤ) (fs : List Firing) → IsTrue (are_small_seconds line.info.offset) → IsTrue (is_start start)
+bounded_start_entry : (line : Line) (start : Option ℤ) (fs : List Firing) → IsTrue (are_small_seconds line.info.offset)
+    → IsTrue (is_start start)
     → IsTrue (list_all is_bounded_firing fs) → IsTrue (list_all is_bounded_entry (start_entry line start fs))
 bounded_start_entry line None fs offset small bounded = refl
-bounded_start_entry line (Some start) fs offset small bounded = bounded_at line start (start_firing start fs) offset small (bounded_start start fs bounded)
+bounded_start_entry line (Some start) fs offset small bounded = bounded_at line start (start_firing start fs) offset small
+    (bounded_start start fs bounded)
 
 pub bounded_fixed : (line : Line) → IsSound line → IsTrue (is_bounded_span (fixed_span line))
 bounded_fixed line sound =
-    both (is_small line.info.offset) _ (small_is line.info.offset (sound_offset line sound)) (small_is (fixed_saving line.info.saving) (sound_saving line sound))
+    both (is_small line.info.offset) _ (small_is line.info.offset (sound_offset line sound))
+    (small_is (fixed_saving line.info.saving) (sound_saving line sound))
 
-bounded_fixed_entry : (line : Line) (start : Option ℤ) → IsSound line → IsTrue (is_start start) → IsTrue (list_all is_bounded_entry (at_start start (Some (fixed_span line))))
+bounded_fixed_entry : (line : Line) (start : Option ℤ) → IsSound line → IsTrue (is_start start)
+    → IsTrue (list_all is_bounded_entry (at_start start (Some (fixed_span line))))
 bounded_fixed_entry line None sound small = refl
 bounded_fixed_entry line (Some start) sound small =
     both (is_bounded_entry (start, fixed_span line)) _ (both (is_small start) _ small (bounded_fixed line sound)) refl
 
 -- the entries of a sound line with bounded firings are bounded
-pub bounded_entries_of : (line : Line) (start : Option ℤ) → IsSound line → IsTrue (is_start start) → IsTrue (list_all is_bounded_firing (firings line))
+pub bounded_entries_of : (line : Line) (start : Option ℤ) → IsSound line → IsTrue (is_start start)
+    → IsTrue (list_all is_bounded_firing (firings line))
     → IsTrue (list_all is_bounded_entry (entries_of line start))
 unfolding entries_of
 bounded_entries_of line start sound small bounded =
@@ -121,14 +134,17 @@ bounded_entries_of line start sound small bounded =
     let ruled = map (entry_of line) (listed start fs) ++ start_entry line start fs in
     elim (is_ruled line.info.saving) as (λ b. IsTrue (list_all is_bounded_entry (cond b ruled (at_start start (Some (fixed_span line)))))) [
       | true ↦ list_all-append is_bounded_entry (map (entry_of line) (listed start fs)) (start_entry line start fs)
-          ∙ both (list_all is_bounded_entry (map (entry_of line) (listed start fs))) _ (bounded_map line (listed start fs) offset (bounded_listed start fs bounded))
+          ∙ both (list_all is_bounded_entry (map (entry_of line) (listed start fs))) _
+          (bounded_map line (listed start fs) offset (bounded_listed start fs bounded))
           (bounded_start_entry line start fs offset small bounded)
       | false ↦ bounded_fixed_entry line start sound small
     ]
 
 -- one line more
-pub entries_more : (es es' : List Entry) (start start' : Option ℤ) (lines : List Line) (i : ℕ) (line : Line) (all : List Entry) → i < length lines
-    → line ≡ get_or lines i line → es ++ entries_from start (drop i lines) ≡ all → es' ≡ es ++ entries_of line start → start' ≡ next_start line
+pub entries_more : (es es' : List Entry) (start start' : Option ℤ) (lines : List Line) (i : ℕ) (line : Line) (all : List Entry)
+    → i < length lines
+    → line ≡ get_or lines i line → es ++ entries_from start (drop i lines) ≡ all → es' ≡ es ++ entries_of line start
+    → start' ≡ next_start line
     → es' ++ entries_from start' (drop (i + 1) lines) ≡ all
 unfolding entries_from
 entries_more es es' start start' lines i line all l is before pushed next =

@@ -13,10 +13,10 @@ use Rattle.zone_table.specs.Moments.{moment}
 use Rattle.zone_table.specs.declared.rule.RuleInfo.{RuleInfo}
 use Rattle.zone_spans.specs.Firings.{Firing, Fired, earliest, fired, is_earlier, is_over}
 
-int_lt_one_way : (a b : ℤ) → int_lt a b ≡ true → int_lt b a ≡ false
+pub int_lt_one_way : (a b : ℤ) → int_lt a b ≡ true → int_lt b a ≡ false
 int_lt_one_way a b h = grind (arith, ints)
 
-int_lt_chain : (a b c : ℤ) → int_lt a b ≡ false → int_lt b c ≡ false → int_lt a c ≡ false
+pub int_lt_chain : (a b c : ℤ) → int_lt a b ≡ false → int_lt b c ≡ false → int_lt a c ≡ false
 int_lt_chain a b c h k = grind (arith, ints)
 
 pub earlier_ranks : (year offset saving : ℤ) → IsStrictWeakOrder (is_earlier year offset saving)
@@ -46,7 +46,8 @@ earliest_all P year offset saving r [] h = h 0 r (omega arith)
 earliest_all P year offset saving r (q ∷ qs) h =
     let later = earliest year offset saving q qs in
     let there = earliest_all P year offset saving q qs (λ k d l. h (suc k) d (omega (arith, l))) in
-    elim (is_earlier year offset saving later.0 r) as (λ b. P (cond {A = RuleInfo × List RuleInfo} b (later.0, r ∷ later.1) (r, q ∷ qs)).0) [
+    elim (is_earlier year offset saving later.0 r) as (λ b. P
+    (cond {A = RuleInfo × List RuleInfo} b (later.0, r ∷ later.1) (r, q ∷ qs)).0) [
       | true ↦ there
       | false ↦ h 0 r (omega arith)
     ]
@@ -60,7 +61,8 @@ earliest_at year offset saving r [] zero h = refl
 earliest_at year offset saving r [] (suc b) h = absurd (omega (arith, h.0))
 earliest_at year offset saving r (q ∷ qs) zero h =
     let later = earliest year offset saving q qs in
-    let stays = earliest_all (λ x. is_earlier year offset saving x r ≡ false) year offset saving q qs (λ k d l. h.1 (suc k) d (omega (arith, l))) in
+    let stays = earliest_all (λ x. is_earlier year offset saving x r ≡ false) year offset saving q qs
+    (λ k d l. h.1 (suc k) d (omega (arith, l))) in
     ap (λ t. cond t (later.0, r ∷ later.1) (r, q ∷ qs)) stays
 earliest_at year offset saving r (q ∷ qs) (suc b) h =
     let tail : IsFirstBest (is_earlier year offset saving) (q ∷ qs) (length (q ∷ qs)) b =

@@ -51,7 +51,8 @@ unfolding year_firings fired earliest applies_to_year last_year moment instant_o
 listed_backwards = refl
 
 -- the year is over at the end of July, under the saving in force, and its saving stays
-over_in_july : year_firings (pos 2024) (negsuc 17999) (Some (UntilDay (Number (pos 2024)) July (Ordinal (pos 31)))) (pos 0) (forward ∷ back ∷ [])
+over_in_july : year_firings (pos 2024) (negsuc 17999) (Some (UntilDay (Number (pos 2024)) July (Ordinal (pos 31)))) (pos 0)
+    (forward ∷ back ∷ [])
     ≡ (record { time = pos 1710054000; rule = forward } ∷ [], pos 3600)
 unfolding year_firings fired earliest line_end applies_to_year last_year moment instant_of named_day first_from last_with weekday_of is_leap days_in_year days_in_month days_after_zero year_start days_through days_into_year day
 over_in_july = refl
@@ -116,7 +117,8 @@ abbrev at : ℤ → ℤ → Firing
 at time saving = record { time = time; rule = at_second (pos 0) saving [] }
 
 -- from the first at the start on all, and before it those above the start
-at_the_start : listed_from (pos 100) (at (pos 50) (pos 0) ∷ at (pos 150) (pos 0) ∷ at (pos 100) (pos 1) ∷ at (pos 90) (pos 0) ∷ at (pos 100) (pos 2) ∷ [])
+at_the_start : listed_from (pos 100) (at (pos 50) (pos 0) ∷ at (pos 150) (pos 0) ∷ at (pos 100) (pos 1) ∷ at (pos 90) (pos 0)
+    ∷ at (pos 100) (pos 2) ∷ [])
     ≡ at (pos 150) (pos 0) ∷ at (pos 100) (pos 1) ∷ at (pos 90) (pos 0) ∷ at (pos 100) (pos 2) ∷ []
 unfolding listed_from
 at_the_start = refl

@@ -55,7 +55,8 @@ bounded_end (info ∷ next ∷ infos) all =
 
 -- a line of bounded parts is bounded
 pub line_bounded : (infos : List ZoneInfo) (i : ℕ) (info : ZoneInfo) (rules : List RuleInfo) (end : Option ChangeTime) → i < length infos
-    → info ≡ get_or infos i info → end ≡ end_before (drop i infos) → IsTrue (list_all is_bounded_info infos) → IsTrue (list_all is_bounded_rule rules)
+    → info ≡ get_or infos i info → end ≡ end_before (drop i infos) → IsTrue (list_all is_bounded_info infos)
+    → IsTrue (list_all is_bounded_rule rules)
     → IsTrue (is_bounded_line (record { info = info; rules = rules; end = end }))
 unfolding is_bounded_line
 line_bounded infos i info rules end l is ends all small =

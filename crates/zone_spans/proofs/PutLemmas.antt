@@ -47,7 +47,8 @@ respanned xs ys place from t s lt l fits swapped time span d =
     let put = put_at xs ys place from (to_z w64 (of_z w64 t.0), s.1) lt
     (omega (arith, lt, l, ap length swapped, swapped_len xs place from)) (ap length swapped ∙ swapped_len xs place from)
     (ap (take place) swapped ∙ swapped_front xs place from lt) (ap (drop (from + 1)) swapped ∙ swapped_back xs place from lt) in
-    let time_is : to_z w64 (of_z w64 t.0) ≡ (get_or xs place d).0 = to_z-of_z w64 t.0 fits ∙ ap (λ (e : Entry). e.0) (sym (read_at xs place t d (omega (arith, lt, l)) time)) in
+    let time_is : to_z w64 (of_z w64 t.0) ≡ (get_or xs place d).0 = to_z-of_z w64 t.0 fits
+    ∙ ap (λ (e : Entry). e.0) (sym (read_at xs place t d (omega (arith, lt, l)) time)) in
     let at : s ≡ get_or xs from s = span ∙ ap (λ zs. get_or zs place s) swapped ∙ swapped_at xs place from s lt l in
     let span_is : s.1 ≡ (get_or xs from d).1 = ap (λ (e : Entry). e.1) (sym (read_at xs from s d l at)) in
     subst (λ (v : Entry). IsPutAt xs (set ys place (to_z w64 (of_z w64 t.0), s.1)) place from v) (λ i. (time_is i, span_is i)) put

@@ -18,7 +18,8 @@ not_reached : (n year : ℤ) → year <ℤ n → int_le n year ≡ false
 not_reached n year before = grind (arith, ints)
 
 -- a rule does not apply before its first year
-pub too_early : (rule : RuleInfo) (first year : ℤ) → rule.from_year ≡ Number first → year <ℤ first → (applies_to_year rule year || false) ≡ false
+pub too_early : (rule : RuleInfo) (first year : ℤ) → rule.from_year ≡ Number first → year <ℤ first
+    → (applies_to_year rule year || false) ≡ false
 unfolding applies_to_year
 too_early rule first year is before =
     ap (λ y. (is_at_most y year && is_at_least (last_year rule) year) || false) is
@@ -33,7 +34,8 @@ one_rule_more rules k rule n m l is before here less i below =
     ∙ list_any-append test (take k rules) (rule ∷ [])
     ∙ (λ t. before i (less i below) t || here i below t)
 
-none_apply : (year : ℤ) (rules : List RuleInfo) → list_any (λ r. applies_to_year r year) rules ≡ false → filter (λ r. applies_to_year r year) rules ≡ []
+none_apply : (year : ℤ) (rules : List RuleInfo) → list_any (λ r. applies_to_year r year) rules ≡ false
+    → filter (λ r. applies_to_year r year) rules ≡ []
 none_apply year [] none = refl
 none_apply year (r ∷ rs) none =
     let others = filter (λ r. applies_to_year r year) rs in

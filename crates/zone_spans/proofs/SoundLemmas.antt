@@ -88,10 +88,12 @@ all_can_fire n i l (r ∷ rs) bounded years none =
     both (can_fire year r) _
     (both (is_bounded_rule r && has_years r) _
     (both (is_bounded_rule r) (has_years r) (first (is_bounded_rule r) _ bounded) (first (has_years r) _ years)) (ap not stays))
-    (all_can_fire n i l rs (second (is_bounded_rule r) _ bounded) (second (has_years r) _ years) (neither_right (some_year (is_outside r) n) _ none))
+    (all_can_fire n i l rs (second (is_bounded_rule r) _ bounded) (second (has_years r) _ years)
+    (neither_right (some_year (is_outside r) n) _ none))
 
 -- each rule of a sound line has its moment in each year that the line expands
-pub sound_rules : (line : Line) → IsSound line → (i : ℕ) → i < years_expanded line.end → IsTrue (list_all (can_fire (pos (1800 + i))) line.rules)
+pub sound_rules : (line : Line) → IsSound line → (i : ℕ) → i < years_expanded line.end
+    → IsTrue (list_all (can_fire (pos (1800 + i))) line.rules)
 unfolding is_bounded_line leaves_year
 sound_rules line sound i l =
     all_can_fire (years_expanded line.end) i l line.rules
@@ -101,10 +103,12 @@ sound_rules line sound i l =
     (neither_right (option_map_or ends_outside line.end false) _ sound.days)
 
 pub end_dated : (end : Option ChangeTime) → IsTrue (option_map_or (λ e. has_day_of_month (end_day e)) end true)
-    → option_map_or (λ e. not (is_dated_year (end_year e))) end false ≡ false → option_map_or ends_outside end false ≡ false → IsTrue (is_end end)
+    → option_map_or (λ e. not (is_dated_year (end_year e))) end false ≡ false → option_map_or ends_outside end false ≡ false
+    → IsTrue (is_end end)
 end_dated None day year stays = refl
 end_dated (Some e) day year stays =
-    both (is_dated_year (end_year e) && has_day_of_month (end_day e)) _ (both (is_dated_year (end_year e)) _ (is_not _ year) day) (is_not _ stays)
+    both (is_dated_year (end_year e) && has_day_of_month (end_day e)) _ (both (is_dated_year (end_year e)) _ (is_not _ year) day)
+    (is_not _ stays)
 
 -- the end of a sound line has a day
 pub sound_end : (line : Line) → IsSound line → IsTrue (is_end line.end)
@@ -155,13 +159,15 @@ unfolding some_year
 no_years test = refl
 
 -- a search from the left: here it is met, or it is looked for behind
-pub any_here : {X : Type 0} (p : X → Bool) (xs : List X) (i : ℕ) (x : X) → i < length xs → x ≡ get_or xs i x → list_any p (drop i xs) ≡ list_any p xs
+pub any_here : {X : Type 0} (p : X → Bool) (xs : List X) (i : ℕ) (x : X) → i < length xs → x ≡ get_or xs i x
+    → list_any p (drop i xs) ≡ list_any p xs
     → p x ≡ true → true ≡ list_any p xs
 any_here p xs i x l is before met =
     let met_here = ap (λ b. b || list_any p (drop (i + 1) xs)) met in
     sym (sym before ∙ ap (list_any p) (from_here xs i x l is) ∙ met_here)
 
-pub any_behind : {X : Type 0} (p : X → Bool) (xs : List X) (i : ℕ) (x : X) → i < length xs → x ≡ get_or xs i x → list_any p (drop i xs) ≡ list_any p xs
+pub any_behind : {X : Type 0} (p : X → Bool) (xs : List X) (i : ℕ) (x : X) → i < length xs → x ≡ get_or xs i x
+    → list_any p (drop i xs) ≡ list_any p xs
     → p x ≡ false → list_any p (drop (i + 1) xs) ≡ list_any p xs
 any_behind p xs i x l is before fails =
     ap (λ b. b || list_any p (drop (i + 1) xs)) (sym fails) ∙ ap (list_any p) (sym (from_here xs i x l is)) ∙ before

@@ -51,15 +51,18 @@ all rules name = Some rules
 -- ---- whole zones
 
 -- `Zone Test/Mark 1:00 1:00 A 2000 Jan 1 0:00s`, ` 0:00 - B`
-standard_end : compiled none (line (pos 3600) (OneOff (pos 3600)) (codes "A") (Some (UntilTime (Number (pos 2000)) January (Ordinal (pos 1)) (record { 0 = Zero; 1 = Standard })))
+standard_end : compiled none (line (pos 3600) (OneOff (pos 3600)) (codes "A")
+    (Some (UntilTime (Number (pos 2000)) January (Ordinal (pos 1)) (record { 0 = Zero; 1 = Standard })))
     ∷ line (pos 0) NoSaving (codes "B") None ∷ [])
     ≡ Ok (record { first = span (pos 3600) (pos 3600) (codes "A"); rest = (pos 946681200, span (pos 0) (pos 0) (codes "B")) ∷ [] })
 unfolding compiled schedule_fault leaves_year zone_lines set_of_lines first_span sorted_entries entries_from entries_of next_start line_firings years_expanded abbreviation line_end is_in_year instant_of named_day is_leap days_in_year days_in_month days_after_zero year_start days_through days_into_year day collapsed kept_of kept_with without_first
 standard_end = refl
 
--- `Zone Test/Knot 10:00 - A 2000`, ` 5:00 - B 1999 Dec 31 20:00`, ` 0:00 - C`: both stay, though the second began before the local end of the first
+-- `Zone Test/Knot 10:00 - A 2000`, ` 5:00 - B 1999 Dec 31 20:00`, ` 0:00 - C`: both stay, though the second began before the local
+-- end of the first
 knot : compiled none (line (pos 36000) NoSaving (codes "A") (Some (UntilYear (Number (pos 2000))))
-    ∷ line (pos 18000) NoSaving (codes "B") (Some (UntilTime (Number (pos 1999)) December (Ordinal (pos 31)) (record { 0 = Hours (pos 20); 1 = Wall })))
+    ∷ line (pos 18000) NoSaving (codes "B") (Some (UntilTime (Number (pos 1999)) December (Ordinal (pos 31))
+    (record { 0 = Hours (pos 20); 1 = Wall })))
     ∷ line (pos 0) NoSaving (codes "C") None ∷ [])
     ≡ Ok (record {
       first = span (pos 36000) (pos 0) (codes "A");
@@ -71,15 +74,27 @@ knot = refl
 -- a rule of these years that fires at 0:00 of the wall's clock
 abbrev at_midnight : ℤ → ℤ → ℤ → Option (List ℕ) → RuleInfo
 at_midnight first last saving letters =
-    record (yearly January (Ordinal (pos 1)) (pos 0) saving []) { from_year = Number first; to_year = Some (Number last); letters = letters }
+    record (yearly January (Ordinal (pos 1)) (pos 0) saving []) {
+      from_year = Number first;
+      to_year = Some
+          (Number last);
+      letters = letters;
+    }
 
 -- the first lines of `Europe/Madrid` with its rules of 1918, the second of which is by standard time: an entry at the start of the second
 -- line has the name of the first rule that ends a saving, and the second rule's firing of 1919 is past the line's end
 abbrev spain : List RuleInfo
 spain = record (at_midnight (pos 1918) (pos 1918) (pos 3600) (Some (codes "S"))) { month = April; day = Ordinal (pos 15); time = pos 82800 }
-    ∷ record (at_midnight (pos 1918) (pos 1919) (pos 0) None) { month = October; day = Ordinal (pos 6); time = pos 86400; time_type = Standard } ∷ []
+    ∷ record (at_midnight (pos 1918) (pos 1919) (pos 0) None) {
+      month = October;
+      day = Ordinal
+          (pos 6);
+      time = pos 86400;
+      time_type = Standard;
+    } ∷ []
 
-madrid : compiled (all spain) (line (negsuc 883) NoSaving (codes "LMT") (Some (UntilTime (Number (pos 1901)) January (Ordinal (pos 1)) (record { 0 = Zero; 1 = UTC })))
+madrid : compiled (all spain) (line (negsuc 883) NoSaving (codes "LMT")
+    (Some (UntilTime (Number (pos 1901)) January (Ordinal (pos 1)) (record { 0 = Zero; 1 = UTC })))
     ∷ record (line (pos 0) (Multiple (codes "Spain")) [] (Some (UntilYear (Number (pos 1919))))) { format = Placeholder (codes "WE%sT") }
     ∷ line (pos 3600) NoSaving (codes "CET") None ∷ [])
     ≡ Ok (record {
@@ -94,7 +109,14 @@ madrid = refl
 abbrev turned : List RuleInfo
 turned = at_midnight (pos 1800) (pos 1800) (pos 3600) (Some (codes "A")) ∷ at_midnight (pos 1801) (pos 1801) (pos 0) (Some (codes "B")) ∷ []
 
-standard_first : set_of_lines (record { info = record (line (pos 0) (Multiple []) [] None) { format = Placeholder (codes "%s") }; rules = turned; end = None } ∷ [])
+standard_first : set_of_lines (record {
+  info = record (line (pos 0) (Multiple []) [] None) {
+    format = Placeholder
+        (codes "%s");
+  };
+  rules = turned;
+  end = None;
+} ∷ [])
     ≡ Ok (record {
       first = span (pos 0) (pos 0) (codes "B");
       rest = (negsuc 5364662399, span (pos 0) (pos 3600) (codes "A")) ∷ (negsuc 5333129999, span (pos 0) (pos 0) (codes "B")) ∷ [];
@@ -118,7 +140,8 @@ saving_stays = refl
 abbrev outside : RuleInfo
 outside = record (at_midnight (pos 1800) (pos 1800) (pos 3600) None) { day = LastOnOrBefore Sunday (pos 1) }
 
-rules_outside : is_outside outside (pos 1800) ∷ is_outside outside (pos 1801) ∷ is_outside (at_midnight (pos 1800) (pos 1800) (pos 0) None) (pos 1800) ∷ []
+rules_outside : is_outside outside (pos 1800) ∷ is_outside outside (pos 1801)
+    ∷ is_outside (at_midnight (pos 1800) (pos 1800) (pos 0) None) (pos 1800) ∷ []
     ≡ true ∷ false ∷ false ∷ []
 unfolding is_outside applies_to_year last_year is_in_year named_day first_from last_with weekday_of is_leap days_in_year days_in_month days_after_zero year_start days_through days_into_year day
 rules_outside = refl
@@ -164,7 +187,8 @@ unfolding schedule_fault leaves_year zone_lines entries_from entries_of next_sta
 more_faults = refl
 
 -- the end of the last line has no part in anything, and a fixed first line needs no entry without a saving
-no_faults : schedule_fault none (plain (Some (UntilYear Minimum)) ∷ []) ∷ schedule_fault none (plain in_1800 ∷ saving ∷ []) ∷ [] ≡ None ∷ None ∷ []
+no_faults : schedule_fault none (plain (Some (UntilYear Minimum)) ∷ []) ∷ schedule_fault none (plain in_1800 ∷ saving ∷ [])
+    ∷ [] ≡ None ∷ None ∷ []
 unfolding schedule_fault leaves_year zone_lines entries_from entries_of next_start line_firings years_expanded abbreviation line_end is_in_year instant_of named_day is_leap days_in_year days_in_month days_after_zero year_start days_through days_into_year day
 no_faults = refl
 
@@ -200,7 +224,8 @@ gives : then (pos 201000) (span (pos 7200) (pos 0) (codes "D")) ∷ then (pos 20
     ≡ ((pos 100000, span (pos 3600) (pos 0) (codes "B")) ∷ (pos 200000, span (pos 7200) (pos 0) (codes "D")) ∷ [])
     ∷ ((pos 100000, span (pos 3600) (pos 0) (codes "B")) ∷ (pos 200000, span (pos 3600) (pos 0) (codes "B")) ∷ [])
     ∷ ((pos 100000, span (pos 3600) (pos 0) (codes "B")) ∷ (pos 200000, span (pos 7200) (pos 0) (codes "D")) ∷ [])
-    ∷ ((pos 100000, span (pos 3600) (pos 0) (codes "B")) ∷ (pos 200000, span (pos 0) (pos 0) (codes "C")) ∷ (pos 203601, span (pos 7200) (pos 0) (codes "D")) ∷ [])
+    ∷ ((pos 100000, span (pos 3600) (pos 0) (codes "B")) ∷ (pos 200000, span (pos 0) (pos 0) (codes "C"))
+    ∷ (pos 203601, span (pos 7200) (pos 0) (codes "D")) ∷ [])
     ∷ []
 unfolding collapsed kept_of kept_with without_first
 gives = refl
@@ -215,7 +240,11 @@ names = refl
 
 -- from the second of an entry on, and of two at one second the last; a nanosecond before it is in the span before
 abbrev changes : Schedule
-changes = totals_of (record { first = zzz; rest = (negsuc 0, span (pos 3600) (pos 0) []) ∷ (pos 10, span (pos 3600) (pos 3600) []) ∷ (pos 10, span (pos 0) (negsuc 3599) []) ∷ [] })
+changes = totals_of (record {
+  first = zzz;
+  rest = (negsuc 0, span (pos 3600) (pos 0) []) ∷ (pos 10, span (pos 3600) (pos 3600) [])
+      ∷ (pos 10, span (pos 0) (negsuc 3599) []) ∷ [];
+})
 
 totals : map (total_at changes) (negsuc 1000000000 ∷ negsuc 999999999 ∷ negsuc 0 ∷ pos 9999999999 ∷ pos 10000000000 ∷ [])
     ≡ pos 0 ∷ pos 3600 ∷ pos 3600 ∷ pos 3600 ∷ negsuc 3599 ∷ []
@@ -229,9 +258,9 @@ unfolding collapsed kept_of kept_with without_first
 parts = refl
 
 in_range : map is_in_offset_range (
-      record { first = pos 93599; shifts = (pos 0, negsuc 93598) ∷ [] }
-      ∷ record { first = pos 93600; shifts = [] }
-      ∷ record { first = pos 0; shifts = (pos 0, pos 0) ∷ (pos 1, negsuc 93599) ∷ [] } ∷ []
+    record { first = pos 93599; shifts = (pos 0, negsuc 93598) ∷ [] }
+    ∷ record { first = pos 93600; shifts = [] }
+    ∷ record { first = pos 0; shifts = (pos 0, pos 0) ∷ (pos 1, negsuc 93599) ∷ [] } ∷ []
     ) ≡ true ∷ false ∷ false ∷ []
 unfolding is_in_offset_range is_offset
 in_range = refl

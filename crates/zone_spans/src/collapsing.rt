@@ -107,10 +107,13 @@ fn drop_repeat(rest: &mut Entries, first: &FixedTimespan)
     }
 }
 
-/// Goes through the entries from the left and keeps some. An entry that comes no later by its local time than the last
-/// kept one, each by the offset in force before it, gives that one its span; else one with the span of the last kept is
-/// dropped; else it is kept. At last the first is dropped if it has the span that holds before all. Each time, offset and
-/// saving is at most 2^40 in size. It takes no memory. Then the local ends of the spans after the first strictly rise.
+/// Goes through the entries from the left and keeps some, as `parse-zoneinfo`'s `optimise` does.
+///
+/// Where two or more are kept and the entry comes no later by its local time than the last of them, each by the offset in
+/// force before it, that one gets the entry's span and keeps its time. Else an entry with the span of the last kept is
+/// dropped, and any other is kept. At last the first is dropped if it has the span that holds before all. Then the local
+/// ends of the spans after the first strictly rise. Each time, offset and saving is at most 2^40 in size, as `is_bounded`
+/// tells. It takes no memory.
 #[tactic(auto, unfolding(crate::specs::Collapse::collapsed))]
 pub fn collapse(set: &mut FixedTimespanSet)
     requires { IsTrue (is_bounded set.old) }

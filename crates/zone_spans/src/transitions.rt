@@ -34,9 +34,19 @@ pub trait TableTransitions {
 
     /// What is in force when in the zone that a name finds, or none where it finds none.
     ///
+    /// Each line of the zone begins with no saving, at the end of the line before it under that one's last saving; the end
+    /// of the last line is ignored. A line with a ruleset expands the years 1800 to 2099, or to the year of its end: in
+    /// each, the rule that is earliest under the saving in force fires, the first listed of several, until none is left or
+    /// it would fire at or after the line's end. From the second line on, firings before its start are not listed, but the
+    /// last of them gives the saving and the name at the start; where there is none, the first rule with no saving gives
+    /// the name. All entries are put in order of time, and then `collapse` goes through them. What holds before them is the
+    /// first line's saving, or where it has a ruleset the first entry with no saving.
+    ///
+    /// The rules are those of `parse-zoneinfo`; that an end is read by its clock is the zic manual's.
+    ///
     /// # Errors
     ///
-    /// The first fault of the zone in the order of `SpanFault`, or `NoMemory`.
+    /// The first fault of the whole zone in the order of `SpanFault`, or `NoMemory`.
     fn timespans(
         &self,
         alloc: Global,

@@ -8,14 +8,16 @@ pub returns-then-is_same_span-clause-dropped : goal.returns-then-is_same_span-cl
 returns-then-is_same_span-clause-dropped c =
     let some : 0 < length c.args.rest.now = grind (arith, nat_tests) in
     c.remove.ensures.after
-    ∙ first_goes c.args.first.now c.args.rest.now c.index.result.now some c.index.ensures (sym c.is_same_span.ensures ∙ c.if-is_same_span.true)
+    ∙ first_goes c.args.first.now c.args.rest.now c.index.result.now some c.index.ensures
+    (sym c.is_same_span.ensures ∙ c.if-is_same_span.true)
 
 pub returns-else-not-is_empty-clause-dropped : goal.returns-else-not-is_empty-clause-dropped
 returns-else-not-is_empty-clause-dropped c =
     elim c.else-not-is_empty.branch [
       | else-not-is_empty-via-then-not-is_empty+else-is_same_span w ↦
           let some : 0 < length c.args.rest.now = grind (arith, nat_tests) in
-          first_stays c.args.first.now c.args.rest.now w.index.result.now some w.index.ensures (sym w.is_same_span.ensures ∙ w.if-is_same_span.false)
+          first_stays c.args.first.now c.args.rest.now w.index.result.now some w.index.ensures
+          (sym w.is_same_span.ensures ∙ w.if-is_same_span.false)
       | else-not-is_empty-via-else-not-is_empty w ↦
           let none : length c.args.rest.now ≡ 0 = grind (arith, nat_tests) in
           none_goes c.args.first.now c.args.rest.now none

@@ -37,4 +37,5 @@ returns-clause-kept c =
 pub returns-clause-bounded : goal.returns-clause-bounded
 returns-clause-bounded c =
     bounded_entries c.truncate.new.self
-    (subst (λ (es : List Entry). All IsSmallEntry es) (sym c.truncate.ensures) (All-take IsSmallEntry c.loop-i.kept c.loop-i.rest c.loop-i.invariant.bounded))
+    (subst (λ (es : List Entry). All IsSmallEntry es) (sym c.truncate.ensures)
+    (All-take IsSmallEntry c.loop-i.kept c.loop-i.rest c.loop-i.invariant.bounded))

@@ -17,10 +17,12 @@ returns-then-is_standard-clause-first c =
 pub returns-then-is_standard-clause-bounded : goal.returns-then-is_standard-clause-bounded
 returns-then-is_standard-clause-bounded c =
     let all = AllPass-from_list_all is_bounded_entry c.args.entries.now c.requires in
-    let here : IsTrue (is_bounded_entry c.entry-item.result) = ap is_bounded_entry c.entry-item.is ∙ all c.loop-entry.entry-index c.entry-item.result (omega arith) in
+    let here : IsTrue (is_bounded_entry c.entry-item.result) = ap is_bounded_entry c.entry-item.is
+    ∙ all c.loop-entry.entry-index c.entry-item.result (omega arith) in
     subst (λ (s : FixedTimespan). IsTrue (is_bounded_span s)) (sym c.in_ok-copy.ensures) (second (is_small c.entry-item.result.0) _ here)
 
 pub loop-entry-preserved : goal.loop-entry-preserved
 loop-entry-preserved c =
-    found_not is_standard c.args.entries.now c.loop-entry.entry-index c.entry-item.result (omega arith) c.entry-item.is c.loop-entry.invariant
+    found_not is_standard c.args.entries.now c.loop-entry.entry-index c.entry-item.result
+    (omega arith) c.entry-item.is c.loop-entry.invariant
     (sym c.is_standard.ensures ∙ c.if-is_standard.false)

@@ -9,10 +9,12 @@ use Rattle.zone_spans.proofs.entries.next_start.Goals as goal
 
 pub line_end-requires-clause-end : goal.line_end-requires-clause-end
 line_end-requires-clause-end c =
-    subst (λ (e : Option ChangeTime). IsTrue (is_end e)) (ap (λ (l : Line). l.end) (sym c.line.view_is) ∙ c.in-Some.is) (sound_end c.args.line.now c.requires.sound)
+    subst (λ (e : Option ChangeTime). IsTrue (is_end e)) (ap (λ (l : Line). l.end) (sym c.line.view_is) ∙ c.in-Some.is)
+    (sound_end c.args.line.now c.requires.sound)
 
 pub line_end-requires-clause-offset : goal.line_end-requires-clause-offset
 line_end-requires-clause-offset c =
     let fits : SFits w64 c.line.inside.info.now.offset = search rules in
-    subst (λ s. IsTrue (are_small_seconds s)) (ap (λ (l : Line). l.info.offset) (sym c.line.view_is) ∙ sym (to_z-of_z w64 c.line.inside.info.now.offset fits))
+    subst (λ s. IsTrue (are_small_seconds s)) (ap (λ (l : Line). l.info.offset) (sym c.line.view_is)
+    ∙ sym (to_z-of_z w64 c.line.inside.info.now.offset fits))
     (sound_offset c.args.line.now c.requires.sound)

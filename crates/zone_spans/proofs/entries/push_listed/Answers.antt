@@ -14,6 +14,7 @@ returns c =
     let is = c.place_at-place.ensures ∙ ap (λ s. position_or_len (is_at s) fs) at in
     let es = c.args.entries.now in
     let e = entry_of c.args.line.now in
-    c.in_ok-push_all.ensures ∙ ap (λ xs. c.push_above.new.entries ++ map e xs) (to_end place fs) ∙ ap (λ xs. xs ++ map e (drop place fs)) c.in_ok-push_above.ensures
+    c.in_ok-push_all.ensures ∙ ap (λ xs. c.push_above.new.entries ++ map e xs) (to_end place fs)
+    ∙ ap (λ xs. xs ++ map e (drop place fs)) c.in_ok-push_above.ensures
     ∙ ap (λ s. es ++ map e (filter (λ f. int_lt s f.time) (take place fs)) ++ map e (drop place fs)) at
     ∙ listed_more c.args.line.now es c.args.start fs place is

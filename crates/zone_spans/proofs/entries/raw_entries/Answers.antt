@@ -18,7 +18,8 @@ loop-line-preserved c =
       entries = entries_more c.loop-line.entries c.push_line.new.entries c.loop-line.start c.in_ok-start.start lines c.loop-line.line-index line
           (raw_entries lines) (omega arith) c.line-item.is before.entries step.entries step.next;
       start = more.0;
-      bounded = ap (list_all is_bounded_entry) step.entries ∙ list_all-append is_bounded_entry c.loop-line.entries (entries_of line c.loop-line.start)
+      bounded = ap (list_all is_bounded_entry) step.entries ∙ list_all-append is_bounded_entry c.loop-line.entries
+          (entries_of line c.loop-line.start)
           ∙ both (list_all is_bounded_entry c.loop-line.entries) _ before.bounded more.1;
     }
 
@@ -27,4 +28,5 @@ returns-clause-raw c =
     let lines = c.args.lines.now in
     let end : c.loop-line.line-index ≡ length lines = omega arith in
     entries_done c.loop-line.entries c.loop-line.start lines (raw_entries lines)
-    (subst (λ n. c.loop-line.entries ++ entries_from c.loop-line.start (drop n lines) ≡ raw_entries lines) end c.loop-line.invariant.entries)
+    (subst (λ n. c.loop-line.entries ++ entries_from c.loop-line.start
+    (drop n lines) ≡ raw_entries lines) end c.loop-line.invariant.entries)

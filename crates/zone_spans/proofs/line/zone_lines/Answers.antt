@@ -19,9 +19,11 @@ loop-i-preserved c =
     let pushed = c.in_ok-push.ensures.ok in
     let before = c.loop-i.invariant in
     record {
-      lines = lines_more rulesets c.loop-i.lines c.push.new.self infos i info rules c.end_at.result (zone_lines rulesets infos) (omega arith)
+      lines = lines_more rulesets c.loop-i.lines c.push.new.self infos i info rules c.end_at.result (zone_lines rulesets infos)
+          (omega arith)
           c.index-infos-i.is c.in_ok-rules.ensures.ok c.end_at.ensures pushed before.lines;
-      known = any_behind (is_unknown rulesets) infos i info (omega arith) c.index-infos-i.is before.known (ap not c.in_ok-rules.ensures.known);
+      known = any_behind (is_unknown rulesets) infos i info (omega arith) c.index-infos-i.is before.known
+          (ap not c.in_ok-rules.ensures.known);
       bounded = subst (λ (ls : List Line). IsTrue (list_all is_bounded_line ls)) (sym pushed)
           (one_line_more c.loop-i.lines line before.bounded
           (line_bounded infos i info rules c.end_at.result (omega arith) c.index-infos-i.is c.end_at.ensures c.requires.lines c.in_ok-rules.ensures.bounded));

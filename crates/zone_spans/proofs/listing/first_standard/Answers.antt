@@ -8,10 +8,12 @@ is_standard f = int_eq f.rule.time_to_add (pos 0)
 
 pub returns-then-is_standard : goal.returns-then-is_standard
 returns-then-is_standard c =
-    found is_standard c.args.fired.now c.loop-firing.firing-index c.firing-item.result (omega arith) c.firing-item.is c.loop-firing.invariant
+    found is_standard c.args.fired.now c.loop-firing.firing-index c.firing-item.result
+    (omega arith) c.firing-item.is c.loop-firing.invariant
     (sym c.is_standard.ensures ∙ c.if-is_standard.true)
 
 pub loop-firing-preserved : goal.loop-firing-preserved
 loop-firing-preserved c =
-    found_not is_standard c.args.fired.now c.loop-firing.firing-index c.firing-item.result (omega arith) c.firing-item.is c.loop-firing.invariant
+    found_not is_standard c.args.fired.now c.loop-firing.firing-index c.firing-item.result
+    (omega arith) c.firing-item.is c.loop-firing.invariant
     (sym c.is_standard.ensures ∙ c.if-is_standard.false)

@@ -23,4 +23,5 @@ returns c =
     let x : Firing = record { time = c.args.start; rule = some_rule } in
     let end : c.loop-i.i ≡ length fs = omega arith in
     sym (position_or_len_is (is_at c.args.start) fs (length fs) x (omega arith)
-    (λ k l. subst (λ s. is_at s (get_or fs k x) ≡ false) at (c.loop-i.invariant k x (omega (arith, l, end)))) (λ l. absurd (omega (arith, l))))
+    (λ k l. subst (λ s. is_at s (get_or fs k x) ≡ false) at (c.loop-i.invariant k x (omega (arith, l, end))))
+    (λ l. absurd (omega (arith, l))))

@@ -19,7 +19,8 @@ use Rattle.zone_spans.proofs.year.fire_year.Goals as goal
 
 pub take_applying-requires : goal.take_applying-requires
 take_applying-requires c =
-    subst (λ (rs : List RuleInfo). IsTrue (list_all has_years rs)) (ap (λ (l : Line). l.rules) (sym c.line.view_is)) (years_of c.args.year c.args.line.now.rules c.requires.rules)
+    subst (λ (rs : List RuleInfo). IsTrue (list_all has_years rs)) (ap (λ (l : Line). l.rules) (sym c.line.view_is))
+    (years_of c.args.year c.args.line.now.rules c.requires.rules)
 
 pub firing-init : goal.firing-init
 unfolding year_firings
@@ -35,7 +36,8 @@ firing-init c =
     record {
       fired = ap (λ rs. c.args.fired.now.items ++ (left_firings year offset end saving rs).0) left;
       last = ap (λ rs. (left_firings year offset end saving rs).1) left;
-      moments = subst (λ (rs : List RuleInfo). All (λ r. IsTrue (has_moment year r)) rs) (sym left) (moments_of year c.args.line.now.rules can);
+      moments = subst (λ (rs : List RuleInfo). All (λ r. IsTrue (has_moment year r)) rs) (sym left)
+          (moments_of year c.args.line.now.rules can);
       small = subst (λ s. IsTrue (are_small_seconds s)) (sym (to_z-of_z w64 c.args.saving c.ranges.saving)) c.requires.saving;
       bounded = c.requires.bounded;
     }
@@ -49,7 +51,8 @@ firing-preserved c =
     let left = c.firing.left.items in
     let place = c.place_of_first-place.result in
     let rule = c.remove-next.result in
-    let best = subst (λ (ys : List RuleInfo). IsFirstBest (is_earlier year offset saving) ys (length ys) place) c.deref.ensures.value c.place_of_first-place.ensures in
+    let best = subst (λ (ys : List RuleInfo). IsFirstBest (is_earlier year offset saving) ys
+    (length ys) place) c.deref.ensures.value c.place_of_first-place.ensures in
     let rule_is = c.remove-next.ensures.value in
     let shown : c.next.inside.rule.now ≡ rule = c.next.view_is in
     let f : SFits w64 c.moment-time.result = search rules in
@@ -62,7 +65,8 @@ firing-preserved c =
     let step = year_fires year offset end saving left place rule best rule_is goes in
     let firing : Firing = record { time = moment rule year offset saving; rule = rule } in
     let left_is : left_firings year offset end (to_z w64 (of_z w64 c.next.inside.rule.now.time_to_add)) c.remove-next.new.self.items
-    ≡ left_firings year offset end rule.time_to_add (remove left place) = λ i. left_firings year offset end (next_is i) (c.remove-next.ensures.items i) in
+    ≡ left_firings year offset end rule.time_to_add (remove left place) = λ i. left_firings year offset end (next_is i)
+    (c.remove-next.ensures.items i) in
     let pushed : c.push.new.self.items ≡ c.firing.fired.items ++ firing ∷ [] =
     c.in_ok-push.ensures.items ∙ (λ i. c.firing.fired.items ++ record { time = time_is i; rule = shown i } ∷ []) in
     let here = subst (λ (r : RuleInfo). IsTrue (has_moment year r)) (sym rule_is) (c.firing.invariant.moments place rule best.0) in
@@ -82,7 +86,8 @@ firing-preserved c =
 -- the year, the offset and the saving as they were passed
 passed : (end : Option ChangeTime) (rs : List RuleInfo) (year offset offset' saving : ℤ) → SFits w64 year → SFits w64 saving
     → to_z w64 (of_z w64 offset) ≡ offset'
-    → year_firings (to_z w64 (of_z w64 year)) (to_z w64 (of_z w64 offset)) end (to_z w64 (of_z w64 saving)) rs ≡ year_firings year offset' end saving rs
+    → year_firings (to_z w64 (of_z w64 year)) (to_z w64 (of_z w64 offset)) end
+    (to_z w64 (of_z w64 saving)) rs ≡ year_firings year offset' end saving rs
 passed end rs year offset offset' saving f g is = λ i. year_firings (to_z-of_z w64 year f i) (is i) end (to_z-of_z w64 saving g i) rs
 
 pub returns-after-firing-clause-fired : goal.returns-after-firing-clause-fired
@@ -114,7 +119,8 @@ returns-then-is_over-clause-fired c =
     let offset_is = to_z-of_z w64 c.line.inside.info.now.offset h ∙ ap (λ (l : Line). l.info.offset) c.line.view_is in
     let same = passed end rs c.args.year c.line.inside.info.now.offset c.args.line.now.info.offset c.args.saving c.ranges.year c.ranges.saving offset_is in
     let place = c.place_of_first-place.result in
-    let best = subst (λ (ys : List RuleInfo). IsFirstBest (is_earlier year offset saving) ys (length ys) place) c.deref.ensures.value c.place_of_first-place.ensures in
+    let best = subst (λ (ys : List RuleInfo). IsFirstBest (is_earlier year offset saving) ys
+    (length ys) place) c.deref.ensures.value c.place_of_first-place.ensures in
     let f : SFits w64 c.moment-time.result = search rules in
     let time_is = to_z-of_z w64 c.moment-time.result f ∙ c.moment-time.ensures.value in
     let end_is = ap (λ (l : Line). l.end) c.line.view_is in

@@ -15,19 +15,21 @@ use Rattle.zone_spans.proofs.year.fire_years.Goals as goal
 
 pub years_expanded-count-requires : goal.years_expanded-count-requires
 years_expanded-count-requires c =
-    subst (λ (e : Option ChangeTime). IsTrue (is_end e)) (ap (λ (l : Line). l.end) (sym c.line.view_is)) (sound_end c.args.line.now c.requires)
+    subst (λ (e : Option ChangeTime). IsTrue (is_end e)) (ap (λ (l : Line). l.end) (sym c.line.view_is))
+    (sound_end c.args.line.now c.requires)
 
 pub loop-i-init : goal.loop-i-init
 loop-i-init c =
     let line = c.args.line.now in
-    let before = subst (λ (rs : List RuleInfo). AppliesToNone rs c.years_before_all-first.result) (ap (λ (l : Line). l.rules) c.line.view_is)
+    let before = subst (λ (rs : List RuleInfo). AppliesToNone rs c.years_before_all-first.result)
+    (ap (λ (l : Line). l.rules) c.line.view_is)
     c.years_before_all-first.ensures.before in
     let quiet = sym (quiet_years line.info.offset line.end line.rules c.years_before_all-first.result before) in
     record {
-  fired = record { firings = c.new-fired.ensures.items ∙ ap (λ p. p.0) quiet; saving = ap (λ p. p.1) quiet };
-  small = refl;
-  bounded = ap (list_all is_bounded_firing) c.new-fired.ensures.items;
-}
+      fired = record { firings = c.new-fired.ensures.items ∙ ap (λ p. p.0) quiet; saving = ap (λ p. p.1) quiet };
+      small = refl;
+      bounded = ap (list_all is_bounded_firing) c.new-fired.ensures.items;
+    }
 
 pub fire_year-requires-clause-rules : goal.fire_year-requires-clause-rules
 fire_year-requires-clause-rules c =
@@ -53,7 +55,8 @@ loop-i-preserved c =
     let fired = c.in_ok-last_saving.ensures.fired in
     record {
       fired = fires_more line.info.offset line.end line.rules c.loop-i.i c.loop-i.fired.items c.fire_year.new.fired.items
-          (to_z w64 (of_z w64 c.from-year.result)) (to_z w64 c.loop-i.last_saving-bits) (to_z w64 (of_z w64 c.in_ok-last_saving.last_saving))
+          (to_z w64 (of_z w64 c.from-year.result)) (to_z w64 c.loop-i.last_saving-bits)
+          (to_z w64 (of_z w64 c.in_ok-last_saving.last_saving))
           year_is c.loop-i.invariant.fired (record { firings = fired.firings; saving = last_is ∙ fired.saving });
       small = subst (λ s. IsTrue (are_small_seconds s)) (sym last_is) c.in_ok-last_saving.ensures.small;
       bounded = c.in_ok-last_saving.ensures.bounded;

@@ -35,7 +35,8 @@ passed : (year offset saving : ℤ) → SFits w64 year → SFits w64 offset → 
     → IsFirstBest (is_earlier (to_z w64 (of_z w64 year)) (to_z w64 (of_z w64 offset)) (to_z w64 (of_z w64 saving))) xs n b
     → IsFirstBest (is_earlier year offset saving) xs (length xs) b
 passed year offset saving f g h xs n b end best =
-    let same : is_earlier (to_z w64 (of_z w64 year)) (to_z w64 (of_z w64 offset)) (to_z w64 (of_z w64 saving)) ≡ is_earlier year offset saving =
+    let same : is_earlier (to_z w64 (of_z w64 year)) (to_z w64 (of_z w64 offset))
+    (to_z w64 (of_z w64 saving)) ≡ is_earlier year offset saving =
     λ i. is_earlier (to_z-of_z w64 year f i) (to_z-of_z w64 offset g i) (to_z-of_z w64 saving h i) in
     subst (λ k. IsFirstBest (is_earlier year offset saving) xs k b) end
     (subst (λ (beats : RuleInfo → RuleInfo → Bool). IsFirstBest beats xs n b) same best)
