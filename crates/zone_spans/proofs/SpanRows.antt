@@ -16,7 +16,7 @@ use Rattle.zone_values.specs.declared.weekday.Weekday.TheVariants.{Sunday}
 use Rattle.zone_values.specs.declared.year.Year.TheVariants.{Minimum, Number}
 use Rattle.zone_table.specs.Formats.{abbreviation, filled}
 use Rattle.zone_table.specs.Moments.{applies_to_year, instant_of, last_year, moment}
-use Rattle.zone_table.specs.declared.format.Format.TheVariants.{Constant, Placeholder}
+use Rattle.zone_table.specs.declared.format.Format.TheVariants.{Alternate, Constant, Placeholder}
 use Rattle.zone_table.specs.declared.rule.RuleInfo.{RuleInfo}
 use Rattle.zone_table.specs.declared.zone.Saving.{Saving}
 use Rattle.zone_table.specs.declared.zone.Saving.TheVariants.{NoSaving, OneOff, Multiple}
@@ -133,6 +133,27 @@ saving_stays : compiled (all (at_midnight (pos 1800) (pos 1800) (pos 3600) None 
     })
 unfolding compiled schedule_fault leaves_year some_year is_outside zone_lines set_of_lines first_span sorted_entries entries_from entries_of next_start listed_from start_firing line_firings years_expanded firings_of_years year_firings fired earliest applies_to_year last_year moment abbreviation filled line_end is_in_year instant_of named_day is_leap days_in_year days_in_month days_after_zero year_start days_through days_into_year day collapsed kept_of kept_with without_first
 saving_stays = refl
+
+-- a fixed line's saving decides its name, and its format is given no letters
+one_off : map (λ (l : ZoneInfo). compiled none (l ∷ []))
+      (record (line (pos 0) (OneOff (pos 3600)) [] None) { format = Alternate (codes "GMT") (codes "BST") }
+      ∷ record (line (pos 0) NoSaving [] None) { format = Placeholder (codes "X%sT") } ∷ [])
+    ≡ Ok (record { first = span (pos 0) (pos 3600) (codes "BST"); rest = [] })
+    ∷ Ok (record { first = span (pos 0) (pos 0) (codes "XT"); rest = [] }) ∷ []
+unfolding compiled schedule_fault leaves_year zone_lines set_of_lines first_span sorted_entries entries_from entries_of next_start line_firings years_expanded abbreviation filled collapsed kept_of kept_with without_first
+one_off = refl
+
+-- the last firing before a line's start gives the saving and the name there, and firings are read with the line's own offset
+start_saving : compiled (all (at_midnight (pos 1800) (pos 1800) (pos 3600) (Some (codes "S"))
+    ∷ at_midnight (pos 1802) (pos 1802) (pos 0) None ∷ []))
+      (line (pos 0) NoSaving (codes "A") (Some (UntilYear (Number (pos 1801))))
+      ∷ record (line (pos 3600) (Multiple []) [] None) { format = Placeholder (codes "X%s") } ∷ [])
+    ≡ Ok (record {
+      first = span (pos 0) (pos 0) (codes "A");
+      rest = (negsuc 5333126399, span (pos 3600) (pos 3600) (codes "XS")) ∷ (negsuc 5301597599, span (pos 3600) (pos 0) (codes "X")) ∷ [];
+    })
+unfolding compiled schedule_fault leaves_year some_year is_outside zone_lines set_of_lines first_span sorted_entries entries_from entries_of next_start listed_from start_firing line_firings years_expanded firings_of_years year_firings fired earliest applies_to_year last_year moment abbreviation filled line_end is_in_year instant_of named_day is_leap days_in_year days_in_month days_after_zero year_start days_through days_into_year day collapsed kept_of kept_with without_first
+start_saving = refl
 
 -- ---- faults
 
