@@ -135,8 +135,8 @@ saving_stays = refl
 
 -- a fixed line's saving decides its name, and its format is given no letters
 one_off : map (λ (l : ZoneInfo). compiled none (l ∷ []))
-      (record (line (pos 0) (OneOff (pos 3600)) [] None) { format = Alternate (codes "GMT") (codes "BST") }
-      ∷ record (line (pos 0) NoSaving [] None) { format = Placeholder (codes "X%sT") } ∷ [])
+    (record (line (pos 0) (OneOff (pos 3600)) [] None) { format = Alternate (codes "GMT") (codes "BST") }
+    ∷ record (line (pos 0) NoSaving [] None) { format = Placeholder (codes "X%sT") } ∷ [])
     ≡ Ok (record { first = span (pos 0) (pos 3600) (codes "BST"); rest = [] })
     ∷ Ok (record { first = span (pos 0) (pos 0) (codes "XT"); rest = [] }) ∷ []
 unfolding compiled schedule_fault leaves_year zone_lines set_of_lines first_span sorted_entries entries_from entries_of next_start line_firings years_expanded abbreviation filled collapsed kept_of kept_with without_first
@@ -145,8 +145,8 @@ one_off = refl
 -- the last firing before a line's start gives the saving and the name there, and firings are read with the line's own offset
 start_saving : compiled (all (at_midnight (pos 1800) (pos 1800) (pos 3600) (Some (codes "S"))
     ∷ at_midnight (pos 1802) (pos 1802) (pos 0) None ∷ []))
-      (line (pos 0) NoSaving (codes "A") (Some (UntilYear (Number (pos 1801))))
-      ∷ record (line (pos 3600) (Multiple []) [] None) { format = Placeholder (codes "X%s") } ∷ [])
+    (line (pos 0) NoSaving (codes "A") (Some (UntilYear (Number (pos 1801))))
+    ∷ record (line (pos 3600) (Multiple []) [] None) { format = Placeholder (codes "X%s") } ∷ [])
     ≡ Ok (record {
       first = span (pos 0) (pos 0) (codes "A");
       rest = (negsuc 5333126399, span (pos 3600) (pos 3600) (codes "XS")) ∷ (negsuc 5301597599, span (pos 3600) (pos 0) (codes "X")) ∷ [];
