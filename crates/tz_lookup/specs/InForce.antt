@@ -1,8 +1,12 @@
 -- Instants and the offsets in force at them, as a zone gives a total for each instant.
-use Rattle.std.specs.Prelude.{◌≡◌, ◌↔◌, List, map, Contains, AllPairs, ℤ, pos, ◌+ℤ◌, ◌*ℤ◌, ◌<ℤ◌}
+use Rattle.std.specs.Prelude.{ℕ, Bool, int_lt, ◌≡◌, ◌↔◌, List, map, Contains, AllPairs, ℤ, pos, ◌+ℤ◌, ◌*ℤ◌, ◌<ℤ◌}
 use Rattle.civil_base.specs.DateTimes.{instant, offset_of}
+use Rattle.civil_base.specs.Instants.{seconds_of}
 use Rattle.civil_base.specs.declared.offset_date_time.OffsetDateTime.{OffsetDateTime}
 use Rattle.zone_spans.specs.Schedules.{instants}
+use Rattle.tz_lookup.specs.Sets.{shifts_of, span_in}
+use Rattle.tz_lookup.specs.Spans.{IsCut}
+use Rattle.tz_lookup.specs.declared.set.FixedTimespanSet.{FixedTimespanSet}
 
 -- an instant, and the total in force at it
 abbrev pub in_force : (ℤ → ℤ) → ℤ → ℤ × ℤ
@@ -24,3 +28,10 @@ totals_at total time = map total (instants total time)
 pub record AreInstants (total : ℤ → ℤ) (time : ℤ) (ts : List ℤ) : Type 0 where
   pub rising : AllPairs (λ s t. s <ℤ t) ts
   pub exact : (t : ℤ) → Contains ts t ↔ (t +ℤ pos 1000000000 *ℤ total t ≡ time)
+
+-- the span of the last entry at or before an instant, or the first span, has this abbreviation, and its saving is above 0 or not
+pub record GivesAt (set : FixedTimespanSet) (t : ℤ) (name : List ℕ) (saving : Bool) : Type 0 where
+  pub span : ℕ
+  pub in_force : IsCut (shifts_of set) span (seconds_of t)
+  pub named : name ≡ (span_in set span).name
+  pub saves : saving ≡ int_lt (pos 0) (span_in set span).dst_offset

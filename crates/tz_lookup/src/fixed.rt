@@ -74,6 +74,8 @@ impl<'a> TimeZone for Fixed<'a> {
 
     ghost orderly = { λ zone. Unit {0} };
 
+    ghost gives = { λ zone _ name saving. (name ≡ zone.name.now) × (saving ≡ false) };
+
     ghost called = { λ zone. zone.name.now };
 
     ghost primary = { λ zone. zone.offset };

@@ -11,7 +11,7 @@ use std::cmp::Ordering;
 use zone_spans::FixedTimespan;
 
 /// The spans of a zone: what is in force before the first entry, and what from each entry on. Span 0 is the first one.
-#[derive(Drop)]
+#[derive(Debug, Drop, PartialEq, Eq)]
 pub struct FixedTimespanSet {
     /// The name of the zone.
     pub name: Text,

@@ -48,6 +48,9 @@ pub trait TimeZone {
     /// No local time has more than two instants.
     ghost orderly: { Self → Type 0 };
 
+    /// This abbreviation is in force at an instant, with a saving above 0 or without one.
+    ghost gives: { Self → ℤ → List ℕ → Bool → Type 0 };
+
     /// The zone's name.
     ghost called: { Self → List ℕ };
 
@@ -56,7 +59,8 @@ pub trait TimeZone {
 
     /// The offset in force at an instant.
     fn get_offset_utc(&self, date_time: &OffsetDateTime) -> Self::Offset
-        ensures { Self.Offset.total result ≡ total_at self.now (instant date_time.now) };
+        ensures total { Self.Offset.total result ≡ total_at self.now (instant date_time.now) }
+        ensures name { gives self.now (instant date_time.now) (Self.Offset.called result) (Self.Offset.is_saving result) };
 
     /// The offsets at which a local time is read. The date and the time of a date-time at UTC are taken for the local ones.
     fn get_offset_local(&self, date_time: &OffsetDateTime) -> OffsetResult<Self::Offset>

@@ -4,6 +4,7 @@ ghost use Rattle.civil_base.specs.Ranges.{IsOffset};
 ghost use Rattle.zone_spans.specs.Entries.{total};
 ghost use Rattle.zone_spans.specs.Schedules.{instants, total_at};
 ghost use Rattle.civil_base.specs.Ranges.{is_offset};
+ghost use Rattle.tz_lookup.specs.InForce.{GivesAt};
 ghost use Rattle.tz_lookup.specs.Sets.{schedule_of, IsAccepted, IsOrderlyZone};
 
 use crate::accept::{TzFault, accept};
@@ -20,7 +21,7 @@ use std::sync::ledger::Ledger;
 use zone_spans::FixedTimespan;
 
 /// A set of spans that can be looked up. It borrows the set, and remembers whether that is orderly.
-#[derive(Clone, Copy, Drop)]
+#[derive(Clone, Copy, Debug, Drop, PartialEq, Eq)]
 pub struct Tz<'a> {
     set: &'a FixedTimespanSet,
     orderly: bool,
@@ -31,7 +32,7 @@ pub struct Tz<'a> {
 }
 
 /// The offset of a span.
-#[derive(Clone, Copy, Drop)]
+#[derive(Clone, Copy, Debug, Drop, PartialEq, Eq)]
 pub struct TzOffset<'a> {
     span: &'a FixedTimespan,
     offset: UtcOffset,
@@ -156,6 +157,8 @@ impl<'a> TimeZone for Tz<'a> {
     ghost total_at = { λ zone. total_at (schedule_of zone.set.now) };
 
     ghost orderly = { λ zone. IsOrderlyZone (schedule_of zone.set.now) };
+
+    ghost gives = { λ zone. GivesAt zone.set.now };
 
     ghost called = { λ zone. zone.set.now.name };
 
