@@ -49,7 +49,6 @@ instants_from_totals total x range = back_all total x (instants total x) (λ t c
 pub assumed : (total : ℤ → ℤ) (x : ℤ) (os : List ℤ) → ((t : ℤ) → IsOffset (total t)) → os ≡ take 2 (totals_at total x) → map (instant_at x) os ≡ take 2 (instants total x)
 assumed total x os range e = ap (map (instant_at x)) e ∙ sym (take-map (instant_at x) 2 (totals_at total x)) ∙ ap (take 2) (instants_from_totals total x range)
 
-
 -- a local time at an offset, seen as an instant and an offset
 pub shown_at_offset : (x o : ℤ) → shown_of (at_offset x o) ≡ (instant_at x o, o)
 unfolding shown_of

@@ -40,11 +40,7 @@ impl From<AllocError> for ZoneFault {
 ///
 /// In this order: `UnknownZone` exactly where the name finds no zone; `Schedule` with the zone's first fault;
 /// `OffsetRange` exactly where some span's offset and saving add up to 26 hours or more in size.
-pub fn compile_zone(
-    alloc: Global,
-    table: &Table,
-    name: &str,
-) -> Result<FixedTimespanSet, ZoneFault>
+pub fn compile_zone(alloc: Global, table: &Table, name: &str) -> Result<FixedTimespanSet, ZoneFault>
     requires { IsBoundedTable table.now }
     ensures ok { IfOk result (λ set. (set.name ≡ name.now) × IsCompiledAs set (compiled_in table.now name.now)) }
     ensures accepted { IfOk result (λ set. IsAccepted (schedule_of set)) }

@@ -36,11 +36,7 @@ fn spans_under<L: Ledger>(
 }
 
 /// The spans that contain a local second: all of them, or the first two.
-pub(crate) fn local_spans(
-    set: &FixedTimespanSet,
-    orderly: bool,
-    second: i64,
-) -> OffsetResult<usize>
+pub(crate) fn local_spans(set: &FixedTimespanSet, orderly: bool, second: i64) -> OffsetResult<usize>
     requires accepted { IsAccepted (schedule_of set.now) }
     requires orderly { IsTrue orderly ↔ IsOrderlyZone (schedule_of set.now) }
     ensures within { IsUpTo (length set.now.others) result }

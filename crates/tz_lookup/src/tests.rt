@@ -36,7 +36,11 @@ fn set_of(
 
 /// The date-time at UTC so many seconds from 1970-01-01 00:00:00.
 fn at(second: i64) -> Result<OffsetDateTime, Fail> {
-    Ok(OffsetDateTime::from_unix_timestamp(second).ok().ok_or("out of range")?)
+    Ok(
+        OffsetDateTime::from_unix_timestamp(second)
+            .ok()
+            .ok_or("out of range")?,
+    )
 }
 
 /// The local time so many seconds from 1970-01-01 00:00:00.

@@ -86,66 +86,66 @@ not_written (inr e) = absurd (cc)
 pub done_ends : (name : List ℕ) (before now : Seen) (source requests : List ℕ) → BothRead name before now source requests →
     Responds source requests before.output now.output answered.Done → Ends (Some (answer_over name)) before now status.Done
 done_ends name before now source requests both (valid, back, grew) = record {
-    words = (λ e. absurd (cc), λ e. absurd (cc));
-    untouched = λ e. absurd (cc);
-    order = inr (IfSome_then (before.shelf.told name) both.shelf.text (λ _ h. h.1));
-    shelf_ended = λ _. IfSome_then (before.shelf.told name) both.shelf.text (λ _ h. h.1);
-    input_ended = λ _. IfSome_then before.input.left both.input.text (λ _ h. h.1);
-    done = λ _. where_told (before.shelf.told name) before.input.left _ _ source requests _ both.shelf.text both.input.text (valid, back, grew);
-    refused = λ e. absurd (cc);
-    read = λ e. absurd (cc);
-    write = λ e. absurd (cc);
-    prefix = λ e. absurd (cc);
-    too_long = λ e. absurd (cc);
-    too_much = λ more. absurd (neither_more both more);
-    silent = λ silent. absurd (silent_not_done silent);
-    complete = λ _. where_told (before.shelf.told name) before.input.left _ _ source requests _ both.shelf.text both.input.text (λ _ _. ends_valid (fault source requests) valid);
-    past_limit = λ _. where_told (before.shelf.told name) before.input.left _ _ source requests _ both.shelf.text both.input.text
-        (λ long. absurd (neither_long source requests both.shelf.within both.input.within long));
-  }
+  words = (λ e. absurd (cc), λ e. absurd (cc));
+  untouched = λ e. absurd (cc);
+  order = inr (IfSome_then (before.shelf.told name) both.shelf.text (λ _ h. h.1));
+  shelf_ended = λ _. IfSome_then (before.shelf.told name) both.shelf.text (λ _ h. h.1);
+  input_ended = λ _. IfSome_then before.input.left both.input.text (λ _ h. h.1);
+  done = λ _. where_told (before.shelf.told name) before.input.left _ _ source requests _ both.shelf.text both.input.text (valid, back, grew);
+  refused = λ e. absurd (cc);
+  read = λ e. absurd (cc);
+  write = λ e. absurd (cc);
+  prefix = λ e. absurd (cc);
+  too_long = λ e. absurd (cc);
+  too_much = λ more. absurd (neither_more both more);
+  silent = λ silent. absurd (silent_not_done silent);
+  complete = λ _. where_told (before.shelf.told name) before.input.left _ _ source requests _ both.shelf.text both.input.text (λ _ _. ends_valid (fault source requests) valid);
+  past_limit = λ _. where_told (before.shelf.told name) before.input.left _ _ source requests _ both.shelf.text both.input.text
+      (λ long. absurd (neither_long source requests both.shelf.within both.input.within long));
+}
 
 -- the line of the fault was written
 pub fault_ends : (name : List ℕ) (before now : Seen) (source requests : List ℕ) → BothRead name before now source requests →
     Responds source requests before.output now.output answered.Fault → Ends (Some (answer_over name)) before now status.Fault
 fault_ends name before now source requests both (refused, grew) = record {
-    words = (λ e. absurd (cc), λ e. absurd (cc));
-    untouched = λ e. absurd (cc);
-    order = inr (IfSome_then (before.shelf.told name) both.shelf.text (λ _ h. h.1));
-    shelf_ended = λ _. IfSome_then (before.shelf.told name) both.shelf.text (λ _ h. h.1);
-    input_ended = λ _. IfSome_then before.input.left both.input.text (λ _ h. h.1);
-    done = λ e. absurd (cc);
-    refused = λ _. where_told (before.shelf.told name) before.input.left _ _ source requests _ both.shelf.text both.input.text (refused, grew);
-    read = λ e. absurd (cc);
-    write = λ e. absurd (cc);
-    prefix = λ e. absurd (cc);
-    too_long = λ e. absurd (cc);
-    too_much = λ more. absurd (neither_more both more);
-    silent = λ silent. absurd (silent_not_fault silent);
-    complete = λ _. where_told (before.shelf.told name) before.input.left _ _ source requests _ both.shelf.text both.input.text (λ _ _. ends_refused (fault source requests) refused);
-    past_limit = λ _. where_told (before.shelf.told name) before.input.left _ _ source requests _ both.shelf.text both.input.text
-        (λ long. absurd (neither_long source requests both.shelf.within both.input.within long));
-  }
+  words = (λ e. absurd (cc), λ e. absurd (cc));
+  untouched = λ e. absurd (cc);
+  order = inr (IfSome_then (before.shelf.told name) both.shelf.text (λ _ h. h.1));
+  shelf_ended = λ _. IfSome_then (before.shelf.told name) both.shelf.text (λ _ h. h.1);
+  input_ended = λ _. IfSome_then before.input.left both.input.text (λ _ h. h.1);
+  done = λ e. absurd (cc);
+  refused = λ _. where_told (before.shelf.told name) before.input.left _ _ source requests _ both.shelf.text both.input.text (refused, grew);
+  read = λ e. absurd (cc);
+  write = λ e. absurd (cc);
+  prefix = λ e. absurd (cc);
+  too_long = λ e. absurd (cc);
+  too_much = λ more. absurd (neither_more both more);
+  silent = λ silent. absurd (silent_not_fault silent);
+  complete = λ _. where_told (before.shelf.told name) before.input.left _ _ source requests _ both.shelf.text both.input.text (λ _ _. ends_refused (fault source requests) refused);
+  past_limit = λ _. where_told (before.shelf.told name) before.input.left _ _ source requests _ both.shelf.text both.input.text
+      (λ long. absurd (neither_long source requests both.shelf.within both.input.within long));
+}
 
 -- the output failed
 pub failed_ends : (name : List ℕ) (before now : Seen) (source requests : List ℕ) → BothRead name before now source requests →
     Responds source requests before.output now.output answered.Failed → Ends (Some (answer_over name)) before now status.Write
 failed_ends name before now source requests both (rose, grew) = record {
-    words = (λ e. absurd (cc), λ e. absurd (cc));
-    untouched = λ e. absurd (cc);
-    order = inr (IfSome_then (before.shelf.told name) both.shelf.text (λ _ h. h.1));
-    shelf_ended = λ e. absurd (not_written e);
-    input_ended = λ e. absurd (not_written e);
-    done = λ e. absurd (cc);
-    refused = λ e. absurd (cc);
-    read = λ e. absurd (cc);
-    write = λ _. rose;
-    prefix = λ _. where_told (before.shelf.told name) before.input.left _ _ source requests _ both.shelf.text both.input.text grew;
-    too_long = λ e. absurd (cc);
-    too_much = λ more. absurd (neither_more both more);
-    silent = λ silent. absurd (silent_not_write silent);
-    complete = λ none. absurd (none.output rose);
-    past_limit = λ none. absurd (none.output rose);
-  }
+  words = (λ e. absurd (cc), λ e. absurd (cc));
+  untouched = λ e. absurd (cc);
+  order = inr (IfSome_then (before.shelf.told name) both.shelf.text (λ _ h. h.1));
+  shelf_ended = λ e. absurd (not_written e);
+  input_ended = λ e. absurd (not_written e);
+  done = λ e. absurd (cc);
+  refused = λ e. absurd (cc);
+  read = λ e. absurd (cc);
+  write = λ _. rose;
+  prefix = λ _. where_told (before.shelf.told name) before.input.left _ _ source requests _ both.shelf.text both.input.text grew;
+  too_long = λ e. absurd (cc);
+  too_much = λ more. absurd (neither_more both more);
+  silent = λ silent. absurd (silent_not_write silent);
+  complete = λ none. absurd (none.output rose);
+  past_limit = λ none. absurd (none.output rose);
+}
 
 -- where a text is longer than the limit, a run for which it was too long ended so
 if_told : (o p : Option (List ℕ)) (P : List ℕ → List ℕ → Type 0) → ((s r : List ℕ) → p ≡ Some r → P s r) → IfSome o (λ s. IfSome p (P s))
@@ -158,22 +158,22 @@ pub input_ends : (name : List ℕ) (before now : Seen) (source : List ℕ) (end 
     Read (before.shelf.told name) now.shelf.left before.shelf.given now.shelf.given source → NotRead before.input now.input end → now.output ≡ before.output →
     Ends (Some (answer_over name)) before now (status_of end)
 input_ends name before now source read.Failed first second same = record {
-    words = (λ e. absurd (cc), λ e. absurd (cc));
-    untouched = λ e. absurd (cc);
-    order = inr (IfSome_then (before.shelf.told name) first.text (λ _ h. h.1));
-    shelf_ended = λ _. IfSome_then (before.shelf.told name) first.text (λ _ h. h.1);
-    input_ended = λ e. absurd (no_end_read e);
-    done = λ e. absurd (cc);
-    refused = λ e. absurd (cc);
-    read = λ _. inr (second.failed refl);
-    write = λ e. absurd (cc);
-    prefix = λ e. absurd (cc);
-    too_long = λ e. absurd (cc);
-    too_much = λ more. absurd (more_read more);
-    silent = λ _. same;
-    complete = λ none. absurd (none.input (second.failed refl));
-    past_limit = λ none. absurd (none.input (second.failed refl));
-  }
+  words = (λ e. absurd (cc), λ e. absurd (cc));
+  untouched = λ e. absurd (cc);
+  order = inr (IfSome_then (before.shelf.told name) first.text (λ _ h. h.1));
+  shelf_ended = λ _. IfSome_then (before.shelf.told name) first.text (λ _ h. h.1);
+  input_ended = λ e. absurd (no_end_read e);
+  done = λ e. absurd (cc);
+  refused = λ e. absurd (cc);
+  read = λ _. inr (second.failed refl);
+  write = λ e. absurd (cc);
+  prefix = λ e. absurd (cc);
+  too_long = λ e. absurd (cc);
+  too_much = λ more. absurd (more_read more);
+  silent = λ _. same;
+  complete = λ none. absurd (none.input (second.failed refl));
+  past_limit = λ none. absurd (none.input (second.failed refl));
+}
   where
     no_end_read : (status.Read ≡ status.Done) ⊎ (status.Read ≡ status.Fault) → ⊥
     no_end_read (inl e) = absurd (cc)
@@ -183,22 +183,22 @@ input_ends name before now source read.Failed first second same = record {
     more_read (inl more) = not_more before.shelf.given now.shelf.given (length source) first.given first.within more
     more_read (inr more) = omega (arith, second.failed_given refl, more)
 input_ends name before now source read.TooLong first second same = record {
-    words = (λ e. absurd (cc), λ e. absurd (cc));
-    untouched = λ e. absurd (cc);
-    order = inr (IfSome_then (before.shelf.told name) first.text (λ _ h. h.1));
-    shelf_ended = λ _. IfSome_then (before.shelf.told name) first.text (λ _ h. h.1);
-    input_ended = λ e. absurd (no_end_long e);
-    done = λ e. absurd (cc);
-    refused = λ e. absurd (cc);
-    read = λ e. absurd (cc);
-    write = λ e. absurd (cc);
-    prefix = λ e. absurd (cc);
-    too_long = λ _. inr (second.long refl);
-    too_much = λ _. inl refl;
-    silent = λ _. same;
-    complete = λ _. if_told (before.shelf.told name) before.input.left _ (λ _ r there _ short. absurd (too_short r there short));
-    past_limit = λ _. if_told (before.shelf.told name) before.input.left _ (λ _ _ _ _. inl refl);
-  }
+  words = (λ e. absurd (cc), λ e. absurd (cc));
+  untouched = λ e. absurd (cc);
+  order = inr (IfSome_then (before.shelf.told name) first.text (λ _ h. h.1));
+  shelf_ended = λ _. IfSome_then (before.shelf.told name) first.text (λ _ h. h.1);
+  input_ended = λ e. absurd (no_end_long e);
+  done = λ e. absurd (cc);
+  refused = λ e. absurd (cc);
+  read = λ e. absurd (cc);
+  write = λ e. absurd (cc);
+  prefix = λ e. absurd (cc);
+  too_long = λ _. inr (second.long refl);
+  too_much = λ _. inl refl;
+  silent = λ _. same;
+  complete = λ _. if_told (before.shelf.told name) before.input.left _ (λ _ r there _ short. absurd (too_short r there short));
+  past_limit = λ _. if_told (before.shelf.told name) before.input.left _ (λ _ _ _ _. inl refl);
+}
   where
     no_end_long : (status.TooLong ≡ status.Done) ⊎ (status.TooLong ≡ status.Fault) → ⊥
     no_end_long (inl e) = absurd (cc)
@@ -207,22 +207,22 @@ input_ends name before now source read.TooLong first second same = record {
     too_short : (r : List ℕ) → before.input.left ≡ Some r → length r ≤ LIMIT → ⊥
     too_short r there short = let long : IfSome (Some r) (λ left. LIMIT < length left) = subst (λ o. IfSome o (λ left. LIMIT < length left)) there (second.long_text refl) in omega (arith, long, short)
 input_ends name before now source read.NoMemory first second same = record {
-    words = (λ e. absurd (cc), λ e. absurd (cc));
-    untouched = λ e. absurd (cc);
-    order = inr (IfSome_then (before.shelf.told name) first.text (λ _ h. h.1));
-    shelf_ended = λ _. IfSome_then (before.shelf.told name) first.text (λ _ h. h.1);
-    input_ended = λ e. absurd (no_end_memory e);
-    done = λ e. absurd (cc);
-    refused = λ e. absurd (cc);
-    read = λ e. absurd (cc);
-    write = λ e. absurd (cc);
-    prefix = λ e. absurd (cc);
-    too_long = λ e. absurd (cc);
-    too_much = λ _. inr refl;
-    silent = λ _. same;
-    complete = λ _. if_told (before.shelf.told name) before.input.left _ (λ s r _ _ _. memory_ends (fault s r));
-    past_limit = λ _. if_told (before.shelf.told name) before.input.left _ (λ _ _ _ _. inr refl);
-  }
+  words = (λ e. absurd (cc), λ e. absurd (cc));
+  untouched = λ e. absurd (cc);
+  order = inr (IfSome_then (before.shelf.told name) first.text (λ _ h. h.1));
+  shelf_ended = λ _. IfSome_then (before.shelf.told name) first.text (λ _ h. h.1);
+  input_ended = λ e. absurd (no_end_memory e);
+  done = λ e. absurd (cc);
+  refused = λ e. absurd (cc);
+  read = λ e. absurd (cc);
+  write = λ e. absurd (cc);
+  prefix = λ e. absurd (cc);
+  too_long = λ e. absurd (cc);
+  too_much = λ _. inr refl;
+  silent = λ _. same;
+  complete = λ _. if_told (before.shelf.told name) before.input.left _ (λ s r _ _ _. memory_ends (fault s r));
+  past_limit = λ _. if_told (before.shelf.told name) before.input.left _ (λ _ _ _ _. inr refl);
+}
   where
     no_end_memory : (status.NoMemory ≡ status.Done) ⊎ (status.NoMemory ≡ status.Fault) → ⊥
     no_end_memory (inl e) = absurd (cc)

@@ -71,10 +71,7 @@ fn show_local(zone: &Tz<'_>, local: &PlainDateTime, text: &mut Vec<u8>) -> Resul
 }
 
 /// Adds the texts of at most two instants.
-fn show_result(
-    dates: OffsetResult<OffsetDateTime>,
-    text: &mut Vec<u8>,
-) -> Result<(), AllocError>
+fn show_result(dates: OffsetResult<OffsetDateTime>, text: &mut Vec<u8>) -> Result<(), AllocError>
     requires { text.old.items ≡ [] }
     ensures { OnOk result (text.new.items ≡ line_shown (map shown_of (listed dates))) }
 {

@@ -271,8 +271,16 @@ fn a_failed_write_leaves_a_prefix(rt: HostRuntime) -> Result<(), Fail> {
 #[test]
 fn a_full_output_is_a_failed_one(rt: HostRuntime) -> Result<(), Fail> {
     let alloc = rt.alloc();
-    let requests = b"at Test/Fixed 0\nat Test/Fixed 0\nat Test/Fixed 0\nat Test/Fixed 0\nat Test/Fixed 0\nat Test/Fixed 0\n";
-    let outcome = run_over(alloc, "source", FIXED.as_bytes(), requests, 7, &NONE_FAILING)?;
+    let requests =
+        b"at Test/Fixed 0\nat Test/Fixed 0\nat Test/Fixed 0\nat Test/Fixed 0\nat Test/Fixed 0\nat Test/Fixed 0\n";
+    let outcome = run_over(
+        alloc,
+        "source",
+        FIXED.as_bytes(),
+        requests,
+        7,
+        &NONE_FAILING,
+    )?;
     assert_eq!(rt; outcome.status.code(), 4);
     assert_eq!(rt; outcome.sink.taken().len(), ROOM);
     Ok(())
@@ -365,6 +373,11 @@ fn a_zone_is_opened(rt: HostRuntime) -> Result<(), Fail> {
     };
     // The first span, and two changes in each year of 2007 to 2099.
     assert_eq!(rt; set.span_count(), 187);
-    assert!(rt; matches!(open_zone(alloc, &table, "New_York"), Err(ZoneFault::UnknownZone)));
+    assert!(rt;
+        matches!(
+            open_zone(alloc, &table, "New_York"),
+            Err(ZoneFault::UnknownZone)
+        )
+    );
     Ok(())
 }

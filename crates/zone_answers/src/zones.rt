@@ -72,7 +72,8 @@ impl<'t> Zones<'t> {
         }
         let set = open_zone(self.alloc, self.table, name)?;
         let orderly = tz_lookup::is_orderly(&set);
-        self.opened.insert(self.alloc, name, Opened { set, orderly })?;
+        self.opened
+            .insert(self.alloc, name, Opened { set, orderly })?;
         Ok(())
     }
 

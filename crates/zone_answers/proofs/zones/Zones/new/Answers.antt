@@ -4,6 +4,6 @@ use Rattle.zone_answers.proofs.zones.Zones.new.Goals as goal
 
 pub returns-clause-opened : goal.returns-clause-opened
 returns-clause-opened c = record {
-    bounded = c.requires;
-    each = λ name. rw (c.new.ensures, get-empty text_cmp name) tt;
-  }
+  bounded = c.requires;
+  each = λ name. rw (c.new.ensures, get-empty text_cmp name) tt;
+}

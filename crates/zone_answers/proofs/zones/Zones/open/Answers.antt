@@ -8,7 +8,7 @@ returns-clause-there c = ap (λ zones. is_some (get zones c.args.name.now)) c.in
 
 pub returns-clause-opened : goal.returns-clause-opened
 returns-clause-opened c = record {
-    bounded = c.requires.bounded;
-    each = rw c.in_ok-insert.ensures.ok (each_kept c.args.self.now.table.now c.args.self.now.opened c.args.name.now _ c.requires.each
-        (record { compiled = c.in_ok-set.ensures.ok.1; accepted = c.in_ok-set.ensures.accepted; marked = c.is_orderly-orderly.ensures }));
-  }
+  bounded = c.requires.bounded;
+  each = rw c.in_ok-insert.ensures.ok (each_kept c.args.self.now.table.now c.args.self.now.opened c.args.name.now _ c.requires.each
+      (record { compiled = c.in_ok-set.ensures.ok.1; accepted = c.in_ok-set.ensures.accepted; marked = c.is_orderly-orderly.ensures }));
+}
