@@ -45,8 +45,9 @@ fn at(second: i64) -> Result<OffsetDateTime, Fail> {
 
 /// The local time so many seconds from 1970-01-01 00:00:00.
 fn local(second: i64) -> Result<PlainDateTime, Fail> {
-    let at_utc = at(second)?;
-    Ok(PlainDateTime::new(at_utc.date(), at_utc.time()))
+    let date = at(second)?.date();
+    let time = at(second)?.time();
+    Ok(PlainDateTime::new(date, time))
 }
 
 fn zone_of(set: &FixedTimespanSet) -> Result<Tz<'_>, Fail> {
