@@ -35,7 +35,7 @@ pub struct SpanCounts {
 pub struct OffsetCounts {
     /// The instants that were asked.
     pub instants: u64,
-    /// The instants in saving time.
+    /// The instants with a saving above 0.
     pub saving: u64,
     /// The local times with no offset.
     pub none: u64,

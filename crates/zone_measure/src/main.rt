@@ -7,7 +7,7 @@
 //! - `join`: the lines are read and joined to a table; counts its zones, its links and its rulesets;
 //! - `compile`: each zone of the table, and each link to one, is compiled; counts the names and their spans;
 //! - `look`: each of these is asked at 400 instants and 400 local times of the years 1850 to 2100; counts the instants,
-//!   those in saving time, and the local times with no offset, with one and with two.
+//!   those with a saving above 0, and the local times with no offset, with one and with two.
 //!
 //! The exit status is 0 where the line was printed. With any other nothing is: 1, the words are not these; 2, a line or a
 //! zone of FILE is refused; 3, FILE can't be read; 4, the line can't be written; 5, memory ran out; 6, FILE is longer than
