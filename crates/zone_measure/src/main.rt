@@ -1,0 +1,98 @@
+//! `zone_measure FILE PART TIMES`: does one part of the work over the source text in FILE, TIMES times, and prints on one
+//! line what it counted in all of them. Clocks around two runs that differ in TIMES alone tell what the part takes.
+//!
+//! PART is one of
+//!
+//! - `read`: each line is read by itself; counts the lines, and of them the blank ones and comments;
+//! - `join`: the lines are read and joined to a table; counts its zones, its links and its rulesets;
+//! - `compile`: each zone of the table, and each link to one, is compiled; counts the names and their spans;
+//! - `look`: each of these is asked at 400 instants and 400 local times of the years 1850 to 2100; counts the instants,
+//!   those with a saving above 0, and the local times with no offset, with one and with two.
+//!
+//! The exit status is 0 where the line was printed. With any other nothing is: 1, the words are not these; 2, a line or a
+//! zone of FILE is refused; 3, FILE can't be read; 4, the line can't be written; 5, memory ran out; 6, FILE is longer than
+//! 16,777,216 bytes; 7, the words can't be taken; 8, the parser can't be built.
+#![tactic(auto)]
+
+ghost use Rattle.std.specs.Prelude.{◌≤◌, length, IfOk};
+
+mod counts;
+mod job;
+mod parts;
+mod stopped;
+
+use counts::Counts;
+use job::Job;
+use parts::count;
+use std::alloc::Global;
+use std::process::ExitCode;
+use std::{env, io};
+use stopped::Stopped;
+use zone_line::LineParser;
+use zone_source::{FileShelf, LIMIT, ReadEnd, Status, fetch_all};
+
+/// The words after the program's own name couldn't be taken.
+const NO_WORDS: u8 = 7;
+
+/// The parser couldn't be built.
+const NOT_BUILT: u8 = 8;
+
+fn main(rt: HostRuntime) -> ExitCode {
+    let alloc = rt.alloc();
+    let Ok(words) = words(&rt, alloc) else {
+        return ExitCode::from(NO_WORDS);
+    };
+    let Ok(parser) = LineParser::new(alloc) else {
+        return ExitCode::from(NOT_BUILT);
+    };
+    match measure(rt, &parser, &words) {
+        Ok(()) => ExitCode::SUCCESS,
+        Err(stopped) => ExitCode::from(stopped.status.code()),
+    }
+}
+
+/// The words after the program's own name.
+fn words(rt: &HostRuntime, alloc: Global) -> io::Result<Vec<String>> {
+    Ok(env::args(rt)?.skip(1).collect(alloc)?)
+}
+
+/// Does what the words ask, and prints what it counted.
+fn measure(rt: HostRuntime, parser: &LineParser, words: &[String]) -> Result<(), Stopped> {
+    let Some(job) = Job::read(words) else {
+        return Err(Stopped::by(Status::Words));
+    };
+    let source = source_of(rt, job.file)?;
+    let counts = count(rt.alloc(), parser, &source, &job)?;
+    match print(rt, &counts) {
+        Ok(()) => Ok(()),
+        Err(_) => Err(Stopped::by(Status::Write)),
+    }
+}
+
+/// The bytes of a file, at most 16,777,216.
+fn source_of(rt: HostRuntime, file: &str) -> Result<Vec<u8>, ReadEnd>
+    ensures { IfOk result (λ bytes. length bytes.items ≤ LIMIT) }
+{
+    let mut shelf = FileShelf::new(rt);
+    fetch_all(rt.alloc(), &mut shelf, file)
+}
+
+/// Prints the line of the counts.
+fn print(rt: HostRuntime, counts: &Counts) -> io::Result<()> {
+    match counts {
+        Counts::Read(c) => println!(rt; "{} lines, {} blank", c.lines, c.blank),
+        Counts::Join(c) => {
+            println!(rt;
+                "{} zones, {} links, {} rulesets",
+                c.zones, c.links, c.rulesets
+            )
+        }
+        Counts::Compile(c) => println!(rt; "{} names, {} spans", c.names, c.spans),
+        Counts::Look(c) => {
+            println!(rt;
+                "{} instants, {} saving; {} none, {} one, {} two",
+                c.instants, c.saving, c.none, c.one, c.two
+            )
+        }
+    }
+}
