@@ -1,7 +1,7 @@
 //! Local times of two and of three spans, what a set is refused for, and one function over zones of two kinds.
 use crate::{
     Fixed, FixedTimespan, FixedTimespanSet, Offset, OffsetDateTimeExt, OffsetResult,
-    PrimitiveDateTimeExt, TimeZone, Tz, TzFault, is_orderly,
+    PrimitiveDateTimeExt, TimeZone, Tz, TzFault,
 };
 use civil_base::{OffsetDateTime, PlainDateTime, UtcOffset};
 use owned::{Items, Text};
@@ -100,8 +100,8 @@ fn a_gap_and_a_fold(rt: HostRuntime) -> Result<(), Fail> {
 fn three_instants_of_one_local_time(rt: HostRuntime) -> Result<(), Fail> {
     let alloc = rt.alloc();
     let set = set_of(alloc, 7200, &[(1000, 3600), (2000, 0)])?;
-    assert!(rt; !is_orderly(&set));
     let zone = zone_of(&set)?;
+    assert!(rt; !zone.is_orderly());
     expect_offsets(&rt, &zone, 5000, Some(7200), Some(3600))?;
     let mut seconds = Vec::new(alloc);
     for date in zone.instants_local(&local(5000)?) {
