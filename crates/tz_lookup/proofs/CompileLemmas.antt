@@ -24,7 +24,8 @@ le_le : (a b c : ℤ) → a ≤ℤ b → b ≤ℤ c → a ≤ℤ c
 le_le a b c h k = omega (arith, ints)
 
 -- the first is at or before each
-first_least : (e : Entry) (es : List Entry) → TimesRise (e ∷ es) → (j : ℕ) → j < length (map shift_of (e ∷ es)) → e.0 ≤ℤ (shift_at (map shift_of (e ∷ es)) j).0
+first_least : (e : Entry) (es : List Entry) → TimesRise (e ∷ es) → (j : ℕ) → j < length (map shift_of (e ∷ es))
+    → e.0 ≤ℤ (shift_at (map shift_of (e ∷ es)) j).0
 first_least e es h zero l = le_itself e.0
 first_least e [] h (suc j) l = absurd (omega arith)
 first_least e (f ∷ fs) h (suc j) l = le_le _ _ _ h.0 (first_least f fs h.1 j (omega arith))
@@ -47,28 +48,35 @@ times_bounded [] h k d l = absurd (omega arith)
 times_bounded (e ∷ es) h zero d l = span_time e.0 (and_parts (is_small e.0) _ (and_parts (is_bounded_entry e) _ h).0).0
 times_bounded (e ∷ es) h (suc k) d l = times_bounded es (and_parts (is_bounded_entry e) _ h).1 k d (omega arith)
 
-accepted : (set : FixedTimespanSet) → is_bounded (spans_of set) ≡ true → TimesRise set.others → is_in_offset_range (schedule_of set) ≡ true → IsAccepted (schedule_of set)
+accepted : (set : FixedTimespanSet) → is_bounded (spans_of set) ≡ true → TimesRise set.others
+    → is_in_offset_range (schedule_of set) ≡ true → IsAccepted (schedule_of set)
 accepted set bounded rise range = record {
   range = range;
   times = times_from_rise set.others rise;
-  bound = (all_shifts (λ s. IsSpanTime s.0) set.others (pos 0, set.first)).1 (times_bounded set.others (and_parts (is_bounded_span set.first) _ bounded).1);
+  bound =
+      (all_shifts (λ s. IsSpanTime s.0) set.others (pos 0, set.first)).1
+          (times_bounded set.others (and_parts (is_bounded_span set.first) _ bounded).1);
 }
 
 -- of a set with these spans
-pub accepted_spans : (set : FixedTimespanSet) (compiled : spans.FixedTimespanSet) → set.first ≡ compiled.first → set.others ≡ compiled.rest
+pub accepted_spans : (set : FixedTimespanSet) (compiled : spans.FixedTimespanSet) → set.first ≡ compiled.first
+    → set.others ≡ compiled.rest
     → is_bounded compiled ≡ true → TimesRise compiled.rest → is_in_offset_range (schedule_of set) ≡ true → IsAccepted (schedule_of set)
 accepted_spans set compiled first others bounded rise range =
     accepted set (ap is_bounded (same set compiled first others) ∙ bounded) (subst TimesRise (sym others) rise) range
   where
-    same : (set : FixedTimespanSet) (compiled : spans.FixedTimespanSet) → set.first ≡ compiled.first → set.others ≡ compiled.rest → spans_of set ≡ compiled
+    same : (set : FixedTimespanSet) (compiled : spans.FixedTimespanSet) → set.first ≡ compiled.first → set.others ≡ compiled.rest
+        → spans_of set ≡ compiled
     same set compiled first others = λ i. record { first = first i; rest = others i }
 
-totals_same : (set : FixedTimespanSet) (compiled : spans.FixedTimespanSet) → set.first ≡ compiled.first → set.others ≡ compiled.rest → totals_of compiled ≡ schedule_of set
+totals_same : (set : FixedTimespanSet) (compiled : spans.FixedTimespanSet) → set.first ≡ compiled.first → set.others ≡ compiled.rest
+    → totals_of compiled ≡ schedule_of set
 unfolding totals_of
 totals_same set compiled first others = λ i. record { first = total (sym first i); shifts = map shift_of (sym others i) }
 
 pub far_spans : (set : FixedTimespanSet) (compiled : spans.FixedTimespanSet) (found : Option (Result spans.FixedTimespanSet SpanFault))
-    → set.first ≡ compiled.first → set.others ≡ compiled.rest → found ≡ Some (Ok compiled) → is_in_offset_range (schedule_of set) ≡ false → IsTooFar found
+    → set.first ≡ compiled.first → set.others ≡ compiled.rest → found ≡ Some (Ok compiled) → is_in_offset_range (schedule_of set) ≡ false
+    → IsTooFar found
 far_spans set compiled found first others is far = record {
   set = compiled;
   is_found = is;

@@ -77,8 +77,11 @@ module _ (shifts : List Shift) (x : ℤ) where
         (false_int _ _ (le_le _ _ _ (times i j l (omega (arith, next.0))) (int_false _ _ is.0)))
         (true_next (i + 1) (length shifts) _ x (omega (arith, next.0)) (le_le _ _ _ (times (i + 1) (j + 1) (omega arith) next.0) next.1));
     after = λ i j _ l m e.
-        let is = int_true _ _ (is_greater (int_lt x (shift_at shifts i).0) (ltb (i + 1) (length shifts) && int_le (shift_at shifts (i + 1)).0 x) e) in
-        greater (int_lt x (shift_at shifts j).0) (ltb (j + 1) (length shifts) && int_le (shift_at shifts (j + 1)).0 x) (true_int _ _ (lt_le _ _ _ is (times i j l (omega (arith, m, size)))));
+        let is =
+            int_true _ _ (is_greater (int_lt x (shift_at shifts i).0)
+                (ltb (i + 1) (length shifts) && int_le (shift_at shifts (i + 1)).0 x) e) in
+        greater (int_lt x (shift_at shifts j).0) (ltb (j + 1) (length shifts) && int_le (shift_at shifts (j + 1)).0 x)
+            (true_int _ _ (lt_le _ _ _ is (times i j l (omega (arith, m, size)))));
   }
 
   pub cut_found : (k : ℕ) → k < length shifts → TimesDontFall shifts → order_at shifts k x ≡ Equal → IsCut shifts (k + 1) x
@@ -97,11 +100,18 @@ module _ (shifts : List Shift) (x : ℤ) where
       (false_next (k + 1) (length shifts) _ x (λ l. cut.after (k + 1) (omega arith) l))
 
   -- where no entry between low and high is the last, none of them is at or before x
-  pub cut_lowest : (low high : ℕ) → TimesDontFall shifts → IsBetween shifts low high x → ((k : ℕ) → low ≤ k → k < high → order_at shifts k x ≡ Equal → ⊥) → IsCut shifts low x
+  pub cut_lowest : (low high : ℕ) → TimesDontFall shifts → IsBetween shifts low high x
+      → ((k : ℕ) → low ≤ k → k < high → order_at shifts k x ≡ Equal → ⊥) → IsCut shifts low x
   cut_lowest low high times between none =
       let cut = cut_of shifts x times in
-      let least : low ≤ cut.0 = ⊎_elim {C = low ≤ cut.0} (λ l. absurd (opposed _ _ (cut.1.after cut.0 (omega arith) (omega (arith, between.order, between.within))) (between.before cut.0 l))) (λ l. l) (cases_lt cut.0 low) in
-      let most : cut.0 ≤ high = ⊎_elim {C = cut.0 ≤ high} (λ l. absurd (opposed _ _ (between.after high (omega arith) (omega (arith, cut.1.within))) (cut.1.before high l))) (λ l. l) (cases_lt high cut.0) in
+      let least : low ≤ cut.0 =
+          ⊎_elim {C = low ≤ cut.0}
+              (λ l. absurd (opposed _ _ (cut.1.after cut.0 (omega arith) (omega (arith, between.order, between.within)))
+                  (between.before cut.0 l))) (λ l. l) (cases_lt cut.0 low) in
+      let most : cut.0 ≤ high =
+          ⊎_elim {C = cut.0 ≤ high}
+              (λ l. absurd (opposed _ _ (between.after high (omega arith) (omega (arith, cut.1.within))) (cut.1.before high l))) (λ l. l)
+                  (cases_lt high cut.0) in
       at_lowest cut.0 cut.1 least most
     where
       at_lowest : (k : ℕ) → IsCut shifts k x → low ≤ k → k ≤ high → IsCut shifts low x

@@ -13,7 +13,8 @@ use Rattle.tz_lookup.proofs.ScanLemmas.{scan_totals}
 use Rattle.tz_lookup.proofs.SetLemmas.{count_same}
 use Rattle.tz_lookup.proofs.TimeZoneLemmas.{shown_at_offset, in_force_from_totals}
 
-dates_at : (x : ℤ) (total : ℕ → ℤ) (ks : List ℕ) → map shown_of (map (λ k. at_offset x (total k)) ks) ≡ map (λ o. (instant_at x o, o)) (map total ks)
+dates_at : (x : ℤ) (total : ℕ → ℤ) (ks : List ℕ)
+    → map shown_of (map (λ k. at_offset x (total k)) ks) ≡ map (λ o. (instant_at x o, o)) (map total ks)
 dates_at x total [] = refl
 dates_at x total (k ∷ ks) = (λ i. shown_at_offset x (total k) i ∷ dates_at x total ks i)
 

@@ -6,5 +6,7 @@ use Rattle.tz_lookup.specs.Spans.{total_of, IsCut}
 use Rattle.tz_lookup.proofs.SpanLemmas.{total_from_cut}
 use Rattle.tz_lookup.proofs.Totals.{total_from, total_is}
 
-pub at_cut : (zone : Schedule) (t s : ℤ) (k : ℕ) → s ≡ seconds_of t → IsCut zone.shifts k s → total_of zone.first zone.shifts k ≡ total_at zone t
-at_cut zone t s k e cut = sym (total_from_cut zone.first zone.shifts k s cut) ∙ ap (total_from zone.first zone.shifts) e ∙ sym (total_is zone t)
+pub at_cut : (zone : Schedule) (t s : ℤ) (k : ℕ) → s ≡ seconds_of t → IsCut zone.shifts k s
+    → total_of zone.first zone.shifts k ≡ total_at zone t
+at_cut zone t s k e cut =
+    sym (total_from_cut zone.first zone.shifts k s cut) ∙ ap (total_from zone.first zone.shifts) e ∙ sym (total_is zone t)

@@ -34,7 +34,8 @@ reads total x o = int_eq (total (instant_at x o)) o
 abbrev kept : (ℤ → ℤ) → ℤ → ℤ → ℕ → List ℤ
 kept total x o n = map (instant_at x) (filter (reads total x) (down_from o n))
 
-kept_takes : (total : ℤ → ℤ) (x o : ℤ) (n : ℕ) → reads total x o ≡ true → kept total x o (suc n) ≡ instant_at x o ∷ kept total x (o -ℤ pos 1) n
+kept_takes : (total : ℤ → ℤ) (x o : ℤ) (n : ℕ) → reads total x o ≡ true
+    → kept total x o (suc n) ≡ instant_at x o ∷ kept total x (o -ℤ pos 1) n
 kept_takes total x o n h =
     let rest = filter (reads total x) (down_from (o -ℤ pos 1) n) in
     ap (λ b. map (instant_at x) (cond b (o ∷ rest) rest)) h
@@ -70,9 +71,11 @@ cases_more x xs t (suc k, l, e) here there = there (k, omega (arith, l), e)
 kept_least : (total : ℤ → ℤ) (x o : ℤ) (n : ℕ) (t : ℤ) → Contains (kept total x o n) t → instant_at x o ≤ℤ t
 kept_least total x o zero t c = absurd (omega (arith, c.1))
 kept_least total x o (suc n) t c =
-    let rest : Contains (kept total x (o -ℤ pos 1) n) t → instant_at x o ≤ℤ t = λ d. le_lt _ _ _ (back_by_one x o) (kept_least total x (o -ℤ pos 1) n t d) in
+    let rest : Contains (kept total x (o -ℤ pos 1) n) t → instant_at x o ≤ℤ t =
+        λ d. le_lt _ _ _ (back_by_one x o) (kept_least total x (o -ℤ pos 1) n t d) in
     ⊎_elim {C = instant_at x o ≤ℤ t}
-    (λ h. cases_more (instant_at x o) (kept total x (o -ℤ pos 1) n) t (subst (λ l. Contains l t) (kept_takes total x o n h) c) (λ e. le_same _ _ e) rest)
+    (λ h. cases_more (instant_at x o) (kept total x (o -ℤ pos 1) n) t (subst (λ l. Contains l t) (kept_takes total x o n h) c)
+        (λ e. le_same _ _ e) rest)
     (λ h. rest (subst (λ l. Contains l t) (kept_skips total x o n h) c))
     (true_or_false (reads total x o))
 
@@ -82,7 +85,8 @@ kept_rises total x o (suc n) =
     let less = kept_rises total x (o -ℤ pos 1) n in
     ⊎_elim {C = Rises (kept total x o (suc n))}
     (λ h. subst Rises (sym (kept_takes total x o n h))
-    (pairs_more (λ s t. s <ℤ t) (instant_at x o) (kept total x (o -ℤ pos 1) n) (λ t c. lt_le _ _ _ (back_by_one x o) (kept_least total x (o -ℤ pos 1) n t c)) less))
+    (pairs_more (λ s t. s <ℤ t) (instant_at x o) (kept total x (o -ℤ pos 1) n)
+        (λ t c. lt_le _ _ _ (back_by_one x o) (kept_least total x (o -ℤ pos 1) n t c)) less))
     (λ h. subst Rises (sym (kept_skips total x o n h)) less)
     (true_or_false (reads total x o))
 
@@ -109,7 +113,8 @@ none_left : (p o : ℤ) → p ≤ℤ o → o <ℤ (p +ℤ pos 0) → ⊥
 none_left p o h k = omega (arith, ints)
 
 -- every offset among those that are tried is found
-kept_all : (total : ℤ → ℤ) (x o : ℤ) (n : ℕ) (t : ℤ) → Reads total x t → total t ≤ℤ o → o <ℤ (total t +ℤ pos n) → Contains (kept total x o n) t
+kept_all : (total : ℤ → ℤ) (x o : ℤ) (n : ℕ) (t : ℤ) → Reads total x t → total t ≤ℤ o → o <ℤ (total t +ℤ pos n)
+    → Contains (kept total x o n) t
 kept_all total x o zero t r h k = absurd (none_left _ _ h k)
 kept_all total x o (suc n) t r h k =
     let back : t ≡ instant_at x (total t) = moved x (total t) t r in
@@ -117,11 +122,14 @@ kept_all total x o (suc n) t r h k =
     (λ is. let e = eq_from_test (total t) o is in
     let here : instant_at x o ≡ t = ap (instant_at x) (sym e) ∙ sym back in
     let passes : reads total x o ≡ true = test_from_eq _ _ (ap total here ∙ e) in
-    subst (λ l. Contains l t) (sym (kept_takes total x o n passes)) (subst (λ s. Contains (s ∷ kept total x (o -ℤ pos 1) n) t) (sym here) (contains_head t (kept total x (o -ℤ pos 1) n))))
+    subst (λ l. Contains l t) (sym (kept_takes total x o n passes))
+        (subst (λ s. Contains (s ∷ kept total x (o -ℤ pos 1) n) t) (sym here) (contains_head t (kept total x (o -ℤ pos 1) n))))
     (λ other.
-    let rest = kept_all total x (o -ℤ pos 1) n t r (lower _ _ n h (λ e. false_true (sym other ∙ test_from_eq _ _ e))) (one_less _ _ n k) in
+    let rest =
+        kept_all total x (o -ℤ pos 1) n t r (lower _ _ n h (λ e. false_true (sym other ∙ test_from_eq _ _ e))) (one_less _ _ n k) in
     ⊎_elim {C = Contains (kept total x o (suc n)) t}
-    (λ is. subst (λ l. Contains l t) (sym (kept_takes total x o n is)) (contains_more (instant_at x o) (kept total x (o -ℤ pos 1) n) t rest))
+    (λ is. subst (λ l. Contains l t) (sym (kept_takes total x o n is))
+        (contains_more (instant_at x o) (kept total x (o -ℤ pos 1) n) t rest))
     (λ is. subst (λ l. Contains l t) (sym (kept_skips total x o n is)) rest)
     (true_or_false (reads total x o)))
     (true_or_false (int_eq (total t) o))
@@ -151,4 +159,5 @@ instants_are total x h = record {
 pub instants_one : (total : ℤ → ℤ) (x : ℤ) (ts : List ℤ) → ((t : ℤ) → IsOffset (total t)) → AreInstants total x ts → instants total x ≡ ts
 instants_one total x ts h are =
     let all = instants_are total x h in
-    same_rising (instants total x) ts all.rising are.rising (λ t c. (are.exact t).1 ((all.exact t).0 c)) (λ t c. (all.exact t).1 ((are.exact t).0 c))
+    same_rising (instants total x) ts all.rising are.rising (λ t c. (are.exact t).1 ((all.exact t).0 c))
+        (λ t c. (all.exact t).1 ((are.exact t).0 c))

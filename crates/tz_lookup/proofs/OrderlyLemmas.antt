@@ -40,7 +40,9 @@ module _ (first : ℤ) (shifts : List Shift) where
     apart = λ a l m. absurd (omega arith);
   }
 
-  pub orderly_more : (h i : ℕ) → h + 1 ≡ i → IsOrderlyUpTo first shifts i → local_start shifts i ≤ℤ local_start shifts (i + 1) → local_end first shifts h ≤ℤ local_end first shifts i → local_end first shifts h ≤ℤ local_start shifts (i + 1) → IsOrderlyUpTo first shifts (i + 1)
+  pub orderly_more : (h i : ℕ) → h + 1 ≡ i → IsOrderlyUpTo first shifts i → local_start shifts i ≤ℤ local_start shifts (i + 1)
+      → local_end first shifts h ≤ℤ local_end first shifts i → local_end first shifts h ≤ℤ local_start shifts (i + 1)
+      → IsOrderlyUpTo first shifts (i + 1)
   orderly_more h i e so_far start end far = record {
     starts = λ a b some l m n.
         ⊎_elim {C = local_start shifts a ≤ℤ local_start shifts b}
@@ -48,7 +50,8 @@ module _ (first : ℤ) (shifts : List Shift) where
         (λ after.
         let last : b ≡ i + 1 = omega arith in
         ⊎_elim {C = local_start shifts a ≤ℤ local_start shifts b}
-        (λ less. le_le _ _ _ (so_far.starts a i some (omega arith) (omega arith) (omega arith)) (subst (λ k. local_start shifts i ≤ℤ local_start shifts k) (sym last) start))
+        (λ less. le_le _ _ _ (so_far.starts a i some (omega arith) (omega arith) (omega arith))
+            (subst (λ k. local_start shifts i ≤ℤ local_start shifts k) (sym last) start))
         (λ same. same_starts a b (omega arith))
         (cases_lt a b))
         (cases_lt b (i + 1));
@@ -58,7 +61,8 @@ module _ (first : ℤ) (shifts : List Shift) where
         (λ after.
         let last : i ≡ b = omega arith in
         ⊎_elim {C = local_end first shifts a ≤ℤ local_end first shifts b}
-        (λ less. le_le _ _ _ (so_far.ends a h (omega arith) (omega arith) (omega arith)) (subst (λ k. local_end first shifts h ≤ℤ local_end first shifts k) last end))
+        (λ less. le_le _ _ _ (so_far.ends a h (omega arith) (omega arith) (omega arith))
+            (subst (λ k. local_end first shifts h ≤ℤ local_end first shifts k) last end))
         (λ same. same_ends a b (omega arith))
         (cases_lt a b))
         (cases_lt b i);
@@ -68,7 +72,8 @@ module _ (first : ℤ) (shifts : List Shift) where
         (λ after.
         let this : h ≡ a = omega arith in
         let next : i + 1 ≡ a + 2 = omega arith in
-        subst (λ k. local_end first shifts a ≤ℤ local_start shifts k) next (subst (λ k. local_end first shifts k ≤ℤ local_start shifts (i + 1)) this far))
+        subst (λ k. local_end first shifts a ≤ℤ local_start shifts k) next
+            (subst (λ k. local_end first shifts k ≤ℤ local_start shifts (i + 1)) this far))
         (cases_lt (a + 2) (i + 1));
   }
 
@@ -76,7 +81,8 @@ module _ (first : ℤ) (shifts : List Shift) where
   orderly_all i all h = record {
     starts = λ a b some l m. h.starts a b some l (omega arith) m;
     ends = λ a b l m. h.ends a b l (omega arith) m;
-    apart = λ a x p q. never _ _ _ (p.lasts (omega (arith, q.within))) (h.apart a (omega (arith, q.within)) q.within) (q.begun (omega arith));
+    apart =
+        λ a x p q. never _ _ _ (p.lasts (omega (arith, q.within))) (h.apart a (omega (arith, q.within)) q.within) (q.begun (omega arith));
   }
 
   -- what an orderly zone says of neighbours
@@ -87,16 +93,20 @@ module _ (first : ℤ) (shifts : List Shift) where
   end_goes g i e l h = h.ends g i (omega arith) l
 
   -- else the later start lies in both
-  pub far_apart : (g i : ℕ) → g + 1 ≡ i → i + 1 ≤ length shifts → IsOrderly first shifts → local_start shifts (i + 1) <ℤ local_end first shifts g → ⊥
+  pub far_apart : (g i : ℕ) → g + 1 ≡ i → i + 1 ≤ length shifts → IsOrderly first shifts
+      → local_start shifts (i + 1) <ℤ local_end first shifts g → ⊥
   far_apart g i e l h near =
       let next : i + 1 ≡ g + 2 = omega arith in
       let x = local_start shifts (g + 2) in
       let close : x <ℤ local_end first shifts g = subst (λ k. local_start shifts k <ℤ local_end first shifts g) next near in
       h.apart g x
       (record { within = omega arith; begun = λ some. h.starts g (g + 2) some (omega arith) (omega arith); lasts = λ _. close })
-      (record { within = omega arith; begun = λ some. same_starts (g + 2) (g + 2) refl; lasts = λ more. lt_le _ _ _ close (h.ends g (g + 2) (omega arith) more) })
+      (record { within = omega arith; begun = λ some. same_starts (g + 2) (g + 2) refl; lasts = λ more. lt_le _ _ _ close
+          (h.ends g (g + 2) (omega arith) more) })
 
-  pub neighbours_go : (g i : ℕ) → g + 1 ≡ i → i + 1 ≤ length shifts → IsOrderly first shifts → (local_start shifts i ≤ℤ local_start shifts (i + 1)) × (local_end first shifts g ≤ℤ local_end first shifts i) × (local_end first shifts g ≤ℤ local_start shifts (i + 1))
+  pub neighbours_go : (g i : ℕ) → g + 1 ≡ i → i + 1 ≤ length shifts → IsOrderly first shifts
+      → (local_start shifts i ≤ℤ local_start shifts (i + 1)) × (local_end first shifts g ≤ℤ local_end first shifts i)
+      × (local_end first shifts g ≤ℤ local_start shifts (i + 1))
   neighbours_go g i e l h = (
     start_goes i (omega arith) l h,
     end_goes g i e (omega arith) h,

@@ -36,23 +36,27 @@ all_tests (e ∷ es) h zero l = (and_parts (is_offset (total e.1)) _ h).0
 all_tests (e ∷ es) h (suc k) l = all_tests es (and_parts (is_offset (total e.1)) _ h).1 k (omega arith)
 
 -- each span of an accepted set has an offset
-pub span_offset : (set : FixedTimespanSet) (i : ℕ) → IsAccepted (schedule_of set) → i ≤ length set.others → is_offset (total_of_span set i) ≡ true
+pub span_offset : (set : FixedTimespanSet) (i : ℕ) → IsAccepted (schedule_of set) → i ≤ length set.others
+    → is_offset (total_of_span set i) ≡ true
 span_offset set zero h l = (and_parts (is_offset (total set.first)) _ h.range).0
 span_offset set (suc k) h l = all_tests set.others (and_parts (is_offset (total set.first)) _ h.range).1 k (omega arith)
 
-pub time_bound : (set : FixedTimespanSet) (k : ℕ) → IsAccepted (schedule_of set) → k < length set.others → IsSpanTime (shift_at (shifts_of set) k).0
+pub time_bound : (set : FixedTimespanSet) (k : ℕ) → IsAccepted (schedule_of set) → k < length set.others
+    → IsSpanTime (shift_at (shifts_of set) k).0
 time_bound set k h l = h.bound k (pos 0, pos 0) (subst (λ n. k < n) (sym (count_same set)) l)
 
 pub all_shifts : (P : Shift → Type 0) (es : List Entry) (d : Entry) → All P (map shift_of es) ↔ All (λ e. P (shift_of e)) es
 all_shifts P es d0 = (
-  (λ h k d l. subst P (get_or-map shift_of es k d (shift_of d) l) (h k (shift_of d) (subst (λ n. k < n) (sym (length-map es shift_of)) l))),
+  (λ h k d l. subst P (get_or-map shift_of es k d (shift_of d) l)
+      (h k (shift_of d) (subst (λ n. k < n) (sym (length-map es shift_of)) l))),
   (λ h k d l.
       let inside : k < length es = subst (λ n. k < n) (length-map es shift_of) l in
       subst P (sym (get_or-map shift_of es k d0 d inside)) (h k d0 inside)),
 )
 
 -- testing each span is testing each shift
-pub tests_of_shifts : (es : List Entry) → list_all (λ (e : Entry). is_offset (total e.1)) es ≡ list_all (λ (s : Shift). is_offset s.1) (map shift_of es)
+pub tests_of_shifts : (es : List Entry)
+    → list_all (λ (e : Entry). is_offset (total e.1)) es ≡ list_all (λ (s : Shift). is_offset s.1) (map shift_of es)
 tests_of_shifts [] = refl
 tests_of_shifts (e ∷ es) = ap (λ b. is_offset (total e.1) && b) (tests_of_shifts es)
 
@@ -72,7 +76,8 @@ no_fall_more shifts h i e so_far step a b l m n =
     (λ last.
     let here : i ≡ b = omega arith in
     ⊎_elim {C = (shift_at shifts a).0 ≤ℤ (shift_at shifts b).0}
-    (λ less. le_le _ _ _ (so_far a h (omega arith) (omega arith) (omega arith)) (subst (λ k. (shift_at shifts h).0 ≤ℤ (shift_at shifts k).0) here step))
+    (λ less. le_le _ _ _ (so_far a h (omega arith) (omega arith) (omega arith))
+        (subst (λ k. (shift_at shifts h).0 ≤ℤ (shift_at shifts k).0) here step))
     (λ same. let is : a ≡ b = omega arith in le_itself _ _ (ap (λ k. (shift_at shifts k).0) is))
     (cases_lt a b))
     (cases_lt b i)
@@ -86,6 +91,7 @@ sum_is t o a b e f h k =
     (λ i. to_z w64 (of_z w64 (e i +ℤ f i))) ∙ to_z-of_z w64 (t +ℤ o) (sum_fits t o h k)
 
 -- the local start of a span after the first
-pub start_is : (set : FixedTimespanSet) (i : ℕ) → 0 < i → (shift_at (shifts_of set) (i - 1)).0 +ℤ total_of_span set i ≡ local_start (shifts_of set) i
+pub start_is : (set : FixedTimespanSet) (i : ℕ) → 0 < i
+    → (shift_at (shifts_of set) (i - 1)).0 +ℤ total_of_span set i ≡ local_start (shifts_of set) i
 start_is set zero h = absurd (omega arith)
 start_is set (suc k) h = let e : suc k - 1 ≡ k = omega arith in ap (λ n. (shift_at (shifts_of set) n).0 +ℤ total_of_span set (suc k)) e

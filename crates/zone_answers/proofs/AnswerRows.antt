@@ -9,14 +9,17 @@ bars : map with_bars ([] ∷ (codes "a" ∷ []) ∷ (codes "a" ∷ codes "b" ∷
     ≡ codes "none" ∷ codes "a" ∷ codes "a | b" ∷ codes "a | b | c" ∷ []
 bars = refl
 
-asked : map request_of (codes "at A 0" ∷ codes "at A -5" ∷ codes "at A -0" ∷ codes "at A/B 007" ∷ codes "at A 999999999999999999999999999999" ∷ [])
+asked : map request_of
+    (codes "at A 0" ∷ codes "at A -5" ∷ codes "at A -0" ∷ codes "at A/B 007" ∷ codes "at A 999999999999999999999999999999" ∷ [])
     ≡ Some (at (codes "A") (pos 0)) ∷ Some (at (codes "A") (negsuc 4)) ∷ Some (at (codes "A") (pos 0)) ∷ Some (at (codes "A/B") (pos 7))
     ∷ Some (at (codes "A") (pos 999999999999999999999999999999)) ∷ []
 unfolding request_of nanoseconds_in
 asked = refl
 
-in_no_form : map request_of (codes "" ∷ codes "at" ∷ codes "at A" ∷ codes "at A " ∷ codes "at  A 0" ∷ codes "at A 0 " ∷ codes "at A  0" ∷ codes " at A 0"
-    ∷ codes "At A 0" ∷ codes "at A +0" ∷ codes "at A -" ∷ codes "at A --1" ∷ codes "at A 0x1" ∷ codes "at A 9999999999999999999999999999999" ∷ codes "what A 0" ∷ [])
+in_no_form : map request_of
+    (codes "" ∷ codes "at" ∷ codes "at A" ∷ codes "at A " ∷ codes "at  A 0" ∷ codes "at A 0 " ∷ codes "at A  0" ∷ codes " at A 0"
+    ∷ codes "At A 0" ∷ codes "at A +0" ∷ codes "at A -" ∷ codes "at A --1" ∷ codes "at A 0x1"
+        ∷ codes "at A 9999999999999999999999999999999" ∷ codes "what A 0" ∷ [])
     ≡ None ∷ None ∷ None ∷ None ∷ None ∷ None ∷ None ∷ None ∷ None ∷ None ∷ None ∷ None ∷ None ∷ None ∷ None ∷ []
 unfolding request_of nanoseconds_in
 in_no_form = refl

@@ -42,12 +42,14 @@ fault_is table source requests sound is =
     ∙ ap (λ o. option_or (option_map of_source o) (first_refused (found_in source) 1 (lines_of requests))) (sym sound)
 
 -- the fault of a source comes first
-pub fault_first : (source requests : List ℕ) (error : AnswerError) → TellsOf (source_refusal source) error → TellsOf (fault source requests) error
+pub fault_first : (source requests : List ℕ) (error : AnswerError) → TellsOf (source_refusal source) error
+    → TellsOf (fault source requests) error
 unfolding fault
 fault_first source requests error h = by_told (fault_told error) h
   where
     by_told : (told : Option Fault) → MatchOption told (error ≡ NoMemory) (λ f. source_refusal source ≡ Some f) →
-        MatchOption told (error ≡ NoMemory) (λ f. option_or (source_refusal source) (first_refused (found_in source) 1 (lines_of requests)) ≡ Some f)
+        MatchOption told (error ≡ NoMemory)
+            (λ f. option_or (source_refusal source) (first_refused (found_in source) 1 (lines_of requests)) ≡ Some f)
     by_told None h = h
     by_told (Some f) h = ap (λ o. option_or o (first_refused (found_in source) 1 (lines_of requests))) h
 
@@ -56,7 +58,8 @@ pub told_along : (error : AnswerError) (first second : Option Fault) → first �
 told_along error first second e h = subst (λ o. TellsOf o error) e h
 
 -- an error of a source, told as an answer's
-pub told_same : (found : Option SourceFault) (from : SourceError) (error : AnswerError) → TellsOfSource found from → TellsSame from error →
+pub told_same : (found : Option SourceFault) (from : SourceError) (error : AnswerError) → TellsOfSource found from
+    → TellsSame from error →
     TellsOf (option_map of_source found) error
 told_same found from error h same = by_told (told_by_source from) h same
   where
@@ -70,7 +73,8 @@ told_same found from error h same = by_told (told_by_source from) h same
     by_told (Some f) h same = by_answer (fault_told error) f same h
 
 -- the error of a line is told with its number
-pub line_told : (n : ℕ) (kind : FaultKind) (found : Option line.Fault) (error : AnswerError) → Some kind ≡ option_map (λ f. f.kind) found →
+pub line_told : (n : ℕ) (kind : FaultKind) (found : Option line.Fault) (error : AnswerError)
+    → Some kind ≡ option_map (λ f. f.kind) found →
     fault_told error ≡ option_map (λ f. of_source (bad_line n f)) found →
     MatchOption (option_map (bad_line n) found) (error ≡ NoMemory) (λ f. fault_told error ≡ Some (of_source f))
 line_told n kind None error is told = absurd (none-some _ (sym is))

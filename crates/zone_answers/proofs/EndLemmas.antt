@@ -45,10 +45,13 @@ not_more given now n counted few more = omega (arith, counted.most, few, more)
 
 neither_more : {name : List ℕ} {before now : Seen} {source requests : List ℕ} → BothRead name before now source requests →
     (before.shelf.given + LIMIT < now.shelf.given) ⊎ (before.input.given + LIMIT < now.input.given) → ⊥
-neither_more {before} {now} {source} both (inl more) = not_more before.shelf.given now.shelf.given (length source) both.shelf.given both.shelf.within more
-neither_more {before} {now} {requests} both (inr more) = not_more before.input.given now.input.given (length requests) both.input.given both.input.within more
+neither_more {before} {now} {source} both (inl more) =
+    not_more before.shelf.given now.shelf.given (length source) both.shelf.given both.shelf.within more
+neither_more {before} {now} {requests} both (inr more) =
+    not_more before.input.given now.input.given (length requests) both.input.given both.input.within more
 
-neither_long : (source requests : List ℕ) → length source ≤ LIMIT → length requests ≤ LIMIT → (LIMIT < length source) ⊎ (LIMIT < length requests) → ⊥
+neither_long : (source requests : List ℕ) → length source ≤ LIMIT → length requests ≤ LIMIT
+    → (LIMIT < length source) ⊎ (LIMIT < length requests) → ⊥
 neither_long source requests short few (inl long) = omega (arith, short, long)
 neither_long source requests short few (inr long) = omega (arith, few, long)
 
@@ -91,7 +94,9 @@ done_ends name before now source requests both (valid, back, grew) = record {
   order = inr (IfSome_then (before.shelf.told name) both.shelf.text (λ _ h. h.1));
   shelf_ended = λ _. IfSome_then (before.shelf.told name) both.shelf.text (λ _ h. h.1);
   input_ended = λ _. IfSome_then before.input.left both.input.text (λ _ h. h.1);
-  done = λ _. where_told (before.shelf.told name) before.input.left _ _ source requests _ both.shelf.text both.input.text (valid, back, grew);
+  done =
+      λ _. where_told (before.shelf.told name) before.input.left _ _ source requests _ both.shelf.text both.input.text
+          (valid, back, grew);
   refused = λ e. absurd (cc);
   read = λ e. absurd (cc);
   write = λ e. absurd (cc);
@@ -99,7 +104,9 @@ done_ends name before now source requests both (valid, back, grew) = record {
   too_long = λ e. absurd (cc);
   too_much = λ more. absurd (neither_more both more);
   silent = λ silent. absurd (silent_not_done silent);
-  complete = λ _. where_told (before.shelf.told name) before.input.left _ _ source requests _ both.shelf.text both.input.text (λ _ _. ends_valid (fault source requests) valid);
+  complete =
+      λ _. where_told (before.shelf.told name) before.input.left _ _ source requests _ both.shelf.text both.input.text
+          (λ _ _. ends_valid (fault source requests) valid);
   past_limit = λ _. where_told (before.shelf.told name) before.input.left _ _ source requests _ both.shelf.text both.input.text
       (λ long. absurd (neither_long source requests both.shelf.within both.input.within long));
 }
@@ -114,14 +121,17 @@ fault_ends name before now source requests both (refused, grew) = record {
   shelf_ended = λ _. IfSome_then (before.shelf.told name) both.shelf.text (λ _ h. h.1);
   input_ended = λ _. IfSome_then before.input.left both.input.text (λ _ h. h.1);
   done = λ e. absurd (cc);
-  refused = λ _. where_told (before.shelf.told name) before.input.left _ _ source requests _ both.shelf.text both.input.text (refused, grew);
+  refused =
+      λ _. where_told (before.shelf.told name) before.input.left _ _ source requests _ both.shelf.text both.input.text (refused, grew);
   read = λ e. absurd (cc);
   write = λ e. absurd (cc);
   prefix = λ e. absurd (cc);
   too_long = λ e. absurd (cc);
   too_much = λ more. absurd (neither_more both more);
   silent = λ silent. absurd (silent_not_fault silent);
-  complete = λ _. where_told (before.shelf.told name) before.input.left _ _ source requests _ both.shelf.text both.input.text (λ _ _. ends_refused (fault source requests) refused);
+  complete =
+      λ _. where_told (before.shelf.told name) before.input.left _ _ source requests _ both.shelf.text both.input.text
+          (λ _ _. ends_refused (fault source requests) refused);
   past_limit = λ _. where_told (before.shelf.told name) before.input.left _ _ source requests _ both.shelf.text both.input.text
       (λ long. absurd (neither_long source requests both.shelf.within both.input.within long));
 }
@@ -155,7 +165,8 @@ if_told (Some s) (Some r) P h = h s r refl
 
 -- the input was not read to its end
 pub input_ends : (name : List ℕ) (before now : Seen) (source : List ℕ) (end : ReadEnd) →
-    Read (before.shelf.told name) now.shelf.left before.shelf.given now.shelf.given source → NotRead before.input now.input end → now.output ≡ before.output →
+    Read (before.shelf.told name) now.shelf.left before.shelf.given now.shelf.given source → NotRead before.input now.input end
+        → now.output ≡ before.output →
     Ends (Some (answer_over name)) before now (status_of end)
 input_ends name before now source read.Failed first second same = record {
   words = (λ e. absurd (cc), λ e. absurd (cc));
@@ -205,7 +216,9 @@ input_ends name before now source read.TooLong first second same = record {
     no_end_long (inr e) = absurd (cc)
 
     too_short : (r : List ℕ) → before.input.left ≡ Some r → length r ≤ LIMIT → ⊥
-    too_short r there short = let long : IfSome (Some r) (λ left. LIMIT < length left) = subst (λ o. IfSome o (λ left. LIMIT < length left)) there (second.long_text refl) in omega (arith, long, short)
+    too_short r there short =
+        let long : IfSome (Some r) (λ left. LIMIT < length left) =
+            subst (λ o. IfSome o (λ left. LIMIT < length left)) there (second.long_text refl) in omega (arith, long, short)
 input_ends name before now source read.NoMemory first second same = record {
   words = (λ e. absurd (cc), λ e. absurd (cc));
   untouched = λ e. absurd (cc);
@@ -233,7 +246,8 @@ input_ends name before now source read.NoMemory first second same = record {
     memory_ends (Some f) = inr refl
 
 -- one word asks for the answers over the file of that name
-pub one_task : (words : List (String Global)) (word : String Global) (name : List ℕ) → name ≡ string_bytes word → word ≡ get_or words 0 word →
+pub one_task : (words : List (String Global)) (word : String Global) (name : List ℕ) → name ≡ string_bytes word
+    → word ≡ get_or words 0 word →
     1 ≤ length words → length words < 2 → Some (answer_over name) ≡ task_of words
 one_task [] word name is there some few = absurd (omega arith)
 one_task (w ∷ []) word name is there some few = ap (λ n. Some (answer_over n)) (is ∙ ap string_bytes there)

@@ -55,7 +55,8 @@ request_years line = by_name (nat_lt 0 (length name))
     value : List ℕ
     value = after_first is_space rest
 
-    by_word : (a b : Bool) → HasYears (cond a (option_map (at name) (nanoseconds_in value)) (cond b (option_map (local name) (local_time_in value)) None))
+    by_word : (a b : Bool)
+        → HasYears (cond a (option_map (at name) (nanoseconds_in value)) (cond b (option_map (local name) (local_time_in value)) None))
     by_word true b = at_years name (nanoseconds_in value)
     by_word false true = local_years value name
     by_word false false = tt
@@ -67,7 +68,8 @@ request_years line = by_name (nat_lt 0 (length name))
     by_name false = tt
 
 -- an instant at which an offset is in force, by its local time
-read_at : (total : ℤ → ℤ) (x o : ℤ) → is_in_years x ≡ true → is_offset (total (instant_at x o)) ≡ true → total (instant_at x o) ≡ o → IsReadBack (in_force total (instant_at x o))
+read_at : (total : ℤ → ℤ) (x o : ℤ) → is_in_years x ≡ true → is_offset (total (instant_at x o)) ≡ true → total (instant_at x o) ≡ o
+    → IsReadBack (in_force total (instant_at x o))
 read_at total x o years small same = record { years = ap is_in_years (back x o (total (instant_at x o)) same) ∙ years; range = small }
   where
     back : (x o p : ℤ) → p ≡ o → local_at (instant_at x o) p ≡ x
@@ -94,9 +96,11 @@ each_back total x years small (o ∷ os) = by_test (int_eq (total (instant_at x 
     by_test false is rest = rest
     by_test true is rest =
         All-append IsReadBack (in_force total (instant_at x o) ∷ []) (map (in_force total) (map (instant_at x) left))
-        (one_back (in_force total (instant_at x o)) (read_at total x o years (small (instant_at x o)) ((Decides-int_eq (total (instant_at x o)) o).0 is))) rest
+        (one_back (in_force total (instant_at x o))
+            (read_at total x o years (small (instant_at x o)) ((Decides-int_eq (total (instant_at x o)) o).0 is))) rest
 
-all_in_force_back : (schedule : Schedule) (x : ℤ) → is_in_years x ≡ true → is_in_offset_range schedule ≡ true → All IsReadBack (all_in_force (total_at schedule) x)
+all_in_force_back : (schedule : Schedule) (x : ℤ) → is_in_years x ≡ true → is_in_offset_range schedule ≡ true
+    → All IsReadBack (all_in_force (total_at schedule) x)
 unfolding all_in_force instants
 all_in_force_back schedule x years small = each_back (total_at schedule) x years (λ t. total_is_offset schedule t small) offsets
 
@@ -106,7 +110,8 @@ at_schedule : (n : ℕ) (request : Request) (schedule : Schedule) → HasYears (
 unfolding HasYears shown_at has_dates
 at_schedule n request schedule years accepted = by_range request (is_in_offset_range schedule) refl years accepted
   where
-    by_dates : (request : Request) (b : Bool) → is_in_offset_range schedule ≡ true → has_dates schedule request ≡ b → HasYears (Some request) →
+    by_dates : (request : Request) (b : Bool) → is_in_offset_range schedule ≡ true → has_dates schedule request ≡ b
+        → HasYears (Some request) →
         cond b None (Some (range n)) ≡ None → All IsReadBack (shown_at schedule request)
     by_dates request false small dates years refused = absurd (none-some _ (sym refused))
     by_dates (at name instant) true small dates years accepted_is =
@@ -114,7 +119,8 @@ at_schedule n request schedule years accepted = by_range request (is_in_offset_r
     by_dates (local name time) true small dates years accepted_is = all_in_force_back schedule time years small
 
     by_range : (request : Request) (b : Bool) → is_in_offset_range schedule ≡ b → HasYears (Some request) →
-        cond b (cond (has_dates schedule request) None (Some (range n))) (Some (offset_range n)) ≡ None → All IsReadBack (shown_at schedule request)
+        cond b (cond (has_dates schedule request) None (Some (range n))) (Some (offset_range n)) ≡ None
+            → All IsReadBack (shown_at schedule request)
     by_range request false is years refused = absurd (none-some _ (sym refused))
     by_range request true is years accepted_is = by_dates request (has_dates schedule request) is refl years accepted_is
 
@@ -128,12 +134,15 @@ line_back names n line accepted = by_text (is_utf8 line) accepted
     by_found request (Some (Err fault)) years refused = absurd (none-some _ (sym refused))
     by_found request (Some (Ok set)) years accepted_is = at_schedule n request (totals_of set) years accepted_is
 
-    by_form : (o : Option Request) → HasYears o → option_map_or (λ request. found_refusal n request (names (name_of request))) o (Some (bad_request n)) ≡ None →
+    by_form : (o : Option Request) → HasYears o
+        → option_map_or (λ request. found_refusal n request (names (name_of request))) o (Some (bad_request n)) ≡ None →
         All IsReadBack (option_map_or (λ request. shown_at (schedule_found (names (name_of request))) request) o [])
     by_form None years refused = absurd (none-some _ (sym refused))
     by_form (Some request) years accepted_is = by_found request (names (name_of request)) years accepted_is
 
-    by_text : (b : Bool) → cond b (option_map_or (λ request. found_refusal n request (names (name_of request))) (request_of line) (Some (bad_request n))) (Some (request_not_text n)) ≡ None →
+    by_text : (b : Bool)
+        → cond b (option_map_or (λ request. found_refusal n request (names (name_of request))) (request_of line) (Some (bad_request n)))
+        (Some (request_not_text n)) ≡ None →
         All IsReadBack (option_map_or (λ request. shown_at (schedule_found (names (name_of request))) request) (request_of line) [])
     by_text false refused = absurd (none-some _ (sym refused))
     by_text true accepted_is = by_form (request_of line) (request_years line) accepted_is
@@ -142,11 +151,13 @@ both_none : (o p : Option Fault) → option_or o p ≡ None → (o ≡ None) × 
 both_none None p h = (refl, h)
 both_none (Some x) p h = absurd (none-some _ (sym h))
 
-all_back : (names : List ℕ → Found) (n : ℕ) (lines : List (List ℕ)) → first_refused names n lines ≡ None → All IsReadBack (flat_map (shown_by names) lines)
+all_back : (names : List ℕ → Found) (n : ℕ) (lines : List (List ℕ)) → first_refused names n lines ≡ None
+    → All IsReadBack (flat_map (shown_by names) lines)
 all_back names n [] h = none_back
 all_back names n (line ∷ lines) h =
     let both = both_none (request_refusal names n line) _ h in
-    All-append IsReadBack (shown_by names line) (flat_map (shown_by names) lines) (line_back names n line both.0) (all_back names (suc n) lines both.1)
+    All-append IsReadBack (shown_by names line) (flat_map (shown_by names) lines) (line_back names n line both.0)
+        (all_back names (suc n) lines both.1)
 
 -- all that is shown over valid input
 pub shown_back : (source requests : List ℕ) → IsValid source requests → All IsReadBack (shown source requests)

@@ -25,22 +25,28 @@ pub record Asks (line : List ℕ) (request : Request) : Type 0 where
   pub text : is_utf8 line ≡ true
   pub reads : request_of line ≡ Some request
 
-pub asks : (line text : List ℕ) (request : code.Request) → is_utf8 line ≡ true → text ≡ line → Some (asked request) ≡ request_of text → Asks line (asked request)
+pub asks : (line text : List ℕ) (request : code.Request) → is_utf8 line ≡ true → text ≡ line → Some (asked request) ≡ request_of text
+    → Asks line (asked request)
 asks line text request is same reads = record { text = is; reads = ap request_of (sym same) ∙ sym reads }
 
-pub not_text_refused : (names : List ℕ → Found) (n : ℕ) (line : List ℕ) → is_utf8 line ≡ false → request_refusal names n line ≡ Some (request_not_text n)
+pub not_text_refused : (names : List ℕ → Found) (n : ℕ) (line : List ℕ) → is_utf8 line ≡ false
+    → request_refusal names n line ≡ Some (request_not_text n)
 unfolding request_refusal
 not_text_refused names n line is =
-    ap (λ b. cond b (option_map_or (λ request. found_refusal n request (names (name_of request))) (request_of line) (Some (bad_request n))) (Some (request_not_text n))) is
+    ap (λ b. cond b (option_map_or (λ request. found_refusal n request (names (name_of request))) (request_of line)
+        (Some (bad_request n))) (Some (request_not_text n))) is
 
 -- the refusal of a text, by what it reads as
 refusal_read : (names : List ℕ → Found) (n : ℕ) (line : List ℕ) (read : Option Request) → is_utf8 line ≡ true → request_of line ≡ read →
-    request_refusal names n line ≡ option_map_or (λ request. found_refusal n request (names (name_of request))) read (Some (bad_request n))
+    request_refusal names n line
+        ≡ option_map_or (λ request. found_refusal n request (names (name_of request))) read (Some (bad_request n))
 unfolding request_refusal
 refusal_read names n line read is reads =
-    (λ i. cond (is i) (option_map_or (λ request. found_refusal n request (names (name_of request))) (reads i) (Some (bad_request n))) (Some (request_not_text n)))
+    (λ i. cond (is i) (option_map_or (λ request. found_refusal n request (names (name_of request))) (reads i) (Some (bad_request n)))
+        (Some (request_not_text n)))
 
-pub bad_request_refused : (names : List ℕ → Found) (n : ℕ) (line text : List ℕ) → is_utf8 line ≡ true → text ≡ line → None ≡ request_of text →
+pub bad_request_refused : (names : List ℕ → Found) (n : ℕ) (line text : List ℕ) → is_utf8 line ≡ true → text ≡ line
+    → None ≡ request_of text →
     request_refusal names n line ≡ Some (bad_request n)
 bad_request_refused names n line text is same reads = refusal_read names n line None is (ap request_of (sym same) ∙ sym reads)
 
@@ -64,7 +70,8 @@ span_is_told span.NoStandardSpan other = refl
 span_is_told span.NoMemory other = absurd (other refl)
 
 -- why a zone can't be asked is why the request is refused
-pub zone_refusal : (found : Found) (n : ℕ) (request : Request) (fault : ZoneFault) (error : AnswerError) → IsZoneFault found fault → RefusesZone n fault error →
+pub zone_refusal : (found : Found) (n : ℕ) (request : Request) (fault : ZoneFault) (error : AnswerError) → IsZoneFault found fault
+    → RefusesZone n fault error →
     TellsOf (found_refusal n request found) error
 zone_refusal found n request zone.UnknownZone error is refused = rw (is, refused) refl
 zone_refusal found n request (zone.Schedule fault) error is refused = rw (is.0, refused, span_is_told fault is.1) refl
@@ -72,7 +79,8 @@ zone_refusal found n request zone.OffsetRange error is refused = rw (is.is_found
 zone_refusal found n request zone.NoMemory error is refused = rw refused refl
 
 -- a zone whose offsets are offsets refuses by the dates alone
-pub dates_refusal : (found : Found) (n : ℕ) (request : Request) (set : FixedTimespanSet) (b : Bool) → found ≡ Some (Ok (spans_of set)) → IsTrue (is_in_offset_range (schedule_of set)) →
+pub dates_refusal : (found : Found) (n : ℕ) (request : Request) (set : FixedTimespanSet) (b : Bool) → found ≡ Some (Ok (spans_of set))
+    → IsTrue (is_in_offset_range (schedule_of set)) →
     b ≡ has_dates (schedule_of set) request → found_refusal n request found ≡ cond b None (Some (range n))
 unfolding totals_of
 dates_refusal found n request set b is small dates =

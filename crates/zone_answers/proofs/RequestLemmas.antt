@@ -34,7 +34,8 @@ no_plus (d ∷ ds) h = by_head (nat_eq d 43) refl
 sign_is : (text : List ℕ) → list_all (λ c. is_digit c 10) (without_minus text) ≡ true → without_leading_sign text ≡ without_minus text
 sign_is text h = by_sign (is_negative text) h
   where
-    by_sign : (b : Bool) → list_all (λ c. is_digit c 10) (cond b (drop 1 text) text) ≡ true → cond b (drop 1 text) (without_leading_plus text) ≡ cond b (drop 1 text) text
+    by_sign : (b : Bool) → list_all (λ c. is_digit c 10) (cond b (drop 1 text) text) ≡ true
+        → cond b (drop 1 text) (without_leading_plus text) ≡ cond b (drop 1 text) text
     by_sign true h = refl
     by_sign false h = no_plus text h
 
@@ -44,7 +45,8 @@ size_of true (suc n) = omega arith
 size_of false n = omega arith
 
 value_is : (text : List ℕ) → list_all (λ c. is_digit c 10) (without_minus text) ≡ true →
-    signed_digits_value 10 text ≡ cond (is_negative text) (neg_ℤ (pos (digits_value 10 (without_minus text)))) (pos (digits_value 10 (without_minus text)))
+    signed_digits_value 10 text
+        ≡ cond (is_negative text) (neg_ℤ (pos (digits_value 10 (without_minus text)))) (pos (digits_value 10 (without_minus text)))
 value_is text h = ap (λ ds. cond (is_negative text) (neg_ℤ (pos (digits_value 10 ds))) (pos (digits_value 10 ds))) (sign_is text h)
 
 -- at most this many digits make a number below this power of two
@@ -54,7 +56,8 @@ fits ds h short =
     let few : 10 ^ length ds ≤ 10 ^ 30 = pow-le-pow_right (lit< tt) short in
     let room : 10 ^ 30 ≤ 2 ^ 127 = lit≤ tt in omega (arith, below, few, room)
 
-pub number_parsed : {E : Type 0} (text : List ℕ) (r : Result ℤ E) → ParsesSigned w128 10 text r → is_number (without_minus text) ≡ true → result_ok r ≡ nanoseconds_in text
+pub number_parsed : {E : Type 0} (text : List ℕ) (r : Result ℤ E) → ParsesSigned w128 10 text r → is_number (without_minus text) ≡ true
+    → result_ok r ≡ nanoseconds_in text
 unfolding nanoseconds_in
 number_parsed text (Ok z) h is =
     let all = (and_parts (nat_lt 0 (length (without_minus text)) && nat_le (length (without_minus text)) 30) _ is).1 in
@@ -63,5 +66,7 @@ number_parsed text (Err e) h is =
     let outer = and_parts (nat_lt 0 (length (without_minus text)) && nat_le (length (without_minus text)) 30) _ is in
     let inner = and_parts (nat_lt 0 (length (without_minus text))) _ outer.0 in
     let within : mag (signed_digits_value 10 text) < 2 ^ 127 =
-    rw (value_is text outer.1) (omega (arith, size_of (is_negative text) (digits_value 10 (without_minus text)), fits (without_minus text) outer.1 (leb-true _ _ inner.1))) in
+    rw (value_is text outer.1)
+        (omega (arith, size_of (is_negative text) (digits_value 10 (without_minus text)), fits (without_minus text) outer.1
+            (leb-true _ _ inner.1))) in
     absurd (h (rw (sign_is text outer.1) (ltb-true 0 _ inner.0, digits_from _ outer.1), record { sfits = within }))

@@ -10,7 +10,8 @@ use Rattle.std.specs.List.{slice_split, onto_first, position, position_or_len, b
 use Rattle.std.specs.Str.Lines.{strip_carriage_return}
 use Rattle.zone_source.specs.Lines.{is_line_feed, without_last_empty, lines_of}
 
-keeps : (piece : List ℕ) (pieces : List (List ℕ)) → 0 < length pieces → without_last_empty (piece ∷ pieces) ≡ piece ∷ without_last_empty pieces
+keeps : (piece : List ℕ) (pieces : List (List ℕ)) → 0 < length pieces
+    → without_last_empty (piece ∷ pieces) ≡ piece ∷ without_last_empty pieces
 keeps [] [] h = absurd (omega arith)
 keeps [] (q ∷ qs) h = refl
 keeps (x ∷ xs) pieces h = refl
@@ -21,12 +22,14 @@ uncut [] h = refl
 uncut (x ∷ xs) h = by_head (is_line_feed x) refl (uncut xs)
   where
     by_head : (b : Bool) → is_line_feed x ≡ b →
-        (length xs ≤ position_or_len is_line_feed xs → slice_split is_line_feed xs ≡ xs ∷ []) → slice_split is_line_feed (x ∷ xs) ≡ (x ∷ xs) ∷ []
+        (length xs ≤ position_or_len is_line_feed xs → slice_split is_line_feed xs ≡ xs ∷ [])
+            → slice_split is_line_feed (x ∷ xs) ≡ (x ∷ xs) ∷ []
     by_head true e more =
         let none : position_or_len is_line_feed (x ∷ xs) ≡ 0 = ap (λ b. cond (not b) (1 + position_or_len is_line_feed xs) 0) e in
         absurd (omega (arith, none))
     by_head false e more =
-        let one : position_or_len is_line_feed (x ∷ xs) ≡ 1 + position_or_len is_line_feed xs = ap (λ b. cond (not b) (1 + position_or_len is_line_feed xs) 0) e in
+        let one : position_or_len is_line_feed (x ∷ xs) ≡ 1 + position_or_len is_line_feed xs =
+            ap (λ b. cond (not b) (1 + position_or_len is_line_feed xs) 0) e in
         slice_split-cons_no is_line_feed x xs e ∙ ap (onto_first x) (more (omega (arith, one)))
 
 kept_alone : (bytes : List ℕ) → 0 < length bytes → without_last_empty (bytes ∷ []) ≡ bytes ∷ []
@@ -40,7 +43,8 @@ first_line bytes some = by_place (nat_lt (position_or_len is_line_feed bytes) (l
   where
     by_place : (b : Bool) → nat_lt (position_or_len is_line_feed bytes) (length bytes) ≡ b →
         map strip_carriage_return (without_last_empty (slice_split is_line_feed bytes))
-        ≡ strip_carriage_return (before_first is_line_feed bytes) ∷ map strip_carriage_return (without_last_empty (slice_split is_line_feed (after_first is_line_feed bytes)))
+        ≡ strip_carriage_return (before_first is_line_feed bytes)
+        ∷ map strip_carriage_return (without_last_empty (slice_split is_line_feed (after_first is_line_feed bytes)))
     by_place true e =
         let cut = slice_split_first is_line_feed bytes 0 (ltb-true _ _ e) in
         let more : 0 < length (slice_split is_line_feed (after_first is_line_feed bytes)) =
@@ -53,7 +57,8 @@ first_line bytes some = by_place (nat_lt (position_or_len is_line_feed bytes) (l
         let nothing : after_first is_line_feed bytes ≡ [] = drop_all _ bytes (omega arith) in
         ap (λ pieces. map strip_carriage_return (without_last_empty pieces)) (uncut bytes past)
         ∙ ap (map strip_carriage_return) (kept_alone bytes some)
-        ∙ (λ i. strip_carriage_return (sym whole i) ∷ map strip_carriage_return (without_last_empty (slice_split is_line_feed (sym nothing i))))
+        ∙ (λ i. strip_carriage_return (sym whole i)
+        ∷ map strip_carriage_return (without_last_empty (slice_split is_line_feed (sym nothing i))))
 
 pub no_lines : lines_of [] ≡ []
 unfolding lines_of

@@ -15,7 +15,8 @@ returns-then-not-has_span_times c =
     let both = all_shifts (λ s. IsSpanTime s.0) set.others (pos 0, set.first) in (
       sym c.has_offsets.ensures ∙ c.if-not-has_offsets.false,
       c.times_do_not_fall.ensures.0 c.if-not-times_do_not_fall.false,
-      (λ h. if_false c.has_span_times.result c.has_span_times.ensures.1 c.if-not-has_span_times.true (subst AllTimes (sym c.entries.ensures) (both.0 h))),
+      (λ h. if_false c.has_span_times.result c.has_span_times.ensures.1 c.if-not-has_span_times.true
+          (subst AllTimes (sym c.entries.ensures) (both.0 h))),
     )
 
 pub returns-else-not-has_span_times : goal.returns-else-not-has_span_times

@@ -18,7 +18,9 @@ returns-then-time c =
     let a = to_z-of_z w64 _ fa ∙ c.time.ensures in
     let b = to_z-of_z w64 _ fb ∙ c.time-in-loop-i.ensures in
     let count = count_same c.args.set.now in
-    ((λ no. absurd (cc)), (λ h. absurd (fell _ _ _ _ a b c.if-time.true (h (i - 1) i (omega arith) (omega (arith, count, c.entry_count-i-end.ensures.count))))))
+    ((λ no. absurd (cc)),
+        (λ h. absurd (fell _ _ _ _ a b c.if-time.true
+            (h (i - 1) i (omega arith) (omega (arith, count, c.entry_count-i-end.ensures.count))))))
 
 pub loop-i-preserved : goal.loop-i-preserved
 loop-i-preserved c =

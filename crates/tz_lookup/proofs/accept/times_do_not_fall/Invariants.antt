@@ -4,4 +4,5 @@ use Rattle.tz_lookup.specs.Sets.{shifts_of}
 use Rattle.tz_lookup.proofs.accept.times_do_not_fall.Given as goal
 
 abbrev pub invariant-loop-i : goal.invariant-loop-i
-invariant-loop-i l = (a b : ℕ) → a ≤ b → b < l.i → b < length (shifts_of l.set) → (shift_at (shifts_of l.set) a).0 ≤ℤ (shift_at (shifts_of l.set) b).0
+invariant-loop-i l =
+    (a b : ℕ) → a ≤ b → b < l.i → b < length (shifts_of l.set) → (shift_at (shifts_of l.set) a).0 ≤ℤ (shift_at (shifts_of l.set) b).0

@@ -20,7 +20,8 @@ returns-then-contains-clause-exact c = λ x at.
     subst (λ n. total_of_span c.args.set.now k ∷ total_of_span c.args.set.now n ∷ [] ≡ totals_at (total_at zone) x) next
     (two_lie zone x s (at ∙ sym same) c.requires.accepted c.requires.orderly k (omega (arith, count, c.requires.within))
     (c.contains.ensures.0 c.if-contains.true)
-    (subst (λ n. order_of zone n s ≡ Equal) (sym next) (subst (λ y. order_of zone c.args.found y ≡ Equal) (sym same) c.requires.contains)))
+    (subst (λ n. order_of zone n s ≡ Equal) (sym next)
+        (subst (λ y. order_of zone c.args.found y ≡ Equal) (sym same) c.requires.contains)))
 
 pub returns-then-contains-2-clause-exact : goal.returns-then-contains-2-clause-exact
 returns-then-contains-2-clause-exact c = λ x at.
@@ -30,7 +31,8 @@ returns-then-contains-2-clause-exact c = λ x at.
     let count = count_same c.args.set.now in
     let next : suc c.args.found ≡ c.args.found + 1 = omega arith in
     subst (λ n. total_of_span c.args.set.now c.args.found ∷ total_of_span c.args.set.now n ∷ [] ≡ totals_at (total_at zone) x) next
-    (two_lie zone x s (at ∙ sym same) c.requires.accepted c.requires.orderly c.args.found (omega (arith, count, c.if-found-entry_count.true, c.entry_count.ensures))
+    (two_lie zone x s (at ∙ sym same) c.requires.accepted c.requires.orderly c.args.found
+        (omega (arith, count, c.if-found-entry_count.true, c.entry_count.ensures))
     (subst (λ y. order_of zone c.args.found y ≡ Equal) (sym same) c.requires.contains)
     (subst (λ n. order_of zone n s ≡ Equal) (sym next) (c.contains-then-found-entry_count.ensures.0 c.if-contains-2.true)))
 
@@ -50,7 +52,8 @@ returns-else-found-entry_count-clause-exact c = λ x at.
     elim c.else-found-entry_count.branch [
       | else-found-entry_count-via-then-found-entry_count+else-contains-2 w ↦ if_false w.contains-then-found-entry_count.result w.contains-then-found-entry_count.ensures.1 w.if-contains-2.false
           (let after : suc c.args.found ≡ c.args.found + 1 = omega arith in subst (λ n. order_of zone n s ≡ Equal) after e)
-      | else-found-entry_count-via-else-found-entry_count w ↦ absurd (omega (arith, l, count, w.if-found-entry_count.false, c.entry_count.ensures))
+      | else-found-entry_count-via-else-found-entry_count w ↦ absurd
+          (omega (arith, l, count, w.if-found-entry_count.false, c.entry_count.ensures))
     ] in
     one_lies zone x s (at ∙ sym same) c.requires.accepted c.requires.orderly c.args.found (omega (arith, count, c.requires.within))
     (subst (λ y. order_of zone c.args.found y ≡ Equal) (sym same) c.requires.contains) no_before no_after

@@ -37,7 +37,8 @@ loop-i-preserved c =
             ∙ ap (λ f. so_far f ++ spans_from zone s i (count - i)) (sym w.in-None.is) ∙ c.loop-i.invariant.exact
         | else-contains w ↦
             ap (λ f. so_far f ++ spans_from zone s (i + 1) (count - (i + 1))) w.first-is
-            ∙ ap (λ l. so_far c.loop-i.first ++ l) (sym (step_skips zone s count i inside (if_false c.contains.result c.contains.ensures.1 w.if-contains.false)))
+            ∙ ap (λ l. so_far c.loop-i.first ++ l)
+            (sym (step_skips zone s count i inside (if_false c.contains.result c.contains.ensures.1 w.if-contains.false)))
             ∙ c.loop-i.invariant.exact
       ];
     }

@@ -11,11 +11,13 @@ returns-then-contains-clause-next c =
     let zone = schedule_of c.args.set.now in
     let count : ℕ = length c.args.set.now.others + 1 in
     let i = c.loop-i.i in
-    subst (λ y. spans_from zone y c.args.from (count - c.args.from) ≡ i ∷ spans_from zone y (i + 1) (count - (i + 1))) (to_z-of_z w64 c.args.second c.ranges.second)
+    subst (λ y. spans_from zone y c.args.from (count - c.args.from) ≡ i ∷ spans_from zone y (i + 1) (count - (i + 1)))
+        (to_z-of_z w64 c.args.second c.ranges.second)
     (c.loop-i.invariant ∙ step_takes zone _ count i (omega (arith, c.span_count-i-end.ensures)) (c.contains.ensures.0 c.if-contains.true))
 
 pub loop-i-preserved : goal.loop-i-preserved
 loop-i-preserved c =
     let count : ℕ = length c.args.set.now.others + 1 in
     c.loop-i.invariant
-    ∙ step_skips (schedule_of c.args.set.now) _ count c.loop-i.i (omega (arith, c.span_count-i-end.ensures)) (if_false c.contains.result c.contains.ensures.1 c.if-contains.false)
+    ∙ step_skips (schedule_of c.args.set.now) _ count c.loop-i.i (omega (arith, c.span_count-i-end.ensures))
+    (if_false c.contains.result c.contains.ensures.1 c.if-contains.false)

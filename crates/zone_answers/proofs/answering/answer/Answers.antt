@@ -13,7 +13,8 @@ returns-in_default-clause-err c = not_text_refused _ c.args.number c.args.line.n
 
 pub returns-in_default-read-clause-err : goal.returns-in_default-read-clause-err
 returns-in_default-read-clause-err c =
-    let text = c.in-Some.ensures.text in bad_request_refused _ c.args.number c.args.line.now c.in-Some.asked.now text.1 text.0 c.in_default-read.ensures
+    let text =
+        c.in-Some.ensures.text in bad_request_refused _ c.args.number c.args.line.now c.in-Some.asked.now text.1 text.0 c.in_default-read.ensures
 
 pub returns-in-Err-clause-err : goal.returns-in-Err-clause-err
 returns-in-Err-clause-err c =
@@ -31,7 +32,8 @@ returns-in-Ok-true-clause-accepted c =
     let zone = c.find-zone.result in
     let found = rw (c.in_default-open.ensures.same, c.name-2.ensures) at c.find-zone.ensures in
     refusal_is (found_in_table (table_of c.args.zones.now)) c.args.number c.args.line.now (asked request) reads
-    ∙ dates_refusal _ c.args.number (asked request) (set_of zone) c.in-Ok-true.field-0 found zone.accepted.range c.in-Ok-true.ensures.dates
+    ∙ dates_refusal _ c.args.number (asked request)
+    (set_of zone) c.in-Ok-true.field-0 found zone.accepted.range c.in-Ok-true.ensures.dates
     ∙ ap (λ b. cond b None (Some (range c.args.number))) c.in-Ok-true.field-0-test
 
 pub returns-in-Ok-true-clause-text : goal.returns-in-Ok-true-clause-text
@@ -53,5 +55,6 @@ returns-in-Ok-false-clause-err c =
     let zone = c.find-zone.result in
     let found = rw (c.in_default-open.ensures.same, c.name-2.ensures) at c.find-zone.ensures in
     refusal_is (found_in_table (table_of c.args.zones.now)) c.args.number c.args.line.now (asked request) reads
-    ∙ dates_refusal _ c.args.number (asked request) (set_of zone) c.in-Ok-false.field-0 found zone.accepted.range c.in-Ok-false.ensures.dates
+    ∙ dates_refusal _ c.args.number (asked request)
+    (set_of zone) c.in-Ok-false.field-0 found zone.accepted.range c.in-Ok-false.ensures.dates
     ∙ ap (λ b. cond b None (Some (range c.args.number))) c.in-Ok-false.field-0-test

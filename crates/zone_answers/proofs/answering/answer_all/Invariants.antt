@@ -12,6 +12,8 @@ invariant-loop-line l = record {
   table : table_of l.zones ≡ l.table;
   opened : AreOpened l.zones;
   number : l.number + length (lines_left l.line-iterator) ≡ 1 + length (lines_of l.requests);
-  refused : first_refused (found_in_table l.table) l.number (lines_left l.line-iterator) ≡ first_refused (found_in_table l.table) 1 (lines_of l.requests);
-  lines : l.answers ++ map (answer_line (found_in_table l.table)) (lines_left l.line-iterator) ≡ map (answer_line (found_in_table l.table)) (lines_of l.requests);
+  refused : first_refused (found_in_table l.table) l.number (lines_left l.line-iterator)
+      ≡ first_refused (found_in_table l.table) 1 (lines_of l.requests);
+  lines : l.answers ++ map (answer_line (found_in_table l.table)) (lines_left l.line-iterator)
+      ≡ map (answer_line (found_in_table l.table)) (lines_of l.requests);
 }

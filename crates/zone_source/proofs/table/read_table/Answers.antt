@@ -22,7 +22,8 @@ returns-in_err-join_line-clause-err c =
     let error = err_from_is_err_and c.from_residual-in_err-join_line.result c.from_residual-in_err-join_line.ensures.1 in
     let joined = c.loop-line.invariant in
     let first = sym (ap (first_line_refused joined.before c.loop-line.number) c.in-Some.ensures.steps) ∙ joined.refused in
-    rw (error.1, error.2) (told_first joined.before c.loop-line.number _ _ _ _ first (c.in_err-join_line.ensures.err joined.before joined.stands))
+    rw (error.1, error.2)
+        (told_first joined.before c.loop-line.number _ _ _ _ first (c.in_err-join_line.ensures.err joined.before joined.stands))
 
 pub overflow_add-number : goal.overflow_add-number
 overflow_add-number c = omega (arith, c.new-line-items.ensures.few, c.loop-line.invariant.number, ap length c.in-Some.ensures.steps)
@@ -37,7 +38,8 @@ loop-line-preserved c =
       before = joined.before ++ source_value line ∷ [];
       number = omega (arith, joined.number, ap length c.in-Some.ensures.steps);
       stands = takes.stands joined.before joined.stands;
-      bounded = list_all-append is_bounded_line joined.before (source_value line ∷ []) ∙ (λ i. joined.bounded i && (takes.bounded i && true));
+      bounded =
+          list_all-append is_bounded_line joined.before (source_value line ∷ []) ∙ (λ i. joined.bounded i && (takes.bounded i && true));
       values = append_assoc joined.before (source_value line ∷ []) (map source_value left)
           ∙ ap (λ lines. joined.before ++ map source_value lines) (sym c.in-Some.ensures.steps) ∙ joined.values;
       refused = rw add-one
@@ -54,7 +56,8 @@ pub returns-clause-table : goal.returns-clause-table
 returns-clause-table c =
     let joined = c.loop-line.invariant in
     let all : joined.before ≡ values_of c.args.source.now =
-    sym (append-nil joined.before) ∙ sym (ap (λ lines. joined.before ++ map source_value lines) c.in-None.ensures.steps.0) ∙ joined.values in
+    sym (append-nil joined.before) ∙ sym (ap (λ lines. joined.before ++ map source_value lines) c.in-None.ensures.steps.0)
+        ∙ joined.values in
     subst (IsTableOf c.build.result) all (c.build.ensures.joined joined.before joined.stands)
 
 pub returns-clause-bounded : goal.returns-clause-bounded

@@ -10,7 +10,8 @@ pub returns-clause-total : goal.returns-clause-total
 returns-clause-total c =
     let fs : SFits w64 c.unix_timestamp.result = search rules in
     c.offset_of.ensures.total
-    ∙ at_cut (schedule_of c.args.self.now.set.now) (instant c.args.date_time.now) _ c.span_at.result (to_z-of_z w64 _ fs ∙ c.unix_timestamp.ensures.value) c.span_at.ensures.cut
+    ∙ at_cut (schedule_of c.args.self.now.set.now) (instant c.args.date_time.now) _ c.span_at.result
+    (to_z-of_z w64 _ fs ∙ c.unix_timestamp.ensures.value) c.span_at.ensures.cut
 
 pub returns-clause-name : goal.returns-clause-name
 returns-clause-name c =

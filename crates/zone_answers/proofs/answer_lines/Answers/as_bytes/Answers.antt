@@ -5,4 +5,5 @@ use Rattle.zone_answers.proofs.answer_lines.Answers.as_bytes.Goals as goal
 
 pub returns : goal.returns
 returns c =
-    c.deref.ensures.value ∙ sym (ended_lines 0 c.self.inside.ends.items c.self.inside.bytes.items c.self.invariant) ∙ ap ended c.self.view_is
+    c.deref.ensures.value ∙ sym (ended_lines 0 c.self.inside.ends.items c.self.inside.bytes.items c.self.invariant)
+        ∙ ap ended c.self.view_is

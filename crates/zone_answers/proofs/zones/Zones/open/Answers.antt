@@ -4,7 +4,8 @@ use Rattle.zone_answers.proofs.ZoneLemmas.{each_kept, is_there}
 use Rattle.zone_answers.proofs.zones.Zones.open.Goals as goal
 
 pub returns-clause-there : goal.returns-clause-there
-returns-clause-there c = ap (λ zones. is_some (get zones c.args.name.now)) c.in_ok-insert.ensures.ok ∙ is_there c.args.self.now.opened c.args.name.now _
+returns-clause-there c =
+    ap (λ zones. is_some (get zones c.args.name.now)) c.in_ok-insert.ensures.ok ∙ is_there c.args.self.now.opened c.args.name.now _
 
 pub returns-clause-opened : goal.returns-clause-opened
 returns-clause-opened c = record {
