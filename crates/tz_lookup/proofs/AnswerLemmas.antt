@@ -48,7 +48,7 @@ back_rises x (o ∷ os) h =
     pairs_more (λ s t. s <ℤ t) (instant_at x o) (map (instant_at x) os)
     (λ t c. let from = map_contains (instant_at x) os t c in
     subst (λ s. instant_at x o <ℤ s) from.2
-        (later_from_lower x o from.0 (subst (λ q. q <ℤ o) from.1.2 (h 0 (suc from.1.0) from.0 (omega arith) (omega (arith, from.1.1))))))
+    (later_from_lower x o from.0 (subst (λ q. q <ℤ o) from.1.2 (h 0 (suc from.1.0) from.0 (omega arith) (omega (arith, from.1.1))))))
     (back_rises x os (λ i j d l m. h (suc i) (suc j) d (omega arith) (omega (arith, m))))
 
 -- where a span contains x, x less its total is an instant with that total
@@ -56,7 +56,7 @@ pub total_at_span : (zone : Schedule) (x : ℤ) (k : ℕ) → TimesDontFall zone
     → total_at zone (instant_at x (total zone k)) ≡ total zone k
 total_at_span zone x k times h =
     total_is zone (instant_at x (total zone k)) ∙ ap (total_from zone.first zone.shifts) (seconds_of-instant_at x (total zone k))
-        ∙ total_in zone.first zone.shifts k (seconds_of x) times h
+    ∙ total_in zone.first zone.shifts k (seconds_of x) times h
 
 at_same : (x t o p : ℤ) → instant_at x o ≡ t → p ≡ o → (t +ℤ pos 1000000000 *ℤ p) ≡ x
 at_same x t o p e f = omega (arith, ints, e, f)
@@ -86,14 +86,14 @@ span_totals_instants zone x os times h = record {
         let from = map_contains (instant_at x) os t c in
         let span = h.back from.0 from.1 in
         let same : total_at zone t ≡ from.0 =
-            ap (total_at zone) (sym from.2) ∙ ap (λ o. total_at zone (instant_at x o)) (sym span.2)
-                ∙ total_at_span zone x span.0 times span.1 ∙ span.2 in
+        ap (total_at zone) (sym from.2) ∙ ap (λ o. total_at zone (instant_at x o)) (sym span.2)
+        ∙ total_at_span zone x span.0 times span.1 ∙ span.2 in
         at_same x t from.0 (total_at zone t) from.2 same),
     (λ r.
         let span = span_at zone x t times r in
         let is : t ≡ instant_at x (total zone span.0) = from_reading x t (total_at zone t) r ∙ ap (instant_at x) span.2 in
         subst (λ s. Contains (map (instant_at x) os) s) (sym is)
-            (contains_map (instant_at x) os (total zone span.0) (h.there span.0 span.1))),
+        (contains_map (instant_at x) os (total zone span.0) (h.there span.0 span.1))),
   );
 }
 
@@ -111,8 +111,8 @@ pub span_totals : (zone : Schedule) (x : ℤ) (os : List ℤ) → TimesDontFall 
 unfolding totals_at
 span_totals zone x os times range h =
     ap (map (total_at zone))
-        (instants_one (total_at zone) x (map (instant_at x) os) (λ t. total_in_range zone t range)
-            (span_totals_instants zone x os times h))
+    (instants_one (total_at zone) x (map (instant_at x) os) (λ t. total_in_range zone t range)
+    (span_totals_instants zone x os times h))
     ∙ totals_back zone x os (λ o c. let span = h.back o c in
     ap (λ p. total_at zone (instant_at x p)) (sym span.2) ∙ total_at_span zone x span.0 times span.1 ∙ span.2)
 
@@ -157,7 +157,7 @@ two_hold zone x i j times range l first second only =
       there = λ k h. ⊎_elim {C = Contains os (total zone k)}
           (λ e. subst (λ o. Contains os o) (ap (total zone) (sym e)) (contains_head (total zone i) (total zone j ∷ [])))
           (λ e. subst (λ o. Contains os o) (ap (total zone) (sym e))
-              (contains_more (total zone i) (total zone j ∷ []) (total zone j) (contains_head (total zone j) [])))
+          (contains_more (total zone i) (total zone j ∷ []) (total zone j) (contains_head (total zone j) [])))
           (only k h);
       back = λ o c. in_two {P = (k : ℕ) × Holds zone k x × (total zone k ≡ o)} _ _ o c (λ e. (i, first, e)) (λ e. (j, second, e));
     })
@@ -184,5 +184,5 @@ alone_holds zone x k times range orderly h no_before no_after =
     (λ l. let m = near j k (seconds_of x) orderly (omega arith) at h in absurd (no_before j (omega (arith, m)) at))
     (λ l. let m = near k j (seconds_of x) orderly (omega arith) h at in
     ⊎_elim {C = j ≡ k} (λ same. omega arith) (λ after. absurd (no_after (subst (λ n. Holds zone n x) (omega (arith, m)) at)))
-        (cases_lt j (suc k)))
+    (cases_lt j (suc k)))
     (cases_lt j k))

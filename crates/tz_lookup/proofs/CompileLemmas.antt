@@ -55,7 +55,7 @@ accepted set bounded rise range = record {
   times = times_from_rise set.others rise;
   bound =
       (all_shifts (λ s. IsSpanTime s.0) set.others (pos 0, set.first)).1
-          (times_bounded set.others (and_parts (is_bounded_span set.first) _ bounded).1);
+      (times_bounded set.others (and_parts (is_bounded_span set.first) _ bounded).1);
 }
 
 -- of a set with these spans

@@ -78,10 +78,10 @@ module _ (shifts : List Shift) (x : ℤ) where
         (true_next (i + 1) (length shifts) _ x (omega (arith, next.0)) (le_le _ _ _ (times (i + 1) (j + 1) (omega arith) next.0) next.1));
     after = λ i j _ l m e.
         let is =
-            int_true _ _ (is_greater (int_lt x (shift_at shifts i).0)
-                (ltb (i + 1) (length shifts) && int_le (shift_at shifts (i + 1)).0 x) e) in
+        int_true _ _ (is_greater (int_lt x (shift_at shifts i).0)
+        (ltb (i + 1) (length shifts) && int_le (shift_at shifts (i + 1)).0 x) e) in
         greater (int_lt x (shift_at shifts j).0) (ltb (j + 1) (length shifts) && int_le (shift_at shifts (j + 1)).0 x)
-            (true_int _ _ (lt_le _ _ _ is (times i j l (omega (arith, m, size)))));
+        (true_int _ _ (lt_le _ _ _ is (times i j l (omega (arith, m, size)))));
   }
 
   pub cut_found : (k : ℕ) → k < length shifts → TimesDontFall shifts → order_at shifts k x ≡ Equal → IsCut shifts (k + 1) x
@@ -105,13 +105,13 @@ module _ (shifts : List Shift) (x : ℤ) where
   cut_lowest low high times between none =
       let cut = cut_of shifts x times in
       let least : low ≤ cut.0 =
-          ⊎_elim {C = low ≤ cut.0}
-              (λ l. absurd (opposed _ _ (cut.1.after cut.0 (omega arith) (omega (arith, between.order, between.within)))
-                  (between.before cut.0 l))) (λ l. l) (cases_lt cut.0 low) in
+      ⊎_elim {C = low ≤ cut.0}
+      (λ l. absurd (opposed _ _ (cut.1.after cut.0 (omega arith) (omega (arith, between.order, between.within)))
+      (between.before cut.0 l))) (λ l. l) (cases_lt cut.0 low) in
       let most : cut.0 ≤ high =
-          ⊎_elim {C = cut.0 ≤ high}
-              (λ l. absurd (opposed _ _ (between.after high (omega arith) (omega (arith, cut.1.within))) (cut.1.before high l))) (λ l. l)
-                  (cases_lt high cut.0) in
+      ⊎_elim {C = cut.0 ≤ high}
+      (λ l. absurd (opposed _ _ (between.after high (omega arith) (omega (arith, cut.1.within))) (cut.1.before high l))) (λ l. l)
+      (cases_lt high cut.0) in
       at_lowest cut.0 cut.1 least most
     where
       at_lowest : (k : ℕ) → IsCut shifts k x → low ≤ k → k ≤ high → IsCut shifts low x

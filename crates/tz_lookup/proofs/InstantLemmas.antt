@@ -72,10 +72,10 @@ kept_least : (total : ℤ → ℤ) (x o : ℤ) (n : ℕ) (t : ℤ) → Contains 
 kept_least total x o zero t c = absurd (omega (arith, c.1))
 kept_least total x o (suc n) t c =
     let rest : Contains (kept total x (o -ℤ pos 1) n) t → instant_at x o ≤ℤ t =
-        λ d. le_lt _ _ _ (back_by_one x o) (kept_least total x (o -ℤ pos 1) n t d) in
+    λ d. le_lt _ _ _ (back_by_one x o) (kept_least total x (o -ℤ pos 1) n t d) in
     ⊎_elim {C = instant_at x o ≤ℤ t}
     (λ h. cases_more (instant_at x o) (kept total x (o -ℤ pos 1) n) t (subst (λ l. Contains l t) (kept_takes total x o n h) c)
-        (λ e. le_same _ _ e) rest)
+    (λ e. le_same _ _ e) rest)
     (λ h. rest (subst (λ l. Contains l t) (kept_skips total x o n h) c))
     (true_or_false (reads total x o))
 
@@ -86,7 +86,7 @@ kept_rises total x o (suc n) =
     ⊎_elim {C = Rises (kept total x o (suc n))}
     (λ h. subst Rises (sym (kept_takes total x o n h))
     (pairs_more (λ s t. s <ℤ t) (instant_at x o) (kept total x (o -ℤ pos 1) n)
-        (λ t c. lt_le _ _ _ (back_by_one x o) (kept_least total x (o -ℤ pos 1) n t c)) less))
+    (λ t c. lt_le _ _ _ (back_by_one x o) (kept_least total x (o -ℤ pos 1) n t c)) less))
     (λ h. subst Rises (sym (kept_skips total x o n h)) less)
     (true_or_false (reads total x o))
 
@@ -123,13 +123,13 @@ kept_all total x o (suc n) t r h k =
     let here : instant_at x o ≡ t = ap (instant_at x) (sym e) ∙ sym back in
     let passes : reads total x o ≡ true = test_from_eq _ _ (ap total here ∙ e) in
     subst (λ l. Contains l t) (sym (kept_takes total x o n passes))
-        (subst (λ s. Contains (s ∷ kept total x (o -ℤ pos 1) n) t) (sym here) (contains_head t (kept total x (o -ℤ pos 1) n))))
+    (subst (λ s. Contains (s ∷ kept total x (o -ℤ pos 1) n) t) (sym here) (contains_head t (kept total x (o -ℤ pos 1) n))))
     (λ other.
     let rest =
-        kept_all total x (o -ℤ pos 1) n t r (lower _ _ n h (λ e. false_true (sym other ∙ test_from_eq _ _ e))) (one_less _ _ n k) in
+    kept_all total x (o -ℤ pos 1) n t r (lower _ _ n h (λ e. false_true (sym other ∙ test_from_eq _ _ e))) (one_less _ _ n k) in
     ⊎_elim {C = Contains (kept total x o (suc n)) t}
     (λ is. subst (λ l. Contains l t) (sym (kept_takes total x o n is))
-        (contains_more (instant_at x o) (kept total x (o -ℤ pos 1) n) t rest))
+    (contains_more (instant_at x o) (kept total x (o -ℤ pos 1) n) t rest))
     (λ is. subst (λ l. Contains l t) (sym (kept_skips total x o n is)) rest)
     (true_or_false (reads total x o)))
     (true_or_false (int_eq (total t) o))
@@ -160,4 +160,4 @@ pub instants_one : (total : ℤ → ℤ) (x : ℤ) (ts : List ℤ) → ((t : ℤ
 instants_one total x ts h are =
     let all = instants_are total x h in
     same_rising (instants total x) ts all.rising are.rising (λ t c. (are.exact t).1 ((all.exact t).0 c))
-        (λ t c. (all.exact t).1 ((are.exact t).0 c))
+    (λ t c. (all.exact t).1 ((are.exact t).0 c))

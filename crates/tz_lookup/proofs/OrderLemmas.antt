@@ -83,7 +83,7 @@ in_order zone i x l e =
 pub order_in : (zone : Schedule) (i : ℕ) (x : ℤ) → IsIn zone.first zone.shifts i x → order_of zone i x ≡ Equal
 order_in zone i x h =
     at_neither (has_ended zone i x) (is_ahead zone i x) (not_ended i (length zone.shifts) (local_end zone.first zone.shifts i) x h.lasts)
-        (not_ahead i (local_start zone.shifts i) x h.begun)
+    (not_ahead i (local_start zone.shifts i) x h.begun)
 
 -- the spans of an orderly zone go from before a local second over it to after it
 pub goes_up : (zone : Schedule) (x : ℤ) (n : ℕ) → n ≡ length zone.shifts + 1 → IsOrderly zone.first zone.shifts
@@ -91,21 +91,21 @@ pub goes_up : (zone : Schedule) (x : ℤ) (n : ℕ) → n ≡ length zone.shifts
 goes_up zone x n size orderly = record {
   before = λ i j _ l m e.
       let gone =
-          ended_true j (length zone.shifts) (local_end zone.first zone.shifts j) x
-              (the_first (has_ended zone j x) (is_ahead zone j x) e) in
+      ended_true j (length zone.shifts) (local_end zone.first zone.shifts j) x
+      (the_first (has_ended zone j x) (is_ahead zone j x) e) in
       at_first (has_ended zone i x) (is_ahead zone i x)
-          (is_ended i (length zone.shifts) (local_end zone.first zone.shifts i) x (omega (arith, gone.0))
-              (le_le _ _ _ (orderly.ends i j l gone.0) gone.1));
+      (is_ended i (length zone.shifts) (local_end zone.first zone.shifts i) x (omega (arith, gone.0))
+      (le_le _ _ _ (orderly.ends i j l gone.0) gone.1));
   after = λ i j _ l m e.
       let both = the_second (has_ended zone i x) (is_ahead zone i x) e in
       let ahead = ahead_true i (local_start zone.shifts i) x both.1 in
       let not_gone : j < length zone.shifts → x <ℤ local_end zone.first zone.shifts j =
-          λ k. lt_le _ _ _ (ended_false i (length zone.shifts) (local_end zone.first zone.shifts i) x both.0 (omega arith))
-              (orderly.ends i j l k) in
+      λ k. lt_le _ _ _ (ended_false i (length zone.shifts) (local_end zone.first zone.shifts i) x both.0 (omega arith))
+      (orderly.ends i j l k) in
       at_second (has_ended zone j x) (is_ahead zone j x)
-          (not_ended j (length zone.shifts) (local_end zone.first zone.shifts j) x not_gone)
+      (not_ended j (length zone.shifts) (local_end zone.first zone.shifts j) x not_gone)
       (is_before j (local_start zone.shifts j) x (omega (arith, ahead.0))
-          (lt_le _ _ _ ahead.1 (orderly.starts i j ahead.0 l (omega (arith, m, size)))));
+      (lt_le _ _ _ ahead.1 (orderly.starts i j ahead.0 l (omega (arith, m, size)))));
 }
 
 module _ (zone : Schedule) (x s : ℤ) (at : seconds_of x ≡ s) (accepted : IsAccepted zone) where
@@ -131,7 +131,7 @@ module _ (zone : Schedule) (x s : ℤ) (at : seconds_of x ≡ s) (accepted : IsA
       → total zone k ∷ [] ≡ totals_at (total_at zone) x
   one_lies orderly k l e no_before no_after =
       sym (alone_holds zone x k accepted.times accepted.range orderly (holds k l e) (λ j is h. no_before j is (lies j h))
-          (λ h. no_after h.within (lies (suc k) h)))
+      (λ h. no_after h.within (lies (suc k) h)))
 
 -- a test that answered no
 pub if_false : {P : Type 0} (b : Bool) → (P → b ≡ true) → b ≡ false → P → ⊥

@@ -51,7 +51,7 @@ module _ (first : ℤ) (shifts : List Shift) where
         let last : b ≡ i + 1 = omega arith in
         ⊎_elim {C = local_start shifts a ≤ℤ local_start shifts b}
         (λ less. le_le _ _ _ (so_far.starts a i some (omega arith) (omega arith) (omega arith))
-            (subst (λ k. local_start shifts i ≤ℤ local_start shifts k) (sym last) start))
+        (subst (λ k. local_start shifts i ≤ℤ local_start shifts k) (sym last) start))
         (λ same. same_starts a b (omega arith))
         (cases_lt a b))
         (cases_lt b (i + 1));
@@ -62,7 +62,7 @@ module _ (first : ℤ) (shifts : List Shift) where
         let last : i ≡ b = omega arith in
         ⊎_elim {C = local_end first shifts a ≤ℤ local_end first shifts b}
         (λ less. le_le _ _ _ (so_far.ends a h (omega arith) (omega arith) (omega arith))
-            (subst (λ k. local_end first shifts h ≤ℤ local_end first shifts k) last end))
+        (subst (λ k. local_end first shifts h ≤ℤ local_end first shifts k) last end))
         (λ same. same_ends a b (omega arith))
         (cases_lt a b))
         (cases_lt b i);
@@ -73,7 +73,7 @@ module _ (first : ℤ) (shifts : List Shift) where
         let this : h ≡ a = omega arith in
         let next : i + 1 ≡ a + 2 = omega arith in
         subst (λ k. local_end first shifts a ≤ℤ local_start shifts k) next
-            (subst (λ k. local_end first shifts k ≤ℤ local_start shifts (i + 1)) this far))
+        (subst (λ k. local_end first shifts k ≤ℤ local_start shifts (i + 1)) this far))
         (cases_lt (a + 2) (i + 1));
   }
 
@@ -101,8 +101,12 @@ module _ (first : ℤ) (shifts : List Shift) where
       let close : x <ℤ local_end first shifts g = subst (λ k. local_start shifts k <ℤ local_end first shifts g) next near in
       h.apart g x
       (record { within = omega arith; begun = λ some. h.starts g (g + 2) some (omega arith) (omega arith); lasts = λ _. close })
-      (record { within = omega arith; begun = λ some. same_starts (g + 2) (g + 2) refl; lasts = λ more. lt_le _ _ _ close
-          (h.ends g (g + 2) (omega arith) more) })
+      (record {
+        within = omega arith;
+        begun = λ some. same_starts (g + 2) (g + 2) refl;
+        lasts = λ more. lt_le _ _ _ close
+            (h.ends g (g + 2) (omega arith) more);
+      })
 
   pub neighbours_go : (g i : ℕ) → g + 1 ≡ i → i + 1 ≤ length shifts → IsOrderly first shifts
       → (local_start shifts i ≤ℤ local_start shifts (i + 1)) × (local_end first shifts g ≤ℤ local_end first shifts i)

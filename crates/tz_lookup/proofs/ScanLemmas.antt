@@ -53,18 +53,18 @@ finds : (zone : Schedule) (x : ℤ) (k n j : ℕ) → IsFound zone x k n j → C
 finds zone x k zero j h = absurd (omega (arith, h.from, h.to))
 finds zone x k (suc n) j h =
     let rest : k < j → Contains (spans_from zone x (suc k) n) j =
-        λ l. finds zone x (suc k) n j (record { from = omega arith; to = omega (arith, h.to); lies = h.lies }) in
+    λ l. finds zone x (suc k) n j (record { from = omega arith; to = omega (arith, h.to); lies = h.lies }) in
     ⊎_elim {C = Contains (spans_from zone x k (suc n)) j}
     (λ e. subst (λ l. Contains l j) (sym (takes zone x k n e))
     (⊎_elim {C = Contains (k ∷ spans_from zone x (suc k) n) j}
     (λ l. contains_more k (spans_from zone x (suc k) n) j (rest l))
     (λ l. let same : k ≡ j = omega (arith, h.from) in subst (λ m. Contains (k ∷ spans_from zone x (suc k) n) m) same
-        (contains_head k (spans_from zone x (suc k) n)))
+    (contains_head k (spans_from zone x (suc k) n)))
     (cases_lt k j)))
     (λ e. subst (λ l. Contains l j) (sym (skips zone x k n e))
     (⊎_elim {C = Contains (spans_from zone x (suc k) n) j} rest
     (λ l. let same : j ≡ k = omega (arith, h.from) in let yes = ap is_eq (sym (ap (λ m. order_of zone m x) same) ∙ h.lies) in absurd
-        (let no = e in cc))
+    (let no = e in cc))
     (cases_lt k j)))
     (true_or_false (is_eq (order_of zone k x)))
 
@@ -85,7 +85,7 @@ module _ (zone : Schedule) (x s : ℤ) (at : seconds_of x ≡ s) (accepted : IsA
       let here : IsFound zone s k (suc n) k = record { from = omega arith; to = omega arith; lies = lies_there _ e } in
       subst (λ q. q <ℤ total zone k) from.2
       (total_falls zone.first zone.shifts k from.0 (seconds_of x) accepted.times (omega (arith, is.from)) (holds k (suc n) k size here)
-          (holds (suc k) n from.0 (omega (arith, size)) is))) less))
+      (holds (suc k) n from.0 (omega (arith, size)) is))) less))
       (λ e. subst (λ l. AllPairs (λ p q. q <ℤ p) (map (total zone) l)) (sym (skips zone s k n e)) less)
       (true_or_false (is_eq (order_of zone k s)))
 
@@ -97,8 +97,12 @@ module _ (zone : Schedule) (x s : ℤ) (at : seconds_of x ≡ s) (accepted : IsA
       span_totals zone x (map (total zone) (spans_from zone s 0 n)) accepted.times accepted.range (record {
         fall = totals_fall 0 n size;
         there = λ k h. contains_map (total zone) (spans_from zone s 0 n) k
-            (finds zone s 0 n k (record { from = omega arith; to = omega (arith, h.within); lies = order_in zone k s
-                (subst (λ y. IsIn zone.first zone.shifts k y) at h) }));
+            (finds zone s 0 n k (record {
+              from = omega arith;
+              to = omega (arith, h.within);
+              lies = order_in zone k s
+                  (subst (λ y. IsIn zone.first zone.shifts k y) at h);
+            }));
         back = λ o c.
             let from = map_contains (total zone) (spans_from zone s 0 n) o c in
             (from.0, holds 0 n from.0 size (found zone s 0 n from.0 from.1), from.2);
@@ -115,7 +119,7 @@ step_takes zone x count i l e =
     let size : count - i ≡ suc (count - (i + 1)) = omega arith in
     let next : suc i ≡ i + 1 = omega arith in
     ap (spans_from zone x i) size ∙ takes zone x i (count - (i + 1)) (ap is_eq e)
-        ∙ ap (λ k. i ∷ spans_from zone x k (count - (i + 1))) next
+    ∙ ap (λ k. i ∷ spans_from zone x k (count - (i + 1))) next
 
 pub step_skips : (zone : Schedule) (x : ℤ) (count i : ℕ) → i < count → (order_of zone i x ≡ Equal → ⊥)
     → spans_from zone x i (count - i) ≡ spans_from zone x (i + 1) (count - (i + 1))
@@ -123,7 +127,7 @@ step_skips zone x count i l e =
     let size : count - i ≡ suc (count - (i + 1)) = omega arith in
     let next : suc i ≡ i + 1 = omega arith in
     ap (spans_from zone x i) size ∙ skips zone x i (count - (i + 1)) (not_there _ e)
-        ∙ ap (λ k. spans_from zone x k (count - (i + 1))) next
+    ∙ ap (λ k. spans_from zone x k (count - (i + 1))) next
 
 pub first_two : (b i : ℕ) (here rest whole : List ℕ) → here ≡ i ∷ rest → b ∷ here ≡ whole → b ∷ i ∷ [] ≡ take 2 whole
 first_two b i here rest whole e f = ap (λ l. take 2 (b ∷ l)) (sym e) ∙ ap (take 2) f
@@ -133,7 +137,7 @@ pub first_totals : (zone : Schedule) (x s : ℤ) (ks : List ℕ) → seconds_of 
     → ks ≡ take 2 (spans_from zone s 0 (length zone.shifts + 1)) → map (total zone) ks ≡ take 2 (totals_at (total_at zone) x)
 first_totals zone x s ks at accepted e =
     ap (map (total zone)) e ∙ sym (take-map (total zone) 2 (spans_from zone s 0 (length zone.shifts + 1)))
-        ∙ ap (take 2) (sym (scan_totals zone x s at accepted))
+    ∙ ap (take 2) (sym (scan_totals zone x s at accepted))
 
 found_rise : (zone : Schedule) (x : ℤ) (k n : ℕ) → AllPairs (λ i j. i < j) (spans_from zone x k n)
 found_rise zone x k zero = λ i j d l m. absurd (omega (arith, m))
@@ -142,7 +146,7 @@ found_rise zone x k (suc n) =
     ⊎_elim {C = AllPairs (λ i j. i < j) (spans_from zone x k (suc n))}
     (λ e. subst (AllPairs (λ i j. i < j)) (sym (takes zone x k n e))
     (pairs_more (λ i j. i < j) k (spans_from zone x (suc k) n)
-        (λ j c. let is = found zone x (suc k) n j c in omega (arith, is.from)) less))
+    (λ j c. let is = found zone x (suc k) n j c in omega (arith, is.from)) less))
     (λ e. subst (AllPairs (λ i j. i < j)) (sym (skips zone x k n e)) less)
     (true_or_false (is_eq (order_of zone k x)))
 
@@ -154,8 +158,8 @@ at_most_two (a ∷ b ∷ c ∷ ks) h near =
     let ab : a < b = h 0 1 0 (omega arith) (omega arith) in
     let bc : b < c = h 1 2 0 (omega arith) (omega arith) in
     let ac =
-        near a c (contains_head a (b ∷ c ∷ ks)) (contains_more a (b ∷ c ∷ ks) c (contains_more b (c ∷ ks) c (contains_head c ks)))
-            (omega arith) in
+    near a c (contains_head a (b ∷ c ∷ ks)) (contains_more a (b ∷ c ∷ ks) c (contains_more b (c ∷ ks) c (contains_head c ks)))
+    (omega arith) in
     absurd (omega (arith, ac))
 
 -- on an orderly zone no local time has more than two instants
@@ -171,5 +175,5 @@ orderly_two zone x accepted orderly =
     let hj = holds zone x s refl accepted 0 n j size (found zone s 0 n j d) in
     neighbours zone.first zone.shifts i j s orderly l hi hj) in
     let same : length (map (total_at zone) (instants (total_at zone) x)) ≡ length (map (total zone) ks) =
-        ap length (scan_totals zone x s refl accepted) in
+    ap length (scan_totals zone x s refl accepted) in
     omega (arith, few, same, length-map (instants (total_at zone) x) (total_at zone), length-map ks (total zone))

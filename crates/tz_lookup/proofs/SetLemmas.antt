@@ -77,7 +77,7 @@ no_fall_more shifts h i e so_far step a b l m n =
     let here : i ≡ b = omega arith in
     ⊎_elim {C = (shift_at shifts a).0 ≤ℤ (shift_at shifts b).0}
     (λ less. le_le _ _ _ (so_far a h (omega arith) (omega arith) (omega arith))
-        (subst (λ k. (shift_at shifts h).0 ≤ℤ (shift_at shifts k).0) here step))
+    (subst (λ k. (shift_at shifts h).0 ≤ℤ (shift_at shifts k).0) here step))
     (λ same. let is : a ≡ b = omega arith in le_itself _ _ (ap (λ k. (shift_at shifts k).0) is))
     (cases_lt a b))
     (cases_lt b i)

@@ -25,7 +25,7 @@ total_from_cut first (s ∷ ss) zero t h =
       after = λ j l m. h.after (suc j) (omega arith) (omega (arith, m));
     } in
     ap (λ b. last_total first (cond b (s ∷ filter (λ (r : Shift). int_le r.0 t) ss) (filter (λ (r : Shift). int_le r.0 t) ss)))
-        (refused s.0 t (h.after 0 (omega arith) (omega arith)))
+    (refused s.0 t (h.after 0 (omega arith) (omega arith)))
     ∙ total_from_cut first ss zero t none
 total_from_cut first (s ∷ ss) (suc k) t h =
     let fewer : IsCut ss k t = record {
@@ -34,7 +34,7 @@ total_from_cut first (s ∷ ss) (suc k) t h =
       after = λ j l m. h.after (suc j) (omega arith) (omega (arith, m));
     } in
     ap (λ b. last_total first (cond b (s ∷ filter (λ (r : Shift). int_le r.0 t) ss) (filter (λ (r : Shift). int_le r.0 t) ss)))
-        (passes s.0 t (h.before 0 (omega arith)))
+    (passes s.0 t (h.before 0 (omega arith)))
     ∙ total_from_cut s.1 ss k t fewer ∙ total_of_tail first s ss k
   where
     total_of_tail : (first : ℤ) (s : Shift) (ss : List Shift) (k : ℕ) → total_of s.1 ss k ≡ total_of first (s ∷ ss) (suc k)

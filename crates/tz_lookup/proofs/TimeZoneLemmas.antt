@@ -20,8 +20,10 @@ pub fixed_instants : (o x : ℤ) → IsOffset o → instants (λ _. o) x ≡ ins
 fixed_instants o x h = instants_one (λ _. o) x (instant_at x o ∷ []) (λ _. h) (record {
   rising = λ i j d l m. absurd (omega (arith, l, m));
   exact =
-      λ t. ((λ c. reads_fixed x t o (only t c)),
-          (λ r. subst (λ s. Contains (instant_at x o ∷ []) s) (sym (from_reading x t o r)) (contains_head (instant_at x o) [])));
+      λ t. (
+        (λ c. reads_fixed x t o (only t c)),
+        (λ r. subst (λ s. Contains (instant_at x o ∷ []) s) (sym (from_reading x t o r)) (contains_head (instant_at x o) [])),
+      );
 })
   where
     only : (t : ℤ) → Contains (instant_at x o ∷ []) t → instant_at x o ≡ t
@@ -80,4 +82,4 @@ pub shown_assumed : (total : ℤ → ℤ) (x : ℤ) (os : List ℤ) → ((t : �
     map (λ o. (instant_at x o, o)) os ≡ take 2 (all_in_force total x)
 shown_assumed total x os range e =
     ap (map (λ o. (instant_at x o, o))) e ∙ sym (take-map (λ o. (instant_at x o, o)) 2 (totals_at total x))
-        ∙ ap (take 2) (in_force_from_totals total x range)
+    ∙ ap (take 2) (in_force_from_totals total x range)

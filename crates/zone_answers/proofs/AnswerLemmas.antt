@@ -89,22 +89,26 @@ more_lines from [] bytes line end is are =
     (λ i. slice_range ((bytes ++ line) ++ 10 ∷ []) (are i) (before i) ∷ []) ∙ ap (λ l. l ∷ []) (last_range bytes line (10 ∷ []))
 more_lines from (e ∷ ends) bytes line end is are =
     let same =
-        ap (λ t. slice_range t from (e - 1)) (append_assoc bytes line (10 ∷ []))
-            ∙ same_range bytes (line ++ 10 ∷ []) from (e - 1) (omega arith) (omega arith) in
+    ap (λ t. slice_range t from (e - 1)) (append_assoc bytes line (10 ∷ []))
+    ∙ same_range bytes (line ++ 10 ∷ []) from (e - 1) (omega arith) (omega arith) in
     (λ i. same i ∷ more_lines e ends bytes line end is are.3 i)
 
 pub more_ends : (from : ℕ) (ends bytes line : List ℕ) (end : ℕ) → end ≡ length bytes + length line + 1 → AreEnds from ends bytes →
     AreEnds from (ends ++ end ∷ []) ((bytes ++ line) ++ 10 ∷ [])
 more_ends from [] bytes line end is are =
     let long : length ((bytes ++ line) ++ 10 ∷ []) ≡ end =
-        omega (arith, length-append (bytes ++ line) (10 ∷ []), length-append bytes line) in
-    let place : end - 1 ≡ length (bytes ++ line) = omega (arith, length-append bytes line) in
-    (omega arith, omega arith, ap (λ i. get_or ((bytes ++ line) ++ 10 ∷ []) i 0) place
-        ∙ get_or-append_seam (bytes ++ line) 10 [] 0, sym long)
+    omega (arith, length-append (bytes ++ line) (10 ∷ []), length-append bytes line) in
+    let place : end - 1 ≡ length (bytes ++ line) = omega (arith, length-append bytes line) in (
+      omega arith,
+      omega arith,
+      ap (λ i. get_or ((bytes ++ line) ++ 10 ∷ []) i 0) place
+          ∙ get_or-append_seam (bytes ++ line) 10 [] 0,
+      sym long,
+    )
 more_ends from (e ∷ ends) bytes line end is are =
     let long : length bytes ≤ length ((bytes ++ line) ++ 10 ∷ []) =
-        omega (arith, length-append (bytes ++ line) (10 ∷ []), length-append bytes line) in
+    omega (arith, length-append (bytes ++ line) (10 ∷ []), length-append bytes line) in
     let same =
-        ap (λ t. get_or t (e - 1) 0) (append_assoc bytes line (10 ∷ []))
-            ∙ get_or_append_left bytes (line ++ 10 ∷ []) 0 (e - 1) (omega arith) in
+    ap (λ t. get_or t (e - 1) 0) (append_assoc bytes line (10 ∷ []))
+    ∙ get_or_append_left bytes (line ++ 10 ∷ []) 0 (e - 1) (omega arith) in
     (are.0, omega arith, same ∙ are.2, more_ends e ends bytes line end is are.3)

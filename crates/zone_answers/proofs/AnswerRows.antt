@@ -19,7 +19,7 @@ asked = refl
 in_no_form : map request_of
     (codes "" ∷ codes "at" ∷ codes "at A" ∷ codes "at A " ∷ codes "at  A 0" ∷ codes "at A 0 " ∷ codes "at A  0" ∷ codes " at A 0"
     ∷ codes "At A 0" ∷ codes "at A +0" ∷ codes "at A -" ∷ codes "at A --1" ∷ codes "at A 0x1"
-        ∷ codes "at A 9999999999999999999999999999999" ∷ codes "what A 0" ∷ [])
+    ∷ codes "at A 9999999999999999999999999999999" ∷ codes "what A 0" ∷ [])
     ≡ None ∷ None ∷ None ∷ None ∷ None ∷ None ∷ None ∷ None ∷ None ∷ None ∷ None ∷ None ∷ None ∷ None ∷ None ∷ []
 unfolding request_of nanoseconds_in
 in_no_form = refl

@@ -49,7 +49,7 @@ fault_first source requests error h = by_told (fault_told error) h
   where
     by_told : (told : Option Fault) → MatchOption told (error ≡ NoMemory) (λ f. source_refusal source ≡ Some f) →
         MatchOption told (error ≡ NoMemory)
-            (λ f. option_or (source_refusal source) (first_refused (found_in source) 1 (lines_of requests)) ≡ Some f)
+        (λ f. option_or (source_refusal source) (first_refused (found_in source) 1 (lines_of requests)) ≡ Some f)
     by_told None h = h
     by_told (Some f) h = ap (λ o. option_or o (first_refused (found_in source) 1 (lines_of requests))) h
 

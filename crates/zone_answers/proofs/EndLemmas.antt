@@ -96,7 +96,7 @@ done_ends name before now source requests both (valid, back, grew) = record {
   input_ended = λ _. IfSome_then before.input.left both.input.text (λ _ h. h.1);
   done =
       λ _. where_told (before.shelf.told name) before.input.left _ _ source requests _ both.shelf.text both.input.text
-          (valid, back, grew);
+      (valid, back, grew);
   refused = λ e. absurd (cc);
   read = λ e. absurd (cc);
   write = λ e. absurd (cc);
@@ -106,7 +106,7 @@ done_ends name before now source requests both (valid, back, grew) = record {
   silent = λ silent. absurd (silent_not_done silent);
   complete =
       λ _. where_told (before.shelf.told name) before.input.left _ _ source requests _ both.shelf.text both.input.text
-          (λ _ _. ends_valid (fault source requests) valid);
+      (λ _ _. ends_valid (fault source requests) valid);
   past_limit = λ _. where_told (before.shelf.told name) before.input.left _ _ source requests _ both.shelf.text both.input.text
       (λ long. absurd (neither_long source requests both.shelf.within both.input.within long));
 }
@@ -131,7 +131,7 @@ fault_ends name before now source requests both (refused, grew) = record {
   silent = λ silent. absurd (silent_not_fault silent);
   complete =
       λ _. where_told (before.shelf.told name) before.input.left _ _ source requests _ both.shelf.text both.input.text
-          (λ _ _. ends_refused (fault source requests) refused);
+      (λ _ _. ends_refused (fault source requests) refused);
   past_limit = λ _. where_told (before.shelf.told name) before.input.left _ _ source requests _ both.shelf.text both.input.text
       (λ long. absurd (neither_long source requests both.shelf.within both.input.within long));
 }
@@ -166,7 +166,7 @@ if_told (Some s) (Some r) P h = h s r refl
 -- the input was not read to its end
 pub input_ends : (name : List ℕ) (before now : Seen) (source : List ℕ) (end : ReadEnd) →
     Read (before.shelf.told name) now.shelf.left before.shelf.given now.shelf.given source → NotRead before.input now.input end
-        → now.output ≡ before.output →
+    → now.output ≡ before.output →
     Ends (Some (answer_over name)) before now (status_of end)
 input_ends name before now source read.Failed first second same = record {
   words = (λ e. absurd (cc), λ e. absurd (cc));
@@ -218,7 +218,7 @@ input_ends name before now source read.TooLong first second same = record {
     too_short : (r : List ℕ) → before.input.left ≡ Some r → length r ≤ LIMIT → ⊥
     too_short r there short =
         let long : IfSome (Some r) (λ left. LIMIT < length left) =
-            subst (λ o. IfSome o (λ left. LIMIT < length left)) there (second.long_text refl) in omega (arith, long, short)
+        subst (λ o. IfSome o (λ left. LIMIT < length left)) there (second.long_text refl) in omega (arith, long, short)
 input_ends name before now source read.NoMemory first second same = record {
   words = (λ e. absurd (cc), λ e. absurd (cc));
   untouched = λ e. absurd (cc);

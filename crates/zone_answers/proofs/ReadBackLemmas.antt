@@ -97,7 +97,7 @@ each_back total x years small (o ∷ os) = by_test (int_eq (total (instant_at x 
     by_test true is rest =
         All-append IsReadBack (in_force total (instant_at x o) ∷ []) (map (in_force total) (map (instant_at x) left))
         (one_back (in_force total (instant_at x o))
-            (read_at total x o years (small (instant_at x o)) ((Decides-int_eq (total (instant_at x o)) o).0 is))) rest
+        (read_at total x o years (small (instant_at x o)) ((Decides-int_eq (total (instant_at x o)) o).0 is))) rest
 
 all_in_force_back : (schedule : Schedule) (x : ℤ) → is_in_years x ≡ true → is_in_offset_range schedule ≡ true
     → All IsReadBack (all_in_force (total_at schedule) x)
@@ -120,7 +120,7 @@ at_schedule n request schedule years accepted = by_range request (is_in_offset_r
 
     by_range : (request : Request) (b : Bool) → is_in_offset_range schedule ≡ b → HasYears (Some request) →
         cond b (cond (has_dates schedule request) None (Some (range n))) (Some (offset_range n)) ≡ None
-            → All IsReadBack (shown_at schedule request)
+        → All IsReadBack (shown_at schedule request)
     by_range request false is years refused = absurd (none-some _ (sym refused))
     by_range request true is years accepted_is = by_dates request (has_dates schedule request) is refl years accepted_is
 
@@ -157,7 +157,7 @@ all_back names n [] h = none_back
 all_back names n (line ∷ lines) h =
     let both = both_none (request_refusal names n line) _ h in
     All-append IsReadBack (shown_by names line) (flat_map (shown_by names) lines) (line_back names n line both.0)
-        (all_back names (suc n) lines both.1)
+    (all_back names (suc n) lines both.1)
 
 -- all that is shown over valid input
 pub shown_back : (source requests : List ℕ) → IsValid source requests → All IsReadBack (shown source requests)

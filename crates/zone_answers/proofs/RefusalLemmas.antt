@@ -34,16 +34,16 @@ pub not_text_refused : (names : List ℕ → Found) (n : ℕ) (line : List ℕ) 
 unfolding request_refusal
 not_text_refused names n line is =
     ap (λ b. cond b (option_map_or (λ request. found_refusal n request (names (name_of request))) (request_of line)
-        (Some (bad_request n))) (Some (request_not_text n))) is
+    (Some (bad_request n))) (Some (request_not_text n))) is
 
 -- the refusal of a text, by what it reads as
 refusal_read : (names : List ℕ → Found) (n : ℕ) (line : List ℕ) (read : Option Request) → is_utf8 line ≡ true → request_of line ≡ read →
     request_refusal names n line
-        ≡ option_map_or (λ request. found_refusal n request (names (name_of request))) read (Some (bad_request n))
+    ≡ option_map_or (λ request. found_refusal n request (names (name_of request))) read (Some (bad_request n))
 unfolding request_refusal
 refusal_read names n line read is reads =
     (λ i. cond (is i) (option_map_or (λ request. found_refusal n request (names (name_of request))) (reads i) (Some (bad_request n)))
-        (Some (request_not_text n)))
+    (Some (request_not_text n)))
 
 pub bad_request_refused : (names : List ℕ → Found) (n : ℕ) (line text : List ℕ) → is_utf8 line ≡ true → text ≡ line
     → None ≡ request_of text →

@@ -46,7 +46,7 @@ size_of false n = omega arith
 
 value_is : (text : List ℕ) → list_all (λ c. is_digit c 10) (without_minus text) ≡ true →
     signed_digits_value 10 text
-        ≡ cond (is_negative text) (neg_ℤ (pos (digits_value 10 (without_minus text)))) (pos (digits_value 10 (without_minus text)))
+    ≡ cond (is_negative text) (neg_ℤ (pos (digits_value 10 (without_minus text)))) (pos (digits_value 10 (without_minus text)))
 value_is text h = ap (λ ds. cond (is_negative text) (neg_ℤ (pos (digits_value 10 ds))) (pos (digits_value 10 ds))) (sign_is text h)
 
 -- at most this many digits make a number below this power of two
@@ -67,6 +67,10 @@ number_parsed text (Err e) h is =
     let inner = and_parts (nat_lt 0 (length (without_minus text))) _ outer.0 in
     let within : mag (signed_digits_value 10 text) < 2 ^ 127 =
     rw (value_is text outer.1)
-        (omega (arith, size_of (is_negative text) (digits_value 10 (without_minus text)), fits (without_minus text) outer.1
-            (leb-true _ _ inner.1))) in
+    (omega (
+      arith,
+      size_of (is_negative text) (digits_value 10 (without_minus text)),
+      fits (without_minus text) outer.1
+          (leb-true _ _ inner.1),
+    )) in
     absurd (h (rw (sign_is text outer.1) (ltb-true 0 _ inner.0, digits_from _ outer.1), record { sfits = within }))

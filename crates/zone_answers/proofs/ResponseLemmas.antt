@@ -49,7 +49,7 @@ wrote_some source requests bytes before now is h = grew_some_told before.taken n
 -- an error's answer is an answer
 pub error_response : (source requests : List ℕ) (error : AnswerError) (before now : OutputSeen) (result : Answered) →
     TellsOf (fault source requests) error → RespondsError (fault_told error) before now result
-        → Responds source requests before now result
+    → Responds source requests before now result
 error_response source requests error before now result tells h = by_told (fault_told error) result tells h
   where
     by_told : (told : Option faults.Fault) (result : Answered)

@@ -22,4 +22,4 @@ each_kept table zones name zone each is n = rw (get-inserted zones name n zone) 
 pub is_there : (zones : FinMap text_cmp Opened) (name : List ℕ) (zone : Opened) → is_some (get (insert zones name zone) name) ≡ true
 is_there zones name zone =
     ap is_some (get-inserted zones name name zone)
-        ∙ ap (λ b. is_some (cond b (Some zone) (get zones name))) ((bytes_eq-Decides name name).1 refl)
+    ∙ ap (λ b. is_some (cond b (Some zone) (get zones name))) ((bytes_eq-Decides name name).1 refl)

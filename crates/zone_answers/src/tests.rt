@@ -40,8 +40,8 @@ Zone A 0:00 - A; 1:00 - B;Zone B 2:00 - B;~at B 0;~1970-01-01 02:00:00.000000000
 
 /// The same, where what is written is the line of a fault.
 const FAULTS: &str = "\
- 1:00 - B;~~source 1: build SurpriseContinuationLine;
 Zone A 0:00 - A;Zone A 0:00 X A;~~source 2: build UnknownRuleset;
+ 1:00 - B;~~source 1: build SurpriseContinuationLine;
 ;Zone A 0:00 - A;Zone A 1:00 - B;~what~source 3: build DuplicateZone;
 Link a b;Link c b;~~source 2: build DuplicateLink;
 Zone A 1:00 - A;Link A B;Link B C;~at C 0;~request 1: unknown zone;

@@ -39,7 +39,7 @@ pub taken : (old new : Built) (n : ℕ) (line : List ℕ) (read : LineValue) →
 taken old new n line read text is joins bounded = record {
   accepted =
       λ values stands. refused_as values n line read text is
-          ∙ ap (option_map (λ r. bad_join n (kind_of r))) (not_refused old new read joins values stands);
+      ∙ ap (option_map (λ r. bad_join n (kind_of r))) (not_refused old new read joins values stands);
   stands = λ values stands. subst (λ v. StandsFor new (values ++ v ∷ [])) (sym (value_read line read text is)) (joins values stands);
   bounded = ap is_bounded_line (value_read line read text is) ∙ bounded;
 }

@@ -23,13 +23,13 @@ uncut (x ∷ xs) h = by_head (is_line_feed x) refl (uncut xs)
   where
     by_head : (b : Bool) → is_line_feed x ≡ b →
         (length xs ≤ position_or_len is_line_feed xs → slice_split is_line_feed xs ≡ xs ∷ [])
-            → slice_split is_line_feed (x ∷ xs) ≡ (x ∷ xs) ∷ []
+        → slice_split is_line_feed (x ∷ xs) ≡ (x ∷ xs) ∷ []
     by_head true e more =
         let none : position_or_len is_line_feed (x ∷ xs) ≡ 0 = ap (λ b. cond (not b) (1 + position_or_len is_line_feed xs) 0) e in
         absurd (omega (arith, none))
     by_head false e more =
         let one : position_or_len is_line_feed (x ∷ xs) ≡ 1 + position_or_len is_line_feed xs =
-            ap (λ b. cond (not b) (1 + position_or_len is_line_feed xs) 0) e in
+        ap (λ b. cond (not b) (1 + position_or_len is_line_feed xs) 0) e in
         slice_split-cons_no is_line_feed x xs e ∙ ap (onto_first x) (more (omega (arith, one)))
 
 kept_alone : (bytes : List ℕ) → 0 < length bytes → without_last_empty (bytes ∷ []) ≡ bytes ∷ []

@@ -10,4 +10,4 @@ returns-in-None c =
     let fu : SFits w64 span.utc_offset = search rules in
     let fd : SFits w64 span.dst_offset = search rules in
     sym (false_from_ne_true _
-        (λ is. c.in-None.ensures (kept_sum_fits _ _ span.utc_offset span.dst_offset (to_z-of_z w64 _ fu) (to_z-of_z w64 _ fd) is)))
+    (λ is. c.in-None.ensures (kept_sum_fits _ _ span.utc_offset span.dst_offset (to_z-of_z w64 _ fu) (to_z-of_z w64 _ fd) is)))

@@ -17,10 +17,11 @@ returns-then-time c =
     let fb : SFits w64 c.time-in-loop-i.result = search rules in
     let a = to_z-of_z w64 _ fa ∙ c.time.ensures in
     let b = to_z-of_z w64 _ fb ∙ c.time-in-loop-i.ensures in
-    let count = count_same c.args.set.now in
-    ((λ no. absurd (cc)),
-        (λ h. absurd (fell _ _ _ _ a b c.if-time.true
-            (h (i - 1) i (omega arith) (omega (arith, count, c.entry_count-i-end.ensures.count))))))
+    let count = count_same c.args.set.now in (
+      (λ no. absurd (cc)),
+      (λ h. absurd (fell _ _ _ _ a b c.if-time.true
+          (h (i - 1) i (omega arith) (omega (arith, count, c.entry_count-i-end.ensures.count))))),
+    )
 
 pub loop-i-preserved : goal.loop-i-preserved
 loop-i-preserved c =

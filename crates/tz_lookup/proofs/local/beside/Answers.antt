@@ -21,7 +21,7 @@ returns-then-contains-clause-exact c = λ x at.
     (two_lie zone x s (at ∙ sym same) c.requires.accepted c.requires.orderly k (omega (arith, count, c.requires.within))
     (c.contains.ensures.0 c.if-contains.true)
     (subst (λ n. order_of zone n s ≡ Equal) (sym next)
-        (subst (λ y. order_of zone c.args.found y ≡ Equal) (sym same) c.requires.contains)))
+    (subst (λ y. order_of zone c.args.found y ≡ Equal) (sym same) c.requires.contains)))
 
 pub returns-then-contains-2-clause-exact : goal.returns-then-contains-2-clause-exact
 returns-then-contains-2-clause-exact c = λ x at.
@@ -32,7 +32,7 @@ returns-then-contains-2-clause-exact c = λ x at.
     let next : suc c.args.found ≡ c.args.found + 1 = omega arith in
     subst (λ n. total_of_span c.args.set.now c.args.found ∷ total_of_span c.args.set.now n ∷ [] ≡ totals_at (total_at zone) x) next
     (two_lie zone x s (at ∙ sym same) c.requires.accepted c.requires.orderly c.args.found
-        (omega (arith, count, c.if-found-entry_count.true, c.entry_count.ensures))
+    (omega (arith, count, c.if-found-entry_count.true, c.entry_count.ensures))
     (subst (λ y. order_of zone c.args.found y ≡ Equal) (sym same) c.requires.contains)
     (subst (λ n. order_of zone n s ≡ Equal) (sym next) (c.contains-then-found-entry_count.ensures.0 c.if-contains-2.true)))
 

@@ -13,5 +13,5 @@ binary_search-requires-clause-sorted g c =
 pub returns-in-None-clause-exact : goal.returns-in-None-clause-exact
 returns-in-None-clause-exact g c = λ x at.
     none_lies (schedule_of c.args.set.now) x (to_z w64 (of_z w64 c.args.second))
-        (at ∙ sym (to_z-of_z w64 c.args.second c.ranges.second)) c.requires.accepted
+    (at ∙ sym (to_z-of_z w64 c.args.second c.ranges.second)) c.requires.accepted
     (λ k l e. c.in-None.ensures.found k (omega arith) (omega (arith, l, count_same c.args.set.now, c.span_count.ensures)) e)

@@ -24,10 +24,10 @@ returns-then-not-are_in_order c =
       (λ no. absurd (cc)),
       (λ orderly.
           let go =
-              neighbours_go zone.first zone.shifts (i - 1) i (omega arith)
-                  (omega (arith, count_same c.args.set.now, c.entry_count-i-end.ensures)) orderly in
+          neighbours_go zone.first zone.shifts (i - 1) i (omega arith)
+          (omega (arith, count_same c.args.set.now, c.entry_count-i-end.ensures)) orderly in
           absurd (if_false c.are_in_order.result c.are_in_order.ensures.1 c.if-not-are_in_order.true
-              (same_le _ _ _ _ a b go.0, same_le _ _ _ _ p q go.1, same_le _ _ _ _ p b go.2))),
+          (same_le _ _ _ _ a b go.0, same_le _ _ _ _ p q go.1, same_le _ _ _ _ p b go.2))),
     )
 
 pub loop-i-preserved : goal.loop-i-preserved

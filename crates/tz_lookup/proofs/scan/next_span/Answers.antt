@@ -12,7 +12,7 @@ returns-then-contains-clause-next c =
     let count : ℕ = length c.args.set.now.others + 1 in
     let i = c.loop-i.i in
     subst (λ y. spans_from zone y c.args.from (count - c.args.from) ≡ i ∷ spans_from zone y (i + 1) (count - (i + 1)))
-        (to_z-of_z w64 c.args.second c.ranges.second)
+    (to_z-of_z w64 c.args.second c.ranges.second)
     (c.loop-i.invariant ∙ step_takes zone _ count i (omega (arith, c.span_count-i-end.ensures)) (c.contains.ensures.0 c.if-contains.true))
 
 pub loop-i-preserved : goal.loop-i-preserved

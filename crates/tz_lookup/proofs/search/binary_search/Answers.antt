@@ -6,15 +6,15 @@ pub returns-in-Equal-clause-cost : goal.returns-in-Equal-clause-cost
 returns-in-Equal-clause-cost g c =
     let i = c.search.invariant in
     (paid_step c.search.steps c.probe.new.steps c.args.steps.now (c.search.high - c.search.low) 0
-        (c.args.end - c.args.start) i.later c.probe.ensures.step (omega arith) (omega arith) i.left).cost
+    (c.args.end - c.args.start) i.later c.probe.ensures.step (omega arith) (omega arith) i.left).cost
 
 pub search-preserved-in-Less : goal.search-preserved-in-Less
 search-preserved-in-Less g c =
     let i = c.search.invariant in
     let middle : ℕ = c.search.low + (c.search.high - c.search.low) / 2 in
     let paid =
-        paid_step c.search.steps c.probe.new.steps c.args.steps.now (c.search.high - c.search.low) (c.search.high - (middle + 1))
-            (c.args.end - c.args.start) i.later c.probe.ensures.step (omega arith) (omega arith) i.left in
+    paid_step c.search.steps c.probe.new.steps c.args.steps.now (c.search.high - c.search.low) (c.search.high - (middle + 1))
+    (c.args.end - c.args.start) i.later c.probe.ensures.step (omega arith) (omega arith) i.left in
     record {
       from = omega (arith, i.from);
       order = omega arith;
@@ -31,8 +31,8 @@ search-preserved g c =
     let i = c.search.invariant in
     let middle : ℕ = c.search.low + (c.search.high - c.search.low) / 2 in
     let paid =
-        paid_step c.search.steps c.probe.new.steps c.args.steps.now (c.search.high - c.search.low) (middle - c.search.low)
-            (c.args.end - c.args.start) i.later c.probe.ensures.step (omega arith) (omega arith) i.left in
+    paid_step c.search.steps c.probe.new.steps c.args.steps.now (c.search.high - c.search.low) (middle - c.search.low)
+    (c.args.end - c.args.start) i.later c.probe.ensures.step (omega arith) (omega arith) i.left in
     record {
       from = i.from;
       order = omega arith;

@@ -8,7 +8,7 @@ use Rattle.tz_lookup.proofs.utc.span_between.Goals as goal
 pub binary_search-requires-clause-sorted : goal.binary_search-requires-clause-sorted
 binary_search-requires-clause-sorted g c =
     cut_goes_up (shifts_of c.args.set.now)
-        (to_z w64 (of_z w64 c.args.second)) c.args.low c.args.high c.requires.between.within c.requires.accepted.times
+    (to_z w64 (of_z w64 c.args.second)) c.args.low c.args.high c.requires.between.within c.requires.accepted.times
 
 pub returns-in-None-clause-cut : goal.returns-in-None-clause-cut
 returns-in-None-clause-cut g c =
@@ -17,7 +17,7 @@ returns-in-None-clause-cut g c =
     let same : s ≡ c.args.second = to_z-of_z w64 c.args.second c.ranges.second in
     subst (λ y. IsCut shifts c.args.low y) same
     (cut_lowest shifts s c.args.low c.args.high c.requires.accepted.times
-        (subst (λ y. IsBetween shifts c.args.low c.args.high y) (sym same) c.requires.between) c.in-None.ensures.found)
+    (subst (λ y. IsBetween shifts c.args.low c.args.high y) (sym same) c.requires.between) c.in-None.ensures.found)
 
 pub returns-in-Some-clause-cut : goal.returns-in-Some-clause-cut
 returns-in-Some-clause-cut g c =

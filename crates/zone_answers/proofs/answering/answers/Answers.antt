@@ -18,7 +18,7 @@ pub returns-clause-read_back : goal.returns-clause-read_back
 returns-clause-read_back c =
     let same = fault_is c.in_ok-table.table c.args.source.now c.args.requests.now c.in_ok-table.ensures.ok c.in_ok-table.ensures.table in
     on_ok_weaker c.answer_all.result
-        (λ none. shown_back c.args.source.now c.args.requests.now (sym same ∙ none)) c.answer_all.ensures.valid
+    (λ none. shown_back c.args.source.now c.args.requests.now (sym same ∙ none)) c.answer_all.ensures.valid
 
 pub returns-clause-lines : goal.returns-clause-lines
 returns-clause-lines c =

@@ -7,4 +7,4 @@ pub returns : goal.returns
 unfolding shown_of
 returns c =
     on_ok_weaker c.add_bytes.result
-        (λ added. added ∙ ap (λ t. c.args.text.now.items ++ t) c.write_zoned-end.ensures.text) c.add_bytes.ensures
+    (λ added. added ∙ ap (λ t. c.args.text.now.items ++ t) c.write_zoned-end.ensures.text) c.add_bytes.ensures

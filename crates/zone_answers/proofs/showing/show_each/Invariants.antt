@@ -11,4 +11,4 @@ use Rattle.zone_answers.proofs.showing.show_each.Given as goal
 abbrev pub invariant-loop-date : goal.invariant-loop-date
 invariant-loop-date l =
     l.text.items ++ texts_left l.is_first (map text_shown (map shown_of (dates_left l.date-iterator)))
-        ≡ line_shown (all_in_force (total_at (schedule_of (set_of l.zone))) l.local)
+    ≡ line_shown (all_in_force (total_at (schedule_of (set_of l.zone))) l.local)

@@ -13,9 +13,9 @@ unfolding all_in_force
 returns-then-is_orderly c =
     let total = total_at (schedule_of (set_of c.args.zone.now)) in
     let two : length (instants total c.args.local.now) ≤ 2 =
-        c.args.zone.now.two (c.is_orderly.ensures.0 c.if-is_orderly.true) c.args.local.now in
+    c.args.zone.now.two (c.is_orderly.ensures.0 c.if-is_orderly.true) c.args.local.now in
     let few : length (all_in_force total c.args.local.now) ≤ 2 =
-        omega (arith, two, length-map (instants total c.args.local.now) (in_force total)) in
+    omega (arith, two, length-map (instants total c.args.local.now) (in_force total)) in
     on_ok_weaker c.show_result.result
     (λ shown. shown ∙ ap line_shown (c.assume_timezone.ensures ∙ take_all 2 (all_in_force total c.args.local.now) few))
     c.show_result.ensures

@@ -23,7 +23,7 @@ returns-in_err-join_line-clause-err c =
     let joined = c.loop-line.invariant in
     let first = sym (ap (first_line_refused joined.before c.loop-line.number) c.in-Some.ensures.steps) ∙ joined.refused in
     rw (error.1, error.2)
-        (told_first joined.before c.loop-line.number _ _ _ _ first (c.in_err-join_line.ensures.err joined.before joined.stands))
+    (told_first joined.before c.loop-line.number _ _ _ _ first (c.in_err-join_line.ensures.err joined.before joined.stands))
 
 pub overflow_add-number : goal.overflow_add-number
 overflow_add-number c = omega (arith, c.new-line-items.ensures.few, c.loop-line.invariant.number, ap length c.in-Some.ensures.steps)
@@ -57,7 +57,7 @@ returns-clause-table c =
     let joined = c.loop-line.invariant in
     let all : joined.before ≡ values_of c.args.source.now =
     sym (append-nil joined.before) ∙ sym (ap (λ lines. joined.before ++ map source_value lines) c.in-None.ensures.steps.0)
-        ∙ joined.values in
+    ∙ joined.values in
     subst (IsTableOf c.build.result) all (c.build.ensures.joined joined.before joined.stands)
 
 pub returns-clause-bounded : goal.returns-clause-bounded

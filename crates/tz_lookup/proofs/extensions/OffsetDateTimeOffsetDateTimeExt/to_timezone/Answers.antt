@@ -13,4 +13,4 @@ shown (Some v) t o p e h k = λ i. (h i, (k ∙ e) i)
 pub returns-clause-shown : goal.returns-clause-shown
 returns-clause-shown g c =
     shown c.to_offset.result _ _ _
-        (c.to_utc.ensures ∙ c.get_offset_utc-offset.ensures.total) c.to_offset.ensures.instant c.to_offset.ensures.offset
+    (c.to_utc.ensures ∙ c.get_offset_utc-offset.ensures.total) c.to_offset.ensures.instant c.to_offset.ensures.offset

@@ -10,6 +10,6 @@ pub returns : goal.returns
 returns c =
     let fs : SFits w64 c.unix_timestamp.result = search rules in
     let second =
-        c.unix_timestamp.ensures.value
-            ∙ second_at_utc c.assume_utc.result c.args.local.now c.assume_utc.ensures.local c.assume_utc.ensures.offset in
+    c.unix_timestamp.ensures.value
+    ∙ second_at_utc c.assume_utc.result c.args.local.now c.assume_utc.ensures.local c.assume_utc.ensures.offset in
     each_date c.args.set.now c.args.local.now _ c.requires.accepted (sym (to_z-of_z w64 _ fs ∙ second))

@@ -10,7 +10,7 @@ returns c =
     let ff : SFits w64 c.from.result = search rules in
     let ft : SFits w64 c.time.result = search rules in
     sum_is _ _ _ _ (to_z-of_z w64 _ ft ∙ c.time.ensures)
-        (to_z-of_z w64 _ ff ∙ c.from.ensures ∙ to_z-of_z w32 _ fo ∙ c.total-total.ensures)
+    (to_z-of_z w64 _ ff ∙ c.from.ensures ∙ to_z-of_z w32 _ fo ∙ c.total-total.ensures)
     (time_bound set (c.args.index - 1) c.requires.accepted (omega arith))
-        (span_offset set c.args.index c.requires.accepted c.requires.within)
+    (span_offset set c.args.index c.requires.accepted c.requires.within)
     ∙ start_is set c.args.index c.requires.some

@@ -6,4 +6,4 @@ use Rattle.zone_answers.proofs.answer_lines.Answers.as_bytes.Goals as goal
 pub returns : goal.returns
 returns c =
     c.deref.ensures.value ∙ sym (ended_lines 0 c.self.inside.ends.items c.self.inside.bytes.items c.self.invariant)
-        ∙ ap ended c.self.view_is
+    ∙ ap ended c.self.view_is
