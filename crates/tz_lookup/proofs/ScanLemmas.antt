@@ -1,5 +1,5 @@
 -- Looking at each span in turn gives the instants by time, on every zone.
-use Rattle.std.proofs.Common.{◌≡◌, ℕ, zero, suc, ◌+◌, ◌-◌, ◌<◌, ◌≤◌, true, false, cond, List, [], ◌∷◌, length, map, take, ℤ, ◌<ℤ◌, refl, sym, ap, ◌∙◌, subst, ⊎_elim, arith}
+use Rattle.std.proofs.Common.{◌≡◌, ℕ, zero, suc, ◌+◌, ◌-◌, ◌<◌, ◌≤◌, Bool, true, false, cond, List, [], ◌∷◌, length, map, take, ℤ, ◌<ℤ◌, refl, sym, ap, ◌∙◌, subst, ⊎_elim, arith}
 use Rattle.std.specs.Prelude.{Contains, AllPairs}
 use Rattle.std.specs.Ordering.{is_eq}
 use Rattle.std.proofs.lemmas.Bool.{cases_lt}
@@ -17,6 +17,18 @@ use Rattle.tz_lookup.proofs.Rising.{pairs_more, contains_head, contains_more}
 use Rattle.tz_lookup.proofs.InstantLemmas.{true_or_false, cases_more}
 use Rattle.tz_lookup.proofs.AnswerLemmas.{Holds, total, span_totals, map_contains, contains_map}
 use Rattle.tz_lookup.proofs.OrderLemmas.{in_order, order_in}
+
+-- no span is found twice
+pub few_spans : (zone : Schedule) (x : ℤ) (k n : ℕ) → length (spans_from zone x k n) ≤ n
+few_spans zone x k zero = omega arith
+few_spans zone x k (suc n) = by_test (is_eq (order_of zone k x)) (few_spans zone x (suc k) n)
+  where
+    rest : List ℕ
+    rest = spans_from zone x (suc k) n
+
+    by_test : (b : Bool) → length rest ≤ n → length (cond b (k ∷ rest) rest) ≤ suc n
+    by_test true few = omega (arith, few)
+    by_test false few = omega (arith, few)
 
 pub lies_there : (o : Ordering) → is_eq o ≡ true → o ≡ Equal
 lies_there Less e = absurd (cc)

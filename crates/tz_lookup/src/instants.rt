@@ -20,7 +20,7 @@ pub struct InstantsLocal<'a> {
 }
 
 impl<'a> InstantsLocal<'a> {
-    ghost use Rattle.std.specs.Prelude.{◌≡◌, map};
+    ghost use Rattle.std.specs.Prelude.{◌≡◌, ◌≤◌, ◌+◌, map, length};
     ghost use Rattle.zone_spans.specs.Schedules.{total_at};
     ghost use Rattle.tz_lookup.specs.InForce.{all_in_force, shown_of};
     ghost use Rattle.tz_lookup.specs.InstantsLeft.{dates_left};
@@ -29,7 +29,8 @@ impl<'a> InstantsLocal<'a> {
     /// The instants that the set reads as that local time.
     pub(crate) fn new(set: &'a FixedTimespanSet, local: &PlainDateTime) -> InstantsLocal<'a>
         requires accepted { IsAccepted (schedule_of set.now) }
-        ensures { map shown_of (dates_left result) ≡ all_in_force (total_at (schedule_of set.now)) local.now }
+        ensures all { map shown_of (dates_left result) ≡ all_in_force (total_at (schedule_of set.now)) local.now }
+        ensures few { length (dates_left result) ≤ length set.now.others + 1 }
     {
         InstantsLocal {
             set,

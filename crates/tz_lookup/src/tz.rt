@@ -100,6 +100,7 @@ impl<'a> Tz<'a> {
     /// memory.
     pub fn instants_local(&self, date_time: &PlainDateTime) -> InstantsLocal<'a>
         ensures all { map shown_of (dates_left result) ≡ all_in_force (total_at (schedule_of (set_of self.now))) date_time.now }
+        ensures few { length (dates_left result) ≤ length (set_of self.now).others + 1 }
     {
         InstantsLocal::new(self.set, date_time)
     }

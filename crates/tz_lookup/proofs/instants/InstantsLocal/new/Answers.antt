@@ -2,14 +2,17 @@ use Rattle.std.proofs.Common.{ℤ, w64, SFits, rules, sym, ap, ◌∙◌, ◌≡
 use Rattle.std.proofs.lemmas.Int.{to_z-of_z}
 use Rattle.civil_base.specs.Instants.{seconds_of}
 use Rattle.tz_lookup.specs.InstantsLeft.{dates_left}
-use Rattle.tz_lookup.proofs.EachLemmas.{each_date}
+use Rattle.tz_lookup.proofs.EachLemmas.{each_date, few_dates}
 use Rattle.tz_lookup.proofs.UtcLemmas.{second_at_utc}
 use Rattle.tz_lookup.proofs.instants.InstantsLocal.new.Goals as goal
 
-pub returns : goal.returns
-returns c =
+pub returns-clause-all : goal.returns-clause-all
+returns-clause-all c =
     let fs : SFits w64 c.unix_timestamp.result = search rules in
     let second =
     c.unix_timestamp.ensures.value
     ∙ second_at_utc c.assume_utc.result c.args.local.now c.assume_utc.ensures.local c.assume_utc.ensures.offset in
     each_date c.args.set.now c.args.local.now _ c.requires.accepted (sym (to_z-of_z w64 _ fs ∙ second))
+
+pub returns-clause-few : goal.returns-clause-few
+returns-clause-few c = few_dates c.args.set.now c.args.local.now _
