@@ -1,6 +1,6 @@
 -- A compiled set whose offsets are in range can be looked up.
-use Rattle.std.proofs.Common.{◌≡◌, ℕ, zero, suc, ◌<◌, ◌≤◌, Bool, true, false, List, [], ◌∷◌, length, map, get_or, ℤ, pos, ◌≤ℤ◌, sym, ap, ◌∙◌, subst, arith}
-use Rattle.std.specs.Prelude.{All, ◌&&◌, Option, Some, Result, Ok}
+use Rattle.std.proofs.Common.{◌≡◌, ℕ, zero, suc, ◌<◌, true, false, List, [], ◌∷◌, length, map, ℤ, pos, ◌≤ℤ◌, sym, ap, ◌∙◌, subst, arith}
+use Rattle.std.specs.Prelude.{All, Option, Some, Result, Ok}
 use Rattle.std.specs.List.{list_all}
 use Rattle.std.proofs.lemmas.Bool.{and_parts}
 use Rattle.std.proofs.lemmas.Int.{ints}
@@ -13,8 +13,8 @@ use Rattle.zone_spans.specs.declared.span.FixedTimespanSet as spans
 use Rattle.zone_spans.specs.declared.fault.SpanFault.{SpanFault}
 use Rattle.tz_lookup.specs.declared.set.FixedTimespanSet.{FixedTimespanSet}
 use Rattle.tz_lookup.specs.Compiles.{spans_of, IsTooFar}
-use Rattle.tz_lookup.specs.Sets.{shift_of, shifts_of, schedule_of, IsAccepted, IsSpanTime, AreSpanTimes}
-use Rattle.tz_lookup.specs.Spans.{Shift, shift_at, TimesDontFall}
+use Rattle.tz_lookup.specs.Sets.{shift_of, schedule_of, IsAccepted, IsSpanTime}
+use Rattle.tz_lookup.specs.Spans.{shift_at, TimesDontFall}
 use Rattle.tz_lookup.proofs.SetLemmas.{all_shifts}
 
 le_itself : (a : ℤ) → a ≤ℤ a

@@ -3,10 +3,10 @@ use Rattle.std.proofs.Common.{◌≡◌, ℕ, ◌+◌, ◌-◌, ◌≤◌, List,
 use Rattle.std.proofs.lemmas.List.{length-map}
 use Rattle.civil_base.specs.DateTimes.{at_offset}
 use Rattle.civil_base.specs.Instants.{seconds_of}
-use Rattle.zone_spans.specs.Schedules.{Schedule, total_at}
+use Rattle.zone_spans.specs.Schedules.{total_at}
 use Rattle.civil_base.specs.Instants.{instant_at}
 use Rattle.tz_lookup.specs.declared.set.FixedTimespanSet.{FixedTimespanSet}
-use Rattle.tz_lookup.specs.InForce.{all_in_force, shown_of, totals_at}
+use Rattle.tz_lookup.specs.InForce.{all_in_force, shown_of}
 use Rattle.tz_lookup.specs.Scans.{spans_from}
 use Rattle.tz_lookup.specs.Sets.{schedule_of, total_of_span, IsAccepted}
 use Rattle.tz_lookup.proofs.InstantLemmas.{total_in_range}

@@ -1,18 +1,14 @@
 -- The instants of a local time are one rising list.
-use Rattle.std.proofs.Common.{◌≡◌, ℕ, zero, suc, ◌<◌, ◌≤◌, Bool, true, false, cond, List, [], ◌∷◌, length, map, get_or, ℤ, pos, ◌+ℤ◌, ◌-ℤ◌, ◌*ℤ◌, ◌≤ℤ◌, ◌<ℤ◌, int_le, refl, sym, ap, ◌∙◌, subst, ◌⊎◌, ⊎_elim, inl, inr, arith}
+use Rattle.std.proofs.Common.{◌≡◌, ℕ, zero, suc, Bool, true, false, cond, List, ◌∷◌, map, ℤ, pos, ◌+ℤ◌, ◌-ℤ◌, ◌*ℤ◌, ◌≤ℤ◌, ◌<ℤ◌, refl, sym, ap, ◌∙◌, subst, ◌⊎◌, ⊎_elim, inl, inr, arith}
 use Rattle.std.specs.Prelude.{Contains}
 use Rattle.std.specs.Ordering.{int_eq}
 use Rattle.std.specs.List.{filter}
 use Rattle.std.proofs.lemmas.Int.{ints}
-use Rattle.civil_base.specs.Instants.{seconds_of}
 use Rattle.std.specs.Prelude.{IsTrue}
-use Rattle.std.specs.List.{list_all}
-use Rattle.std.proofs.lemmas.Bool.{and_parts}
 use Rattle.civil_base.specs.Ranges.{IsOffset}
 use Rattle.civil_base.specs.RangeLaws.{offset_least, offset_greatest}
-use Rattle.zone_spans.specs.Schedules.{Schedule, last_total, total_at, down_from, offset_count, offsets, instants, is_in_offset_range}
+use Rattle.zone_spans.specs.Schedules.{Schedule, total_at, down_from, offset_count, offsets, instants, is_in_offset_range}
 use Rattle.civil_base.specs.Instants.{instant_at}
-use Rattle.civil_base.specs.Ranges.{is_offset}
 use Rattle.zone_spans.specs.ScheduleLaws.{total_is_offset}
 use Rattle.tz_lookup.specs.InForce.{AreInstants}
 use Rattle.tz_lookup.proofs.Rising.{Rises, same_rising, pairs_more, contains_head, contains_more}

@@ -1,20 +1,19 @@
 -- What is read of a set's entries.
-use Rattle.std.proofs.Common.{◌≡◌, ℕ, zero, suc, ◌+◌, ◌-◌, ◌<◌, ◌≤◌, Bool, true, List, [], ◌∷◌, length, map, get_or, ℤ, pos, neg_ℤ, ◌+ℤ◌, ◌≤ℤ◌, refl, sym, ap, ◌∙◌, subst, ⊎_elim, arith}
-use Rattle.std.specs.Prelude.{All, ◌↔◌, ◌&&◌, IsTrue}
+use Rattle.std.proofs.Common.{◌≡◌, ℕ, zero, suc, ◌+◌, ◌-◌, ◌<◌, ◌≤◌, true, List, [], ◌∷◌, length, map, get_or, ℤ, pos, ◌+ℤ◌, ◌≤ℤ◌, refl, sym, ap, ◌∙◌, subst, ⊎_elim, arith}
+use Rattle.std.specs.Prelude.{All, ◌↔◌, ◌&&◌}
 use Rattle.std.specs.List.{list_all}
 use Rattle.std.proofs.lemmas.Bool.{cases_lt, and_parts}
 use Rattle.std.proofs.lemmas.Int.{ints}
-use Rattle.std.proofs.lemmas.List.{get_or_default, get_or-map, length-map}
+use Rattle.std.proofs.lemmas.List.{get_or-map, length-map}
 use Rattle.zone_spans.specs.Entries.{Entry, total}
-use Rattle.zone_spans.specs.Schedules.{is_in_offset_range}
 use Rattle.civil_base.specs.Ranges.{is_offset}
 use Rattle.tz_lookup.specs.declared.set.FixedTimespanSet.{FixedTimespanSet}
 use Rattle.std.proofs.Common.{w64, to_z, of_z, SFits}
 use Rattle.std.proofs.lemmas.Int.{to_z-of_z}
 use Rattle.civil_base.specs.Ranges.{IsOffset}
 use Rattle.civil_base.specs.RangeLaws.{offset_least, offset_greatest}
-use Rattle.tz_lookup.specs.Spans.{Shift, shift_at, local_start, total_of}
-use Rattle.tz_lookup.specs.Sets.{shift_of, shifts_of, schedule_of, span_in, total_of_span, IsAccepted, IsSpanTime, AreSpanTimes}
+use Rattle.tz_lookup.specs.Spans.{Shift, shift_at, local_start}
+use Rattle.tz_lookup.specs.Sets.{shift_of, shifts_of, schedule_of, span_in, total_of_span, IsAccepted, IsSpanTime}
 
 pub shift_read : (es : List Entry) (k : ℕ) (d : Entry) → k < length es → shift_at (map shift_of es) k ≡ shift_of (get_or es k d)
 shift_read [] k d l = absurd (omega arith)

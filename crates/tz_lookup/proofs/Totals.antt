@@ -1,5 +1,5 @@
 -- The total in force at an instant is that at its second.
-use Rattle.std.proofs.Common.{◌≡◌, Bool, true, false, List, filter, ℤ, pos, ◌*ℤ◌, ◌≤ℤ◌, ◌<ℤ◌, int_le, refl, sym, ◌∙◌, arith}
+use Rattle.std.proofs.Common.{◌≡◌, Bool, true, false, List, filter, ℤ, pos, ◌*ℤ◌, ◌≤ℤ◌, ◌<ℤ◌, int_le, refl, arith}
 use Rattle.std.proofs.lemmas.Int.{ints}
 use Rattle.calendar.specs.Orders.{le_pass, le_fail, le_from_pass, le_from_fail}
 use Rattle.civil_base.specs.Instants.{seconds_of}

@@ -1,5 +1,5 @@
 -- What is compiled under a name.
-use Rattle.std.specs.Prelude.{◌≡◌, ◌≢◌, ℕ, List, option_map, false, Option, Some, None, Result, Ok, Err, IfSome}
+use Rattle.std.specs.Prelude.{◌≡◌, ◌≢◌, ℕ, List, option_map, false, Option, Some, None, Result, Ok, Err}
 use Rattle.std.specs.FinMap.{get}
 use Rattle.zone_spans.specs.Compiled.{compiled}
 use Rattle.zone_spans.specs.Schedules.{is_in_offset_range, totals_of}

@@ -1,5 +1,5 @@
 -- What is left to give of the date-times of a local time.
-use Rattle.std.specs.Prelude.{◌+◌, ◌-◌, List, map, length, ℕ}
+use Rattle.std.specs.Prelude.{◌+◌, ◌-◌, List, map, length}
 use Rattle.civil_base.specs.DateTimes.{at_offset}
 use Rattle.civil_base.specs.declared.offset_date_time.OffsetDateTime.{OffsetDateTime}
 use Rattle.tz_lookup.specs.Scans.{spans_from}

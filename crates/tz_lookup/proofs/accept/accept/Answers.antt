@@ -1,4 +1,4 @@
-use Rattle.std.proofs.Common.{◌≡◌, List, sym, ◌∙◌, subst, pos}
+use Rattle.std.proofs.Common.{List, sym, ◌∙◌, subst, pos}
 use Rattle.std.specs.Prelude.{All}
 use Rattle.zone_spans.specs.Entries.{Entry}
 use Rattle.tz_lookup.specs.Sets.{IsSpanTime}

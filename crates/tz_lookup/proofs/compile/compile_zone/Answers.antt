@@ -1,8 +1,4 @@
-use Rattle.std.proofs.Common.{sym, ap, ◌∙◌, subst}
-use Rattle.std.specs.Prelude.{IsTrue}
-use Rattle.zone_spans.specs.Bounds.{is_bounded}
-use Rattle.zone_spans.specs.Collapse.{TimesRise}
-use Rattle.zone_spans.specs.declared.span.FixedTimespanSet as spans
+use Rattle.std.proofs.Common.{sym, ◌∙◌}
 use Rattle.tz_lookup.specs.Compiles.{compiled_in}
 use Rattle.tz_lookup.proofs.CompileLemmas.{accepted_spans, far_spans}
 use Rattle.tz_lookup.proofs.compile.compile_zone.Goals as goal

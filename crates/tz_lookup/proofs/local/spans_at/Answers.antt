@@ -1,4 +1,4 @@
-use Rattle.std.proofs.Common.{◌+◌, w64, to_z, of_z, arith, sym, ◌∙◌}
+use Rattle.std.proofs.Common.{w64, to_z, of_z, arith, sym, ◌∙◌}
 use Rattle.tz_lookup.proofs.SetLemmas.{count_same}
 use Rattle.std.proofs.lemmas.Int.{to_z-of_z}
 use Rattle.tz_lookup.specs.Sets.{schedule_of}

@@ -1,7 +1,7 @@
-use Rattle.std.proofs.Common.{◌≡◌, ℤ, Option, Some, None, IfSome, sym, ap, ◌∙◌}
+use Rattle.std.proofs.Common.{◌≡◌, ℤ, Option, Some, None, IfSome, ◌∙◌}
 use Rattle.civil_base.specs.DateTimes.{instant, offset_of}
 use Rattle.civil_base.specs.declared.offset_date_time.OffsetDateTime.{OffsetDateTime}
-use Rattle.tz_lookup.specs.InForce.{in_force, shown_of}
+use Rattle.tz_lookup.specs.InForce.{shown_of}
 use Rattle.tz_lookup.proofs.extensions.OffsetDateTimeOffsetDateTimeExt.to_timezone.Goals as goal
 
 shown : (r : Option OffsetDateTime) (t o p : ℤ) → o ≡ p → IfSome r (λ v. instant v ≡ t) → IfSome r (λ v. offset_of v ≡ o)

@@ -1,7 +1,7 @@
-use Rattle.std.proofs.Common.{◌≡◌, ℤ, [], ◌∷◌, sym, ap, ◌∙◌}
+use Rattle.std.proofs.Common.{◌≡◌, ℤ, [], ◌∷◌, ap, ◌∙◌}
 use Rattle.civil_base.specs.DateTimes.{at_offset}
 use Rattle.civil_base.specs.Instants.{instant_at}
-use Rattle.tz_lookup.specs.InForce.{all_in_force, shown_of, totals_at}
+use Rattle.tz_lookup.specs.InForce.{shown_of, totals_at}
 use Rattle.std.specs.Prelude.{take}
 use Rattle.tz_lookup.proofs.TimeZoneLemmas.{shown_assumed, shown_at_offset}
 use Rattle.tz_lookup.proofs.extensions.PlainDateTimePrimitiveDateTimeExt.assume_timezone.Goals as goal

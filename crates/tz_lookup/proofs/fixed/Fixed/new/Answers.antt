@@ -1,5 +1,4 @@
-use Rattle.std.proofs.Common.{subst, ◌∙◌, w32, SFits, rules}
-use Rattle.std.proofs.lemmas.Int.{to_z-of_z}
+use Rattle.std.proofs.Common.{subst}
 use Rattle.civil_base.specs.Ranges.{IsOffset}
 use Rattle.tz_lookup.proofs.TimeZoneLemmas.{fixed_two}
 use Rattle.tz_lookup.proofs.fixed.Fixed.new.Goals as goal

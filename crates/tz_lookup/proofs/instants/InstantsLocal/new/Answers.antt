@@ -1,7 +1,5 @@
-use Rattle.std.proofs.Common.{ℤ, w64, SFits, rules, sym, ap, ◌∙◌, ◌≡◌}
+use Rattle.std.proofs.Common.{w64, SFits, rules, sym, ◌∙◌}
 use Rattle.std.proofs.lemmas.Int.{to_z-of_z}
-use Rattle.civil_base.specs.Instants.{seconds_of}
-use Rattle.tz_lookup.specs.InstantsLeft.{dates_left}
 use Rattle.tz_lookup.proofs.EachLemmas.{each_date, few_dates}
 use Rattle.tz_lookup.proofs.UtcLemmas.{second_at_utc}
 use Rattle.tz_lookup.proofs.instants.InstantsLocal.new.Goals as goal

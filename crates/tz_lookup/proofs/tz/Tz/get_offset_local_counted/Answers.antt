@@ -1,4 +1,4 @@
-use Rattle.std.proofs.Common.{w64, SFits, rules, sym, ap, ◌∙◌, refl}
+use Rattle.std.proofs.Common.{w64, SFits, rules, sym, ◌∙◌, refl}
 use Rattle.std.proofs.lemmas.Int.{to_z-of_z}
 use Rattle.civil_base.specs.DateTimes.{local_of}
 use Rattle.tz_lookup.proofs.UtcLemmas.{second_at_utc}

@@ -1,4 +1,4 @@
-use Rattle.std.proofs.Common.{w64, SFits, rules, sym, ap, ◌∙◌, subst, pos, int_lt}
+use Rattle.std.proofs.Common.{w64, SFits, rules, ap, ◌∙◌, subst, pos, int_lt}
 use Rattle.std.proofs.lemmas.Int.{to_z-of_z}
 use Rattle.civil_base.specs.DateTimes.{instant}
 use Rattle.tz_lookup.specs.Sets.{schedule_of, shifts_of}
