@@ -6,10 +6,7 @@
 mod cycles;
 pub mod dates;
 pub mod days;
-mod months;
-#[cfg(test)]
-mod tests;
-pub mod weekdays;
+mod months;pub mod weekdays;
 pub mod years;
 
 pub use dates::{CalendarDate, date_of};

@@ -7,10 +7,7 @@ pub mod date;
 mod instants;
 pub mod offset_date_time;
 pub mod plain_date_time;
-mod read;
-#[cfg(test)]
-mod tests;
-pub mod time;
+mod read;pub mod time;
 pub mod timestamp;
 pub mod utc_date_time;
 pub mod utc_offset;

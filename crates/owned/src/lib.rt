@@ -12,6 +12,3 @@ mod text;
 pub use items::Items;
 pub use map::TextMap;
 pub use text::Text;
-
-#[cfg(test)]
-mod tests;

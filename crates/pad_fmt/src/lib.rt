@@ -12,10 +12,7 @@ mod number;
 mod options;
 mod padding;
 mod sink;
-mod smart_display;
-#[cfg(test)]
-mod tests;
-mod text;
+mod smart_display;mod text;
 
 pub use buffer::WriteBuffer;
 pub use metadata::WidthAnd;

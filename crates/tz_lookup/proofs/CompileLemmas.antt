@@ -69,7 +69,7 @@ accepted_spans set compiled first others bounded rise range =
         → spans_of set ≡ compiled
     same set compiled first others = λ i. record { first = first i; rest = others i }
 
-totals_same : (set : FixedTimespanSet) (compiled : spans.FixedTimespanSet) → set.first ≡ compiled.first → set.others ≡ compiled.rest
+pub totals_same : (set : FixedTimespanSet) (compiled : spans.FixedTimespanSet) → set.first ≡ compiled.first → set.others ≡ compiled.rest
     → totals_of compiled ≡ schedule_of set
 unfolding totals_of
 totals_same set compiled first others = λ i. record { first = total (sym first i); shifts = map shift_of (sym others i) }

@@ -16,3 +16,7 @@ pub mod OffsetLemmas
 pub mod UtcLemmas
 pub mod CompileLemmas
 pub mod FoundLemmas
+pub mod LookupRows
+pub mod GivenLemmas
+pub mod DatabaseLemmas
+pub mod PartLemmas

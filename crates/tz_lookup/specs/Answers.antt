@@ -8,8 +8,12 @@ listed (Some a) = a ∷ []
 listed (Ambiguous a b) = a ∷ b ∷ []
 listed None = []
 
+-- each value has the property
+abbrev pub EachOf : {T : Type 0} → (T → Type 0) → OffsetResult T → Type 0
+EachOf P (Some a) = P a
+EachOf P (Ambiguous a b) = P a × P b
+EachOf P None = Unit {0}
+
 -- each index is at most n
 abbrev pub IsUpTo : ℕ → OffsetResult ℕ → Type 0
-IsUpTo n (Some a) = a ≤ n
-IsUpTo n (Ambiguous a b) = (a ≤ n) × (b ≤ n)
-IsUpTo n None = Unit {0}
+IsUpTo n = EachOf (λ k. k ≤ n)

@@ -10,3 +10,4 @@ pub mod InstantsLeft
 pub mod FixedZones
 pub mod Zones
 pub mod Compiles
+pub mod Databases

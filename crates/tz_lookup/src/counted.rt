@@ -2,9 +2,10 @@
 ghost use Rattle.std.specs.Prelude.{◌≡◌, ℕ, ℤ, ◌+◌, ◌-◌, ◌*◌, ◌^◌, ◌<◌, ◌≤◌, ◌↔◌, length, map, take, IsTrue};
 ghost use Rattle.civil_base.specs.Instants.{seconds_of};
 ghost use Rattle.zone_spans.specs.Schedules.{total_at};
-ghost use Rattle.tz_lookup.specs.Answers.{listed, IsUpTo};
+ghost use Rattle.tz_lookup.specs.Answers.{listed, EachOf, IsUpTo};
 ghost use Rattle.tz_lookup.specs.InForce.{totals_at};
-ghost use Rattle.tz_lookup.specs.Sets.{schedule_of, shifts_of, IsAccepted, IsOrderlyZone, total_of_span};
+ghost use Rattle.tz_lookup.specs.Sets.{schedule_of, shifts_of, IsAccepted, IsOrderlyZone, total_of_span, order_of};
+ghost use Rattle.std.specs.declared.cmp.Ordering.TheVariants.{Equal};
 ghost use Rattle.tz_lookup.specs.Spans.{IsCut};
 
 use crate::local::spans_at;
@@ -28,6 +29,7 @@ fn spans_under<L: Ledger>(
     requires parts { blank.parts ≡ L.parts }
     requires some { 0 < L.parts }
     ensures within { IsUpTo (length set.now.others) result }
+    ensures lies { EachOf (λ k. order_of (schedule_of set.now) k second ≡ Equal) result }
     ensures exact { (x : ℤ) → seconds_of x ≡ second →
         map (total_of_span set.now) (listed result) ≡ take 2 (totals_at (total_at (schedule_of set.now)) x) }
 {
@@ -40,6 +42,7 @@ pub(crate) fn local_spans(set: &FixedTimespanSet, orderly: bool, second: i64) ->
     requires accepted { IsAccepted (schedule_of set.now) }
     requires orderly { IsTrue orderly ↔ IsOrderlyZone (schedule_of set.now) }
     ensures within { IsUpTo (length set.now.others) result }
+    ensures lies { EachOf (λ k. order_of (schedule_of set.now) k second ≡ Equal) result }
     ensures exact { (x : ℤ) → seconds_of x ≡ second →
         map (total_of_span set.now) (listed result) ≡ take 2 (totals_at (total_at (schedule_of set.now)) x) }
 {
@@ -56,6 +59,7 @@ pub(crate) fn local_spans_counted<L: Ledger>(
     requires accepted { IsAccepted (schedule_of set.now) }
     requires orderly { IsTrue orderly ↔ IsOrderlyZone (schedule_of set.now) }
     ensures within { IsUpTo (length set.now.others) result }
+    ensures lies { EachOf (λ k. order_of (schedule_of set.now) k second ≡ Equal) result }
     ensures exact { (x : ℤ) → seconds_of x ≡ second →
         map (total_of_span set.now) (listed result) ≡ take 2 (totals_at (total_at (schedule_of set.now)) x) }
     ensures cost { 2 ^ (steps.new - steps.old) ≤ 2 * (length set.now.others + 1) + 1 }

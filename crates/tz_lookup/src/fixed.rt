@@ -80,6 +80,8 @@ impl<'a> TimeZone for Fixed<'a> {
 
     ghost primary = { λ zone. zone.offset };
 
+    ghost begins = { λ zone name saving. (name ≡ zone.name.now) × (saving ≡ false) };
+
     fn get_offset_utc(&self, _date_time: &OffsetDateTime) -> FixedOffset<'a> {
         self.answer()
     }

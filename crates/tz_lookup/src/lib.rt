@@ -6,6 +6,7 @@
 mod accept;
 mod compile;
 mod counted;
+mod database;
 mod extensions;
 mod fixed;
 mod instants;
@@ -23,6 +24,7 @@ mod utc;
 
 pub use accept::TzFault;
 pub use compile::{ZoneFault, compile_zone};
+pub use database::{Database, DatabaseFault, DatabaseIter};
 pub use extensions::{OffsetDateTimeExt, PrimitiveDateTimeExt};
 pub use fixed::{Fixed, FixedOffset};
 pub use instants::InstantsLocal;
@@ -34,6 +36,3 @@ pub use steps::Steps;
 pub use time_zone::{Offset, TimeZone};
 pub use tz::{Tz, TzOffset};
 pub use zone_spans::{FixedTimespan, SpanFault};
-
-#[cfg(test)]
-mod tests;

@@ -3,7 +3,7 @@ ghost use Rattle.std.specs.Prelude.{◌≡◌, ℕ, ℤ, ◌+◌, ◌-◌, ◌*�
 ghost use Rattle.std.specs.declared.cmp.Ordering.TheVariants.{Equal};
 ghost use Rattle.civil_base.specs.Instants.{seconds_of};
 ghost use Rattle.zone_spans.specs.Schedules.{total_at};
-ghost use Rattle.tz_lookup.specs.Answers.{listed, IsUpTo};
+ghost use Rattle.tz_lookup.specs.Answers.{listed, EachOf, IsUpTo};
 ghost use Rattle.tz_lookup.specs.InForce.{totals_at};
 ghost use Rattle.tz_lookup.specs.Sets.{schedule_of, IsAccepted, IsOrderlyZone, total_of_span, order_of};
 
@@ -42,6 +42,7 @@ pub(crate) fn spans_at<L: Ledger>(
     requires accepted { IsAccepted (schedule_of set.now) }
     requires orderly { IsOrderlyZone (schedule_of set.now) }
     ensures within { IsUpTo (length set.now.others) result }
+    ensures lies { EachOf (λ k. order_of (schedule_of set.now) k second ≡ Equal) result }
     ensures exact { (x : ℤ) → seconds_of x ≡ second →
         map (total_of_span set.now) (listed result) ≡ totals_at (total_at (schedule_of set.now)) x }
     ensures cost { 2 ^ (steps.new - steps.old) ≤ 2 * (length set.now.others + 1) + 1 }
@@ -61,6 +62,7 @@ fn beside(set: &FixedTimespanSet, second: i64, found: usize) -> OffsetResult<usi
     requires within { found ≤ length set.now.others }
     requires contains { order_of (schedule_of set.now) found second ≡ Equal }
     ensures within { IsUpTo (length set.now.others) result }
+    ensures lies { EachOf (λ k. order_of (schedule_of set.now) k second ≡ Equal) result }
     ensures exact { (x : ℤ) → seconds_of x ≡ second →
         map (total_of_span set.now) (listed result) ≡ totals_at (total_at (schedule_of set.now)) x }
 {

@@ -1,8 +1,9 @@
 //! The spans that contain a local second, by looking at each, on any set.
 ghost use Rattle.std.specs.Prelude.{◌≡◌, ℕ, ◌+◌, ◌-◌, ◌∷◌, [], ◌<◌, ◌≤◌, length, take, MatchOption, IfSome};
-ghost use Rattle.tz_lookup.specs.Answers.{listed, IsUpTo};
+ghost use Rattle.tz_lookup.specs.Answers.{listed, EachOf, IsUpTo};
 ghost use Rattle.tz_lookup.specs.Scans.{spans_from};
-ghost use Rattle.tz_lookup.specs.Sets.{schedule_of, IsAccepted};
+ghost use Rattle.tz_lookup.specs.Sets.{schedule_of, IsAccepted, order_of};
+ghost use Rattle.std.specs.declared.cmp.Ordering.TheVariants.{Equal};
 
 use crate::result::OffsetResult;
 use crate::set::FixedTimespanSet;
@@ -11,6 +12,7 @@ use crate::set::FixedTimespanSet;
 pub(crate) fn first_spans_at(set: &FixedTimespanSet, second: i64) -> OffsetResult<usize>
     requires accepted { IsAccepted (schedule_of set.now) }
     ensures within { IsUpTo (length set.now.others) result }
+    ensures lies { EachOf (λ k. order_of (schedule_of set.now) k second ≡ Equal) result }
     ensures exact { listed result ≡ take 2 (spans_from (schedule_of set.now) second 0 (length set.now.others + 1)) }
 {
     let mut first = None;

@@ -1,9 +1,10 @@
 //! Time zones and offsets of every kind.
 ghost use Rattle.std.specs.Prelude.{◌≡◌, ℕ, ℤ, pos, Bool, List, ◌≤◌, map, take, length};
 ghost use Rattle.civil_base.specs.DateTimes.{instant, local_of, offset_of};
+ghost use Rattle.civil_base.specs.Instants.{instant_at};
 ghost use Rattle.civil_base.specs.Ranges.{IsOffset};
 ghost use Rattle.zone_spans.specs.Schedules.{instants};
-ghost use Rattle.tz_lookup.specs.Answers.{listed};
+ghost use Rattle.tz_lookup.specs.Answers.{listed, EachOf};
 ghost use Rattle.tz_lookup.specs.InForce.{totals_at};
 
 use crate::result::OffsetResult;
@@ -37,7 +38,8 @@ pub trait Offset: Drop {
 ///
 /// Three laws hold of each zone: the total at an instant is an offset, less than 26 hours in size; an instant's offset is
 /// the total at it; and the offsets of a local time are the totals at the instants that are read as it, by time: all of
-/// them, or the first two. Where the zone is orderly there are at most two.
+/// them, or the first two. Where the zone is orderly there are at most two. An offset's abbreviation and its kind are those
+/// in force at its instant.
 pub trait TimeZone {
     /// The kind of its offsets.
     type Offset: Offset;
@@ -57,6 +59,9 @@ pub trait TimeZone {
     /// The seconds east of UTC of the zone's first offset.
     ghost primary: { Self → ℤ };
 
+    /// The first offset has this abbreviation, and a saving above 0 or none.
+    ghost begins: { Self → List ℕ → Bool → Type 0 };
+
     /// The offset in force at an instant.
     fn get_offset_utc(&self, date_time: &OffsetDateTime) -> Self::Offset
         ensures total { Self.Offset.total result ≡ total_at self.now (instant date_time.now) }
@@ -65,11 +70,13 @@ pub trait TimeZone {
     /// The offsets at which a local time is read. The date and the time of a date-time at UTC are taken for the local ones.
     fn get_offset_local(&self, date_time: &OffsetDateTime) -> OffsetResult<Self::Offset>
         requires { offset_of date_time.now ≡ pos 0 }
-        ensures { map Self.Offset.total (listed result) ≡ take 2 (totals_at (total_at self.now) (local_of date_time.now)) };
+        ensures totals { map Self.Offset.total (listed result) ≡ take 2 (totals_at (total_at self.now) (local_of date_time.now)) }
+        ensures names { EachOf (λ offset. gives self.now (instant_at (local_of date_time.now) (Self.Offset.total offset)) (Self.Offset.called offset) (Self.Offset.is_saving offset)) result };
 
     /// The zone's first offset.
     fn get_offset_primary(&self) -> Self::Offset
-        ensures { Self.Offset.total result ≡ primary self.now };
+        ensures total { Self.Offset.total result ≡ primary self.now }
+        ensures name { begins self.now (Self.Offset.called result) (Self.Offset.is_saving result) };
 
     /// The zone's name.
     fn name(&self) -> &str

@@ -40,15 +40,17 @@ pub struct TzOffset<'a> {
 }
 
 impl<'a> Tz<'a> {
-    ghost use Rattle.std.specs.Prelude.{◌≡◌, ◌↔◌, ◌+◌, ◌-◌, ◌*◌, ◌^◌, ◌≤◌, IsTrue, MatchResult, length, map, take, pos};
+    ghost use Rattle.std.specs.Prelude.{◌≡◌, ◌↔◌, ◌+◌, ◌-◌, ◌*◌, ◌^◌, ◌≤◌, ℤ, IsTrue, MatchResult, length, map, take, pos};
+    ghost use Rattle.std.specs.declared.cmp.Ordering.TheVariants.{Equal};
+    ghost use Rattle.civil_base.specs.Instants.{seconds_of};
     ghost use Rattle.civil_base.specs.DateTimes.{local_of, offset_of};
     ghost use Rattle.zone_spans.specs.Schedules.{total_at};
-    ghost use Rattle.tz_lookup.specs.Answers.{listed, IsUpTo};
+    ghost use Rattle.tz_lookup.specs.Answers.{listed, EachOf, IsUpTo};
     ghost use Rattle.tz_lookup.specs.Faults.{IsFault};
     ghost use Rattle.tz_lookup.specs.InForce.{all_in_force, shown_of, totals_at};
     ghost use Rattle.tz_lookup.specs.InstantsLeft.{dates_left};
-    ghost use Rattle.tz_lookup.specs.Sets.{schedule_of, IsAccepted, IsOrderlyZone, span_in, total_of_span};
-    ghost use Rattle.tz_lookup.specs.Zones.{set_of, span_shown, total_shown};
+    ghost use Rattle.tz_lookup.specs.Sets.{schedule_of, IsAccepted, IsOrderlyZone, order_of, span_in, total_of_span};
+    ghost use Rattle.tz_lookup.specs.Zones.{set_of, span_shown, total_shown, IsGivenFor};
 
     /// The zone of a set. `OffsetRange`, `Falling` and `Bound` come in this order, each exactly where it says, and whether
     /// the set is orderly is tested once, here.
@@ -89,6 +91,7 @@ impl<'a> Tz<'a> {
     ) -> OffsetResult<TzOffset<'a>>
         requires { offset_of date_time.now ≡ pos 0 }
         ensures totals { map total_shown (listed result) ≡ take 2 (totals_at (total_at (schedule_of (set_of self.now))) (local_of date_time.now)) }
+        ensures names { EachOf (IsGivenFor (set_of self.now) (local_of date_time.now)) result }
         ensures cost { 2 ^ (steps.new - steps.old) ≤ 2 * (length (set_of self.now).others + 1) + 1 }
         ensures later { steps.old ≤ steps.new }
     {
@@ -108,7 +111,9 @@ impl<'a> Tz<'a> {
     /// The offsets of some spans.
     fn offsets(&self, spans: OffsetResult<usize>) -> OffsetResult<TzOffset<'a>>
         requires { IsUpTo (length (set_of self.now).others) spans }
-        ensures { map total_shown (listed result) ≡ map (total_of_span (set_of self.now)) (listed spans) }
+        ensures totals { map total_shown (listed result) ≡ map (total_of_span (set_of self.now)) (listed spans) }
+        ensures names { (x : ℤ) → EachOf (λ k. order_of (schedule_of (set_of self.now)) k (seconds_of x) ≡ Equal) spans
+            → EachOf (IsGivenFor (set_of self.now) x) result }
     {
         match spans {
             OffsetResult::None => OffsetResult::None,
@@ -124,6 +129,7 @@ impl<'a> Tz<'a> {
         requires { index ≤ length (set_of self.now).others }
         ensures total { total_shown result ≡ total_of_span (set_of self.now) index }
         ensures span { span_shown result ≡ span_in (set_of self.now) index }
+        ensures given { (x : ℤ) → order_of (schedule_of (set_of self.now)) index (seconds_of x) ≡ Equal → IsGivenFor (set_of self.now) x result }
     {
         TzOffset {
             span: self.set.span_at(index),
@@ -164,6 +170,8 @@ impl<'a> TimeZone for Tz<'a> {
     ghost called = { λ zone. zone.set.now.name };
 
     ghost primary = { λ zone. total zone.set.now.first };
+
+    ghost begins = { λ zone name saving. (name ≡ zone.set.now.first.name) × (saving ≡ int_lt (pos 0) zone.set.now.first.dst_offset) };
 
     fn get_offset_utc(&self, date_time: &OffsetDateTime) -> TzOffset<'a> {
         self.offset_of(span_at(self.set, date_time.unix_timestamp()))

@@ -8,3 +8,4 @@ pub mod ZoneLemmas
 pub mod RefusalLemmas
 pub mod EndLemmas
 pub mod AnswerRows
+pub mod FaultRows

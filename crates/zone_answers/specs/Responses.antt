@@ -11,7 +11,8 @@ use Rattle.zone_answers.specs.declared.respond.Answered.{Answered}
 use Rattle.zone_answers.specs.declared.respond.Answered.TheVariants.{Done, Fault, Failed, NoMemory}
 
 abbrev pub Responds : List ℕ → List ℕ → OutputSeen → OutputSeen → Answered → Type 0
-Responds source requests before now Done = IsValid source requests × All IsReadBack (shown source requests) × Grew before now (due_bytes source requests)
+Responds source requests before now Done = IsValid source requests × All IsReadBack (shown source requests)
+    × Grew before now (due_bytes source requests)
 Responds source requests before now Fault = (fault source requests ≢ None) × Grew before now (due_bytes source requests)
 Responds source requests before now Failed = Rose before.faults now.faults × GrewBySome before now (due_bytes source requests)
 Responds source requests before now NoMemory = now ≡ before

@@ -22,6 +22,3 @@ pub use zone_source::{
     StdSink, StdSource, SureShelf, SureSink, SureSource,
 };
 pub use zones::open_zone;
-
-#[cfg(test)]
-mod tests;

@@ -67,7 +67,8 @@ clock_time c = do
   hour ← two_digits c.hour
   minute ← two_digits c.minute
   option_map_or
-      (λ text. option_map (λ second. HoursMinutesSeconds (signed c.sign hour) (signed c.sign minute) (signed c.sign second)) (two_digits text))
+      (λ text. option_map (λ second. HoursMinutesSeconds (signed c.sign hour) (signed c.sign minute) (signed c.sign second))
+        (two_digits text))
       c.second
       (Some (HoursMinutes (signed c.sign hour) (signed c.sign minute)))
 

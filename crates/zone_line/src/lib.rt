@@ -20,6 +20,3 @@ pub use zone_values::{
     ChangeTime, DaySpec, Error, Fault, FaultKind, Line, Link, Month, Rule, Saving, TimeSpec,
     TimeSpecAndType, TimeType, Weekday, Year, Zone, ZoneInfo,
 };
-
-#[cfg(test)]
-mod tests;

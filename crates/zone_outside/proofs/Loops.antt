@@ -11,9 +11,11 @@ pub record HasRead (read : List ℕ) (left : Option (List ℕ)) (bytes : List �
   pub left_is : left ≡ Some rest
 
 -- after some bytes were read, and n more, the rest is left
-pub rest_left : (first mid new : Option (List ℕ)) (read into : List ℕ) (n : ℕ) → IfSome first (HasRead read mid) → IfSome mid (λ bytes. Consumes bytes new into n) → LeavesRest first new
+pub rest_left : (first mid new : Option (List ℕ)) (read into : List ℕ) (n : ℕ) → IfSome first (HasRead read mid)
+    → IfSome mid (λ bytes. Consumes bytes new into n) → LeavesRest first new
 rest_left None mid new read into n had more = tt
-rest_left (Some bytes) mid new read into n had more = (length (read ++ take n into), step.left_is ∙ ap Some (sym (ap (drop (length (read ++ take n into))) parts ∙ drop-append_seam (read ++ take n into) step.rest)))
+rest_left (Some bytes) mid new read into n had more = (length (read ++ take n into), step.left_is
+    ∙ ap Some (sym (ap (drop (length (read ++ take n into))) parts ∙ drop-append_seam (read ++ take n into) step.rest)))
   where
     step : Consumes had.rest new into n
     step = subst (λ o. IfSome o (λ bytes. Consumes bytes new into n)) had.left_is more
@@ -22,7 +24,8 @@ rest_left (Some bytes) mid new read into n had more = (length (read ++ take n in
     parts = had.parts ∙ ap (λ t. read ++ t) step.parts ∙ sym (append_assoc read (take n into) step.rest)
 
 -- after the first bytes of a text, a sink took the next n
-pub taken_more : (bytes piece : List ℕ) (at n : ℕ) (first mid new : Option (List ℕ)) → piece ≡ drop at bytes → IfSome first (λ had. mid ≡ Some (had ++ take at bytes)) → IfSome mid (λ had. new ≡ Some (had ++ take n piece))
+pub taken_more : (bytes piece : List ℕ) (at n : ℕ) (first mid new : Option (List ℕ)) → piece ≡ drop at bytes
+    → IfSome first (λ had. mid ≡ Some (had ++ take at bytes)) → IfSome mid (λ had. new ≡ Some (had ++ take n piece))
     → IfSome first (λ had. new ≡ Some (had ++ take (at + n) bytes))
 taken_more bytes piece at n None mid new p h k = tt
 taken_more bytes piece at n (Some had) mid new p h k =
@@ -32,7 +35,8 @@ taken_more bytes piece at n (Some had) mid new p h k =
     now ∙ ap (λ t. Some ((had ++ take at bytes) ++ take n t)) p ∙ ap Some (append_assoc had _ _ ∙ ap (λ t. had ++ t) parts)
 
 -- the front of some bytes was copied to the front of a buffer
-pub consumed : (from into part : List ℕ) (n : ℕ) → part ≡ take n from → n ≤ length from → (n ≡ 0 → length from ≡ 0) → Consumes from (Some (drop n from)) (part ++ drop n into) n
+pub consumed : (from into part : List ℕ) (n : ℕ) → part ≡ take n from → n ≤ length from → (n ≡ 0 → length from ≡ 0)
+    → Consumes from (Some (drop n from)) (part ++ drop n into) n
 consumed from into part n is fits ended =
     let long : length part ≡ n = ap length is ∙ length-take-le n from fits in
     record {
@@ -43,5 +47,6 @@ consumed from into part n is fits ended =
     }
 
 -- the same of what is left from a place on
-pub consumed_at : (bytes into : List ℕ) (at n : ℕ) → Consumes (drop at bytes) (Some (drop n (drop at bytes))) into n → Consumes (drop at bytes) (Some (drop (at + n) bytes)) into n
+pub consumed_at : (bytes into : List ℕ) (at n : ℕ) → Consumes (drop at bytes) (Some (drop n (drop at bytes))) into n
+    → Consumes (drop at bytes) (Some (drop (at + n) bytes)) into n
 consumed_at bytes into at n h = let step : drop n (drop at bytes) ≡ drop (at + n) bytes = drop-drop n at bytes in rw (← step) h

@@ -13,6 +13,3 @@ pub use outside::{Failed, Shelf, Sink, Source};
 pub use streams::{FileShelf, StdSink, StdSource};
 pub use sure::{SureShelf, SureSink, SureSource};
 pub use whole::{LIMIT, ReadEnd, fetch_all, read_all, write_all};
-
-#[cfg(test)]
-mod tests;

@@ -1,2 +1,3 @@
 pub mod LineLemmas
 pub mod JoinLemmas
+pub mod SourceRows

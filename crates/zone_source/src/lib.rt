@@ -21,6 +21,3 @@ pub use zone_outside::{
     Failed, FileShelf, LIMIT, MemShelf, MemSink, MemSource, ReadEnd, Shelf, Sink, Source, StdSink,
     StdSource, SureShelf, SureSink, SureSource, fetch_all, read_all, write_all,
 };
-
-#[cfg(test)]
-mod tests;

@@ -18,6 +18,3 @@ pub use collapsing::collapse;
 pub use fault::SpanFault;
 pub use span::{FixedTimespan, FixedTimespanSet};
 pub use transitions::TableTransitions;
-
-#[cfg(test)]
-mod tests;

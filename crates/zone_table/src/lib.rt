@@ -22,6 +22,3 @@ pub use rule::RuleInfo;
 pub use structure::{Child, Iter, Structure, TableStructure, TableStructureEntry};
 pub use table::Table;
 pub use zone::{Saving, ZoneInfo};
-
-#[cfg(test)]
-mod tests;

@@ -39,14 +39,16 @@ long = Hours (pos 300)
 abbrev until : DaySpec → TimeSpec → ChangeTime
 until day time = UntilTime (Number (pos 2000)) March day (with_type time Wall)
 
-ends : map is_bounded_end (UntilYear Minimum ∷ until (Last Sunday) short ∷ until (Ordinal (pos 32)) short ∷ until (Ordinal (pos 31)) long ∷ [])
+ends : map is_bounded_end (UntilYear Minimum ∷ until (Last Sunday) short ∷ until (Ordinal (pos 32)) short
+    ∷ until (Ordinal (pos 31)) long ∷ [])
     ≡ true ∷ true ∷ false ∷ false ∷ []
 ends = refl
 
 abbrev info : TimeSpec → SavingValue → Option ChangeTime → InfoValue
 info offset saving time = record { utc_offset = offset; saving = saving; format = []; time = time }
 
-infos : map is_bounded_info (info short no_saving None ∷ info short (multiple []) (Some (UntilYear Minimum)) ∷ info short (one_off short) None
+infos : map is_bounded_info (info short no_saving None ∷ info short (multiple []) (Some (UntilYear Minimum))
+    ∷ info short (one_off short) None
     ∷ info long no_saving None ∷ info short (one_off long) None ∷ info short no_saving (Some (until (Ordinal (pos 0)) short)) ∷ [])
     ≡ true ∷ true ∷ true ∷ false ∷ false ∷ false ∷ []
 infos = refl

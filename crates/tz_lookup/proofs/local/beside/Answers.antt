@@ -50,7 +50,8 @@ returns-else-found-entry_count-clause-exact c = λ x at.
     ] in
     let no_after : c.args.found < length zone.shifts → order_of zone (suc c.args.found) s ≡ Equal → ⊥ = λ l e.
     elim c.else-found-entry_count.branch [
-      | else-found-entry_count-via-then-found-entry_count+else-contains-2 w ↦ if_false w.contains-then-found-entry_count.result w.contains-then-found-entry_count.ensures.1 w.if-contains-2.false
+      | else-found-entry_count-via-then-found-entry_count+else-contains-2 w ↦ if_false w.contains-then-found-entry_count.result
+          w.contains-then-found-entry_count.ensures.1 w.if-contains-2.false
           (let after : suc c.args.found ≡ c.args.found + 1 = omega arith in subst (λ n. order_of zone n s ≡ Equal) after e)
       | else-found-entry_count-via-else-found-entry_count w ↦ absurd
           (omega (arith, l, count, w.if-found-entry_count.false, c.entry_count.ensures))

@@ -1,7 +1,10 @@
 use Rattle.std.proofs.Common.{◌≡◌, ℕ, ℤ, ◌+◌, ◌-◌, ◌<◌, [], ◌∷◌, ◌++◌, length, take, w64, to_z, of_z, arith, sym, ap, ◌∙◌, subst}
 use Rattle.std.proofs.lemmas.Int.{to_z-of_z}
-use Rattle.tz_lookup.specs.Sets.{schedule_of}
+use Rattle.std.specs.declared.cmp.Ordering.TheVariants.{Equal}
+use Rattle.tz_lookup.specs.Sets.{schedule_of, order_of}
 use Rattle.tz_lookup.specs.Scans.{spans_from, so_far}
+use Rattle.tz_lookup.specs.declared.result.OffsetResult.TheVariants.{Some, Ambiguous}
+use Rattle.tz_lookup.proofs.GivenLemmas.{each_at}
 use Rattle.tz_lookup.proofs.OrderLemmas.{if_false}
 use Rattle.tz_lookup.proofs.ScanLemmas.{step_takes, step_skips, first_two}
 use Rattle.tz_lookup.proofs.scan.first_spans_at.Goals as goal
@@ -30,6 +33,11 @@ loop-i-preserved c =
         | then-contains+in-None w ↦ (let same : i ≡ x = cc (w.first-is, e) in omega arith)
         | else-contains w ↦ (let before = c.loop-i.invariant.within x (sym w.first-is ∙ e) in omega arith)
       ];
+      lies = λ x e. elim c.if-contains.branch [
+        | then-contains+in-None w ↦
+            subst (λ k. order_of zone k s ≡ Equal) (let same : i ≡ x = cc (w.first-is, e) in same) (c.contains.ensures.0 w.if-contains.true)
+        | else-contains w ↦ c.loop-i.invariant.lies x (sym w.first-is ∙ e)
+      ];
       exact = elim c.if-contains.branch [
         | then-contains+in-None w ↦
             ap (λ f. so_far f ++ spans_from zone s (i + 1) (count - (i + 1))) w.first-is
@@ -42,3 +50,13 @@ loop-i-preserved c =
             ∙ c.loop-i.invariant.exact
       ];
     }
+
+pub returns-in-Some-clause-lies : goal.returns-in-Some-clause-lies
+returns-in-Some-clause-lies c =
+    each_at c.args.set.now (to_z-of_z w64 c.args.second c.ranges.second) (Ambiguous c.in-Some.before c.loop-i.i)
+    (c.loop-i.invariant.lies c.in-Some.before c.in-Some.is, c.contains.ensures.0 c.if-contains.true)
+
+pub returns-in-Some-first-clause-lies : goal.returns-in-Some-first-clause-lies
+returns-in-Some-first-clause-lies c =
+    each_at c.args.set.now (to_z-of_z w64 c.args.second c.ranges.second) (Some c.in-Some-first.only)
+    (c.loop-i.invariant.lies c.in-Some-first.only c.in-Some-first.is)

@@ -1,6 +1,7 @@
 use Rattle.std.proofs.Common.{◌≡◌, ◌+◌, ◌-◌, ◌<◌, ◌++◌, length}
 use Rattle.std.specs.Option.{ForSome}
-use Rattle.tz_lookup.specs.Sets.{schedule_of}
+use Rattle.std.specs.declared.cmp.Ordering.TheVariants.{Equal}
+use Rattle.tz_lookup.specs.Sets.{schedule_of, order_of}
 use Rattle.tz_lookup.specs.Scans.{spans_from, so_far}
 use Rattle.tz_lookup.proofs.scan.first_spans_at.Given as goal
 
@@ -8,6 +9,7 @@ use Rattle.tz_lookup.proofs.scan.first_spans_at.Given as goal
 abbrev pub invariant-loop-i : goal.invariant-loop-i
 invariant-loop-i l = record {
   within : ForSome l.first (λ k. k < l.i);
+  lies : ForSome l.first (λ k. order_of (schedule_of l.set) k l.second ≡ Equal);
   exact :
       so_far l.first ++ spans_from (schedule_of l.set) l.second l.i (length l.set.others + 1 - l.i)
       ≡ spans_from (schedule_of l.set) l.second 0 (length l.set.others + 1);

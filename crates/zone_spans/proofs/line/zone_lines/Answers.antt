@@ -26,5 +26,6 @@ loop-i-preserved c =
           (ap not c.in_ok-rules.ensures.known);
       bounded = subst (λ (ls : List Line). IsTrue (list_all is_bounded_line ls)) (sym pushed)
           (one_line_more c.loop-i.lines line before.bounded
-          (line_bounded infos i info rules c.end_at.result (omega arith) c.index-infos-i.is c.end_at.ensures c.requires.lines c.in_ok-rules.ensures.bounded));
+          (line_bounded infos i info rules c.end_at.result (omega arith) c.index-infos-i.is c.end_at.ensures c.requires.lines
+            c.in_ok-rules.ensures.bounded));
     }

@@ -34,7 +34,8 @@ tested s n f g h = sym (rw (to_z-of_z f, to_z-of_z g) at h)
 parts_of : (c : goal.After-from_whole_nanoseconds) → are_parts c.args.seconds c.args.nanoseconds ≡ true
 parts_of c = tested c.args.seconds c.args.nanoseconds c.ranges.seconds c.ranges.nanoseconds c.if-are_parts.ensures
 
-computed_of : (c : goal.After-from_whole_nanoseconds) → Computed c.args.seconds c.args.nanoseconds c.from.result c.from-then-are_parts.result
+computed_of : (c : goal.After-from_whole_nanoseconds) → Computed c.args.seconds c.args.nanoseconds c.from.result
+    c.from-then-are_parts.result
 computed_of c =
     computed c.args.seconds c.args.nanoseconds c.from.result c.from-then-are_parts.result c.ranges.seconds
     (small c.args.seconds c.args.nanoseconds (parts_of c))

@@ -14,7 +14,7 @@ returns-in-None g c =
     let total = g.T.TimeZone.total_at c.args.tz.now in
     let x = c.args.self.now in
     shown_assumed total x [] (g.met.T.TimeZone.in_range c.args.tz.now)
-    (c.in-None.ensures ∙ ap (λ y. take 2 (totals_at total y)) c.assume_utc.ensures.local)
+    (c.in-None.ensures.totals ∙ ap (λ y. take 2 (totals_at total y)) c.assume_utc.ensures.local)
 
 pub returns-in-Some : goal.returns-in-Some
 returns-in-Some g c =
@@ -22,7 +22,7 @@ returns-in-Some g c =
     let x = c.args.self.now in
     (λ i. shown_is x _ _ c.assume_offset.result c.assume_offset.ensures.value c.to_utc.ensures i ∷ [])
     ∙ shown_assumed total x _ (g.met.T.TimeZone.in_range c.args.tz.now)
-    (c.in-Some.ensures ∙ ap (λ y. take 2 (totals_at total y)) c.assume_utc.ensures.local)
+    (c.in-Some.ensures.totals ∙ ap (λ y. take 2 (totals_at total y)) c.assume_utc.ensures.local)
 
 pub returns-in-Ambiguous : goal.returns-in-Ambiguous
 returns-in-Ambiguous g c =
@@ -34,4 +34,4 @@ returns-in-Ambiguous g c =
     shown_is x _ _ c.assume_offset-in-Ambiguous-2.result c.assume_offset-in-Ambiguous-2.ensures.value c.to_utc-in-Ambiguous-2.ensures in
     (λ i. first i ∷ second i ∷ [])
     ∙ shown_assumed total x _ (g.met.T.TimeZone.in_range c.args.tz.now)
-    (c.in-Ambiguous.ensures ∙ ap (λ y. take 2 (totals_at total y)) c.assume_utc.ensures.local)
+    (c.in-Ambiguous.ensures.totals ∙ ap (λ y. take 2 (totals_at total y)) c.assume_utc.ensures.local)

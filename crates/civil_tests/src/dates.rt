@@ -1,0 +1,426 @@
+ghost use Rattle.std.specs.Prelude.{◌≡◌, pos, neg_ℤ};
+ghost use Rattle.calendar.specs.Days.{day as day_at};
+ghost use Rattle.civil_base.specs.Clock.{time_at};
+ghost use Rattle.civil_base.specs.DateTimes.{instant, offset_of};
+
+use civil_base::{
+    ComponentRange, Date, Month, OffsetDateTime, PlainDateTime, SignedDuration, Time, Timestamp,
+    UtcDateTime, UtcOffset, Weekday, read_local, read_zoned, write_local, write_zoned,
+};
+use std::alloc::AllocError;
+use std::hash::{DefaultHasher, Hash, Hasher};
+
+fn zoned<'a>(nanos: i128, seconds: i32, into: &'a mut [u8; 40]) -> Option<&'a str> {
+    let offset = UtcOffset::from_whole_seconds(seconds).ok()?;
+    let value = OffsetDateTime::from_unix_timestamp_nanos(nanos)
+        .ok()?
+        .to_offset(offset)?;
+    let end = write_zoned(&value, into);
+    std::str::from_utf8(&into[..end]).ok()
+}
+
+#[test]
+fn writes_instants(rt: HostRuntime) {
+    let rows = [
+        (0, 5400, Some("1970-01-01 01:30:00.000000000 +01:30:00")),
+        (-1, 5400, Some("1970-01-01 01:29:59.999999999 +01:30:00")),
+        (-1, -1, Some("1969-12-31 23:59:58.999999999 -00:00:01")),
+        (
+            -377_705_116_800_000_000_000,
+            0,
+            Some("-9999-01-01 00:00:00.000000000 +00:00:00"),
+        ),
+        (-377_705_116_800_000_000_001, 0, None),
+        (-377_705_116_800_000_000_000, -1, None),
+        (
+            253_402_300_799_999_999_999,
+            0,
+            Some("9999-12-31 23:59:59.999999999 +00:00:00"),
+        ),
+        (253_402_300_800_000_000_000, 0, None),
+        (253_402_300_799_999_999_999, 1, None),
+        (0, 93_600, None),
+    ];
+    for (nanos, seconds, want) in rows {
+        let mut into = [0; 40];
+        assert_eq!(rt;
+            zoned(nanos, seconds, &mut into),
+            want,
+            "at {nanos} and {seconds}"
+        );
+    }
+}
+
+#[test]
+fn reads_back_what_it_writes(rt: HostRuntime) -> Result<(), AllocError> {
+    for (local, offset) in [
+        ("1970-01-01 01:30:00.000000000", "+01:30:00"),
+        ("-9999-01-01 00:00:00.000000000", "+01:30:00"),
+        ("9999-12-31 23:59:59.999999999", "-25:59:59"),
+        ("0000-02-29 12:34:56.789012345", "+00:00:00"),
+        ("-0001-12-31 00:00:00.000000001", "-00:00:01"),
+    ] {
+        let mut into = [0; 30];
+        let end = read_local(local).map_or(0, |value| write_local(&value, &mut into));
+        assert_eq!(rt; std::str::from_utf8(&into[..end]).ok(), Some(local));
+        let mut into = [0; 40];
+        let zoned = format!(in rt.alloc(); "{local} {offset}")?;
+        let end = read_zoned(zoned.as_str()).map_or(0, |value| write_zoned(&value, &mut into));
+        assert_eq!(rt;
+            std::str::from_utf8(&into[..end]).ok(),
+            Some(zoned.as_str())
+        );
+    }
+    Ok(())
+}
+
+#[test]
+fn refuses_what_is_no_text(rt: HostRuntime) -> Result<(), AllocError> {
+    for text in [
+        "",
+        "2024-13-01 00:00:00.000000000",
+        "2024-00-01 00:00:00.000000000",
+        "2024-02-30 00:00:00.000000000",
+        "2023-02-29 00:00:00.000000000",
+        "2024-01-00 00:00:00.000000000",
+        "2024-01-01  00:00:00.000000000",
+        " 2024-01-01 00:00:00.000000000",
+        "+2024-01-01 00:00:00.000000000",
+        "-0000-01-01 00:00:00.000000000",
+        "10000-01-01 00:00:00.000000000",
+        "2024-01-01 24:00:00.000000000",
+        "2024-01-01 00:60:00.000000000",
+        "2024-01-01 00:00:60.000000000",
+        "2024-01-01 00:00:00.00000000",
+        "2024-01-01 00:00:00.0000000000",
+        "2024-01-01 00:00:00,000000000",
+        "2024-01-01T00:00:00.000000000",
+        "2024-01-01 00:00:00.00000000\u{663}",
+        "2024-01-01 00:00:00.000000000 ",
+        "2024-01-01 00:00:00.000000000\n",
+    ] {
+        assert!(rt; read_local(text).is_none(), "{text}");
+        let zoned = format!(in rt.alloc(); "{text} +00:00:00")?;
+        assert!(rt; read_zoned(zoned.as_str()).is_none(), "{zoned}");
+    }
+    for text in [
+        "2024-01-01 00:00:00.000000000",
+        "2024-01-01 00:00:00.000000000 +26:00:00",
+        "2024-01-01 00:00:00.000000000 -00:00:00",
+        "2024-01-01 00:00:00.000000000 00:00:00",
+        "2024-01-01 00:00:00.000000000 +00:60:00",
+        "2024-01-01 00:00:00.000000000 +00:00:60",
+        "2024-01-01 00:00:00.000000000 +0:00:00",
+        "2024-01-01 00:00:00.000000000  +00:00:00",
+        "2024-01-01 00:00:00.000000000 +00:00:00 ",
+        "2024-01-01 00:00:00.000000000 +00:00:00Z",
+    ] {
+        assert!(rt; read_zoned(text).is_none(), "{text}");
+    }
+    Ok(())
+}
+
+#[test]
+fn takes_dates_apart(rt: HostRuntime) {
+    assert_eq!(rt; Date::MIN.to_calendar_date(), (-9999, Month::January, 1));
+    assert_eq!(rt; Date::MAX.to_calendar_date(), (9999, Month::December, 31));
+    for (year, month, day, taken) in [
+        (2024, Month::February, 29, true),
+        (2023, Month::February, 29, false),
+        (1900, Month::February, 29, false),
+        (10_000, Month::January, 1, false),
+        (-10_000, Month::December, 31, false),
+        (2024, Month::June, 0, false),
+        (2024, Month::June, 31, false),
+    ] {
+        let date = Date::from_calendar_date(year, month, day);
+        assert_eq!(rt; date.is_ok(), taken, "{year} {month:?} {day}");
+        if let Ok(date) = date {
+            assert_eq!(rt; (date.year(), date.month(), date.day()), (year, month, day));
+        }
+    }
+}
+
+#[test]
+fn takes_times_and_offsets_apart(rt: HostRuntime) {
+    let time = Time::from_hms_nano(23, 59, 58, 7);
+    assert_eq!(rt; time.map(|time| time.as_hms_nano()), Ok((23, 59, 58, 7)));
+    assert_eq!(rt;
+        Time::from_hms(1, 2, 3).map(|time| time.as_hms()),
+        Ok((1, 2, 3))
+    );
+    assert_eq!(rt; Time::from_hms(24, 0, 0), Err(ComponentRange));
+    assert_eq!(rt; Time::MIDNIGHT.as_hms(), (0, 0, 0));
+    for (hours, minutes, seconds, whole) in [
+        (1, 30, 0, Some(5400)),
+        (-1, 30, 15, Some(-5415)),
+        (0, -30, 15, Some(-1815)),
+        (0, 0, -15, Some(-15)),
+        (1, -30, -15, Some(5415)),
+        (25, 59, 59, Some(93_599)),
+        (26, 0, 0, None),
+        (0, 60, 0, None),
+        (0, 0, -60, None),
+    ] {
+        let offset = UtcOffset::from_hms(hours, minutes, seconds);
+        assert_eq!(rt; offset.ok().map(|offset| offset.whole_seconds()), whole);
+    }
+    if let Ok(behind) = UtcOffset::from_whole_seconds(-5415) {
+        assert_eq!(rt; behind.as_hms(), (-1, -30, -15));
+        assert!(rt; behind.is_negative() && !behind.is_positive() && !behind.is_utc());
+    }
+    assert!(rt; UtcOffset::UTC.is_utc());
+}
+
+fn hash_of<T: Hash>(value: &T) -> u64 {
+    let mut state = DefaultHasher::new();
+    value.hash(&mut state);
+    state.finish()
+}
+
+fn is_ordered<T: Ord>(values: &[T]) -> bool {
+    values.is_sorted()
+}
+
+#[test]
+fn compares_date_times_by_their_instants(rt: HostRuntime) {
+    let epoch = OffsetDateTime::UNIX_EPOCH;
+    let east = UtcOffset::from_whole_seconds(5400).ok();
+    let moved = east.and_then(|offset| epoch.to_offset(offset));
+    assert_eq!(rt; moved, Some(epoch));
+    assert_eq!(rt; moved.map(|value| hash_of(&value)), Some(hash_of(&epoch)));
+    assert_eq!(rt; moved.map(|value| value.offset()), east);
+    assert_eq!(rt;
+        moved.map(|value| value.time()),
+        Time::from_hms(1, 30, 0).ok()
+    );
+    let plain = PlainDateTime::new(epoch.date(), Time::MIDNIGHT);
+    assert_eq!(rt;
+        (plain.year(), plain.time(), plain.date()),
+        (1970, Time::MIDNIGHT, epoch.date())
+    );
+    assert_eq!(rt; plain.assume_utc(), epoch);
+    let earlier = plain.assume_offset(east.unwrap_or(UtcOffset::UTC));
+    assert_eq!(rt; earlier.year(), 1970);
+    let (rising, falling) = ([earlier, epoch], [epoch, earlier]);
+    assert!(rt; is_ordered(&rising) && !is_ordered(&falling));
+}
+
+// What the constants are.
+fn first_date() -> Date
+    ensures { result ≡ day_at (neg_ℤ (pos 9999)) 1 1 }
+{
+    Date::MIN
+}
+
+fn last_date() -> Date
+    ensures { result ≡ day_at (pos 9999) 12 31 }
+{
+    Date::MAX
+}
+
+#[tactic(auto, unfolding(crate::specs::Clock::time_at))]
+fn midnight() -> Time
+    ensures { result ≡ time_at 0 0 0 0 }
+{
+    Time::MIDNIGHT
+}
+
+fn no_offset() -> UtcOffset
+    ensures { result ≡ pos 0 }
+{
+    UtcOffset::UTC
+}
+
+#[tactic(auto, unfolding(crate::specs::DateTimes::instant, crate::specs::DateTimes::local_of, crate::specs::DateTimes::offset_of))]
+fn epoch() -> OffsetDateTime
+    ensures instant { instant result ≡ pos 0 }
+    ensures offset { offset_of result ≡ pos 0 }
+{
+    OffsetDateTime::UNIX_EPOCH
+}
+
+fn utc_epoch() -> UtcDateTime
+    ensures { result ≡ pos 0 }
+{
+    UtcDateTime::UNIX_EPOCH
+}
+
+fn instant_epoch() -> Timestamp
+    ensures { result ≡ pos 0 }
+{
+    Timestamp::UNIX_EPOCH
+}
+
+#[test]
+fn names_the_ends(rt: HostRuntime) {
+    assert_eq!(rt;
+        first_date().next_day().and_then(|date| date.previous_day()),
+        Some(Date::MIN)
+    );
+    assert_eq!(rt;
+        (first_date().previous_day(), last_date().next_day()),
+        (None, None)
+    );
+    assert_eq!(rt; epoch().time(), midnight());
+    assert_eq!(rt; epoch().offset(), no_offset());
+    assert_eq!(rt;
+        utc_epoch().unix_timestamp_nanos(),
+        instant_epoch().as_nanoseconds()
+    );
+}
+
+// Year, month, day, day of the year, Julian day and weekday, by Python's `datetime`, in cycles of 400 years before year 1.
+const DATES: &str = "\
+-9999 1 1 1 -1930999 Monday
+-9999 12 31 365 -1930635 Monday
+-401 3 1 60 1574657 Monday
+-400 2 29 60 1575022 Tuesday
+-101 12 31 365 1684535 Sunday
+-100 2 28 59 1684594 Wednesday
+-4 12 31 366 1719964 Tuesday
+-1 1 1 1 1720695 Friday
+0 2 29 60 1721119 Tuesday
+0 12 31 366 1721425 Sunday
+1 1 1 1 1721426 Monday
+4 2 29 60 1722580 Sunday
+100 3 1 60 1757644 Monday
+400 12 31 366 1867522 Sunday
+1582 10 15 288 2299161 Friday
+1600 2 29 60 2305507 Tuesday
+1700 3 1 60 2342032 Monday
+1900 2 28 59 2415079 Wednesday
+1969 12 31 365 2440587 Wednesday
+1970 1 1 1 2440588 Thursday
+2000 2 29 60 2451604 Tuesday
+2000 12 31 366 2451910 Sunday
+2023 12 31 365 2460310 Sunday
+2024 12 30 365 2460675 Monday
+2100 3 1 60 2488129 Monday
+9996 12 31 366 5372389 Tuesday
+9999 12 31 365 5373484 Friday
+";
+
+#[derive(Drop)]
+struct Row {
+    year: i32,
+    ordinal: u16,
+    julian_day: i32,
+    weekday: Weekday,
+    date: Date,
+}
+
+fn read_row(line: &str) -> Option<Row> {
+    let mut words = line.split_whitespace();
+    let year = words.next()?.parse::<i32>().ok()?;
+    let month = Month::try_from(words.next()?.parse::<u8>().ok()?).ok()?;
+    let date = Date::from_calendar_date(year, month, words.next()?.parse::<u8>().ok()?).ok()?;
+    Some(Row {
+        year,
+        ordinal: words.next()?.parse::<u16>().ok()?,
+        julian_day: words.next()?.parse::<i32>().ok()?,
+        weekday: words.next()?.parse::<Weekday>().ok()?,
+        date,
+    })
+}
+
+#[test]
+fn counts_the_days_of_dates(rt: HostRuntime) {
+    for line in DATES.lines() {
+        let row = read_row(line);
+        assert!(rt; row.is_some(), "{line}");
+        if let Some(row) = row {
+            let date = row.date;
+            assert_eq!(rt; date.to_ordinal_date(), (row.year, row.ordinal), "{line}");
+            assert_eq!(rt;
+                Date::from_ordinal_date(row.year, row.ordinal),
+                Ok(date),
+                "{line}"
+            );
+            assert_eq!(rt; date.to_julian_day(), row.julian_day, "{line}");
+            assert_eq!(rt; Date::from_julian_day(row.julian_day), Ok(date), "{line}");
+            assert_eq!(rt; date.weekday(), row.weekday, "{line}");
+        }
+    }
+    assert_eq!(rt; Date::from_ordinal_date(2023, 366), Err(ComponentRange));
+    assert_eq!(rt; Date::from_ordinal_date(2024, 0), Err(ComponentRange));
+    assert_eq!(rt; Date::from_ordinal_date(10_000, 1), Err(ComponentRange));
+    assert_eq!(rt; Date::from_julian_day(-1_931_000), Err(ComponentRange));
+    assert_eq!(rt; Date::from_julian_day(5_373_485), Err(ComponentRange));
+    assert_eq!(rt; Date::from_julian_day(i32::MIN), Err(ComponentRange));
+    assert_eq!(rt; Date::MAX.ordinal(), 365);
+}
+
+#[test]
+fn moves_dates_by_whole_days(rt: HostRuntime) {
+    let epoch = OffsetDateTime::UNIX_EPOCH.date();
+    for (nanos, after, before) in [
+        (86_400_000_000_000, Some(2_440_589), Some(2_440_587)),
+        (86_399_999_999_999, Some(2_440_588), Some(2_440_588)),
+        (-86_399_999_999_999, Some(2_440_588), Some(2_440_588)),
+        (-86_400_000_000_000, Some(2_440_587), Some(2_440_589)),
+        (
+            2_932_896 * 86_400_000_000_000,
+            Some(5_373_484),
+            Some(-492_308),
+        ),
+        (2_932_897 * 86_400_000_000_000, None, Some(-492_309)),
+        (-4_371_588 * 86_400_000_000_000, None, None),
+    ] {
+        if let Some(length) = SignedDuration::from_whole_nanoseconds(nanos) {
+            let later = epoch.checked_add(length);
+            assert_eq!(rt; later.map(|date| date.to_julian_day()), after, "{nanos}");
+            let earlier = epoch.checked_sub(length);
+            assert_eq!(rt; earlier.map(|date| date.to_julian_day()), before, "{nanos}");
+        }
+    }
+}
+
+#[test]
+fn tells_instants_apart(rt: HostRuntime) {
+    for (nanos, seconds) in [
+        (-1, -1),
+        (-1_000_000_000, -1),
+        (999_999_999, 0),
+        (1_000_000_000, 1),
+    ] {
+        let value = OffsetDateTime::from_unix_timestamp_nanos(nanos);
+        assert_eq!(rt; value.map(|value| value.unix_timestamp()), Ok(seconds));
+        let value = OffsetDateTime::from_unix_timestamp_nanos(nanos);
+        assert_eq!(rt; value.map(|value| value.unix_timestamp_nanos()), Ok(nanos));
+        let utc = UtcDateTime::from_unix_timestamp_nanos(nanos);
+        assert_eq!(rt; utc.map(|utc| utc.unix_timestamp()), Ok(seconds));
+        let utc = UtcDateTime::from_unix_timestamp_nanos(nanos);
+        let shown = utc.ok().and_then(|utc| utc.to_offset(UtcOffset::UTC));
+        assert_eq!(rt;
+            shown.map(|shown| shown.unix_timestamp_nanos()),
+            Some(nanos)
+        );
+    }
+    assert_eq!(rt;
+        OffsetDateTime::from_unix_timestamp(253_402_300_800),
+        Err(ComponentRange)
+    );
+    assert_eq!(rt;
+        UtcDateTime::from_unix_timestamp(-377_705_116_801),
+        Err(ComponentRange)
+    );
+    let epoch = OffsetDateTime::from_unix_timestamp(0);
+    assert_eq!(rt; epoch, Ok(OffsetDateTime::UNIX_EPOCH));
+    assert_eq!(rt;
+        UtcDateTime::new(Date::MIN, Time::MIDNIGHT).unix_timestamp(),
+        -377_705_116_800
+    );
+    assert_eq!(rt; Timestamp::new(0, 1_000_000_000), Err(ComponentRange));
+    assert_eq!(rt; Timestamp::from_seconds(0), Ok(Timestamp::UNIX_EPOCH));
+    assert_eq!(rt;
+        Timestamp::from_nanoseconds(253_402_300_800_000_000_000),
+        Err(ComponentRange)
+    );
+    if let Ok(early) = Timestamp::from_milliseconds(-5001) {
+        assert_eq!(rt; early.as_nanoseconds(), -5_001_000_000);
+        assert_eq!(rt; Timestamp::new(-6, 999_000_000), Ok(early));
+        assert!(rt; early < Timestamp::UNIX_EPOCH);
+        assert!(rt; hash_of(&early) != hash_of(&Timestamp::UNIX_EPOCH));
+    }
+}

@@ -1,0 +1,14 @@
+//! Tests of the calendar, of dates and times, of padded texts and of what owns its values, from outside the crates: tables
+//! from elsewhere, printed texts, and a happy path of each call.
+#![tactic(auto)]
+
+#[cfg(test)]
+mod dates;
+#[cfg(test)]
+mod days;
+#[cfg(test)]
+mod owned_values;
+#[cfg(test)]
+mod padding;
+#[cfg(test)]
+mod parts;

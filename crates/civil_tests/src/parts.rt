@@ -1,0 +1,189 @@
+ghost use Rattle.std.specs.Prelude.{◌≡◌, pos};
+ghost use Rattle.civil_parts.specs.Durations.{longest, shortest};
+
+use civil_parts::{
+    ComponentRange, ConversionRange, InvalidVariant, Month, SignedDuration, StdDuration, Weekday,
+};
+use std::alloc::AllocError;
+use std::hash::{DefaultHasher, Hash, Hasher};
+
+fn hash_of<T: Hash>(value: &T) -> u64 {
+    let mut state = DefaultHasher::new();
+    value.hash(&mut state);
+    state.finish()
+}
+
+// The names of the months and of the weekdays, in order.
+const MONTHS: &str =
+    "January February March April May June July August September October November December";
+
+const WEEKDAYS: &str = "Monday Tuesday Wednesday Thursday Friday Saturday Sunday";
+
+#[test]
+fn names_months(rt: HostRuntime) -> Result<(), AllocError> {
+    let mut month = Month::December;
+    for name in MONTHS.split_whitespace() {
+        month = month.next();
+        let shown = format!(in rt.alloc(); "{month}")?;
+        assert_eq!(rt; shown.as_str(), name);
+        assert_eq!(rt; name.parse::<Month>(), Ok(month));
+        assert_eq!(rt; Month::try_from(u8::from(month)), Ok(month));
+    }
+    for text in ["", "january", "Jan", "JANUARY", "January ", "Monday"] {
+        assert_eq!(rt; text.parse::<Month>(), Err(InvalidVariant), "{text}");
+    }
+    assert_eq!(rt;
+        (Month::try_from(0), Month::try_from(13)),
+        (Err(ComponentRange), Err(ComponentRange))
+    );
+    assert_eq!(rt;
+        (Month::January.previous(), Month::February.length(2000)),
+        (Month::December, 29)
+    );
+    assert_eq!(rt; hash_of(&Month::May), hash_of(&Month::April.next()));
+    Ok(())
+}
+
+#[test]
+fn names_weekdays(rt: HostRuntime) -> Result<(), AllocError> {
+    let mut day = Weekday::Sunday;
+    for name in WEEKDAYS.split_whitespace() {
+        day = day.next();
+        let shown = format!(in rt.alloc(); "{day}")?;
+        assert_eq!(rt; shown.as_str(), name);
+        assert_eq!(rt; name.parse::<Weekday>(), Ok(day));
+    }
+    for text in ["", "monday", "Mon", "Sunday "] {
+        assert_eq!(rt; text.parse::<Weekday>(), Err(InvalidVariant), "{text}");
+    }
+    Ok(())
+}
+
+#[test]
+fn counts_weekdays(rt: HostRuntime) {
+    let sunday = Weekday::Sunday;
+    assert_eq!(rt;
+        (sunday.nth_next(255), sunday.nth_prev(255)),
+        (Weekday::Wednesday, Weekday::Thursday)
+    );
+    assert_eq!(rt;
+        (sunday.next(), sunday.previous()),
+        (Weekday::Monday, Weekday::Saturday)
+    );
+    assert_eq!(rt;
+        (
+            sunday.number_from_sunday(),
+            sunday.number_days_from_sunday()
+        ),
+        (1, 0)
+    );
+    assert_eq!(rt;
+        (
+            sunday.number_from_monday(),
+            sunday.number_days_from_monday()
+        ),
+        (7, 6)
+    );
+    assert_eq!(rt; hash_of(&sunday), hash_of(&Weekday::Saturday.next()));
+}
+
+// What the constants are.
+fn zero() -> SignedDuration
+    ensures { result ≡ pos 0 }
+{
+    SignedDuration::ZERO
+}
+
+fn least() -> SignedDuration
+    ensures { result ≡ shortest }
+{
+    SignedDuration::MIN
+}
+
+fn greatest() -> SignedDuration
+    ensures { result ≡ longest }
+{
+    SignedDuration::MAX
+}
+
+#[test]
+fn makes_lengths_of_their_parts(rt: HostRuntime) {
+    for (seconds, nanoseconds, whole) in [
+        (1, 999_999_999, Some(1_999_999_999)),
+        (-1, -1, Some(-1_000_000_001)),
+        (0, -999_999_999, Some(-999_999_999)),
+        (0, 999_999_999, Some(999_999_999)),
+        (1, -1, None),
+        (-1, 1, None),
+        (0, 1_000_000_000, None),
+        (0, -1_000_000_000, None),
+    ] {
+        let made = SignedDuration::from_parts(seconds, nanoseconds);
+        assert_eq!(rt; made.map(|length| length.whole_nanoseconds()), whole);
+    }
+    let (least, greatest) = (least(), greatest());
+    assert_eq!(rt;
+        SignedDuration::from_parts(i64::MIN, -999_999_999),
+        Some(least)
+    );
+    assert_eq!(rt;
+        SignedDuration::from_parts(i64::MAX, 999_999_999),
+        Some(greatest)
+    );
+    assert_eq!(rt;
+        (least.whole_seconds(), least.subsec_nanoseconds()),
+        (i64::MIN, -999_999_999)
+    );
+    assert_eq!(rt; least.whole_days(), -106_751_991_167_300);
+    assert!(rt; least < zero() && zero() < greatest);
+}
+
+#[test]
+fn adds_and_cuts_lengths(rt: HostRuntime) {
+    let (zero, greatest) = (zero(), greatest());
+    if let Some(short) = SignedDuration::from_whole_nanoseconds(-86_399_999_999_999) {
+        assert_eq!(rt; (short.whole_days(), short.whole_seconds()), (0, -86_399));
+        assert_eq!(rt; short.subsec_nanoseconds(), -999_999_999);
+        assert!(rt; short.is_negative() && !short.is_positive() && !short.is_zero());
+        assert_eq!(rt;
+            zero.checked_sub(short).map(|length| length.is_positive()),
+            Some(true)
+        );
+        assert_eq!(rt;
+            short.checked_add(zero).map(|sum| hash_of(&sum)),
+            Some(hash_of(&short))
+        );
+        assert_eq!(rt; greatest.checked_sub(short), None);
+    }
+    assert_eq!(rt; greatest.checked_add(greatest), None);
+    assert!(rt; zero.is_zero());
+    for (seconds, nanoseconds, whole) in [
+        (5, 1, Ok(5_000_000_001)),
+        (
+            9_223_372_036_854_775_807,
+            0,
+            Ok(9_223_372_036_854_775_807_000_000_000),
+        ),
+        (9_223_372_036_854_775_808, 0, Err(ConversionRange)),
+    ] {
+        if let Some(length) = StdDuration::new(seconds, nanoseconds) {
+            assert_eq!(rt;
+                (length.as_secs(), length.subsec_nanos()),
+                (seconds, nanoseconds)
+            );
+            let signed = SignedDuration::try_from(length);
+            assert_eq!(rt; signed.map(|signed| signed.whole_nanoseconds()), whole);
+        }
+    }
+    assert_eq!(rt; StdDuration::new(0, 1_000_000_000), None);
+}
+
+#[test]
+fn says_what_is_out_of_range(rt: HostRuntime) -> Result<(), AllocError> {
+    let shown = format!(in rt.alloc(); "{ComponentRange}, {ConversionRange}, {InvalidVariant}")?;
+    assert_eq!(rt;
+        shown.as_str(),
+        "component out of range, conversion out of range, value was not a valid variant"
+    );
+    Ok(())
+}

@@ -1,0 +1,386 @@
+//! Whole runs over objects in memory, and each fault line.
+ghost use Rattle.std.specs.Prelude.{◌<◌};
+
+use zone_answers::{
+    AnswerError, Answers, MemShelf, MemSink, MemSource, Status, SureShelf, SureSink, SureSource,
+    ZoneFault, answers, open_zone, read_table, run, run_surely, write_fault,
+};
+use std::alloc::{AllocError, Global};
+use std::process::Abort;
+use std::test::Fail;
+use zone_line::LineParser;
+
+const FIXED: &str = "Zone Test/Fixed 1:30 - TST\n";
+
+/// A source, its requests and what is written, with `~` between them and `;` for each line feed. A row without a source
+/// has that of the row above it.
+const RUNS: &str = "\
+~~
+Zone Test/Fixed 1:30 - TST;~at Test/Fixed 0;~1970-01-01 01:30:00.000000000 +01:30:00;
+~at Test/Fixed -1~1970-01-01 01:29:59.999999999 +01:30:00;
+~at Test/Fixed 0;at Test/Fixed -0;~1970-01-01 01:30:00.000000000 +01:30:00;1970-01-01 01:30:00.000000000 +01:30:00;
+~local Test/Fixed 1970-01-01 01:30:00.000000000;~1970-01-01 01:30:00.000000000 +01:30:00;
+~local Test/Fixed -9999-01-01 00:00:00.000000000;~-9999-01-01 00:00:00.000000000 +01:30:00;
+Zone Test/Fixed 1:30 - TST\r;~at Test/Fixed 0\r;~1970-01-01 01:30:00.000000000 +01:30:00;
+Zone U 0:00 - U;~at U -377705116800000000000;~-9999-01-01 00:00:00.000000000 +00:00:00;
+Zone O 1:00 1:00 O;~at O 0;~1970-01-01 02:00:00.000000000 +02:00:00;
+Zone E 0:00 - E 2000 Jan 1 0:00u # ends;~at E 0;~1970-01-01 00:00:00.000000000 +00:00:00;
+Rule US 2007 max - Mar Sun>=8 2:00 1:00 D;~~
+Zone A 1:00 - A;Link A B;Link B C;~at B 0;~1970-01-01 01:00:00.000000000 +01:00:00;
+Rule US 2007 max - Mar Sun>=8 2:00 1:00 D;Rule US 2007 max - Nov Sun>=1 2:00 0 S;Zone America/New_York -5:00 US E%sT;~at America/New_York 1710053999999999999;at America/New_York 1710054000000000000;~2024-03-10 01:59:59.999999999 -05:00:00;2024-03-10 03:00:00.000000000 -04:00:00;
+~at America/New_York 4118083200000000000;~2100-06-30 19:00:00.000000000 -05:00:00;
+~local America/New_York 2024-03-10 02:30:00.000000000;~none;
+~local America/New_York 2024-11-03 01:30:00.000000000;~2024-11-03 01:30:00.000000000 -04:00:00 | 2024-11-03 01:30:00.000000000 -05:00:00;
+~local America/New_York 2024-11-03 02:00:00.000000000;~2024-11-03 02:00:00.000000000 -05:00:00;
+Rule Spain 1918 only - Apr 15 23:00 1:00 S;Rule Spain 1918 1919 - Oct 6 24:00s 0 -;Rule Spain 1919 only - Apr 6 23:00 1:00 S;Rule Spain 1924 only - Apr 16 23:00 1:00 S;Rule Spain 1924 only - Oct 4 24:00s 0 -;Rule EU 1977 1980 - Apr Sun>=1 1:00u 1:00 S;Rule EU 1977 only - Sep lastSun 1:00u 0 -;Rule EU 1978 only - Oct 1 1:00u 0 -;Rule EU 1979 1995 - Sep lastSun 1:00u 0 -;Rule EU 1981 max - Mar lastSun 1:00u 1:00 S;Rule EU 1996 max - Oct lastSun 1:00u 0 -;Zone Europe/Madrid -0:14:44 - LMT 1901 Jan 1 0:00u; 0:00 Spain WE%sT 1940 Mar 16 23:00; 1:00 Spain CE%sT 1979; 1:00 EU CE%sT;~at Europe/Madrid -2177452800000000000;at Europe/Madrid 1720000000000000000;~1901-01-01 00:00:00.000000000 +00:00:00;2024-07-03 11:46:40.000000000 +02:00:00;
+Zone Test/Mark 1:00 1:00 A 2000 Jan 1 0:00s; 0:00 - B;~at Test/Mark 946681199000000000;at Test/Mark 946681200000000000;~2000-01-01 00:59:59.000000000 +02:00:00;1999-12-31 23:00:00.000000000 +00:00:00;
+Zone Test/Knot 10:00 - A 2000; 5:00 - B 1999 Dec 31 20:00; 0:00 - C;~local Test/Knot 1999-12-31 19:30:00.000000000;~1999-12-31 19:30:00.000000000 +10:00:00 | 1999-12-31 19:30:00.000000000 +05:00:00 | 1999-12-31 19:30:00.000000000 +00:00:00;
+Zone A 0:00 - A; 1:00 - B;Zone B 2:00 - B;~at B 0;~1970-01-01 02:00:00.000000000 +02:00:00;
+";
+
+/// The same, where what is written is the line of a fault.
+const FAULTS: &str = "\
+Zone A 0:00 - A;Zone A 0:00 X A;~~source 2: build UnknownRuleset;
+ 1:00 - B;~~source 1: build SurpriseContinuationLine;
+;Zone A 0:00 - A;Zone A 1:00 - B;~what~source 3: build DuplicateZone;
+Link a b;Link c b;~~source 2: build DuplicateLink;
+Zone A 1:00 - A;Link A B;Link B C;~at C 0;~request 1: unknown zone;
+Rule EU 1977 1980 HEY Apr Sun>=1 1:00u 1:00 S;~~source 1: line TypeColumnContainedNonHyphen;
+link Australia/Sydney Australia/ACT;~~source 1: line InvalidLineType;
+Zone A 0:00 - X Jan;~~source 1: line InvalidLineType;
+Rule R 2000 only - Jan 32 0:00 0 -;~~source 1: line InvalidDaySpec;
+Rule R 2000 only - Jan Xyz>=40 0:00 0 -;~~source 1: line FailedWeekdayParse;
+Rule EU 1977 1980 - Febtober Sun>=1 1:00u 1:00 S;~~source 1: line FailedMonthParse;
+Zone A 0:00 - A 99999999999999999999;~~source 1: line FailedYearParse;
+Zone A 200 - A;~~source 1: line InvalidTimeSpecAndType;
+Zone A 1:00u - A;~~source 1: line NonWallClockInTimeSpec;
+Zone A 0:00 1 A;~~source 1: line CouldNotParseSaving;
+Zone Test/Fixed 1:30 - TST;~at Test/Fixed 0;what;~request 2: request;
+~at Test/Fixed 0;;~request 2: request;
+~at  Test/Fixed 0;~request 1: request;
+~at Test/Fixed 0 ;~request 1: request;
+~at Test/Fixed +0;~request 1: request;
+~at Test/Fixed -;~request 1: request;
+~At Test/Fixed 0;~request 1: request;
+~at Test/Fixed 9999999999999999999999999999999;~request 1: request;
+~local Test/Fixed 1970-02-30 00:00:00.000000000;~request 1: request;
+~at Test/Other 0;~request 1: unknown zone;
+~at Test/Fixed 253402300799999999999;~request 1: range;
+~at Test/Fixed 999999999999999999999999999999;~request 1: range;
+Zone Far 26:00 - F;~at Far 0;~request 1: offset range;
+~at Far 999999999999999999999999999999;~request 1: offset range;
+~local Far -0000-01-01 00:00:00.000000000;~request 1: request;
+Zone W -1:30 - W;~at W 253402300800000000000;~request 1: range;
+Zone E 1:30 - E;~at E -377705116800000000001;~request 1: range;
+Zone U 0:00 - U;~at U -377705116800000000001;~request 1: range;
+Zone A 0:00 - A; 1:00 - B;Zone B 2:00 - B;~at B 0;at A 0;~request 2: schedule MissingUntil;
+Zone A 26:00 - A; 1:00 - B;~at A 0;~request 1: schedule MissingUntil;
+Zone A 0:00 - A 10000; 1:00 - B;~at A 0;~request 1: schedule YearRange;
+Zone A 0:00 - A 2000; 1:00 Nope B;~at A 0;~request 1: schedule UnknownRuleset;
+Rule R min 1990 - Jan 1 0:00 0 -;Zone A 0:00 R A;~at A 0;~request 1: schedule RuleYears;
+Rule D 2000 only - Jan Sun<=1 0:00 0 -;Zone Z 0:00 D Z;~at Z 0;~request 1: schedule DayRange;
+Rule D 2000 only - Jan 1 0:00 1:00 S;Zone Z 0:00 D Z;~at Z 0;~request 1: schedule NoStandardSpan;
+Rule R 9223372036854775807 max - Jan 1 0:00 0 -;Zone A 0:00 R A;~at A 0;~request 1: schedule NoStandardSpan;
+";
+
+/// A zone under two yearly rules, of which the second takes back the saving of the first.
+const NEW_YORK: &str = "\
+Rule US 2007 max - Mar Sun>=8 2:00 1:00 D
+Rule US 2007 max - Nov Sun>=1 2:00 0 S
+Zone America/New_York -5:00 US E%sT
+";
+
+/// How many bytes each output takes.
+const ROOM: usize = 200;
+
+/// The calls of each object that fail.
+#[derive(Clone, Copy)]
+struct Failing<'a> {
+    shelf: &'a [u64],
+    input: &'a [u64],
+    output: &'a [u64],
+}
+
+const NONE_FAILING: Failing<'static> = Failing {
+    shelf: &[],
+    input: &[],
+    output: &[],
+};
+
+/// How a run ended, and what it wrote.
+#[derive(Drop)]
+struct Outcome {
+    status: Status,
+    sink: MemSink,
+}
+
+fn parser(alloc: Global) -> Result<LineParser, Fail> {
+    Ok(LineParser::new(alloc).ok().ok_or("not built")?)
+}
+
+/// The words between spaces.
+fn words_of(alloc: Global, text: &str) -> Result<Vec<String>, AllocError> {
+    let mut words = Vec::new(alloc);
+    for word in text.split_whitespace() {
+        words.push(String::from_str(alloc, word)?)?;
+    }
+    Ok(words)
+}
+
+/// Runs over a shelf that has the source as `source`, all objects moving at most a step at a time.
+fn run_over(
+    alloc: Global,
+    words: &str,
+    source: &[u8],
+    requests: &[u8],
+    step: usize,
+    failing: &Failing<'_>,
+) -> Result<Outcome, Fail>
+    requires { 0 < step }
+{
+    let parser = parser(alloc)?;
+    let words = words_of(alloc, words)?;
+    let mut files = Vec::new(alloc);
+    files.push((String::from_str(alloc, "source")?, source.to_vec(alloc)?))?;
+    let mut shelf = MemShelf::new(files, step, failing.shelf.to_vec(alloc)?);
+    let mut input = MemSource::new(requests.to_vec(alloc)?, step, failing.input.to_vec(alloc)?);
+    let mut sink = MemSink::new(alloc, ROOM, step, failing.output.to_vec(alloc)?)?;
+    let status = run(alloc, &parser, &words, &mut shelf, &mut input, &mut sink);
+    Ok(Outcome { status, sink })
+}
+
+/// Asserts how a run ends and what it writes, where no call fails.
+fn expect(
+    rt: &impl Abort,
+    alloc: Global,
+    texts: (&[u8], &[u8]),
+    code: u8,
+    output: &[u8],
+) -> Result<(), Fail> {
+    for step in [1, 7] {
+        let outcome = run_over(alloc, "source", texts.0, texts.1, step, &NONE_FAILING)?;
+        assert_eq!(rt; outcome.sink.taken(), output);
+        assert_eq!(rt; outcome.status.code(), code);
+    }
+    Ok(())
+}
+
+/// Asserts that a run over one zone and one request ends so, with nothing written.
+fn expect_silent(
+    rt: &impl Abort,
+    alloc: Global,
+    words: &str,
+    failing: &Failing<'_>,
+    code: u8,
+) -> Result<(), Fail> {
+    let requests = b"at Test/Fixed 0";
+    let outcome = run_over(alloc, words, FIXED.as_bytes(), requests, 7, failing)?;
+    assert_eq!(rt; outcome.status.code(), code);
+    assert!(rt; outcome.sink.taken().is_empty());
+    Ok(())
+}
+
+/// The bytes of a field of a table.
+fn field_of(alloc: Global, field: Option<&str>) -> Result<Vec<u8>, Fail> {
+    let mut bytes = field.ok_or("no field")?.as_bytes().to_vec(alloc)?;
+    for byte in &mut bytes {
+        if *byte == b';' {
+            *byte = b'\n';
+        }
+    }
+    Ok(bytes)
+}
+
+/// Asserts each row of a table.
+fn expect_all(rt: &impl Abort, alloc: Global, table: &str, code: u8) -> Result<(), Fail> {
+    let mut source = Vec::new(alloc);
+    for row in table.lines() {
+        let mut fields = row.split('~');
+        let own = field_of(alloc, fields.next())?;
+        if !own.is_empty() {
+            source = own;
+        }
+        let requests = field_of(alloc, fields.next())?;
+        let output = field_of(alloc, fields.next())?;
+        expect(rt, alloc, (&source, &requests), code, &output)?;
+    }
+    Ok(())
+}
+
+#[test]
+fn runs(rt: HostRuntime) -> Result<(), Fail> {
+    expect_all(&rt, rt.alloc(), RUNS, 0)
+}
+
+#[test]
+fn faults(rt: HostRuntime) -> Result<(), Fail> {
+    expect_all(&rt, rt.alloc(), FAULTS, 2)
+}
+
+#[test]
+fn bytes_that_are_no_text(rt: HostRuntime) -> Result<(), Fail> {
+    let alloc = rt.alloc();
+    expect(&rt, alloc, (b"\xff", b""), 2, b"source 1: not text\n")?;
+    expect(
+        &rt,
+        alloc,
+        (FIXED.as_bytes(), b"\xff"),
+        2,
+        b"request 1: not text\n",
+    )
+}
+
+#[test]
+fn words_and_failed_reads(rt: HostRuntime) -> Result<(), Fail> {
+    let alloc = rt.alloc();
+    expect_silent(&rt, alloc, "", &NONE_FAILING, 1)?;
+    expect_silent(&rt, alloc, "source source", &NONE_FAILING, 1)?;
+    expect_silent(&rt, alloc, "missing", &NONE_FAILING, 3)?;
+    for call in 1..6 {
+        let failing = Failing {
+            shelf: &[call],
+            ..NONE_FAILING
+        };
+        expect_silent(&rt, alloc, "source", &failing, 3)?;
+    }
+    for call in 1..4 {
+        let failing = Failing {
+            input: &[call],
+            ..NONE_FAILING
+        };
+        expect_silent(&rt, alloc, "source", &failing, 3)?;
+    }
+    Ok(())
+}
+
+#[test]
+fn a_failed_write_leaves_a_prefix(rt: HostRuntime) -> Result<(), Fail> {
+    let alloc = rt.alloc();
+    let requests = b"at Test/Fixed 0\n";
+    let whole = b"1970-01-01 01:30:00.000000000 +01:30:00\n";
+    for call in 1..41 {
+        let failing = Failing {
+            output: &[call],
+            ..NONE_FAILING
+        };
+        let outcome = run_over(alloc, "source", FIXED.as_bytes(), requests, 1, &failing)?;
+        assert_eq!(rt; outcome.status.code(), 4);
+        assert_eq!(rt; outcome.sink.taken().len() as u64, call - 1);
+        assert!(rt; whole.starts_with(outcome.sink.taken()));
+    }
+    Ok(())
+}
+
+#[test]
+fn a_full_output_is_a_failed_one(rt: HostRuntime) -> Result<(), Fail> {
+    let alloc = rt.alloc();
+    let requests =
+        b"at Test/Fixed 0\nat Test/Fixed 0\nat Test/Fixed 0\nat Test/Fixed 0\nat Test/Fixed 0\nat Test/Fixed 0\n";
+    let outcome = run_over(
+        alloc,
+        "source",
+        FIXED.as_bytes(),
+        requests,
+        7,
+        &NONE_FAILING,
+    )?;
+    assert_eq!(rt; outcome.status.code(), 4);
+    assert_eq!(rt; outcome.sink.taken().len(), ROOM);
+    Ok(())
+}
+
+/// Asserts how a run over so many spaces as source and as requests ends.
+fn expect_spaces(
+    rt: &impl Abort,
+    alloc: Global,
+    source: usize,
+    requests: usize,
+    code: u8,
+) -> Result<(), Fail> {
+    let parser = parser(alloc)?;
+    let words = words_of(alloc, "any")?;
+    let mut shelf = SureShelf::new(vec![in alloc; b' '; source]?);
+    let mut input = SureSource::new(vec![in alloc; b' '; requests]?);
+    let mut output = SureSink::new();
+    let status = run_surely(alloc, &parser, &words, &mut shelf, &mut input, &mut output);
+    assert_eq!(rt; status.code(), code);
+    Ok(())
+}
+
+#[test]
+fn a_text_past_the_limit(rt: HostRuntime) -> Result<(), Fail> {
+    let alloc = rt.alloc();
+    expect_spaces(&rt, alloc, 16_777_216, 0, 0)?;
+    expect_spaces(&rt, alloc, 16_777_217, 0, 6)?;
+    expect_spaces(&rt, alloc, 0, 16_777_216, 2)?;
+    expect_spaces(&rt, alloc, 0, 16_777_217, 6)
+}
+
+#[test]
+fn answers_are_lines(rt: HostRuntime) -> Result<(), Fail> {
+    let alloc = rt.alloc();
+    let parser = parser(alloc)?;
+    let Ok(lines) = answers(
+        alloc,
+        &parser,
+        FIXED.as_bytes(),
+        b"at Test/Fixed 0\nat Test/Fixed -1\n",
+    ) else {
+        return Err(Fail::from("refused"));
+    };
+    assert_eq!(rt; lines.len(), 2);
+    let last = b"1970-01-01 01:29:59.999999999 +01:30:00";
+    expect_line(&rt, &lines, 1, Some(last));
+    expect_line(&rt, &lines, 2, None);
+    Ok(())
+}
+
+/// Asserts the line at a place.
+fn expect_line(rt: &impl Abort, lines: &Answers, place: usize, line: Option<&[u8]>) {
+    assert_eq!(rt; lines.get(place), line);
+}
+
+#[test]
+fn the_longest_number_fits_a_fault_line(rt: HostRuntime) -> Result<(), Fail> {
+    let mut line = [0; 64];
+    let end = write_fault(&AnswerError::OffsetRange(usize::MAX), &mut line);
+    assert!(rt; end <= 64);
+    assert_eq!(rt;
+        &line[..end],
+        b"request 18446744073709551615: offset range\n".as_slice()
+    );
+    Ok(())
+}
+
+#[test]
+fn a_table_is_read(rt: HostRuntime) -> Result<(), Fail> {
+    let alloc = rt.alloc();
+    let parser = parser(alloc)?;
+    let Ok(table) = read_table(alloc, &parser, FIXED.as_bytes()) else {
+        return Err(Fail::from("refused"));
+    };
+    let lines = table.get_zoneset("Test/Fixed").ok_or("no zone")?;
+    assert_eq!(rt; lines.len(), 1);
+    Ok(())
+}
+
+#[test]
+fn a_zone_is_opened(rt: HostRuntime) -> Result<(), Fail> {
+    let alloc = rt.alloc();
+    let parser = parser(alloc)?;
+    let Ok(table) = read_table(alloc, &parser, NEW_YORK.as_bytes()) else {
+        return Err(Fail::from("refused"));
+    };
+    let Ok(set) = open_zone(alloc, &table, "America/New_York") else {
+        return Err(Fail::from("not opened"));
+    };
+    // The first span, and two changes in each year of 2007 to 2099.
+    assert_eq!(rt; set.span_count(), 187);
+    assert!(rt;
+        matches!(
+            open_zone(alloc, &table, "New_York"),
+            Err(ZoneFault::UnknownZone)
+        )
+    );
+    Ok(())
+}

@@ -1,0 +1,34 @@
+-- Lines, statuses and the first fault of a source, at worked rows.
+use Rattle.std.proofs.Common.{◌≡◌, ℕ, List, [], ◌∷◌, map, Some, refl}
+use Rattle.std.specs.Prelude.{codes}
+use Rattle.zone_source.specs.Faults.{source_fault, not_text}
+use Rattle.zone_source.specs.Lines.{lines_of}
+use Rattle.zone_source.specs.Statuses.{code_of, status_of}
+use Rattle.zone_source.specs.declared.status.Status.TheVariants.{Done, Words, Fault, Read, Write, NoMemory, TooLong}
+use Rattle.zone_outside.specs.declared.whole.ReadEnd.TheVariants as end
+
+-- each line feed ends a line, and so does the end of a text that has more than nothing after the last one
+cut_at_line_feeds : map lines_of
+    ([] ∷ (10 ∷ []) ∷ (97 ∷ []) ∷ (97 ∷ 10 ∷ []) ∷ (97 ∷ 10 ∷ 98 ∷ []) ∷ (97 ∷ 10 ∷ 10 ∷ []) ∷ (10 ∷ 97 ∷ []) ∷ [])
+    ≡ [] ∷ ([] ∷ []) ∷ ((97 ∷ []) ∷ []) ∷ ((97 ∷ []) ∷ []) ∷ ((97 ∷ []) ∷ (98 ∷ []) ∷ []) ∷ ((97 ∷ []) ∷ [] ∷ [])
+    ∷ ([] ∷ (97 ∷ []) ∷ []) ∷ []
+unfolding lines_of
+cut_at_line_feeds = refl
+
+-- one carriage return at the end of a line is dropped, and no other
+carriage_returns : map lines_of
+    ((97 ∷ 13 ∷ 10 ∷ []) ∷ (97 ∷ 13 ∷ []) ∷ (97 ∷ 13 ∷ 13 ∷ 10 ∷ []) ∷ (97 ∷ 13 ∷ 98 ∷ 10 ∷ []) ∷ (13 ∷ 10 ∷ []) ∷ [])
+    ≡ ((97 ∷ []) ∷ []) ∷ ((97 ∷ []) ∷ []) ∷ ((97 ∷ 13 ∷ []) ∷ []) ∷ ((97 ∷ 13 ∷ 98 ∷ []) ∷ []) ∷ ([] ∷ []) ∷ []
+unfolding lines_of
+carriage_returns = refl
+
+codes_in_order : map code_of (Done ∷ Words ∷ Fault ∷ Read ∷ Write ∷ NoMemory ∷ TooLong ∷ []) ≡ 0 ∷ 1 ∷ 2 ∷ 3 ∷ 4 ∷ 5 ∷ 6 ∷ []
+codes_in_order = refl
+
+unread_texts : map status_of (end.Failed ∷ end.NoMemory ∷ end.TooLong ∷ []) ≡ Read ∷ NoMemory ∷ TooLong ∷ []
+unread_texts = refl
+
+-- the first line is line 1
+bytes_that_are_no_text : source_fault (255 ∷ []) ≡ Some (not_text 1)
+unfolding source_fault lines_of
+bytes_that_are_no_text = refl

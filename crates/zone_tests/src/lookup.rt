@@ -1,0 +1,256 @@
+//! Local times of two and of three spans, what a set is refused for, and one function over zones of two kinds.
+use tz_lookup::{
+    Database, DatabaseFault, Fixed, FixedTimespan, FixedTimespanSet, Offset, OffsetDateTimeExt,
+    OffsetResult, PrimitiveDateTimeExt, SpanFault, TimeZone, Tz, TzFault,
+};
+use zone_line::LineParser;
+use zone_source::read_table;
+use civil_base::{OffsetDateTime, PlainDateTime, UtcOffset};
+use owned::{Items, Text};
+use std::alloc::{AllocError, Global};
+use std::process::Abort;
+use std::test::Fail;
+
+fn span(alloc: Global, offset: i64, saving: i64) -> Result<FixedTimespan, AllocError> {
+    Ok(FixedTimespan {
+        utc_offset: offset,
+        dst_offset: saving,
+        name: Text::new(alloc, "T")?,
+    })
+}
+
+/// A set of a first offset, and of offsets from some seconds on.
+fn set_of(
+    alloc: Global,
+    first: i64,
+    entries: &[(i64, i64)],
+) -> Result<FixedTimespanSet, AllocError> {
+    let mut others = Items::new(alloc);
+    for (second, offset) in entries {
+        others.push((*second, span(alloc, *offset, 0)?))?;
+    }
+    Ok(FixedTimespanSet {
+        name: Text::new(alloc, "Test/Set")?,
+        first: span(alloc, first, 0)?,
+        others,
+    })
+}
+
+/// The date-time at UTC so many seconds from 1970-01-01 00:00:00.
+fn at(second: i64) -> Result<OffsetDateTime, Fail> {
+    Ok(
+        OffsetDateTime::from_unix_timestamp(second)
+            .ok()
+            .ok_or("out of range")?,
+    )
+}
+
+/// The local time so many seconds from 1970-01-01 00:00:00.
+fn local(second: i64) -> Result<PlainDateTime, Fail> {
+    let date = at(second)?.date();
+    let time = at(second)?.time();
+    Ok(PlainDateTime::new(date, time))
+}
+
+fn zone_of(set: &FixedTimespanSet) -> Result<Tz<'_>, Fail> {
+    Ok(Tz::new(set).ok().ok_or("refused")?)
+}
+
+/// The offsets of a local time in seconds, in any zone.
+fn offsets<T: TimeZone>(zone: &T, second: i64) -> Result<(Option<i32>, Option<i32>), Fail> {
+    let found = local(second)?.assume_timezone(zone);
+    Ok(match found {
+        OffsetResult::None => (None, None),
+        OffsetResult::Some(only) => (Some(only.offset().whole_seconds()), None),
+        OffsetResult::Ambiguous(first, second) => (
+            Some(first.offset().whole_seconds()),
+            Some(second.offset().whole_seconds()),
+        ),
+    })
+}
+
+/// Asserts the offsets of a local second.
+fn expect_offsets<T: TimeZone>(
+    rt: &impl Abort,
+    zone: &T,
+    second: i64,
+    first: Option<i32>,
+    other: Option<i32>,
+) -> Result<(), Fail> {
+    let found = offsets(zone, second)?;
+    assert_eq!(rt; found.0, first);
+    assert_eq!(rt; found.1, other);
+    Ok(())
+}
+
+#[test]
+fn a_gap_and_a_fold(rt: HostRuntime) -> Result<(), Fail> {
+    let alloc = rt.alloc();
+    let ahead = set_of(alloc, 0, &[(1_000_000, 3600)])?;
+    let zone = zone_of(&ahead)?;
+    assert!(rt; zone.is_orderly());
+    expect_offsets(&rt, &zone, 999_999, Some(0), None)?;
+    expect_offsets(&rt, &zone, 1_000_000, None, None)?;
+    expect_offsets(&rt, &zone, 1_003_600, Some(3600), None)?;
+    let back = set_of(alloc, 0, &[(1_000_000, -3600)])?;
+    let zone = zone_of(&back)?;
+    expect_offsets(&rt, &zone, 996_400, Some(0), Some(-3600))?;
+    expect_offsets(&rt, &zone, 1_000_000, Some(-3600), None)
+}
+
+#[test]
+fn three_instants_of_one_local_time(rt: HostRuntime) -> Result<(), Fail> {
+    let alloc = rt.alloc();
+    let set = set_of(alloc, 7200, &[(1000, 3600), (2000, 0)])?;
+    let zone = zone_of(&set)?;
+    assert!(rt; !zone.is_orderly());
+    expect_offsets(&rt, &zone, 5000, Some(7200), Some(3600))?;
+    let mut seconds = Vec::new(alloc);
+    for date in zone.instants_local(&local(5000)?) {
+        seconds.push(date.unix_timestamp())?;
+    }
+    assert_eq!(rt; seconds.as_slice(), [-2200, 1400, 5000].as_slice());
+    Ok(())
+}
+
+#[test]
+fn what_is_refused(rt: HostRuntime) -> Result<(), Fail> {
+    let alloc = rt.alloc();
+    let far = set_of(alloc, 0, &[(0, 93_600)])?;
+    assert_eq!(rt; Tz::new(&far).err(), Some(TzFault::OffsetRange));
+    let falling = set_of(alloc, 0, &[(1, 60), (0, 0)])?;
+    assert_eq!(rt; Tz::new(&falling).err(), Some(TzFault::Falling));
+    let both = set_of(alloc, 93_600, &[(1, 60), (0, 0)])?;
+    assert_eq!(rt; Tz::new(&both).err(), Some(TzFault::OffsetRange));
+    let both = set_of(alloc, 0, &[(1_099_511_627_777, 60), (0, 0)])?;
+    assert_eq!(rt; Tz::new(&both).err(), Some(TzFault::Falling));
+    let late = set_of(alloc, 0, &[(1_099_511_627_777, 60)])?;
+    assert_eq!(rt; Tz::new(&late).err(), Some(TzFault::Bound));
+    let mut past = set_of(alloc, 0, &[])?;
+    past.first = span(alloc, i64::MAX, i64::MAX)?;
+    assert_eq!(rt; Tz::new(&past).err(), Some(TzFault::OffsetRange));
+    Ok(())
+}
+
+/// Asserts what a zone says at an instant.
+fn expect_at<T: TimeZone>(
+    rt: &impl Abort,
+    zone: &T,
+    second: i64,
+    offset: i32,
+    name: &str,
+) -> Result<(), Fail> {
+    let shown = at(second)?.to_timezone(zone).ok_or("out of range")?;
+    assert_eq!(rt; shown.offset().whole_seconds(), offset);
+    assert_eq!(rt; shown.unix_timestamp(), second);
+    assert_eq!(rt; zone.name(), name);
+    assert!(rt; !zone.get_offset_utc(&at(second)?).is_dst());
+    Ok(())
+}
+
+#[test]
+fn zones_of_two_kinds(rt: HostRuntime) -> Result<(), Fail> {
+    let set = set_of(rt.alloc(), 0, &[(1_000_000, 3600)])?;
+    let zone = zone_of(&set)?;
+    expect_at(&rt, &zone, 999_999, 0, "Test/Set")?;
+    expect_at(&rt, &zone, 1_000_000, 3600, "Test/Set")?;
+    assert_eq!(rt; zone.get_offset_primary().to_utc().whole_seconds(), 0);
+    let half_past = UtcOffset::from_hms(1, 30, 0).ok().ok_or("no offset")?;
+    let fixed = Fixed::new("Test/Fixed", half_past);
+    expect_at(&rt, &fixed, 1_000_000, 5400, "Test/Fixed")?;
+    expect_offsets(&rt, &fixed, 0, Some(5400), None)
+}
+
+/// A set of winter time, and of summer time from the second 1,000 on.
+fn summer(alloc: Global) -> Result<FixedTimespanSet, AllocError> {
+    let mut set = set_of(alloc, 3600, &[])?;
+    set.first.name = Text::new(alloc, "CET")?;
+    let mut saving = span(alloc, 3600, 3600)?;
+    saving.name = Text::new(alloc, "CEST")?;
+    set.others.push((1000, saving))?;
+    Ok(set)
+}
+
+/// Asserts the abbreviation and the kind of an offset.
+fn expect_kind<O: Offset>(rt: &impl Abort, offset: &O, name: &str, saving: bool) {
+    assert_eq!(rt; offset.name(), name);
+    assert_eq!(rt; offset.is_dst(), saving);
+}
+
+#[test]
+fn abbreviations_and_kinds(rt: HostRuntime) -> Result<(), Fail> {
+    let set = summer(rt.alloc())?;
+    let zone = zone_of(&set)?;
+    expect_kind(&rt, &zone.get_offset_primary(), "CET", false);
+    expect_kind(&rt, &zone.get_offset_utc(&at(999)?), "CET", false);
+    expect_kind(&rt, &zone.get_offset_utc(&at(1000)?), "CEST", true);
+    let last = zone.get_offset_local(&at(4599)?).take().ok_or("no last")?;
+    expect_kind(&rt, &last, "CET", false);
+    let first = zone.get_offset_local(&at(8200)?).take().ok_or("no first")?;
+    expect_kind(&rt, &first, "CEST", true);
+    Ok(())
+}
+
+/// The database of a source.
+fn database(alloc: Global, source: &str) -> Result<Result<Database, DatabaseFault>, Fail> {
+    let parser = LineParser::new(alloc).ok().ok_or("not built")?;
+    let Ok(table) = read_table(alloc, &parser, source.as_bytes()) else {
+        return Err(Fail::from("refused"));
+    };
+    Ok(Database::build(alloc, &table))
+}
+
+const ZONES: &str = "\
+Zone B/York 1:00 - B
+Zone C 0:00 - C
+Zone A/York 2:00 - A
+Link C Z/Link
+Link Nowhere Y
+";
+
+/// Asserts the names of some zones in order, with a space after each.
+fn expect_names(rt: &impl Abort, alloc: Global, zones: &[Tz<'_>], names: &str) -> Result<(), Fail> {
+    let mut found = String::new(alloc);
+    for zone in zones {
+        found.push_str(zone.name())?;
+        found.push(' ')?;
+    }
+    assert_eq!(rt; found.as_str(), names);
+    Ok(())
+}
+
+#[test]
+fn a_database_finds_zones_by_name(rt: HostRuntime) -> Result<(), Fail> {
+    let alloc = rt.alloc();
+    let Ok(database) = database(alloc, ZONES)? else {
+        return Err(Fail::from("no database"));
+    };
+    let every: Vec<Tz<'_>> = database.iter().collect(alloc)?;
+    expect_names(&rt, alloc, &every, "A/York B/York C Z/Link ")?;
+    expect_names(&rt, alloc, &database.find_by_name(alloc, "York")?, "A/York B/York ")?;
+    expect_names(&rt, alloc, &database.find_by_name(alloc, "")?, "A/York B/York C Z/Link ")?;
+    expect_names(&rt, alloc, &database.find_by_name(alloc, "york")?, "")?;
+    let zone = database.get_by_name("B/York").ok_or("no zone")?;
+    assert_eq!(rt; zone.get_offset_primary().to_utc().whole_seconds(), 3600);
+    let link = database.get_by_name("Z/Link").ok_or("no link")?;
+    assert_eq!(rt; link.name(), "Z/Link");
+    assert!(rt; database.get_by_name("Y").is_none());
+    assert!(rt; database.get_by_name("York").is_none());
+    Ok(())
+}
+
+#[test]
+fn a_database_tells_the_first_name_that_is_refused(rt: HostRuntime) -> Result<(), Fail> {
+    let alloc = rt.alloc();
+    let source = "Zone C 0:00 - C\n 1:00 - C\nZone B 0:00 - B\n 1:00 - B\nZone D 26:00 - D\n";
+    let Err(DatabaseFault::Schedule(name, fault)) = database(alloc, source)? else {
+        return Err(Fail::from("no fault"));
+    };
+    assert_eq!(rt; name.as_str(), "B");
+    assert_eq!(rt; fault, SpanFault::MissingUntil);
+    let Err(DatabaseFault::OffsetRange(name)) = database(alloc, "Zone D 26:00 - D\nLink D A\n")? else {
+        return Err(Fail::from("no fault"));
+    };
+    assert_eq!(rt; name.as_str(), "A");
+    Ok(())
+}
