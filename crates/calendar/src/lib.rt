@@ -6,7 +6,8 @@
 mod cycles;
 pub mod dates;
 pub mod days;
-mod months;pub mod weekdays;
+mod months;
+pub mod weekdays;
 pub mod years;
 
 pub use dates::{CalendarDate, date_of};

@@ -6,7 +6,8 @@
 pub mod error;
 pub mod month;
 pub mod signed_duration;
-pub mod std_duration;pub mod weekday;
+pub mod std_duration;
+pub mod weekday;
 
 pub use error::{ComponentRange, ConversionRange, InvalidVariant};
 pub use month::Month;

@@ -12,7 +12,8 @@ mod number;
 mod options;
 mod padding;
 mod sink;
-mod smart_display;mod text;
+mod smart_display;
+mod text;
 
 pub use buffer::WriteBuffer;
 pub use metadata::WidthAnd;

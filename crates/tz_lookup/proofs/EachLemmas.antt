@@ -31,7 +31,7 @@ each_date set x s accepted at =
 
 pub few_dates : (set : FixedTimespanSet) (x s : ℤ)
     → length (map (λ k. at_offset x (total_of_span set k)) (spans_from (schedule_of set) s 0 (length set.others + 1 - 0))) ≤
-      length set.others + 1
+    length set.others + 1
 few_dates set x s =
     let found = spans_from (schedule_of set) s 0 (length set.others + 1 - 0) in
     omega (arith, few_spans (schedule_of set) s 0 (length set.others + 1 - 0), length-map found (λ k. at_offset x (total_of_span set k)))

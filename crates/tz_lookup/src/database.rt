@@ -260,7 +260,10 @@ fn know(alloc: Global, table: &Table, name: &str) -> Result<Known, DatabaseFault
 {
     match compile_zone(alloc, table, name) {
         Ok(set) => Ok(Known::new(set)),
-        Err(ZoneFault::Schedule(fault)) => Err(DatabaseFault::Schedule(Text::new(alloc, name)?, fault)),
+        Err(ZoneFault::Schedule(fault)) => Err(DatabaseFault::Schedule(
+            Text::new(alloc, name)?,
+            fault,
+        )),
         Err(ZoneFault::OffsetRange) => Err(DatabaseFault::OffsetRange(Text::new(alloc, name)?)),
         Err(ZoneFault::UnknownZone) => unreachable!(),
         Err(ZoneFault::NoMemory) => Err(DatabaseFault::NoMemory),

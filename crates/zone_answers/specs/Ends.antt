@@ -45,7 +45,7 @@ pub record Ends (task : Option Task) (before now : Seen) (end : Status) : Type 0
   -- 6: too much was given; then nothing but 6 or want of memory is answered
   pub too_long : end ≡ status.TooLong →
       (TooMuch text_limit before.shelf.given now.shelf.given × (now.input ≡ before.input))
-        ⊎ TooMuch text_limit before.input.given now.input.given
+      ⊎ TooMuch text_limit before.input.given now.input.given
   pub too_much : (before.shelf.given + text_limit < now.shelf.given) ⊎ (before.input.given + text_limit < now.input.given) → IsPastLimit end
   -- nothing is written but by 0, 2 and 4
   pub silent : IsSilent end → now.output ≡ before.output

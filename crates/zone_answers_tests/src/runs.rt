@@ -1,13 +1,13 @@
 //! Whole runs over objects in memory, and each fault line.
 ghost use Rattle.std.specs.Prelude.{◌<◌};
 
+use std::alloc::{AllocError, Global};
+use std::process::Abort;
+use std::test::Fail;
 use zone_answers::{
     AnswerError, Answers, MemShelf, MemSink, MemSource, Status, SureShelf, SureSink, SureSource,
     ZoneFault, answers, open_zone, read_table, run, run_surely, write_fault,
 };
-use std::alloc::{AllocError, Global};
-use std::process::Abort;
-use std::test::Fail;
 use zone_line::LineParser;
 
 const FIXED: &str = "Zone Test/Fixed 1:30 - TST\n";

@@ -87,6 +87,6 @@ amount_of_time text parts matched no_hyphen no_hours = rw (no_hyphen, no_hours, 
         results.◌>>=◌ (if_timed text time) (λ time.
         results.◌>>=◌ (if_by_wall text (with_type time (clock_type parts.flag))) (λ amount. Ok (one_off amount)))
         ≡ results.◌>>=◌ (results.◌>>=◌ (if_timed text (first_some (timed parts time ∷ []))) (if_by_wall text))
-          (λ amount. Ok (one_off amount))
+        (λ amount. Ok (one_off amount))
     by None = refl
     by (Some time) = refl

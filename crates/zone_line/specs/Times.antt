@@ -68,7 +68,7 @@ clock_time c = do
   minute ← two_digits c.minute
   option_map_or
       (λ text. option_map (λ second. HoursMinutesSeconds (signed c.sign hour) (signed c.sign minute) (signed c.sign second))
-        (two_digits text))
+      (two_digits text))
       c.second
       (Some (HoursMinutes (signed c.sign hour) (signed c.sign minute)))
 

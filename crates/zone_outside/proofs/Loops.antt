@@ -14,8 +14,11 @@ pub record HasRead (read : List ℕ) (left : Option (List ℕ)) (bytes : List �
 pub rest_left : (first mid new : Option (List ℕ)) (read into : List ℕ) (n : ℕ) → IfSome first (HasRead read mid)
     → IfSome mid (λ bytes. Consumes bytes new into n) → LeavesRest first new
 rest_left None mid new read into n had more = tt
-rest_left (Some bytes) mid new read into n had more = (length (read ++ take n into), step.left_is
-    ∙ ap Some (sym (ap (drop (length (read ++ take n into))) parts ∙ drop-append_seam (read ++ take n into) step.rest)))
+rest_left (Some bytes) mid new read into n had more = (
+  length (read ++ take n into),
+  step.left_is
+      ∙ ap Some (sym (ap (drop (length (read ++ take n into))) parts ∙ drop-append_seam (read ++ take n into) step.rest)),
+)
   where
     step : Consumes had.rest new into n
     step = subst (λ o. IfSome o (λ bytes. Consumes bytes new into n)) had.left_is more

@@ -121,7 +121,7 @@ pub sound_offset : (line : Line) → IsSound line → IsTrue (are_small_seconds 
 unfolding is_bounded_line
 sound_offset line sound =
     let info = first (is_bounded_info line.info) _ (first (is_bounded_info line.info && list_all is_bounded_rule line.rules) _
-      sound.bounded) in
+    sound.bounded) in
     first (are_small_seconds line.info.offset) _ (first (are_small_seconds line.info.offset && _) _ info)
 
 saving_small : (saving : Saving) → IsTrue (is_bounded_saving saving) → IsTrue (are_small_seconds (fixed_saving saving))
@@ -133,10 +133,10 @@ pub sound_saving : (line : Line) → IsSound line → IsTrue (are_small_seconds 
 unfolding is_bounded_line
 sound_saving line sound =
     let info = first (is_bounded_info line.info) _ (first (is_bounded_info line.info && list_all is_bounded_rule line.rules) _
-      sound.bounded) in
+    sound.bounded) in
     saving_small line.info.saving
     (second (are_small_seconds line.info.offset) _ (first (are_small_seconds line.info.offset && is_bounded_saving
-      line.info.saving) _ info))
+    line.info.saving) _ info))
 
 -- what stands first in sound lines is sound
 pub first_sound : (lines : List Line) (line : Line) → Some line ≡ slice_get lines 0 → All IsSound lines → IsSound line

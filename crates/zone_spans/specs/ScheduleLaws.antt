@@ -14,7 +14,7 @@ last_is_offset test first (shift ∷ shifts) h all =
     by_test (test shift) (last_is_offset test shift.1 shifts both.0 both.1) (last_is_offset test first shifts h both.1)
   where
     by_test : (b : Bool) → is_offset (last_total shift.1 (filter test shifts)) ≡ true
-      → is_offset (last_total first (filter test shifts)) ≡ true →
+        → is_offset (last_total first (filter test shifts)) ≡ true →
         is_offset (last_total first (cond b (shift ∷ filter test shifts) (filter test shifts))) ≡ true
     by_test true begun not_begun = begun
     by_test false begun not_begun = not_begun

@@ -86,6 +86,6 @@ in_order_from_sort xs sorted left moved up kept =
     ∙ ap (list_any (λ x. test (placed_value x))) (dedup_is pair_eq sorted left kept)
     ∙ any-dedup pair_eq (λ x. test (placed_value x))
     (λ x y e. ap test (placed_same (placed_value x) (placed_value y)
-      ((Equal-is (placed_cmp (placed_value x) (placed_value y))).0 (sym (placed_equal x y) ∙ e)))) sorted
+    ((Equal-is (placed_cmp (placed_value x) (placed_value y))).0 (sym (placed_equal x y) ∙ e)))) sorted
     ∙ sym (list_any-IsPermutation (λ x. test (placed_value x)) xs sorted moved)
     ∙ sym (any-map test placed_value xs))

@@ -1,9 +1,9 @@
 //! Vectors of the ported crate, and faults with their texts.
+use std::test::Fail;
 use zone_line::{
     ChangeTime, DaySpec, Error, Line, LineParser, Month, Rule, Saving, TimeSpec, TimeSpecAndType,
     TimeType, Year, Zone, ZoneInfo,
 };
-use std::test::Fail;
 
 mod source;
 mod values;

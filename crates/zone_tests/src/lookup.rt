@@ -1,15 +1,15 @@
 //! Local times of two and of three spans, what a set is refused for, and one function over zones of two kinds.
+use civil_base::{OffsetDateTime, PlainDateTime, UtcOffset};
+use owned::{Items, Text};
+use std::alloc::{AllocError, Global};
+use std::process::Abort;
+use std::test::Fail;
 use tz_lookup::{
     Database, DatabaseFault, Fixed, FixedTimespan, FixedTimespanSet, Offset, OffsetDateTimeExt,
     OffsetResult, PrimitiveDateTimeExt, SpanFault, TimeZone, Tz, TzFault,
 };
 use zone_line::LineParser;
 use zone_source::read_table;
-use civil_base::{OffsetDateTime, PlainDateTime, UtcOffset};
-use owned::{Items, Text};
-use std::alloc::{AllocError, Global};
-use std::process::Abort;
-use std::test::Fail;
 
 fn span(alloc: Global, offset: i64, saving: i64) -> Result<FixedTimespan, AllocError> {
     Ok(FixedTimespan {
@@ -227,8 +227,18 @@ fn a_database_finds_zones_by_name(rt: HostRuntime) -> Result<(), Fail> {
     };
     let every: Vec<Tz<'_>> = database.iter().collect(alloc)?;
     expect_names(&rt, alloc, &every, "A/York B/York C Z/Link ")?;
-    expect_names(&rt, alloc, &database.find_by_name(alloc, "York")?, "A/York B/York ")?;
-    expect_names(&rt, alloc, &database.find_by_name(alloc, "")?, "A/York B/York C Z/Link ")?;
+    expect_names(
+        &rt,
+        alloc,
+        &database.find_by_name(alloc, "York")?,
+        "A/York B/York ",
+    )?;
+    expect_names(
+        &rt,
+        alloc,
+        &database.find_by_name(alloc, "")?,
+        "A/York B/York C Z/Link ",
+    )?;
     expect_names(&rt, alloc, &database.find_by_name(alloc, "york")?, "")?;
     let zone = database.get_by_name("B/York").ok_or("no zone")?;
     assert_eq!(rt; zone.get_offset_primary().to_utc().whole_seconds(), 3600);
@@ -248,7 +258,8 @@ fn a_database_tells_the_first_name_that_is_refused(rt: HostRuntime) -> Result<()
     };
     assert_eq!(rt; name.as_str(), "B");
     assert_eq!(rt; fault, SpanFault::MissingUntil);
-    let Err(DatabaseFault::OffsetRange(name)) = database(alloc, "Zone D 26:00 - D\nLink D A\n")? else {
+    let Err(DatabaseFault::OffsetRange(name)) = database(alloc, "Zone D 26:00 - D\nLink D A\n")?
+    else {
         return Err(Fail::from("no fault"));
     };
     assert_eq!(rt; name.as_str(), "A");

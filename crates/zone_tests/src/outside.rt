@@ -1,13 +1,13 @@
 //! Objects in memory, objects that never fail, and the adapters of the real file and streams.
 
-use zone_outside::{
-    FileShelf, MemShelf, MemSink, MemSource, ReadEnd, Shelf, Sink, Source, StdSink, StdSource,
-    SureShelf, SureSink, SureSource, fetch_all, read_all, write_all,
-};
 use std::alloc::Global;
 use std::fmt::Display;
 use std::io;
 use std::test::Fail;
+use zone_outside::{
+    FileShelf, MemShelf, MemSink, MemSource, ReadEnd, Shelf, Sink, Source, StdSink, StdSource,
+    SureShelf, SureSink, SureSource, fetch_all, read_all, write_all,
+};
 
 /// A text that was read whole.
 fn read_whole(read: Result<Vec<u8>, ReadEnd>) -> Result<Vec<u8>, Fail> {

@@ -1,9 +1,9 @@
 //! A table that is read, and each fault line of a source.
-use zone_source::{FaultText, SourceError, read_table, write_fault_line};
 use std::alloc::Global;
 use std::process::Abort;
 use std::test::Fail;
 use zone_line::LineParser;
+use zone_source::{FaultText, SourceError, read_table, write_fault_line};
 
 fn parser(alloc: Global) -> Result<LineParser, Fail> {
     Ok(LineParser::new(alloc).ok().ok_or("not built")?)

@@ -1,6 +1,6 @@
 //! Lines of the tz database's source, of every form, beside what their columns say.
-use zone_line::LineParser;
 use std::test::Fail;
+use zone_line::LineParser;
 
 /// Lines of every form.
 const LINES: &str = "\

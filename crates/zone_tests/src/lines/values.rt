@@ -1,7 +1,7 @@
 //! Names, faults, ends and days of months.
-use zone_line::{ChangeTime, DaySpec, Error, Month, TimeSpec, TimeType, Weekday, Year};
 use std::alloc::Global;
 use std::test::Fail;
+use zone_line::{ChangeTime, DaySpec, Error, Month, TimeSpec, TimeType, Weekday, Year};
 
 #[test]
 fn names(rt: HostRuntime) -> Result<(), Fail> {

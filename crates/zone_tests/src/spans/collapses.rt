@@ -1,9 +1,9 @@
 //! The collapse on rows whose answers are known from outside.
-use zone_spans::{FixedTimespan, FixedTimespanSet, collapse};
 use owned::{Items, Text};
 use std::alloc::Global;
 use std::str::SplitWhitespace;
 use std::test::Fail;
+use zone_spans::{FixedTimespan, FixedTimespanSet, collapse};
 
 /// The first span, entries, and what the collapse keeps of them: the list of `Australia/Sydney` that the original's own
 /// test has, and an entry that comes before the local end of the span before, with two spans.

@@ -1,7 +1,7 @@
 //! Zones of a table.
-use zone_spans::{FixedTimespanSet, SpanFault, TableTransitions};
 use std::alloc::Global;
 use std::test::Fail;
+use zone_spans::{FixedTimespanSet, SpanFault, TableTransitions};
 use zone_table::{Error, Table, TableBuilder};
 use zone_values::{
     ChangeTime, DaySpec, Line, Month, Rule, Saving, TimeSpec, TimeType, Weekday, Year, Zone,

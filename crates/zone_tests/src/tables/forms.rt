@@ -1,7 +1,7 @@
 //! Abbreviations, owned forms, and moments that are known from outside.
-use zone_table::{Format, RuleInfo, Saving, ZoneInfo};
 use owned::Text;
 use std::test::Fail;
+use zone_table::{Format, RuleInfo, Saving, ZoneInfo};
 use zone_values::{DaySpec, Month, TimeSpec, TimeType, Weekday, Year};
 
 /// Format, saving and letters, with `-` for no letters, and the abbreviation that they give.

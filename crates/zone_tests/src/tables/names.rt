@@ -1,8 +1,8 @@
 //! The hierarchies of worked names.
-use zone_table::{Child, Structure, Table};
 use owned::{Items, Text, TextMap};
 use std::alloc::{AllocError, Global};
 use std::test::Fail;
+use zone_table::{Child, Structure, Table};
 
 /// A table with zones and links of these names, with blanks between them.
 fn table_of(alloc: Global, zones: &str, links: &str) -> Result<Table, AllocError> {

@@ -31,7 +31,7 @@ pub returns-then-unsigned-ne29 : goal.returns-then-unsigned-ne29
 returns-then-unsigned-ne29 c = record {
   found = λ x years text.
       let split = splits x c.args.bytes.now c.split_sign-negative.result.1.now c.split_sign-negative.result.0 text
-        c.split_sign-negative.ensures.minus c.split_sign-negative.ensures.none in
+      c.split_sign-negative.ensures.minus c.split_sign-negative.ensures.none in
       absurd (c.if-unsigned-ne29.true (ap length split.1 ∙ (unsigned_text-shape x).0));
 }
 
@@ -39,7 +39,7 @@ pub returns-in_err-date : goal.returns-in_err-date
 returns-in_err-date c = record {
   found = λ x years text.
       let split = splits x c.args.bytes.now c.split_sign-negative.result.1.now c.split_sign-negative.result.0 text
-        c.split_sign-negative.ensures.minus c.split_sign-negative.ensures.none in
+      c.split_sign-negative.ensures.minus c.split_sign-negative.ensures.none in
       let date = c.parse_date.ensures.found (day_part x) (day_part-inside x years) split.0 (c.split_at.ensures.front
       ∙ ap (take 10) split.1 ∙ (unsigned_text-shape x).1) in
       absurd (not_none c.parse_date.result (day_part x) date c.in_err-date.was);
@@ -49,7 +49,7 @@ pub returns-in_err-time : goal.returns-in_err-time
 returns-in_err-time c = record {
   found = λ x years text.
       let split = splits x c.args.bytes.now c.split_sign-negative.result.1.now c.split_sign-negative.result.0 text
-        c.split_sign-negative.ensures.minus c.split_sign-negative.ensures.none in
+      c.split_sign-negative.ensures.minus c.split_sign-negative.ensures.none in
       let time = c.parse_time.ensures.found (time_part x) (time_part-inside x) (c.split_at.ensures.back ∙ ap (drop 10) split.1
       ∙ (unsigned_text-shape x).2) in
       absurd (not_none c.parse_time.result (time_part x) time c.in_err-time.was);
@@ -59,7 +59,7 @@ pub returns : goal.returns
 returns c = record {
   found = λ x years text.
       let split = splits x c.args.bytes.now c.split_sign-negative.result.1.now c.split_sign-negative.result.0 text
-        c.split_sign-negative.ensures.minus c.split_sign-negative.ensures.none in
+      c.split_sign-negative.ensures.minus c.split_sign-negative.ensures.none in
       let date = c.parse_date.ensures.found (day_part x) (day_part-inside x years) split.0 (c.split_at.ensures.front
       ∙ ap (take 10) split.1 ∙ (unsigned_text-shape x).1) in
       let time = c.parse_time.ensures.found (time_part x) (time_part-inside x) (c.split_at.ensures.back ∙ ap (drop 10) split.1

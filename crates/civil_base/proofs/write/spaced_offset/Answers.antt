@@ -9,5 +9,5 @@ pub returns-clause-text : goal.returns-clause-text
 unfolding offset_text
 returns-clause-text c =
     let size : c.unsigned_abs-size.result ≡ unsigned_abs c.args.offset = size_is c.args.offset c.whole_seconds.result
-      c.unsigned_abs-size.result (search rules) c.whole_seconds.ensures.value c.unsigned_abs-size.ensures.value in
+    c.unsigned_abs-size.result (search rules) c.whole_seconds.ensures.value c.unsigned_abs-size.ensures.value in
     rw (← size) (cc)

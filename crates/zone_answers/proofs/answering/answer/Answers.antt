@@ -15,7 +15,7 @@ pub returns-in_default-read-clause-err : goal.returns-in_default-read-clause-err
 returns-in_default-read-clause-err c =
     let text =
     c.in-Some.ensures.text in bad_request_refused _ c.args.number c.args.line.now c.in-Some.asked.now text.1 text.0
-      c.in_default-read.ensures
+    c.in_default-read.ensures
 
 pub returns-in-Err-clause-err : goal.returns-in-Err-clause-err
 returns-in-Err-clause-err c =

@@ -6,7 +6,7 @@ pub returns-in-Err-read_all : goal.returns-in-Err-read_all
 returns-in-Err-read_all g c =
     let asked =
     one_task c.args.words.now c.word-item.result c.as_str.result.now c.as_str.ensures.value c.word-item.is
-      c.in-len1.len_at_least c.in-len1.len_below in
+    c.in-len1.len_at_least c.in-len1.len_below in
     let input = c.in-Err-read_all.ensures in
     rw (← asked, c.from-in-Err-read_all.ensures) (input_ends c.as_str.result.now _ _ c.in-Ok.source.items c.in-Err-read_all.end
     (record { text = c.in-Ok.ensures.bytes; within = c.in-Ok.ensures.within; given = c.in-Ok.ensures.ok_given })
@@ -22,14 +22,17 @@ pub returns-in-Done : goal.returns-in-Done
 returns-in-Done g c =
     let asked =
     one_task c.args.words.now c.word-item.result c.as_str.result.now c.as_str.ensures.value c.word-item.is
-      c.in-len1.len_at_least c.in-len1.len_below in
+    c.in-len1.len_at_least c.in-len1.len_below in
     let responds = rw (c.deref.ensures.value, c.deref-2.ensures.value) at c.in-Done.ensures in
     rw (← asked) (done_ends c.as_str.result.now _ _ c.in-Ok.source.items c.in-Ok-read_all.requests.items
     (record {
       shelf = record { text = c.in-Ok.ensures.bytes; within = c.in-Ok.ensures.within; given = c.in-Ok.ensures.ok_given };
       input =
-          record { text = c.in-Ok-read_all.ensures.bytes; within = c.in-Ok-read_all.ensures.within;
-            given = c.in-Ok-read_all.ensures.ok_given };
+          record {
+            text = c.in-Ok-read_all.ensures.bytes;
+            within = c.in-Ok-read_all.ensures.within;
+            given = c.in-Ok-read_all.ensures.ok_given;
+          };
     })
     responds)
 
@@ -37,14 +40,17 @@ pub returns-in-Fault : goal.returns-in-Fault
 returns-in-Fault g c =
     let asked =
     one_task c.args.words.now c.word-item.result c.as_str.result.now c.as_str.ensures.value c.word-item.is
-      c.in-len1.len_at_least c.in-len1.len_below in
+    c.in-len1.len_at_least c.in-len1.len_below in
     let responds = rw (c.deref.ensures.value, c.deref-2.ensures.value) at c.in-Fault.ensures in
     rw (← asked) (fault_ends c.as_str.result.now _ _ c.in-Ok.source.items c.in-Ok-read_all.requests.items
     (record {
       shelf = record { text = c.in-Ok.ensures.bytes; within = c.in-Ok.ensures.within; given = c.in-Ok.ensures.ok_given };
       input =
-          record { text = c.in-Ok-read_all.ensures.bytes; within = c.in-Ok-read_all.ensures.within;
-            given = c.in-Ok-read_all.ensures.ok_given };
+          record {
+            text = c.in-Ok-read_all.ensures.bytes;
+            within = c.in-Ok-read_all.ensures.within;
+            given = c.in-Ok-read_all.ensures.ok_given;
+          };
     })
     responds)
 
@@ -52,13 +58,16 @@ pub returns-in-Failed : goal.returns-in-Failed
 returns-in-Failed g c =
     let asked =
     one_task c.args.words.now c.word-item.result c.as_str.result.now c.as_str.ensures.value c.word-item.is
-      c.in-len1.len_at_least c.in-len1.len_below in
+    c.in-len1.len_at_least c.in-len1.len_below in
     let responds = rw (c.deref.ensures.value, c.deref-2.ensures.value) at c.in-Failed.ensures in
     rw (← asked) (failed_ends c.as_str.result.now _ _ c.in-Ok.source.items c.in-Ok-read_all.requests.items
     (record {
       shelf = record { text = c.in-Ok.ensures.bytes; within = c.in-Ok.ensures.within; given = c.in-Ok.ensures.ok_given };
       input =
-          record { text = c.in-Ok-read_all.ensures.bytes; within = c.in-Ok-read_all.ensures.within;
-            given = c.in-Ok-read_all.ensures.ok_given };
+          record {
+            text = c.in-Ok-read_all.ensures.bytes;
+            within = c.in-Ok-read_all.ensures.within;
+            given = c.in-Ok-read_all.ensures.ok_given;
+          };
     })
     responds)

@@ -19,8 +19,11 @@ returns-clause-bounded c =
     (all_swapped IsSmallEntry c.args.rest.now c.args.place c.args.from (omega arith) (omega arith) c.requires.bounded) in
     let from = subst IsSmallEntry (sym c.index.ensures) (c.requires.bounded c.args.place c.index.result.now (omega arith)) in
     let here = subst IsSmallEntry (sym c.index_mut.ensures.value)
-    (moved c.args.place c.index_mut.result.now (omega (arith, swapped_len c.args.rest.now c.args.place c.args.from,
-      ap length c.swap.ensures))) in
+    (moved c.args.place c.index_mut.result.now (omega (
+      arith,
+      swapped_len c.args.rest.now c.args.place c.args.from,
+      ap length c.swap.ensures,
+    ))) in
     let written : IsSmallEntry (to_z w64 (of_z w64 c.index.result.now.0), c.index_mut.result.now.1) =
     record { time = let t = from.time in omega (arith, ints); utc = here.utc; dst = here.dst } in
     All-set IsSmallEntry c.swap.new.self c.args.place (to_z w64 (of_z w64 c.index.result.now.0), c.index_mut.result.now.1) written moved

@@ -22,7 +22,7 @@ returns-then-is_no_later-clause-step c =
     let xs = c.args.rest.now in
     let n = c.args.kept in
     let late = late_at xs c.args.from (n - 1) (n - 2) c.index.result.now c.index-then-kept-ge2.result.now
-      c.index-then-kept-ge2-2.result.now true c.requires.within (omega arith) (omega arith)
+    c.index-then-kept-ge2-2.result.now true c.requires.within (omega arith) (omega arith)
     c.index.ensures c.index-then-kept-ge2.ensures c.index-then-kept-ge2-2.ensures (sym c.is_no_later.ensures ∙ c.if-is_no_later.true) in
     respan_step xs c.respan.new.rest n (n - 1) (n - 2) c.args.from c.index.result.now (omega arith)
     (omega arith) c.requires.order c.requires.within late c.respan.ensures.put
@@ -41,14 +41,14 @@ returns-then-is_same_span-clause-step c =
     let xs = c.args.rest.now in
     let n = c.args.kept in
     let same = same_at xs c.args.from (n - 1) c.index-then-kept-ge1.result.now c.index-then-kept-ge1-2.result.now true
-      c.requires.within (omega arith)
+    c.requires.within (omega arith)
     c.index-then-kept-ge1.ensures c.index-then-kept-ge1-2.ensures (sym c.is_same_span.ensures ∙ c.if-is_same_span.true) in
     let later : (p q : ℕ) (d : Entry) → n ≡ p + 1 → p ≡ q + 1
     → is_no_later (get_or xs c.args.from d) (get_or xs p d) (get_or xs q d) ≡ false =
     elim c.else-kept-ge2.branch [
       | else-kept-ge2-via-then-kept-ge2+else-is_no_later w ↦ λ p q d e f. later_of xs n c.args.from p q d
           (late_at xs c.args.from (n - 1) (n - 2) w.index.result.now w.index-then-kept-ge2.result.now
-            w.index-then-kept-ge2-2.result.now false c.requires.within (omega arith) (omega arith)
+          w.index-then-kept-ge2-2.result.now false c.requires.within (omega arith) (omega arith)
           w.index.ensures w.index-then-kept-ge2.ensures w.index-then-kept-ge2-2.ensures
           (sym w.is_no_later.ensures ∙ w.if-is_no_later.false)) e f
       | else-kept-ge2-via-else-kept-ge2 w ↦ λ p q d e f. absurd (omega (arith, e, f))
@@ -65,7 +65,7 @@ returns-clause-step c =
     elim c.else-kept-ge2.branch [
       | else-kept-ge2-via-then-kept-ge2+else-is_no_later w ↦ λ p q d e f. later_of xs n c.args.from p q d
           (late_at xs c.args.from (n - 1) (n - 2) w.index.result.now w.index-then-kept-ge2.result.now
-            w.index-then-kept-ge2-2.result.now false c.requires.within (omega arith) (omega arith)
+          w.index-then-kept-ge2-2.result.now false c.requires.within (omega arith) (omega arith)
           w.index.ensures w.index-then-kept-ge2.ensures w.index-then-kept-ge2-2.ensures
           (sym w.is_no_later.ensures ∙ w.if-is_no_later.false)) e f
       | else-kept-ge2-via-else-kept-ge2 w ↦ λ p q d e f. absurd (omega (arith, e, f))
@@ -76,7 +76,7 @@ returns-clause-step c =
           let at : n - 1 ≡ p = omega (arith, e) in
           ap (λ k. is_same_span (get_or xs c.args.from d).1 (get_or xs k d).1) (sym at)
           ∙ same_at xs c.args.from (n - 1) w.index-then-kept-ge1.result.now w.index-then-kept-ge1-2.result.now false
-            c.requires.within (omega arith)
+          c.requires.within (omega arith)
           w.index-then-kept-ge1.ensures w.index-then-kept-ge1-2.ensures (sym w.is_same_span.ensures ∙ w.if-is_same_span.false) d
       | else-kept-ge1-via-else-kept-ge1 w ↦ λ p d e. absurd (omega (arith, e))
     ] in

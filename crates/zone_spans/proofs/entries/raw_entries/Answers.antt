@@ -16,7 +16,7 @@ loop-line-preserved c =
     let more = step.bounded before.start in
     record {
       entries = entries_more c.loop-line.entries c.push_line.new.entries c.loop-line.start c.in_ok-start.start lines
-        c.loop-line.line-index line
+          c.loop-line.line-index line
           (raw_entries lines) (omega arith) c.line-item.is before.entries step.entries step.next;
       start = more.0;
       bounded = ap (list_all is_bounded_entry) step.entries ∙ list_all-append is_bounded_entry c.loop-line.entries

@@ -27,5 +27,5 @@ loop-i-preserved c =
       bounded = subst (λ (ls : List Line). IsTrue (list_all is_bounded_line ls)) (sym pushed)
           (one_line_more c.loop-i.lines line before.bounded
           (line_bounded infos i info rules c.end_at.result (omega arith) c.index-infos-i.is c.end_at.ensures c.requires.lines
-            c.in_ok-rules.ensures.bounded));
+          c.in_ok-rules.ensures.bounded));
     }

@@ -101,7 +101,7 @@ returns-after-firing-clause-fired c =
     let h : SFits w64 c.line.inside.info.now.offset = search rules in
     let offset_is = to_z-of_z w64 c.line.inside.info.now.offset h ∙ ap (λ (l : Line). l.info.offset) c.line.view_is in
     let same = passed end rs c.args.year c.line.inside.info.now.offset c.args.line.now.info.offset c.args.saving c.ranges.year
-      c.ranges.saving offset_is in
+    c.ranges.saving offset_is in
     let none : left ≡ [] = nil_from_length left (grind (arith, nat_tests, c.firing-test.ensures, c.firing.left.ok)) in
     let over = year_out year offset end saving left none in
     let whole = after c.args.fired.now.items (year_firings year offset end (to_z w64 (of_z w64 c.args.saving)) rs) in
@@ -119,7 +119,7 @@ returns-then-is_over-clause-fired c =
     let h : SFits w64 c.line.inside.info.now.offset = search rules in
     let offset_is = to_z-of_z w64 c.line.inside.info.now.offset h ∙ ap (λ (l : Line). l.info.offset) c.line.view_is in
     let same = passed end rs c.args.year c.line.inside.info.now.offset c.args.line.now.info.offset c.args.saving c.ranges.year
-      c.ranges.saving offset_is in
+    c.ranges.saving offset_is in
     let place = c.place_of_first-place.result in
     let best = subst (λ (ys : List RuleInfo). IsFirstBest (is_earlier year offset saving) ys
     (length ys) place) c.deref.ensures.value c.place_of_first-place.ensures in

@@ -45,4 +45,4 @@ pub returns : goal.returns
 returns c =
     let end : c.loop-i.i ≡ length c.args.rules.now = omega arith in
     passed c.args.year c.args.offset c.args.saving c.ranges.year c.ranges.offset c.ranges.saving c.args.rules.now c.loop-i.i
-      c.loop-i.best end c.loop-i.invariant
+    c.loop-i.best end c.loop-i.invariant

@@ -28,9 +28,9 @@ pub returns-clause-value : goal.returns-clause-value
 returns-clause-value c =
     let f : FitsSigned w32 c.signed.result = search rules in
     to_z-of_z f ∙ value_is c.args.hours c.args.minutes c.args.seconds c.from.result c.from-2.result c.from-3.result
-      c.is_first_negative.result c.signed.result c.ranges.hours c.ranges.minutes c.ranges.seconds
-      (c.from.ensures ∙ c.unsigned_abs-h.ensures.value) (c.from-2.ensures ∙ c.unsigned_abs-m.ensures.value)
-      (c.from-3.ensures ∙ c.unsigned_abs-s.ensures.value) c.is_first_negative.ensures c.signed.ensures
+    c.is_first_negative.result c.signed.result c.ranges.hours c.ranges.minutes c.ranges.seconds
+    (c.from.ensures ∙ c.unsigned_abs-h.ensures.value) (c.from-2.ensures ∙ c.unsigned_abs-m.ensures.value)
+    (c.from-3.ensures ∙ c.unsigned_abs-s.ensures.value) c.is_first_negative.ensures c.signed.ensures
 
 pub invariant_of-result : goal.invariant_of-result
 invariant_of-result c =

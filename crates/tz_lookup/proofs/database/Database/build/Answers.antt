@@ -13,9 +13,11 @@ know_all-requires-clause-found c = ap (list_all (resolves c.args.table.now)) c.i
 pub invariant_of-result : goal.invariant_of-result
 invariant_of-result c =
     let table = c.args.table.now in
-    let found = map-twice (λ (known : Known). known.set) found_as c.in_ok-zones.zones ∙ c.in_ok-zones.ensures.ok ∙ ap (map (found_in table)) c.in_ok-names.ensures in
-    (subst (RisesStrictly text_cmp)
-    (sym (names_found table (map (λ (known : Known). known.set) c.in_ok-zones.zones) (names_of table) found)) (names_rise table), tt)
+    let found = map-twice (λ (known : Known). known.set) found_as c.in_ok-zones.zones ∙ c.in_ok-zones.ensures.ok ∙ ap (map (found_in table)) c.in_ok-names.ensures in (
+      subst (RisesStrictly text_cmp)
+          (sym (names_found table (map (λ (known : Known). known.set) c.in_ok-zones.zones) (names_of table) found)) (names_rise table),
+      tt,
+    )
 
 pub returns-clause-ok : goal.returns-clause-ok
 returns-clause-ok c =

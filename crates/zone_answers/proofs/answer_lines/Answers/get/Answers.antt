@@ -6,8 +6,12 @@ use Rattle.zone_answers.proofs.answer_lines.Answers.get.Goals as goal
 pub returns-then-i-ends : goal.returns-then-i-ends
 returns-then-i-ends c =
     let past : length c.args.self.now ≤ c.args.i =
-    omega (arith, length_lines 0 c.self.inside.ends.items c.self.inside.bytes.items, ap length c.as_slice-ends.ensures.value,
-      ap length c.self.view_is) in
+    omega (
+      arith,
+      length_lines 0 c.self.inside.ends.items c.self.inside.bytes.items,
+      ap length c.as_slice-ends.ensures.value,
+      ap length c.self.view_is,
+    ) in
     sym (slice_get_past c.args.self.now c.args.i past)
 
 pub line_between-requires : goal.line_between-requires
@@ -24,5 +28,11 @@ pub returns : goal.returns
 returns c =
     let ends = c.self.inside.ends.items in
     let there : c.args.i < length ends = omega (arith, ap length c.as_slice-ends.ensures.value) in
-    rw (← c.self.view_is, line_at 0 ends c.self.inside.bytes.items c.args.i there, c.line_between.ensures,
-      c.start_of-start.ensures, c.as_slice-ends.ensures.value, c.as_slice.ensures.value)
+    rw (
+      ← c.self.view_is,
+      line_at 0 ends c.self.inside.bytes.items c.args.i there,
+      c.line_between.ensures,
+      c.start_of-start.ensures,
+      c.as_slice-ends.ensures.value,
+      c.as_slice.ensures.value,
+    )

@@ -6,4 +6,4 @@ pub returns-clause-bytes : goal.returns-clause-bytes
 returns-clause-bytes c =
     let front = rw (c.bytes_from.ensures, c.chosen_text-text.ensures, c.deref.ensures.value) at c.copy_front-count.ensures.bytes in
     rw (← c.self.view_is) (consumed_at (text_chosen c.self.inside.files.items c.self.inside.chosen) _ c.self.inside.at
-      c.copy_front-count.result front)
+    c.copy_front-count.result front)
