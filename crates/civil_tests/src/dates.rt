@@ -219,7 +219,7 @@ fn last_date() -> Date
     Date::MAX
 }
 
-#[tactic(auto, unfolding(crate::specs::Clock::time_at))]
+#[tactic(auto, unfolding(civil_base::specs::Clock::time_at))]
 fn midnight() -> Time
     ensures { result ≡ time_at 0 0 0 0 }
 {
@@ -232,7 +232,7 @@ fn no_offset() -> UtcOffset
     UtcOffset::UTC
 }
 
-#[tactic(auto, unfolding(crate::specs::DateTimes::instant, crate::specs::DateTimes::local_of, crate::specs::DateTimes::offset_of))]
+#[tactic(auto, unfolding(civil_base::specs::DateTimes::instant, civil_base::specs::DateTimes::local_of, civil_base::specs::DateTimes::offset_of))]
 fn epoch() -> OffsetDateTime
     ensures instant { instant result ≡ pos 0 }
     ensures offset { offset_of result ≡ pos 0 }

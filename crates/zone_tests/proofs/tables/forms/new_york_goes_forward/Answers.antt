@@ -3,7 +3,7 @@ use Rattle.calendar.specs.Days.{days_after_zero, year_start, days_through, days_
 use Rattle.calendar.specs.Dates.{last_with}
 use Rattle.calendar.specs.Weekdays.{weekday_of}
 use Rattle.zone_values.specs.Days.{named_day, first_from, is_in_year}
-use Rattle.zone_table.proofs.tests.forms.new_york_goes_forward.Goals as goal
+use Rattle.zone_tests.proofs.tables.forms.new_york_goes_forward.Goals as goal
 
 pub absolute_datetime-requires-clause-in_year : goal.absolute_datetime-requires-clause-in_year
 unfolding is_in_year named_day first_from last_with weekday_of day year_start days_after_zero days_through days_into_year
