@@ -1,0 +1,13 @@
+//! What stands above dates and times in the crate `time`: errors, lengths of time from numbers, system times.
+//!
+//! Only the calls that make format items take memory.
+#![tactic(auto)]
+
+pub mod error;
+pub mod numerical_duration;
+pub mod numerical_std_duration;
+
+pub use civil_base::{ComponentRange, ConversionRange, InvalidVariant};
+pub use error::{DifferentVariant, Error, IndeterminateOffset, Result};
+pub use numerical_duration::NumericalDuration;
+pub use numerical_std_duration::NumericalStdDuration;
