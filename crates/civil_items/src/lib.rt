@@ -6,8 +6,14 @@
 pub mod error;
 pub mod numerical_duration;
 pub mod numerical_std_duration;
+pub mod sys_compare;
+pub mod sys_time;
+pub mod system_time_ext;
 
 pub use civil_base::{ComponentRange, ConversionRange, InvalidVariant};
 pub use error::{DifferentVariant, Error, IndeterminateOffset, Result};
 pub use numerical_duration::NumericalDuration;
 pub use numerical_std_duration::NumericalStdDuration;
+pub use sys_compare::SysCompare;
+pub use sys_time::SysTime;
+pub use system_time_ext::SystemTimeExt;
