@@ -3,7 +3,10 @@
 //! Only the calls that make format items take memory.
 #![tactic(auto)]
 
+pub mod config;
+mod encoding;
 pub mod error;
+pub mod iso8601;
 pub mod numerical_duration;
 pub mod numerical_std_duration;
 pub mod sys_compare;
@@ -11,7 +14,10 @@ pub mod sys_time;
 pub mod system_time_ext;
 
 pub use civil_base::{ComponentRange, ConversionRange, InvalidVariant};
+pub use config::Config;
+pub use encoding::{DoNotRelyOnWhatThisIs, EncodedConfig};
 pub use error::{DifferentVariant, Error, IndeterminateOffset, Result};
+pub use iso8601::{DateKind, Digits, FormattedComponents, OffsetPrecision, TimePrecision};
 pub use numerical_duration::NumericalDuration;
 pub use numerical_std_duration::NumericalStdDuration;
 pub use sys_compare::SysCompare;
