@@ -90,7 +90,22 @@ pub bytes_of_code : (config : Config) → IsConfig config → to_be_bytes w128 (
 unfolding code
 bytes_of_code config is = seven_bytes (components_place config.formatted_components) (flag config.use_separators)
     (flag config.year_is_six_digits) (kind_place config.date_kind) (unit_place config.time_precision)
-    (digits_byte (digits_of config.time_precision)) (precision_place config.offset_precision)
-    (components_byte config.formatted_components, (flag_byte config.use_separators, (flag_byte config.year_is_six_digits,
-    (kind_byte config.date_kind, (unit_byte config.time_precision, (digits_small (digits_of config.time_precision) is,
-    (precision_byte config.offset_precision, (lit< tt, tt))))))))
+    (digits_byte (digits_of config.time_precision)) (precision_place config.offset_precision) (
+      components_byte config.formatted_components,
+      (
+        flag_byte config.use_separators,
+        (
+          flag_byte config.year_is_six_digits,
+          (
+            kind_byte config.date_kind,
+            (
+              unit_byte config.time_precision,
+              (
+                digits_small (digits_of config.time_precision) is,
+                (precision_byte config.offset_precision, (lit< tt, tt)),
+              ),
+            ),
+          ),
+        ),
+      ),
+    )

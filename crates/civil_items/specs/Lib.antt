@@ -2,5 +2,8 @@ pub mod CodeLaws
 pub mod Codes
 pub mod Digits
 pub mod Errors
+pub mod ItemTrees
 pub mod Lengths
 pub mod SysTimes
+pub mod TreeLaws
+pub mod Trees
