@@ -1,1 +1,5 @@
 pub mod CodeLemmas
+pub mod ItemLemmas
+pub mod WorkedCodes
+pub mod WorkedItems
+pub mod WorkedTimes

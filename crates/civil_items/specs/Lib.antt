@@ -1,5 +1,6 @@
 pub mod CodeLaws
 pub mod Codes
+pub mod Defaults
 pub mod Digits
 pub mod Errors
 pub mod ItemTrees

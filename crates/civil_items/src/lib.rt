@@ -1,6 +1,7 @@
-//! What stands above dates and times in the crate `time`: errors, lengths of time from numbers, system times.
+//! What stands above dates and times in the crate `time`: errors, lengths of time from numbers, system times, format items
+//! and the configuration of ISO 8601 texts.
 //!
-//! Only the calls that make format items take memory.
+//! Only `from_borrowed`, `from_slice` and `from_borrowed_vec` of `OwnedFormatItem` take memory.
 #![tactic(auto)]
 
 pub mod config;
@@ -8,12 +9,16 @@ mod encoding;
 pub mod error;
 pub mod format_item;
 pub mod iso8601;
+mod item_equality;
 pub mod numerical_duration;
 pub mod numerical_std_duration;
 pub mod owned_format_item;
 pub mod sys_compare;
 pub mod sys_time;
 pub mod system_time_ext;
+#[cfg(test)]
+mod tests;
+pub mod well_known;
 
 pub use civil_base::{ComponentRange, ConversionRange, InvalidVariant};
 pub use config::Config;
@@ -27,3 +32,4 @@ pub use owned_format_item::OwnedFormatItem;
 pub use sys_compare::SysCompare;
 pub use sys_time::SysTime;
 pub use system_time_ext::SystemTimeExt;
+pub use well_known::{Rfc2822, Rfc3339};
