@@ -1,5 +1,5 @@
 -- The bytes of a configuration are those of its number.
-use Rattle.std.proofs.Common.{arith, ◌≡◌, refl, ℕ, ◌+◌, ◌*◌, ◌/◌, ◌%◌, ◌^◌, ◌<◌, List, [], ◌∷◌, ◌++◌, get_or, ◌∙◌, ap, sym, subst, lit<, Bool, true, false, Option, Some, None, IfSome, zero, suc}
+use Rattle.std.proofs.Common.{arith, ◌≡◌, refl, ℕ, ◌*◌, ◌/◌, ◌%◌, ◌^◌, ◌<◌, List, [], ◌∷◌, ◌++◌, get_or, ◌∙◌, ap, lit<, Bool, true, false, Option, Some, None, IfSome, zero, suc}
 use Rattle.std.specs.Int.{w64, w128, to_be_bytes, from_be_bytes}
 use Rattle.std.proofs.lemmas.Nat.{be_bytes_8}
 use Rattle.civil_items.specs.Digits.{IsDigits}

@@ -1,5 +1,5 @@
 -- Lists of items, one place after another.
-use Rattle.std.proofs.Common.{◌≡◌, ◌≢◌, ℕ, suc, ◌+◌, ◌<◌, List, [], ◌∷◌, length, get_or, drop, Bool, true, false, ◌&&◌, refl, sym, ap, ◌∙◌, add-one, drop-cons, arith}
+use Rattle.std.proofs.Common.{◌≡◌, ◌≢◌, suc, List, [], ◌∷◌, length, Bool, true, false, ◌&&◌, refl, ap}
 use Rattle.civil_items.specs.declared.owned_format_item.OwnedFormatItem.{OwnedFormatItem}
 use Rattle.civil_items.specs.ItemTrees.{plain_of, plain_trees}
 use Rattle.civil_items.specs.Trees.{same, all_same}

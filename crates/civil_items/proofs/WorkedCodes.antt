@@ -4,7 +4,7 @@ use Rattle.civil_items.specs.declared.iso8601.FormattedComponents.TheVariants.{N
 use Rattle.civil_items.specs.declared.iso8601.DateKind.TheVariants.{Calendar, Week, Ordinal}
 use Rattle.civil_items.specs.declared.iso8601.TimePrecision.TheVariants.{Hour, Minute, Second}
 use Rattle.civil_items.specs.declared.iso8601.OffsetPrecision.TheVariants.{Hour as ToHours, Minute as ToMinutes}
-use Rattle.civil_items.specs.Codes.{components_place, kind_place, unit_place, precision_place, digits_of, code}
+use Rattle.civil_items.specs.Codes.{components_place, kind_place, unit_place, precision_place, code}
 use Rattle.civil_items.specs.Defaults.{default_config}
 
 worked_parts : map components_place (Nothing ∷ Date ∷ Time ∷ Offset ∷ DateTime ∷ DateTimeOffset ∷ TimeOffset ∷ [])

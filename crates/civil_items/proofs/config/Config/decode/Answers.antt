@@ -1,4 +1,4 @@
-use Rattle.std.proofs.Common.{ℕ, List, ◌≡◌, ◌∙◌, sym, ap, Option, Some, None, IfSome}
+use Rattle.std.proofs.Common.{ℕ, List, ◌≡◌, ◌∙◌, sym, ap, Option, Some, None}
 use Rattle.std.specs.Int.{w128, to_be_bytes}
 use Rattle.civil_items.specs.Codes.{code, code_bytes, IsConfig, Decodes}
 use Rattle.civil_items.specs.declared.config.Config.{Config}
