@@ -1,12 +1,15 @@
 -- The bytes of a configuration are those of its number.
-use Rattle.std.proofs.Common.{arith, ◌≡◌, refl, ℕ, ◌*◌, ◌/◌, ◌%◌, ◌^◌, ◌<◌, List, [], ◌∷◌, ◌++◌, get_or, ◌∙◌, ap, lit<, Bool, true, false, Option, Some, None, IfSome, zero, suc}
+use Rattle.std.proofs.Common.{arith, ◌≡◌, refl, ℕ, ◌*◌, ◌/◌, ◌%◌, ◌^◌, ◌<◌, List, [], ◌∷◌, ◌++◌, get_or, ◌∙◌, ap}
+use Rattle.std.proofs.Common.{lit<, Bool, true, false, Option, Some, None, IfSome, zero, suc}
 use Rattle.std.specs.Int.{w64, w128, to_be_bytes, from_be_bytes}
 use Rattle.std.proofs.lemmas.Nat.{be_bytes_8}
 use Rattle.civil_items.specs.Digits.{IsDigits}
-use Rattle.civil_items.specs.Codes.{components_place, kind_place, unit_place, precision_place, flag, digits_of, digits_byte, code_bytes, code, IsConfig}
+use Rattle.civil_items.specs.Codes.{components_place, kind_place, unit_place, precision_place, flag, digits_of}
+use Rattle.civil_items.specs.Codes.{digits_byte, code_bytes, code, IsConfig}
 use Rattle.civil_items.specs.declared.config.Config.{Config}
 use Rattle.civil_items.specs.declared.iso8601.FormattedComponents.{FormattedComponents}
-use Rattle.civil_items.specs.declared.iso8601.FormattedComponents.TheVariants.{None as Nothing, Date, Time, Offset, DateTime, DateTimeOffset, TimeOffset}
+use Rattle.civil_items.specs.declared.iso8601.FormattedComponents.TheVariants.{None as Nothing, Date, Time, Offset}
+use Rattle.civil_items.specs.declared.iso8601.FormattedComponents.TheVariants.{DateTime, DateTimeOffset, TimeOffset}
 use Rattle.civil_items.specs.declared.iso8601.DateKind.{DateKind}
 use Rattle.civil_items.specs.declared.iso8601.DateKind.TheVariants.{Calendar, Week, Ordinal}
 use Rattle.civil_items.specs.declared.iso8601.TimePrecision.{TimePrecision}
@@ -82,7 +85,8 @@ seven_bytes : (a b c d e f g : ℕ) → AreBytes (a ∷ b ∷ c ∷ d ∷ e ∷ 
     ≡ a ∷ b ∷ c ∷ d ∷ e ∷ f ∷ g ∷ 0 ∷ 0 ∷ 0 ∷ 0 ∷ 0 ∷ 0 ∷ 0 ∷ 0 ∷ 0 ∷ []
 seven_bytes a b c d e f g small =
     let front : List ℕ = a ∷ b ∷ c ∷ d ∷ e ∷ f ∷ g ∷ 0 ∷ [] in
-    let number : from_be_bytes w128 (a ∷ b ∷ c ∷ d ∷ e ∷ f ∷ g ∷ 0 ∷ 0 ∷ 0 ∷ 0 ∷ 0 ∷ 0 ∷ 0 ∷ 0 ∷ 0 ∷ []) ≡ from_be_bytes w64 front * 256 ^ 8 = omega arith in
+    let number : from_be_bytes w128
+    (a ∷ b ∷ c ∷ d ∷ e ∷ f ∷ g ∷ 0 ∷ 0 ∷ 0 ∷ 0 ∷ 0 ∷ 0 ∷ 0 ∷ 0 ∷ 0 ∷ []) ≡ from_be_bytes w64 front * 256 ^ 8 = omega arith in
     ap (to_be_bytes w128) number ∙ moved (from_be_bytes w64 front)
     ∙ ap (λ bytes. bytes ++ 0 ∷ 0 ∷ 0 ∷ 0 ∷ 0 ∷ 0 ∷ 0 ∷ 0 ∷ []) (be_bytes_8 front (from_be_bytes w64 front) refl (byte_in front small) refl)
 

@@ -20,7 +20,8 @@ worked_std_fits = refl
 
 -- seconds from -2^63 to 2^63 - 1, each with its nanoseconds
 worked_sys_times : is_sys_time (neg_ℤ (pos 9223372036854775808000000000)) ∷ is_sys_time (neg_ℤ (pos 9223372036854775808000000001))
-    ∷ is_sys_time (pos 9223372036854775807999999999) ∷ is_sys_time (pos 9223372036854775808000000000) ∷ [] ≡ true ∷ false ∷ true ∷ false ∷ []
+    ∷ is_sys_time (pos 9223372036854775807999999999) ∷ is_sys_time (pos 9223372036854775808000000000) ∷ []
+    ≡ true ∷ false ∷ true ∷ false ∷ []
 worked_sys_times = refl
 
 -- a distance of 2^63 seconds is not near, on either side

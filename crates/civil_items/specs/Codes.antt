@@ -4,7 +4,8 @@ use Rattle.std.specs.Int.{w128, from_be_bytes}
 use Rattle.civil_items.specs.Digits.{IsDigits}
 use Rattle.civil_items.specs.declared.config.Config.{Config}
 use Rattle.civil_items.specs.declared.iso8601.FormattedComponents.{FormattedComponents}
-use Rattle.civil_items.specs.declared.iso8601.FormattedComponents.TheVariants.{None as Nothing, Date, Time, Offset, DateTime, DateTimeOffset, TimeOffset}
+use Rattle.civil_items.specs.declared.iso8601.FormattedComponents.TheVariants.{None as Nothing, Date, Time, Offset}
+use Rattle.civil_items.specs.declared.iso8601.FormattedComponents.TheVariants.{DateTime, DateTimeOffset, TimeOffset}
 use Rattle.civil_items.specs.declared.iso8601.DateKind.{DateKind}
 use Rattle.civil_items.specs.declared.iso8601.DateKind.TheVariants.{Calendar, Week, Ordinal}
 use Rattle.civil_items.specs.declared.iso8601.TimePrecision.{TimePrecision}

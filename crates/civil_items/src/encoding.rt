@@ -17,10 +17,10 @@ pub type EncodedConfig = u128;
 pub type DoNotRelyOnWhatThisIs = u128;
 
 impl Config {
-    /// The number of sixteen bytes, the first of them the highest: the place of the parts in their order, from 0 to 6; 1
-    /// for separators, else 0; 1 for a year of six digits, else 0; the place of the kind of date, from 0 to 2; the place
-    /// of the least unit of a time, from 0 to 2; its decimal digits, or 0 for none; the place of the precision of
-    /// offsets, 0 or 1; nine bytes of 0.
+    /// The number of sixteen bytes, the first of them the highest: the place of the parts in their order, from 0 to 6;
+    /// 1 for separators, else 0; 1 for a year of six digits, else 0; the place of the kind of date, from 0 to 2; the
+    /// place of the least unit of a time, from 0 to 2; its decimal digits, or 0 for none; the place of the precision
+    /// of offsets, 0 or 1; nine bytes of 0.
     #[tactic(auto, unfolding(crate::specs::Codes::code))]
     pub fn encode(&self) -> EncodedConfig
         ensures code { result ≡ code self.now }

@@ -1,5 +1,5 @@
-//! What stands above dates and times in the crate `time`: errors, lengths of time from numbers, system times, format items
-//! and the configuration of ISO 8601 texts.
+//! What stands above dates and times in the crate `time`: errors, lengths of time from numbers, system times, format
+//! items and the configuration of ISO 8601 texts.
 //!
 //! Only `from_borrowed`, `from_slice` and `from_borrowed_vec` of `OwnedFormatItem` take memory.
 #![tactic(auto)]

@@ -17,7 +17,7 @@ const SECONDS_PER_WEEK: i64 = 604_800;
 
 /// Lengths of time of that many units, exactly. Where the seconds of a length need not be an `i64`, that they are is a
 /// condition, which the `fits_` call of the same unit tests.
-pub trait NumericalDuration: Sized {
+pub trait NumericalDuration {
     /// How many units.
     ghost count: { Self → ℤ };
 

@@ -14,7 +14,7 @@ const SECONDS_PER_WEEK: u64 = 604_800;
 
 /// Lengths of time of that many units, exactly. Where the seconds of a length need not be a `u64`, that they are is a
 /// condition, which the `fits_std_` call of the same unit tests.
-pub trait NumericalStdDuration: Sized {
+pub trait NumericalStdDuration {
     /// How many units.
     ghost count: { Self → ℕ };
 

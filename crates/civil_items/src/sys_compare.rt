@@ -9,7 +9,7 @@ use civil_base::{OffsetDateTime, SignedDuration, Timestamp, UtcDateTime};
 use std::cmp::Ordering;
 
 /// Differences and comparisons with a system time, by exact nanoseconds.
-pub trait SysCompare: Sized {
+pub trait SysCompare {
     /// The nanoseconds from 1970-01-01 00:00:00 UTC.
     ghost at: { Self → ℤ };
 

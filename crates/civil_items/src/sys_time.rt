@@ -14,8 +14,8 @@ const FIRST: i128 = -9_223_372_036_854_775_808 * NANOS_PER_SECOND;
 
 const LAST: i128 = 9_223_372_036_854_775_807 * NANOS_PER_SECOND + 999_999_999;
 
-/// A time of the system's clock: the `SystemTime` of Rust's standard library, whose seconds from 1970-01-01 00:00:00 UTC,
-/// rounded down, are an `i64`. Contracts see the nanoseconds from then.
+/// A time of the system's clock: the `SystemTime` of Rust's standard library, whose seconds from 1970-01-01 00:00:00
+/// UTC, rounded down, are an `i64`. Contracts see the nanoseconds from then.
 #[derive(Clone, Copy, Debug, PartialEq, Eq, PartialOrd, Ord, Hash)]
 pub struct SysTime {
     nanos: i128,
@@ -38,8 +38,8 @@ impl SysTime {
     /// 1970-01-01 00:00:00 UTC.
     pub const UNIX_EPOCH: SysTime = SysTime { nanos: 0 };
 
-    /// The time that many nanoseconds after 1970-01-01 00:00:00 UTC. There is none exactly where the seconds, rounded down,
-    /// are no `i64`.
+    /// The time that many nanoseconds after 1970-01-01 00:00:00 UTC. There is none exactly where the seconds, rounded
+    /// down, are no `i64`.
     pub fn from_nanoseconds(nanoseconds: i128) -> Option<SysTime>
         ensures has { is_some result ≡ is_sys_time nanoseconds }
         ensures value { IfSome result (λ time. time ≡ nanoseconds) }

@@ -6,7 +6,7 @@ use crate::SysTime;
 use civil_base::SignedDuration;
 
 /// What a system time becomes with lengths of time that have a sign.
-pub trait SystemTimeExt: Sized {
+pub trait SystemTimeExt {
     /// The nanoseconds from 1970-01-01 00:00:00 UTC.
     ghost at: { Self → ℤ };
 
