@@ -1,11 +1,11 @@
 -- The bytes of a configuration are those of its number.
 use Rattle.std.proofs.Common.{arith, ◌≡◌, refl, ℕ, ◌*◌, ◌/◌, ◌%◌, ◌^◌, ◌<◌, List, [], ◌∷◌, ◌++◌, get_or, ◌∙◌, ap}
-use Rattle.std.proofs.Common.{lit<, Bool, true, false, Option, Some, None, IfSome, zero, suc}
+use Rattle.std.proofs.Common.{lit<, Bool, true, false, Option, Some, None, zero, suc}
 use Rattle.std.specs.Int.{w64, w128, to_be_bytes, from_be_bytes}
 use Rattle.std.proofs.lemmas.Nat.{be_bytes_8}
-use Rattle.civil_items.specs.Digits.{IsDigits}
+use Rattle.civil_items.specs.declared.digits.Digits.{Digits}
 use Rattle.civil_items.specs.Codes.{components_place, kind_place, unit_place, precision_place, flag, digits_of}
-use Rattle.civil_items.specs.Codes.{digits_byte, code_bytes, code, IsConfig}
+use Rattle.civil_items.specs.Codes.{digits_byte, code_bytes, code}
 use Rattle.civil_items.specs.declared.config.Config.{Config}
 use Rattle.civil_items.specs.declared.iso8601.FormattedComponents.{FormattedComponents}
 use Rattle.civil_items.specs.declared.iso8601.FormattedComponents.TheVariants.{None as Nothing, Date, Time, Offset}
@@ -54,9 +54,9 @@ flag_byte : (b : Bool) → flag b < 256
 flag_byte true = lit< tt
 flag_byte false = lit< tt
 
-digits_small : (d : Option ℕ) → IfSome d IsDigits → digits_byte d < 256
-digits_small None h = lit< tt
-digits_small (Some n) h = h.greatest
+digits_small : (d : Option Digits) → digits_byte d < 256
+digits_small None = lit< tt
+digits_small (Some digits) = digits.in_range.greatest
 
 -- the bytes of a number of 64 bits, with eight bytes of 0 behind it
 moved : (h : ℕ) → to_be_bytes w128 (h * 256 ^ 8) ≡ to_be_bytes w64 h ++ 0 ∷ 0 ∷ 0 ∷ 0 ∷ 0 ∷ 0 ∷ 0 ∷ 0 ∷ []
@@ -90,9 +90,9 @@ seven_bytes a b c d e f g small =
     ap (to_be_bytes w128) number ∙ moved (from_be_bytes w64 front)
     ∙ ap (λ bytes. bytes ++ 0 ∷ 0 ∷ 0 ∷ 0 ∷ 0 ∷ 0 ∷ 0 ∷ 0 ∷ []) (be_bytes_8 front (from_be_bytes w64 front) refl (byte_in front small) refl)
 
-pub bytes_of_code : (config : Config) → IsConfig config → to_be_bytes w128 (code config) ≡ code_bytes config
+pub bytes_of_code : (config : Config) → to_be_bytes w128 (code config) ≡ code_bytes config
 unfolding code
-bytes_of_code config is = seven_bytes (components_place config.formatted_components) (flag config.use_separators)
+bytes_of_code config = seven_bytes (components_place config.formatted_components) (flag config.use_separators)
     (flag config.year_is_six_digits) (kind_place config.date_kind) (unit_place config.time_precision)
     (digits_byte (digits_of config.time_precision)) (precision_place config.offset_precision) (
       components_byte config.formatted_components,
@@ -105,7 +105,7 @@ bytes_of_code config is = seven_bytes (components_place config.formatted_compone
             (
               unit_byte config.time_precision,
               (
-                digits_small (digits_of config.time_precision) is,
+                digits_small (digits_of config.time_precision),
                 (precision_byte config.offset_precision, (lit< tt, tt)),
               ),
             ),

@@ -1,4 +1,5 @@
 pub mod CodeLemmas
+pub mod DigitLemmas
 pub mod ItemLemmas
 pub mod WorkedCodes
 pub mod WorkedItems

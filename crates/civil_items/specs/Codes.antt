@@ -1,7 +1,8 @@
 -- The number that stands for a configuration.
 use Rattle.std.specs.Prelude.{◌≡◌, ℕ, Bool, true, false, List, [], ◌∷◌, Option, Some, None, IfSome}
 use Rattle.std.specs.Int.{w128, from_be_bytes}
-use Rattle.civil_items.specs.Digits.{IsDigits}
+use Rattle.civil_items.specs.Digits.{digit_count}
+use Rattle.civil_items.specs.declared.digits.Digits.{Digits}
 use Rattle.civil_items.specs.declared.config.Config.{Config}
 use Rattle.civil_items.specs.declared.iso8601.FormattedComponents.{FormattedComponents}
 use Rattle.civil_items.specs.declared.iso8601.FormattedComponents.TheVariants.{None as Nothing, Date, Time, Offset}
@@ -42,14 +43,14 @@ flag false = 0
 flag true = 1
 
 -- the decimal digits of the fraction, if there is one
-abbrev pub digits_of : TimePrecision → Option ℕ
+abbrev pub digits_of : TimePrecision → Option Digits
 digits_of (Hour digits) = digits
 digits_of (Minute digits) = digits
 digits_of (Second digits) = digits
 
-abbrev pub digits_byte : Option ℕ → ℕ
+abbrev pub digits_byte : Option Digits → ℕ
 digits_byte None = 0
-digits_byte (Some digits) = digits
+digits_byte (Some digits) = digit_count digits
 
 -- sixteen bytes
 abbrev pub code_bytes : Config → List ℕ
@@ -67,11 +68,7 @@ code_bytes config =
 unfoldable pub code : Config → ℕ
 code config = from_be_bytes w128 (code_bytes config)
 
--- each number of decimal digits is one that there is
-abbrev pub IsConfig : Config → Type 0
-IsConfig config = IfSome (digits_of config.time_precision) IsDigits
-
 -- what a number is decoded to: the configuration whose code it is, or nothing where it is the code of none
 pub record Decodes (encoded : ℕ) (answer : Option Config) : Type 0 where
-  pub only_codes : IfSome answer (λ config. IsConfig config × (code config ≡ encoded))
-  pub every_code : (config : Config) → IsConfig config → code config ≡ encoded → answer ≡ Some config
+  pub only_codes : IfSome answer (λ config. code config ≡ encoded)
+  pub every_code : (config : Config) → code config ≡ encoded → answer ≡ Some config

@@ -1,6 +1,6 @@
--- Numbers of decimal digits.
-use Rattle.std.specs.Prelude.{ℕ, ◌<◌}
+-- How many digits there are.
+use Rattle.std.specs.Prelude.{ℕ}
+use Rattle.civil_items.specs.declared.digits.Digits.{Digits}
 
-pub record IsDigits (n : ℕ) : Type 0 where
-  pub least : 0 < n
-  pub greatest : n < 256
+abbrev pub digit_count : Digits → ℕ
+digit_count digits = digits.number

@@ -1,6 +1,7 @@
 pub mod CodeLaws
 pub mod Codes
 pub mod Defaults
+pub mod DigitRange
 pub mod Digits
 pub mod Errors
 pub mod ItemTrees

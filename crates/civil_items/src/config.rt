@@ -1,7 +1,8 @@
 //! The configuration of ISO 8601 texts.
 ghost use Rattle.std.specs.Prelude.{◌≡◌};
 
-use crate::iso8601::{DateKind, Digits, FormattedComponents, OffsetPrecision, TimePrecision};
+use crate::digits::Digits;
+use crate::iso8601::{DateKind, FormattedComponents, OffsetPrecision, TimePrecision};
 
 /// How ISO 8601 texts are laid out.
 #[derive(Clone, Copy, Debug, PartialEq, Eq)]

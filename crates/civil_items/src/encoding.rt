@@ -1,14 +1,16 @@
 //! Configurations as numbers.
-ghost use Rattle.std.specs.Prelude.{◌≡◌, Some, IfSome};
+ghost use Rattle.std.specs.Prelude.{◌≡◌, Option, Some};
+ghost use Rattle.civil_items.specs.declared.digits.Digits.{Digits};
 ghost use Rattle.civil_items.specs.declared.config.Config.{Config};
 ghost use Rattle.civil_items.specs.declared.iso8601.FormattedComponents.{FormattedComponents};
 ghost use Rattle.civil_items.specs.declared.iso8601.DateKind.{DateKind};
 ghost use Rattle.civil_items.specs.declared.iso8601.TimePrecision.{TimePrecision};
 ghost use Rattle.civil_items.specs.declared.iso8601.OffsetPrecision.{OffsetPrecision};
-ghost use Rattle.civil_items.specs.Codes.{code, code_bytes, components_place, kind_place, unit_place, digits_of, digits_byte, precision_place, flag, IsConfig, Decodes};
+ghost use Rattle.civil_items.specs.Codes.{code, code_bytes, components_place, kind_place, unit_place, digits_of, digits_byte, precision_place, flag, Decodes};
 
 use crate::config::Config;
-use crate::iso8601::{DateKind, Digits, FormattedComponents, OffsetPrecision, TimePrecision};
+use crate::digits::Digits;
+use crate::iso8601::{DateKind, FormattedComponents, OffsetPrecision, TimePrecision};
 
 /// The number that stands for a configuration.
 pub type EncodedConfig = u128;
@@ -23,8 +25,7 @@ impl Config {
     /// of offsets, 0 or 1; nine bytes of 0.
     #[tactic(auto, unfolding(crate::specs::Codes::code))]
     pub fn encode(&self) -> EncodedConfig
-        ensures code { result ≡ code self.now }
-        ensures config { IsConfig self.now }
+        ensures { result ≡ code self.now }
     {
         u128::from_be_bytes(bytes_of(*self))
     }
@@ -43,8 +44,7 @@ impl Config {
 }
 
 fn bytes_of(config: Config) -> [u8; 16]
-    ensures bytes { result ≡ code_bytes config }
-    ensures config { IsConfig config }
+    ensures { result ≡ code_bytes config }
 {
     [
         place_of_components(config.formatted_components),
@@ -68,14 +68,14 @@ fn bytes_of(config: Config) -> [u8; 16]
 
 // The configuration with these bytes, if there is one; where there is none, any or none.
 fn config_in(bytes: [u8; 16]) -> Option<Config>
-    ensures { (config : Config) → IsConfig config → code_bytes config ≡ bytes → result ≡ Some config }
+    ensures { (config : Config) → code_bytes config ≡ bytes → result ≡ Some config }
 {
     Some(Config {
         formatted_components: components_at(bytes[0])?,
         use_separators: bytes[1] == 1,
         year_is_six_digits: bytes[2] == 1,
         date_kind: kind_at(bytes[3])?,
-        time_precision: precision_at(bytes[4], Digits::new(bytes[5]))?,
+        time_precision: precision_at(bytes[4], digits_at(bytes[5]))?,
         offset_precision: offset_precision_at(bytes[6])?,
     })
 }
@@ -151,6 +151,12 @@ fn precision_at(place: u8, decimal_digits: Option<Digits>) -> Option<TimePrecisi
         2 => Some(TimePrecision::Second { decimal_digits }),
         _ => None,
     }
+}
+
+fn digits_at(byte: u8) -> Option<Digits>
+    ensures { (digits : Option Digits) → digits_byte digits ≡ byte → result ≡ digits }
+{
+    Digits::new(byte)
 }
 
 fn digits_byte(digits: Option<Digits>) -> u8

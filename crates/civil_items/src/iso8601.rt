@@ -1,8 +1,7 @@
 //! How ISO 8601 texts are laid out.
-ghost use Rattle.std.specs.Prelude.{◌≡◌, ◌≤◌, Some, is_some, IfSome, nat_lt};
-ghost use Rattle.civil_items.specs.Codes.{components_place, kind_place, unit_place, digits_of, precision_place};
+ghost use Rattle.std.specs.Prelude.{◌≡◌};
 
-use std::marker::Model;
+use crate::digits::Digits;
 
 /// Which parts a text has.
 #[derive(Clone, Copy, Debug, PartialEq, Eq)]
@@ -43,52 +42,6 @@ pub enum OffsetPrecision {
     Minute,
 }
 
-/// A number of decimal digits, from 1 to 255. Contracts see the number.
-#[derive(Clone, Copy, Debug, PartialEq, Eq)]
-pub struct Digits {
-    number: u8,
-}
-
-impl Model for Digits {
-    ghost use Rattle.std.specs.Prelude.{ℕ};
-    ghost use Rattle.civil_items.specs.Digits.{IsDigits};
-
-    ghost Value = { ℕ };
-
-    ghost view = { λ digits. digits.number };
-
-    ghost invariant = { λ digits. IsDigits digits.number };
-
-    ghost inverse = { λ number. record { number = number } };
-}
-
-impl Digits {
-    ghost use Rattle.civil_items.specs.Digits.{IsDigits};
-
-    /// Nine digits, those of a nanosecond.
-    pub(crate) const NINE: Digits = Digits { number: 9 };
-
-    /// That many digits. There are none exactly where the number is 0.
-    pub fn new(n: u8) -> Option<Digits>
-        ensures has { is_some result ≡ nat_lt 0 n }
-        ensures value { IfSome result (λ digits. digits ≡ n) }
-    {
-        if n > 0 {
-            Some(Digits { number: n })
-        } else {
-            None
-        }
-    }
-
-    /// The number.
-    pub fn get(self) -> u8
-        ensures value { result ≡ self }
-        ensures bound { IsDigits result }
-    {
-        self.number
-    }
-}
-
 /// The least unit of a time of day that is written, with the decimal digits of its fraction, if it has one.
 #[derive(Clone, Copy, Debug, PartialEq, Eq)]
 pub enum TimePrecision {
@@ -110,6 +63,8 @@ pub enum TimePrecision {
 }
 
 impl TimePrecision {
+    ghost use Rattle.civil_items.specs.Codes.{digits_of};
+
     /// The decimal digits of the fraction, if it has one.
     pub(crate) fn decimal_digits(self) -> Option<Digits>
         ensures { result ≡ digits_of self }

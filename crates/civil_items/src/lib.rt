@@ -5,6 +5,7 @@
 #![tactic(auto)]
 
 pub mod config;
+pub mod digits;
 mod encoding;
 pub mod error;
 pub mod format_item;
@@ -22,10 +23,11 @@ pub mod well_known;
 
 pub use civil_base::{ComponentRange, ConversionRange, InvalidVariant};
 pub use config::Config;
+pub use digits::Digits;
 pub use encoding::{DoNotRelyOnWhatThisIs, EncodedConfig};
 pub use error::{DifferentVariant, Error, IndeterminateOffset, Result};
 pub use format_item::{BorrowedFormatItem, Component};
-pub use iso8601::{DateKind, Digits, FormattedComponents, OffsetPrecision, TimePrecision};
+pub use iso8601::{DateKind, FormattedComponents, OffsetPrecision, TimePrecision};
 pub use numerical_duration::NumericalDuration;
 pub use numerical_std_duration::NumericalStdDuration;
 pub use owned_format_item::OwnedFormatItem;

@@ -234,10 +234,8 @@ fn decoded_again(config: &Config) -> Option<Config>
 fn encoded_again(encoded: EncodedConfig) -> Option<EncodedConfig>
     ensures { IfSome result (λ number. number ≡ encoded) }
 {
-    match Config::decode(encoded) {
-        Some(config) => Some(config.encode()),
-        None => None,
-    }
+    let config = Config::decode(encoded)?;
+    Some(config.encode())
 }
 
 #[test]
