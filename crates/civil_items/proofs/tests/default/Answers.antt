@@ -1,4 +1,4 @@
-use Rattle.std.proofs.Common.{◌≡◌, refl, ap, true, false, Some}
+use Rattle.std.proofs.Common.{refl, ap, Some}
 use Rattle.civil_items.specs.declared.config.Config.{Config}
 use Rattle.civil_items.specs.declared.digits.Digits.{Digits}
 use Rattle.civil_items.specs.declared.iso8601.TimePrecision.TheVariants.{Second}
