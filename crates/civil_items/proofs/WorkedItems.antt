@@ -1,10 +1,8 @@
 -- Which trees are the same, and what is inside errors.
 use Rattle.std.proofs.Common.{◌≡◌, refl, [], ◌∷◌, map, true, false, codes, Ok, Err}
-use Rattle.civil_items.specs.declared.format_item.Component.TheVariants.{Year, Month, Day, Hour, Minute, Second}
-use Rattle.civil_items.specs.declared.format_item.Component.TheVariants.{Subsecond, OffsetHour, OffsetMinute}
-use Rattle.civil_items.specs.declared.format_item.Component.TheVariants.{OffsetSecond}
-use Rattle.civil_items.specs.Trees.{literal, text, component, compound, optional, first, no_trees, tree}
-use Rattle.civil_items.specs.Trees.{component_place, plain, same}
+use Rattle.civil_items.specs.declared.format_item.Component.TheVariants.{Year, Month, Day, Hour, Minute}
+use Rattle.civil_items.specs.declared.format_item.Component.TheVariants.{Second, Subsecond, OffsetHour, OffsetMinute, OffsetSecond}
+use Rattle.civil_items.specs.Trees.{literal, text, component, compound, optional, first, no_trees, tree, component_place, plain, same}
 use Rattle.civil_items.specs.declared.error.Error.TheVariants.{ConversionRange, ComponentRange, IndeterminateOffset}
 use Rattle.civil_items.specs.declared.error.Error.TheVariants.{DifferentVariant, InvalidVariant}
 use Rattle.civil_items.specs.Errors.{conversion_range_in, component_range_in, indeterminate_offset_in}

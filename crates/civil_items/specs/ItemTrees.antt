@@ -6,8 +6,7 @@ use Rattle.civil_items.specs.declared.owned_format_item.OwnedFormatItem.{OwnedFo
 use Rattle.civil_items.specs.declared.owned_format_item.OwnedFormatItem.TheOpen.{OwnedFormatItem-F}
 use Rattle.civil_items.specs.declared.format_item.BorrowedFormatItem.{BorrowedFormatItem, fold-BorrowedFormatItem}
 use Rattle.civil_items.specs.declared.format_item.BorrowedFormatItem.TheOpen.{BorrowedFormatItem-F}
-use Rattle.civil_items.specs.Trees.{Tree, Trees, literal, text, component, compound, optional, first, trees_of, plain}
-use Rattle.civil_items.specs.Trees.{all_plain}
+use Rattle.civil_items.specs.Trees.{Tree, Trees, literal, text, component, compound, optional, first, trees_of, plain, all_plain}
 
 -- one level of an item, whose items are trees already
 abbrev pub owned_level : OwnedFormatItem-F Tree → Tree

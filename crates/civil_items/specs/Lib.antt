@@ -4,6 +4,7 @@ pub mod Defaults
 pub mod DigitRange
 pub mod Digits
 pub mod Errors
+pub mod ItemLaws
 pub mod ItemTrees
 pub mod Lengths
 pub mod SysTimes

@@ -1,6 +1,5 @@
 -- Times of a system's clock, in nanoseconds from 1970-01-01 00:00 UTC.
-use Rattle.std.specs.Prelude.{◌/◌, ◌*◌, ◌^◌, Bool, ◌&&◌, IsTrue, if◌then◌else◌, nat_le, ℤ, pos, neg_ℤ, int_le, int_lt}
-use Rattle.std.specs.Prelude.{unsigned_abs}
+use Rattle.std.specs.Prelude.{◌/◌, ◌*◌, ◌^◌, Bool, ◌&&◌, IsTrue, if◌then◌else◌, nat_le, ℤ, pos, neg_ℤ, int_le, int_lt, unsigned_abs}
 use Rattle.civil_parts.specs.Durations.{longest, shortest}
 
 -- the seconds, rounded down, are a signed number of 64 bits

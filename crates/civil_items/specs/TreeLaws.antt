@@ -5,11 +5,10 @@ use Rattle.std.specs.Cmp.{IsEquivalence, decided, unsigned_Decides, first_so, se
 use Rattle.std.proofs.Common.{ap, sym, ◌∙◌}
 use Rattle.std.proofs.lemmas.Slice.Eq.{bytes_eq-Decides}
 use Rattle.civil_items.specs.declared.format_item.Component.{Component}
-use Rattle.civil_items.specs.declared.format_item.Component.TheVariants.{Year, Month, Day, Hour, Minute, Second}
-use Rattle.civil_items.specs.declared.format_item.Component.TheVariants.{Subsecond, OffsetHour, OffsetMinute}
-use Rattle.civil_items.specs.declared.format_item.Component.TheVariants.{OffsetSecond}
-use Rattle.civil_items.specs.Trees.{Tree, Trees, literal, text, component, compound, optional, first, no_trees, tree}
-use Rattle.civil_items.specs.Trees.{component_place, same, all_same}
+use Rattle.civil_items.specs.declared.format_item.Component.TheVariants.{Year, Month, Day, Hour, Minute}
+use Rattle.civil_items.specs.declared.format_item.Component.TheVariants.{Second, Subsecond, OffsetHour, OffsetMinute, OffsetSecond}
+use Rattle.civil_items.specs.Trees.{Tree, Trees, literal, text, component, compound, optional}
+use Rattle.civil_items.specs.Trees.{first, no_trees, tree, component_place, same, all_same}
 
 component_at : ℕ → Component
 component_at zero = Year
@@ -70,13 +69,13 @@ mutual
   is_all_same no_trees = refl
   is_all_same (tree a more) = rw (is_same a) (is_all_same more)
 
--- two items are equal exactly where their plain trees are one
+-- trees are the same exactly where they are one tree
 pub same-Decides : (a b : Tree) → Decides (same a b) (a ≡ b)
 same-Decides a b = (same_is a b, λ e. ap (same a) (sym e) ∙ is_same a)
 
 pub all_same-Decides : (a b : Trees) → Decides (all_same a b) (a ≡ b)
 all_same-Decides a b = (all_same_is a b, λ e. ap (all_same a) (sym e) ∙ is_all_same a)
 
--- so that is an equality: reflexive, symmetric and transitive
+-- so it is an equality
 pub same_equiv : IsEquivalence same
 same_equiv = decided same same-Decides

@@ -1,9 +1,8 @@
 //! When format items are equal.
 ghost use Rattle.std.specs.Prelude.{◌≡◌, nat_eq};
-ghost use Rattle.std.specs.Ordering.{on};
-ghost use Rattle.std.specs.Cmp.{on_equiv, on_per, partial_equiv_from_equiv};
+ghost use Rattle.std.specs.Cmp.{partial_equiv_from_equiv};
+ghost use Rattle.civil_items.specs.ItemLaws.{are_equal, equal_equiv};
 ghost use Rattle.civil_items.specs.ItemTrees.{plain_of, plain_trees};
-ghost use Rattle.civil_items.specs.TreeLaws.{same_equiv};
 ghost use Rattle.civil_items.specs.Trees.{same, all_same, literal, component, compound, component_place};
 
 use crate::format_item::Component;
@@ -12,9 +11,9 @@ use crate::owned_format_item::OwnedFormatItem;
 /// Items are equal where their variants and contents are. A `Literal` equals a `StringLiteral` with the same bytes, at
 /// every depth.
 impl PartialEq for OwnedFormatItem {
-    ghost eq = { on plain_of same };
+    ghost eq = { are_equal };
 
-    ghost laws = { partial_equiv_from_equiv (on_equiv plain_of same_equiv) };
+    ghost laws = { partial_equiv_from_equiv equal_equiv };
 
     fn eq(&self, other: &OwnedFormatItem) -> bool {
         are_same(self, other)
@@ -22,7 +21,7 @@ impl PartialEq for OwnedFormatItem {
 }
 
 impl Eq for OwnedFormatItem {
-    ghost laws = { on_equiv plain_of same_equiv };
+    ghost laws = { equal_equiv };
 }
 
 impl OwnedFormatItem {
