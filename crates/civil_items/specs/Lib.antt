@@ -1,0 +1,12 @@
+pub mod CodeLaws
+pub mod Codes
+pub mod Defaults
+pub mod DigitRange
+pub mod Digits
+pub mod Errors
+pub mod ItemLaws
+pub mod ItemTrees
+pub mod Lengths
+pub mod SysTimes
+pub mod TreeLaws
+pub mod Trees

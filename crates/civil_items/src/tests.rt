@@ -1,0 +1,328 @@
+ghost use Rattle.std.specs.Prelude.{◌≡◌, Some, IfSome, pos};
+ghost use Rattle.civil_items.specs.Defaults.{default_config};
+
+use super::{
+    BorrowedFormatItem, Component, ComponentRange, Config, ConversionRange, DateKind,
+    DifferentVariant, Digits, EncodedConfig, Error, FormattedComponents, IndeterminateOffset,
+    InvalidVariant, NumericalDuration, NumericalStdDuration, OffsetPrecision, OwnedFormatItem,
+    Rfc2822, Rfc3339, SysCompare, SysTime, SystemTimeExt, TimePrecision,
+};
+use civil_base::{OffsetDateTime, SignedDuration, Timestamp, UtcDateTime, UtcOffset};
+use std::alloc::AllocError;
+use std::cmp::Ordering;
+
+#[test]
+fn shows_errors_as_what_is_inside(rt: HostRuntime) -> Result<(), AllocError> {
+    for (error, text) in [
+        (Error::from(ConversionRange), "conversion out of range"),
+        (Error::from(ComponentRange), "component out of range"),
+        (
+            Error::from(IndeterminateOffset),
+            "The system's UTC offset could not be determined",
+        ),
+        (
+            Error::from(DifferentVariant),
+            "value was of a different variant than required",
+        ),
+        (Error::from(InvalidVariant), "value was not a valid variant"),
+    ] {
+        let shown = format!(in rt.alloc(); "{error}")?;
+        assert_eq!(rt; shown.as_str(), text);
+    }
+    let shown = format!(in rt.alloc(); "{DifferentVariant}; {IndeterminateOffset}")?;
+    assert_eq!(rt;
+        shown.as_str(),
+        "value was of a different variant than required; The system's UTC offset could not be determined"
+    );
+    Ok(())
+}
+
+#[test]
+fn takes_errors_apart(rt: HostRuntime) {
+    assert_eq!(rt;
+        ConversionRange::try_from(Error::from(ConversionRange)),
+        Ok(ConversionRange)
+    );
+    assert_eq!(rt;
+        ComponentRange::try_from(Error::from(ComponentRange)),
+        Ok(ComponentRange)
+    );
+    assert_eq!(rt;
+        IndeterminateOffset::try_from(Error::from(IndeterminateOffset)),
+        Ok(IndeterminateOffset)
+    );
+    assert_eq!(rt;
+        DifferentVariant::try_from(Error::from(DifferentVariant)),
+        Ok(DifferentVariant)
+    );
+    assert_eq!(rt;
+        InvalidVariant::try_from(Error::from(InvalidVariant)),
+        Ok(InvalidVariant)
+    );
+    assert_eq!(rt;
+        InvalidVariant::try_from(Error::from(ComponentRange)),
+        Err(DifferentVariant)
+    );
+    assert_eq!(rt;
+        DifferentVariant::try_from(Error::from(ConversionRange)),
+        Err(DifferentVariant)
+    );
+}
+
+#[test]
+fn makes_lengths_of_numbers(rt: HostRuntime) {
+    for (length, nanos) in [
+        (i64::MIN.nanoseconds(), -9_223_372_036_854_775_808),
+        ((-7).microseconds(), -7_000),
+        (7.milliseconds(), 7_000_000),
+        ((-7).seconds(), -7_000_000_000),
+        (3.minutes(), 180_000_000_000),
+        ((-3).hours(), -10_800_000_000_000),
+        (3.days(), 259_200_000_000_000),
+        ((-3).weeks(), -1_814_400_000_000_000),
+    ] {
+        assert_eq!(rt; length.whole_nanoseconds(), nanos);
+    }
+    for (length, seconds, nanos) in [
+        (u64::MAX.std_nanoseconds(), 18_446_744_073, 709_551_615),
+        (1_000_007.std_microseconds(), 1, 7_000),
+        (1_007.std_milliseconds(), 1, 7_000_000),
+        (7.std_seconds(), 7, 0),
+        (3.std_minutes(), 180, 0),
+        (3.std_hours(), 10_800, 0),
+        (3.std_days(), 259_200, 0),
+        (3.std_weeks(), 1_814_400, 0),
+    ] {
+        assert_eq!(rt; (length.as_secs(), length.subsec_nanos()), (seconds, nanos));
+    }
+}
+
+#[test]
+fn tells_which_numbers_are_lengths(rt: HostRuntime) {
+    assert!(rt; 153_722_867_280_912_930.fits_minutes() && !153_722_867_280_912_931.fits_minutes());
+    assert!(rt; 2_562_047_788_015_215.fits_hours() && !(-2_562_047_788_015_216).fits_hours());
+    assert!(rt; 106_751_991_167_300.fits_days() && !106_751_991_167_301.fits_days());
+    assert!(rt; (-15_250_284_452_471).fits_weeks() && !15_250_284_452_472.fits_weeks());
+    assert!(rt;
+        307_445_734_561_825_860.fits_std_minutes() && !307_445_734_561_825_861.fits_std_minutes()
+    );
+    assert!(rt; 5_124_095_576_030_431.fits_std_hours() && !5_124_095_576_030_432.fits_std_hours());
+    assert!(rt; 213_503_982_334_601.fits_std_days() && !213_503_982_334_602.fits_std_days());
+    assert!(rt; 30_500_568_904_943.fits_std_weeks() && !30_500_568_904_944.fits_std_weeks());
+}
+
+// What the constant is.
+fn epoch() -> SysTime
+    ensures { result ≡ pos 0 }
+{
+    SysTime::UNIX_EPOCH
+}
+
+#[test]
+fn has_system_times_of_64_bits_of_seconds(rt: HostRuntime) {
+    for (nanos, is_time) in [
+        (0, true),
+        (-9_223_372_036_854_775_808_000_000_000, true),
+        (-9_223_372_036_854_775_808_000_000_001, false),
+        (9_223_372_036_854_775_807_999_999_999, true),
+        (9_223_372_036_854_775_808_000_000_000, false),
+    ] {
+        let time = SysTime::from_nanoseconds(nanos);
+        assert_eq!(rt;
+            time.map(|time| time.as_nanoseconds()),
+            if is_time { Some(nanos) } else { None }
+        );
+    }
+    assert_eq!(rt; SysTime::from_nanoseconds(0), Some(epoch()));
+}
+
+#[test]
+fn adds_lengths_to_system_times(rt: HostRuntime) {
+    let (least, greatest) = (SignedDuration::MIN, SignedDuration::MAX);
+    let later = epoch().checked_add_signed((-5).milliseconds());
+    assert_eq!(rt; later.map(|time| time.as_nanoseconds()), Some(-5_000_000));
+    assert_eq!(rt; epoch().checked_sub_signed(5.milliseconds()), later);
+    assert_eq!(rt; epoch().checked_sub_signed(greatest).is_some(), true);
+    assert_eq!(rt; epoch().checked_add_signed(least), None);
+    for (one, other, length) in [
+        (7, 5, 2.nanoseconds()),
+        (5, 7, (-2).nanoseconds()),
+        (9_223_372_036_854_775_807_999_999_999, 0, greatest),
+        (9_223_372_036_854_775_807_999_999_999, -1, greatest),
+        (-9_223_372_036_854_775_808_000_000_000, 0, least),
+        (-9_223_372_036_854_775_808_000_000_000, 1, least),
+    ] {
+        if let Some(time) = SysTime::from_nanoseconds(one)
+            && let Some(earlier) = SysTime::from_nanoseconds(other)
+        {
+            assert_eq!(rt; time.signed_duration_since(earlier), length);
+        }
+    }
+}
+
+#[test]
+fn converts_system_times(rt: HostRuntime) {
+    for (nanos, is_date) in [
+        (-5_001_000_000, true),
+        (-377_705_116_800_000_000_000, true),
+        (-377_705_116_800_000_000_001, false),
+        (253_402_300_799_999_999_999, true),
+        (253_402_300_800_000_000_000, false),
+    ] {
+        if let Some(time) = SysTime::from_nanoseconds(nanos) {
+            let back = if is_date {
+                Ok(time)
+            } else {
+                Err(ComponentRange)
+            };
+            assert_eq!(rt; Timestamp::try_from(time).map(SysTime::from), back);
+            assert_eq!(rt; UtcDateTime::try_from(time).map(SysTime::from), back);
+            assert_eq!(rt; OffsetDateTime::try_from(time).map(SysTime::from), back);
+        }
+    }
+    if let Some(time) = SysTime::from_nanoseconds(-5_001_000_000) {
+        assert_eq!(rt;
+            Timestamp::try_from(time),
+            Timestamp::from_milliseconds(-5001)
+        );
+        assert_eq!(rt;
+            OffsetDateTime::try_from(time).map(|value| value.offset()),
+            Ok(UtcOffset::UTC)
+        );
+    }
+}
+
+fn compares<T: SysCompare + Copy>(value: T, time: SysTime) -> (Option<SignedDuration>, Ordering) {
+    if value.eq_sys(time) {
+        (value.since_sys(time), Ordering::Equal)
+    } else {
+        (value.sys_since(time), value.cmp_sys(time))
+    }
+}
+
+#[test]
+fn compares_with_system_times(rt: HostRuntime) {
+    let far = SysTime::from_nanoseconds(9_223_372_036_854_775_807_999_999_999).unwrap_or(epoch());
+    let later = SysTime::from_nanoseconds(3).unwrap_or(epoch());
+    let same = (Some(SignedDuration::ZERO), Ordering::Equal);
+    let less = (Some(3.nanoseconds()), Ordering::Less);
+    assert_eq!(rt; compares(Timestamp::UNIX_EPOCH, epoch()), same);
+    assert_eq!(rt; compares(UtcDateTime::UNIX_EPOCH, epoch()), same);
+    assert_eq!(rt; compares(OffsetDateTime::UNIX_EPOCH, epoch()), same);
+    assert_eq!(rt; compares(Timestamp::UNIX_EPOCH, later), less);
+    assert_eq!(rt; compares(UtcDateTime::UNIX_EPOCH, later), less);
+    assert_eq!(rt; compares(OffsetDateTime::UNIX_EPOCH, later), less);
+    if let Ok(before) = Timestamp::from_nanoseconds(-1) {
+        assert_eq!(rt; before.sys_since(far), None);
+        assert_eq!(rt; before.since_sys(later), Some((-4).nanoseconds()));
+    }
+}
+
+fn default() -> Config
+    ensures { result ≡ default_config }
+{
+    Config::DEFAULT
+}
+
+// Encoding and decoding undo each other.
+fn decoded_again(config: &Config) -> Option<Config>
+    ensures { result ≡ Some config.now }
+{
+    Config::decode(config.encode())
+}
+
+fn encoded_again(encoded: EncodedConfig) -> Option<EncodedConfig>
+    ensures { IfSome result (λ number. number ≡ encoded) }
+{
+    let config = Config::decode(encoded)?;
+    Some(config.encode())
+}
+
+#[test]
+fn encodes_configurations(rt: HostRuntime) {
+    assert_eq!(rt; default().encode(), 0x05010000020901000000000000000000);
+    let other = default()
+        .set_formatted_components(FormattedComponents::None)
+        .set_use_separators(false)
+        .set_year_is_six_digits(true)
+        .set_date_kind(DateKind::Ordinal)
+        .set_time_precision(TimePrecision::Minute {
+            decimal_digits: None,
+        })
+        .set_offset_precision(OffsetPrecision::Hour);
+    assert_eq!(rt; other.encode(), 0x00000102010000000000000000000000);
+    assert_eq!(rt; decoded_again(&other), Some(other));
+    assert_eq!(rt; decoded_again(&default()), Some(default()));
+    let encoded = 0x0601010100ff00000000000000000000;
+    assert_eq!(rt; encoded_again(encoded), Some(encoded));
+    assert_eq!(rt; Digits::new(255).map(|digits| digits.get()), Some(255));
+    assert_eq!(rt; Digits::new(0), None);
+    assert_eq!(rt; (Rfc2822, Rfc3339), (Rfc2822, Rfc3339));
+}
+
+#[test]
+fn refuses_numbers_of_no_configuration(rt: HostRuntime) {
+    for encoded in [
+        0x07000000000000000000000000000000,
+        0x00020000000000000000000000000000,
+        0x00000200000000000000000000000000,
+        0x00000003000000000000000000000000,
+        0x00000000030000000000000000000000,
+        0x00000000000002000000000000000000,
+        0x00000000000000010000000000000000,
+        0x00000000000000000000000000000001,
+    ] {
+        assert_eq!(rt; Config::decode(encoded), None);
+    }
+    assert!(rt; Config::decode(0).is_some());
+}
+
+#[test]
+fn owns_format_items(rt: HostRuntime) -> Result<(), AllocError> {
+    let a = BorrowedFormatItem::StringLiteral("a");
+    let bytes = BorrowedFormatItem::Literal(b"a");
+    let year = BorrowedFormatItem::Component(Component::Year);
+    let inner = [a, bytes, year];
+    let optional = BorrowedFormatItem::Optional(&a);
+    let items = [
+        BorrowedFormatItem::Compound(&inner),
+        BorrowedFormatItem::First(&inner),
+        optional,
+    ];
+    let owned = OwnedFormatItem::from_slice(rt.alloc(), &items)?;
+    let again = OwnedFormatItem::from_borrowed(rt.alloc(), &BorrowedFormatItem::Compound(&items))?;
+    assert!(rt; owned == again);
+    let text = OwnedFormatItem::from_borrowed(rt.alloc(), &a)?;
+    let literal = OwnedFormatItem::from_borrowed(rt.alloc(), &bytes)?;
+    assert!(rt; matches!(&text, OwnedFormatItem::StringLiteral(text) if text.as_str() == "a"));
+    assert!(rt; text == literal && text != owned);
+    let list = vec![in rt.alloc(); a]?;
+    let compound = OwnedFormatItem::from_borrowed_vec(rt.alloc(), list)?;
+    let literals = vec![in rt.alloc(); literal]?;
+    assert!(rt; compound.is_compound(literals.as_slice()));
+    assert!(rt; compound == OwnedFormatItem::from(literals));
+    Ok(())
+}
+
+#[test]
+fn takes_format_items_apart(rt: HostRuntime) -> Result<(), AllocError> {
+    let empty = [BorrowedFormatItem::StringLiteral("")];
+    let compound = OwnedFormatItem::from_slice(rt.alloc(), &empty)?;
+    assert!(rt; !compound.is_component(&Component::Year) && !compound.is_compound(&[]));
+    match compound.into_items() {
+        Ok(items) => {
+            assert_eq!(rt; items.len(), 1);
+            let one = OwnedFormatItem::from_borrowed(rt.alloc(), &empty[0])?;
+            assert!(rt; items.as_slice()[0] == one);
+        }
+        Err(_) => assert!(rt; false, "a compound has items"),
+    }
+    let month = OwnedFormatItem::from(Component::Month);
+    assert!(rt; month.is_component(&Component::Month) && !month.is_component(&Component::Day));
+    assert_eq!(rt; Component::try_from(month), Ok(Component::Month));
+    let text = OwnedFormatItem::from_borrowed(rt.alloc(), &empty[0])?;
+    assert!(rt; text.into_items().is_err());
+    let text = OwnedFormatItem::from_borrowed(rt.alloc(), &empty[0])?;
+    assert_eq!(rt; Component::try_from(text), Err(DifferentVariant));
+    Ok(())
+}
