@@ -1,5 +1,4 @@
 pub mod CodeLemmas
-pub mod DigitLemmas
 pub mod ItemLemmas
 pub mod WorkedCodes
 pub mod WorkedItems

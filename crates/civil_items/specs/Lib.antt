@@ -10,3 +10,4 @@ pub mod Lengths
 pub mod SysTimes
 pub mod TreeLaws
 pub mod Trees
+pub mod DigitLaws

@@ -17,8 +17,6 @@ pub mod owned_format_item;
 pub mod sys_compare;
 pub mod sys_time;
 pub mod system_time_ext;
-#[cfg(test)]
-mod tests;
 pub mod well_known;
 
 pub use civil_base::{ComponentRange, ConversionRange, InvalidVariant};

@@ -3,7 +3,7 @@ use Rattle.std.proofs.lemmas.Bool.Decides.{nat_tests}
 use Rattle.civil_items.specs.declared.digits.Digits.{Digits}
 use Rattle.civil_items.specs.Digits.{digit_count}
 use Rattle.civil_items.specs.Codes.{digits_byte}
-use Rattle.civil_items.proofs.DigitLemmas.{one_number}
+use Rattle.civil_items.specs.DigitLaws.{one_number}
 use Rattle.civil_items.proofs.encoding.digits_at.Goals as goal
 
 above_zero : (n m : ℕ) → false ≡ nat_lt 0 n → 0 < m → m ≡ n → ⊥

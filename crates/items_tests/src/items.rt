@@ -1,13 +1,13 @@
 ghost use Rattle.std.specs.Prelude.{◌≡◌, Some, IfSome, pos};
 ghost use Rattle.civil_items.specs.Defaults.{default_config};
 
-use super::{
+use civil_base::{OffsetDateTime, SignedDuration, Timestamp, UtcDateTime, UtcOffset};
+use civil_items::{
     BorrowedFormatItem, Component, ComponentRange, Config, ConversionRange, DateKind,
     DifferentVariant, Digits, EncodedConfig, Error, FormattedComponents, IndeterminateOffset,
     InvalidVariant, NumericalDuration, NumericalStdDuration, OffsetPrecision, OwnedFormatItem,
     Rfc2822, Rfc3339, SysCompare, SysTime, SystemTimeExt, TimePrecision,
 };
-use civil_base::{OffsetDateTime, SignedDuration, Timestamp, UtcDateTime, UtcOffset};
 use std::alloc::AllocError;
 use std::cmp::Ordering;
 

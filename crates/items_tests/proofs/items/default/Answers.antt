@@ -3,8 +3,8 @@ use Rattle.civil_items.specs.declared.config.Config.{Config}
 use Rattle.civil_items.specs.declared.digits.Digits.{Digits}
 use Rattle.civil_items.specs.declared.iso8601.TimePrecision.TheVariants.{Second}
 use Rattle.civil_items.specs.Defaults.{default_config, nine}
-use Rattle.civil_items.proofs.DigitLemmas.{one_number}
-use Rattle.civil_items.proofs.tests.default.Goals as goal
+use Rattle.civil_items.specs.DigitLaws.{one_number}
+use Rattle.items_tests.proofs.items.default.Goals as goal
 
 abbrev with_digits : Digits → Config
 with_digits digits = record default_config { time_precision = Second (Some digits) }
