@@ -1,0 +1,15 @@
+//! POSIX TZ strings, such as `EST5EDT,M3.2.0,M11.1.0`: read by a written grammar, and the offset that they give an instant.
+//!
+//! The names are those of the crate `time-tz`. No call takes memory.
+#![tactic(auto)]
+
+mod date;
+pub mod laws;
+mod read;
+mod time;
+mod values;
+
+pub use date::Date;
+pub use read::entry;
+pub use time::{Offset, Time};
+pub use values::{Dst, Rule, Std, Tz};
