@@ -81,8 +81,13 @@ time_again (hours h) rest stops =
 time_again (minutes {a} {b} h m) rest stops =
     rw (append_assoc, number_again h (colon ∷ (b ++ rest)) refl, part_again m rest (stop_digit rest stops), part_none rest stops) refl
 time_again (seconds {a} {b} {c} h m s) rest stops =
-    rw (append_assoc, append_assoc, number_again h (colon ∷ (b ++ (colon ∷ (c ++ rest)))) refl, part_again m (colon ∷ (c ++ rest)) refl,
-        part_again s rest (stop_digit rest stops)) refl
+    rw (
+      append_assoc,
+      append_assoc,
+      number_again h (colon ∷ (b ++ (colon ∷ (c ++ rest)))) refl,
+      part_again m (colon ∷ (c ++ rest)) refl,
+      part_again s rest (stop_digit rest stops),
+    ) refl
 
 -- what a test of a text says where a run stands at its front
 run_first : {B : Type 0} (q : ℕ → Bool) (test : List ℕ → B) (answer : B) → ((c : ℕ) (cs : List ℕ) → q c ≡ true → test (c ∷ cs) ≡ answer)
@@ -127,8 +132,11 @@ offset_again : {a : List ℕ} {o : Offset} → IsOffset a o → (rest : List ℕ
     → offset_at (a ++ rest) ≡ Some (o, rest)
 unfolding offset_at sign_at
 offset_again (bare {a} t) rest stops =
-    rw (time_first (after_mark minus_sign) None (no_digit_is minus_sign refl) t rest,
-        time_first (after_mark plus_sign) None (no_digit_is plus_sign refl) t rest, time_again t rest stops) refl
+    rw (
+      time_first (after_mark minus_sign) None (no_digit_is minus_sign refl) t rest,
+      time_first (after_mark plus_sign) None (no_digit_is plus_sign refl) t rest,
+      time_again t rest stops,
+    ) refl
 offset_again (plus t) rest stops = rw (time_again t rest stops) refl
 offset_again (minus t) rest stops = rw (time_again t rest stops) refl
 
@@ -151,23 +159,36 @@ name_again (letters {name} three sixteen passes) rest stops =
     let run = run_again is_ascii_alphabetic name rest passes stops in
     let fewest : nat_le 3 (length name) ≡ true = grind (arith, nat_tests) in
     let most : nat_le (length name) 16 ≡ true = grind (arith, nat_tests) in
-    rw (run_first is_ascii_alphabetic (after_mark less) None (no_letter_is less refl) name rest (omega arith) passes, run.0, run.1,
-        fewest, most) refl
+    rw (
+      run_first is_ascii_alphabetic (after_mark less) None (no_letter_is less refl) name rest (omega arith) passes,
+      run.0,
+      run.1,
+      fewest,
+      most,
+    ) refl
 
 weekday_again : {a b c : List ℕ} {m n d : ℕ} → IsNumber 8 a m → IsNumber 8 b n → IsNumber 8 c d → (rest : List ℕ)
     → begins is_ascii_digit rest ≡ false → weekday_at ((a ++ dot ∷ b ++ dot ∷ c) ++ rest) ≡ Some (M m n d, rest)
 unfolding weekday_at
 weekday_again {a} {b} {c} m n d rest stops =
-    rw (append_assoc, append_assoc, number_again m (dot ∷ (b ++ (dot ∷ (c ++ rest)))) refl, number_again n (dot ∷ (c ++ rest)) refl,
-        number_again d rest stops) refl
+    rw (
+      append_assoc,
+      append_assoc,
+      number_again m (dot ∷ (b ++ (dot ∷ (c ++ rest)))) refl,
+      number_again n (dot ∷ (c ++ rest)) refl,
+      number_again d rest stops,
+    ) refl
 
 date_again : {a : List ℕ} {d : Date} → IsDate a d → (rest : List ℕ) → begins is_ascii_digit rest ≡ false
     → date_at (a ++ rest) ≡ Some (d, rest)
 unfolding date_at
 date_again (julian n) rest stops = rw (number_again n rest stops) refl
 date_again (counted n) rest stops =
-    rw (number_first (after_mark letter_J) None (no_digit_is letter_J refl) n rest,
-        number_first (after_mark letter_M) None (no_digit_is letter_M refl) n rest, number_again n rest stops) refl
+    rw (
+      number_first (after_mark letter_J) None (no_digit_is letter_J refl) n rest,
+      number_first (after_mark letter_M) None (no_digit_is letter_M refl) n rest,
+      number_again n rest stops,
+    ) refl
 date_again (weekday m n d) rest stops = weekday_again m n d rest stops
 
 moment_again : {a : List ℕ} {v : Date × Option Time} → IsMoment a v → (rest : List ℕ) → begins goes_on rest ≡ false
@@ -235,9 +256,13 @@ entry_again (short_form name) =
     let whole = rw append-nil at (name_again name [] refl) in
     rw whole refl
 entry_again (full_form {a} {b} {c} name o d) =
-    rw (append_assoc, name_first (after_mark colon) None (no_letter_is colon refl) (λ cs. refl) name (b ++ c),
-        name_again name (b ++ c) (offset_first (begins is_ascii_alphabetic) false digit_no_letter (λ cs. refl) (λ cs. refl) o c),
-            offset_again o c (dst_stops d), dst_again d) refl
+    rw (
+      append_assoc,
+      name_first (after_mark colon) None (no_letter_is colon refl) (λ cs. refl) name (b ++ c),
+      name_again name (b ++ c) (offset_first (begins is_ascii_alphabetic) false digit_no_letter (λ cs. refl) (λ cs. refl) o c),
+      offset_again o c (dst_stops d),
+      dst_again d,
+    ) refl
 
 pub runs_are_longest : RunsAreLongest
 runs_are_longest = record {

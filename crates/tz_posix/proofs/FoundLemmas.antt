@@ -77,8 +77,8 @@ number_found bits text y e =
       fits = rw (← value.1) (ltb-true _ _ tests.1);
     } in
     takes_as step.2
-        (subst (λ t. Takes (IsNumber bits) t step.0 (after_run is_ascii_digit text))
-            (take-append-drop (prefix_len is_ascii_digit text) text) (takes is))
+    (subst (λ t. Takes (IsNumber bits) t step.0 (after_run is_ascii_digit text))
+    (take-append-drop (prefix_len is_ascii_digit text) text) (takes is))
 
 data IsPart : List ℕ → Option ℕ → List ℕ → Type 0 where
   no_part : {rest : List ℕ} → IsPart rest None rest
@@ -106,7 +106,7 @@ time_built : {text r q : List ℕ} {h : ℕ} {mm : Option ℕ} → Takes (IsNumb
     → seconds_at mm q ≡ Some y → Takes IsTime text (record { hh = h; mm = mm; ss = y.0 }) y.1
 time_built (takes {front} {value = n} h) (no_part {rest}) y e =
     subst (λ (p : Option ℕ × List ℕ). Takes IsTime (front ++ rest) (record { hh = n; mm = None; ss = p.0 }) p.1) (same_Some _ y e)
-        (takes (hours h))
+    (takes (hours h))
 time_built (takes h) (a_part {rest = rest} m) y e = time_after h m (part_found rest y e)
 
 time_found : (text : List ℕ) (y : Time × List ℕ) → time_at text ≡ Some y → Takes IsTime text y.0 y.1
@@ -158,10 +158,10 @@ enclosed_found text y e =
       | inr more ↦
           let step = map_some _ (after_mark greater (after_run is_enclosed text)) y more.1 in
           let whole : name ++ (greater ∷ step.0) ≡ text = ap (λ t. name ++ t) (sym (mark_found greater _ step.0 step.1))
-              ∙ take-append-drop (prefix_len is_enclosed text) text in
+          ∙ take-append-drop (prefix_len is_enclosed text) text in
           let filled : 0 < length name = grind (arith, nat_tests, more.0) in
           subst (λ (p : List ℕ × List ℕ). Takes IsName (less ∷ text) p.0 p.1) step.2
-              (subst (λ t. Takes IsName (less ∷ t) name step.0) whole (enclosed_built name step.0 filled (run_passes is_enclosed text)))
+          (subst (λ t. Takes IsName (less ∷ t) name step.0) whole (enclosed_built name step.0 filled (run_passes is_enclosed text)))
     ]
 
 letters_found : (text : List ℕ) (y : List ℕ × List ℕ) → letters_at text ≡ Some y → Takes IsName text y.0 y.1
@@ -173,9 +173,9 @@ letters_found text y e =
     let fewest : 3 ≤ length name = grind (arith, nat_tests, tests.0) in
     let most : length name ≤ 16 = grind (arith, nat_tests, tests.1) in
     subst (λ (p : List ℕ × List ℕ). Takes IsName text p.0 p.1) both.1
-        (subst (λ t. Takes IsName t name (after_run is_ascii_alphabetic text))
-            (take-append-drop (prefix_len is_ascii_alphabetic text) text)
-                (takes (letters fewest most (run_passes is_ascii_alphabetic text))))
+    (subst (λ t. Takes IsName t name (after_run is_ascii_alphabetic text))
+    (take-append-drop (prefix_len is_ascii_alphabetic text) text)
+    (takes (letters fewest most (run_passes is_ascii_alphabetic text))))
 
 name_found : (text : List ℕ) (y : List ℕ × List ℕ) → name_at text ≡ Some y → Takes IsName text y.0 y.1
 unfolding name_at
@@ -202,7 +202,7 @@ weekday_found text y e =
     let q = bind_some _ (after_mark dot n.0.1) y n.2 in
     let d = bind_some _ (number_at 8 q.0) y q.2 in
     takes_as d.2 (weekday_built (number_found 8 text m.0 m.1) (mark_found dot m.0.1 p.0 p.1) (number_found 8 p.0 n.0 n.1)
-        (mark_found dot n.0.1 q.0 q.1) (number_found 8 q.0 d.0 d.1))
+    (mark_found dot n.0.1 q.0 q.1) (number_found 8 q.0 d.0 d.1))
 
 julian_built : {text rest : List ℕ} {n : ℕ} → Takes (IsNumber 16) text n rest → Takes IsDate (letter_J ∷ text) (J n) rest
 julian_built (takes n) = takes (julian n)
@@ -240,7 +240,7 @@ moment_found text y e =
       | inl found ↦
           let t = map_some _ (time_at found.0) y found.2 in
           subst (λ (p : (Date × Option Time) × List ℕ). Takes IsMoment text p.0 p.1) t.2
-              (date_timed whole found.1 (time_found found.0 t.0 t.1))
+          (date_timed whole found.1 (time_found found.0 t.0 t.1))
       | inr other ↦ takes_as other (date_alone whole)
     ]
 
@@ -258,8 +258,8 @@ rule_found text y e =
     let last = cond_some (nat_eq (length t.0.1) 0) _ y t.2 in
     let empty = nil_from_length t.0.1 (nat_eq-true _ 0 last.0) in
     subst (IsRule text) last.1
-        (rule_built (mark_found comma text first.0 first.1) (moment_found first.0 s.0 s.1) (mark_found comma s.0.1 second.0 second.1)
-            (moment_found second.0 t.0 t.1) empty)
+    (rule_built (mark_found comma text first.0 first.1) (moment_found first.0 s.0 s.1) (mark_found comma s.0.1 second.0 second.1)
+    (moment_found second.0 t.0 t.1) empty)
 
 offset_there : {text rest : List ℕ} {o : Offset} → Takes IsOffset text o rest → Takes (Optional IsOffset) text (Some o) rest
 offset_there (takes o) = takes (present o)
@@ -295,7 +295,7 @@ dst_found text y e = elim (chosen (nat_eq (length text) 0) _ _ (Some y) e) [
       let o = bind_some _ (own_offset_at name.0.1) y name.2 in
       let r = bind_some _ (own_rule_in o.0.1) y o.2 in
       subst (Optional IsDst text) (same_Some _ y r.2)
-          (present (dst_built (name_found text name.0 name.1) (own_offset_found name.0.1 o.0 o.1) (own_rule_found o.0.1 r.0 r.1)))
+      (present (dst_built (name_found text name.0 name.1) (own_offset_found name.0.1 o.0 o.1) (own_rule_found o.0.1 r.0 r.1)))
 ]
 
 short_built : {text name rest : List ℕ} → Takes IsName text name rest → rest ≡ [] → IsName text name
@@ -319,7 +319,7 @@ full_found text y e =
     let o = bind_some _ (offset_at name.0.1) y name.2 in
     let d = bind_some _ (dst_in o.0.1) y o.2 in
     subst (Spells text) (same_Some _ y d.2)
-        (full_built (name_found text name.0 name.1) (offset_found name.0.1 o.0 o.1) (dst_found o.0.1 d.0 d.1))
+    (full_built (name_found text name.0 name.1) (offset_found name.0.1 o.0 o.1) (dst_found o.0.1 d.0 d.1))
 
 -- what is read is spelled
 pub entry_found : (text : List ℕ) (y : TzValue) → entry_in text ≡ Some y → Spells text y

@@ -39,9 +39,10 @@ bracket_is_ascii : (b : ℕ) → is_enclosed b ≡ false → b < 128
 bracket_is_ascii b h = grind (arith, nat_tests)
 
 pub boundary_before_bracket : (text : List ℕ) → IsUtf8 text → IsCharBoundary text (prefix_len is_enclosed text)
-boundary_before_bracket text utf8 =
-    (prefix_len-le-length is_enclosed text,
-        λ inside. (IsCharBoundary-before_ascii text _ inside (bracket_is_ascii _ (prefix_len_stops is_enclosed text 0 inside))).1 inside)
+boundary_before_bracket text utf8 = (
+  prefix_len-le-length is_enclosed text,
+  λ inside. (IsCharBoundary-before_ascii text _ inside (bracket_is_ascii _ (prefix_len_stops is_enclosed text 0 inside))).1 inside,
+)
 
 -- what passes at the front passes
 pub run_passes : (p : ℕ → Bool) (text : List ℕ) → list_all p (take_while p text) ≡ true

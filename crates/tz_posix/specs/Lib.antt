@@ -1,5 +1,9 @@
+pub mod Days
+pub mod InForce
 pub mod Marks
+pub mod Ranges
 pub mod Reading
+pub mod Seconds
 pub mod Shown
 pub mod Spells
 pub mod Values

@@ -61,8 +61,10 @@ time_at text = do
   Some (record { hh = hours.0; mm = minutes.0; ss = seconds.0 }, seconds.1)
 
 unfoldable pub sign_at : List ℕ → Bool × List ℕ
-sign_at text = option_map_or (λ rest. (false, rest)) (after_mark minus_sign text) (true,
-    option_map_or (λ rest. rest) (after_mark plus_sign text) text)
+sign_at text = option_map_or (λ rest. (false, rest)) (after_mark minus_sign text) (
+  true,
+  option_map_or (λ rest. rest) (after_mark plus_sign text) text,
+)
 
 unfoldable pub offset_at : List ℕ → Option (Offset × List ℕ)
 offset_at text = do

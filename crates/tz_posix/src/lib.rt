@@ -4,12 +4,15 @@
 #![tactic(auto)]
 
 mod date;
+mod error;
 pub mod laws;
+mod range;
 mod read;
 mod time;
 mod values;
 
 pub use date::Date;
+pub use error::{Error, ParseError, RangeError};
 pub use read::entry;
 pub use time::{Offset, Time};
 pub use values::{Dst, Rule, Std, Tz};

@@ -1,4 +1,7 @@
 //! Times of day and offsets, as a text writes them.
+ghost use Rattle.std.specs.Prelude.{◌≡◌, ◌<◌};
+ghost use Rattle.civil_base.specs.Clock.{time_at, IsClockTime};
+ghost use Rattle.tz_posix.specs.Seconds.{part};
 
 /// A time of day, or the size of an offset: hours, and minutes and seconds where they are written.
 #[derive(Clone, Debug, Drop, PartialEq, Eq)]
@@ -18,4 +21,59 @@ pub struct Offset {
     pub positive: bool,
     /// How far.
     pub time: Time,
+}
+
+impl Time {
+    ghost use Rattle.tz_posix.specs.Ranges.{is_time};
+    ghost use Rattle.tz_posix.specs.Seconds.{time_seconds};
+
+    /// The time of day. Minutes and seconds that are not written are 0. The hour is at most 23, a minute and a second at
+    /// most 59.
+    pub fn to_time(&self) -> civil_base::Time
+        requires { IsClockTime self.now.hh (part self.now.mm) (part self.now.ss) 0 }
+        ensures { result ≡ time_at self.now.hh (part self.now.mm) (part self.now.ss) 0 }
+    {
+        civil_base::Time::from_hms(self.hh, self.minute(), self.second()).unwrap()
+    }
+
+    /// The seconds from midnight, or of the size of an offset.
+    #[tactic(auto, unfolding(crate::specs::Seconds::time_seconds))]
+    pub(crate) fn seconds(&self) -> u32
+        ensures value { result ≡ time_seconds self.now }
+        ensures bound { result < 1_000_000 }
+    {
+        (u32::from(self.hh) * 60 + u32::from(self.minute())) * 60 + u32::from(self.second())
+    }
+
+    /// Whether there are at most so many hours, and minutes and seconds of a clock.
+    pub(crate) fn is_within(&self, hours: u8) -> bool
+        ensures { result ≡ is_time hours self.now }
+    {
+        self.hh <= hours && self.minute() <= 59 && self.second() <= 59
+    }
+
+    fn minute(&self) -> u8
+        ensures { result ≡ part self.now.mm }
+    {
+        self.mm.unwrap_or(0)
+    }
+
+    fn second(&self) -> u8
+        ensures { result ≡ part self.now.ss }
+    {
+        self.ss.unwrap_or(0)
+    }
+}
+
+impl Offset {
+    ghost use Rattle.tz_posix.specs.Seconds.{offset_seconds};
+
+    /// The seconds west of UTC: negative where the offset is not positive.
+    #[tactic(auto, unfolding(crate::specs::Seconds::offset_seconds))]
+    pub fn to_seconds(&self) -> i32
+        ensures { result ≡ offset_seconds self.now }
+    {
+        let seconds = self.time.seconds() as i32;
+        if self.positive { seconds } else { -seconds }
+    }
 }
