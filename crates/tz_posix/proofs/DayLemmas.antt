@@ -13,11 +13,11 @@ use Rattle.calendar.specs.YearLaws.{days_in_year-cases}
 use Rattle.civil_base.specs.Ranges.{first_day, last_day, IsDay, IsYear}
 use Rattle.tz_posix.specs.Days.{julian_day}
 
-day-first : day (neg_ℤ (pos 9999)) 1 1 ≡ first_day
+pub day-first : day (neg_ℤ (pos 9999)) 1 1 ≡ first_day
 unfolding is_leap days_in_year days_in_month days_after_zero days_before_zero year_start days_through days_into_year day
 day-first = refl
 
-day-last : day (pos 9999) 12 31 ≡ last_day
+pub day-last : day (pos 9999) 12 31 ≡ last_day
 unfolding is_leap days_in_year days_in_month days_after_zero days_before_zero year_start days_through days_into_year day
 day-last = refl
 
@@ -32,15 +32,29 @@ day-inside y m d year date =
     let inside = day-between y m d (neg_ℤ (pos 9999)) (pos 9999) (counted _ first) (counted _ last) year.first year.last date in
     record { first = omega (arith, signed, inside.0, day-first); last = omega (arith, signed, inside.1, day-last) }
 
-new_year : (y : ℤ) → IsDate y 1 1
+pub new_year : (y : ℤ) → IsDate y 1 1
 new_year y =
-    record { first_month = omega arith; last_month = omega arith; first_day = omega arith; last_day = omega (arith,
-        days_in_month-january y) }
+    record {
+      first_month = omega arith;
+      last_month = omega arith;
+      first_day = omega arith;
+      last_day = omega (
+        arith,
+        days_in_month-january y,
+      );
+    }
 
 last_date : (y : ℤ) → IsDate y 12 31
 last_date y =
-    record { first_month = omega arith; last_month = omega arith; first_day = omega arith; last_day = omega (arith,
-        days_in_month-december y) }
+    record {
+      first_month = omega arith;
+      last_month = omega arith;
+      first_day = omega arith;
+      last_day = omega (
+        arith,
+        days_in_month-december y,
+      );
+    }
 
 -- and so have the days counted on from the first of January, as many as the year has
 pub counted_day-inside : (y : ℤ) (n : ℕ) → IsYear y → n < days_in_year y → IsDay (day y 1 1 +ℤ pos n)
@@ -83,8 +97,16 @@ in_common k few =
     let year : year_of z ≡ pos 1970 = omega (arith, signed, within.0, within.1) in
     let date = rw year at parts.1.date in
     let number = rw year at same in
-    record { date = date; place = omega (arith, signed, number, common-first,
-        day-into_year (pos 1970) (month_of z) (day_of z) common-counted) }
+    record {
+      date = date;
+      place = omega (
+        arith,
+        signed,
+        number,
+        common-first,
+        day-into_year (pos 1970) (month_of z) (day_of z) common-counted,
+      );
+    }
 
 common-month : (y : ℤ) (m : ℕ) → days_in_month (pos 1970) m ≤ days_in_month y m
 unfolding days_in_month

@@ -7,3 +7,4 @@ pub mod Seconds
 pub mod Shown
 pub mod Spells
 pub mod Values
+pub mod Yearly

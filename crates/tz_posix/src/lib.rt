@@ -8,6 +8,7 @@ mod error;
 pub mod laws;
 mod range;
 mod read;
+mod rule;
 mod time;
 mod values;
 
