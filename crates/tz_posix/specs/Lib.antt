@@ -1,6 +1,10 @@
 pub mod Days
 pub mod InForce
 pub mod Marks
+pub mod NamedShown
+pub mod Offsets
+pub mod PosixShown
+pub mod PosixZones
 pub mod Ranges
 pub mod Reading
 pub mod Seconds

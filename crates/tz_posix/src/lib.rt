@@ -6,6 +6,8 @@
 mod date;
 mod error;
 pub mod laws;
+mod offset;
+mod posix;
 mod range;
 mod read;
 mod rule;
@@ -14,6 +16,8 @@ mod values;
 
 pub use date::Date;
 pub use error::{Error, ParseError, RangeError};
+pub use offset::PosixTzOffset;
+pub use posix::PosixTz;
 pub use read::entry;
 pub use time::{Offset, Time};
 pub use values::{Dst, Rule, Std, Tz};
