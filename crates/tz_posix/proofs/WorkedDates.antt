@@ -1,6 +1,7 @@
 -- The days that dates name, on days that are known from outside.
 use Rattle.std.proofs.Common.{◌≡◌, refl, arith, ℕ, ◌-◌, [], ◌∷◌, map, Some, None, ℤ, pos}
-use Rattle.calendar.specs.Days.{is_leap, days_in_year, days_in_month, days_after_zero, year_start, days_through, days_into_year, day, IsDate, IsCountedYear}
+use Rattle.calendar.specs.Days.{is_leap, days_in_year, days_in_month, days_after_zero, year_start, days_through, days_into_year}
+use Rattle.calendar.specs.Days.{day, IsDate, IsCountedYear}
 use Rattle.calendar.specs.Dates.{last_with}
 use Rattle.calendar.specs.DateLaws.{month_of-day, day_of-day}
 use Rattle.calendar.specs.Signs.{signed}
@@ -60,8 +61,13 @@ worked_julian : (y : ℤ) → julian_day y 1 ∷ julian_day y 59 ∷ julian_day 
     ≡ day y 1 1 ∷ day y 2 28 ∷ day y 3 1 ∷ day y 12 31 ∷ []
 unfolding is_leap days_in_year days_in_month days_after_zero year_start days_through days_into_year day
 worked_julian y =
-    let first : IsDate (pos 1970) 1 1 = record { first_month = omega arith; last_month = omega arith; first_day = omega arith; last_day = omega arith } in
-    let february : IsDate (pos 1970) 2 28 = record { first_month = omega arith; last_month = omega arith; first_day = omega arith; last_day = omega arith } in
-    let march : IsDate (pos 1970) 3 1 = record { first_month = omega arith; last_month = omega arith; first_day = omega arith; last_day = omega arith } in
-    let last : IsDate (pos 1970) 12 31 = record { first_month = omega arith; last_month = omega arith; first_day = omega arith; last_day = omega arith } in
-    rw (julian_is y 1 1 1 first refl, julian_is y 2 28 59 february refl, julian_is y 3 1 60 march refl, julian_is y 12 31 365 last refl) refl
+    let first : IsDate
+        (pos 1970) 1 1 = record { first_month = omega arith; last_month = omega arith; first_day = omega arith; last_day = omega arith } in
+    let february : IsDate
+        (pos 1970) 2 28 = record { first_month = omega arith; last_month = omega arith; first_day = omega arith; last_day = omega arith } in
+    let march : IsDate
+        (pos 1970) 3 1 = record { first_month = omega arith; last_month = omega arith; first_day = omega arith; last_day = omega arith } in
+    let last : IsDate
+        (pos 1970) 12 31 = record { first_month = omega arith; last_month = omega arith; first_day = omega arith; last_day = omega arith } in
+    rw (julian_is y 1 1 1 first refl, julian_is y 2 28 59 february refl, julian_is y 3 1 60 march refl,
+        julian_is y 12 31 365 last refl) refl

@@ -1,5 +1,5 @@
 //! Daylight saving time by a rule: whether it is in force at an instant.
-ghost use Rattle.std.specs.Prelude.{◌≡◌, ◌≤◌, ◌<◌, [], ◌∷◌, IsTrue, true, false, IfOk, MatchOption, unsigned_abs};
+ghost use Rattle.std.specs.Prelude.{◌≡◌, ◌≤◌, ◌<◌, [], ◌∷◌, IsTrue, true, false, IfOk, None, MatchOption, unsigned_abs};
 ghost use Rattle.std.specs.Prelude.{pos, ◌+ℤ◌, ◌-ℤ◌, ◌*ℤ◌};
 ghost use Rattle.std.specs.Int.{int_div_euclid};
 ghost use Rattle.std.specs.Result.{result_err};
@@ -8,11 +8,12 @@ ghost use Rattle.civil_base.specs.Ranges.{far_seconds, IsYear};
 ghost use Rattle.tz_posix.specs.Days.{day_refusal};
 ghost use Rattle.tz_posix.specs.InForce.{instant_in, is_saving as is_saving_at, is_within as is_between, is_year, rule_refusal};
 ghost use Rattle.tz_posix.specs.InForce.{year_at as year_in, yearly_time};
-ghost use Rattle.tz_posix.specs.Ranges.{first_some, is_rule_date};
+ghost use Rattle.tz_posix.specs.Ranges.{first_some, is_rule_date, rule_range};
 
 use crate::date::Date;
 use crate::error::Error;
 use crate::time::Time;
+use crate::values::Rule;
 use calendar::date_of;
 use civil_base::UtcOffset;
 
@@ -71,6 +72,18 @@ impl YearlyTime {
 
 impl YearlyRule {
     ghost use Rattle.tz_posix.specs.Yearly.{time_shown};
+
+    /// The start and the end of a rule.
+    pub(crate) fn new(rule: &Rule) -> YearlyRule
+        requires { rule_range rule.now ≡ None }
+        ensures start { time_shown result.start ≡ yearly_time rule.now.start }
+        ensures end { time_shown result.end ≡ yearly_time rule.now.end }
+    {
+        YearlyRule {
+            start: YearlyTime::new(rule.start.0, &rule.start.1),
+            end: YearlyTime::new(rule.end.0, &rule.end.1),
+        }
+    }
 
     /// Whether daylight saving time is in force at a second, where it and standard time have these offsets. Refused are, in
     /// this order, a year of the date at the standard offset that dates don't have, the start's date in it and the end's.

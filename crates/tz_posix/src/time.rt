@@ -1,7 +1,12 @@
 //! Times of day and offsets, as a text writes them.
-ghost use Rattle.std.specs.Prelude.{◌≡◌, ◌<◌};
+ghost use Rattle.std.specs.Prelude.{◌≡◌, ◌<◌, None, option_and_then, pos, ◌+ℤ◌};
+ghost use Rattle.std.specs.Option.{option_map_or};
 ghost use Rattle.civil_base.specs.Clock.{time_at, IsClockTime};
-ghost use Rattle.tz_posix.specs.Seconds.{part};
+ghost use Rattle.civil_base.specs.Ranges.{IsOffset};
+ghost use Rattle.tz_posix.specs.Ranges.{offset_miss};
+ghost use Rattle.tz_posix.specs.Seconds.{east_of, part, IsWritten};
+
+use civil_base::UtcOffset;
 
 /// A time of day, or the size of an offset: hours, and minutes and seconds where they are written.
 #[derive(Clone, Debug, Drop, PartialEq, Eq)]
@@ -75,5 +80,34 @@ impl Offset {
     {
         let seconds = self.time.seconds() as i32;
         if self.positive { seconds } else { -seconds }
+    }
+
+    /// The offset from UTC, which lies east of it where this one is negative.
+    pub(crate) fn to_utc_offset(&self) -> UtcOffset
+        requires { offset_miss self.now ≡ None }
+        ensures value { result ≡ east_of self.now }
+        ensures bound { IsWritten result }
+    {
+        offset_of(-self.to_seconds())
+    }
+}
+
+/// The offset of so many seconds.
+pub(crate) fn offset_of(seconds: i32) -> UtcOffset
+    requires { IsOffset seconds }
+    ensures { result ≡ seconds }
+{
+    UtcOffset::from_whole_seconds(seconds).unwrap()
+}
+
+/// The offset of daylight saving time: an hour ahead of standard time where it has none of its own.
+pub(crate) fn saving_offset(own: &Option<Offset>, standard: UtcOffset) -> UtcOffset
+    requires own { option_and_then offset_miss own.now ≡ None }
+    requires standard { IsWritten standard }
+    ensures { result ≡ option_map_or east_of own.now (standard +ℤ pos 3600) }
+{
+    match own {
+        Some(offset) => offset.to_utc_offset(),
+        None => offset_of(standard.whole_seconds() + 3600),
     }
 }
