@@ -49,7 +49,7 @@ unfolding
 worked_not_last = refl
 
 -- the 1st, 59th, 60th and 365th days without February 29, in every year
-julian_is : (y : ℤ) (m d n : ℕ) → IsDate (pos 1970) m d → day (pos 1970) m d ≡ pos (n - 1) → julian_day y n ≡ day y m d
+pub julian_is : (y : ℤ) (m d n : ℕ) → IsDate (pos 1970) m d → day (pos 1970) m d ≡ pos (n - 1) → julian_day y n ≡ day y m d
 unfolding julian_day
 julian_is y m d n date is =
     rw (← is, month_of-day (pos 1970) m d counted date, day_of-day (pos 1970) m d counted date) refl
