@@ -7,7 +7,6 @@ pub mod PosixShown
 pub mod PosixZones
 pub mod Ranges
 pub mod Reading
-pub mod Resolved
 pub mod Seconds
 pub mod Shown
 pub mod Spells
