@@ -3,4 +3,8 @@
 #![tactic(auto)]
 
 #[cfg(test)]
+mod footers;
+#[cfg(test)]
 mod texts;
+#[cfg(test)]
+mod zones;

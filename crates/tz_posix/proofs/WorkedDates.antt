@@ -62,12 +62,16 @@ worked_julian : (y : ℤ) → julian_day y 1 ∷ julian_day y 59 ∷ julian_day 
 unfolding is_leap days_in_year days_in_month days_after_zero year_start days_through days_into_year day
 worked_julian y =
     let first : IsDate
-        (pos 1970) 1 1 = record { first_month = omega arith; last_month = omega arith; first_day = omega arith; last_day = omega arith } in
+    (pos 1970) 1 1 = record { first_month = omega arith; last_month = omega arith; first_day = omega arith; last_day = omega arith } in
     let february : IsDate
-        (pos 1970) 2 28 = record { first_month = omega arith; last_month = omega arith; first_day = omega arith; last_day = omega arith } in
+    (pos 1970) 2 28 = record { first_month = omega arith; last_month = omega arith; first_day = omega arith; last_day = omega arith } in
     let march : IsDate
-        (pos 1970) 3 1 = record { first_month = omega arith; last_month = omega arith; first_day = omega arith; last_day = omega arith } in
+    (pos 1970) 3 1 = record { first_month = omega arith; last_month = omega arith; first_day = omega arith; last_day = omega arith } in
     let last : IsDate
-        (pos 1970) 12 31 = record { first_month = omega arith; last_month = omega arith; first_day = omega arith; last_day = omega arith } in
-    rw (julian_is y 1 1 1 first refl, julian_is y 2 28 59 february refl, julian_is y 3 1 60 march refl,
-        julian_is y 12 31 365 last refl) refl
+    (pos 1970) 12 31 = record { first_month = omega arith; last_month = omega arith; first_day = omega arith; last_day = omega arith } in
+    rw (
+      julian_is y 1 1 1 first refl,
+      julian_is y 2 28 59 february refl,
+      julian_is y 3 1 60 march refl,
+      julian_is y 12 31 365 last refl,
+    ) refl

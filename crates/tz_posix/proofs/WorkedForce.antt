@@ -93,7 +93,6 @@ sydney_3 =
     let date : IsDate (pos 2024) 4 7 = a_date 4 7 (omega arith) (omega arith) (omega arith) (omega arith) in
     rw (dates_2024 4 7 date (pos 36000) (pos 1712419200) refl) refl
 
-
 -- +10:00 and +11:00, from midnight of the first of January to that of the tenth: the year begins before that at Greenwich
 abbrev january : ℤ → ℤ
 january t = posix_total (pos 36000) (pos 39600) (J 1, 0) (J 10, 0) t
@@ -105,11 +104,14 @@ unfolding
 january_1 =
     let date : IsDate (pos 2024) 1 1 = a_date 1 1 (omega arith) (omega arith) (omega arith) (omega arith) in
     let first : IsDate (pos 1970) 1 1 =
-        record { first_month = omega arith; last_month = omega arith; first_day = omega arith; last_day = omega arith } in
+    record { first_month = omega arith; last_month = omega arith; first_day = omega arith; last_day = omega arith } in
     let tenth : IsDate (pos 1970) 1 10 =
-        record { first_month = omega arith; last_month = omega arith; first_day = omega arith; last_day = omega arith } in
-    rw (dates_2024 1 1 date (pos 36000) (pos 1704031200) refl, julian_is (pos 2024) 1 1 1 first refl,
-        julian_is (pos 2024) 1 10 10 tenth refl) refl
+    record { first_month = omega arith; last_month = omega arith; first_day = omega arith; last_day = omega arith } in
+    rw (
+      dates_2024 1 1 date (pos 36000) (pos 1704031200) refl,
+      julian_is (pos 2024) 1 1 1 first refl,
+      julian_is (pos 2024) 1 10 10 tenth refl,
+    ) refl
 
 -- from 10 to 20, and from 20 round to 10
 worked_within : map (is_within (pos 10) (pos 20)) (pos 9 ∷ pos 10 ∷ pos 19 ∷ pos 20 ∷ []) ≡ false ∷ true ∷ true ∷ false ∷ []

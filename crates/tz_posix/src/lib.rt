@@ -7,6 +7,7 @@ mod date;
 mod error;
 pub mod laws;
 mod offset;
+mod parse;
 mod posix;
 mod range;
 mod read;

@@ -23,7 +23,7 @@ pub struct PosixTz<'a> {
 }
 
 /// An abbreviation and its offset.
-#[derive(Clone, Copy, Debug, PartialEq, Eq)]
+#[derive(Clone, Debug, Drop, PartialEq, Eq)]
 pub(crate) struct Named<'a> {
     pub(crate) name: &'a str,
     pub(crate) offset: UtcOffset,
@@ -104,6 +104,16 @@ impl<'a> PosixTz<'a> {
 }
 
 impl<'a> Named<'a> {
+    /// The same once more.
+    pub(crate) fn copied(&self) -> Named<'a>
+        ensures { named_of result ≡ named_of self.now }
+    {
+        Named {
+            name: self.name,
+            offset: self.offset,
+        }
+    }
+
     fn given(&self, saving: bool) -> PosixTzOffset<'a>
         ensures { given_of result ≡ record { total = (named_of self.now).total; name = (named_of self.now).name; saving = saving } }
     {

@@ -23,8 +23,8 @@ pub offset_of-requires : goal.offset_of-requires
 offset_of-requires c =
     let within = offset_seconds-within c.args.self.now c.requires in
     rw (negated_is c)
-        (offset_by_size (east_of c.args.self.now)
-            (omega (arith, signed, one_sided (east_of c.args.self.now), within.least, within.greatest)))
+    (offset_by_size (east_of c.args.self.now)
+    (omega (arith, signed, one_sided (east_of c.args.self.now), within.least, within.greatest)))
 
 pub returns-clause-bound : goal.returns-clause-bound
 returns-clause-bound c =
