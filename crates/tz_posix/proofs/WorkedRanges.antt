@@ -1,6 +1,6 @@
 -- Times in seconds and ranges, at worked rows.
 use Rattle.std.proofs.Common.{◌≡◌, refl, ℕ, [], ◌∷◌, map, true, false, Option, Some, None, pos, neg_ℤ}
-use Rattle.tz_posix.specs.Ranges.{date_miss, is_rule_date, is_time, posix_range}
+use Rattle.tz_posix.specs.Ranges.{is_rule_date, is_time, posix_range}
 use Rattle.tz_posix.specs.Seconds.{time_seconds, offset_seconds, east_of}
 use Rattle.tz_posix.specs.Values.{short, expanded}
 use Rattle.tz_posix.specs.declared.date.Date.{Date}
@@ -53,6 +53,7 @@ worked_order : ranges_of 24 24 (J 1) (J 2) 23 ∷ ranges_of 25 24 (J 0) (J 2) 23
 unfolding posix_range
 worked_order = refl
 
-worked_alone : posix_range (short []) ∷ posix_range (expanded (record { name = []; offset = west 25 }) None) ∷ [] ≡ None ∷ Some miss.Time ∷ []
+worked_alone : posix_range (short [])
+    ∷ posix_range (expanded (record { name = []; offset = west 25 }) None) ∷ [] ≡ None ∷ Some miss.Time ∷ []
 unfolding posix_range
 worked_alone = refl

@@ -26,5 +26,6 @@ returns c =
     let least = rw value at (offset_least c.whole_seconds.result bound) in
     let greatest = rw value at (offset_greatest c.whole_seconds.result bound) in
     let ahead : to_z w32 (of_z w32 c.whole_seconds.result) ≡ c.args.offset = omega (arith, ints, value, least, greatest) in
-    sum_is c.args.day c.args.offset c.from.result c.from-2.result c.from-3.result c.args.seconds c.ranges.day c.ranges.seconds.fits least greatest
+    sum_is c.args.day c.args.offset c.from.result c.from-2.result c.from-3.result
+    c.args.seconds c.ranges.day c.ranges.seconds.fits least greatest
     (rw (to_z-of_z c.ranges.day) at c.from.ensures) c.from-2.ensures (rw ahead at c.from-3.ensures)
