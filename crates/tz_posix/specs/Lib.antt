@@ -1,0 +1,16 @@
+pub mod Days
+pub mod InForce
+pub mod Marks
+pub mod NamedShown
+pub mod Offsets
+pub mod Parses
+pub mod PosixShown
+pub mod PosixZones
+pub mod Ranges
+pub mod Reading
+pub mod Resolved
+pub mod Seconds
+pub mod Shown
+pub mod Spells
+pub mod Values
+pub mod Yearly
