@@ -45,6 +45,33 @@ pub struct OffsetCounts {
     pub two: u64,
 }
 
+/// The names of a database.
+#[derive(Clone, Copy)]
+pub struct NameCounts {
+    /// All.
+    pub names: u64,
+    /// Those whose spans are orderly.
+    pub orderly: u64,
+}
+
+/// POSIX TZ strings.
+#[derive(Clone, Copy)]
+pub struct StringCounts {
+    /// Those that were read.
+    pub strings: u64,
+    /// Those that were refused.
+    pub refused: u64,
+}
+
+/// What POSIX TZ strings were asked.
+#[derive(Clone, Copy)]
+pub struct SavingCounts {
+    /// The instants that were asked.
+    pub instants: u64,
+    /// The instants with daylight saving.
+    pub saving: u64,
+}
+
 /// The counts of a part.
 #[derive(Clone, Copy)]
 pub enum Counts {
@@ -56,6 +83,12 @@ pub enum Counts {
     Compile(SpanCounts),
     /// Of looking up.
     Look(OffsetCounts),
+    /// Of building a database.
+    Database(NameCounts),
+    /// Of reading POSIX TZ strings.
+    Posix(StringCounts),
+    /// Of asking them.
+    Offset(SavingCounts),
 }
 
 /// Adds to a count.

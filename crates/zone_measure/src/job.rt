@@ -11,6 +11,12 @@ pub enum Part {
     Compile,
     /// Looking up offsets.
     Look,
+    /// Building the database of the table.
+    Database,
+    /// Reading POSIX TZ strings.
+    Posix,
+    /// Asking them for offsets.
+    Offset,
 }
 
 /// A part, how often it is done, and over what.
@@ -32,6 +38,9 @@ impl Part {
             "join" => Some(Part::Join),
             "compile" => Some(Part::Compile),
             "look" => Some(Part::Look),
+            "database" => Some(Part::Database),
+            "posix" => Some(Part::Posix),
+            "offset" => Some(Part::Offset),
             _ => None,
         }
     }

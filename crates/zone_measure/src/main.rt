@@ -7,7 +7,10 @@
 //! - `join`: the lines are read and joined to a table; counts its zones, its links and its rulesets;
 //! - `compile`: each zone of the table, and each link to one, is compiled; counts the names and their spans;
 //! - `look`: each of these is asked at 400 instants and 400 local times of the years 1850 to 2100; counts the instants,
-//!   those with a saving above 0, and the local times with no offset, with one and with two.
+//!   those with a saving above 0, and the local times with no offset, with one and with two;
+//! - `database`: the database of the table is built; counts its names, and those whose spans are orderly;
+//! - `posix`: each line is read as a POSIX TZ string; counts those that are read and those that are refused;
+//! - `offset`: each of these strings is asked at the same instants; counts the instants, and those with daylight saving.
 //!
 //! The exit status is 0 where the line was printed. With any other nothing is: 1, the words are not these; 2, a line or a
 //! zone of FILE is refused; 3, FILE can't be read; 4, the line can't be written; 5, memory ran out; 6, FILE is longer than
@@ -20,6 +23,7 @@ mod counts;
 mod job;
 mod parts;
 mod stopped;
+mod strings;
 
 use counts::Counts;
 use job::Job;
@@ -88,6 +92,9 @@ fn print(rt: HostRuntime, counts: &Counts) -> io::Result<()> {
             )
         }
         Counts::Compile(c) => println!(rt; "{} names, {} spans", c.names, c.spans),
+        Counts::Database(c) => println!(rt; "{} names, {} orderly", c.names, c.orderly),
+        Counts::Posix(c) => println!(rt; "{} strings, {} refused", c.strings, c.refused),
+        Counts::Offset(c) => println!(rt; "{} instants, {} saving", c.instants, c.saving),
         Counts::Look(c) => {
             println!(rt;
                 "{} instants, {} saving; {} none, {} one, {} two",

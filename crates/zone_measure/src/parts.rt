@@ -2,25 +2,26 @@
 ghost use Rattle.std.specs.Prelude.{◌≤◌, length};
 ghost use Rattle.zone_table.specs.BoundedTables.{IsBoundedTable};
 
-use crate::counts::{Counts, LineCounts, OffsetCounts, SpanCounts, TableCounts, add};
+use crate::counts::{Counts, LineCounts, NameCounts, OffsetCounts, SpanCounts, TableCounts, add};
 use crate::job::{Job, Part};
 use crate::stopped::Stopped;
+use crate::strings::count_strings;
 use civil_base::OffsetDateTime;
 use owned::Items;
 use std::alloc::{AllocError, Global};
-use tz_lookup::{FixedTimespanSet, Offset, OffsetResult, TimeZone, Tz, compile_zone};
+use tz_lookup::{Database, FixedTimespanSet, Offset, OffsetResult, TimeZone, Tz, compile_zone};
 use zone_line::{Line, LineParser, LineReader};
 use zone_source::{LIMIT, Lines, Status, read_table, text_of};
 use zone_table::Table;
 
 /// 1850-01-01 00:00:00 UTC.
-const FIRST: i64 = -3_786_825_600;
+pub(crate) const FIRST: i64 = -3_786_825_600;
 
 /// The seconds from one instant that is asked to the next: some 228 days, and no number of whole hours.
-const STEP: i64 = 19_723_087;
+pub(crate) const STEP: i64 = 19_723_087;
 
 /// How many instants a zone is asked at.
-const LOOKS: u32 = 400;
+pub(crate) const LOOKS: u32 = 400;
 
 /// Does the part over the source as often as the job says, and counts.
 pub(crate) fn count(
@@ -41,6 +42,15 @@ pub(crate) fn count(
         Part::Look => {
             let table = read_table(alloc, parser, source)?;
             Ok(Counts::Look(look(alloc, &table, job.times)?))
+        }
+        Part::Database => {
+            let table = read_table(alloc, parser, source)?;
+            Ok(Counts::Database(build(alloc, &table, job.times)?))
+        }
+        Part::Posix | Part::Offset => {
+            let table = read_table(alloc, parser, b"")?;
+            let database = Database::build(alloc, &table)?;
+            count_strings(&database, source, job)
         }
     }
 }
@@ -133,6 +143,26 @@ fn compile(alloc: Global, table: &Table, times: u32) -> Result<SpanCounts, Stopp
             let set = compile_zone(alloc, table, name)?;
             add(&mut counts.names, 1);
             add(&mut counts.spans, set.span_count() as u64);
+        }
+    }
+    Ok(counts)
+}
+
+/// Builds the database of a table.
+fn build(alloc: Global, table: &Table, times: u32) -> Result<NameCounts, Stopped>
+    requires { IsBoundedTable table.now }
+{
+    let mut counts = NameCounts {
+        names: 0,
+        orderly: 0,
+    };
+    for _ in 0..times {
+        let database = Database::build(alloc, table)?;
+        for zone in database.iter() {
+            add(&mut counts.names, 1);
+            if zone.is_orderly() {
+                add(&mut counts.orderly, 1);
+            }
         }
     }
     Ok(counts)

@@ -1,7 +1,7 @@
 //! Why a job stopped.
 
 use std::alloc::AllocError;
-use tz_lookup::ZoneFault;
+use tz_lookup::{DatabaseFault, ZoneFault};
 use zone_source::{ReadEnd, SourceError, Status};
 
 /// Why a job stopped, as the status that a run ends with.
@@ -56,6 +56,15 @@ impl From<ZoneFault> for Stopped {
     fn from(fault: ZoneFault) -> Stopped {
         match fault {
             ZoneFault::NoMemory => Stopped::by(Status::NoMemory),
+            _ => Stopped::by(Status::Fault),
+        }
+    }
+}
+
+impl From<DatabaseFault> for Stopped {
+    fn from(fault: DatabaseFault) -> Stopped {
+        match fault {
+            DatabaseFault::NoMemory => Stopped::by(Status::NoMemory),
             _ => Stopped::by(Status::Fault),
         }
     }

@@ -1,6 +1,6 @@
 -- Lines, statuses and the first fault of a source, at worked rows.
 use Rattle.std.proofs.Common.{◌≡◌, ℕ, List, [], ◌∷◌, map, Some, refl}
-use Rattle.std.specs.Prelude.{codes}
+use Rattle.std.specs.Str.{is_utf8, chars}
 use Rattle.zone_source.specs.Faults.{source_fault, not_text}
 use Rattle.zone_source.specs.Lines.{lines_of}
 use Rattle.zone_source.specs.Statuses.{code_of, status_of}
@@ -30,5 +30,5 @@ unread_texts = refl
 
 -- the first line is line 1
 bytes_that_are_no_text : source_fault (255 ∷ []) ≡ Some (not_text 1)
-unfolding source_fault lines_of
+unfolding source_fault lines_of is_utf8 chars
 bytes_that_are_no_text = refl
