@@ -4,7 +4,7 @@ use Rattle.std.specs.Prelude.{Result, codes}
 use Rattle.std.specs.Str.{is_utf8, chars}
 use Rattle.std.specs.declared.alloc.Global.{Global}
 use Rattle.std.specs.declared.string.String.{String}
-use Rattle.civil_base.specs.Ranges.{is_in_years}
+use lib.Utf8.{encode}
 use Rattle.zone_spans.specs.Schedules.{fixed, total_at}
 use Rattle.zone_spans.specs.declared.fault.SpanFault.TheVariants.{MissingUntil}
 use Rattle.zone_spans.specs.declared.span.FixedTimespan.{FixedTimespan}
@@ -31,24 +31,23 @@ dates_at_the_ends : map (λ (row : ℤ × ℤ). are_in_years row.0 row.1)
     ∷ (negsuc 377705116799999999999, pos 0) ∷ (negsuc 377705116800000000000, pos 0) ∷ (negsuc 377705116799999999999, negsuc 0)
     ∷ (negsuc 377705116800000000000, pos 5400) ∷ (negsuc 377705116799999999999, pos 5400) ∷ [])
     ≡ true ∷ false ∷ false ∷ false ∷ true ∷ true ∷ false ∷ false ∷ false ∷ true ∷ []
-unfolding is_in_years
 dates_at_the_ends = refl
 
 -- an offset of 26 hours comes before a date out of the years
 far_zone_first : map (λ (offset : ℤ). request_refusal (one_offset offset) 1 (codes "at A 999999999999999999999999999999"))
     (pos 93600 ∷ pos 93599 ∷ []) ≡ Some (offset_range 1) ∷ Some (range 1) ∷ []
-unfolding request_refusal is_utf8 chars request_of nanoseconds_in has_dates total_at is_in_years
+unfolding request_refusal is_utf8 chars encode request_of nanoseconds_in has_dates total_at
 far_zone_first = refl
 
 -- a line that is no text, one in no form, and one that names no zone
 before_a_zone_is_found : map (request_refusal nothing 7) ((97 ∷ 255 ∷ []) ∷ codes "what A 0" ∷ codes "at A 0" ∷ [])
     ≡ Some (request_not_text 7) ∷ Some (bad_request 7) ∷ Some (unknown_zone 7) ∷ []
-unfolding request_refusal is_utf8 chars request_of nanoseconds_in
+unfolding request_refusal is_utf8 chars encode request_of nanoseconds_in
 before_a_zone_is_found = refl
 
 -- the first of two faults, with the number of its line
 first_of_two : first_refused (one_offset (pos 0)) 1 (codes "at A 0" ∷ codes "what" ∷ (255 ∷ []) ∷ []) ≡ Some (bad_request 2)
-unfolding request_refusal is_utf8 chars request_of nanoseconds_in has_dates total_at is_in_years
+unfolding request_refusal is_utf8 chars encode request_of nanoseconds_in has_dates total_at
 first_of_two = refl
 
 each_line_ends : ended (codes "a" ∷ codes "bc" ∷ []) ≡ 97 ∷ 10 ∷ 98 ∷ 99 ∷ 10 ∷ []
