@@ -5,7 +5,7 @@ use Rattle.std.specs.Str.{is_utf8, chars}
 use Rattle.std.specs.declared.alloc.Global.{Global}
 use Rattle.std.specs.declared.string.String.{String}
 use lib.Utf8.{encode}
-use Rattle.zone_spans.specs.Schedules.{fixed, total_at}
+use Rattle.zone_spans.specs.Schedules.{fixed, total_at, totals_of}
 use Rattle.zone_spans.specs.declared.fault.SpanFault.TheVariants.{MissingUntil}
 use Rattle.zone_spans.specs.declared.span.FixedTimespan.{FixedTimespan}
 use Rattle.zone_answers.specs.AnswerLines.{ended}
@@ -36,7 +36,7 @@ dates_at_the_ends = refl
 -- an offset of 26 hours comes before a date out of the years
 far_zone_first : map (λ (offset : ℤ). request_refusal (one_offset offset) 1 (codes "at A 999999999999999999999999999999"))
     (pos 93600 ∷ pos 93599 ∷ []) ≡ Some (offset_range 1) ∷ Some (range 1) ∷ []
-unfolding request_refusal is_utf8 chars encode request_of nanoseconds_in has_dates total_at
+unfolding request_refusal is_utf8 chars encode request_of nanoseconds_in has_dates total_at totals_of
 far_zone_first = refl
 
 -- a line that is no text, one in no form, and one that names no zone
@@ -47,7 +47,7 @@ before_a_zone_is_found = refl
 
 -- the first of two faults, with the number of its line
 first_of_two : first_refused (one_offset (pos 0)) 1 (codes "at A 0" ∷ codes "what" ∷ (255 ∷ []) ∷ []) ≡ Some (bad_request 2)
-unfolding request_refusal is_utf8 chars encode request_of nanoseconds_in has_dates total_at
+unfolding request_refusal is_utf8 chars encode request_of nanoseconds_in has_dates total_at totals_of
 first_of_two = refl
 
 each_line_ends : ended (codes "a" ∷ codes "bc" ∷ []) ≡ 97 ∷ 10 ∷ 98 ∷ 99 ∷ 10 ∷ []
