@@ -1,4 +1,6 @@
-//! Local times of two and of three spans, what a set is refused for, and one function over zones of two kinds.
+//! Local times of two and of three spans, what a set is refused for, one function over zones of two kinds, and databases.
+ghost use Rattle.std.specs.Prelude.{◌≤◌, length};
+
 use civil_base::{OffsetDateTime, PlainDateTime, UtcOffset};
 use owned::{Items, Text};
 use std::alloc::{AllocError, Global};
@@ -9,7 +11,7 @@ use tz_lookup::{
     OffsetResult, PrimitiveDateTimeExt, SpanFault, TimeZone, Tz, TzFault,
 };
 use zone_line::LineParser;
-use zone_source::read_table;
+use zone_source::{LIMIT, read_table};
 
 fn span(alloc: Global, offset: i64, saving: i64) -> Result<FixedTimespan, AllocError> {
     Ok(FixedTimespan {
@@ -184,23 +186,29 @@ fn abbreviations_and_kinds(rt: HostRuntime) -> Result<(), Fail> {
     expect_kind(&rt, &zone.get_offset_primary(), "CET", false);
     expect_kind(&rt, &zone.get_offset_utc(&at(999)?), "CET", false);
     expect_kind(&rt, &zone.get_offset_utc(&at(1000)?), "CEST", true);
-    let last = zone.get_offset_local(&at(4599)?).take().ok_or("no last")?;
+    let OffsetResult::Some(last) = zone.get_offset_local(&at(4599)?) else {
+        return Err(Fail::from("no last"));
+    };
     expect_kind(&rt, &last, "CET", false);
-    let first = zone.get_offset_local(&at(8200)?).take().ok_or("no first")?;
+    let OffsetResult::Some(first) = zone.get_offset_local(&at(8200)?) else {
+        return Err(Fail::from("no first"));
+    };
     expect_kind(&rt, &first, "CEST", true);
     Ok(())
 }
 
 /// The database of a source.
-fn database(alloc: Global, source: &str) -> Result<Result<Database, DatabaseFault>, Fail> {
+fn database(alloc: Global, source: &[u8]) -> Result<Result<Database, DatabaseFault>, Fail>
+    requires { length source.now ≤ LIMIT }
+{
     let parser = LineParser::new(alloc).ok().ok_or("not built")?;
-    let Ok(table) = read_table(alloc, &parser, source.as_bytes()) else {
+    let Ok(table) = read_table(alloc, &parser, source) else {
         return Err(Fail::from("refused"));
     };
     Ok(Database::build(alloc, &table))
 }
 
-const ZONES: &str = "\
+const ZONES: &[u8] = b"\
 Zone B/York 1:00 - B
 Zone C 0:00 - C
 Zone A/York 2:00 - A
@@ -252,13 +260,13 @@ fn a_database_finds_zones_by_name(rt: HostRuntime) -> Result<(), Fail> {
 #[test]
 fn a_database_tells_the_first_name_that_is_refused(rt: HostRuntime) -> Result<(), Fail> {
     let alloc = rt.alloc();
-    let source = "Zone C 0:00 - C\n 1:00 - C\nZone B 0:00 - B\n 1:00 - B\nZone D 26:00 - D\n";
+    let source = b"Zone C 0:00 - C\n 1:00 - C\nZone B 0:00 - B\n 1:00 - B\nZone D 26:00 - D\n";
     let Err(DatabaseFault::Schedule(name, fault)) = database(alloc, source)? else {
         return Err(Fail::from("no fault"));
     };
     assert_eq!(rt; name.as_str(), "B");
     assert_eq!(rt; fault, SpanFault::MissingUntil);
-    let Err(DatabaseFault::OffsetRange(name)) = database(alloc, "Zone D 26:00 - D\nLink D A\n")?
+    let Err(DatabaseFault::OffsetRange(name)) = database(alloc, b"Zone D 26:00 - D\nLink D A\n")?
     else {
         return Err(Fail::from("no fault"));
     };
