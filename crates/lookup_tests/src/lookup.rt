@@ -182,11 +182,11 @@ fn abbreviations_and_kinds(rt: HostRuntime) -> Result<(), Fail> {
     expect_kind(&rt, &zone.get_offset_primary(), "CET", false);
     expect_kind(&rt, &zone.get_offset_utc(&at(999)?), "CET", false);
     expect_kind(&rt, &zone.get_offset_utc(&at(1000)?), "CEST", true);
-    let OffsetResult::Some(last) = zone.get_offset_local(&at(4599)?) else {
+    let OffsetResult::Some(last) = zone.get_offset_local(&local(4599)?.assume_utc()) else {
         return Err(Fail::from("no last"));
     };
     expect_kind(&rt, &last, "CET", false);
-    let OffsetResult::Some(first) = zone.get_offset_local(&at(8200)?) else {
+    let OffsetResult::Some(first) = zone.get_offset_local(&local(8200)?.assume_utc()) else {
         return Err(Fail::from("no first"));
     };
     expect_kind(&rt, &first, "CEST", true);
