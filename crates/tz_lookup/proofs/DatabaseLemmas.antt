@@ -35,7 +35,7 @@ use Rattle.tz_lookup.specs.declared.compile.ZoneFault.TheVariants as zone_fault
 use Rattle.tz_lookup.specs.declared.database.DatabaseFault.TheVariants.{Schedule, OffsetRange}
 use Rattle.tz_lookup.specs.declared.set.FixedTimespanSet.{FixedTimespanSet}
 
-text_same : IsAntisymmetric text_cmp
+pub text_same : IsAntisymmetric text_cmp
 text_same = slice_cmp-IsAntisymmetric nat_cmp-IsAntisymmetric
 
 -- ---- names put in order one by one
@@ -77,7 +77,7 @@ any-reverse test (x ∷ xs) =
     ∙ or_comm (list_any test (reverse xs)) (list_any test (x ∷ []))
     ∙ (λ i. list_any test (x ∷ []) || any-reverse test xs i) ∙ sym (list_any-append test (x ∷ []) xs)
 
-any-filter : {K : Type 0} (p test : K → Bool) (xs : List K) → list_any test (filter p xs) ≡ list_any (λ x. p x && test x) xs
+pub any-filter : {K : Type 0} (p test : K → Bool) (xs : List K) → list_any test (filter p xs) ≡ list_any (λ x. p x && test x) xs
 any-filter p test [] = refl
 any-filter p test (x ∷ xs) =
     elim (p x)

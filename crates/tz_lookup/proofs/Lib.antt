@@ -19,4 +19,4 @@ pub mod FoundLemmas
 pub mod LookupRows
 pub mod GivenLemmas
 pub mod DatabaseLemmas
-pub mod PartLemmas
+pub mod DatabaseRows

@@ -11,3 +11,4 @@ pub mod FixedZones
 pub mod Zones
 pub mod Compiles
 pub mod Databases
+pub mod PartLaws

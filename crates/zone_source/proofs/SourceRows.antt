@@ -1,7 +1,8 @@
 -- Lines, statuses and the first fault of a source, at worked rows.
-use Rattle.std.proofs.Common.{◌≡◌, ℕ, List, [], ◌∷◌, map, Some, refl}
+use Rattle.std.proofs.Common.{◌≡◌, ℕ, List, [], ◌∷◌, map, Some, None, Option, refl, ap}
+use Rattle.std.specs.Option.{option_or}
 use Rattle.std.specs.Str.{is_utf8, chars}
-use Rattle.zone_source.specs.Faults.{source_fault, not_text}
+use Rattle.zone_source.specs.Faults.{SourceFault, source_fault, first_line_refused, line_refusal, not_text}
 use Rattle.zone_source.specs.Lines.{lines_of}
 use Rattle.zone_source.specs.Statuses.{code_of, status_of}
 use Rattle.zone_source.specs.declared.status.Status.TheVariants.{Done, Words, Fault, Read, Write, NoMemory, TooLong}
@@ -32,3 +33,8 @@ unread_texts = refl
 bytes_that_are_no_text : source_fault (255 ∷ []) ≡ Some (not_text 1)
 unfolding source_fault lines_of is_utf8 chars
 bytes_that_are_no_text = refl
+
+-- the line after one that is not refused has the next number
+second_line : (line : List ℕ) → line_refusal [] 1 line ≡ None → first_line_refused [] 1 (line ∷ (255 ∷ []) ∷ []) ≡ Some (not_text 2)
+unfolding is_utf8 chars
+second_line line accepted = ap (λ (refused : Option SourceFault). option_or refused (Some (not_text 2))) accepted

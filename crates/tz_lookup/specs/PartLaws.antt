@@ -1,4 +1,4 @@
--- A part of a text, at some place.
+-- A text has a part exactly where that stands somewhere in it, between some front and some rest.
 use Rattle.std.proofs.Common.{◌≡◌, ◌++◌, ℕ, Bool, true, false, List, [], ◌∷◌, drop, length, refl, ap, ◌∙◌}
 use Rattle.std.specs.Prelude.{◌||◌, nat_eq}
 use Rattle.std.specs.List.{starts_with}
