@@ -9,6 +9,7 @@ use civil_base::{
 };
 use std::alloc::AllocError;
 use std::hash::{DefaultHasher, Hash, Hasher};
+use test_support::{holds_at, same, same_at};
 
 fn zoned<'a>(nanos: i128, seconds: i32, into: &'a mut [u8; 40]) -> Option<&'a str> {
     let offset = UtcOffset::from_whole_seconds(seconds).ok()?;
@@ -62,13 +63,14 @@ fn reads_back_what_it_writes(rt: HostRuntime) -> Result<(), AllocError> {
     ] {
         let mut into = [0; 30];
         let end = read_local(local).map_or(0, |value| write_local(&value, &mut into));
-        assert_eq!(rt; std::str::from_utf8(&into[..end]).ok(), Some(local));
+        same(&rt, &std::str::from_utf8(&into[..end]).ok(), &Some(local));
         let mut into = [0; 40];
         let zoned = format!(in rt.alloc(); "{local} {offset}")?;
         let end = read_zoned(zoned.as_str()).map_or(0, |value| write_zoned(&value, &mut into));
-        assert_eq!(rt;
-            std::str::from_utf8(&into[..end]).ok(),
-            Some(zoned.as_str())
+        same(
+            &rt,
+            &std::str::from_utf8(&into[..end]).ok(),
+            &Some(zoned.as_str()),
         );
     }
     Ok(())
@@ -99,9 +101,9 @@ fn refuses_what_is_no_text(rt: HostRuntime) -> Result<(), AllocError> {
         "2024-01-01 00:00:00.000000000 ",
         "2024-01-01 00:00:00.000000000\n",
     ] {
-        assert!(rt; read_local(text).is_none(), "{text}");
+        holds_at(&rt, text, read_local(text).is_none());
         let zoned = format!(in rt.alloc(); "{text} +00:00:00")?;
-        assert!(rt; read_zoned(zoned.as_str()).is_none(), "{zoned}");
+        holds_at(&rt, zoned.as_str(), read_zoned(zoned.as_str()).is_none());
     }
     for text in [
         "2024-01-01 00:00:00.000000000",
@@ -115,15 +117,23 @@ fn refuses_what_is_no_text(rt: HostRuntime) -> Result<(), AllocError> {
         "2024-01-01 00:00:00.000000000 +00:00:00 ",
         "2024-01-01 00:00:00.000000000 +00:00:00Z",
     ] {
-        assert!(rt; read_zoned(text).is_none(), "{text}");
+        holds_at(&rt, text, read_zoned(text).is_none());
     }
     Ok(())
 }
 
 #[test]
 fn takes_dates_apart(rt: HostRuntime) {
-    assert_eq!(rt; Date::MIN.to_calendar_date(), (-9999, Month::January, 1));
-    assert_eq!(rt; Date::MAX.to_calendar_date(), (9999, Month::December, 31));
+    same(
+        &rt,
+        &Date::MIN.to_calendar_date(),
+        &(-9999, Month::January, 1),
+    );
+    same(
+        &rt,
+        &Date::MAX.to_calendar_date(),
+        &(9999, Month::December, 31),
+    );
     for (year, month, day, taken) in [
         (2024, Month::February, 29, true),
         (2023, Month::February, 29, false),
@@ -136,7 +146,11 @@ fn takes_dates_apart(rt: HostRuntime) {
         let date = Date::from_calendar_date(year, month, day);
         assert_eq!(rt; date.is_ok(), taken, "{year} {month:?} {day}");
         if let Ok(date) = date {
-            assert_eq!(rt; (date.year(), date.month(), date.day()), (year, month, day));
+            same(
+                &rt,
+                &(date.year(), date.month(), date.day()),
+                &(year, month, day),
+            );
         }
     }
 }
@@ -144,13 +158,18 @@ fn takes_dates_apart(rt: HostRuntime) {
 #[test]
 fn takes_times_and_offsets_apart(rt: HostRuntime) {
     let time = Time::from_hms_nano(23, 59, 58, 7);
-    assert_eq!(rt; time.map(|time| time.as_hms_nano()), Ok((23, 59, 58, 7)));
-    assert_eq!(rt;
-        Time::from_hms(1, 2, 3).map(|time| time.as_hms()),
-        Ok((1, 2, 3))
+    same(
+        &rt,
+        &time.map(|time| time.as_hms_nano()),
+        &Ok((23, 59, 58, 7)),
     );
-    assert_eq!(rt; Time::from_hms(24, 0, 0), Err(ComponentRange));
-    assert_eq!(rt; Time::MIDNIGHT.as_hms(), (0, 0, 0));
+    same(
+        &rt,
+        &Time::from_hms(1, 2, 3).map(|time| time.as_hms()),
+        &Ok((1, 2, 3)),
+    );
+    same(&rt, &Time::from_hms(24, 0, 0), &Err(ComponentRange));
+    same(&rt, &Time::MIDNIGHT.as_hms(), &(0, 0, 0));
     for (hours, minutes, seconds, whole) in [
         (1, 30, 0, Some(5400)),
         (-1, 30, 15, Some(-5415)),
@@ -163,10 +182,14 @@ fn takes_times_and_offsets_apart(rt: HostRuntime) {
         (0, 0, -60, None),
     ] {
         let offset = UtcOffset::from_hms(hours, minutes, seconds);
-        assert_eq!(rt; offset.ok().map(|offset| offset.whole_seconds()), whole);
+        same(
+            &rt,
+            &offset.ok().map(|offset| offset.whole_seconds()),
+            &whole,
+        );
     }
     if let Ok(behind) = UtcOffset::from_whole_seconds(-5415) {
-        assert_eq!(rt; behind.as_hms(), (-1, -30, -15));
+        same(&rt, &behind.as_hms(), &(-1, -30, -15));
         assert!(rt; behind.is_negative() && !behind.is_positive() && !behind.is_utc());
     }
     assert!(rt; UtcOffset::UTC.is_utc());
@@ -187,21 +210,27 @@ fn compares_date_times_by_their_instants(rt: HostRuntime) {
     let epoch = OffsetDateTime::UNIX_EPOCH;
     let east = UtcOffset::from_whole_seconds(5400).ok();
     let moved = east.and_then(|offset| epoch.to_offset(offset));
-    assert_eq!(rt; moved, Some(epoch));
-    assert_eq!(rt; moved.map(|value| hash_of(&value)), Some(hash_of(&epoch)));
-    assert_eq!(rt; moved.map(|value| value.offset()), east);
-    assert_eq!(rt;
-        moved.map(|value| value.time()),
-        Time::from_hms(1, 30, 0).ok()
+    same(&rt, &moved, &Some(epoch));
+    same(
+        &rt,
+        &moved.map(|value| hash_of(&value)),
+        &Some(hash_of(&epoch)),
+    );
+    same(&rt, &moved.map(|value| value.offset()), &east);
+    same(
+        &rt,
+        &moved.map(|value| value.time()),
+        &Time::from_hms(1, 30, 0).ok(),
     );
     let plain = PlainDateTime::new(epoch.date(), Time::MIDNIGHT);
-    assert_eq!(rt;
-        (plain.year(), plain.time(), plain.date()),
-        (1970, Time::MIDNIGHT, epoch.date())
+    same(
+        &rt,
+        &(plain.year(), plain.time(), plain.date()),
+        &(1970, Time::MIDNIGHT, epoch.date()),
     );
-    assert_eq!(rt; plain.assume_utc(), epoch);
+    same(&rt, &plain.assume_utc(), &epoch);
     let earlier = plain.assume_offset(east.unwrap_or(UtcOffset::UTC));
-    assert_eq!(rt; earlier.year(), 1970);
+    same(&rt, &earlier.year(), &1970);
     let (rising, falling) = ([earlier, epoch], [epoch, earlier]);
     assert!(rt; is_ordered(&rising) && !is_ordered(&falling));
 }
@@ -254,19 +283,22 @@ fn instant_epoch() -> Timestamp
 
 #[test]
 fn names_the_ends(rt: HostRuntime) {
-    assert_eq!(rt;
-        first_date().next_day().and_then(|date| date.previous_day()),
-        Some(Date::MIN)
+    same(
+        &rt,
+        &first_date().next_day().and_then(|date| date.previous_day()),
+        &Some(Date::MIN),
     );
-    assert_eq!(rt;
-        (first_date().previous_day(), last_date().next_day()),
-        (None, None)
+    same(
+        &rt,
+        &(first_date().previous_day(), last_date().next_day()),
+        &(None, None),
     );
-    assert_eq!(rt; epoch().time(), midnight());
-    assert_eq!(rt; epoch().offset(), no_offset());
-    assert_eq!(rt;
-        utc_epoch().unix_timestamp_nanos(),
-        instant_epoch().as_nanoseconds()
+    same(&rt, &epoch().time(), &midnight());
+    same(&rt, &epoch().offset(), &no_offset());
+    same(
+        &rt,
+        &utc_epoch().unix_timestamp_nanos(),
+        &instant_epoch().as_nanoseconds(),
     );
 }
 
@@ -328,27 +360,40 @@ fn read_row(line: &str) -> Option<Row> {
 fn counts_the_days_of_dates(rt: HostRuntime) {
     for line in DATES.lines() {
         let row = read_row(line);
-        assert!(rt; row.is_some(), "{line}");
+        holds_at(&rt, line, row.is_some());
         if let Some(row) = row {
             let date = row.date;
-            assert_eq!(rt; date.to_ordinal_date(), (row.year, row.ordinal), "{line}");
-            assert_eq!(rt;
-                Date::from_ordinal_date(row.year, row.ordinal),
-                Ok(date),
-                "{line}"
+            same_at(&rt, line, &date.to_ordinal_date(), &(row.year, row.ordinal));
+            same_at(
+                &rt,
+                line,
+                &Date::from_ordinal_date(row.year, row.ordinal),
+                &Ok(date),
             );
-            assert_eq!(rt; date.to_julian_day(), row.julian_day, "{line}");
-            assert_eq!(rt; Date::from_julian_day(row.julian_day), Ok(date), "{line}");
-            assert_eq!(rt; date.weekday(), row.weekday, "{line}");
+            same_at(&rt, line, &date.to_julian_day(), &row.julian_day);
+            same_at(&rt, line, &Date::from_julian_day(row.julian_day), &Ok(date));
+            same_at(&rt, line, &date.weekday(), &row.weekday);
         }
     }
-    assert_eq!(rt; Date::from_ordinal_date(2023, 366), Err(ComponentRange));
-    assert_eq!(rt; Date::from_ordinal_date(2024, 0), Err(ComponentRange));
-    assert_eq!(rt; Date::from_ordinal_date(10_000, 1), Err(ComponentRange));
-    assert_eq!(rt; Date::from_julian_day(-1_931_000), Err(ComponentRange));
-    assert_eq!(rt; Date::from_julian_day(5_373_485), Err(ComponentRange));
-    assert_eq!(rt; Date::from_julian_day(i32::MIN), Err(ComponentRange));
-    assert_eq!(rt; Date::MAX.ordinal(), 365);
+    same(
+        &rt,
+        &Date::from_ordinal_date(2023, 366),
+        &Err(ComponentRange),
+    );
+    same(&rt, &Date::from_ordinal_date(2024, 0), &Err(ComponentRange));
+    same(
+        &rt,
+        &Date::from_ordinal_date(10_000, 1),
+        &Err(ComponentRange),
+    );
+    same(
+        &rt,
+        &Date::from_julian_day(-1_931_000),
+        &Err(ComponentRange),
+    );
+    same(&rt, &Date::from_julian_day(5_373_485), &Err(ComponentRange));
+    same(&rt, &Date::from_julian_day(i32::MIN), &Err(ComponentRange));
+    same(&rt, &Date::MAX.ordinal(), &365);
 }
 
 #[test]
@@ -369,9 +414,9 @@ fn moves_dates_by_whole_days(rt: HostRuntime) {
     ] {
         if let Some(length) = SignedDuration::from_whole_nanoseconds(nanos) {
             let later = epoch.checked_add(length);
-            assert_eq!(rt; later.map(|date| date.to_julian_day()), after, "{nanos}");
+            same(&rt, &later.map(|date| date.to_julian_day()), &after);
             let earlier = epoch.checked_sub(length);
-            assert_eq!(rt; earlier.map(|date| date.to_julian_day()), before, "{nanos}");
+            same(&rt, &earlier.map(|date| date.to_julian_day()), &before);
         }
     }
 }
@@ -385,41 +430,54 @@ fn tells_instants_apart(rt: HostRuntime) {
         (1_000_000_000, 1),
     ] {
         let value = OffsetDateTime::from_unix_timestamp_nanos(nanos);
-        assert_eq!(rt; value.map(|value| value.unix_timestamp()), Ok(seconds));
+        same(
+            &rt,
+            &value.map(|value| value.unix_timestamp()),
+            &Ok(seconds),
+        );
         let value = OffsetDateTime::from_unix_timestamp_nanos(nanos);
-        assert_eq!(rt; value.map(|value| value.unix_timestamp_nanos()), Ok(nanos));
+        same(
+            &rt,
+            &value.map(|value| value.unix_timestamp_nanos()),
+            &Ok(nanos),
+        );
         let utc = UtcDateTime::from_unix_timestamp_nanos(nanos);
-        assert_eq!(rt; utc.map(|utc| utc.unix_timestamp()), Ok(seconds));
+        same(&rt, &utc.map(|utc| utc.unix_timestamp()), &Ok(seconds));
         let utc = UtcDateTime::from_unix_timestamp_nanos(nanos);
         let shown = utc.ok().and_then(|utc| utc.to_offset(UtcOffset::UTC));
-        assert_eq!(rt;
-            shown.map(|shown| shown.unix_timestamp_nanos()),
-            Some(nanos)
+        same(
+            &rt,
+            &shown.map(|shown| shown.unix_timestamp_nanos()),
+            &Some(nanos),
         );
     }
-    assert_eq!(rt;
-        OffsetDateTime::from_unix_timestamp(253_402_300_800),
-        Err(ComponentRange)
+    same(
+        &rt,
+        &OffsetDateTime::from_unix_timestamp(253_402_300_800),
+        &Err(ComponentRange),
     );
-    assert_eq!(rt;
-        UtcDateTime::from_unix_timestamp(-377_705_116_801),
-        Err(ComponentRange)
+    same(
+        &rt,
+        &UtcDateTime::from_unix_timestamp(-377_705_116_801),
+        &Err(ComponentRange),
     );
     let epoch = OffsetDateTime::from_unix_timestamp(0);
-    assert_eq!(rt; epoch, Ok(OffsetDateTime::UNIX_EPOCH));
-    assert_eq!(rt;
-        UtcDateTime::new(Date::MIN, Time::MIDNIGHT).unix_timestamp(),
-        -377_705_116_800
+    same(&rt, &epoch, &Ok(OffsetDateTime::UNIX_EPOCH));
+    same(
+        &rt,
+        &UtcDateTime::new(Date::MIN, Time::MIDNIGHT).unix_timestamp(),
+        &(-377_705_116_800),
     );
-    assert_eq!(rt; Timestamp::new(0, 1_000_000_000), Err(ComponentRange));
-    assert_eq!(rt; Timestamp::from_seconds(0), Ok(Timestamp::UNIX_EPOCH));
-    assert_eq!(rt;
-        Timestamp::from_nanoseconds(253_402_300_800_000_000_000),
-        Err(ComponentRange)
+    same(&rt, &Timestamp::new(0, 1_000_000_000), &Err(ComponentRange));
+    same(&rt, &Timestamp::from_seconds(0), &Ok(Timestamp::UNIX_EPOCH));
+    same(
+        &rt,
+        &Timestamp::from_nanoseconds(253_402_300_800_000_000_000),
+        &Err(ComponentRange),
     );
     if let Ok(early) = Timestamp::from_milliseconds(-5001) {
-        assert_eq!(rt; early.as_nanoseconds(), -5_001_000_000);
-        assert_eq!(rt; Timestamp::new(-6, 999_000_000), Ok(early));
+        same(&rt, &early.as_nanoseconds(), &(-5_001_000_000));
+        same(&rt, &Timestamp::new(-6, 999_000_000), &Ok(early));
         assert!(rt; early < Timestamp::UNIX_EPOCH);
         assert!(rt; hash_of(&early) != hash_of(&Timestamp::UNIX_EPOCH));
     }

@@ -11,6 +11,7 @@ use std::process::Abort;
 use std::rc::Rc;
 use std::sync::Arc;
 use std::test::Fail;
+use test_support::same;
 
 fn aligned(width: usize, align: Option<Alignment>) -> FormatterOptions {
     let mut f = FormatterOptions::default();
@@ -27,8 +28,8 @@ fn shows<T: SmartDisplay>(rt: &impl Abort, value: &T, f: FormatterOptions, text:
 // Under a requested width of 8: no alignment, left, center, right.
 fn is_padded<T: SmartDisplay>(rt: &impl Abort, value: &T, unpadded: usize, texts: [&str; 4]) {
     let none = aligned(8, None);
-    assert_eq!(rt; unpadded_width_of(value, none), unpadded);
-    assert_eq!(rt; padded_width_of(value, none), 8);
+    same(rt, &unpadded_width_of(value, none), &unpadded);
+    same(rt, &padded_width_of(value, none), &8);
     shows(rt, value, none, texts[0]);
     shows(rt, value, aligned(8, Some(Alignment::Left)), texts[1]);
     shows(rt, value, aligned(8, Some(Alignment::Center)), texts[2]);
@@ -106,7 +107,7 @@ fn shows_signs_and_zeros(rt: HostRuntime) {
     shows(&rt, &-42i16, f, "-0000042");
     f.with_sign_minus(true).with_alternate(true);
     shows(&rt, &42u16, f, "00000042");
-    assert_eq!(rt; unpadded_width_of(&42u16, f), 3);
+    same(&rt, &unpadded_width_of(&42u16, f), &3);
     assert!(rt; f.alternate() && !f.sign_plus());
     f.with_sign_plus(true);
     assert!(rt; f.sign_plus() && !f.sign_minus());
@@ -134,10 +135,10 @@ fn a_fill_past_ascii_is_wider_than_the_width(rt: HostRuntime) {
     let mut f = aligned(8, Some(Alignment::Center));
     f.with_fill('é').with_precision(Some(2));
     shows(&rt, &Text("äöü"), f, "éééäöééé");
-    assert_eq!(rt; padded_width_of(&Text("äöü"), f), 8);
+    same(&rt, &padded_width_of(&Text("äöü"), f), &8);
     let mut out = WriteBuffer::<15>::new();
-    assert_eq!(rt; Text("äöü").fmt(&mut out, f), Err(Full));
-    assert_eq!(rt; out.as_str(), "éééäöéé");
+    same(&rt, &Text("äöü").fmt(&mut out, f), &Err(Full));
+    same(&rt, &out.as_str(), &"éééäöéé");
 }
 
 #[test]
@@ -145,21 +146,21 @@ fn pads_a_text_of_given_width(rt: HostRuntime) {
     let f = aligned(6, Some(Alignment::Center));
     let mut out = WriteBuffer::<6>::default();
     assert!(rt; pad_with_width(&mut out, f, 3, "abc").is_ok());
-    assert_eq!(rt; out.as_str(), " abc  ");
+    same(&rt, &out.as_str(), &" abc  ");
     let mut out = WriteBuffer::<8>::default();
     assert!(rt; pad_with_width(&mut out, f, 1, "abc").is_ok());
-    assert_eq!(rt; out.as_str(), "  abc   ");
+    same(&rt, &out.as_str(), &"  abc   ");
 }
 
 #[test]
 fn a_full_buffer_stays_as_it_is(rt: HostRuntime) {
     let mut buffer = WriteBuffer::<3>::new();
-    assert_eq!(rt; buffer.write_str("abcd"), Err(Full));
-    assert_eq!(rt; buffer.as_str(), "");
-    assert_eq!(rt; buffer.write_str("abc"), Ok(()));
-    assert_eq!(rt; buffer.remaining_capacity(), 0);
-    assert_eq!(rt; buffer.write_char('d'), Err(Full));
-    assert_eq!(rt; buffer.as_bytes(), b"abc".as_slice());
+    same(&rt, &buffer.write_str("abcd"), &Err(Full));
+    same(&rt, &buffer.as_str(), &"");
+    same(&rt, &buffer.write_str("abc"), &Ok(()));
+    same(&rt, &buffer.remaining_capacity(), &0);
+    same(&rt, &(buffer.write_char('d')), &Err(Full));
+    same(&rt, &buffer.as_bytes(), &b"abc".as_slice());
 }
 
 fn buffer_of<const SIZE: usize>(text: &str) -> WriteBuffer<SIZE> {
@@ -181,9 +182,10 @@ fn buffers_compare_and_print_as_texts(rt: HostRuntime) -> Result<(), Fail> {
     let abc = buffer_of::<9>("abc");
     assert!(rt; abc.same_text(&buffer_of::<3>("abc")) && b.cmp_text(&abc).is_gt());
     assert!(rt; hash_of(&abc) == hash_of(&"abc"));
-    assert_eq!(rt;
-        format!(in rt.alloc(); "{abc}|{abc:>5}")?.as_str(),
-        "abc|  abc"
+    same(
+        &rt,
+        &(format!(in rt.alloc(); "{abc}|{abc:>5}")?.as_str()),
+        &"abc|  abc",
     );
     Ok(())
 }
@@ -196,7 +198,7 @@ fn metadata_is_reused(rt: HostRuntime) {
     let copy = known.copy();
     let reused: Metadata<'_, &u8> = known.reuse();
     assert!(rt; copy.unpadded_width() == 2 && reused.padded_width(f) == 5);
-    assert_eq!(rt; *reused.get(), ());
+    same(&rt, &(*reused.get()), &());
     let mut out = WriteBuffer::<5>::new();
     assert!(rt; value.fmt_with_metadata(&mut out, f, copy).is_ok());
 }

@@ -6,6 +6,7 @@ use civil_parts::{
 };
 use std::alloc::AllocError;
 use std::hash::{DefaultHasher, Hash, Hasher};
+use test_support::{same, same_at};
 
 fn hash_of<T: Hash>(value: &T) -> u64 {
     let mut state = DefaultHasher::new();
@@ -25,22 +26,24 @@ fn names_months(rt: HostRuntime) -> Result<(), AllocError> {
     for name in MONTHS.split_whitespace() {
         month = month.next();
         let shown = format!(in rt.alloc(); "{month}")?;
-        assert_eq!(rt; shown.as_str(), name);
-        assert_eq!(rt; name.parse::<Month>(), Ok(month));
-        assert_eq!(rt; Month::try_from(u8::from(month)), Ok(month));
+        same(&rt, &shown.as_str(), &name);
+        same(&rt, &name.parse::<Month>(), &Ok(month));
+        same(&rt, &Month::try_from(u8::from(month)), &Ok(month));
     }
     for text in ["", "january", "Jan", "JANUARY", "January ", "Monday"] {
-        assert_eq!(rt; text.parse::<Month>(), Err(InvalidVariant), "{text}");
+        same_at(&rt, text, &text.parse::<Month>(), &Err(InvalidVariant));
     }
-    assert_eq!(rt;
-        (Month::try_from(0), Month::try_from(13)),
-        (Err(ComponentRange), Err(ComponentRange))
+    same(
+        &rt,
+        &(Month::try_from(0), Month::try_from(13)),
+        &(Err(ComponentRange), Err(ComponentRange)),
     );
-    assert_eq!(rt;
-        (Month::January.previous(), Month::February.length(2000)),
-        (Month::December, 29)
+    same(
+        &rt,
+        &(Month::January.previous(), Month::February.length(2000)),
+        &(Month::December, 29),
     );
-    assert_eq!(rt; hash_of(&Month::May), hash_of(&Month::April.next()));
+    same(&rt, &hash_of(&Month::May), &hash_of(&Month::April.next()));
     Ok(())
 }
 
@@ -50,11 +53,11 @@ fn names_weekdays(rt: HostRuntime) -> Result<(), AllocError> {
     for name in WEEKDAYS.split_whitespace() {
         day = day.next();
         let shown = format!(in rt.alloc(); "{day}")?;
-        assert_eq!(rt; shown.as_str(), name);
-        assert_eq!(rt; name.parse::<Weekday>(), Ok(day));
+        same(&rt, &shown.as_str(), &name);
+        same(&rt, &name.parse::<Weekday>(), &Ok(day));
     }
     for text in ["", "monday", "Mon", "Sunday "] {
-        assert_eq!(rt; text.parse::<Weekday>(), Err(InvalidVariant), "{text}");
+        same_at(&rt, text, &text.parse::<Weekday>(), &Err(InvalidVariant));
     }
     Ok(())
 }
@@ -62,29 +65,33 @@ fn names_weekdays(rt: HostRuntime) -> Result<(), AllocError> {
 #[test]
 fn counts_weekdays(rt: HostRuntime) {
     let sunday = Weekday::Sunday;
-    assert_eq!(rt;
-        (sunday.nth_next(255), sunday.nth_prev(255)),
-        (Weekday::Wednesday, Weekday::Thursday)
+    same(
+        &rt,
+        &(sunday.nth_next(255), sunday.nth_prev(255)),
+        &(Weekday::Wednesday, Weekday::Thursday),
     );
-    assert_eq!(rt;
-        (sunday.next(), sunday.previous()),
-        (Weekday::Monday, Weekday::Saturday)
+    same(
+        &rt,
+        &(sunday.next(), sunday.previous()),
+        &(Weekday::Monday, Weekday::Saturday),
     );
-    assert_eq!(rt;
-        (
+    same(
+        &rt,
+        &(
             sunday.number_from_sunday(),
-            sunday.number_days_from_sunday()
+            sunday.number_days_from_sunday(),
         ),
-        (1, 0)
+        &(1, 0),
     );
-    assert_eq!(rt;
-        (
+    same(
+        &rt,
+        &(
             sunday.number_from_monday(),
-            sunday.number_days_from_monday()
+            sunday.number_days_from_monday(),
         ),
-        (7, 6)
+        &(7, 6),
     );
-    assert_eq!(rt; hash_of(&sunday), hash_of(&Weekday::Saturday.next()));
+    same(&rt, &hash_of(&sunday), &hash_of(&Weekday::Saturday.next()));
 }
 
 // What the constants are.
@@ -119,22 +126,25 @@ fn makes_lengths_of_their_parts(rt: HostRuntime) {
         (0, -1_000_000_000, None),
     ] {
         let made = SignedDuration::from_parts(seconds, nanoseconds);
-        assert_eq!(rt; made.map(|length| length.whole_nanoseconds()), whole);
+        same(&rt, &made.map(|length| length.whole_nanoseconds()), &whole);
     }
     let (least, greatest) = (least(), greatest());
-    assert_eq!(rt;
-        SignedDuration::from_parts(i64::MIN, -999_999_999),
-        Some(least)
+    same(
+        &rt,
+        &SignedDuration::from_parts(i64::MIN, -999_999_999),
+        &Some(least),
     );
-    assert_eq!(rt;
-        SignedDuration::from_parts(i64::MAX, 999_999_999),
-        Some(greatest)
+    same(
+        &rt,
+        &SignedDuration::from_parts(i64::MAX, 999_999_999),
+        &Some(greatest),
     );
-    assert_eq!(rt;
-        (least.whole_seconds(), least.subsec_nanoseconds()),
-        (i64::MIN, -999_999_999)
+    same(
+        &rt,
+        &(least.whole_seconds(), least.subsec_nanoseconds()),
+        &(i64::MIN, -999_999_999),
     );
-    assert_eq!(rt; least.whole_days(), -106_751_991_167_300);
+    same(&rt, &least.whole_days(), &(-106_751_991_167_300));
     assert!(rt; least < zero() && zero() < greatest);
 }
 
@@ -142,20 +152,26 @@ fn makes_lengths_of_their_parts(rt: HostRuntime) {
 fn adds_and_cuts_lengths(rt: HostRuntime) {
     let (zero, greatest) = (zero(), greatest());
     if let Some(short) = SignedDuration::from_whole_nanoseconds(-86_399_999_999_999) {
-        assert_eq!(rt; (short.whole_days(), short.whole_seconds()), (0, -86_399));
-        assert_eq!(rt; short.subsec_nanoseconds(), -999_999_999);
+        same(
+            &rt,
+            &(short.whole_days(), short.whole_seconds()),
+            &(0, -86_399),
+        );
+        same(&rt, &short.subsec_nanoseconds(), &(-999_999_999));
         assert!(rt; short.is_negative() && !short.is_positive() && !short.is_zero());
-        assert_eq!(rt;
-            zero.checked_sub(short).map(|length| length.is_positive()),
-            Some(true)
+        same(
+            &rt,
+            &zero.checked_sub(short).map(|length| length.is_positive()),
+            &Some(true),
         );
-        assert_eq!(rt;
-            short.checked_add(zero).map(|sum| hash_of(&sum)),
-            Some(hash_of(&short))
+        same(
+            &rt,
+            &short.checked_add(zero).map(|sum| hash_of(&sum)),
+            &Some(hash_of(&short)),
         );
-        assert_eq!(rt; greatest.checked_sub(short), None);
+        same(&rt, &greatest.checked_sub(short), &None);
     }
-    assert_eq!(rt; greatest.checked_add(greatest), None);
+    same(&rt, &greatest.checked_add(greatest), &None);
     assert!(rt; zero.is_zero());
     for (seconds, nanoseconds, whole) in [
         (5, 1, Ok(5_000_000_001)),
@@ -167,23 +183,29 @@ fn adds_and_cuts_lengths(rt: HostRuntime) {
         (9_223_372_036_854_775_808, 0, Err(ConversionRange)),
     ] {
         if let Some(length) = StdDuration::new(seconds, nanoseconds) {
-            assert_eq!(rt;
-                (length.as_secs(), length.subsec_nanos()),
-                (seconds, nanoseconds)
+            same(
+                &rt,
+                &(length.as_secs(), length.subsec_nanos()),
+                &(seconds, nanoseconds),
             );
             let signed = SignedDuration::try_from(length);
-            assert_eq!(rt; signed.map(|signed| signed.whole_nanoseconds()), whole);
+            same(
+                &rt,
+                &signed.map(|signed| signed.whole_nanoseconds()),
+                &whole,
+            );
         }
     }
-    assert_eq!(rt; StdDuration::new(0, 1_000_000_000), None);
+    same(&rt, &StdDuration::new(0, 1_000_000_000), &None);
 }
 
 #[test]
 fn says_what_is_out_of_range(rt: HostRuntime) -> Result<(), AllocError> {
     let shown = format!(in rt.alloc(); "{ComponentRange}, {ConversionRange}, {InvalidVariant}")?;
-    assert_eq!(rt;
-        shown.as_str(),
-        "component out of range, conversion out of range, value was not a valid variant"
+    same(
+        &rt,
+        &shown.as_str(),
+        &"component out of range, conversion out of range, value was not a valid variant",
     );
     Ok(())
 }

@@ -4,6 +4,7 @@ ghost use Rattle.std.specs.Prelude.{◌≤◌, length};
 use std::alloc::Global;
 use std::process::Abort;
 use std::test::Fail;
+use test_support::same;
 use tz_lookup::{Database, DatabaseFault, Offset, SpanFault, TimeZone, Tz};
 use zone_line::LineParser;
 use zone_source::{LIMIT, read_table};
@@ -34,7 +35,7 @@ fn expect_names(rt: &impl Abort, alloc: Global, zones: &[Tz<'_>], names: &str) -
         found.push_str(zone.name())?;
         found.push(' ')?;
     }
-    assert_eq!(rt; found.as_str(), names);
+    same(rt, &found.as_str(), &names);
     Ok(())
 }
 
@@ -60,9 +61,13 @@ fn a_database_finds_zones_by_name(rt: HostRuntime) -> Result<(), Fail> {
     )?;
     expect_names(&rt, alloc, &database.find_by_name(alloc, "york")?, "")?;
     let zone = database.get_by_name("B/York").ok_or("no zone")?;
-    assert_eq!(rt; zone.get_offset_primary().to_utc().whole_seconds(), 3600);
+    same(
+        &rt,
+        &zone.get_offset_primary().to_utc().whole_seconds(),
+        &3600,
+    );
     let link = database.get_by_name("Z/Link").ok_or("no link")?;
-    assert_eq!(rt; link.name(), "Z/Link");
+    same(&rt, &link.name(), &"Z/Link");
     assert!(rt; database.get_by_name("Y").is_none());
     assert!(rt; database.get_by_name("York").is_none());
     Ok(())
@@ -75,12 +80,12 @@ fn a_database_tells_the_first_name_that_is_refused(rt: HostRuntime) -> Result<()
     let Err(DatabaseFault::Schedule(name, fault)) = database(alloc, source)? else {
         return Err(Fail::from("no fault"));
     };
-    assert_eq!(rt; name.as_str(), "B");
-    assert_eq!(rt; fault, SpanFault::MissingUntil);
+    same(&rt, &name.as_str(), &"B");
+    same(&rt, &fault, &SpanFault::MissingUntil);
     let Err(DatabaseFault::OffsetRange(name)) = database(alloc, b"Zone D 26:00 - D\nLink D A\n")?
     else {
         return Err(Fail::from("no fault"));
     };
-    assert_eq!(rt; name.as_str(), "A");
+    same(&rt, &name.as_str(), &"A");
     Ok(())
 }

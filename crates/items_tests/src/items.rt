@@ -10,6 +10,7 @@ use civil_items::{
 };
 use std::alloc::AllocError;
 use std::cmp::Ordering;
+use test_support::same;
 
 #[test]
 fn shows_errors_as_what_is_inside(rt: HostRuntime) -> Result<(), AllocError> {
@@ -27,45 +28,53 @@ fn shows_errors_as_what_is_inside(rt: HostRuntime) -> Result<(), AllocError> {
         (Error::from(InvalidVariant), "value was not a valid variant"),
     ] {
         let shown = format!(in rt.alloc(); "{error}")?;
-        assert_eq!(rt; shown.as_str(), text);
+        same(&rt, &shown.as_str(), &text);
     }
     let shown = format!(in rt.alloc(); "{DifferentVariant}; {IndeterminateOffset}")?;
-    assert_eq!(rt;
-        shown.as_str(),
-        "value was of a different variant than required; The system's UTC offset could not be determined"
+    same(
+        &rt,
+        &shown.as_str(),
+        &"value was of a different variant than required; The system's UTC offset could not be determined",
     );
     Ok(())
 }
 
 #[test]
 fn takes_errors_apart(rt: HostRuntime) {
-    assert_eq!(rt;
-        ConversionRange::try_from(Error::from(ConversionRange)),
-        Ok(ConversionRange)
+    same(
+        &rt,
+        &ConversionRange::try_from(Error::from(ConversionRange)),
+        &Ok(ConversionRange),
     );
-    assert_eq!(rt;
-        ComponentRange::try_from(Error::from(ComponentRange)),
-        Ok(ComponentRange)
+    same(
+        &rt,
+        &ComponentRange::try_from(Error::from(ComponentRange)),
+        &Ok(ComponentRange),
     );
-    assert_eq!(rt;
-        IndeterminateOffset::try_from(Error::from(IndeterminateOffset)),
-        Ok(IndeterminateOffset)
+    same(
+        &rt,
+        &IndeterminateOffset::try_from(Error::from(IndeterminateOffset)),
+        &Ok(IndeterminateOffset),
     );
-    assert_eq!(rt;
-        DifferentVariant::try_from(Error::from(DifferentVariant)),
-        Ok(DifferentVariant)
+    same(
+        &rt,
+        &DifferentVariant::try_from(Error::from(DifferentVariant)),
+        &Ok(DifferentVariant),
     );
-    assert_eq!(rt;
-        InvalidVariant::try_from(Error::from(InvalidVariant)),
-        Ok(InvalidVariant)
+    same(
+        &rt,
+        &InvalidVariant::try_from(Error::from(InvalidVariant)),
+        &Ok(InvalidVariant),
     );
-    assert_eq!(rt;
-        InvalidVariant::try_from(Error::from(ComponentRange)),
-        Err(DifferentVariant)
+    same(
+        &rt,
+        &InvalidVariant::try_from(Error::from(ComponentRange)),
+        &Err(DifferentVariant),
     );
-    assert_eq!(rt;
-        DifferentVariant::try_from(Error::from(ConversionRange)),
-        Err(DifferentVariant)
+    same(
+        &rt,
+        &DifferentVariant::try_from(Error::from(ConversionRange)),
+        &Err(DifferentVariant),
     );
 }
 
@@ -81,7 +90,7 @@ fn makes_lengths_of_numbers(rt: HostRuntime) {
         (3.days(), 259_200_000_000_000),
         ((-3).weeks(), -1_814_400_000_000_000),
     ] {
-        assert_eq!(rt; length.whole_nanoseconds(), nanos);
+        same(&rt, &length.whole_nanoseconds(), &nanos);
     }
     for (length, seconds, nanos) in [
         (u64::MAX.std_nanoseconds(), 18_446_744_073, 709_551_615),
@@ -93,7 +102,11 @@ fn makes_lengths_of_numbers(rt: HostRuntime) {
         (3.std_days(), 259_200, 0),
         (3.std_weeks(), 1_814_400, 0),
     ] {
-        assert_eq!(rt; (length.as_secs(), length.subsec_nanos()), (seconds, nanos));
+        same(
+            &rt,
+            &(length.as_secs(), length.subsec_nanos()),
+            &(seconds, nanos),
+        );
     }
 }
 
@@ -128,22 +141,27 @@ fn has_system_times_of_64_bits_of_seconds(rt: HostRuntime) {
         (9_223_372_036_854_775_808_000_000_000, false),
     ] {
         let time = SysTime::from_nanoseconds(nanos);
-        assert_eq!(rt;
-            time.map(|time| time.as_nanoseconds()),
-            if is_time { Some(nanos) } else { None }
+        same(
+            &rt,
+            &time.map(|time| time.as_nanoseconds()),
+            &(if is_time { Some(nanos) } else { None }),
         );
     }
-    assert_eq!(rt; SysTime::from_nanoseconds(0), Some(epoch()));
+    same(&rt, &SysTime::from_nanoseconds(0), &Some(epoch()));
 }
 
 #[test]
 fn adds_lengths_to_system_times(rt: HostRuntime) {
     let (least, greatest) = (SignedDuration::MIN, SignedDuration::MAX);
     let later = epoch().checked_add_signed((-5).milliseconds());
-    assert_eq!(rt; later.map(|time| time.as_nanoseconds()), Some(-5_000_000));
-    assert_eq!(rt; epoch().checked_sub_signed(5.milliseconds()), later);
-    assert_eq!(rt; epoch().checked_sub_signed(greatest).is_some(), true);
-    assert_eq!(rt; epoch().checked_add_signed(least), None);
+    same(
+        &rt,
+        &later.map(|time| time.as_nanoseconds()),
+        &Some(-5_000_000),
+    );
+    same(&rt, &epoch().checked_sub_signed(5.milliseconds()), &later);
+    same(&rt, &epoch().checked_sub_signed(greatest).is_some(), &true);
+    same(&rt, &epoch().checked_add_signed(least), &None);
     for (one, other, length) in [
         (7, 5, 2.nanoseconds()),
         (5, 7, (-2).nanoseconds()),
@@ -155,7 +173,7 @@ fn adds_lengths_to_system_times(rt: HostRuntime) {
         if let Some(time) = SysTime::from_nanoseconds(one)
             && let Some(earlier) = SysTime::from_nanoseconds(other)
         {
-            assert_eq!(rt; time.signed_duration_since(earlier), length);
+            same(&rt, &time.signed_duration_since(earlier), &length);
         }
     }
 }
@@ -175,19 +193,25 @@ fn converts_system_times(rt: HostRuntime) {
             } else {
                 Err(ComponentRange)
             };
-            assert_eq!(rt; Timestamp::try_from(time).map(SysTime::from), back);
-            assert_eq!(rt; UtcDateTime::try_from(time).map(SysTime::from), back);
-            assert_eq!(rt; OffsetDateTime::try_from(time).map(SysTime::from), back);
+            same(&rt, &Timestamp::try_from(time).map(SysTime::from), &back);
+            same(&rt, &UtcDateTime::try_from(time).map(SysTime::from), &back);
+            same(
+                &rt,
+                &OffsetDateTime::try_from(time).map(SysTime::from),
+                &back,
+            );
         }
     }
     if let Some(time) = SysTime::from_nanoseconds(-5_001_000_000) {
-        assert_eq!(rt;
-            Timestamp::try_from(time),
-            Timestamp::from_milliseconds(-5001)
+        same(
+            &rt,
+            &Timestamp::try_from(time),
+            &Timestamp::from_milliseconds(-5001),
         );
-        assert_eq!(rt;
-            OffsetDateTime::try_from(time).map(|value| value.offset()),
-            Ok(UtcOffset::UTC)
+        same(
+            &rt,
+            &OffsetDateTime::try_from(time).map(|value| value.offset()),
+            &Ok(UtcOffset::UTC),
         );
     }
 }
@@ -204,17 +228,17 @@ fn compares<T: SysCompare + Copy>(value: T, time: SysTime) -> (Option<SignedDura
 fn compares_with_system_times(rt: HostRuntime) {
     let far = SysTime::from_nanoseconds(9_223_372_036_854_775_807_999_999_999).unwrap_or(epoch());
     let later = SysTime::from_nanoseconds(3).unwrap_or(epoch());
-    let same = (Some(SignedDuration::ZERO), Ordering::Equal);
+    let equal = (Some(SignedDuration::ZERO), Ordering::Equal);
     let less = (Some(3.nanoseconds()), Ordering::Less);
-    assert_eq!(rt; compares(Timestamp::UNIX_EPOCH, epoch()), same);
-    assert_eq!(rt; compares(UtcDateTime::UNIX_EPOCH, epoch()), same);
-    assert_eq!(rt; compares(OffsetDateTime::UNIX_EPOCH, epoch()), same);
-    assert_eq!(rt; compares(Timestamp::UNIX_EPOCH, later), less);
-    assert_eq!(rt; compares(UtcDateTime::UNIX_EPOCH, later), less);
-    assert_eq!(rt; compares(OffsetDateTime::UNIX_EPOCH, later), less);
+    same(&rt, &compares(Timestamp::UNIX_EPOCH, epoch()), &equal);
+    same(&rt, &compares(UtcDateTime::UNIX_EPOCH, epoch()), &equal);
+    same(&rt, &compares(OffsetDateTime::UNIX_EPOCH, epoch()), &equal);
+    same(&rt, &compares(Timestamp::UNIX_EPOCH, later), &less);
+    same(&rt, &compares(UtcDateTime::UNIX_EPOCH, later), &less);
+    same(&rt, &compares(OffsetDateTime::UNIX_EPOCH, later), &less);
     if let Ok(before) = Timestamp::from_nanoseconds(-1) {
-        assert_eq!(rt; before.sys_since(far), None);
-        assert_eq!(rt; before.since_sys(later), Some((-4).nanoseconds()));
+        same(&rt, &before.sys_since(far), &None);
+        same(&rt, &before.since_sys(later), &Some((-4).nanoseconds()));
     }
 }
 
@@ -240,7 +264,11 @@ fn encoded_again(encoded: EncodedConfig) -> Option<EncodedConfig>
 
 #[test]
 fn encodes_configurations(rt: HostRuntime) {
-    assert_eq!(rt; default().encode(), 0x05010000020901000000000000000000);
+    same(
+        &rt,
+        &default().encode(),
+        &0x05010000020901000000000000000000,
+    );
     let other = default()
         .set_formatted_components(FormattedComponents::None)
         .set_use_separators(false)
@@ -250,14 +278,18 @@ fn encodes_configurations(rt: HostRuntime) {
             decimal_digits: None,
         })
         .set_offset_precision(OffsetPrecision::Hour);
-    assert_eq!(rt; other.encode(), 0x00000102010000000000000000000000);
-    assert_eq!(rt; decoded_again(&other), Some(other));
-    assert_eq!(rt; decoded_again(&default()), Some(default()));
+    same(&rt, &other.encode(), &0x00000102010000000000000000000000);
+    same(&rt, &decoded_again(&other), &Some(other));
+    same(&rt, &decoded_again(&default()), &Some(default()));
     let encoded = 0x0601010100ff00000000000000000000;
-    assert_eq!(rt; encoded_again(encoded), Some(encoded));
-    assert_eq!(rt; Digits::new(255).map(|digits| digits.get()), Some(255));
-    assert_eq!(rt; Digits::new(0), None);
-    assert_eq!(rt; (Rfc2822, Rfc3339), (Rfc2822, Rfc3339));
+    same(&rt, &encoded_again(encoded), &Some(encoded));
+    same(
+        &rt,
+        &Digits::new(255).map(|digits| digits.get()),
+        &Some(255),
+    );
+    same(&rt, &Digits::new(0), &None);
+    same(&rt, &(Rfc2822, Rfc3339), &(Rfc2822, Rfc3339));
 }
 
 #[test]
@@ -272,7 +304,7 @@ fn refuses_numbers_of_no_configuration(rt: HostRuntime) {
         0x00000000000000010000000000000000,
         0x00000000000000000000000000000001,
     ] {
-        assert_eq!(rt; Config::decode(encoded), None);
+        same(&rt, &Config::decode(encoded), &None);
     }
     assert!(rt; Config::decode(0).is_some());
 }
@@ -311,7 +343,7 @@ fn takes_format_items_apart(rt: HostRuntime) -> Result<(), AllocError> {
     assert!(rt; !compound.is_component(&Component::Year) && !compound.is_compound(&[]));
     match compound.into_items() {
         Ok(items) => {
-            assert_eq!(rt; items.len(), 1);
+            same(&rt, &items.len(), &1);
             let one = OwnedFormatItem::from_borrowed(rt.alloc(), &empty[0])?;
             assert!(rt; items.as_slice()[0] == one);
         }
@@ -319,10 +351,10 @@ fn takes_format_items_apart(rt: HostRuntime) -> Result<(), AllocError> {
     }
     let month = OwnedFormatItem::from(Component::Month);
     assert!(rt; month.is_component(&Component::Month) && !month.is_component(&Component::Day));
-    assert_eq!(rt; Component::try_from(month), Ok(Component::Month));
+    same(&rt, &Component::try_from(month), &Ok(Component::Month));
     let text = OwnedFormatItem::from_borrowed(rt.alloc(), &empty[0])?;
     assert!(rt; text.into_items().is_err());
     let text = OwnedFormatItem::from_borrowed(rt.alloc(), &empty[0])?;
-    assert_eq!(rt; Component::try_from(text), Err(DifferentVariant));
+    same(&rt, &Component::try_from(text), &Err(DifferentVariant));
     Ok(())
 }

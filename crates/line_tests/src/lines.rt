@@ -1,5 +1,6 @@
 //! Vectors of the ported crate, and faults with their texts.
 use std::test::Fail;
+use test_support::same;
 use zone_line::{
     ChangeTime, DaySpec, Error, Line, LineParser, Month, Rule, Saving, TimeSpec, TimeSpecAndType,
     TimeType, Year, Zone, ZoneInfo,
@@ -23,7 +24,7 @@ fn a_rule(rt: HostRuntime) -> Result<(), Fail> {
         time_to_add: TimeSpec::Hours(0),
         letters: None,
     };
-    assert_eq!(rt; line, Line::Rule(rule));
+    same(&rt, &line, &Line::Rule(rule));
     Ok(())
 }
 
@@ -50,7 +51,7 @@ fn a_zone(rt: HostRuntime) -> Result<(), Fail> {
         name: "Australia/Adelaide",
         info,
     };
-    assert_eq!(rt; line, Line::Zone(zone));
+    same(&rt, &line, &Line::Zone(zone));
     Ok(())
 }
 
@@ -116,11 +117,11 @@ fn faults(rt: HostRuntime) -> Result<(), Fail> {
             Ok(_) => return Err(Fail::from("no refusal")),
             Err(error) => {
                 let shown = format!(in alloc; "{error}")?;
-                assert_eq!(rt; shown.as_str(), told);
+                same(&rt, &shown.as_str(), &told);
             }
         }
     }
     let shown = format!(in alloc; "{}", Error::NoMemory)?;
-    assert_eq!(rt; shown.as_str(), "out of memory");
+    same(&rt, &shown.as_str(), &"out of memory");
     Ok(())
 }

@@ -2,6 +2,7 @@
 use std::alloc::Global;
 use std::process::Abort;
 use std::test::Fail;
+use test_support::same;
 use zone_line::LineParser;
 use zone_source::{FaultText, SourceError, read_table, write_fault_line};
 
@@ -17,7 +18,7 @@ fn a_table_is_read(rt: HostRuntime) -> Result<(), Fail> {
         return Err(Fail::from("refused"));
     };
     let lines = table.get_zoneset("Test/Fixed").ok_or("no zone")?;
-    assert_eq!(rt; lines.len(), 1);
+    same(&rt, &lines.len(), &1);
     Ok(())
 }
 
@@ -31,9 +32,10 @@ fn the_longest_number_fits_a_fault_line(rt: HostRuntime) -> Result<(), Fail> {
         cause: "TypeColumnContainedNonHyphen",
     };
     let end = write_fault_line(&text, &mut line);
-    assert_eq!(rt;
-        &line[..end],
-        b"source 18446744073709551615: line TypeColumnContainedNonHyphen\n".as_slice()
+    same(
+        &rt,
+        &(&line[..end]),
+        &(b"source 18446744073709551615: line TypeColumnContainedNonHyphen\n".as_slice()),
     );
     Ok(())
 }

@@ -4,6 +4,7 @@ use owned::{Items, Text};
 use std::alloc::{AllocError, Global};
 use std::process::Abort;
 use std::test::Fail;
+use test_support::same;
 use tz_lookup::{
     Fixed, FixedTimespan, FixedTimespanSet, Offset, OffsetDateTimeExt, OffsetResult,
     PrimitiveDateTimeExt, TimeZone, Tz, TzFault,
@@ -76,8 +77,8 @@ fn expect_offsets<T: TimeZone>(
     other: Option<i32>,
 ) -> Result<(), Fail> {
     let found = offsets(zone, second)?;
-    assert_eq!(rt; found.0, first);
-    assert_eq!(rt; found.1, other);
+    same(rt, &found.0, &first);
+    same(rt, &found.1, &other);
     Ok(())
 }
 
@@ -107,7 +108,7 @@ fn three_instants_of_one_local_time(rt: HostRuntime) -> Result<(), Fail> {
     for date in zone.instants_local(&local(5000)?) {
         seconds.push(date.unix_timestamp())?;
     }
-    assert_eq!(rt; seconds.as_slice(), [-2200, 1400, 5000].as_slice());
+    same(&rt, &seconds.as_slice(), &[-2200, 1400, 5000].as_slice());
     Ok(())
 }
 
@@ -115,18 +116,18 @@ fn three_instants_of_one_local_time(rt: HostRuntime) -> Result<(), Fail> {
 fn what_is_refused(rt: HostRuntime) -> Result<(), Fail> {
     let alloc = rt.alloc();
     let far = set_of(alloc, 0, &[(0, 93_600)])?;
-    assert_eq!(rt; Tz::new(&far).err(), Some(TzFault::OffsetRange));
+    same(&rt, &Tz::new(&far).err(), &Some(TzFault::OffsetRange));
     let falling = set_of(alloc, 0, &[(1, 60), (0, 0)])?;
-    assert_eq!(rt; Tz::new(&falling).err(), Some(TzFault::Falling));
+    same(&rt, &Tz::new(&falling).err(), &Some(TzFault::Falling));
     let both = set_of(alloc, 93_600, &[(1, 60), (0, 0)])?;
-    assert_eq!(rt; Tz::new(&both).err(), Some(TzFault::OffsetRange));
+    same(&rt, &Tz::new(&both).err(), &Some(TzFault::OffsetRange));
     let both = set_of(alloc, 0, &[(1_099_511_627_777, 60), (0, 0)])?;
-    assert_eq!(rt; Tz::new(&both).err(), Some(TzFault::Falling));
+    same(&rt, &Tz::new(&both).err(), &Some(TzFault::Falling));
     let late = set_of(alloc, 0, &[(1_099_511_627_777, 60)])?;
-    assert_eq!(rt; Tz::new(&late).err(), Some(TzFault::Bound));
+    same(&rt, &Tz::new(&late).err(), &Some(TzFault::Bound));
     let mut past = set_of(alloc, 0, &[])?;
     past.first = span(alloc, i64::MAX, i64::MAX)?;
-    assert_eq!(rt; Tz::new(&past).err(), Some(TzFault::OffsetRange));
+    same(&rt, &Tz::new(&past).err(), &Some(TzFault::OffsetRange));
     Ok(())
 }
 
@@ -139,9 +140,9 @@ fn expect_at<T: TimeZone>(
     name: &str,
 ) -> Result<(), Fail> {
     let shown = at(second)?.to_timezone(zone).ok_or("out of range")?;
-    assert_eq!(rt; shown.offset().whole_seconds(), offset);
-    assert_eq!(rt; shown.unix_timestamp(), second);
-    assert_eq!(rt; zone.name(), name);
+    same(rt, &shown.offset().whole_seconds(), &offset);
+    same(rt, &shown.unix_timestamp(), &second);
+    same(rt, &zone.name(), &name);
     assert!(rt; !zone.get_offset_utc(&at(second)?).is_dst());
     Ok(())
 }
@@ -152,7 +153,7 @@ fn zones_of_two_kinds(rt: HostRuntime) -> Result<(), Fail> {
     let zone = zone_of(&set)?;
     expect_at(&rt, &zone, 999_999, 0, "Test/Set")?;
     expect_at(&rt, &zone, 1_000_000, 3600, "Test/Set")?;
-    assert_eq!(rt; zone.get_offset_primary().to_utc().whole_seconds(), 0);
+    same(&rt, &zone.get_offset_primary().to_utc().whole_seconds(), &0);
     let half_past = UtcOffset::from_hms(1, 30, 0).ok().ok_or("no offset")?;
     let fixed = Fixed::new("Test/Fixed", half_past);
     expect_at(&rt, &fixed, 1_000_000, 5400, "Test/Fixed")?;
@@ -171,8 +172,8 @@ fn summer(alloc: Global) -> Result<FixedTimespanSet, AllocError> {
 
 /// Asserts the abbreviation and the kind of an offset.
 fn expect_kind<O: Offset>(rt: &impl Abort, offset: &O, name: &str, saving: bool) {
-    assert_eq!(rt; offset.name(), name);
-    assert_eq!(rt; offset.is_dst(), saving);
+    same(rt, &offset.name(), &name);
+    same(rt, &offset.is_dst(), &saving);
 }
 
 #[test]

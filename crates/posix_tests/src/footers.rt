@@ -2,6 +2,7 @@
 use crate::zones::{empty, gives};
 use std::process::Abort;
 use std::test::Fail;
+use test_support::holds_at;
 use tz_lookup::Database;
 use tz_posix::{ParseError, PosixTz, RangeError};
 
@@ -84,7 +85,7 @@ fn each_is_given(tz: &PosixTz<'_>, answers: &str) -> Result<bool, Fail> {
 fn strings_agree_with_another_reader(rt: HostRuntime) -> Result<(), Fail> {
     let database = empty(rt.alloc())?;
     for row in ANSWERS.lines() {
-        assert!(rt; are_given(&database, row)?, "{row}");
+        holds_at(&rt, row, are_given(&database, row)?);
     }
     Ok(())
 }
@@ -100,9 +101,10 @@ fn times_past_a_day_are_refused(rt: HostRuntime) -> Result<(), Fail> {
     );
     for text in PAST_RANGES.lines() {
         let parsed = PosixTz::parse(text, &database);
-        assert!(rt;
+        holds_at(
+            &rt,
+            text,
             matches!(parsed, Err(ParseError::Range(RangeError::Time))),
-            "{text}"
         );
     }
     Ok(())

@@ -5,6 +5,7 @@ ghost use Rattle.tz_posix.specs.Ranges.{is_rule_date};
 
 use std::process::Abort;
 use std::test::Fail;
+use test_support::{holds_at, same};
 use tz_posix::{Date, Dst, Error, Offset, RangeError, Rule, Std, Time, Tz, entry};
 
 /// Texts of the grammar, one a line.
@@ -96,10 +97,10 @@ fn west(hh: u8) -> Offset {
 #[test]
 fn texts_are_read(rt: HostRuntime) {
     for text in READ.lines() {
-        assert!(rt; entry(text).is_some(), "{text}");
+        holds_at(&rt, text, entry(text).is_some());
     }
     for text in REFUSED.lines() {
-        assert!(rt; entry(text).is_none(), "{text}");
+        holds_at(&rt, text, entry(text).is_none());
     }
 }
 
@@ -129,10 +130,11 @@ fn values_are_those_of_their_texts(rt: HostRuntime) {
         std,
         dst: Some(dst),
     };
-    assert_eq!(rt; entry("EST5<+4 a>-4,M3.2.0,J300/1:02:03"), Some(read));
-    assert_eq!(rt;
-        entry(":<America/New_York>"),
-        Some(Tz::Short("America/New_York"))
+    same(&rt, &entry("EST5<+4 a>-4,M3.2.0,J300/1:02:03"), &Some(read));
+    same(
+        &rt,
+        &entry(":<America/New_York>"),
+        &Some(Tz::Short("America/New_York")),
     );
 }
 
@@ -143,18 +145,19 @@ fn times_and_offsets_are_told(rt: HostRuntime) -> Result<(), Fail> {
         mm: Some(4),
         ss: None,
     };
-    assert_eq!(rt; time.to_time().as_hms(), (23, 4, 0));
-    assert_eq!(rt; west(5).to_seconds(), 18_000);
+    same(&rt, &time.to_time().as_hms(), &(23, 4, 0));
+    same(&rt, &west(5).to_seconds(), &18_000);
     let east = Offset {
         positive: false,
         time,
     };
-    assert_eq!(rt; east.to_seconds(), -83_040);
+    same(&rt, &east.to_seconds(), &(-83_040));
     let alloc = rt.alloc();
     let texts = format!(in alloc; "{}; {}", RangeError::Time, RangeError::Date)?;
-    assert_eq!(rt;
-        texts.as_str(),
-        "time field out of range; date field out of range"
+    same(
+        &rt,
+        &texts.as_str(),
+        &"time field out of range; date field out of range",
     );
     Ok(())
 }
@@ -170,24 +173,24 @@ fn parts(date: Date, year: i32) -> Option<(i32, u8, u8)>
 
 #[test]
 fn days_of_a_year_are_dates(rt: HostRuntime) {
-    assert_eq!(rt; parts(Date::J(60), 2024), Some((2024, 3, 1)));
-    assert_eq!(rt; parts(Date::J(59), 2024), Some((2024, 2, 28)));
-    assert_eq!(rt; parts(Date::J(365), 2024), Some((2024, 12, 31)));
-    assert_eq!(rt; parts(Date::N(59), 2024), Some((2024, 2, 29)));
-    assert_eq!(rt; parts(Date::N(59), 2023), Some((2023, 3, 1)));
-    assert_eq!(rt; parts(Date::N(365), 2024), Some((2024, 12, 31)));
+    same(&rt, &parts(Date::J(60), 2024), &Some((2024, 3, 1)));
+    same(&rt, &parts(Date::J(59), 2024), &Some((2024, 2, 28)));
+    same(&rt, &parts(Date::J(365), 2024), &Some((2024, 12, 31)));
+    same(&rt, &parts(Date::N(59), 2024), &Some((2024, 2, 29)));
+    same(&rt, &parts(Date::N(59), 2023), &Some((2023, 3, 1)));
+    same(&rt, &parts(Date::N(365), 2024), &Some((2024, 12, 31)));
     assert!(rt; matches!(Date::N(365).to_date(2023), Err(Error::ComponentRange)));
 }
 
 #[test]
 fn weekdays_of_a_month_are_dates(rt: HostRuntime) {
     let second = Date::M { m: 3, n: 2, d: 0 };
-    assert_eq!(rt; parts(second, 2024), Some((2024, 3, 10)));
+    same(&rt, &parts(second, 2024), &Some((2024, 3, 10)));
     let last = Date::M { m: 10, n: 5, d: 0 };
-    assert_eq!(rt; parts(last, 2026), Some((2026, 10, 25)));
-    assert_eq!(rt; parts(last, 2023), Some((2023, 10, 29)));
+    same(&rt, &parts(last, 2026), &Some((2026, 10, 25)));
+    same(&rt, &parts(last, 2023), &Some((2023, 10, 29)));
     let fifth = Date::M { m: 12, n: 5, d: 3 };
-    assert_eq!(rt; parts(fifth, 9999), Some((9999, 12, 29)));
+    same(&rt, &parts(fifth, 9999), &Some((9999, 12, 29)));
     let too_large = Date::M { m: 12, n: 5, d: 0 };
     assert!(rt; matches!(too_large.to_date(9999), Err(Error::DateTooLarge)));
 }

@@ -5,6 +5,7 @@ use civil_base::{OffsetDateTime, write_zoned};
 use std::alloc::Global;
 use std::process::Abort;
 use std::test::Fail;
+use test_support::{holds_at, same_at};
 use tz_lookup::{Database, Offset, TimeZone};
 use tz_posix::{Error, ParseError, PosixTz, RangeError};
 use zone_line::LineParser;
@@ -142,7 +143,7 @@ fn refusal<'x>(text: &'x str, database: &'x Database) -> Result<&'static str, Fa
 fn texts_give_offsets(rt: HostRuntime) -> Result<(), Fail> {
     let database = database(rt.alloc(), NEW_YORK)?;
     for row in ANSWERS.lines() {
-        assert!(rt; is_given(&database, row)?, "{row}");
+        holds_at(&rt, row, is_given(&database, row)?);
     }
     Ok(())
 }
@@ -230,7 +231,7 @@ fn rules_are_refused_in_order(rt: HostRuntime) -> Result<(), Fail> {
         ("AAA-1BBB,M12.5.0,J1", "range"),
         ("AAA-1", "none"),
     ] {
-        assert_eq!(rt; refusal(text, &empty)?, cause, "{text}");
+        same_at(&rt, text, &refusal(text, &empty)?, &cause);
     }
     Ok(())
 }

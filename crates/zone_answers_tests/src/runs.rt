@@ -4,6 +4,7 @@ ghost use Rattle.std.specs.Prelude.{◌<◌};
 use std::alloc::{AllocError, Global};
 use std::process::Abort;
 use std::test::Fail;
+use test_support::same;
 use zone_answers::{
     AnswerError, Answers, MemShelf, MemSink, MemSource, Status, SureShelf, SureSink, SureSource,
     ZoneFault, answers, open_zone, read_table, run, run_surely, write_fault,
@@ -159,8 +160,8 @@ fn expect(
 ) -> Result<(), Fail> {
     for step in [1, 7] {
         let outcome = run_over(alloc, "source", texts.0, texts.1, step, &NONE_FAILING)?;
-        assert_eq!(rt; outcome.sink.taken(), output);
-        assert_eq!(rt; outcome.status.code(), code);
+        same(rt, &outcome.sink.taken(), &output);
+        same(rt, &outcome.status.code(), &code);
     }
     Ok(())
 }
@@ -175,7 +176,7 @@ fn expect_silent(
 ) -> Result<(), Fail> {
     let requests = b"at Test/Fixed 0";
     let outcome = run_over(alloc, words, FIXED.as_bytes(), requests, 7, failing)?;
-    assert_eq!(rt; outcome.status.code(), code);
+    same(rt, &outcome.status.code(), &code);
     assert!(rt; outcome.sink.taken().is_empty());
     Ok(())
 }
@@ -264,8 +265,8 @@ fn a_failed_write_leaves_a_prefix(rt: HostRuntime) -> Result<(), Fail> {
             ..NONE_FAILING
         };
         let outcome = run_over(alloc, "source", FIXED.as_bytes(), requests, 1, &failing)?;
-        assert_eq!(rt; outcome.status.code(), 4);
-        assert_eq!(rt; outcome.sink.taken().len() as u64, call - 1);
+        same(&rt, &outcome.status.code(), &4);
+        same(&rt, &(outcome.sink.taken().len() as u64), &(call - 1));
         assert!(rt; whole.starts_with(outcome.sink.taken()));
     }
     Ok(())
@@ -284,8 +285,8 @@ fn a_full_output_is_a_failed_one(rt: HostRuntime) -> Result<(), Fail> {
         7,
         &NONE_FAILING,
     )?;
-    assert_eq!(rt; outcome.status.code(), 4);
-    assert_eq!(rt; outcome.sink.taken().len(), ROOM);
+    same(&rt, &outcome.status.code(), &4);
+    same(&rt, &outcome.sink.taken().len(), &ROOM);
     Ok(())
 }
 
@@ -303,7 +304,7 @@ fn expect_spaces(
     let mut input = SureSource::new(vec![in alloc; b' '; requests]?);
     let mut output = SureSink::new();
     let status = run_surely(alloc, &parser, &words, &mut shelf, &mut input, &mut output);
-    assert_eq!(rt; status.code(), code);
+    same(rt, &status.code(), &code);
     Ok(())
 }
 
@@ -328,7 +329,7 @@ fn answers_are_lines(rt: HostRuntime) -> Result<(), Fail> {
     ) else {
         return Err(Fail::from("refused"));
     };
-    assert_eq!(rt; lines.len(), 2);
+    same(&rt, &lines.len(), &2);
     let last = b"1970-01-01 01:29:59.999999999 +01:30:00";
     expect_line(&rt, &lines, 1, Some(last));
     expect_line(&rt, &lines, 2, None);
@@ -337,7 +338,7 @@ fn answers_are_lines(rt: HostRuntime) -> Result<(), Fail> {
 
 /// Asserts the line at a place.
 fn expect_line(rt: &impl Abort, lines: &Answers, place: usize, line: Option<&[u8]>) {
-    assert_eq!(rt; lines.get(place), line);
+    same(rt, &lines.get(place), &line);
 }
 
 #[test]
@@ -345,9 +346,10 @@ fn the_longest_number_fits_a_fault_line(rt: HostRuntime) -> Result<(), Fail> {
     let mut line = [0; 64];
     let end = write_fault(&AnswerError::OffsetRange(usize::MAX), &mut line);
     assert!(rt; end <= 64);
-    assert_eq!(rt;
-        &line[..end],
-        b"request 18446744073709551615: offset range\n".as_slice()
+    same(
+        &rt,
+        &(&line[..end]),
+        &(b"request 18446744073709551615: offset range\n".as_slice()),
     );
     Ok(())
 }
@@ -360,7 +362,7 @@ fn a_table_is_read(rt: HostRuntime) -> Result<(), Fail> {
         return Err(Fail::from("refused"));
     };
     let lines = table.get_zoneset("Test/Fixed").ok_or("no zone")?;
-    assert_eq!(rt; lines.len(), 1);
+    same(&rt, &lines.len(), &1);
     Ok(())
 }
 
@@ -375,7 +377,7 @@ fn a_zone_is_opened(rt: HostRuntime) -> Result<(), Fail> {
         return Err(Fail::from("not opened"));
     };
     // The first span, and two changes in each year of 2007 to 2099.
-    assert_eq!(rt; set.span_count(), 187);
+    same(&rt, &set.span_count(), &187);
     assert!(rt;
         matches!(
             open_zone(alloc, &table, "New_York"),

@@ -4,6 +4,7 @@ use std::alloc::Global;
 use std::fmt::Display;
 use std::io;
 use std::test::Fail;
+use test_support::same;
 use zone_outside::{
     FileShelf, MemShelf, MemSink, MemSource, ReadEnd, Shelf, Sink, Source, StdSink, StdSource,
     SureShelf, SureSink, SureSource, fetch_all, read_all, write_all,
@@ -30,19 +31,21 @@ fn shelf(alloc: Global) -> Result<MemShelf, Fail> {
 fn the_first_text_of_a_name_is_copied(rt: HostRuntime) -> Result<(), Fail> {
     let alloc = rt.alloc();
     let mut shelf = shelf(alloc)?;
-    assert_eq!(rt;
-        fetch_all(alloc, &mut shelf, "a").err(),
-        Some(ReadEnd::Failed)
+    same(
+        &rt,
+        &fetch_all(alloc, &mut shelf, "a").err(),
+        &Some(ReadEnd::Failed),
     );
-    assert_eq!(rt;
-        fetch_all(alloc, &mut shelf, "b").err(),
-        Some(ReadEnd::Failed)
+    same(
+        &rt,
+        &fetch_all(alloc, &mut shelf, "b").err(),
+        &Some(ReadEnd::Failed),
     );
     let text = read_whole(fetch_all(alloc, &mut shelf, "a"))?;
     let mut sink = MemSink::new(alloc, 4, 2, Vec::new(alloc))?;
     assert!(rt; write_all(&mut sink, &text).is_ok());
     assert!(rt; write_all(&mut sink, &text).is_err());
-    assert_eq!(rt; sink.taken(), b"oneo".as_slice());
+    same(&rt, &sink.taken(), &b"oneo".as_slice());
     Ok(())
 }
 
@@ -50,9 +53,13 @@ fn the_first_text_of_a_name_is_copied(rt: HostRuntime) -> Result<(), Fail> {
 fn a_failed_read_leaves_the_rest(rt: HostRuntime) -> Result<(), Fail> {
     let alloc = rt.alloc();
     let mut source = MemSource::new(b"abc".to_vec(alloc)?, 1, [2].to_vec(alloc)?);
-    assert_eq!(rt; read_all(alloc, &mut source).err(), Some(ReadEnd::Failed));
+    same(
+        &rt,
+        &read_all(alloc, &mut source).err(),
+        &Some(ReadEnd::Failed),
+    );
     let rest = read_whole(read_all(alloc, &mut source))?;
-    assert_eq!(rt; rest.as_slice(), b"bc".as_slice());
+    same(&rt, &rest.as_slice(), &b"bc".as_slice());
     Ok(())
 }
 
@@ -62,7 +69,7 @@ fn sure_objects_give_and_take_all(rt: HostRuntime) -> Result<(), Fail> {
     let mut shelf = SureShelf::new(b"ab".to_vec(alloc)?);
     let mut source = SureSource::new(read_whole(fetch_all(alloc, &mut shelf, "any"))?);
     let text = read_whole(read_all(alloc, &mut source))?;
-    assert_eq!(rt; text.as_slice(), b"ab".as_slice());
+    same(&rt, &text.as_slice(), &b"ab".as_slice());
     assert!(rt; write_all(&mut SureSink::new(), &text).is_ok());
     Ok(())
 }
@@ -72,9 +79,9 @@ fn a_missing_file_is_a_fault(rt: HostRuntime) -> Result<(), Fail> {
     let mut shelf = FileShelf::new(rt);
     assert!(rt; shelf.fetch("/dev/null/missing").is_err());
     let mut piece = [0; 8];
-    assert_eq!(rt; shelf.read(&mut piece).ok(), Some(0));
+    same(&rt, &shelf.read(&mut piece).ok(), &Some(0));
     assert!(rt; shelf.fetch("/dev/null").is_ok());
-    assert_eq!(rt; shelf.read(&mut piece).ok(), Some(0));
+    same(&rt, &shelf.read(&mut piece).ok(), &Some(0));
     Ok(())
 }
 
@@ -83,14 +90,14 @@ fn standard_input_gives_the_reader(rt: HostRuntime) -> Result<(), Fail> {
     let alloc = rt.alloc();
     let mut source = StdSource::new(b"ab".as_slice());
     let text = read_whole(read_all(alloc, &mut source))?;
-    assert_eq!(rt; text.as_slice(), b"ab".as_slice());
+    same(&rt, &text.as_slice(), &b"ab".as_slice());
     Ok(())
 }
 
 #[test]
 fn standard_output_takes_bytes(rt: HostRuntime) -> Result<(), Fail> {
     let mut sink = StdSink::new(rt);
-    assert_eq!(rt; sink.write(b"\n").ok(), Some(1));
+    same(&rt, &(sink.write(b"\n").ok()), &Some(1));
     Ok(())
 }
 
@@ -121,7 +128,7 @@ impl Print for Short {
 #[test]
 fn a_short_write_goes_on(rt: HostRuntime) -> Result<(), Fail> {
     let mut sink = StdSink::new(Short { most: 2 });
-    assert_eq!(rt; sink.write(b"abc").ok(), Some(2));
+    same(&rt, &sink.write(b"abc").ok(), &Some(2));
     assert!(rt; write_all(&mut sink, b"abcde").is_ok());
     let mut full = StdSink::new(Short { most: 0 });
     assert!(rt; full.write(b"abc").is_err());
@@ -134,7 +141,7 @@ fn a_file_gives_its_bytes(rt: HostRuntime) -> Result<(), Fail> {
     let mut shelf = FileShelf::new(rt);
     let mut piece = [7; 4];
     assert!(rt; shelf.fetch("/dev/zero").is_ok());
-    assert_eq!(rt; shelf.read(&mut piece).ok(), Some(4));
-    assert_eq!(rt; piece, [0, 0, 0, 0]);
+    same(&rt, &shelf.read(&mut piece).ok(), &Some(4));
+    same(&rt, &piece, &[0, 0, 0, 0]);
     Ok(())
 }

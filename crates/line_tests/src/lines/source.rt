@@ -1,5 +1,6 @@
 //! Lines of the tz database's source, of every form, beside what their columns say.
 use std::test::Fail;
+use test_support::same;
 use zone_line::LineParser;
 
 /// Lines of every form.
@@ -265,9 +266,9 @@ fn lines_of_the_database(rt: HostRuntime) -> Result<(), Fail> {
     for (text, value) in LINES.lines().zip(VALUES.lines()) {
         let line = reader.parse_str(alloc, text)?;
         let shown = format!(in alloc; "{line:?}")?;
-        assert_eq!(rt; shown.as_str(), value);
+        same(&rt, &shown.as_str(), &value);
         count = count.saturating_add(1);
     }
-    assert_eq!(rt; count, 123);
+    same(&rt, &count, &123);
     Ok(())
 }

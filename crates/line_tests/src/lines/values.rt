@@ -1,14 +1,15 @@
 //! Names, faults, ends and days of months.
 use std::alloc::Global;
 use std::test::Fail;
+use test_support::same;
 use zone_line::{ChangeTime, DaySpec, Error, Month, TimeSpec, TimeType, Weekday, Year};
 
 #[test]
 fn names(rt: HostRuntime) -> Result<(), Fail> {
     let alloc = rt.alloc();
-    assert_eq!(rt; Year::parse(alloc, "MAX")?, Year::Maximum);
-    assert_eq!(rt; Month::parse(alloc, "Aug")?, Month::August);
-    assert_eq!(rt; Weekday::parse(alloc, "sun")?, Weekday::Sunday);
+    same(&rt, &Year::parse(alloc, "MAX")?, &Year::Maximum);
+    same(&rt, &Month::parse(alloc, "Aug")?, &Month::August);
+    same(&rt, &Weekday::parse(alloc, "sun")?, &Weekday::Sunday);
     Ok(())
 }
 
@@ -66,14 +67,18 @@ fn kinds_of_faults(rt: HostRuntime) -> Result<(), Fail> {
 fn timestamps(rt: HostRuntime) -> Result<(), Fail> {
     let year = ChangeTime::UntilYear(Year::Number(1900));
     assert!(rt; year.is_dated());
-    assert_eq!(rt; year.to_timestamp(), -2_208_988_800);
+    same(&rt, &year.to_timestamp(), &(-2_208_988_800));
     let time = TimeSpec::Hours(9).with_type(TimeType::Wall);
     let sunday = DaySpec::Last(Weekday::Sunday);
     let end = ChangeTime::UntilTime(Year::Number(2000), Month::February, sunday, time);
     assert!(rt; end.is_dated());
-    assert_eq!(rt; end.to_timestamp(), 951_642_000);
-    assert_eq!(rt; (end.year(), end.end_year()), (2000, Year::Number(2000)));
-    assert_eq!(rt; end.time_type(), TimeType::Wall);
+    same(&rt, &end.to_timestamp(), &951_642_000);
+    same(
+        &rt,
+        &(end.year(), end.end_year()),
+        &(2000, Year::Number(2000)),
+    );
+    same(&rt, &end.time_type(), &TimeType::Wall);
     assert!(rt; end.has_year() && end.has_day_of_month() && end.lies_in_its_year());
     Ok(())
 }
@@ -81,19 +86,22 @@ fn timestamps(rt: HostRuntime) -> Result<(), Fail> {
 #[test]
 fn concrete_days(rt: HostRuntime) -> Result<(), Fail> {
     let sunday = DaySpec::FirstOnOrAfter(Weekday::Sunday, 25);
-    assert_eq!(rt;
-        sunday.to_concrete_day(1932, Month::April),
-        Some((Month::May, 1))
+    same(
+        &rt,
+        &sunday.to_concrete_day(1932, Month::April),
+        &Some((Month::May, 1)),
     );
     let friday = DaySpec::LastOnOrBefore(Weekday::Friday, 1);
-    assert_eq!(rt;
-        friday.to_concrete_day(2012, Month::April),
-        Some((Month::March, 30))
+    same(
+        &rt,
+        &friday.to_concrete_day(2012, Month::April),
+        &Some((Month::March, 30)),
     );
     let monday = DaySpec::Last(Weekday::Monday);
-    assert_eq!(rt;
-        monday.to_concrete_day(2016, Month::February),
-        Some((Month::February, 29))
+    same(
+        &rt,
+        &monday.to_concrete_day(2016, Month::February),
+        &Some((Month::February, 29)),
     );
     let rows = [
         (Month::January, 25, 25),
@@ -111,8 +119,16 @@ fn concrete_days(rt: HostRuntime) -> Result<(), Fail> {
     ];
     let later = DaySpec::FirstOnOrAfter(Weekday::Monday, 20);
     for (month, last, first) in rows {
-        assert_eq!(rt; monday.to_concrete_day(2016, month), Some((month, last)));
-        assert_eq!(rt; later.to_concrete_day(2016, month), Some((month, first)));
+        same(
+            &rt,
+            &monday.to_concrete_day(2016, month),
+            &Some((month, last)),
+        );
+        same(
+            &rt,
+            &later.to_concrete_day(2016, month),
+            &Some((month, first)),
+        );
     }
     Ok(())
 }
@@ -120,14 +136,15 @@ fn concrete_days(rt: HostRuntime) -> Result<(), Fail> {
 #[test]
 fn days_of_another_year(rt: HostRuntime) -> Result<(), Fail> {
     let before = DaySpec::LastOnOrBefore(Weekday::Sunday, 1);
-    assert_eq!(rt; before.to_concrete_day(2000, Month::January), None);
+    same(&rt, &before.to_concrete_day(2000, Month::January), &None);
     assert!(rt; !before.lies_in_year(2000, Month::January));
     let after = DaySpec::FirstOnOrAfter(Weekday::Monday, 31);
-    assert_eq!(rt; after.to_concrete_day(2024, Month::December), None);
+    same(&rt, &after.to_concrete_day(2024, Month::December), &None);
     let written = DaySpec::Ordinal(31);
-    assert_eq!(rt;
-        written.to_concrete_day(2023, Month::February),
-        Some((Month::February, 31))
+    same(
+        &rt,
+        &written.to_concrete_day(2023, Month::February),
+        &Some((Month::February, 31)),
     );
     Ok(())
 }

@@ -1,6 +1,7 @@
 //! Zones of a table.
 use std::alloc::Global;
 use std::test::Fail;
+use test_support::same;
 use zone_spans::{FixedTimespanSet, SpanFault, TableTransitions};
 use zone_table::{Error, Table, TableBuilder};
 use zone_values::{
@@ -83,14 +84,15 @@ fn spans(alloc: Global, name: &str) -> Result<Result<Option<FixedTimespanSet>, S
 fn new_york(rt: HostRuntime) -> Result<(), Fail> {
     let alloc = rt.alloc();
     let set = spans(alloc, "America/New_York")??.ok_or("no zone")?;
-    assert_eq!(rt; set.first.name.as_str(), "EST");
+    same(&rt, &set.first.name.as_str(), &"EST");
     assert!(rt; set.is_bounded() && set.first.total_offset() == -18_000);
     let rest = set.rest.as_slice();
-    assert_eq!(rt; rest.len(), 186);
+    same(&rt, &rest.len(), &186);
     let (time, last) = rest.last().ok_or("no entry")?;
-    assert_eq!(rt;
-        (*time, last.dst_offset, last.name.as_str()),
-        (4_097_196_000, 0, "EST")
+    same(
+        &rt,
+        &(*time, last.dst_offset, last.name.as_str()),
+        &(4_097_196_000, 0, "EST"),
     );
     Ok(())
 }
@@ -108,7 +110,7 @@ fn faults(rt: HostRuntime) -> Result<(), Fail> {
     {
         match spans(alloc, name)? {
             Ok(_) => return Err(Fail::from("no fault")),
-            Err(fault) => assert_eq!(rt; format!(in alloc; "{fault:?}")?.as_str(), name),
+            Err(fault) => same(&rt, &(format!(in alloc; "{fault:?}")?.as_str()), &name),
         }
     }
     Ok(())

@@ -1,6 +1,7 @@
 //! Abbreviations, owned forms, and moments that are known from outside.
 use owned::Text;
 use std::test::Fail;
+use test_support::same;
 use zone_table::{Format, RuleInfo, Saving, ZoneInfo};
 use zone_values::{DaySpec, Month, TimeSpec, TimeType, Weekday, Year};
 
@@ -17,9 +18,10 @@ fn abbreviations(rt: HostRuntime) -> Result<(), Fail> {
         let saving = words.next().ok_or("saving")?.parse::<i64>()?;
         let letters = words.next().filter(|letters| *letters != "-");
         let abbreviation = words.next().ok_or("abbreviation")?;
-        assert_eq!(rt;
-            format.format(alloc, saving, letters)?.as_str(),
-            abbreviation
+        same(
+            &rt,
+            &format.format(alloc, saving, letters)?.as_str(),
+            &abbreviation,
         );
     }
     Ok(())
@@ -28,7 +30,7 @@ fn abbreviations(rt: HostRuntime) -> Result<(), Fail> {
 #[test]
 fn a_constant(rt: HostRuntime) -> Result<(), Fail> {
     let constant = Format::Constant(Text::new(rt.alloc(), "TST")?);
-    assert_eq!(rt; constant.format_constant(rt.alloc())?.as_str(), "TST");
+    same(&rt, &constant.format_constant(rt.alloc())?.as_str(), &"TST");
     Ok(())
 }
 
@@ -50,7 +52,7 @@ fn forward() -> zone_values::Rule<'static> {
 fn a_rule(rt: HostRuntime) -> Result<(), Fail> {
     let alloc = rt.alloc();
     let rule = RuleInfo::from_line(alloc, forward())?;
-    assert_eq!(rt; (rule.time, rule.time_to_add), (7_200, 3_600));
+    same(&rt, &(rule.time, rule.time_to_add), &(7_200, 3_600));
     assert!(rt; rule.has_years());
     assert!(rt; rule.applies_to_year(2007) && !rule.applies_to_year(2006));
     assert!(rt; rule.letters() == Some("D"));
@@ -89,5 +91,9 @@ fn new_york_goes_forward(rt: HostRuntime) {
         time_to_add: 3_600,
         letters: None,
     };
-    assert_eq!(rt; rule.absolute_datetime(2024, -18_000, 0), 1_710_054_000);
+    same(
+        &rt,
+        &rule.absolute_datetime(2024, -18_000, 0),
+        &1_710_054_000,
+    );
 }

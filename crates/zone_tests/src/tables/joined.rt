@@ -2,6 +2,7 @@
 use std::alloc::Global;
 use std::process::Abort;
 use std::test::Fail;
+use test_support::same;
 use zone_table::{Error, Table, TableBuilder};
 use zone_values::{
     DaySpec, Line, Link, Month, Rule, Saving, TimeSpec, TimeType, Year, Zone, ZoneInfo,
@@ -72,7 +73,7 @@ fn join(alloc: Global, lines: &[Line<'_>]) -> Result<(Table, String), Fail> {
 /// The lines are joined with this refusal as the last.
 fn tells(rt: &impl Abort, alloc: Global, lines: &[Line<'_>], wanted: &str) -> Result<(), Fail> {
     let (_, told) = join(alloc, lines)?;
-    assert_eq!(rt; told.as_str(), wanted);
+    same(rt, &told.as_str(), &wanted);
     Ok(())
 }
 
@@ -120,7 +121,7 @@ fn names_that_stand(rt: HostRuntime) -> Result<(), Fail> {
 #[test]
 fn want_of_memory(rt: HostRuntime) -> Result<(), Fail> {
     let shown = text_of(rt.alloc(), &Error::NoMemory)?;
-    assert_eq!(rt; shown.as_str(), "out of memory ");
+    same(&rt, &shown.as_str(), &"out of memory ");
     Ok(())
 }
 
@@ -149,7 +150,11 @@ fn zones_by_their_names(rt: HostRuntime) -> Result<(), Fail> {
         link("A", "D"),
     ];
     let (table, _) = join(alloc, &lines)?;
-    assert_eq!(rt; counts(alloc, &table, "A B C D")?.as_str(), "A2 B2 C- D1 ");
+    same(
+        &rt,
+        &counts(alloc, &table, "A B C D")?.as_str(),
+        &"A2 B2 C- D1 ",
+    );
     Ok(())
 }
 

@@ -2,6 +2,7 @@
 use owned::{Items, Text, TextMap};
 use std::alloc::{AllocError, Global};
 use std::test::Fail;
+use test_support::same;
 use zone_table::{Child, Structure, Table};
 
 /// A table with zones and links of these names, with blanks between them.
@@ -51,7 +52,7 @@ fn hierarchies(rt: HostRuntime) -> Result<(), Fail> {
     ];
     for (zones, links, want) in rows {
         let table = table_of(alloc, zones, links)?;
-        assert_eq!(rt; shown(alloc, &table)?.as_str(), want);
+        same(&rt, &shown(alloc, &table)?.as_str(), &want);
     }
     Ok(())
 }
