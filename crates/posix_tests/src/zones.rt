@@ -63,12 +63,12 @@ fn database(alloc: Global, source: &[u8]) -> Result<Database, Fail>
 }
 
 /// A database without a zone.
-pub fn empty(alloc: Global) -> Result<Database, Fail> {
+pub(crate) fn empty(alloc: Global) -> Result<Database, Fail> {
     database(alloc, b"")
 }
 
 /// The date-time at UTC so many seconds from 1970-01-01 00:00:00.
-pub fn at(second: i64) -> Result<OffsetDateTime, Fail> {
+pub(crate) fn at(second: i64) -> Result<OffsetDateTime, Fail> {
     Ok(
         OffsetDateTime::from_unix_timestamp(second)
             .ok()
@@ -77,7 +77,11 @@ pub fn at(second: i64) -> Result<OffsetDateTime, Fail> {
 }
 
 /// Whether what a text gives a second is the offset in seconds, whether it is daylight saving time, and the abbreviation.
-pub fn gives(tz: &PosixTz<'_>, second: i64, expected: (i32, bool, &str)) -> Result<bool, Fail> {
+pub(crate) fn gives(
+    tz: &PosixTz<'_>,
+    second: i64,
+    expected: (i32, bool, &str),
+) -> Result<bool, Fail> {
     let date_time = at(second)?;
     match tz.get_offset(&date_time) {
         Ok(offset) => Ok(

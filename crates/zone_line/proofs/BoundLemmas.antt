@@ -76,7 +76,7 @@ use Rattle.zone_line.specs.Fields.{
 }
 use Rattle.zone_line.specs.Kinds.{LineKind, kind_of}
 use Rattle.zone_line.specs.Kinds as kind
-use Rattle.zone_line.specs.Lines.{
+use Rattle.zone_line.specs.LineValues.{
   one_off_of,
   saving_field,
   until,

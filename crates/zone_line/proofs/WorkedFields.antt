@@ -36,7 +36,7 @@ use Rattle.zone_line.specs.Fields.{
   wall_field,
   is_ruleset_name,
 }
-use Rattle.zone_line.specs.Lines.{saving_field, until, some_end, end_of}
+use Rattle.zone_line.specs.LineValues.{saving_field, until, some_end, end_of}
 use Rattle.zone_line.specs.Times.{no_time, hours_alone, clock_time, clock_type, if_wall, time_of}
 
 -- the last is U+0661, the digit one of another script

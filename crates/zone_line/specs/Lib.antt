@@ -20,4 +20,4 @@ pub mod Kinds
 pub mod Digits
 pub mod Times
 pub mod Fields
-pub mod Lines
+pub mod LineValues

@@ -68,7 +68,7 @@ pub(crate) struct ClockColumns<'a> {
 }
 
 impl InfoColumns<'_> {
-    ghost use Rattle.zone_line.specs.Lines.{has_yearless_end};
+    ghost use Rattle.zone_line.specs.LineValues.{has_yearless_end};
 
     /// Whether some column of an end is there, beside the year.
     pub(crate) fn has_yearless_end(&self) -> bool

@@ -48,7 +48,7 @@ impl LineParser {
     ghost use Rattle.std.specs.Prelude.{IfOk, IsTrue};
     ghost use Rattle.zone_values.specs.Bounds.{is_bounded_line};
     ghost use Rattle.zone_values.specs.Faults.{Tells};
-    ghost use Rattle.zone_line.specs.Lines.{value};
+    ghost use Rattle.zone_line.specs.LineValues.{value};
     ghost use Rattle.zone_values.specs.Values.{line_value};
 
     /// Compiles the patterns. `NotBuilt` comes where the crate `regex` refuses one of them.

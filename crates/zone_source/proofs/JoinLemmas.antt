@@ -6,7 +6,7 @@ use Rattle.std.specs.Option.{option_or}
 use Rattle.std.specs.Str.{is_utf8}
 use Rattle.zone_values.specs.Bounds.{is_bounded_line}
 use Rattle.zone_values.specs.Values.{LineValue}
-use Rattle.zone_line.specs.Lines.{value}
+use Rattle.zone_line.specs.LineValues.{value}
 use Rattle.zone_table.specs.Built.{Built, StandsFor, Joins}
 use Rattle.zone_table.specs.Refusals.{refusal, Accepted}
 use Rattle.zone_source.specs.Joining.{Takes}

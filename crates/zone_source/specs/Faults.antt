@@ -3,7 +3,7 @@ use Rattle.std.specs.Prelude.{ℕ, suc, List, [], ◌∷◌, ◌++◌, Option, S
 use Rattle.std.specs.Option.{option_or}
 use Rattle.std.specs.Str.{is_utf8}
 use Rattle.zone_values.specs.Faults as line
-use Rattle.zone_line.specs.Lines.{value}
+use Rattle.zone_line.specs.LineValues.{value}
 use Rattle.zone_values.specs.Values.{LineValue}
 use Rattle.zone_table.specs.Refusals.{Refusal, surprise_continuation_line, unknown_ruleset, duplicate_link, duplicate_zone, refusal}
 use Rattle.zone_source.specs.declared.error.BuildKind.{BuildKind}

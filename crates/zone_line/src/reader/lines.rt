@@ -15,7 +15,7 @@ impl LineReader<'_> {
     ghost use Rattle.zone_line.specs.Columns.{info_shown, rule_shown, zone_shown};
     ghost use Rattle.zone_values.specs.Faults.{Tells, told};
     ghost use Rattle.zone_line.specs.Kinds.{kind_of, kind_shown};
-    ghost use Rattle.zone_line.specs.Lines.{value, value_of_kind, info_of, end_of, until, rule_of};
+    ghost use Rattle.zone_line.specs.LineValues.{value, value_of_kind, info_of, end_of, until, rule_of};
     ghost use Rattle.zone_values.specs.Values.{line_value, info_value, rule_value};
 
     /// Reads one line, as `LineParser::parse_str` does.
@@ -30,7 +30,7 @@ impl LineReader<'_> {
     }
 
     /// The value of a line.
-    #[tactic(auto, unfolding(crate::specs::Lines::value))]
+    #[tactic(auto, unfolding(crate::specs::LineValues::value))]
     fn value<'a>(&mut self, line: &'a str) -> Result<Line<'a>, Fault<'a>>
         ensures { told line_value result ≡ value line.now }
     {
@@ -65,7 +65,7 @@ impl LineReader<'_> {
     }
 
     /// The value of a line of that kind.
-    #[tactic(auto, unfolding(crate::specs::Lines::value_of_kind))]
+    #[tactic(auto, unfolding(crate::specs::LineValues::value_of_kind))]
     fn value_of_kind<'a>(&mut self, line: &'a str, kind: &Kind<'a>) -> Result<Line<'a>, Fault<'a>>
         ensures { told line_value result ≡ value_of_kind line.now (kind_shown kind.now) }
     {
@@ -96,7 +96,7 @@ impl LineReader<'_> {
     }
 
     /// What a zone line or a continuation says of a stretch of time.
-    #[tactic(auto, unfolding(crate::specs::Lines::info_of))]
+    #[tactic(auto, unfolding(crate::specs::LineValues::info_of))]
     fn info<'a>(
         &mut self,
         line: &'a str,
@@ -116,7 +116,7 @@ impl LineReader<'_> {
     }
 
     /// The end of a zone line or a continuation, where it has one.
-    #[tactic(auto, unfolding(crate::specs::Lines::end_of, crate::specs::Lines::some_end))]
+    #[tactic(auto, unfolding(crate::specs::LineValues::end_of, crate::specs::LineValues::some_end))]
     fn end<'a>(
         &mut self,
         line: &'a str,
@@ -138,7 +138,7 @@ impl LineReader<'_> {
     }
 
     /// An end with a year.
-    #[tactic(auto, unfolding(crate::specs::Lines::until))]
+    #[tactic(auto, unfolding(crate::specs::LineValues::until))]
     fn until<'a>(
         &mut self,
         year: &'a str,
@@ -164,7 +164,7 @@ impl LineReader<'_> {
     }
 
     /// A rule.
-    #[tactic(auto, unfolding(crate::specs::Lines::rule_of))]
+    #[tactic(auto, unfolding(crate::specs::LineValues::rule_of))]
     fn rule<'a>(&mut self, columns: &RuleColumns<'a>) -> Result<Rule<'a>, Fault<'a>>
         ensures { told rule_value result ≡ rule_of (rule_shown columns.now) }
     {

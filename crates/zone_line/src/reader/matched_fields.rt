@@ -4,7 +4,7 @@ ghost use Rattle.zone_values.specs.Faults.{told};
 ghost use Rattle.zone_line.specs.Clocks.{clock_shown};
 ghost use Rattle.zone_line.specs.DayColumns.{day_shown};
 ghost use Rattle.zone_line.specs.Fields.{sided_day, last_weekday};
-ghost use Rattle.zone_line.specs.Lines.{one_off_of};
+ghost use Rattle.zone_line.specs.LineValues.{one_off_of};
 ghost use Rattle.zone_values.specs.Values.{saving_value};
 
 use crate::columns::{ClockColumns, DayColumns};
@@ -18,7 +18,7 @@ impl LineReader<'_> {
     ghost use Rattle.zone_line.specs.Clocks.{clock_in, clock_shown};
     ghost use Rattle.zone_values.specs.Faults.{told};
     ghost use Rattle.zone_line.specs.Fields.{time_field, wall_field, day_field};
-    ghost use Rattle.zone_line.specs.Lines.{saving_field};
+    ghost use Rattle.zone_line.specs.LineValues.{saving_field};
     ghost use Rattle.zone_line.specs.Times.{time_of};
     ghost use Rattle.zone_values.specs.Values.{saving_value};
 
@@ -76,7 +76,7 @@ impl LineReader<'_> {
     }
 
     /// The RULES column: a hyphen, the name of a ruleset, or an amount of time.
-    #[tactic(auto, unfolding(crate::specs::Lines::saving_field))]
+    #[tactic(auto, unfolding(crate::specs::LineValues::saving_field))]
     pub(crate) fn saving_field<'a>(&mut self, text: &'a str) -> Result<Saving<'a>, Fault<'a>>
         ensures { told saving_value result ≡ saving_field text.now }
     {
@@ -123,7 +123,7 @@ impl LineReader<'_> {
 }
 
 /// A saving that holds as long as the line: hours and minutes by the wall's clock.
-#[tactic(auto, unfolding(crate::specs::Lines::one_off_of))]
+#[tactic(auto, unfolding(crate::specs::LineValues::one_off_of))]
 fn one_off<'a>(text: &'a str, parts: &ClockColumns<'a>) -> Result<Saving<'a>, Fault<'a>>
     ensures { told saving_value result ≡ one_off_of text.now (clock_shown parts.now) }
 {
