@@ -13,3 +13,7 @@ pub mod Compiled
 pub mod Bounds
 pub mod Schedules
 pub mod ScheduleLaws
+pub mod TwoRules
+pub mod TwoRuleFirings
+pub mod TwoRuleEntries
+pub mod TwoRuleTotals
