@@ -1,3 +1,4 @@
+pub mod Agreement
 pub mod Days
 pub mod InForce
 pub mod Marks
