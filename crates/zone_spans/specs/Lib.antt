@@ -17,3 +17,4 @@ pub mod TwoRules
 pub mod TwoRuleFirings
 pub mod TwoRuleEntries
 pub mod TwoRuleTotals
+pub mod TwoRuleSets

@@ -140,11 +140,14 @@ module _ (line : Line) (f g : RuleInfo) (m n : ℕ) (has : HasTwoRules line f g 
       ∙ append-nil (map (entry_of line) (firings line))
       ∙ ap (map (entry_of line)) (two_rules_fire line f g m n has turns)
 
+  pub raw_is_entries : raw_entries (line ∷ []) ≡ reverse (entries line f g m n)
+  raw_is_entries = raw_is ∙ map-reverse line (latest offset f g m n)
+
   -- the entries are those of the firings, in order
   pub sorted_is : sorted_entries (line ∷ []) ≡ reverse (entries line f g m n)
   unfolding sorted_entries
   sorted_is =
-      ap (stable_sort is_sooner) (raw_is ∙ map-reverse line (latest offset f g m n))
+      ap (stable_sort is_sooner) raw_is_entries
       ∙ sorted_stays (reverse (entries line f g m n)) (rise_reversed (entries line f g m n) (times_fall n (omega arith)))
 
   -- and the collapse keeps each
