@@ -45,11 +45,11 @@ value_total q second =
 -- the days that a rule may have, each with the date that says the same: of one month and weekday, the first on or after the
 -- 1st, 8th, 15th or 22nd is the 1st, 2nd, 3rd or 4th, and the last the 5th
 pub data IsSameDay (month : Month) (weekday : Weekday) : DaySpec → Date → Type 0 where
-  first : IsSameDay month weekday (FirstOnOrAfter weekday (pos 1)) (M (month_number month) 1 (weekday_number weekday))
-  second : IsSameDay month weekday (FirstOnOrAfter weekday (pos 8)) (M (month_number month) 2 (weekday_number weekday))
-  third : IsSameDay month weekday (FirstOnOrAfter weekday (pos 15)) (M (month_number month) 3 (weekday_number weekday))
-  fourth : IsSameDay month weekday (FirstOnOrAfter weekday (pos 22)) (M (month_number month) 4 (weekday_number weekday))
-  last : IsSameDay month weekday (Last weekday) (M (month_number month) 5 (weekday_number weekday))
+  from_first : IsSameDay month weekday (FirstOnOrAfter weekday (pos 1)) (M (month_number month) 1 (weekday_number weekday))
+  from_eighth : IsSameDay month weekday (FirstOnOrAfter weekday (pos 8)) (M (month_number month) 2 (weekday_number weekday))
+  from_fifteenth : IsSameDay month weekday (FirstOnOrAfter weekday (pos 15)) (M (month_number month) 3 (weekday_number weekday))
+  from_twenty_second : IsSameDay month weekday (FirstOnOrAfter weekday (pos 22)) (M (month_number month) 4 (weekday_number weekday))
+  last_of_month : IsSameDay month weekday (Last weekday) (M (month_number month) 5 (weekday_number weekday))
 
 -- a rule and a yearly time have the same day and the same time of day
 pub record IsSameTime (rule : RuleInfo) (time : YearlyTime) : Type 0 where
