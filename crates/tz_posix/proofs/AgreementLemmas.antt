@@ -1,20 +1,22 @@
 -- A zone of two yearly rules and the POSIX value that says the same.
-use Rattle.std.proofs.Common.{◌≡◌, ℕ, zero, suc, ◌+◌, ◌-◌, ◌<◌, ◌≤◌, inl, inr, ⊎_elim, Bool, true, false, cond, List, [], ◌∷◌, None, Option, Some, unwrap_or, Result, Ok, Err, refl, sym, ap, ◌∙◌, subst, arith, ℤ, pos, ◌+ℤ◌, ◌-ℤ◌, ◌*ℤ◌, ◌≤ℤ◌, ◌<ℤ◌, int_eq, int_le}
+use Rattle.std.proofs.Common.{◌≡◌, ℕ, zero, suc, ◌+◌, ◌-◌, ◌<◌, ◌≤◌, inl, inr, ⊎_elim, Bool, true, false, cond, ◌&&◌, List, [], ◌∷◌, None, Option, Some, is_some, unwrap_or, Result, Ok, Err, refl, sym, ap, ◌∙◌, subst, arith, ℤ, pos, ◌+ℤ◌, ◌-ℤ◌, ◌*ℤ◌, ◌≤ℤ◌, ◌<ℤ◌, int_eq, int_le}
 use Rattle.std.proofs.lemmas.Int.{ints}
-use Rattle.calendar.specs.Days.{day}
+use Rattle.calendar.specs.Days.{day, IsCountedYear}
 use Rattle.calendar.specs.Orders.{le_pass}
 use Rattle.calendar.specs.Signs.{signed}
 use Rattle.civil_base.specs.Instants.{seconds_of}
 use Rattle.zone_values.specs.declared.time.TimeType.TheVariants.{Wall}
-use Rattle.zone_table.specs.Moments.{moment}
+use Rattle.zone_values.specs.declared.year.Year.TheVariants.{Maximum, Number}
+use Rattle.zone_table.specs.Moments.{has_last_year, is_number, moment}
 use Rattle.zone_table.specs.declared.rule.RuleInfo.{RuleInfo}
 use Rattle.zone_table.specs.declared.zone.Saving.{Saving}
 use Rattle.zone_table.specs.declared.zone.ZoneInfo.{ZoneInfo}
 use Rattle.zone_spans.specs.Compiled.{compiled, set_of_lines, unless}
 use Rattle.zone_spans.specs.Faults.{schedule_fault}
-use Rattle.zone_spans.specs.Lines.{Line, Rulesets, is_ruled, rules_named, zone_lines}
-use Rattle.zone_spans.specs.Schedules.{total_at, totals_of}
+use Rattle.zone_spans.specs.Lines.{Line, Rulesets, is_known, is_ruled, rules_named, zone_lines}
+use Rattle.zone_spans.specs.Schedules.{schedule_of, shown_by, total_at, totals_of}
 use Rattle.zone_spans.specs.TwoRules.{AreBoth, AreInTurn, HasTwoRules, IsInYear, first_at, saving_before, saving_in, second_at, written, year_from}
+use Rattle.zone_spans.specs.TwoRuleSets.{IsCompiled, IsExpandable, two_rules_compile}
 use Rattle.zone_spans.specs.TwoRuleFirings.{wall_moment}
 use Rattle.zone_spans.specs.TwoRuleTotals.{two_rules_total}
 use Rattle.zone_spans.specs.declared.fault.SpanFault.{SpanFault}
@@ -24,7 +26,7 @@ use Rattle.tz_posix.specs.Agreement.{end_in, first_year, start_in, value_total}
 use Rattle.tz_posix.specs.InForce.{YearlyTime, instant_in, is_saving, is_within, posix_total, year_at, yearly_time}
 use Rattle.tz_posix.specs.Seconds.{east_of}
 use Rattle.tz_posix.proofs.HemisphereLemmas.{northern_total, southern_total, start_before_end, end_before_start, up_le, up_lt, lt_le, le_same, lt_same, savings_differ, later_end}
-use Rattle.tz_posix.proofs.NamedDayLemmas.{named_day-is}
+use Rattle.tz_posix.proofs.NamedDayLemmas.{named_day-is, never_outside}
 use Rattle.tz_posix.proofs.StandardYearLemmas.{ArePlaces, IsNear, applies_from, are_places, earlier_year, near-counted, near_year, not_before, place_in, place_in-is, rule_year, year_at-is, years_before}
 
 -- ---- what is compiled
@@ -41,6 +43,11 @@ pub compiled_line : (rulesets : Rulesets) (info : ZoneInfo) (set : FixedTimespan
     → set_of_lines (line_of rulesets info ∷ []) ≡ Ok set
 unfolding compiled zone_lines
 compiled_line rulesets info set h = same_set (schedule_fault rulesets (info ∷ [])) _ set h
+
+schedule-is : (rulesets : Rulesets) (infos : List ZoneInfo) (set : FixedTimespanSet) → compiled rulesets infos ≡ Ok set → (t : ℤ)
+    → total_at (schedule_of rulesets infos) t ≡ total_at (totals_of set) t
+unfolding schedule_of
+schedule-is rulesets infos set is t = ap (λ result. total_at (shown_by result) t) is
 
 -- ---- the two moments of a year
 
@@ -122,6 +129,23 @@ module _ (rulesets : Rulesets) (zone : TwoRuleZone) (q : RuledValue) (c : SaysTh
 
   abbrev line : Line
   line = line_of rulesets zone.line
+
+  known : is_known rulesets zone.line.saving ≡ true
+  known = ap (is_known rulesets) c.ruled ∙ ap is_some c.found
+
+  expandable : (rule : RuleInfo) (time : YearlyTime) → rule.from_year ≡ Number zone.from → rule.to_year ≡ Some Maximum
+      → IsSameTime rule time → IsExpandable rule
+  expandable rule time start end same = record {
+    years = λ i. is_number (start i) && has_last_year (end i);
+    inside = λ i l. let counted : IsCountedYear (pos (1800 + i)) = record { first = omega (arith, signed); last = omega (arith, signed) } in
+        never_outside rule same.weekday time.0 (pos (1800 + i)) counted same.day;
+  }
+
+  start_expandable : IsExpandable zone.start
+  start_expandable = expandable zone.start _ c.start_from c.start_to_max c.same_start
+
+  end_expandable : IsExpandable zone.end
+  end_expandable = expandable zone.end _ c.end_from c.end_to_max c.same_end
 
   both_rules : AreBoth zone.start zone.end (rules_named rulesets zone.line.saving)
   both_rules = subst (AreBoth zone.start zone.end) (sym rules-are) c.exactly_two
@@ -261,11 +285,18 @@ module _ (rulesets : Rulesets) (zone : TwoRuleZone) (q : RuledValue) (c : SaysTh
       ∙ (λ k. o +ℤ cond (int_le (stop i) (seconds_of t)) (c.no_saving k) (cond (int_le (first_is i k) (seconds_of t)) zone.start.time_to_add (none_before i k)))
       ∙ northern_total o zone.start.time_to_add (start i) (stop i) (seconds_of t) (north _ (year_of_place rulesets zone q c i l))
 
-  pub northern_agrees : (set : FixedTimespanSet) → compiled rulesets (zone.line ∷ []) ≡ Ok set → (t : ℤ)
-      → IsInYears o (first_year zone.from) (pos 2099) (seconds_of t) → total_at (totals_of set) t ≡ value_total q (seconds_of t)
-  northern_agrees set is t covered =
+  pub northern_compiled : IsCompiled rulesets (zone.line ∷ [])
+  northern_compiled =
+      two_rules_compile rulesets zone.line zone.start zone.end m' n' (start_first rulesets zone q c) in_turn (at rulesets zone q c).some
+      (inr c.no_saving) (known rulesets zone q c) (start_expandable rulesets zone q c) (end_expandable rulesets zone q c)
+
+  pub northern_agrees : (t : ℤ) → IsInYears o (first_year zone.from) (pos 2099) (seconds_of t)
+      → total_at (schedule_of rulesets (zone.line ∷ [])) t ≡ value_total q (seconds_of t)
+  northern_agrees t covered =
       let found = found_place rulesets zone q c (seconds_of t) covered in
-      at_place set is t found.place found.below found.inside ∙ sym (value_total-is rulesets zone q c _ (seconds_of t) found.year found.in_range)
+      schedule-is rulesets (zone.line ∷ []) northern_compiled.set northern_compiled.is t
+      ∙ at_place northern_compiled.set northern_compiled.is t found.place found.below found.inside
+      ∙ sym (value_total-is rulesets zone q c _ (seconds_of t) found.year found.in_range)
 
 -- ---- where the end comes first
 
@@ -366,10 +397,16 @@ module _ (rulesets : Rulesets) (zone : TwoRuleZone) (q : RuledValue) (c : SaysTh
       let first = c.start_inside (first_year zone.from) (first_rule_year rulesets zone q c) in
       record { begun = omega (arith, signed, first.begun, from.begun); not_over = from.not_over }
 
-  pub southern_agrees : (set : FixedTimespanSet) → compiled rulesets (zone.line ∷ []) ≡ Ok set → (t : ℤ)
-      → IsFromFirstStart zone (seconds_of t) → total_at (totals_of set) t ≡ value_total q (seconds_of t)
-  southern_agrees set is t from =
+  pub southern_compiled : IsCompiled rulesets (zone.line ∷ [])
+  southern_compiled =
+      two_rules_compile rulesets zone.line zone.end zone.start m'' n'' (end_first rulesets zone q c) in_turn' (at rulesets zone q c).some
+      (inl c.no_saving) (known rulesets zone q c) (end_expandable rulesets zone q c) (start_expandable rulesets zone q c)
+
+  pub southern_agrees : (t : ℤ) → IsFromFirstStart zone (seconds_of t)
+      → total_at (schedule_of rulesets (zone.line ∷ [])) t ≡ value_total q (seconds_of t)
+  southern_agrees t from =
       let found = found_place rulesets zone q c (seconds_of t) (covered' (seconds_of t) from) in
       let first : start_in zone (first_year zone.from) ≡ start' 0 = ap (start_in zone) (first_place rulesets zone q c) in
-      at_place' set is t found.place found.below found.inside (le_same _ _ _ _ (sym first) refl from.begun)
+      schedule-is rulesets (zone.line ∷ []) southern_compiled.set southern_compiled.is t
+      ∙ at_place' southern_compiled.set southern_compiled.is t found.place found.below found.inside (le_same _ _ _ _ (sym first) refl from.begun)
       ∙ sym (value_total-is rulesets zone q c _ (seconds_of t) found.year found.in_range)
