@@ -1,5 +1,20 @@
-//! Laws of the texts.
-ghost use Rattle.std.specs.Prelude.{◌≡◌, ℕ, List};
+//! Laws of the texts, and of zones that say the same as one.
+ghost use Rattle.std.specs.Prelude.{◌≡◌, ◌⊎◌, ℕ, ℤ, pos, List, [], ◌∷◌};
+ghost use Rattle.civil_base.specs.Instants.{seconds_of};
+ghost use Rattle.zone_spans.specs.Lines.{Rulesets};
+ghost use Rattle.zone_spans.specs.Schedules.{schedule_of, total_at};
+ghost use Rattle.zone_spans.specs.TwoRuleSets.{IsCompiled};
+ghost use Rattle.tz_posix.specs.Agreement.{
+  IsFromFirstStart,
+  IsInYears,
+  IsNorthern,
+  IsSouthern,
+  RuledValue,
+  SaysTheSame,
+  TwoRuleZone,
+  first_year,
+  value_total,
+};
 ghost use Rattle.tz_posix.specs.Spells.{Spells, RunsAreLongest};
 ghost use Rattle.tz_posix.specs.Values.{TzValue};
 
@@ -11,4 +26,33 @@ pub fn one_reading()
 /// What may follow a name or a number in a text doesn't go on with its letters or digits, so each is a longest run.
 pub fn longest_runs()
     ensures { RunsAreLongest }
+{}
+
+/// A zone of one line and two yearly rules and the POSIX TZ string that says the same give each instant the same offset.
+///
+/// The line is ruled, by a ruleset of exactly two rules, listed in either order. Both run from the same year, 2099 at most, to
+/// `max`. One has a saving above 0, the other the saving 0. The standard offset, and it with the saving, are at most 89,999
+/// seconds in size. Both times are times of day by the wall's clock, from 0 to 86,399 seconds. Each day is `last` with a
+/// weekday, or a weekday with `>=` 1, 8, 15 or 22. The start of a year is when the rule with the saving fires under none, the
+/// end is when the other fires under the saving; in each year that is expanded, from that of the rules, or 1800, to 2099, both
+/// lie in the year by clocks of standard time. Either the start comes first in all of these years, as north of the equator, or
+/// the end does in all of them, as south of it. These starts and ends, put in order, are more than the saving apart from one to
+/// the next. The string has the same two offsets, both written, and for each rule an `M` date of the same month and weekday,
+/// the 1st, 2nd, 3rd or 4th for `>=` 1, 8, 15 or 22 and the 5th for `last`, at the same time of day.
+///
+/// Then the zone has a schedule, and its total offset is the string's at every instant of those years of a northern pair, and
+/// at every instant of a southern pair from the first start up to the end of 2099.
+///
+/// Nothing is said of the years before the rules', nor of a southern pair's time before its first start: there the zone has
+/// standard time, and the string may have daylight saving time. Nothing is said of instants past 2099, where a zone keeps what
+/// its last entry holds, nor of abbreviations.
+pub fn two_yearly_rules_agree()
+    ensures compiled { (rulesets : Rulesets) (zone : TwoRuleZone) (q : RuledValue) → SaysTheSame rulesets zone q
+        → IsNorthern zone ⊎ IsSouthern zone → IsCompiled rulesets (zone.line ∷ []) }
+    ensures northern { (rulesets : Rulesets) (zone : TwoRuleZone) (q : RuledValue) → SaysTheSame rulesets zone q
+        → IsNorthern zone → (t : ℤ) → IsInYears zone.line.offset (first_year zone.from) (pos 2099) (seconds_of t)
+        → total_at (schedule_of rulesets (zone.line ∷ [])) t ≡ value_total q (seconds_of t) }
+    ensures southern { (rulesets : Rulesets) (zone : TwoRuleZone) (q : RuledValue) → SaysTheSame rulesets zone q
+        → IsSouthern zone → (t : ℤ) → IsFromFirstStart zone (seconds_of t)
+        → total_at (schedule_of rulesets (zone.line ∷ [])) t ≡ value_total q (seconds_of t) }
 {}

@@ -1,0 +1,13 @@
+use Rattle.std.proofs.Common.{⊎_elim}
+use Rattle.tz_posix.proofs.AgreementLemmas.{northern_agrees, northern_compiled, southern_agrees, southern_compiled}
+use Rattle.tz_posix.proofs.laws.two_yearly_rules_agree.Goals as goal
+
+pub returns : goal.returns
+returns c = record {
+  compiled = λ rulesets zone q same side. ⊎_elim
+      (λ north. northern_compiled rulesets zone q same north)
+      (λ south. southern_compiled rulesets zone q same south)
+      side;
+  northern = northern_agrees;
+  southern = southern_agrees;
+}
