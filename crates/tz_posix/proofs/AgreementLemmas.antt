@@ -70,7 +70,7 @@ module _ (rulesets : Rulesets) (zone : TwoRuleZone) (q : RuledValue) (c : SaysTh
   abbrev p : ℤ
   p = zone.start.time_to_add
 
-  near : (y : ℤ) → IsRuleYear zone.from y → IsNear y
+  pub near : (y : ℤ) → IsRuleYear zone.from y → IsNear y
   near y year = near_year zone.from y c.from_at_most year
 
   start-is : (y : ℤ) → IsRuleYear zone.from y → instant_in y off (yearly_time q.rule.start) ≡ start_in zone y
@@ -392,8 +392,8 @@ module _ (rulesets : Rulesets) (zone : TwoRuleZone) (q : RuledValue) (c : SaysTh
       (compiled_line rulesets zone.line set is) t i l (inside' i (seconds_of t) l here)
       ∙ by_year i (seconds_of t) l begun
 
-  covered' : (s : ℤ) → IsFromFirstStart zone s → IsInYears o' (first_year zone.from) (pos 2099) s
-  covered' s from =
+  pub southern_covered : (s : ℤ) → IsFromFirstStart zone s → IsInYears o' (first_year zone.from) (pos 2099) s
+  southern_covered s from =
       let first = c.start_inside (first_year zone.from) (first_rule_year rulesets zone q c) in
       record { begun = omega (arith, signed, first.begun, from.begun); not_over = from.not_over }
 
@@ -405,7 +405,7 @@ module _ (rulesets : Rulesets) (zone : TwoRuleZone) (q : RuledValue) (c : SaysTh
   pub southern_agrees : (t : ℤ) → IsFromFirstStart zone (seconds_of t)
       → total_at (schedule_of rulesets (zone.line ∷ [])) t ≡ value_total q (seconds_of t)
   southern_agrees t from =
-      let found = found_place rulesets zone q c (seconds_of t) (covered' (seconds_of t) from) in
+      let found = found_place rulesets zone q c (seconds_of t) (southern_covered (seconds_of t) from) in
       let first : start_in zone (first_year zone.from) ≡ start' 0 = ap (start_in zone) (first_place rulesets zone q c) in
       schedule-is rulesets (zone.line ∷ []) southern_compiled.set southern_compiled.is t
       ∙ at_place' southern_compiled.set southern_compiled.is t found.place found.below found.inside (le_same _ _ _ _ (sym first) refl from.begun)

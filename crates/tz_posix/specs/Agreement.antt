@@ -144,3 +144,9 @@ IsSouthern zone = (y : ℤ) → IsRuleYear zone.from y → end_in zone y <ℤ st
 pub record IsFromFirstStart (zone : TwoRuleZone) (second : ℤ) : Type 0 where
   pub begun : start_in zone (first_year zone.from) ≤ℤ second
   pub not_over : (second +ℤ zone.line.offset) <ℤ (pos 86400 *ℤ day (pos 2099 +ℤ pos 1) 1 1)
+
+-- a second at which the zone and the value are shown to agree
+abbrev pub IsCovered : TwoRuleZone → ℤ → Type 0
+IsCovered zone second =
+    (IsNorthern zone × IsInYears zone.line.offset (first_year zone.from) (pos 2099) second)
+    ⊎ (IsSouthern zone × IsFromFirstStart zone second)

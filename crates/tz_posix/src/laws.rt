@@ -1,10 +1,17 @@
 //! Laws of the texts, and of zones that say the same as one.
-ghost use Rattle.std.specs.Prelude.{◌≡◌, ◌⊎◌, ℕ, ℤ, pos, List, [], ◌∷◌};
+ghost use Rattle.std.specs.Prelude.{◌≡◌, ◌⊎◌, ◌↔◌, ℕ, ℤ, pos, true, List, [], ◌∷◌, is_some, IfSome, Ok};
+ghost use Rattle.civil_base.specs.DateTimes.{instant};
 ghost use Rattle.civil_base.specs.Instants.{seconds_of};
+ghost use Rattle.zone_spans.specs.Compiled.{compiled};
 ghost use Rattle.zone_spans.specs.Lines.{Rulesets};
 ghost use Rattle.zone_spans.specs.Schedules.{schedule_of, total_at};
 ghost use Rattle.zone_spans.specs.TwoRuleSets.{IsCompiled};
+ghost use Rattle.tz_lookup.specs.Compiles.{spans_of};
+ghost use Rattle.tz_lookup.specs.Sets.{schedule_of as schedule_in};
+ghost use Rattle.tz_lookup.specs.Zones.{set_of};
+ghost use Rattle.tz_lookup.specs.declared.set.FixedTimespanSet.{FixedTimespanSet};
 ghost use Rattle.tz_posix.specs.Agreement.{
+  IsCovered,
   IsFromFirstStart,
   IsInYears,
   IsNorthern,
@@ -13,10 +20,18 @@ ghost use Rattle.tz_posix.specs.Agreement.{
   SaysTheSame,
   TwoRuleZone,
   first_year,
+  value_of,
   value_total,
 };
+ghost use Rattle.tz_posix.specs.PosixShown.{posix_of};
+ghost use Rattle.tz_posix.specs.PosixZones.{GivesTotal};
+ghost use Rattle.tz_posix.specs.Resolved.{resolved};
 ghost use Rattle.tz_posix.specs.Spells.{Spells, RunsAreLongest};
 ghost use Rattle.tz_posix.specs.Values.{TzValue};
+
+use crate::posix::PosixTz;
+use civil_base::{OffsetDateTime, UtcOffset};
+use tz_lookup::{Offset, TimeZone, Tz};
 
 /// A text spells at most one value.
 pub fn one_reading()
@@ -56,3 +71,42 @@ pub fn two_yearly_rules_agree()
         → IsSouthern zone → (t : ℤ) → IsFromFirstStart zone (seconds_of t)
         → total_at (schedule_of rulesets (zone.line ∷ [])) t ≡ value_total q (seconds_of t) }
 {}
+
+/// The offset that a zone and a POSIX TZ string both give a date-time; none where they give two, or the string is refused.
+///
+/// Where the zone is compiled of a line of two yearly rules and the string says the same, as [`two_yearly_rules_agree`] has it,
+/// there is one at each instant that the law speaks of.
+pub fn agreed_offset(
+    zone: &Tz<'_>,
+    posix: &PosixTz<'_>,
+    date_time: &OffsetDateTime,
+) -> Option<UtcOffset>
+    ensures of_zone { IfSome result (λ offset. offset ≡ total_at (schedule_in (set_of zone.now)) (instant date_time.now)) }
+    ensures of_string { IfSome result (GivesTotal (posix_of posix.now) (instant date_time.now)) }
+    ensures agreed { (rulesets : Rulesets) (pair : TwoRuleZone) (q : RuledValue) (zones : List FixedTimespanSet)
+        → SaysTheSame rulesets pair q → compiled rulesets (pair.line ∷ []) ≡ Ok (spans_of (set_of zone.now))
+        → resolved zones (value_of q) ≡ Ok (posix_of posix.now) → IsCovered pair (seconds_of (instant date_time.now))
+        → is_some result ≡ true }
+{
+    match posix.get_offset(date_time) {
+        Ok(offset) => {
+            let of_zone = zone.get_offset_utc(date_time).to_utc();
+            let of_string = offset.to_utc();
+            shared(of_zone, of_string)
+        }
+        Err(_) => None,
+    }
+}
+
+/// An offset, where the other is the same.
+fn shared(offset: UtcOffset, other: UtcOffset) -> Option<UtcOffset>
+    ensures first { IfSome result (λ both. both ≡ offset) }
+    ensures second { IfSome result (λ both. both ≡ other) }
+    ensures same { offset ≡ other → is_some result ≡ true }
+{
+    if offset.whole_seconds() == other.whole_seconds() {
+        Some(offset)
+    } else {
+        None
+    }
+}
