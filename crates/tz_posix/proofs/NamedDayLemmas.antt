@@ -69,11 +69,11 @@ place_of_day y m w s l years small some is =
     }
 
 -- the day that is named is that of the date, and lies in the month
-record IsNamed (month : Month) (spec : DaySpec) (date : Date) (y : ℤ) : Type 0 where
-  place : ℕ
-  in_month : IsDate y (month_number month) place
-  named : named_day spec y month ≡ day y (month_number month) place
-  dated : rule_day date y ≡ day y (month_number month) place
+pub record IsNamed (month : Month) (spec : DaySpec) (date : Date) (y : ℤ) : Type 0 where
+  pub place : ℕ
+  pub in_month : IsDate y (month_number month) place
+  pub named : named_day spec y month ≡ day y (month_number month) place
+  pub dated : rule_day date y ≡ day y (month_number month) place
 
 month_number-range : (month : Month) → (1 ≤ month_number month) × (month_number month ≤ 12)
 month_number-range January = (omega arith, omega arith)
@@ -121,7 +121,7 @@ of_place month w spec date y s l years some is most named dated =
       dated = dated ∙ ap (day y (month_number month)) at.back;
     }
 
-is_named : (month : Month) (w : Weekday) (spec : DaySpec) (date : Date) (y : ℤ) → IsCountedYear y → IsSameDay month w spec date
+pub is_named : (month : Month) (w : Weekday) (spec : DaySpec) (date : Date) (y : ℤ) → IsCountedYear y → IsSameDay month w spec date
     → IsNamed month spec date y
 unfolding named_day rule_day nth_weekday
 is_named month w _ _ y years from_first =

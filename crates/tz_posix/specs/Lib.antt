@@ -9,6 +9,7 @@ pub mod PosixShown
 pub mod PosixZones
 pub mod Ranges
 pub mod Reading
+pub mod RealPairs
 pub mod Resolved
 pub mod Seconds
 pub mod Shown
