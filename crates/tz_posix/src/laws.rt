@@ -1,7 +1,8 @@
 //! Laws of the texts, and of zones that say the same as one.
-ghost use Rattle.std.specs.Prelude.{◌≡◌, ◌⊎◌, ◌↔◌, ℕ, ℤ, pos, true, List, [], ◌∷◌, is_some, IfSome, Ok};
+ghost use Rattle.std.specs.Prelude.{◌≡◌, ◌⊎◌, ℕ, ℤ, pos, neg_ℤ, ◌≤ℤ◌, ◌<ℤ◌, true, List, [], ◌∷◌, Option, is_some, IfSome, Ok};
 ghost use Rattle.civil_base.specs.DateTimes.{instant};
 ghost use Rattle.civil_base.specs.Instants.{seconds_of};
+ghost use Rattle.zone_table.specs.declared.zone.ZoneInfo.{ZoneInfo};
 ghost use Rattle.zone_spans.specs.Compiled.{compiled};
 ghost use Rattle.zone_spans.specs.Lines.{Rulesets};
 ghost use Rattle.zone_spans.specs.Schedules.{schedule_of, total_at};
@@ -25,6 +26,15 @@ ghost use Rattle.tz_posix.specs.Agreement.{
 };
 ghost use Rattle.tz_posix.specs.PosixShown.{posix_of};
 ghost use Rattle.tz_posix.specs.PosixZones.{GivesTotal};
+ghost use Rattle.tz_posix.specs.RealPairs.{
+  IsRuledBy,
+  lord_howe_rules,
+  lord_howe_text,
+  lord_howe_value,
+  new_york_text,
+  new_york_value,
+  us_rules,
+};
 ghost use Rattle.tz_posix.specs.Resolved.{resolved};
 ghost use Rattle.tz_posix.specs.Spells.{Spells, RunsAreLongest};
 ghost use Rattle.tz_posix.specs.Values.{TzValue};
@@ -70,6 +80,31 @@ pub fn two_yearly_rules_agree()
     ensures southern { (rulesets : Rulesets) (zone : TwoRuleZone) (q : RuledValue) → SaysTheSame rulesets zone q
         → IsSouthern zone → (t : ℤ) → IsFromFirstStart zone (seconds_of t)
         → total_at (schedule_of rulesets (zone.line ∷ [])) t ≡ value_total q (seconds_of t) }
+{}
+
+/// Two real pairs of rules meet each condition of [`two_yearly_rules_agree`], as rulesets of exactly these two: that of the
+/// United States from 2007 on at -5:00, with `EST5EDT4,M3.2.0,M11.1.0`, and that of Lord Howe Island from 2008 on at 10:30, with
+/// `<+1030>-10:30<+11>-11,M10.1.0,M4.1.0`.
+///
+/// So a zone with the first pair agrees with its string from 2007-01-01 05:00 UTC up to 2100-01-01 05:00, and one with the second
+/// from 2008-10-04 15:30 UTC up to 2099-12-31 13:30.
+pub fn real_pairs_agree()
+    ensures new_york_text { Spells new_york_text (value_of new_york_value) }
+    ensures new_york_conditions { (rulesets : Rulesets) (line : ZoneInfo) (d s : Option (List ℕ))
+        → IsRuledBy rulesets (neg_ℤ (pos 18_000)) (us_rules line d s)
+        → SaysTheSame rulesets (us_rules line d s) new_york_value × IsNorthern (us_rules line d s) }
+    ensures new_york { (rulesets : Rulesets) (line : ZoneInfo) (d s : Option (List ℕ))
+        → IsRuledBy rulesets (neg_ℤ (pos 18_000)) (us_rules line d s)
+        → (t : ℤ) → pos 1_167_627_600 ≤ℤ seconds_of t → seconds_of t <ℤ pos 4_102_462_800
+        → total_at (schedule_of rulesets (line ∷ [])) t ≡ value_total new_york_value (seconds_of t) }
+    ensures lord_howe_text { Spells lord_howe_text (value_of lord_howe_value) }
+    ensures lord_howe_conditions { (rulesets : Rulesets) (line : ZoneInfo) (d s : Option (List ℕ))
+        → IsRuledBy rulesets (pos 37_800) (lord_howe_rules line d s)
+        → SaysTheSame rulesets (lord_howe_rules line d s) lord_howe_value × IsSouthern (lord_howe_rules line d s) }
+    ensures lord_howe { (rulesets : Rulesets) (line : ZoneInfo) (d s : Option (List ℕ))
+        → IsRuledBy rulesets (pos 37_800) (lord_howe_rules line d s)
+        → (t : ℤ) → pos 1_223_134_200 ≤ℤ seconds_of t → seconds_of t <ℤ pos 4_102_407_000
+        → total_at (schedule_of rulesets (line ∷ [])) t ≡ value_total lord_howe_value (seconds_of t) }
 {}
 
 /// The offset that a zone and a POSIX TZ string both give a date-time; none where they give two, or the string is refused.
