@@ -1,7 +1,7 @@
 -- A zone of two yearly rules and the POSIX value that says the same.
-use Rattle.std.proofs.Common.{◌≡◌, ℕ, zero, suc, ◌+◌, ◌-◌, ◌<◌, ◌≤◌, inl, inr, ⊎_elim, Bool, true, false, cond, ◌&&◌, List, [], ◌∷◌, None, Option, Some, is_some, unwrap_or, Result, Ok, Err, refl, sym, ap, ◌∙◌, subst, arith, ℤ, pos, ◌+ℤ◌, ◌-ℤ◌, ◌*ℤ◌, ◌≤ℤ◌, ◌<ℤ◌, int_eq, int_le}
+use Rattle.std.proofs.Common.{◌≡◌, ℕ, zero, suc, ◌+◌, ◌-◌, ◌<◌, inl, inr, ⊎_elim, true, false, cond, ◌&&◌, List, [], ◌∷◌, None, Option, Some, is_some, unwrap_or, Result, Ok, refl, sym, ap, ◌∙◌, subst, arith, ℤ, pos, ◌+ℤ◌, ◌-ℤ◌, ◌*ℤ◌, ◌≤ℤ◌, ◌<ℤ◌, int_eq, int_le}
 use Rattle.std.proofs.lemmas.Int.{ints}
-use Rattle.calendar.specs.Days.{day, IsCountedYear}
+use Rattle.calendar.specs.Days.{IsCountedYear}
 use Rattle.calendar.specs.Orders.{le_pass}
 use Rattle.calendar.specs.Signs.{signed}
 use Rattle.civil_base.specs.Instants.{seconds_of}
@@ -9,7 +9,6 @@ use Rattle.zone_values.specs.declared.time.TimeType.TheVariants.{Wall}
 use Rattle.zone_values.specs.declared.year.Year.TheVariants.{Maximum, Number}
 use Rattle.zone_table.specs.Moments.{has_last_year, is_number, moment}
 use Rattle.zone_table.specs.declared.rule.RuleInfo.{RuleInfo}
-use Rattle.zone_table.specs.declared.zone.Saving.{Saving}
 use Rattle.zone_table.specs.declared.zone.ZoneInfo.{ZoneInfo}
 use Rattle.zone_spans.specs.Compiled.{compiled, set_of_lines, unless}
 use Rattle.zone_spans.specs.Faults.{schedule_fault}
@@ -24,7 +23,6 @@ use Rattle.zone_spans.specs.declared.span.FixedTimespanSet.{FixedTimespanSet}
 use Rattle.tz_posix.specs.Agreement.{IsChange, IsFromFirstStart, IsInYears, IsNorthern, IsRuleYear, IsSameTime, IsSouthern, RuledValue, SaysTheSame, TwoRuleZone}
 use Rattle.tz_posix.specs.Agreement.{end_in, first_year, start_in, value_total}
 use Rattle.tz_posix.specs.InForce.{YearlyTime, instant_in, is_saving, is_within, posix_total, year_at, yearly_time}
-use Rattle.tz_posix.specs.Seconds.{east_of}
 use Rattle.tz_posix.proofs.HemisphereLemmas.{northern_total, southern_total, start_before_end, end_before_start, up_le, up_lt, lt_le, le_same, lt_same, savings_differ, later_end}
 use Rattle.tz_posix.proofs.NamedDayLemmas.{named_day-is, never_outside}
 use Rattle.tz_posix.proofs.StandardYearLemmas.{ArePlaces, IsNear, applies_from, are_places, earlier_year, near-counted, near_year, not_before, place_in, place_in-is, rule_year, year_at-is, years_before}

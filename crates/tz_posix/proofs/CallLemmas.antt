@@ -1,5 +1,5 @@
 -- What the calls of a zone of two yearly rules and of the string that says the same give.
-use Rattle.std.proofs.Common.{◌≡◌, ℕ, ⊎_elim, Bool, true, false, cond, ◌&&◌, List, [], ◌∷◌, Option, Some, None, IfSome, Ok, refl, sym, ap, ◌∙◌, subst, arith, ℤ, pos, neg_ℤ, ◌≤ℤ◌, int_le, int_eq}
+use Rattle.std.proofs.Common.{◌≡◌, ⊎_elim, true, false, cond, List, [], ◌∷◌, Option, Some, None, IfSome, Ok, refl, sym, ap, ◌∙◌, subst, arith, ℤ, pos, neg_ℤ, int_eq}
 use Rattle.std.proofs.lemmas.Bool.{and_from}
 use Rattle.std.proofs.lemmas.Int.{ints}
 use Rattle.calendar.specs.Orders.{le_pass}
@@ -14,17 +14,17 @@ use Rattle.zone_spans.specs.Schedules.{schedule_of, shown_by, total_at, totals_o
 use Rattle.tz_lookup.specs.Compiles.{spans_of}
 use Rattle.tz_lookup.specs.Sets.{schedule_of as schedule_in}
 use Rattle.tz_lookup.specs.declared.set.FixedTimespanSet.{FixedTimespanSet}
-use Rattle.tz_posix.specs.Agreement.{IsCovered, IsInYears, IsRuleYear, IsSameDay, IsSameTime, RuledValue, SaysTheSame, TwoRuleZone}
+use Rattle.tz_posix.specs.Agreement.{IsCovered, IsInYears, IsSameDay, RuledValue, SaysTheSame, TwoRuleZone}
 use Rattle.tz_posix.specs.Agreement.{from_first, from_eighth, from_fifteenth, from_twenty_second, last_of_month, first_year, value_of, value_total}
 use Rattle.tz_posix.specs.Days.{day_refusal}
 use Rattle.tz_posix.specs.InForce.{is_year, rule_refusal, year_at, yearly_time}
 use Rattle.tz_posix.specs.PosixZones.{Given, Gives, GivesTotal, PosixZone, ruled, posix_refusal}
 use Rattle.tz_posix.specs.Ranges.{first_some}
-use Rattle.tz_posix.specs.Resolved.{resolved, standard_of, saving_of}
+use Rattle.tz_posix.specs.Resolved.{resolved}
 use Rattle.tz_posix.specs.Seconds.{east_of}
 use Rattle.tz_posix.specs.declared.date.Date.{Date}
 use Rattle.tz_posix.specs.declared.error.Error.TheVariants.{ComponentRange}
-use Rattle.tz_posix.proofs.AgreementLemmas.{IsPlaced, found_place, near, northern_agrees, southern_agrees, southern_covered}
+use Rattle.tz_posix.proofs.AgreementLemmas.{found_place, near, northern_agrees, southern_agrees, southern_covered}
 use Rattle.tz_posix.proofs.StandardYearLemmas.{IsNear}
 
 -- a day that a rule may have is not refused before 9999

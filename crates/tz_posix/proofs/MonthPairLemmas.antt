@@ -2,7 +2,7 @@
 use Rattle.std.proofs.Common.{◌≡◌, ℕ, suc, ◌+◌, ◌-◌, ◌<◌, ◌≤◌, ◌⊎◌, inl, inr, ⊎_elim, refl, sym, ap, ◌∙◌, subst, arith, ℤ, pos, ◌+ℤ◌, ◌-ℤ◌, ◌*ℤ◌, ◌≤ℤ◌, ◌<ℤ◌, unsigned_abs}
 use Rattle.std.proofs.lemmas.Int.{ints, by_lt_z}
 use Rattle.calendar.specs.DateLaws.{day-into_year, place_of}
-use Rattle.calendar.specs.Days.{day, days_in_year, days_into_year, days_through, IsCountedYear, IsDate}
+use Rattle.calendar.specs.Days.{day, days_in_year, days_into_year, days_through, IsCountedYear}
 use Rattle.calendar.specs.MonthLaws.{days_in_month-bounds, days_in_month-december, days_in_year-bounds, days_through-all, days_through-rise, days_through-step, days_through-two}
 use Rattle.calendar.specs.Signs.{signed}
 use Rattle.calendar.specs.YearLaws.{cycle_days-suc, day-cycle}
@@ -37,8 +37,7 @@ days_into rule w date y years same =
     let here = is_named rule.month w rule.day date y years same in
     let month = here.in_month in
     let place = days_into-is y m here.place in
-    let step = days_through-step y m month.first_month in
-    (
+    let step = days_through-step y m month.first_month in (
       days_into_year y m here.place,
       record {
         day = here.named ∙ day-into_year y m here.place years;
@@ -221,10 +220,10 @@ module _ (zone : TwoRuleZone) (c : AreInnerRules zone) where
       (λ earlier. room_apart o p y z s t here there earlier c.saving_small (change_room s a) (change_room t b))
       (λ not_earlier. by_lt_z z y
       (λ later. let back = room_apart o p z y t s there here later c.saving_small (change_room t b) (change_room s a) in
-          absurd (omega (arith, signed, back, c.saving)))
+      absurd (omega (arith, signed, back, c.saving)))
       (λ not_later. let same : z ≡ y = omega (arith, signed) in
-          far_apart (start_in zone y) (end_in zone y) p s t c.saving (gap y a.in_range) a.is
-          (subst (λ x. (t ≡ start_in zone x) ⊎ (t ≡ end_in zone x)) same b.is) h))
+      far_apart (start_in zone y) (end_in zone y) p s t c.saving (gap y a.in_range) a.is
+      (subst (λ x. (t ≡ start_in zone x) ⊎ (t ≡ end_in zone x)) same b.is) h))
 
   northern_gap : month_number zone.start.month + 2 ≤ month_number zone.end.month → (y : ℤ) → IsRuleYear zone.from y
       → (start_in zone y +ℤ p) <ℤ end_in zone y

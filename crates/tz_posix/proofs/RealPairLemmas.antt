@@ -1,5 +1,5 @@
 -- Two pairs of yearly rules of the tz database meet each condition.
-use Rattle.std.proofs.Common.{◌≡◌, ℕ, ◌≤◌, List, [], ◌∷◌, Option, refl, sym, ap, ◌∙◌, arith, ℤ, pos, neg_ℤ, ◌+ℤ◌, ◌-ℤ◌, ◌*ℤ◌, ◌≤ℤ◌, ◌<ℤ◌}
+use Rattle.std.proofs.Common.{◌≡◌, ℕ, List, [], ◌∷◌, Option, refl, sym, ap, ◌∙◌, arith, ℤ, pos, neg_ℤ, ◌+ℤ◌, ◌-ℤ◌, ◌*ℤ◌, ◌≤ℤ◌, ◌<ℤ◌}
 use Rattle.calendar.specs.Dates.{last_with}
 use Rattle.calendar.specs.Days.{is_leap, days_in_year, days_in_month, days_after_zero, year_start, days_through, days_into_year, day}
 use Rattle.calendar.specs.Signs.{signed}
@@ -12,9 +12,8 @@ use Rattle.zone_values.specs.declared.weekday.Weekday.TheVariants.{Sunday}
 use Rattle.zone_table.specs.declared.zone.ZoneInfo.{ZoneInfo}
 use Rattle.zone_spans.specs.Lines.{Rulesets}
 use Rattle.zone_spans.specs.Schedules.{schedule_of, total_at}
-use Rattle.zone_spans.specs.TwoRules.{written}
 use Rattle.zone_spans.specs.TwoRuleFirings.{wall_moment}
-use Rattle.tz_posix.specs.Agreement.{IsFromFirstStart, IsInYears, IsNorthern, IsSouthern, SaysTheSame, first_year, start_in, value_of, value_total}
+use Rattle.tz_posix.specs.Agreement.{IsNorthern, IsSouthern, SaysTheSame, start_in, value_of, value_total}
 use Rattle.tz_posix.specs.Agreement.{from_first, from_eighth}
 use Rattle.tz_posix.specs.Reading.{value_in, number_at, part_at, time_at, sign_at, offset_at, letters_at, enclosed_at, name_at}
 use Rattle.tz_posix.specs.Reading.{weekday_at, date_at, moment_at, rule_in, own_offset_at, own_rule_in, dst_in, short_in}

@@ -1,6 +1,6 @@
 -- The years of seconds by clocks of standard time, and the years in which rules from a year on apply.
-use Rattle.std.proofs.Common.{◌≡◌, ℕ, zero, suc, ◌+◌, ◌-◌, ◌<◌, ◌≤◌, ◌⊎◌, inl, inr, Bool, true, false, cond, ◌&&◌, Option, Some, unwrap_or, refl, ap, ◌∙◌, subst, arith, ℤ, pos, neg_ℤ, ◌+ℤ◌, ◌-ℤ◌, ◌*ℤ◌, ◌≤ℤ◌, ◌<ℤ◌, int_le, int_lt, unsigned_abs}
-use Rattle.std.specs.Int.{int_div_euclid, int_max}
+use Rattle.std.proofs.Common.{◌≡◌, ℕ, ◌+◌, ◌-◌, ◌<◌, ◌⊎◌, inl, inr, Bool, true, false, cond, ◌&&◌, Some, unwrap_or, refl, ap, ◌∙◌, arith, ℤ, pos, ◌+ℤ◌, ◌-ℤ◌, ◌≤ℤ◌, ◌<ℤ◌, int_le, int_lt, unsigned_abs}
+use Rattle.std.specs.Int.{int_div_euclid}
 use Rattle.std.proofs.lemmas.Int.{by_lt_z}
 use Rattle.calendar.specs.Dates.{year_of}
 use Rattle.calendar.specs.DateLaws.{day-between, day-range, year_of-is}
@@ -57,11 +57,17 @@ year_at-is o from to s a b inside =
     let year = year_of-is k (omega (arith, signed, first.0)) (omega (arith, signed, last.1)) in
     let y = year_of k in
     let not_below : from ≤ℤ y = by_lt_z y from
-    (λ lt. absurd (omega (arith, signed, low, year.next, year_starts-rise (y +ℤ pos 1) from
-    (record { first = omega (arith, signed, year.counted.first); last = omega (arith, signed, a.last) }) (near-counted from a) (omega (
+    (λ lt. absurd (omega (
       arith,
       signed,
-    )))))
+      low,
+      year.next,
+      year_starts-rise (y +ℤ pos 1) from
+          (record { first = omega (arith, signed, year.counted.first); last = omega (arith, signed, a.last) }) (near-counted from a) (omega (
+            arith,
+            signed,
+          )),
+    )))
     (λ le. le) in
     let not_above : y ≤ℤ to = by_lt_z to y
     (λ lt. absurd (omega (

@@ -1,5 +1,5 @@
 -- Two pairs of yearly rules of the tz database, each as a ruleset of these two rules alone, and the string that says the same.
-use Rattle.std.specs.Prelude.{◌≡◌, ℕ, true, false, List, Option, Some, None, codes, ℤ, pos, neg_ℤ, ◌≤ℤ◌, ◌<ℤ◌}
+use Rattle.std.specs.Prelude.{◌≡◌, ℕ, true, false, List, Option, Some, None, codes, ℤ, pos}
 use Rattle.zone_values.specs.declared.day.DaySpec.{DaySpec}
 use Rattle.zone_values.specs.declared.day.DaySpec.TheVariants.{FirstOnOrAfter}
 use Rattle.zone_values.specs.declared.month.Month.{Month}

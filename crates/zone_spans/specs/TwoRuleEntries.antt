@@ -1,11 +1,11 @@
 -- The entries of a line of two yearly rules: each firing has one, and neither sorting nor the collapse changes them.
-use Rattle.std.proofs.Common.{◌≡◌, ℕ, zero, suc, ◌+◌, ◌<◌, ◌≤◌, Bool, true, false, cond, ◌&&◌, List, [], ◌∷◌, ◌++◌, map, reverse, Some, None, ℤ, pos, ◌+ℤ◌, ◌-ℤ◌, ◌<ℤ◌, ◌≤ℤ◌, int_le, int_lt, refl, sym, ap, ◌∙◌, subst, arith, append-nil, append_assoc}
+use Rattle.std.proofs.Common.{◌≡◌, ℕ, zero, suc, ◌<◌, ◌≤◌, Bool, true, false, cond, ◌&&◌, List, [], ◌∷◌, ◌++◌, map, reverse, Some, None, ℤ, ◌+ℤ◌, ◌-ℤ◌, ◌<ℤ◌, ◌≤ℤ◌, int_le, int_lt, refl, sym, ap, ◌∙◌, subst, arith, append-nil}
 use Rattle.std.proofs.lemmas.Int.{ints}
 use Rattle.std.proofs.lemmas.List.{reverse-append, map-append}
 use Rattle.owned.specs.Sorted.{put_in, stable_sort}
 use Rattle.zone_table.specs.declared.rule.RuleInfo.{RuleInfo}
 use Rattle.zone_spans.specs.Collapse.{is_same_span, is_no_later, kept_with, kept_of, TimesRise}
-use Rattle.zone_spans.specs.Entries.{Entry, total, entry_of, entries_of, entries_from, fixed_span, at_start, is_sooner, next_start, raw_entries, sorted_entries, start_entry}
+use Rattle.zone_spans.specs.Entries.{Entry, entry_of, entries_of, entries_from, fixed_span, at_start, is_sooner, raw_entries, sorted_entries, start_entry}
 use Rattle.zone_spans.specs.Firings.{Firing, firings}
 use Rattle.zone_spans.specs.Lines.{Line}
 use Rattle.zone_spans.specs.Listing.{listed}

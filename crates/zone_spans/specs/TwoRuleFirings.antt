@@ -6,7 +6,7 @@ use Rattle.zone_values.specs.declared.time.TimeType.TheVariants.{Wall}
 use Rattle.zone_table.specs.Moments.{applies_to_year, instant_of, moment}
 use Rattle.zone_table.specs.declared.rule.RuleInfo.{RuleInfo}
 use Rattle.zone_spans.specs.Firings.{Firing, Fired, earliest, fired, firings_of_years, is_earlier, line_firings, year_firings, years_expanded}
-use Rattle.zone_spans.specs.Lines.{Line, is_ruled, fixed_saving}
+use Rattle.zone_spans.specs.Lines.{Line, fixed_saving}
 use Rattle.zone_spans.specs.TwoRules.{AreBoth, HasTwoRules, AreInTurn, first_at, saving_before, second_at, written, year_from}
 
 -- in the year both apply, by the wall's clock, and f is written before g
@@ -62,9 +62,9 @@ module _ (offset : ℤ) (f g : RuleInfo) (year saving : ℤ) (pair : IsPair f g 
   all_apply : (rules : List RuleInfo) → AreBoth f g rules → filter (λ r. applies_to_year r year) rules ≡ rules
   all_apply rules both = ⊎_elim
       (λ e. ap (filter (λ r. applies_to_year r year)) e
-          ∙ (λ i. cond (pair.f_applies i) (f ∷ cond (pair.g_applies i) (g ∷ []) []) (cond (pair.g_applies i) (g ∷ []) [])) ∙ sym e)
+      ∙ (λ i. cond (pair.f_applies i) (f ∷ cond (pair.g_applies i) (g ∷ []) []) (cond (pair.g_applies i) (g ∷ []) [])) ∙ sym e)
       (λ e. ap (filter (λ r. applies_to_year r year)) e
-          ∙ (λ i. cond (pair.g_applies i) (g ∷ cond (pair.f_applies i) (f ∷ []) []) (cond (pair.f_applies i) (f ∷ []) [])) ∙ sym e)
+      ∙ (λ i. cond (pair.g_applies i) (g ∷ cond (pair.f_applies i) (f ∷ []) []) (cond (pair.f_applies i) (f ∷ []) [])) ∙ sym e)
       both
 
   two_rules : (rules : List RuleInfo) → AreBoth f g rules → length rules ≡ 2
@@ -91,9 +91,9 @@ module _ (line : Line) (f g : RuleInfo) (m n : ℕ) (has : HasTwoRules line f g 
   none_apply : (i : ℕ) → i < m → filter (λ r. applies_to_year r (pos (1800 + i))) line.rules ≡ []
   none_apply i l = ⊎_elim
       (λ e. ap (filter (λ r. applies_to_year r (pos (1800 + i)))) e
-          ∙ (λ k. cond (has.f_not_before i l k) (f ∷ cond (has.g_not_before i l k) (g ∷ []) []) (cond (has.g_not_before i l k) (g ∷ []) [])))
+      ∙ (λ k. cond (has.f_not_before i l k) (f ∷ cond (has.g_not_before i l k) (g ∷ []) []) (cond (has.g_not_before i l k) (g ∷ []) [])))
       (λ e. ap (filter (λ r. applies_to_year r (pos (1800 + i)))) e
-          ∙ (λ k. cond (has.g_not_before i l k) (g ∷ cond (has.f_not_before i l k) (f ∷ []) []) (cond (has.f_not_before i l k) (f ∷ []) [])))
+      ∙ (λ k. cond (has.g_not_before i l k) (g ∷ cond (has.f_not_before i l k) (f ∷ []) []) (cond (has.f_not_before i l k) (f ∷ []) [])))
       has.both
 
   -- one year more

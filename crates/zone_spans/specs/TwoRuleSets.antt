@@ -1,5 +1,5 @@
 -- A line of two yearly rules, of which one has no saving, has a set of spans.
-use Rattle.std.proofs.Common.{◌≡◌, ℕ, zero, suc, ◌+◌, ◌-◌, ◌<◌, ◌≤◌, ◌⊎◌, ⊎_elim, Bool, true, false, cond, not, ◌&&◌, ◌||◌, List, [], ◌∷◌, ◌++◌, map, reverse, find, Some, None, Option, Ok, refl, sym, ap, ◌∙◌, subst, arith, ℤ, pos, int_eq}
+use Rattle.std.proofs.Common.{◌≡◌, ℕ, zero, suc, ◌+◌, ◌<◌, ◌⊎◌, ⊎_elim, Bool, true, false, cond, not, ◌&&◌, ◌||◌, List, [], ◌∷◌, reverse, find, Some, None, Ok, refl, ap, ◌∙◌, arith, ℤ, pos, int_eq}
 use Rattle.std.specs.List.{list_any, list_all}
 use Rattle.std.specs.Option.{option_map}
 use Rattle.std.proofs.lemmas.List.{reverse-append}
@@ -13,10 +13,9 @@ use Rattle.zone_spans.specs.Entries.{Entry, first_span, fixed_span, is_standard,
 use Rattle.zone_spans.specs.Faults.{schedule_fault, first_met, is_outside, leaves_year, some_year}
 use Rattle.zone_spans.specs.Firings.{years_expanded}
 use Rattle.zone_spans.specs.Lines.{Line, Rulesets, is_known, is_ruled, rules_named, zone_lines}
-use Rattle.zone_spans.specs.TwoRules.{AreBoth, AreInTurn, HasTwoRules}
+use Rattle.zone_spans.specs.TwoRules.{AreInTurn, HasTwoRules}
 use Rattle.zone_spans.specs.TwoRuleEntries.{e1, e2, entries, raw_is_entries, sorted_is}
 use Rattle.zone_spans.specs.declared.fault.SpanFault.TheVariants.{UnknownRuleset, MissingUntil, YearRange, RuleYears, DayRange, NoStandardSpan}
-use Rattle.zone_spans.specs.declared.span.FixedTimespan.{FixedTimespan}
 use Rattle.zone_spans.specs.declared.span.FixedTimespanSet.{FixedTimespanSet}
 
 -- the set that is compiled of lines
@@ -77,11 +76,10 @@ module _ (line : Line) (f g : RuleInfo) (m n : ℕ) (has : HasTwoRules line f g 
   unfolding set_of_lines first_span
   has_set =
       let sorted = sorted_entries (line ∷ []) in
-      let found = some_found is_standard sorted (ap (list_any is_standard) (sorted_is line f g m n has turns) ∙ some_standard n some) in
-      (
+      let found = some_found is_standard sorted (ap (list_any is_standard) (sorted_is line f g m n has turns) ∙ some_standard n some) in (
         record { first = found.entry.1; rest = collapsed found.entry.1 sorted },
         ap (λ b. set_of (cond b (option_map (λ (e : Entry). e.1) (find is_standard sorted)) (Some (fixed_span line))) sorted) has.ruled
-        ∙ ap (λ o. set_of (option_map (λ (e : Entry). e.1) o) sorted) found.is,
+            ∙ ap (λ o. set_of (option_map (λ (e : Entry). e.1) o) sorted) found.is,
       )
 
   all_years : (test : RuleInfo → Bool) → test f ≡ true → test g ≡ true → list_all test line.rules ≡ true

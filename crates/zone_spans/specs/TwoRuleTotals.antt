@@ -1,5 +1,5 @@
 -- The total in force by a line of two yearly rules: in each year it goes by the two firings of that year.
-use Rattle.std.proofs.Common.{◌≡◌, ℕ, zero, suc, ◌+◌, ◌<◌, ◌≤◌, Bool, true, false, cond, ◌&&◌, List, [], ◌∷◌, ◌++◌, map, filter, reverse, find, Some, None, Option, Ok, Err, ℤ, pos, negsuc, ◌+ℤ◌, ◌*ℤ◌, ◌<ℤ◌, ◌≤ℤ◌, int_le, int_eq, refl, sym, ap, ◌∙◌, subst, arith, ⊎_elim}
+use Rattle.std.proofs.Common.{◌≡◌, ℕ, zero, suc, ◌<◌, ◌≤◌, Bool, true, false, cond, ◌&&◌, List, [], ◌∷◌, ◌++◌, map, filter, reverse, find, Some, None, Option, Ok, ℤ, pos, ◌+ℤ◌, ◌*ℤ◌, ◌<ℤ◌, ◌≤ℤ◌, int_le, int_eq, refl, sym, ap, ◌∙◌, subst, arith, ⊎_elim}
 use Rattle.std.specs.Option.{option_map}
 use Rattle.std.proofs.lemmas.Int.{ints}
 use Rattle.std.proofs.lemmas.Bool.{and_parts, cases_lt}
@@ -15,7 +15,7 @@ use Rattle.zone_spans.specs.Compiled.{set_of, set_of_lines}
 use Rattle.zone_spans.specs.Entries.{Entry, total, entry_of, first_span, fixed_span, is_standard, sorted_entries}
 use Rattle.zone_spans.specs.Firings.{Firing}
 use Rattle.zone_spans.specs.Lines.{Line}
-use Rattle.zone_spans.specs.Schedules.{Schedule, last_total, total_at, totals_of}
+use Rattle.zone_spans.specs.Schedules.{last_total, total_at, totals_of}
 use Rattle.zone_spans.specs.TwoRules.{HasTwoRules, AreInTurn, IsInYear, first_at, saving_before, saving_in, second_at}
 use Rattle.zone_spans.specs.TwoRuleEntries.{all_kept, entries, map-reverse, sorted_is}
 use Rattle.zone_spans.specs.TwoRuleFirings.{latest}
@@ -160,7 +160,7 @@ module _ (line : Line) (f g : RuleInfo) (m n : ℕ) (turns : AreInTurn line.info
   total_in_year i (suc k) l b y = ⊎_elim
       (λ (w : i < k). year_skipped k b (y.to_come k w b) ∙ total_in_year i k w (omega arith) y)
       (λ (w : k ≤ i). let same : i ≡ k = omega (arith, l, w) in
-          subst (λ j. now (suc j) ≡ offset +ℤ saving_in offset f g m i second) same (year_done i y.past))
+      subst (λ j. now (suc j) ≡ offset +ℤ saving_in offset f g m i second) same (year_done i y.past))
       (cases_lt i k)
 
 -- ---- the set

@@ -1,9 +1,8 @@
-use Rattle.std.proofs.Common.{◌≡◌, ◌∙◌, sym, ap, refl, ℤ, IfSome, Option, Some, None}
+use Rattle.std.proofs.Common.{◌∙◌, sym}
 use Rattle.civil_base.specs.DateTimes.{instant}
 use Rattle.tz_lookup.specs.Zones.{set_of}
 use Rattle.tz_posix.specs.Offsets.{given_of}
 use Rattle.tz_posix.specs.PosixShown.{posix_of}
-use Rattle.tz_posix.specs.PosixZones.{Gives, GivesTotal, PosixZone}
 use Rattle.tz_posix.proofs.CallLemmas.{gives_total, string_accepts, string_total, zone_total}
 use Rattle.tz_posix.proofs.laws.agreed_offset.Goals as goal
 
