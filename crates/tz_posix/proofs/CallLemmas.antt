@@ -24,7 +24,9 @@ use Rattle.tz_posix.specs.Resolved.{resolved}
 use Rattle.tz_posix.specs.Seconds.{east_of}
 use Rattle.tz_posix.specs.declared.date.Date.{Date}
 use Rattle.tz_posix.specs.declared.error.Error.TheVariants.{ComponentRange}
-use Rattle.tz_posix.proofs.AgreementLemmas.{found_place, near, northern_agrees, southern_agrees, southern_covered}
+use Rattle.tz_posix.proofs.AgreementLemmas.{found_place, near}
+use Rattle.tz_posix.proofs.NorthernLemmas.{northern_agrees}
+use Rattle.tz_posix.proofs.SouthernLemmas.{southern_agrees, southern_covered}
 use Rattle.tz_posix.proofs.StandardYearLemmas.{IsNear}
 
 -- a day that a rule may have is not refused before 9999

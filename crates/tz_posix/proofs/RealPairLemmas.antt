@@ -21,7 +21,8 @@ use Rattle.tz_posix.specs.Reading.{expanded_in, entry_in}
 use Rattle.tz_posix.specs.RealPairs.{IsRuledBy, lord_howe_rules, lord_howe_text, lord_howe_value, new_york_text, new_york_value, us_rules}
 use Rattle.tz_posix.specs.Seconds.{offset_seconds, time_seconds}
 use Rattle.tz_posix.specs.Spells.{Spells}
-use Rattle.tz_posix.proofs.AgreementLemmas.{northern_agrees, southern_agrees}
+use Rattle.tz_posix.proofs.NorthernLemmas.{northern_agrees}
+use Rattle.tz_posix.proofs.SouthernLemmas.{southern_agrees}
 use Rattle.tz_posix.proofs.FoundLemmas.{entry_found}
 use Rattle.tz_posix.proofs.MonthPairLemmas.{AreInnerRules, end_inside, northern_apart, northern_order, southern_apart, southern_order, start_inside}
 

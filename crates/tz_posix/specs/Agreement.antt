@@ -75,8 +75,8 @@ pub record IsInYears (offset from to second : ℤ) : Type 0 where
   pub begun : (pos 86400 *ℤ day from 1 1) ≤ℤ (second +ℤ offset)
   pub not_over : (second +ℤ offset) <ℤ (pos 86400 *ℤ day (to +ℤ pos 1) 1 1)
 
--- what is agreed on: a line, its ruleset's two rules, of which one starts the saving and the other ends it, the year that both
--- run from, and the POSIX value
+-- a zone's only line, the two rules that it is ruled by, of which one starts the saving and the other ends it, and the year that
+-- both run from
 pub record TwoRuleZone : Type 0 where
   pub line : ZoneInfo
   pub start : RuleInfo

@@ -76,11 +76,11 @@ later : (a b o s t x y : ℤ) → x ≡ a -ℤ (o +ℤ t) → y ≡ b -ℤ (o +�
 later a b o s t x y e f h = grind (arith, ints)
 
 module _ (line : Line) (f g : RuleInfo) (m : ℕ) where
-  abbrev pub e1 : ℕ → Entry
-  e1 i = entry_of line (first_at line.info.offset f g m i)
+  abbrev pub first_entry : ℕ → Entry
+  first_entry i = entry_of line (first_at line.info.offset f g m i)
 
-  abbrev pub e2 : ℕ → Entry
-  e2 i = entry_of line (second_at line.info.offset f g m i)
+  abbrev pub second_entry : ℕ → Entry
+  second_entry i = entry_of line (second_at line.info.offset f g m i)
 
   -- the entries of the first k years from 1800 + m on, the latest first
   abbrev pub entries : ℕ → List Entry
@@ -90,20 +90,20 @@ module _ (line : Line) (f g : RuleInfo) (m n : ℕ) (has : HasTwoRules line f g 
   abbrev offset : ℤ
   offset = line.info.offset
 
-  second_differs : (i : ℕ) → is_same_span (e2 line f g m i).1 (e1 line f g m i).1 ≡ false
+  second_differs : (i : ℕ) → is_same_span (second_entry line f g m i).1 (first_entry line f g m i).1 ≡ false
   second_differs i = other_saving _ _ _ turns.g_differs
 
-  first_differs : (i j : ℕ) → is_same_span (e1 line f g m j).1 (e2 line f g m i).1 ≡ false
+  first_differs : (i j : ℕ) → is_same_span (first_entry line f g m j).1 (second_entry line f g m i).1 ≡ false
   first_differs i j = other_saving _ _ _ turns.f_differs
 
   second_late : (i : ℕ) → suc i < n
-      → is_no_later (e2 line f g m (suc i)) (e1 line f g m (suc i)) (e2 line f g m i) ≡ false
+      → is_no_later (second_entry line f g m (suc i)) (first_entry line f g m (suc i)) (second_entry line f g m i) ≡ false
   second_late i l =
       later (written f (year_from m (suc i))) (written g (year_from m (suc i))) offset f.time_to_add g.time_to_add _ _
       (wall_moment f _ offset g.time_to_add has.f_wall) (wall_moment g _ offset f.time_to_add has.g_wall)
       (turns.order (suc i) l)
 
-  first_late : (i : ℕ) → suc i < n → is_no_later (e1 line f g m (suc i)) (e2 line f g m i) (e1 line f g m i) ≡ false
+  first_late : (i : ℕ) → suc i < n → is_no_later (first_entry line f g m (suc i)) (second_entry line f g m i) (first_entry line f g m i) ≡ false
   first_late i l =
       later (written g (year_from m i)) (written f (year_from m (suc i))) offset g.time_to_add f.time_to_add _ _
       (wall_moment g _ offset f.time_to_add has.g_wall) (wall_moment f _ offset g.time_to_add has.f_wall)
@@ -113,17 +113,17 @@ module _ (line : Line) (f g : RuleInfo) (m n : ℕ) (has : HasTwoRules line f g 
   unfolding kept_of kept_with
   keeps_each zero l = refl
   keeps_each (suc zero) l =
-      ap (λ b. cond b (e1 line f g m 0 ∷ []) (e2 line f g m 0 ∷ e1 line f g m 0 ∷ [])) (second_differs 0)
+      ap (λ b. cond b (first_entry line f g m 0 ∷ []) (second_entry line f g m 0 ∷ first_entry line f g m 0 ∷ [])) (second_differs 0)
   keeps_each (suc (suc i)) l =
       let before = entries line f g m (suc i) in
-      let first = e1 line f g m (suc i) in
-      let second = e2 line f g m (suc i) in
+      let first = first_entry line f g m (suc i) in
+      let second = second_entry line f g m (suc i) in
       ap (kept_of []) (reverse-append (second ∷ first ∷ []) before)
       ∙ kept_of-append (reverse before) [] (first ∷ second ∷ [])
       ∙ ap (λ ks. kept_with (kept_with ks first) second) (keeps_each (suc i) (omega arith))
       ∙ ap (λ ks. kept_with ks second)
-      (keeps_two first (e2 line f g m i) (e1 line f g m i) (entries line f g m i) (first_late i (omega arith)) (first_differs i (suc i)))
-      ∙ keeps_two second first (e2 line f g m i) (e1 line f g m i ∷ entries line f g m i)
+      (keeps_two first (second_entry line f g m i) (first_entry line f g m i) (entries line f g m i) (first_late i (omega arith)) (first_differs i (suc i)))
+      ∙ keeps_two second first (second_entry line f g m i) (first_entry line f g m i ∷ entries line f g m i)
       (second_late i (omega arith)) (second_differs (suc i))
 
   times_fall : (k : ℕ) → k ≤ n → TimesFall (entries line f g m k)

@@ -14,7 +14,7 @@ use Rattle.zone_spans.specs.Faults.{schedule_fault, first_met, is_outside, leave
 use Rattle.zone_spans.specs.Firings.{years_expanded}
 use Rattle.zone_spans.specs.Lines.{Line, Rulesets, is_known, is_ruled, rules_named, zone_lines}
 use Rattle.zone_spans.specs.TwoRules.{AreInTurn, HasTwoRules}
-use Rattle.zone_spans.specs.TwoRuleEntries.{e1, e2, entries, raw_is_entries, sorted_is}
+use Rattle.zone_spans.specs.TwoRuleEntries.{first_entry, second_entry, entries, raw_is_entries, sorted_is}
 use Rattle.zone_spans.specs.declared.fault.SpanFault.TheVariants.{UnknownRuleset, MissingUntil, YearRange, RuleYears, DayRange, NoStandardSpan}
 use Rattle.zone_spans.specs.declared.span.FixedTimespanSet.{FixedTimespanSet}
 
@@ -56,7 +56,7 @@ some_found test (e ∷ es) h = by_test (test e) refl h (λ others. some_found te
         record { entry = later.entry; is = ap (λ b. cond b (Some e) (find test es)) fails ∙ later.is }
 
 module _ (line : Line) (f g : RuleInfo) (m n : ℕ) (has : HasTwoRules line f g m n) (turns : AreInTurn line.info.offset f g m n) (some : 0 < n) (standard : (f.time_to_add ≡ pos 0) ⊎ (g.time_to_add ≡ pos 0)) where
-  one_standard : (k : ℕ) → list_any is_standard (e1 line f g m k ∷ e2 line f g m k ∷ []) ≡ true
+  one_standard : (k : ℕ) → list_any is_standard (first_entry line f g m k ∷ second_entry line f g m k ∷ []) ≡ true
   one_standard k = ⊎_elim
       (λ h. ap (λ s. int_eq s (pos 0) || (int_eq g.time_to_add (pos 0) || false)) h)
       (λ h. ap (λ s. int_eq f.time_to_add (pos 0) || (int_eq s (pos 0) || false)) h ∙ or_true (int_eq f.time_to_add (pos 0)) true refl)
@@ -65,8 +65,8 @@ module _ (line : Line) (f g : RuleInfo) (m n : ℕ) (has : HasTwoRules line f g 
   some_standard : (k : ℕ) → 0 < k → list_any is_standard (reverse (entries line f g m k)) ≡ true
   some_standard zero l = absurd (omega (arith, l))
   some_standard (suc k) l =
-      ap (list_any is_standard) (reverse-append (e2 line f g m k ∷ e1 line f g m k ∷ []) (entries line f g m k))
-      ∙ list_any-append is_standard (reverse (entries line f g m k)) (e1 line f g m k ∷ e2 line f g m k ∷ [])
+      ap (list_any is_standard) (reverse-append (second_entry line f g m k ∷ first_entry line f g m k ∷ []) (entries line f g m k))
+      ∙ list_any-append is_standard (reverse (entries line f g m k)) (first_entry line f g m k ∷ second_entry line f g m k ∷ [])
       ∙ or_true (list_any is_standard (reverse (entries line f g m k))) _ (one_standard k)
 
   raw_standard : list_any is_standard (raw_entries (line ∷ [])) ≡ true

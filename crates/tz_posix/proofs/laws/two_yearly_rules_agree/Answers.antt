@@ -1,5 +1,6 @@
 use Rattle.std.proofs.Common.{⊎_elim}
-use Rattle.tz_posix.proofs.AgreementLemmas.{northern_agrees, northern_compiled, southern_agrees, southern_compiled}
+use Rattle.tz_posix.proofs.NorthernLemmas.{northern_agrees, northern_compiled}
+use Rattle.tz_posix.proofs.SouthernLemmas.{southern_agrees, southern_compiled}
 use Rattle.tz_posix.proofs.laws.two_yearly_rules_agree.Goals as goal
 
 pub returns : goal.returns
@@ -9,5 +10,6 @@ returns c = record {
       (λ south. southern_compiled rulesets zone q same south)
       side;
   northern = northern_agrees;
-  southern = southern_agrees;
+  southern = λ rulesets zone q same south t from.
+      southern_agrees rulesets zone q same south t (record { begun = from.begun; not_over = from.not_over });
 }
