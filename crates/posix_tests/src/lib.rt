@@ -1,7 +1,9 @@
 //! Tests of POSIX TZ strings, from outside the crate: texts that are read and refused, dates, the zones of a database, and
-//! what another reader gives for the strings of the tz database.
+//! what another reader gives for the strings of the tz database, and zones beside the strings that say the same.
 #![tactic(auto)]
 
+#[cfg(test)]
+mod agreement;
 #[cfg(test)]
 mod footers;
 #[cfg(test)]

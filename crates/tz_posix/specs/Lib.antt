@@ -1,3 +1,4 @@
+pub mod Agreement
 pub mod Days
 pub mod InForce
 pub mod Marks
@@ -8,6 +9,7 @@ pub mod PosixShown
 pub mod PosixZones
 pub mod Ranges
 pub mod Reading
+pub mod RealPairs
 pub mod Resolved
 pub mod Seconds
 pub mod Shown

@@ -62,3 +62,9 @@ posix_refusal other t = None
 abbrev pub iana_of : PosixZone → Option FixedTimespanSet
 iana_of (zone set) = Some set
 iana_of other = None
+
+-- it gives the instant this total
+pub record GivesTotal (tz : PosixZone) (t total : ℤ) : Type 0 where
+  pub given : Given
+  pub gives : Gives tz t given
+  pub is : given.total ≡ total

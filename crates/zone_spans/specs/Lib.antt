@@ -13,3 +13,8 @@ pub mod Compiled
 pub mod Bounds
 pub mod Schedules
 pub mod ScheduleLaws
+pub mod TwoRules
+pub mod TwoRuleFirings
+pub mod TwoRuleEntries
+pub mod TwoRuleTotals
+pub mod TwoRuleSets

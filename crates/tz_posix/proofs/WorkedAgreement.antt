@@ -1,0 +1,78 @@
+-- The words of the agreement on cases that are known from outside; times are those of `date -u -d`.
+use Rattle.std.proofs.Common.{◌≡◌, refl, arith, [], ◌∷◌, map, None, ℤ, pos, neg_ℤ, negsuc}
+use Rattle.calendar.specs.Dates.{last_with}
+use Rattle.calendar.specs.Days.{is_leap, days_in_year, days_in_month, days_after_zero, year_start, days_through, days_into_year, day}
+use Rattle.calendar.specs.Signs.{signed}
+use Rattle.calendar.specs.Weekdays.{weekday_of}
+use Rattle.zone_values.specs.Days.{first_from, named_day}
+use Rattle.zone_values.specs.declared.day.DaySpec.TheVariants.{FirstOnOrAfter, Last}
+use Rattle.zone_values.specs.declared.month.Month.TheVariants.{March, April, October, November}
+use Rattle.zone_values.specs.declared.weekday.Weekday.TheVariants.{Sunday, Thursday, Saturday}
+use Rattle.zone_table.specs.Moments.{instant_of, moment}
+use Rattle.zone_table.specs.declared.format.Format.{Format}
+use Rattle.zone_table.specs.declared.zone.Saving.TheVariants.{Multiple}
+use Rattle.zone_table.specs.declared.zone.ZoneInfo.{ZoneInfo}
+use Rattle.tz_posix.specs.Agreement.{IsInYears, IsSameDay, IsTimeOfDay, end_in, first_year, start_in}
+use Rattle.tz_posix.specs.Agreement.{from_first, from_eighth, from_fifteenth, from_twenty_second, last_of_month}
+use Rattle.tz_posix.specs.RealPairs.{lord_howe_rules, us_rules}
+use Rattle.tz_posix.specs.declared.date.Date.TheVariants.{M}
+
+-- days of rules of the tz database, each with the date that `zic` writes for it
+worked_days : IsSameDay November Sunday (FirstOnOrAfter Sunday (pos 1)) (M 11 1 0)
+    × IsSameDay March Sunday (FirstOnOrAfter Sunday (pos 8)) (M 3 2 0)
+    × IsSameDay October Sunday (FirstOnOrAfter Sunday (pos 15)) (M 10 3 0)
+    × IsSameDay March Saturday (FirstOnOrAfter Saturday (pos 22)) (M 3 4 6)
+    × IsSameDay April Thursday (Last Thursday) (M 4 5 4)
+worked_days = (from_first, from_eighth, from_fifteenth, from_twenty_second, last_of_month)
+
+-- rules from before 1800 on are expanded from 1800 on
+worked_years : map first_year (pos 2099 ∷ pos 2007 ∷ pos 1800 ∷ pos 1799 ∷ pos 0 ∷ neg_ℤ (pos 44) ∷ [])
+    ≡ pos 2099 ∷ pos 2007 ∷ pos 1800 ∷ pos 1800 ∷ pos 1800 ∷ pos 1800 ∷ []
+worked_years = refl
+
+-- a line with an offset and rules of its own
+abbrev ruled_at : ℤ → Format → ZoneInfo
+ruled_at offset format = record { offset = offset; saving = Multiple []; format = format; end_time = None }
+
+-- New York in 2024, 2024-03-10 07:00 and 2024-11-03 06:00 UTC; Lord Howe in 2024, 2024-10-05 15:30 and 2024-04-06 15:00
+worked_changes : (format : Format)
+    → start_in (us_rules (ruled_at (negsuc 17999) format) None None) (pos 2024)
+    ∷ end_in (us_rules (ruled_at (negsuc 17999) format) None None) (pos 2024)
+    ∷ start_in (lord_howe_rules (ruled_at (pos 37800) format) None None) (pos 2024)
+    ∷ end_in (lord_howe_rules (ruled_at (pos 37800) format) None None) (pos 2024) ∷ []
+    ≡ pos 1710054000 ∷ pos 1730613600 ∷ pos 1728142200 ∷ pos 1712415600 ∷ []
+unfolding
+    moment instant_of named_day first_from last_with weekday_of
+    is_leap days_in_year days_in_month days_after_zero year_start days_through days_into_year day
+worked_changes format = refl
+
+day_2024 : day (pos 2024) 1 1 ≡ pos 19723
+unfolding is_leap days_in_year days_in_month days_after_zero year_start days_through days_into_year day
+day_2024 = refl
+
+day_2025 : day (pos 2025) 1 1 ≡ pos 20089
+unfolding is_leap days_in_year days_in_month days_after_zero year_start days_through days_into_year day
+day_2025 = refl
+
+-- at -5:00 the year 2024 begins at 2024-01-01 05:00 UTC and ends before 2025-01-01 05:00
+worked_first : IsInYears (negsuc 17999) (pos 2024) (pos 2024) (pos 1704085200)
+worked_first = record { begun = omega (arith, signed, day_2024); not_over = omega (arith, signed, day_2025) }
+
+worked_last : IsInYears (negsuc 17999) (pos 2024) (pos 2024) (pos 1735707599)
+worked_last = record { begun = omega (arith, signed, day_2024); not_over = omega (arith, signed, day_2025) }
+
+worked_before : IsInYears (negsuc 17999) (pos 2024) (pos 2024) (pos 1704085199) → ⊥
+worked_before h = absurd (omega (arith, signed, day_2024, h.begun))
+
+worked_after : IsInYears (negsuc 17999) (pos 2024) (pos 2024) (pos 1735707600) → ⊥
+worked_after h = absurd (omega (arith, signed, day_2025, h.not_over))
+
+-- midnight and the second before the next are times of day, and no others beside them
+worked_times : IsTimeOfDay (pos 0) × IsTimeOfDay (pos 86399)
+worked_times = (
+  record { least = omega (arith, signed); greatest = omega (arith, signed) },
+  record { least = omega (arith, signed); greatest = omega (arith, signed) },
+)
+
+worked_no_times : (IsTimeOfDay (negsuc 0) → ⊥) × (IsTimeOfDay (pos 86400) → ⊥)
+worked_no_times = (λ h. absurd (omega (arith, signed, h.least)), λ h. absurd (omega (arith, signed, h.greatest)))
