@@ -1,8 +1,6 @@
 -- How a run ends after both of its texts were read, or the first of them.
-use Rattle.std.proofs.Common.{◌≡◌, ◌≢◌, ◌⊎◌, ℕ, ◌+◌, ◌<◌, ◌≤◌, List, [], Option, Some, None, IfSome, length, get_or, ◌∷◌, refl, sym, ap, ◌∙◌, subst, inl, inr, arith}
+use Rattle.std.proofs.Common.{◌≡◌, ◌≢◌, ◌⊎◌, ℕ, ◌+◌, ◌<◌, ◌≤◌, List, [], Option, Some, None, IfSome, length, refl, sym, subst, inl, inr, arith}
 use Rattle.std.proofs.lemmas.Option.{IfSome_then, none-some}
-use Rattle.std.specs.Prelude.{String, string_bytes}
-use Rattle.std.specs.declared.alloc.Global.{Global}
 use Rattle.zone_outside.specs.Outside.{Counted, Rose, TooMuch}
 use Rattle.zone_outside.specs.declared.whole.ReadEnd.{ReadEnd}
 use Rattle.zone_outside.specs.declared.whole.ReadEnd.TheVariants as read
@@ -13,7 +11,7 @@ use Rattle.zone_answers.specs.Ends.{Ends, EndsBy, IsSilent}
 use Rattle.zone_answers.specs.Faults.{Fault, fault}
 use Rattle.zone_answers.specs.Responses.{Responds}
 use Rattle.zone_answers.specs.Seen.{Seen, InputSeen}
-use Rattle.zone_answers.specs.Words.{answer_over, task_of}
+use Rattle.zone_answers.specs.Words.{answer_over}
 use Rattle.zone_answers.specs.declared.respond.Answered.TheVariants as answered
 
 -- a text was read to its end
@@ -244,11 +242,3 @@ input_ends name before now source read.NoMemory first second same = record {
     memory_ends : (found : Option Fault) → EndsBy found status.NoMemory
     memory_ends None = inr refl
     memory_ends (Some f) = inr refl
-
--- one word asks for the answers over the file of that name
-pub one_task : (words : List (String Global)) (word : String Global) (name : List ℕ) → name ≡ string_bytes word
-    → word ≡ get_or words 0 word →
-    1 ≤ length words → length words < 2 → Some (answer_over name) ≡ task_of words
-one_task [] word name is there some few = absurd (omega arith)
-one_task (w ∷ []) word name is there some few = ap (λ n. Some (answer_over n)) (is ∙ ap string_bytes there)
-one_task (w ∷ v ∷ ws) word name is there some few = absurd (omega arith)

@@ -9,3 +9,7 @@ pub mod RefusalLemmas
 pub mod EndLemmas
 pub mod AnswerRows
 pub mod FaultRows
+pub mod CountLemmas
+pub mod MadeLemmas
+pub mod SummaryLemmas
+pub mod GenerateRows

@@ -28,12 +28,12 @@ due_fault : (source requests : List ℕ) (f : faults.Fault) → fault source req
 unfolding due_bytes
 due_fault source requests f is = ap (λ o. option_map_or (λ f. fault_line f ++ 10 ∷ []) o (ended (answer_lines source requests))) (sym is)
 
-grew_told : (taken now : Option (List ℕ)) (bytes due : List ℕ) → bytes ≡ due → IfSome taken (λ had. now ≡ Some (had ++ bytes))
+pub grew_told : (taken now : Option (List ℕ)) (bytes due : List ℕ) → bytes ≡ due → IfSome taken (λ had. now ≡ Some (had ++ bytes))
     → IfSome taken (λ had. now ≡ Some (had ++ due))
 grew_told None now bytes due is h = tt
 grew_told (Some had) now bytes due is h = h ∙ ap (λ b. Some (had ++ b)) is
 
-grew_some_told : (taken now : Option (List ℕ)) (bytes due : List ℕ) → bytes ≡ due → IfSome taken (λ had. GrewByPrefix had now bytes)
+pub grew_some_told : (taken now : Option (List ℕ)) (bytes due : List ℕ) → bytes ≡ due → IfSome taken (λ had. GrewByPrefix had now bytes)
     → IfSome taken (λ had. GrewByPrefix had now due)
 grew_some_told None now bytes due is h = tt
 grew_some_told (Some had) now bytes due is h = rw (← is) h

@@ -5,7 +5,7 @@ use Rattle.zone_outside.specs.Limit.{text_limit}
 use Rattle.zone_answers.specs.Due.{shown, due_bytes}
 use Rattle.zone_answers.specs.Faults.{Fault, fault, IsValid}
 use Rattle.zone_answers.specs.ReadBack.{IsReadBack}
-use Rattle.zone_answers.specs.Seen.{Seen, IfSource, IfRequests, IfTold, Grew, GrewBySome, NoneFailed}
+use Rattle.zone_answers.specs.Seen.{Seen, IfFile, IfSource, IfRequests, IfTold, Grew, GrewBySome, NoneFailed}
 use Rattle.zone_answers.specs.Words.{Task}
 use Rattle.zone_source.specs.declared.status.Status.{Status}
 use Rattle.zone_source.specs.declared.status.Status.TheVariants as status
@@ -30,9 +30,9 @@ pub record Ends (task : Option Task) (before now : Seen) (end : Status) : Type 0
   pub untouched : end ≡ status.Words → now ≡ before
   -- the input is touched only where the shelf's text was read to its end
   pub order : (now.input ≡ before.input) ⊎ IfSource task before.shelf (λ source. now.shelf.left ≡ Some [])
-  -- 0 and 2: both texts were read to their end, and what is due was written
+  -- 0 and 2: where a file is read, both texts were read to their end, and what is due was written
   pub shelf_ended : (end ≡ status.Done) ⊎ (end ≡ status.Fault) → IfSource task before.shelf (λ source. now.shelf.left ≡ Some [])
-  pub input_ended : (end ≡ status.Done) ⊎ (end ≡ status.Fault) → IfRequests before.input (λ requests. now.input.left ≡ Some [])
+  pub input_ended : (end ≡ status.Done) ⊎ (end ≡ status.Fault) → IfFile task (IfRequests before.input (λ requests. now.input.left ≡ Some []))
   pub done : end ≡ status.Done → IfTold task before (λ source requests.
       IsValid source requests × All IsReadBack (shown source requests) × Grew before.output now.output (due_bytes source requests))
   pub refused : end ≡ status.Fault → IfTold task before (λ source requests.

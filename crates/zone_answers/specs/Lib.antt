@@ -6,9 +6,15 @@ pub mod AnswerLines
 pub mod FaultLines
 pub mod Told
 pub mod Due
+pub mod Counts
 pub mod Words
+pub mod Tasks
 pub mod Seen
 pub mod ReadBack
 pub mod Responses
 pub mod Ends
+pub mod Made
+pub mod Summary
+pub mod Summarised
+pub mod Generated
 pub mod Opened

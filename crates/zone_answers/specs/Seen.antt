@@ -42,6 +42,10 @@ seen of_shelf of_input of_output shelf input output = record {
   output = output_seen of_output output;
 }
 
+-- where a file is read
+abbrev pub IfFile : Option Task → Type 0 → Type 0
+IfFile task P = IfSome (file_of task) (λ name. P)
+
 -- where a file is read and the shelf tells its text
 abbrev pub IfSource : Option Task → ShelfSeen → (List ℕ → Type 0) → Type 0
 IfSource task shelf P = IfSome (file_of task) (λ name. IfSome (shelf.told name) P)

@@ -5,10 +5,13 @@ mod answer_lines;
 mod answering;
 mod error;
 mod fault;
+mod made;
 mod request;
 mod respond;
 mod running;
 mod showing;
+mod summary;
+mod words;
 mod zones;
 
 pub use answer_lines::Answers;

@@ -46,7 +46,7 @@ pub(crate) fn respond<O: Sink>(
 }
 
 /// Writes the line of the fault, if the error tells one.
-fn write_error<O: Sink>(output: &mut O, error: &AnswerError) -> Answered
+pub(crate) fn write_error<O: Sink>(output: &mut O, error: &AnswerError) -> Answered
     ensures { RespondsError (fault_told error.now) (output_seen O.Sink output.old) (output_seen O.Sink output.new) result }
 {
     if !error.is_fault() {

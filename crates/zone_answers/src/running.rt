@@ -1,11 +1,15 @@
 //! The top call.
-ghost use Rattle.std.specs.Prelude.{◌≡◌, ◌≢◌, ◌⊎◌, ◌↔◌, ◌<◌, ◌≤◌, ℕ, List, length, IsNone, IsSome, Some};
+ghost use Rattle.std.specs.Prelude.{◌≡◌, ◌≢◌, ◌⊎◌, ◌↔◌, ◌<◌, ◌≤◌, ℕ, List, length, IfSome, IsNone, IsSome, Some};
 ghost use Rattle.zone_answers.specs.Ends.{Ends, EndsBy, IsPastLimit};
 ghost use Rattle.zone_answers.specs.Faults.{fault};
-ghost use Rattle.zone_answers.specs.Seen.{seen};
-ghost use Rattle.zone_answers.specs.Words.{file_of, task_of};
+ghost use Rattle.zone_answers.specs.Generated.{Generated, WritesMade, made_fault};
+ghost use Rattle.zone_answers.specs.Seen.{output_seen, seen};
+ghost use Rattle.zone_answers.specs.Words.{answer_over, count_of, file_of, task_of};
 
+use crate::made::{made_requests, made_source};
 use crate::respond::{Answered, respond};
+use crate::summary::summarise;
+use crate::words::Task;
 use std::alloc::Global;
 use zone_line::LineParser;
 use zone_source::{
@@ -13,11 +17,12 @@ use zone_source::{
 };
 
 /// Answers the requests of the input over the named text of the shelf, and writes the answers, or the first fault, to
-/// the output.
+/// the output. With the words `--generate` and a number from 1 to 1000 it answers over texts made from the number, touches
+/// neither the shelf nor the input, and writes a summary of the answers in place of them.
 ///
 /// It works in this order: the words; the shelf's text to its end; the input's to its end; the answers; the writing.
 /// What each status says is told field by field by `Ends`: 0 only on valid input, with exactly one line written for each
-/// request, in order; every other status only by its stated cause.
+/// request, in order; every other status only by its stated cause. `Generated` says the same of a run over made texts.
 pub fn run<H: Shelf, I: Source, O: Sink>(
     alloc: Global,
     parser: &LineParser,
@@ -27,14 +32,35 @@ pub fn run<H: Shelf, I: Source, O: Sink>(
     output: &mut O,
 ) -> Status
     requires { (name : List ℕ) → file_of (task_of words.now) ≡ Some name → H.open_to shelf.old name }
-    ensures { Ends (task_of words.now)
+    ensures ends { Ends (task_of words.now)
+        (seen H.Source I.Source O.Sink shelf.old input.old output.old)
+        (seen H.Source I.Source O.Sink shelf.new input.new output.new) result }
+    ensures generated { IfSome (count_of (task_of words.now)) (λ count. Generated count
+        (seen H.Source I.Source O.Sink shelf.old input.old output.old)
+        (seen H.Source I.Source O.Sink shelf.new input.new output.new) result) }
+{
+    match Task::read(words) {
+        Some(Task::AnswerOver(name)) => run_over(alloc, parser, name, shelf, input, output),
+        Some(Task::Generate(count)) => run_made(alloc, parser, count, output),
+        None => Status::Words,
+    }
+}
+
+/// Answers the requests of the input over the named text of the shelf.
+fn run_over<H: Shelf, I: Source, O: Sink>(
+    alloc: Global,
+    parser: &LineParser,
+    name: &str,
+    shelf: &mut H,
+    input: &mut I,
+    output: &mut O,
+) -> Status
+    requires { H.open_to shelf.old name.now }
+    ensures { Ends (Some (answer_over name.now))
         (seen H.Source I.Source O.Sink shelf.old input.old output.old)
         (seen H.Source I.Source O.Sink shelf.new input.new output.new) result }
 {
-    let [word] = words else {
-        return Status::Words;
-    };
-    let source = match fetch_all(alloc, shelf, word.as_str()) {
+    let source = match fetch_all(alloc, shelf, name) {
         Ok(source) => source,
         Err(end) => return Status::from(end),
     };
@@ -43,6 +69,25 @@ pub fn run<H: Shelf, I: Source, O: Sink>(
         Err(end) => return Status::from(end),
     };
     match respond(alloc, parser, &source, &requests, output) {
+        Answered::Done => Status::Done,
+        Answered::Fault => Status::Fault,
+        Answered::Failed => Status::Write,
+        Answered::NoMemory => Status::NoMemory,
+    }
+}
+
+/// Answers over the texts made from the number, and writes the summary of the answers, or the first fault.
+fn run_made<O: Sink>(alloc: Global, parser: &LineParser, count: u64, output: &mut O) -> Status
+    requires { count ≤ 1000 }
+    ensures { WritesMade count (output_seen O.Sink output.old) (output_seen O.Sink output.new) result }
+{
+    let Ok(source) = made_source(alloc, count) else {
+        return Status::NoMemory;
+    };
+    let Ok(requests) = made_requests(alloc, count) else {
+        return Status::NoMemory;
+    };
+    match summarise(alloc, parser, &source, &requests, output) {
         Answered::Done => Status::Done,
         Answered::Fault => Status::Fault,
         Answered::Failed => Status::Write,
@@ -63,9 +108,10 @@ pub fn run_surely(
     ensures read { result ≢ Status.Read }
     ensures write { result ≢ Status.Write }
     ensures words { (result ≡ Status.Words) ↔ IsNone (task_of words.now) }
-    ensures complete { IsSome (task_of words.now) → length shelf.old.bytes ≤ LIMIT → length input.old.left ≤ LIMIT →
+    ensures complete { IsSome (file_of (task_of words.now)) → length shelf.old.bytes ≤ LIMIT → length input.old.left ≤ LIMIT →
         EndsBy (fault shelf.old.bytes input.old.left) result }
-    ensures past_limit { IsSome (task_of words.now) → (LIMIT < length shelf.old.bytes) ⊎ (LIMIT < length input.old.left) → IsPastLimit result }
+    ensures past_limit { IsSome (file_of (task_of words.now)) → (LIMIT < length shelf.old.bytes) ⊎ (LIMIT < length input.old.left) → IsPastLimit result }
+    ensures generated { IfSome (count_of (task_of words.now)) (λ count. EndsBy (made_fault count) result) }
 {
     run(alloc, parser, words, shelf, input, output)
 }

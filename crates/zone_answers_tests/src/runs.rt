@@ -11,7 +11,7 @@ use zone_answers::{
 };
 use zone_line::LineParser;
 
-const FIXED: &str = "Zone Test/Fixed 1:30 - TST\n";
+pub(crate) const FIXED: &str = "Zone Test/Fixed 1:30 - TST\n";
 
 /// A source, its requests and what is written, with `~` between them and `;` for each line feed. A row without a source
 /// has that of the row above it.
@@ -92,17 +92,17 @@ Zone America/New_York -5:00 US E%sT
 ";
 
 /// How many bytes each output takes.
-const ROOM: usize = 200;
+pub(crate) const ROOM: usize = 200;
 
 /// The calls of each object that fail.
 #[derive(Clone, Copy)]
-struct Failing<'a> {
-    shelf: &'a [u64],
-    input: &'a [u64],
-    output: &'a [u64],
+pub(crate) struct Failing<'a> {
+    pub(crate) shelf: &'a [u64],
+    pub(crate) input: &'a [u64],
+    pub(crate) output: &'a [u64],
 }
 
-const NONE_FAILING: Failing<'static> = Failing {
+pub(crate) const NONE_FAILING: Failing<'static> = Failing {
     shelf: &[],
     input: &[],
     output: &[],
@@ -110,17 +110,17 @@ const NONE_FAILING: Failing<'static> = Failing {
 
 /// How a run ended, and what it wrote.
 #[derive(Drop)]
-struct Outcome {
-    status: Status,
-    sink: MemSink,
+pub(crate) struct Outcome {
+    pub(crate) status: Status,
+    pub(crate) sink: MemSink,
 }
 
-fn parser(alloc: Global) -> Result<LineParser, Fail> {
+pub(crate) fn parser(alloc: Global) -> Result<LineParser, Fail> {
     Ok(LineParser::new(alloc).ok().ok_or("not built")?)
 }
 
 /// The words between spaces.
-fn words_of(alloc: Global, text: &str) -> Result<Vec<String>, AllocError> {
+pub(crate) fn words_of(alloc: Global, text: &str) -> Result<Vec<String>, AllocError> {
     let mut words = Vec::new(alloc);
     for word in text.split_whitespace() {
         words.push(String::from_str(alloc, word)?)?;

@@ -7,7 +7,7 @@ use zone_outside::ReadEnd;
 pub enum Status {
     /// Every line was written.
     Done,
-    /// The words are not one file name.
+    /// The words are in no form that the program takes.
     Words,
     /// The line of a fault was written.
     Fault,

@@ -1,73 +1,9 @@
-use Rattle.std.proofs.Common.{Err, refl, ap}
-use Rattle.zone_answers.proofs.EndLemmas.{done_ends, fault_ends, failed_ends, input_ends, one_task}
+use Rattle.std.proofs.Common.{map, sym}
+use Rattle.std.specs.Prelude.{string_bytes}
+use Rattle.zone_answers.proofs.CountLemmas.{asks_few}
 use Rattle.zone_answers.proofs.running.run.Goals as goal
 
-pub returns-in-Err-read_all : goal.returns-in-Err-read_all
-returns-in-Err-read_all g c =
-    let asked =
-    one_task c.args.words.now c.word-item.result c.as_str.result.now c.as_str.ensures.value c.word-item.is
-    c.in-len1.len_at_least c.in-len1.len_below in
-    let input = c.in-Err-read_all.ensures in
-    rw (← asked, c.from-in-Err-read_all.ensures) (input_ends c.as_str.result.now _ _ c.in-Ok.source.items c.in-Err-read_all.end
-    (record { text = c.in-Ok.ensures.bytes; within = c.in-Ok.ensures.within; given = c.in-Ok.ensures.ok_given })
-    (record {
-      failed = λ e. input.failed (ap Err e);
-      long = λ e. input.long (ap Err e);
-      long_text = λ e. input.long_text (ap Err e);
-      failed_given = λ e. input.failed_given (ap Err e);
-    })
-    refl)
-
-pub returns-in-Done : goal.returns-in-Done
-returns-in-Done g c =
-    let asked =
-    one_task c.args.words.now c.word-item.result c.as_str.result.now c.as_str.ensures.value c.word-item.is
-    c.in-len1.len_at_least c.in-len1.len_below in
-    let responds = rw (c.deref.ensures.value, c.deref-2.ensures.value) at c.in-Done.ensures in
-    rw (← asked) (done_ends c.as_str.result.now _ _ c.in-Ok.source.items c.in-Ok-read_all.requests.items
-    (record {
-      shelf = record { text = c.in-Ok.ensures.bytes; within = c.in-Ok.ensures.within; given = c.in-Ok.ensures.ok_given };
-      input =
-          record {
-            text = c.in-Ok-read_all.ensures.bytes;
-            within = c.in-Ok-read_all.ensures.within;
-            given = c.in-Ok-read_all.ensures.ok_given;
-          };
-    })
-    responds)
-
-pub returns-in-Fault : goal.returns-in-Fault
-returns-in-Fault g c =
-    let asked =
-    one_task c.args.words.now c.word-item.result c.as_str.result.now c.as_str.ensures.value c.word-item.is
-    c.in-len1.len_at_least c.in-len1.len_below in
-    let responds = rw (c.deref.ensures.value, c.deref-2.ensures.value) at c.in-Fault.ensures in
-    rw (← asked) (fault_ends c.as_str.result.now _ _ c.in-Ok.source.items c.in-Ok-read_all.requests.items
-    (record {
-      shelf = record { text = c.in-Ok.ensures.bytes; within = c.in-Ok.ensures.within; given = c.in-Ok.ensures.ok_given };
-      input =
-          record {
-            text = c.in-Ok-read_all.ensures.bytes;
-            within = c.in-Ok-read_all.ensures.within;
-            given = c.in-Ok-read_all.ensures.ok_given;
-          };
-    })
-    responds)
-
-pub returns-in-Failed : goal.returns-in-Failed
-returns-in-Failed g c =
-    let asked =
-    one_task c.args.words.now c.word-item.result c.as_str.result.now c.as_str.ensures.value c.word-item.is
-    c.in-len1.len_at_least c.in-len1.len_below in
-    let responds = rw (c.deref.ensures.value, c.deref-2.ensures.value) at c.in-Failed.ensures in
-    rw (← asked) (failed_ends c.as_str.result.now _ _ c.in-Ok.source.items c.in-Ok-read_all.requests.items
-    (record {
-      shelf = record { text = c.in-Ok.ensures.bytes; within = c.in-Ok.ensures.within; given = c.in-Ok.ensures.ok_given };
-      input =
-          record {
-            text = c.in-Ok-read_all.ensures.bytes;
-            within = c.in-Ok-read_all.ensures.within;
-            given = c.in-Ok-read_all.ensures.ok_given;
-          };
-    })
-    responds)
+pub run_made-requires : goal.run_made-requires
+run_made-requires g c =
+    let asked = rw c.in-Some-Generate.field-0-is at c.in-Some-Generate.ensures in
+    asks_few (map string_bytes c.args.words.now) c.in-Some-Generate.count (sym asked)

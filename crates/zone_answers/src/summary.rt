@@ -1,0 +1,80 @@
+//! A summary of the answers, in place of the answers themselves.
+ghost use Rattle.std.specs.Prelude.{◌≡◌, ◌≤◌, [], ◌∷◌, ◌++◌, length, sum};
+ghost use Rattle.std.specs.List.{concat};
+ghost use Rattle.zone_answers.specs.Seen.{output_seen};
+ghost use Rattle.zone_answers.specs.Summarised.{Summarises};
+ghost use Rattle.zone_answers.specs.Summary.{summary};
+
+use crate::answer_lines::Answers;
+use crate::answering::answers;
+use crate::respond::{Answered, write_error};
+use arrayvec::ArrayString;
+use itoa::Buffer;
+use std::alloc::Global;
+use zone_line::LineParser;
+use zone_source::{LIMIT, Sink, write_all};
+
+/// Answers the requests over the source, and writes the summary of the answers, or the first fault.
+pub(crate) fn summarise<O: Sink>(
+    alloc: Global,
+    parser: &LineParser,
+    source: &[u8],
+    requests: &[u8],
+    output: &mut O,
+) -> Answered
+    requires source { length source.now ≤ LIMIT }
+    requires requests { length requests.now ≤ LIMIT }
+    ensures { Summarises source.now requests.now (output_seen O.Sink output.old) (output_seen O.Sink output.new) result }
+{
+    match answers(alloc, parser, source, requests) {
+        Ok(lines) => match write_all(output, summary_line(&lines).as_bytes()) {
+            Ok(()) => Answered::Done,
+            Err(_) => Answered::Failed,
+        },
+        Err(error) => write_error(output, &error),
+    }
+}
+
+/// The line `lines L bytes B sum S`, with its LF: how many lines there are, how many bytes in them, and the sum of these.
+#[tactic(auto, unfolding(crate::specs::Summary::summary))]
+fn summary_line(lines: &Answers) -> ArrayString<160>
+    ensures { result.bytes ≡ summary lines.now ++ 10 ∷ [] }
+{
+    let mut digits = Buffer::new();
+    let mut line = ArrayString::<160>::new();
+    line.push_str("lines ");
+    line.push_str(digits.format(lines.len()));
+    line.push_str(" bytes ");
+    line.push_str(digits.format(size_of(lines)));
+    line.push_str(" sum ");
+    line.push_str(digits.format(sum_of_lines(lines)));
+    line.push_str("\n");
+    line
+}
+
+/// How many bytes the lines have, without their line feeds.
+#[tactic(auto, using(crate::proofs::SummaryLemmas::length_ended))]
+fn size_of(lines: &Answers) -> usize
+    ensures { result ≡ length (concat lines.now) }
+{
+    lines.as_bytes().len() - lines.len()
+}
+
+/// The sum of these bytes; each line feed is one of 10.
+#[tactic(auto, using(crate::proofs::SummaryLemmas::sum_ended))]
+fn sum_of_lines(lines: &Answers) -> u128
+    ensures { result ≡ sum (concat lines.now) }
+{
+    sum_of(lines.as_bytes()) - 10 * lines.len() as u128
+}
+
+/// The sum of the bytes.
+fn sum_of(bytes: &[u8]) -> u128
+    ensures { result ≡ sum bytes.now }
+{
+    let mut total = 0u128;
+    for byte in bytes {
+        total += u128::from(*byte);
+    }
+    total
+}
