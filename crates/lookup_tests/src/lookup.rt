@@ -10,7 +10,7 @@ use tz_lookup::{
     PrimitiveDateTimeExt, TimeZone, Tz, TzFault,
 };
 
-fn span(alloc: Global, offset: i64, saving: i64) -> Result<FixedTimespan, AllocError> {
+pub(crate) fn span(alloc: Global, offset: i64, saving: i64) -> Result<FixedTimespan, AllocError> {
     Ok(FixedTimespan {
         utc_offset: offset,
         dst_offset: saving,
@@ -19,7 +19,7 @@ fn span(alloc: Global, offset: i64, saving: i64) -> Result<FixedTimespan, AllocE
 }
 
 /// A set of a first offset, and of offsets from some seconds on.
-fn set_of(
+pub(crate) fn set_of(
     alloc: Global,
     first: i64,
     entries: &[(i64, i64)],
@@ -36,7 +36,7 @@ fn set_of(
 }
 
 /// The date-time at UTC so many seconds from 1970-01-01 00:00:00.
-fn at(second: i64) -> Result<OffsetDateTime, Fail> {
+pub(crate) fn at(second: i64) -> Result<OffsetDateTime, Fail> {
     Ok(
         OffsetDateTime::from_unix_timestamp(second)
             .ok()
@@ -45,7 +45,7 @@ fn at(second: i64) -> Result<OffsetDateTime, Fail> {
 }
 
 /// The local time so many seconds from 1970-01-01 00:00:00.
-fn local(second: i64) -> Result<PlainDateTime, Fail> {
+pub(crate) fn local(second: i64) -> Result<PlainDateTime, Fail> {
     let date = at(second)?.date();
     let time = at(second)?.time();
     Ok(PlainDateTime::new(date, time))
@@ -69,7 +69,7 @@ fn offsets<T: TimeZone>(zone: &T, second: i64) -> Result<(Option<i32>, Option<i3
 }
 
 /// Asserts the offsets of a local second.
-fn expect_offsets<T: TimeZone>(
+pub(crate) fn expect_offsets<T: TimeZone>(
     rt: &impl Abort,
     zone: &T,
     second: i64,
@@ -132,7 +132,7 @@ fn what_is_refused(rt: HostRuntime) -> Result<(), Fail> {
 }
 
 /// Asserts what a zone says at an instant.
-fn expect_at<T: TimeZone>(
+pub(crate) fn expect_at<T: TimeZone>(
     rt: &impl Abort,
     zone: &T,
     second: i64,
@@ -161,7 +161,7 @@ fn zones_of_two_kinds(rt: HostRuntime) -> Result<(), Fail> {
 }
 
 /// A set of winter time, and of summer time from the second 1,000 on.
-fn summer(alloc: Global) -> Result<FixedTimespanSet, AllocError> {
+pub(crate) fn summer(alloc: Global) -> Result<FixedTimespanSet, AllocError> {
     let mut set = set_of(alloc, 3600, &[])?;
     set.first.name = Text::new(alloc, "CET")?;
     let mut saving = span(alloc, 3600, 3600)?;
@@ -171,7 +171,7 @@ fn summer(alloc: Global) -> Result<FixedTimespanSet, AllocError> {
 }
 
 /// Asserts the abbreviation and the kind of an offset.
-fn expect_kind<O: Offset>(rt: &impl Abort, offset: &O, name: &str, saving: bool) {
+pub(crate) fn expect_kind<O: Offset>(rt: &impl Abort, offset: &O, name: &str, saving: bool) {
     same(rt, &offset.name(), &name);
     same(rt, &offset.is_dst(), &saving);
 }

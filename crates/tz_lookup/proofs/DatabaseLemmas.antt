@@ -26,14 +26,14 @@ use Rattle.owned.specs.Keyed.{text_cmp}
 use Rattle.zone_spans.specs.declared.fault.SpanFault.{SpanFault}
 use Rattle.zone_table.specs.declared.table.Table.{Table}
 use Rattle.zone_spans.specs.Schedules.{is_in_offset_range}
-use Rattle.tz_lookup.specs.Compiles.{compiled_in, spans_of, IsCompiledAs, IsTooFar, IsZoneFault}
+use Rattle.tz_zone.specs.Compiles.{compiled_in, spans_of, IsCompiledAs, IsTooFar, IsZoneFault}
 use Rattle.tz_lookup.specs.Databases.{names_of, resolves, found_in, found_as, refusal_of, zone_refusal, first_refused, Named, IsDatabaseFault, name_shown}
-use Rattle.tz_lookup.specs.Sets.{schedule_of, IsAccepted}
-use Rattle.tz_lookup.proofs.CompileLemmas.{totals_same}
-use Rattle.tz_lookup.specs.declared.compile.ZoneFault.{ZoneFault}
-use Rattle.tz_lookup.specs.declared.compile.ZoneFault.TheVariants as zone_fault
+use Rattle.tz_zone.specs.Sets.{schedule_of, IsAccepted}
+use Rattle.tz_zone.specs.CompileLaws.{totals_same}
+use Rattle.tz_zone.specs.declared.compile.ZoneFault.{ZoneFault}
+use Rattle.tz_zone.specs.declared.compile.ZoneFault.TheVariants as zone_fault
 use Rattle.tz_lookup.specs.declared.database.DatabaseFault.TheVariants.{Schedule, OffsetRange}
-use Rattle.tz_lookup.specs.declared.set.FixedTimespanSet.{FixedTimespanSet}
+use Rattle.tz_zone.specs.declared.set.FixedTimespanSet.{FixedTimespanSet}
 
 pub text_same : IsAntisymmetric text_cmp
 text_same = slice_cmp-IsAntisymmetric nat_cmp-IsAntisymmetric

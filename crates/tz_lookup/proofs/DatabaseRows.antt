@@ -15,8 +15,8 @@ use Rattle.zone_spans.specs.declared.fault.SpanFault.TheVariants.{MissingUntil, 
 use Rattle.zone_spans.specs.declared.span.FixedTimespanSet as spans
 use Rattle.zone_table.specs.declared.table.Table.{Table}
 use Rattle.tz_lookup.specs.Databases.{resolves, names_of, refusal_of, first_refused, has_part}
-use Rattle.tz_lookup.specs.declared.compile.ZoneFault.{ZoneFault}
-use Rattle.tz_lookup.specs.declared.compile.ZoneFault.TheVariants.{UnknownZone, Schedule, OffsetRange}
+use Rattle.tz_zone.specs.declared.compile.ZoneFault.{ZoneFault}
+use Rattle.tz_zone.specs.declared.compile.ZoneFault.TheVariants.{UnknownZone, Schedule, OffsetRange}
 use Rattle.tz_lookup.proofs.DatabaseLemmas.{any-filter, text_same}
 
 -- ---- parts of names

@@ -7,22 +7,18 @@ ghost use Rattle.owned.specs.InOrder.{in_order as sorted_names};
 ghost use Rattle.owned.specs.InOrderLaws.{RisesStrictly};
 ghost use Rattle.owned.specs.Keyed.{text_cmp};
 ghost use Rattle.zone_table.specs.BoundedTables.{IsBoundedTable};
-ghost use Rattle.tz_lookup.specs.Compiles.{compiled_in};
+ghost use Rattle.tz_zone.specs.Compiles.{compiled_in};
 ghost use Rattle.tz_lookup.specs.Databases.{names_of, resolves, found_in, found_as, first_refused, zone_refusal, IsDatabaseFault, has_part, name_shown};
-ghost use Rattle.tz_lookup.specs.Sets.{schedule_of, IsAccepted, IsOrderlyZone};
-ghost use Rattle.tz_lookup.specs.Zones.{set_of};
+ghost use Rattle.tz_zone.specs.Sets.{schedule_of, IsAccepted, IsOrderlyZone};
+ghost use Rattle.tz_zone.specs.Zones.{set_of};
 
-use crate::compile::{ZoneFault, compile_zone};
-use crate::orderly::is_orderly;
-use crate::set::FixedTimespanSet;
-use crate::tz::Tz;
 use owned::{Items, Text};
 use std::alloc::{AllocError, Global};
 use std::cmp::Ordering;
 use std::collections::BTreeSet;
 use std::marker::Model;
 use std::slice;
-use zone_spans::SpanFault;
+use tz_zone::{FixedTimespanSet, SpanFault, Tz, ZoneFault, compile_zone, is_orderly};
 use zone_table::Table;
 
 /// Why a table has no database, with the name that is the first in byte order to be refused.
@@ -88,7 +84,7 @@ pub struct Database {
 
 impl Model for Database {
     ghost use Rattle.std.specs.Prelude.{List, map as each};
-    ghost use Rattle.tz_lookup.specs.declared.set.FixedTimespanSet.{FixedTimespanSet};
+    ghost use Rattle.tz_zone.specs.declared.set.FixedTimespanSet.{FixedTimespanSet};
 
     ghost Value = { List FixedTimespanSet };
 
@@ -152,7 +148,7 @@ pub struct DatabaseIter<'a> {
 impl<'a> Model for DatabaseIter<'a> {
     ghost use Rattle.std.specs.Prelude.{List, map as each};
     ghost use Rattle.std.specs.Slice.Iter.{iter_rest};
-    ghost use Rattle.tz_lookup.specs.declared.set.FixedTimespanSet.{FixedTimespanSet};
+    ghost use Rattle.tz_zone.specs.declared.set.FixedTimespanSet.{FixedTimespanSet};
 
     ghost Value = { List FixedTimespanSet };
 
@@ -163,7 +159,7 @@ impl<'a> Iterator for DatabaseIter<'a> {
     type Item = Tz<'a>;
 
     ghost use Rattle.std.specs.Iterator.{YieldsFirstBy, item_count};
-    ghost use Rattle.tz_lookup.specs.Zones.{set_of};
+    ghost use Rattle.tz_zone.specs.Zones.{set_of};
 
     ghost next_gives = { YieldsFirstBy set_of (λ left. left) };
 

@@ -3,36 +3,20 @@
 //! The names are those of the crate `time-tz`.
 #![tactic(auto)]
 
-mod accept;
-mod compile;
-mod counted;
+mod compact_instants;
+mod compact_set;
+mod compact_tz;
 mod database;
-mod extensions;
-mod fixed;
-mod instants;
-mod local;
-mod offsets;
-mod orderly;
-mod result;
-mod scan;
-mod search;
-mod set;
-mod steps;
-mod time_zone;
-mod tz;
-mod utc;
+mod kinds;
+mod numbers;
+mod years;
 
-pub use accept::TzFault;
-pub use compile::{ZoneFault, compile_zone};
+pub use compact_instants::CompactInstants;
+pub use compact_set::{CompactFault, CompactSet};
+pub use compact_tz::{CompactOffset, CompactTz};
 pub use database::{Database, DatabaseFault, DatabaseIter};
-pub use extensions::{OffsetDateTimeExt, PrimitiveDateTimeExt};
-pub use fixed::{Fixed, FixedOffset};
-pub use instants::InstantsLocal;
-pub use orderly::is_orderly;
-pub use result::OffsetResult;
-pub use search::{Probe, binary_search};
-pub use set::FixedTimespanSet;
-pub use steps::Steps;
-pub use time_zone::{Offset, TimeZone};
-pub use tz::{Tz, TzOffset};
-pub use zone_spans::{FixedTimespan, SpanFault};
+pub use tz_zone::{
+    Fixed, FixedOffset, FixedTimespan, FixedTimespanSet, InstantsLocal, Offset, OffsetDateTimeExt,
+    OffsetResult, PrimitiveDateTimeExt, Probe, SpanFault, SpanTable, Steps, TimeZone, Tz, TzFault,
+    TzOffset, ZoneFault, binary_search, compile_zone, is_orderly,
+};

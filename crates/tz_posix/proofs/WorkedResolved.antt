@@ -1,6 +1,6 @@
 -- What values stand for, over worked databases.
 use Rattle.std.proofs.Common.{◌≡◌, refl, ℕ, true, false, List, [], ◌∷◌, Option, Some, None, Result, Ok, Err, codes, pos, neg_ℤ}
-use Rattle.tz_lookup.specs.declared.set.FixedTimespanSet.{FixedTimespanSet}
+use Rattle.tz_zone.specs.declared.set.FixedTimespanSet.{FixedTimespanSet}
 use Rattle.tz_posix.specs.PosixZones.{PosixZone, zone, fixed, ruled, borrowed}
 use Rattle.tz_posix.specs.Resolved.{resolved}
 use Rattle.tz_posix.specs.Seconds.{offset_seconds, time_seconds}

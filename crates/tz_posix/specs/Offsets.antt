@@ -1,7 +1,7 @@
 -- What is seen of the offsets that texts give.
 use Rattle.std.specs.Prelude.{int_lt, pos}
 use Rattle.tz_lookup.specs.Zones.{span_shown, total_shown}
-use Rattle.tz_lookup.specs.declared.tz.TzOffset.{TzOffset}
+use Rattle.tz_zone.specs.declared.tz.TzOffset.{TzOffset}
 use Rattle.tz_posix.specs.PosixZones.{Given}
 use Rattle.tz_posix.specs.declared.offset.PosixTzOffset.{PosixTzOffset}
 use Rattle.tz_posix.specs.declared.offset.Source.{Source}

@@ -4,7 +4,7 @@ use Rattle.civil_base.specs.Instants.{seconds_of}
 use Rattle.zone_spans.specs.Schedules.{total_at}
 use Rattle.tz_lookup.specs.InForce.{GivesAt}
 use Rattle.tz_lookup.specs.Sets.{schedule_of}
-use Rattle.tz_lookup.specs.declared.set.FixedTimespanSet.{FixedTimespanSet}
+use Rattle.tz_zone.specs.declared.set.FixedTimespanSet.{FixedTimespanSet}
 use Rattle.tz_posix.specs.InForce.{YearlyTime, is_saving, posix_total, rule_refusal}
 use Rattle.tz_posix.specs.declared.error.Error.{Error}
 

@@ -4,7 +4,7 @@ use Rattle.std.specs.List.{find}
 use Rattle.std.specs.Option.{option_map_or}
 use Rattle.std.specs.Str.{bytes_eq}
 use Rattle.tz_lookup.specs.Databases.{has_part}
-use Rattle.tz_lookup.specs.declared.set.FixedTimespanSet.{FixedTimespanSet}
+use Rattle.tz_zone.specs.declared.set.FixedTimespanSet.{FixedTimespanSet}
 use Rattle.tz_posix.specs.InForce.{yearly_time}
 use Rattle.tz_posix.specs.PosixZones.{Named, PosixZone, zone, fixed, ruled, borrowed}
 use Rattle.tz_posix.specs.Seconds.{east_of}

@@ -10,7 +10,7 @@ ghost use Rattle.zone_spans.specs.TwoRuleSets.{IsCompiled};
 ghost use Rattle.tz_lookup.specs.Compiles.{spans_of};
 ghost use Rattle.tz_lookup.specs.Sets.{schedule_of as schedule_in};
 ghost use Rattle.tz_lookup.specs.Zones.{set_of};
-ghost use Rattle.tz_lookup.specs.declared.set.FixedTimespanSet.{FixedTimespanSet};
+ghost use Rattle.tz_zone.specs.declared.set.FixedTimespanSet.{FixedTimespanSet};
 ghost use Rattle.tz_posix.specs.Agreement.{
   IsCovered,
   IsFromFirstStart,

@@ -8,9 +8,9 @@ use Rattle.zone_spans.specs.declared.fault.SpanFault.{SpanFault}
 use Rattle.zone_spans.specs.declared.fault.SpanFault.TheVariants as span
 use Rattle.tz_lookup.specs.Compiles.{spans_of, IsZoneFault}
 use Rattle.tz_lookup.specs.Sets.{schedule_of}
-use Rattle.tz_lookup.specs.declared.compile.ZoneFault.{ZoneFault}
-use Rattle.tz_lookup.specs.declared.compile.ZoneFault.TheVariants as zone
-use Rattle.tz_lookup.specs.declared.set.FixedTimespanSet.{FixedTimespanSet}
+use Rattle.tz_zone.specs.declared.compile.ZoneFault.{ZoneFault}
+use Rattle.tz_zone.specs.declared.compile.ZoneFault.TheVariants as zone
+use Rattle.tz_zone.specs.declared.set.FixedTimespanSet.{FixedTimespanSet}
 use Rattle.zone_answers.specs.Asked.{asked}
 use Rattle.zone_answers.specs.Due.{answer_line, line_shown, shown_at, shown_by}
 use Rattle.zone_answers.specs.Faults.{bad_request, offset_range, range, request_not_text, has_dates, found_refusal, request_refusal}

@@ -7,10 +7,10 @@ use Rattle.owned.specs.Keyed.{text_cmp}
 use Rattle.owned.specs.KeyedLaws.{get-inserted}
 use Rattle.zone_table.specs.declared.table.Table.{Table}
 use Rattle.zone_answers.specs.Opened.{IsOpened}
-use Rattle.zone_answers.specs.declared.zones.Opened.{Opened}
+use Rattle.tz_lookup.specs.declared.compact_set.CompactSet.{CompactSet}
 
 -- a zone that is opened under its name joins those that are
-pub each_kept : (table : Table) (zones : FinMap text_cmp Opened) (name : List ℕ) (zone : Opened) →
+pub each_kept : (table : Table) (zones : FinMap text_cmp CompactSet) (name : List ℕ) (zone : CompactSet) →
     ((n : List ℕ) → IfSome (get zones n) (IsOpened table n)) → IsOpened table name zone →
     (n : List ℕ) → IfSome (get (insert zones name zone) n) (IsOpened table n)
 each_kept table zones name zone each is n = rw (get-inserted zones name n zone) (by_name (bytes_eq name n) refl)
@@ -19,7 +19,7 @@ each_kept table zones name zone each is n = rw (get-inserted zones name n zone) 
     by_name true e = subst (λ n. IsOpened table n zone) ((bytes_eq-Decides name n).0 e) is
     by_name false e = each n
 
-pub is_there : (zones : FinMap text_cmp Opened) (name : List ℕ) (zone : Opened) → is_some (get (insert zones name zone) name) ≡ true
+pub is_there : (zones : FinMap text_cmp CompactSet) (name : List ℕ) (zone : CompactSet) → is_some (get (insert zones name zone) name) ≡ true
 is_there zones name zone =
     ap is_some (get-inserted zones name name zone)
     ∙ ap (λ b. is_some (cond b (Some zone) (get zones name))) ((bytes_eq-Decides name name).1 refl)

@@ -6,8 +6,8 @@ use Rattle.zone_source.specs.Told.{told_by_source, IsTold}
 use Rattle.zone_source.specs.declared.error.SourceError.{SourceError}
 use Rattle.zone_spans.specs.declared.fault.SpanFault.{SpanFault}
 use Rattle.zone_spans.specs.declared.fault.SpanFault.TheVariants as span_fault
-use Rattle.tz_lookup.specs.declared.compile.ZoneFault.{ZoneFault}
-use Rattle.tz_lookup.specs.declared.compile.ZoneFault.TheVariants as zone_fault
+use Rattle.tz_zone.specs.declared.compile.ZoneFault.{ZoneFault}
+use Rattle.tz_zone.specs.declared.compile.ZoneFault.TheVariants as zone_fault
 use Rattle.zone_answers.specs.Faults.{Fault, of_source, request_not_text, bad_request, unknown_zone, bad_schedule, offset_range, range}
 use Rattle.zone_answers.specs.declared.error.AnswerError.{AnswerError}
 use Rattle.zone_answers.specs.declared.error.AnswerError.TheVariants as error

@@ -3,9 +3,9 @@ ghost use Rattle.std.specs.Prelude.{◌≡◌, ◌++◌, ◌∷◌, [], true, fa
 ghost use Rattle.civil_base.specs.Layout.{zoned_text};
 ghost use Rattle.tz_lookup.specs.Answers.{listed};
 ghost use Rattle.tz_lookup.specs.InForce.{all_in_force, in_force, shown_of};
-ghost use Rattle.tz_lookup.specs.InstantsLeft.{dates_left};
+ghost use Rattle.tz_lookup.specs.CompactLeft.{compact_left};
+ghost use Rattle.tz_lookup.specs.CompactZones.{compact_of};
 ghost use Rattle.tz_lookup.specs.Sets.{schedule_of};
-ghost use Rattle.tz_lookup.specs.Zones.{set_of};
 ghost use Rattle.zone_spans.specs.Schedules.{total_at};
 ghost use Rattle.zone_answers.specs.Asked.{asked};
 ghost use Rattle.zone_answers.specs.Due.{line_shown, shown_at, text_shown};
@@ -14,19 +14,19 @@ ghost use Rattle.zone_answers.specs.Faults.{are_in_years, has_dates};
 use crate::request::Request;
 use civil_base::{OffsetDateTime, PlainDateTime, write_zoned};
 use std::alloc::AllocError;
-use tz_lookup::{OffsetDateTimeExt, OffsetResult, PrimitiveDateTimeExt, Tz};
+use tz_lookup::{CompactTz, OffsetDateTimeExt, OffsetResult, PrimitiveDateTimeExt};
 
 /// Adds the line of a request of the zone to an empty text, without its LF. It adds none and answers no where the UTC date
 /// or the local date of an asked instant lies outside the years -9999 to 9999.
 #[tactic(auto, unfolding(crate::specs::Due::shown_at, crate::specs::Faults::has_dates))]
 pub(crate) fn show(
-    zone: &Tz<'_>,
+    zone: &CompactTz<'_>,
     request: &Request<'_>,
     text: &mut Vec<u8>,
 ) -> Result<bool, AllocError>
     requires { text.old.items ≡ [] }
-    ensures dates { IfOk result (λ has. has ≡ has_dates (schedule_of (set_of zone.now)) (asked request.now)) }
-    ensures line { IfOk result (λ has. IsTrue has → text.new.items ≡ line_shown (shown_at (schedule_of (set_of zone.now)) (asked request.now))) }
+    ensures dates { IfOk result (λ has. has ≡ has_dates (schedule_of (compact_of zone.now)) (asked request.now)) }
+    ensures line { IfOk result (λ has. IsTrue has → text.new.items ≡ line_shown (shown_at (schedule_of (compact_of zone.now)) (asked request.now))) }
 {
     match request {
         Request::At(_, nanoseconds) => match date_time_at(zone, *nanoseconds) {
@@ -44,10 +44,10 @@ pub(crate) fn show(
 }
 
 /// The date and time in the zone at an instant, if its UTC date and its local date lie in the years -9999 to 9999.
-fn date_time_at(zone: &Tz<'_>, nanoseconds: i128) -> Option<OffsetDateTime>
-    ensures none { IfNone result (are_in_years nanoseconds (total_at (schedule_of (set_of zone.now)) nanoseconds) ≡ false) }
-    ensures some { IfSome result (λ _. are_in_years nanoseconds (total_at (schedule_of (set_of zone.now)) nanoseconds) ≡ true) }
-    ensures shown { IfSome result (λ shown. shown_of shown ≡ in_force (total_at (schedule_of (set_of zone.now))) nanoseconds) }
+fn date_time_at(zone: &CompactTz<'_>, nanoseconds: i128) -> Option<OffsetDateTime>
+    ensures none { IfNone result (are_in_years nanoseconds (total_at (schedule_of (compact_of zone.now)) nanoseconds) ≡ false) }
+    ensures some { IfSome result (λ _. are_in_years nanoseconds (total_at (schedule_of (compact_of zone.now)) nanoseconds) ≡ true) }
+    ensures shown { IfSome result (λ shown. shown_of shown ≡ in_force (total_at (schedule_of (compact_of zone.now))) nanoseconds) }
 {
     let Ok(at_utc) = OffsetDateTime::from_unix_timestamp_nanos(nanoseconds) else {
         return None;
@@ -59,9 +59,13 @@ fn date_time_at(zone: &Tz<'_>, nanoseconds: i128) -> Option<OffsetDateTime>
 }
 
 /// Adds the texts of the instants that the zone reads as the local time.
-fn show_local(zone: &Tz<'_>, local: &PlainDateTime, text: &mut Vec<u8>) -> Result<(), AllocError>
+fn show_local(
+    zone: &CompactTz<'_>,
+    local: &PlainDateTime,
+    text: &mut Vec<u8>,
+) -> Result<(), AllocError>
     requires { text.old.items ≡ [] }
-    ensures { OnOk result (text.new.items ≡ line_shown (all_in_force (total_at (schedule_of (set_of zone.now))) local.now)) }
+    ensures { OnOk result (text.new.items ≡ line_shown (all_in_force (total_at (schedule_of (compact_of zone.now))) local.now)) }
 {
     if zone.is_orderly() {
         show_result(local.assume_timezone(zone), text)
@@ -87,9 +91,13 @@ fn show_result(dates: OffsetResult<OffsetDateTime>, text: &mut Vec<u8>) -> Resul
 }
 
 /// Adds the texts of each instant.
-fn show_each(zone: &Tz<'_>, local: &PlainDateTime, text: &mut Vec<u8>) -> Result<(), AllocError>
+fn show_each(
+    zone: &CompactTz<'_>,
+    local: &PlainDateTime,
+    text: &mut Vec<u8>,
+) -> Result<(), AllocError>
     requires { text.old.items ≡ [] }
-    ensures { OnOk result (text.new.items ≡ line_shown (all_in_force (total_at (schedule_of (set_of zone.now))) local.now)) }
+    ensures { OnOk result (text.new.items ≡ line_shown (all_in_force (total_at (schedule_of (compact_of zone.now))) local.now)) }
 {
     let mut is_first = true;
     for date in zone.instants_local(local) {

@@ -1,12 +1,13 @@
-//! The zones that requests name, each compiled once.
+//! The zones that requests name, each compiled once and kept compactly.
 ghost use Rattle.std.specs.Prelude.{◌≡◌, IfOk, IfErr};
 ghost use Rattle.zone_table.specs.BoundedTables.{IsBoundedTable};
 ghost use Rattle.tz_lookup.specs.Compiles.{compiled_in, IsCompiledAs, IsZoneFault};
+ghost use Rattle.tz_lookup.specs.CompactShown.{seen};
 ghost use Rattle.tz_lookup.specs.Sets.{schedule_of, IsAccepted};
 
 use owned::TextMap;
-use std::alloc::Global;
-use tz_lookup::{FixedTimespanSet, Tz, ZoneFault, compile_zone};
+use std::alloc::{AllocError, Global};
+use tz_lookup::{CompactFault, CompactSet, CompactTz, FixedTimespanSet, ZoneFault, compile_zone};
 use zone_table::Table;
 
 /// The spans of the zone that a name finds in a table, under that name. They can be looked up. The table is bounded.
@@ -24,19 +25,25 @@ pub fn open_zone(alloc: Global, table: &Table, name: &str) -> Result<FixedTimesp
     compile_zone(alloc, table, name)
 }
 
-/// A zone that was asked for, and whether its set is orderly.
-#[derive(Drop)]
-pub(crate) struct Opened {
-    set: FixedTimespanSet,
-    orderly: bool,
+/// The compact form of a set that can be looked up.
+fn compact(alloc: Global, set: &FixedTimespanSet) -> Result<CompactSet, AllocError>
+    requires { IsAccepted (schedule_of set.now) }
+    ensures { IfOk result (λ compact. seen compact ≡ set.now) }
+{
+    match CompactSet::build(alloc, set) {
+        Ok(compact) => Ok(compact),
+        Err(CompactFault::NoMemory) => Err(AllocError),
+        Err(CompactFault::OffsetRange | CompactFault::Falling | CompactFault::Bound) =>
+            unreachable!(),
+    }
 }
 
-/// The zones that were asked for so far, found again by their names.
+/// The zones that were asked for so far, kept compactly and found again by their names.
 #[derive(Drop)]
 pub(crate) struct Zones<'t> {
     alloc: Global,
     table: &'t Table,
-    opened: TextMap<Opened>,
+    opened: TextMap<CompactSet>,
 }
 
 impl<'t> Zones<'t> {
@@ -71,20 +78,19 @@ impl<'t> Zones<'t> {
             return Ok(());
         }
         let set = open_zone(self.alloc, self.table, name)?;
-        let orderly = tz_lookup::is_orderly(&set);
-        self.opened
-            .insert(self.alloc, name, Opened { set, orderly })?;
+        let compact = compact(self.alloc, &set)?;
+        self.opened.insert(self.alloc, name, compact)?;
         Ok(())
     }
 
     /// The opened zone that a name finds.
-    pub(crate) fn find(&self, name: &str) -> Tz<'_>
+    pub(crate) fn find(&self, name: &str) -> CompactTz<'_>
         requires opened { AreOpened self.now }
         requires there { is_some (get self.now.opened name.now) ≡ true }
         ensures { HasSpans (compiled_in (table_of self.now) name.now) result }
     {
         match self.opened.get(name) {
-            Some(opened) => Tz::marked(&opened.set, opened.orderly),
+            Some(opened) => CompactTz::new(opened),
             None => unreachable!(),
         }
     }

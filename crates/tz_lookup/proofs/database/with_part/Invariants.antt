@@ -1,7 +1,7 @@
 use Rattle.std.proofs.Common.{◌≡◌, map, take}
 use Rattle.std.specs.Prelude.{filter}
 use Rattle.tz_lookup.specs.Databases.{has_part}
-use Rattle.tz_lookup.specs.Zones.{set_of}
+use Rattle.tz_zone.specs.Zones.{set_of}
 use Rattle.tz_lookup.proofs.database.with_part.Given as goal
 
 -- those of the zones so far

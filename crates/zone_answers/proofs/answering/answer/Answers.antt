@@ -1,5 +1,5 @@
 use Rattle.std.proofs.Common.{cond, None, Some, sym, ap, ◌∙◌}
-use Rattle.tz_lookup.specs.Zones.{set_of}
+use Rattle.tz_lookup.specs.CompactZones.{compact_of}
 use Rattle.zone_answers.specs.Asked.{asked}
 use Rattle.zone_answers.specs.Due.{line_shown, shown_at}
 use Rattle.zone_answers.specs.Faults.{range}
@@ -34,7 +34,7 @@ returns-in-Ok-true-clause-accepted c =
     let found = rw (c.in_default-open.ensures.same, c.name-2.ensures) at c.find-zone.ensures in
     refusal_is (found_in_table (table_of c.args.zones.now)) c.args.number c.args.line.now (asked request) reads
     ∙ dates_refusal _ c.args.number (asked request)
-    (set_of zone) c.in-Ok-true.field-0 found zone.accepted.range c.in-Ok-true.ensures.dates
+    (compact_of zone) c.in-Ok-true.field-0 found zone.set.now.accepted.range c.in-Ok-true.ensures.dates
     ∙ ap (λ b. cond b None (Some (range c.args.number))) c.in-Ok-true.field-0-test
 
 pub returns-in-Ok-true-clause-text : goal.returns-in-Ok-true-clause-text
@@ -45,7 +45,7 @@ returns-in-Ok-true-clause-text c =
     let zone = c.find-zone.result in
     let found = rw (c.in_default-open.ensures.same, c.name-2.ensures) at c.find-zone.ensures in
     c.in-Ok-true.ensures.line c.in-Ok-true.field-0-test
-    ∙ ap (λ schedule. line_shown (shown_at schedule (asked request))) (sym (schedule_is _ (set_of zone) found))
+    ∙ ap (λ schedule. line_shown (shown_at schedule (asked request))) (sym (schedule_is _ (compact_of zone) found))
     ∙ sym (line_is (found_in_table (table_of c.args.zones.now)) c.args.line.now (asked request) reads)
 
 pub returns-in-Ok-false-clause-err : goal.returns-in-Ok-false-clause-err
@@ -57,5 +57,5 @@ returns-in-Ok-false-clause-err c =
     let found = rw (c.in_default-open.ensures.same, c.name-2.ensures) at c.find-zone.ensures in
     refusal_is (found_in_table (table_of c.args.zones.now)) c.args.number c.args.line.now (asked request) reads
     ∙ dates_refusal _ c.args.number (asked request)
-    (set_of zone) c.in-Ok-false.field-0 found zone.accepted.range c.in-Ok-false.ensures.dates
+    (compact_of zone) c.in-Ok-false.field-0 found zone.set.now.accepted.range c.in-Ok-false.ensures.dates
     ∙ ap (λ b. cond b None (Some (range c.args.number))) c.in-Ok-false.field-0-test

@@ -10,7 +10,7 @@ use Rattle.std.proofs.lemmas.List.Sorted.{searchable_from_sorted}
 use Rattle.owned.specs.InOrderLaws.{RisesStrictly}
 use Rattle.owned.specs.Keyed.{text_cmp}
 use Rattle.tz_lookup.specs.declared.database.Known.{Known}
-use Rattle.tz_lookup.specs.declared.set.FixedTimespanSet.{FixedTimespanSet}
+use Rattle.tz_zone.specs.declared.set.FixedTimespanSet.{FixedTimespanSet}
 use Rattle.tz_lookup.proofs.DatabaseLemmas.{find-map, found_at, map-twice, names_sorted, none_beside}
 use Rattle.tz_lookup.proofs.database.Database.get_by_name.Goals as goal
 

@@ -1,5 +1,7 @@
-use Rattle.std.proofs.Common.{ap, ◌∙◌, is_some}
+use Rattle.std.proofs.Common.{ap, sym, subst, ◌∙◌, is_some}
 use Rattle.std.specs.FinMap.{get}
+use Rattle.tz_lookup.specs.Compiles.{compiled_in, IsCompiledAs}
+use Rattle.tz_zone.specs.declared.set.FixedTimespanSet.{FixedTimespanSet}
 use Rattle.zone_answers.proofs.ZoneLemmas.{each_kept, is_there}
 use Rattle.zone_answers.proofs.zones.Zones.open.Goals as goal
 
@@ -11,5 +13,6 @@ pub returns-clause-opened : goal.returns-clause-opened
 returns-clause-opened c = record {
   bounded = c.requires.bounded;
   each = rw c.in_ok-insert.ensures.ok (each_kept c.args.self.now.table.now c.args.self.now.opened c.args.name.now _ c.requires.each
-      (record { compiled = c.in_ok-set.ensures.ok.1; accepted = c.in_ok-set.ensures.accepted; marked = c.is_orderly-orderly.ensures }));
+      (subst (λ (set : FixedTimespanSet). IsCompiledAs set (compiled_in c.args.self.now.table.now c.args.name.now)) (sym c.in_ok-compact.ensures)
+      c.in_ok-set.ensures.ok.1));
 }

@@ -1,0 +1,86 @@
+-- The kinds and the numbers so far, with one entry more.
+use Rattle.std.proofs.Common.{◌≡◌, ◌<◌, ◌≤◌, ◌+◌, ℕ, zero, suc, List, [], ◌∷◌, ◌++◌, length, map, take, get_or, ℤ, refl, sym, ap, ◌∙◌, subst, ⊎_elim, arith}
+use Rattle.std.proofs.lemmas.Bool.{cases_lt}
+use Rattle.std.proofs.lemmas.List.{length_push, map-append, take_all}
+use Rattle.zone_spans.specs.Entries.{Entry}
+use Rattle.zone_spans.specs.declared.span.FixedTimespan.{FixedTimespan}
+use Rattle.tz_zone.specs.declared.set.FixedTimespanSet.{FixedTimespanSet}
+use Rattle.tz_lookup.specs.Kinds.{kind_in, with_kind, with_kinds, kinds_of}
+use Rattle.tz_lookup.specs.Compact.{entries_seen, set_seen, HaveKinds}
+use Rattle.tz_lookup.proofs.CompactLemmas.{seen_more, seen_same}
+use Rattle.tz_lookup.proofs.KindLemmas.{kind_stays, kinds_grow}
+
+-- they stand for the first span and these entries, and the kinds are theirs, each once
+pub record StandFor (start : FixedTimespan) (entries : List Entry) (kinds : List FixedTimespan) (first : ℕ) (times : List ℤ) (numbers : List ℕ) : Type 0 where
+  pub have : HaveKinds kinds first times numbers
+  pub begins : kind_in kinds first ≡ start
+  pub stand : entries_seen kinds times numbers ≡ entries
+  pub distinct : kinds ≡ with_kinds [] (start ∷ map (λ (e : Entry). e.1) entries)
+
+pub with_kinds_more : (kinds spans : List FixedTimespan) (span : FixedTimespan) → with_kinds kinds (spans ++ span ∷ []) ≡ with_kind (with_kinds kinds spans) span
+unfolding with_kinds
+with_kinds_more kinds [] span = refl
+with_kinds_more kinds (s ∷ spans) span = with_kinds_more (with_kind kinds s) spans span
+
+get_more : (numbers : List ℕ) (number i : ℕ) → i < length numbers → get_or (numbers ++ number ∷ []) i 0 ≡ get_or numbers i 0
+get_more [] number i l = absurd (omega (arith, l))
+get_more (n ∷ numbers) number zero l = refl
+get_more (n ∷ numbers) number (suc i) l = get_more numbers number i (omega (arith, l))
+
+get_last : (numbers : List ℕ) (number : ℕ) → get_or (numbers ++ number ∷ []) (length numbers) 0 ≡ number
+get_last [] number = refl
+get_last (n ∷ numbers) number = get_last numbers number
+
+pub first_stands : (start : FixedTimespan) (number : ℕ) (kinds : List FixedTimespan) → kinds ≡ with_kind [] start → number < length kinds
+    → kind_in kinds number ≡ start → StandFor start [] kinds number [] []
+unfolding with_kinds entries_seen
+first_stands start number kinds is within kind = record {
+  have = record { begins = within; each = λ i l. absurd (omega (arith, l)); all = refl };
+  begins = kind;
+  stand = refl;
+  distinct = is;
+}
+
+pub one_more : (start : FixedTimespan) (entries : List Entry) (kinds more : List FixedTimespan) (first number : ℕ) (times : List ℤ) (numbers : List ℕ)
+    (time : ℤ) (span : FixedTimespan) → StandFor start entries kinds first times numbers → more ≡ with_kind kinds span → number < length more
+    → kind_in more number ≡ span → StandFor start (entries ++ (time, span) ∷ []) more first (times ++ time ∷ []) (numbers ++ number ∷ [])
+one_more start entries kinds more first number times numbers time span so is within kind =
+    let grows : (n : ℕ) → n < length kinds → n < length more = λ n l. subst (λ ks. n < length ks) (sym is) (kinds_grow kinds span n l) in
+    let stays : (n : ℕ) → n < length kinds → kind_in more n ≡ kind_in kinds n = λ n l. ap (λ ks. kind_in ks n) is ∙ kind_stays kinds span n l in
+    record {
+      have = record {
+        begins = grows first so.have.begins;
+        each = λ i l.
+            ⊎_elim {C = get_or (numbers ++ number ∷ []) i 0 < length more}
+            (λ less. subst (λ n. n < length more) (sym (get_more numbers number i less)) (grows (get_or numbers i 0) (so.have.each i less)))
+            (λ same. let this : i ≡ length numbers = omega (arith, l, length_push numbers number) in
+            subst (λ n. n < length more) (sym (ap (λ j. get_or (numbers ++ number ∷ []) j 0) this ∙ get_last numbers number)) within)
+            (cases_lt i (length numbers));
+        all = length_push numbers number ∙ ap (λ n. n + 1) so.have.all ∙ sym (length_push times time);
+      };
+      begins = stays first so.have.begins ∙ so.begins;
+      stand =
+          seen_more more times numbers time number so.have.all
+          ∙ (λ i. seen_same kinds more times numbers (λ j l. stays (get_or numbers j 0) (so.have.each j l)) i ++ (time, kind i) ∷ [])
+          ∙ ap (λ es. es ++ (time, span) ∷ []) so.stand;
+      distinct =
+          is ∙ ap (λ ks. with_kind ks span) so.distinct
+          ∙ sym (with_kinds_more [] (start ∷ map (λ (e : Entry). e.1) entries) span)
+          ∙ ap (λ spans. with_kinds [] (start ∷ spans)) (sym (map-append (λ (e : Entry). e.1) entries ((time, span) ∷ [])));
+    }
+
+-- the set that they stand for after the last entry
+pub ended : (set : FixedTimespanSet) (name : List ℕ) (kinds kept : List FixedTimespan) (first : ℕ) (times : List ℤ) (numbers : List ℕ)
+    (items : List Entry) (i : ℕ) → name ≡ set.name → kept ≡ kinds → items ≡ set.others → length items ≤ i
+    → StandFor set.first (take i items) kinds first times numbers → set_seen name kept first times numbers ≡ set
+ended set name kinds kept first times numbers items i named same all past so =
+    let whole = take_all i items past ∙ all in
+    let begins = ap (λ ks. kind_in ks first) same ∙ so.begins in
+    let others = ap (λ ks. entries_seen ks times numbers) same ∙ so.stand ∙ whole in
+    (λ j. record { name = named j; first = begins j; others = others j })
+
+-- the kinds are then those of the set
+pub all_kinds : (set : FixedTimespanSet) (kinds : List FixedTimespan) (first : ℕ) (times : List ℤ) (numbers : List ℕ) (items : List Entry) (i : ℕ)
+    → items ≡ set.others → length items ≤ i → StandFor set.first (take i items) kinds first times numbers → kinds ≡ kinds_of set
+all_kinds set kinds first times numbers items i all past so =
+    so.distinct ∙ ap (λ es. with_kinds [] (set.first ∷ map (λ (e : Entry). e.1) es)) (take_all i items past ∙ all)

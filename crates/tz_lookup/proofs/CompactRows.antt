@@ -1,0 +1,117 @@
+-- Years, kinds and compact entries, at worked rows.
+use Rattle.std.proofs.Common.{◌≡◌, ℕ, List, [], ◌∷◌, ℤ, pos, negsuc, ◌<ℤ◌, ◌≤ℤ◌, refl, arith}
+use Rattle.std.specs.Prelude.{codes}
+use Rattle.std.proofs.lemmas.Int.{ints}
+use Rattle.calendar.specs.Signs.{signed}
+use Rattle.zone_spans.specs.declared.span.FixedTimespan.{FixedTimespan}
+use Rattle.tz_zone.specs.declared.set.FixedTimespanSet.{FixedTimespanSet}
+use Rattle.tz_lookup.specs.Compact.{entries_seen}
+use Rattle.tz_lookup.specs.Kinds.{with_kinds, kinds_of}
+use Rattle.tz_lookup.specs.Years.{year_second, years_begun, changes_in_year}
+use Rattle.tz_lookup.proofs.YearLemmas.{day_at, first_second, last_second, years_are, begun_up_to, before_all, after_all}
+
+-- ---- the seconds at which years begin
+
+year_1800 : year_second 0 ≡ negsuc 5364662399
+year_1800 = first_second
+
+year_1801 : year_second 1 ≡ negsuc 5333126399
+unfolding year_second
+year_1801 = omega (arith, signed, day_at 1)
+
+year_1969 : year_second 169 ≡ negsuc 31535999
+unfolding year_second
+year_1969 = omega (arith, signed, day_at 169)
+
+year_1970 : year_second 170 ≡ pos 0
+unfolding year_second
+year_1970 = omega (arith, signed, day_at 170)
+
+year_1971 : year_second 171 ≡ pos 31536000
+unfolding year_second
+year_1971 = omega (arith, signed, day_at 171)
+
+year_2099 : year_second 299 ≡ pos 4070908800
+unfolding year_second
+year_2099 = omega (arith, signed, day_at 299)
+
+year_2100 : year_second 300 ≡ pos 4102444800
+year_2100 = last_second
+
+-- ---- years that have begun
+
+begun_before_1800 : years_begun (negsuc 5364662400) ≡ 0
+begun_before_1800 = years_are 0 _ (before_all _ (omega (arith, ints)))
+
+begun_in_1800 : years_begun (negsuc 5364662399) ≡ 1
+begun_in_1800 =
+    years_are 1 _ (begun_up_to 0 _ (omega arith) (omega (arith, ints, first_second)) (λ _. omega (arith, ints, year_1801)))
+
+in_1970 : (t : ℤ) → pos 0 ≤ℤ t → t <ℤ pos 31536000 → years_begun t ≡ 171
+in_1970 t low high = years_are 171 t (begun_up_to 170 t (omega arith) (omega (arith, ints, year_1970, low)) (λ _. omega (arith, ints, year_1971, high)))
+
+begun_in_1969 : years_begun (negsuc 0) ≡ 170
+begun_in_1969 =
+    years_are 170 _ (begun_up_to 169 _ (omega arith) (omega (arith, ints, year_1969)) (λ _. omega (arith, ints, year_1970)))
+
+begun_in_1970 : years_begun (pos 100) ≡ 171
+begun_in_1970 = in_1970 (pos 100) (omega (arith, ints)) (omega (arith, ints))
+
+begun_at_epoch : years_begun (pos 0) ≡ 171
+begun_at_epoch = in_1970 (pos 0) (omega (arith, ints)) (omega (arith, ints))
+
+begun_at_end : years_begun (pos 31535999) ≡ 171
+begun_at_end = in_1970 (pos 31535999) (omega (arith, ints)) (omega (arith, ints))
+
+begun_in_2099 : years_begun (pos 4102444799) ≡ 300
+begun_in_2099 = years_are 300 _ (begun_up_to 299 _ (omega arith) (omega (arith, ints, year_2099)) (λ _. omega (arith, ints, year_2100)))
+
+begun_from_2100 : years_begun (pos 4102444800) ≡ 301
+begun_from_2100 = years_are 301 _ (after_all _ (omega (arith, ints)))
+
+begun_long_after : years_begun (pos 9000000000) ≡ 301
+begun_long_after = years_are 301 _ (after_all _ (omega (arith, ints)))
+
+-- ---- the changes of a year: one in 1969, two in 1970 and one in 2100
+
+abbrev kind : ℤ → List ℕ → FixedTimespan
+kind offset name = record { utc_offset = offset; dst_offset = pos 0; name = name }
+
+abbrev four : FixedTimespanSet
+four = record {
+  name = codes "Test/Four";
+  first = kind (pos 0) (codes "A");
+  others =
+      (negsuc 0, kind (pos 60) (codes "A")) ∷ (pos 0, kind (pos 60) (codes "B")) ∷ (pos 31535999, kind (pos 0) (codes "A"))
+      ∷ (pos 4102444800, kind (pos 60) (codes "B")) ∷ [];
+}
+
+changes_of_1970 : changes_in_year four (pos 100) ≡ 2
+unfolding changes_in_year
+changes_of_1970 = rw (begun_in_1969, begun_at_epoch, begun_at_end, begun_in_1970, begun_from_2100) refl
+
+changes_of_1969 : changes_in_year four (negsuc 0) ≡ 1
+unfolding changes_in_year
+changes_of_1969 = rw (begun_in_1969, begun_at_epoch, begun_at_end, begun_from_2100) refl
+
+-- all years from 2100 on are one
+changes_long_after : changes_in_year four (pos 9000000000) ≡ 1
+unfolding changes_in_year
+changes_long_after = rw (begun_in_1969, begun_at_epoch, begun_at_end, begun_from_2100, begun_long_after) refl
+
+no_changes_of_2099 : changes_in_year four (pos 4102444799) ≡ 0
+unfolding changes_in_year
+no_changes_of_2099 = rw (begun_in_1969, begun_at_epoch, begun_at_end, begun_from_2100, begun_in_2099) refl
+
+-- ---- kinds: offsets and names, each once, in the order in which they come
+
+kinds_of_four : kinds_of four ≡ kind (pos 0) (codes "A") ∷ kind (pos 60) (codes "A") ∷ kind (pos 60) (codes "B") ∷ []
+unfolding with_kinds
+kinds_of_four = refl
+
+-- ---- times beside the numbers of kinds
+
+entries_of_numbers : entries_seen (kind (pos 0) (codes "A") ∷ kind (pos 60) (codes "B") ∷ []) (pos 7 ∷ pos 9 ∷ []) (1 ∷ 0 ∷ [])
+    ≡ (pos 7, kind (pos 60) (codes "B")) ∷ (pos 9, kind (pos 0) (codes "A")) ∷ []
+unfolding entries_seen
+entries_of_numbers = refl

@@ -1,0 +1,171 @@
+-- The entries of a year lie between the counts of two years.
+use Rattle.std.proofs.Common.{◌≡◌, ℕ, zero, suc, ◌+◌, ◌-◌, ◌*◌, ◌<◌, ◌≤◌, Bool, true, false, cond, List, [], ◌∷◌, ◌++◌, length, map, get_or, nat_eq, nat_lt, filter, ℤ, pos, ◌-ℤ◌, ◌≤ℤ◌, ◌<ℤ◌, refl, sym, ap, ◌∙◌, subst, ⊎_elim, arith}
+use Rattle.std.proofs.lemmas.Bool.{cases_lt}
+use Rattle.std.proofs.lemmas.Bool.Decides.{nat_tests}
+use Rattle.std.proofs.lemmas.Int.{ints}
+use Rattle.std.proofs.lemmas.List.{length-map}
+use Rattle.zone_spans.specs.Entries.{Entry}
+use Rattle.tz_zone.specs.declared.set.FixedTimespanSet.{FixedTimespanSet}
+use Rattle.tz_zone.specs.Sets.{shift_of, shifts_of, IsBetween}
+use Rattle.tz_zone.specs.Spans.{Shift, shift_at, IsCut}
+use Rattle.tz_lookup.specs.YearCounts.{AreYearCounts, before_year}
+use Rattle.tz_lookup.specs.Years.{year_second, years_begun, changes_in_year, HaveBegun}
+use Rattle.tz_lookup.proofs.YearLemmas.{begun_up_to, years_are, year_rises}
+
+at_or_after : (a s : ℤ) → (s -ℤ pos 1) <ℤ a → s ≤ℤ a
+at_or_after a s h = omega (arith, ints, h)
+
+before : (a s : ℤ) → a ≤ℤ (s -ℤ pos 1) → a <ℤ s
+before a s h = omega (arith, ints, h)
+
+le_before : (a s t : ℤ) → a ≤ℤ (s -ℤ pos 1) → s ≤ℤ t → a ≤ℤ t
+le_before a s t h k = omega (arith, ints, h, k)
+
+lt_after : (a s t : ℤ) → (s -ℤ pos 1) <ℤ a → t <ℤ s → t <ℤ a
+lt_after a s t h k = omega (arith, ints, h, k)
+
+less_one : (a b : ℤ) → a ≤ℤ b → (a -ℤ pos 1) ≤ℤ (b -ℤ pos 1)
+less_one a b h = omega (arith, ints, h)
+
+opposed : (a b c : ℤ) → a ≤ℤ b → b ≤ℤ c → c <ℤ a → ⊥
+opposed a b c h k l = omega (arith, ints, h, k, l)
+
+at_place : (n : ℕ) (a b : ℕ) → n < 301 → cond (nat_lt n 301) a b ≡ a
+at_place n a b l = ap (λ t. cond t a b) (passes n 301 l)
+  where
+    passes : (m n : ℕ) → m < n → nat_lt m n ≡ true
+    passes m n l = grind (arith, nat_tests)
+
+past : (a b : ℕ) → cond (nat_lt 301 301) a b ≡ b
+past a b = refl
+
+-- the entries before a later second are more
+cut_rises : (shifts : List Shift) (k l : ℕ) (s t : ℤ) → s ≤ℤ t → IsCut shifts k s → IsCut shifts l t → k ≤ l
+cut_rises shifts k l s t le first second =
+    ⊎_elim {C = k ≤ l}
+    (λ less. absurd (opposed (shift_at shifts l).0 s t (first.before l less) le (second.after l (omega arith) (omega (arith, first.within)))))
+    (λ more. omega arith)
+    (cases_lt l k)
+
+module _ (shifts : List Shift) (counts : List ℕ) (n : ℕ) (all : n ≡ length shifts) (are : AreYearCounts shifts counts) where
+  -- the entries before each year
+  cut_at : (i : ℕ) → i < 301 → IsCut shifts (before_year counts n (suc i)) (year_second i -ℤ pos 1)
+  cut_at i l = subst (λ k. IsCut shifts k (year_second i -ℤ pos 1)) (sym (at_place i (get_or counts i 0) n l)) (are.each i l)
+
+  upper : (c : ℕ) → c ≤ 301 → before_year counts n (suc c) ≤ length shifts
+  upper c l =
+      ⊎_elim {C = before_year counts n (suc c) ≤ length shifts}
+      (λ less. (cut_at c less).within)
+      (λ same. let last : c ≡ 301 = omega arith in subst (λ k. before_year counts n (suc k) ≤ length shifts) (sym last) (omega (arith, all)))
+      (cases_lt c 301)
+
+  rises : (c : ℕ) → c ≤ 301 → before_year counts n c ≤ before_year counts n (suc c)
+  rises zero l = omega arith
+  rises (suc c) l =
+      ⊎_elim {C = before_year counts n (suc c) ≤ before_year counts n (suc (suc c))}
+      (λ less. cut_rises shifts _ _ _ _ (less_one _ _ (year_rises c (suc c) (omega arith))) (cut_at c (omega arith)) (cut_at (suc c) less))
+      (λ same. let last : suc c ≡ 301 = omega arith in
+      subst (λ k. before_year counts n (suc c) ≤ before_year counts n (suc k)) (sym last) (omega (arith, all, (cut_at c (omega arith)).within)))
+      (cases_lt (suc c) 301)
+
+  pub between_is : (c : ℕ) (t : ℤ) → HaveBegun c t → IsBetween shifts (before_year counts n c) (before_year counts n (suc c)) t
+  between_is c t begun = record {
+    order = rises c begun.within;
+    within = upper c begun.within;
+    before = earlier c begun;
+    after = λ j l m.
+        ⊎_elim {C = t <ℤ (shift_at shifts j).0}
+        (λ less. lt_after _ _ _ ((cut_at c less).after j l m) (begun.ahead less))
+        (λ same. let last : c ≡ 301 = omega (arith, begun.within) in
+        absurd (let high = subst (λ k. before_year counts n (suc k) ≤ j) last l in omega (arith, high, m, all)))
+        (cases_lt c 301);
+  }
+    where
+      earlier : (c : ℕ) → HaveBegun c t → (j : ℕ) → j < before_year counts n c → (shift_at shifts j).0 ≤ℤ t
+      earlier zero begun j l = absurd (omega arith)
+      earlier (suc c) begun j l =
+          le_before _ _ _ ((cut_at c (omega (arith, begun.within))).before j l) (begun.begun c (omega arith))
+
+  -- an entry between them is in that year
+  pub in_year : (c : ℕ) → c ≤ 301 → (i : ℕ) → before_year counts n c ≤ i → i < before_year counts n (suc c) → HaveBegun c (shift_at shifts i).0
+  in_year c l i low high = by_year c l low high
+    where
+      ahead_of : (c : ℕ) → i < before_year counts n (suc c) → c < 301 → (shift_at shifts i).0 <ℤ year_second c
+      ahead_of c high less = before _ _ ((cut_at c less).before i high)
+
+      by_year : (c : ℕ) → c ≤ 301 → before_year counts n c ≤ i → i < before_year counts n (suc c) → HaveBegun c (shift_at shifts i).0
+      by_year zero l low high = record {
+        within = omega arith;
+        begun = λ j m. absurd (omega arith);
+        ahead = ahead_of 0 high;
+      }
+      by_year (suc c) l low high =
+          let inside : i < length shifts = omega (arith, high, upper (suc c) l) in
+          begun_up_to c (shift_at shifts i).0 l (at_or_after _ _ ((cut_at c (omega arith)).after i low inside)) (ahead_of (suc c) high)
+
+-- a test that passes from one place to another passes at least so often
+passing : {X : Type 0} (test : X → Bool) (xs : List X) (low high : ℕ) → high ≤ length xs
+    → ((i : ℕ) (d : X) → low ≤ i → i < high → test (get_or xs i d) ≡ true) → high - low ≤ length (filter test xs)
+passing test [] low high l pass = omega arith
+passing test (x ∷ xs) low zero l pass = omega arith
+passing test (x ∷ xs) zero (suc high) l pass =
+    let rest = passing test xs 0 high (omega arith) (λ i d m k. pass (suc i) d (omega arith) (omega arith)) in
+    let here : filter test (x ∷ xs) ≡ x ∷ filter test xs = ap (λ b. cond b (x ∷ filter test xs) (filter test xs)) (pass 0 x (omega arith) (omega arith)) in
+    omega (arith, rest, ap length here)
+passing test (x ∷ xs) (suc low) (suc high) l pass =
+    let rest = passing test xs low high (omega arith) (λ i d m k. pass (suc i) d (omega arith) (omega arith)) in
+    by_test (test x) rest
+  where
+    by_test : (b : Bool) → high - low ≤ length (filter test xs) → suc high - suc low ≤ length (cond b (x ∷ filter test xs) (filter test xs))
+    by_test true rest = omega (arith, rest)
+    by_test false rest = omega (arith, rest)
+
+same_number : (a b : ℕ) → a ≡ b → nat_eq a b ≡ true
+same_number a b e = grind (arith, nat_tests)
+
+shift_there : (es : List Entry) (i : ℕ) (d : Entry) → i < length es → (shift_at (map shift_of es) i).0 ≡ (get_or es i d).0
+shift_there [] i d l = absurd (omega (arith, l))
+shift_there (e ∷ es) zero d l = refl
+shift_there (e ∷ es) (suc i) d l = shift_there es i d (omega (arith, l))
+
+-- the entries between the counts are changes of the year
+pub year_changes : (set : FixedTimespanSet) (counts : List ℕ) (c : ℕ) (t : ℤ) → AreYearCounts (shifts_of set) counts → HaveBegun c t
+    → before_year counts (length set.others) (suc c) - before_year counts (length set.others) c ≤ changes_in_year set t
+unfolding changes_in_year
+year_changes set counts c t are begun =
+    let n = length set.others in
+    let all : n ≡ length (shifts_of set) = sym (length-map set.others shift_of) in
+    let between = between_is (shifts_of set) counts n all are c t begun in
+    passing (λ (e : Entry). nat_eq (years_begun e.0) (years_begun t)) set.others (before_year counts n c) (before_year counts n (suc c))
+    (omega (arith, between.within, all))
+    (λ i d low high.
+    let there = shift_there set.others i d (omega (arith, high, between.within, all)) in
+    let year = in_year (shifts_of set) counts n all are c begun.within i low high in
+    same_number _ _ (ap years_begun (sym there) ∙ years_are c _ year ∙ sym (years_are c t begun)))
+
+-- the count before one more year
+pub counts_more : (shifts : List Shift) (counts : List ℕ) (k n : ℕ) → length counts ≡ n
+    → ((i : ℕ) → i < n → IsCut shifts (get_or counts i 0) (year_second i -ℤ pos 1)) → IsCut shifts k (year_second n -ℤ pos 1)
+    → (i : ℕ) → i < n + 1 → IsCut shifts (get_or (counts ++ k ∷ []) i 0) (year_second i -ℤ pos 1)
+counts_more shifts counts k n size each last i l =
+    ⊎_elim {C = IsCut shifts (get_or (counts ++ k ∷ []) i 0) (year_second i -ℤ pos 1)}
+    (λ less. subst (λ c. IsCut shifts c (year_second i -ℤ pos 1)) (sym (earlier counts i (omega (arith, size)))) (each i less))
+    (λ same. let this : n ≡ i = omega arith in
+    subst (λ j. IsCut shifts (get_or (counts ++ k ∷ []) j 0) (year_second j -ℤ pos 1)) this
+    (subst (λ c. IsCut shifts c (year_second n -ℤ pos 1)) (sym (at_end counts n size)) last))
+    (cases_lt i n)
+  where
+    earlier : (counts : List ℕ) (i : ℕ) → i < length counts → get_or (counts ++ k ∷ []) i 0 ≡ get_or counts i 0
+    earlier [] i l = absurd (omega (arith, l))
+    earlier (c ∷ counts) zero l = refl
+    earlier (c ∷ counts) (suc i) l = earlier counts i (omega (arith, l))
+
+    at_end : (counts : List ℕ) (n : ℕ) → length counts ≡ n → get_or (counts ++ k ∷ []) n 0 ≡ k
+    at_end [] zero e = refl
+    at_end [] (suc n) e = absurd (omega (arith, e))
+    at_end (c ∷ counts) zero e = absurd (omega (arith, e))
+    at_end (c ∷ counts) (suc n) e = at_end counts n (omega (arith, e))
+
+-- the search's cost by the changes
+pub paid_by : (power entries changes : ℕ) → power ≤ 2 * entries + 1 → entries ≤ changes → power ≤ 2 * changes + 1
+paid_by power entries changes paid few = omega (arith, paid, few)

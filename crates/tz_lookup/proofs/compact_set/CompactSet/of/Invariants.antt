@@ -1,0 +1,7 @@
+use Rattle.std.proofs.Common.{take}
+use Rattle.tz_lookup.proofs.BuildLemmas.{StandFor}
+use Rattle.tz_lookup.proofs.compact_set.CompactSet.of.Given as goal
+
+-- the entries so far
+abbrev pub invariant-loop-entry : goal.invariant-loop-entry
+invariant-loop-entry l = StandFor l.set.first (take l.entry-index l.entry-items) l.kinds l.first l.times l.numbers

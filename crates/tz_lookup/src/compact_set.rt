@@ -1,0 +1,226 @@
+//! A zone's spans, kept compactly.
+ghost use Rattle.std.specs.Prelude.{◌≡◌, ◌+◌, ◌-◌, ◌*◌, ◌^◌, ℕ, ℤ, ◌<◌, ◌≤◌, ◌↔◌, IsTrue, MatchResult, IfOk, length, slice_index_or, pos};
+ghost use Rattle.civil_base.specs.Instants.{seconds_of};
+ghost use Rattle.civil_base.specs.Ranges.{IsOffset};
+ghost use Rattle.zone_spans.specs.Schedules.{instants, total_at};
+ghost use Rattle.tz_zone.specs.Sets.{schedule_of, shifts_of, total_of_span, IsAccepted, IsOrderlyZone};
+ghost use Rattle.tz_zone.specs.Spans.{IsCut};
+ghost use Rattle.tz_lookup.specs.Kinds.{kinds_of};
+ghost use Rattle.tz_lookup.specs.Compact.{set_seen, HaveKinds};
+ghost use Rattle.tz_lookup.specs.YearCounts.{AreYearCounts};
+
+use crate::kinds::Kinds;
+use crate::numbers::Numbers;
+use crate::years::{YEARS, year_counts, years_begun};
+use owned::{Items, Text};
+use std::alloc::{AllocError, Global};
+use std::sync::ledger::Ledger;
+use tz_zone::{FixedTimespan, FixedTimespanSet, SpanTable, Steps, Tz, TzFault, span_between};
+
+/// Why a set has no compact form.
+#[derive(Clone, Copy, Debug, PartialEq, Eq)]
+pub enum CompactFault {
+    /// The offset and the saving of some span add up to 26 hours or more.
+    OffsetRange,
+    /// The time of some entry lies before that of the entry before it.
+    Falling,
+    /// A time is more than 2^40 seconds in size.
+    Bound,
+    /// Memory ran out.
+    NoMemory,
+}
+
+impl CompactFault {
+    ghost use Rattle.std.specs.Prelude.{◌≡◌};
+    ghost use Rattle.tz_lookup.specs.CompactFaults.{compact_fault};
+
+    fn of(fault: TzFault) -> CompactFault
+        ensures { result ≡ compact_fault fault }
+    {
+        match fault {
+            TzFault::OffsetRange => CompactFault::OffsetRange,
+            TzFault::Falling => CompactFault::Falling,
+            TzFault::Bound => CompactFault::Bound,
+        }
+    }
+}
+
+/// The spans of a zone, kept compactly: the entries' times beside the numbers of their kinds, and each kind once. With the
+/// number of entries before each year from 1800 to 2100 an instant of those years is looked up among its year's entries.
+/// Contracts see the set that it was built from.
+#[derive(Debug, Drop)]
+pub struct CompactSet {
+    name: Text,
+    kinds: Items<FixedTimespan>,
+    first: usize,
+    times: Items<i64>,
+    numbers: Numbers,
+    years: Numbers,
+    orderly: bool,
+    ghost have_kinds: { HaveKinds kinds first times numbers },
+    ghost distinct: { kinds ≡ kinds_of (set_seen name kinds first times numbers) },
+    ghost counted: { AreYearCounts (shifts_of (set_seen name kinds first times numbers)) years },
+    ghost accepted: { IsAccepted (schedule_of (set_seen name kinds first times numbers)) },
+    ghost marked: { IsTrue orderly ↔ IsOrderlyZone (schedule_of (set_seen name kinds first times numbers)) },
+    ghost range: { (t : ℤ) → IsOffset (total_at (schedule_of (set_seen name kinds first times numbers)) t) },
+    ghost two: { IsOrderlyZone (schedule_of (set_seen name kinds first times numbers)) → (time : ℤ)
+        → length (instants (total_at (schedule_of (set_seen name kinds first times numbers))) time) ≤ 2 },
+}
+
+impl CompactSet {
+    ghost use Rattle.std.specs.Prelude.{◌≡◌, ◌+◌, ◌-◌, ◌*◌, ◌^◌, ℤ, ◌≤◌, ◌↔◌, IsTrue, MatchResult, IfOk, length};
+    ghost use Rattle.civil_base.specs.Instants.{seconds_of};
+    ghost use Rattle.tz_zone.specs.Spans.{IsCut};
+    ghost use Rattle.tz_zone.specs.Sets.{schedule_of, shifts_of, total_of_span, IsAccepted, IsOrderlyZone};
+    ghost use Rattle.tz_zone.specs.Zones.{set_of};
+    ghost use Rattle.tz_lookup.specs.CompactShown.{seen};
+    ghost use Rattle.tz_lookup.specs.CompactFaults.{IsCompactFault};
+    ghost use Rattle.tz_lookup.specs.Kinds.{kinds_of};
+    ghost use Rattle.tz_lookup.specs.YearCounts.{before_year};
+    ghost use Rattle.tz_lookup.specs.Years.{changes_in_year};
+
+    /// A set, kept compactly.
+    ///
+    /// # Errors
+    ///
+    /// `OffsetRange`, `Falling` and `Bound` in this order, each exactly where it says; `NoMemory`.
+    pub fn build(alloc: Global, set: &FixedTimespanSet) -> Result<CompactSet, CompactFault>
+        ensures { MatchResult result
+            (λ compact. IsAccepted (schedule_of set.now) × (seen compact ≡ set.now))
+            (IsCompactFault (schedule_of set.now)) }
+    {
+        let zone = match Tz::new(set) {
+            Ok(zone) => zone,
+            Err(fault) => return Err(CompactFault::of(fault)),
+        };
+        match CompactSet::of(alloc, set, &zone) {
+            Ok(compact) => Ok(compact),
+            Err(_) => Err(CompactFault::NoMemory),
+        }
+    }
+
+    /// The compact form of a set, whose zone tells that it can be looked up and whether it is orderly.
+    fn of(alloc: Global, set: &FixedTimespanSet, zone: &Tz<'_>) -> Result<CompactSet, AllocError>
+        requires { set_of zone.now ≡ set.now }
+        ensures { IfOk result (λ compact. seen compact ≡ set.now) }
+    {
+        let mut kinds = Kinds::new(alloc);
+        let first = kinds.number(&set.first)?;
+        let mut times = Items::new(alloc);
+        let mut numbers = Numbers::new(alloc);
+        for entry in set.others.as_slice() {
+            numbers.push(kinds.number(span_of(entry))?)?;
+            times.push(time_of(entry))?;
+        }
+        let kinds = kinds.owned(alloc)?;
+        let name = Text::new(alloc, set.name.as_str())?;
+        let years = year_counts(alloc, set)?;
+        let orderly = zone.is_orderly();
+        Ok(CompactSet {
+            name,
+            kinds,
+            first,
+            times,
+            numbers,
+            years,
+            orderly,
+        })
+    }
+
+    /// How many spans there are: one more than the entries.
+    pub fn span_count(&self) -> usize
+        ensures { result ≡ length (seen self.now).others + 1 }
+    {
+        self.entry_count() + 1
+    }
+
+    /// How many distinct kinds the spans have. A kind is a pair of offsets with a name.
+    pub fn kind_count(&self) -> usize
+        ensures { result ≡ length (kinds_of (seen self.now)) }
+    {
+        self.kinds.len()
+    }
+
+    /// Whether the set is orderly.
+    pub(crate) fn is_orderly(&self) -> bool
+        ensures { IsTrue result ↔ IsOrderlyZone (schedule_of (seen self.now)) }
+    {
+        self.orderly
+    }
+
+    /// The name of the zone.
+    pub(crate) fn name(&self) -> &str
+        ensures { result.now ≡ (seen self.now).name }
+    {
+        self.name.as_str()
+    }
+
+    /// The span in force at a second, by a search among the entries of its year, with a step for each comparison.
+    pub(crate) fn span_in_year<L: Ledger>(&self, second: i64, steps: &mut Steps<L>) -> usize
+        ensures cut { IsCut (shifts_of (seen self.now)) result second }
+        ensures total { (t : ℤ) → seconds_of t ≡ second →
+            total_of_span (seen self.now) result ≡ total_at (schedule_of (seen self.now)) t }
+        ensures cost { 2 ^ (steps.new - steps.old) ≤ 2 * changes_in_year (seen self.now) second + 1 }
+        ensures later { steps.old ≤ steps.new }
+    {
+        let year = years_begun(second);
+        let low = self.before_year(year);
+        let high = self.before_year(year + 1);
+        span_between(self, second, low, high, steps)
+    }
+
+    /// How many entries lie before a year, where the years before 1800 are number 0, and those from 2100 on number 301.
+    fn before_year(&self, year: usize) -> usize
+        requires { year ≤ 302 }
+        ensures { result ≡ before_year self.now.years (length (seen self.now).others) year }
+    {
+        if year == 0 {
+            0
+        } else if year <= YEARS {
+            self.years.get(year - 1)
+        } else {
+            self.entry_count()
+        }
+    }
+}
+
+impl SpanTable for CompactSet {
+    ghost use Rattle.tz_lookup.specs.CompactShown.{seen as set_shown};
+
+    ghost seen = { set_shown };
+
+    fn entry_count(&self) -> usize {
+        self.times.as_slice().len()
+    }
+
+    fn time(&self, index: usize) -> i64 {
+        time_at(self.times.as_slice(), index)
+    }
+
+    fn span(&self, index: usize) -> &FixedTimespan {
+        if index == 0 {
+            &self.kinds[self.first]
+        } else {
+            &self.kinds[self.numbers.get(index - 1)]
+        }
+    }
+}
+
+fn time_of(entry: &(i64, FixedTimespan)) -> i64
+    ensures { result ≡ entry.now.0 }
+{
+    entry.0
+}
+
+fn span_of(entry: &(i64, FixedTimespan)) -> &FixedTimespan
+    ensures { result.now ≡ entry.now.1 }
+{
+    &entry.1
+}
+
+fn time_at(times: &[i64], index: usize) -> i64
+    requires { index < length times.now }
+    ensures { result ≡ slice_index_or times.now index (pos 0) }
+{
+    times[index]
+}

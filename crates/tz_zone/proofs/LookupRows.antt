@@ -1,0 +1,191 @@
+-- Gaps, folds, faults, abbreviations and kinds of small sets, at worked rows.
+use Rattle.std.proofs.Common.{◌≡◌, ℕ, zero, suc, true, false, List, [], ◌∷◌, ℤ, pos, negsuc, refl, ap, ◌∙◌, arith}
+use Rattle.std.specs.Prelude.{Bool, Some, None, codes, int_lt}
+use Rattle.std.proofs.lemmas.Int.{ints}
+use Rattle.civil_base.specs.Instants.{seconds_of}
+use Rattle.zone_spans.specs.Schedules.{Schedule, total_at, is_in_offset_range}
+use Rattle.tz_zone.specs.declared.accept.TzFault.TheVariants.{OffsetRange, Falling, Bound}
+use Rattle.tz_zone.specs.declared.result.OffsetResult.{OffsetResult}
+use Rattle.tz_zone.specs.declared.result.OffsetResult.TheVariants as found
+use Rattle.tz_zone.specs.declared.set.FixedTimespanSet.{FixedTimespanSet}
+use Rattle.tz_zone.specs.Answers.{listed}
+use Rattle.tz_zone.specs.Faults.{IsFault}
+use Rattle.tz_zone.specs.InForce.{GivesAt}
+use Rattle.tz_zone.specs.Results.{only_in, first_in, second_in}
+use Rattle.tz_zone.specs.Scans.{spans_from}
+use Rattle.tz_zone.specs.Sets.{schedule_of, shifts_of, span_in, IsOrderlyZone, IsSpanTime}
+use Rattle.tz_zone.specs.Spans.{Shift, IsIn, IsCut}
+
+abbrev zone : ℤ → List Shift → Schedule
+zone first shifts = record { first = first; shifts = shifts }
+
+-- ---- a clock set ahead by an hour at the second 1,000,000
+
+abbrev ahead : Schedule
+ahead = zone (pos 0) ((pos 1000000, pos 3600) ∷ [])
+
+last_before_the_gap : spans_from ahead (pos 999999) 0 2 ≡ 0 ∷ []
+last_before_the_gap = refl
+
+the_gap_begins : spans_from ahead (pos 1000000) 0 2 ≡ []
+the_gap_begins = refl
+
+the_gap_ends : spans_from ahead (pos 1003599) 0 2 ≡ []
+the_gap_ends = refl
+
+first_after_the_gap : spans_from ahead (pos 1003600) 0 2 ≡ 1 ∷ []
+first_after_the_gap = refl
+
+-- ---- a clock set back by an hour at the second 1,000,000
+
+abbrev back : Schedule
+back = zone (pos 0) ((pos 1000000, negsuc 3599) ∷ [])
+
+last_before_the_fold : spans_from back (pos 996399) 0 2 ≡ 0 ∷ []
+last_before_the_fold = refl
+
+the_fold_begins : spans_from back (pos 996400) 0 2 ≡ 0 ∷ 1 ∷ []
+the_fold_begins = refl
+
+the_fold_ends : spans_from back (pos 999999) 0 2 ≡ 0 ∷ 1 ∷ []
+the_fold_ends = refl
+
+first_after_the_fold : spans_from back (pos 1000000) 0 2 ≡ 1 ∷ []
+first_after_the_fold = refl
+
+-- ---- three spans over one local second
+
+abbrev knot : Schedule
+knot = zone (pos 7200) ((pos 1000, pos 3600) ∷ (pos 2000, pos 0) ∷ [])
+
+three_spans : spans_from knot (pos 5000) 0 3 ≡ 0 ∷ 1 ∷ 2 ∷ []
+three_spans = refl
+
+in_the_first : IsIn (pos 7200) knot.shifts 0 (pos 5000)
+in_the_first = record { within = omega arith; begun = λ l. absurd (omega arith); lasts = λ l. omega (arith, ints) }
+
+in_the_third : IsIn (pos 7200) knot.shifts 2 (pos 5000)
+in_the_third = record { within = omega arith; begun = λ l. omega (arith, ints); lasts = λ l. absurd (omega arith) }
+
+-- such a set isn't orderly
+knot_is_not_orderly : IsOrderlyZone knot → ⊥
+knot_is_not_orderly orderly = orderly.apart 0 (pos 5000) in_the_first in_the_third
+
+-- nor is one whose local starts fall, or its local ends
+starts_fall : IsOrderlyZone (zone (pos 0) ((pos 0, pos 7200) ∷ (pos 3600, pos 0) ∷ [])) → ⊥
+starts_fall orderly = absurd (omega (arith, ints, orderly.starts 1 2 (omega arith) (omega arith) (omega arith)))
+
+ends_fall : IsOrderlyZone (zone (pos 7200) ((pos 0, pos 0) ∷ (pos 3600, pos 0) ∷ [])) → ⊥
+ends_fall orderly = absurd (omega (arith, ints, orderly.ends 0 1 (omega arith) (omega arith)))
+
+-- ---- which fault comes first
+
+-- 26 hours, and falling times
+abbrev far_and_falling : Schedule
+far_and_falling = zone (pos 93600) ((pos 1, pos 0) ∷ (pos 0, pos 0) ∷ [])
+
+far_is_first : IsFault far_and_falling OffsetRange
+far_is_first = λ h. cc
+
+falling_is_not_first : IsFault far_and_falling Falling → ⊥
+falling_is_not_first fault = cc (fault.0)
+
+-- falling times past 2^40
+abbrev falling_and_late : Schedule
+falling_and_late = zone (pos 0) ((pos 1099511627777, pos 0) ∷ (pos 0, pos 0) ∷ [])
+
+falling_is_first : IsFault falling_and_late Falling
+falling_is_first = (refl, λ times. absurd (omega (arith, ints, times 0 1 (omega arith) (omega arith))))
+
+late_is_not_first : IsFault falling_and_late Bound → ⊥
+late_is_not_first fault = absurd (omega (arith, ints, fault.1 0 1 (omega arith) (omega arith)))
+
+-- 26 hours is too far, on either side
+largest_offset : is_in_offset_range (zone (pos 93599) ((pos 0, negsuc 93598) ∷ [])) ≡ true
+largest_offset = refl
+
+offset_too_large : is_in_offset_range (zone (pos 0) ((pos 0, pos 93600) ∷ [])) ≡ false
+offset_too_large = refl
+
+offset_too_small : is_in_offset_range (zone (negsuc 93599) []) ≡ false
+offset_too_small = refl
+
+last_time : IsSpanTime (pos 1099511627776)
+last_time = (omega (arith, ints), omega (arith, ints))
+
+first_time : IsSpanTime (negsuc 1099511627775)
+first_time = (omega (arith, ints), omega (arith, ints))
+
+time_too_late : IsSpanTime (pos 1099511627777) → ⊥
+time_too_late h = absurd (omega (arith, ints, h.1))
+
+time_too_early : IsSpanTime (negsuc 1099511627776) → ⊥
+time_too_early h = absurd (omega (arith, ints, h.0))
+
+-- ---- what is in force at an instant: winter time, and summer time from the second 1,000 on
+
+abbrev summer : FixedTimespanSet
+summer = record {
+  name = codes "Test/Summer";
+  first = record { utc_offset = pos 3600; dst_offset = pos 0; name = codes "CET" };
+  others = (pos 1000, record { utc_offset = pos 3600; dst_offset = pos 3600; name = codes "CEST" }) ∷ [];
+}
+
+last_of_winter : total_at (schedule_of summer) (pos 999999999999) ≡ pos 3600
+unfolding total_at
+last_of_winter = refl
+
+first_of_summer : total_at (schedule_of summer) (pos 1000000000000) ≡ pos 7200
+unfolding total_at
+first_of_summer = refl
+
+-- half a second before 1970 lies in the second before it
+half_a_second_before : seconds_of (negsuc 499999999) ≡ negsuc 0
+unfolding seconds_of
+half_a_second_before = refl
+
+winter_span : (k : ℕ) → IsCut (shifts_of summer) k (pos 999) → k ≡ 0
+winter_span zero cut = refl
+winter_span (suc k) cut = absurd (omega (arith, ints, cut.before 0 (omega arith)))
+
+summer_span : (k : ℕ) → IsCut (shifts_of summer) k (pos 1000) → k ≡ 1
+summer_span zero cut = absurd (omega (arith, ints, cut.after 0 (omega arith) (omega arith)))
+summer_span (suc zero) cut = refl
+summer_span (suc (suc k)) cut = absurd (omega (arith, cut.within))
+
+called_in_winter : (name : List ℕ) (saving : Bool) → GivesAt summer (pos 999999999999) name saving
+    → (name ≡ codes "CET") × (saving ≡ false)
+unfolding seconds_of
+called_in_winter name saving given =
+    let is = winter_span given.span given.in_force in
+    (given.named ∙ ap (λ k. (span_in summer k).name) is, given.saves ∙ ap (λ k. int_lt (pos 0) (span_in summer k).dst_offset) is)
+
+called_in_summer : (name : List ℕ) (saving : Bool) → GivesAt summer (pos 1000000000000) name saving
+    → (name ≡ codes "CEST") × (saving ≡ true)
+unfolding seconds_of
+called_in_summer name saving given =
+    let is = summer_span given.span given.in_force in
+    (given.named ∙ ap (λ k. (span_in summer k).name) is, given.saves ∙ ap (λ k. int_lt (pos 0) (span_in summer k).dst_offset) is)
+
+-- ---- the values of an answer
+
+abbrev two : OffsetResult ℕ
+two = found.Ambiguous 1 2
+
+two_listed : listed two ≡ 1 ∷ 2 ∷ []
+two_listed = refl
+
+two_have_no_only : only_in two ≡ None
+two_have_no_only = refl
+
+first_of_two : first_in two ≡ Some 1
+first_of_two = refl
+
+second_of_two : second_in two ≡ Some 2
+second_of_two = refl
+
+abbrev one : OffsetResult ℕ
+one = found.Some 1
+
+second_of_one : second_in one ≡ Some 1
+second_of_one = refl

@@ -1,0 +1,85 @@
+-- What a zone's answers say of instants.
+use Rattle.std.proofs.Common.{◌≡◌, zero, suc, ◌≤◌, List, [], ◌∷◌, length, map, take, ℤ, pos, ◌+ℤ◌, ◌*ℤ◌, refl, sym, ap, ◌∙◌, subst, arith}
+use Rattle.std.specs.Prelude.{Contains}
+use Rattle.std.proofs.lemmas.List.{take-map}
+use Rattle.std.proofs.lemmas.Int.{ints}
+use Rattle.civil_base.specs.Ranges.{IsOffset}
+use Rattle.civil_base.specs.DateTimes.{at_offset, instant-at_offset, offset_of-at_offset}
+use Rattle.zone_spans.specs.Schedules.{instants}
+use Rattle.civil_base.specs.Instants.{instant_at}
+use Rattle.tz_zone.specs.InForce.{in_force, all_in_force, shown_of, totals_at}
+use Rattle.tz_zone.proofs.Rising.{contains_head, contains_more}
+use Rattle.tz_zone.proofs.InstantLemmas.{instants_are, instants_one}
+use Rattle.tz_zone.proofs.AnswerLemmas.{from_reading}
+
+-- one total at all times
+reads_fixed : (x t o : ℤ) → instant_at x o ≡ t → (t +ℤ pos 1000000000 *ℤ o) ≡ x
+reads_fixed x t o e = omega (arith, ints, e)
+
+pub fixed_instants : (o x : ℤ) → IsOffset o → instants (λ _. o) x ≡ instant_at x o ∷ []
+fixed_instants o x h = instants_one (λ _. o) x (instant_at x o ∷ []) (λ _. h) (record {
+  rising = λ i j d l m. absurd (omega (arith, l, m));
+  exact =
+      λ t. (
+        (λ c. reads_fixed x t o (only t c)),
+        (λ r. subst (λ s. Contains (instant_at x o ∷ []) s) (sym (from_reading x t o r)) (contains_head (instant_at x o) [])),
+      );
+})
+  where
+    only : (t : ℤ) → Contains (instant_at x o ∷ []) t → instant_at x o ≡ t
+    only t (zero, l, e) = e
+    only t (suc k, l, e) = absurd (omega (arith, l))
+
+pub fixed_totals : (o x : ℤ) → IsOffset o → o ∷ [] ≡ take 2 (totals_at (λ _. o) x)
+unfolding totals_at
+fixed_totals o x h = sym (ap (λ ts. take 2 (map (λ (t : ℤ). o) ts)) (fixed_instants o x h))
+
+pub fixed_two : (o x : ℤ) → IsOffset o → length (instants (λ _. o) x) ≤ 2
+fixed_two o x h = let e = ap length (fixed_instants o x h) in omega (arith, e)
+
+back_all : (total : ℤ → ℤ) (x : ℤ) (ts : List ℤ) → ((t : ℤ) → Contains ts t → t ≡ instant_at x (total t))
+    → map (instant_at x) (map total ts) ≡ ts
+back_all total x [] h = refl
+back_all total x (t ∷ ts) h =
+    let here = h t (contains_head t ts) in
+    let rest = back_all total x ts (λ u c. h u (contains_more t ts u c)) in
+    (λ i. sym here i ∷ rest i)
+
+-- a local time less the totals at its instants gives the instants
+pub instants_from_totals : (total : ℤ → ℤ) (x : ℤ) → ((t : ℤ) → IsOffset (total t))
+    → map (instant_at x) (totals_at total x) ≡ instants total x
+unfolding totals_at
+instants_from_totals total x range =
+    back_all total x (instants total x) (λ t c. from_reading x t (total t) (((instants_are total x range).exact t).0 c))
+
+-- the instants of what a zone answers
+pub assumed : (total : ℤ → ℤ) (x : ℤ) (os : List ℤ) → ((t : ℤ) → IsOffset (total t)) → os ≡ take 2 (totals_at total x)
+    → map (instant_at x) os ≡ take 2 (instants total x)
+assumed total x os range e =
+    ap (map (instant_at x)) e ∙ sym (take-map (instant_at x) 2 (totals_at total x)) ∙ ap (take 2) (instants_from_totals total x range)
+
+-- a local time at an offset, seen as an instant and an offset
+pub shown_at_offset : (x o : ℤ) → shown_of (at_offset x o) ≡ (instant_at x o, o)
+unfolding shown_of
+shown_at_offset x o = λ i. (instant-at_offset x o i, offset_of-at_offset x o i)
+
+pairs_of : (total : ℤ → ℤ) (x : ℤ) (ts : List ℤ) → ((t : ℤ) → Contains ts t → t ≡ instant_at x (total t)) →
+    map (λ o. (instant_at x o, o)) (map total ts) ≡ map (in_force total) ts
+pairs_of total x [] h = refl
+pairs_of total x (t ∷ ts) h =
+    let here = h t (contains_head t ts) in
+    let rest = pairs_of total x ts (λ u c. h u (contains_more t ts u c)) in
+    (λ i. (sym here i, total t) ∷ rest i)
+
+-- the instants of a local time beside the totals in force
+pub in_force_from_totals : (total : ℤ → ℤ) (x : ℤ) → ((t : ℤ) → IsOffset (total t))
+    → map (λ o. (instant_at x o, o)) (totals_at total x) ≡ all_in_force total x
+unfolding totals_at all_in_force
+in_force_from_totals total x range =
+    pairs_of total x (instants total x) (λ t c. from_reading x t (total t) (((instants_are total x range).exact t).0 c))
+
+pub shown_assumed : (total : ℤ → ℤ) (x : ℤ) (os : List ℤ) → ((t : ℤ) → IsOffset (total t)) → os ≡ take 2 (totals_at total x) →
+    map (λ o. (instant_at x o, o)) os ≡ take 2 (all_in_force total x)
+shown_assumed total x os range e =
+    ap (map (λ o. (instant_at x o, o))) e ∙ sym (take-map (λ o. (instant_at x o, o)) 2 (totals_at total x))
+    ∙ ap (take 2) (in_force_from_totals total x range)

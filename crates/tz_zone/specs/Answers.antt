@@ -1,0 +1,19 @@
+-- The values of an answer, in order.
+use Rattle.std.specs.Prelude.{ℕ, ◌≤◌, List, [], ◌∷◌}
+use Rattle.tz_zone.specs.declared.result.OffsetResult.{OffsetResult}
+use Rattle.tz_zone.specs.declared.result.OffsetResult.TheVariants.{Some, Ambiguous, None}
+
+abbrev pub listed : {T : Type 0} → OffsetResult T → List T
+listed (Some a) = a ∷ []
+listed (Ambiguous a b) = a ∷ b ∷ []
+listed None = []
+
+-- each value has the property
+abbrev pub EachOf : {T : Type 0} → (T → Type 0) → OffsetResult T → Type 0
+EachOf P (Some a) = P a
+EachOf P (Ambiguous a b) = P a × P b
+EachOf P None = Unit {0}
+
+-- each index is at most n
+abbrev pub IsUpTo : ℕ → OffsetResult ℕ → Type 0
+IsUpTo n = EachOf (λ k. k ≤ n)

@@ -1,0 +1,17 @@
+-- What a span that is in force gives.
+use Rattle.std.specs.Prelude.{◌≡◌, ℕ, ℤ, pos, int_lt}
+use Rattle.std.proofs.Common.{ap}
+use Rattle.zone_spans.specs.declared.span.FixedTimespan.{FixedTimespan}
+use Rattle.tz_zone.specs.InForce.{GivesAt, IsInForce}
+use Rattle.tz_zone.specs.Sets.{span_in}
+use Rattle.tz_zone.specs.declared.set.FixedTimespanSet.{FixedTimespanSet}
+
+-- its abbreviation and its kind are what the set gives at the instant
+pub gives_at : (set : FixedTimespanSet) (k : ℕ) (t : ℤ) (span : FixedTimespan) → IsInForce set k t → span ≡ span_in set k
+    → GivesAt set t span.name (int_lt (pos 0) span.dst_offset)
+gives_at set k t span in_force is = record {
+  span = k;
+  in_force = in_force;
+  named = ap (λ (s : FixedTimespan). s.name) is;
+  saves = ap (λ (s : FixedTimespan). int_lt (pos 0) s.dst_offset) is;
+}

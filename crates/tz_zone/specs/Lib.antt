@@ -1,0 +1,15 @@
+pub mod Spans
+pub mod Sets
+pub mod Search
+pub mod Faults
+pub mod Answers
+pub mod InForce
+pub mod InForceLaws
+pub mod Results
+pub mod Scans
+pub mod Dates
+pub mod InstantsLeft
+pub mod FixedZones
+pub mod Zones
+pub mod Compiles
+pub mod CompileLaws

@@ -1,0 +1,61 @@
+//! A zone compiled under a name.
+ghost use Rattle.std.specs.Prelude.{◌≡◌, IfOk, IfErr, Some, Ok};
+ghost use Rattle.zone_table.specs.BoundedTables.{IsBoundedTable};
+ghost use Rattle.tz_zone.specs.Compiles.{compiled_in, IsCompiledAs, IsZoneFault};
+ghost use Rattle.tz_zone.specs.Sets.{schedule_of, IsAccepted};
+
+use crate::accept::has_offsets;
+use crate::set::FixedTimespanSet;
+use std::alloc::{AllocError, Global};
+use zone_spans::{SpanFault, TableTransitions};
+use zone_table::Table;
+
+/// Why a name has no set of spans that can be looked up.
+#[derive(Clone, Copy, Debug, PartialEq, Eq)]
+pub enum ZoneFault {
+    /// The table has no zone of that name, and no link of it to one.
+    UnknownZone,
+    /// The zone has no schedule; never for want of memory.
+    Schedule(SpanFault),
+    /// Some span of the zone has an offset of 26 hours or more in size.
+    OffsetRange,
+    /// Memory ran out.
+    NoMemory,
+}
+
+impl From<AllocError> for ZoneFault {
+    ghost use Rattle.std.specs.Prelude.{◌≡◌};
+    ghost use Rattle.tz_zone.specs.declared.compile.ZoneFault.TheVariants.{NoMemory};
+
+    ghost from_gives = { λ _ fault. fault ≡ NoMemory };
+
+    fn from(_: AllocError) -> ZoneFault {
+        ZoneFault::NoMemory
+    }
+}
+
+/// The spans of the zone that a name finds in a table, under that name, which can be looked up. The table is bounded.
+///
+/// # Errors
+///
+/// In this order: `UnknownZone` exactly where the name finds no zone; `Schedule` with the zone's first fault;
+/// `OffsetRange` exactly where some span's offset and saving add up to 26 hours or more in size.
+pub fn compile_zone(alloc: Global, table: &Table, name: &str) -> Result<FixedTimespanSet, ZoneFault>
+    requires { IsBoundedTable table.now }
+    ensures ok { IfOk result (λ set. (set.name ≡ name.now) × IsCompiledAs set (compiled_in table.now name.now)) }
+    ensures accepted { IfOk result (λ set. IsAccepted (schedule_of set)) }
+    ensures err { IfErr result (IsZoneFault (compiled_in table.now name.now)) }
+{
+    let compiled = match table.timespans(alloc, name) {
+        Ok(Some(compiled)) => compiled,
+        Ok(None) => return Err(ZoneFault::UnknownZone),
+        Err(SpanFault::NoMemory) => return Err(ZoneFault::NoMemory),
+        Err(fault) => return Err(ZoneFault::Schedule(fault)),
+    };
+    let set = FixedTimespanSet::from_compiled(String::from_str(alloc, name)?, compiled);
+    if has_offsets(&set) {
+        Ok(set)
+    } else {
+        Err(ZoneFault::OffsetRange)
+    }
+}

@@ -1,0 +1,54 @@
+//! A search by halves over indices whose order is known by asking.
+ghost use Rattle.std.specs.Prelude.{◌≡◌, ◌≢◌, ℕ, ◌+◌, ◌-◌, ◌*◌, ◌^◌, ◌<◌, ◌≤◌, MatchOption};
+ghost use Rattle.std.specs.declared.cmp.Ordering.{Ordering};
+ghost use Rattle.std.specs.declared.cmp.Ordering.TheVariants.{Equal};
+ghost use Rattle.tz_zone.specs.Search.{GoesUp};
+
+use crate::steps::Steps;
+use std::cmp::Ordering;
+use std::sync::ledger::Ledger;
+
+/// Indices that lie before, at or after what is looked for.
+pub trait Probe {
+    /// The indices that may be asked about.
+    ghost has: { Self → ℕ → Type 0 };
+
+    /// Whether an index lies before, at or after what is looked for.
+    ghost order: { Self → ℕ → Ordering };
+
+    /// Whether an index lies before, at or after what is looked for. This is one step.
+    fn probe<L: Ledger>(&self, index: usize, steps: &mut Steps<L>) -> Ordering
+        requires { has self.now index }
+        ensures order { result ≡ order self.now index }
+        ensures step { steps.new ≡ steps.old + 1 };
+}
+
+/// An index from `start` up to, without, `end` that lies at what is looked for, or none exactly where none does. The
+/// indices go from those before it over those at it to those after it. It takes s steps with 2^s <= 2n + 1 for n indices.
+pub fn binary_search<P: Probe, L: Ledger>(
+    start: usize,
+    end: usize,
+    probe: &P,
+    steps: &mut Steps<L>,
+) -> Option<usize>
+    requires order { start ≤ end }
+    requires has { (k : ℕ) → start ≤ k → k < end → P.has probe.now k }
+    requires sorted { GoesUp (P.order probe.now) start end }
+    ensures found { MatchOption result
+        ((k : ℕ) → start ≤ k → k < end → P.order probe.now k ≢ Equal)
+        (λ i. (start ≤ i) × (i < end) × (P.order probe.now i ≡ Equal)) }
+    ensures cost { 2 ^ (steps.new - steps.old) ≤ 2 * (end - start) + 1 }
+    ensures later { steps.old ≤ steps.new }
+{
+    let mut low = start;
+    let mut high = end;
+    'search: while low < high {
+        let middle = low + (high - low) / 2;
+        match probe.probe(middle, steps) {
+            Ordering::Equal => return Some(middle),
+            Ordering::Less => low = middle + 1,
+            Ordering::Greater => high = middle,
+        }
+    }
+    None
+}
