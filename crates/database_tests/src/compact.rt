@@ -1,6 +1,7 @@
 //! The compact form of a zone that is compiled from its source.
 use std::process::Abort;
 use std::test::Fail;
+use test_support::same;
 use tz_lookup::{CompactSet, compile_zone};
 use zone_line::LineParser;
 use zone_source::read_table;
@@ -25,7 +26,7 @@ fn new_york_has_two_kinds(rt: HostRuntime) -> Result<(), Fail> {
         return Err(Fail::from("no compact form"));
     };
     // Standard and daylight time; the first span, and two changes in each year of 2007 to 2099.
-    assert_eq!(rt; compact.kind_count(), 2);
-    assert_eq!(rt; compact.span_count(), 187);
+    same(&rt, &compact.kind_count(), &2);
+    same(&rt, &compact.span_count(), &187);
     Ok(())
 }

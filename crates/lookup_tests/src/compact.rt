@@ -3,6 +3,7 @@ use crate::lookup::{at, expect_at, expect_kind, expect_offsets, local, set_of, s
 use std::alloc::Global;
 use std::process::Abort;
 use std::test::Fail;
+use test_support::same;
 use tz_lookup::{
     CompactFault, CompactSet, CompactTz, FixedTimespanSet, OffsetResult, TimeZone, Tz,
 };
@@ -24,11 +25,11 @@ fn refusal(alloc: Global, set: &FixedTimespanSet) -> Option<CompactFault> {
 fn what_is_refused(rt: HostRuntime) -> Result<(), Fail> {
     let alloc = rt.alloc();
     let far = set_of(alloc, 93_600, &[(1, 60), (0, 0)])?;
-    assert_eq!(rt; refusal(alloc, &far), Some(CompactFault::OffsetRange));
+    same(&rt, &refusal(alloc, &far), &Some(CompactFault::OffsetRange));
     let falling = set_of(alloc, 0, &[(1_099_511_627_777, 60), (0, 0)])?;
-    assert_eq!(rt; refusal(alloc, &falling), Some(CompactFault::Falling));
+    same(&rt, &refusal(alloc, &falling), &Some(CompactFault::Falling));
     let late = set_of(alloc, 0, &[(1_099_511_627_777, 60)])?;
-    assert_eq!(rt; refusal(alloc, &late), Some(CompactFault::Bound));
+    same(&rt, &refusal(alloc, &late), &Some(CompactFault::Bound));
     Ok(())
 }
 
@@ -83,7 +84,7 @@ fn three_instants_of_one_local_time(rt: HostRuntime) -> Result<(), Fail> {
     for date in zone.instants_local(&local(5000)?) {
         seconds.push(date.unix_timestamp())?;
     }
-    assert_eq!(rt; seconds.as_slice(), [-2200, 1400, 5000].as_slice());
+    same(&rt, &seconds.as_slice(), &[-2200, 1400, 5000].as_slice());
     Ok(())
 }
 
@@ -97,8 +98,8 @@ fn kinds_and_spans(rt: HostRuntime) -> Result<(), Fail> {
     set.others.push((2000, winter))?;
     set.others.push((3000, span(alloc, 3600, 0)?))?;
     let kept = compact(alloc, &set)?;
-    assert_eq!(rt; kept.span_count(), 4);
-    assert_eq!(rt; kept.kind_count(), 3);
+    same(&rt, &kept.span_count(), &4);
+    same(&rt, &kept.kind_count(), &3);
     let zone = CompactTz::new(&kept);
     expect_kind(&rt, &zone.get_offset_primary(), "CET", false);
     expect_kind(&rt, &zone.get_offset_utc(&at(1000)?), "CEST", true);

@@ -2,6 +2,7 @@
 use crate::zones::{at, database};
 use std::process::Abort;
 use std::test::Fail;
+use test_support::holds_at;
 use tz_lookup::Database;
 use tz_posix::PosixTz;
 use tz_posix::laws::agreed_offset;
@@ -70,7 +71,7 @@ fn is_given<'x>(database: &'x Database, row: &'x str) -> Result<bool, Fail> {
 fn zones_agree_with_their_strings(rt: HostRuntime) -> Result<(), Fail> {
     let database = database(rt.alloc(), ZONES)?;
     for row in OFFSETS.lines() {
-        assert!(rt; is_given(&database, row)?, "{row}");
+        holds_at(&rt, row, is_given(&database, row)?);
     }
     Ok(())
 }

@@ -4,6 +4,7 @@ use crate::runs::{FIXED, Failing, NONE_FAILING, Outcome, ROOM, parser, words_of}
 use std::alloc::Global;
 use std::process::Abort;
 use std::test::Fail;
+use test_support::same;
 use zone_answers::{
     MemShelf, MemSink, MemSource, SureShelf, SureSink, SureSource, run, run_surely,
 };
@@ -42,8 +43,8 @@ fn expect(
     output: &str,
 ) -> Result<(), Fail> {
     let outcome = run_with(alloc, words, failing)?;
-    assert_eq!(rt; outcome.sink.taken(), output.as_bytes());
-    assert_eq!(rt; outcome.status.code(), code);
+    same(rt, &outcome.sink.taken(), &output.as_bytes());
+    same(rt, &outcome.status.code(), &code);
     Ok(())
 }
 
@@ -102,6 +103,6 @@ fn made_texts_surely(rt: HostRuntime) -> Result<(), Fail> {
     let mut input = SureSource::new(Vec::new(alloc));
     let mut output = SureSink::new();
     let status = run_surely(alloc, &parser, &words, &mut shelf, &mut input, &mut output);
-    assert_eq!(rt; status.code(), 0);
+    same(&rt, &status.code(), &0);
     Ok(())
 }
