@@ -33,8 +33,8 @@ pub struct SpanCounts {
 /// What zones were asked, and what they answered.
 #[derive(Clone, Copy)]
 pub struct OffsetCounts {
-    /// The instants that were asked.
-    pub instants: u64,
+    /// The instants or local times that were asked.
+    pub asked: u64,
     /// The instants with a saving above 0.
     pub saving: u64,
     /// The local times with no offset.
@@ -43,6 +43,17 @@ pub struct OffsetCounts {
     pub one: u64,
     /// The local times with two.
     pub two: u64,
+}
+
+/// Compact sets.
+#[derive(Clone, Copy)]
+pub struct KindCounts {
+    /// Zones, and links to one.
+    pub names: u64,
+    /// Their spans.
+    pub spans: u64,
+    /// The distinct kinds of the spans of each.
+    pub kinds: u64,
 }
 
 /// The names of a database.
@@ -83,6 +94,8 @@ pub enum Counts {
     Compile(SpanCounts),
     /// Of looking up.
     Look(OffsetCounts),
+    /// Of building compact sets.
+    Kinds(KindCounts),
     /// Of building a database.
     Database(NameCounts),
     /// Of reading POSIX TZ strings.

@@ -9,14 +9,27 @@ pub enum Part {
     Join,
     /// Compiling the names of the table.
     Compile,
-    /// Looking up offsets.
-    Look,
+    /// Looking up offsets in sets as they are compiled.
+    Look(Question),
+    /// Looking them up in compact sets.
+    Compact(Question),
+    /// Building the compact sets.
+    Kinds,
     /// Building the database of the table.
     Database,
     /// Reading POSIX TZ strings.
     Posix,
     /// Asking them for offsets.
     Offset,
+}
+
+/// What a zone is asked.
+#[derive(Clone, Copy)]
+pub enum Question {
+    /// The offset at an instant.
+    Instant,
+    /// The offsets at a local time.
+    Local,
 }
 
 /// A part, how often it is done, and over what.
@@ -37,7 +50,11 @@ impl Part {
             "read" => Some(Part::Read),
             "join" => Some(Part::Join),
             "compile" => Some(Part::Compile),
-            "look" => Some(Part::Look),
+            "instants" => Some(Part::Look(Question::Instant)),
+            "locals" => Some(Part::Look(Question::Local)),
+            "compact-instants" => Some(Part::Compact(Question::Instant)),
+            "compact-locals" => Some(Part::Compact(Question::Local)),
+            "kinds" => Some(Part::Kinds),
             "database" => Some(Part::Database),
             "posix" => Some(Part::Posix),
             "offset" => Some(Part::Offset),

@@ -6,8 +6,10 @@
 //! - `read`: each line is read by itself; counts the lines, and of them the blank ones and comments;
 //! - `join`: the lines are read and joined to a table; counts its zones, its links and its rulesets;
 //! - `compile`: each zone of the table, and each link to one, is compiled; counts the names and their spans;
-//! - `look`: each of these is asked at 400 instants and 400 local times of the years 1850 to 2100; counts the instants,
-//!   those with a saving above 0, and the local times with no offset, with one and with two;
+//! - `instants`, `locals`: each of these, compiled once, is asked at 400 instants, or at 400 local times, of the years 1850
+//!   to 2100; counts all, the instants with a saving above 0, and the local times with no offset, with one and with two;
+//! - `compact-instants`, `compact-locals`: the same of their compact sets;
+//! - `kinds`: the compact sets are built; counts the names, their spans, and the distinct kinds of each;
 //! - `database`: the database of the table is built; counts its names, and those whose spans are orderly;
 //! - `posix`: each line is read as a POSIX TZ string; counts those that are read and those that are refused;
 //! - `offset`: each of these strings is asked at the same instants; counts the instants, and those with daylight saving.
@@ -21,6 +23,7 @@ ghost use Rattle.std.specs.Prelude.{◌≤◌, length, IfOk};
 
 mod counts;
 mod job;
+mod looks;
 mod parts;
 mod stopped;
 mod strings;
@@ -95,10 +98,13 @@ fn print(rt: HostRuntime, counts: &Counts) -> io::Result<()> {
         Counts::Database(c) => println!(rt; "{} names, {} orderly", c.names, c.orderly),
         Counts::Posix(c) => println!(rt; "{} strings, {} refused", c.strings, c.refused),
         Counts::Offset(c) => println!(rt; "{} instants, {} saving", c.instants, c.saving),
+        Counts::Kinds(c) => {
+            println!(rt; "{} names, {} spans, {} kinds", c.names, c.spans, c.kinds)
+        }
         Counts::Look(c) => {
             println!(rt;
-                "{} instants, {} saving; {} none, {} one, {} two",
-                c.instants, c.saving, c.none, c.one, c.two
+                "{} asked, {} saving; {} none, {} one, {} two",
+                c.asked, c.saving, c.none, c.one, c.two
             )
         }
     }

@@ -2,26 +2,16 @@
 ghost use Rattle.std.specs.Prelude.{◌≤◌, length};
 ghost use Rattle.zone_table.specs.BoundedTables.{IsBoundedTable};
 
-use crate::counts::{Counts, LineCounts, NameCounts, OffsetCounts, SpanCounts, TableCounts, add};
+use crate::counts::{Counts, LineCounts, NameCounts, SpanCounts, TableCounts, add};
 use crate::job::{Job, Part};
+use crate::looks::{build_compact, look, look_compact};
 use crate::stopped::Stopped;
 use crate::strings::count_strings;
-use civil_base::OffsetDateTime;
-use owned::Items;
 use std::alloc::{AllocError, Global};
-use tz_lookup::{Database, FixedTimespanSet, Offset, OffsetResult, TimeZone, Tz, compile_zone};
+use tz_lookup::{Database, compile_zone};
 use zone_line::{Line, LineParser, LineReader};
 use zone_source::{LIMIT, Lines, Status, read_table, text_of};
 use zone_table::Table;
-
-/// 1850-01-01 00:00:00 UTC.
-pub(crate) const FIRST: i64 = -3_786_825_600;
-
-/// The seconds from one instant that is asked to the next: some 228 days, and no number of whole hours.
-pub(crate) const STEP: i64 = 19_723_087;
-
-/// How many instants a zone is asked at.
-pub(crate) const LOOKS: u32 = 400;
 
 /// Does the part over the source as often as the job says, and counts.
 pub(crate) fn count(
@@ -39,9 +29,17 @@ pub(crate) fn count(
             let table = read_table(alloc, parser, source)?;
             Ok(Counts::Compile(compile(alloc, &table, job.times)?))
         }
-        Part::Look => {
+        Part::Look(question) => {
             let table = read_table(alloc, parser, source)?;
-            Ok(Counts::Look(look(alloc, &table, job.times)?))
+            Ok(Counts::Look(look(alloc, &table, question, job.times)?))
+        }
+        Part::Compact(question) => {
+            let table = read_table(alloc, parser, source)?;
+            Ok(Counts::Look(look_compact(alloc, &table, question, job.times)?))
+        }
+        Part::Kinds => {
+            let table = read_table(alloc, parser, source)?;
+            Ok(Counts::Kinds(build_compact(alloc, &table, job.times)?))
         }
         Part::Database => {
             let table = read_table(alloc, parser, source)?;
@@ -122,7 +120,7 @@ fn add_table(alloc: Global, table: &Table, counts: &mut TableCounts) -> Result<(
 }
 
 /// The names of the zones of a table, and of the links to one.
-fn names_of(alloc: Global, table: &Table) -> Result<Vec<&str>, AllocError> {
+pub(crate) fn names_of(alloc: Global, table: &Table) -> Result<Vec<&str>, AllocError> {
     let mut names = table.zonesets.keys(alloc)?;
     for name in table.links.keys(alloc)? {
         if !table.zonesets.contains_key(name) && table.get_zoneset(name).is_some() {
@@ -166,62 +164,4 @@ fn build(alloc: Global, table: &Table, times: u32) -> Result<NameCounts, Stopped
         }
     }
     Ok(counts)
-}
-
-/// Asks each name of a table, compiled once.
-fn look(alloc: Global, table: &Table, times: u32) -> Result<OffsetCounts, Stopped>
-    requires { IsBoundedTable table.now }
-{
-    let names = names_of(alloc, table)?;
-    let mut sets = Items::new(alloc);
-    for name in &names {
-        sets.push(compile_zone(alloc, table, name)?)?;
-    }
-    let zones = zones_of(alloc, sets.as_slice())?;
-    let mut counts = OffsetCounts {
-        instants: 0,
-        saving: 0,
-        none: 0,
-        one: 0,
-        two: 0,
-    };
-    for _ in 0..times {
-        for zone in zones.as_slice() {
-            ask(zone, &mut counts)?;
-        }
-    }
-    Ok(counts)
-}
-
-/// The zones of the sets.
-fn zones_of(alloc: Global, sets: &[FixedTimespanSet]) -> Result<Items<Tz<'_>>, Stopped> {
-    let mut zones = Items::new(alloc);
-    for set in sets {
-        match Tz::new(set) {
-            Ok(zone) => zones.push(zone)?,
-            Err(_) => return Err(Stopped::by(Status::Fault)),
-        }
-    }
-    Ok(zones)
-}
-
-/// Asks a zone at each instant, and at the local time that reads as the instant does at UTC.
-fn ask(zone: &Tz<'_>, counts: &mut OffsetCounts) -> Result<(), Stopped> {
-    let mut second = FIRST;
-    for _ in 0..LOOKS {
-        let Ok(at) = OffsetDateTime::from_unix_timestamp(second) else {
-            return Err(Stopped::by(Status::Fault));
-        };
-        second = second.saturating_add(STEP);
-        add(&mut counts.instants, 1);
-        if zone.get_offset_utc(&at).is_dst() {
-            add(&mut counts.saving, 1);
-        }
-        match zone.get_offset_local(&at) {
-            OffsetResult::None => add(&mut counts.none, 1),
-            OffsetResult::Some(_) => add(&mut counts.one, 1),
-            OffsetResult::Ambiguous(..) => add(&mut counts.two, 1),
-        }
-    }
-    Ok(())
 }

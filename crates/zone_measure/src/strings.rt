@@ -2,7 +2,7 @@
 
 use crate::counts::{Counts, SavingCounts, StringCounts, add};
 use crate::job::{Job, Part};
-use crate::parts::{FIRST, LOOKS, STEP};
+use crate::looks::{FIRST, LOOKS, STEP};
 use crate::stopped::Stopped;
 use civil_base::OffsetDateTime;
 use tz_lookup::{Database, Offset};
