@@ -2,10 +2,17 @@
 use Rattle.std.proofs.Common.{◌≡◌, [], ◌∷◌, ◌++◌, map, Some, None, refl}
 use Rattle.std.specs.Fmt.{digits}
 use Rattle.std.specs.Prelude.{codes}
+use Rattle.std.specs.Str.{is_utf8, chars}
+use lib.Utf8.{encode}
+use Rattle.zone_source.specs.Faults.{source_fault}
+use Rattle.zone_source.specs.Lines.{lines_of}
 use Rattle.zone_answers.specs.AnswerLines.{ended}
 use Rattle.zone_answers.specs.Counts.{count_in}
+use Rattle.zone_answers.specs.Due.{answer_lines}
+use Rattle.zone_answers.specs.Faults.{fault, request_refusal}
 use Rattle.zone_answers.specs.Made.{numbers_to, zone_line, at_line, local_line, made_source, made_requests}
-use Rattle.zone_answers.specs.Summary.{summary}
+use Rattle.zone_answers.specs.Requests.{request_of}
+use Rattle.zone_answers.specs.Summary.{summary, due_summary}
 use Rattle.zone_answers.specs.Words.{answer_over, generate, task_in}
 
 -- numbers from 1 to 1000, and none of 0, of more, of leading zeros, of signs, spaces or letters
@@ -59,3 +66,8 @@ summaries : map summary ([] ∷ (codes "ab" ∷ []) ∷ (codes "ab" ∷ codes "c
     ≡ codes "lines 0 bytes 0 sum 0" ∷ codes "lines 1 bytes 2 sum 195" ∷ codes "lines 2 bytes 3 sum 294" ∷ []
 unfolding summary digits
 summaries = refl
+
+-- what is due over no source: for no request, and for one in no form
+due : map (due_summary []) ([] ∷ codes "what" ∷ []) ≡ (codes "lines 0 bytes 0 sum 0" ++ 10 ∷ []) ∷ (codes "request 1: request" ++ 10 ∷ []) ∷ []
+unfolding due_summary summary answer_lines fault source_fault request_refusal request_of lines_of is_utf8 chars encode digits
+due = refl
