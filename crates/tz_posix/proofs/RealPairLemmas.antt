@@ -1,5 +1,5 @@
 -- Two pairs of yearly rules of the tz database meet each condition.
-use Rattle.std.proofs.Common.{◌≡◌, ℕ, List, [], ◌∷◌, Option, refl, sym, ap, ◌∙◌, arith, ℤ, pos, neg_ℤ, ◌+ℤ◌, ◌-ℤ◌, ◌*ℤ◌, ◌≤ℤ◌, ◌<ℤ◌}
+use Rattle.std.proofs.Common.{◌≡◌, ℕ, List, [], ◌∷◌, Option, inl, inr, refl, sym, ap, ◌∙◌, arith, ℤ, pos, neg_ℤ, ◌+ℤ◌, ◌-ℤ◌, ◌*ℤ◌, ◌≤ℤ◌, ◌<ℤ◌}
 use Rattle.calendar.specs.Dates.{last_with}
 use Rattle.calendar.specs.Days.{is_leap, days_in_year, days_in_month, days_after_zero, year_start, days_through, days_into_year, day}
 use Rattle.calendar.specs.Signs.{signed}
@@ -73,6 +73,9 @@ module _ (rulesets : Rulesets) (line : ZoneInfo) (d s : Option (List ℕ)) (is :
     saving_small = omega (arith, signed);
   }
 
+  pub new_york_north : IsNorthern (us_rules line d s)
+  new_york_north = northern_order (us_rules line d s) us_inner (omega arith)
+
   pub new_york_same : SaysTheSame rulesets (us_rules line d s) new_york_value
   unfolding offset_seconds time_seconds
   new_york_same =
@@ -98,15 +101,13 @@ module _ (rulesets : Rulesets) (line : ZoneInfo) (d s : Option (List ℕ)) (is :
         end_time = us_inner.end_time;
         start_inside = start_inside (us_rules line d s) us_inner;
         end_inside = end_inside (us_rules line d s) us_inner;
+        order = inl new_york_north;
         apart = northern_apart (us_rules line d s) us_inner (omega arith);
         same_standard = sym offset;
         same_saving = sym (ap (λ o. o +ℤ pos 3600) offset);
         same_start = record { weekday = Sunday; day = from_eighth; seconds = refl };
         same_end = record { weekday = Sunday; day = from_first; seconds = refl };
       }
-
-  pub new_york_north : IsNorthern (us_rules line d s)
-  new_york_north = northern_order (us_rules line d s) us_inner (omega arith)
 
   pub new_york_agrees : (t : ℤ) → pos 1167627600 ≤ℤ seconds_of t → seconds_of t <ℤ pos 4102462800
       → total_at (schedule_of rulesets (line ∷ [])) t ≡ value_total new_york_value (seconds_of t)
@@ -137,6 +138,9 @@ module _ (rulesets : Rulesets) (line : ZoneInfo) (d s : Option (List ℕ)) (is :
     saving_small = omega (arith, signed);
   }
 
+  pub lord_howe_south : IsSouthern (lord_howe_rules line d s)
+  lord_howe_south = southern_order (lord_howe_rules line d s) lord_howe_inner (omega arith)
+
   pub lord_howe_same : SaysTheSame rulesets (lord_howe_rules line d s) lord_howe_value
   unfolding offset_seconds time_seconds
   lord_howe_same =
@@ -162,15 +166,13 @@ module _ (rulesets : Rulesets) (line : ZoneInfo) (d s : Option (List ℕ)) (is :
         end_time = lord_howe_inner.end_time;
         start_inside = start_inside (lord_howe_rules line d s) lord_howe_inner;
         end_inside = end_inside (lord_howe_rules line d s) lord_howe_inner;
+        order = inr lord_howe_south;
         apart = southern_apart (lord_howe_rules line d s) lord_howe_inner (omega arith);
         same_standard = sym offset;
         same_saving = sym (ap (λ o. o +ℤ pos 1800) offset);
         same_start = record { weekday = Sunday; day = from_first; seconds = refl };
         same_end = record { weekday = Sunday; day = from_first; seconds = refl };
       }
-
-  pub lord_howe_south : IsSouthern (lord_howe_rules line d s)
-  lord_howe_south = southern_order (lord_howe_rules line d s) lord_howe_inner (omega arith)
 
   first_start : start_in (lord_howe_rules line d s) (pos 2008) ≡ pos 1223134200
   first_start =

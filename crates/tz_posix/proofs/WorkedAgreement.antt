@@ -12,7 +12,7 @@ use Rattle.zone_table.specs.Moments.{instant_of, moment}
 use Rattle.zone_table.specs.declared.format.Format.{Format}
 use Rattle.zone_table.specs.declared.zone.Saving.TheVariants.{Multiple}
 use Rattle.zone_table.specs.declared.zone.ZoneInfo.{ZoneInfo}
-use Rattle.tz_posix.specs.Agreement.{IsInYears, IsSameDay, IsTimeOfDay, end_in, first_year, start_in}
+use Rattle.tz_posix.specs.Agreement.{IsInYears, IsRuleYear, IsSameDay, IsTimeOfDay, end_in, first_year, start_in}
 use Rattle.tz_posix.specs.Agreement.{from_first, from_eighth, from_fifteenth, from_twenty_second, last_of_month}
 use Rattle.tz_posix.specs.RealPairs.{lord_howe_rules, us_rules}
 use Rattle.tz_posix.specs.declared.date.Date.TheVariants.{M}
@@ -76,3 +76,17 @@ worked_times = (
 
 worked_no_times : (IsTimeOfDay (negsuc 0) → ⊥) × (IsTimeOfDay (pos 86400) → ⊥)
 worked_no_times = (λ h. absurd (omega (arith, signed, h.least)), λ h. absurd (omega (arith, signed, h.greatest)))
+
+-- rules from 2007 on apply to 2007 and to 2099, and to no year before or past these
+worked_range : IsRuleYear (pos 2007) (pos 2007) × IsRuleYear (pos 2007) (pos 2099)
+worked_range = (
+  record { first = omega (arith, signed); last = omega (arith, signed) },
+  record { first = omega (arith, signed); last = omega (arith, signed) },
+)
+
+worked_no_range : (IsRuleYear (pos 2007) (pos 2006) → ⊥) × (IsRuleYear (pos 1700) (pos 1799) → ⊥) × (IsRuleYear (pos 2007) (pos 2100) → ⊥)
+worked_no_range = (
+  λ h. absurd (omega (arith, signed, h.first)),
+  λ h. absurd (omega (arith, signed, h.first)),
+  λ h. absurd (omega (arith, signed, h.last)),
+)

@@ -96,6 +96,14 @@ pub record IsChange (zone : TwoRuleZone) (second : ℤ) : Type 0 where
   pub in_range : IsRuleYear zone.from year
   pub is : (second ≡ start_in zone year) ⊎ (second ≡ end_in zone year)
 
+-- the start comes first in each year, as north of the equator
+abbrev pub IsNorthern : TwoRuleZone → Type 0
+IsNorthern zone = (y : ℤ) → IsRuleYear zone.from y → start_in zone y <ℤ end_in zone y
+
+-- the end comes first in each year, as south of it
+abbrev pub IsSouthern : TwoRuleZone → Type 0
+IsSouthern zone = (y : ℤ) → IsRuleYear zone.from y → end_in zone y <ℤ start_in zone y
+
 -- each condition under which the zone and the value agree
 pub record SaysTheSame (rulesets : Rulesets) (zone : TwoRuleZone) (q : RuledValue) : Type 0 where
   -- the line is ruled by a ruleset of exactly these two rules, in either order
@@ -124,21 +132,15 @@ pub record SaysTheSame (rulesets : Rulesets) (zone : TwoRuleZone) (q : RuledValu
   -- each start and each end lies in its year
   pub start_inside : (y : ℤ) → IsRuleYear zone.from y → IsInYears zone.line.offset y y (start_in zone y)
   pub end_inside : (y : ℤ) → IsRuleYear zone.from y → IsInYears zone.line.offset y y (end_in zone y)
-  -- all of these, put in order, are more than the saving apart from one to the next
+  -- the start comes first in all of these years, or the end does in all
+  pub order : IsNorthern zone ⊎ IsSouthern zone
+  -- all starts and ends, put in order, are more than the saving apart from one to the next
   pub apart : (s t : ℤ) → IsChange zone s → IsChange zone t → s <ℤ t → (s +ℤ zone.start.time_to_add) <ℤ t
   -- the value has the same two offsets, and its start and its end the same days and times
   pub same_standard : east_of q.standard ≡ zone.line.offset
   pub same_saving : east_of q.saving ≡ zone.line.offset +ℤ zone.start.time_to_add
   pub same_start : IsSameTime zone.start (yearly_time q.rule.start)
   pub same_end : IsSameTime zone.end (yearly_time q.rule.end)
-
--- the start comes first in each year, as north of the equator
-abbrev pub IsNorthern : TwoRuleZone → Type 0
-IsNorthern zone = (y : ℤ) → IsRuleYear zone.from y → start_in zone y <ℤ end_in zone y
-
--- the end comes first in each year, as south of it
-abbrev pub IsSouthern : TwoRuleZone → Type 0
-IsSouthern zone = (y : ℤ) → IsRuleYear zone.from y → end_in zone y <ℤ start_in zone y
 
 -- a second from the first start on, up to the end of the year 2099
 pub record IsFromFirstStart (zone : TwoRuleZone) (second : ℤ) : Type 0 where

@@ -1,5 +1,5 @@
 //! Laws of the texts, and of zones that say the same as one.
-ghost use Rattle.std.specs.Prelude.{◌≡◌, ◌⊎◌, ℕ, ℤ, pos, neg_ℤ, ◌≤ℤ◌, ◌<ℤ◌, true, List, [], ◌∷◌, Option, is_some, IfSome, Ok};
+ghost use Rattle.std.specs.Prelude.{◌≡◌, ℕ, ℤ, pos, neg_ℤ, ◌≤ℤ◌, ◌<ℤ◌, true, List, [], ◌∷◌, Option, is_some, IfSome, Ok};
 ghost use Rattle.civil_base.specs.DateTimes.{instant};
 ghost use Rattle.civil_base.specs.Instants.{seconds_of};
 ghost use Rattle.zone_table.specs.declared.zone.ZoneInfo.{ZoneInfo};
@@ -73,7 +73,7 @@ pub fn longest_runs()
 /// its last entry holds, nor of abbreviations.
 pub fn two_yearly_rules_agree()
     ensures compiled { (rulesets : Rulesets) (zone : TwoRuleZone) (q : RuledValue) → SaysTheSame rulesets zone q
-        → IsNorthern zone ⊎ IsSouthern zone → IsCompiled rulesets (zone.line ∷ []) }
+        → IsCompiled rulesets (zone.line ∷ []) }
     ensures northern { (rulesets : Rulesets) (zone : TwoRuleZone) (q : RuledValue) → SaysTheSame rulesets zone q
         → IsNorthern zone → (t : ℤ) → IsInYears zone.line.offset (first_year zone.from) (pos 2099) (seconds_of t)
         → total_at (schedule_of rulesets (zone.line ∷ [])) t ≡ value_total q (seconds_of t) }
