@@ -41,12 +41,6 @@ module _ (rulesets : Rulesets) (zone : TwoRuleZone) (q : RuledValue) (c : SaysTh
   first_is : (i : ℕ) → (first_at o zone.start zone.end m i).time ≡ start i
   first_is i = ap (moment zone.start (year_from m i) o) (none_before i)
 
-  in_year : (i : ℕ) → i < n → (start i +ℤ zone.start.time_to_add) <ℤ stop i
-  in_year i l =
-      let year = year_of_place rulesets zone q c i l in
-      let gap = c.apart (start i) (stop i) (a_start rulesets zone q c _ year) (an_end rulesets zone q c _ year) (north _ year) in
-      omega (arith, signed, gap)
-
   to_next : (i : ℕ) → suc i < n → (stop i +ℤ zone.start.time_to_add) <ℤ start (suc i)
   to_next i l =
       let before : i < n = omega arith in
