@@ -15,6 +15,7 @@ pub use Rattle.tz_zone.specs.Compiles
 pub use Rattle.tz_zone.specs.CompileLaws
 pub mod Databases
 pub mod Kinds
+pub mod KindLaws
 pub mod KindShown
 pub mod Years
 pub mod YearCounts

@@ -1,15 +1,18 @@
 -- Which fault of a request comes first, and which dates leave the years, at worked rows.
 use Rattle.std.proofs.Common.{◌≡◌, ℕ, List, [], ◌∷◌, map, Some, None, Ok, refl, ℤ, pos, negsuc, true, false}
-use Rattle.std.specs.Prelude.{codes}
+use Rattle.std.specs.Prelude.{Result, codes}
 use Rattle.std.specs.Str.{is_utf8, chars}
 use Rattle.std.specs.declared.alloc.Global.{Global}
 use Rattle.std.specs.declared.string.String.{String}
 use lib.Utf8.{encode}
-use Rattle.zone_spans.specs.Schedules.{total_at, totals_of}
+use Rattle.zone_spans.specs.Schedules.{fixed, total_at, totals_of}
+use Rattle.zone_spans.specs.declared.fault.SpanFault.TheVariants.{MissingUntil}
+use Rattle.zone_spans.specs.declared.span.FixedTimespan.{FixedTimespan}
 use Rattle.zone_answers.specs.AnswerLines.{ended}
-use Rattle.zone_answers.specs.Faults.{are_in_years, has_dates, request_refusal, first_refused, request_not_text, bad_request, unknown_zone, offset_range, range}
+use Rattle.zone_answers.specs.Due.{answer_line}
+use Rattle.zone_answers.specs.Faults.{Fault, are_in_years, has_dates, schedule_refusal, request_refusal, first_refused, request_not_text, bad_request, unknown_zone, offset_range, range}
 use Rattle.zone_answers.specs.Found.{Found}
-use Rattle.zone_answers.specs.Requests.{request_of, nanoseconds_in}
+use Rattle.zone_answers.specs.Requests.{at, request_of, nanoseconds_in}
 use Rattle.zone_answers.specs.Words.{task_of}
 
 -- no name finds a zone

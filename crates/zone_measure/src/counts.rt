@@ -30,6 +30,17 @@ pub struct SpanCounts {
     pub spans: u64,
 }
 
+/// Compact forms.
+#[derive(Clone, Copy)]
+pub struct KindCounts {
+    /// All.
+    pub sets: u64,
+    /// Their spans.
+    pub spans: u64,
+    /// The kinds that these have.
+    pub kinds: u64,
+}
+
 /// What zones were asked, and what they answered.
 #[derive(Clone, Copy)]
 pub struct OffsetCounts {
@@ -83,6 +94,8 @@ pub enum Counts {
     Compile(SpanCounts),
     /// Of looking up.
     Look(OffsetCounts),
+    /// Of making compact forms.
+    Keep(KindCounts),
     /// Of building a database.
     Database(NameCounts),
     /// Of reading POSIX TZ strings.

@@ -11,6 +11,10 @@ pub enum Part {
     Compile,
     /// Looking up offsets.
     Look,
+    /// Making the compact forms of the names' sets.
+    Keep,
+    /// Looking up offsets in these.
+    Compact,
     /// Building the database of the table.
     Database,
     /// Reading POSIX TZ strings.
@@ -38,6 +42,8 @@ impl Part {
             "join" => Some(Part::Join),
             "compile" => Some(Part::Compile),
             "look" => Some(Part::Look),
+            "keep" => Some(Part::Keep),
+            "compact" => Some(Part::Compact),
             "database" => Some(Part::Database),
             "posix" => Some(Part::Posix),
             "offset" => Some(Part::Offset),

@@ -8,6 +8,8 @@
 //! - `compile`: each zone of the table, and each link to one, is compiled; counts the names and their spans;
 //! - `look`: each of these is asked at 400 instants and 400 local times of the years 1850 to 2100; counts the instants,
 //!   those with a saving above 0, and the local times with no offset, with one and with two;
+//! - `keep`: each is compiled once, and its compact form is made; counts these, their spans, and the kinds that they have;
+//! - `compact`: as `look`, asked of the compact forms;
 //! - `database`: the database of the table is built; counts its names, and those whose spans are orderly;
 //! - `posix`: each line is read as a POSIX TZ string; counts those that are read and those that are refused;
 //! - `offset`: each of these strings is asked at the same instants; counts the instants, and those with daylight saving.
@@ -92,6 +94,7 @@ fn print(rt: HostRuntime, counts: &Counts) -> io::Result<()> {
             )
         }
         Counts::Compile(c) => println!(rt; "{} names, {} spans", c.names, c.spans),
+        Counts::Keep(c) => println!(rt; "{} sets, {} spans, {} kinds", c.sets, c.spans, c.kinds),
         Counts::Database(c) => println!(rt; "{} names, {} orderly", c.names, c.orderly),
         Counts::Posix(c) => println!(rt; "{} strings, {} refused", c.strings, c.refused),
         Counts::Offset(c) => println!(rt; "{} instants, {} saving", c.instants, c.saving),

@@ -2,14 +2,19 @@
 ghost use Rattle.std.specs.Prelude.{◌≤◌, length};
 ghost use Rattle.zone_table.specs.BoundedTables.{IsBoundedTable};
 
-use crate::counts::{Counts, LineCounts, NameCounts, OffsetCounts, SpanCounts, TableCounts, add};
+use crate::counts::{
+    Counts, KindCounts, LineCounts, NameCounts, OffsetCounts, SpanCounts, TableCounts, add,
+};
 use crate::job::{Job, Part};
 use crate::stopped::Stopped;
 use crate::strings::count_strings;
 use civil_base::OffsetDateTime;
 use owned::Items;
 use std::alloc::{AllocError, Global};
-use tz_lookup::{Database, FixedTimespanSet, Offset, OffsetResult, TimeZone, Tz, compile_zone};
+use tz_lookup::{
+    CompactFault, CompactSet, CompactTz, Database, FixedTimespanSet, Offset, OffsetResult,
+    TimeZone, Tz, compile_zone,
+};
 use zone_line::{Line, LineParser, LineReader};
 use zone_source::{LIMIT, Lines, Status, read_table, text_of};
 use zone_table::Table;
@@ -42,6 +47,14 @@ pub(crate) fn count(
         Part::Look => {
             let table = read_table(alloc, parser, source)?;
             Ok(Counts::Look(look(alloc, &table, job.times)?))
+        }
+        Part::Keep => {
+            let table = read_table(alloc, parser, source)?;
+            Ok(Counts::Keep(keep(alloc, &table, job.times)?))
+        }
+        Part::Compact => {
+            let table = read_table(alloc, parser, source)?;
+            Ok(Counts::Look(look_compactly(alloc, &table, job.times)?))
         }
         Part::Database => {
             let table = read_table(alloc, parser, source)?;
@@ -168,8 +181,8 @@ fn build(alloc: Global, table: &Table, times: u32) -> Result<NameCounts, Stopped
     Ok(counts)
 }
 
-/// Asks each name of a table, compiled once.
-fn look(alloc: Global, table: &Table, times: u32) -> Result<OffsetCounts, Stopped>
+/// The sets of the names of a table.
+fn sets_of(alloc: Global, table: &Table) -> Result<Items<FixedTimespanSet>, Stopped>
     requires { IsBoundedTable table.now }
 {
     let names = names_of(alloc, table)?;
@@ -177,17 +190,76 @@ fn look(alloc: Global, table: &Table, times: u32) -> Result<OffsetCounts, Stoppe
     for name in &names {
         sets.push(compile_zone(alloc, table, name)?)?;
     }
-    let zones = zones_of(alloc, sets.as_slice())?;
-    let mut counts = OffsetCounts {
-        instants: 0,
-        saving: 0,
-        none: 0,
-        one: 0,
-        two: 0,
+    Ok(sets)
+}
+
+/// The compact forms of some sets.
+fn compact_forms(alloc: Global, sets: &[FixedTimespanSet]) -> Result<Items<CompactSet>, Stopped> {
+    let mut forms = Items::new(alloc);
+    for set in sets {
+        match CompactSet::build(alloc, set) {
+            Ok(form) => forms.push(form)?,
+            Err(CompactFault::NoMemory) => return Err(Stopped::by(Status::NoMemory)),
+            Err(_) => return Err(Stopped::by(Status::Fault)),
+        }
+    }
+    Ok(forms)
+}
+
+/// Makes the compact form of each name of a table.
+fn keep(alloc: Global, table: &Table, times: u32) -> Result<KindCounts, Stopped>
+    requires { IsBoundedTable table.now }
+{
+    let sets = sets_of(alloc, table)?;
+    let mut counts = KindCounts {
+        sets: 0,
+        spans: 0,
+        kinds: 0,
     };
+    for _ in 0..times {
+        for form in compact_forms(alloc, sets.as_slice())?.as_slice() {
+            add(&mut counts.sets, 1);
+            add(&mut counts.spans, form.span_count() as u64);
+            add(&mut counts.kinds, form.kind_count() as u64);
+        }
+    }
+    Ok(counts)
+}
+
+/// No zone was asked yet.
+const NO_OFFSETS: OffsetCounts = OffsetCounts {
+    instants: 0,
+    saving: 0,
+    none: 0,
+    one: 0,
+    two: 0,
+};
+
+/// Asks each name of a table, compiled once.
+fn look(alloc: Global, table: &Table, times: u32) -> Result<OffsetCounts, Stopped>
+    requires { IsBoundedTable table.now }
+{
+    let sets = sets_of(alloc, table)?;
+    let zones = zones_of(alloc, sets.as_slice())?;
+    let mut counts = NO_OFFSETS;
     for _ in 0..times {
         for zone in zones.as_slice() {
             ask(zone, &mut counts)?;
+        }
+    }
+    Ok(counts)
+}
+
+/// Asks the compact form of each name of a table, made once.
+fn look_compactly(alloc: Global, table: &Table, times: u32) -> Result<OffsetCounts, Stopped>
+    requires { IsBoundedTable table.now }
+{
+    let sets = sets_of(alloc, table)?;
+    let forms = compact_forms(alloc, sets.as_slice())?;
+    let mut counts = NO_OFFSETS;
+    for _ in 0..times {
+        for form in forms.as_slice() {
+            ask(&CompactTz::new(form), &mut counts)?;
         }
     }
     Ok(counts)
@@ -206,7 +278,7 @@ fn zones_of(alloc: Global, sets: &[FixedTimespanSet]) -> Result<Items<Tz<'_>>, S
 }
 
 /// Asks a zone at each instant, and at the local time that reads as the instant does at UTC.
-fn ask(zone: &Tz<'_>, counts: &mut OffsetCounts) -> Result<(), Stopped> {
+fn ask<T: TimeZone>(zone: &T, counts: &mut OffsetCounts) -> Result<(), Stopped> {
     let mut second = FIRST;
     for _ in 0..LOOKS {
         let Ok(at) = OffsetDateTime::from_unix_timestamp(second) else {
