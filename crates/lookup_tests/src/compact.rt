@@ -104,9 +104,9 @@ fn kinds_and_spans(rt: HostRuntime) -> Result<(), Fail> {
     expect_kind(&rt, &zone.get_offset_primary(), "CET", false);
     expect_kind(&rt, &zone.get_offset_utc(&at(1000)?), "CEST", true);
     expect_kind(&rt, &zone.get_offset_utc(&at(3000)?), "T", false);
-    let OffsetResult::Some(first) = zone.get_offset_local(&local(8200)?.assume_utc()) else {
-        return Err(Fail::from("no first"));
+    let OffsetResult::Some(last) = zone.get_offset_local(&local(4599)?.assume_utc()) else {
+        return Err(Fail::from("no last"));
     };
-    expect_kind(&rt, &first, "CEST", true);
+    expect_kind(&rt, &last, "CET", false);
     Ok(())
 }

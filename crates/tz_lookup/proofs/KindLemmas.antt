@@ -1,33 +1,18 @@
 -- Kinds, each once.
-use Rattle.std.proofs.Common.{◌≡◌, ℕ, zero, suc, ◌<◌, Bool, true, false, cond, List, [], ◌∷◌, ◌++◌, length, map, ℤ, refl, sym, ap, ◌∙◌, arith, Some, slice_get}
-use Rattle.std.specs.Prelude.{◌&&◌, ◌||◌, bytes_eq}
+use Rattle.std.proofs.Common.{◌≡◌, ℕ, zero, suc, ◌<◌, Bool, true, false, cond, List, [], ◌∷◌, ◌++◌, length, map, refl, sym, ap, ◌∙◌, arith, Some, slice_get}
+use Rattle.std.specs.Prelude.{◌||◌}
 use Rattle.std.specs.List.{list_any}
-use Rattle.std.specs.Ordering.{int_eq}
-use Rattle.std.proofs.lemmas.Bool.{and_parts}
-use Rattle.std.proofs.lemmas.Int.{ints}
 use Rattle.std.proofs.lemmas.List.{map-append, length-append}
-use Rattle.std.proofs.lemmas.Slice.Eq.{bytes_eq-Decides}
 use Rattle.indexmap.specs.IndexSet.{insert_key}
 use Rattle.zone_spans.specs.declared.span.FixedTimespan.{FixedTimespan}
 use Rattle.tz_lookup.specs.Kinds.{is_same_kind, kind_in, with_kind}
+use Rattle.tz_lookup.specs.KindLaws.{same_kind}
 use Rattle.tz_lookup.specs.KindShown.{kind_shown}
 use Rattle.tz_lookup.specs.declared.kinds.Kind.{Kind}
 use Rattle.tz_lookup.specs.contracts.kinds.KindPartialEq.TheImpl as same
 
 same_shown : (a b : Kind) → same.ghosts.eq a b ≡ is_same_kind (kind_shown a) (kind_shown b)
 same_shown a b = refl
-
-same_number : (a b : ℤ) → int_eq a b ≡ true → a ≡ b
-same_number a b h = grind (arith, ints)
-
-pub same_kind : (a b : FixedTimespan) → is_same_kind a b ≡ true → a ≡ b
-same_kind a b h =
-    let first = and_parts (int_eq a.utc_offset b.utc_offset) (int_eq a.dst_offset b.dst_offset && bytes_eq a.name b.name) h in
-    let both = and_parts (int_eq a.dst_offset b.dst_offset) (bytes_eq a.name b.name) first.1 in
-    let utc = same_number a.utc_offset b.utc_offset first.0 in
-    let dst = same_number a.dst_offset b.dst_offset both.0 in
-    let name = (bytes_eq-Decides a.name b.name).0 both.1 in
-    (λ i. record { utc_offset = utc i; dst_offset = dst i; name = name i })
 
 any_shown : (kind : Kind) (kinds : List Kind) → list_any (same.ghosts.eq kind) kinds ≡ list_any (is_same_kind (kind_shown kind)) (map kind_shown kinds)
 any_shown kind [] = refl

@@ -7,8 +7,8 @@ use Rattle.std.proofs.lemmas.List.{length-map}
 use Rattle.zone_spans.specs.Entries.{Entry}
 use Rattle.tz_zone.specs.declared.set.FixedTimespanSet.{FixedTimespanSet}
 use Rattle.tz_zone.specs.Sets.{shift_of, shifts_of, IsBetween}
-use Rattle.tz_zone.specs.Spans.{Shift, shift_at, IsCut}
-use Rattle.tz_lookup.specs.YearCounts.{AreYearCounts, before_year}
+use Rattle.tz_zone.specs.Spans.{Shift, shift_at, TimesDontFall, IsCut}
+use Rattle.tz_lookup.specs.YearCounts.{AreBefore, AreYearCounts, before_year}
 use Rattle.tz_lookup.specs.Years.{year_second, years_begun, changes_in_year, HaveBegun}
 use Rattle.tz_lookup.proofs.YearLemmas.{begun_up_to, years_are, year_rises}
 
@@ -38,6 +38,31 @@ at_place n a b l = ap (λ t. cond t a b) (passes n 301 l)
 
 past : (a b : ℕ) → cond (nat_lt 301 301) a b ≡ b
 past a b = refl
+
+le_le : (a b c : ℤ) → a ≤ℤ b → b ≤ℤ c → a ≤ℤ c
+le_le a b c h k = omega (arith, ints, h, k)
+
+up_to : (a s : ℤ) → a <ℤ s → a ≤ℤ (s -ℤ pos 1)
+up_to a s h = omega (arith, ints, h)
+
+above : (a s : ℤ) → s ≤ℤ a → (s -ℤ pos 1) <ℤ a
+above a s h = omega (arith, ints, h)
+
+-- the first entry that doesn't lie before a second
+pub cut_before : (shifts : List Shift) (k : ℕ) (s : ℤ) → k < length shifts → TimesDontFall shifts → AreBefore shifts k s
+    → s ≤ℤ (shift_at shifts k).0 → IsCut shifts k (s -ℤ pos 1)
+cut_before shifts k s l times are reached = record {
+  within = omega (arith, l);
+  before = λ j m. up_to _ _ (are j m);
+  after = λ j m n. above _ _ (le_le _ _ _ reached (times k j m n));
+}
+
+lt_le : (a s t : ℤ) → a ≤ℤ (s -ℤ pos 1) → s ≤ℤ t → a <ℤ t
+lt_le a s t h k = omega (arith, ints, h, k)
+
+-- the entries before a year lie before the next one
+pub before_next : (shifts : List Shift) (k n : ℕ) → IsCut shifts k (year_second n -ℤ pos 1) → AreBefore shifts k (year_second (n + 1))
+before_next shifts k n cut j l = lt_le _ _ _ (cut.before j l) (year_rises n (n + 1) (omega arith))
 
 -- the entries before a later second are more
 cut_rises : (shifts : List Shift) (k l : ℕ) (s t : ℤ) → s ≤ℤ t → IsCut shifts k s → IsCut shifts l t → k ≤ l

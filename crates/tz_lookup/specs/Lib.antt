@@ -16,6 +16,7 @@ pub use Rattle.tz_zone.specs.CompileLaws
 pub mod Databases
 pub mod PartLaws
 pub mod Kinds
+pub mod KindLaws
 pub mod KindShown
 pub mod Years
 pub mod YearCounts

@@ -1,7 +1,11 @@
 -- How many entries lie before each year.
-use Rattle.std.specs.Prelude.{◌≡◌, ◌<◌, ℕ, zero, suc, nat_lt, pos, ◌-ℤ◌, List, length, slice_index_or, if◌then◌else◌}
-use Rattle.tz_zone.specs.Spans.{Shift, IsCut}
+use Rattle.std.specs.Prelude.{◌≡◌, ◌<◌, ℕ, zero, suc, nat_lt, ℤ, pos, ◌-ℤ◌, ◌<ℤ◌, List, length, slice_index_or, if◌then◌else◌}
+use Rattle.tz_zone.specs.Spans.{Shift, shift_at, IsCut}
 use Rattle.tz_lookup.specs.Years.{year_second}
+
+-- the first k shifts lie before a second
+abbrev pub AreBefore : List Shift → ℕ → ℤ → Type 0
+AreBefore shifts k second = (j : ℕ) → j < k → (shift_at shifts j).0 <ℤ second
 
 -- so many shifts lie before each of the years from 1800 to 2100
 pub record AreYearCounts (shifts : List Shift) (counts : List ℕ) : Type 0 where

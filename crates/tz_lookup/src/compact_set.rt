@@ -1,5 +1,5 @@
 //! A zone's spans, kept compactly.
-ghost use Rattle.std.specs.Prelude.{◌≡◌, ◌+◌, ◌-◌, ◌*◌, ◌^◌, ℕ, ℤ, ◌<◌, ◌≤◌, ◌↔◌, IsTrue, MatchResult, IfOk, length, slice_index_or, pos};
+ghost use Rattle.std.specs.Prelude.{◌≡◌, ◌+◌, ◌-◌, ◌*◌, ◌^◌, ℕ, ℤ, ◌<◌, ◌≤◌, ◌↔◌, IsTrue, MatchResult, IfOk, length, slice_index_or, pos, []};
 ghost use Rattle.civil_base.specs.Instants.{seconds_of};
 ghost use Rattle.civil_base.specs.Ranges.{IsOffset};
 ghost use Rattle.zone_spans.specs.Schedules.{instants, total_at};
@@ -106,8 +106,8 @@ impl CompactSet {
     {
         let mut kinds = Kinds::new(alloc);
         let first = kinds.number(&set.first)?;
-        let mut times = Items::new(alloc);
-        let mut numbers = Numbers::new(alloc);
+        let mut times = room(alloc, set.entry_count())?;
+        let mut numbers = Numbers::with_room(alloc, set.entry_count())?;
         for entry in set.others.as_slice() {
             numbers.push(kinds.number(span_of(entry))?)?;
             times.push(time_of(entry))?;
@@ -204,6 +204,13 @@ impl SpanTable for CompactSet {
             &self.kinds[self.numbers.get(index - 1)]
         }
     }
+}
+
+/// A list of nothing, with room for so many times.
+fn room(alloc: Global, count: usize) -> Result<Items<i64>, AllocError>
+    ensures { IfOk result (λ times. times ≡ []) }
+{
+    Ok(Items::from_vec(Vec::with_capacity(alloc, count)?))
 }
 
 fn time_of(entry: &(i64, FixedTimespan)) -> i64

@@ -1,5 +1,5 @@
 //! A list of small numbers.
-ghost use Rattle.std.specs.Prelude.{◌≡◌, ◌++◌, ◌∷◌, [], ◌<◌, OnOk, length, slice_index_or};
+ghost use Rattle.std.specs.Prelude.{◌≡◌, ◌++◌, ◌∷◌, [], ◌<◌, IfOk, OnOk, length, slice_index_or};
 
 use owned::Items;
 use std::alloc::{AllocError, Global};
@@ -22,14 +22,14 @@ impl Model for Numbers {
 }
 
 impl Numbers {
-    /// A list of nothing.
-    pub(crate) fn new(alloc: Global) -> Numbers
-        ensures { result ≡ [] }
+    /// A list of nothing, with room for so many small numbers.
+    pub(crate) fn with_room(alloc: Global, count: usize) -> Result<Numbers, AllocError>
+        ensures { IfOk result (λ numbers. numbers ≡ []) }
     {
-        Numbers {
-            small: Items::new(alloc),
+        Ok(Numbers {
+            small: Items::from_vec(Vec::with_capacity(alloc, count)?),
             rest: Items::new(alloc),
-        }
+        })
     }
 
     /// Puts a number at the end.

@@ -1,14 +1,14 @@
 //! The years of entries.
-ghost use Rattle.std.specs.Prelude.{◌≡◌, ◌≤◌, ◌<◌, IfOk, unsigned_abs, pos, negsuc, ◌+◌, ◌+ℤ◌, ◌*ℤ◌, ◌-ℤ◌, ◌≤ℤ◌, ◌<ℤ◌};
+ghost use Rattle.std.specs.Prelude.{◌≡◌, ◌≤◌, ◌<◌, length, IfOk, unsigned_abs, pos, negsuc, ◌+◌, ◌+ℤ◌, ◌*ℤ◌, ◌-ℤ◌, ◌≤ℤ◌, ◌<ℤ◌};
 ghost use Rattle.tz_lookup.specs.Years.{year_second, HaveBegun, IsWithinYear};
-ghost use Rattle.tz_lookup.specs.YearCounts.{AreYearCounts};
+ghost use Rattle.tz_lookup.specs.YearCounts.{AreBefore, AreYearCounts};
 ghost use Rattle.tz_zone.specs.Sets.{schedule_of, shifts_of, IsAccepted};
 ghost use Rattle.tz_zone.specs.Spans.{IsCut};
 
 use crate::numbers::Numbers;
 use calendar::{date_of, day_number};
 use std::alloc::{AllocError, Global};
-use tz_zone::{FixedTimespanSet, span_at_second};
+use tz_zone::{FixedTimespanSet, SpanTable};
 
 /// How many years are counted: those from 1800 to 2100.
 pub(crate) const YEARS: usize = 301;
@@ -88,14 +88,21 @@ fn second_of(day: i32) -> i64
     i64::from(day) * 86_400
 }
 
-/// How many entries lie before the beginning of the year 1800 + `place`.
-fn entries_before(set: &FixedTimespanSet, place: usize) -> usize
+/// How many entries lie before the beginning of the year 1800 + `place`, where the first `from` do.
+fn entries_before(set: &FixedTimespanSet, place: usize, from: usize) -> usize
     requires accepted { IsAccepted (schedule_of set.now) }
     requires year { place ≤ 300 }
+    requires within { from ≤ length set.now.others }
+    requires before { AreBefore (shifts_of set.now) from (year_second place) }
     ensures { IsCut (shifts_of set.now) result (year_second place -ℤ pos 1) }
 {
-    let last_before = year_second(place) - 1;
-    span_at_second(set, last_before)
+    let start = year_second(place);
+    for index in from..set.entry_count() {
+        if set.time(index) >= start {
+            return index;
+        }
+    }
+    set.entry_count()
 }
 
 /// How many entries lie before the beginning of each year.
@@ -103,9 +110,11 @@ pub(crate) fn year_counts(alloc: Global, set: &FixedTimespanSet) -> Result<Numbe
     requires { IsAccepted (schedule_of set.now) }
     ensures { IfOk result (AreYearCounts (shifts_of set.now)) }
 {
-    let mut counts = Numbers::new(alloc);
+    let mut counts = Numbers::with_room(alloc, YEARS)?;
+    let mut before = 0;
     for place in 0..YEARS {
-        counts.push(entries_before(set, place))?;
+        before = entries_before(set, place, before);
+        counts.push(before)?;
     }
     Ok(counts)
 }

@@ -115,7 +115,7 @@ fn span_under<T: SpanTable, L: Ledger>(set: &T, second: i64, blank: Blank) -> us
 }
 
 /// The span in force at a second.
-pub fn span_at_second<T: SpanTable>(set: &T, second: i64) -> usize
+pub(crate) fn span_at_second<T: SpanTable>(set: &T, second: i64) -> usize
     requires accepted { IsAccepted (schedule_of (T.seen set.now)) }
     ensures cut { IsCut (shifts_of (T.seen set.now)) result second }
     ensures total { (t : ℤ) → seconds_of t ≡ second →

@@ -25,7 +25,7 @@ mod utc;
 
 pub use accept::TzFault;
 pub use compile::{ZoneFault, compile_zone};
-pub use counted::{local_spans, local_spans_counted, span_at_second};
+pub use counted::{local_spans, local_spans_counted};
 pub use extensions::{OffsetDateTimeExt, PrimitiveDateTimeExt};
 pub use fixed::{Fixed, FixedOffset};
 pub use instants::{InstantsLocal, local_second};

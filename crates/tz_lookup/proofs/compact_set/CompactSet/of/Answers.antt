@@ -16,8 +16,8 @@ pub loop-entry-init : goal.loop-entry-init
 loop-entry-init c =
     let start = c.args.set.now.first in
     let is = c.in_ok-first.ensures.kinds ∙ ap (λ ks. with_kind ks start) c.new-kinds.ensures in
-    subst (λ ts. StandFor start [] c.number.new.self c.in_ok-first.first ts c.new-numbers.result) (sym c.new-times.ensures)
-    (subst (λ ns. StandFor start [] c.number.new.self c.in_ok-first.first [] ns) (sym c.new-numbers.ensures)
+    subst (λ ts. StandFor start [] c.number.new.self c.in_ok-first.first ts c.in_ok-numbers.numbers) (sym c.in_ok-times.ensures)
+    (subst (λ ns. StandFor start [] c.number.new.self c.in_ok-first.first [] ns) (sym c.in_ok-numbers.ensures)
     (first_stands start c.in_ok-first.first c.number.new.self is c.in_ok-first.ensures.within c.in_ok-first.ensures.kind))
 
 pub loop-entry-preserved : goal.loop-entry-preserved
