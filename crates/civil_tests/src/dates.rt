@@ -3,13 +3,13 @@ ghost use Rattle.calendar.specs.Days.{day as day_at};
 ghost use Rattle.civil_base.specs.Clock.{time_at};
 ghost use Rattle.civil_base.specs.DateTimes.{instant, offset_of};
 
+use crate::checks::{holds_at, same, same_at};
 use civil_base::{
     ComponentRange, Date, Month, OffsetDateTime, PlainDateTime, SignedDuration, Time, Timestamp,
     UtcDateTime, UtcOffset, Weekday, read_local, read_zoned, write_local, write_zoned,
 };
 use std::alloc::AllocError;
 use std::hash::{DefaultHasher, Hash, Hasher};
-use test_support::{holds_at, same, same_at};
 
 fn zoned<'a>(nanos: i128, seconds: i32, into: &'a mut [u8; 40]) -> Option<&'a str> {
     let offset = UtcOffset::from_whole_seconds(seconds).ok()?;

@@ -1,5 +1,6 @@
 //! What no clause says: that calls succeed, printed texts, and values from outside, which are what Rust's own
 //! `format!` gives for the same options.
+use crate::checks::same;
 use pad_fmt::{
     Alignment, FormatterOptions, Full, Metadata, SmartDisplay, Text, TextSink, WriteBuffer,
     pad_with_width, padded_width_of, unpadded_width_of,
@@ -11,7 +12,6 @@ use std::process::Abort;
 use std::rc::Rc;
 use std::sync::Arc;
 use std::test::Fail;
-use test_support::same;
 
 fn aligned(width: usize, align: Option<Alignment>) -> FormatterOptions {
     let mut f = FormatterOptions::default();

@@ -1,12 +1,12 @@
 ghost use Rattle.std.specs.Prelude.{◌≡◌, pos};
 ghost use Rattle.civil_parts.specs.Durations.{longest, shortest};
 
+use crate::checks::{same, same_at};
 use civil_parts::{
     ComponentRange, ConversionRange, InvalidVariant, Month, SignedDuration, StdDuration, Weekday,
 };
 use std::alloc::AllocError;
 use std::hash::{DefaultHasher, Hash, Hasher};
-use test_support::{same, same_at};
 
 fn hash_of<T: Hash>(value: &T) -> u64 {
     let mut state = DefaultHasher::new();

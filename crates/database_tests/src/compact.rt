@@ -1,7 +1,7 @@
 //! The compact form of a zone that is compiled from its source.
+use crate::checks::same;
 use std::process::Abort;
 use std::test::Fail;
-use test_support::same;
 use tz_lookup::{CompactSet, compile_zone};
 use zone_line::LineParser;
 use zone_source::read_table;

@@ -1,10 +1,10 @@
 //! A database of zones by names and parts of names, and what it refuses.
 ghost use Rattle.std.specs.Prelude.{◌≤◌, length};
 
+use crate::checks::same;
 use std::alloc::Global;
 use std::process::Abort;
 use std::test::Fail;
-use test_support::same;
 use tz_lookup::{Database, DatabaseFault, Offset, SpanFault, TimeZone, Tz};
 use zone_line::LineParser;
 use zone_source::{LIMIT, read_table};

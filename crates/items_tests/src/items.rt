@@ -1,6 +1,7 @@
 ghost use Rattle.std.specs.Prelude.{◌≡◌, Some, IfSome, pos};
 ghost use Rattle.civil_items.specs.Defaults.{default_config};
 
+use crate::checks::same;
 use civil_base::{OffsetDateTime, SignedDuration, Timestamp, UtcDateTime, UtcOffset};
 use civil_items::{
     BorrowedFormatItem, Component, ComponentRange, Config, ConversionRange, DateKind,
@@ -10,7 +11,6 @@ use civil_items::{
 };
 use std::alloc::AllocError;
 use std::cmp::Ordering;
-use test_support::same;
 
 #[test]
 fn shows_errors_as_what_is_inside(rt: HostRuntime) -> Result<(), AllocError> {

@@ -1,6 +1,6 @@
 //! Vectors of the ported crate, and faults with their texts.
+use crate::checks::same;
 use std::test::Fail;
-use test_support::same;
 use zone_line::{
     ChangeTime, DaySpec, Error, Line, LineParser, Month, Rule, Saving, TimeSpec, TimeSpecAndType,
     TimeType, Year, Zone, ZoneInfo,

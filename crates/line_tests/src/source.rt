@@ -1,8 +1,8 @@
 //! A table that is read, and each fault line of a source.
+use crate::checks::same;
 use std::alloc::Global;
 use std::process::Abort;
 use std::test::Fail;
-use test_support::same;
 use zone_line::LineParser;
 use zone_source::{FaultText, SourceError, read_table, write_fault_line};
 

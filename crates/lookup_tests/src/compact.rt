@@ -1,9 +1,9 @@
 //! Compact sets: what they are refused for, and that their zones answer as those of the sets do.
+use crate::checks::same;
 use crate::lookup::{at, expect_at, expect_kind, expect_offsets, local, set_of, span, summer};
 use std::alloc::Global;
 use std::process::Abort;
 use std::test::Fail;
-use test_support::same;
 use tz_lookup::{
     CompactFault, CompactSet, CompactTz, FixedTimespanSet, OffsetResult, TimeZone, Tz,
 };

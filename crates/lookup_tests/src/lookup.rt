@@ -1,10 +1,10 @@
 //! Local times of two and of three spans, what a set is refused for, one function over zones of two kinds.
+use crate::checks::same;
 use civil_base::{OffsetDateTime, PlainDateTime, UtcOffset};
 use owned::{Items, Text};
 use std::alloc::{AllocError, Global};
 use std::process::Abort;
 use std::test::Fail;
-use test_support::same;
 use tz_lookup::{
     Fixed, FixedTimespan, FixedTimespanSet, Offset, OffsetDateTimeExt, OffsetResult,
     PrimitiveDateTimeExt, TimeZone, Tz, TzFault,

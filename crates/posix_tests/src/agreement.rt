@@ -1,8 +1,8 @@
 //! Zones of two yearly rules beside the strings that say the same.
+use crate::checks::holds_at;
 use crate::zones::{at, database};
 use std::process::Abort;
 use std::test::Fail;
-use test_support::holds_at;
 use tz_lookup::Database;
 use tz_posix::PosixTz;
 use tz_posix::laws::agreed_offset;

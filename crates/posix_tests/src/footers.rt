@@ -1,8 +1,8 @@
 //! What Python's zoneinfo gives for the strings that `zic` writes after the zones of the tz database.
+use crate::checks::holds_at;
 use crate::zones::{empty, gives};
 use std::process::Abort;
 use std::test::Fail;
-use test_support::holds_at;
 use tz_lookup::Database;
 use tz_posix::{ParseError, PosixTz, RangeError};
 

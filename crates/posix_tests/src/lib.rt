@@ -5,6 +5,8 @@
 #[cfg(test)]
 mod agreement;
 #[cfg(test)]
+mod checks;
+#[cfg(test)]
 mod footers;
 #[cfg(test)]
 mod texts;

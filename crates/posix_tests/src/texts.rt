@@ -3,9 +3,9 @@ ghost use Rattle.std.specs.Prelude.{IsTrue};
 ghost use Rattle.civil_base.specs.Ranges.{IsYear};
 ghost use Rattle.tz_posix.specs.Ranges.{is_rule_date};
 
+use crate::checks::{holds_at, same};
 use std::process::Abort;
 use std::test::Fail;
-use test_support::{holds_at, same};
 use tz_posix::{Date, Dst, Error, Offset, RangeError, Rule, Std, Time, Tz, entry};
 
 /// Texts of the grammar, one a line.

@@ -1,11 +1,11 @@
 //! Texts over the zones of a database.
 ghost use Rattle.std.specs.Prelude.{◌≤◌, length};
 
+use crate::checks::{holds_at, same_at};
 use civil_base::{OffsetDateTime, write_zoned};
 use std::alloc::Global;
 use std::process::Abort;
 use std::test::Fail;
-use test_support::{holds_at, same_at};
 use tz_lookup::{Database, Offset, TimeZone};
 use tz_posix::{Error, ParseError, PosixTz, RangeError};
 use zone_line::LineParser;

@@ -1,10 +1,10 @@
 //! Runs over made texts. What is written for them was computed with `zic` and Python's `zoneinfo`.
 
+use crate::checks::same;
 use crate::runs::{FIXED, Failing, NONE_FAILING, Outcome, ROOM, parser, words_of};
 use std::alloc::Global;
 use std::process::Abort;
 use std::test::Fail;
-use test_support::same;
 use zone_answers::{
     MemShelf, MemSink, MemSource, SureShelf, SureSink, SureSource, run, run_surely,
 };

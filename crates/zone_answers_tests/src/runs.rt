@@ -1,10 +1,10 @@
 //! Whole runs over objects in memory, and each fault line.
 ghost use Rattle.std.specs.Prelude.{◌<◌};
 
+use crate::checks::same;
 use std::alloc::{AllocError, Global};
 use std::process::Abort;
 use std::test::Fail;
-use test_support::same;
 use zone_answers::{
     AnswerError, Answers, MemShelf, MemSink, MemSource, Status, SureShelf, SureSink, SureSource,
     ZoneFault, answers, open_zone, read_table, run, run_surely, write_fault,

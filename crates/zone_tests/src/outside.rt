@@ -1,10 +1,10 @@
 //! Objects in memory, objects that never fail, and the adapters of the real file and streams.
 
+use crate::checks::same;
 use std::alloc::Global;
 use std::fmt::Display;
 use std::io;
 use std::test::Fail;
-use test_support::same;
 use zone_outside::{
     FileShelf, MemShelf, MemSink, MemSource, ReadEnd, Shelf, Sink, Source, StdSink, StdSource,
     SureShelf, SureSink, SureSource, fetch_all, read_all, write_all,

@@ -1,6 +1,6 @@
 //! Lines of the tz database's source, of every form, beside what their columns say.
+use crate::checks::same;
 use std::test::Fail;
-use test_support::same;
 use zone_line::LineParser;
 
 /// Lines of every form.

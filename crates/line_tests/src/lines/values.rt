@@ -1,7 +1,7 @@
 //! Names, faults, ends and days of months.
+use crate::checks::same;
 use std::alloc::Global;
 use std::test::Fail;
-use test_support::same;
 use zone_line::{ChangeTime, DaySpec, Error, Month, TimeSpec, TimeType, Weekday, Year};
 
 #[test]

@@ -1,7 +1,7 @@
 //! Zones of a table.
+use crate::checks::same;
 use std::alloc::Global;
 use std::test::Fail;
-use test_support::same;
 use zone_spans::{FixedTimespanSet, SpanFault, TableTransitions};
 use zone_table::{Error, Table, TableBuilder};
 use zone_values::{

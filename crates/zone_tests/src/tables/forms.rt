@@ -1,7 +1,7 @@
 //! Abbreviations, owned forms, and moments that are known from outside.
+use crate::checks::same;
 use owned::Text;
 use std::test::Fail;
-use test_support::same;
 use zone_table::{Format, RuleInfo, Saving, ZoneInfo};
 use zone_values::{DaySpec, Month, TimeSpec, TimeType, Weekday, Year};
 

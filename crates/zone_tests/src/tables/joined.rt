@@ -1,8 +1,8 @@
 //! Lines joined to a table, the refusals with their texts, and zones by their names.
+use crate::checks::same;
 use std::alloc::Global;
 use std::process::Abort;
 use std::test::Fail;
-use test_support::same;
 use zone_table::{Error, Table, TableBuilder};
 use zone_values::{
     DaySpec, Line, Link, Month, Rule, Saving, TimeSpec, TimeType, Year, Zone, ZoneInfo,

@@ -1,8 +1,8 @@
 //! The hierarchies of worked names.
+use crate::checks::same;
 use owned::{Items, Text, TextMap};
 use std::alloc::{AllocError, Global};
 use std::test::Fail;
-use test_support::same;
 use zone_table::{Child, Structure, Table};
 
 /// A table with zones and links of these names, with blanks between them.
