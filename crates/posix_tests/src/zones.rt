@@ -47,7 +47,7 @@ EST5 1710054000 -18000 standard EST
 ";
 
 /// The database of a source.
-pub fn database(alloc: Global, source: &[u8]) -> Result<Database, Fail>
+pub(crate) fn database(alloc: Global, source: &[u8]) -> Result<Database, Fail>
     requires { length source.now ≤ 16_777_216 }
 {
     let Ok(parser) = LineParser::new(alloc) else {
