@@ -5,6 +5,11 @@ ghost use Rattle.civil_base.specs.Ranges.{far_seconds};
 
 const NANOS_PER_SECOND: i128 = 1_000_000_000;
 
+/// A tick is 512 nanoseconds: dividing by it is a shift, and its count of an instant's fits 64 bits, whose division is
+/// three times as fast as that of 128.
+const NANOS_PER_TICK: i128 = 512;
+const TICKS_PER_SECOND: i64 = 1_953_125;
+
 /// The nanoseconds of whole seconds.
 pub(crate) fn nanos_of(seconds: i64) -> i128
     ensures { result ≡ nanos_of seconds }
@@ -18,5 +23,6 @@ pub(crate) fn seconds_of(nanos: i128) -> i64
     ensures value { result ≡ seconds_of nanos }
     ensures bound { unsigned_abs result ≤ far_seconds }
 {
-    nanos.div_euclid(NANOS_PER_SECOND) as i64
+    let ticks = nanos.div_euclid(NANOS_PER_TICK) as i64;
+    ticks.div_euclid(TICKS_PER_SECOND)
 }
