@@ -1,6 +1,8 @@
 //! Assertions: each is proved here once, with what it prints, and not again in every test that makes it.
 
-use std::fmt::Debug;
+use std::alloc::{AllocError, Global};
+use std::fmt::{Debug, Display};
+use std::hash::{DefaultHasher, Hash, Hasher};
 use std::process::Abort;
 
 /// Ends the test, and shows both, where what was found isn't what is wanted.
@@ -16,4 +18,22 @@ pub(crate) fn same_at<T: PartialEq + Debug>(rt: &impl Abort, row: &str, found: &
 /// Ends the test, and shows the row, where the claim doesn't hold at it.
 pub(crate) fn holds_at(rt: &impl Abort, row: &str, claim: bool) {
     assert!(rt; claim, "{row}");
+}
+
+/// The same of what a value prints.
+pub(crate) fn prints<T: Display>(
+    rt: &impl Abort,
+    alloc: Global,
+    value: &T,
+    wanted: &str,
+) -> Result<(), AllocError> {
+    let shown = format!(in alloc; "{value}")?;
+    same(rt, &shown.as_str(), &wanted);
+    Ok(())
+}
+
+pub(crate) fn hash_of<T: Hash>(value: &T) -> u64 {
+    let mut state = DefaultHasher::new();
+    value.hash(&mut state);
+    state.finish()
 }

@@ -1,3 +1,4 @@
+use crate::checks::same;
 use calendar::{CalendarDate, date_of, day_number, is_leap_year, month_length, weekday};
 
 // Days that other calendars agree on: the date, its day number, and its weekday, where Sunday is 0.
@@ -15,20 +16,34 @@ const DAYS: [(i32, u8, u8, i32, u8); 11] = [
     (9999, 12, 31, 2_932_896, 5),
 ];
 
+/// The day number of a date, where one is counted.
+fn number_of(date: CalendarDate) -> Option<i32> {
+    let CalendarDate { year, month, day } = date;
+    let is_counted = -10_000 <= year && year <= 10_000;
+    let is_named = 1 <= month && month <= 12 && 1 <= day && day <= 31;
+    if is_counted && is_named {
+        Some(day_number(year, month, day))
+    } else {
+        None
+    }
+}
+
+/// The date of a day number, where one is counted.
+fn counted_date(number: i32) -> Option<CalendarDate> {
+    if -4_371_953 <= number && number <= 2_933_262 {
+        Some(date_of(number))
+    } else {
+        None
+    }
+}
+
 #[test]
 fn counts_the_days_of_dates(rt: HostRuntime) {
     for (year, month, day, number, of_week) in DAYS {
         let date = CalendarDate { year, month, day };
-        assert!(rt; -10_000 <= year && year <= 10_000);
-        assert!(rt; 1 <= month && month <= 12 && 1 <= day && day <= 31);
-        assert!(rt; -4_371_953 <= number && number <= 2_933_262);
-        assert_eq!(rt;
-            day_number(year, month, day),
-            number,
-            "the day number of {date:?}"
-        );
-        assert_eq!(rt; date_of(number), date, "the date of {number}");
-        assert_eq!(rt; weekday(number), of_week, "the weekday of {date:?}");
+        same(&rt, &(date, number_of(date)), &(date, Some(number)));
+        same(&rt, &(number, counted_date(number)), &(number, Some(date)));
+        same(&rt, &(number, weekday(number)), &(number, of_week));
     }
 }
 
@@ -40,10 +55,10 @@ fn knows_the_lengths_of_months(rt: HostRuntime) {
         (2023, false, 28),
         (-4, true, 29),
     ] {
-        assert_eq!(rt; is_leap_year(year), leap, "at {year}");
-        assert_eq!(rt; month_length(year, 2), february, "at {year}");
+        let found = (year, is_leap_year(year), month_length(year, 2));
+        same(&rt, &found, &(year, leap, february));
     }
     for (month, days) in [(1, 31), (4, 30), (7, 31), (8, 31), (11, 30), (12, 31)] {
-        assert_eq!(rt; month_length(2023, month), days, "at {month}");
+        same(&rt, &(month, month_length(2023, month)), &(month, days));
     }
 }

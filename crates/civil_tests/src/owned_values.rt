@@ -31,8 +31,14 @@ fn a_text_is_its_bytes(rt: HostRuntime) -> Result<(), Fail> {
     let alloc = rt.alloc();
     let text = Text::new(alloc, "Europe/Madrid")?;
     assert!(rt; text == Text::from_string(String::from_str(alloc, "Europe/Madrid")?));
+    Ok(())
+}
+
+#[test]
+fn a_map_lends_its_texts(rt: HostRuntime) -> Result<(), Fail> {
+    let alloc = rt.alloc();
     let mut targets = TextMap::new(alloc);
-    targets.insert(alloc, "Test/M", text)?;
+    targets.insert(alloc, "Test/M", Text::new(alloc, "Europe/Madrid")?)?;
     assert!(rt; targets.get("Test/M").ok_or("target")?.as_str() == "Europe/Madrid");
     Ok(())
 }
@@ -61,6 +67,12 @@ fn items_move_in_place(rt: HostRuntime) -> Result<(), Fail> {
     assert!(rt; items.remove(1) == (2, 'b'));
     assert!(rt; items.replace(1, (7, 'x')) == (3, 'c'));
     assert!(rt; items.as_slice() == [(4, 'd'), (7, 'x'), (9, 'a')].as_slice());
+    Ok(())
+}
+
+#[test]
+fn items_are_cut(rt: HostRuntime) -> Result<(), Fail> {
+    let mut items = Items::from_vec(vec![in rt.alloc(); (4u8, 'd'), (7, 'x'), (9, 'a')]?);
     items.truncate(2);
     assert!(rt; items.len() == 2 && !items.is_empty() && items.get(2).is_none());
     assert!(rt; items[1] == (7, 'x'));

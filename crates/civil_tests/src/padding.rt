@@ -1,12 +1,11 @@
 //! What no clause says: that calls succeed, printed texts, and values from outside, which are what Rust's own
 //! `format!` gives for the same options.
-use crate::checks::same;
+use crate::checks::{hash_of, same};
 use pad_fmt::{
     Alignment, FormatterOptions, Full, Metadata, SmartDisplay, Text, TextSink, WriteBuffer,
     pad_with_width, padded_width_of, unpadded_width_of,
 };
 use std::borrow::CowStr;
-use std::hash::{DefaultHasher, Hash, Hasher};
 use std::num::Wrapping;
 use std::process::Abort;
 use std::rc::Rc;
@@ -167,12 +166,6 @@ fn buffer_of<const SIZE: usize>(text: &str) -> WriteBuffer<SIZE> {
     let mut buffer = WriteBuffer::new();
     let _ = buffer.write_str(text);
     buffer
-}
-
-fn hash_of<T: Hash>(value: &T) -> u64 {
-    let mut hasher = DefaultHasher::new();
-    value.hash(&mut hasher);
-    hasher.finish()
 }
 
 #[test]

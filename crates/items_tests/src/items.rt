@@ -1,7 +1,7 @@
 ghost use Rattle.std.specs.Prelude.{◌≡◌, Some, IfSome, pos};
 ghost use Rattle.civil_items.specs.Defaults.{default_config};
 
-use crate::checks::same;
+use crate::checks::{prints, same};
 use civil_base::{OffsetDateTime, SignedDuration, Timestamp, UtcDateTime, UtcOffset};
 use civil_items::{
     BorrowedFormatItem, Component, ComponentRange, Config, ConversionRange, DateKind,
@@ -9,34 +9,24 @@ use civil_items::{
     InvalidVariant, NumericalDuration, NumericalStdDuration, OffsetPrecision, OwnedFormatItem,
     Rfc2822, Rfc3339, SysCompare, SysTime, SystemTimeExt, TimePrecision,
 };
-use std::alloc::AllocError;
+use std::alloc::{AllocError, Global};
 use std::cmp::Ordering;
 
 #[test]
 fn shows_errors_as_what_is_inside(rt: HostRuntime) -> Result<(), AllocError> {
-    for (error, text) in [
-        (Error::from(ConversionRange), "conversion out of range"),
-        (Error::from(ComponentRange), "component out of range"),
-        (
-            Error::from(IndeterminateOffset),
-            "The system's UTC offset could not be determined",
-        ),
-        (
-            Error::from(DifferentVariant),
-            "value was of a different variant than required",
-        ),
-        (Error::from(InvalidVariant), "value was not a valid variant"),
-    ] {
-        let shown = format!(in rt.alloc(); "{error}")?;
-        same(&rt, &shown.as_str(), &text);
-    }
-    let shown = format!(in rt.alloc(); "{DifferentVariant}; {IndeterminateOffset}")?;
-    same(
-        &rt,
-        &shown.as_str(),
-        &"value was of a different variant than required; The system's UTC offset could not be determined",
-    );
-    Ok(())
+    let alloc = rt.alloc();
+    let error = Error::from(ConversionRange);
+    prints(&rt, alloc, &error, "conversion out of range")?;
+    let error = Error::from(ComponentRange);
+    prints(&rt, alloc, &error, "component out of range")?;
+    let error = Error::from(InvalidVariant);
+    prints(&rt, alloc, &error, "value was not a valid variant")?;
+    let text = "The system's UTC offset could not be determined";
+    prints(&rt, alloc, &Error::from(IndeterminateOffset), text)?;
+    prints(&rt, alloc, &IndeterminateOffset, text)?;
+    let text = "value was of a different variant than required";
+    prints(&rt, alloc, &Error::from(DifferentVariant), text)?;
+    prints(&rt, alloc, &DifferentVariant, text)
 }
 
 #[test]
@@ -92,6 +82,10 @@ fn makes_lengths_of_numbers(rt: HostRuntime) {
     ] {
         same(&rt, &length.whole_nanoseconds(), &nanos);
     }
+}
+
+#[test]
+fn makes_unsigned_lengths_of_numbers(rt: HostRuntime) {
     for (length, seconds, nanos) in [
         (u64::MAX.std_nanoseconds(), 18_446_744_073, 709_551_615),
         (1_000_007.std_microseconds(), 1, 7_000),
@@ -112,16 +106,28 @@ fn makes_lengths_of_numbers(rt: HostRuntime) {
 
 #[test]
 fn tells_which_numbers_are_lengths(rt: HostRuntime) {
-    assert!(rt; 153_722_867_280_912_930.fits_minutes() && !153_722_867_280_912_931.fits_minutes());
-    assert!(rt; 2_562_047_788_015_215.fits_hours() && !(-2_562_047_788_015_216).fits_hours());
-    assert!(rt; 106_751_991_167_300.fits_days() && !106_751_991_167_301.fits_days());
-    assert!(rt; (-15_250_284_452_471).fits_weeks() && !15_250_284_452_472.fits_weeks());
-    assert!(rt;
-        307_445_734_561_825_860.fits_std_minutes() && !307_445_734_561_825_861.fits_std_minutes()
-    );
-    assert!(rt; 5_124_095_576_030_431.fits_std_hours() && !5_124_095_576_030_432.fits_std_hours());
-    assert!(rt; 213_503_982_334_601.fits_std_days() && !213_503_982_334_602.fits_std_days());
-    assert!(rt; 30_500_568_904_943.fits_std_weeks() && !30_500_568_904_944.fits_std_weeks());
+    let fit = [
+        153_722_867_280_912_930.fits_minutes(),
+        2_562_047_788_015_215.fits_hours(),
+        106_751_991_167_300.fits_days(),
+        (-15_250_284_452_471).fits_weeks(),
+        307_445_734_561_825_860.fits_std_minutes(),
+        5_124_095_576_030_431.fits_std_hours(),
+        213_503_982_334_601.fits_std_days(),
+        30_500_568_904_943.fits_std_weeks(),
+    ];
+    same(&rt, &fit, &[true; 8]);
+    let past = [
+        153_722_867_280_912_931.fits_minutes(),
+        (-2_562_047_788_015_216).fits_hours(),
+        106_751_991_167_301.fits_days(),
+        15_250_284_452_472.fits_weeks(),
+        307_445_734_561_825_861.fits_std_minutes(),
+        5_124_095_576_030_432.fits_std_hours(),
+        213_503_982_334_602.fits_std_days(),
+        30_500_568_904_944.fits_std_weeks(),
+    ];
+    same(&rt, &past, &[false; 8]);
 }
 
 // What the constant is.
@@ -309,8 +315,12 @@ fn refuses_numbers_of_no_configuration(rt: HostRuntime) {
     assert!(rt; Config::decode(0).is_some());
 }
 
+fn owned(alloc: Global, item: BorrowedFormatItem<'_>) -> Result<OwnedFormatItem, AllocError> {
+    OwnedFormatItem::from_borrowed(alloc, &item)
+}
+
 #[test]
-fn owns_format_items(rt: HostRuntime) -> Result<(), AllocError> {
+fn owns_format_items(rt: HostRuntime) {
     let a = BorrowedFormatItem::StringLiteral("a");
     let bytes = BorrowedFormatItem::Literal(b"a");
     let year = BorrowedFormatItem::Component(Component::Year);
@@ -321,15 +331,26 @@ fn owns_format_items(rt: HostRuntime) -> Result<(), AllocError> {
         BorrowedFormatItem::First(&inner),
         optional,
     ];
-    let owned = OwnedFormatItem::from_slice(rt.alloc(), &items)?;
-    let again = OwnedFormatItem::from_borrowed(rt.alloc(), &BorrowedFormatItem::Compound(&items))?;
-    assert!(rt; owned == again);
-    let text = OwnedFormatItem::from_borrowed(rt.alloc(), &a)?;
-    let literal = OwnedFormatItem::from_borrowed(rt.alloc(), &bytes)?;
-    assert!(rt; matches!(&text, OwnedFormatItem::StringLiteral(text) if text.as_str() == "a"));
-    assert!(rt; text == literal && text != owned);
-    let list = vec![in rt.alloc(); a]?;
+    let of_slice = OwnedFormatItem::from_slice(rt.alloc(), &items);
+    let of_item = owned(rt.alloc(), BorrowedFormatItem::Compound(&items));
+    assert!(rt; of_slice.is_ok() && of_slice == of_item);
+    let text = owned(rt.alloc(), a);
+    assert!(rt; text.is_ok() && text != of_slice);
+}
+
+#[test]
+fn owns_texts_as_their_bytes(rt: HostRuntime) {
+    let text = owned(rt.alloc(), BorrowedFormatItem::StringLiteral("a"));
+    assert!(rt; matches!(&text, Ok(OwnedFormatItem::StringLiteral(text)) if text.as_str() == "a"));
+    let literal = owned(rt.alloc(), BorrowedFormatItem::Literal(b"a"));
+    assert!(rt; literal.is_ok() && text == literal);
+}
+
+#[test]
+fn owns_vectors_of_format_items(rt: HostRuntime) -> Result<(), AllocError> {
+    let list = vec![in rt.alloc(); BorrowedFormatItem::StringLiteral("a")]?;
     let compound = OwnedFormatItem::from_borrowed_vec(rt.alloc(), list)?;
+    let literal = owned(rt.alloc(), BorrowedFormatItem::Literal(b"a"))?;
     let literals = vec![in rt.alloc(); literal]?;
     assert!(rt; compound.is_compound(literals.as_slice()));
     assert!(rt; compound == OwnedFormatItem::from(literals));
@@ -337,24 +358,30 @@ fn owns_format_items(rt: HostRuntime) -> Result<(), AllocError> {
 }
 
 #[test]
-fn takes_format_items_apart(rt: HostRuntime) -> Result<(), AllocError> {
+fn takes_compounds_apart(rt: HostRuntime) -> Result<(), AllocError> {
     let empty = [BorrowedFormatItem::StringLiteral("")];
     let compound = OwnedFormatItem::from_slice(rt.alloc(), &empty)?;
     assert!(rt; !compound.is_component(&Component::Year) && !compound.is_compound(&[]));
+    let one = owned(rt.alloc(), empty[0])?;
     match compound.into_items() {
-        Ok(items) => {
-            same(&rt, &items.len(), &1);
-            let one = OwnedFormatItem::from_borrowed(rt.alloc(), &empty[0])?;
-            assert!(rt; items.as_slice()[0] == one);
-        }
+        Ok(items) => assert!(rt; items.len() == 1 && items.as_slice()[0] == one),
         Err(_) => assert!(rt; false, "a compound has items"),
     }
+    Ok(())
+}
+
+#[test]
+fn takes_components_apart(rt: HostRuntime) {
     let month = OwnedFormatItem::from(Component::Month);
     assert!(rt; month.is_component(&Component::Month) && !month.is_component(&Component::Day));
     same(&rt, &Component::try_from(month), &Ok(Component::Month));
-    let text = OwnedFormatItem::from_borrowed(rt.alloc(), &empty[0])?;
-    assert!(rt; text.into_items().is_err());
-    let text = OwnedFormatItem::from_borrowed(rt.alloc(), &empty[0])?;
+}
+
+#[test]
+fn takes_no_text_apart(rt: HostRuntime) -> Result<(), AllocError> {
+    let empty = BorrowedFormatItem::StringLiteral("");
+    assert!(rt; owned(rt.alloc(), empty)?.into_items().is_err());
+    let text = owned(rt.alloc(), empty)?;
     same(&rt, &Component::try_from(text), &Err(DifferentVariant));
     Ok(())
 }
