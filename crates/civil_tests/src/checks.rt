@@ -32,6 +32,7 @@ pub(crate) fn prints<T: Display>(
     Ok(())
 }
 
+/// What a hasher of its own makes of a value.
 pub(crate) fn hash_of<T: Hash>(value: &T) -> u64 {
     let mut state = DefaultHasher::new();
     value.hash(&mut state);

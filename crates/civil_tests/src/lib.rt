@@ -1,5 +1,5 @@
-//! Tests of the calendar, of dates and times, of padded texts and of what owns its values, from outside the crates: tables
-//! from elsewhere, printed texts, and a happy path of each call.
+//! Tests of the calendar, of dates and times, of format items, of padded texts and of what owns its values, from outside the
+//! crates: tables from elsewhere, printed texts, and a happy path of each call.
 #![tactic(auto)]
 
 #[cfg(test)]
@@ -8,6 +8,8 @@ mod checks;
 mod dates;
 #[cfg(test)]
 mod days;
+#[cfg(test)]
+mod items;
 #[cfg(test)]
 mod owned_values;
 #[cfg(test)]
