@@ -1,9 +1,9 @@
 //! The compact form of a zone that is compiled from its source.
 use crate::checks::same;
+use crate::lines::parser;
 use std::alloc::Global;
 use std::process::Abort;
 use tz_lookup::{CompactSet, compile_zone};
-use zone_line::LineParser;
 use zone_source::read_table;
 
 const NEW_YORK: &[u8] = b"\
@@ -14,7 +14,7 @@ Zone America/New_York -5:00 US E%sT
 
 /// The compact form of New York.
 fn new_york(rt: &impl Abort, alloc: Global) -> CompactSet {
-    let parser = LineParser::new(alloc).expect(rt, "not built");
+    let parser = parser(rt, alloc);
     let Ok(table) = read_table(alloc, &parser, NEW_YORK) else {
         panic!(rt; "refused");
     };

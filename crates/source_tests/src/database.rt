@@ -2,17 +2,17 @@
 ghost use Rattle.std.specs.Prelude.{◌≤◌, length};
 
 use crate::checks::same;
+use crate::lines::parser;
 use std::alloc::Global;
 use std::process::Abort;
 use tz_lookup::{Database, DatabaseFault, Offset, SpanFault, TimeZone, Tz};
-use zone_line::LineParser;
 use zone_source::{LIMIT, read_table};
 
 /// The database of a source.
 fn database(rt: &impl Abort, alloc: Global, source: &[u8]) -> Result<Database, DatabaseFault>
     requires { length source.now ≤ LIMIT }
 {
-    let parser = LineParser::new(alloc).expect(rt, "not built");
+    let parser = parser(rt, alloc);
     let Ok(table) = read_table(alloc, &parser, source) else {
         panic!(rt; "refused");
     };

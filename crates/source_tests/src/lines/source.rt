@@ -1,9 +1,5 @@
 //! Lines of the tz database's source, of every form, beside what their columns say.
-use super::parser;
-use crate::checks::same;
-use std::alloc::Global;
-use std::process::Abort;
-use zone_line::LineReader;
+use super::expect_told;
 
 /// Lines of every form.
 const LINES: &str = "\
@@ -259,28 +255,7 @@ Zone(Zone { name: \"Own/A_b+c-1\", info: ZoneInfo { utc_offset: Zero, saving: On
 Continuation(ZoneInfo { utc_offset: Hours(1), saving: NoSaving, format: \"A\", time: Some(UntilTime(Number(1990), September, Last(Wednesday), TimeSpecAndType(HoursMinutesSeconds(24, 0, 1), UTC))) })\n\
 ";
 
-/// Asserts what a line says.
-fn expect_value(
-    rt: &impl Abort,
-    alloc: Global,
-    reader: &mut LineReader<'_>,
-    text: &str,
-    value: &str,
-) {
-    let line = reader.parse_str(alloc, text).expect(rt, "refused");
-    let shown = format!(in alloc; "{line:?}").expect(rt, "memory");
-    same(rt, &shown.as_str(), &value);
-}
-
 #[test]
 fn lines_of_the_database(rt: HostRuntime) {
-    let alloc = rt.alloc();
-    let parser = parser(&rt, alloc);
-    let mut reader = parser.reader(alloc).expect(&rt, "memory");
-    let mut count: usize = 0;
-    for (text, value) in LINES.lines().zip(VALUES.lines()) {
-        expect_value(&rt, alloc, &mut reader, text, value);
-        count = count.saturating_add(1);
-    }
-    same(&rt, &count, &123);
+    expect_told(&rt, rt.alloc(), LINES, VALUES, 123);
 }
