@@ -1,8 +1,8 @@
 //! The collapse on rows whose answers are known from outside.
 use owned::{Items, Text};
 use std::alloc::Global;
+use std::process::Abort;
 use std::str::SplitWhitespace;
-use std::test::Fail;
 use zone_spans::{FixedTimespan, FixedTimespanSet, collapse};
 
 /// The first span, entries, and what the collapse keeps of them: the list of `Australia/Sydney` that the original's own
@@ -17,46 +17,49 @@ const ROWS: &str = "\
 0 0 A|100000 3600 0 B;200000 0 0 C;201000 7200 0 D|100000 3600 0 B;200000 7200 0 D
 0 0 A|100000 3600 0 B;200000 0 0 C;201000 3600 0 B|100000 3600 0 B;200000 3600 0 B";
 
-fn number(words: &mut SplitWhitespace<'_>) -> Result<i64, Fail> {
-    Ok(words.next().ok_or("number")?.parse::<i64>()?)
+fn number(rt: &impl Abort, words: &mut SplitWhitespace<'_>) -> i64 {
+    let word = words.next().expect(rt, "number");
+    word.parse::<i64>().expect(rt, "number")
 }
 
-fn span(alloc: Global, words: &mut SplitWhitespace<'_>) -> Result<FixedTimespan, Fail> {
-    Ok(FixedTimespan {
-        utc_offset: number(words)?,
-        dst_offset: number(words)?,
-        name: Text::new(alloc, words.next().ok_or("name")?)?,
-    })
+fn span(rt: &impl Abort, alloc: Global, words: &mut SplitWhitespace<'_>) -> FixedTimespan {
+    let utc_offset = number(rt, words);
+    let dst_offset = number(rt, words);
+    let name = words.next().expect(rt, "name");
+    FixedTimespan {
+        utc_offset,
+        dst_offset,
+        name: Text::new(alloc, name).expect(rt, "memory"),
+    }
 }
 
-fn entries(alloc: Global, text: &str) -> Result<Items<(i64, FixedTimespan)>, Fail> {
+fn entries(rt: &impl Abort, alloc: Global, text: &str) -> Items<(i64, FixedTimespan)> {
     let mut entries = Items::new(alloc);
     for entry in text.split(';') {
         let mut words = entry.split_whitespace();
-        let time = number(&mut words)?;
-        entries.push((time, span(alloc, &mut words)?))?;
+        let time = number(rt, &mut words);
+        let span = span(rt, alloc, &mut words);
+        entries.push((time, span)).expect(rt, "memory");
     }
-    Ok(entries)
+    entries
 }
 
 /// Whether the collapse keeps what the row says.
-fn keeps(alloc: Global, row: &str) -> Result<bool, Fail> {
+fn keeps(rt: &impl Abort, alloc: Global, row: &str) -> bool {
     let mut parts = row.split('|');
-    let first = span(alloc, &mut parts.next().ok_or("first")?.split_whitespace())?;
-    let rest = entries(alloc, parts.next().ok_or("entries")?)?;
-    let kept = entries(alloc, parts.next().ok_or("kept")?)?;
+    let mut words = parts.next().expect(rt, "first").split_whitespace();
+    let first = span(rt, alloc, &mut words);
+    let rest = entries(rt, alloc, parts.next().expect(rt, "entries"));
+    let kept = entries(rt, alloc, parts.next().expect(rt, "kept"));
     let mut set = FixedTimespanSet { first, rest };
-    if !set.is_bounded() {
-        return Ok(false);
-    }
+    assert!(rt; set.is_bounded());
     collapse(&mut set);
-    Ok(set.rest.as_slice() == kept.as_slice())
+    set.rest.as_slice() == kept.as_slice()
 }
 
 #[test]
-fn rows(rt: HostRuntime) -> Result<(), Fail> {
+fn rows(rt: HostRuntime) {
     for row in ROWS.lines() {
-        assert!(rt; keeps(rt.alloc(), row)?);
+        assert!(rt; keeps(&rt, rt.alloc(), row));
     }
-    Ok(())
 }

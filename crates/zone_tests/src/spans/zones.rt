@@ -1,9 +1,9 @@
 //! Zones of a table.
 use crate::checks::same;
 use std::alloc::Global;
-use std::test::Fail;
+use std::process::Abort;
 use zone_spans::{FixedTimespanSet, SpanFault, TableTransitions};
-use zone_table::{Error, Table, TableBuilder};
+use zone_table::{Table, TableBuilder};
 use zone_values::{
     ChangeTime, DaySpec, Line, Month, Rule, Saving, TimeSpec, TimeType, Weekday, Year, Zone,
     ZoneInfo,
@@ -11,6 +11,7 @@ use zone_values::{
 
 /// A rule of that ruleset for good, at 2:00 of the wall's clock.
 fn rule<'a>(name: &'a str, from: Year, month: Month, day: DaySpec, hours: i8) -> Line<'a> {
+    let letters = if hours == 0 { "S" } else { "D" };
     Line::Rule(Rule {
         name,
         from_year: from,
@@ -19,7 +20,7 @@ fn rule<'a>(name: &'a str, from: Year, month: Month, day: DaySpec, hours: i8) ->
         day,
         time: TimeSpec::Hours(2).with_type(TimeType::Wall),
         time_to_add: TimeSpec::Hours(hours),
-        letters: Some(if hours == 0 { "S" } else { "D" }),
+        letters: Some(letters),
     })
 }
 
@@ -46,72 +47,100 @@ fn zone<'a>(name: &'a str, ruleset: Option<&'a str>, until: Option<i64>) -> Line
     })
 }
 
-/// New York by its rules since 2007, and a zone with each fault, named after it.
-fn table(alloc: Global) -> Result<Table, Error> {
+/// Joins a line that isn't refused.
+fn add(rt: &impl Abort, builder: &mut TableBuilder, line: Line<'_>) {
+    builder.add_line(line).expect(rt, "refused");
+}
+
+/// The rules of New York since 2007, and one for each fault that comes of a rule.
+fn add_rules(rt: &impl Abort, builder: &mut TableBuilder) {
     let number = Year::Number(2007);
+    let second = DaySpec::FirstOnOrAfter(Weekday::Sunday, 8);
+    let first = DaySpec::FirstOnOrAfter(Weekday::Sunday, 1);
+    let before = DaySpec::LastOnOrBefore(Weekday::Sunday, 1);
+    add(rt, builder, rule("US", number, Month::March, second, 1));
+    add(rt, builder, rule("US", number, Month::November, first, 0));
+    add(
+        rt,
+        builder,
+        rule("Yearless", Year::Minimum, Month::March, first, 0),
+    );
+    add(
+        rt,
+        builder,
+        rule("Outside", number, Month::January, before, 0),
+    );
+    add(rt, builder, rule("Summer", number, Month::March, before, 1));
+}
+
+/// Joins a zone of two lines.
+fn add_two(
+    rt: &impl Abort,
+    builder: &mut TableBuilder,
+    name: &str,
+    until: Option<i64>,
+    ruleset: Option<&str>,
+) {
+    add(rt, builder, zone(name, None, until));
+    add(rt, builder, Line::Continuation(info(ruleset, None)));
+}
+
+/// New York by its rules since 2007, and a zone with each fault, named after it.
+fn table(rt: &impl Abort, alloc: Global) -> Table {
     let mut builder = TableBuilder::new(alloc);
-    let sunday = DaySpec::FirstOnOrAfter(Weekday::Sunday, 8);
-    builder.add_line(rule("US", number, Month::March, sunday, 1))?;
-    let sunday = DaySpec::FirstOnOrAfter(Weekday::Sunday, 1);
-    builder.add_line(rule("US", number, Month::November, sunday, 0))?;
-    builder.add_line(rule("Yearless", Year::Minimum, Month::March, sunday, 0))?;
-    let sunday = DaySpec::LastOnOrBefore(Weekday::Sunday, 1);
-    builder.add_line(rule("Outside", number, Month::January, sunday, 0))?;
-    builder.add_line(rule("Summer", number, Month::March, sunday, 1))?;
-    builder.add_line(zone("America/New_York", Some("US"), None))?;
-    builder.add_line(zone("UnknownRuleset", None, Some(2000)))?;
-    builder.add_line(Line::Continuation(info(Some("None"), None)))?;
-    builder.add_line(zone("MissingUntil", None, None))?;
-    builder.add_line(Line::Continuation(info(None, None)))?;
-    builder.add_line(zone("YearRange", None, Some(10_000)))?;
-    builder.add_line(Line::Continuation(info(None, None)))?;
-    builder.add_line(zone("RuleYears", Some("Yearless"), None))?;
-    builder.add_line(zone("DayRange", Some("Outside"), None))?;
-    builder.add_line(zone("NoStandardSpan", Some("Summer"), None))?;
-    Ok(builder.build())
+    add_rules(rt, &mut builder);
+    add(rt, &mut builder, zone("America/New_York", Some("US"), None));
+    add_two(rt, &mut builder, "UnknownRuleset", Some(2000), Some("None"));
+    add_two(rt, &mut builder, "MissingUntil", None, None);
+    add_two(rt, &mut builder, "YearRange", Some(10_000), None);
+    add(rt, &mut builder, zone("RuleYears", Some("Yearless"), None));
+    add(rt, &mut builder, zone("DayRange", Some("Outside"), None));
+    add(
+        rt,
+        &mut builder,
+        zone("NoStandardSpan", Some("Summer"), None),
+    );
+    builder.build()
 }
 
 /// The spans of the zone of that name.
-fn spans(alloc: Global, name: &str) -> Result<Result<Option<FixedTimespanSet>, SpanFault>, Fail> {
-    let table = table(alloc)?;
-    if !table.is_bounded() {
-        return Err(Fail::from("bounded"));
-    }
-    Ok(table.timespans(alloc, name))
+fn spans(
+    rt: &impl Abort,
+    alloc: Global,
+    name: &str,
+) -> Result<Option<FixedTimespanSet>, SpanFault> {
+    let table = table(rt, alloc);
+    assert!(rt; table.is_bounded());
+    table.timespans(alloc, name)
 }
 
 #[test]
-fn new_york(rt: HostRuntime) -> Result<(), Fail> {
-    let alloc = rt.alloc();
-    let set = spans(alloc, "America/New_York")??.ok_or("no zone")?;
+fn new_york(rt: HostRuntime) {
+    let found = spans(&rt, rt.alloc(), "America/New_York").expect(&rt, "no fault");
+    let set = found.expect(&rt, "no zone");
     same(&rt, &set.first.name.as_str(), &"EST");
     assert!(rt; set.is_bounded() && set.first.total_offset() == -18_000);
     let rest = set.rest.as_slice();
     same(&rt, &rest.len(), &186);
-    let (time, last) = rest.last().ok_or("no entry")?;
-    same(
-        &rt,
-        &(*time, last.dst_offset, last.name.as_str()),
-        &(4_097_196_000, 0, "EST"),
-    );
-    Ok(())
+    let (time, last) = rest.last().expect(&rt, "no entry");
+    same(&rt, time, &4_097_196_000);
+    same(&rt, &last.dst_offset, &0);
+    same(&rt, &last.name.as_str(), &"EST");
 }
 
 #[test]
-fn no_zone(rt: HostRuntime) -> Result<(), Fail> {
-    assert!(rt; spans(rt.alloc(), "US")??.is_none());
-    Ok(())
+fn no_zone(rt: HostRuntime) {
+    let found = spans(&rt, rt.alloc(), "US").expect(&rt, "a fault");
+    assert!(rt; found.is_none());
 }
 
 #[test]
-fn faults(rt: HostRuntime) -> Result<(), Fail> {
+fn faults(rt: HostRuntime) {
     let alloc = rt.alloc();
     for name in "UnknownRuleset MissingUntil YearRange RuleYears DayRange NoStandardSpan".split_whitespace()
     {
-        match spans(alloc, name)? {
-            Ok(_) => return Err(Fail::from("no fault")),
-            Err(fault) => same(&rt, &(format!(in alloc; "{fault:?}")?.as_str()), &name),
-        }
+        let fault = spans(&rt, alloc, name).err().expect(&rt, "no fault");
+        let shown = format!(in alloc; "{fault:?}").expect(&rt, "memory");
+        same(&rt, &shown.as_str(), &name);
     }
-    Ok(())
 }

@@ -2,7 +2,6 @@
 use crate::checks::same;
 use std::alloc::Global;
 use std::process::Abort;
-use std::test::Fail;
 use zone_table::{Error, Table, TableBuilder};
 use zone_values::{
     DaySpec, Line, Link, Month, Rule, Saving, TimeSpec, TimeType, Year, Zone, ZoneInfo,
@@ -48,121 +47,126 @@ fn link<'a>(existing: &'a str, new: &'a str) -> Line<'a> {
     Line::Link(Link { existing, new })
 }
 
-/// The text of an error, and the name in it.
-fn text_of(alloc: Global, error: &Error) -> Result<String, Fail> {
-    let name = match error {
+/// The name in an error.
+fn name_in(error: &Error) -> &str {
+    match error {
         Error::UnknownRuleset(name) => name.as_str(),
         Error::DuplicateLink(name) => name.as_str(),
         _ => "",
-    };
-    Ok(format!(in alloc; "{error} {name}")?)
+    }
+}
+
+/// The text of an error, and the name in it.
+fn text_of(rt: &impl Abort, alloc: Global, error: &Error) -> String {
+    let name = name_in(error);
+    format!(in alloc; "{error} {name}").expect(rt, "memory")
 }
 
 /// The table of the lines, without those that are refused, and the text of the last refusal.
-fn join(alloc: Global, lines: &[Line<'_>]) -> Result<(Table, String), Fail> {
+fn join(rt: &impl Abort, alloc: Global, lines: &[Line<'_>]) -> (Table, String) {
     let mut builder = TableBuilder::new(alloc);
-    let mut told = String::from_str(alloc, "joined")?;
+    let mut told = String::from_str(alloc, "joined").expect(rt, "memory");
     for line in lines {
         if let Err(error) = builder.add_line(*line) {
-            told = text_of(alloc, &error)?;
+            told = text_of(rt, alloc, &error);
         }
     }
-    Ok((builder.build(), told))
+    (builder.build(), told)
 }
 
 /// The lines are joined with this refusal as the last.
-fn tells(rt: &impl Abort, alloc: Global, lines: &[Line<'_>], wanted: &str) -> Result<(), Fail> {
-    let (_, told) = join(alloc, lines)?;
+fn tells(rt: &impl Abort, alloc: Global, lines: &[Line<'_>], wanted: &str) {
+    let (_, told) = join(rt, alloc, lines);
     same(rt, &told.as_str(), &wanted);
-    Ok(())
 }
 
 #[test]
-fn continuations_with_no_zone(rt: HostRuntime) -> Result<(), Fail> {
+fn continuations_with_no_zone(rt: HostRuntime) {
     let alloc = rt.alloc();
     let surprise = "continuation line follows line that isn't a zone definition line ";
     let none = Saving::NoSaving;
-    tells(&rt, alloc, &[further(none)], surprise)?;
+    tells(&rt, alloc, &[further(none)], surprise);
     tells(
         &rt,
         alloc,
         &[zone("A", none), link("A", "B"), further(none)],
         surprise,
-    )?;
+    );
     tells(
         &rt,
         alloc,
         &[zone("A", none), rule("R"), further(none)],
         surprise,
-    )?;
+    );
     tells(
         &rt,
         alloc,
         &[zone("A", none), Line::Space, further(Saving::Multiple("X"))],
         "joined",
-    )
+    );
 }
 
 #[test]
-fn names_that_stand(rt: HostRuntime) -> Result<(), Fail> {
+fn names_that_stand(rt: HostRuntime) {
     let alloc = rt.alloc();
     let none = Saving::NoSaving;
     let under_x = zone("A", Saving::Multiple("X"));
     let unknown = "zone definition refers to a ruleset that isn't defined X";
-    tells(&rt, alloc, &[zone("A", none), under_x], unknown)?;
-    tells(&rt, alloc, &[rule("X"), under_x], "joined")?;
+    tells(&rt, alloc, &[zone("A", none), under_x], unknown);
+    tells(&rt, alloc, &[rule("X"), under_x], "joined");
     let second_zone = "zone line with name that already exists ";
-    tells(&rt, alloc, &[zone("A", none), zone("A", none)], second_zone)?;
+    tells(&rt, alloc, &[zone("A", none), zone("A", none)], second_zone);
     let second_link = "link line with name that already exists b";
-    tells(&rt, alloc, &[link("a", "b"), link("c", "b")], second_link)?;
-    tells(&rt, alloc, &[zone("b", none), link("a", "b")], "joined")
+    tells(&rt, alloc, &[link("a", "b"), link("c", "b")], second_link);
+    tells(&rt, alloc, &[zone("b", none), link("a", "b")], "joined");
 }
 
 #[test]
-fn want_of_memory(rt: HostRuntime) -> Result<(), Fail> {
-    let shown = text_of(rt.alloc(), &Error::NoMemory)?;
+fn want_of_memory(rt: HostRuntime) {
+    let shown = text_of(&rt, rt.alloc(), &Error::NoMemory);
     same(&rt, &shown.as_str(), &"out of memory ");
-    Ok(())
 }
 
-/// How many lines the table has under each of the names, with `-` where it has no such zone.
-fn counts(alloc: Global, table: &Table, names: &str) -> Result<String, Fail> {
+/// Writes the name, and how many lines the table has under it, with `-` where it has no such zone.
+fn push_count(rt: &impl Abort, alloc: Global, table: &Table, name: &str, text: &mut String) {
+    let shown = match table.get_zoneset(name) {
+        Some(lines) => format!(in alloc; "{name}{} ", lines.len()),
+        None => format!(in alloc; "{name}- "),
+    };
+    text.push_str(shown.expect(rt, "memory").as_str())
+        .expect(rt, "memory");
+}
+
+/// The counts under each of the names.
+fn counts(rt: &impl Abort, alloc: Global, table: &Table, names: &str) -> String {
     let mut text = String::new(alloc);
     for name in names.split_whitespace() {
-        match table.get_zoneset(name) {
-            Some(lines) => text.push_str(format!(in alloc; "{name}{} ", lines.len())?.as_str())?,
-            None => text.push_str(format!(in alloc; "{name}- ")?.as_str())?,
-        }
+        push_count(rt, alloc, table, name, &mut text);
     }
-    Ok(text)
+    text
 }
 
 #[test]
-fn zones_by_their_names(rt: HostRuntime) -> Result<(), Fail> {
+fn zones_by_their_names(rt: HostRuntime) {
     let alloc = rt.alloc();
-    let (first, second) = (zone("A", Saving::NoSaving), zone("D", Saving::NoSaving));
     let lines = [
-        first,
+        zone("A", Saving::NoSaving),
         further(Saving::NoSaving),
-        second,
+        zone("D", Saving::NoSaving),
         link("A", "B"),
         link("B", "C"),
         link("A", "D"),
     ];
-    let (table, _) = join(alloc, &lines)?;
-    same(
-        &rt,
-        &counts(alloc, &table, "A B C D")?.as_str(),
-        &"A2 B2 C- D1 ",
-    );
-    Ok(())
+    let (table, _) = join(&rt, alloc, &lines);
+    let counts = counts(&rt, alloc, &table, "A B C D");
+    same(&rt, &counts.as_str(), &"A2 B2 C- D1 ");
 }
 
 #[test]
-fn rulesets_by_their_names(rt: HostRuntime) -> Result<(), Fail> {
-    let (table, _) = join(rt.alloc(), &[rule("R"), rule("R")])?;
-    let found = table.get_ruleset("R").ok_or("R")?.len();
-    assert!(rt; found == 2 && table.get_ruleset("S").is_none());
+fn rulesets_by_their_names(rt: HostRuntime) {
+    let (table, _) = join(&rt, rt.alloc(), &[rule("R"), rule("R")]);
+    let rules = table.get_ruleset("R").expect(&rt, "R");
+    same(&rt, &rules.len(), &2);
+    assert!(rt; table.get_ruleset("S").is_none());
     assert!(rt; table.is_bounded());
-    Ok(())
 }

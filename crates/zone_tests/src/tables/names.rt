@@ -2,24 +2,38 @@
 use crate::checks::same;
 use owned::{Items, Text, TextMap};
 use std::alloc::{AllocError, Global};
+use std::process::Abort;
 use std::test::Fail;
-use zone_table::{Child, Structure, Table};
+use zone_table::{Child, Structure, Table, ZoneInfo};
 
-/// A table with zones and links of these names, with blanks between them.
-fn table_of(alloc: Global, zones: &str, links: &str) -> Result<Table, AllocError> {
+/// Zones without lines of these names, with blanks between them.
+fn zones_of(rt: &impl Abort, alloc: Global, names: &str) -> TextMap<Items<ZoneInfo>> {
     let mut zonesets = TextMap::new(alloc);
-    for name in zones.split_whitespace() {
-        zonesets.insert(alloc, name, Items::new(alloc))?;
+    for name in names.split_whitespace() {
+        zonesets
+            .insert(alloc, name, Items::new(alloc))
+            .expect(rt, "memory");
     }
-    let mut targets = TextMap::new(alloc);
-    for name in links.split_whitespace() {
-        targets.insert(alloc, name, Text::new(alloc, "a")?)?;
+    zonesets
+}
+
+/// Links of these names, with blanks between them.
+fn links_of(rt: &impl Abort, alloc: Global, names: &str) -> TextMap<Text> {
+    let mut links = TextMap::new(alloc);
+    for name in names.split_whitespace() {
+        let target = Text::new(alloc, "a").expect(rt, "memory");
+        links.insert(alloc, name, target).expect(rt, "memory");
     }
-    Ok(Table {
+    links
+}
+
+/// A table with zones and links of these names.
+fn table_of(rt: &impl Abort, alloc: Global, zones: &str, links: &str) -> Table {
+    Table {
         rulesets: TextMap::new(alloc),
-        zonesets,
-        links: targets,
-    })
+        zonesets: zones_of(rt, alloc, zones),
+        links: links_of(rt, alloc, links),
+    }
 }
 
 /// The hierarchy as text: each part and its children, with a slash after submodules.
@@ -51,7 +65,7 @@ fn hierarchies(rt: HostRuntime) -> Result<(), Fail> {
         ("a/b/c/d", "x/y a/b/c/d x", "a b/c/;a/b/c d;x y;"),
     ];
     for (zones, links, want) in rows {
-        let table = table_of(alloc, zones, links)?;
+        let table = table_of(&rt, alloc, zones, links);
         same(&rt, &shown(alloc, &table)?.as_str(), &want);
     }
     Ok(())

@@ -1,10 +1,9 @@
 //! The compact form of a zone that is compiled from its source.
 use crate::checks::same;
+use crate::fixtures::table_of;
+use std::alloc::Global;
 use std::process::Abort;
-use std::test::Fail;
 use tz_lookup::{CompactSet, compile_zone};
-use zone_line::LineParser;
-use zone_source::read_table;
 
 const NEW_YORK: &[u8] = b"\
 Rule US 2007 max - Mar Sun>=8 2:00 1:00 D
@@ -12,21 +11,19 @@ Rule US 2007 max - Nov Sun>=1 2:00 0 S
 Zone America/New_York -5:00 US E%sT
 ";
 
-#[test]
-fn new_york_has_two_kinds(rt: HostRuntime) -> Result<(), Fail> {
-    let alloc = rt.alloc();
-    let parser = LineParser::new(alloc).ok().ok_or("not built")?;
-    let Ok(table) = read_table(alloc, &parser, NEW_YORK) else {
-        return Err(Fail::from("refused"));
-    };
+/// The compact form of New York.
+fn new_york(rt: &impl Abort, alloc: Global) -> CompactSet {
+    let table = table_of(rt, alloc, NEW_YORK);
     let Ok(set) = compile_zone(alloc, &table, "America/New_York") else {
-        return Err(Fail::from("not compiled"));
+        panic!(rt; "not compiled");
     };
-    let Ok(compact) = CompactSet::build(alloc, &set) else {
-        return Err(Fail::from("no compact form"));
-    };
+    CompactSet::build(alloc, &set).expect(rt, "no compact form")
+}
+
+#[test]
+fn new_york_has_two_kinds(rt: HostRuntime) {
+    let compact = new_york(&rt, rt.alloc());
     // Standard and daylight time; the first span, and two changes in each year of 2007 to 2099.
     same(&rt, &compact.kind_count(), &2);
     same(&rt, &compact.span_count(), &187);
-    Ok(())
 }

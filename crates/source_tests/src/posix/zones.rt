@@ -2,14 +2,14 @@
 ghost use Rattle.std.specs.Prelude.{◌≤◌, length};
 
 use crate::checks::{holds_at, same_at};
+use crate::fixtures::table_of;
 use civil_base::{OffsetDateTime, write_zoned};
 use std::alloc::Global;
 use std::process::Abort;
 use std::test::Fail;
 use tz_lookup::{Database, Offset, TimeZone};
 use tz_posix::{Error, ParseError, PosixTz, RangeError};
-use zone_line::LineParser;
-use zone_source::read_table;
+use zone_source::LIMIT;
 
 /// New York by two yearly rules.
 const NEW_YORK: &[u8] = b"\
@@ -47,24 +47,18 @@ EST5 1710054000 -18000 standard EST
 ";
 
 /// The database of a source.
-pub(crate) fn database(alloc: Global, source: &[u8]) -> Result<Database, Fail>
-    requires { length source.now ≤ 16_777_216 }
+pub(crate) fn database(rt: &impl Abort, alloc: Global, source: &[u8]) -> Database
+    requires { length source.now ≤ LIMIT }
 {
-    let Ok(parser) = LineParser::new(alloc) else {
-        return Err(Fail::from("no parser"));
+    let Ok(database) = Database::build(alloc, &table_of(rt, alloc, source)) else {
+        panic!(rt; "no database");
     };
-    let Ok(table) = read_table(alloc, &parser, source) else {
-        return Err(Fail::from("no table"));
-    };
-    let Ok(database) = Database::build(alloc, &table) else {
-        return Err(Fail::from("no database"));
-    };
-    Ok(database)
+    database
 }
 
 /// A database without a zone.
-pub(crate) fn empty(alloc: Global) -> Result<Database, Fail> {
-    database(alloc, b"")
+pub(crate) fn empty(rt: &impl Abort, alloc: Global) -> Database {
+    database(rt, alloc, b"")
 }
 
 /// The date-time at UTC so many seconds from 1970-01-01 00:00:00.
@@ -145,7 +139,7 @@ fn refusal<'x>(text: &'x str, database: &'x Database) -> Result<&'static str, Fa
 
 #[test]
 fn texts_give_offsets(rt: HostRuntime) -> Result<(), Fail> {
-    let database = database(rt.alloc(), NEW_YORK)?;
+    let database = database(&rt, rt.alloc(), NEW_YORK);
     for row in ANSWERS.lines() {
         holds_at(&rt, row, is_given(&database, row)?);
     }
@@ -153,9 +147,9 @@ fn texts_give_offsets(rt: HostRuntime) -> Result<(), Fail> {
 }
 
 #[test]
-fn texts_are_refused(rt: HostRuntime) -> Result<(), Fail> {
-    let empty = empty(rt.alloc())?;
-    let zones = database(rt.alloc(), NEW_YORK)?;
+fn texts_are_refused(rt: HostRuntime) {
+    let empty = empty(&rt, rt.alloc());
+    let zones = database(&rt, rt.alloc(), NEW_YORK);
     assert!(rt; matches!(PosixTz::parse("AB0", &zones), Err(ParseError::Grammar)));
     assert!(rt;
         matches!(
@@ -181,17 +175,15 @@ fn texts_are_refused(rt: HostRuntime) -> Result<(), Fail> {
     );
     let new_york = PosixTz::parse("EST5EDT", &empty);
     assert!(rt; matches!(new_york, Err(ParseError::UnknownName("America/New_York"))));
-    Ok(())
 }
 
 #[test]
-fn the_short_form_is_a_zone(rt: HostRuntime) -> Result<(), Fail> {
-    let zones = database(rt.alloc(), NEW_YORK)?;
+fn the_short_form_is_a_zone(rt: HostRuntime) {
+    let zones = database(&rt, rt.alloc(), NEW_YORK);
     assert!(rt; is_zone(":<America/New_York>", &zones, "America/New_York"));
-    let yorks = database(rt.alloc(), YORKS)?;
+    let yorks = database(&rt, rt.alloc(), YORKS);
     assert!(rt; is_zone(":<York>", &yorks, "A/York"));
     assert!(rt; is_zone("<AB>0", &yorks, ""));
-    Ok(())
 }
 
 /// Whether a text converts a second at UTC to the date-time that this shows, or, for no text, refuses it.
@@ -219,7 +211,7 @@ fn is_shown(date_time: &OffsetDateTime, shown: &[u8]) -> bool {
 
 #[test]
 fn a_text_converts(rt: HostRuntime) -> Result<(), Fail> {
-    let empty = empty(rt.alloc())?;
+    let empty = empty(&rt, rt.alloc());
     let shown = b"2024-03-10 03:00:00.000000000 -04:00:00";
     assert!(rt; converts("EST5EDT,M3.2.0,M11.1.0", &empty, 1_710_054_000, shown)?);
     assert!(rt; converts("AAA-1", &empty, 253_402_300_799, b"")?);
@@ -228,7 +220,7 @@ fn a_text_converts(rt: HostRuntime) -> Result<(), Fail> {
 
 #[test]
 fn rules_are_refused_in_order(rt: HostRuntime) -> Result<(), Fail> {
-    let empty = empty(rt.alloc())?;
+    let empty = empty(&rt, rt.alloc());
     for (text, cause) in [
         ("AAA0BBB,M12.5.0,365", "too large"),
         ("AAA0BBB,365,M12.5.0", "range"),

@@ -1,6 +1,6 @@
 //! Zones of two yearly rules beside the strings that say the same.
 use crate::checks::holds_at;
-use crate::zones::{at, database};
+use crate::posix::zones::{at, database};
 use std::process::Abort;
 use std::test::Fail;
 use tz_lookup::Database;
@@ -69,7 +69,7 @@ fn is_given<'x>(database: &'x Database, row: &'x str) -> Result<bool, Fail> {
 
 #[test]
 fn zones_agree_with_their_strings(rt: HostRuntime) -> Result<(), Fail> {
-    let database = database(rt.alloc(), ZONES)?;
+    let database = database(&rt, rt.alloc(), ZONES);
     for row in OFFSETS.lines() {
         holds_at(&rt, row, is_given(&database, row)?);
     }

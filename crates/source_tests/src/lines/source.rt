@@ -1,7 +1,5 @@
 //! Lines of the tz database's source, of every form, beside what their columns say.
-use crate::checks::same;
-use std::test::Fail;
-use zone_line::LineParser;
+use super::expect_told;
 
 /// Lines of every form.
 const LINES: &str = "\
@@ -258,17 +256,6 @@ Continuation(ZoneInfo { utc_offset: Hours(1), saving: NoSaving, format: \"A\", t
 ";
 
 #[test]
-fn lines_of_the_database(rt: HostRuntime) -> Result<(), Fail> {
-    let alloc = rt.alloc();
-    let parser = LineParser::new(alloc).ok().ok_or("not built")?;
-    let mut reader = parser.reader(alloc)?;
-    let mut count: usize = 0;
-    for (text, value) in LINES.lines().zip(VALUES.lines()) {
-        let line = reader.parse_str(alloc, text)?;
-        let shown = format!(in alloc; "{line:?}")?;
-        same(&rt, &shown.as_str(), &value);
-        count = count.saturating_add(1);
-    }
-    same(&rt, &count, &123);
-    Ok(())
+fn lines_of_the_database(rt: HostRuntime) {
+    expect_told(&rt, rt.alloc(), LINES, VALUES, 123);
 }

@@ -1,0 +1,24 @@
+//! Tests of all that begins with source text, from outside the crates: lines and their faults, tables, the database of zones,
+//! compact forms, POSIX strings over a database, and whole runs over objects in memory, made texts and the machine's files.
+#![tactic(auto)]
+
+#[cfg(test)]
+mod checks;
+#[cfg(test)]
+mod compact;
+#[cfg(test)]
+mod database;
+#[cfg(test)]
+mod fixtures;
+#[cfg(test)]
+mod generated;
+#[cfg(test)]
+mod host;
+#[cfg(test)]
+mod lines;
+#[cfg(test)]
+mod posix;
+#[cfg(test)]
+mod runs;
+#[cfg(test)]
+mod source;
