@@ -19,6 +19,7 @@ use crate::columns::{
     ClockColumns, DayColumns, InfoColumns, LinkColumns, RuleColumns, ZoneColumns,
 };
 use crate::parser::LineParser;
+use crate::patterns::matcher;
 use crate::searches::{
     day_columns, info_columns, link_columns, minute_clock, rule_columns, second_clock, zone_columns,
 };
@@ -63,14 +64,14 @@ impl<'p> LineReader<'p> {
 
     /// The matchers of the parser's patterns.
     pub(crate) fn new(alloc: Global, parser: &'p LineParser) -> Result<LineReader<'p>, AllocError> {
-        let empty = parser.empty.matcher(alloc)?;
-        let zone = parser.zone.matcher(alloc)?;
-        let continuation = parser.continuation.matcher(alloc)?;
-        let rule = parser.rule.matcher(alloc)?;
-        let link = parser.link.matcher(alloc)?;
-        let day = parser.day.matcher(alloc)?;
-        let hm = parser.hm.matcher(alloc)?;
-        let hms = parser.hms.matcher(alloc)?;
+        let empty = matcher(alloc, &parser.empty)?;
+        let zone = matcher(alloc, &parser.zone)?;
+        let continuation = matcher(alloc, &parser.continuation)?;
+        let rule = matcher(alloc, &parser.rule)?;
+        let link = matcher(alloc, &parser.link)?;
+        let day = matcher(alloc, &parser.day)?;
+        let hm = matcher(alloc, &parser.hm)?;
+        let hms = matcher(alloc, &parser.hms)?;
         Ok(LineReader {
             empty,
             zone,
