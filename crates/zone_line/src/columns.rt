@@ -80,18 +80,18 @@ impl InfoColumns<'_> {
 
 /// The columns that the captures of a Zone line show.
 #[tactic(auto, unfolding(crate::specs::Columns::zone_columns_of))]
-pub(crate) fn zone_columns<'a>(captures: &Captures<'_, 'a>) -> Option<ZoneColumns<'a>>
+pub(crate) fn zone_columns_of<'a>(captures: &Captures<'_, 'a>) -> Option<ZoneColumns<'a>>
     ensures { option_map zone_shown result ≡ zone_columns_of (captured captures.now) }
 {
     Some(ZoneColumns {
         name: part(captures, "name")?,
-        info: info_columns(captures)?,
+        info: info_columns_of(captures)?,
     })
 }
 
 /// The columns that the captures of a Zone line or a continuation show.
 #[tactic(auto, unfolding(crate::specs::Columns::info_columns_of))]
-pub(crate) fn info_columns<'a>(captures: &Captures<'_, 'a>) -> Option<InfoColumns<'a>>
+pub(crate) fn info_columns_of<'a>(captures: &Captures<'_, 'a>) -> Option<InfoColumns<'a>>
     ensures { option_map info_shown result ≡ info_columns_of (captured captures.now) }
 {
     Some(InfoColumns {
@@ -107,7 +107,7 @@ pub(crate) fn info_columns<'a>(captures: &Captures<'_, 'a>) -> Option<InfoColumn
 
 /// The columns that the captures of a Rule line show.
 #[tactic(auto, unfolding(crate::specs::Columns::rule_columns_of))]
-pub(crate) fn rule_columns<'a>(captures: &Captures<'_, 'a>) -> Option<RuleColumns<'a>>
+pub(crate) fn rule_columns_of<'a>(captures: &Captures<'_, 'a>) -> Option<RuleColumns<'a>>
     ensures { option_map rule_shown result ≡ rule_columns_of (captured captures.now) }
 {
     Some(RuleColumns {
@@ -125,7 +125,7 @@ pub(crate) fn rule_columns<'a>(captures: &Captures<'_, 'a>) -> Option<RuleColumn
 
 /// The columns that the captures of a Link line show.
 #[tactic(auto, unfolding(crate::specs::Columns::link_columns_of))]
-pub(crate) fn link_columns<'a>(captures: &Captures<'_, 'a>) -> Option<LinkColumns<'a>>
+pub(crate) fn link_columns_of<'a>(captures: &Captures<'_, 'a>) -> Option<LinkColumns<'a>>
     ensures { option_map link_shown result ≡ link_columns_of (captured captures.now) }
 {
     Some(LinkColumns {
@@ -136,7 +136,7 @@ pub(crate) fn link_columns<'a>(captures: &Captures<'_, 'a>) -> Option<LinkColumn
 
 /// The parts that the captures of a day on one side of a number show.
 #[tactic(auto, unfolding(crate::specs::DayColumns::day_columns_of))]
-pub(crate) fn day_columns<'a>(captures: &Captures<'_, 'a>) -> Option<DayColumns<'a>>
+pub(crate) fn day_columns_of<'a>(captures: &Captures<'_, 'a>) -> Option<DayColumns<'a>>
     ensures { option_map day_shown result ≡ day_columns_of (captured captures.now) }
 {
     Some(DayColumns {
@@ -148,7 +148,7 @@ pub(crate) fn day_columns<'a>(captures: &Captures<'_, 'a>) -> Option<DayColumns<
 
 /// The parts that the captures of hours and minutes show.
 #[tactic(auto, unfolding(crate::specs::Clocks::minute_clock_of))]
-pub(crate) fn minute_clock<'a>(captures: &Captures<'_, 'a>) -> Option<ClockColumns<'a>>
+pub(crate) fn minute_clock_of<'a>(captures: &Captures<'_, 'a>) -> Option<ClockColumns<'a>>
     ensures { option_map clock_shown result ≡ minute_clock_of (captured captures.now) }
 {
     Some(ClockColumns {
@@ -162,7 +162,7 @@ pub(crate) fn minute_clock<'a>(captures: &Captures<'_, 'a>) -> Option<ClockColum
 
 /// The parts that the captures of hours, minutes and seconds show.
 #[tactic(auto, unfolding(crate::specs::Clocks::second_clock_of))]
-pub(crate) fn second_clock<'a>(captures: &Captures<'_, 'a>) -> Option<ClockColumns<'a>>
+pub(crate) fn second_clock_of<'a>(captures: &Captures<'_, 'a>) -> Option<ClockColumns<'a>>
     ensures { option_map clock_shown result ≡ second_clock_of (captured captures.now) }
 {
     Some(ClockColumns {

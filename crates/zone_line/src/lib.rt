@@ -11,6 +11,7 @@ mod number;
 mod parser;
 mod patterns;
 mod reader;
+mod searches;
 mod texts;
 mod time_texts;
 

@@ -16,11 +16,13 @@ mod lines;
 mod matched_fields;
 
 use crate::columns::{
-    ClockColumns, DayColumns, InfoColumns, LinkColumns, RuleColumns, ZoneColumns, day_columns,
-    info_columns, link_columns, minute_clock, rule_columns, second_clock, zone_columns,
+    ClockColumns, DayColumns, InfoColumns, LinkColumns, RuleColumns, ZoneColumns,
 };
 use crate::parser::LineParser;
-use crate::patterns::search;
+use crate::patterns::matcher;
+use crate::searches::{
+    day_columns, info_columns, link_columns, minute_clock, rule_columns, second_clock, zone_columns,
+};
 use regex::Matcher;
 use std::alloc::{AllocError, Global};
 
@@ -62,14 +64,14 @@ impl<'p> LineReader<'p> {
 
     /// The matchers of the parser's patterns.
     pub(crate) fn new(alloc: Global, parser: &'p LineParser) -> Result<LineReader<'p>, AllocError> {
-        let empty = parser.empty.matcher(alloc)?;
-        let zone = parser.zone.matcher(alloc)?;
-        let continuation = parser.continuation.matcher(alloc)?;
-        let rule = parser.rule.matcher(alloc)?;
-        let link = parser.link.matcher(alloc)?;
-        let day = parser.day.matcher(alloc)?;
-        let hm = parser.hm.matcher(alloc)?;
-        let hms = parser.hms.matcher(alloc)?;
+        let empty = matcher(alloc, &parser.empty)?;
+        let zone = matcher(alloc, &parser.zone)?;
+        let continuation = matcher(alloc, &parser.continuation)?;
+        let rule = matcher(alloc, &parser.rule)?;
+        let link = matcher(alloc, &parser.link)?;
+        let day = matcher(alloc, &parser.day)?;
+        let hm = matcher(alloc, &parser.hm)?;
+        let hms = matcher(alloc, &parser.hms)?;
         Ok(LineReader {
             empty,
             zone,
@@ -90,51 +92,58 @@ impl<'p> LineReader<'p> {
     }
 
     /// The columns of a Zone line.
+    #[tactic(auto, unfolding(crate::specs::Columns::zone_columns))]
     pub(crate) fn zone_columns<'a>(&mut self, line: &'a str) -> Option<ZoneColumns<'a>>
         ensures { option_map zone_shown result ≡ zone_columns line.now }
     {
-        zone_columns(&search(&mut self.zone, line)?)
+        zone_columns(&mut self.zone, line)
     }
 
     /// The columns of a continuation.
+    #[tactic(auto, unfolding(crate::specs::Columns::continuation_columns))]
     pub(crate) fn continuation_columns<'a>(&mut self, line: &'a str) -> Option<InfoColumns<'a>>
         ensures { option_map info_shown result ≡ continuation_columns line.now }
     {
-        info_columns(&search(&mut self.continuation, line)?)
+        info_columns(&mut self.continuation, line)
     }
 
     /// The columns of a Rule line.
+    #[tactic(auto, unfolding(crate::specs::Columns::rule_columns))]
     pub(crate) fn rule_columns<'a>(&mut self, line: &'a str) -> Option<RuleColumns<'a>>
         ensures { option_map rule_shown result ≡ rule_columns line.now }
     {
-        rule_columns(&search(&mut self.rule, line)?)
+        rule_columns(&mut self.rule, line)
     }
 
     /// The columns of a Link line.
+    #[tactic(auto, unfolding(crate::specs::Columns::link_columns))]
     pub(crate) fn link_columns<'a>(&mut self, line: &'a str) -> Option<LinkColumns<'a>>
         ensures { option_map link_shown result ≡ link_columns line.now }
     {
-        link_columns(&search(&mut self.link, line)?)
+        link_columns(&mut self.link, line)
     }
 
     /// The parts of a day on one side of a number.
+    #[tactic(auto, unfolding(crate::specs::DayColumns::day_columns))]
     pub(crate) fn day_columns<'a>(&mut self, text: &'a str) -> Option<DayColumns<'a>>
         ensures { option_map day_shown result ≡ day_columns text.now }
     {
-        day_columns(&search(&mut self.day, text)?)
+        day_columns(&mut self.day, text)
     }
 
     /// The parts of hours and minutes.
+    #[tactic(auto, unfolding(crate::specs::Clocks::minute_clock))]
     pub(crate) fn minute_clock<'a>(&mut self, text: &'a str) -> Option<ClockColumns<'a>>
         ensures { option_map clock_shown result ≡ minute_clock text.now }
     {
-        minute_clock(&search(&mut self.hm, text)?)
+        minute_clock(&mut self.hm, text)
     }
 
     /// The parts of hours, minutes and seconds.
+    #[tactic(auto, unfolding(crate::specs::Clocks::second_clock))]
     pub(crate) fn second_clock<'a>(&mut self, text: &'a str) -> Option<ClockColumns<'a>>
         ensures { option_map clock_shown result ≡ second_clock text.now }
     {
-        second_clock(&search(&mut self.hms, text)?)
+        second_clock(&mut self.hms, text)
     }
 }
