@@ -1,5 +1,6 @@
 //! What many tests begin with.
 ghost use Rattle.std.specs.Prelude.{◌≤◌, length};
+ghost use Rattle.zone_table.specs.BoundedTables.{IsBoundedTable};
 
 use std::alloc::Global;
 use std::process::Abort;
@@ -15,6 +16,7 @@ pub(crate) fn parser(rt: &impl Abort, alloc: Global) -> LineParser {
 /// The table of a source.
 pub(crate) fn table_of(rt: &impl Abort, alloc: Global, source: &[u8]) -> Table
     requires { length source.now ≤ LIMIT }
+    ensures { IsBoundedTable result }
 {
     let parser = parser(rt, alloc);
     let Ok(table) = read_table(alloc, &parser, source) else {
