@@ -8,6 +8,7 @@ const NANOS_PER_SECOND: i128 = 1_000_000_000;
 /// A tick is 512 nanoseconds: dividing by it is a shift, and its count of an instant's fits 64 bits, whose division is
 /// three times as fast as that of 128.
 const NANOS_PER_TICK: i128 = 512;
+
 const TICKS_PER_SECOND: i64 = 1_953_125;
 
 /// The nanoseconds of whole seconds.
