@@ -1,0 +1,13 @@
+use Rattle.std.proofs.Common.{refl, ap, Some}
+use Rattle.civil_items.specs.declared.config.Config.{Config}
+use Rattle.civil_items.specs.declared.digits.Digits.{Digits}
+use Rattle.civil_items.specs.declared.iso8601.TimePrecision.TheVariants.{Second}
+use Rattle.civil_items.specs.Defaults.{default_config, nine}
+use Rattle.civil_items.specs.DigitLaws.{one_number}
+use Rattle.civil_tests.proofs.items.default.Goals as goal
+
+abbrev with_digits : Digits → Config
+with_digits digits = record default_config { time_precision = Second (Some digits) }
+
+pub returns : goal.returns
+returns c = ap with_digits (one_number _ nine refl)
