@@ -1,15 +1,9 @@
 //! The compact form of a zone that is compiled from its source.
 use crate::checks::same;
-use crate::fixtures::table_of;
+use crate::fixtures::{NEW_YORK, table_of};
 use std::alloc::Global;
 use std::process::Abort;
 use tz_lookup::{CompactSet, compile_zone};
-
-const NEW_YORK: &[u8] = b"\
-Rule US 2007 max - Mar Sun>=8 2:00 1:00 D
-Rule US 2007 max - Nov Sun>=1 2:00 0 S
-Zone America/New_York -5:00 US E%sT
-";
 
 /// The compact form of New York.
 fn new_york(rt: &impl Abort, alloc: Global) -> CompactSet {

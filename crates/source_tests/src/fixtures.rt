@@ -8,6 +8,13 @@ use zone_line::LineParser;
 use zone_source::{LIMIT, read_table};
 use zone_table::Table;
 
+/// New York by two yearly rules, of which the second takes back the saving of the first.
+pub(crate) const NEW_YORK: &[u8] = b"\
+Rule US 2007 max - Mar Sun>=8 2:00 1:00 D
+Rule US 2007 max - Nov Sun>=1 2:00 0 S
+Zone America/New_York -5:00 US E%sT
+";
+
 /// A parser of lines.
 pub(crate) fn parser(rt: &impl Abort, alloc: Global) -> LineParser {
     LineParser::new(alloc).expect(rt, "not built")

@@ -1,5 +1,5 @@
 //! Tests of all that begins with source text, from outside the crates: lines and their faults, tables, the database of zones,
-//! compact forms, POSIX strings over a database, and whole runs over objects in memory, made texts and the machine's files.
+//! compact forms, POSIX strings over a database, and whole runs over objects in memory and over made texts.
 #![tactic(auto)]
 
 #[cfg(test)]
@@ -12,8 +12,6 @@ mod database;
 mod fixtures;
 #[cfg(test)]
 mod generated;
-#[cfg(test)]
-mod host;
 #[cfg(test)]
 mod lines;
 #[cfg(test)]

@@ -2,7 +2,7 @@
 ghost use Rattle.std.specs.Prelude.{◌<◌};
 
 use crate::checks::same;
-use crate::fixtures::parser;
+use crate::fixtures::{NEW_YORK, parser};
 use std::alloc::Global;
 use std::process::Abort;
 use zone_answers::{
@@ -82,13 +82,6 @@ Rule R min 1990 - Jan 1 0:00 0 -;Zone A 0:00 R A;~at A 0;~request 1: schedule Ru
 Rule D 2000 only - Jan Sun<=1 0:00 0 -;Zone Z 0:00 D Z;~at Z 0;~request 1: schedule DayRange;
 Rule D 2000 only - Jan 1 0:00 1:00 S;Zone Z 0:00 D Z;~at Z 0;~request 1: schedule NoStandardSpan;
 Rule R 9223372036854775807 max - Jan 1 0:00 0 -;Zone A 0:00 R A;~at A 0;~request 1: schedule NoStandardSpan;
-";
-
-/// A zone under two yearly rules, of which the second takes back the saving of the first.
-const NEW_YORK: &str = "\
-Rule US 2007 max - Mar Sun>=8 2:00 1:00 D
-Rule US 2007 max - Nov Sun>=1 2:00 0 S
-Zone America/New_York -5:00 US E%sT
 ";
 
 /// How many bytes each output takes.
@@ -410,7 +403,7 @@ fn a_table_is_read(rt: HostRuntime) {
 fn a_zone_is_opened(rt: HostRuntime) {
     let alloc = rt.alloc();
     let parser = parser(&rt, alloc);
-    let Ok(table) = read_table(alloc, &parser, NEW_YORK.as_bytes()) else {
+    let Ok(table) = read_table(alloc, &parser, NEW_YORK) else {
         panic!(rt; "refused");
     };
     let Ok(set) = open_zone(alloc, &table, "America/New_York") else {

@@ -2,7 +2,7 @@
 ghost use Rattle.std.specs.Prelude.{◌≤◌, length};
 
 use crate::checks::{holds_at, same_at};
-use crate::fixtures::table_of;
+use crate::fixtures::{NEW_YORK, table_of};
 use civil_base::{OffsetDateTime, write_zoned};
 use std::alloc::Global;
 use std::process::Abort;
@@ -10,13 +10,6 @@ use std::test::Fail;
 use tz_lookup::{Database, Offset, TimeZone};
 use tz_posix::{Error, ParseError, PosixTz, RangeError};
 use zone_source::LIMIT;
-
-/// New York by two yearly rules.
-const NEW_YORK: &[u8] = b"\
-Rule US 2007 max - Mar Sun>=8 2:00 1:00 D
-Rule US 2007 max - Nov Sun>=1 2:00 0 S
-Zone America/New_York -5:00 US E%sT
-";
 
 /// Three zones, of which two have a part of their names in common.
 const YORKS: &[u8] = b"\
