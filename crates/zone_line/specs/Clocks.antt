@@ -1,9 +1,8 @@
 -- The parts of a time with a colon, as its named groups take them.
-use Rattle.std.specs.Prelude.{ℕ, List, [], ◌∷◌, Option, Some, None, option_map, option_and_then, codes}
+use Rattle.std.specs.Prelude.{ℕ, List, [], ◌∷◌, Option, Some, None, option_and_then, codes}
 use Rattle.zone_line.specs.Options.{◌>>=◌, first_some}
 use Rattle.zone_line.specs.Patterns.{match_in, group_in}
 use Rattle.zone_line.specs.Texts.{hm_text, hms_text}
-use Rattle.zone_line.specs.declared.columns.ClockColumns.{ClockColumns}
 
 pub record ClockTexts : Type 0 where
   pub sign : List ℕ
@@ -11,15 +10,6 @@ pub record ClockTexts : Type 0 where
   pub minute : List ℕ
   pub second : Option (List ℕ)
   pub flag : Option (List ℕ)
-
-abbrev pub clock_shown : ClockColumns → ClockTexts
-clock_shown c = record {
-  sign = c.sign.now;
-  hour = c.hour.now;
-  minute = c.minute.now;
-  second = option_map (λ t. t.now) c.second;
-  flag = option_map (λ t. t.now) c.flag;
-}
 
 -- the parts of hours and minutes
 unfoldable pub minute_clock_of : (List ℕ → Option (List ℕ)) → Option ClockTexts

@@ -1,12 +1,8 @@
 -- The texts of the columns of a line, as its named groups take them.
-use Rattle.std.specs.Prelude.{ℕ, List, Option, Some, option_map, option_and_then, codes}
+use Rattle.std.specs.Prelude.{ℕ, List, Option, Some, option_and_then, codes}
 use Rattle.zone_line.specs.Options.{◌>>=◌}
 use Rattle.zone_line.specs.Patterns.{match_in, group_in}
 use Rattle.zone_line.specs.Texts.{zone_text, continuation_text, rule_text, link_text}
-use Rattle.zone_line.specs.declared.columns.ZoneColumns.{ZoneColumns}
-use Rattle.zone_line.specs.declared.columns.InfoColumns.{InfoColumns}
-use Rattle.zone_line.specs.declared.columns.RuleColumns.{RuleColumns}
-use Rattle.zone_line.specs.declared.columns.LinkColumns.{LinkColumns}
 
 -- the columns that a Zone line and a continuation share
 pub record InfoTexts : Type 0 where
@@ -39,36 +35,6 @@ pub record RuleTexts : Type 0 where
 pub record LinkTexts : Type 0 where
   pub target : List ℕ
   pub name : List ℕ
-
-abbrev pub info_shown : InfoColumns → InfoTexts
-info_shown c = record {
-  gmtoff = c.gmtoff.now;
-  rules = c.rules.now;
-  format = c.format.now;
-  year = option_map (λ t. t.now) c.year;
-  month = option_map (λ t. t.now) c.month;
-  day = option_map (λ t. t.now) c.day;
-  time = option_map (λ t. t.now) c.time;
-}
-
-abbrev pub zone_shown : ZoneColumns → ZoneTexts
-zone_shown c = record { name = c.name.now; info = info_shown c.info }
-
-abbrev pub rule_shown : RuleColumns → RuleTexts
-rule_shown c = record {
-  name = c.name.now;
-  from = c.from.now;
-  to = c.to.now;
-  kind = c.kind.now;
-  month = c.month.now;
-  on = c.on.now;
-  at = c.at.now;
-  save = c.save.now;
-  letters = c.letters.now;
-}
-
-abbrev pub link_shown : LinkColumns → LinkTexts
-link_shown c = record { target = c.target.now; name = c.name.now }
 
 -- the columns from the parts of the groups; the first three have to have taken part
 unfoldable pub info_columns_of : (List ℕ → Option (List ℕ)) → Option InfoTexts

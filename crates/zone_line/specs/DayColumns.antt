@@ -3,15 +3,11 @@ use Rattle.std.specs.Prelude.{ℕ, List, Option, Some, option_and_then, codes}
 use Rattle.zone_line.specs.Options.{◌>>=◌}
 use Rattle.zone_line.specs.Patterns.{match_in, group_in}
 use Rattle.zone_line.specs.Texts.{day_text}
-use Rattle.zone_line.specs.declared.columns.DayColumns.{DayColumns}
 
 pub record DayTexts : Type 0 where
   pub weekday : List ℕ
   pub sign : List ℕ
   pub day : List ℕ
-
-abbrev pub day_shown : DayColumns → DayTexts
-day_shown c = record { weekday = c.weekday.now; sign = c.sign.now; day = c.day.now }
 
 unfoldable pub day_columns_of : (List ℕ → Option (List ℕ)) → Option DayTexts
 day_columns_of part = do

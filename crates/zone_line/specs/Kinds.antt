@@ -12,13 +12,7 @@ use Rattle.zone_line.specs.Columns.{
   continuation_columns,
   rule_columns,
   link_columns,
-  zone_shown,
-  info_shown,
-  rule_shown,
-  link_shown,
 }
-use Rattle.zone_line.specs.declared.kind.Kind as code
-use Rattle.zone_line.specs.declared.kind.Kind.TheVariants as kind
 
 -- a kind of line, with what the groups of its pattern take
 pub data LineKind : Type 0 where
@@ -40,10 +34,3 @@ kind_of line = first_some (
     ∷ option_map rule (rule_columns line)
     ∷ option_map link (link_columns line)
     ∷ [])
-
-abbrev pub kind_shown : code.Kind → LineKind
-kind_shown kind.Space = space
-kind_shown (kind.Zone columns) = zone (zone_shown columns)
-kind_shown (kind.Continuation columns) = continuation (info_shown columns)
-kind_shown (kind.Rule columns) = rule (rule_shown columns)
-kind_shown (kind.Link columns) = link (link_shown columns)

@@ -17,6 +17,7 @@ pub mod Columns
 pub mod Clocks
 pub mod DayColumns
 pub mod Kinds
+mod Shown
 pub mod Digits
 pub mod Times
 pub mod Fields

@@ -1,10 +1,11 @@
 //! The texts of the columns of a line.
 ghost use Rattle.std.specs.Prelude.{◌≡◌, option_map};
-ghost use Rattle.zone_line.specs.Columns.{rule_shown, rule_columns_of, link_shown, link_columns_of};
-ghost use Rattle.zone_line.specs.DayColumns.{day_shown, day_columns_of};
-ghost use Rattle.zone_line.specs.Columns.{zone_shown, zone_columns_of, info_shown, info_columns_of};
-ghost use Rattle.zone_line.specs.Clocks.{clock_shown, minute_clock_of, second_clock_of};
+ghost use Rattle.zone_line.specs.Columns.{rule_columns_of, link_columns_of};
+ghost use Rattle.zone_line.specs.DayColumns.{day_columns_of};
+ghost use Rattle.zone_line.specs.Columns.{zone_columns_of, info_columns_of};
+ghost use Rattle.zone_line.specs.Clocks.{minute_clock_of, second_clock_of};
 ghost use Rattle.zone_line.specs.Patterns.{captured};
+ghost use Rattle.zone_line.specs.Shown.{rule_shown, link_shown, day_shown, zone_shown, info_shown, clock_shown};
 
 use crate::patterns::part;
 use regex::Captures;

@@ -48,19 +48,11 @@ pub struct LineReader<'p> {
 }
 
 impl<'p> LineReader<'p> {
-    ghost use Rattle.zone_line.specs.Columns.{
-      zone_columns,
-      zone_shown,
-      continuation_columns,
-      info_shown,
-      rule_columns,
-      rule_shown,
-      link_columns,
-      link_shown,
-    };
-    ghost use Rattle.zone_line.specs.Clocks.{minute_clock, second_clock, clock_shown};
-    ghost use Rattle.zone_line.specs.DayColumns.{day_columns, day_shown};
+    ghost use Rattle.zone_line.specs.Columns.{zone_columns, continuation_columns, rule_columns, link_columns};
+    ghost use Rattle.zone_line.specs.Clocks.{minute_clock, second_clock};
+    ghost use Rattle.zone_line.specs.DayColumns.{day_columns};
     ghost use Rattle.zone_line.specs.Kinds.{is_blank};
+    ghost use Rattle.zone_line.specs.Shown.{zone_shown, info_shown, rule_shown, link_shown, clock_shown, day_shown};
 
     /// The matchers of the parser's patterns.
     pub(crate) fn new(alloc: Global, parser: &'p LineParser) -> Result<LineReader<'p>, AllocError> {

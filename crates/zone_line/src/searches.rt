@@ -1,18 +1,10 @@
 //! What a matcher finds in a line or a column, as the texts of its groups.
 ghost use Rattle.std.specs.Prelude.{◌≡◌, ℕ, List, option_map};
-ghost use Rattle.zone_line.specs.Columns.{
-  zone_shown,
-  zone_columns_of,
-  info_shown,
-  info_columns_of,
-  rule_shown,
-  rule_columns_of,
-  link_shown,
-  link_columns_of,
-};
-ghost use Rattle.zone_line.specs.DayColumns.{day_shown, day_columns_of};
-ghost use Rattle.zone_line.specs.Clocks.{clock_shown, minute_clock_of, second_clock_of};
+ghost use Rattle.zone_line.specs.Columns.{zone_columns_of, info_columns_of, rule_columns_of, link_columns_of};
+ghost use Rattle.zone_line.specs.DayColumns.{day_columns_of};
+ghost use Rattle.zone_line.specs.Clocks.{minute_clock_of, second_clock_of};
 ghost use Rattle.zone_line.specs.Patterns.{Searches, found_in};
+ghost use Rattle.zone_line.specs.Shown.{zone_shown, info_shown, rule_shown, link_shown, day_shown, clock_shown};
 
 use crate::columns::{
     ClockColumns, DayColumns, InfoColumns, LinkColumns, RuleColumns, ZoneColumns, day_columns_of,

@@ -1,7 +1,7 @@
 //! Times from the texts of a column or of its parts.
 ghost use Rattle.std.specs.Prelude.{◌≡◌, ◌<◌, option_map};
 ghost use Rattle.zone_line.specs.Times.{no_time, hours_alone, is_bare, signed, clock_type, clock_time, if_wall};
-ghost use Rattle.zone_line.specs.Clocks.{clock_shown};
+ghost use Rattle.zone_line.specs.Shown.{clock_shown};
 
 use crate::columns::ClockColumns;
 use crate::number::{small_number, two_digits};

@@ -12,11 +12,11 @@ use zone_values::{
 
 impl LineReader<'_> {
     ghost use Rattle.zone_values.specs.Bounds.{is_bounded_line};
-    ghost use Rattle.zone_line.specs.Columns.{info_shown, rule_shown, zone_shown};
     ghost use Rattle.zone_values.specs.Faults.{Tells, told};
-    ghost use Rattle.zone_line.specs.Kinds.{kind_of, kind_shown};
+    ghost use Rattle.zone_line.specs.Kinds.{kind_of};
     ghost use Rattle.zone_line.specs.LineValues.{value, value_of_kind, info_of, end_of, until, rule_of};
     ghost use Rattle.zone_values.specs.Values.{line_value, info_value, rule_value};
+    ghost use Rattle.zone_line.specs.Shown.{info_shown, rule_shown, zone_shown, kind_shown};
 
     /// Reads one line, as `LineParser::parse_str` does.
     pub fn parse_str<'a>(&mut self, alloc: Global, input: &'a str) -> Result<Line<'a>, Error>

@@ -1,11 +1,10 @@
 //! The columns of a line that take a pattern: times, days and the RULES column.
 ghost use Rattle.std.specs.Prelude.{◌≡◌, option_map};
 ghost use Rattle.zone_values.specs.Faults.{told};
-ghost use Rattle.zone_line.specs.Clocks.{clock_shown};
-ghost use Rattle.zone_line.specs.DayColumns.{day_shown};
 ghost use Rattle.zone_line.specs.Fields.{sided_day, last_weekday};
 ghost use Rattle.zone_line.specs.LineValues.{one_off_of};
 ghost use Rattle.zone_values.specs.Values.{saving_value};
+ghost use Rattle.zone_line.specs.Shown.{clock_shown, day_shown};
 
 use crate::columns::{ClockColumns, DayColumns};
 use crate::fields::{after_last, day_of_month, is_ruleset_name};
@@ -15,12 +14,13 @@ use crate::time_texts::{clock_time, clock_type, hours_alone, if_wall, no_time};
 use zone_values::{DaySpec, Fault, FaultKind, Saving, TimeSpec, TimeSpecAndType, Weekday};
 
 impl LineReader<'_> {
-    ghost use Rattle.zone_line.specs.Clocks.{clock_in, clock_shown};
+    ghost use Rattle.zone_line.specs.Clocks.{clock_in};
     ghost use Rattle.zone_values.specs.Faults.{told};
     ghost use Rattle.zone_line.specs.Fields.{time_field, wall_field, day_field};
     ghost use Rattle.zone_line.specs.LineValues.{saving_field};
     ghost use Rattle.zone_line.specs.Times.{time_of};
     ghost use Rattle.zone_values.specs.Values.{saving_value};
+    ghost use Rattle.zone_line.specs.Shown.{clock_shown};
 
     /// The parts of a time with one colon or two.
     fn clock<'a>(&mut self, text: &'a str) -> Option<ClockColumns<'a>>
