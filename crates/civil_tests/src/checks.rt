@@ -1,6 +1,6 @@
 //! Assertions: each is proved here once, with what it prints, and not again in every test that makes it.
 
-use std::alloc::{AllocError, Global};
+use std::alloc::Global;
 use std::fmt::{Debug, Display};
 use std::hash::{DefaultHasher, Hash, Hasher};
 use std::process::Abort;
@@ -10,26 +10,15 @@ pub(crate) fn same<T: PartialEq + Debug>(rt: &impl Abort, found: &T, wanted: &T)
     assert_eq!(rt; found, wanted);
 }
 
-/// The same at a row of a table, which it shows too.
-pub(crate) fn same_at<T: PartialEq + Debug>(rt: &impl Abort, row: &str, found: &T, wanted: &T) {
-    assert_eq!(rt; found, wanted, "{row}");
-}
-
 /// Ends the test, and shows the row, where the claim doesn't hold at it.
 pub(crate) fn holds_at(rt: &impl Abort, row: &str, claim: bool) {
     assert!(rt; claim, "{row}");
 }
 
 /// The same of what a value prints.
-pub(crate) fn prints<T: Display>(
-    rt: &impl Abort,
-    alloc: Global,
-    value: &T,
-    wanted: &str,
-) -> Result<(), AllocError> {
-    let shown = format!(in alloc; "{value}")?;
+pub(crate) fn prints<T: Display>(rt: &impl Abort, alloc: Global, value: &T, wanted: &str) {
+    let shown = format!(in alloc; "{value}").expect(rt, "memory");
     same(rt, &shown.as_str(), &wanted);
-    Ok(())
 }
 
 /// What a hasher of its own makes of a value.

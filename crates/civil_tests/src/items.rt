@@ -2,132 +2,120 @@ ghost use Rattle.std.specs.Prelude.{◌≡◌, Some, IfSome, pos};
 ghost use Rattle.civil_items.specs.Defaults.{default_config};
 
 use crate::checks::{prints, same};
-use civil_base::{OffsetDateTime, SignedDuration, Timestamp, UtcDateTime, UtcOffset};
+use civil_base::{OffsetDateTime, SignedDuration, StdDuration, Timestamp, UtcDateTime};
 use civil_items::{
     BorrowedFormatItem, Component, ComponentRange, Config, ConversionRange, DateKind,
     DifferentVariant, Digits, EncodedConfig, Error, FormattedComponents, IndeterminateOffset,
     InvalidVariant, NumericalDuration, NumericalStdDuration, OffsetPrecision, OwnedFormatItem,
     Rfc2822, Rfc3339, SysCompare, SysTime, SystemTimeExt, TimePrecision,
 };
-use std::alloc::{AllocError, Global};
+use std::alloc::Global;
 use std::cmp::Ordering;
+use std::process::Abort;
 
-#[test]
-fn shows_errors_as_what_is_inside(rt: HostRuntime) -> Result<(), AllocError> {
-    let alloc = rt.alloc();
-    let error = Error::from(ConversionRange);
-    prints(&rt, alloc, &error, "conversion out of range")?;
-    let error = Error::from(ComponentRange);
-    prints(&rt, alloc, &error, "component out of range")?;
-    let error = Error::from(InvalidVariant);
-    prints(&rt, alloc, &error, "value was not a valid variant")?;
-    let text = "The system's UTC offset could not be determined";
-    prints(&rt, alloc, &Error::from(IndeterminateOffset), text)?;
-    prints(&rt, alloc, &IndeterminateOffset, text)?;
-    let text = "value was of a different variant than required";
-    prints(&rt, alloc, &Error::from(DifferentVariant), text)?;
-    prints(&rt, alloc, &DifferentVariant, text)
+/// Asserts what an error prints.
+fn expect_shown(rt: &impl Abort, alloc: Global, error: Error, text: &str) {
+    prints(rt, alloc, &error, text);
 }
 
 #[test]
+fn shows_errors_as_what_is_inside(rt: HostRuntime) {
+    let alloc = rt.alloc();
+    expect_shown(
+        &rt,
+        alloc,
+        Error::from(ConversionRange),
+        "conversion out of range",
+    );
+    expect_shown(
+        &rt,
+        alloc,
+        Error::from(ComponentRange),
+        "component out of range",
+    );
+    expect_shown(
+        &rt,
+        alloc,
+        Error::from(InvalidVariant),
+        "value was not a valid variant",
+    );
+    let text = "The system's UTC offset could not be determined";
+    expect_shown(&rt, alloc, Error::from(IndeterminateOffset), text);
+    prints(&rt, alloc, &IndeterminateOffset, text);
+    let text = "value was of a different variant than required";
+    expect_shown(&rt, alloc, Error::from(DifferentVariant), text);
+    prints(&rt, alloc, &DifferentVariant, text);
+}
+
+// Each of these types has one value.
+#[test]
 fn takes_errors_apart(rt: HostRuntime) {
-    same(
-        &rt,
-        &ConversionRange::try_from(Error::from(ConversionRange)),
-        &Ok(ConversionRange),
-    );
-    same(
-        &rt,
-        &ComponentRange::try_from(Error::from(ComponentRange)),
-        &Ok(ComponentRange),
-    );
-    same(
-        &rt,
-        &IndeterminateOffset::try_from(Error::from(IndeterminateOffset)),
-        &Ok(IndeterminateOffset),
-    );
-    same(
-        &rt,
-        &DifferentVariant::try_from(Error::from(DifferentVariant)),
-        &Ok(DifferentVariant),
-    );
-    same(
-        &rt,
-        &InvalidVariant::try_from(Error::from(InvalidVariant)),
-        &Ok(InvalidVariant),
-    );
-    same(
-        &rt,
-        &InvalidVariant::try_from(Error::from(ComponentRange)),
-        &Err(DifferentVariant),
-    );
-    same(
-        &rt,
-        &DifferentVariant::try_from(Error::from(ConversionRange)),
-        &Err(DifferentVariant),
-    );
+    assert!(rt; ConversionRange::try_from(Error::from(ConversionRange)).is_ok());
+    assert!(rt; ComponentRange::try_from(Error::from(ComponentRange)).is_ok());
+    assert!(rt; IndeterminateOffset::try_from(Error::from(IndeterminateOffset)).is_ok());
+    assert!(rt; DifferentVariant::try_from(Error::from(DifferentVariant)).is_ok());
+    assert!(rt; InvalidVariant::try_from(Error::from(InvalidVariant)).is_ok());
+    assert!(rt; InvalidVariant::try_from(Error::from(ComponentRange)).is_err());
+    assert!(rt; DifferentVariant::try_from(Error::from(ConversionRange)).is_err());
+}
+
+/// Asserts a length in nanoseconds.
+fn lasts(rt: &impl Abort, length: SignedDuration, nanos: i128) {
+    same(rt, &length.whole_nanoseconds(), &nanos);
 }
 
 #[test]
 fn makes_lengths_of_numbers(rt: HostRuntime) {
-    for (length, nanos) in [
-        (i64::MIN.nanoseconds(), -9_223_372_036_854_775_808),
-        ((-7).microseconds(), -7_000),
-        (7.milliseconds(), 7_000_000),
-        ((-7).seconds(), -7_000_000_000),
-        (3.minutes(), 180_000_000_000),
-        ((-3).hours(), -10_800_000_000_000),
-        (3.days(), 259_200_000_000_000),
-        ((-3).weeks(), -1_814_400_000_000_000),
-    ] {
-        same(&rt, &length.whole_nanoseconds(), &nanos);
-    }
+    lasts(&rt, i64::MIN.nanoseconds(), -9_223_372_036_854_775_808);
+    lasts(&rt, (-7).microseconds(), -7_000);
+    lasts(&rt, 7.milliseconds(), 7_000_000);
+    lasts(&rt, (-7).seconds(), -7_000_000_000);
+    lasts(&rt, 3.minutes(), 180_000_000_000);
+    lasts(&rt, (-3).hours(), -10_800_000_000_000);
+    lasts(&rt, 3.days(), 259_200_000_000_000);
+    lasts(&rt, (-3).weeks(), -1_814_400_000_000_000);
+}
+
+/// Asserts an unsigned length in seconds and nanoseconds.
+fn lasts_unsigned(rt: &impl Abort, length: StdDuration, seconds: u64, nanos: u32) {
+    same(rt, &length.as_secs(), &seconds);
+    same(rt, &length.subsec_nanos(), &nanos);
 }
 
 #[test]
 fn makes_unsigned_lengths_of_numbers(rt: HostRuntime) {
-    for (length, seconds, nanos) in [
-        (u64::MAX.std_nanoseconds(), 18_446_744_073, 709_551_615),
-        (1_000_007.std_microseconds(), 1, 7_000),
-        (1_007.std_milliseconds(), 1, 7_000_000),
-        (7.std_seconds(), 7, 0),
-        (3.std_minutes(), 180, 0),
-        (3.std_hours(), 10_800, 0),
-        (3.std_days(), 259_200, 0),
-        (3.std_weeks(), 1_814_400, 0),
-    ] {
-        same(
-            &rt,
-            &(length.as_secs(), length.subsec_nanos()),
-            &(seconds, nanos),
-        );
-    }
+    lasts_unsigned(&rt, u64::MAX.std_nanoseconds(), 18_446_744_073, 709_551_615);
+    lasts_unsigned(&rt, 1_000_007.std_microseconds(), 1, 7_000);
+    lasts_unsigned(&rt, 1_007.std_milliseconds(), 1, 7_000_000);
+    lasts_unsigned(&rt, 7.std_seconds(), 7, 0);
+    lasts_unsigned(&rt, 3.std_minutes(), 180, 0);
+    lasts_unsigned(&rt, 3.std_hours(), 10_800, 0);
+    lasts_unsigned(&rt, 3.std_days(), 259_200, 0);
+    lasts_unsigned(&rt, 3.std_weeks(), 1_814_400, 0);
 }
 
 #[test]
 fn tells_which_numbers_are_lengths(rt: HostRuntime) {
-    let fit = [
-        153_722_867_280_912_930.fits_minutes(),
-        2_562_047_788_015_215.fits_hours(),
-        106_751_991_167_300.fits_days(),
-        (-15_250_284_452_471).fits_weeks(),
-        307_445_734_561_825_860.fits_std_minutes(),
-        5_124_095_576_030_431.fits_std_hours(),
-        213_503_982_334_601.fits_std_days(),
-        30_500_568_904_943.fits_std_weeks(),
-    ];
-    same(&rt, &fit, &[true; 8]);
-    let past = [
-        153_722_867_280_912_931.fits_minutes(),
-        (-2_562_047_788_015_216).fits_hours(),
-        106_751_991_167_301.fits_days(),
-        15_250_284_452_472.fits_weeks(),
-        307_445_734_561_825_861.fits_std_minutes(),
-        5_124_095_576_030_432.fits_std_hours(),
-        213_503_982_334_602.fits_std_days(),
-        30_500_568_904_944.fits_std_weeks(),
-    ];
-    same(&rt, &past, &[false; 8]);
+    assert!(rt; 153_722_867_280_912_930.fits_minutes());
+    assert!(rt; 2_562_047_788_015_215.fits_hours());
+    assert!(rt; 106_751_991_167_300.fits_days());
+    assert!(rt; (-15_250_284_452_471).fits_weeks());
+    assert!(rt; !153_722_867_280_912_931.fits_minutes());
+    assert!(rt; !(-2_562_047_788_015_216).fits_hours());
+    assert!(rt; !106_751_991_167_301.fits_days());
+    assert!(rt; !15_250_284_452_472.fits_weeks());
+}
+
+#[test]
+fn tells_which_numbers_are_unsigned_lengths(rt: HostRuntime) {
+    assert!(rt; 307_445_734_561_825_860.fits_std_minutes());
+    assert!(rt; 5_124_095_576_030_431.fits_std_hours());
+    assert!(rt; 213_503_982_334_601.fits_std_days());
+    assert!(rt; 30_500_568_904_943.fits_std_weeks());
+    assert!(rt; !307_445_734_561_825_861.fits_std_minutes());
+    assert!(rt; !5_124_095_576_030_432.fits_std_hours());
+    assert!(rt; !213_503_982_334_602.fits_std_days());
+    assert!(rt; !30_500_568_904_944.fits_std_weeks());
 }
 
 // What the constant is.
@@ -137,115 +125,124 @@ fn epoch() -> SysTime
     SysTime::UNIX_EPOCH
 }
 
+/// The system time so many nanoseconds from 1970, where it is known to be one.
+fn at(rt: &impl Abort, nanos: i128) -> SysTime {
+    SysTime::from_nanoseconds(nanos).expect(rt, "no time")
+}
+
 #[test]
 fn has_system_times_of_64_bits_of_seconds(rt: HostRuntime) {
-    for (nanos, is_time) in [
-        (0, true),
-        (-9_223_372_036_854_775_808_000_000_000, true),
-        (-9_223_372_036_854_775_808_000_000_001, false),
-        (9_223_372_036_854_775_807_999_999_999, true),
-        (9_223_372_036_854_775_808_000_000_000, false),
+    for nanos in &[
+        0,
+        -9_223_372_036_854_775_808_000_000_000,
+        9_223_372_036_854_775_807_999_999_999,
     ] {
-        let time = SysTime::from_nanoseconds(nanos);
-        same(
-            &rt,
-            &time.map(|time| time.as_nanoseconds()),
-            &(if is_time { Some(nanos) } else { None }),
-        );
+        same(&rt, &at(&rt, *nanos).as_nanoseconds(), nanos);
     }
-    same(&rt, &SysTime::from_nanoseconds(0), &Some(epoch()));
+    assert!(rt; SysTime::from_nanoseconds(-9_223_372_036_854_775_808_000_000_001).is_none());
+    assert!(rt; SysTime::from_nanoseconds(9_223_372_036_854_775_808_000_000_000).is_none());
+    assert!(rt; at(&rt, 0) == epoch());
 }
 
 #[test]
 fn adds_lengths_to_system_times(rt: HostRuntime) {
-    let (least, greatest) = (SignedDuration::MIN, SignedDuration::MAX);
-    let later = epoch().checked_add_signed((-5).milliseconds());
-    same(
-        &rt,
-        &later.map(|time| time.as_nanoseconds()),
-        &Some(-5_000_000),
+    let later = epoch()
+        .checked_add_signed((-5).milliseconds())
+        .expect(&rt, "no time");
+    same(&rt, &later.as_nanoseconds(), &-5_000_000);
+    assert!(rt; epoch().checked_sub_signed(5.milliseconds()) == Some(later));
+    assert!(rt; epoch().checked_sub_signed(SignedDuration::MAX).is_some());
+    assert!(rt; epoch().checked_add_signed(SignedDuration::MIN).is_none());
+}
+
+/// Asserts the length from the second time to the first.
+fn expect_between(rt: &impl Abort, one: i128, other: i128, length: SignedDuration) {
+    let found = at(rt, one).signed_duration_since(at(rt, other));
+    same(rt, &found, &length);
+}
+
+#[test]
+fn subtracts_system_times(rt: HostRuntime) {
+    let (first, last) = (
+        -9_223_372_036_854_775_808_000_000_000,
+        9_223_372_036_854_775_807_999_999_999,
     );
-    same(&rt, &epoch().checked_sub_signed(5.milliseconds()), &later);
-    same(&rt, &epoch().checked_sub_signed(greatest).is_some(), &true);
-    same(&rt, &epoch().checked_add_signed(least), &None);
-    for (one, other, length) in [
-        (7, 5, 2.nanoseconds()),
-        (5, 7, (-2).nanoseconds()),
-        (9_223_372_036_854_775_807_999_999_999, 0, greatest),
-        (9_223_372_036_854_775_807_999_999_999, -1, greatest),
-        (-9_223_372_036_854_775_808_000_000_000, 0, least),
-        (-9_223_372_036_854_775_808_000_000_000, 1, least),
-    ] {
-        if let Some(time) = SysTime::from_nanoseconds(one)
-            && let Some(earlier) = SysTime::from_nanoseconds(other)
-        {
-            same(&rt, &time.signed_duration_since(earlier), &length);
-        }
-    }
+    expect_between(&rt, 7, 5, 2.nanoseconds());
+    expect_between(&rt, 5, 7, (-2).nanoseconds());
+    expect_between(&rt, last, 0, SignedDuration::MAX);
+    expect_between(&rt, last, -1, SignedDuration::MAX);
+    expect_between(&rt, first, 0, SignedDuration::MIN);
+    expect_between(&rt, first, 1, SignedDuration::MIN);
+}
+
+fn through_timestamp(time: SysTime) -> Option<SysTime> {
+    Some(SysTime::from(Timestamp::try_from(time).ok()?))
+}
+
+fn through_utc(time: SysTime) -> Option<SysTime> {
+    Some(SysTime::from(UtcDateTime::try_from(time).ok()?))
+}
+
+fn through_offset(time: SysTime) -> Option<SysTime> {
+    Some(SysTime::from(OffsetDateTime::try_from(time).ok()?))
+}
+
+/// Asserts what comes back of a system time through each type of instants.
+fn expect_back(rt: &impl Abort, time: SysTime, back: Option<SysTime>) {
+    same(rt, &through_timestamp(time), &back);
+    same(rt, &through_utc(time), &back);
+    same(rt, &through_offset(time), &back);
 }
 
 #[test]
 fn converts_system_times(rt: HostRuntime) {
-    for (nanos, is_date) in [
-        (-5_001_000_000, true),
-        (-377_705_116_800_000_000_000, true),
-        (-377_705_116_800_000_000_001, false),
-        (253_402_300_799_999_999_999, true),
-        (253_402_300_800_000_000_000, false),
+    for nanos in &[
+        -5_001_000_000,
+        -377_705_116_800_000_000_000,
+        253_402_300_799_999_999_999,
     ] {
-        if let Some(time) = SysTime::from_nanoseconds(nanos) {
-            let back = if is_date {
-                Ok(time)
-            } else {
-                Err(ComponentRange)
-            };
-            same(&rt, &Timestamp::try_from(time).map(SysTime::from), &back);
-            same(&rt, &UtcDateTime::try_from(time).map(SysTime::from), &back);
-            same(
-                &rt,
-                &OffsetDateTime::try_from(time).map(SysTime::from),
-                &back,
-            );
-        }
+        let time = at(&rt, *nanos);
+        expect_back(&rt, time, Some(time));
     }
-    if let Some(time) = SysTime::from_nanoseconds(-5_001_000_000) {
-        same(
-            &rt,
-            &Timestamp::try_from(time),
-            &Timestamp::from_milliseconds(-5001),
-        );
-        same(
-            &rt,
-            &OffsetDateTime::try_from(time).map(|value| value.offset()),
-            &Ok(UtcOffset::UTC),
-        );
-    }
+    expect_back(&rt, at(&rt, -377_705_116_800_000_000_001), None);
+    expect_back(&rt, at(&rt, 253_402_300_800_000_000_000), None);
+    let time = at(&rt, -5_001_000_000);
+    assert!(rt; Timestamp::try_from(time) == Timestamp::from_milliseconds(-5001));
+    let shown = OffsetDateTime::try_from(time).expect(&rt, "out of range");
+    assert!(rt; shown.offset().is_utc());
 }
 
-fn compares<T: SysCompare + Copy>(value: T, time: SysTime) -> (Option<SignedDuration>, Ordering) {
-    if value.eq_sys(time) {
-        (value.since_sys(time), Ordering::Equal)
+/// Asserts how a value compares with a system time, and how long it is from the one to the other.
+fn expect_compared<T: SysCompare + Copy>(
+    rt: &impl Abort,
+    value: T,
+    time: SysTime,
+    length: SignedDuration,
+    ordering: Ordering,
+) {
+    let found = if value.eq_sys(time) {
+        value.since_sys(time)
     } else {
-        (value.sys_since(time), value.cmp_sys(time))
-    }
+        value.sys_since(time)
+    };
+    same(rt, &found, &Some(length));
+    same(rt, &value.cmp_sys(time), &ordering);
 }
 
 #[test]
 fn compares_with_system_times(rt: HostRuntime) {
-    let far = SysTime::from_nanoseconds(9_223_372_036_854_775_807_999_999_999).unwrap_or(epoch());
-    let later = SysTime::from_nanoseconds(3).unwrap_or(epoch());
-    let equal = (Some(SignedDuration::ZERO), Ordering::Equal);
-    let less = (Some(3.nanoseconds()), Ordering::Less);
-    same(&rt, &compares(Timestamp::UNIX_EPOCH, epoch()), &equal);
-    same(&rt, &compares(UtcDateTime::UNIX_EPOCH, epoch()), &equal);
-    same(&rt, &compares(OffsetDateTime::UNIX_EPOCH, epoch()), &equal);
-    same(&rt, &compares(Timestamp::UNIX_EPOCH, later), &less);
-    same(&rt, &compares(UtcDateTime::UNIX_EPOCH, later), &less);
-    same(&rt, &compares(OffsetDateTime::UNIX_EPOCH, later), &less);
-    if let Ok(before) = Timestamp::from_nanoseconds(-1) {
-        same(&rt, &before.sys_since(far), &None);
-        same(&rt, &before.since_sys(later), &Some((-4).nanoseconds()));
-    }
+    let (now, equal, zero) = (epoch(), Ordering::Equal, SignedDuration::ZERO);
+    expect_compared(&rt, Timestamp::UNIX_EPOCH, now, zero, equal);
+    expect_compared(&rt, UtcDateTime::UNIX_EPOCH, now, zero, equal);
+    expect_compared(&rt, OffsetDateTime::UNIX_EPOCH, now, zero, equal);
+    let (later, less, length) = (at(&rt, 3), Ordering::Less, 3.nanoseconds());
+    expect_compared(&rt, Timestamp::UNIX_EPOCH, later, length, less);
+    expect_compared(&rt, UtcDateTime::UNIX_EPOCH, later, length, less);
+    expect_compared(&rt, OffsetDateTime::UNIX_EPOCH, later, length, less);
+    let before = Timestamp::from_nanoseconds(-1).expect(&rt, "out of range");
+    let far = at(&rt, 9_223_372_036_854_775_807_999_999_999);
+    assert!(rt; before.sys_since(far).is_none());
+    same(&rt, &before.since_sys(later), &Some((-4).nanoseconds()));
 }
 
 fn default() -> Config
@@ -268,14 +265,9 @@ fn encoded_again(encoded: EncodedConfig) -> Option<EncodedConfig>
     Some(config.encode())
 }
 
-#[test]
-fn encodes_configurations(rt: HostRuntime) {
-    same(
-        &rt,
-        &default().encode(),
-        &0x05010000020901000000000000000000,
-    );
-    let other = default()
+/// A configuration with each part other than in the default one.
+fn changed() -> Config {
+    default()
         .set_formatted_components(FormattedComponents::None)
         .set_use_separators(false)
         .set_year_is_six_digits(true)
@@ -283,24 +275,34 @@ fn encodes_configurations(rt: HostRuntime) {
         .set_time_precision(TimePrecision::Minute {
             decimal_digits: None,
         })
-        .set_offset_precision(OffsetPrecision::Hour);
-    same(&rt, &other.encode(), &0x00000102010000000000000000000000);
-    same(&rt, &decoded_again(&other), &Some(other));
-    same(&rt, &decoded_again(&default()), &Some(default()));
+        .set_offset_precision(OffsetPrecision::Hour)
+}
+
+/// Asserts the number of a configuration, which is decoded to it again.
+fn expect_encoded(rt: &impl Abort, config: &Config, number: EncodedConfig) {
+    same(rt, &config.encode(), &number);
+    assert!(rt; decoded_again(config) == Some(*config));
+}
+
+#[test]
+fn encodes_configurations(rt: HostRuntime) {
+    expect_encoded(&rt, &default(), 0x05010000020901000000000000000000);
+    expect_encoded(&rt, &changed(), 0x00000102010000000000000000000000);
     let encoded = 0x0601010100ff00000000000000000000;
     same(&rt, &encoded_again(encoded), &Some(encoded));
-    same(
-        &rt,
-        &Digits::new(255).map(|digits| digits.get()),
-        &Some(255),
-    );
-    same(&rt, &Digits::new(0), &None);
-    same(&rt, &(Rfc2822, Rfc3339), &(Rfc2822, Rfc3339));
+}
+
+#[test]
+fn has_digits_and_formats(rt: HostRuntime) {
+    let digits = Digits::new(255).expect(&rt, "no digits");
+    same(&rt, &digits.get(), &255);
+    assert!(rt; Digits::new(0).is_none());
+    assert!(rt; Rfc2822 == Rfc2822 && Rfc3339 == Rfc3339);
 }
 
 #[test]
 fn refuses_numbers_of_no_configuration(rt: HostRuntime) {
-    for encoded in [
+    for encoded in &[
         0x07000000000000000000000000000000,
         0x00020000000000000000000000000000,
         0x00000200000000000000000000000000,
@@ -310,13 +312,21 @@ fn refuses_numbers_of_no_configuration(rt: HostRuntime) {
         0x00000000000000010000000000000000,
         0x00000000000000000000000000000001,
     ] {
-        same(&rt, &Config::decode(encoded), &None);
+        assert!(rt; Config::decode(*encoded).is_none());
     }
     assert!(rt; Config::decode(0).is_some());
 }
 
-fn owned(alloc: Global, item: BorrowedFormatItem<'_>) -> Result<OwnedFormatItem, AllocError> {
-    OwnedFormatItem::from_borrowed(alloc, &item)
+/// An item that owns its parts.
+fn owned(rt: &impl Abort, alloc: Global, item: BorrowedFormatItem<'_>) -> OwnedFormatItem {
+    OwnedFormatItem::from_borrowed(alloc, &item).expect(rt, "memory")
+}
+
+/// Asserts that a list, owned as a compound, is the compound of the list, owned, and no text.
+fn expect_compound(rt: &impl Abort, alloc: Global, items: &[BorrowedFormatItem<'_>]) {
+    let of_slice = OwnedFormatItem::from_slice(alloc, items).expect(rt, "memory");
+    assert!(rt; of_slice == owned(rt, alloc, BorrowedFormatItem::Compound(items)));
+    assert!(rt; of_slice != owned(rt, alloc, BorrowedFormatItem::StringLiteral("a")));
 }
 
 #[test]
@@ -325,63 +335,54 @@ fn owns_format_items(rt: HostRuntime) {
     let bytes = BorrowedFormatItem::Literal(b"a");
     let year = BorrowedFormatItem::Component(Component::Year);
     let inner = [a, bytes, year];
-    let optional = BorrowedFormatItem::Optional(&a);
     let items = [
         BorrowedFormatItem::Compound(&inner),
         BorrowedFormatItem::First(&inner),
-        optional,
+        BorrowedFormatItem::Optional(&a),
     ];
-    let of_slice = OwnedFormatItem::from_slice(rt.alloc(), &items);
-    let of_item = owned(rt.alloc(), BorrowedFormatItem::Compound(&items));
-    assert!(rt; of_slice.is_ok() && of_slice == of_item);
-    let text = owned(rt.alloc(), a);
-    assert!(rt; text.is_ok() && text != of_slice);
+    expect_compound(&rt, rt.alloc(), &items);
 }
 
 #[test]
 fn owns_texts_as_their_bytes(rt: HostRuntime) {
-    let text = owned(rt.alloc(), BorrowedFormatItem::StringLiteral("a"));
-    assert!(rt; matches!(&text, Ok(OwnedFormatItem::StringLiteral(text)) if text.as_str() == "a"));
-    let literal = owned(rt.alloc(), BorrowedFormatItem::Literal(b"a"));
-    assert!(rt; literal.is_ok() && text == literal);
+    let text = owned(&rt, rt.alloc(), BorrowedFormatItem::StringLiteral("a"));
+    assert!(rt; matches!(&text, OwnedFormatItem::StringLiteral(text) if text.as_str() == "a"));
+    assert!(rt; text == owned(&rt, rt.alloc(), BorrowedFormatItem::Literal(b"a")));
 }
 
 #[test]
-fn owns_vectors_of_format_items(rt: HostRuntime) -> Result<(), AllocError> {
-    let list = vec![in rt.alloc(); BorrowedFormatItem::StringLiteral("a")]?;
-    let compound = OwnedFormatItem::from_borrowed_vec(rt.alloc(), list)?;
-    let literal = owned(rt.alloc(), BorrowedFormatItem::Literal(b"a"))?;
-    let literals = vec![in rt.alloc(); literal]?;
+fn owns_vectors_of_format_items(rt: HostRuntime) {
+    let alloc = rt.alloc();
+    let list = vec![in alloc; BorrowedFormatItem::StringLiteral("a")].expect(&rt, "memory");
+    let compound = OwnedFormatItem::from_borrowed_vec(alloc, list).expect(&rt, "memory");
+    let literal = owned(&rt, alloc, BorrowedFormatItem::Literal(b"a"));
+    let literals = vec![in alloc; literal].expect(&rt, "memory");
     assert!(rt; compound.is_compound(literals.as_slice()));
     assert!(rt; compound == OwnedFormatItem::from(literals));
-    Ok(())
 }
 
 #[test]
-fn takes_compounds_apart(rt: HostRuntime) -> Result<(), AllocError> {
+fn takes_compounds_apart(rt: HostRuntime) {
     let empty = [BorrowedFormatItem::StringLiteral("")];
-    let compound = OwnedFormatItem::from_slice(rt.alloc(), &empty)?;
+    let compound = owned(&rt, rt.alloc(), BorrowedFormatItem::Compound(&empty));
     assert!(rt; !compound.is_component(&Component::Year) && !compound.is_compound(&[]));
-    let one = owned(rt.alloc(), empty[0])?;
-    match compound.into_items() {
-        Ok(items) => assert!(rt; items.len() == 1 && items.as_slice()[0] == one),
-        Err(_) => assert!(rt; false, "a compound has items"),
-    }
-    Ok(())
+    let Ok(items) = compound.into_items() else {
+        panic!(rt; "a compound has items");
+    };
+    same(&rt, &items.len(), &1);
+    assert!(rt; items.as_slice()[0] == owned(&rt, rt.alloc(), empty[0]));
 }
 
 #[test]
 fn takes_components_apart(rt: HostRuntime) {
     let month = OwnedFormatItem::from(Component::Month);
     assert!(rt; month.is_component(&Component::Month) && !month.is_component(&Component::Day));
-    same(&rt, &Component::try_from(month), &Ok(Component::Month));
+    assert!(rt; Component::try_from(month) == Ok(Component::Month));
 }
 
 #[test]
-fn takes_no_text_apart(rt: HostRuntime) -> Result<(), AllocError> {
+fn takes_no_text_apart(rt: HostRuntime) {
     let empty = BorrowedFormatItem::StringLiteral("");
-    assert!(rt; owned(rt.alloc(), empty)?.into_items().is_err());
-    let text = owned(rt.alloc(), empty)?;
-    same(&rt, &Component::try_from(text), &Err(DifferentVariant));
-    Ok(())
+    assert!(rt; owned(&rt, rt.alloc(), empty).into_items().is_err());
+    assert!(rt; Component::try_from(owned(&rt, rt.alloc(), empty)).is_err());
 }
