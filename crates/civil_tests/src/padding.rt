@@ -10,7 +10,6 @@ use std::num::Wrapping;
 use std::process::Abort;
 use std::rc::Rc;
 use std::sync::Arc;
-use std::test::Fail;
 
 fn aligned(width: usize, align: Option<Alignment>) -> FormatterOptions {
     let mut f = FormatterOptions::default();
@@ -20,12 +19,12 @@ fn aligned(width: usize, align: Option<Alignment>) -> FormatterOptions {
 
 fn shows<T: SmartDisplay>(rt: &impl Abort, value: &T, f: FormatterOptions, text: &str) {
     let mut out = WriteBuffer::<48>::new();
-    let is_ok = value.fmt(&mut out, f).is_ok();
-    assert!(rt; is_ok && out.as_str() == text, "{out} for {text}");
+    assert!(rt; value.fmt(&mut out, f).is_ok());
+    same(rt, &out.as_str(), &text);
 }
 
 // Under a requested width of 8: no alignment, left, center, right.
-fn is_padded<T: SmartDisplay>(rt: &impl Abort, value: &T, unpadded: usize, texts: [&str; 4]) {
+fn is_padded<T: SmartDisplay>(rt: &impl Abort, value: &T, unpadded: usize, texts: &[&str; 4]) {
     let none = aligned(8, None);
     same(rt, &unpadded_width_of(value, none), &unpadded);
     same(rt, &padded_width_of(value, none), &8);
@@ -35,67 +34,72 @@ fn is_padded<T: SmartDisplay>(rt: &impl Abort, value: &T, unpadded: usize, texts
     shows(rt, value, aligned(8, Some(Alignment::Right)), texts[3]);
 }
 
-fn is_abc<T: SmartDisplay>(rt: &impl Abort, value: &T) {
-    let texts = ["abc     ", "abc     ", "  abc   ", "     abc"];
-    is_padded(rt, value, 3, texts);
-}
+const ABC: [&str; 4] = ["abc     ", "abc     ", "  abc   ", "     abc"];
 
-fn is_forty_two<T: SmartDisplay>(rt: &impl Abort, value: &T) {
-    let texts = ["      42", "42      ", "   42   ", "      42"];
-    is_padded(rt, value, 2, texts);
-}
+const FORTY_TWO: [&str; 4] = ["      42", "42      ", "   42   ", "      42"];
 
-fn is_minus_seven<T: SmartDisplay>(rt: &impl Abort, value: &T) {
-    let texts = ["      -7", "-7      ", "   -7   ", "      -7"];
-    is_padded(rt, value, 2, texts);
-}
+const MINUS_SEVEN: [&str; 4] = ["      -7", "-7      ", "   -7   ", "      -7"];
+
+const TRUE: [&str; 4] = ["true    ", "true    ", "  true  ", "    true"];
+
+const ACCENT: [&str; 4] = ["é       ", "é       ", "   é    ", "       é"];
 
 #[test]
 fn pads_words_and_characters(rt: HostRuntime) {
-    let texts = ["true    ", "true    ", "  true  ", "    true"];
-    is_padded(&rt, &true, 4, texts);
+    is_padded(&rt, &true, 4, &TRUE);
     shows(&rt, &false, FormatterOptions::default(), "false");
-    let texts = ["é       ", "é       ", "   é    ", "       é"];
-    is_padded(&rt, &'é', 2, texts);
+    is_padded(&rt, &'é', 2, &ACCENT);
 }
 
 #[test]
-fn pads_each_kind_of_text(rt: HostRuntime) -> Result<(), Fail> {
-    is_abc(&rt, &Text("abc"));
-    is_abc(&rt, &String::from_str(rt.alloc(), "abc")?);
-    is_abc(&rt, &CowStr::Borrowed("abc"));
-    let mut buffer = WriteBuffer::<5>::new();
-    buffer.write_str("abc")?;
-    is_abc(&rt, &buffer);
-    Ok(())
+fn pads_each_kind_of_text(rt: HostRuntime) {
+    is_padded(&rt, &Text("abc"), 3, &ABC);
+    let owned = String::from_str(rt.alloc(), "abc").expect(&rt, "memory");
+    is_padded(&rt, &owned, 3, &ABC);
+    is_padded(&rt, &CowStr::Borrowed("abc"), 3, &ABC);
+    is_padded(&rt, &buffer_of::<5>("abc"), 3, &ABC);
 }
 
 #[test]
 fn pads_each_kind_of_number(rt: HostRuntime) {
-    is_forty_two(&rt, &42u8);
-    is_forty_two(&rt, &42u16);
-    is_forty_two(&rt, &42u32);
-    is_forty_two(&rt, &42u64);
-    is_forty_two(&rt, &42u128);
-    is_forty_two(&rt, &42usize);
-    is_minus_seven(&rt, &-7i8);
-    is_minus_seven(&rt, &-7i16);
-    is_minus_seven(&rt, &-7i32);
-    is_minus_seven(&rt, &-7i64);
-    is_minus_seven(&rt, &-7i128);
-    is_minus_seven(&rt, &-7isize);
+    is_padded(&rt, &42u8, 2, &FORTY_TWO);
+    is_padded(&rt, &42u16, 2, &FORTY_TWO);
+    is_padded(&rt, &42u32, 2, &FORTY_TWO);
+    is_padded(&rt, &42u64, 2, &FORTY_TWO);
+    is_padded(&rt, &42u128, 2, &FORTY_TWO);
+    is_padded(&rt, &42usize, 2, &FORTY_TWO);
+    is_padded(&rt, &-7i8, 2, &MINUS_SEVEN);
+    is_padded(&rt, &-7i16, 2, &MINUS_SEVEN);
+    is_padded(&rt, &-7i32, 2, &MINUS_SEVEN);
+    is_padded(&rt, &-7i64, 2, &MINUS_SEVEN);
+    is_padded(&rt, &-7i128, 2, &MINUS_SEVEN);
+    is_padded(&rt, &-7isize, 2, &MINUS_SEVEN);
 }
 
 #[test]
-fn pads_each_kind_of_wrapper(rt: HostRuntime) -> Result<(), Fail> {
-    let mut number = 42u8;
-    is_forty_two(&rt, &&mut number);
-    is_forty_two(&rt, &&42u64);
-    is_minus_seven(&rt, &Wrapping(-7i32));
-    is_abc(&rt, &Rc::new(rt.alloc(), Text("abc"))?);
-    is_abc(&rt, &Arc::new(rt.alloc(), Text("abc"))?);
-    is_minus_seven(&rt, &Box::new(rt.alloc(), -7i8)?);
-    Ok(())
+fn pads_each_kind_of_wrapper(rt: HostRuntime) {
+    let alloc = rt.alloc();
+    is_padded(&rt, &&mut 42u8, 2, &FORTY_TWO);
+    is_padded(&rt, &&42u64, 2, &FORTY_TWO);
+    is_padded(&rt, &Wrapping(-7i32), 2, &MINUS_SEVEN);
+    is_padded(
+        &rt,
+        &Rc::new(alloc, Text("abc")).expect(&rt, "memory"),
+        3,
+        &ABC,
+    );
+    is_padded(
+        &rt,
+        &Arc::new(alloc, Text("abc")).expect(&rt, "memory"),
+        3,
+        &ABC,
+    );
+    is_padded(
+        &rt,
+        &Box::new(alloc, -7i8).expect(&rt, "memory"),
+        2,
+        &MINUS_SEVEN,
+    );
 }
 
 #[test]
@@ -136,30 +140,33 @@ fn a_fill_past_ascii_is_wider_than_the_width(rt: HostRuntime) {
     shows(&rt, &Text("äöü"), f, "éééäöééé");
     same(&rt, &padded_width_of(&Text("äöü"), f), &8);
     let mut out = WriteBuffer::<15>::new();
-    same(&rt, &Text("äöü").fmt(&mut out, f), &Err(Full));
+    assert!(rt; Text("äöü").fmt(&mut out, f) == Err(Full));
     same(&rt, &out.as_str(), &"éééäöéé");
+}
+
+/// Asserts a text of that width as it is written to a buffer of just its size.
+fn pads_to<const SIZE: usize>(rt: &impl Abort, width: usize, text: &str) {
+    let mut out = WriteBuffer::<SIZE>::default();
+    let f = aligned(6, Some(Alignment::Center));
+    assert!(rt; pad_with_width(&mut out, f, width, "abc").is_ok());
+    same(rt, &out.as_str(), &text);
 }
 
 #[test]
 fn pads_a_text_of_given_width(rt: HostRuntime) {
-    let f = aligned(6, Some(Alignment::Center));
-    let mut out = WriteBuffer::<6>::default();
-    assert!(rt; pad_with_width(&mut out, f, 3, "abc").is_ok());
-    same(&rt, &out.as_str(), &" abc  ");
-    let mut out = WriteBuffer::<8>::default();
-    assert!(rt; pad_with_width(&mut out, f, 1, "abc").is_ok());
-    same(&rt, &out.as_str(), &"  abc   ");
+    pads_to::<6>(&rt, 3, " abc  ");
+    pads_to::<8>(&rt, 1, "  abc   ");
 }
 
 #[test]
 fn a_full_buffer_stays_as_it_is(rt: HostRuntime) {
     let mut buffer = WriteBuffer::<3>::new();
-    same(&rt, &buffer.write_str("abcd"), &Err(Full));
-    same(&rt, &buffer.as_str(), &"");
-    same(&rt, &buffer.write_str("abc"), &Ok(()));
-    same(&rt, &buffer.remaining_capacity(), &0);
-    same(&rt, &(buffer.write_char('d')), &Err(Full));
-    same(&rt, &buffer.as_bytes(), &b"abc".as_slice());
+    assert!(rt; buffer.write_str("abcd") == Err(Full));
+    assert!(rt; buffer.as_str() == "");
+    assert!(rt; buffer.write_str("abc") == Ok(()));
+    assert!(rt; buffer.remaining_capacity() == 0);
+    assert!(rt; buffer.write_char('d') == Err(Full));
+    assert!(rt; buffer.as_bytes() == b"abc".as_slice());
 }
 
 fn buffer_of<const SIZE: usize>(text: &str) -> WriteBuffer<SIZE> {
@@ -169,18 +176,21 @@ fn buffer_of<const SIZE: usize>(text: &str) -> WriteBuffer<SIZE> {
 }
 
 #[test]
-fn buffers_compare_and_print_as_texts(rt: HostRuntime) -> Result<(), Fail> {
-    let (b, abc) = (buffer_of::<3>("b"), buffer_of::<3>("abc"));
-    assert!(rt; b != abc && abc < b && abc.max(buffer_of("b")) == b);
+fn buffers_compare_as_texts(rt: HostRuntime) {
+    let b = buffer_of::<3>("b");
+    let abc = buffer_of::<3>("abc");
+    assert!(rt; b != abc && abc < b);
+    let wide = buffer_of::<9>("abc");
+    assert!(rt; wide.same_text(&abc) && b.cmp_text(&wide).is_gt());
+    assert!(rt; hash_of(&wide) == hash_of(&"abc"));
+    assert!(rt; abc.max(buffer_of("b")) == b);
+}
+
+#[test]
+fn buffers_print_as_texts(rt: HostRuntime) {
     let abc = buffer_of::<9>("abc");
-    assert!(rt; abc.same_text(&buffer_of::<3>("abc")) && b.cmp_text(&abc).is_gt());
-    assert!(rt; hash_of(&abc) == hash_of(&"abc"));
-    same(
-        &rt,
-        &(format!(in rt.alloc(); "{abc}|{abc:>5}")?.as_str()),
-        &"abc|  abc",
-    );
-    Ok(())
+    let shown = format!(in rt.alloc(); "{abc}|{abc:>5}").expect(&rt, "memory");
+    same(&rt, &shown.as_str(), &"abc|  abc");
 }
 
 #[test]
@@ -191,7 +201,7 @@ fn metadata_is_reused(rt: HostRuntime) {
     let copy = known.copy();
     let reused: Metadata<'_, &u8> = known.reuse();
     assert!(rt; copy.unpadded_width() == 2 && reused.padded_width(f) == 5);
-    same(&rt, &(*reused.get()), &());
+    assert!(rt; *reused.get() == ());
     let mut out = WriteBuffer::<5>::new();
     assert!(rt; value.fmt_with_metadata(&mut out, f, copy).is_ok());
 }
