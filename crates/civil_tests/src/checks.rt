@@ -10,6 +10,11 @@ pub(crate) fn same<T: PartialEq + Debug>(rt: &impl Abort, found: &T, wanted: &T)
     assert_eq!(rt; found, wanted);
 }
 
+/// Ends the test where the claim doesn't hold.
+pub(crate) fn holds(rt: &impl Abort, claim: bool) {
+    assert!(rt; claim);
+}
+
 /// Ends the test, and shows the row, where the claim doesn't hold at it.
 pub(crate) fn holds_at(rt: &impl Abort, row: &str, claim: bool) {
     assert!(rt; claim, "{row}");

@@ -3,7 +3,7 @@ ghost use Rattle.calendar.specs.Days.{day as day_at};
 ghost use Rattle.civil_base.specs.Clock.{time_at};
 ghost use Rattle.civil_base.specs.DateTimes.{instant, offset_of};
 
-use crate::checks::{hash_of, holds_at, same};
+use crate::checks::{hash_of, holds, holds_at, same};
 use civil_base::Month::{December, February, January, March, October};
 use civil_base::Weekday::{Friday, Monday, Sunday, Thursday, Tuesday, Wednesday};
 use civil_base::{
@@ -153,23 +153,31 @@ const NO_DATES: [(i32, Month, u8); 6] = [
 
 #[test]
 fn takes_dates_apart(rt: HostRuntime) {
-    assert!(rt; Date::MIN.to_calendar_date() == (-9999, January, 1));
-    assert!(rt; Date::MAX.to_calendar_date() == (9999, December, 31));
+    same(&rt, &Date::MIN.to_calendar_date(), &(-9999, January, 1));
+    same(&rt, &Date::MAX.to_calendar_date(), &(9999, December, 31));
     let leap = Date::from_calendar_date(2024, February, 29).expect(&rt, "refused");
-    assert!(rt; (leap.year(), leap.month(), leap.day()) == (2024, February, 29));
+    same(
+        &rt,
+        &(leap.year(), leap.month(), leap.day()),
+        &(2024, February, 29),
+    );
     for (year, month, day) in &NO_DATES {
-        assert!(rt; Date::from_calendar_date(*year, *month, *day) == Err(ComponentRange));
+        same(
+            &rt,
+            &Date::from_calendar_date(*year, *month, *day),
+            &Err(ComponentRange),
+        );
     }
 }
 
 #[test]
 fn takes_times_apart(rt: HostRuntime) {
     let time = Time::from_hms_nano(23, 59, 58, 7).expect(&rt, "refused");
-    assert!(rt; time.as_hms_nano() == (23, 59, 58, 7));
+    same(&rt, &time.as_hms_nano(), &(23, 59, 58, 7));
     let time = Time::from_hms(1, 2, 3).expect(&rt, "refused");
-    assert!(rt; time.as_hms() == (1, 2, 3));
-    assert!(rt; Time::from_hms(24, 0, 0) == Err(ComponentRange));
-    assert!(rt; Time::MIDNIGHT.as_hms() == (0, 0, 0));
+    same(&rt, &time.as_hms(), &(1, 2, 3));
+    same(&rt, &Time::from_hms(24, 0, 0), &Err(ComponentRange));
+    same(&rt, &Time::MIDNIGHT.as_hms(), &(0, 0, 0));
 }
 
 /// Hours, minutes and seconds, and the seconds of them all.
@@ -196,9 +204,11 @@ fn takes_offsets_apart(rt: HostRuntime) {
         same(&rt, &whole_seconds(*hours, *minutes, *seconds), whole);
     }
     let behind = UtcOffset::from_whole_seconds(-5415).expect(&rt, "refused");
-    assert!(rt; behind.as_hms() == (-1, -30, -15));
-    assert!(rt; behind.is_negative() && !behind.is_positive() && !behind.is_utc());
-    assert!(rt; UtcOffset::UTC.is_utc());
+    same(&rt, &behind.as_hms(), &(-1, -30, -15));
+    holds(&rt, behind.is_negative());
+    holds(&rt, !behind.is_positive());
+    holds(&rt, !behind.is_utc());
+    holds(&rt, UtcOffset::UTC.is_utc());
 }
 
 fn is_ordered<T: Ord>(values: &[T]) -> bool {
@@ -212,18 +222,20 @@ fn half_past_one(rt: &impl Abort) -> OffsetDateTime {
 
 #[test]
 fn compares_date_times_by_their_instants(rt: HostRuntime) {
-    let epoch = OffsetDateTime::UNIX_EPOCH;
-    assert!(rt; half_past_one(&rt) == epoch);
-    assert!(rt; hash_of(&half_past_one(&rt)) == hash_of(&epoch));
+    same(&rt, &half_past_one(&rt), &epoch());
+    same(&rt, &hash_of(&half_past_one(&rt)), &hash_of(&epoch()));
     same(&rt, &half_past_one(&rt).offset().whole_seconds(), &5400);
-    assert!(rt; half_past_one(&rt).time().as_hms() == (1, 30, 0));
-    let plain = PlainDateTime::new(
-        Date::from_ordinal_date(1970, 1).expect(&rt, "refused"),
-        Time::MIDNIGHT,
-    );
-    assert!(rt; plain.year() == 1970 && plain.time() == Time::MIDNIGHT);
-    assert!(rt; plain.date() == epoch.date());
-    assert!(rt; plain.assume_utc() == epoch);
+    same(&rt, &half_past_one(&rt).time().as_hms(), &(1, 30, 0));
+}
+
+#[test]
+fn takes_plain_date_times_apart(rt: HostRuntime) {
+    let date = OffsetDateTime::UNIX_EPOCH.date();
+    let plain = PlainDateTime::new(date, Time::MIDNIGHT);
+    same(&rt, &plain.year(), &1970);
+    same(&rt, &plain.time(), &Time::MIDNIGHT);
+    same(&rt, &plain.date(), &date);
+    same(&rt, &plain.assume_utc(), &epoch());
 }
 
 #[test]
@@ -285,11 +297,16 @@ fn instant_epoch() -> Timestamp
 #[test]
 fn names_the_ends(rt: HostRuntime) {
     let second = first_date().next_day().expect(&rt, "no day");
-    assert!(rt; second.previous_day() == Some(Date::MIN));
-    assert!(rt; first_date().previous_day().is_none() && last_date().next_day().is_none());
-    assert!(rt; epoch().time() == midnight());
-    assert!(rt; epoch().offset() == no_offset());
-    assert!(rt; utc_epoch().unix_timestamp_nanos() == instant_epoch().as_nanoseconds());
+    same(&rt, &second.previous_day(), &Some(Date::MIN));
+    holds(&rt, first_date().previous_day().is_none());
+    holds(&rt, last_date().next_day().is_none());
+    same(&rt, &epoch().time(), &midnight());
+    same(&rt, &epoch().offset(), &no_offset());
+    same(
+        &rt,
+        &utc_epoch().unix_timestamp_nanos(),
+        &instant_epoch().as_nanoseconds(),
+    );
 }
 
 // Year, month, day, day of the year, Julian day and weekday, by Python's `datetime`, in cycles of 400 years before year 1.
@@ -323,26 +340,43 @@ const DATES: [(i32, Month, u8, u16, i32, Weekday); 27] = [
     (9999, December, 31, 365, 5_373_484, Friday),
 ];
 
+/// Asserts the day of the year, the Julian day and the weekday of a date, and the date of each.
+fn expect_day(rt: &impl Abort, date: Date, ordinal: (i32, u16), julian_day: i32, weekday: Weekday) {
+    same(
+        rt,
+        &Date::from_ordinal_date(ordinal.0, ordinal.1),
+        &Ok(date),
+    );
+    same(rt, &Date::from_julian_day(julian_day), &Ok(date));
+    same(rt, &date.to_ordinal_date(), &ordinal);
+    same(rt, &date.to_julian_day(), &julian_day);
+    same(rt, &date.weekday(), &weekday);
+}
+
 #[test]
 fn counts_the_days_of_dates(rt: HostRuntime) {
     for (year, month, day, ordinal, julian_day, weekday) in &DATES {
         let date = Date::from_calendar_date(*year, *month, *day).expect(&rt, "refused");
-        assert!(rt; Date::from_ordinal_date(*year, *ordinal) == Ok(date));
-        assert!(rt; Date::from_julian_day(*julian_day) == Ok(date));
-        assert!(rt; date.to_ordinal_date() == (*year, *ordinal));
-        same(&rt, &date.to_julian_day(), julian_day);
-        same(&rt, &date.weekday(), weekday);
+        expect_day(&rt, date, (*year, *ordinal), *julian_day, *weekday);
     }
-    assert!(rt; Date::MAX.ordinal() == 365);
+    same(&rt, &Date::MAX.ordinal(), &365);
 }
 
 #[test]
 fn refuses_days_out_of_range(rt: HostRuntime) {
     for (year, ordinal) in &[(2023, 366), (2024, 0), (10_000, 1)] {
-        assert!(rt; Date::from_ordinal_date(*year, *ordinal) == Err(ComponentRange));
+        same(
+            &rt,
+            &Date::from_ordinal_date(*year, *ordinal),
+            &Err(ComponentRange),
+        );
     }
     for julian_day in &[-1_931_000, 5_373_485, i32::MIN] {
-        assert!(rt; Date::from_julian_day(*julian_day) == Err(ComponentRange));
+        same(
+            &rt,
+            &Date::from_julian_day(*julian_day),
+            &Err(ComponentRange),
+        );
     }
 }
 
@@ -400,25 +434,34 @@ fn tells_instants_apart(rt: HostRuntime) {
     expect_instant(&rt, 999_999_999, 0);
     expect_instant(&rt, 1_000_000_000, 1);
     let epoch = OffsetDateTime::from_unix_timestamp(0).expect(&rt, "refused");
-    assert!(rt; epoch == OffsetDateTime::UNIX_EPOCH);
+    same(&rt, &epoch, &OffsetDateTime::UNIX_EPOCH);
     let first = UtcDateTime::new(Date::MIN, Time::MIDNIGHT);
     same(&rt, &first.unix_timestamp(), &-377_705_116_800);
 }
 
 #[test]
 fn refuses_instants_out_of_range(rt: HostRuntime) {
-    assert!(rt; OffsetDateTime::from_unix_timestamp(253_402_300_800).is_err());
-    assert!(rt; UtcDateTime::from_unix_timestamp(-377_705_116_801).is_err());
-    assert!(rt; Timestamp::new(0, 1_000_000_000).is_err());
-    assert!(rt; Timestamp::from_nanoseconds(253_402_300_800_000_000_000).is_err());
+    holds(
+        &rt,
+        OffsetDateTime::from_unix_timestamp(253_402_300_800).is_err(),
+    );
+    holds(
+        &rt,
+        UtcDateTime::from_unix_timestamp(-377_705_116_801).is_err(),
+    );
+    holds(&rt, Timestamp::new(0, 1_000_000_000).is_err());
+    holds(
+        &rt,
+        Timestamp::from_nanoseconds(253_402_300_800_000_000_000).is_err(),
+    );
 }
 
 #[test]
 fn makes_timestamps(rt: HostRuntime) {
-    assert!(rt; Timestamp::from_seconds(0) == Ok(Timestamp::UNIX_EPOCH));
+    same(&rt, &Timestamp::from_seconds(0), &Ok(Timestamp::UNIX_EPOCH));
     let early = Timestamp::from_milliseconds(-5001).expect(&rt, "refused");
     same(&rt, &early.as_nanoseconds(), &-5_001_000_000);
-    assert!(rt; Timestamp::new(-6, 999_000_000) == Ok(early));
-    assert!(rt; early < Timestamp::UNIX_EPOCH);
-    assert!(rt; hash_of(&early) != hash_of(&Timestamp::UNIX_EPOCH));
+    same(&rt, &Timestamp::new(-6, 999_000_000), &Ok(early));
+    holds(&rt, early < Timestamp::UNIX_EPOCH);
+    holds(&rt, hash_of(&early) != hash_of(&Timestamp::UNIX_EPOCH));
 }

@@ -1,7 +1,7 @@
 ghost use Rattle.std.specs.Prelude.{◌≡◌, Some, IfSome, pos};
 ghost use Rattle.civil_items.specs.Defaults.{default_config};
 
-use crate::checks::{prints, same};
+use crate::checks::{holds, prints, same};
 use civil_base::{OffsetDateTime, SignedDuration, StdDuration, Timestamp, UtcDateTime};
 use civil_items::{
     BorrowedFormatItem, Component, ComponentRange, Config, ConversionRange, DateKind,
@@ -50,13 +50,34 @@ fn shows_errors_as_what_is_inside(rt: HostRuntime) {
 // Each of these types has one value.
 #[test]
 fn takes_errors_apart(rt: HostRuntime) {
-    assert!(rt; ConversionRange::try_from(Error::from(ConversionRange)).is_ok());
-    assert!(rt; ComponentRange::try_from(Error::from(ComponentRange)).is_ok());
-    assert!(rt; IndeterminateOffset::try_from(Error::from(IndeterminateOffset)).is_ok());
-    assert!(rt; DifferentVariant::try_from(Error::from(DifferentVariant)).is_ok());
-    assert!(rt; InvalidVariant::try_from(Error::from(InvalidVariant)).is_ok());
-    assert!(rt; InvalidVariant::try_from(Error::from(ComponentRange)).is_err());
-    assert!(rt; DifferentVariant::try_from(Error::from(ConversionRange)).is_err());
+    holds(
+        &rt,
+        ConversionRange::try_from(Error::from(ConversionRange)).is_ok(),
+    );
+    holds(
+        &rt,
+        ComponentRange::try_from(Error::from(ComponentRange)).is_ok(),
+    );
+    holds(
+        &rt,
+        IndeterminateOffset::try_from(Error::from(IndeterminateOffset)).is_ok(),
+    );
+    holds(
+        &rt,
+        DifferentVariant::try_from(Error::from(DifferentVariant)).is_ok(),
+    );
+    holds(
+        &rt,
+        InvalidVariant::try_from(Error::from(InvalidVariant)).is_ok(),
+    );
+    holds(
+        &rt,
+        InvalidVariant::try_from(Error::from(ComponentRange)).is_err(),
+    );
+    holds(
+        &rt,
+        DifferentVariant::try_from(Error::from(ConversionRange)).is_err(),
+    );
 }
 
 /// Asserts a length in nanoseconds.
@@ -96,26 +117,26 @@ fn makes_unsigned_lengths_of_numbers(rt: HostRuntime) {
 
 #[test]
 fn tells_which_numbers_are_lengths(rt: HostRuntime) {
-    assert!(rt; 153_722_867_280_912_930.fits_minutes());
-    assert!(rt; 2_562_047_788_015_215.fits_hours());
-    assert!(rt; 106_751_991_167_300.fits_days());
-    assert!(rt; (-15_250_284_452_471).fits_weeks());
-    assert!(rt; !153_722_867_280_912_931.fits_minutes());
-    assert!(rt; !(-2_562_047_788_015_216).fits_hours());
-    assert!(rt; !106_751_991_167_301.fits_days());
-    assert!(rt; !15_250_284_452_472.fits_weeks());
+    holds(&rt, 153_722_867_280_912_930.fits_minutes());
+    holds(&rt, 2_562_047_788_015_215.fits_hours());
+    holds(&rt, 106_751_991_167_300.fits_days());
+    holds(&rt, (-15_250_284_452_471).fits_weeks());
+    holds(&rt, !153_722_867_280_912_931.fits_minutes());
+    holds(&rt, !(-2_562_047_788_015_216).fits_hours());
+    holds(&rt, !106_751_991_167_301.fits_days());
+    holds(&rt, !15_250_284_452_472.fits_weeks());
 }
 
 #[test]
 fn tells_which_numbers_are_unsigned_lengths(rt: HostRuntime) {
-    assert!(rt; 307_445_734_561_825_860.fits_std_minutes());
-    assert!(rt; 5_124_095_576_030_431.fits_std_hours());
-    assert!(rt; 213_503_982_334_601.fits_std_days());
-    assert!(rt; 30_500_568_904_943.fits_std_weeks());
-    assert!(rt; !307_445_734_561_825_861.fits_std_minutes());
-    assert!(rt; !5_124_095_576_030_432.fits_std_hours());
-    assert!(rt; !213_503_982_334_602.fits_std_days());
-    assert!(rt; !30_500_568_904_944.fits_std_weeks());
+    holds(&rt, 307_445_734_561_825_860.fits_std_minutes());
+    holds(&rt, 5_124_095_576_030_431.fits_std_hours());
+    holds(&rt, 213_503_982_334_601.fits_std_days());
+    holds(&rt, 30_500_568_904_943.fits_std_weeks());
+    holds(&rt, !307_445_734_561_825_861.fits_std_minutes());
+    holds(&rt, !5_124_095_576_030_432.fits_std_hours());
+    holds(&rt, !213_503_982_334_602.fits_std_days());
+    holds(&rt, !30_500_568_904_944.fits_std_weeks());
 }
 
 // What the constant is.
@@ -139,9 +160,15 @@ fn has_system_times_of_64_bits_of_seconds(rt: HostRuntime) {
     ] {
         same(&rt, &at(&rt, *nanos).as_nanoseconds(), nanos);
     }
-    assert!(rt; SysTime::from_nanoseconds(-9_223_372_036_854_775_808_000_000_001).is_none());
-    assert!(rt; SysTime::from_nanoseconds(9_223_372_036_854_775_808_000_000_000).is_none());
-    assert!(rt; at(&rt, 0) == epoch());
+    holds(
+        &rt,
+        SysTime::from_nanoseconds(-9_223_372_036_854_775_808_000_000_001).is_none(),
+    );
+    holds(
+        &rt,
+        SysTime::from_nanoseconds(9_223_372_036_854_775_808_000_000_000).is_none(),
+    );
+    same(&rt, &at(&rt, 0), &epoch());
 }
 
 #[test]
@@ -150,9 +177,19 @@ fn adds_lengths_to_system_times(rt: HostRuntime) {
         .checked_add_signed((-5).milliseconds())
         .expect(&rt, "no time");
     same(&rt, &later.as_nanoseconds(), &-5_000_000);
-    assert!(rt; epoch().checked_sub_signed(5.milliseconds()) == Some(later));
-    assert!(rt; epoch().checked_sub_signed(SignedDuration::MAX).is_some());
-    assert!(rt; epoch().checked_add_signed(SignedDuration::MIN).is_none());
+    same(
+        &rt,
+        &epoch().checked_sub_signed(5.milliseconds()),
+        &Some(later),
+    );
+    holds(
+        &rt,
+        epoch().checked_sub_signed(SignedDuration::MAX).is_some(),
+    );
+    holds(
+        &rt,
+        epoch().checked_add_signed(SignedDuration::MIN).is_none(),
+    );
 }
 
 /// Asserts the length from the second time to the first.
@@ -207,9 +244,13 @@ fn converts_system_times(rt: HostRuntime) {
     expect_back(&rt, at(&rt, -377_705_116_800_000_000_001), None);
     expect_back(&rt, at(&rt, 253_402_300_800_000_000_000), None);
     let time = at(&rt, -5_001_000_000);
-    assert!(rt; Timestamp::try_from(time) == Timestamp::from_milliseconds(-5001));
+    same(
+        &rt,
+        &Timestamp::try_from(time),
+        &Timestamp::from_milliseconds(-5001),
+    );
     let shown = OffsetDateTime::try_from(time).expect(&rt, "out of range");
-    assert!(rt; shown.offset().is_utc());
+    holds(&rt, shown.offset().is_utc());
 }
 
 /// Asserts how a value compares with a system time, and how long it is from the one to the other.
@@ -239,10 +280,15 @@ fn compares_with_system_times(rt: HostRuntime) {
     expect_compared(&rt, Timestamp::UNIX_EPOCH, later, length, less);
     expect_compared(&rt, UtcDateTime::UNIX_EPOCH, later, length, less);
     expect_compared(&rt, OffsetDateTime::UNIX_EPOCH, later, length, less);
+}
+
+#[test]
+fn measures_from_system_times(rt: HostRuntime) {
     let before = Timestamp::from_nanoseconds(-1).expect(&rt, "out of range");
     let far = at(&rt, 9_223_372_036_854_775_807_999_999_999);
-    assert!(rt; before.sys_since(far).is_none());
-    same(&rt, &before.since_sys(later), &Some((-4).nanoseconds()));
+    holds(&rt, before.sys_since(far).is_none());
+    let length = before.since_sys(at(&rt, 3));
+    same(&rt, &length, &Some((-4).nanoseconds()));
 }
 
 fn default() -> Config
@@ -281,7 +327,7 @@ fn changed() -> Config {
 /// Asserts the number of a configuration, which is decoded to it again.
 fn expect_encoded(rt: &impl Abort, config: &Config, number: EncodedConfig) {
     same(rt, &config.encode(), &number);
-    assert!(rt; decoded_again(config) == Some(*config));
+    same(rt, &decoded_again(config), &Some(*config));
 }
 
 #[test]
@@ -296,8 +342,9 @@ fn encodes_configurations(rt: HostRuntime) {
 fn has_digits_and_formats(rt: HostRuntime) {
     let digits = Digits::new(255).expect(&rt, "no digits");
     same(&rt, &digits.get(), &255);
-    assert!(rt; Digits::new(0).is_none());
-    assert!(rt; Rfc2822 == Rfc2822 && Rfc3339 == Rfc3339);
+    holds(&rt, Digits::new(0).is_none());
+    same(&rt, &Rfc2822, &Rfc2822);
+    same(&rt, &Rfc3339, &Rfc3339);
 }
 
 #[test]
@@ -312,9 +359,9 @@ fn refuses_numbers_of_no_configuration(rt: HostRuntime) {
         0x00000000000000010000000000000000,
         0x00000000000000000000000000000001,
     ] {
-        assert!(rt; Config::decode(*encoded).is_none());
+        holds(&rt, Config::decode(*encoded).is_none());
     }
-    assert!(rt; Config::decode(0).is_some());
+    holds(&rt, Config::decode(0).is_some());
 }
 
 /// An item that owns its parts.
@@ -322,11 +369,23 @@ fn owned(rt: &impl Abort, alloc: Global, item: BorrowedFormatItem<'_>) -> OwnedF
     OwnedFormatItem::from_borrowed(alloc, &item).expect(rt, "memory")
 }
 
+/// Whether that is the item that owns its parts.
+fn is_owned(
+    rt: &impl Abort,
+    alloc: Global,
+    item: BorrowedFormatItem<'_>,
+    found: &OwnedFormatItem,
+) -> bool {
+    *found == owned(rt, alloc, item)
+}
+
 /// Asserts that a list, owned as a compound, is the compound of the list, owned, and no text.
 fn expect_compound(rt: &impl Abort, alloc: Global, items: &[BorrowedFormatItem<'_>]) {
-    let of_slice = OwnedFormatItem::from_slice(alloc, items).expect(rt, "memory");
-    assert!(rt; of_slice == owned(rt, alloc, BorrowedFormatItem::Compound(items)));
-    assert!(rt; of_slice != owned(rt, alloc, BorrowedFormatItem::StringLiteral("a")));
+    let found = OwnedFormatItem::from_slice(alloc, items).expect(rt, "memory");
+    let compound = BorrowedFormatItem::Compound(items);
+    holds(rt, is_owned(rt, alloc, compound, &found));
+    let text = BorrowedFormatItem::StringLiteral("a");
+    holds(rt, !is_owned(rt, alloc, text, &found));
 }
 
 #[test]
@@ -343,46 +402,68 @@ fn owns_format_items(rt: HostRuntime) {
     expect_compound(&rt, rt.alloc(), &items);
 }
 
+/// The text of an item that is one.
+fn text_in(item: &OwnedFormatItem) -> Option<&str> {
+    match item {
+        OwnedFormatItem::StringLiteral(text) => Some(text.as_str()),
+        _ => None,
+    }
+}
+
 #[test]
 fn owns_texts_as_their_bytes(rt: HostRuntime) {
     let text = owned(&rt, rt.alloc(), BorrowedFormatItem::StringLiteral("a"));
-    assert!(rt; matches!(&text, OwnedFormatItem::StringLiteral(text) if text.as_str() == "a"));
-    assert!(rt; text == owned(&rt, rt.alloc(), BorrowedFormatItem::Literal(b"a")));
+    same(&rt, &text_in(&text), &Some("a"));
+    let literal = BorrowedFormatItem::Literal(b"a");
+    holds(&rt, is_owned(&rt, rt.alloc(), literal, &text));
+}
+
+/// One literal, as a vector.
+fn literals_of(rt: &impl Abort, alloc: Global) -> Vec<OwnedFormatItem> {
+    let literal = owned(rt, alloc, BorrowedFormatItem::Literal(b"a"));
+    vec![in alloc; literal].expect(rt, "memory")
+}
+
+/// The compound of a vector of one text.
+fn compound_of(rt: &impl Abort, alloc: Global) -> OwnedFormatItem {
+    let list = vec![in alloc; BorrowedFormatItem::StringLiteral("a")].expect(rt, "memory");
+    OwnedFormatItem::from_borrowed_vec(alloc, list).expect(rt, "memory")
 }
 
 #[test]
 fn owns_vectors_of_format_items(rt: HostRuntime) {
-    let alloc = rt.alloc();
-    let list = vec![in alloc; BorrowedFormatItem::StringLiteral("a")].expect(&rt, "memory");
-    let compound = OwnedFormatItem::from_borrowed_vec(alloc, list).expect(&rt, "memory");
-    let literal = owned(&rt, alloc, BorrowedFormatItem::Literal(b"a"));
-    let literals = vec![in alloc; literal].expect(&rt, "memory");
-    assert!(rt; compound.is_compound(literals.as_slice()));
-    assert!(rt; compound == OwnedFormatItem::from(literals));
+    let compound = compound_of(&rt, rt.alloc());
+    let literals = literals_of(&rt, rt.alloc());
+    holds(&rt, compound.is_compound(literals.as_slice()));
+    holds(&rt, compound == OwnedFormatItem::from(literals));
 }
+
+const EMPTY: BorrowedFormatItem<'static> = BorrowedFormatItem::StringLiteral("");
 
 #[test]
 fn takes_compounds_apart(rt: HostRuntime) {
-    let empty = [BorrowedFormatItem::StringLiteral("")];
-    let compound = owned(&rt, rt.alloc(), BorrowedFormatItem::Compound(&empty));
-    assert!(rt; !compound.is_component(&Component::Year) && !compound.is_compound(&[]));
+    let compound = owned(&rt, rt.alloc(), BorrowedFormatItem::Compound(&[EMPTY]));
+    holds(&rt, !compound.is_component(&Component::Year));
+    holds(&rt, !compound.is_compound(&[]));
     let Ok(items) = compound.into_items() else {
         panic!(rt; "a compound has items");
     };
-    same(&rt, &items.len(), &1);
-    assert!(rt; items.as_slice()[0] == owned(&rt, rt.alloc(), empty[0]));
+    assert!(rt; items.len() == 1);
+    holds(&rt, is_owned(&rt, rt.alloc(), EMPTY, &items[0]));
 }
 
 #[test]
 fn takes_components_apart(rt: HostRuntime) {
     let month = OwnedFormatItem::from(Component::Month);
-    assert!(rt; month.is_component(&Component::Month) && !month.is_component(&Component::Day));
-    assert!(rt; Component::try_from(month) == Ok(Component::Month));
+    holds(&rt, month.is_component(&Component::Month));
+    holds(&rt, !month.is_component(&Component::Day));
+    same(&rt, &Component::try_from(month), &Ok(Component::Month));
 }
 
 #[test]
 fn takes_no_text_apart(rt: HostRuntime) {
-    let empty = BorrowedFormatItem::StringLiteral("");
-    assert!(rt; owned(&rt, rt.alloc(), empty).into_items().is_err());
-    assert!(rt; Component::try_from(owned(&rt, rt.alloc(), empty)).is_err());
+    let text = owned(&rt, rt.alloc(), EMPTY);
+    holds(&rt, text.into_items().is_err());
+    let text = owned(&rt, rt.alloc(), EMPTY);
+    holds(&rt, Component::try_from(text).is_err());
 }

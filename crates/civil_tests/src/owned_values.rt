@@ -2,7 +2,7 @@ ghost use Rattle.std.specs.Prelude.{◌≡◌, ◌==◌, not, length};
 ghost use Rattle.std.specs.List.{list_all};
 ghost use Rattle.std.specs.FinMap as map;
 
-use crate::checks::same;
+use crate::checks::{holds, same};
 use owned::{Items, Text, TextMap};
 use std::alloc::Global;
 use std::process::Abort;
@@ -14,17 +14,29 @@ fn has_no_empty_list(lists: &TextMap<Items<u8>>) -> bool
     lists.values().all(|items| !items.as_slice().is_empty())
 }
 
+/// A list of two items and one of one.
+fn lists_of(rt: &impl Abort, alloc: Global) -> TextMap<Items<u8>> {
+    let mut lists = TextMap::new(alloc);
+    for (name, item) in &[("b", 1), ("a", 2), ("b", 3)] {
+        lists.append(alloc, name, *item).expect(rt, "memory");
+    }
+    lists
+}
+
+/// Asserts the names of the lists.
+fn expect_names(rt: &impl Abort, alloc: Global, lists: &TextMap<Items<u8>>, names: &[&str]) {
+    let found = lists.keys(alloc).expect(rt, "memory");
+    same(rt, &found.as_slice(), &names);
+}
+
 #[test]
 fn a_map_of_lists_keeps_each_list_in_order(rt: HostRuntime) {
-    let alloc = rt.alloc();
-    let mut lists = TextMap::new(alloc);
-    for (name, item) in &[("b", 1u8), ("a", 2), ("b", 3)] {
-        lists.append(alloc, name, *item).expect(&rt, "memory");
-    }
-    assert!(rt; lists.get("b").expect(&rt, "b").as_slice() == [1, 3].as_slice());
-    assert!(rt; !lists.contains_key("c"));
-    assert!(rt; lists.keys(alloc).expect(&rt, "memory").as_slice() == ["a", "b"].as_slice());
-    assert!(rt; has_no_empty_list(&lists));
+    let lists = lists_of(&rt, rt.alloc());
+    let list = lists.get("b").expect(&rt, "b");
+    same(&rt, &list.as_slice(), &[1, 3].as_slice());
+    holds(&rt, !lists.contains_key("c"));
+    expect_names(&rt, rt.alloc(), &lists, &["a", "b"]);
+    holds(&rt, has_no_empty_list(&lists));
 }
 
 /// A text that owns its bytes.
@@ -36,7 +48,10 @@ fn text_of(rt: &impl Abort, alloc: Global, text: &str) -> Text {
 fn a_text_is_its_bytes(rt: HostRuntime) {
     let alloc = rt.alloc();
     let string = String::from_str(alloc, "Europe/Madrid").expect(&rt, "memory");
-    assert!(rt; text_of(&rt, alloc, "Europe/Madrid") == Text::from_string(string));
+    holds(
+        &rt,
+        text_of(&rt, alloc, "Europe/Madrid") == Text::from_string(string),
+    );
 }
 
 #[test]
@@ -66,7 +81,10 @@ fn items_of_one_key_keep_their_order(rt: HostRuntime) {
     let shuffled = [(3, 'a'), (1, 'b'), (3, 'c'), (2, 'd'), (1, 'e')];
     let mut items = items_of(&rt, rt.alloc(), &shuffled);
     items.sort_by_key(|item| item.0).expect(&rt, "memory");
-    assert!(rt; items.as_slice() == [(1, 'b'), (1, 'e'), (2, 'd'), (3, 'a'), (3, 'c')].as_slice());
+    holds(
+        &rt,
+        items.as_slice() == [(1, 'b'), (1, 'e'), (2, 'd'), (3, 'a'), (3, 'c')].as_slice(),
+    );
 }
 
 #[test]
@@ -74,15 +92,20 @@ fn items_move_in_place(rt: HostRuntime) {
     let mut items = items_of(&rt, rt.alloc(), &[(1, 'a'), (2, 'b'), (3, 'c'), (4, 'd')]);
     items.swap(0, 3);
     items[3].0 = 9;
-    assert!(rt; items.remove(1) == (2, 'b'));
-    assert!(rt; items.replace(1, (7, 'x')) == (3, 'c'));
-    assert!(rt; items.as_slice() == [(4, 'd'), (7, 'x'), (9, 'a')].as_slice());
+    same(&rt, &items.remove(1), &(2, 'b'));
+    same(&rt, &items.replace(1, (7, 'x')), &(3, 'c'));
+    holds(
+        &rt,
+        items.as_slice() == [(4, 'd'), (7, 'x'), (9, 'a')].as_slice(),
+    );
 }
 
 #[test]
 fn items_are_cut(rt: HostRuntime) {
     let mut items = items_of(&rt, rt.alloc(), &[(4, 'd'), (7, 'x'), (9, 'a')]);
     items.truncate(2);
-    assert!(rt; items.len() == 2 && !items.is_empty() && items.get(2).is_none());
-    assert!(rt; items[1] == (7, 'x'));
+    same(&rt, &items.len(), &2);
+    holds(&rt, !items.is_empty());
+    holds(&rt, items.get(2).is_none());
+    same(&rt, &items[1], &(7, 'x'));
 }

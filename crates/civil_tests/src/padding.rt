@@ -1,6 +1,6 @@
 //! What no clause says: that calls succeed, printed texts, and values from outside, which are what Rust's own
 //! `format!` gives for the same options.
-use crate::checks::{hash_of, same};
+use crate::checks::{hash_of, holds, same};
 use pad_fmt::{
     Alignment, FormatterOptions, Full, Metadata, SmartDisplay, Text, TextSink, WriteBuffer,
     pad_with_width, padded_width_of, unpadded_width_of,
@@ -19,7 +19,7 @@ fn aligned(width: usize, align: Option<Alignment>) -> FormatterOptions {
 
 fn shows<T: SmartDisplay>(rt: &impl Abort, value: &T, f: FormatterOptions, text: &str) {
     let mut out = WriteBuffer::<48>::new();
-    assert!(rt; value.fmt(&mut out, f).is_ok());
+    holds(rt, value.fmt(&mut out, f).is_ok());
     same(rt, &out.as_str(), &text);
 }
 
@@ -111,9 +111,11 @@ fn shows_signs_and_zeros(rt: HostRuntime) {
     f.with_sign_minus(true).with_alternate(true);
     shows(&rt, &42u16, f, "00000042");
     same(&rt, &unpadded_width_of(&42u16, f), &3);
-    assert!(rt; f.alternate() && !f.sign_plus());
+    holds(&rt, f.alternate());
+    holds(&rt, !f.sign_plus());
     f.with_sign_plus(true);
-    assert!(rt; f.sign_plus() && !f.sign_minus());
+    holds(&rt, f.sign_plus());
+    holds(&rt, !f.sign_minus());
 }
 
 #[test]
@@ -140,33 +142,30 @@ fn a_fill_past_ascii_is_wider_than_the_width(rt: HostRuntime) {
     shows(&rt, &Text("äöü"), f, "éééäöééé");
     same(&rt, &padded_width_of(&Text("äöü"), f), &8);
     let mut out = WriteBuffer::<15>::new();
-    assert!(rt; Text("äöü").fmt(&mut out, f) == Err(Full));
+    same(&rt, &Text("äöü").fmt(&mut out, f), &Err(Full));
     same(&rt, &out.as_str(), &"éééäöéé");
-}
-
-/// Asserts a text of that width as it is written to a buffer of just its size.
-fn pads_to<const SIZE: usize>(rt: &impl Abort, width: usize, text: &str) {
-    let mut out = WriteBuffer::<SIZE>::default();
-    let f = aligned(6, Some(Alignment::Center));
-    assert!(rt; pad_with_width(&mut out, f, width, "abc").is_ok());
-    same(rt, &out.as_str(), &text);
 }
 
 #[test]
 fn pads_a_text_of_given_width(rt: HostRuntime) {
-    pads_to::<6>(&rt, 3, " abc  ");
-    pads_to::<8>(&rt, 1, "  abc   ");
+    let f = aligned(6, Some(Alignment::Center));
+    let mut out = WriteBuffer::<6>::default();
+    holds(&rt, pad_with_width(&mut out, f, 3, "abc").is_ok());
+    same(&rt, &out.as_str(), &" abc  ");
+    let mut out = WriteBuffer::<8>::default();
+    holds(&rt, pad_with_width(&mut out, f, 1, "abc").is_ok());
+    same(&rt, &out.as_str(), &"  abc   ");
 }
 
 #[test]
 fn a_full_buffer_stays_as_it_is(rt: HostRuntime) {
     let mut buffer = WriteBuffer::<3>::new();
-    assert!(rt; buffer.write_str("abcd") == Err(Full));
-    assert!(rt; buffer.as_str() == "");
-    assert!(rt; buffer.write_str("abc") == Ok(()));
-    assert!(rt; buffer.remaining_capacity() == 0);
-    assert!(rt; buffer.write_char('d') == Err(Full));
-    assert!(rt; buffer.as_bytes() == b"abc".as_slice());
+    holds(&rt, buffer.write_str("abcd") == Err(Full));
+    same(&rt, &buffer.as_str(), &"");
+    holds(&rt, buffer.write_str("abc") == Ok(()));
+    same(&rt, &buffer.remaining_capacity(), &0);
+    same(&rt, &buffer.write_char('d'), &Err(Full));
+    holds(&rt, buffer.as_bytes() == b"abc".as_slice());
 }
 
 fn buffer_of<const SIZE: usize>(text: &str) -> WriteBuffer<SIZE> {
@@ -179,11 +178,13 @@ fn buffer_of<const SIZE: usize>(text: &str) -> WriteBuffer<SIZE> {
 fn buffers_compare_as_texts(rt: HostRuntime) {
     let b = buffer_of::<3>("b");
     let abc = buffer_of::<3>("abc");
-    assert!(rt; b != abc && abc < b);
+    holds(&rt, b != abc);
+    holds(&rt, abc < b);
     let wide = buffer_of::<9>("abc");
-    assert!(rt; wide.same_text(&abc) && b.cmp_text(&wide).is_gt());
-    assert!(rt; hash_of(&wide) == hash_of(&"abc"));
-    assert!(rt; abc.max(buffer_of("b")) == b);
+    holds(&rt, wide.same_text(&abc));
+    holds(&rt, b.cmp_text(&wide).is_gt());
+    holds(&rt, hash_of(&wide) == hash_of(&"abc"));
+    holds(&rt, abc.max(buffer_of("b")) == b);
 }
 
 #[test]
@@ -200,8 +201,9 @@ fn metadata_is_reused(rt: HostRuntime) {
     let known: Metadata<'_, u8> = value.metadata(f);
     let copy = known.copy();
     let reused: Metadata<'_, &u8> = known.reuse();
-    assert!(rt; copy.unpadded_width() == 2 && reused.padded_width(f) == 5);
-    assert!(rt; *reused.get() == ());
+    same(&rt, &copy.unpadded_width(), &2);
+    same(&rt, &reused.padded_width(f), &5);
+    same(&rt, &*reused.get(), &());
     let mut out = WriteBuffer::<5>::new();
-    assert!(rt; value.fmt_with_metadata(&mut out, f, copy).is_ok());
+    holds(&rt, value.fmt_with_metadata(&mut out, f, copy).is_ok());
 }

@@ -1,10 +1,11 @@
 ghost use Rattle.std.specs.Prelude.{◌≡◌, pos};
 ghost use Rattle.civil_parts.specs.Durations.{longest, shortest};
 
-use crate::checks::{hash_of, holds_at, prints, same};
+use crate::checks::{hash_of, holds, holds_at, prints, same};
 use civil_parts::{
     ComponentRange, ConversionRange, InvalidVariant, Month, SignedDuration, StdDuration, Weekday,
 };
+use std::process::Abort;
 
 // The names of the months and of the weekdays, in order.
 const MONTHS: &str =
@@ -19,7 +20,7 @@ fn names_months(rt: HostRuntime) {
         month = month.next();
         prints(&rt, rt.alloc(), &month, name);
         same(&rt, &name.parse::<Month>(), &Ok(month));
-        assert!(rt; Month::try_from(u8::from(month)) == Ok(month));
+        same(&rt, &Month::try_from(u8::from(month)), &Ok(month));
     }
 }
 
@@ -35,11 +36,17 @@ fn refuses_other_names(rt: HostRuntime) {
 
 #[test]
 fn counts_months(rt: HostRuntime) {
-    assert!(rt; Month::try_from(0) == Err(ComponentRange));
-    assert!(rt; Month::try_from(13) == Err(ComponentRange));
-    assert!(rt; Month::January.previous() == Month::December);
-    assert!(rt; Month::February.length(2000) == 29);
-    assert!(rt; hash_of(&Month::May) == hash_of(&Month::April.next()));
+    same(
+        &rt,
+        &(Month::try_from(0), Month::try_from(13)),
+        &(Err(ComponentRange), Err(ComponentRange)),
+    );
+    same(
+        &rt,
+        &(Month::January.previous(), Month::February.length(2000)),
+        &(Month::December, 29),
+    );
+    same(&rt, &hash_of(&Month::May), &hash_of(&Month::April.next()));
 }
 
 #[test]
@@ -55,12 +62,33 @@ fn names_weekdays(rt: HostRuntime) {
 #[test]
 fn counts_weekdays(rt: HostRuntime) {
     let sunday = Weekday::Sunday;
-    assert!(rt; sunday.nth_next(255) == Weekday::Wednesday);
-    assert!(rt; sunday.nth_prev(255) == Weekday::Thursday);
-    assert!(rt; sunday.next() == Weekday::Monday && sunday.previous() == Weekday::Saturday);
-    assert!(rt; sunday.number_from_sunday() == 1 && sunday.number_days_from_sunday() == 0);
-    assert!(rt; sunday.number_from_monday() == 7 && sunday.number_days_from_monday() == 6);
-    assert!(rt; hash_of(&sunday) == hash_of(&Weekday::Saturday.next()));
+    same(
+        &rt,
+        &(sunday.nth_next(255), sunday.nth_prev(255)),
+        &(Weekday::Wednesday, Weekday::Thursday),
+    );
+    same(
+        &rt,
+        &(sunday.next(), sunday.previous()),
+        &(Weekday::Monday, Weekday::Saturday),
+    );
+    same(
+        &rt,
+        &(
+            sunday.number_from_sunday(),
+            sunday.number_days_from_sunday(),
+        ),
+        &(1, 0),
+    );
+    same(
+        &rt,
+        &(
+            sunday.number_from_monday(),
+            sunday.number_days_from_monday(),
+        ),
+        &(7, 6),
+    );
+    same(&rt, &hash_of(&sunday), &hash_of(&Weekday::Saturday.next()));
 }
 
 // What the constants are.
@@ -104,27 +132,52 @@ fn makes_lengths_of_their_parts(rt: HostRuntime) {
         let made = SignedDuration::from_parts(*seconds, *nanos);
         same(&rt, &nanoseconds(made), whole);
     }
-    assert!(rt; SignedDuration::from_parts(i64::MIN, -999_999_999) == Some(least()));
-    assert!(rt; SignedDuration::from_parts(i64::MAX, 999_999_999) == Some(greatest()));
-    assert!(rt; least().whole_seconds() == i64::MIN);
-    assert!(rt; least().subsec_nanoseconds() == -999_999_999);
-    assert!(rt; least().whole_days() == -106_751_991_167_300);
-    assert!(rt; least() < zero() && zero() < greatest());
 }
 
 #[test]
-fn adds_and_cuts_lengths(rt: HostRuntime) {
-    let short = SignedDuration::from_whole_nanoseconds(-86_399_999_999_999).expect(&rt, "too long");
-    assert!(rt; short.whole_days() == 0 && short.whole_seconds() == -86_399);
-    assert!(rt; short.subsec_nanoseconds() == -999_999_999);
-    assert!(rt; short.is_negative() && !short.is_positive() && !short.is_zero());
-    assert!(rt; zero().is_zero());
+fn has_a_least_and_a_greatest_length(rt: HostRuntime) {
+    let (least, greatest) = (least(), greatest());
+    let made = SignedDuration::from_parts(i64::MIN, -999_999_999);
+    same(&rt, &made, &Some(least));
+    let made = SignedDuration::from_parts(i64::MAX, 999_999_999);
+    same(&rt, &made, &Some(greatest));
+    holds(&rt, least < zero());
+    holds(&rt, zero() < greatest);
+}
+
+#[test]
+fn cuts_the_least_length(rt: HostRuntime) {
+    same(&rt, &least().whole_seconds(), &i64::MIN);
+    same(&rt, &least().subsec_nanoseconds(), &-999_999_999);
+    same(&rt, &least().whole_days(), &-106_751_991_167_300);
+}
+
+/// A nanosecond less than a day, backwards.
+fn short(rt: &impl Abort) -> SignedDuration {
+    SignedDuration::from_whole_nanoseconds(-86_399_999_999_999).expect(rt, "too long")
+}
+
+#[test]
+fn cuts_lengths(rt: HostRuntime) {
+    let short = short(&rt);
+    same(&rt, &short.whole_days(), &0);
+    same(&rt, &short.whole_seconds(), &-86_399);
+    same(&rt, &short.subsec_nanoseconds(), &-999_999_999);
+    holds(&rt, short.is_negative());
+    holds(&rt, !short.is_positive());
+    holds(&rt, !short.is_zero());
+    holds(&rt, zero().is_zero());
+}
+
+#[test]
+fn adds_lengths(rt: HostRuntime) {
+    let short = short(&rt);
     let opposite = zero().checked_sub(short).expect(&rt, "too long");
-    assert!(rt; opposite.is_positive());
+    holds(&rt, opposite.is_positive());
     let sum = short.checked_add(zero()).expect(&rt, "too long");
-    assert!(rt; hash_of(&sum) == hash_of(&short));
-    assert!(rt; greatest().checked_sub(short).is_none());
-    assert!(rt; greatest().checked_add(greatest()).is_none());
+    same(&rt, &hash_of(&sum), &hash_of(&short));
+    holds(&rt, greatest().checked_sub(short).is_none());
+    holds(&rt, greatest().checked_add(greatest()).is_none());
 }
 
 /// Seconds and nanoseconds without a sign, and the nanoseconds of the length with one; none where it is too long.
@@ -150,7 +203,7 @@ fn converts_unsigned_lengths(rt: HostRuntime) {
             whole,
         );
     }
-    assert!(rt; StdDuration::new(0, 1_000_000_000).is_none());
+    holds(&rt, StdDuration::new(0, 1_000_000_000).is_none());
 }
 
 #[test]
