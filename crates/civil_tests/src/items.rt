@@ -47,7 +47,7 @@ fn shows_errors_as_what_is_inside(rt: HostRuntime) {
     prints(&rt, alloc, &DifferentVariant, text);
 }
 
-// Each of these types has one value.
+// Each of these types has one value, so that no more is to be said of an answer than whether it is one.
 #[test]
 fn takes_errors_apart(rt: HostRuntime) {
     holds(
