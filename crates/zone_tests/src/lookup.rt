@@ -1,5 +1,5 @@
-//! Local times of two and of three spans, what a set is refused for, one function over zones of two kinds.
-use crate::checks::same;
+//! Sets and the zones of them: local times of two spans, what a set is refused for, and a fixed zone.
+use crate::checks::{holds, same};
 use civil_base::{OffsetDateTime, PlainDateTime, UtcOffset};
 use owned::{Items, Text};
 use std::alloc::Global;
@@ -66,7 +66,8 @@ pub(crate) fn local(rt: &impl Abort, second: i64) -> PlainDateTime {
     PlainDateTime::new(date, time)
 }
 
-fn zone_of<'a>(rt: &impl Abort, set: &'a FixedTimespanSet) -> Tz<'a> {
+/// The zone of a set that isn't refused.
+pub(crate) fn zone_of<'a>(rt: &impl Abort, set: &'a FixedTimespanSet) -> Tz<'a> {
     Tz::new(set).expect(rt, "refused")
 }
 
@@ -96,35 +97,11 @@ pub(crate) fn expect_offsets<T: TimeZone>(
 }
 
 #[test]
-fn a_gap(rt: HostRuntime) {
-    let set = set_of(&rt, rt.alloc(), 0, &[(1_000_000, 3600)]);
-    let zone = zone_of(&rt, &set);
-    assert!(rt; zone.is_orderly());
-    expect_offsets(&rt, &zone, 999_999, Some(0), None);
-    expect_offsets(&rt, &zone, 1_000_000, None, None);
-    expect_offsets(&rt, &zone, 1_003_600, Some(3600), None);
-}
-
-#[test]
 fn a_fold(rt: HostRuntime) {
     let set = set_of(&rt, rt.alloc(), 0, &[(1_000_000, -3600)]);
     let zone = zone_of(&rt, &set);
     expect_offsets(&rt, &zone, 996_400, Some(0), Some(-3600));
     expect_offsets(&rt, &zone, 1_000_000, Some(-3600), None);
-}
-
-#[test]
-fn three_instants_of_one_local_time(rt: HostRuntime) {
-    let alloc = rt.alloc();
-    let set = set_of(&rt, alloc, 7200, &[(1000, 3600), (2000, 0)]);
-    let zone = zone_of(&rt, &set);
-    assert!(rt; !zone.is_orderly());
-    expect_offsets(&rt, &zone, 5000, Some(7200), Some(3600));
-    let mut seconds = Vec::new(alloc);
-    for date in zone.instants_local(&local(&rt, 5000)) {
-        seconds.push(date.unix_timestamp()).expect(&rt, "memory");
-    }
-    same(&rt, &seconds.as_slice(), &[-2200, 1400, 5000].as_slice());
 }
 
 /// Asserts why a set is refused.
@@ -179,16 +156,7 @@ pub(crate) fn expect_at<T: TimeZone>(
     same(rt, &offset_found, &offset);
     same(rt, &shown(rt, zone, second).unix_timestamp(), &second);
     same(rt, &zone.name(), &name);
-    assert!(rt; !zone.get_offset_utc(&at(rt, second)).is_dst());
-}
-
-#[test]
-fn a_zone_of_a_set(rt: HostRuntime) {
-    let set = set_of(&rt, rt.alloc(), 0, &[(1_000_000, 3600)]);
-    let zone = zone_of(&rt, &set);
-    expect_at(&rt, &zone, 999_999, 0, "Test/Set");
-    expect_at(&rt, &zone, 1_000_000, 3600, "Test/Set");
-    same(&rt, &zone.get_offset_primary().to_utc().whole_seconds(), &0);
+    holds(rt, !zone.get_offset_utc(&at(rt, second)).is_dst());
 }
 
 #[test]
@@ -226,15 +194,4 @@ pub(crate) fn expect_only<T: TimeZone>(
         OffsetResult::Some(only) => expect_kind(rt, &only, name, saving),
         _ => panic!(rt; "not one offset"),
     }
-}
-
-#[test]
-fn abbreviations_and_kinds(rt: HostRuntime) {
-    let set = summer(&rt, rt.alloc());
-    let zone = zone_of(&rt, &set);
-    expect_kind(&rt, &zone.get_offset_primary(), "CET", false);
-    expect_kind(&rt, &zone.get_offset_utc(&at(&rt, 999)), "CET", false);
-    expect_kind(&rt, &zone.get_offset_utc(&at(&rt, 1000)), "CEST", true);
-    expect_only(&rt, &zone, 4599, "CET", false);
-    expect_only(&rt, &zone, 8200, "CEST", true);
 }

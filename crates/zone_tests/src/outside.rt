@@ -1,6 +1,6 @@
 //! Objects in memory, objects that never fail, and the adapters of the real file and streams.
 
-use crate::checks::same;
+use crate::checks::{holds, same};
 use std::alloc::Global;
 use std::fmt::Display;
 use std::io;
@@ -18,6 +18,11 @@ fn read_whole(rt: &impl Abort, read: Result<Vec<u8>, ReadEnd>) -> Vec<u8> {
 /// Asserts that a text wasn't read.
 fn expect_failed(rt: &impl Abort, read: Result<Vec<u8>, ReadEnd>) {
     same(rt, &read.err(), &Some(ReadEnd::Failed));
+}
+
+/// Asserts the bytes that were read.
+fn expect_read(rt: &impl Abort, read: Result<Vec<u8>, ReadEnd>, text: &str) {
+    same(rt, &read_whole(rt, read).as_slice(), &text.as_bytes());
 }
 
 /// The bytes as a vector.
@@ -47,10 +52,15 @@ fn the_first_text_of_a_name_is_copied(rt: HostRuntime) {
     let mut shelf = shelf(&rt, alloc);
     expect_failed(&rt, fetch_all(alloc, &mut shelf, "a"));
     expect_failed(&rt, fetch_all(alloc, &mut shelf, "b"));
-    let text = read_whole(&rt, fetch_all(alloc, &mut shelf, "a"));
+    expect_read(&rt, fetch_all(alloc, &mut shelf, "a"), "one");
+}
+
+#[test]
+fn a_full_sink_takes_a_part(rt: HostRuntime) {
+    let alloc = rt.alloc();
     let mut sink = MemSink::new(alloc, 4, 2, Vec::new(alloc)).expect(&rt, "memory");
-    assert!(rt; write_all(&mut sink, &text).is_ok());
-    assert!(rt; write_all(&mut sink, &text).is_err());
+    holds(&rt, write_all(&mut sink, b"one").is_ok());
+    holds(&rt, write_all(&mut sink, b"one").is_err());
     same(&rt, &sink.taken(), &b"oneo".as_slice());
 }
 
@@ -60,8 +70,7 @@ fn a_failed_read_leaves_the_rest(rt: HostRuntime) {
     let text = bytes_of(&rt, alloc, "abc");
     let mut source = MemSource::new(text, 1, calls_of(&rt, alloc, 2));
     expect_failed(&rt, read_all(alloc, &mut source));
-    let rest = read_whole(&rt, read_all(alloc, &mut source));
-    same(&rt, &rest.as_slice(), &b"bc".as_slice());
+    expect_read(&rt, read_all(alloc, &mut source), "bc");
 }
 
 #[test]
@@ -70,27 +79,37 @@ fn sure_objects_give_and_take_all(rt: HostRuntime) {
     let mut shelf = SureShelf::new(bytes_of(&rt, alloc, "ab"));
     let fetched = read_whole(&rt, fetch_all(alloc, &mut shelf, "any"));
     let mut source = SureSource::new(fetched);
-    let text = read_whole(&rt, read_all(alloc, &mut source));
-    same(&rt, &text.as_slice(), &b"ab".as_slice());
-    assert!(rt; write_all(&mut SureSink::new(), &text).is_ok());
+    expect_read(&rt, read_all(alloc, &mut source), "ab");
+    holds(&rt, write_all(&mut SureSink::new(), b"ab").is_ok());
+}
+
+/// Asserts that no more is given.
+fn expect_end(rt: &impl Abort, shelf: &mut impl Shelf) {
+    same(rt, &shelf.read(&mut [0; 8]).ok(), &Some(0));
 }
 
 #[test]
 fn a_missing_file_is_a_fault(rt: HostRuntime) {
     let mut shelf = FileShelf::new(rt);
-    assert!(rt; shelf.fetch("/dev/null/missing").is_err());
-    let mut piece = [0; 8];
-    same(&rt, &shelf.read(&mut piece).ok(), &Some(0));
-    assert!(rt; shelf.fetch("/dev/null").is_ok());
-    same(&rt, &shelf.read(&mut piece).ok(), &Some(0));
+    holds(&rt, shelf.fetch("/dev/null/missing").is_err());
+    expect_end(&rt, &mut shelf);
+    holds(&rt, shelf.fetch("/dev/null").is_ok());
+    expect_end(&rt, &mut shelf);
+}
+
+#[test]
+fn a_file_gives_its_bytes(rt: HostRuntime) {
+    let mut shelf = FileShelf::new(rt);
+    let mut piece = [7; 4];
+    holds(&rt, shelf.fetch("/dev/zero").is_ok());
+    same(&rt, &shelf.read(&mut piece).ok(), &Some(4));
+    same(&rt, &piece, &[0, 0, 0, 0]);
 }
 
 #[test]
 fn standard_input_gives_the_reader(rt: HostRuntime) {
-    let alloc = rt.alloc();
     let mut source = StdSource::new(b"ab".as_slice());
-    let text = read_whole(&rt, read_all(alloc, &mut source));
-    same(&rt, &text.as_slice(), &b"ab".as_slice());
+    expect_read(&rt, read_all(rt.alloc(), &mut source), "ab");
 }
 
 #[test]
@@ -127,17 +146,8 @@ impl Print for Short {
 fn a_short_write_goes_on(rt: HostRuntime) {
     let mut sink = StdSink::new(Short { most: 2 });
     same(&rt, &sink.write(b"abc").ok(), &Some(2));
-    assert!(rt; write_all(&mut sink, b"abcde").is_ok());
+    holds(&rt, write_all(&mut sink, b"abcde").is_ok());
     let mut full = StdSink::new(Short { most: 0 });
-    assert!(rt; full.write(b"abc").is_err());
-    assert!(rt; write_all(&mut full, b"abc").is_err());
-}
-
-#[test]
-fn a_file_gives_its_bytes(rt: HostRuntime) {
-    let mut shelf = FileShelf::new(rt);
-    let mut piece = [7; 4];
-    assert!(rt; shelf.fetch("/dev/zero").is_ok());
-    same(&rt, &shelf.read(&mut piece).ok(), &Some(4));
-    same(&rt, &piece, &[0, 0, 0, 0]);
+    holds(&rt, full.write(b"abc").is_err());
+    holds(&rt, write_all(&mut full, b"abc").is_err());
 }

@@ -1,4 +1,5 @@
 //! The collapse on rows whose answers are known from outside.
+use crate::checks::holds;
 use owned::{Items, Text};
 use std::alloc::Global;
 use std::process::Abort;
@@ -44,15 +45,21 @@ fn entries(rt: &impl Abort, alloc: Global, text: &str) -> Items<(i64, FixedTimes
     entries
 }
 
+/// A set of the first two fields of a row.
+fn set_of(rt: &impl Abort, alloc: Global, first: &str, rest: &str) -> FixedTimespanSet {
+    let first = span(rt, alloc, &mut first.split_whitespace());
+    let rest = entries(rt, alloc, rest);
+    FixedTimespanSet { first, rest }
+}
+
 /// Whether the collapse keeps what the row says.
 fn keeps(rt: &impl Abort, alloc: Global, row: &str) -> bool {
-    let mut parts = row.split('|');
-    let mut words = parts.next().expect(rt, "first").split_whitespace();
-    let first = span(rt, alloc, &mut words);
-    let rest = entries(rt, alloc, parts.next().expect(rt, "entries"));
-    let kept = entries(rt, alloc, parts.next().expect(rt, "kept"));
-    let mut set = FixedTimespanSet { first, rest };
-    assert!(rt; set.is_bounded());
+    let mut fields = row.split('|');
+    let first = fields.next().expect(rt, "first");
+    let rest = fields.next().expect(rt, "entries");
+    let mut set = set_of(rt, alloc, first, rest);
+    let kept = entries(rt, alloc, fields.next().expect(rt, "kept"));
+    holds(rt, set.is_bounded());
     collapse(&mut set);
     set.rest.as_slice() == kept.as_slice()
 }
@@ -60,6 +67,6 @@ fn keeps(rt: &impl Abort, alloc: Global, row: &str) -> bool {
 #[test]
 fn rows(rt: HostRuntime) {
     for row in ROWS.lines() {
-        assert!(rt; keeps(&rt, rt.alloc(), row));
+        holds(&rt, keeps(&rt, rt.alloc(), row));
     }
 }

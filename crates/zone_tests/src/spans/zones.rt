@@ -1,5 +1,5 @@
 //! Zones of a table.
-use crate::checks::same;
+use crate::checks::{holds, same};
 use std::alloc::Global;
 use std::process::Abort;
 use zone_spans::{FixedTimespanSet, SpanFault, TableTransitions};
@@ -9,10 +9,18 @@ use zone_values::{
     ZoneInfo,
 };
 
-/// A rule of that ruleset for good, at 2:00 of the wall's clock.
-fn rule<'a>(name: &'a str, from: Year, month: Month, day: DaySpec, hours: i8) -> Line<'a> {
+/// Joins a rule of that ruleset for good, at 2:00 of the wall's clock.
+fn add_rule(
+    rt: &impl Abort,
+    builder: &mut TableBuilder,
+    name: &str,
+    from: Year,
+    month: Month,
+    day: DaySpec,
+    hours: i8,
+) {
     let letters = if hours == 0 { "S" } else { "D" };
-    Line::Rule(Rule {
+    let rule = Rule {
         name,
         from_year: from,
         to_year: Some(Year::Maximum),
@@ -21,56 +29,58 @@ fn rule<'a>(name: &'a str, from: Year, month: Month, day: DaySpec, hours: i8) ->
         time: TimeSpec::Hours(2).with_type(TimeType::Wall),
         time_to_add: TimeSpec::Hours(hours),
         letters: Some(letters),
-    })
+    };
+    builder.add_line(Line::Rule(rule)).expect(rt, "refused");
 }
 
-/// What a line says that holds to that year.
-fn info<'a>(ruleset: Option<&'a str>, until: Option<i64>) -> ZoneInfo<'a> {
-    ZoneInfo {
-        utc_offset: TimeSpec::Hours(-5),
-        saving: match ruleset {
-            Some(name) => Saving::Multiple(name),
-            None => Saving::NoSaving,
-        },
-        format: "E%sT",
-        time: match until {
-            Some(year) => Some(ChangeTime::UntilYear(Year::Number(year))),
-            None => None,
-        },
+/// The saving of a ruleset.
+fn saving(ruleset: Option<&str>) -> Saving<'_> {
+    match ruleset {
+        Some(name) => Saving::Multiple(name),
+        None => Saving::NoSaving,
     }
 }
 
-fn zone<'a>(name: &'a str, ruleset: Option<&'a str>, until: Option<i64>) -> Line<'a> {
-    Line::Zone(Zone {
-        name,
-        info: info(ruleset, until),
-    })
+/// The end of a year's line.
+fn end(until: Option<i64>) -> Option<ChangeTime> {
+    Some(ChangeTime::UntilYear(Year::Number(until?)))
 }
 
-/// Joins a line that isn't refused.
-fn add(rt: &impl Abort, builder: &mut TableBuilder, line: Line<'_>) {
+/// What a line says that holds to that year.
+fn info(ruleset: Option<&str>, until: Option<i64>) -> ZoneInfo<'_> {
+    ZoneInfo {
+        utc_offset: TimeSpec::Hours(-5),
+        saving: saving(ruleset),
+        format: "E%sT",
+        time: end(until),
+    }
+}
+
+/// Joins a zone's first line.
+fn add_zone(
+    rt: &impl Abort,
+    builder: &mut TableBuilder,
+    name: &str,
+    ruleset: Option<&str>,
+    until: Option<i64>,
+) {
+    let info = info(ruleset, until);
+    let line = Line::Zone(Zone { name, info });
     builder.add_line(line).expect(rt, "refused");
 }
 
 /// The rules of New York since 2007, and one for each fault that comes of a rule.
 fn add_rules(rt: &impl Abort, builder: &mut TableBuilder) {
-    let number = Year::Number(2007);
+    let year = Year::Number(2007);
     let second = DaySpec::FirstOnOrAfter(Weekday::Sunday, 8);
     let first = DaySpec::FirstOnOrAfter(Weekday::Sunday, 1);
     let before = DaySpec::LastOnOrBefore(Weekday::Sunday, 1);
-    add(rt, builder, rule("US", number, Month::March, second, 1));
-    add(rt, builder, rule("US", number, Month::November, first, 0));
-    add(
-        rt,
-        builder,
-        rule("Yearless", Year::Minimum, Month::March, first, 0),
-    );
-    add(
-        rt,
-        builder,
-        rule("Outside", number, Month::January, before, 0),
-    );
-    add(rt, builder, rule("Summer", number, Month::March, before, 1));
+    add_rule(rt, builder, "US", year, Month::March, second, 1);
+    add_rule(rt, builder, "US", year, Month::November, first, 0);
+    let no_year = Year::Minimum;
+    add_rule(rt, builder, "Yearless", no_year, Month::March, first, 0);
+    add_rule(rt, builder, "Outside", year, Month::January, before, 0);
+    add_rule(rt, builder, "Summer", year, Month::March, before, 1);
 }
 
 /// Joins a zone of two lines.
@@ -81,25 +91,22 @@ fn add_two(
     until: Option<i64>,
     ruleset: Option<&str>,
 ) {
-    add(rt, builder, zone(name, None, until));
-    add(rt, builder, Line::Continuation(info(ruleset, None)));
+    add_zone(rt, builder, name, None, until);
+    let further = Line::Continuation(info(ruleset, None));
+    builder.add_line(further).expect(rt, "refused");
 }
 
 /// New York by its rules since 2007, and a zone with each fault, named after it.
 fn table(rt: &impl Abort, alloc: Global) -> Table {
     let mut builder = TableBuilder::new(alloc);
     add_rules(rt, &mut builder);
-    add(rt, &mut builder, zone("America/New_York", Some("US"), None));
+    add_zone(rt, &mut builder, "America/New_York", Some("US"), None);
     add_two(rt, &mut builder, "UnknownRuleset", Some(2000), Some("None"));
     add_two(rt, &mut builder, "MissingUntil", None, None);
     add_two(rt, &mut builder, "YearRange", Some(10_000), None);
-    add(rt, &mut builder, zone("RuleYears", Some("Yearless"), None));
-    add(rt, &mut builder, zone("DayRange", Some("Outside"), None));
-    add(
-        rt,
-        &mut builder,
-        zone("NoStandardSpan", Some("Summer"), None),
-    );
+    add_zone(rt, &mut builder, "RuleYears", Some("Yearless"), None);
+    add_zone(rt, &mut builder, "DayRange", Some("Outside"), None);
+    add_zone(rt, &mut builder, "NoStandardSpan", Some("Summer"), None);
     builder.build()
 }
 
@@ -110,28 +117,33 @@ fn spans(
     name: &str,
 ) -> Result<Option<FixedTimespanSet>, SpanFault> {
     let table = table(rt, alloc);
-    assert!(rt; table.is_bounded());
+    holds(rt, table.is_bounded());
     table.timespans(alloc, name)
+}
+
+/// Asserts the first span of New York, and the last of its two changes in each year of 2007 to 2099.
+fn expect_new_york(rt: &impl Abort, set: &FixedTimespanSet) {
+    same(rt, &set.first.name.as_str(), &"EST");
+    holds(rt, set.is_bounded());
+    same(rt, &set.first.total_offset(), &-18_000);
+    let rest = set.rest.as_slice();
+    same(rt, &rest.len(), &186);
+    let (time, last) = rest.last().expect(rt, "no entry");
+    same(rt, time, &4_097_196_000);
+    same(rt, &last.dst_offset, &0);
+    same(rt, &last.name.as_str(), &"EST");
 }
 
 #[test]
 fn new_york(rt: HostRuntime) {
     let found = spans(&rt, rt.alloc(), "America/New_York").expect(&rt, "no fault");
-    let set = found.expect(&rt, "no zone");
-    same(&rt, &set.first.name.as_str(), &"EST");
-    assert!(rt; set.is_bounded() && set.first.total_offset() == -18_000);
-    let rest = set.rest.as_slice();
-    same(&rt, &rest.len(), &186);
-    let (time, last) = rest.last().expect(&rt, "no entry");
-    same(&rt, time, &4_097_196_000);
-    same(&rt, &last.dst_offset, &0);
-    same(&rt, &last.name.as_str(), &"EST");
+    expect_new_york(&rt, &found.expect(&rt, "no zone"));
 }
 
 #[test]
 fn no_zone(rt: HostRuntime) {
     let found = spans(&rt, rt.alloc(), "US").expect(&rt, "a fault");
-    assert!(rt; found.is_none());
+    holds(&rt, found.is_none());
 }
 
 #[test]

@@ -1,35 +1,38 @@
 //! Abbreviations, owned forms, and moments that are known from outside.
-use crate::checks::same;
+use crate::checks::{holds, same};
 use owned::Text;
 use std::alloc::Global;
 use std::process::Abort;
 use zone_table::{Format, RuleInfo, Saving, ZoneInfo};
 use zone_values::{DaySpec, Month, TimeSpec, TimeType, Weekday, Year};
 
-/// Format, saving and letters, with `-` for no letters, and the abbreviation that they give.
-const ABBREVIATIONS: &str =
-    "E%sT 3600 D EDT\nE%sT 0 - ET\n%s/B%sT 0 S %s\n%s/B%sT 1200 S B%sT\n-05 0 S -05\nIST/GMT -3600 - GMT";
+/// Format, saving and letters, and the abbreviation that they give.
+const ABBREVIATIONS: [(&str, i64, Option<&str>, &str); 6] = [
+    ("E%sT", 3600, Some("D"), "EDT"),
+    ("E%sT", 0, None, "ET"),
+    ("%s/B%sT", 0, Some("S"), "%s"),
+    ("%s/B%sT", 1200, Some("S"), "B%sT"),
+    ("-05", 0, Some("S"), "-05"),
+    ("IST/GMT", -3600, None, "GMT"),
+];
 
-/// Asserts a row of that table.
-fn abbreviates(rt: &impl Abort, alloc: Global, row: &str) {
-    let mut words = row.split_whitespace();
-    let format = Format::new(alloc, words.next().expect(rt, "format")).expect(rt, "memory");
-    let saving = words.next().expect(rt, "saving").parse::<i64>();
-    let letters = letters_of(words.next().expect(rt, "letters"));
-    let shown = format.format(alloc, saving.expect(rt, "saving"), letters);
-    let abbreviation = words.next().expect(rt, "abbreviation");
-    same(rt, &shown.expect(rt, "memory").as_str(), &abbreviation);
-}
-
-/// The letters of a rule, none for a hyphen.
-fn letters_of(word: &str) -> Option<&str> {
-    if word == "-" { None } else { Some(word) }
+/// What a format gives.
+fn abbreviation(
+    rt: &impl Abort,
+    alloc: Global,
+    format: &str,
+    saving: i64,
+    letters: Option<&str>,
+) -> String {
+    let format = Format::new(alloc, format).expect(rt, "memory");
+    format.format(alloc, saving, letters).expect(rt, "memory")
 }
 
 #[test]
 fn abbreviations(rt: HostRuntime) {
-    for row in ABBREVIATIONS.lines() {
-        abbreviates(&rt, rt.alloc(), row);
+    for (format, saving, letters, wanted) in &ABBREVIATIONS {
+        let shown = abbreviation(&rt, rt.alloc(), format, *saving, *letters);
+        same(&rt, &shown.as_str(), wanted);
     }
 }
 
@@ -59,28 +62,38 @@ fn forward() -> zone_values::Rule<'static> {
 fn a_rule(rt: HostRuntime) {
     let rule = RuleInfo::from_line(rt.alloc(), forward()).expect(&rt, "memory");
     same(&rt, &(rule.time, rule.time_to_add), &(7_200, 3_600));
-    assert!(rt; rule.has_years());
-    assert!(rt; rule.applies_to_year(2007) && !rule.applies_to_year(2006));
-    assert!(rt; rule.letters() == Some("D"));
+    same(&rt, &rule.letters(), &Some("D"));
+    holds(&rt, rule.has_years());
+    holds(&rt, rule.applies_to_year(2007));
+    holds(&rt, !rule.applies_to_year(2006));
 }
 
-#[test]
-fn a_zone(rt: HostRuntime) {
-    let alloc = rt.alloc();
-    let line = zone_values::ZoneInfo {
+/// The owned form of New York's line since 2007.
+fn new_york(rt: &impl Abort, alloc: Global) -> ZoneInfo {
+    let ruleset = Text::new(alloc, "US").expect(rt, "memory");
+    let format = Text::new(alloc, "E%sT").expect(rt, "memory");
+    ZoneInfo {
+        offset: -18_000,
+        saving: Saving::Multiple(ruleset),
+        format: Format::Placeholder(format),
+        end_time: None,
+    }
+}
+
+/// New York's line since 2007.
+fn line() -> zone_values::ZoneInfo<'static> {
+    zone_values::ZoneInfo {
         utc_offset: TimeSpec::HoursMinutes(-5, 0),
         saving: zone_values::Saving::Multiple("US"),
         format: "E%sT",
         time: None,
-    };
-    let owned = ZoneInfo {
-        offset: -18_000,
-        saving: Saving::Multiple(Text::new(alloc, "US").expect(&rt, "memory")),
-        format: Format::Placeholder(Text::new(alloc, "E%sT").expect(&rt, "memory")),
-        end_time: None,
-    };
-    let zone = ZoneInfo::from_line(alloc, line).expect(&rt, "memory");
-    assert!(rt; zone == owned);
+    }
+}
+
+#[test]
+fn a_zone(rt: HostRuntime) {
+    let zone = ZoneInfo::from_line(rt.alloc(), line()).expect(&rt, "memory");
+    holds(&rt, zone == new_york(&rt, rt.alloc()));
 }
 
 #[test]

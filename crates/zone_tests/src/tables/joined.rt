@@ -1,5 +1,5 @@
 //! Lines joined to a table, the refusals with their texts, and zones by their names.
-use crate::checks::same;
+use crate::checks::{holds, same};
 use std::alloc::Global;
 use std::process::Abort;
 use zone_table::{Error, Table, TableBuilder};
@@ -21,30 +21,47 @@ fn rule(name: &str) -> Line<'_> {
     })
 }
 
-/// What a zone line says that adds this saving to UTC.
-fn info(saving: Saving<'_>) -> ZoneInfo<'_> {
+/// The rules of a ruleset, or none where no ruleset is named.
+fn saving(ruleset: &str) -> Saving<'_> {
+    if ruleset.is_empty() {
+        Saving::NoSaving
+    } else {
+        Saving::Multiple(ruleset)
+    }
+}
+
+/// What a zone line says that adds the saving of that ruleset to UTC.
+fn info(ruleset: &str) -> ZoneInfo<'_> {
     ZoneInfo {
         utc_offset: TimeSpec::Zero,
-        saving,
+        saving: saving(ruleset),
         format: "A",
         time: None,
     }
 }
 
 /// The first line of a zone.
-fn zone<'a>(name: &'a str, saving: Saving<'a>) -> Line<'a> {
-    let info = info(saving);
+fn zone<'a>(name: &'a str, ruleset: &'a str) -> Line<'a> {
+    let info = info(ruleset);
     Line::Zone(Zone { name, info })
 }
 
-/// A further line.
-fn further(saving: Saving<'_>) -> Line<'_> {
-    Line::Continuation(info(saving))
-}
-
-/// Another name.
-fn link<'a>(existing: &'a str, new: &'a str) -> Line<'a> {
-    Line::Link(Link { existing, new })
+/// The line of a row: a rule, a zone or a further line with its ruleset, a link, or nothing.
+fn line_of<'a>(rt: &impl Abort, row: &'a str) -> Line<'a> {
+    let mut words = row.split(' ');
+    let kind = words.next().expect(rt, "kind");
+    let first = words.next().unwrap_or("");
+    let second = words.next().unwrap_or("");
+    match kind {
+        "rule" => rule(first),
+        "zone" => zone(first, second),
+        "further" => Line::Continuation(info(first)),
+        "link" => Line::Link(Link {
+            existing: first,
+            new: second,
+        }),
+        _ => Line::Space,
+    }
 }
 
 /// The name in an error.
@@ -62,21 +79,21 @@ fn text_of(rt: &impl Abort, alloc: Global, error: &Error) -> String {
     format!(in alloc; "{error} {name}").expect(rt, "memory")
 }
 
-/// The table of the lines, without those that are refused, and the text of the last refusal.
-fn join(rt: &impl Abort, alloc: Global, lines: &[Line<'_>]) -> (Table, String) {
+/// The table of the rows, with `;` between them, without those that are refused, and the text of the last refusal.
+fn join(rt: &impl Abort, alloc: Global, rows: &str) -> (Table, String) {
     let mut builder = TableBuilder::new(alloc);
     let mut told = String::from_str(alloc, "joined").expect(rt, "memory");
-    for line in lines {
-        if let Err(error) = builder.add_line(*line) {
+    for row in rows.split(';') {
+        if let Err(error) = builder.add_line(line_of(rt, row)) {
             told = text_of(rt, alloc, &error);
         }
     }
     (builder.build(), told)
 }
 
-/// The lines are joined with this refusal as the last.
-fn tells(rt: &impl Abort, alloc: Global, lines: &[Line<'_>], wanted: &str) {
-    let (_, told) = join(rt, alloc, lines);
+/// The rows are joined with this refusal as the last.
+fn tells(rt: &impl Abort, alloc: Global, rows: &str, wanted: &str) {
+    let (_, told) = join(rt, alloc, rows);
     same(rt, &told.as_str(), &wanted);
 }
 
@@ -84,41 +101,23 @@ fn tells(rt: &impl Abort, alloc: Global, lines: &[Line<'_>], wanted: &str) {
 fn continuations_with_no_zone(rt: HostRuntime) {
     let alloc = rt.alloc();
     let surprise = "continuation line follows line that isn't a zone definition line ";
-    let none = Saving::NoSaving;
-    tells(&rt, alloc, &[further(none)], surprise);
-    tells(
-        &rt,
-        alloc,
-        &[zone("A", none), link("A", "B"), further(none)],
-        surprise,
-    );
-    tells(
-        &rt,
-        alloc,
-        &[zone("A", none), rule("R"), further(none)],
-        surprise,
-    );
-    tells(
-        &rt,
-        alloc,
-        &[zone("A", none), Line::Space, further(Saving::Multiple("X"))],
-        "joined",
-    );
+    tells(&rt, alloc, "further", surprise);
+    tells(&rt, alloc, "zone A;link A B;further", surprise);
+    tells(&rt, alloc, "zone A;rule R;further", surprise);
+    tells(&rt, alloc, "zone A;;further X", "joined");
 }
 
 #[test]
 fn names_that_stand(rt: HostRuntime) {
     let alloc = rt.alloc();
-    let none = Saving::NoSaving;
-    let under_x = zone("A", Saving::Multiple("X"));
     let unknown = "zone definition refers to a ruleset that isn't defined X";
-    tells(&rt, alloc, &[zone("A", none), under_x], unknown);
-    tells(&rt, alloc, &[rule("X"), under_x], "joined");
+    tells(&rt, alloc, "zone A;zone A X", unknown);
+    tells(&rt, alloc, "rule X;zone A X", "joined");
     let second_zone = "zone line with name that already exists ";
-    tells(&rt, alloc, &[zone("A", none), zone("A", none)], second_zone);
+    tells(&rt, alloc, "zone A;zone A", second_zone);
     let second_link = "link line with name that already exists b";
-    tells(&rt, alloc, &[link("a", "b"), link("c", "b")], second_link);
-    tells(&rt, alloc, &[zone("b", none), link("a", "b")], "joined");
+    tells(&rt, alloc, "link a b;link c b", second_link);
+    tells(&rt, alloc, "zone b;link a b", "joined");
 }
 
 #[test]
@@ -127,46 +126,30 @@ fn want_of_memory(rt: HostRuntime) {
     same(&rt, &shown.as_str(), &"out of memory ");
 }
 
-/// Writes the name, and how many lines the table has under it, with `-` where it has no such zone.
-fn push_count(rt: &impl Abort, alloc: Global, table: &Table, name: &str, text: &mut String) {
-    let shown = match table.get_zoneset(name) {
-        Some(lines) => format!(in alloc; "{name}{} ", lines.len()),
-        None => format!(in alloc; "{name}- "),
-    };
-    text.push_str(shown.expect(rt, "memory").as_str())
-        .expect(rt, "memory");
-}
-
-/// The counts under each of the names.
-fn counts(rt: &impl Abort, alloc: Global, table: &Table, names: &str) -> String {
-    let mut text = String::new(alloc);
-    for name in names.split_whitespace() {
-        push_count(rt, alloc, table, name, &mut text);
-    }
-    text
+/// How many lines the zone of that name has.
+fn line_count(table: &Table, name: &str) -> Option<usize> {
+    Some(table.get_zoneset(name)?.len())
 }
 
 #[test]
 fn zones_by_their_names(rt: HostRuntime) {
-    let alloc = rt.alloc();
-    let lines = [
-        zone("A", Saving::NoSaving),
-        further(Saving::NoSaving),
-        zone("D", Saving::NoSaving),
-        link("A", "B"),
-        link("B", "C"),
-        link("A", "D"),
-    ];
-    let (table, _) = join(&rt, alloc, &lines);
-    let counts = counts(&rt, alloc, &table, "A B C D");
-    same(&rt, &counts.as_str(), &"A2 B2 C- D1 ");
+    let rows = "zone A;further;zone D;link A B;link B C;link A D";
+    let (table, _) = join(&rt, rt.alloc(), rows);
+    same(&rt, &line_count(&table, "A"), &Some(2));
+    same(&rt, &line_count(&table, "B"), &Some(2));
+    same(&rt, &line_count(&table, "C"), &None);
+    same(&rt, &line_count(&table, "D"), &Some(1));
+}
+
+/// How many rules the ruleset of that name has.
+fn rule_count(table: &Table, name: &str) -> Option<usize> {
+    Some(table.get_ruleset(name)?.len())
 }
 
 #[test]
 fn rulesets_by_their_names(rt: HostRuntime) {
-    let (table, _) = join(&rt, rt.alloc(), &[rule("R"), rule("R")]);
-    let rules = table.get_ruleset("R").expect(&rt, "R");
-    same(&rt, &rules.len(), &2);
-    assert!(rt; table.get_ruleset("S").is_none());
-    assert!(rt; table.is_bounded());
+    let (table, _) = join(&rt, rt.alloc(), "rule R;rule R");
+    same(&rt, &rule_count(&table, "R"), &Some(2));
+    same(&rt, &rule_count(&table, "S"), &None);
+    holds(&rt, table.is_bounded());
 }

@@ -1,9 +1,8 @@
 //! The hierarchies of worked names.
 use crate::checks::same;
 use owned::{Items, Text, TextMap};
-use std::alloc::{AllocError, Global};
+use std::alloc::Global;
 use std::process::Abort;
-use std::test::Fail;
 use zone_table::{Child, Structure, Table, ZoneInfo};
 
 /// Zones without lines of these names, with blanks between them.
@@ -36,37 +35,46 @@ fn table_of(rt: &impl Abort, alloc: Global, zones: &str, links: &str) -> Table {
     }
 }
 
-/// The hierarchy as text: each part and its children, with a slash after submodules.
-fn shown(alloc: Global, table: &Table) -> Result<String, AllocError> {
-    let mut text = String::new(alloc);
-    for entry in table.structure(alloc)? {
-        text.push_str(entry.name)?;
-        for child in entry.children {
-            text.push_str(" ")?;
-            match child {
-                Child::Submodule(name) => {
-                    text.push_str(name)?;
-                    text.push_str("/")?;
-                }
-                Child::TimeZone(name) => text.push_str(name)?,
-            }
+fn push(rt: &impl Abort, text: &mut String, part: &str) {
+    text.push_str(part).expect(rt, "memory");
+}
+
+/// Writes a child, with a slash after a submodule.
+fn push_child(rt: &impl Abort, text: &mut String, child: &Child<'_>) {
+    push(rt, text, " ");
+    match child {
+        Child::Submodule(name) => {
+            push(rt, text, name);
+            push(rt, text, "/");
         }
-        text.push_str(";")?;
+        Child::TimeZone(name) => push(rt, text, name),
     }
-    Ok(text)
+}
+
+/// The hierarchy as text: each part and its children.
+fn shown(rt: &impl Abort, alloc: Global, table: &Table) -> String {
+    let mut text = String::new(alloc);
+    for entry in table.structure(alloc).expect(rt, "memory") {
+        push(rt, &mut text, entry.name);
+        for child in &entry.children {
+            push_child(rt, &mut text, child);
+        }
+        push(rt, &mut text, ";");
+    }
+    text
+}
+
+/// Asserts the hierarchy of zones and links of these names.
+fn expect_shown(rt: &impl Abort, alloc: Global, zones: &str, links: &str, wanted: &str) {
+    let table = table_of(rt, alloc, zones, links);
+    same(rt, &shown(rt, alloc, &table).as_str(), &wanted);
 }
 
 #[test]
-fn hierarchies(rt: HostRuntime) -> Result<(), Fail> {
+fn hierarchies(rt: HostRuntime) {
     let alloc = rt.alloc();
-    let rows = [
-        ("a/b/d a/e a/b/c", "", "a b/ e;a/b c d;"),
-        ("a b c", "", ""),
-        ("a/b/c/d", "x/y a/b/c/d x", "a b/c/;a/b/c d;x y;"),
-    ];
-    for (zones, links, want) in rows {
-        let table = table_of(&rt, alloc, zones, links);
-        same(&rt, &shown(alloc, &table)?.as_str(), &want);
-    }
-    Ok(())
+    expect_shown(&rt, alloc, "a/b/d a/e a/b/c", "", "a b/ e;a/b c d;");
+    expect_shown(&rt, alloc, "a b c", "", "");
+    let wanted = "a b/c/;a/b/c d;x y;";
+    expect_shown(&rt, alloc, "a/b/c/d", "x/y a/b/c/d x", wanted);
 }
