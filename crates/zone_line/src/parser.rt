@@ -18,7 +18,7 @@ use regex::Regex;
 use std::alloc::{AllocError, Global};
 use zone_values::{Error, Line};
 
-/// The crate `regex` refused a pattern, for want of memory or for its size.
+/// A pattern couldn't be compiled: the crate `regex` refused it for its size, or memory ran out.
 #[derive(Clone, Copy, Debug, PartialEq, Eq)]
 pub struct NotBuilt;
 
@@ -26,22 +26,22 @@ pub struct NotBuilt;
 /// searches for what its text says.
 #[derive(Drop)]
 pub struct LineParser {
-    pub(crate) empty: Regex,
-    pub(crate) zone: Regex,
-    pub(crate) continuation: Regex,
-    pub(crate) rule: Regex,
-    pub(crate) link: Regex,
-    pub(crate) day: Regex,
-    pub(crate) hm: Regex,
-    pub(crate) hms: Regex,
-    ghost empty_is: { IsBuiltFrom empty_text empty },
-    ghost zone_is: { IsBuiltFrom zone_text zone },
-    ghost continuation_is: { IsBuiltFrom continuation_text continuation },
-    ghost rule_is: { IsBuiltFrom rule_text rule },
-    ghost link_is: { IsBuiltFrom link_text link },
-    ghost day_is: { IsBuiltFrom day_text day },
-    ghost hm_is: { IsBuiltFrom hm_text hm },
-    ghost hms_is: { IsBuiltFrom hms_text hms },
+    pub(crate) empty: Box<Regex>,
+    pub(crate) zone: Box<Regex>,
+    pub(crate) continuation: Box<Regex>,
+    pub(crate) rule: Box<Regex>,
+    pub(crate) link: Box<Regex>,
+    pub(crate) day: Box<Regex>,
+    pub(crate) hm: Box<Regex>,
+    pub(crate) hms: Box<Regex>,
+    ghost empty_is: { IsBuiltFrom empty_text empty.value },
+    ghost zone_is: { IsBuiltFrom zone_text zone.value },
+    ghost continuation_is: { IsBuiltFrom continuation_text continuation.value },
+    ghost rule_is: { IsBuiltFrom rule_text rule.value },
+    ghost link_is: { IsBuiltFrom link_text link.value },
+    ghost day_is: { IsBuiltFrom day_text day.value },
+    ghost hm_is: { IsBuiltFrom hm_text hm.value },
+    ghost hms_is: { IsBuiltFrom hms_text hms.value },
 }
 
 impl LineParser {
@@ -51,16 +51,9 @@ impl LineParser {
     ghost use Rattle.zone_line.specs.LineValues.{value};
     ghost use Rattle.zone_values.specs.Values.{line_value};
 
-    /// Compiles the patterns. `NotBuilt` comes where the crate `regex` refuses one of them.
+    /// Compiles the patterns. `NotBuilt` comes where the crate `regex` refuses one of them or memory
+    /// runs out.
     pub fn new(alloc: Global) -> Result<LineParser, NotBuilt> {
-        match LineParser::compiled(alloc) {
-            Ok(parser) => Ok(parser),
-            Err(_) => Err(NotBuilt),
-        }
-    }
-
-    /// Compiles the patterns, or answers the first refusal.
-    fn compiled(alloc: Global) -> Result<LineParser, regex::Error> {
         Ok(LineParser {
             empty: compile(alloc, texts::EMPTY)?,
             zone: compile(alloc, texts::ZONE)?,

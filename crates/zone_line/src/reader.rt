@@ -29,22 +29,22 @@ use std::alloc::{AllocError, Global};
 /// Reads lines with matchers that are made once, by `LineParser::reader`.
 #[derive(Drop)]
 pub struct LineReader<'p> {
-    empty: Matcher<'p>,
-    zone: Matcher<'p>,
-    continuation: Matcher<'p>,
-    rule: Matcher<'p>,
-    link: Matcher<'p>,
-    day: Matcher<'p>,
-    hm: Matcher<'p>,
-    hms: Matcher<'p>,
-    ghost empty_is: { Searches empty_text empty },
-    ghost zone_is: { Searches zone_text zone },
-    ghost continuation_is: { Searches continuation_text continuation },
-    ghost rule_is: { Searches rule_text rule },
-    ghost link_is: { Searches link_text link },
-    ghost day_is: { Searches day_text day },
-    ghost hm_is: { Searches hm_text hm },
-    ghost hms_is: { Searches hms_text hms },
+    empty: Box<Matcher<'p>>,
+    zone: Box<Matcher<'p>>,
+    continuation: Box<Matcher<'p>>,
+    rule: Box<Matcher<'p>>,
+    link: Box<Matcher<'p>>,
+    day: Box<Matcher<'p>>,
+    hm: Box<Matcher<'p>>,
+    hms: Box<Matcher<'p>>,
+    ghost empty_is: { Searches empty_text empty.value },
+    ghost zone_is: { Searches zone_text zone.value },
+    ghost continuation_is: { Searches continuation_text continuation.value },
+    ghost rule_is: { Searches rule_text rule.value },
+    ghost link_is: { Searches link_text link.value },
+    ghost day_is: { Searches day_text day.value },
+    ghost hm_is: { Searches hm_text hm.value },
+    ghost hms_is: { Searches hms_text hms.value },
 }
 
 impl<'p> LineReader<'p> {

@@ -7,4 +7,5 @@ pub returns : goal.returns
 unfolding is_blank
 returns c =
     let self = c.args.self.now in
-    c.is_match.ensures.found ∙ matches _ c.args.line.now self.empty (λ k. (c.type_inv.line k).fits) self.empty_is
+    let found = rw c.deref_mut.ensures.value at c.is_match.ensures.found in
+    found ∙ matches _ c.args.line.now self.empty.value (λ k. (c.type_inv.line k).fits) self.empty_is
