@@ -3,5 +3,6 @@
 
 mod agreement;
 mod footers;
+mod rows;
 mod texts;
 mod zones;

@@ -1,8 +1,8 @@
 //! Zones of two yearly rules beside the strings that say the same.
 use crate::checks::holds_at;
+use crate::posix::rows::{field, number};
 use crate::posix::zones::{at, database};
 use std::process::Abort;
-use std::test::Fail;
 use tz_lookup::Database;
 use tz_posix::PosixTz;
 use tz_posix::laws::agreed_offset;
@@ -36,42 +36,34 @@ Australia/Lord_Howe <+1030>-10:30<+11>-11,M10.1.0,M4.1.0 1728142200 39600
 
 /// The offset that a zone and a text give a second, or none where they give two.
 fn agreed<'x>(
+    rt: &impl Abort,
     database: &'x Database,
     name: &'x str,
     text: &'x str,
     second: i64,
-) -> Result<Option<i32>, Fail> {
-    let date_time = at(second)?;
-    let zone = database.get_by_name(name).ok_or("no zone")?;
-    match PosixTz::parse(text, database) {
-        Ok(posix) => match agreed_offset(&zone, &posix, &date_time) {
-            Some(offset) => Ok(Some(offset.whole_seconds())),
-            None => Ok(None),
-        },
-        Err(_) => Err(Fail::from("refused")),
-    }
+) -> Option<i32> {
+    let date_time = at(rt, second);
+    let zone = database.get_by_name(name).expect(rt, "no zone");
+    let Ok(posix) = PosixTz::parse(text, database) else {
+        panic!(rt; "refused");
+    };
+    Some(agreed_offset(&zone, &posix, &date_time)?.whole_seconds())
 }
 
 /// Whether the answer of a row is given.
-fn is_given<'x>(database: &'x Database, row: &'x str) -> Result<bool, Fail> {
+fn is_given<'x>(rt: &impl Abort, database: &'x Database, row: &'x str) -> bool {
     let mut fields = row.split(' ');
-    let name = fields.next().ok_or("no zone")?;
-    let text = fields.next().ok_or("no text")?;
-    let second = fields
-        .next()
-        .ok_or("no second")?
-        .parse::<i64>()
-        .ok()
-        .ok_or("no number")?;
-    let offset = fields.next().ok_or("no offset")?.parse::<i32>().ok();
-    Ok(agreed(database, name, text, second)? == offset)
+    let name = field(rt, &mut fields);
+    let text = field(rt, &mut fields);
+    let second = number(rt, &mut fields);
+    let offset = field(rt, &mut fields).parse::<i32>().ok();
+    agreed(rt, database, name, text, second) == offset
 }
 
 #[test]
-fn zones_agree_with_their_strings(rt: HostRuntime) -> Result<(), Fail> {
+fn zones_agree_with_their_strings(rt: HostRuntime) {
     let database = database(&rt, rt.alloc(), ZONES);
     for row in OFFSETS.lines() {
-        holds_at(&rt, row, is_given(&database, row)?);
+        holds_at(&rt, row, is_given(&rt, &database, row));
     }
-    Ok(())
 }

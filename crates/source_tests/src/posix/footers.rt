@@ -1,10 +1,9 @@
 //! What Python's zoneinfo gives for the strings that `zic` writes after the zones of the tz database.
-use crate::checks::holds_at;
-use crate::posix::zones::{empty, gives};
+use crate::checks::{holds_at, same_at};
+use crate::posix::zones::{cause, empty, gives};
 use std::process::Abort;
-use std::test::Fail;
 use tz_lookup::Database;
-use tz_posix::{ParseError, PosixTz, RangeError};
+use tz_posix::PosixTz;
 
 /// A string and, after `|`, seconds from 1970-01-01 00:00:00 UTC, each with the offset in seconds, 1 for daylight saving time
 /// and 0 for standard time, and the abbreviation: a second to each side of each change of two years, and others.
@@ -43,68 +42,42 @@ IST-2IDT,M3.4.4/26,M10.5.0
 EET-2EEST,M3.4.4/50,M10.4.4/50
 ";
 
-/// Whether an answer of the table is given.
-fn is_given(tz: &PosixTz<'_>, answer: &str) -> Result<bool, Fail> {
-    let mut fields = answer.split(' ');
-    let second = fields
-        .next()
-        .ok_or("no second")?
-        .parse::<i64>()
-        .ok()
-        .ok_or("no number")?;
-    let offset = fields
-        .next()
-        .ok_or("no offset")?
-        .parse::<i32>()
-        .ok()
-        .ok_or("no number")?;
-    let saving = fields.next().ok_or("no kind")? == "1";
-    let name = fields.next().ok_or("no name")?;
-    gives(tz, second, (offset, saving, name))
-}
-
 /// Whether all answers of a row are given.
-fn are_given<'x>(database: &'x Database, row: &'x str) -> Result<bool, Fail> {
-    let (text, answers) = row.split_once('|').ok_or("no string")?;
+fn are_given<'x>(rt: &impl Abort, database: &'x Database, row: &'x str) -> bool {
+    let (text, answers) = row.split_once('|').expect(rt, "no string");
     match PosixTz::parse(text, database) {
-        Ok(tz) => each_is_given(&tz, answers),
-        Err(_) => Ok(false),
+        Ok(tz) => each_is_given(rt, &tz, answers),
+        Err(_) => false,
     }
 }
 
-fn each_is_given(tz: &PosixTz<'_>, answers: &str) -> Result<bool, Fail> {
+fn each_is_given(rt: &impl Abort, tz: &PosixTz<'_>, answers: &str) -> bool {
     for answer in answers.split(';') {
-        if !is_given(tz, answer)? {
-            return Ok(false);
+        if !gives(rt, tz, &mut answer.split(' ')) {
+            return false;
         }
     }
-    Ok(true)
+    true
 }
 
 #[test]
-fn strings_agree_with_another_reader(rt: HostRuntime) -> Result<(), Fail> {
+fn strings_agree_with_another_reader(rt: HostRuntime) {
     let database = empty(&rt, rt.alloc());
     for row in ANSWERS.lines() {
-        holds_at(&rt, row, are_given(&database, row)?);
+        holds_at(&rt, row, are_given(&rt, &database, row));
     }
-    Ok(())
 }
 
 #[test]
 fn times_past_a_day_are_refused(rt: HostRuntime) {
     let database = empty(&rt, rt.alloc());
-    assert!(rt;
-        matches!(
-            PosixTz::parse(PAST_GRAMMAR, &database),
-            Err(ParseError::Grammar)
-        )
-    );
     for text in PAST_RANGES.lines() {
-        let parsed = PosixTz::parse(text, &database);
-        holds_at(
-            &rt,
-            text,
-            matches!(parsed, Err(ParseError::Range(RangeError::Time))),
-        );
+        same_at(&rt, text, &cause(text, &database), &"time");
     }
+    same_at(
+        &rt,
+        PAST_GRAMMAR,
+        &cause(PAST_GRAMMAR, &database),
+        &"grammar",
+    );
 }
