@@ -7,6 +7,17 @@ pub enum Part {
     Read,
     /// Joining them to a table.
     Join,
+    /// Work over the table.
+    Table(TablePart),
+    /// Reading POSIX TZ strings.
+    Posix,
+    /// Asking them for offsets.
+    Offset,
+}
+
+/// A part of the work over a table.
+#[derive(Clone, Copy)]
+pub enum TablePart {
     /// Compiling the names of the table.
     Compile,
     /// Looking up offsets in sets as they are compiled.
@@ -17,10 +28,6 @@ pub enum Part {
     Kinds,
     /// Building the database of the table.
     Database,
-    /// Reading POSIX TZ strings.
-    Posix,
-    /// Asking them for offsets.
-    Offset,
 }
 
 /// What a zone is asked.
@@ -49,15 +56,24 @@ impl Part {
         match name {
             "read" => Some(Part::Read),
             "join" => Some(Part::Join),
-            "compile" => Some(Part::Compile),
-            "instants" => Some(Part::Look(Question::Instant)),
-            "locals" => Some(Part::Look(Question::Local)),
-            "compact-instants" => Some(Part::Compact(Question::Instant)),
-            "compact-locals" => Some(Part::Compact(Question::Local)),
-            "kinds" => Some(Part::Kinds),
-            "database" => Some(Part::Database),
             "posix" => Some(Part::Posix),
             "offset" => Some(Part::Offset),
+            _ => Some(Part::Table(TablePart::named(name)?)),
+        }
+    }
+}
+
+impl TablePart {
+    /// The part of that name over a table.
+    fn named(name: &str) -> Option<TablePart> {
+        match name {
+            "compile" => Some(TablePart::Compile),
+            "instants" => Some(TablePart::Look(Question::Instant)),
+            "locals" => Some(TablePart::Look(Question::Local)),
+            "compact-instants" => Some(TablePart::Compact(Question::Instant)),
+            "compact-locals" => Some(TablePart::Compact(Question::Local)),
+            "kinds" => Some(TablePart::Kinds),
+            "database" => Some(TablePart::Database),
             _ => None,
         }
     }

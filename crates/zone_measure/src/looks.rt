@@ -1,7 +1,7 @@
 //! Looking up offsets, in sets as they are compiled and in compact ones.
 ghost use Rattle.zone_table.specs.BoundedTables.{IsBoundedTable};
 
-use crate::counts::{KindCounts, OffsetCounts, add};
+use crate::counts::{Counts, KindCounts, OffsetCounts, add};
 use crate::job::Question;
 use crate::parts::names_of;
 use crate::stopped::Stopped;
@@ -30,7 +30,7 @@ pub(crate) fn look(
     table: &Table,
     question: Question,
     times: u32,
-) -> Result<OffsetCounts, Stopped>
+) -> Result<Counts, Stopped>
     requires { IsBoundedTable table.now }
 {
     let sets = sets_of(alloc, table)?;
@@ -44,7 +44,7 @@ pub(crate) fn look_compact(
     table: &Table,
     question: Question,
     times: u32,
-) -> Result<OffsetCounts, Stopped>
+) -> Result<Counts, Stopped>
     requires { IsBoundedTable table.now }
 {
     let sets = sets_of(alloc, table)?;
@@ -60,7 +60,7 @@ pub(crate) fn look_compact(
 }
 
 /// Builds the compact sets of a table, compiled once.
-pub(crate) fn build_compact(alloc: Global, table: &Table, times: u32) -> Result<KindCounts, Stopped>
+pub(crate) fn build_compact(alloc: Global, table: &Table, times: u32) -> Result<Counts, Stopped>
     requires { IsBoundedTable table.now }
 {
     let sets = sets_of(alloc, table)?;
@@ -77,7 +77,7 @@ pub(crate) fn build_compact(alloc: Global, table: &Table, times: u32) -> Result<
             add(&mut counts.kinds, compact.kind_count() as u64);
         }
     }
-    Ok(counts)
+    Ok(Counts::Kinds(counts))
 }
 
 /// Each name of a table, compiled.
@@ -114,11 +114,7 @@ fn compact_of(alloc: Global, set: &FixedTimespanSet) -> Result<CompactSet, Stopp
 }
 
 /// Asks each zone.
-fn ask_all<Z: TimeZone>(
-    zones: &[Z],
-    question: Question,
-    times: u32,
-) -> Result<OffsetCounts, Stopped> {
+fn ask_all<Z: TimeZone>(zones: &[Z], question: Question, times: u32) -> Result<Counts, Stopped> {
     let mut counts = OffsetCounts {
         asked: 0,
         saving: 0,
@@ -131,7 +127,7 @@ fn ask_all<Z: TimeZone>(
             ask(zone, question, &mut counts)?;
         }
     }
-    Ok(counts)
+    Ok(Counts::Look(counts))
 }
 
 /// Asks a zone at each instant, or at the local time that reads as the instant does at UTC.

@@ -3,7 +3,7 @@ ghost use Rattle.std.specs.Prelude.{◌≤◌, length};
 ghost use Rattle.zone_table.specs.BoundedTables.{IsBoundedTable};
 
 use crate::counts::{Counts, LineCounts, NameCounts, SpanCounts, TableCounts, add};
-use crate::job::{Job, Part};
+use crate::job::{Job, Part, TablePart};
 use crate::looks::{build_compact, look, look_compact};
 use crate::stopped::Stopped;
 use crate::strings::count_strings;
@@ -23,27 +23,11 @@ pub(crate) fn count(
     requires { length source.now ≤ LIMIT }
 {
     match job.part {
-        Part::Read => Ok(Counts::Read(read(alloc, parser, source, job.times)?)),
-        Part::Join => Ok(Counts::Join(join(alloc, parser, source, job.times)?)),
-        Part::Compile => {
+        Part::Read => read(alloc, parser, source, job.times),
+        Part::Join => join(alloc, parser, source, job.times),
+        Part::Table(part) => {
             let table = read_table(alloc, parser, source)?;
-            Ok(Counts::Compile(compile(alloc, &table, job.times)?))
-        }
-        Part::Look(question) => {
-            let table = read_table(alloc, parser, source)?;
-            Ok(Counts::Look(look(alloc, &table, question, job.times)?))
-        }
-        Part::Compact(question) => {
-            let table = read_table(alloc, parser, source)?;
-            Ok(Counts::Look(look_compact(alloc, &table, question, job.times)?))
-        }
-        Part::Kinds => {
-            let table = read_table(alloc, parser, source)?;
-            Ok(Counts::Kinds(build_compact(alloc, &table, job.times)?))
-        }
-        Part::Database => {
-            let table = read_table(alloc, parser, source)?;
-            Ok(Counts::Database(build(alloc, &table, job.times)?))
+            count_table(alloc, &table, part, job.times)
         }
         Part::Posix | Part::Offset => {
             let table = read_table(alloc, parser, b"")?;
@@ -53,19 +37,27 @@ pub(crate) fn count(
     }
 }
 
+/// Does a part over the table as often as that, and counts.
+fn count_table(alloc: Global, table: &Table, part: TablePart, times: u32) -> Result<Counts, Stopped>
+    requires { IsBoundedTable table.now }
+{
+    match part {
+        TablePart::Compile => compile(alloc, table, times),
+        TablePart::Look(question) => look(alloc, table, question, times),
+        TablePart::Compact(question) => look_compact(alloc, table, question, times),
+        TablePart::Kinds => build_compact(alloc, table, times),
+        TablePart::Database => build(alloc, table, times),
+    }
+}
+
 /// Reads the lines with matchers that are made once.
-fn read(
-    alloc: Global,
-    parser: &LineParser,
-    source: &[u8],
-    times: u32,
-) -> Result<LineCounts, Stopped> {
+fn read(alloc: Global, parser: &LineParser, source: &[u8], times: u32) -> Result<Counts, Stopped> {
     let mut reader = parser.reader(alloc)?;
     let mut counts = LineCounts { lines: 0, blank: 0 };
     for _ in 0..times {
         read_lines(alloc, &mut reader, source, &mut counts)?;
     }
-    Ok(counts)
+    Ok(Counts::Read(counts))
 }
 
 /// Reads each line once.
@@ -88,12 +80,7 @@ fn read_lines(
 }
 
 /// Reads the lines and joins them to a table.
-fn join(
-    alloc: Global,
-    parser: &LineParser,
-    source: &[u8],
-    times: u32,
-) -> Result<TableCounts, Stopped>
+fn join(alloc: Global, parser: &LineParser, source: &[u8], times: u32) -> Result<Counts, Stopped>
     requires { length source.now ≤ LIMIT }
 {
     let mut counts = TableCounts {
@@ -105,7 +92,7 @@ fn join(
         let table = read_table(alloc, parser, source)?;
         add_table(alloc, &table, &mut counts)?;
     }
-    Ok(counts)
+    Ok(Counts::Join(counts))
 }
 
 /// Adds what a table has.
@@ -131,7 +118,7 @@ pub(crate) fn names_of(alloc: Global, table: &Table) -> Result<Vec<&str>, AllocE
 }
 
 /// Compiles each name of a table.
-fn compile(alloc: Global, table: &Table, times: u32) -> Result<SpanCounts, Stopped>
+fn compile(alloc: Global, table: &Table, times: u32) -> Result<Counts, Stopped>
     requires { IsBoundedTable table.now }
 {
     let names = names_of(alloc, table)?;
@@ -143,11 +130,11 @@ fn compile(alloc: Global, table: &Table, times: u32) -> Result<SpanCounts, Stopp
             add(&mut counts.spans, set.span_count() as u64);
         }
     }
-    Ok(counts)
+    Ok(Counts::Compile(counts))
 }
 
 /// Builds the database of a table.
-fn build(alloc: Global, table: &Table, times: u32) -> Result<NameCounts, Stopped>
+fn build(alloc: Global, table: &Table, times: u32) -> Result<Counts, Stopped>
     requires { IsBoundedTable table.now }
 {
     let mut counts = NameCounts {
@@ -163,5 +150,5 @@ fn build(alloc: Global, table: &Table, times: u32) -> Result<NameCounts, Stopped
             }
         }
     }
-    Ok(counts)
+    Ok(Counts::Database(counts))
 }
