@@ -107,13 +107,24 @@ fn told(rt: &impl Abort, alloc: Global, reader: &mut LineReader<'_>, line: &str)
     shown.expect(rt, "memory")
 }
 
+/// Asserts what is told of a line.
+fn expect_told_line(
+    rt: &impl Abort,
+    alloc: Global,
+    reader: &mut LineReader<'_>,
+    line: &str,
+    wanted: &str,
+) {
+    same(rt, &told(rt, alloc, reader, line).as_str(), &wanted);
+}
+
 /// Asserts what is told of each line, and how many lines there are.
 fn expect_told(rt: &impl Abort, alloc: Global, lines: &str, wanted: &str, count: usize) {
     let parser = parser(rt, alloc);
     let mut reader = parser.reader(alloc).expect(rt, "memory");
     let mut counted: usize = 0;
     for (line, wanted) in lines.lines().zip(wanted.lines()) {
-        same(rt, &told(rt, alloc, &mut reader, line).as_str(), &wanted);
+        expect_told_line(rt, alloc, &mut reader, line, wanted);
         counted = counted.saturating_add(1);
     }
     same(rt, &counted, &count);

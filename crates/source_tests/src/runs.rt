@@ -1,8 +1,9 @@
 //! Whole runs over objects in memory, and each fault line.
 ghost use Rattle.std.specs.Prelude.{◌<◌};
+ghost use Rattle.zone_table.specs.BoundedTables.{IsBoundedTable};
 
 use crate::checks::same;
-use crate::fixtures::{NEW_YORK, parser};
+use crate::fixtures::{NEW_YORK, parser, table_of};
 use std::alloc::Global;
 use std::process::Abort;
 use zone_answers::{
@@ -10,6 +11,7 @@ use zone_answers::{
     ZoneFault, answers, open_zone, read_table, run, run_surely, write_fault,
 };
 use zone_line::LineParser;
+use zone_table::Table;
 
 const FIXED: &[u8] = b"Zone Test/Fixed 1:30 - TST\n";
 
@@ -401,20 +403,20 @@ fn a_table_is_read(rt: HostRuntime) {
 
 #[test]
 fn a_zone_is_opened(rt: HostRuntime) {
-    let alloc = rt.alloc();
-    let parser = parser(&rt, alloc);
-    let Ok(table) = read_table(alloc, &parser, NEW_YORK) else {
-        panic!(rt; "refused");
-    };
-    let Ok(set) = open_zone(alloc, &table, "America/New_York") else {
-        panic!(rt; "not opened");
-    };
+    let table = table_of(&rt, rt.alloc(), NEW_YORK);
     // The first span, and two changes in each year of 2007 to 2099.
-    same(&rt, &set.span_count(), &187);
-    assert!(rt;
-        matches!(
-            open_zone(alloc, &table, "New_York"),
-            Err(ZoneFault::UnknownZone)
-        )
-    );
+    expect_spans(&rt, rt.alloc(), &table, "America/New_York", Some(187));
+    expect_spans(&rt, rt.alloc(), &table, "New_York", None);
+}
+
+/// Asserts how many spans the zone of a name has, or that no zone has the name.
+fn expect_spans(rt: &impl Abort, alloc: Global, table: &Table, name: &str, count: Option<usize>)
+    requires { IsBoundedTable table.now }
+{
+    let found = match open_zone(alloc, table, name) {
+        Ok(set) => Some(set.span_count()),
+        Err(ZoneFault::UnknownZone) => None,
+        Err(_) => panic!(rt; "not opened"),
+    };
+    same(rt, &found, &count);
 }
