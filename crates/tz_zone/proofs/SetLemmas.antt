@@ -85,6 +85,10 @@ sum_fits : (t o : ℤ) → IsSpanTime t → IsOffset o → SFits w64 (t +ℤ o)
 sum_fits t o h k = omega (arith, ints, h.0, h.1, offset_least o k, offset_greatest o k)
 
 -- a time and an offset add up within 64 bits
+pub added_fits : (t o a b : ℤ) → a ≡ t → b ≡ o → IsSpanTime t → is_offset o ≡ true → SFits w64 (a +ℤ b)
+added_fits t o a b e f h k = subst (SFits w64) (sym (λ i. e i +ℤ f i)) (sum_fits t o h k)
+
+-- their sum in 64 bits is their sum
 pub sum_is : (t o a b : ℤ) → a ≡ t → b ≡ o → IsSpanTime t → is_offset o ≡ true → to_z w64 (of_z w64 (a +ℤ b)) ≡ t +ℤ o
 sum_is t o a b e f h k =
     (λ i. to_z w64 (of_z w64 (e i +ℤ f i))) ∙ to_z-of_z w64 (t +ℤ o) (sum_fits t o h k)

@@ -3,7 +3,7 @@ ghost use Rattle.std.specs.Prelude.{◌≡◌, ◌+◌, ◌<◌, ◌≤◌, ◌�
 ghost use Rattle.std.specs.declared.cmp.Ordering.TheVariants.{Equal};
 ghost use Rattle.zone_spans.specs.Entries.{total as total_in};
 ghost use Rattle.civil_base.specs.Ranges.{is_offset};
-ghost use Rattle.tz_zone.specs.Sets.{schedule_of, shifts_of, IsAccepted, order_of, total_of_span};
+ghost use Rattle.tz_zone.specs.Sets.{schedule_of, shifts_of, IsAccepted, has_ended, is_ahead, order_of, total_of_span};
 ghost use Rattle.tz_zone.specs.Spans.{local_start, local_end};
 
 use crate::table::SpanTable;
@@ -53,13 +53,31 @@ pub(crate) fn order<T: SpanTable>(set: &T, index: usize, second: i64) -> Orderin
     requires within { index ≤ length (T.seen set.now).others }
     ensures { result ≡ order_of (schedule_of (T.seen set.now)) index second }
 {
-    if index < set.entry_count() && end_of(set, index) <= second {
+    if has_ended(set, index, second) {
         Ordering::Less
-    } else if index > 0 && second < start_of(set, index) {
+    } else if is_ahead(set, index, second) {
         Ordering::Greater
     } else {
         Ordering::Equal
     }
+}
+
+/// Whether a span ends at or before a local second. The last span has no end.
+fn has_ended<T: SpanTable>(set: &T, index: usize, second: i64) -> bool
+    requires accepted { IsAccepted (schedule_of (T.seen set.now)) }
+    requires within { index ≤ length (T.seen set.now).others }
+    ensures { result ≡ has_ended (schedule_of (T.seen set.now)) index second }
+{
+    index < set.entry_count() && end_of(set, index) <= second
+}
+
+/// Whether a span starts after a local second. The first span has no start.
+fn is_ahead<T: SpanTable>(set: &T, index: usize, second: i64) -> bool
+    requires accepted { IsAccepted (schedule_of (T.seen set.now)) }
+    requires within { index ≤ length (T.seen set.now).others }
+    ensures { result ≡ is_ahead (schedule_of (T.seen set.now)) index second }
+{
+    index > 0 && second < start_of(set, index)
 }
 
 /// Whether a span contains a local second.
