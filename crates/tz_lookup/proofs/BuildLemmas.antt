@@ -1,21 +1,14 @@
 -- The kinds and the numbers so far, with one entry more.
-use Rattle.std.proofs.Common.{◌≡◌, ◌<◌, ◌≤◌, ◌+◌, ℕ, zero, suc, List, [], ◌∷◌, ◌++◌, length, map, take, get_or, ℤ, refl, sym, ap, ◌∙◌, subst, ⊎_elim, arith}
+use Rattle.std.proofs.Common.{◌≡◌, ◌<◌, ◌+◌, ℕ, zero, suc, List, [], ◌∷◌, ◌++◌, length, map, get_or, ℤ, refl, sym, ap, ◌∙◌, subst, ⊎_elim, arith}
 use Rattle.std.proofs.lemmas.Bool.{cases_lt}
-use Rattle.std.proofs.lemmas.List.{length_push, map-append, take_all}
+use Rattle.std.proofs.lemmas.List.{length_push, map-append}
 use Rattle.zone_spans.specs.Entries.{Entry}
 use Rattle.zone_spans.specs.declared.span.FixedTimespan.{FixedTimespan}
 use Rattle.tz_zone.specs.declared.set.FixedTimespanSet.{FixedTimespanSet}
-use Rattle.tz_lookup.specs.Kinds.{kind_in, with_kind, with_kinds, kinds_of}
-use Rattle.tz_lookup.specs.Compact.{entries_seen, set_seen, HaveKinds}
+use Rattle.tz_lookup.specs.Kinds.{kind_in, with_kind, with_kinds}
+use Rattle.tz_lookup.specs.Compact.{entries_seen, set_seen, StandFor}
 use Rattle.tz_lookup.proofs.CompactLemmas.{seen_more, seen_same}
 use Rattle.tz_lookup.proofs.KindLemmas.{kind_stays, kinds_grow}
-
--- they stand for the first span and these entries, and the kinds are theirs, each once
-pub record StandFor (start : FixedTimespan) (entries : List Entry) (kinds : List FixedTimespan) (first : ℕ) (times : List ℤ) (numbers : List ℕ) : Type 0 where
-  pub have : HaveKinds kinds first times numbers
-  pub begins : kind_in kinds first ≡ start
-  pub stand : entries_seen kinds times numbers ≡ entries
-  pub distinct : kinds ≡ with_kinds [] (start ∷ map (λ (e : Entry). e.1) entries)
 
 pub with_kinds_more : (kinds spans : List FixedTimespan) (span : FixedTimespan) → with_kinds kinds (spans ++ span ∷ []) ≡ with_kind (with_kinds kinds spans) span
 unfolding with_kinds
@@ -69,18 +62,8 @@ one_more start entries kinds more first number times numbers time span so is wit
           ∙ ap (λ spans. with_kinds [] (start ∷ spans)) (sym (map-append (λ (e : Entry). e.1) entries ((time, span) ∷ [])));
     }
 
--- the set that they stand for after the last entry
-pub ended : (set : FixedTimespanSet) (name : List ℕ) (kinds kept : List FixedTimespan) (first : ℕ) (times : List ℤ) (numbers : List ℕ)
-    (items : List Entry) (i : ℕ) → name ≡ set.name → kept ≡ kinds → items ≡ set.others → length items ≤ i
-    → StandFor set.first (take i items) kinds first times numbers → set_seen name kept first times numbers ≡ set
-ended set name kinds kept first times numbers items i named same all past so =
-    let whole = take_all i items past ∙ all in
-    let begins = ap (λ ks. kind_in ks first) same ∙ so.begins in
-    let others = ap (λ ks. entries_seen ks times numbers) same ∙ so.stand ∙ whole in
-    (λ j. record { name = named j; first = begins j; others = others j })
-
--- the kinds are then those of the set
-pub all_kinds : (set : FixedTimespanSet) (kinds : List FixedTimespan) (first : ℕ) (times : List ℤ) (numbers : List ℕ) (items : List Entry) (i : ℕ)
-    → items ≡ set.others → length items ≤ i → StandFor set.first (take i items) kinds first times numbers → kinds ≡ kinds_of set
-all_kinds set kinds first times numbers items i all past so =
-    so.distinct ∙ ap (λ es. with_kinds [] (set.first ∷ map (λ (e : Entry). e.1) es)) (take_all i items past ∙ all)
+-- the set that they stand for, under its name
+pub ended : (set : FixedTimespanSet) (name : List ℕ) (kinds : List FixedTimespan) (first : ℕ) (times : List ℤ) (numbers : List ℕ)
+    → name ≡ set.name → StandFor set.first set.others kinds first times numbers → set_seen name kinds first times numbers ≡ set
+ended set name kinds first times numbers named so =
+    (λ j. record { name = named j; first = so.begins j; others = so.stand j })

@@ -1,9 +1,9 @@
 -- The set that times beside the numbers of kinds stand for.
-use Rattle.std.specs.Prelude.{◌≡◌, ◌<◌, ℕ, List, [], ◌∷◌, length, slice_index_or, ℤ}
+use Rattle.std.specs.Prelude.{◌≡◌, ◌<◌, ℕ, List, [], ◌∷◌, length, map, slice_index_or, ℤ}
 use Rattle.zone_spans.specs.Entries.{Entry}
 use Rattle.zone_spans.specs.declared.span.FixedTimespan.{FixedTimespan}
 use Rattle.tz_zone.specs.declared.set.FixedTimespanSet.{FixedTimespanSet}
-use Rattle.tz_lookup.specs.Kinds.{kind_in}
+use Rattle.tz_lookup.specs.Kinds.{kind_in, with_kinds}
 
 -- each time with the kind of its number
 unfoldable pub entries_seen : List FixedTimespan → List ℤ → List ℕ → List Entry
@@ -23,3 +23,10 @@ pub record HaveKinds (kinds : List FixedTimespan) (first : ℕ) (times : List �
   pub begins : first < length kinds
   pub each : (i : ℕ) → i < length numbers → slice_index_or numbers i 0 < length kinds
   pub all : length numbers ≡ length times
+
+-- they stand for the first span and these entries, and the kinds are theirs, each once
+pub record StandFor (start : FixedTimespan) (entries : List Entry) (kinds : List FixedTimespan) (first : ℕ) (times : List ℤ) (numbers : List ℕ) : Type 0 where
+  pub have : HaveKinds kinds first times numbers
+  pub begins : kind_in kinds first ≡ start
+  pub stand : entries_seen kinds times numbers ≡ entries
+  pub distinct : kinds ≡ with_kinds [] (start ∷ map (λ (e : Entry). e.1) entries)

@@ -1,12 +1,14 @@
 //! A zone's spans, kept compactly.
-ghost use Rattle.std.specs.Prelude.{◌≡◌, ◌+◌, ◌-◌, ◌*◌, ◌^◌, ℕ, ℤ, ◌<◌, ◌≤◌, ◌↔◌, IsTrue, MatchResult, IfOk, length, slice_index_or, pos, []};
+ghost use Rattle.std.specs.Prelude.{◌≡◌, ◌+◌, ◌-◌, ◌*◌, ◌^◌, ℕ, ℤ, ◌<◌, ◌≤◌, ◌↔◌, IsTrue, MatchResult, IfOk, OnOk, List, length, slice_index_or, pos, [], ◌∷◌, ◌++◌};
 ghost use Rattle.civil_base.specs.Instants.{seconds_of};
 ghost use Rattle.civil_base.specs.Ranges.{IsOffset};
+ghost use Rattle.zone_spans.specs.Entries.{Entry};
 ghost use Rattle.zone_spans.specs.Schedules.{instants, total_at};
+ghost use Rattle.zone_spans.specs.declared.span.FixedTimespan.{FixedTimespan};
 ghost use Rattle.tz_zone.specs.Sets.{schedule_of, shifts_of, total_of_span, IsAccepted, IsOrderlyZone};
 ghost use Rattle.tz_zone.specs.Spans.{IsCut};
 ghost use Rattle.tz_lookup.specs.Kinds.{kinds_of};
-ghost use Rattle.tz_lookup.specs.Compact.{set_seen, HaveKinds};
+ghost use Rattle.tz_lookup.specs.Compact.{set_seen, HaveKinds, StandFor};
 ghost use Rattle.tz_lookup.specs.YearCounts.{AreYearCounts};
 
 use crate::kinds::Kinds;
@@ -104,17 +106,14 @@ impl CompactSet {
         requires { set_of zone.now ≡ set.now }
         ensures { IfOk result (λ compact. seen compact ≡ set.now) }
     {
-        let mut kinds = Kinds::new(alloc);
-        let first = kinds.number(&set.first)?;
-        let mut times = room(alloc, set.entry_count())?;
-        let mut numbers = Numbers::with_room(alloc, set.entry_count())?;
-        for entry in set.others.as_slice() {
-            numbers.push(kinds.number(span_of(entry))?)?;
-            times.push(time_of(entry))?;
-        }
-        let kinds = kinds.owned(alloc)?;
         let name = Text::new(alloc, set.name.as_str())?;
         let years = year_counts(alloc, set)?;
+        let Parts {
+            kinds,
+            first,
+            times,
+            numbers,
+        } = Parts::of(alloc, set)?;
         let orderly = zone.is_orderly();
         Ok(CompactSet {
             name,
@@ -204,6 +203,85 @@ impl SpanTable for CompactSet {
             &self.kinds[self.numbers.get(index - 1)]
         }
     }
+}
+
+/// The spans of a set in parts: their kinds, each once, the number of the first span's kind, and for each entry its time and
+/// the number of its span's kind.
+#[derive(Drop)]
+struct Parts {
+    kinds: Items<FixedTimespan>,
+    first: usize,
+    times: Items<i64>,
+    numbers: Numbers,
+}
+
+impl Parts {
+    fn of(alloc: Global, set: &FixedTimespanSet) -> Result<Parts, AllocError>
+        ensures { IfOk result (λ parts. StandFor set.now.first set.now.others parts.kinds parts.first parts.times parts.numbers) }
+    {
+        let mut times = room(alloc, set.entry_count())?;
+        let mut numbers = Numbers::with_room(alloc, set.entry_count())?;
+        let (kinds, first) = kinds_of_spans(alloc, set, &mut times, &mut numbers)?;
+        Ok(Parts {
+            kinds,
+            first,
+            times,
+            numbers,
+        })
+    }
+}
+
+/// The kinds of a set's spans, each once, and the number of the first span's kind. The entries' times and numbers come into
+/// two lists of nothing.
+fn kinds_of_spans(
+    alloc: Global,
+    set: &FixedTimespanSet,
+    times: &mut Items<i64>,
+    numbers: &mut Numbers,
+) -> Result<(Items<FixedTimespan>, usize), AllocError>
+    requires times { times.old ≡ [] }
+    requires numbers { numbers.old ≡ [] }
+    ensures { IfOk result (λ found. StandFor set.now.first set.now.others found.0 found.1 times.new numbers.new) }
+{
+    let mut kinds = Kinds::new(alloc);
+    number_spans(alloc, set, &mut kinds, times, numbers)
+}
+
+/// As `kinds_of_spans`, with the list of nothing that the kinds are met in. It owns no table of kinds, and so has its loop and
+/// its exits for little in the proof.
+fn number_spans<'a>(
+    alloc: Global,
+    set: &'a FixedTimespanSet,
+    kinds: &mut Kinds<'a>,
+    times: &mut Items<i64>,
+    numbers: &mut Numbers,
+) -> Result<(Items<FixedTimespan>, usize), AllocError>
+    requires kinds { kinds.old ≡ [] }
+    requires times { times.old ≡ [] }
+    requires numbers { numbers.old ≡ [] }
+    ensures { IfOk result (λ found. StandFor set.now.first set.now.others found.0 found.1 times.new numbers.new) }
+{
+    let first = kinds.number(&set.first)?;
+    for entry in set.others.as_slice() {
+        add_entry(entry, kinds, times, numbers)?;
+    }
+    let owned = kinds.owned(alloc)?;
+    Ok((owned, first))
+}
+
+/// Puts an entry's kind, time and number at the ends: what the lists stand for has one entry more.
+fn add_entry<'a>(
+    entry: &'a (i64, FixedTimespan),
+    kinds: &mut Kinds<'a>,
+    times: &mut Items<i64>,
+    numbers: &mut Numbers,
+) -> Result<(), AllocError>
+    ensures { (start : FixedTimespan) (entries : List Entry) (first : ℕ) → StandFor start entries kinds.old first times.old numbers.old
+        → OnOk result (StandFor start (entries ++ entry.now ∷ []) kinds.new first times.new numbers.new) }
+{
+    numbers.push(kinds.number(span_of(entry))?)?;
+    times.push(time_of(entry))?;
+    Ok(())
 }
 
 /// A list of nothing, with room for so many times.

@@ -1,6 +1,6 @@
 use Rattle.std.proofs.Common.{take}
-use Rattle.tz_lookup.proofs.BuildLemmas.{StandFor}
-use Rattle.tz_lookup.proofs.compact_set.CompactSet.of.Given as goal
+use Rattle.tz_lookup.specs.Compact.{StandFor}
+use Rattle.tz_lookup.proofs.compact_set.number_spans.Given as goal
 
 -- the entries so far
 abbrev pub invariant-loop-entry : goal.invariant-loop-entry
