@@ -216,6 +216,7 @@ struct Parts {
 }
 
 impl Parts {
+    /// The parts of a set.
     fn of(alloc: Global, set: &FixedTimespanSet) -> Result<Parts, AllocError>
         ensures { IfOk result (λ parts. StandFor set.now.first set.now.others parts.kinds parts.first parts.times parts.numbers) }
     {
@@ -231,8 +232,8 @@ impl Parts {
     }
 }
 
-/// The kinds of a set's spans, each once, and the number of the first span's kind. The entries' times and numbers come into
-/// two lists of nothing.
+/// The kinds of a set's spans, each once, and the number of the first span's kind. The entries' times and the numbers of their
+/// kinds go into two empty lists.
 fn kinds_of_spans(
     alloc: Global,
     set: &FixedTimespanSet,
@@ -247,8 +248,7 @@ fn kinds_of_spans(
     number_spans(alloc, set, &mut kinds, times, numbers)
 }
 
-/// As `kinds_of_spans`, with the list of nothing that the kinds are met in. It owns no table of kinds, and so has its loop and
-/// its exits for little in the proof.
+/// The same, where the kinds that are met are the caller's; none was met yet.
 fn number_spans<'a>(
     alloc: Global,
     set: &'a FixedTimespanSet,
@@ -269,7 +269,7 @@ fn number_spans<'a>(
     Ok((owned, first))
 }
 
-/// Puts an entry's kind, time and number at the ends: what the lists stand for has one entry more.
+/// Adds an entry's time and the number of its kind: what the lists stand for has one entry more.
 fn add_entry<'a>(
     entry: &'a (i64, FixedTimespan),
     kinds: &mut Kinds<'a>,
@@ -284,7 +284,7 @@ fn add_entry<'a>(
     Ok(())
 }
 
-/// A list of nothing, with room for so many times.
+/// An empty list, with room for so many times.
 fn room(alloc: Global, count: usize) -> Result<Items<i64>, AllocError>
     ensures { IfOk result (λ times. times ≡ []) }
 {
