@@ -1,13 +1,5 @@
-pub mod RangeLemmas
 pub mod DateTimeLemmas
-pub mod LayoutLemmas
-pub mod DigitLemmas
-pub mod ClockLemmas
 pub mod FoundLemmas
-pub mod DayLemmas
 pub mod LocalTimeLemmas
-pub mod OffsetLemmas
-pub mod PartLemmas
-pub mod TextLemmas
 pub mod WorkedTexts
 pub mod OrdinalLemmas

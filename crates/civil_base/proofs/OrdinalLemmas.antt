@@ -7,8 +7,8 @@ use Rattle.calendar.specs.MonthLaws.{days_in_year-bounds, days_in_month-january,
 use Rattle.calendar.specs.Signs.{signed, signed_casts}
 use Rattle.civil_base.specs.Ordinals.{IsOrdinal, ordinal_day, ordinal_of}
 use Rattle.civil_base.specs.Ranges.{IsYear, IsDay}
-use Rattle.civil_base.proofs.DayLemmas.{date_of-day}
-use Rattle.civil_base.proofs.RangeLemmas.{counted-first, counted-last, day-first, day-last}
+use Rattle.civil_base.specs.DayLaws.{date_of-day}
+use Rattle.civil_base.specs.DayRangeLaws.{counted-first, counted-last, day-first, day-last}
 
 counted : (y : ℤ) → IsYear y → IsCountedYear y
 counted y h = record { first = omega (arith, signed); last = omega (arith, signed) }

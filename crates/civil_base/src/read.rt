@@ -9,6 +9,7 @@ ghost use Rattle.civil_base.specs.Instants.{local_at};
 ghost use Rattle.civil_base.specs.LocalTimes.{local_time_in};
 ghost use Rattle.civil_base.specs.Layout.{local_text, zoned_text, date_digits, time_text, offset_text, two_digits, four_digits, nine_digits};
 ghost use Rattle.civil_base.specs.Ranges.{IsDay, IsInYears, IsOffset};
+ghost use Rattle.civil_base.specs.ReadAs.{IsReadAs};
 
 use crate::utc_offset::signed;
 use crate::{
@@ -50,11 +51,9 @@ fn value_with(text: &str) -> Option<PlainDateTime>
 pub fn read_zoned(text: &str) -> Option<OffsetDateTime>
     ensures exact { MatchOption result
         ((t o : ℤ) → IsInYears (local_at t o) → IsOffset o → zoned_text t o ≢ text.now)
-        (λ value. zoned_text (instant value) (offset_of value) ≡ text.now) }
-    ensures years { IfSome result (λ value.
-        IsInYears (local_at (instant value) (offset_of value)) × IsOffset (offset_of value)) }
-    ensures only { IfSome result (λ value. (t o : ℤ) → IsInYears (local_at t o) → IsOffset o
-        → zoned_text t o ≡ text.now → (t ≡ instant value) × (o ≡ offset_of value)) }
+        (λ value. IsReadAs text.now (instant value) (offset_of value)) }
+    ensures all { (t o : ℤ) → IsReadAs text.now t o
+        → IsSomeAnd result (λ value. (instant value ≡ t) × (offset_of value ≡ o)) }
 {
     let bytes = text.as_bytes();
     let value = parse_zoned(bytes)?;

@@ -1,6 +1,6 @@
 use Rattle.std.proofs.Common.{arith, ◌-◌, ◌/◌, ◌%◌, length, take, ap, ◌∙◌}
 use Rattle.std.proofs.Common.{drop}
-use Rattle.civil_base.proofs.DigitLemmas.{four_digits-halves}
+use Rattle.civil_base.specs.DigitLaws.{four_digits-halves}
 use Rattle.civil_base.proofs.read.four.Goals as goal
 
 pub returns-clause-value : goal.returns-clause-value

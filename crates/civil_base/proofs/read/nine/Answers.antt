@@ -1,6 +1,6 @@
 use Rattle.std.proofs.Common.{arith, ◌/◌, ◌%◌, take, ap, ◌∙◌}
 use Rattle.std.proofs.Common.{drop, get_or}
-use Rattle.civil_base.proofs.DigitLemmas.{nine_digits-parts}
+use Rattle.civil_base.specs.DigitLaws.{nine_digits-parts}
 use Rattle.civil_base.proofs.read.nine.Goals as goal
 
 pub returns-clause-value : goal.returns-clause-value

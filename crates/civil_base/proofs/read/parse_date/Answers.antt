@@ -7,8 +7,8 @@ use Rattle.calendar.specs.Dates.{year_of, month_of, day_of}
 use Rattle.civil_base.specs.Layout.{date_digits}
 use Rattle.civil_base.specs.Offsets.{signed_by}
 use Rattle.civil_parts.specs.Months.{month_number, IsMonthNumber}
-use Rattle.civil_base.proofs.OffsetLemmas.{signed_by-size}
-use Rattle.civil_base.proofs.DayLemmas.{date_of-day}
+use Rattle.civil_base.specs.OffsetLaws.{signed_by-size}
+use Rattle.civil_base.specs.DayLaws.{date_of-day}
 use Rattle.civil_base.proofs.FoundLemmas.{result_ok-found, ok_not_none, ok_known}
 use Rattle.civil_base.proofs.read.parse_date.Goals as goal
 

@@ -6,8 +6,8 @@ use Rattle.calendar.specs.Dates.{year_of}
 use Rattle.civil_base.specs.Clock.{nanos_per_day}
 use Rattle.civil_base.specs.Layout.{local_text, day_part, time_part}
 use Rattle.civil_base.proofs.FoundLemmas.{not_none, same_some}
-use Rattle.civil_base.proofs.PartLemmas.{day_part-inside, time_part-inside, parts-joined}
-use Rattle.civil_base.proofs.LayoutLemmas.{unsigned_text, local_text-sign, unsigned_text-shape, year_sign-negative, year_sign-other}
+use Rattle.civil_base.specs.PartLaws.{day_part-inside, time_part-inside, parts-joined}
+use Rattle.civil_base.specs.LayoutLaws.{unsigned_text, local_text-sign, unsigned_text-shape, year_sign-negative, year_sign-other}
 use Rattle.civil_base.proofs.read.parse_local.Goals as goal
 
 -- what the first split finds in a local text

@@ -4,7 +4,7 @@ use Rattle.std.proofs.Common.{drop, get_or, int_lt}
 use Rattle.civil_base.specs.Layout.{offset_text}
 use Rattle.civil_base.specs.RangeLaws.{offset_size}
 use Rattle.civil_base.specs.Offsets.{signed_by}
-use Rattle.civil_base.proofs.OffsetLemmas.{signed_by-size, minus_is}
+use Rattle.civil_base.specs.OffsetLaws.{signed_by-size, minus_is}
 use Rattle.civil_base.proofs.FoundLemmas.{result_ok-found}
 use Rattle.civil_base.proofs.read.parse_offset.Goals as goal
 

@@ -6,7 +6,7 @@ use Rattle.civil_base.specs.Instants.{local_at}
 use Rattle.civil_base.specs.Layout.{local_text, offset_text, zoned_text}
 use Rattle.civil_base.proofs.FoundLemmas.{not_none, same_some}
 use Rattle.civil_base.proofs.DateTimeLemmas.{instant-parts}
-use Rattle.civil_base.proofs.LayoutLemmas.{offset_text-length}
+use Rattle.civil_base.specs.LayoutLaws.{offset_text-length}
 use Rattle.civil_base.proofs.read.parse_zoned.Goals as goal
 
 -- the two parts of a zoned text

@@ -1,7 +1,7 @@
 use Rattle.std.proofs.Common.{rules, arith, ℕ, length, take, to_z, of_z, to_z-of_z, FitsSigned, w32, ap, ◌∙◌}
 use Rattle.std.proofs.Common.{length-take}
 use Rattle.calendar.specs.Dates.{year_of, month_of, day_of}
-use Rattle.civil_base.proofs.LayoutLemmas.{local_text-written}
+use Rattle.civil_base.specs.LayoutLaws.{local_text-written}
 use Rattle.civil_base.proofs.write.put_local.Goals as goal
 
 -- what was written, piece by piece

@@ -1,4 +1,4 @@
-use Rattle.civil_base.proofs.TextLemmas.{local_text-same}
+use Rattle.civil_base.specs.TextLaws.{local_text-same}
 use Rattle.civil_base.proofs.write.write_local.Goals as goal
 
 pub returns-clause-only : goal.returns-clause-only

@@ -3,7 +3,7 @@ use Rattle.civil_base.specs.Layout.{local_text, zoned_text, offset_text}
 use Rattle.civil_base.specs.DateTimes.{instant, offset_of, local_of}
 use Rattle.std.proofs.Common.{length-append}
 use Rattle.civil_base.proofs.DateTimeLemmas.{local-instant}
-use Rattle.civil_base.proofs.TextLemmas.{zoned_text-same}
+use Rattle.civil_base.specs.TextLaws.{zoned_text-same}
 use Rattle.civil_base.proofs.write.write_zoned.Goals as goal
 
 pub returns-clause-text : goal.returns-clause-text

@@ -1,6 +1,6 @@
 use Rattle.std.proofs.Common.{arith}
 use Rattle.calendar.specs.Signs.{signed_casts}
-use Rattle.civil_base.proofs.RangeLemmas.{day-counted}
+use Rattle.civil_base.specs.DayRangeLaws.{day-counted}
 use Rattle.civil_base.proofs.date.Date.day.Goals as goal
 
 pub date_of-requires-clause-first : goal.date_of-requires-clause-first

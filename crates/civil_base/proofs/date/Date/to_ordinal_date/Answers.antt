@@ -4,7 +4,7 @@ use Rattle.calendar.specs.MonthLaws.{days_in_year-bounds}
 use Rattle.calendar.specs.Signs.{signed_casts}
 use Rattle.civil_base.specs.Ordinals.{ordinal_of}
 use Rattle.civil_base.specs.Ranges.{IsDay}
-use Rattle.civil_base.proofs.DayLemmas.{date_of-day}
+use Rattle.civil_base.specs.DayLaws.{date_of-day}
 use Rattle.civil_base.proofs.OrdinalLemmas.{place, place_is, ordinal_day-of, ordinal_of-inside}
 use Rattle.civil_base.proofs.date.Date.to_ordinal_date.Goals as goal
 

@@ -1,6 +1,6 @@
 use Rattle.std.proofs.Common.{arith, ◌≡◌, pos, neg_ℤ, to_z, of_z, w32}
 use Rattle.calendar.specs.Signs.{signed_casts}
-use Rattle.civil_base.proofs.RangeLemmas.{counted-first, counted-last, day-ends, day-counted}
+use Rattle.civil_base.specs.DayRangeLaws.{counted-first, counted-last, day-ends, day-counted}
 use Rattle.civil_base.proofs.date.Date.year.Goals as goal
 
 pub date_of-requires-clause-first : goal.date_of-requires-clause-first

@@ -2,7 +2,7 @@ use Rattle.std.proofs.Common.{arith, ◌≡◌, ℕ, ◌/◌, ℤ, pos, ◌+ℤ�
 use Rattle.calendar.specs.Signs.{signed_casts}
 use Rattle.civil_base.specs.Layout.{day_part}
 use Rattle.civil_base.specs.Ranges.{IsDay}
-use Rattle.civil_base.proofs.PartLemmas.{day_part-blocks, day_part-inside}
+use Rattle.civil_base.specs.PartLaws.{day_part-blocks, day_part-inside}
 use Rattle.civil_base.specs.RangeLaws.{years_begin, years_end}
 use Rattle.civil_base.proofs.plain_date_time.PlainDateTime.date.Goals as goal
 

@@ -1,5 +1,5 @@
 use Rattle.std.proofs.Common.{sym, ◌∙◌}
-use Rattle.civil_base.proofs.PartLemmas.{time_part-blocks}
+use Rattle.civil_base.specs.PartLaws.{time_part-blocks}
 use Rattle.civil_base.proofs.plain_date_time.PlainDateTime.time.Goals as goal
 
 pub returns : goal.returns

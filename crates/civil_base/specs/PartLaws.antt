@@ -4,7 +4,7 @@ use Rattle.calendar.specs.Signs.{signed}
 use Rattle.civil_base.specs.Clock.{nanos_per_day}
 use Rattle.civil_base.specs.Ranges.{IsDay, IsInYears}
 use Rattle.civil_base.specs.Layout.{day_part, time_part}
-use Rattle.civil_base.proofs.RangeLemmas.{day-inside}
+use Rattle.civil_base.specs.DayRangeLaws.{day-inside}
 
 pub day_part-inside : (x : ℤ) → IsInYears x → IsDay (day_part x)
 unfolding day_part

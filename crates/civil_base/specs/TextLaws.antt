@@ -13,14 +13,14 @@ use Rattle.civil_base.specs.Layout.{local_text, offset_text, zoned_text}
 use Rattle.civil_base.specs.Ranges.{IsDay, IsInYears, IsOffset}
 use Rattle.civil_base.specs.Instants.{local_at}
 use Rattle.civil_base.specs.RangeLaws.{offset_size}
-use Rattle.civil_base.proofs.ClockLemmas.{clock_parts, time_at-parts}
-use Rattle.civil_base.proofs.DayLemmas.{date_of-day}
-use Rattle.civil_base.proofs.DigitLemmas.{four_digits-halves, nine_digits-parts}
-use Rattle.civil_base.proofs.LayoutLemmas.{unsigned_text, local_text-sign, unsigned_text-shape, year_sign-negative}
-use Rattle.civil_base.proofs.LayoutLemmas.{year_sign-other, offset_text-length}
+use Rattle.civil_base.specs.ClockLaws.{clock_parts, time_at-parts}
+use Rattle.civil_base.specs.DayLaws.{date_of-day}
+use Rattle.civil_base.specs.DigitLaws.{four_digits-halves, nine_digits-parts}
+use Rattle.civil_base.specs.LayoutLaws.{unsigned_text, local_text-sign, unsigned_text-shape, year_sign-negative}
+use Rattle.civil_base.specs.LayoutLaws.{year_sign-other, offset_text-length}
 use Rattle.civil_base.specs.Offsets.{signed_by}
-use Rattle.civil_base.proofs.OffsetLemmas.{signed_by-size, minus_is}
-use Rattle.civil_base.proofs.PartLemmas.{day_part-inside, time_part-inside, parts-joined}
+use Rattle.civil_base.specs.OffsetLaws.{signed_by-size, minus_is}
+use Rattle.civil_base.specs.PartLaws.{day_part-inside, time_part-inside, parts-joined}
 
 two_digits-same : (m n : ℕ) → m < 100 → n < 100 → two_digits m ≡ two_digits n → m ≡ n
 two_digits-same m n h k e =

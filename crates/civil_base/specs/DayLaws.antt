@@ -4,7 +4,7 @@ use Rattle.calendar.specs.Days.{day, IsDate}
 use Rattle.calendar.specs.Dates.{year_of, month_of, day_of}
 use Rattle.calendar.specs.DateLaws.{day_parts, year-between}
 use Rattle.civil_base.specs.Ranges.{IsYear, IsDay}
-use Rattle.civil_base.proofs.RangeLemmas.{counted-first, counted-last, day-counted, day-ends}
+use Rattle.civil_base.specs.DayRangeLaws.{counted-first, counted-last, day-counted, day-ends}
 
 -- the day has a date of those years
 pub record HasDate (k : ℤ) : Type 0 where
