@@ -1,2 +1,3 @@
+mod OutsideRows
 pub mod Loops
 pub mod MemoryLemmas

@@ -1,5 +1,5 @@
 //! The real file, standard input and standard output. They tell no content: this is the trusted edge.
-ghost use Rattle.std.specs.Prelude.{◌≡◌, ◌<◌, ◌≤◌, None, Ok, true, false, length, IfOk, OnOk, OnErr};
+ghost use Rattle.std.specs.Prelude.{◌≡◌, ◌<◌, ◌≤◌, ◌&&◌, None, Ok, true, false, length, nat_lt, IfOk, OnOk, OnErr};
 ghost use Rattle.zone_outside.specs.Outside.{Fetches, Gives, HasCause, KeepsNames, Reads, Takes, raised};
 
 use crate::outside::{Failed, Shelf, Sink, Source};
@@ -9,6 +9,9 @@ use std::marker::Model;
 use std::rt::Files;
 
 /// Files by their names, of which one is open at a time; it may be asked for every name.
+///
+/// A file is closed as soon as its end was read, so that a number of the operating system that was free before, as that of a
+/// closed standard input, is free again and not the file's.
 #[derive(Drop)]
 pub struct FileShelf<R: Files + Drop> {
     rt: R,
@@ -55,7 +58,7 @@ impl<R: Files + Drop> Source for FileShelf<R> {
         ensures names { KeepsNames (λ _. None) (λ _. None) (λ _. Unit {0}) (λ _. Unit {0}) }
         ensures cause { HasCause self.old.faults self.new.faults result }
 
-        ensures ok { IfOk result (λ n. self.new ≡ record self.old { given = raised self.old.given n }) }
+        ensures ok { IfOk result (λ n. self.new ≡ record self.old { is_open = self.old.is_open && nat_lt 0 n; given = raised self.old.given n }) }
         ensures err { OnErr result (self.new ≡ record self.old { faults = raised self.old.faults 1 }) }
         ensures unopened { self.old.is_open ≡ false → result ≡ Ok 0 }
     {
@@ -67,6 +70,9 @@ impl<R: Files + Drop> Source for FileShelf<R> {
             self.faults = self.faults.saturating_add(1);
             return Err(Failed);
         };
+        if count == 0 {
+            self.file = None;
+        }
         self.given = self.given.saturating_add(count as u64);
         Ok(count)
     }

@@ -4,6 +4,7 @@ use crate::checks::{holds, same};
 use std::alloc::Global;
 use std::fmt::Display;
 use std::io;
+use std::io::Read;
 use std::process::Abort;
 use zone_outside::{
     FileShelf, MemShelf, MemSink, MemSource, ReadEnd, Shelf, Sink, Source, StdSink, StdSource,
@@ -106,6 +107,43 @@ fn a_file_gives_its_bytes(rt: HostRuntime) {
     same(&rt, &piece, &[0, 0, 0, 0]);
 }
 
+/// Asserts that a read is refused, and not told as the end.
+fn expect_refused(rt: &impl Abort, source: &mut impl Source) {
+    holds(rt, source.read(&mut [0; 8]).is_err());
+}
+
+#[test]
+fn a_directory_is_no_file(rt: HostRuntime) {
+    let mut shelf = FileShelf::new(rt);
+    holds(&rt, shelf.fetch("/").is_ok());
+    expect_refused(&rt, &mut shelf);
+    expect_failed(&rt, fetch_all(rt.alloc(), &mut shelf, "/"));
+}
+
+/// A reader that is always refused, and a printer that is.
+#[derive(Drop)]
+struct Broken;
+
+impl Read for Broken {
+    fn read(&mut self, _into: &mut [u8]) -> io::Result<usize> {
+        Err(io::Error::from(io::ErrorKind::Other))
+    }
+}
+
+#[test]
+fn a_refused_read_is_not_the_end(rt: HostRuntime) {
+    let mut source = StdSource::new(Broken);
+    expect_refused(&rt, &mut source);
+    expect_failed(&rt, read_all(rt.alloc(), &mut source));
+}
+
+#[test]
+fn a_refused_write_takes_nothing(rt: HostRuntime) {
+    let mut sink = StdSink::new(Broken);
+    holds(&rt, sink.write(b"abc").is_err());
+    holds(&rt, write_all(&mut sink, b"abc").is_err());
+}
+
 #[test]
 fn standard_input_gives_the_reader(rt: HostRuntime) {
     let mut source = StdSource::new(b"ab".as_slice());
@@ -139,6 +177,24 @@ impl Print for Short {
 
     fn write_some(&self, bytes: &[u8]) -> io::Result<usize> {
         Ok(bytes.len().min(self.most))
+    }
+}
+
+impl Print for Broken {
+    fn print<D: Display + Drop>(&self, _value: D) -> io::Result<()> {
+        Ok(())
+    }
+
+    fn println<D: Display + Drop>(&self, _value: D) -> io::Result<()> {
+        Ok(())
+    }
+
+    fn write_all(&self, _bytes: &[u8]) -> io::Result<()> {
+        Ok(())
+    }
+
+    fn write_some(&self, _bytes: &[u8]) -> io::Result<usize> {
+        Err(io::Error::from(io::ErrorKind::Other))
     }
 }
 
