@@ -1,5 +1,5 @@
 -- The definitions evaluated on texts, offsets, times and days that are known from outside.
-use Rattle.std.proofs.Common.{◌≡◌, refl, ◌∙◌, arith, ℕ, ◌≤◌, ◌<◌, lit≤, lit<, [], ◌∷◌, ◌++◌, map, true, false}
+use Rattle.std.proofs.Common.{◌≡◌, refl, ◌∙◌, arith, ℕ, ◌≤◌, ◌<◌, lit≤, lit<, List, [], ◌∷◌, ◌++◌, ap, map, true, false}
 use Rattle.std.proofs.Common.{ℤ, pos, neg_ℤ, ◌+ℤ◌, ◌*ℤ◌, unsigned_abs}
 use Rattle.std.specs.Prelude.{codes}
 use Rattle.calendar.specs.Days.{is_leap, days_in_year, days_in_month, days_after_zero, days_before_zero, year_start, days_through}
@@ -7,10 +7,11 @@ use Rattle.calendar.specs.Days.{days_into_year, day, IsDate, IsCountedYear}
 use Rattle.calendar.specs.DateLaws.{year_of-day, month_of-day, day_of-day}
 use Rattle.calendar.specs.Signs.{signed}
 use Rattle.civil_base.specs.Clock.{nanos_per_day, hour_of, minute_of, second_of, nanosecond_of, time_at}
-use Rattle.civil_base.specs.Instants.{seconds_of}
+use Rattle.civil_base.specs.Instants.{local_at, instant_at, seconds_of}
 use Rattle.civil_base.specs.Layout.{two_digits, four_digits, year_sign, date_digits, time_text, day_part, time_part, local_text}
-use Rattle.civil_base.specs.Layout.{offset_text}
-use Rattle.civil_base.specs.Offsets.{offset_at}
+use Rattle.civil_base.specs.Layout.{offset_text, zoned_text}
+use Rattle.civil_base.specs.Julian.{julian_of, day_of_julian}
+use Rattle.civil_base.specs.Offsets.{offset_at, hours_in, minutes_in, seconds_in}
 use Rattle.civil_base.specs.Ordinals.{ordinal_day}
 use Rattle.civil_base.specs.Ranges.{is_in_years, is_offset}
 
@@ -100,3 +101,39 @@ worked_ordinals : ordinal_day (pos 2024) 366 ∷ ordinal_day (pos 2023) 60 ∷ o
     day (pos 2023) 3 1 ∷ day (neg_ℤ (pos 4)) 12 31 ∷ []
 unfolding ordinal_day is_leap days_in_year days_in_month days_after_zero days_before_zero year_start days_through days_into_year day
 worked_ordinals = refl
+
+-- clocks that are ahead of UTC show more, and those behind it less
+worked_local_times : local_at (pos 0) (pos 5400) ∷ local_at (pos 7) (neg_ℤ (pos 1)) ∷ instant_at (pos 0) (pos 5400) ∷
+    instant_at (pos 7) (neg_ℤ (pos 1)) ∷ []
+    ≡ pos 5400000000000 ∷ neg_ℤ (pos 999999993) ∷ neg_ℤ (pos 5400000000000) ∷ pos 1000000007 ∷ []
+worked_local_times = refl
+
+epoch_date : IsDate (pos 1970) 1 1
+unfolding is_leap days_in_month
+epoch_date = record { first_month = lit≤ tt; last_month = lit≤ tt; first_day = lit≤ tt; last_day = lit≤ tt }
+
+worked_zoned : zoned_text (pos 0) (pos 5400) ≡ codes "1970-01-01 01:30:00.000000000 +01:30:00"
+unfolding is_leap days_in_year days_in_month days_after_zero days_before_zero year_start days_through days_into_year day
+    year_sign time_text hour_of minute_of second_of nanosecond_of offset_text zoned_text
+worked_zoned =
+    ap (λ local. local ++ 32 ∷ offset_text (pos 5400))
+    (text_of_date (local_at (pos 0) (pos 5400)) (pos 1970) 1 1 5400000000000 (counted _ (lit≤ tt)) epoch_date (lit< tt) refl)
+
+-- 25:59:59, 01:30:15 and 01:00:00, each ahead and behind
+abbrev offsets : List ℤ
+offsets = pos 93599 ∷ neg_ℤ (pos 93599) ∷ pos 5415 ∷ neg_ℤ (pos 5415) ∷ pos 3600 ∷ neg_ℤ (pos 3600) ∷ []
+
+worked_offset_hours : map hours_in offsets ≡ pos 25 ∷ neg_ℤ (pos 25) ∷ pos 1 ∷ neg_ℤ (pos 1) ∷ pos 1 ∷ neg_ℤ (pos 1) ∷ []
+worked_offset_hours = refl
+
+worked_offset_minutes : map minutes_in offsets ≡ pos 59 ∷ neg_ℤ (pos 59) ∷ pos 30 ∷ neg_ℤ (pos 30) ∷ pos 0 ∷ pos 0 ∷ []
+worked_offset_minutes = refl
+
+worked_offset_seconds : map seconds_in offsets ≡ pos 59 ∷ neg_ℤ (pos 59) ∷ pos 15 ∷ neg_ℤ (pos 15) ∷ pos 0 ∷ pos 0 ∷ []
+worked_offset_seconds = refl
+
+-- -4713-11-24, 2000-01-01 and 1582-10-15
+worked_julian_days : julian_of (day (neg_ℤ (pos 4713)) 11 24) ∷ julian_of (day (pos 2000) 1 1) ∷ day_of_julian (pos 2299161) ∷ []
+    ≡ pos 0 ∷ pos 2451545 ∷ day (pos 1582) 10 15 ∷ []
+unfolding is_leap days_in_year days_in_month days_after_zero days_before_zero year_start days_through days_into_year day
+worked_julian_days = refl

@@ -5,6 +5,7 @@ pub mod DayLaws
 pub mod DayRangeLaws
 pub mod DigitLaws
 pub mod Instants
+pub mod Julian
 pub mod Layout
 pub mod LayoutLaws
 pub mod LocalTimes

@@ -1,5 +1,5 @@
 -- Offsets by hours, minutes and seconds.
-use Rattle.std.specs.Prelude.{ℕ, ◌+◌, ◌*◌, ◌≤◌, Bool, if◌then◌else◌, ℤ, pos, neg_ℤ, int_lt, unsigned_abs}
+use Rattle.std.specs.Prelude.{ℕ, ◌+◌, ◌*◌, ◌≤◌, Bool, if◌then◌else◌, ℤ, pos, neg_ℤ, int_lt, int_div, int_rem, unsigned_abs}
 use Rattle.std.specs.Ordering.{int_eq}
 
 -- whether the first part that isn't 0 is negative
@@ -17,3 +17,13 @@ pub record IsOffsetParts (h m s : ℤ) : Type 0 where
   pub hours : unsigned_abs h ≤ 25
   pub minutes : unsigned_abs m ≤ 59
   pub seconds : unsigned_abs s ≤ 59
+
+-- the hours, the minutes past them and the seconds past these, all with the sign of the offset
+abbrev pub hours_in : ℤ → ℤ
+hours_in o = int_div o (pos 3600)
+
+abbrev pub minutes_in : ℤ → ℤ
+minutes_in o = int_rem (int_div o (pos 60)) (pos 60)
+
+abbrev pub seconds_in : ℤ → ℤ
+seconds_in o = int_rem o (pos 60)

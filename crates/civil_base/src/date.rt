@@ -3,6 +3,7 @@ ghost use Rattle.std.specs.Prelude.{◌≡◌, ◌↔◌, pos, ◌+ℤ◌, ◌-�
 ghost use Rattle.calendar.specs.Days.{day as day_at, days_in_year, IsDate};
 ghost use Rattle.calendar.specs.Dates.{year_of, month_of, day_of};
 ghost use Rattle.calendar.specs.Weekdays.{weekday_of};
+ghost use Rattle.civil_base.specs.Julian.{julian_of, day_of_julian};
 ghost use Rattle.civil_base.specs.Ordinals.{IsOrdinal, ordinal_day, ordinal_of};
 ghost use Rattle.civil_base.specs.Ranges.{IsYear, IsDay};
 ghost use Rattle.civil_parts.specs.Durations.{whole_days};
@@ -14,7 +15,7 @@ use calendar::{date_of, day_number, is_leap_year, weekday};
 use std::marker::Model;
 
 // The Julian day of 1970-01-01.
-const JULIAN_EPOCH: i64 = 2_440_588;
+const JULIAN_EPOCH: i32 = 2_440_588;
 
 /// A day of the Gregorian calendar, from -9999-01-01 to 9999-12-31. Contracts see its day number, where 0 is 1970-01-01.
 #[derive(Clone, Copy, Debug, PartialEq, Eq, PartialOrd, Ord, Hash)]
@@ -77,10 +78,10 @@ impl Date {
     /// The date of a Julian day, of which 2,440,588 is 1970-01-01. It is refused exactly where the date lies outside the
     /// years -9999 to 9999.
     pub fn from_julian_day(julian_day: i32) -> Result<Date, ComponentRange>
-        ensures accepts { IsOk result ↔ IsDay (julian_day -ℤ pos 2_440_588) }
-        ensures value { IfOk result (λ date. date ≡ julian_day -ℤ pos 2_440_588) }
+        ensures accepts { IsOk result ↔ IsDay (day_of_julian julian_day) }
+        ensures value { IfOk result (λ date. date ≡ day_of_julian julian_day) }
     {
-        match Date::with_day(i64::from(julian_day) - JULIAN_EPOCH) {
+        match Date::with_day(i64::from(julian_day) - i64::from(JULIAN_EPOCH)) {
             Some(date) => Ok(date),
             None => Err(ComponentRange),
         }
@@ -180,9 +181,9 @@ impl Date {
 
     /// The Julian day, of which 2,440,588 is 1970-01-01.
     pub fn to_julian_day(self) -> i32
-        ensures { result ≡ self +ℤ pos 2_440_588 }
+        ensures { result ≡ julian_of self }
     {
-        self.day_number + 2_440_588
+        self.day_number + JULIAN_EPOCH
     }
 
     /// The day after this one. There is none exactly after 9999-12-31.

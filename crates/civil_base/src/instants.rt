@@ -3,7 +3,7 @@ ghost use Rattle.std.specs.Prelude.{◌≡◌, ◌*◌, ◌≤◌, unsigned_abs}
 ghost use Rattle.civil_base.specs.Instants.{nanos_of, seconds_of};
 ghost use Rattle.civil_base.specs.Ranges.{far_seconds};
 
-const NANOS_PER_SECOND: i128 = 1_000_000_000;
+use civil_parts::units::NANOS_PER_SECOND;
 
 /// A tick is 512 nanoseconds: dividing by it is a shift, and its count of an instant's fits 64 bits, whose division is
 /// three times as fast as that of 128.

@@ -3,9 +3,10 @@ ghost use Rattle.std.specs.Prelude.{◌≡◌, ◌<◌, ◌↔◌, IsOk, IfOk};
 ghost use Rattle.civil_base.specs.Clock.{hour_of, minute_of, second_of, nanosecond_of, time_at, nanos_per_day, IsClockTime};
 
 use crate::ComponentRange;
+use civil_parts::units;
 use std::marker::Model;
 
-const NANOS_PER_SECOND: u64 = 1_000_000_000;
+const NANOS_PER_SECOND: u64 = units::NANOS_PER_SECOND as u64;
 
 /// A time of day, from 00:00:00 to 23:59:59.999999999. Contracts see the nanoseconds from midnight.
 #[derive(Clone, Copy, Debug, PartialEq, Eq, PartialOrd, Ord, Hash)]

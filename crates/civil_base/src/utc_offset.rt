@@ -1,10 +1,11 @@
 //! Offsets from UTC.
-ghost use Rattle.std.specs.Prelude.{◌≡◌, ◌↔◌, pos, ◌*ℤ◌, ◌<ℤ◌, ◌<◌, ◌^◌, int_div, int_rem, IsTrue, IsOk, IfOk, is_ok};
+ghost use Rattle.std.specs.Prelude.{◌≡◌, ◌↔◌, pos, ◌*ℤ◌, ◌<ℤ◌, ◌<◌, ◌^◌, IsTrue, IsOk, IfOk, is_ok};
 ghost use Rattle.civil_base.specs.Ranges.{is_offset, IsOffset};
-ghost use Rattle.civil_base.specs.Offsets.{offset_at, signed_by, IsOffsetParts};
+ghost use Rattle.civil_base.specs.Offsets.{offset_at, signed_by, hours_in, minutes_in, seconds_in, IsOffsetParts};
 ghost use Rattle.civil_base.specs.Offsets.{is_first_negative as leads_negative};
 
 use crate::ComponentRange;
+use civil_parts::units::NANOS_PER_SECOND;
 use std::marker::Model;
 
 /// How far a local time is ahead of UTC, from -25:59:59 to +25:59:59. Contracts see the seconds.
@@ -76,14 +77,14 @@ impl UtcOffset {
         ensures value { result ≡ pos 1000000000 *ℤ self }
         ensures bound { IsOffset self }
     {
-        i128::from(self.seconds) * 1_000_000_000
+        i128::from(self.seconds) * NANOS_PER_SECOND
     }
 
     /// The hours, the minutes of the hour and the seconds of the minute. Each has the offset's sign or is 0.
     pub fn as_hms(self) -> (i8, i8, i8)
-        ensures hours { result.0 ≡ int_div self (pos 3600) }
-        ensures minutes { result.1 ≡ int_rem (int_div self (pos 60)) (pos 60) }
-        ensures seconds { result.2 ≡ int_rem self (pos 60) }
+        ensures hours { result.0 ≡ hours_in self }
+        ensures minutes { result.1 ≡ minutes_in self }
+        ensures seconds { result.2 ≡ seconds_in self }
     {
         (
             self.whole_hours(),
@@ -94,21 +95,21 @@ impl UtcOffset {
 
     /// The whole hours, cut towards zero.
     pub fn whole_hours(self) -> i8
-        ensures { result ≡ int_div self (pos 3600) }
+        ensures { result ≡ hours_in self }
     {
         (self.seconds / 3600) as i8
     }
 
     /// The minutes past the whole hours, with the offset's sign.
     pub fn minutes_past_hour(self) -> i8
-        ensures { result ≡ int_rem (int_div self (pos 60)) (pos 60) }
+        ensures { result ≡ minutes_in self }
     {
         (self.seconds / 60 % 60) as i8
     }
 
     /// The seconds past the whole minutes, with the offset's sign.
     pub fn seconds_past_minute(self) -> i8
-        ensures { result ≡ int_rem self (pos 60) }
+        ensures { result ≡ seconds_in self }
     {
         (self.seconds % 60) as i8
     }

@@ -1,1 +1,2 @@
+pub mod NameRows
 pub mod WorkedLengths

@@ -1,5 +1,5 @@
 -- The numbers and the names of months.
-use Rattle.std.specs.Prelude.{ℕ, ◌≤◌, List, codes}
+use Rattle.std.specs.Prelude.{◌≡◌, ℕ, ◌+◌, ◌%◌, ◌≤◌, List, codes}
 use Rattle.civil_parts.specs.declared.month.Month.{Month}
 use Rattle.civil_parts.specs.declared.month.Month.TheVariants.{January, February, March, April, May, June, July, August}
 use Rattle.civil_parts.specs.declared.month.Month.TheVariants.{September, October, November, December}
@@ -17,6 +17,10 @@ month_number September = 9
 month_number October = 10
 month_number November = 11
 month_number December = 12
+
+-- the second month follows the first; January follows December
+abbrev pub IsMonthBefore : Month → Month → Type 0
+IsMonthBefore month following = month_number following ≡ month_number month % 12 + 1
 
 abbrev pub month_name : Month → List ℕ
 month_name January = codes "January"

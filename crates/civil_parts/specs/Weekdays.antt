@@ -1,5 +1,5 @@
 -- The numbers and the names of weekdays.
-use Rattle.std.specs.Prelude.{ℕ, List, codes}
+use Rattle.std.specs.Prelude.{◌≡◌, ℕ, ◌+◌, ◌%◌, List, codes}
 use Rattle.civil_parts.specs.declared.weekday.Weekday.{Weekday}
 use Rattle.civil_parts.specs.declared.weekday.Weekday.TheVariants.{Monday, Tuesday, Wednesday, Thursday, Friday, Saturday, Sunday}
 
@@ -12,6 +12,14 @@ weekday_number Thursday = 4
 weekday_number Friday = 5
 weekday_number Saturday = 6
 weekday_number Sunday = 0
+
+-- the days from Monday on
+abbrev pub days_from_monday : Weekday → ℕ
+days_from_monday day = (weekday_number day + 6) % 7
+
+-- n days after the first weekday it is the second
+abbrev pub IsDaysBefore : ℕ → Weekday → Weekday → Type 0
+IsDaysBefore n day later = (weekday_number day + n) % 7 ≡ weekday_number later
 
 abbrev pub weekday_name : Weekday → List ℕ
 weekday_name Monday = codes "Monday"

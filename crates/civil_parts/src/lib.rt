@@ -7,6 +7,7 @@ pub mod error;
 pub mod month;
 pub mod signed_duration;
 pub mod std_duration;
+pub mod units;
 pub mod weekday;
 
 pub use error::{ComponentRange, ConversionRange, InvalidVariant};

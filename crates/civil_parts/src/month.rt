@@ -26,11 +26,11 @@ pub enum Month {
 }
 
 impl Month {
-    ghost use Rattle.civil_parts.specs.Months.{month_number, month_name};
+    ghost use Rattle.civil_parts.specs.Months.{month_number, month_name, IsMonthBefore};
 
     /// The month after this one; January after December.
     pub fn next(self) -> Month
-        ensures { month_number result ≡ month_number self % 12 + 1 }
+        ensures { IsMonthBefore self result }
     {
         match self {
             Month::January => Month::February,
@@ -50,7 +50,7 @@ impl Month {
 
     /// The month before this one; December before January.
     pub fn previous(self) -> Month
-        ensures { month_number self ≡ month_number result % 12 + 1 }
+        ensures { IsMonthBefore result self }
     {
         match self {
             Month::January => Month::December,

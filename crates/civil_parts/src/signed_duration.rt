@@ -2,10 +2,9 @@
 ghost use Rattle.std.specs.Prelude.{◌≡◌, ◌≤◌, ◌↔◌, pos, ◌+ℤ◌, ◌-ℤ◌, ◌*ℤ◌, ◌<ℤ◌, int_rem, unsigned_abs, IsTrue, is_ok, IfOk, IsSome, is_some, IfSome, nat_lt, ◌*◌, ◌^◌};
 ghost use Rattle.civil_parts.specs.Durations.{IsDuration, are_parts, whole_seconds, whole_days};
 
+use crate::units::NANOS_PER_SECOND;
 use crate::{ConversionRange, StdDuration};
 use std::marker::Model;
-
-const NANOS_PER_SECOND: i128 = 1_000_000_000;
 
 const NANOS_PER_DAY: i128 = 86_400 * NANOS_PER_SECOND;
 
@@ -157,9 +156,6 @@ impl TryFrom<StdDuration> for SignedDuration {
         (is_ok result ≡ nat_lt length (2 ^ 63 * 1000000000)) × IfOk result (λ duration. duration ≡ pos length) };
 
     fn try_from(length: StdDuration) -> Result<SignedDuration, ConversionRange> {
-        match i128::try_from(length.nanos()) {
-            Ok(nanos) => SignedDuration::from_whole_nanoseconds(nanos).ok_or(ConversionRange),
-            Err(_) => Err(ConversionRange),
-        }
+        SignedDuration::from_whole_nanoseconds(length.nanos() as i128).ok_or(ConversionRange)
     }
 }

@@ -1,9 +1,10 @@
 //! Lengths of time without a sign.
 ghost use Rattle.std.specs.Prelude.{◌≡◌, ◌+◌, ◌*◌, ◌/◌, ◌%◌, ◌<◌, is_some, IfSome, nat_lt};
 
+use crate::units;
 use std::marker::Model;
 
-const NANOS_PER_SECOND: u128 = 1_000_000_000;
+const NANOS_PER_SECOND: u128 = units::NANOS_PER_SECOND as u128;
 
 /// A length of time of whole nanoseconds, less than 2^64 seconds: the `Duration` of Rust's standard library. Contracts
 /// see the nanoseconds.

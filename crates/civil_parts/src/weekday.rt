@@ -20,39 +20,39 @@ pub enum Weekday {
 }
 
 impl Weekday {
-    ghost use Rattle.civil_parts.specs.Weekdays.{weekday_name};
+    ghost use Rattle.civil_parts.specs.Weekdays.{weekday_name, days_from_monday, IsDaysBefore};
 
     /// The day after this one; Monday after Sunday.
     pub fn next(self) -> Weekday
-        ensures { weekday_number result ≡ (weekday_number self + 1) % 7 }
+        ensures { IsDaysBefore 1 self result }
     {
         self.nth_next(1)
     }
 
     /// The day before this one; Sunday before Monday.
     pub fn previous(self) -> Weekday
-        ensures { (weekday_number result + 1) % 7 ≡ weekday_number self }
+        ensures { IsDaysBefore 1 result self }
     {
         self.nth_prev(1)
     }
 
     /// The day that many days after this one.
     pub fn nth_next(self, n: u8) -> Weekday
-        ensures { weekday_number result ≡ (weekday_number self + n) % 7 }
+        ensures { IsDaysBefore n self result }
     {
         weekday_with((self.number_days_from_sunday() + n % 7) % 7)
     }
 
     /// The day that many days before this one.
     pub fn nth_prev(self, n: u8) -> Weekday
-        ensures { (weekday_number result + n) % 7 ≡ weekday_number self }
+        ensures { IsDaysBefore n result self }
     {
         weekday_with((self.number_days_from_sunday() + 7 - n % 7) % 7)
     }
 
     /// From 1 for Monday to 7 for Sunday.
     pub fn number_from_monday(self) -> u8
-        ensures { result ≡ (weekday_number self + 6) % 7 + 1 }
+        ensures { result ≡ days_from_monday self + 1 }
     {
         self.number_days_from_monday() + 1
     }
@@ -66,7 +66,7 @@ impl Weekday {
 
     /// From 0 for Monday to 6 for Sunday.
     pub fn number_days_from_monday(self) -> u8
-        ensures value { result ≡ (weekday_number self + 6) % 7 }
+        ensures value { result ≡ days_from_monday self }
         ensures bound { result < 7 }
     {
         (self.number_days_from_sunday() + 6) % 7
