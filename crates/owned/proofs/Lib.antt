@@ -1,3 +1,4 @@
+pub mod KeyRows
 pub mod KeyedMaps
 pub mod DistinctKeys
 pub mod Permuted
