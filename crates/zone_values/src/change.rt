@@ -120,7 +120,7 @@ impl ChangeTime {
     {
         match self.end_year() {
             Year::Number(year) => year,
-            Year::Minimum | Year::Maximum => 0,
+            Year::Minimum | Year::Maximum => unreachable!(),
         }
     }
 
