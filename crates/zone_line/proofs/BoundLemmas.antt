@@ -65,6 +65,7 @@ use Rattle.zone_values.specs.Years.{year_field}
 use Rattle.zone_line.specs.Fields.{
   to_field,
   type_field,
+  day_numbered,
   day_of_month,
   sided_day,
   last_weekday,
@@ -268,14 +269,16 @@ wall_field-small text = onward Timed HasSmallSeconds (time_field text) _ (time_f
 abbrev Numbered : DaySpec → Type 0
 Numbered day = IsTrue (has_day_of_month day)
 
-day_of_month-passes : (text : List ℕ) → IfSome (day_of_month text) (λ n. IsTrue (is_day_of_month n))
-day_of_month-passes text = some_where (λ n. IsTrue (is_day_of_month n)) (is_numeral text) _
-    (λ _. some_of (signed_in (2 ^ 7) text))
+day_numbered-passes : (text : List ℕ) → IfSome (day_numbered text) (λ n. IsTrue (is_day_of_month n))
+day_numbered-passes text = some_of (signed_in (2 ^ 7) text)
   where
     some_of : (o : Option ℤ) →
         IfSome (option_and_then (λ n. if is_day_of_month n then Some n else None) o) (λ n. IsTrue (is_day_of_month n))
     some_of None = tt
     some_of (Some n) = some_where (λ n. IsTrue (is_day_of_month n)) (is_day_of_month n) (Some n) (λ passed. passed)
+
+day_of_month-passes : (text : List ℕ) → IfSome (day_of_month text) (λ n. IsTrue (is_day_of_month n))
+day_of_month-passes text = some_where (λ n. IsTrue (is_day_of_month n)) (is_numeral text) _ (λ _. day_numbered-passes text)
 
 sided_day-passes : (text : List ℕ) (columns : DayTexts) → IfOk (sided_day text columns) Numbered
 unfolding sided_day
@@ -293,8 +296,8 @@ last_weekday-passes text = onward (λ _. Unit {0}) Numbered (weekday_field text)
 day_field-passes : (text : List ℕ) → IfOk (day_field text) Numbered
 unfolding day_field
 day_field-passes text = ok_either Numbered (is_numeral text) _ _
-    (ok_where Numbered (option_map Ordinal (day_of_month text)) _
-    (some_mapped (λ n. IsTrue (is_day_of_month n)) Numbered (day_of_month text) Ordinal (day_of_month-passes text) (λ n passed. passed)))
+    (ok_where Numbered (option_map Ordinal (day_numbered text)) _
+    (some_mapped (λ n. IsTrue (is_day_of_month n)) Numbered (day_numbered text) Ordinal (day_numbered-passes text) (λ n passed. passed)))
     (after (after_last text) (day_columns text))
   where
     sided_or : (o : Option DayTexts) → IfOk (option_map_or (sided_day text) o (Err (refused InvalidDaySpec text))) Numbered

@@ -1,4 +1,5 @@
 pub mod BoundLemmas
 mod OrderLaws
 pub mod PatternLemmas
+mod WorkedColumns
 mod WorkedFields

@@ -88,7 +88,7 @@ last_years = refl
 
 -- the second is U+2010
 types : map type_field (codes "-" ∷ (226 ∷ 128 ∷ 144 ∷ []) ∷ codes "--" ∷ [])
-    ≡ Ok (codes "-") ∷ Ok (226 ∷ 128 ∷ 144 ∷ []) ∷ Err (refused TypeColumnContainedNonHyphen (codes "--")) ∷ []
+    ≡ Ok tt ∷ Ok tt ∷ Err (refused TypeColumnContainedNonHyphen (codes "--")) ∷ []
 types = refl
 
 letters : map letters_of (codes "-" ∷ codes "S" ∷ codes "--" ∷ []) ≡ None ∷ Some (codes "S") ∷ Some (codes "--") ∷ []

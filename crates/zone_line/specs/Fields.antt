@@ -2,14 +2,12 @@
 use Rattle.std.specs.Prelude.{
   ℕ,
   ℤ,
-  pos,
   List,
   [],
   ◌∷◌,
   take,
   drop,
   Bool,
-  ◌&&◌,
   ◌||◌,
   Option,
   Some,
@@ -23,13 +21,13 @@ use Rattle.std.specs.Prelude.{
   codes,
   bytes_eq,
   nat_eq,
-  int_le,
   if◌then◌else◌,
   ◌^◌,
 }
 use Rattle.std.specs.Char.{is_ascii_alphabetic}
 use Rattle.std.specs.List.{list_all}
 use Rattle.std.specs.Option.{option_map_or}
+use Rattle.zone_values.specs.Days.{is_day_of_month}
 use Rattle.zone_values.specs.Faults.{Fault, refused}
 use Rattle.zone_values.specs.declared.fault.FaultKind.TheVariants.{
   TypeColumnContainedNonHyphen,
@@ -57,9 +55,9 @@ to_field text = if bytes_eq text (codes "only") then Ok None else (do
   Ok (Some year))
 
 -- a hyphen, of ASCII or U+2010
-abbrev pub type_field : List ℕ → Result (List ℕ) Fault
+abbrev pub type_field : List ℕ → Result (Unit {0}) Fault
 type_field text =
-    if bytes_eq text (codes "-") || bytes_eq text (226 ∷ 128 ∷ 144 ∷ []) then Ok text
+    if bytes_eq text (codes "-") || bytes_eq text (226 ∷ 128 ∷ 144 ∷ []) then Ok tt
     else Err (refused TypeColumnContainedNonHyphen text)
 
 -- a hyphen is no letters
@@ -75,12 +73,13 @@ wall_field text = do
   time ← time_field text
   ok_or (if_wall time) (refused NonWallClockInTimeSpec text)
 
+-- the number that Rust reads, where it is from 1 to 31
+abbrev pub day_numbered : List ℕ → Option ℤ
+day_numbered text = option_and_then (λ n. if is_day_of_month n then Some n else None) (signed_in (2 ^ 7) text)
+
 -- 1 to 31, by ASCII digits alone
 abbrev pub day_of_month : List ℕ → Option ℤ
-day_of_month text =
-    if is_numeral text
-    then option_and_then (λ n. if int_le (pos 1) n && int_le n (pos 31) then Some n else None) (signed_in (2 ^ 7) text)
-    else None
+day_of_month text = if is_numeral text then day_numbered text else None
 
 -- the day on or before or the day on or after, by the sign
 abbrev pub sided : List ℕ → Weekday → ℤ → DaySpec
@@ -107,7 +106,7 @@ after_last text = if bytes_eq (take 4 text) (codes "last") then Some (drop 4 tex
 -- a number, `last` and a weekday, or a weekday on one side of a number
 unfoldable pub day_field : List ℕ → Result DaySpec Fault
 day_field text =
-    if is_numeral text then ok_or (option_map Ordinal (day_of_month text)) (refused InvalidDaySpec text)
+    if is_numeral text then ok_or (option_map Ordinal (day_numbered text)) (refused InvalidDaySpec text)
     else option_map_or last_weekday (after_last text) (
     option_map_or (sided_day text) (day_columns text) (Err (refused InvalidDaySpec text)))
 

@@ -84,7 +84,3 @@ if_wall time = if_by_wall time.1 time.0
 unfoldable pub time_of : List ℕ → Option TimeSpecAndType
 time_of text = first_some (no_time text ∷ hours_alone text
     ∷ option_and_then (λ c. option_map (λ time. with_type time (clock_type c.flag)) (clock_time c)) (clock_in text) ∷ [])
-
--- the amount of time of a column that has to be wall time
-abbrev pub wall_time_of : List ℕ → Option TimeSpec
-wall_time_of text = option_and_then if_wall (time_of text)

@@ -6,6 +6,7 @@ ghost use Rattle.zone_line.specs.Fields.{
   type_field,
   letters_of,
   after_last,
+  day_numbered,
   day_of_month,
   is_ruleset_name,
 };
@@ -24,12 +25,12 @@ pub(crate) fn to_field(text: &str) -> Result<Option<Year>, Fault<'_>>
     Ok(Some(Year::read(text)?))
 }
 
-/// The TYPE column of a rule, which has to be a hyphen, of ASCII or U+2010.
-pub(crate) fn type_field(text: &str) -> Result<&str, Fault<'_>>
-    ensures { told (λ hyphen. hyphen.now) result ≡ type_field text.now }
+/// Refuses a TYPE column of a rule that is no hyphen, of ASCII or U+2010.
+pub(crate) fn type_field(text: &str) -> Result<(), Fault<'_>>
+    ensures { told (λ hyphen. hyphen) result ≡ type_field text.now }
 {
     if text == "-" || text == "\u{2010}" {
-        Ok(text)
+        Ok(())
     } else {
         Err(Fault {
             kind: FaultKind::TypeColumnContainedNonHyphen,
@@ -56,9 +57,17 @@ pub(crate) fn after_last(text: &str) -> Option<&str>
 pub(crate) fn day_of_month(text: &str) -> Option<i8>
     ensures { result ≡ day_of_month text.now }
 {
-    if !is_numeral(text) {
-        return None;
+    if is_numeral(text) {
+        day_numbered(text)
+    } else {
+        None
     }
+}
+
+/// The number that the text is, where it is from 1 to 31.
+pub(crate) fn day_numbered(text: &str) -> Option<i8>
+    ensures { result ≡ day_numbered text.now }
+{
     let day = small_number(text)?;
     if 1 <= day && day <= 31 {
         Some(day)

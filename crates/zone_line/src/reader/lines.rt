@@ -170,7 +170,7 @@ impl LineReader<'_> {
     {
         let from_year = Year::read(columns.from)?;
         let to_year = to_field(columns.to)?;
-        let _hyphen = type_field(columns.kind)?;
+        type_field(columns.kind)?;
         let month = Month::read(columns.month)?;
         let day = self.day_field(columns.on)?;
         let time = self.time_field(columns.at)?;

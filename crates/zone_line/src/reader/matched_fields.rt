@@ -7,7 +7,7 @@ ghost use Rattle.zone_values.specs.Values.{saving_value};
 ghost use Rattle.zone_line.specs.Shown.{clock_shown, day_shown};
 
 use crate::columns::{ClockColumns, DayColumns};
-use crate::fields::{after_last, day_of_month, is_ruleset_name};
+use crate::fields::{after_last, day_numbered, day_of_month, is_ruleset_name};
 use crate::number::is_numeral;
 use crate::reader::LineReader;
 use crate::time_texts::{clock_time, clock_type, hours_alone, if_wall, no_time};
@@ -101,7 +101,7 @@ impl LineReader<'_> {
         ensures { told (λ day. day) result ≡ day_field text.now }
     {
         if is_numeral(text) {
-            return match day_of_month(text) {
+            return match day_numbered(text) {
                 Some(number) => Ok(DaySpec::Ordinal(number)),
                 None => Err(Fault {
                     kind: FaultKind::InvalidDaySpec,
