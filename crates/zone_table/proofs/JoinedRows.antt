@@ -1,12 +1,16 @@
 -- Worked rows of what lines join to, whatever their rules and zone lines say. Each list has the latest first.
-use Rattle.std.specs.Prelude.{◌≡◌, ℕ, List, [], ◌∷◌, Option, Some, None, codes, refl}
+use Rattle.std.specs.Prelude.{◌≡◌, ℕ, List, [], ◌∷◌, map, Option, Some, None, codes, string_bytes, refl}
+use Rattle.std.specs.declared.alloc.Global.{Global}
+use Rattle.std.specs.declared.string.String.{String}
 use Rattle.zone_values.specs.declared.change.ChangeTime.{ChangeTime}
 use Rattle.zone_values.specs.declared.time.TimeSpec.{TimeSpec}
 use Rattle.zone_values.specs.Values.{SavingValue, no_saving, multiple, InfoValue, RuleValue, space, zone, continuation, rule, link}
+use Rattle.zone_table.specs.Built.{refusal_of}
 use Rattle.zone_table.specs.Joined.{rules_of, zone_of, owner}
 use Rattle.zone_table.specs.Owned.{owned_rule, owned_info}
 use Rattle.zone_table.specs.Refusals.{surprise_continuation_line, unknown_ruleset, duplicate_link, duplicate_zone, refusal}
 use Rattle.zone_table.specs.Resolved.{resolved}
+use Rattle.zone_table.specs.declared.error.Error.TheVariants as error
 
 -- a zone line with that saving
 abbrev with_saving : TimeSpec → SavingValue → Option ChangeTime → InfoValue
@@ -71,3 +75,10 @@ module _ (offset : TimeSpec) (end : Option ChangeTime) (first second : InfoValue
 
   two_links : resolved (link (codes "B") (codes "C") ∷ link (codes "A") (codes "B") ∷ zone (codes "A") first ∷ []) (codes "C") ≡ None
   two_links = refl
+
+module _ (name : String Global) where
+  -- each error tells its own refusal with its name, and want of memory none
+  told : map refusal_of (error.SurpriseContinuationLine ∷ error.UnknownRuleset name ∷ error.DuplicateLink name ∷ error.DuplicateZone ∷ error.NoMemory ∷ [])
+      ≡ Some surprise_continuation_line ∷ Some (unknown_ruleset (string_bytes name)) ∷ Some (duplicate_link (string_bytes name))
+      ∷ Some duplicate_zone ∷ None ∷ []
+  told = refl

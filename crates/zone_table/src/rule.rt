@@ -82,10 +82,7 @@ impl RuleInfo {
         requires { IsTrue (has_years self.now) }
         ensures { result ≡ applies_to_year self.now year }
     {
-        let last = match self.to_year {
-            Some(last) => last,
-            None => self.from_year,
-        };
+        let last = self.to_year.unwrap_or(self.from_year);
         is_at_most(self.from_year, year) && is_at_least(last, year)
     }
 
