@@ -9,3 +9,4 @@ pub mod Text
 pub mod TextLaws
 pub mod Number
 pub mod NumberLaws
+pub mod WidthLaws

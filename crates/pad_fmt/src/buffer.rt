@@ -1,6 +1,7 @@
 //! Text of limited size, without memory of its own.
 ghost use Rattle.std.specs.Prelude.{◌↔◌, ◌≤◌, ◌+◌, IsOk, OnOk, OnErr, ◌≡◌, ℕ, ◌-◌, IsTrue, List, [], ◌++◌, length, refl, Some};
 ghost use Rattle.std.specs.Cmp.Lexicographic.{texts_po, texts_ties};
+ghost use Rattle.std.specs.Fmt.{padded};
 ghost use Rattle.std.specs.Hash as fed;
 ghost use Rattle.pad_fmt.specs.Buffer.{are_same_bytes, cmp_by_bytes, partial_cmp_by_bytes, same_bytes_equivalence, same_bytes_partial_equivalence, bytes_total_order, same_bytes_same_hash};
 
@@ -156,6 +157,8 @@ impl<const SIZE: usize> Hash for WriteBuffer<SIZE> {
 
 impl<const SIZE: usize> Display for WriteBuffer<SIZE> {
     ghost output = { Some };
+
+    ghost styled_output = { λ text spec. Some (padded spec text) };
 
     fn fmt<W: Write>(&self, f: &mut Formatter<W>) -> Printed {
         f.pad(self.as_str())

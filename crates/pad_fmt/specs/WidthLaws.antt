@@ -1,0 +1,181 @@
+-- For each type, under which options its width is exact: `exact` holds, and so its bytes are as many as its padded width says.
+use Rattle.std.specs.Prelude.{◌≡◌, ℕ, suc, ℤ, ◌<◌, Bool, true, false, not, IsTrue, List, [], ◌∷◌, Option, None, refl, string_bytes}
+use denote.Bor.{Bor}
+use denote.RattleType.{RattleType}
+use mir.Syntax.{Dict}
+use Rattle.std.specs.Global.{Global, Box}
+use Rattle.std.specs.Borrow.{MutBor}
+use Rattle.std.specs.declared.string.String.{String}
+use Rattle.std.specs.declared.borrow.CowStr.{CowStr}
+use Rattle.std.specs.declared.num.Wrapping.{Wrapping}
+use Rattle.std.specs.declared.rc.Rc.{Rc}
+use Rattle.std.specs.declared.sync.Arc.{Arc}
+use Rattle.std.specs.Arc.{arc_value}
+use Rattle.std.specs.Cow.{cow_str_bytes}
+use Rattle.std.specs.Char.{is_ascii}
+use Rattle.std.specs.Option.{is_none}
+use Rattle.std.specs.Str.{IsAscii}
+use Rattle.std.proofs.Common.{arith, ap}
+use Rattle.std.proofs.lemmas.Bool.{and_from}
+use Rattle.std.proofs.lemmas.Bool.Decides.{nat_tests}
+use Rattle.pad_fmt.specs.Exact.{is_ascii_text}
+use Rattle.pad_fmt.specs.Options.{Options}
+use Rattle.pad_fmt.specs.Padding.{HasPaddedWidth}
+use Rattle.pad_fmt.specs.declared.smart_display.SmartDisplay.{Ghosts}
+use Rattle.pad_fmt.specs.TextLaws.{buffer_law}
+use Rattle.pad_fmt.specs.declared.text.Text.{Text}
+use Rattle.pad_fmt.specs.contracts.implementations.texts.BoolSmartDisplay.TheImpl as of_bool
+use Rattle.pad_fmt.specs.contracts.implementations.texts.BoolSmartDisplay.TheImpl.Laws as laws_bool
+use Rattle.pad_fmt.specs.contracts.implementations.texts.CharSmartDisplay.TheImpl as of_char
+use Rattle.pad_fmt.specs.contracts.implementations.texts.CharSmartDisplay.TheImpl.Laws as laws_char
+use Rattle.pad_fmt.specs.contracts.implementations.texts.TextSmartDisplay.TheImpl as of_text
+use Rattle.pad_fmt.specs.contracts.implementations.texts.TextSmartDisplay.TheImpl.Laws as laws_text
+use Rattle.pad_fmt.specs.contracts.implementations.texts.StringSmartDisplay.TheImpl as of_string
+use Rattle.pad_fmt.specs.contracts.implementations.texts.StringSmartDisplay.TheImpl.Laws as laws_string
+use Rattle.pad_fmt.specs.contracts.implementations.texts.CowStrGlobalSmartDisplay.TheImpl as of_cow
+use Rattle.pad_fmt.specs.contracts.implementations.texts.CowStrGlobalSmartDisplay.TheImpl.Laws as laws_cow
+use Rattle.pad_fmt.specs.contracts.implementations.texts.WriteBufferSmartDisplay.TheImpl as of_buffer
+use Rattle.pad_fmt.specs.contracts.implementations.integers.U8SmartDisplay.TheImpl as of_u8
+use Rattle.pad_fmt.specs.contracts.implementations.integers.U8SmartDisplay.TheImpl.Laws as laws_u8
+use Rattle.pad_fmt.specs.contracts.implementations.integers.U16SmartDisplay.TheImpl as of_u16
+use Rattle.pad_fmt.specs.contracts.implementations.integers.U16SmartDisplay.TheImpl.Laws as laws_u16
+use Rattle.pad_fmt.specs.contracts.implementations.integers.U32SmartDisplay.TheImpl as of_u32
+use Rattle.pad_fmt.specs.contracts.implementations.integers.U32SmartDisplay.TheImpl.Laws as laws_u32
+use Rattle.pad_fmt.specs.contracts.implementations.integers.U64SmartDisplay.TheImpl as of_u64
+use Rattle.pad_fmt.specs.contracts.implementations.integers.U64SmartDisplay.TheImpl.Laws as laws_u64
+use Rattle.pad_fmt.specs.contracts.implementations.integers.U128SmartDisplay.TheImpl as of_u128
+use Rattle.pad_fmt.specs.contracts.implementations.integers.U128SmartDisplay.TheImpl.Laws as laws_u128
+use Rattle.pad_fmt.specs.contracts.implementations.integers.UsizeSmartDisplay.TheImpl as of_usize
+use Rattle.pad_fmt.specs.contracts.implementations.integers.UsizeSmartDisplay.TheImpl.Laws as laws_usize
+use Rattle.pad_fmt.specs.contracts.implementations.integers.I8SmartDisplay.TheImpl as of_i8
+use Rattle.pad_fmt.specs.contracts.implementations.integers.I8SmartDisplay.TheImpl.Laws as laws_i8
+use Rattle.pad_fmt.specs.contracts.implementations.integers.I16SmartDisplay.TheImpl as of_i16
+use Rattle.pad_fmt.specs.contracts.implementations.integers.I16SmartDisplay.TheImpl.Laws as laws_i16
+use Rattle.pad_fmt.specs.contracts.implementations.integers.I32SmartDisplay.TheImpl as of_i32
+use Rattle.pad_fmt.specs.contracts.implementations.integers.I32SmartDisplay.TheImpl.Laws as laws_i32
+use Rattle.pad_fmt.specs.contracts.implementations.integers.I64SmartDisplay.TheImpl as of_i64
+use Rattle.pad_fmt.specs.contracts.implementations.integers.I64SmartDisplay.TheImpl.Laws as laws_i64
+use Rattle.pad_fmt.specs.contracts.implementations.integers.I128SmartDisplay.TheImpl as of_i128
+use Rattle.pad_fmt.specs.contracts.implementations.integers.I128SmartDisplay.TheImpl.Laws as laws_i128
+use Rattle.pad_fmt.specs.contracts.implementations.integers.IsizeSmartDisplay.TheImpl as of_isize
+use Rattle.pad_fmt.specs.contracts.implementations.integers.IsizeSmartDisplay.TheImpl.Laws as laws_isize
+use Rattle.pad_fmt.specs.contracts.implementations.wrappers.RefSmartDisplay.TheImpl as of_ref
+use Rattle.pad_fmt.specs.contracts.implementations.wrappers.RefMutSmartDisplay.TheImpl as of_mut
+use Rattle.pad_fmt.specs.contracts.implementations.wrappers.WrappingSmartDisplay.TheImpl as of_wrapping
+use Rattle.pad_fmt.specs.contracts.implementations.wrappers.RcSmartDisplay.TheImpl as of_rc
+use Rattle.pad_fmt.specs.contracts.implementations.wrappers.ArcSmartDisplay.TheImpl as of_arc
+use Rattle.pad_fmt.specs.contracts.implementations.wrappers.BoxSmartDisplay.TheImpl as of_box
+
+-- the width that the value answers is exact under these options, and is that of its bytes
+pub record IsExactAt {T M : Type 0} (shows : Ghosts T M) (value : T) (f : Options) : Type 0 where
+  pub exact : IsTrue (shows.exact value f)
+  pub width : HasPaddedWidth (shows.due value f) (shows.wide value f) f
+
+-- what the words say, as tests
+uncut : (precision : Option ℕ) → precision ≡ None → is_none precision ≡ true
+uncut precision none = ap is_none none
+
+flag_off : (flag : Bool) → flag ≡ false → not flag ≡ true
+flag_off flag off = ap not off
+
+ascii_char : (c : ℕ) → c < 128 → is_ascii c ≡ true
+ascii_char c small = grind (arith, nat_tests)
+
+ascii_text : (text : List ℕ) → IsAscii text → is_ascii_text text ≡ true
+ascii_text [] ascii = refl
+ascii_text (b ∷ text) ascii =
+    and_from (is_ascii b) (is_ascii_text text) (ascii_char b (ascii 0)) (ascii_text text (λ i. ascii (suc i)))
+
+pub bool_width : (truth : Bool) (f : Options) → f.precision ≡ None → f.fill < 128 → IsExactAt of_bool.ghosts truth f
+bool_width truth f none fill =
+    let exact = uncut f.precision none in
+    record { exact = exact; width = laws_bool.width_law-law truth f exact fill }
+
+pub char_width : (c : ℕ) (f : Options) → c < 128 → f.precision ≡ None → f.fill < 128 → IsExactAt of_char.ghosts c f
+char_width c f small none fill =
+    let exact = and_from (is_ascii c) (is_none f.precision) (ascii_char c small) (uncut f.precision none) in
+    record { exact = exact; width = laws_char.width_law-law c f exact fill }
+
+pub text_width : (text : Text) (f : Options) → IsAscii text.0.now → f.fill < 128 → IsExactAt of_text.ghosts text f
+text_width text f ascii fill =
+    let exact = ascii_text text.0.now ascii in
+    record { exact = exact; width = laws_text.width_law-law text f exact fill }
+
+pub string_width : (text : String Global) (f : Options) → IsAscii (string_bytes text) → f.fill < 128 → IsExactAt of_string.ghosts text f
+string_width text f ascii fill =
+    let exact = ascii_text (string_bytes text) ascii in
+    record { exact = exact; width = laws_string.width_law-law text f exact fill }
+
+pub cow_width : (text : CowStr Global) (f : Options) → IsAscii (cow_str_bytes text) → f.fill < 128 → IsExactAt of_cow.ghosts text f
+cow_width text f ascii fill =
+    let exact = ascii_text (cow_str_bytes text) ascii in
+    record { exact = exact; width = laws_cow.width_law-law text f exact fill }
+
+-- a buffer of any size
+pub buffer_width : (size : RattleType) (text : List ℕ) (f : Options) → IsAscii text → f.precision ≡ None → f.fill < 128
+    → IsExactAt (of_buffer.ghosts size) text f
+buffer_width size text f ascii none fill =
+    let exact = and_from (is_ascii_text text) (is_none f.precision) (ascii_text text ascii) (uncut f.precision none) in
+    record { exact = exact; width = buffer_law text f exact fill }
+
+pub u8_width : (n : ℕ) (f : Options) → f.sign_minus ≡ false → f.fill < 128 → IsExactAt of_u8.ghosts n f
+u8_width n f none fill = record { exact = flag_off f.sign_minus none; width = laws_u8.width_law-law n f (flag_off f.sign_minus none) fill }
+
+pub u16_width : (n : ℕ) (f : Options) → f.sign_minus ≡ false → f.fill < 128 → IsExactAt of_u16.ghosts n f
+u16_width n f none fill = record { exact = flag_off f.sign_minus none; width = laws_u16.width_law-law n f (flag_off f.sign_minus none) fill }
+
+pub u32_width : (n : ℕ) (f : Options) → f.sign_minus ≡ false → f.fill < 128 → IsExactAt of_u32.ghosts n f
+u32_width n f none fill = record { exact = flag_off f.sign_minus none; width = laws_u32.width_law-law n f (flag_off f.sign_minus none) fill }
+
+pub u64_width : (n : ℕ) (f : Options) → f.sign_minus ≡ false → f.fill < 128 → IsExactAt of_u64.ghosts n f
+u64_width n f none fill = record { exact = flag_off f.sign_minus none; width = laws_u64.width_law-law n f (flag_off f.sign_minus none) fill }
+
+pub u128_width : (n : ℕ) (f : Options) → f.sign_minus ≡ false → f.fill < 128 → IsExactAt of_u128.ghosts n f
+u128_width n f none fill = record { exact = flag_off f.sign_minus none; width = laws_u128.width_law-law n f (flag_off f.sign_minus none) fill }
+
+pub usize_width : (n : ℕ) (f : Options) → f.sign_minus ≡ false → f.fill < 128 → IsExactAt of_usize.ghosts n f
+usize_width n f none fill = record { exact = flag_off f.sign_minus none; width = laws_usize.width_law-law n f (flag_off f.sign_minus none) fill }
+
+pub i8_width : (z : ℤ) (f : Options) → f.fill < 128 → IsExactAt of_i8.ghosts z f
+i8_width z f fill = record { exact = refl; width = laws_i8.width_law-law z f refl fill }
+
+pub i16_width : (z : ℤ) (f : Options) → f.fill < 128 → IsExactAt of_i16.ghosts z f
+i16_width z f fill = record { exact = refl; width = laws_i16.width_law-law z f refl fill }
+
+pub i32_width : (z : ℤ) (f : Options) → f.fill < 128 → IsExactAt of_i32.ghosts z f
+i32_width z f fill = record { exact = refl; width = laws_i32.width_law-law z f refl fill }
+
+pub i64_width : (z : ℤ) (f : Options) → f.fill < 128 → IsExactAt of_i64.ghosts z f
+i64_width z f fill = record { exact = refl; width = laws_i64.width_law-law z f refl fill }
+
+pub i128_width : (z : ℤ) (f : Options) → f.fill < 128 → IsExactAt of_i128.ghosts z f
+i128_width z f fill = record { exact = refl; width = laws_i128.width_law-law z f refl fill }
+
+pub isize_width : (z : ℤ) (f : Options) → f.fill < 128 → IsExactAt of_isize.ghosts z f
+isize_width z f fill = record { exact = refl; width = laws_isize.width_law-law z f refl fill }
+
+-- what leads to a value or holds it: where the width of the value is exact
+module _ (T M : RattleType) (shows : Ghosts T.Denot M.Denot) (shows_table ends_table : Dict) where
+  pub ref_width : (value : Bor T.Denot) (f : Options) → IsExactAt shows value.now f
+      → IsExactAt (of_ref.ghosts T M shows shows_table ends_table) value f
+  ref_width value f inside = record { exact = inside.exact; width = inside.width }
+
+  pub mut_width : (value : MutBor T.Denot) (f : Options) → IsExactAt shows value.now f
+      → IsExactAt (of_mut.ghosts T M shows shows_table ends_table) value f
+  mut_width value f inside = record { exact = inside.exact; width = inside.width }
+
+  pub wrapping_width : (value : Wrapping T.Denot) (f : Options) → IsExactAt shows value.0 f
+      → IsExactAt (of_wrapping.ghosts T M shows shows_table ends_table) value f
+  wrapping_width value f inside = record { exact = inside.exact; width = inside.width }
+
+  pub rc_width : (value : Rc T.Denot Global) (f : Options) → IsExactAt shows value.value f
+      → IsExactAt (of_rc.ghosts T M shows shows_table ends_table) value f
+  rc_width value f inside = record { exact = inside.exact; width = inside.width }
+
+  pub arc_width : (value : Arc T.Denot Global) (f : Options) → IsExactAt shows (arc_value value) f
+      → IsExactAt (of_arc.ghosts T M shows shows_table ends_table) value f
+  arc_width value f inside = record { exact = inside.exact; width = inside.width }
+
+  pub box_width : (value : Box T.Denot) (f : Options) → IsExactAt shows value.value f
+      → IsExactAt (of_box.ghosts T M shows shows_table ends_table) value f
+  box_width value f inside = record { exact = inside.exact; width = inside.width }
