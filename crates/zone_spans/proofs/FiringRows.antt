@@ -77,6 +77,13 @@ before_the_end : fired 1 (pos 1800) (pos 0) (Some (UntilYear (Number (pos 1800))
 unfolding fired earliest line_end moment instant_of named_day is_leap days_in_year days_in_month days_after_zero year_start days_through days_into_year day
 before_the_end = refl
 
+-- under a saving the wall's clock shows the end an hour earlier, and the rule's time too: at the end the rule doesn't fire, a second before it does
+at_the_end_under_a_saving : map (λ second. fired 1 (pos 1800) (pos 0) (Some (UntilYear (Number (pos 1800)))) (pos 3600)
+    (at_second second (pos 0) [] ∷ [])) (pos 0 ∷ negsuc 0 ∷ [])
+    ≡ ([], pos 3600) ∷ (record { time = negsuc 5364666000; rule = at_second (negsuc 0) (pos 0) [] } ∷ [], pos 0) ∷ []
+unfolding fired earliest line_end moment instant_of named_day is_leap days_in_year days_in_month days_after_zero year_start days_through days_into_year day
+at_the_end_under_a_saving = refl
+
 -- of two at one moment the first listed fires first, and then the other an hour earlier: times of a year can fall
 ties : fired 2 (pos 1800) (pos 0) None (pos 0) (at_second (pos 0) (pos 3600) (codes "A") ∷ at_second (pos 0) (pos 0) (codes "B") ∷ [])
     ≡ (
@@ -128,14 +135,16 @@ above_the_start : listed_from (pos 100) (at (pos 50) (pos 0) ∷ at (pos 150) (p
 unfolding listed_from
 above_the_start = refl
 
--- no entry at the start where a firing is there; else the last before it, in firing order; else the first with no saving; else none
+-- no entry at the start where a firing is there; else the last before it, in firing order; else the first with no saving, which one below 0 is
+-- not; else none
 starts : map (start_firing (pos 100)) (
     (at (pos 50) (pos 0) ∷ at (pos 100) (pos 1) ∷ [])
     ∷ (at (pos 90) (pos 0) ∷ at (pos 50) (pos 7) ∷ at (pos 150) (pos 0) ∷ [])
     ∷ (at (pos 150) (pos 7) ∷ at (pos 160) (pos 0) ∷ at (pos 170) (pos 0) ∷ [])
+    ∷ (at (pos 150) (negsuc 3599) ∷ at (pos 160) (pos 0) ∷ [])
     ∷ (at (pos 150) (pos 7) ∷ [])
     ∷ [] ∷ []
     )
-    ≡ None ∷ Some (at (pos 50) (pos 7)) ∷ Some (at (pos 160) (pos 0)) ∷ None ∷ None ∷ []
+    ≡ None ∷ Some (at (pos 50) (pos 7)) ∷ Some (at (pos 160) (pos 0)) ∷ Some (at (pos 160) (pos 0)) ∷ None ∷ None ∷ []
 unfolding start_firing
 starts = refl

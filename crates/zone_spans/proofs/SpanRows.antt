@@ -22,12 +22,13 @@ use Rattle.zone_table.specs.declared.zone.Saving.TheVariants.{NoSaving, OneOff, 
 use Rattle.zone_table.specs.declared.zone.ZoneInfo.{ZoneInfo}
 use Rattle.zone_spans.specs.declared.fault.SpanFault.TheVariants.{UnknownRuleset, MissingUntil, YearRange, RuleYears, DayRange, NoStandardSpan}
 use Rattle.zone_spans.specs.declared.span.FixedTimespan.{FixedTimespan}
+use Rattle.zone_spans.specs.Bounds.{is_bounded, is_small}
 use Rattle.zone_spans.specs.Collapse.{collapsed, kept_of, kept_with, without_first}
 use Rattle.zone_spans.specs.Compiled.{compiled, set_of_lines}
 use Rattle.zone_spans.specs.Entries.{Entry, entries_from, entries_of, first_span, next_start, sorted_entries}
 use Rattle.zone_spans.specs.Faults.{is_outside, leaves_year, schedule_fault, some_year}
 use Rattle.zone_spans.specs.Firings.{earliest, fired, firings_of_years, line_firings, year_firings, years_expanded}
-use Rattle.zone_spans.specs.Lines.{Rulesets, zone_lines}
+use Rattle.zone_spans.specs.Lines.{Line, Rulesets, zone_lines}
 use Rattle.zone_spans.specs.Listing.{listed_from, start_firing}
 use Rattle.zone_spans.specs.Schedules.{Schedule, is_in_offset_range, total_at, totals_of}
 use Rattle.zone_spans.specs.Windows.{line_end}
@@ -69,6 +70,24 @@ knot : compiled none (line (pos 36000) NoSaving (codes "A") (Some (UntilYear (Nu
     })
 unfolding compiled schedule_fault leaves_year zone_lines set_of_lines first_span sorted_entries entries_from entries_of next_start line_firings years_expanded abbreviation line_end is_in_year instant_of named_day is_leap days_in_year days_in_month days_after_zero year_start days_through days_into_year day collapsed kept_of kept_with without_first
 knot = refl
+
+-- `Zone Test/Wall 1:00 1:00 A 2000`, ` 0:00 - B`: the wall's clock is two hours ahead at the end, since the line's own saving is in force there
+wall_end : compiled none (line (pos 3600) (OneOff (pos 3600)) (codes "A") (Some (UntilYear (Number (pos 2000))))
+    ∷ line (pos 0) NoSaving (codes "B") None ∷ [])
+    ≡ Ok (record { first = span (pos 3600) (pos 3600) (codes "A"); rest = (pos 946677600, span (pos 0) (pos 0) (codes "B")) ∷ [] })
+unfolding compiled schedule_fault leaves_year zone_lines set_of_lines first_span sorted_entries entries_from entries_of next_start line_firings years_expanded abbreviation line_end is_in_year instant_of named_day is_leap days_in_year days_in_month days_after_zero year_start days_through days_into_year day collapsed kept_of kept_with without_first
+wall_end = refl
+
+-- `Zone Test/Second 0:00 - A 2000`, ` 1:00 - B 2000 Jan 1 1:00`, ` 2:00 - C`: the last two begin at one second, and the later line has the last word
+one_second : compiled none (line (pos 0) NoSaving (codes "A") (Some (UntilYear (Number (pos 2000))))
+    ∷ line (pos 3600) NoSaving (codes "B") (Some (UntilTime (Number (pos 2000)) January (Ordinal (pos 1)) (record { 0 = Hours (pos 1); 1 = Wall })))
+    ∷ line (pos 7200) NoSaving (codes "C") None ∷ [])
+    ≡ Ok (record {
+      first = span (pos 0) (pos 0) (codes "A");
+      rest = (pos 946684800, span (pos 3600) (pos 0) (codes "B")) ∷ (pos 946684800, span (pos 7200) (pos 0) (codes "C")) ∷ [];
+    })
+unfolding compiled schedule_fault leaves_year zone_lines set_of_lines first_span sorted_entries entries_from entries_of next_start line_firings years_expanded abbreviation line_end is_in_year instant_of named_day is_leap days_in_year days_in_month days_after_zero year_start days_through days_into_year day collapsed kept_of kept_with without_first
+one_second = refl
 
 -- a rule of these years that fires at 0:00 of the wall's clock
 abbrev at_midnight : ℤ → ℤ → ℤ → Option (List ℕ) → RuleInfo
@@ -123,6 +142,17 @@ standard_first : set_of_lines (record {
 unfolding set_of_lines first_span sorted_entries entries_from entries_of next_start line_firings years_expanded firings_of_years year_firings fired earliest applies_to_year last_year moment abbreviation filled instant_of named_day is_leap days_in_year days_in_month days_after_zero year_start days_through days_into_year day collapsed kept_of kept_with without_first
 standard_first = refl
 
+-- a saving below 0 is one: `IST` comes before all, though `GMT` is the first entry; and where each entry has a saving nothing does
+abbrev a_ruled : Line
+a_ruled = record { info = line (pos 3600) (Multiple []) (codes "A") None; rules = []; end = None }
+
+below_0 : map (first_span (a_ruled ∷ []))
+    (((pos 1, span (pos 3600) (negsuc 3599) (codes "GMT")) ∷ (pos 2, span (pos 3600) (pos 0) (codes "IST")) ∷ [])
+    ∷ ((pos 1, span (pos 3600) (negsuc 3599) (codes "GMT")) ∷ (pos 2, span (pos 0) (pos 3600) (codes "BST")) ∷ []) ∷ [])
+    ≡ Some (span (pos 3600) (pos 0) (codes "IST")) ∷ None ∷ []
+unfolding first_span
+below_0 = refl
+
 -- the next line starts under the last saving of the one before it, and without one
 saving_stays : compiled (all (at_midnight (pos 1800) (pos 1800) (pos 3600) None ∷ []))
     (line (pos 0) (Multiple []) (codes "A") (Some (UntilYear (Number (pos 1801)))) ∷ line (pos 0) NoSaving (codes "B") None ∷ [])
@@ -156,6 +186,9 @@ start_saving = refl
 
 -- ---- faults
 
+abbrev plain : Option ChangeTime → ZoneInfo
+plain end = line (pos 0) NoSaving (codes "B") end
+
 -- January's last Sunday on or before the 1st: in 1800, which began on a Wednesday, a day of 1799
 abbrev outside : RuleInfo
 outside = record (at_midnight (pos 1800) (pos 1800) (pos 3600) None) { day = LastOnOrBefore Sunday (pos 1) }
@@ -165,6 +198,15 @@ rules_outside : is_outside outside (pos 1800) ∷ is_outside outside (pos 1801)
     ≡ true ∷ false ∷ false ∷ []
 unfolding is_outside applies_to_year last_year is_in_year named_day first_from last_with weekday_of is_leap days_in_year days_in_month days_after_zero year_start days_through days_into_year day
 rules_outside = refl
+
+-- the same rule of 1802 alone, which began on a Friday, leaves a line's years only where the line expands 1802
+outside_late : map (λ year. leaves_year (record {
+  info = plain None;
+  rules = record outside { from_year = Number (pos 1802); to_year = None } ∷ [];
+  end = Some (UntilYear (Number year));
+})) (pos 1801 ∷ pos 1802 ∷ []) ≡ false ∷ true ∷ []
+unfolding leaves_year some_year years_expanded is_outside applies_to_year last_year is_in_year named_day first_from last_with weekday_of is_leap days_in_year days_in_month days_after_zero year_start days_through days_into_year day
+outside_late = refl
 
 -- 300 years from 1800 on
 years_of_300 : some_year (λ y. int_eq y (pos 2099)) 300 ∷ some_year (λ y. int_eq y (pos 2100)) 300 ∷ some_year (λ y. int_eq y (pos 1800)) 1
@@ -178,9 +220,6 @@ yearless = record outside { from_year = Minimum }
 
 abbrev ruled : Option ChangeTime → ZoneInfo
 ruled end = line (pos 0) (Multiple (codes "R")) (codes "A") end
-
-abbrev plain : Option ChangeTime → ZoneInfo
-plain end = line (pos 0) NoSaving (codes "B") end
 
 abbrev saving : ZoneInfo
 saving = line (pos 0) (OneOff (pos 3600)) (codes "C") None
@@ -250,6 +289,11 @@ gives : then (pos 201000) (span (pos 7200) (pos 0) (codes "D")) ∷ then (pos 20
 unfolding collapsed kept_of kept_with without_first
 gives = refl
 
+-- of two entries alike the first is kept, though no two are kept yet
+alike : collapsed zzz ((pos 1, aest) ∷ (pos 100000, aest) ∷ (pos 200000, aedt) ∷ []) ≡ (pos 1, aest) ∷ (pos 200000, aedt) ∷ []
+unfolding collapsed kept_of kept_with without_first
+alike = refl
+
 -- a name alone makes another span, and the first kept entry goes where it says what holds before it
 names : collapsed zzz ((pos 1, zzz) ∷ (pos 2, span (pos 0) (pos 0) (codes "z")) ∷ (pos 3, zzz) ∷ (pos 4, zzz) ∷ [])
     ≡ (pos 2, span (pos 0) (pos 0) (codes "z")) ∷ (pos 3, zzz) ∷ []
@@ -283,3 +327,25 @@ in_range : map is_in_offset_range (
     ∷ record { first = pos 0; shifts = (pos 0, pos 0) ∷ (pos 1, negsuc 93599) ∷ [] } ∷ []
     ) ≡ true ∷ false ∷ false ∷ []
 in_range = refl
+
+-- ---- bounds
+
+-- 2^40, and one past it, on each side
+small : map is_small (negsuc 1099511627776 ∷ negsuc 1099511627775 ∷ pos 1099511627776 ∷ pos 1099511627777 ∷ []) ≡ false ∷ true ∷ true ∷ false ∷ []
+small = refl
+
+-- each number of a set passes at 2^40, and fails alone one past it
+abbrev far : ℤ
+far = pos 1099511627776
+
+abbrev too_far : ℤ
+too_far = pos 1099511627777
+
+bounded_sets : map is_bounded (
+    record { first = span far far []; rest = (far, span far far []) ∷ [] }
+    ∷ record { first = span too_far far []; rest = [] } ∷ record { first = span far too_far []; rest = [] }
+    ∷ record { first = span far far []; rest = (far, span far far []) ∷ (too_far, span far far []) ∷ [] }
+    ∷ record { first = span far far []; rest = (far, span too_far far []) ∷ [] }
+    ∷ record { first = span far far []; rest = (far, span far too_far []) ∷ [] } ∷ []
+    ) ≡ true ∷ false ∷ false ∷ false ∷ false ∷ false ∷ []
+bounded_sets = refl
