@@ -1,8 +1,14 @@
--- Which trees are the same, and what is inside errors.
-use Rattle.std.proofs.Common.{◌≡◌, refl, [], ◌∷◌, map, true, false, codes, Ok, Err}
+-- Which trees are the same, and what is inside items and errors, over all kinds of them.
+use Rattle.std.proofs.Common.{◌≡◌, refl, List, [], ◌∷◌, map, true, false, codes, Ok, Err}
+use Rattle.std.specs.Global.{Vec}
+use Rattle.civil_items.specs.declared.format_item.Component.{Component}
 use Rattle.civil_items.specs.declared.format_item.Component.TheVariants.{Year, Month, Day, Hour, Minute}
 use Rattle.civil_items.specs.declared.format_item.Component.TheVariants.{Second, Subsecond, OffsetHour, OffsetMinute, OffsetSecond}
-use Rattle.civil_items.specs.Trees.{literal, text, component, compound, optional, first, no_trees, tree, component_place, plain, same}
+use Rattle.civil_items.specs.declared.owned_format_item.OwnedFormatItem.TheOpen.{OwnedFormatItem-F}
+use Rattle.civil_items.specs.ItemTrees.{owned_level}
+use Rattle.civil_items.specs.Trees.{Tree, Trees, literal, text, component, compound, optional, first, no_trees, tree, trees_of}
+use Rattle.civil_items.specs.Trees.{component_place, component_in, compound_in, plain, same}
+use Rattle.civil_items.specs.declared.error.Error.{Error}
 use Rattle.civil_items.specs.declared.error.Error.TheVariants.{ConversionRange, ComponentRange, IndeterminateOffset}
 use Rattle.civil_items.specs.declared.error.Error.TheVariants.{DifferentVariant, InvalidVariant}
 use Rattle.civil_items.specs.Errors.{conversion_range_in, component_range_in, indeterminate_offset_in}
@@ -13,39 +19,83 @@ worked_components : map component_place
     ≡ 0 ∷ 1 ∷ 2 ∷ 3 ∷ 4 ∷ 5 ∷ 6 ∷ 7 ∷ 8 ∷ 9 ∷ []
 worked_components = refl
 
--- a text and a literal of the same bytes are told apart, and are one in plain trees, at every depth
-worked_literals : same (text (codes "a")) (literal (codes "a"))
-    ∷ same (plain (text (codes "a"))) (plain (literal (codes "a")))
-    ∷ same (plain (compound (tree (optional (text (codes "a"))) no_trees)))
-    (plain (compound (tree (optional (literal (codes "a"))) no_trees)))
-    ∷ same (plain (first (tree (text (codes "a")) no_trees))) (plain (first (tree (literal (codes "b")) no_trees)))
-    ∷ [] ≡ false ∷ true ∷ true ∷ false ∷ []
-worked_literals = refl
+-- a literal and a text of the same bytes, in a list
+abbrev mixed : Trees
+mixed = tree (literal (codes "a")) (tree (text (codes "b")) no_trees)
 
--- a front of a list is not the list, and no two variants are the same
-worked_lists : same (compound (tree (component Year) no_trees)) (compound (tree (component Year) (tree (component Day) no_trees)))
-    ∷ same (compound (tree (component Year) (tree (component Day) no_trees))) (compound (tree (component Year) no_trees))
-    ∷ same (compound no_trees) (first no_trees) ∷ same (optional (component Year)) (component Year)
-    ∷ same (component Year) (component Day) ∷ same (first no_trees) (first no_trees) ∷ []
-    ≡ false ∷ false ∷ false ∷ false ∷ false ∷ true ∷ []
+-- the same list with literals alone
+abbrev literals : Trees
+literals = tree (literal (codes "a")) (tree (literal (codes "b")) no_trees)
+
+-- one tree of each kind
+abbrev kinds : List Tree
+kinds = literal (codes "a") ∷ text (codes "a") ∷ component Year ∷ compound mixed ∷ optional (text (codes "a")) ∷ first mixed ∷ []
+
+-- in plain trees each text is a literal, at every depth
+worked_plain : map plain kinds
+    ≡ literal (codes "a") ∷ literal (codes "a") ∷ component Year ∷ compound literals ∷ optional (literal (codes "a")) ∷ first literals ∷ []
+worked_plain = refl
+
+-- no two kinds are the same
+worked_same : map (λ one. map (same one) kinds) kinds
+    ≡ (true ∷ false ∷ false ∷ false ∷ false ∷ false ∷ [])
+    ∷ (false ∷ true ∷ false ∷ false ∷ false ∷ false ∷ [])
+    ∷ (false ∷ false ∷ true ∷ false ∷ false ∷ false ∷ [])
+    ∷ (false ∷ false ∷ false ∷ true ∷ false ∷ false ∷ [])
+    ∷ (false ∷ false ∷ false ∷ false ∷ true ∷ false ∷ [])
+    ∷ (false ∷ false ∷ false ∷ false ∷ false ∷ true ∷ []) ∷ []
+worked_same = refl
+
+-- a front of a list is not the list, and other bytes, components and items are not the same
+worked_lists : map (same (compound (tree (component Year) (tree (component Day) no_trees))))
+    (compound (tree (component Year) no_trees) ∷ compound (tree (component Year) (tree (component Month) no_trees))
+    ∷ compound (tree (component Year) (tree (component Day) (tree (component Day) no_trees))) ∷ compound no_trees ∷ [])
+    ≡ false ∷ false ∷ false ∷ false ∷ []
 worked_lists = refl
 
-worked_errors : map conversion_range_in
-    (ConversionRange (record {}) ∷ ComponentRange (record {}) ∷ []) ≡ Ok (record {}) ∷ Err (record {}) ∷ []
-worked_errors = refl
+worked_bytes : same (literal (codes "a")) (literal (codes "ab")) ∷ same (text (codes "a")) (text (codes "b"))
+    ∷ same (first literals) (first no_trees) ∷ same (optional (component Year)) (optional (component Day)) ∷ []
+    ≡ false ∷ false ∷ false ∷ false ∷ []
+worked_bytes = refl
 
-worked_component_range : map component_range_in
-    (ComponentRange (record {}) ∷ InvalidVariant (record {}) ∷ []) ≡ Ok (record {}) ∷ Err (record {}) ∷ []
+-- what is inside a tree of each kind
+worked_component_in : map component_in kinds
+    ≡ Err (record {}) ∷ Err (record {}) ∷ Ok Year ∷ Err (record {}) ∷ Err (record {}) ∷ Err (record {}) ∷ []
+worked_component_in = refl
+
+worked_compound_in : map compound_in kinds
+    ≡ Err (record {}) ∷ Err (record {}) ∷ Err (record {}) ∷ Ok mixed ∷ Err (record {}) ∷ Err (record {}) ∷ []
+worked_compound_in = refl
+
+-- an item's variant is that of its tree
+worked_items : (part : Component) (item : Tree) (items : Vec Tree)
+    → (owned_level (OwnedFormatItem-F.Component part) ≡ component part)
+    × (owned_level (OwnedFormatItem-F.Compound items) ≡ compound (trees_of items.items))
+    × (owned_level (OwnedFormatItem-F.First items) ≡ first (trees_of items.items))
+worked_items part item items = (refl, refl, refl)
+
+-- one error of each kind
+abbrev errors : List Error
+errors =
+    ConversionRange (record {}) ∷ ComponentRange (record {}) ∷ IndeterminateOffset (record {}) ∷ DifferentVariant (record {}) ∷
+    InvalidVariant (record {}) ∷ []
+
+worked_conversion_range : map conversion_range_in errors
+    ≡ Ok (record {}) ∷ Err (record {}) ∷ Err (record {}) ∷ Err (record {}) ∷ Err (record {}) ∷ []
+worked_conversion_range = refl
+
+worked_component_range : map component_range_in errors
+    ≡ Err (record {}) ∷ Ok (record {}) ∷ Err (record {}) ∷ Err (record {}) ∷ Err (record {}) ∷ []
 worked_component_range = refl
 
-worked_indeterminate_offset : map indeterminate_offset_in
-    (IndeterminateOffset (record {}) ∷ DifferentVariant (record {}) ∷ []) ≡ Ok (record {}) ∷ Err (record {}) ∷ []
+worked_indeterminate_offset : map indeterminate_offset_in errors
+    ≡ Err (record {}) ∷ Err (record {}) ∷ Ok (record {}) ∷ Err (record {}) ∷ Err (record {}) ∷ []
 worked_indeterminate_offset = refl
 
-worked_different_variant : map different_variant_in
-    (DifferentVariant (record {}) ∷ IndeterminateOffset (record {}) ∷ []) ≡ Ok (record {}) ∷ Err (record {}) ∷ []
+worked_different_variant : map different_variant_in errors
+    ≡ Err (record {}) ∷ Err (record {}) ∷ Err (record {}) ∷ Ok (record {}) ∷ Err (record {}) ∷ []
 worked_different_variant = refl
 
-worked_invalid_variant : map invalid_variant_in
-    (InvalidVariant (record {}) ∷ ConversionRange (record {}) ∷ []) ≡ Ok (record {}) ∷ Err (record {}) ∷ []
+worked_invalid_variant : map invalid_variant_in errors
+    ≡ Err (record {}) ∷ Err (record {}) ∷ Err (record {}) ∷ Err (record {}) ∷ Ok (record {}) ∷ []
 worked_invalid_variant = refl

@@ -29,7 +29,7 @@ pub use iso8601::{DateKind, FormattedComponents, OffsetPrecision, TimePrecision}
 pub use numerical_duration::NumericalDuration;
 pub use numerical_std_duration::NumericalStdDuration;
 pub use owned_format_item::OwnedFormatItem;
-pub use sys_compare::SysCompare;
+pub use sys_compare::{AsSysTime, SysCompare};
 pub use sys_time::SysTime;
 pub use system_time_ext::SystemTimeExt;
 pub use well_known::{Rfc2822, Rfc3339};

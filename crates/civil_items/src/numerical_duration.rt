@@ -4,8 +4,7 @@ ghost use Rattle.civil_parts.specs.Durations.{IsDuration};
 ghost use Rattle.civil_items.specs.Lengths.{fits_seconds, minute, hour, day, week};
 
 use civil_base::SignedDuration;
-
-const NANOS_PER_SECOND: i128 = 1_000_000_000;
+use civil_parts::units::NANOS_PER_SECOND;
 
 const SECONDS_PER_MINUTE: i64 = 60;
 

@@ -32,62 +32,56 @@ pub trait SysCompare {
         ensures { result ≡ int_cmp (at self.now) rhs };
 }
 
-impl SysCompare for Timestamp {
+/// A value of an instant that is a system time too.
+pub trait AsSysTime {
+    /// The nanoseconds from 1970-01-01 00:00:00 UTC.
+    ghost at: { Self → ℤ };
+
+    /// The same instant.
+    fn as_sys_time(&self) -> SysTime
+        ensures { result ≡ at self.now };
+}
+
+impl AsSysTime for Timestamp {
     ghost at = { λ value. value };
 
-    fn since_sys(&self, rhs: SysTime) -> Option<SignedDuration> {
-        SignedDuration::from_whole_nanoseconds(SysTime::from(*self).nanos_since(rhs))
-    }
-
-    fn sys_since(&self, lhs: SysTime) -> Option<SignedDuration> {
-        SignedDuration::from_whole_nanoseconds(lhs.nanos_since(SysTime::from(*self)))
-    }
-
-    fn eq_sys(&self, rhs: SysTime) -> bool {
-        SysTime::from(*self) == rhs
-    }
-
-    fn cmp_sys(&self, rhs: SysTime) -> Ordering {
-        SysTime::from(*self).cmp(&rhs)
+    fn as_sys_time(&self) -> SysTime {
+        SysTime::from(*self)
     }
 }
 
-impl SysCompare for UtcDateTime {
+impl AsSysTime for UtcDateTime {
     ghost at = { λ value. value };
 
-    fn since_sys(&self, rhs: SysTime) -> Option<SignedDuration> {
-        SignedDuration::from_whole_nanoseconds(SysTime::from(*self).nanos_since(rhs))
-    }
-
-    fn sys_since(&self, lhs: SysTime) -> Option<SignedDuration> {
-        SignedDuration::from_whole_nanoseconds(lhs.nanos_since(SysTime::from(*self)))
-    }
-
-    fn eq_sys(&self, rhs: SysTime) -> bool {
-        SysTime::from(*self) == rhs
-    }
-
-    fn cmp_sys(&self, rhs: SysTime) -> Ordering {
-        SysTime::from(*self).cmp(&rhs)
+    fn as_sys_time(&self) -> SysTime {
+        SysTime::from(*self)
     }
 }
 
-impl SysCompare for OffsetDateTime {
+impl AsSysTime for OffsetDateTime {
     ghost at = { instant };
 
+    fn as_sys_time(&self) -> SysTime {
+        SysTime::from(*self)
+    }
+}
+
+impl<T: AsSysTime> SysCompare for T {
+    ghost at = { T.at };
+
     fn since_sys(&self, rhs: SysTime) -> Option<SignedDuration> {
-        SignedDuration::from_whole_nanoseconds(SysTime::from(*self).nanos_since(rhs))
+        SignedDuration::from_whole_nanoseconds(self.as_sys_time().nanos_since(rhs))
     }
 
     fn sys_since(&self, lhs: SysTime) -> Option<SignedDuration> {
-        SignedDuration::from_whole_nanoseconds(lhs.nanos_since(SysTime::from(*self)))
+        SignedDuration::from_whole_nanoseconds(lhs.nanos_since(self.as_sys_time()))
     }
 
     fn eq_sys(&self, rhs: SysTime) -> bool {
-        SysTime::from(*self) == rhs
+        self.as_sys_time() == rhs
     }
 
     fn cmp_sys(&self, rhs: SysTime) -> Ordering {
-        SysTime::from(*self).cmp(&rhs)
+        self.as_sys_time().cmp(&rhs)
     }
 }

@@ -5,9 +5,8 @@ ghost use Rattle.civil_base.specs.Ranges.{is_in_years, far_seconds};
 ghost use Rattle.civil_items.specs.SysTimes.{is_sys_time, IsSysTime};
 
 use civil_base::{ComponentRange, OffsetDateTime, Timestamp, UtcDateTime};
+use civil_parts::units::NANOS_PER_SECOND;
 use std::marker::Model;
-
-const NANOS_PER_SECOND: i128 = 1_000_000_000;
 
 // The first nanosecond whose second is an `i64`, and the last one.
 const FIRST: i128 = -9_223_372_036_854_775_808 * NANOS_PER_SECOND;
