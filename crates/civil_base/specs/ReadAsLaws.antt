@@ -1,5 +1,5 @@
 -- Each zoned text is read as the instant and the offset whose text it is.
-use Rattle.std.specs.Prelude.{ℤ, refl}
+use Rattle.std.specs.Prelude.{ℕ, ℤ, ◌≡◌, List, refl}
 use Rattle.civil_base.specs.Instants.{local_at}
 use Rattle.civil_base.specs.Layout.{zoned_text}
 use Rattle.civil_base.specs.Ranges.{IsInYears, IsOffset}
@@ -13,3 +13,7 @@ zoned_text-read t o years range = record {
   spelled = refl;
   only = λ u p years_too range_too same. zoned_text-same u p t o years_too range_too years range same;
 }
+
+-- a text names one instant and one offset
+pub read-one : (text : List ℕ) (t o u p : ℤ) → IsReadAs text t o → IsReadAs text u p → (u ≡ t) × (p ≡ o)
+read-one text t o u p one other = one.only u p other.years other.range other.spelled

@@ -253,33 +253,36 @@ fn converts_system_times(rt: HostRuntime) {
     holds(&rt, shown.offset().is_utc());
 }
 
-/// Asserts how a value compares with a system time, and how long it is from the one to the other.
-fn expect_compared<T: SysCompare + Copy>(
+/// Asserts how long it is to a value from a system time and back, and which of them comes first.
+fn expect_compared<T: SysCompare>(
     rt: &impl Abort,
     value: T,
     time: SysTime,
-    length: SignedDuration,
+    (since, back): (SignedDuration, SignedDuration),
     ordering: Ordering,
 ) {
-    let found = if value.eq_sys(time) {
-        value.since_sys(time)
-    } else {
-        value.sys_since(time)
-    };
-    same(rt, &found, &Some(length));
+    same(rt, &value.since_sys(time), &Some(since));
+    same(rt, &value.sys_since(time), &Some(back));
+    same(rt, &value.eq_sys(time), &ordering.is_eq());
     same(rt, &value.cmp_sys(time), &ordering);
 }
 
 #[test]
-fn compares_with_system_times(rt: HostRuntime) {
-    let (now, equal, zero) = (epoch(), Ordering::Equal, SignedDuration::ZERO);
-    expect_compared(&rt, Timestamp::UNIX_EPOCH, now, zero, equal);
-    expect_compared(&rt, UtcDateTime::UNIX_EPOCH, now, zero, equal);
-    expect_compared(&rt, OffsetDateTime::UNIX_EPOCH, now, zero, equal);
-    let (later, less, length) = (at(&rt, 3), Ordering::Less, 3.nanoseconds());
-    expect_compared(&rt, Timestamp::UNIX_EPOCH, later, length, less);
-    expect_compared(&rt, UtcDateTime::UNIX_EPOCH, later, length, less);
-    expect_compared(&rt, OffsetDateTime::UNIX_EPOCH, later, length, less);
+fn compares_with_the_same_system_time(rt: HostRuntime) {
+    let (now, equal) = (epoch(), Ordering::Equal);
+    let none = (SignedDuration::ZERO, SignedDuration::ZERO);
+    expect_compared(&rt, Timestamp::UNIX_EPOCH, now, none, equal);
+    expect_compared(&rt, UtcDateTime::UNIX_EPOCH, now, none, equal);
+    expect_compared(&rt, OffsetDateTime::UNIX_EPOCH, now, none, equal);
+}
+
+#[test]
+fn compares_with_later_system_times(rt: HostRuntime) {
+    let (later, less) = (at(&rt, 3), Ordering::Less);
+    let lengths = ((-3).nanoseconds(), 3.nanoseconds());
+    expect_compared(&rt, Timestamp::UNIX_EPOCH, later, lengths, less);
+    expect_compared(&rt, UtcDateTime::UNIX_EPOCH, later, lengths, less);
+    expect_compared(&rt, OffsetDateTime::UNIX_EPOCH, later, lengths, less);
 }
 
 #[test]
@@ -442,28 +445,72 @@ const EMPTY: BorrowedFormatItem<'static> = BorrowedFormatItem::StringLiteral("")
 
 #[test]
 fn takes_compounds_apart(rt: HostRuntime) {
-    let compound = owned(&rt, rt.alloc(), BorrowedFormatItem::Compound(&[EMPTY]));
-    holds(&rt, !compound.is_component(&Component::Year));
+    let compound = OwnedFormatItem::from_slice(rt.alloc(), &[EMPTY]).expect(&rt, "memory");
     holds(&rt, !compound.is_compound(&[]));
     let Ok(items) = compound.into_items() else {
         panic!(rt; "a compound has items");
     };
     assert!(rt; items.len() == 1);
-    holds(&rt, is_owned(&rt, rt.alloc(), EMPTY, &items[0]));
+    same(&rt, &text_in(&items[0]), &Some(""));
 }
 
 #[test]
 fn takes_components_apart(rt: HostRuntime) {
     let month = OwnedFormatItem::from(Component::Month);
-    holds(&rt, month.is_component(&Component::Month));
     holds(&rt, !month.is_component(&Component::Day));
     same(&rt, &Component::try_from(month), &Ok(Component::Month));
 }
 
+/// The name of an item's kind.
+fn kind_of(item: &OwnedFormatItem) -> &'static str {
+    match item {
+        OwnedFormatItem::Literal(_) => "literal",
+        OwnedFormatItem::StringLiteral(_) => "text",
+        OwnedFormatItem::Component(_) => "component",
+        OwnedFormatItem::Compound(_) => "compound",
+        OwnedFormatItem::Optional(_) => "optional",
+        OwnedFormatItem::First(_) => "first",
+    }
+}
+
+/// Asserts the kind of an item, and whether it is a month and a compound of one literal.
+fn expect_kind(rt: &impl Abort, alloc: Global, item: BorrowedFormatItem<'_>, kind: &str) {
+    let found = owned(rt, alloc, item);
+    same(rt, &kind_of(&found), &kind);
+    let (is_component, is_compound) = (kind == "component", kind == "compound");
+    same(rt, &found.is_component(&Component::Month), &is_component);
+    let literals = literals_of(rt, alloc);
+    same(rt, &found.is_compound(literals.as_slice()), &is_compound);
+    same(rt, &found.into_items().is_ok(), &is_compound);
+    let part = Component::try_from(owned(rt, alloc, item));
+    same(rt, &part.is_ok(), &is_component);
+}
+
 #[test]
-fn takes_no_text_apart(rt: HostRuntime) {
-    let text = owned(&rt, rt.alloc(), EMPTY);
-    holds(&rt, text.into_items().is_err());
-    let text = owned(&rt, rt.alloc(), EMPTY);
-    holds(&rt, Component::try_from(text).is_err());
+fn keeps_each_kind_of_item(rt: HostRuntime) {
+    let text = BorrowedFormatItem::StringLiteral("a");
+    let month = BorrowedFormatItem::Component(Component::Month);
+    let alloc = rt.alloc();
+    expect_kind(&rt, alloc, BorrowedFormatItem::Literal(b"a"), "literal");
+    expect_kind(&rt, alloc, text, "text");
+    expect_kind(&rt, alloc, month, "component");
+    expect_kind(
+        &rt,
+        alloc,
+        BorrowedFormatItem::Compound(&[text]),
+        "compound",
+    );
+    expect_kind(&rt, alloc, BorrowedFormatItem::Optional(&text), "optional");
+    expect_kind(&rt, alloc, BorrowedFormatItem::First(&[text]), "first");
+}
+
+#[test]
+fn compares_first_items_by_their_bytes(rt: HostRuntime) {
+    let text = BorrowedFormatItem::StringLiteral("a");
+    let first = owned(&rt, rt.alloc(), BorrowedFormatItem::First(&[EMPTY, text]));
+    let bytes = BorrowedFormatItem::Literal(b"a");
+    let same_bytes = BorrowedFormatItem::First(&[EMPTY, bytes]);
+    holds(&rt, is_owned(&rt, rt.alloc(), same_bytes, &first));
+    let other = BorrowedFormatItem::First(&[bytes, EMPTY]);
+    holds(&rt, !is_owned(&rt, rt.alloc(), other, &first));
 }

@@ -62,11 +62,32 @@ fn a_map_lends_its_texts(rt: HostRuntime) {
     targets
         .insert(alloc, "Test/M", madrid)
         .expect(&rt, "memory");
-    same(
-        &rt,
-        &targets.get("Test/M").expect(&rt, "target").as_str(),
-        &"Europe/Madrid",
-    );
+    let found = targets.get("Test/M").expect(&rt, "target");
+    same(&rt, &found.as_str(), &"Europe/Madrid");
+}
+
+#[test]
+fn a_map_keeps_the_last_value_of_a_key(rt: HostRuntime) {
+    let mut numbers = TextMap::new(rt.alloc());
+    for number in &[1, 2] {
+        numbers
+            .insert(rt.alloc(), "a", *number)
+            .expect(&rt, "memory");
+    }
+    same(&rt, &numbers.get("a"), &Some(&2));
+}
+
+#[test]
+fn what_is_owned_becomes_what_std_has(rt: HostRuntime) {
+    let alloc = rt.alloc();
+    let vec = items_of(&rt, alloc, &[(1, 'a'), (2, 'b')]).into_vec();
+    holds(&rt, vec.as_slice() == [(1, 'a'), (2, 'b')].as_slice());
+    let string = text_of(&rt, alloc, "abc").into_string();
+    same(&rt, &string.as_str(), &"abc");
+    let hashed = lists_of(&rt, alloc).into_hash_map();
+    same(&rt, &hashed.len(), &2);
+    let lists = TextMap::from_hash_map(hashed);
+    expect_names(&rt, alloc, &lists, &["a", "b"]);
 }
 
 /// The items of a slice.
