@@ -81,10 +81,7 @@ impl Date {
         ensures accepts { IsOk result ↔ IsDay (day_of_julian julian_day) }
         ensures value { IfOk result (λ date. date ≡ day_of_julian julian_day) }
     {
-        match Date::with_day(i64::from(julian_day) - i64::from(JULIAN_EPOCH)) {
-            Some(date) => Ok(date),
-            None => Err(ComponentRange),
-        }
+        Date::with_day(i64::from(julian_day) - i64::from(JULIAN_EPOCH)).ok_or(ComponentRange)
     }
 
     /// The date of a day number, where 0 is 1970-01-01, if it lies in the years -9999 to 9999.

@@ -69,10 +69,8 @@ impl OffsetDateTime {
         ensures instant { IfOk result (λ value. instant value ≡ timestamp) }
         ensures offset { IfOk result (λ value. offset_of value ≡ pos 0) }
     {
-        match PlainDateTime::at_nanos(timestamp) {
-            Some(local) => Ok(local.assume_utc()),
-            None => Err(ComponentRange),
-        }
+        let local = PlainDateTime::at_nanos(timestamp).ok_or(ComponentRange)?;
+        Ok(local.assume_utc())
     }
 
     /// The nanoseconds from 1970-01-01 00:00:00 UTC.

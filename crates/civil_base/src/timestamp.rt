@@ -68,12 +68,10 @@ impl Timestamp {
         ensures accepts { is_ok result ≡ is_in_years nanoseconds }
         ensures value { IfOk result (λ value. value ≡ nanoseconds) }
     {
-        match PlainDateTime::at_nanos(nanoseconds) {
-            Some(local) => Ok(Timestamp {
-                nanos: local.nanos(),
-            }),
-            None => Err(ComponentRange),
-        }
+        let local = PlainDateTime::at_nanos(nanoseconds).ok_or(ComponentRange)?;
+        Ok(Timestamp {
+            nanos: local.nanos(),
+        })
     }
 
     /// The nanoseconds from 1970-01-01 00:00:00 UTC.

@@ -57,12 +57,10 @@ impl UtcDateTime {
         ensures accepts { is_ok result ≡ is_in_years timestamp }
         ensures value { IfOk result (λ value. value ≡ timestamp) }
     {
-        match PlainDateTime::at_nanos(timestamp) {
-            Some(local) => Ok(UtcDateTime {
-                nanos: local.nanos(),
-            }),
-            None => Err(ComponentRange),
-        }
+        let local = PlainDateTime::at_nanos(timestamp).ok_or(ComponentRange)?;
+        Ok(UtcDateTime {
+            nanos: local.nanos(),
+        })
     }
 
     /// The nanoseconds from 1970-01-01 00:00:00.

@@ -1,11 +1,13 @@
 -- Which trees are the same, and what is inside items and errors, over all kinds of them.
 use Rattle.std.proofs.Common.{◌≡◌, refl, List, [], ◌∷◌, map, true, false, codes, Ok, Err}
+use denote.Bor.{Bor}
 use Rattle.std.specs.Global.{Vec}
 use Rattle.civil_items.specs.declared.format_item.Component.{Component}
 use Rattle.civil_items.specs.declared.format_item.Component.TheVariants.{Year, Month, Day, Hour, Minute}
 use Rattle.civil_items.specs.declared.format_item.Component.TheVariants.{Second, Subsecond, OffsetHour, OffsetMinute, OffsetSecond}
 use Rattle.civil_items.specs.declared.owned_format_item.OwnedFormatItem.TheOpen.{OwnedFormatItem-F}
-use Rattle.civil_items.specs.ItemTrees.{owned_level}
+use Rattle.civil_items.specs.declared.format_item.BorrowedFormatItem.TheOpen.{BorrowedFormatItem-F}
+use Rattle.civil_items.specs.ItemTrees.{owned_level, borrowed_level}
 use Rattle.civil_items.specs.Trees.{Tree, Trees, literal, text, component, compound, optional, first, no_trees, tree, trees_of}
 use Rattle.civil_items.specs.Trees.{component_place, component_in, compound_in, plain, same}
 use Rattle.civil_items.specs.declared.error.Error.{Error}
@@ -73,6 +75,12 @@ worked_items : (part : Component) (item : Tree) (items : Vec Tree)
     × (owned_level (OwnedFormatItem-F.Compound items) ≡ compound (trees_of items.items))
     × (owned_level (OwnedFormatItem-F.First items) ≡ first (trees_of items.items))
 worked_items part item items = (refl, refl, refl)
+
+worked_borrowed_items : (part : Component) (items : Bor (List Tree))
+    → (borrowed_level (BorrowedFormatItem-F.Component part) ≡ component part)
+    × (borrowed_level (BorrowedFormatItem-F.Compound items) ≡ compound (trees_of items.now))
+    × (borrowed_level (BorrowedFormatItem-F.First items) ≡ first (trees_of items.now))
+worked_borrowed_items part items = (refl, refl, refl)
 
 -- one error of each kind
 abbrev errors : List Error

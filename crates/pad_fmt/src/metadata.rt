@@ -86,10 +86,7 @@ impl<'a, T, M> WidthAnd<'a, T, M> {
     pub fn padded_width(&self, f: FormatterOptions) -> usize
         ensures { result ≡ padded_width self.now.unpadded_width f }
     {
-        match f.width() {
-            Some(requested) => self.unpadded_width.max(requested),
-            None => self.unpadded_width,
-        }
+        self.unpadded_width.max(f.width().unwrap_or(0))
     }
 
     /// What else the value's type keeps.

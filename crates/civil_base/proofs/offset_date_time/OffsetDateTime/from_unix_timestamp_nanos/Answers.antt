@@ -3,9 +3,9 @@ use Rattle.calendar.specs.Signs.{signed}
 use Rattle.civil_base.proofs.DateTimeLemmas.{instant-parts}
 use Rattle.civil_base.proofs.offset_date_time.OffsetDateTime.from_unix_timestamp_nanos.Goals as goal
 
-pub returns-in-Some-clause-instant : goal.returns-in-Some-clause-instant
-returns-in-Some-clause-instant c =
+pub returns-clause-instant : goal.returns-clause-instant
+returns-clause-instant c =
     let value = c.assume_utc.result in
-    let local = c.in-Some.ensures.value in
+    let local = rw c.in_ok-local.ensures.ok_part at c.at_nanos.ensures.value in
     let stamp = to_z-of_z c.ranges.timestamp in
     omega (arith, signed, instant-parts value, c.assume_utc.ensures.local, c.assume_utc.ensures.offset, local, stamp)
