@@ -23,9 +23,59 @@ pub trait Probe {
         ensures step { steps.new ≡ steps.old + 1 };
 }
 
+/// Indices that are asked about at the cost of one ledger: what is generic in the ledger can open none of its own for it.
+trait ProbeBy<L: Ledger> {
+    /// The indices that may be asked about.
+    ghost has: { Self → ℕ → Type 0 };
+
+    /// Whether an index lies before, at or after what is looked for.
+    ghost order: { Self → ℕ → Ordering };
+
+    /// Whether an index lies before, at or after what is looked for. This is one step.
+    fn probe_by(&self, index: usize, steps: &mut Steps<L>) -> Ordering
+        requires { has self.now index }
+        ensures order { result ≡ order self.now index }
+        ensures step { steps.new ≡ steps.old + 1 };
+}
+
+/// A probe, at the cost of any one ledger.
+#[derive(Drop)]
+struct By<'a, P: Probe> {
+    probe: &'a P,
+}
+
+impl<'a, P: Probe, L: Ledger> ProbeBy<L> for By<'a, P> {
+    ghost has = { λ by k. P.has by.probe.now k };
+
+    ghost order = { λ by k. P.order by.probe.now k };
+
+    fn probe_by(&self, index: usize, steps: &mut Steps<L>) -> Ordering {
+        self.probe.probe(index, steps)
+    }
+}
+
 /// An index from `start` up to, without, `end` that lies at what is looked for, or none exactly where none does. The
 /// indices go from those before it over those at it to those after it. It takes s steps with 2^s <= 2n + 1 for n indices.
 pub fn binary_search<P: Probe, L: Ledger>(
+    start: usize,
+    end: usize,
+    probe: &P,
+    steps: &mut Steps<L>,
+) -> Option<usize>
+    requires order { start ≤ end }
+    requires has { (k : ℕ) → start ≤ k → k < end → P.has probe.now k }
+    requires sorted { GoesUp (P.order probe.now) start end }
+    ensures found { MatchOption result
+        ((k : ℕ) → start ≤ k → k < end → P.order probe.now k ≢ Equal)
+        (λ i. (start ≤ i) × (i < end) × (P.order probe.now i ≡ Equal)) }
+    ensures cost { 2 ^ (steps.new - steps.old) ≤ 2 * (end - start) + 1 }
+    ensures later { steps.old ≤ steps.new }
+{
+    halve(start, end, &By { probe }, steps)
+}
+
+/// The search itself. It knows of the probe only at the cost of `steps`, so it asks nothing uncounted.
+fn halve<L: Ledger, P: ProbeBy<L>>(
     start: usize,
     end: usize,
     probe: &P,
@@ -44,7 +94,7 @@ pub fn binary_search<P: Probe, L: Ledger>(
     let mut high = end;
     'search: while low < high {
         let middle = low + (high - low) / 2;
-        match probe.probe(middle, steps) {
+        match probe.probe_by(middle, steps) {
             Ordering::Equal => return Some(middle),
             Ordering::Less => low = middle + 1,
             Ordering::Greater => high = middle,
