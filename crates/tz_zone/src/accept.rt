@@ -12,6 +12,16 @@ use crate::set::FixedTimespanSet;
 use crate::table::SpanTable;
 use zone_spans::FixedTimespan;
 
+/// The least and the greatest offset in seconds: a second less than 26 hours, west and east.
+const LEAST_OFFSET: i64 = -93_599;
+
+const GREATEST_OFFSET: i64 = 93_599;
+
+/// The earliest and the latest time of an entry in seconds: 2^40 before 1970 and after.
+const EARLIEST: i64 = -(1 << 40);
+
+const LATEST: i64 = 1 << 40;
+
 /// Why a set can't be looked up.
 #[derive(Clone, Copy, Debug, PartialEq, Eq)]
 pub enum TzFault {
@@ -64,7 +74,7 @@ fn has_offset(span: &FixedTimespan) -> bool
 fn is_offset(total: i64) -> bool
     ensures { result ≡ is_offset total }
 {
-    -93_599 <= total && total <= 93_599
+    LEAST_OFFSET <= total && total <= GREATEST_OFFSET
 }
 
 fn times_do_not_fall(set: &FixedTimespanSet) -> bool
@@ -87,5 +97,5 @@ fn has_span_times(entries: &[(i64, FixedTimespan)]) -> bool
 fn is_span_time(second: i64) -> bool
     ensures { IsTrue result ↔ IsSpanTime second }
 {
-    -1_099_511_627_776 <= second && second <= 1_099_511_627_776
+    EARLIEST <= second && second <= LATEST
 }

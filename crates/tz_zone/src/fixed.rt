@@ -32,6 +32,7 @@ impl<'a> Fixed<'a> {
         ensures name { name_shown result ≡ name.now }
         ensures offset { offset_shown result ≡ offset }
     {
+        // Read for what it says of every offset: that it is in range.
         let _in_range = offset.whole_seconds();
         Fixed { name, offset }
     }

@@ -5,14 +5,14 @@ use Rattle.civil_base.specs.Ranges.{is_offset}
 use Rattle.tz_zone.proofs.OffsetLemmas.{offset_test}
 use Rattle.tz_zone.proofs.accept.is_offset.Goals as goal
 
-pub returns-then-total-geminus93599 : goal.returns-then-total-geminus93599
-returns-then-total-geminus93599 c =
+pub returns-then-total-ge-LEAST_OFFSET : goal.returns-then-total-ge-LEAST_OFFSET
+returns-then-total-ge-LEAST_OFFSET c =
     let kept = to_z w64 (of_z w64 c.args.total) in
-    ap (λ b. b && int_le kept (pos 93599)) (sym c.if-total-geminus93599.true) ∙ offset_test kept
+    ap (λ b. b && int_le kept (pos 93599)) (sym c.if-total-ge-LEAST_OFFSET.true) ∙ offset_test kept
     ∙ ap is_offset (to_z-of_z w64 _ c.ranges.total)
 
-pub returns-else-total-geminus93599 : goal.returns-else-total-geminus93599
-returns-else-total-geminus93599 c =
+pub returns-else-total-ge-LEAST_OFFSET : goal.returns-else-total-ge-LEAST_OFFSET
+returns-else-total-ge-LEAST_OFFSET c =
     let kept = to_z w64 (of_z w64 c.args.total) in
-    c.if-total-geminus93599.false ∙ ap (λ b. b && int_le kept (pos 93599)) (sym c.if-total-geminus93599.false) ∙ offset_test kept
+    c.if-total-ge-LEAST_OFFSET.false ∙ ap (λ b. b && int_le kept (pos 93599)) (sym c.if-total-ge-LEAST_OFFSET.false) ∙ offset_test kept
     ∙ ap is_offset (to_z-of_z w64 _ c.ranges.total)
