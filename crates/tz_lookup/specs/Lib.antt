@@ -4,6 +4,9 @@ pub use Rattle.tz_zone.specs.Search
 pub use Rattle.tz_zone.specs.Faults
 pub use Rattle.tz_zone.specs.InForce
 pub use Rattle.tz_zone.specs.InForceLaws
+pub use Rattle.tz_zone.specs.RisingLaws
+pub use Rattle.tz_zone.specs.InstantLaws
+pub use Rattle.tz_zone.specs.AnswerLaws
 pub use Rattle.tz_zone.specs.Answers
 pub use Rattle.tz_zone.specs.Results
 pub use Rattle.tz_zone.specs.Scans

@@ -20,7 +20,8 @@ pub struct CompactInstants<'a> {
 impl<'a> CompactInstants<'a> {
     ghost use Rattle.std.specs.Prelude.{◌≡◌, ◌≤◌, ◌+◌, map, length};
     ghost use Rattle.zone_spans.specs.Schedules.{total_at};
-    ghost use Rattle.tz_zone.specs.InForce.{all_in_force, shown_of};
+    ghost use Rattle.civil_base.specs.DateTimes.{instant};
+    ghost use Rattle.tz_zone.specs.InForce.{all_in_force, shown_of, AreInstants};
     ghost use Rattle.tz_zone.specs.Sets.{schedule_of};
     ghost use Rattle.tz_lookup.specs.CompactLeft.{compact_left};
     ghost use Rattle.tz_lookup.specs.CompactShown.{seen};
@@ -29,6 +30,7 @@ impl<'a> CompactInstants<'a> {
     pub(crate) fn new(set: &'a CompactSet, local: &PlainDateTime) -> CompactInstants<'a>
         ensures all { map shown_of (compact_left result) ≡ all_in_force (total_at (schedule_of (seen set.now))) local.now }
         ensures few { length (compact_left result) ≤ length (seen set.now).others + 1 }
+        ensures exact { AreInstants (total_at (schedule_of (seen set.now))) local.now (map instant (compact_left result)) }
     {
         CompactInstants {
             set,

@@ -36,7 +36,7 @@ impl<'a> CompactTz<'a> {
     ghost use Rattle.civil_base.specs.Instants.{instant_at, seconds_of};
     ghost use Rattle.zone_spans.specs.Schedules.{total_at};
     ghost use Rattle.tz_zone.specs.Answers.{listed, EachOf, IsUpTo};
-    ghost use Rattle.tz_zone.specs.InForce.{all_in_force, shown_of, totals_at, AreRead, GivesAt, IsInForce};
+    ghost use Rattle.tz_zone.specs.InForce.{all_in_force, shown_of, totals_at, AreInstants, AreRead, GivesAt, IsInForce};
     ghost use Rattle.tz_zone.specs.Sets.{schedule_of, IsOrderlyZone, span_in, total_of_span};
     ghost use Rattle.tz_lookup.specs.CompactLeft.{compact_left};
     ghost use Rattle.tz_lookup.specs.CompactShown.{seen};
@@ -84,6 +84,8 @@ impl<'a> CompactTz<'a> {
         requires { offset_of date_time.now ≡ pos 0 }
         ensures totals { map total_of (listed result) ≡ take 2 (totals_at (total_at (schedule_of (compact_of self.now))) (local_of date_time.now)) }
         ensures names { EachOf (IsCompactFor (compact_of self.now) (local_of date_time.now)) result }
+        ensures exact { IsOrderlyZone (schedule_of (compact_of self.now)) → AreInstants (total_at (schedule_of (compact_of self.now))) (local_of date_time.now)
+            (map (instant_at (local_of date_time.now)) (map total_of (listed result))) }
         ensures cost { 2 ^ (steps.new - steps.old) ≤ 2 * (length (compact_of self.now).others + 1) + 1 }
         ensures later { steps.old ≤ steps.new }
     {
@@ -95,6 +97,7 @@ impl<'a> CompactTz<'a> {
     pub fn instants_local(&self, date_time: &PlainDateTime) -> CompactInstants<'a>
         ensures all { map shown_of (compact_left result) ≡ all_in_force (total_at (schedule_of (compact_of self.now))) date_time.now }
         ensures few { length (compact_left result) ≤ length (compact_of self.now).others + 1 }
+        ensures exact { AreInstants (total_at (schedule_of (compact_of self.now))) date_time.now (map instant (compact_left result)) }
     {
         CompactInstants::new(self.set, date_time)
     }

@@ -18,5 +18,5 @@ pub use database::{Database, DatabaseFault, DatabaseIter};
 pub use tz_zone::{
     Fixed, FixedOffset, FixedTimespan, FixedTimespanSet, InstantsLocal, Offset, OffsetDateTimeExt,
     OffsetResult, PrimitiveDateTimeExt, Probe, SpanFault, SpanTable, Steps, TimeZone, Tz, TzFault,
-    TzOffset, ZoneFault, binary_search, compile_zone, is_orderly,
+    TzOffset, ZoneFault, binary_search, compile_zone, is_orderly, local_spans, local_spans_counted,
 };

@@ -12,8 +12,9 @@ use Rattle.tz_zone.specs.InForce.{totals_at, AreInstants}
 use Rattle.tz_zone.proofs.Totals.{total_from, total_is}
 use Rattle.tz_zone.proofs.SpanLemmas.{total_in, span_of, total_falls, neighbours}
 use Rattle.tz_zone.proofs.Seconds.{seconds_of-instant_at}
-use Rattle.tz_zone.proofs.Rising.{pairs_more, contains_head, contains_more}
-use Rattle.tz_zone.proofs.InstantLemmas.{instants_one, total_in_range}
+use Rattle.tz_zone.specs.RisingLaws.{pairs_more, contains_head, contains_more}
+use Rattle.tz_zone.specs.InstantLaws.{from_reading, instants_one}
+use Rattle.zone_spans.specs.ScheduleLaws.{total_is_offset}
 
 abbrev pub Holds : Schedule → ℕ → ℤ → Type 0
 Holds zone k x = IsIn zone.first zone.shifts k (seconds_of x)
@@ -60,9 +61,6 @@ total_at_span zone x k times h =
 
 at_same : (x t o p : ℤ) → instant_at x o ≡ t → p ≡ o → (t +ℤ pos 1000000000 *ℤ p) ≡ x
 at_same x t o p e f = omega (arith, ints, e, f)
-
-pub from_reading : (x t o : ℤ) → (t +ℤ pos 1000000000 *ℤ o) ≡ x → t ≡ instant_at x o
-from_reading x t o e = omega (arith, ints, e)
 
 seconds_add : (s o x : ℤ) → s ≡ (x -ℤ o) → (s +ℤ o) ≡ x
 seconds_add s o x e = omega (arith, ints, e)
@@ -111,7 +109,7 @@ pub span_totals : (zone : Schedule) (x : ℤ) (os : List ℤ) → TimesDontFall 
 unfolding totals_at
 span_totals zone x os times range h =
     ap (map (total_at zone))
-    (instants_one (total_at zone) x (map (instant_at x) os) (λ t. total_in_range zone t range)
+    (instants_one (total_at zone) x (map (instant_at x) os) (λ t. total_is_offset zone t range)
     (span_totals_instants zone x os times h))
     ∙ totals_back zone x os (λ o c. let span = h.back o c in
     ap (λ p. total_at zone (instant_at x p)) (sym span.2) ∙ total_at_span zone x span.0 times span.1 ∙ span.2)

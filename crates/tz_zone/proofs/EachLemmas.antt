@@ -9,7 +9,7 @@ use Rattle.tz_zone.specs.declared.set.FixedTimespanSet.{FixedTimespanSet}
 use Rattle.tz_zone.specs.InForce.{all_in_force, shown_of}
 use Rattle.tz_zone.specs.Scans.{spans_from}
 use Rattle.tz_zone.specs.Sets.{schedule_of, total_of_span, IsAccepted}
-use Rattle.tz_zone.proofs.InstantLemmas.{total_in_range}
+use Rattle.zone_spans.specs.ScheduleLaws.{total_is_offset}
 use Rattle.tz_zone.proofs.ScanLemmas.{few_spans, scan_totals}
 use Rattle.tz_zone.proofs.SetLemmas.{count_same}
 use Rattle.tz_zone.proofs.TimeZoneLemmas.{shown_at_offset, in_force_from_totals}
@@ -27,7 +27,7 @@ each_date set x s accepted at =
     dates_at x (total_of_span set) _
     ∙ ap (λ n. map (λ o. (instant_at x o, o)) (map (total_of_span set) (spans_from (schedule_of set) s 0 n))) size
     ∙ ap (map (λ o. (instant_at x o, o))) (sym (scan_totals (schedule_of set) x s at accepted))
-    ∙ in_force_from_totals (total_at (schedule_of set)) x (λ t. total_in_range (schedule_of set) t accepted.range)
+    ∙ in_force_from_totals (total_at (schedule_of set)) x (λ t. total_is_offset (schedule_of set) t accepted.range)
 
 pub few_dates : (set : FixedTimespanSet) (x s : ℤ)
     → length (map (λ k. at_offset x (total_of_span set k)) (spans_from (schedule_of set) s 0 (length set.others + 1 - 0))) ≤

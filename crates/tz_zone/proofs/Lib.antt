@@ -1,9 +1,7 @@
 pub mod Seconds
 pub mod Totals
-pub mod Rising
 pub mod Halves
 pub mod SpanLemmas
-pub mod InstantLemmas
 pub mod AnswerLemmas
 pub mod OrderLemmas
 pub mod OrderlyLemmas

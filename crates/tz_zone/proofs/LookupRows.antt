@@ -1,6 +1,6 @@
 -- Gaps, folds, faults, abbreviations and kinds of small sets, at worked rows.
 use Rattle.std.proofs.Common.{◌≡◌, ℕ, zero, suc, true, false, List, [], ◌∷◌, ℤ, pos, negsuc, refl, ap, ◌∙◌, arith}
-use Rattle.std.specs.Prelude.{Bool, Some, None, codes, int_lt}
+use Rattle.std.specs.Prelude.{Bool, Option, Some, None, codes, int_lt}
 use Rattle.std.proofs.lemmas.Int.{ints}
 use Rattle.civil_base.specs.Instants.{seconds_of}
 use Rattle.zone_spans.specs.Schedules.{Schedule, total_at, is_in_offset_range}
@@ -8,10 +8,10 @@ use Rattle.tz_zone.specs.declared.accept.TzFault.TheVariants.{OffsetRange, Falli
 use Rattle.tz_zone.specs.declared.result.OffsetResult.{OffsetResult}
 use Rattle.tz_zone.specs.declared.result.OffsetResult.TheVariants as found
 use Rattle.tz_zone.specs.declared.set.FixedTimespanSet.{FixedTimespanSet}
-use Rattle.tz_zone.specs.Answers.{listed}
+use Rattle.tz_zone.specs.Answers.{listed, AreAdjacent}
 use Rattle.tz_zone.specs.Faults.{IsFault}
 use Rattle.tz_zone.specs.InForce.{GivesAt}
-use Rattle.tz_zone.specs.Results.{only_in, first_in, second_in}
+use Rattle.tz_zone.specs.Results.{has_one, only_in, first_in, second_in, is_none_in, is_ambiguous_in}
 use Rattle.tz_zone.specs.Scans.{spans_from}
 use Rattle.tz_zone.specs.Sets.{schedule_of, shifts_of, span_in, IsOrderlyZone, IsSpanTime}
 use Rattle.tz_zone.specs.Spans.{Shift, IsIn, IsCut}
@@ -167,25 +167,48 @@ called_in_summer name saving given =
     let is = summer_span given.span given.in_force in
     (given.named ∙ ap (λ k. (span_in summer k).name) is, given.saves ∙ ap (λ k. int_lt (pos 0) (span_in summer k).dst_offset) is)
 
+-- ---- a saving below 0 is no daylight saving time: Irish time, with its winter as the saving
+
+abbrev irish : FixedTimespanSet
+irish = record {
+  name = codes "Test/Irish";
+  first = record { utc_offset = pos 3600; dst_offset = negsuc 3599; name = codes "GMT" };
+  others = (pos 1000, record { utc_offset = pos 3600; dst_offset = pos 0; name = codes "IST" }) ∷ [];
+}
+
+irish_winter : total_at (schedule_of irish) (pos 999999999999) ≡ pos 0
+unfolding total_at
+irish_winter = refl
+
+irish_winter_span : (k : ℕ) → IsCut (shifts_of irish) k (pos 999) → k ≡ 0
+irish_winter_span zero cut = refl
+irish_winter_span (suc k) cut = absurd (omega (arith, ints, cut.before 0 (omega arith)))
+
+called_in_irish_winter : (name : List ℕ) (saving : Bool) → GivesAt irish (pos 999999999999) name saving
+    → (name ≡ codes "GMT") × (saving ≡ false)
+unfolding seconds_of
+called_in_irish_winter name saving given =
+    let is = irish_winter_span given.span given.in_force in
+    (given.named ∙ ap (λ k. (span_in irish k).name) is, given.saves ∙ ap (λ k. int_lt (pos 0) (span_in irish k).dst_offset) is)
+
 -- ---- the values of an answer
 
-abbrev two : OffsetResult ℕ
-two = found.Ambiguous 1 2
+-- whether there is one, none or two; the only one, the first and the second; all of them
+abbrev told : OffsetResult ℕ → Bool × Bool × Bool × Option ℕ × Option ℕ × Option ℕ × List ℕ
+told r = (has_one r, is_none_in r, is_ambiguous_in r, only_in r, first_in r, second_in r, listed r)
 
-two_listed : listed two ≡ 1 ∷ 2 ∷ []
-two_listed = refl
+none_told : told found.None ≡ (false, true, false, None, None, None, [])
+none_told = refl
 
-two_have_no_only : only_in two ≡ None
-two_have_no_only = refl
+one_told : told (found.Some 1) ≡ (true, false, false, Some 1, Some 1, Some 1, 1 ∷ [])
+one_told = refl
 
-first_of_two : first_in two ≡ Some 1
-first_of_two = refl
+two_told : told (found.Ambiguous 1 2) ≡ (false, false, true, None, Some 1, Some 2, 1 ∷ 2 ∷ [])
+two_told = refl
 
-second_of_two : second_in two ≡ Some 2
-second_of_two = refl
+-- neighbours are a span and the one right after it
+neighbours : AreAdjacent (found.Ambiguous 1 2)
+neighbours = refl
 
-abbrev one : OffsetResult ℕ
-one = found.Some 1
-
-second_of_one : second_in one ≡ Some 1
-second_of_one = refl
+no_neighbours : (AreAdjacent (found.Ambiguous 1 1) → ⊥) × (AreAdjacent (found.Ambiguous 1 3) → ⊥) × (AreAdjacent (found.Ambiguous 2 1) → ⊥)
+no_neighbours = (λ e. absurd (omega (arith, e)), λ e. absurd (omega (arith, e)), λ e. absurd (omega (arith, e)))

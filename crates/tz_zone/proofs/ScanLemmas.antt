@@ -2,7 +2,7 @@
 use Rattle.std.proofs.Common.{◌≡◌, ℕ, zero, suc, ◌+◌, ◌-◌, ◌<◌, ◌≤◌, Bool, true, false, cond, List, [], ◌∷◌, length, map, take, ℤ, ◌<ℤ◌, refl, sym, ap, ◌∙◌, subst, ⊎_elim, arith}
 use Rattle.std.specs.Prelude.{Contains, AllPairs}
 use Rattle.std.specs.Ordering.{is_eq}
-use Rattle.std.proofs.lemmas.Bool.{cases_lt}
+use Rattle.std.proofs.lemmas.Bool.{cases_lt, cases_Bool}
 use Rattle.std.proofs.lemmas.List.{take-map, length-map}
 use Rattle.std.specs.declared.cmp.Ordering.{Ordering}
 use Rattle.std.specs.declared.cmp.Ordering.TheVariants.{Less, Equal, Greater}
@@ -13,8 +13,7 @@ use Rattle.tz_zone.specs.Spans.{IsIn, IsOrderly}
 use Rattle.tz_zone.specs.Sets.{IsAccepted, order_of}
 use Rattle.tz_zone.specs.Scans.{spans_from}
 use Rattle.tz_zone.proofs.SpanLemmas.{total_falls, neighbours}
-use Rattle.tz_zone.proofs.Rising.{pairs_more, contains_head, contains_more}
-use Rattle.tz_zone.proofs.InstantLemmas.{true_or_false, cases_more}
+use Rattle.tz_zone.specs.RisingLaws.{pairs_more, contains_head, contains_more, cases_more}
 use Rattle.tz_zone.proofs.AnswerLemmas.{Holds, total, span_totals, map_contains, contains_map}
 use Rattle.tz_zone.proofs.OrderLemmas.{in_order, order_in}
 
@@ -59,7 +58,7 @@ found zone x k (suc n) j c =
     (λ is. subst (λ m. IsFound zone x k (suc n) m) is (record { from = omega arith; to = omega arith; lies = lies_there _ e }))
     (λ d. later zone x k n j (found zone x (suc k) n j d)))
     (λ e. later zone x k n j (found zone x (suc k) n j (subst (λ l. Contains l j) (skips zone x k n e) c)))
-    (true_or_false (is_eq (order_of zone k x)))
+    (cases_Bool (is_eq (order_of zone k x)))
 
 finds : (zone : Schedule) (x : ℤ) (k n j : ℕ) → IsFound zone x k n j → Contains (spans_from zone x k n) j
 finds zone x k zero j h = absurd (omega (arith, h.from, h.to))
@@ -78,7 +77,7 @@ finds zone x k (suc n) j h =
     (λ l. let same : j ≡ k = omega (arith, h.from) in let yes = ap is_eq (sym (ap (λ m. order_of zone m x) same) ∙ h.lies) in absurd
     (let no = e in cc))
     (cases_lt k j)))
-    (true_or_false (is_eq (order_of zone k x)))
+    (cases_Bool (is_eq (order_of zone k x)))
 
 module _ (zone : Schedule) (x s : ℤ) (at : seconds_of x ≡ s) (accepted : IsAccepted zone) where
   holds : (k n j : ℕ) → k + n ≡ length zone.shifts + 1 → IsFound zone s k n j → Holds zone j x
@@ -99,7 +98,7 @@ module _ (zone : Schedule) (x s : ℤ) (at : seconds_of x ≡ s) (accepted : IsA
       (total_falls zone.first zone.shifts k from.0 (seconds_of x) accepted.times (omega (arith, is.from)) (holds k (suc n) k size here)
       (holds (suc k) n from.0 (omega (arith, size)) is))) less))
       (λ e. subst (λ l. AllPairs (λ p q. q <ℤ p) (map (total zone) l)) (sym (skips zone s k n e)) less)
-      (true_or_false (is_eq (order_of zone k s)))
+      (cases_Bool (is_eq (order_of zone k s)))
 
   -- the totals of all spans that are found are those at the instants, by time
   pub scan_totals : totals_at (total_at zone) x ≡ map (total zone) (spans_from zone s 0 (length zone.shifts + 1))
@@ -160,7 +159,7 @@ found_rise zone x k (suc n) =
     (pairs_more (λ i j. i < j) k (spans_from zone x (suc k) n)
     (λ j c. let is = found zone x (suc k) n j c in omega (arith, is.from)) less))
     (λ e. subst (AllPairs (λ i j. i < j)) (sym (skips zone x k n e)) less)
-    (true_or_false (is_eq (order_of zone k x)))
+    (cases_Bool (is_eq (order_of zone k x)))
 
 at_most_two : (ks : List ℕ) → AllPairs (λ i j. i < j) ks → ((i j : ℕ) → Contains ks i → Contains ks j → i ≤ j → j ≤ i + 1) → length ks ≤ 2
 at_most_two [] h near = omega arith

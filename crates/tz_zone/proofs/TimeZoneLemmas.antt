@@ -8,9 +8,8 @@ use Rattle.civil_base.specs.DateTimes.{at_offset, instant-at_offset, offset_of-a
 use Rattle.zone_spans.specs.Schedules.{instants}
 use Rattle.civil_base.specs.Instants.{instant_at}
 use Rattle.tz_zone.specs.InForce.{in_force, all_in_force, shown_of, totals_at}
-use Rattle.tz_zone.proofs.Rising.{contains_head, contains_more}
-use Rattle.tz_zone.proofs.InstantLemmas.{instants_are, instants_one}
-use Rattle.tz_zone.proofs.AnswerLemmas.{from_reading}
+use Rattle.tz_zone.specs.RisingLaws.{contains_head, contains_more}
+use Rattle.tz_zone.specs.InstantLaws.{from_reading, instants_are, instants_one}
 
 -- one total at all times
 reads_fixed : (x t o : ℤ) → instant_at x o ≡ t → (t +ℤ pos 1000000000 *ℤ o) ≡ x
@@ -36,27 +35,6 @@ fixed_totals o x h = sym (ap (λ ts. take 2 (map (λ (t : ℤ). o) ts)) (fixed_i
 
 pub fixed_two : (o x : ℤ) → IsOffset o → length (instants (λ _. o) x) ≤ 2
 fixed_two o x h = let e = ap length (fixed_instants o x h) in omega (arith, e)
-
-back_all : (total : ℤ → ℤ) (x : ℤ) (ts : List ℤ) → ((t : ℤ) → Contains ts t → t ≡ instant_at x (total t))
-    → map (instant_at x) (map total ts) ≡ ts
-back_all total x [] h = refl
-back_all total x (t ∷ ts) h =
-    let here = h t (contains_head t ts) in
-    let rest = back_all total x ts (λ u c. h u (contains_more t ts u c)) in
-    (λ i. sym here i ∷ rest i)
-
--- a local time less the totals at its instants gives the instants
-pub instants_from_totals : (total : ℤ → ℤ) (x : ℤ) → ((t : ℤ) → IsOffset (total t))
-    → map (instant_at x) (totals_at total x) ≡ instants total x
-unfolding totals_at
-instants_from_totals total x range =
-    back_all total x (instants total x) (λ t c. from_reading x t (total t) (((instants_are total x range).exact t).0 c))
-
--- the instants of what a zone answers
-pub assumed : (total : ℤ → ℤ) (x : ℤ) (os : List ℤ) → ((t : ℤ) → IsOffset (total t)) → os ≡ take 2 (totals_at total x)
-    → map (instant_at x) os ≡ take 2 (instants total x)
-assumed total x os range e =
-    ap (map (instant_at x)) e ∙ sym (take-map (instant_at x) 2 (totals_at total x)) ∙ ap (take 2) (instants_from_totals total x range)
 
 -- a local time at an offset, seen as an instant and an offset
 pub shown_at_offset : (x o : ℤ) → shown_of (at_offset x o) ≡ (instant_at x o, o)

@@ -1,5 +1,5 @@
 -- The values of an answer, in order.
-use Rattle.std.specs.Prelude.{ℕ, ◌≤◌, List, [], ◌∷◌}
+use Rattle.std.specs.Prelude.{◌≡◌, ℕ, ◌+◌, ◌≤◌, List, [], ◌∷◌}
 use Rattle.tz_zone.specs.declared.result.OffsetResult.{OffsetResult}
 use Rattle.tz_zone.specs.declared.result.OffsetResult.TheVariants.{Some, Ambiguous, None}
 
@@ -13,6 +13,12 @@ abbrev pub EachOf : {T : Type 0} → (T → Type 0) → OffsetResult T → Type 
 EachOf P (Some a) = P a
 EachOf P (Ambiguous a b) = P a × P b
 EachOf P None = Unit {0}
+
+-- where there are two, the second comes right after the first
+abbrev pub AreAdjacent : OffsetResult ℕ → Type 0
+AreAdjacent (Some a) = Unit {0}
+AreAdjacent (Ambiguous a b) = b ≡ a + 1
+AreAdjacent None = Unit {0}
 
 -- each index is at most n
 abbrev pub IsUpTo : ℕ → OffsetResult ℕ → Type 0

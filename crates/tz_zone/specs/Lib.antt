@@ -5,6 +5,9 @@ pub mod Faults
 pub mod Answers
 pub mod InForce
 pub mod InForceLaws
+pub mod RisingLaws
+pub mod InstantLaws
+pub mod AnswerLaws
 pub mod Results
 pub mod Scans
 pub mod Dates

@@ -3,7 +3,7 @@ ghost use Rattle.std.specs.Prelude.{◌≡◌, ℕ, ℤ, ◌+◌, ◌-◌, ◌*�
 ghost use Rattle.civil_base.specs.DateTimes.{instant, local_of, offset_of};
 ghost use Rattle.civil_base.specs.Instants.{seconds_of};
 ghost use Rattle.zone_spans.specs.Schedules.{total_at};
-ghost use Rattle.tz_zone.specs.Answers.{listed, EachOf, IsUpTo};
+ghost use Rattle.tz_zone.specs.Answers.{listed, AreAdjacent, EachOf, IsUpTo};
 ghost use Rattle.tz_zone.specs.InForce.{totals_at, IsInForce, AreRead};
 ghost use Rattle.tz_zone.specs.Sets.{schedule_of, shifts_of, IsAccepted, IsOrderlyZone, total_of_span, order_of};
 ghost use Rattle.tz_zone.specs.Spans.{IsCut};
@@ -33,6 +33,7 @@ fn spans_under<T: SpanTable, L: Ledger>(
     requires some { 0 < L.parts }
     ensures within { IsUpTo (length (T.seen set.now).others) result }
     ensures read { AreRead (T.seen set.now) (local_of date_time.now) result }
+    ensures adjacent { IsOrderlyZone (schedule_of (T.seen set.now)) → AreAdjacent result }
     ensures totals { map (total_of_span (T.seen set.now)) (listed result)
         ≡ take 2 (totals_at (total_at (schedule_of (T.seen set.now))) (local_of date_time.now)) }
 {
@@ -40,8 +41,8 @@ fn spans_under<T: SpanTable, L: Ledger>(
     local_spans_counted(set, orderly, date_time, &mut steps)
 }
 
-/// The spans at whose totals a local time is read: all of them, or the first two. The local time is that of a date-time at
-/// UTC.
+/// The spans at whose totals a local time is read, by time: all of them, or the first two. On an orderly set two of them are
+/// neighbours. The local time is that of a date-time at UTC.
 pub fn local_spans<T: SpanTable>(
     set: &T,
     orderly: bool,
@@ -52,6 +53,7 @@ pub fn local_spans<T: SpanTable>(
     requires utc { offset_of date_time.now ≡ pos 0 }
     ensures within { IsUpTo (length (T.seen set.now).others) result }
     ensures read { AreRead (T.seen set.now) (local_of date_time.now) result }
+    ensures adjacent { IsOrderlyZone (schedule_of (T.seen set.now)) → AreAdjacent result }
     ensures totals { map (total_of_span (T.seen set.now)) (listed result)
         ≡ take 2 (totals_at (total_at (schedule_of (T.seen set.now))) (local_of date_time.now)) }
 {
@@ -70,6 +72,7 @@ pub fn local_spans_counted<T: SpanTable, L: Ledger>(
     requires utc { offset_of date_time.now ≡ pos 0 }
     ensures within { IsUpTo (length (T.seen set.now).others) result }
     ensures read { AreRead (T.seen set.now) (local_of date_time.now) result }
+    ensures adjacent { IsOrderlyZone (schedule_of (T.seen set.now)) → AreAdjacent result }
     ensures totals { map (total_of_span (T.seen set.now)) (listed result)
         ≡ take 2 (totals_at (total_at (schedule_of (T.seen set.now))) (local_of date_time.now)) }
     ensures cost { 2 ^ (steps.new - steps.old) ≤ 2 * (length (T.seen set.now).others + 1) + 1 }
@@ -89,6 +92,7 @@ fn spans_of_second<T: SpanTable, L: Ledger>(
     requires orderly { IsTrue orderly ↔ IsOrderlyZone (schedule_of (T.seen set.now)) }
     ensures within { IsUpTo (length (T.seen set.now).others) result }
     ensures lies { EachOf (λ k. order_of (schedule_of (T.seen set.now)) k second ≡ Equal) result }
+    ensures adjacent { IsOrderlyZone (schedule_of (T.seen set.now)) → AreAdjacent result }
     ensures exact { (x : ℤ) → seconds_of x ≡ second →
         map (total_of_span (T.seen set.now)) (listed result) ≡ take 2 (totals_at (total_at (schedule_of (T.seen set.now))) x) }
     ensures cost { 2 ^ (steps.new - steps.old) ≤ 2 * (length (T.seen set.now).others + 1) + 1 }

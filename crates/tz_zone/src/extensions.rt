@@ -4,7 +4,7 @@ ghost use Rattle.civil_base.specs.DateTimes.{instant, local_of, offset_of};
 ghost use Rattle.civil_base.specs.Ranges.{is_in_years};
 ghost use Rattle.civil_base.specs.Instants.{local_at};
 ghost use Rattle.tz_zone.specs.Answers.{listed};
-ghost use Rattle.tz_zone.specs.InForce.{in_force, all_in_force, shown_of};
+ghost use Rattle.tz_zone.specs.InForce.{in_force, all_in_force, shown_of, AreInstants};
 
 use crate::result::OffsetResult;
 use crate::time_zone::{Offset, TimeZone};
@@ -29,7 +29,8 @@ pub trait PrimitiveDateTimeExt {
 
     /// The date-time at each offset at which the zone reads it: all of them, or the first two, by time.
     fn assume_timezone<T: TimeZone>(&self, tz: &T) -> OffsetResult<OffsetDateTime>
-        ensures { map shown_of (listed result) ≡ take 2 (all_in_force (T.total_at tz.now) (number self.now)) };
+        ensures shown { map shown_of (listed result) ≡ take 2 (all_in_force (T.total_at tz.now) (number self.now)) }
+        ensures exact { T.orderly tz.now → AreInstants (T.total_at tz.now) (number self.now) (map instant (listed result)) };
 
     /// The date-time at the offset that is in force at it, read as UTC.
     fn assume_timezone_utc<T: TimeZone>(&self, tz: &T) -> OffsetDateTime

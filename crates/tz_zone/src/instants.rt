@@ -1,5 +1,6 @@
 //! Every instant that a zone reads as one local time, one after another, on any set.
 ghost use Rattle.std.specs.Prelude.{◌≡◌, ◌+◌, ◌≤◌, length, map};
+ghost use Rattle.civil_base.specs.Instants.{seconds_of};
 ghost use Rattle.zone_spans.specs.Schedules.{total_at};
 ghost use Rattle.tz_zone.specs.Dates.{dates_from};
 ghost use Rattle.tz_zone.specs.InForce.{all_in_force, shown_of};
@@ -14,6 +15,7 @@ use civil_base::{OffsetDateTime, PlainDateTime};
 /// The second of a local time, rounded down. In every set that can be looked up the spans that contain it are those at whose
 /// totals the local time is read, in the order of the instants.
 pub fn local_second(local: &PlainDateTime) -> i64
+    ensures value { result ≡ seconds_of local.now }
     ensures all { (set : Spans) → IsAccepted (schedule_of set) →
         map shown_of (dates_from set local.now result 0) ≡ all_in_force (total_at (schedule_of set)) local.now }
     ensures few { (set : Spans) → length (dates_from set local.now result 0) ≤ length set.others + 1 }
@@ -36,7 +38,8 @@ pub struct InstantsLocal<'a> {
 impl<'a> InstantsLocal<'a> {
     ghost use Rattle.std.specs.Prelude.{◌≡◌, ◌≤◌, ◌+◌, map, length};
     ghost use Rattle.zone_spans.specs.Schedules.{total_at};
-    ghost use Rattle.tz_zone.specs.InForce.{all_in_force, shown_of};
+    ghost use Rattle.civil_base.specs.DateTimes.{instant};
+    ghost use Rattle.tz_zone.specs.InForce.{all_in_force, shown_of, AreInstants};
     ghost use Rattle.tz_zone.specs.InstantsLeft.{dates_left};
     ghost use Rattle.tz_zone.specs.Sets.{schedule_of, IsAccepted};
 
@@ -45,6 +48,7 @@ impl<'a> InstantsLocal<'a> {
         requires accepted { IsAccepted (schedule_of set.now) }
         ensures all { map shown_of (dates_left result) ≡ all_in_force (total_at (schedule_of set.now)) local.now }
         ensures few { length (dates_left result) ≤ length set.now.others + 1 }
+        ensures exact { AreInstants (total_at (schedule_of set.now)) local.now (map instant (dates_left result)) }
     {
         InstantsLocal {
             set,

@@ -3,7 +3,7 @@ ghost use Rattle.std.specs.Prelude.{◌≡◌, ℕ, ℤ, ◌+◌, ◌-◌, ◌*�
 ghost use Rattle.std.specs.declared.cmp.Ordering.TheVariants.{Equal};
 ghost use Rattle.civil_base.specs.Instants.{seconds_of};
 ghost use Rattle.zone_spans.specs.Schedules.{total_at};
-ghost use Rattle.tz_zone.specs.Answers.{listed, EachOf, IsUpTo};
+ghost use Rattle.tz_zone.specs.Answers.{listed, AreAdjacent, EachOf, IsUpTo};
 ghost use Rattle.tz_zone.specs.InForce.{totals_at};
 ghost use Rattle.tz_zone.specs.Sets.{schedule_of, IsAccepted, IsOrderlyZone, total_of_span, order_of};
 
@@ -44,6 +44,7 @@ pub(crate) fn spans_at<T: SpanTable, L: Ledger>(
     requires orderly { IsOrderlyZone (schedule_of (T.seen set.now)) }
     ensures within { IsUpTo (length (T.seen set.now).others) result }
     ensures lies { EachOf (λ k. order_of (schedule_of (T.seen set.now)) k second ≡ Equal) result }
+    ensures adjacent { AreAdjacent result }
     ensures exact { (x : ℤ) → seconds_of x ≡ second →
         map (total_of_span (T.seen set.now)) (listed result) ≡ totals_at (total_at (schedule_of (T.seen set.now))) x }
     ensures cost { 2 ^ (steps.new - steps.old) ≤ 2 * (length (T.seen set.now).others + 1) + 1 }
@@ -64,6 +65,7 @@ fn beside<T: SpanTable>(set: &T, second: i64, found: usize) -> OffsetResult<usiz
     requires contains { order_of (schedule_of (T.seen set.now)) found second ≡ Equal }
     ensures within { IsUpTo (length (T.seen set.now).others) result }
     ensures lies { EachOf (λ k. order_of (schedule_of (T.seen set.now)) k second ≡ Equal) result }
+    ensures adjacent { AreAdjacent result }
     ensures exact { (x : ℤ) → seconds_of x ≡ second →
         map (total_of_span (T.seen set.now)) (listed result) ≡ totals_at (total_at (schedule_of (T.seen set.now))) x }
 {

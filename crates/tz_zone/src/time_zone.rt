@@ -5,7 +5,7 @@ ghost use Rattle.civil_base.specs.Instants.{instant_at};
 ghost use Rattle.civil_base.specs.Ranges.{IsOffset};
 ghost use Rattle.zone_spans.specs.Schedules.{instants};
 ghost use Rattle.tz_zone.specs.Answers.{listed, EachOf};
-ghost use Rattle.tz_zone.specs.InForce.{totals_at};
+ghost use Rattle.tz_zone.specs.InForce.{totals_at, AreInstants};
 
 use crate::result::OffsetResult;
 use civil_base::{OffsetDateTime, UtcOffset};
@@ -38,7 +38,7 @@ pub trait Offset: Drop {
 ///
 /// Three laws hold of each zone: the total at an instant is an offset, less than 26 hours in size; an instant's offset is
 /// the total at it; and the offsets of a local time are the totals at the instants that are read as it, by time: all of
-/// them, or the first two. Where the zone is orderly there are at most two. An offset's abbreviation and its kind are those
+/// them, or the first two. Where the zone is orderly there are at most two, so the offsets give exactly the instants. An offset's abbreviation and its kind are those
 /// in force at its instant.
 pub trait TimeZone {
     /// The kind of its offsets.
@@ -71,7 +71,9 @@ pub trait TimeZone {
     fn get_offset_local(&self, date_time: &OffsetDateTime) -> OffsetResult<Self::Offset>
         requires { offset_of date_time.now ≡ pos 0 }
         ensures totals { map Self.Offset.total (listed result) ≡ take 2 (totals_at (total_at self.now) (local_of date_time.now)) }
-        ensures names { EachOf (λ offset. gives self.now (instant_at (local_of date_time.now) (Self.Offset.total offset)) (Self.Offset.called offset) (Self.Offset.is_saving offset)) result };
+        ensures names { EachOf (λ offset. gives self.now (instant_at (local_of date_time.now) (Self.Offset.total offset)) (Self.Offset.called offset) (Self.Offset.is_saving offset)) result }
+        ensures exact { orderly self.now → AreInstants (total_at self.now) (local_of date_time.now)
+            (map (instant_at (local_of date_time.now)) (map Self.Offset.total (listed result))) };
 
     /// The zone's first offset.
     fn get_offset_primary(&self) -> Self::Offset

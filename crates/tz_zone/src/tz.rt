@@ -42,11 +42,11 @@ pub struct TzOffset<'a> {
 impl<'a> Tz<'a> {
     ghost use Rattle.std.specs.Prelude.{◌≡◌, ◌↔◌, ◌+◌, ◌-◌, ◌*◌, ◌^◌, ◌≤◌, ℤ, IsTrue, MatchResult, length, map, take, pos};
     ghost use Rattle.civil_base.specs.Instants.{instant_at};
-    ghost use Rattle.civil_base.specs.DateTimes.{local_of, offset_of};
+    ghost use Rattle.civil_base.specs.DateTimes.{instant, local_of, offset_of};
     ghost use Rattle.zone_spans.specs.Schedules.{total_at};
     ghost use Rattle.tz_zone.specs.Answers.{listed, EachOf, IsUpTo};
     ghost use Rattle.tz_zone.specs.Faults.{IsFault};
-    ghost use Rattle.tz_zone.specs.InForce.{all_in_force, shown_of, totals_at, AreRead, IsInForce};
+    ghost use Rattle.tz_zone.specs.InForce.{all_in_force, shown_of, totals_at, AreInstants, AreRead, IsInForce};
     ghost use Rattle.tz_zone.specs.InstantsLeft.{dates_left};
     ghost use Rattle.tz_zone.specs.Sets.{schedule_of, IsAccepted, IsOrderlyZone, span_in, total_of_span};
     ghost use Rattle.tz_zone.specs.Zones.{set_of, span_shown, total_shown, IsGivenFor};
@@ -91,6 +91,8 @@ impl<'a> Tz<'a> {
         requires { offset_of date_time.now ≡ pos 0 }
         ensures totals { map total_shown (listed result) ≡ take 2 (totals_at (total_at (schedule_of (set_of self.now))) (local_of date_time.now)) }
         ensures names { EachOf (IsGivenFor (set_of self.now) (local_of date_time.now)) result }
+        ensures exact { IsOrderlyZone (schedule_of (set_of self.now)) → AreInstants (total_at (schedule_of (set_of self.now))) (local_of date_time.now)
+            (map (instant_at (local_of date_time.now)) (map total_shown (listed result))) }
         ensures cost { 2 ^ (steps.new - steps.old) ≤ 2 * (length (set_of self.now).others + 1) + 1 }
         ensures later { steps.old ≤ steps.new }
     {
@@ -102,6 +104,7 @@ impl<'a> Tz<'a> {
     pub fn instants_local(&self, date_time: &PlainDateTime) -> InstantsLocal<'a>
         ensures all { map shown_of (dates_left result) ≡ all_in_force (total_at (schedule_of (set_of self.now))) date_time.now }
         ensures few { length (dates_left result) ≤ length (set_of self.now).others + 1 }
+        ensures exact { AreInstants (total_at (schedule_of (set_of self.now))) date_time.now (map instant (dates_left result)) }
     {
         InstantsLocal::new(self.set, date_time)
     }

@@ -17,5 +17,5 @@ returns-then-is_orderly c =
     let few : length (all_in_force total c.args.local.now) ≤ 2 =
     omega (arith, two, length-map (instants total c.args.local.now) (in_force total)) in
     on_ok_weaker c.show_result.result
-    (λ shown. shown ∙ ap line_shown (c.assume_timezone.ensures ∙ take_all 2 (all_in_force total c.args.local.now) few))
+    (λ shown. shown ∙ ap line_shown (c.assume_timezone.ensures.shown ∙ take_all 2 (all_in_force total c.args.local.now) few))
     c.show_result.ensures

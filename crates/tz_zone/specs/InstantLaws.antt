@@ -3,19 +3,14 @@ use Rattle.std.proofs.Common.{◌≡◌, ℕ, zero, suc, Bool, true, false, cond
 use Rattle.std.specs.Prelude.{Contains}
 use Rattle.std.specs.Ordering.{int_eq}
 use Rattle.std.specs.List.{filter}
+use Rattle.std.proofs.lemmas.Bool.{cases_Bool}
 use Rattle.std.proofs.lemmas.Int.{ints}
-use Rattle.std.specs.Prelude.{IsTrue}
 use Rattle.civil_base.specs.Ranges.{IsOffset}
 use Rattle.civil_base.specs.RangeLaws.{offset_least, offset_greatest}
-use Rattle.zone_spans.specs.Schedules.{Schedule, total_at, down_from, offset_count, offsets, instants, is_in_offset_range}
+use Rattle.zone_spans.specs.Schedules.{down_from, offset_count, offsets, instants}
 use Rattle.civil_base.specs.Instants.{instant_at}
-use Rattle.zone_spans.specs.ScheduleLaws.{total_is_offset}
 use Rattle.tz_zone.specs.InForce.{AreInstants}
-use Rattle.tz_zone.proofs.Rising.{Rises, same_rising, pairs_more, contains_head, contains_more}
-
-pub true_or_false : (b : Bool) → (b ≡ true) ⊎ (b ≡ false)
-true_or_false true = inl refl
-true_or_false false = inr refl
+use Rattle.tz_zone.specs.RisingLaws.{Rises, same_rising, pairs_more, contains_head, contains_more, cases_more}
 
 eq_from_test : (a b : ℤ) → int_eq a b ≡ true → a ≡ b
 eq_from_test a b h = grind (arith, ints)
@@ -47,8 +42,9 @@ back_by_one x o = omega (arith, ints)
 reads_back : (x o total t : ℤ) → total ≡ o → instant_at x o ≡ t → (t +ℤ pos 1000000000 *ℤ total) ≡ x
 reads_back x o total t e f = omega (arith, ints, e, f)
 
-moved : (x total t : ℤ) → (t +ℤ pos 1000000000 *ℤ total) ≡ x → t ≡ instant_at x total
-moved x total t e = omega (arith, ints, e)
+-- what is read as x at an offset is x less that offset
+pub from_reading : (x t o : ℤ) → (t +ℤ pos 1000000000 *ℤ o) ≡ x → t ≡ instant_at x o
+from_reading x t o e = omega (arith, ints, e)
 
 le_lt : (a b c : ℤ) → a <ℤ b → b ≤ℤ c → a ≤ℤ c
 le_lt a b c h k = omega (arith, ints)
@@ -59,11 +55,6 @@ lt_le a b c h k = omega (arith, ints)
 le_same : (a b : ℤ) → a ≡ b → a ≤ℤ b
 le_same a b h = omega (arith, ints)
 
--- a member of a list in front of which one more stands
-pub cases_more : {X P : Type 0} (x : X) (xs : List X) (t : X) → Contains (x ∷ xs) t → (x ≡ t → P) → (Contains xs t → P) → P
-cases_more x xs t (zero, l, e) here there = here e
-cases_more x xs t (suc k, l, e) here there = there (k, omega (arith, l), e)
-
 kept_least : (total : ℤ → ℤ) (x o : ℤ) (n : ℕ) (t : ℤ) → Contains (kept total x o n) t → instant_at x o ≤ℤ t
 kept_least total x o zero t c = absurd (omega (arith, c.1))
 kept_least total x o (suc n) t c =
@@ -73,7 +64,7 @@ kept_least total x o (suc n) t c =
     (λ h. cases_more (instant_at x o) (kept total x (o -ℤ pos 1) n) t (subst (λ l. Contains l t) (kept_takes total x o n h) c)
     (λ e. le_same _ _ e) rest)
     (λ h. rest (subst (λ l. Contains l t) (kept_skips total x o n h) c))
-    (true_or_false (reads total x o))
+    (cases_Bool (reads total x o))
 
 kept_rises : (total : ℤ → ℤ) (x o : ℤ) (n : ℕ) → Rises (kept total x o n)
 kept_rises total x o zero = λ i j d l m. absurd (omega (arith, m))
@@ -84,7 +75,7 @@ kept_rises total x o (suc n) =
     (pairs_more (λ s t. s <ℤ t) (instant_at x o) (kept total x (o -ℤ pos 1) n)
     (λ t c. lt_le _ _ _ (back_by_one x o) (kept_least total x (o -ℤ pos 1) n t c)) less))
     (λ h. subst Rises (sym (kept_skips total x o n h)) less)
-    (true_or_false (reads total x o))
+    (cases_Bool (reads total x o))
 
 abbrev Reads : (ℤ → ℤ) → ℤ → ℤ → Type 0
 Reads total x t = (t +ℤ pos 1000000000 *ℤ total t) ≡ x
@@ -97,7 +88,7 @@ kept_reads total x o (suc n) t c =
     (λ e. reads_back x o (total t) t (ap total (sym e) ∙ eq_from_test _ _ h) e)
     (kept_reads total x (o -ℤ pos 1) n t))
     (λ h. kept_reads total x (o -ℤ pos 1) n t (subst (λ l. Contains l t) (kept_skips total x o n h) c))
-    (true_or_false (reads total x o))
+    (cases_Bool (reads total x o))
 
 lower : (p o : ℤ) (n : ℕ) → p ≤ℤ o → (p ≡ o → ⊥) → p ≤ℤ (o -ℤ pos 1)
 lower p o n h k = grind (arith, ints)
@@ -113,7 +104,7 @@ kept_all : (total : ℤ → ℤ) (x o : ℤ) (n : ℕ) (t : ℤ) → Reads total
     → Contains (kept total x o n) t
 kept_all total x o zero t r h k = absurd (none_left _ _ h k)
 kept_all total x o (suc n) t r h k =
-    let back : t ≡ instant_at x (total t) = moved x (total t) t r in
+    let back : t ≡ instant_at x (total t) = from_reading x t (total t) r in
     ⊎_elim {C = Contains (kept total x o (suc n)) t}
     (λ is. let e = eq_from_test (total t) o is in
     let here : instant_at x o ≡ t = ap (instant_at x) (sym e) ∙ sym back in
@@ -127,14 +118,11 @@ kept_all total x o (suc n) t r h k =
     (λ is. subst (λ l. Contains l t) (sym (kept_takes total x o n is))
     (contains_more (instant_at x o) (kept total x (o -ℤ pos 1) n) t rest))
     (λ is. subst (λ l. Contains l t) (sym (kept_skips total x o n is)) rest)
-    (true_or_false (reads total x o)))
-    (true_or_false (int_eq (total t) o))
+    (cases_Bool (reads total x o)))
+    (cases_Bool (int_eq (total t) o))
   where
     false_true : false ≡ true → ⊥
     false_true e = cc
-
-pub total_in_range : (zone : Schedule) (t : ℤ) → IsTrue (is_in_offset_range zone) → IsOffset (total_at zone t)
-total_in_range zone t h = total_is_offset zone t h
 
 in_count : (o : ℤ) → IsOffset o → pos 93599 <ℤ (o +ℤ pos offset_count)
 unfolding offset_count
@@ -152,8 +140,11 @@ instants_are total x h = record {
 }
 
 -- there is no other such list
+pub one_list : (total : ℤ → ℤ) (x : ℤ) (ts us : List ℤ) → AreInstants total x ts → AreInstants total x us → ts ≡ us
+one_list total x ts us are also =
+    same_rising ts us are.rising also.rising (λ t c. (also.exact t).1 ((are.exact t).0 c))
+    (λ t c. (are.exact t).1 ((also.exact t).0 c))
+
+-- so it is the one that tries every offset
 pub instants_one : (total : ℤ → ℤ) (x : ℤ) (ts : List ℤ) → ((t : ℤ) → IsOffset (total t)) → AreInstants total x ts → instants total x ≡ ts
-instants_one total x ts h are =
-    let all = instants_are total x h in
-    same_rising (instants total x) ts all.rising are.rising (λ t c. (are.exact t).1 ((all.exact t).0 c))
-    (λ t c. (all.exact t).1 ((are.exact t).0 c))
+instants_one total x ts h are = one_list total x (instants total x) ts (instants_are total x h) are
