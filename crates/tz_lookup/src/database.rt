@@ -18,7 +18,7 @@ use std::cmp::Ordering;
 use std::collections::BTreeSet;
 use std::marker::Model;
 use std::slice;
-use tz_zone::{FixedTimespanSet, SpanFault, Tz, ZoneFault, compile_zone, is_orderly};
+use tz_zone::{FixedTimespanSet, SpanFault, TimeZone, Tz, ZoneFault, compile_zone, is_orderly};
 use zone_table::Table;
 
 /// Why a table has no database, with the name that is the first in byte order to be refused.
@@ -127,6 +127,18 @@ impl Database {
     {
         let found = with_part(alloc, self.zones.as_slice(), name)?;
         Ok(found)
+    }
+
+    /// The first zone in byte order whose name has that part, or none where no name has it. It takes no memory.
+    pub fn find_first_by_name(&self, name: &str) -> Option<Tz<'_>>
+        ensures { option_map set_of result ≡ find (λ set. has_part name.now set.name) self.now }
+    {
+        for zone in self.iter() {
+            if has_part(zone.name(), name) {
+                return Some(zone);
+            }
+        }
+        None
     }
 
     /// Every zone, in byte order of the names. It takes no memory.
