@@ -1,5 +1,5 @@
 -- What requests ask, and texts with bars between them, worked out.
-use Rattle.std.proofs.Common.{◌≡◌, [], ◌∷◌, map, Some, None, refl, pos, negsuc}
+use Rattle.std.proofs.Common.{◌≡◌, [], ◌∷◌, ◌++◌, map, Some, None, refl, pos, negsuc}
 use Rattle.std.specs.Prelude.{codes}
 use Rattle.zone_answers.specs.Due.{with_bars}
 use Rattle.zone_answers.specs.Requests.{at, request_of, nanoseconds_in}
@@ -23,3 +23,11 @@ in_no_form : map request_of
     ≡ None ∷ None ∷ None ∷ None ∷ None ∷ None ∷ None ∷ None ∷ None ∷ None ∷ None ∷ None ∷ None ∷ None ∷ None ∷ []
 unfolding request_of nanoseconds_in
 in_no_form = refl
+
+-- a tab parts no words: it is a part of the name, or of a word that is none
+tabs : map request_of
+    ((codes "at A" ++ 9 ∷ codes "B 0") ∷ (codes "at" ++ 9 ∷ codes "A 0") ∷ (codes "at A" ++ 9 ∷ codes "0") ∷ (codes "at A 0" ++ 9 ∷ [])
+    ∷ (codes "at A " ++ 9 ∷ codes "0") ∷ (9 ∷ codes "at A 0") ∷ [])
+    ≡ Some (at (codes "A" ++ 9 ∷ codes "B") (pos 0)) ∷ None ∷ None ∷ None ∷ None ∷ None ∷ []
+unfolding request_of nanoseconds_in
+tabs = refl

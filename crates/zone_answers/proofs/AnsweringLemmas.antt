@@ -4,12 +4,9 @@ use Rattle.std.specs.Option.{option_or}
 use Rattle.std.proofs.lemmas.Option.{none-some}
 use Rattle.zone_values.specs.Faults as line
 use Rattle.zone_values.specs.declared.fault.FaultKind.{FaultKind}
-use Rattle.zone_source.specs.Faults.{SourceFault, source_fault, bad_line}
+use Rattle.zone_source.specs.Faults.{source_fault, bad_line}
 use Rattle.zone_source.specs.Lines.{lines_of}
-use Rattle.zone_source.specs.Told.{told_by_source, TellsOfSource}
 use Rattle.zone_source.specs.Zones.{values_of, zone_in, rules_in}
-use Rattle.zone_source.specs.declared.error.SourceError.{SourceError}
-use Rattle.zone_source.specs.declared.error.SourceError.TheVariants as source_error
 use Rattle.zone_spans.specs.Compiled.{compiled}
 use Rattle.zone_table.specs.Resolved.{resolved_in-IsTableOf}
 use Rattle.zone_table.specs.Tables.{IsTableOf}
@@ -17,7 +14,7 @@ use Rattle.zone_table.specs.declared.table.Table.{Table}
 use Rattle.zone_answers.specs.Due.{answer_line, answer_lines}
 use Rattle.zone_answers.specs.Faults.{Fault, of_source, first_refused, source_refusal, fault}
 use Rattle.zone_answers.specs.Found.{found_in, found_in_table}
-use Rattle.zone_answers.specs.Told.{fault_told, TellsOf, TellsSame}
+use Rattle.zone_answers.specs.Told.{fault_told, TellsOf}
 use Rattle.zone_answers.specs.declared.error.AnswerError.{AnswerError}
 use Rattle.zone_answers.specs.declared.error.AnswerError.TheVariants.{NoMemory}
 
@@ -56,21 +53,6 @@ fault_first source requests error h = by_told (fault_told error) h
 -- an error tells of what is equal to what it tells of
 pub told_along : (error : AnswerError) (first second : Option Fault) → first ≡ second → TellsOf first error → TellsOf second error
 told_along error first second e h = subst (λ o. TellsOf o error) e h
-
--- an error of a source, told as an answer's
-pub told_same : (found : Option SourceFault) (from : SourceError) (error : AnswerError) → TellsOfSource found from
-    → TellsSame from error →
-    TellsOf (option_map of_source found) error
-told_same found from error h same = by_told (told_by_source from) h same
-  where
-    by_answer : (told : Option Fault) (f : SourceFault) → told ≡ Some (of_source f) → found ≡ Some f →
-        MatchOption told (error ≡ NoMemory) (λ g. option_map of_source found ≡ Some g)
-    by_answer told f is there = rw is (ap (option_map of_source) there)
-
-    by_told : (told : Option SourceFault) → MatchOption told (from ≡ source_error.NoMemory) (λ f. found ≡ Some f) →
-        MatchOption told (error ≡ NoMemory) (λ f. fault_told error ≡ Some (of_source f)) → TellsOf (option_map of_source found) error
-    by_told None h same = subst (λ e. TellsOf (option_map of_source found) e) (sym same) refl
-    by_told (Some f) h same = by_answer (fault_told error) f same h
 
 -- the error of a line is told with its number
 pub line_told : (n : ℕ) (kind : FaultKind) (found : Option line.Fault) (error : AnswerError)

@@ -1,11 +1,27 @@
 -- Which fault of a request comes first, and which dates leave the years, at worked rows.
-use Rattle.std.proofs.Common.{◌≡◌, ℕ, List, [], ◌∷◌, map, Some, None, Ok, refl, ℤ, pos, negsuc, true, false}
+use Rattle.std.proofs.Common.{◌≡◌, ℕ, List, [], ◌∷◌, map, Some, None, Ok, Err, refl, ℤ, pos, negsuc, true, false}
+use Rattle.std.specs.Fmt.{digits}
 use Rattle.std.specs.Prelude.{codes}
 use Rattle.std.specs.Str.{is_utf8, chars}
 use lib.Utf8.{encode}
+use Rattle.zone_source.specs.Faults.{not_text}
 use Rattle.zone_spans.specs.Schedules.{total_at, totals_of}
+use Rattle.zone_spans.specs.declared.fault.SpanFault.TheVariants as span
 use Rattle.zone_answers.specs.AnswerLines.{ended}
-use Rattle.zone_answers.specs.Faults.{are_in_years, has_dates, request_refusal, first_refused, request_not_text, bad_request, unknown_zone, offset_range, range}
+use Rattle.zone_answers.specs.FaultLines.{fault_line}
+use Rattle.zone_answers.specs.Faults.{
+  are_in_years,
+  has_dates,
+  request_refusal,
+  first_refused,
+  of_source,
+  request_not_text,
+  bad_request,
+  unknown_zone,
+  bad_schedule,
+  offset_range,
+  range,
+}
 use Rattle.zone_answers.specs.Found.{Found}
 use Rattle.zone_answers.specs.Requests.{request_of, nanoseconds_in}
 
@@ -43,6 +59,28 @@ before_a_zone_is_found = refl
 first_of_two : first_refused (one_offset (pos 0)) 1 (codes "at A 0" ∷ codes "what" ∷ (255 ∷ []) ∷ []) ≡ Some (bad_request 2)
 unfolding request_refusal is_utf8 chars encode request_of nanoseconds_in has_dates total_at totals_of
 first_of_two = refl
+
+-- why a zone has no schedule, in place of a schedule
+no_schedule : map (λ fault. request_refusal (λ name. Some (Err fault)) 4 (codes "at A 0")) (span.MissingUntil ∷ span.DayRange ∷ [])
+    ≡ Some (bad_schedule 4 span.MissingUntil) ∷ Some (bad_schedule 4 span.DayRange) ∷ []
+unfolding request_refusal is_utf8 chars encode request_of nanoseconds_in
+no_schedule = refl
+
+-- the line of each fault
+lines_of_faults : map fault_line
+    (of_source (not_text 5) ∷ request_not_text 1 ∷ bad_request 2 ∷ unknown_zone 3 ∷ offset_range 10 ∷ range 99 ∷ [])
+    ≡ codes "source 5: not text" ∷ codes "request 1: not text" ∷ codes "request 2: request" ∷ codes "request 3: unknown zone"
+    ∷ codes "request 10: offset range" ∷ codes "request 99: range" ∷ []
+unfolding digits
+lines_of_faults = refl
+
+-- the line of each fault of a schedule
+lines_of_schedules : map (λ fault. fault_line (bad_schedule 1 fault))
+    (span.UnknownRuleset ∷ span.MissingUntil ∷ span.YearRange ∷ span.RuleYears ∷ span.DayRange ∷ span.NoStandardSpan ∷ [])
+    ≡ codes "request 1: schedule UnknownRuleset" ∷ codes "request 1: schedule MissingUntil" ∷ codes "request 1: schedule YearRange"
+    ∷ codes "request 1: schedule RuleYears" ∷ codes "request 1: schedule DayRange" ∷ codes "request 1: schedule NoStandardSpan" ∷ []
+unfolding digits
+lines_of_schedules = refl
 
 each_line_ends : ended (codes "a" ∷ codes "bc" ∷ []) ≡ 97 ∷ 10 ∷ 98 ∷ 99 ∷ 10 ∷ []
 each_line_ends = refl

@@ -13,3 +13,4 @@ pub mod CountLemmas
 pub mod MadeLemmas
 pub mod SummaryLemmas
 pub mod GenerateRows
+mod EndRows

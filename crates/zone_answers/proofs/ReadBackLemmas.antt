@@ -13,6 +13,7 @@ use Rattle.std.proofs.lemmas.Option.{none-some}
 use Rattle.civil_base.specs.Instants.{instant_at, local_at}
 use Rattle.civil_base.specs.LocalTimes.{is_text_of, time_with, local_time_in}
 use Rattle.civil_base.specs.Ranges.{is_in_years, is_offset}
+use Rattle.civil_base.specs.ReadAsLaws.{zoned_text-read}
 use Rattle.zone_source.specs.Lines.{lines_of}
 use Rattle.zone_spans.specs.Schedules.{Schedule, totals_of, total_at, offsets, instants, is_in_offset_range}
 use Rattle.zone_spans.specs.ScheduleLaws.{total_is_offset}
@@ -70,7 +71,8 @@ request_years line = by_name (nat_lt 0 (length name))
 -- an instant at which an offset is in force, by its local time
 read_at : (total : ℤ → ℤ) (x o : ℤ) → is_in_years x ≡ true → is_offset (total (instant_at x o)) ≡ true → total (instant_at x o) ≡ o
     → IsReadBack (in_force total (instant_at x o))
-read_at total x o years small same = record { years = ap is_in_years (back x o (total (instant_at x o)) same) ∙ years; range = small }
+read_at total x o years small same =
+    zoned_text-read (instant_at x o) (total (instant_at x o)) (ap is_in_years (back x o (total (instant_at x o)) same) ∙ years) small
   where
     back : (x o p : ℤ) → p ≡ o → local_at (instant_at x o) p ≡ x
     back x o p e = omega (arith, ints, e)
@@ -115,7 +117,7 @@ at_schedule n request schedule years accepted = by_range request (is_in_offset_r
         cond b None (Some (range n)) ≡ None → All IsReadBack (shown_at schedule request)
     by_dates request false small dates years refused = absurd (none-some _ (sym refused))
     by_dates (at name instant) true small dates years accepted_is =
-        one_back _ (record { years = (and_parts (is_in_years instant) _ dates).1; range = total_is_offset schedule instant small })
+        one_back _ (zoned_text-read instant (total_at schedule instant) (and_parts (is_in_years instant) _ dates).1 (total_is_offset schedule instant small))
     by_dates (local name time) true small dates years accepted_is = all_in_force_back schedule time years small
 
     by_range : (request : Request) (b : Bool) → is_in_offset_range schedule ≡ b → HasYears (Some request) →

@@ -1,10 +1,8 @@
 -- Instants whose texts are read back.
 use Rattle.std.specs.Prelude.{ℤ}
-use Rattle.civil_base.specs.Instants.{local_at}
-use Rattle.civil_base.specs.Ranges.{IsInYears, IsOffset}
+use Rattle.civil_base.specs.ReadAs.{IsReadAs}
+use Rattle.zone_answers.specs.Due.{text_shown}
 
--- `read_zoned` reads the text of the instant at the offset as that instant at that offset: the offset is one, and the
--- local date lies in the years
-pub record IsReadBack (shown : ℤ × ℤ) : Type 0 where
-  pub years : IsInYears (local_at shown.0 shown.1)
-  pub range : IsOffset shown.1
+-- the text of the instant at the offset is read by `read_zoned` as that instant at that offset, and as nothing else
+abbrev pub IsReadBack : ℤ × ℤ → Type 0
+IsReadBack shown = IsReadAs (text_shown shown) shown.0 shown.1

@@ -31,10 +31,7 @@ pub fn read_table(alloc: Global, parser: &LineParser, source: &[u8]) -> Result<T
     ensures bounded { IfOk result IsBoundedTable }
     ensures err { IfErr result (TellsOf (source_refusal source.now)) }
 {
-    match zone_source::read_table(alloc, parser, source) {
-        Ok(table) => Ok(table),
-        Err(error) => Err(AnswerError::from(error)),
-    }
+    Ok(zone_source::read_table(alloc, parser, source)?)
 }
 
 /// Answers each request over the source, in order, or tells the first fault: that of the source, else that of the

@@ -55,10 +55,7 @@ fn cut_at_space(text: &str) -> (&str, &str)
     ensures front { result.0.now ≡ before_first is_space text.now }
     ensures back { result.1.now ≡ after_first is_space text.now }
 {
-    match text.split_once(' ') {
-        Some(parts) => parts,
-        None => (text, ""),
-    }
+    text.split_once(' ').unwrap_or((text, ""))
 }
 
 /// The local time with that text.
@@ -82,10 +79,7 @@ fn nanoseconds(text: &str) -> Option<i128>
 fn without_minus(text: &[u8]) -> &[u8]
     ensures { result.now ≡ without_minus text.now }
 {
-    match text {
-        [b'-', digits @ ..] => digits,
-        _ => text,
-    }
+    text.strip_prefix(b"-").unwrap_or(text)
 }
 
 /// Whether these are 1 to 30 digits.

@@ -78,8 +78,5 @@ fn line_feed(text: &[u8]) -> Option<usize>
 fn without_carriage_return(line: &[u8]) -> &[u8]
     ensures { result.now ≡ strip_carriage_return line.now }
 {
-    match line {
-        [front @ .., b'\r'] => front,
-        _ => line,
-    }
+    line.strip_suffix(b"\r").unwrap_or(line)
 }
