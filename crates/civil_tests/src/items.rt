@@ -254,11 +254,12 @@ fn converts_system_times(rt: HostRuntime) {
 }
 
 /// Asserts how long it is to a value from a system time and back, and which of them comes first.
-fn expect_compared<T: SysCompare>(
+fn expect_compared<T: SysCompare + Drop>(
     rt: &impl Abort,
     value: T,
     time: SysTime,
-    (since, back): (SignedDuration, SignedDuration),
+    since: SignedDuration,
+    back: SignedDuration,
     ordering: Ordering,
 ) {
     same(rt, &value.since_sys(time), &Some(since));
@@ -269,20 +270,19 @@ fn expect_compared<T: SysCompare>(
 
 #[test]
 fn compares_with_the_same_system_time(rt: HostRuntime) {
-    let (now, equal) = (epoch(), Ordering::Equal);
-    let none = (SignedDuration::ZERO, SignedDuration::ZERO);
-    expect_compared(&rt, Timestamp::UNIX_EPOCH, now, none, equal);
-    expect_compared(&rt, UtcDateTime::UNIX_EPOCH, now, none, equal);
-    expect_compared(&rt, OffsetDateTime::UNIX_EPOCH, now, none, equal);
+    let (now, zero, equal) = (epoch(), SignedDuration::ZERO, Ordering::Equal);
+    expect_compared(&rt, Timestamp::UNIX_EPOCH, now, zero, zero, equal);
+    expect_compared(&rt, UtcDateTime::UNIX_EPOCH, now, zero, zero, equal);
+    expect_compared(&rt, OffsetDateTime::UNIX_EPOCH, now, zero, zero, equal);
 }
 
 #[test]
 fn compares_with_later_system_times(rt: HostRuntime) {
     let (later, less) = (at(&rt, 3), Ordering::Less);
-    let lengths = ((-3).nanoseconds(), 3.nanoseconds());
-    expect_compared(&rt, Timestamp::UNIX_EPOCH, later, lengths, less);
-    expect_compared(&rt, UtcDateTime::UNIX_EPOCH, later, lengths, less);
-    expect_compared(&rt, OffsetDateTime::UNIX_EPOCH, later, lengths, less);
+    let (since, back) = ((-3).nanoseconds(), 3.nanoseconds());
+    expect_compared(&rt, Timestamp::UNIX_EPOCH, later, since, back, less);
+    expect_compared(&rt, UtcDateTime::UNIX_EPOCH, later, since, back, less);
+    expect_compared(&rt, OffsetDateTime::UNIX_EPOCH, later, since, back, less);
 }
 
 #[test]
