@@ -3,12 +3,12 @@ use Rattle.std.proofs.Common.{◌≡◌, refl, arith, ◌∙◌, ap, ℕ, ◌≤
 use Rattle.std.specs.Int.{int_div_euclid}
 use Rattle.calendar.specs.Dates.{last_with, year_of}
 use Rattle.calendar.specs.DateLaws.{year_of-day}
-use Rattle.calendar.specs.Days.{is_leap, days_in_year, days_in_month, days_after_zero, year_start, days_through, days_into_year}
+use Rattle.calendar.specs.Days.{is_leap, days_in_year, days_in_month, days_after_zero, days_before_zero, year_start, days_through, days_into_year}
 use Rattle.calendar.specs.Days.{day, IsCountedYear, IsDate}
 use Rattle.calendar.specs.Signs.{signed}
 use Rattle.calendar.specs.Weekdays.{weekday_of}
 use Rattle.tz_posix.specs.Days.{nth_weekday, rule_day, day_refusal}
-use Rattle.tz_posix.specs.InForce.{instant_in, is_saving, is_within, posix_total, rule_refusal, year_at, yearly_time}
+use Rattle.tz_posix.specs.InForce.{instant_in, is_saving, is_within, is_year, posix_total, rule_refusal, year_at, yearly_time}
 use Rattle.tz_posix.specs.Seconds.{time_seconds}
 use Rattle.tz_posix.specs.declared.date.Date.TheVariants.{J, N, M}
 use Rattle.tz_posix.specs.declared.error.Error.TheVariants.{ComponentRange, DateTooLarge}
@@ -156,3 +156,27 @@ first_refusals = rw last_year refl
 year_refusal : rule_refusal (pos 3600) (J 1) (J 2) (pos 253402300799) ≡ Some ComponentRange
 unfolding rule_refusal
 year_refusal = rw next_year refl
+
+-- dates have the years -9999 to 9999
+worked_date_years : map is_year (neg_ℤ (pos 10000) ∷ neg_ℤ (pos 9999) ∷ pos 9999 ∷ pos 10000 ∷ []) ≡ false ∷ true ∷ true ∷ false ∷ []
+worked_date_years = refl
+
+-- the first second of -9999, and the same where clocks are an hour behind
+first_year : year_at (pos 0) (neg_ℤ (pos 377705116800)) ≡ neg_ℤ (pos 9999)
+unfolding is_leap days_in_year days_in_month days_after_zero days_before_zero year_start days_through days_into_year day
+first_year =
+    let years : IsCountedYear (neg_ℤ (pos 9999)) = record { first = omega (arith, signed); last = omega (arith, signed) } in
+    year_is (pos 0) (neg_ℤ (pos 377705116800)) (neg_ℤ (pos 9999)) 1 1 years
+    (record { first_month = omega arith; last_month = omega arith; first_day = omega arith; last_day = omega arith }) refl
+
+year_before : year_at (neg_ℤ (pos 3600)) (neg_ℤ (pos 377705116800)) ≡ neg_ℤ (pos 10000)
+unfolding is_leap days_in_year days_in_month days_after_zero days_before_zero year_start days_through days_into_year day
+year_before =
+    let years : IsCountedYear (neg_ℤ (pos 10000)) = record { first = omega (arith, signed); last = omega (arith, signed) } in
+    year_is (neg_ℤ (pos 3600)) (neg_ℤ (pos 377705116800)) (neg_ℤ (pos 10000)) 12 31 years
+    (record { first_month = omega arith; last_month = omega arith; first_day = omega arith; last_day = omega arith }) refl
+
+first_second : rule_refusal (pos 0) (J 1) (J 2) (neg_ℤ (pos 377705116800)) ∷ rule_refusal (neg_ℤ (pos 3600)) (J 1) (J 2) (neg_ℤ (pos 377705116800)) ∷ []
+    ≡ None ∷ Some ComponentRange ∷ []
+unfolding rule_refusal day_refusal
+first_second = rw (first_year, year_before) refl
