@@ -36,8 +36,8 @@ impl Date {
         Ok(date_with(day))
     }
 
-    /// Whether the date's parts are in their ranges.
-    pub(crate) fn is_in_range(self) -> bool
+    /// Whether the date's parts are in their ranges, as `to_date` has them.
+    pub fn is_in_range(self) -> bool
         ensures { result ≡ is_rule_date self }
     {
         match self {

@@ -1,11 +1,9 @@
 //! Texts over a database.
-ghost use Rattle.std.specs.Prelude.{◌≡◌, None, option_and_then, option_map};
-ghost use Rattle.tz_lookup.specs.Databases.{has_part as has_part_in};
-ghost use Rattle.tz_lookup.specs.Zones.{set_of};
+ghost use Rattle.std.specs.Prelude.{◌≡◌, None, option_and_then};
 ghost use Rattle.tz_posix.specs.NamedShown.{named_of};
 ghost use Rattle.tz_posix.specs.Parses.{IsParsed, IsResolved, Tells};
 ghost use Rattle.tz_posix.specs.Ranges.{posix_range, rule_range};
-ghost use Rattle.tz_posix.specs.Resolved.{by_rule, zone_with as zone_in};
+ghost use Rattle.tz_posix.specs.Resolved.{by_rule};
 ghost use Rattle.tz_posix.specs.Shown.{tz_shown};
 
 use crate::error::ParseError;
@@ -15,7 +13,7 @@ use crate::read::entry;
 use crate::rule::YearlyRule;
 use crate::time::saving_offset;
 use crate::values::{Rule, Tz};
-use tz_lookup::{Database, TimeZone, Tz as Zone};
+use tz_lookup::Database;
 
 /// The zone whose rule a text without one borrows.
 const NEW_YORK: &str = "America/New_York";
@@ -53,7 +51,7 @@ fn resolve<'a>(tz: &Tz<'a>, database: &'a Database) -> Result<PosixTz<'a>, Parse
     ensures { IsResolved database.now (tz_shown tz.now) result }
 {
     match tz {
-        Tz::Short(part) => match zone_with(database, part) {
+        Tz::Short(part) => match database.find_first_by_name(part) {
             Some(zone) => Ok(PosixTz {
                 kind: Kind::Zone(zone),
             }),
@@ -101,23 +99,4 @@ fn with_saving<'a>(
             None => Err(ParseError::UnknownName(NEW_YORK)),
         },
     }
-}
-
-/// The first zone whose name has a part.
-fn zone_with<'a>(database: &'a Database, part: &str) -> Option<Zone<'a>>
-    ensures { option_map set_of result ≡ zone_in database.now part.now }
-{
-    for zone in database.iter() {
-        if has_part(zone.name(), part) {
-            return Some(zone);
-        }
-    }
-    None
-}
-
-/// Whether the part stands somewhere in the text.
-fn has_part(text: &str, part: &str) -> bool
-    ensures { result ≡ has_part_in part.now text.now }
-{
-    text.contains(part)
 }
