@@ -1,4 +1,4 @@
--- Two pairs of yearly rules of the tz database meet each condition.
+-- Three pairs of yearly rules of the tz database meet each condition.
 use Rattle.std.proofs.Common.{◌≡◌, ℕ, List, [], ◌∷◌, Option, inl, inr, refl, sym, ap, ◌∙◌, arith, ℤ, pos, neg_ℤ, ◌+ℤ◌, ◌-ℤ◌, ◌*ℤ◌, ◌≤ℤ◌, ◌<ℤ◌}
 use Rattle.calendar.specs.Dates.{last_with}
 use Rattle.calendar.specs.Days.{is_leap, days_in_year, days_in_month, days_after_zero, year_start, days_through, days_into_year, day}
@@ -14,11 +14,12 @@ use Rattle.zone_spans.specs.Lines.{Rulesets}
 use Rattle.zone_spans.specs.Schedules.{schedule_of, total_at}
 use Rattle.zone_spans.specs.TwoRuleFirings.{wall_moment}
 use Rattle.tz_posix.specs.Agreement.{IsNorthern, IsSouthern, SaysTheSame, start_in, value_of, value_total}
-use Rattle.tz_posix.specs.Agreement.{from_first, from_eighth}
+use Rattle.tz_posix.specs.Agreement.{from_first, from_eighth, last_of_month}
 use Rattle.tz_posix.specs.Reading.{value_in, number_at, part_at, time_at, sign_at, offset_at, letters_at, enclosed_at, name_at}
 use Rattle.tz_posix.specs.Reading.{weekday_at, date_at, moment_at, rule_in, own_offset_at, own_rule_in, dst_in, short_in}
 use Rattle.tz_posix.specs.Reading.{expanded_in, entry_in}
-use Rattle.tz_posix.specs.RealPairs.{IsRuledBy, lord_howe_rules, lord_howe_text, lord_howe_value, new_york_text, new_york_value, us_rules}
+use Rattle.tz_posix.specs.RealPairs.{IsRuledBy, lord_howe_rules, lord_howe_text, lord_howe_value}
+use Rattle.tz_posix.specs.RealPairs.{moldova_rules, moldova_text, moldova_value, new_york_text, new_york_value, us_rules}
 use Rattle.tz_posix.specs.Seconds.{offset_seconds, time_seconds}
 use Rattle.tz_posix.specs.Spells.{Spells}
 use Rattle.tz_posix.proofs.NorthernLemmas.{northern_agrees}
@@ -38,7 +39,13 @@ unfolding
     rule_in own_offset_at own_rule_in dst_in short_in expanded_in entry_in
 lord_howe_spelled = entry_found lord_howe_text _ refl
 
--- 2100-01-01, 2007-01-01, and the first Sunday of October 2008
+pub moldova_spelled : Spells moldova_text (value_of moldova_value)
+unfolding
+    value_in number_at part_at time_at sign_at offset_at letters_at enclosed_at name_at weekday_at date_at moment_at
+    rule_in own_offset_at own_rule_in dst_in short_in expanded_in entry_in
+moldova_spelled = entry_found moldova_text _ refl
+
+-- 2100-01-01, 2007-01-01, 1997-01-01, and the first Sunday of October 2008
 day_2100 : day (pos 2100) 1 1 ≡ pos 47482
 unfolding is_leap days_in_year days_in_month days_after_zero year_start days_through days_into_year day
 day_2100 = refl
@@ -46,6 +53,10 @@ day_2100 = refl
 day_2007 : day (pos 2007) 1 1 ≡ pos 13514
 unfolding is_leap days_in_year days_in_month days_after_zero year_start days_through days_into_year day
 day_2007 = refl
+
+day_1997 : day (pos 1997) 1 1 ≡ pos 9862
+unfolding is_leap days_in_year days_in_month days_after_zero year_start days_through days_into_year day
+day_1997 = refl
 
 sunday_2008 : named_day (FirstOnOrAfter Sunday (pos 1)) (pos 2008) October ≡ pos 14157
 unfolding named_day first_from last_with weekday_of is_leap days_in_year days_in_month days_after_zero year_start days_through days_into_year day
@@ -187,3 +198,68 @@ module _ (rulesets : Rulesets) (line : ZoneInfo) (d s : Option (List ℕ)) (is :
       let offset = is.offset_is in
       southern_agrees rulesets (lord_howe_rules line d s) lord_howe_value lord_howe_same lord_howe_south t
       (record { begun = omega (arith, signed, first_start); not_over = omega (arith, signed, offset, day_2100) })
+
+-- ---- Moldova, 2:00
+
+module _ (rulesets : Rulesets) (line : ZoneInfo) (d s : Option (List ℕ)) (is : IsRuledBy rulesets (pos 7200) (moldova_rules line d s)) where
+  moldova_inner : AreInnerRules (moldova_rules line d s)
+  moldova_inner = record {
+    start_weekday = Sunday;
+    start_date = _;
+    start_day = last_of_month;
+    end_weekday = Sunday;
+    end_date = _;
+    end_day = last_of_month;
+    start_month = record { first = omega arith; last = omega arith };
+    end_month = record { first = omega arith; last = omega arith };
+    start_wall = refl;
+    end_wall = refl;
+    start_time = record { least = omega (arith, signed); greatest = omega (arith, signed) };
+    end_time = record { least = omega (arith, signed); greatest = omega (arith, signed) };
+    from_at_most = omega (arith, signed);
+    saving = omega (arith, signed);
+    saving_small = omega (arith, signed);
+  }
+
+  pub moldova_north : IsNorthern (moldova_rules line d s)
+  moldova_north = northern_order (moldova_rules line d s) moldova_inner (omega arith)
+
+  pub moldova_same : SaysTheSame rulesets (moldova_rules line d s) moldova_value
+  unfolding offset_seconds time_seconds
+  moldova_same =
+      let offset = is.offset_is in
+      record {
+        ruleset_name = is.ruleset_name;
+        ruled = is.ruled;
+        rules = is.rules;
+        found = is.found;
+        exactly_two = is.exactly_two;
+        start_from = refl;
+        end_from = refl;
+        from_at_most = moldova_inner.from_at_most;
+        start_to_max = refl;
+        end_to_max = refl;
+        saving = moldova_inner.saving;
+        no_saving = refl;
+        standard_small = record { least = omega (arith, signed); greatest = omega (arith, signed) };
+        saving_small = record { least = omega (arith, signed); greatest = omega (arith, signed) };
+        start_wall = refl;
+        end_wall = refl;
+        start_time = moldova_inner.start_time;
+        end_time = moldova_inner.end_time;
+        start_inside = start_inside (moldova_rules line d s) moldova_inner;
+        end_inside = end_inside (moldova_rules line d s) moldova_inner;
+        order = inl moldova_north;
+        apart = northern_apart (moldova_rules line d s) moldova_inner (omega arith);
+        same_standard = sym offset;
+        same_saving = sym (ap (λ o. o +ℤ pos 3600) offset);
+        same_start = record { weekday = Sunday; day = last_of_month; seconds = refl };
+        same_end = record { weekday = Sunday; day = last_of_month; seconds = refl };
+      }
+
+  pub moldova_agrees : (t : ℤ) → pos 852069600 ≤ℤ seconds_of t → seconds_of t <ℤ pos 4102437600
+      → total_at (schedule_of rulesets (line ∷ [])) t ≡ value_total moldova_value (seconds_of t)
+  moldova_agrees t low high =
+      let offset = is.offset_is in
+      northern_agrees rulesets (moldova_rules line d s) moldova_value moldova_same moldova_north t
+      (record { begun = omega (arith, signed, offset, day_1997); not_over = omega (arith, signed, offset, day_2100) })

@@ -14,7 +14,7 @@ use Rattle.zone_table.specs.declared.zone.Saving.TheVariants.{Multiple}
 use Rattle.zone_table.specs.declared.zone.ZoneInfo.{ZoneInfo}
 use Rattle.tz_posix.specs.Agreement.{IsInYears, IsRuleYear, IsSameDay, IsTimeOfDay, end_in, first_year, start_in}
 use Rattle.tz_posix.specs.Agreement.{from_first, from_eighth, from_fifteenth, from_twenty_second, last_of_month}
-use Rattle.tz_posix.specs.RealPairs.{lord_howe_rules, us_rules}
+use Rattle.tz_posix.specs.RealPairs.{lord_howe_rules, moldova_rules, us_rules}
 use Rattle.tz_posix.specs.declared.date.Date.TheVariants.{M}
 
 -- days of rules of the tz database, each with the date that `zic` writes for it
@@ -34,13 +34,16 @@ worked_years = refl
 abbrev ruled_at : ℤ → Format → ZoneInfo
 ruled_at offset format = record { offset = offset; saving = Multiple []; format = format; end_time = None }
 
--- New York in 2024, 2024-03-10 07:00 and 2024-11-03 06:00 UTC; Lord Howe in 2024, 2024-10-05 15:30 and 2024-04-06 15:00
+-- New York in 2024, 2024-03-10 07:00 and 2024-11-03 06:00 UTC; Lord Howe in 2024, 2024-10-05 15:30 and 2024-04-06 15:00;
+-- Moldova in 2024, 2024-03-31 00:00 and 2024-10-27 00:00
 worked_changes : (format : Format)
     → start_in (us_rules (ruled_at (negsuc 17999) format) None None) (pos 2024)
     ∷ end_in (us_rules (ruled_at (negsuc 17999) format) None None) (pos 2024)
     ∷ start_in (lord_howe_rules (ruled_at (pos 37800) format) None None) (pos 2024)
-    ∷ end_in (lord_howe_rules (ruled_at (pos 37800) format) None None) (pos 2024) ∷ []
-    ≡ pos 1710054000 ∷ pos 1730613600 ∷ pos 1728142200 ∷ pos 1712415600 ∷ []
+    ∷ end_in (lord_howe_rules (ruled_at (pos 37800) format) None None) (pos 2024)
+    ∷ start_in (moldova_rules (ruled_at (pos 7200) format) None None) (pos 2024)
+    ∷ end_in (moldova_rules (ruled_at (pos 7200) format) None None) (pos 2024) ∷ []
+    ≡ pos 1710054000 ∷ pos 1730613600 ∷ pos 1728142200 ∷ pos 1712415600 ∷ pos 1711843200 ∷ pos 1729987200 ∷ []
 unfolding
     moment instant_of named_day first_from last_with weekday_of
     is_leap days_in_year days_in_month days_after_zero year_start days_through days_into_year day

@@ -1,7 +1,7 @@
--- Two pairs of yearly rules of the tz database, each as a ruleset of these two rules alone, and the string that says the same.
+-- Three pairs of yearly rules of the tz database, each as a ruleset of these two rules alone, and the string that says the same.
 use Rattle.std.specs.Prelude.{◌≡◌, ℕ, true, false, List, Option, Some, None, codes, ℤ, pos}
 use Rattle.zone_values.specs.declared.day.DaySpec.{DaySpec}
-use Rattle.zone_values.specs.declared.day.DaySpec.TheVariants.{FirstOnOrAfter}
+use Rattle.zone_values.specs.declared.day.DaySpec.TheVariants.{FirstOnOrAfter, Last}
 use Rattle.zone_values.specs.declared.month.Month.{Month}
 use Rattle.zone_values.specs.declared.month.Month.TheVariants.{March, April, October, November}
 use Rattle.zone_values.specs.declared.time.TimeType.TheVariants.{Wall}
@@ -16,14 +16,14 @@ use Rattle.tz_posix.specs.Agreement.{RuledValue, TwoRuleZone}
 use Rattle.tz_posix.specs.declared.date.Date.TheVariants.{M}
 use Rattle.tz_posix.specs.declared.time.Offset.{Offset}
 
--- a rule from a year on to max, at 2:00 by the wall's clock
-abbrev pub at_two : ℤ → Month → DaySpec → ℤ → Option (List ℕ) → RuleInfo
-at_two from month day saving letters = record {
+-- a rule from a year on to max, so many seconds after midnight by the wall's clock
+abbrev pub on_the_wall : ℤ → Month → DaySpec → ℤ → ℤ → Option (List ℕ) → RuleInfo
+on_the_wall from month day time saving letters = record {
   from_year = Number from;
   to_year = Some Maximum;
   month = month;
   day = day;
-  time = pos 7200;
+  time = time;
   time_type = Wall;
   time_to_add = saving;
   letters = letters;
@@ -49,8 +49,8 @@ pub record IsRuledBy (rulesets : Rulesets) (offset : ℤ) (zone : TwoRuleZone) :
 abbrev pub us_rules : ZoneInfo → Option (List ℕ) → Option (List ℕ) → TwoRuleZone
 us_rules line saving_letters letters = record {
   line = line;
-  start = at_two (pos 2007) March (FirstOnOrAfter Sunday (pos 8)) (pos 3600) saving_letters;
-  end = at_two (pos 2007) November (FirstOnOrAfter Sunday (pos 1)) (pos 0) letters;
+  start = on_the_wall (pos 2007) March (FirstOnOrAfter Sunday (pos 8)) (pos 7200) (pos 3600) saving_letters;
+  end = on_the_wall (pos 2007) November (FirstOnOrAfter Sunday (pos 1)) (pos 7200) (pos 0) letters;
   from = pos 2007;
 }
 
@@ -70,8 +70,8 @@ new_york_value = record {
 abbrev pub lord_howe_rules : ZoneInfo → Option (List ℕ) → Option (List ℕ) → TwoRuleZone
 lord_howe_rules line saving_letters letters = record {
   line = line;
-  start = at_two (pos 2008) October (FirstOnOrAfter Sunday (pos 1)) (pos 1800) saving_letters;
-  end = at_two (pos 2008) April (FirstOnOrAfter Sunday (pos 1)) (pos 0) letters;
+  start = on_the_wall (pos 2008) October (FirstOnOrAfter Sunday (pos 1)) (pos 7200) (pos 1800) saving_letters;
+  end = on_the_wall (pos 2008) April (FirstOnOrAfter Sunday (pos 1)) (pos 7200) (pos 0) letters;
   from = pos 2008;
 }
 
@@ -85,4 +85,25 @@ lord_howe_value = record {
   saving_name = codes "+11";
   saving = east 11 None;
   rule = record { start = (M 10 1 0, None); end = (M 4 1 0, None) };
+}
+
+-- `Rule Moldova 1997 max - Mar lastSun 2:00 1:00 S`, and `Rule Moldova 1997 max - Oct lastSun 3:00 0 -`, with any letters
+abbrev pub moldova_rules : ZoneInfo → Option (List ℕ) → Option (List ℕ) → TwoRuleZone
+moldova_rules line saving_letters letters = record {
+  line = line;
+  start = on_the_wall (pos 1997) March (Last Sunday) (pos 7200) (pos 3600) saving_letters;
+  end = on_the_wall (pos 1997) October (Last Sunday) (pos 10800) (pos 0) letters;
+  from = pos 1997;
+}
+
+abbrev pub moldova_text : List ℕ
+moldova_text = codes "EET-2EEST-3,M3.5.0,M10.5.0/3"
+
+abbrev pub moldova_value : RuledValue
+moldova_value = record {
+  standard_name = codes "EET";
+  standard = east 2 None;
+  saving_name = codes "EEST";
+  saving = east 3 None;
+  rule = record { start = (M 3 5 0, None); end = (M 10 5 0, Some (record { hh = 3; mm = None; ss = None })) };
 }

@@ -31,6 +31,9 @@ ghost use Rattle.tz_posix.specs.RealPairs.{
   lord_howe_rules,
   lord_howe_text,
   lord_howe_value,
+  moldova_rules,
+  moldova_text,
+  moldova_value,
   new_york_text,
   new_york_value,
   us_rules,
@@ -82,12 +85,13 @@ pub fn two_yearly_rules_agree()
         → total_at (schedule_of rulesets (zone.line ∷ [])) t ≡ value_total q (seconds_of t) }
 {}
 
-/// Two real pairs of rules meet each condition of [`two_yearly_rules_agree`], as rulesets of exactly these two: that of the
-/// United States from 2007 on at -5:00, with `EST5EDT4,M3.2.0,M11.1.0`, and that of Lord Howe Island from 2008 on at 10:30, with
-/// `<+1030>-10:30<+11>-11,M10.1.0,M4.1.0`.
+/// Three real pairs of rules meet each condition of [`two_yearly_rules_agree`], as rulesets of exactly these two: that of the
+/// United States from 2007 on at -5:00, with `EST5EDT4,M3.2.0,M11.1.0`; that of Lord Howe Island from 2008 on at 10:30, with
+/// `<+1030>-10:30<+11>-11,M10.1.0,M4.1.0`; and that of Moldova from 1997 on at 2:00, as the tz database had it in 2025, with
+/// `EET-2EEST-3,M3.5.0,M10.5.0/3`, on last Sundays and at two different times.
 ///
-/// So a zone with the first pair agrees with its string from 2007-01-01 05:00 UTC up to 2100-01-01 05:00, and one with the second
-/// from 2008-10-04 15:30 UTC up to 2099-12-31 13:30.
+/// So a zone with the first pair agrees with its string from 2007-01-01 05:00 UTC up to 2100-01-01 05:00, one with the second
+/// from 2008-10-04 15:30 UTC up to 2099-12-31 13:30, and one with the third from 1996-12-31 22:00 UTC up to 2099-12-31 22:00.
 pub fn real_pairs_agree()
     ensures new_york_text { Spells new_york_text (value_of new_york_value) }
     ensures new_york_conditions { (rulesets : Rulesets) (line : ZoneInfo) (d s : Option (List ℕ))
@@ -105,6 +109,14 @@ pub fn real_pairs_agree()
         → IsRuledBy rulesets (pos 37_800) (lord_howe_rules line d s)
         → (t : ℤ) → pos 1_223_134_200 ≤ℤ seconds_of t → seconds_of t <ℤ pos 4_102_407_000
         → total_at (schedule_of rulesets (line ∷ [])) t ≡ value_total lord_howe_value (seconds_of t) }
+    ensures moldova_text { Spells moldova_text (value_of moldova_value) }
+    ensures moldova_conditions { (rulesets : Rulesets) (line : ZoneInfo) (d s : Option (List ℕ))
+        → IsRuledBy rulesets (pos 7_200) (moldova_rules line d s)
+        → SaysTheSame rulesets (moldova_rules line d s) moldova_value × IsNorthern (moldova_rules line d s) }
+    ensures moldova { (rulesets : Rulesets) (line : ZoneInfo) (d s : Option (List ℕ))
+        → IsRuledBy rulesets (pos 7_200) (moldova_rules line d s)
+        → (t : ℤ) → pos 852_069_600 ≤ℤ seconds_of t → seconds_of t <ℤ pos 4_102_437_600
+        → total_at (schedule_of rulesets (line ∷ [])) t ≡ value_total moldova_value (seconds_of t) }
 {}
 
 /// The offset that a zone and a POSIX TZ string both give a date-time; none where they give two, or the string is refused.
