@@ -1,4 +1,5 @@
 pub mod Outside
+pub mod Seen
 pub mod Memory
 pub mod Streams
 pub mod Limit

@@ -3,7 +3,7 @@ ghost use Rattle.std.specs.Prelude.{◌≡◌, ◌≤◌, [], ◌∷◌, ◌++�
 ghost use Rattle.zone_values.specs.Faults.{fault_of, fault_name};
 ghost use Rattle.zone_source.specs.FaultLines.{build_name, line_shown, IsShort};
 
-use crate::error::BuildKind;
+use crate::error::{BuildKind, SourceError};
 use arrayvec::ArrayString;
 use itoa::Buffer;
 
@@ -22,9 +22,26 @@ pub struct FaultText {
 }
 
 impl FaultText {
-    ghost use Rattle.std.specs.Prelude.{◌≡◌, ◌≤◌, [], length, codes, IsSome, IfSome};
+    ghost use Rattle.std.specs.Prelude.{◌≡◌, ◌≤◌, [], length, codes, IsSome, IfSome, IsSomeAnd, None, MatchOption};
     ghost use Rattle.zone_values.specs.Faults.{fault_of};
-    ghost use Rattle.zone_source.specs.FaultLines.{bad_line_text, bad_join_text, IsShort, line_shown, line_with};
+    ghost use Rattle.zone_source.specs.FaultLines.{bad_line_text, bad_join_text, IsShort, line_shown, line_with, source_line};
+    ghost use Rattle.zone_source.specs.Told.{told_by_source};
+
+    /// Of the fault that a source is refused for; none for want of memory.
+    pub fn of_source(error: &SourceError) -> Option<FaultText>
+        ensures line { MatchOption (told_by_source error.now) (result ≡ None) (λ f. IsSomeAnd result (λ text. line_shown text ≡ source_line f)) }
+        ensures short { IfSome result IsShort }
+    {
+        match error {
+            SourceError::NotText(number) => Some(FaultText::no_text("source ", *number)),
+            SourceError::Line(number, error) => match error.kind() {
+                Some(_) => Some(FaultText::of_line(*number, error)),
+                None => None,
+            },
+            SourceError::Build(number, kind) => Some(FaultText::of_join(*number, *kind)),
+            SourceError::NoMemory => None,
+        }
+    }
 
     /// Of a line of a side, `source ` or `request `, that is no text.
     pub fn no_text(side: &'static str, number: usize) -> FaultText

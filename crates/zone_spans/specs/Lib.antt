@@ -8,6 +8,7 @@ pub mod Entries
 pub mod Collapse
 pub mod Places
 pub mod Faults
+pub mod FaultNames
 pub mod Causes
 pub mod Compiled
 pub mod Bounds

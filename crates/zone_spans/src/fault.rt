@@ -46,6 +46,27 @@ impl From<AllocError> for SpanFault {
     }
 }
 
+impl SpanFault {
+    ghost use Rattle.std.specs.Prelude.{◌≡◌, ◌≤◌, length};
+    ghost use Rattle.zone_spans.specs.FaultNames.{fault_name};
+
+    /// The name of the variant.
+    pub fn name(self) -> &'static str
+        ensures name { result.now ≡ fault_name self }
+        ensures short { length result.now ≤ 14 }
+    {
+        match self {
+            SpanFault::UnknownRuleset => "UnknownRuleset",
+            SpanFault::MissingUntil => "MissingUntil",
+            SpanFault::YearRange => "YearRange",
+            SpanFault::RuleYears => "RuleYears",
+            SpanFault::DayRange => "DayRange",
+            SpanFault::NoStandardSpan => "NoStandardSpan",
+            SpanFault::NoMemory => "NoMemory",
+        }
+    }
+}
+
 /// The first fault that keeps known lines from being expanded.
 #[tactic(auto, unfolding(crate::specs::Faults::line_fault))]
 pub(crate) fn line_fault(infos: &[ZoneInfo], lines: &[Line<'_>]) -> Option<SpanFault>

@@ -1,0 +1,19 @@
+//! One run for every program that reads a source file, takes one zone of it, and writes what it has to say of the zone.
+//!
+//! A program says what is its own by a `ZoneProgram`: its label, its words after FILE and NAME, and its answer for the
+//! spans of the zone. `run_program` is its whole run, with `Ends` as its contract.
+#![tactic(auto)]
+
+mod line;
+mod number;
+mod program;
+mod respond;
+mod running;
+mod task;
+
+pub use number::number_in;
+pub use program::{Refusal, ZoneProgram};
+pub use running::{run_program, run_program_surely};
+pub use zone_source::{
+    Failed, FileShelf, MemShelf, MemSink, Shelf, Sink, Source, Status, StdSink, SureShelf, SureSink,
+};

@@ -1,0 +1,52 @@
+//! What a program says of a zone.
+ghost use Rattle.std.specs.Prelude.{◌≡◌, ℕ, List, Option, map, option_map, string_bytes};
+ghost use Rattle.tz_zone.specs.Sets.{schedule_of, IsAccepted};
+ghost use Rattle.zone_run.specs.Asked.{Answers, Asked};
+
+use std::alloc::{AllocError, Global};
+use tz_lookup::FixedTimespanSet;
+
+/// Why a program has no answer for a zone.
+#[derive(Clone, Copy, Debug, PartialEq, Eq)]
+pub enum Refusal {
+    /// The zone is refused for this, which the fault line tells after the program's label.
+    Cause(&'static str),
+    /// Memory ran out.
+    NoMemory,
+}
+
+impl From<AllocError> for Refusal {
+    ghost use Rattle.std.specs.Prelude.{◌≡◌};
+    ghost use Rattle.zone_run.specs.declared.program.Refusal.TheVariants.{NoMemory};
+
+    ghost from_gives = { λ _ refusal. refusal ≡ NoMemory };
+
+    fn from(_: AllocError) -> Refusal {
+        Refusal::NoMemory
+    }
+}
+
+/// What is a program's own: a value is what its words ask of a zone.
+pub trait ZoneProgram: Drop {
+    /// What stands in front of its causes: `list` of `list: range`.
+    ghost label: { List ℕ };
+
+    /// What its words after FILE and NAME ask, where they are in its form.
+    ghost form: { List (List ℕ) → Option Asked };
+
+    /// What is asked.
+    ghost asked: { Self → Asked };
+
+    /// What stands in front of its causes: `list` of `list: range`.
+    fn label() -> &'static str
+        ensures { result.now ≡ label };
+
+    /// Reads the words after FILE and NAME, if they are in the program's form.
+    fn read(words: &[String]) -> Option<Self>
+        ensures { option_map asked result ≡ form (map string_bytes words.now) };
+
+    /// The bytes that are due for the spans of the zone, which can be looked up, or why there are none.
+    fn answer(&self, alloc: Global, set: &FixedTimespanSet) -> Result<Vec<u8>, Refusal>
+        requires { IsAccepted (schedule_of set.now) }
+        ensures { Answers (asked self.now) set.now result };
+}
