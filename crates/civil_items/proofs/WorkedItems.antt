@@ -1,5 +1,5 @@
 -- Which trees are the same, and what is inside items and errors, over all kinds of them.
-use Rattle.std.proofs.Common.{◌≡◌, refl, List, [], ◌∷◌, map, true, false, codes, Ok, Err}
+use Rattle.std.proofs.Common.{◌≡◌, refl, List, [], ◌∷◌, ◌++◌, map, true, false, codes, Ok, Err}
 use denote.Bor.{Bor}
 use Rattle.std.specs.Global.{Vec}
 use Rattle.civil_items.specs.declared.format_item.Component.{Component}
@@ -68,6 +68,24 @@ worked_component_in = refl
 worked_compound_in : map compound_in kinds
     ≡ Err (record {}) ∷ Err (record {}) ∷ Err (record {}) ∷ Ok mixed ∷ Err (record {}) ∷ Err (record {}) ∷ []
 worked_compound_in = refl
+
+-- an optional tree and a list of one are not what they hold
+abbrev holders : List Tree
+holders =
+    optional (component Year) ∷ compound (tree (component Year) no_trees) ∷ first (tree (component Year) no_trees)
+    ∷ optional (compound mixed) ∷ first (tree (compound mixed) no_trees) ∷ []
+
+worked_held_component : map component_in holders
+    ≡ Err (record {}) ∷ Err (record {}) ∷ Err (record {}) ∷ Err (record {}) ∷ Err (record {}) ∷ []
+worked_held_component = refl
+
+worked_held_compound : map compound_in holders
+    ≡ Err (record {}) ∷ Ok (tree (component Year) no_trees) ∷ Err (record {}) ∷ Err (record {}) ∷ Err (record {}) ∷ []
+worked_held_compound = refl
+
+worked_held_same : map (same (component Year)) holders ++ map (same (compound mixed)) holders
+    ≡ false ∷ false ∷ false ∷ false ∷ false ∷ false ∷ false ∷ false ∷ false ∷ false ∷ []
+worked_held_same = refl
 
 -- an item's variant is that of its tree
 worked_items : (part : Component) (item : Tree) (items : Vec Tree)

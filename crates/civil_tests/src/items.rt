@@ -486,22 +486,28 @@ fn expect_kind(rt: &impl Abort, alloc: Global, item: BorrowedFormatItem<'_>, kin
     same(rt, &part.is_ok(), &is_component);
 }
 
+/// The same of an item and of the item as one that may be left out.
+fn expect_optional<'a>(
+    rt: &impl Abort,
+    alloc: Global,
+    item: &'a BorrowedFormatItem<'a>,
+    kind: &str,
+) {
+    expect_kind(rt, alloc, *item, kind);
+    expect_kind(rt, alloc, BorrowedFormatItem::Optional(item), "optional");
+}
+
 #[test]
 fn keeps_each_kind_of_item(rt: HostRuntime) {
     let text = BorrowedFormatItem::StringLiteral("a");
-    let month = BorrowedFormatItem::Component(Component::Month);
     let alloc = rt.alloc();
     expect_kind(&rt, alloc, BorrowedFormatItem::Literal(b"a"), "literal");
-    expect_kind(&rt, alloc, text, "text");
-    expect_kind(&rt, alloc, month, "component");
-    expect_kind(
-        &rt,
-        alloc,
-        BorrowedFormatItem::Compound(&[text]),
-        "compound",
-    );
-    expect_kind(&rt, alloc, BorrowedFormatItem::Optional(&text), "optional");
     expect_kind(&rt, alloc, BorrowedFormatItem::First(&[text]), "first");
+    expect_optional(&rt, alloc, &text, "text");
+    let month = BorrowedFormatItem::Component(Component::Month);
+    expect_optional(&rt, alloc, &month, "component");
+    let compound = BorrowedFormatItem::Compound(&[text]);
+    expect_optional(&rt, alloc, &compound, "compound");
 }
 
 #[test]

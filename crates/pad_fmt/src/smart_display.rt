@@ -14,7 +14,8 @@ pub type Metadata<'a, T> = WidthAnd<'a, T, <T as SmartDisplay>::Metadata>;
 /// A value that knows the width of its text before it writes it.
 ///
 /// Its law: where `exact` holds of the options and the fill is ASCII, the bytes that it gives are as many as the
-/// greater of its unpadded width and the requested one.
+/// greater of its unpadded width and the requested one. `WidthLaws` says for each type of std and of this crate where
+/// that is.
 pub trait SmartDisplay: Sized {
     /// What else is kept beside the width; `()` where nothing is.
     type Metadata: Drop;
