@@ -38,6 +38,12 @@ worked_plain : map plain kinds
     ≡ literal (codes "a") ∷ literal (codes "a") ∷ component Year ∷ compound literals ∷ optional (literal (codes "a")) ∷ first literals ∷ []
 worked_plain = refl
 
+-- so two that differ by the kinds of their literals alone are one in plain trees
+worked_mixed : same (first mixed) (first literals) ∷ same (plain (first mixed)) (plain (first literals))
+    ∷ same (plain (compound mixed)) (plain (compound literals)) ∷ same (plain (first mixed)) (plain (compound literals)) ∷ []
+    ≡ false ∷ true ∷ true ∷ false ∷ []
+worked_mixed = refl
+
 -- no two kinds are the same
 worked_same : map (λ one. map (same one) kinds) kinds
     ≡ (true ∷ false ∷ false ∷ false ∷ false ∷ false ∷ [])
