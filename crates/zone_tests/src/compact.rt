@@ -9,7 +9,7 @@ use std::process::Abort;
 use tz_lookup::{CompactFault, CompactSet, CompactTz, FixedTimespanSet, Offset, TimeZone, Tz};
 
 /// Builds the compact form of a set that can be looked up.
-fn compact(rt: &impl Abort, alloc: Global, set: &FixedTimespanSet) -> CompactSet {
+pub(crate) fn compact(rt: &impl Abort, alloc: Global, set: &FixedTimespanSet) -> CompactSet {
     CompactSet::build(alloc, set).expect(rt, "refused")
 }
 

@@ -167,13 +167,22 @@ fn a_fixed_zone(rt: HostRuntime) {
     expect_offsets(&rt, &fixed, 0, Some(5400), None);
 }
 
+/// A set of a span, and of another from the second 1,000 on.
+pub(crate) fn two_spans(
+    rt: &impl Abort,
+    alloc: Global,
+    first: FixedTimespan,
+    other: FixedTimespan,
+) -> FixedTimespanSet {
+    let mut others = Items::new(alloc);
+    others.push((1000, other)).expect(rt, "memory");
+    named_set(rt, alloc, first, others)
+}
+
 /// A set of winter time, and of summer time from the second 1,000 on.
 pub(crate) fn summer(rt: &impl Abort, alloc: Global) -> FixedTimespanSet {
     let winter = span(rt, alloc, 3600, 0, "CET");
-    let saving = span(rt, alloc, 3600, 3600, "CEST");
-    let mut others = Items::new(alloc);
-    others.push((1000, saving)).expect(rt, "memory");
-    named_set(rt, alloc, winter, others)
+    two_spans(rt, alloc, winter, span(rt, alloc, 3600, 3600, "CEST"))
 }
 
 /// Asserts the abbreviation and the kind of an offset.
