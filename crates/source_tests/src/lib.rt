@@ -1,5 +1,5 @@
-//! Tests of all that begins with source text, from outside the crates: lines and their faults, tables, the database of zones,
-//! compact forms, POSIX strings over a database, and whole runs over objects in memory and over made texts.
+//! Tests of all that begins with source text, from outside the crates: lines and their faults, tables, schedules, the database of
+//! zones, compact forms, POSIX strings over a database, and whole runs over objects in memory and over made texts.
 #![tactic(auto)]
 
 #[cfg(test)]
@@ -18,5 +18,7 @@ mod lines;
 mod posix;
 #[cfg(test)]
 mod runs;
+#[cfg(test)]
+mod schedules;
 #[cfg(test)]
 mod source;

@@ -8,6 +8,7 @@ use zone_line::{
     TimeSpecAndType, TimeType, Year, Zone, ZoneInfo,
 };
 
+mod patterns;
 mod source;
 mod values;
 

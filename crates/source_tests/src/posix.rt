@@ -3,6 +3,6 @@
 
 mod agreement;
 mod footers;
-mod rows;
+pub(crate) mod rows;
 mod texts;
-mod zones;
+pub(crate) mod zones;
