@@ -1,5 +1,6 @@
-ghost use Rattle.std.specs.Prelude.{◌≡◌, pos};
+ghost use Rattle.std.specs.Prelude.{◌≡◌, IfSome, pos};
 ghost use Rattle.civil_parts.specs.Durations.{longest, shortest};
+ghost use Rattle.civil_parts.specs.declared.weekday.Weekday.TheVariants.{Monday};
 
 use crate::checks::{hash_of, holds, holds_at, prints, same};
 use civil_parts::{
@@ -89,6 +90,28 @@ fn counts_weekdays(rt: HostRuntime) {
         &(7, 6),
     );
     same(&rt, &hash_of(&sunday), &hash_of(&Weekday::Saturday.next()));
+}
+
+// What the clauses say of known days and lengths.
+fn three_days_before_thursday() -> Weekday
+    ensures { result ≡ Monday }
+{
+    Weekday::Thursday.nth_prev(3)
+}
+
+fn five_less_three() -> Option<SignedDuration>
+    ensures { IfSome result (λ length. length ≡ pos 2) }
+{
+    let five = SignedDuration::from_whole_nanoseconds(5)?;
+    let three = SignedDuration::from_whole_nanoseconds(3)?;
+    five.checked_sub(three)
+}
+
+#[test]
+fn counts_back(rt: HostRuntime) {
+    same(&rt, &three_days_before_thursday(), &Weekday::Monday);
+    let left = five_less_three().expect(&rt, "too long");
+    same(&rt, &left.whole_nanoseconds(), &2);
 }
 
 // What the constants are.
