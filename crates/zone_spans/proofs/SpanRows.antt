@@ -20,12 +20,13 @@ use Rattle.zone_table.specs.declared.rule.RuleInfo.{RuleInfo}
 use Rattle.zone_table.specs.declared.zone.Saving.{Saving}
 use Rattle.zone_table.specs.declared.zone.Saving.TheVariants.{NoSaving, OneOff, Multiple}
 use Rattle.zone_table.specs.declared.zone.ZoneInfo.{ZoneInfo}
-use Rattle.zone_spans.specs.declared.fault.SpanFault.TheVariants.{UnknownRuleset, MissingUntil, YearRange, RuleYears, DayRange, NoStandardSpan}
+use Rattle.zone_spans.specs.declared.fault.SpanFault.TheVariants.{UnknownRuleset, MissingUntil, YearRange, RuleYears, DayRange, NoStandardSpan, NoMemory}
 use Rattle.zone_spans.specs.declared.span.FixedTimespan.{FixedTimespan}
 use Rattle.zone_spans.specs.Bounds.{is_bounded, is_small}
 use Rattle.zone_spans.specs.Collapse.{collapsed, kept_of, kept_with, without_first}
 use Rattle.zone_spans.specs.Compiled.{compiled, set_of_lines}
 use Rattle.zone_spans.specs.Entries.{Entry, entries_from, entries_of, first_span, next_start, sorted_entries}
+use Rattle.zone_spans.specs.FaultNames.{fault_name}
 use Rattle.zone_spans.specs.Faults.{is_outside, leaves_year, schedule_fault, some_year}
 use Rattle.zone_spans.specs.Firings.{earliest, fired, firings_of_years, line_firings, year_firings, years_expanded}
 use Rattle.zone_spans.specs.Lines.{Line, Rulesets, zone_lines}
@@ -250,6 +251,11 @@ no_faults : schedule_fault none (plain (Some (UntilYear Minimum)) ∷ []) ∷ sc
     ∷ [] ≡ None ∷ None ∷ []
 unfolding schedule_fault leaves_year zone_lines entries_from entries_of next_start line_firings years_expanded abbreviation line_end is_in_year instant_of named_day is_leap days_in_year days_in_month days_after_zero year_start days_through days_into_year day
 no_faults = refl
+
+names_of_faults : map fault_name (UnknownRuleset ∷ MissingUntil ∷ YearRange ∷ RuleYears ∷ DayRange ∷ NoStandardSpan ∷ NoMemory ∷ [])
+    ≡ codes "UnknownRuleset" ∷ codes "MissingUntil" ∷ codes "YearRange" ∷ codes "RuleYears" ∷ codes "DayRange" ∷ codes "NoStandardSpan"
+    ∷ codes "NoMemory" ∷ []
+names_of_faults = refl
 
 -- ---- the collapse
 

@@ -276,12 +276,10 @@ fn first_standard(
     ensures first { IfOk result (λ first. first ≡ option_map (λ e. e.1) (find is_standard entries.now)) }
     ensures bounded { IfOk result (λ first. IfSome first (λ span. IsTrue (is_bounded_span span))) }
 {
-    for entry in entries {
-        if is_standard(entry) {
-            return Ok(Some(entry.1.copy(alloc)?));
-        }
+    match entries.iter().find(|entry| is_standard(entry)) {
+        Some(entry) => Ok(Some(entry.1.copy(alloc)?)),
+        None => Ok(None),
     }
-    Ok(None)
 }
 
 /// Whether the entry has no saving.

@@ -140,10 +140,7 @@ fn some_leaves_year(lines: &[Line<'_>]) -> bool
 fn ends_in_no_year(line: &Line<'_>) -> bool
     ensures { result ≡ ends_in_no_year line.now }
 {
-    match line.end {
-        Some(end) => !end.has_year(),
-        None => false,
-    }
+    line.end.is_some_and(|end| !end.has_year())
 }
 
 /// Whether a rule of the line has years that can't be compared.

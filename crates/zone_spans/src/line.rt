@@ -68,10 +68,9 @@ fn rules_named<'a>(table: &'a Table, saving: &Saving) -> Result<&'a [RuleInfo], 
 {
     match saving {
         Saving::NoSaving | Saving::OneOff(_) => Ok(&[]),
-        Saving::Multiple(name) => match table.get_ruleset(name.as_str()) {
-            Some(rules) => Ok(rules),
-            None => Err(SpanFault::UnknownRuleset),
-        },
+        Saving::Multiple(name) => table
+            .get_ruleset(name.as_str())
+            .ok_or(SpanFault::UnknownRuleset),
     }
 }
 

@@ -23,25 +23,14 @@ pub(crate) fn place_at(start: i64, fired: &[Firing<'_>]) -> usize
 fn last_below<'f, 'a>(start: i64, fired: &'f [Firing<'a>]) -> Option<&'f Firing<'a>>
     ensures { option_copied result ≡ find (λ f. int_lt f.time start) (reverse fired.now) }
 {
-    let mut last = None;
-    for firing in fired {
-        if firing.is_below(start) {
-            last = Some(firing);
-        }
-    }
-    last
+    fired.iter().rev().find(|firing| firing.is_below(start))
 }
 
 /// The first firing that ends a saving.
 fn first_standard<'f, 'a>(fired: &'f [Firing<'a>]) -> Option<&'f Firing<'a>>
     ensures { option_copied result ≡ find (λ f. int_eq f.rule.time_to_add (pos 0)) fired.now }
 {
-    for firing in fired {
-        if firing.is_standard() {
-            return Some(firing);
-        }
-    }
-    None
+    fired.iter().find(|firing| firing.is_standard())
 }
 
 /// The firing whose saving and name the line's start takes.

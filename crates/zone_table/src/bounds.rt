@@ -36,10 +36,7 @@ fn is_bounded_info(info: &ZoneInfo) -> bool
         Saving::OneOff(amount) => are_small_seconds(amount),
         _ => true,
     };
-    let end = match info.end_time {
-        Some(end) => end.has_day_of_month(),
-        None => true,
-    };
+    let end = info.end_time.is_none_or(|end| end.has_day_of_month());
     are_small_seconds(info.offset) && saving && end
 }
 

@@ -61,10 +61,7 @@ impl RuleInfo {
     pub fn letters(&self) -> Option<&str>
         ensures { option_map (λ text. text.now) result ≡ self.now.letters }
     {
-        match &self.letters {
-            Some(letters) => Some(letters.as_str()),
-            None => None,
-        }
+        self.letters.as_ref().map(Text::as_str)
     }
 
     /// Whether the years of the rule can be compared with a year: the first is a number, and the

@@ -1,28 +1,20 @@
-use Rattle.std.proofs.Common.{Some, option_map, IsTrue, ap, sym, ◌∙◌, subst, arith}
-use Rattle.std.proofs.lemmas.List.Sums.{AllPass-from_list_all}
+use Rattle.std.proofs.Common.{rules, ◌≡◌, find, Option, Some, option_map, IfSome, IsTrue, ap, sym, ◌∙◌, subst}
+use Rattle.std.proofs.lemmas.Iterator.{YieldsList-from_slice}
+use Rattle.std.proofs.lemmas.Iterator.Search.{find_from_yields_List}
 use Rattle.zone_spans.specs.declared.span.FixedTimespan.{FixedTimespan}
 use Rattle.zone_spans.specs.Bounds.{is_bounded_entry, is_bounded_span, is_small}
 use Rattle.zone_spans.specs.Entries.{Entry, is_standard}
 use Rattle.zone_spans.proofs.BoundLemmas.{second}
-use Rattle.zone_spans.proofs.FoundLemmas.{found, found_not}
+use Rattle.zone_spans.proofs.FoundLemmas.{found_passes}
 use Rattle.zone_spans.proofs.entries.first_standard.Goals as goal
 
-pub returns-then-is_standard-clause-first : goal.returns-then-is_standard-clause-first
-returns-then-is_standard-clause-first c =
-    ap Some c.in_ok-copy.ensures
-    ∙ ap (option_map (λ (e : Entry). e.1))
-    (found is_standard c.args.entries.now c.loop-entry.entry-index c.entry-item.result (omega arith) c.entry-item.is c.loop-entry.invariant
-    (sym c.is_standard.ensures ∙ c.if-is_standard.true))
-
-pub returns-then-is_standard-clause-bounded : goal.returns-then-is_standard-clause-bounded
-returns-then-is_standard-clause-bounded c =
-    let all = AllPass-from_list_all is_bounded_entry c.args.entries.now c.requires in
-    let here : IsTrue (is_bounded_entry c.entry-item.result) = ap is_bounded_entry c.entry-item.is
-    ∙ all c.loop-entry.entry-index c.entry-item.result (omega arith) in
-    subst (λ (s : FixedTimespan). IsTrue (is_bounded_span s)) (sym c.in_ok-copy.ensures) (second (is_small c.entry-item.result.0) _ here)
-
-pub loop-entry-preserved : goal.loop-entry-preserved
-loop-entry-preserved c =
-    found_not is_standard c.args.entries.now c.loop-entry.entry-index c.entry-item.result
-    (omega arith) c.entry-item.is c.loop-entry.invariant
-    (sym c.is_standard.ensures ∙ c.if-is_standard.false)
+pub returns-in_ok-copy-in-Some-clause-bounded : goal.returns-in_ok-copy-in-Some-clause-bounded
+returns-in_ok-copy-in-Some-clause-bounded c =
+    let es = c.args.entries.now in
+    let entry = c.in-Some.entry in
+    let found : option_map (λ e. e.now) c.find.result ≡ find is_standard es =
+    find_from_yields_List is_standard _ _ c.find.result c.find.ensures.ran (YieldsList-from_slice es c.iter.ensures.rest) (λ x b q k. search rules) in
+    let first : Some entry.now ≡ find is_standard es = ap (option_map (λ e. e.now)) (sym c.in-Some.is) ∙ found in
+    let here : IsTrue (is_bounded_entry entry.now) =
+    subst (λ (o : Option Entry). IfSome o (λ e. IsTrue (is_bounded_entry e))) (sym first) (found_passes is_standard is_bounded_entry es c.requires) in
+    subst (λ (s : FixedTimespan). IsTrue (is_bounded_span s)) (sym c.in_ok-copy-in-Some.ensures) (second (is_small entry.now.0) _ here)
