@@ -12,3 +12,6 @@ pub mod QuietLemmas
 pub mod CompiledLemmas
 pub mod FiringRows
 mod SpanRows
+pub mod Picks
+pub mod FrontLemmas
+pub mod MarkedLemmas

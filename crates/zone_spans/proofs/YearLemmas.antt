@@ -1,7 +1,7 @@
 -- One year more.
-use Rattle.std.proofs.Common.{◌≡◌, ℕ, zero, suc, ◌+◌, ◌&&◌, List, [], ◌∷◌, ◌++◌, length, Option, ℤ, pos, All, IsTrue, refl, sym, ap, ◌∙◌, arith, add-one}
+use Rattle.std.proofs.Common.{◌≡◌, ℕ, suc, ◌+◌, ◌&&◌, List, [], ◌∷◌, ◌++◌, Option, ℤ, pos, IsTrue, refl, sym, ap, ◌∙◌, add-one}
 use Rattle.std.proofs.lemmas.List.Folds.{list_all-append}
-use Rattle.std.specs.List.{list_all, remove}
+use Rattle.std.specs.List.{list_all}
 use Rattle.zone_values.specs.Bounds.{are_small_seconds}
 use Rattle.zone_values.specs.declared.change.ChangeTime.{ChangeTime}
 use Rattle.zone_table.specs.Bounds.{is_bounded_rule}
@@ -36,14 +36,3 @@ one_more fired f all here =
 pub saving_small : (year : ℤ) (r : RuleInfo) → IsTrue (has_moment year r) → IsTrue (are_small_seconds r.time_to_add)
 saving_small year r has =
     second (_ && are_small_seconds r.time) _ (first (is_bounded_rule r) _ has)
-
-remove_nil : {X : Type 0} (b : ℕ) → remove {X = X} [] b ≡ []
-remove_nil zero = refl
-remove_nil (suc b) = refl
-
-pub all_remove : {X : Type 0} (P : X → Type 0) (xs : List X) (b : ℕ) → All P xs → All P (remove xs b)
-all_remove {X} P [] b h k d l = let none : length (remove {X = X} [] b) ≡ 0 = ap length (remove_nil {X = X} b) in absurd
-    (omega (arith, none, l))
-all_remove P (x ∷ xs) zero h k d l = h (suc k) d (omega (arith, l))
-all_remove P (x ∷ xs) (suc b) h zero d l = h 0 d (omega arith)
-all_remove P (x ∷ xs) (suc b) h (suc k) d l = all_remove P xs b (λ j e m. h (suc j) e (omega (arith, m))) k d (omega (arith, l))

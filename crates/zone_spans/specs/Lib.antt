@@ -2,6 +2,7 @@ pub mod Lines
 pub mod Windows
 pub mod Firings
 pub mod Fires
+pub mod Fronts
 pub mod Quiet
 pub mod Listing
 pub mod Entries

@@ -7,6 +7,7 @@ mod collapsing;
 mod entries;
 mod fault;
 mod firing;
+mod front;
 mod line;
 mod listing;
 mod quiet;

@@ -1,49 +1,21 @@
 //! The firings of a line, year by year.
 ghost use Rattle.std.specs.Prelude.{◌≡◌, ◌<◌, ◌≤◌, ◌-◌, ◌≤ℤ◌, ◌++◌, pos, neg_ℤ, min, nat_abs, All, IfOk, IsTrue, Some, None, filter, length};
-ghost use Rattle.std.specs.List.{IsFirstBest, list_all};
+ghost use Rattle.std.specs.List.{AllByRecursion, list_all};
 ghost use Rattle.zone_values.specs.Bounds.{are_small_seconds};
 ghost use Rattle.zone_table.specs.Moments.{applies_to_year, has_years, moment};
 ghost use Rattle.zone_spans.specs.Bounds.{IsSound, can_fire, has_moment, is_bounded_firing, is_end, is_small};
 ghost use Rattle.zone_spans.specs.Fires.{Fires, after};
-ghost use Rattle.zone_spans.specs.Firings.{firings_of_years, is_earlier, is_over, line_firings, year_firings, years_expanded};
+ghost use Rattle.zone_spans.specs.Firings.{fired, firings_of_years, is_earlier, is_over, line_firings, year_firings, years_expanded};
+ghost use Rattle.zone_spans.specs.Fronts.{IsSmallPlaced, front_firings};
 ghost use Rattle.zone_spans.specs.Windows.{line_end};
 
 use crate::firing::Firing;
+use crate::front::{Applying, Placed, first_of, front_of, left_of};
 use crate::line::Line;
 use crate::quiet::years_before_all;
 use std::alloc::{AllocError, Global};
-use std::marker::Model;
 use zone_table::{RuleInfo, instant_of};
-use zone_values::ChangeTime;
-
-/// A rule that applies to a year.
-#[derive(Drop)]
-struct Applying<'a> {
-    rule: &'a RuleInfo,
-}
-
-impl<'a> Model for Applying<'a> {
-    ghost use Rattle.zone_table.specs.declared.rule.RuleInfo.{RuleInfo};
-
-    ghost Value = { RuleInfo };
-
-    ghost view = { λ applying. applying.rule.now };
-}
-
-impl<'a> Applying<'a> {
-    /// When the rule fires in the year.
-    fn moment(&self, year: i64, offset: i64, saving: i64) -> i64
-        requires first_year { pos 1 ≤ℤ year }
-        requires last_year { year ≤ℤ pos 9999 }
-        requires rule { IsTrue (has_moment year self.now) }
-        requires offset { IsTrue (are_small_seconds offset) }
-        requires saving { IsTrue (are_small_seconds saving) }
-        ensures value { result ≡ moment self.now year offset saving }
-        ensures small { IsTrue (is_small result) }
-    {
-        self.rule.absolute_datetime(year, offset, saving)
-    }
-}
+use zone_values::{ChangeTime, TimeType};
 
 /// When a line ends, under an offset and a saving.
 #[tactic(auto, unfolding(crate::specs::Windows::line_end))]
@@ -117,28 +89,93 @@ fn take_applying<'a>(
     Ok(())
 }
 
-/// The place of the first of the earliest of the rules.
-fn place_of_first(rules: &[Applying<'_>], year: i64, offset: i64, saving: i64) -> usize
-    requires some { 0 < length rules.now }
-    requires first_year { pos 1 ≤ℤ year }
-    requires last_year { year ≤ℤ pos 9999 }
-    requires rules { All (λ r. IsTrue (has_moment year r)) rules.now }
+/// Adds the firings from three fronts, so many at most, and gives the saving after them.
+fn fire_fronts<'a>(
+    fired: &mut Vec<Firing<'a>>,
+    count: usize,
+    walls: &[Placed<'a>],
+    standards: &[Placed<'a>],
+    utcs: &[Placed<'a>],
+    end: Option<ChangeTime>,
+    offset: i64,
+    saving: i64,
+) -> Result<i64, AllocError>
+    requires walls { AllByRecursion IsSmallPlaced walls.now }
+    requires standards { AllByRecursion IsSmallPlaced standards.now }
+    requires utcs { AllByRecursion IsSmallPlaced utcs.now }
+    requires end { IsTrue (is_end end) }
     requires offset { IsTrue (are_small_seconds offset) }
     requires saving { IsTrue (are_small_seconds saving) }
-    ensures { IsFirstBest (is_earlier year offset saving) rules.now (length rules.now) result }
+    requires bounded { IsTrue (list_all is_bounded_firing fired.old.items) }
+    ensures fired { IfOk result (λ last. Fires fired.new.items last
+        (after fired.old.items (front_firings count offset end saving walls.now standards.now utcs.now))) }
+    ensures small { IfOk result (λ last. IsTrue (are_small_seconds last)) }
+    ensures bounded { IfOk result (λ _. IsTrue (list_all is_bounded_firing fired.new.items)) }
 {
-    let mut best = 0;
-    for i in 1..rules.len() {
-        if rules[i].moment(year, offset, saving) < rules[best].moment(year, offset, saving) {
-            best = i;
+    let mut wall = walls;
+    let mut standard = standards;
+    let mut utc = utcs;
+    let mut in_force = saving;
+    for i in 0..count {
+        let Some(next) = first_of(wall, standard, utc, offset, in_force) else {
+            break;
+        };
+        let time = next.time(offset, in_force);
+        if is_over(end, offset, in_force, time) {
+            break;
         }
+        let rule = next.rule;
+        wall = left_of(wall, TimeType::Wall, rule.time_type);
+        standard = left_of(standard, TimeType::Standard, rule.time_type);
+        utc = left_of(utc, TimeType::UTC, rule.time_type);
+        in_force = rule.time_to_add;
+        fired.push(Firing { time, rule })?;
     }
-    best
+    Ok(in_force)
+}
+
+/// Adds the firings of rules that apply to a year, which begins with that saving, and gives the saving after them.
+fn fire_applying<'a>(
+    alloc: Global,
+    into: &mut Vec<Firing<'a>>,
+    rules: &[Applying<'a>],
+    year: i64,
+    end: Option<ChangeTime>,
+    offset: i64,
+    saving: i64,
+) -> Result<i64, AllocError>
+    requires rules { All (λ r. IsTrue (has_moment year r)) rules.now }
+    requires first_year { pos 1 ≤ℤ year }
+    requires last_year { year ≤ℤ pos 9999 }
+    requires end { IsTrue (is_end end) }
+    requires offset { IsTrue (are_small_seconds offset) }
+    requires saving { IsTrue (are_small_seconds saving) }
+    requires bounded { IsTrue (list_all is_bounded_firing into.old.items) }
+    ensures fired { IfOk result (λ last. Fires into.new.items last
+        (after into.old.items (fired (length rules.now) year offset end saving rules.now))) }
+    ensures small { IfOk result (λ last. IsTrue (are_small_seconds last)) }
+    ensures bounded { IfOk result (λ _. IsTrue (list_all is_bounded_firing into.new.items)) }
+{
+    let wall = front_of(alloc, rules, TimeType::Wall, year)?;
+    let standard = front_of(alloc, rules, TimeType::Standard, year)?;
+    let utc = front_of(alloc, rules, TimeType::UTC, year)?;
+    let last = fire_fronts(
+        into,
+        rules.len(),
+        wall.as_slice(),
+        standard.as_slice(),
+        utc.as_slice(),
+        end,
+        offset,
+        saving,
+    )?;
+    Ok(last)
 }
 
 /// Adds the firings of a year, which begins with that saving, and gives the saving after them.
 #[tactic(auto, unfolding(crate::specs::Firings::year_firings))]
 fn fire_year<'a>(
+    alloc: Global,
     fired: &mut Vec<Firing<'a>>,
     left: &mut Vec<Applying<'a>>,
     line: &Line<'a>,
@@ -158,20 +195,8 @@ fn fire_year<'a>(
     ensures bounded { IfOk result (λ _. IsTrue (list_all is_bounded_firing fired.new.items)) }
 {
     take_applying(left, line.rules, year)?;
-    let offset = line.info.offset;
-    let mut in_force = saving;
-    'firing: while !left.is_empty() {
-        let place = place_of_first(left, year, offset, in_force);
-        let next = left.remove(place);
-        let time = next.moment(year, offset, in_force);
-        if is_over(line.end, offset, in_force, time) {
-            break;
-        }
-        let rule = next.rule;
-        in_force = rule.time_to_add;
-        fired.push(Firing { time, rule })?;
-    }
-    Ok(in_force)
+    let last = fire_applying(alloc, fired, left, year, line.end, line.info.offset, saving)?;
+    Ok(last)
 }
 
 /// The firings of a line, and the saving after them.
@@ -196,7 +221,7 @@ fn fire_years<'a>(alloc: Global, line: &Line<'a>) -> Result<LineFirings<'a>, All
     let first = years_before_all(line.rules, count);
     for i in first..count {
         let year = i64::from(1_800 + i);
-        last_saving = fire_year(&mut fired, &mut left, line, year, last_saving)?;
+        last_saving = fire_year(alloc, &mut fired, &mut left, line, year, last_saving)?;
     }
     Ok(LineFirings { fired, last_saving })
 }
