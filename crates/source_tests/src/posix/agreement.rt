@@ -1,20 +1,40 @@
 //! Zones of two yearly rules beside the strings that say the same.
-use crate::checks::holds_at;
-use crate::posix::rows::{field, number};
-use crate::posix::zones::{at, database};
-use std::process::Abort;
-use tz_lookup::Database;
-use tz_posix::PosixTz;
-use tz_posix::laws::agreed_offset;
+ghost use Rattle.std.specs.Prelude.{◌≡◌, ◌∷◌, [], IfOk, IfErr, Ok, Some, is_some, true};
+ghost use Rattle.std.specs.FinMap.{get};
+ghost use Rattle.civil_base.specs.DateTimes.{instant};
+ghost use Rattle.civil_base.specs.Instants.{seconds_of};
+ghost use Rattle.zone_spans.specs.Compiled.{compiled};
+ghost use Rattle.zone_spans.specs.Lines.{Rulesets};
+ghost use Rattle.zone_table.specs.BoundedTables.{IsBoundedTable};
+ghost use Rattle.zone_table.specs.Resolved.{resolved_in};
+ghost use Rattle.tz_lookup.specs.Compiles.{compiled_in, spans_of, IsZoneFault};
+ghost use Rattle.tz_lookup.specs.Sets.{schedule_of, IsAccepted};
+ghost use Rattle.tz_posix.specs.Agreement.{IsCovered, RuledValue, SaysTheSame, TwoRuleZone, value_of};
+ghost use Rattle.tz_posix.specs.Parses.{IsInRange};
 
-/// Two pairs of rules of the tz database, each with a zone of one line.
+use crate::checks::holds_at;
+use crate::fixtures::table_of;
+use crate::posix::rows::{field, number};
+use crate::posix::zones::{at, empty};
+use civil_base::{OffsetDateTime, UtcOffset};
+use std::alloc::Global;
+use std::process::Abort;
+use tz_lookup::{Database, FixedTimespanSet, Tz, ZoneFault, compile_zone, is_orderly};
+use tz_posix::PosixTz;
+use tz_posix::laws::{agreed_offset, one_reading};
+use zone_table::Table;
+
+/// Three pairs of rules of the tz database, each with a zone of one line; Moldova's as it was in 2025.
 const ZONES: &[u8] = b"\
 Rule US 2007 max - Mar Sun>=8 2:00 1:00 D
 Rule US 2007 max - Nov Sun>=1 2:00 0 S
 Rule LH 2008 max - Apr Sun>=1 2:00 0 -
 Rule LH 2008 max - Oct Sun>=1 2:00 0:30 -
+Rule Moldova 1997 max - Mar lastSun 2:00 1:00 S
+Rule Moldova 1997 max - Oct lastSun 3:00 0 -
 Zone America/New_York -5:00 US E%sT
 Zone Australia/Lord_Howe 10:30 LH +1030/+11
+Zone Europe/Chisinau 2:00 Moldova EE%sT
 ";
 
 /// A zone, a string, a second from 1970-01-01 00:00:00 UTC and the offset that both give it, in seconds, or that they give two:
@@ -32,38 +52,81 @@ Australia/Lord_Howe <+1030>-10:30<+11>-11,M10.1.0,M4.1.0 1712415599 39600
 Australia/Lord_Howe <+1030>-10:30<+11>-11,M10.1.0,M4.1.0 1712415600 37800
 Australia/Lord_Howe <+1030>-10:30<+11>-11,M10.1.0,M4.1.0 1728142199 37800
 Australia/Lord_Howe <+1030>-10:30<+11>-11,M10.1.0,M4.1.0 1728142200 39600
+Europe/Chisinau EET-2EEST-3,M3.5.0,M10.5.0/3 1711843199 7200
+Europe/Chisinau EET-2EEST-3,M3.5.0,M10.5.0/3 1711843200 10800
+Europe/Chisinau EET-2EEST-3,M3.5.0,M10.5.0/3 1729987199 10800
+Europe/Chisinau EET-2EEST-3,M3.5.0,M10.5.0/3 1729987200 7200
 ";
 
-/// The offset that a zone and a text give a second, or none where they give two.
-fn agreed<'x>(
-    rt: &impl Abort,
-    database: &'x Database,
-    name: &'x str,
-    text: &'x str,
-    second: i64,
-) -> Option<i32> {
-    let date_time = at(rt, second);
-    let zone = database.get_by_name(name).expect(rt, "no zone");
-    let Ok(posix) = PosixTz::parse(text, database) else {
-        panic!(rt; "refused");
-    };
-    Some(agreed_offset(&zone, &posix, &date_time)?.whole_seconds())
+/// The offset that the zone of a set and a text both give a date-time: there is one where the set is compiled of a line of two
+/// yearly rules and the text says the same.
+fn agreed_by(
+    set: &FixedTimespanSet,
+    text: &str,
+    zones: &Database,
+    date_time: &OffsetDateTime,
+) -> Option<UtcOffset>
+    requires { IsAccepted (schedule_of set.now) }
+    ensures { (rulesets : Rulesets) (pair : TwoRuleZone) (q : RuledValue) → SaysTheSame rulesets pair q
+        → compiled rulesets (pair.line ∷ []) ≡ Ok (spans_of set.now) → IsInRange text.now (value_of q)
+        → IsCovered pair (seconds_of (instant date_time.now)) → is_some result ≡ true }
+{
+    // What the text is parsed as is the value that it spells, since it spells one alone.
+    one_reading();
+    let zone = Tz::marked(set, is_orderly(set));
+    match PosixTz::parse(text, zones) {
+        Ok(posix) => agreed_offset(&zone, &posix, date_time),
+        Err(_) => None,
+    }
+}
+
+/// The offset that the zone of a name in a table and a text both give a date-time. From the lines of the table and the letters of
+/// the text alone: where the zone is one line, ruled by two yearly rules, and the text says the same, there is one.
+fn agreed_in_table(
+    alloc: Global,
+    table: &Table,
+    name: &str,
+    text: &str,
+    zones: &Database,
+    date_time: &OffsetDateTime,
+) -> Result<Option<UtcOffset>, ZoneFault>
+    requires { IsBoundedTable table.now }
+    ensures err { IfErr result (IsZoneFault (compiled_in table.now name.now)) }
+    ensures agreed { (pair : TwoRuleZone) (q : RuledValue) → SaysTheSame (get table.now.rulesets) pair q
+        → resolved_in table.now name.now ≡ Some (pair.line ∷ []) → IsInRange text.now (value_of q)
+        → IsCovered pair (seconds_of (instant date_time.now)) → IfOk result (λ offset. is_some offset ≡ true) }
+{
+    match compile_zone(alloc, table, name) {
+        Ok(set) => Ok(agreed_by(&set, text, zones, date_time)),
+        Err(fault) => Err(fault),
+    }
 }
 
 /// Whether the answer of a row is given.
-fn is_given<'x>(rt: &impl Abort, database: &'x Database, row: &'x str) -> bool {
+fn is_given(rt: &impl Abort, alloc: Global, table: &Table, zones: &Database, row: &str) -> bool
+    requires { IsBoundedTable table.now }
+{
     let mut fields = row.split(' ');
     let name = field(rt, &mut fields);
     let text = field(rt, &mut fields);
-    let second = number(rt, &mut fields);
-    let offset = field(rt, &mut fields).parse::<i32>().ok();
-    agreed(rt, database, name, text, second) == offset
+    let date_time = at(rt, number(rt, &mut fields));
+    let wanted = field(rt, &mut fields).parse::<i32>().ok();
+    match agreed_in_table(alloc, table, name, text, zones, &date_time) {
+        Ok(offset) => seconds(offset) == wanted,
+        Err(_) => false,
+    }
+}
+
+fn seconds(offset: Option<UtcOffset>) -> Option<i32> {
+    Some(offset?.whole_seconds())
 }
 
 #[test]
 fn zones_agree_with_their_strings(rt: HostRuntime) {
-    let database = database(&rt, rt.alloc(), ZONES);
+    let alloc = rt.alloc();
+    let table = table_of(&rt, alloc, ZONES);
+    let zones = empty(&rt, alloc);
     for row in OFFSETS.lines() {
-        holds_at(&rt, row, is_given(&rt, &database, row));
+        holds_at(&rt, row, is_given(&rt, alloc, &table, &zones, row));
     }
 }

@@ -183,6 +183,22 @@ fn days_of_a_year_are_dates(rt: HostRuntime) {
 }
 
 #[test]
+fn parts_of_dates_have_ranges(rt: HostRuntime) {
+    let inside = (
+        Date::J(365).is_in_range(),
+        Date::N(0).is_in_range(),
+        Date::M { m: 12, n: 5, d: 6 }.is_in_range(),
+    );
+    same(&rt, &inside, &(true, true, true));
+    let outside = (
+        Date::J(0).is_in_range(),
+        Date::N(366).is_in_range(),
+        Date::M { m: 12, n: 6, d: 0 }.is_in_range(),
+    );
+    same(&rt, &outside, &(false, false, false));
+}
+
+#[test]
 fn weekdays_of_a_month_are_dates(rt: HostRuntime) {
     let second = Date::M { m: 3, n: 2, d: 0 };
     same(&rt, &parts(second, 2024), &Some((2024, 3, 10)));

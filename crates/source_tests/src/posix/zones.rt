@@ -112,11 +112,20 @@ fn is_zone<'x>(text: &'x str, database: &'x Database, name: &str) -> bool {
     }
 }
 
-/// Whether a text is refused an offset for the year or a day, or for a day past all dates, at the last second of 9999.
-fn refusal<'x>(rt: &impl Abort, text: &'x str, database: &'x Database) -> &'static str {
-    let last = at(rt, 253_402_300_799);
+/// The last second of 9999, and the first of -9999.
+const LAST: i64 = 253_402_300_799;
+
+const FIRST: i64 = -377_705_116_800;
+
+/// Whether a text is refused an offset for the year or a day, or for a day past all dates, at a second.
+fn refusal<'x>(
+    rt: &impl Abort,
+    text: &'x str,
+    database: &'x Database,
+    second: i64,
+) -> &'static str {
     match PosixTz::parse(text, database) {
-        Ok(tz) => match tz.get_offset(&last) {
+        Ok(tz) => match tz.get_offset(&at(rt, second)) {
             Ok(_) => "none",
             Err(Error::ComponentRange) => "range",
             Err(Error::DateTooLarge) => "too large",
@@ -203,12 +212,14 @@ fn a_text_converts(rt: HostRuntime) {
 #[test]
 fn rules_are_refused_in_order(rt: HostRuntime) {
     let empty = empty(&rt, rt.alloc());
-    for (text, wanted) in [
-        ("AAA0BBB,M12.5.0,365", "too large"),
-        ("AAA0BBB,365,M12.5.0", "range"),
-        ("AAA-1BBB,M12.5.0,J1", "range"),
-        ("AAA-1", "none"),
+    for (text, second, wanted) in [
+        ("AAA0BBB,M12.5.0,365", LAST, "too large"),
+        ("AAA0BBB,365,M12.5.0", LAST, "range"),
+        ("AAA-1BBB,M12.5.0,J1", LAST, "range"),
+        ("AAA-1", LAST, "none"),
+        ("AAA0BBB,J1,J2", FIRST, "none"),
+        ("AAA1BBB,J1,J2", FIRST, "range"),
     ] {
-        same_at(&rt, text, &refusal(&rt, text, &empty), &wanted);
+        same_at(&rt, text, &refusal(&rt, text, &empty, second), &wanted);
     }
 }
