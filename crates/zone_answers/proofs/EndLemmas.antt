@@ -10,7 +10,8 @@ use Rattle.zone_source.specs.declared.status.Status.TheVariants as status
 use Rattle.zone_answers.specs.Ends.{Ends, EndsBy, IsSilent}
 use Rattle.zone_answers.specs.Faults.{Fault, fault}
 use Rattle.zone_answers.specs.Responses.{Responds}
-use Rattle.zone_answers.specs.Seen.{Seen, InputSeen}
+use Rattle.zone_outside.specs.Seen.{InputSeen}
+use Rattle.zone_answers.specs.Seen.{Seen}
 use Rattle.zone_answers.specs.Words.{answer_over}
 use Rattle.zone_answers.specs.declared.respond.Answered.TheVariants as answered
 

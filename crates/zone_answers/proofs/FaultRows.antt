@@ -7,7 +7,7 @@ use lib.Utf8.{encode}
 use Rattle.zone_source.specs.Faults.{not_text}
 use Rattle.zone_spans.specs.Schedules.{total_at, totals_of}
 use Rattle.zone_spans.specs.declared.fault.SpanFault.TheVariants as span
-use Rattle.zone_answers.specs.AnswerLines.{ended}
+use Rattle.zone_source.specs.LineLists.{ended}
 use Rattle.zone_answers.specs.FaultLines.{fault_line}
 use Rattle.zone_answers.specs.Faults.{
   are_in_years,

@@ -6,7 +6,7 @@ use Rattle.std.specs.Str.{is_utf8, chars}
 use lib.Utf8.{encode}
 use Rattle.zone_source.specs.Faults.{source_fault}
 use Rattle.zone_source.specs.Lines.{lines_of}
-use Rattle.zone_answers.specs.AnswerLines.{ended}
+use Rattle.zone_source.specs.LineLists.{ended}
 use Rattle.zone_answers.specs.Counts.{count_in}
 use Rattle.zone_answers.specs.Due.{answer_lines}
 use Rattle.zone_answers.specs.Faults.{fault, request_refusal}

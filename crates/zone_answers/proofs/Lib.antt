@@ -1,5 +1,4 @@
 pub mod RequestLemmas
-pub mod AnswerLemmas
 pub mod AnsweringLemmas
 pub mod ResponseLemmas
 pub mod ReadBackLemmas

@@ -3,7 +3,7 @@ use Rattle.std.proofs.Common.{◌≡◌, ℕ, suc, ◌+◌, List, [], ◌∷◌,
 use Rattle.std.proofs.lemmas.List.{map-append}
 use Rattle.std.proofs.lemmas.Grind.{flat_map-append}
 use Rattle.std.specs.List.{flat_map}
-use Rattle.zone_answers.specs.AnswerLines.{ended}
+use Rattle.zone_source.specs.LineLists.{ended}
 use Rattle.zone_answers.specs.Made.{numbers_to, rule_lines, zone_line, at_line, local_line, made_source, made_requests}
 
 ended_append : (lines more : List (List ℕ)) → ended (lines ++ more) ≡ ended lines ++ ended more

@@ -2,13 +2,13 @@
 use Rattle.std.proofs.Common.{◌≡◌, ℕ, List, [], ◌∷◌, ◌++◌, Option, Some, None, IfSome, MatchOption, sym, ap, ◌∙◌}
 use Rattle.std.specs.Option.{option_map_or}
 use Rattle.zone_outside.specs.Outside.{GrewByPrefix}
-use Rattle.zone_answers.specs.AnswerLines.{ended}
+use Rattle.zone_source.specs.LineLists.{ended}
 use Rattle.zone_answers.specs.Due.{answer_lines, due_bytes}
 use Rattle.zone_answers.specs.Faults.{IsValid, fault}
 use Rattle.zone_answers.specs.Faults as faults
 use Rattle.zone_answers.specs.FaultLines.{fault_line}
 use Rattle.zone_answers.specs.Told.{fault_told, TellsOf}
-use Rattle.zone_answers.specs.Seen.{OutputSeen, Grew, GrewBySome}
+use Rattle.zone_outside.specs.Seen.{OutputSeen, Grew, GrewBySome}
 use Rattle.zone_answers.specs.Responses.{Responds, RespondsError}
 use Rattle.zone_answers.specs.declared.error.AnswerError.{AnswerError}
 use Rattle.zone_answers.specs.declared.error.AnswerError.TheVariants as errors

@@ -3,13 +3,13 @@ use Rattle.std.proofs.Common.{◌≡◌, ℕ, ◌+◌, ◌*◌, List, [], ◌∷
 use Rattle.std.proofs.lemmas.List.Sums.{sum_by-append}
 use Rattle.std.specs.List.{concat}
 use Rattle.std.specs.Option.{option_map_or}
-use Rattle.zone_answers.specs.AnswerLines.{ended}
+use Rattle.zone_source.specs.LineLists.{ended}
 use Rattle.zone_answers.specs.Due.{answer_lines}
 use Rattle.zone_answers.specs.Faults.{IsValid, fault}
 use Rattle.zone_answers.specs.Faults as faults
 use Rattle.zone_answers.specs.FaultLines.{fault_line}
 use Rattle.zone_answers.specs.Told.{fault_told, TellsOf}
-use Rattle.zone_answers.specs.Seen.{OutputSeen, Grew, GrewBySome}
+use Rattle.zone_outside.specs.Seen.{OutputSeen, Grew, GrewBySome}
 use Rattle.zone_answers.specs.Responses.{RespondsError}
 use Rattle.zone_answers.specs.Summarised.{Summarises}
 use Rattle.zone_answers.specs.Summary.{summary, due_summary}

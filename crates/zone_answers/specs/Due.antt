@@ -3,7 +3,7 @@ use Rattle.std.specs.Prelude.{ℕ, ℤ, List, [], ◌∷◌, ◌++◌, map, code
 use Rattle.std.specs.List.{flat_map}
 use Rattle.std.specs.Option.{option_map_or}
 use Rattle.civil_base.specs.Layout.{zoned_text}
-use Rattle.zone_answers.specs.AnswerLines.{ended}
+use Rattle.zone_source.specs.LineLists.{ended}
 use Rattle.zone_answers.specs.Faults.{fault}
 use Rattle.zone_answers.specs.FaultLines.{fault_line}
 use Rattle.zone_answers.specs.Found.{Found, schedule_found, found_in}

@@ -5,7 +5,8 @@ use Rattle.zone_outside.specs.Limit.{text_limit}
 use Rattle.zone_answers.specs.Due.{shown, due_bytes}
 use Rattle.zone_answers.specs.Faults.{Fault, fault, IsValid}
 use Rattle.zone_answers.specs.ReadBack.{IsReadBack}
-use Rattle.zone_answers.specs.Seen.{Seen, IfFile, IfSource, IfRequests, IfTold, Grew, GrewBySome, NoneFailed}
+use Rattle.zone_outside.specs.Seen.{Grew, GrewBySome}
+use Rattle.zone_answers.specs.Seen.{Seen, IfFile, IfSource, IfRequests, IfTold, NoneFailed}
 use Rattle.zone_answers.specs.Words.{Task}
 use Rattle.zone_source.specs.declared.status.Status.{Status}
 use Rattle.zone_source.specs.declared.status.Status.TheVariants as status

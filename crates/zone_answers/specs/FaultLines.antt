@@ -1,19 +1,8 @@
 -- The lines that tell a fault.
 use Rattle.std.specs.Prelude.{ℕ, List, [], codes}
 use Rattle.zone_source.specs.FaultLines.{line_with, source_line}
-use Rattle.zone_spans.specs.declared.fault.SpanFault.{SpanFault}
-use Rattle.zone_spans.specs.declared.fault.SpanFault.TheVariants.{UnknownRuleset, MissingUntil, YearRange, RuleYears, DayRange, NoStandardSpan, NoMemory}
+use Rattle.zone_spans.specs.FaultNames.{fault_name}
 use Rattle.zone_answers.specs.Faults.{Fault, of_source, request_not_text, bad_request, unknown_zone, bad_schedule, offset_range, range}
-
--- the name of why there is no schedule
-abbrev pub schedule_name : SpanFault → List ℕ
-schedule_name UnknownRuleset = codes "UnknownRuleset"
-schedule_name MissingUntil = codes "MissingUntil"
-schedule_name YearRange = codes "YearRange"
-schedule_name RuleYears = codes "RuleYears"
-schedule_name DayRange = codes "DayRange"
-schedule_name NoStandardSpan = codes "NoStandardSpan"
-schedule_name NoMemory = []
 
 abbrev pub request_line : ℕ → List ℕ → List ℕ → List ℕ
 request_line n group cause = line_with (codes "request ") n group cause
@@ -23,6 +12,6 @@ fault_line (of_source f) = source_line f
 fault_line (request_not_text n) = request_line n [] (codes "not text")
 fault_line (bad_request n) = request_line n [] (codes "request")
 fault_line (unknown_zone n) = request_line n [] (codes "unknown zone")
-fault_line (bad_schedule n refused) = request_line n (codes "schedule ") (schedule_name refused)
+fault_line (bad_schedule n refused) = request_line n (codes "schedule ") (fault_name refused)
 fault_line (offset_range n) = request_line n [] (codes "offset range")
 fault_line (range n) = request_line n [] (codes "range")

@@ -2,7 +2,6 @@ pub mod Requests
 pub mod Asked
 pub mod Found
 pub mod Faults
-pub mod AnswerLines
 pub mod FaultLines
 pub mod Told
 pub mod Due

@@ -1,7 +1,7 @@
 -- What was written of the summary that is due.
 use Rattle.std.specs.Prelude.{◌≡◌, ◌≢◌, ℕ, List, None}
 use Rattle.zone_answers.specs.Faults.{IsValid, fault}
-use Rattle.zone_answers.specs.Seen.{OutputSeen, Grew, GrewBySome}
+use Rattle.zone_outside.specs.Seen.{OutputSeen, Grew, GrewBySome}
 use Rattle.zone_answers.specs.Summary.{due_summary}
 use Rattle.zone_outside.specs.Outside.{Rose}
 use Rattle.zone_answers.specs.declared.respond.Answered.{Answered}

@@ -12,14 +12,13 @@ ghost use Rattle.zone_answers.specs.Opened.{table_of, AreOpened};
 ghost use Rattle.zone_answers.specs.ReadBack.{IsReadBack};
 ghost use Rattle.zone_answers.specs.Told.{TellsOf};
 
-use crate::answer_lines::Answers;
 use crate::error::{AnswerError, Side};
 use crate::request::Request;
 use crate::showing::show;
 use crate::zones::Zones;
 use std::alloc::Global;
 use zone_line::LineParser;
-use zone_source::{LIMIT, Lines, text_of};
+use zone_source::{LIMIT, LineList, Lines, text_of};
 use zone_table::Table;
 
 /// The table that the lines of a source join to, or the first fault of the source. Lines end at an LF, a CR before it is
@@ -42,7 +41,7 @@ pub fn answers(
     parser: &LineParser,
     source: &[u8],
     requests: &[u8],
-) -> Result<Answers, AnswerError>
+) -> Result<LineList, AnswerError>
     requires source { length source.now ≤ LIMIT }
     requires requests { length requests.now ≤ LIMIT }
     ensures valid { OnOk result (IsValid source.now requests.now) }
@@ -55,7 +54,7 @@ pub fn answers(
 }
 
 /// Answers each request at the zones of the table.
-fn answer_all(alloc: Global, table: &Table, requests: &[u8]) -> Result<Answers, AnswerError>
+fn answer_all(alloc: Global, table: &Table, requests: &[u8]) -> Result<LineList, AnswerError>
     requires bounded { IsBoundedTable table.now }
     requires limit { length requests.now ≤ LIMIT }
     ensures valid { OnOk result (first_refused (found_in_table table.now) 1 (lines_of requests.now) ≡ None) }
@@ -63,7 +62,7 @@ fn answer_all(alloc: Global, table: &Table, requests: &[u8]) -> Result<Answers, 
     ensures err { IfErr result (TellsOf (first_refused (found_in_table table.now) 1 (lines_of requests.now))) }
 {
     let mut zones = Zones::new(alloc, table);
-    let mut answers = Answers::new(alloc);
+    let mut answers = LineList::new(alloc);
     let mut text = Vec::new(alloc);
     let mut number = 1;
     for line in Lines::new(requests) {

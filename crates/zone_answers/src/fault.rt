@@ -1,11 +1,10 @@
 //! The line that tells a fault.
-ghost use Rattle.std.specs.Prelude.{◌≡◌, ◌+◌, ◌≤◌, [], ◌∷◌, ◌++◌, length, take, IsSome, IfSome, is_some, true};
+ghost use Rattle.std.specs.Prelude.{◌≡◌, ◌+◌, ◌≤◌, [], ◌∷◌, ◌++◌, length, take, IsSome, IfSome};
 ghost use Rattle.zone_source.specs.FaultLines.{line_shown, IsShort};
-ghost use Rattle.zone_answers.specs.FaultLines.{fault_line, request_line, schedule_name};
-ghost use Rattle.zone_answers.specs.Told.{fault_told, span_told};
+ghost use Rattle.zone_answers.specs.FaultLines.{fault_line, request_line};
+ghost use Rattle.zone_answers.specs.Told.{fault_told};
 
 use crate::error::{AnswerError, Side};
-use tz_lookup::SpanFault;
 use zone_source::{FaultText, write_fault_line};
 
 /// Writes the line that tells the fault, with its LF, at the front of the array, and answers its length. Want of memory has
@@ -31,9 +30,7 @@ fn fault_text(fault: &AnswerError) -> FaultText
         AnswerError::Build(number, kind) => FaultText::of_join(*number, *kind),
         AnswerError::Request(number) => request_text(*number, "", "request"),
         AnswerError::UnknownZone(number) => request_text(*number, "", "unknown zone"),
-        AnswerError::Schedule(number, fault) => {
-            request_text(*number, "schedule ", schedule_name(*fault))
-        }
+        AnswerError::Schedule(number, fault) => { request_text(*number, "schedule ", fault.name()) }
         AnswerError::OffsetRange(number) => request_text(*number, "", "offset range"),
         AnswerError::Range(number) => request_text(*number, "", "range"),
         AnswerError::NoMemory => unreachable!(),
@@ -51,22 +48,5 @@ fn request_text(number: usize, group: &'static str, cause: &'static str) -> Faul
         number,
         group,
         cause,
-    }
-}
-
-/// The name of why there is no schedule.
-fn schedule_name(fault: SpanFault) -> &'static str
-    requires { is_some (span_told fault) ≡ true }
-    ensures name { schedule_name fault ≡ result.now }
-    ensures short { length result.now ≤ 20 }
-{
-    match fault {
-        SpanFault::UnknownRuleset => "UnknownRuleset",
-        SpanFault::MissingUntil => "MissingUntil",
-        SpanFault::YearRange => "YearRange",
-        SpanFault::RuleYears => "RuleYears",
-        SpanFault::DayRange => "DayRange",
-        SpanFault::NoStandardSpan => "NoStandardSpan",
-        SpanFault::NoMemory => unreachable!(),
     }
 }

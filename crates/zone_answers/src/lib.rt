@@ -1,7 +1,6 @@
 //! Answers requests over the source text of the tz database: the top call, over the outside as traits.
 #![tactic(auto)]
 
-mod answer_lines;
 mod answering;
 mod error;
 mod fault;
@@ -14,14 +13,14 @@ mod summary;
 mod words;
 mod zones;
 
-pub use answer_lines::Answers;
 pub use answering::{answers, read_table};
 pub use error::{AnswerError, Side};
 pub use fault::write_fault;
 pub use running::{run, run_surely};
 pub use tz_lookup::ZoneFault;
+/// One line per request, in order. Contracts see the list of the lines' bytes.
 pub use zone_source::{
-    BuildKind, Failed, FileShelf, Lines, MemShelf, MemSink, MemSource, Shelf, Sink, Source, Status,
-    StdSink, StdSource, SureShelf, SureSink, SureSource,
+    BuildKind, Failed, FileShelf, LineList as Answers, Lines, MemShelf, MemSink, MemSource, Shelf,
+    Sink, Source, Status, StdSink, StdSource, SureShelf, SureSink, SureSource,
 };
 pub use zones::open_zone;

@@ -1,6 +1,6 @@
 //! The texts that are made from a number, for measuring: a source of so many zones, and two requests for each zone.
 ghost use Rattle.std.specs.Prelude.{◌≡◌, ◌+◌, ◌*◌, ◌%◌, ◌≤◌, [], ◌∷◌, ◌++◌, length, IfOk, OnOk};
-ghost use Rattle.zone_answers.specs.AnswerLines.{ended};
+ghost use Rattle.zone_source.specs.LineLists.{ended};
 ghost use Rattle.zone_answers.specs.Made.{at_line, local_line, made_requests, made_source, zone_line};
 
 use arrayvec::ArrayString;

@@ -1,7 +1,7 @@
 //! The answers to two texts, written to an output.
 ghost use Rattle.std.specs.Prelude.{◌≤◌, length};
 ghost use Rattle.zone_answers.specs.Responses.{Responds, RespondsError};
-ghost use Rattle.zone_answers.specs.Seen.{output_seen};
+ghost use Rattle.zone_outside.specs.Seen.{output_seen};
 ghost use Rattle.zone_answers.specs.Told.{fault_told};
 
 use crate::answering::answers;

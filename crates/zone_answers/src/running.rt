@@ -3,7 +3,8 @@ ghost use Rattle.std.specs.Prelude.{◌≡◌, ◌≢◌, ◌⊎◌, ◌↔◌, 
 ghost use Rattle.zone_answers.specs.Ends.{Ends, EndsBy, IsPastLimit};
 ghost use Rattle.zone_answers.specs.Faults.{fault};
 ghost use Rattle.zone_answers.specs.Generated.{Generated, WritesMade, made_fault};
-ghost use Rattle.zone_answers.specs.Seen.{output_seen, seen};
+ghost use Rattle.zone_outside.specs.Seen.{output_seen};
+ghost use Rattle.zone_answers.specs.Seen.{seen};
 ghost use Rattle.zone_answers.specs.Words.{answer_over, count_of, file_of, task_of};
 
 use crate::made::{made_requests, made_source};

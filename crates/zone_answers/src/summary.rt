@@ -1,18 +1,17 @@
 //! A summary of the answers, in place of the answers themselves.
 ghost use Rattle.std.specs.Prelude.{◌≡◌, ◌≤◌, [], ◌∷◌, ◌++◌, length, sum};
 ghost use Rattle.std.specs.List.{concat};
-ghost use Rattle.zone_answers.specs.Seen.{output_seen};
+ghost use Rattle.zone_outside.specs.Seen.{output_seen};
 ghost use Rattle.zone_answers.specs.Summarised.{Summarises};
 ghost use Rattle.zone_answers.specs.Summary.{summary};
 
-use crate::answer_lines::Answers;
 use crate::answering::answers;
 use crate::respond::{Answered, write_error};
 use arrayvec::ArrayString;
 use itoa::Buffer;
 use std::alloc::Global;
 use zone_line::LineParser;
-use zone_source::{LIMIT, Sink, write_all};
+use zone_source::{LIMIT, LineList, Sink, write_all};
 
 /// Answers the requests over the source, and writes the summary of the answers, or the first fault.
 pub(crate) fn summarise<O: Sink>(
@@ -37,7 +36,7 @@ pub(crate) fn summarise<O: Sink>(
 
 /// The line `lines L bytes B sum S`, with its LF: how many lines there are, how many bytes in them, and the sum of these.
 #[tactic(auto, unfolding(crate::specs::Summary::summary))]
-fn summary_line(lines: &Answers) -> ArrayString<160>
+fn summary_line(lines: &LineList) -> ArrayString<160>
     ensures { result.bytes ≡ summary lines.now ++ 10 ∷ [] }
 {
     let mut digits = Buffer::new();
@@ -54,7 +53,7 @@ fn summary_line(lines: &Answers) -> ArrayString<160>
 
 /// How many bytes the lines have, without their line feeds.
 #[tactic(auto, using(crate::proofs::SummaryLemmas::length_ended))]
-fn size_of(lines: &Answers) -> usize
+fn size_of(lines: &LineList) -> usize
     ensures { result ≡ length (concat lines.now) }
 {
     lines.as_bytes().len() - lines.len()
@@ -62,7 +61,7 @@ fn size_of(lines: &Answers) -> usize
 
 /// The sum of these bytes; each line feed is one of 10.
 #[tactic(auto, using(crate::proofs::SummaryLemmas::sum_ended))]
-fn sum_of_lines(lines: &Answers) -> u128
+fn sum_of_lines(lines: &LineList) -> u128
     ensures { result ≡ sum (concat lines.now) }
 {
     sum_of(lines.as_bytes()) - 10 * lines.len() as u128

@@ -1,3 +1,4 @@
 pub mod LineLemmas
+pub mod LineListLemmas
 pub mod JoinLemmas
 pub mod SourceRows

@@ -1,5 +1,6 @@
 pub mod Lines
 pub mod LinesLeft
+pub mod LineLists
 pub mod Zones
 pub mod Faults
 pub mod FaultLines

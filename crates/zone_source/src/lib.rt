@@ -6,6 +6,7 @@
 
 mod error;
 mod fault_line;
+mod line_list;
 pub mod lines;
 mod status;
 mod table;
@@ -13,6 +14,7 @@ mod text;
 
 pub use error::{BuildKind, SourceError};
 pub use fault_line::{FaultText, write_fault_line};
+pub use line_list::LineList;
 pub use lines::Lines;
 pub use status::Status;
 pub use table::read_table;

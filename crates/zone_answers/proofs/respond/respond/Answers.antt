@@ -1,5 +1,5 @@
 use Rattle.std.proofs.Common.{◌∙◌}
-use Rattle.zone_answers.specs.Seen.{output_seen}
+use Rattle.zone_outside.specs.Seen.{output_seen}
 use Rattle.zone_answers.proofs.ResponseLemmas.{due_valid, wrote, wrote_some, error_response}
 use Rattle.zone_answers.proofs.respond.respond.Goals as goal
 

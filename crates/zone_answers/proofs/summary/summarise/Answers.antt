@@ -1,5 +1,5 @@
 use Rattle.std.proofs.Common.{◌≡◌, ◌∙◌}
-use Rattle.zone_answers.specs.Seen.{output_seen}
+use Rattle.zone_outside.specs.Seen.{output_seen}
 use Rattle.zone_answers.specs.Summary.{due_summary}
 use Rattle.zone_answers.proofs.SummaryLemmas.{due_valid, wrote, wrote_some, error_summary}
 use Rattle.zone_answers.proofs.summary.summarise.Goals as goal

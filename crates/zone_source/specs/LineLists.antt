@@ -1,4 +1,4 @@
--- Answers as one buffer: each line ends at a line feed, and a list says where the next would begin.
+-- Lines as one buffer: each ends at a line feed, and a list says where the next would begin.
 use Rattle.std.specs.Prelude.{◌≡◌, ℕ, zero, suc, ◌-◌, ◌<◌, ◌≤◌, List, [], ◌∷◌, ◌++◌, length, slice_range, slice_index}
 use Rattle.std.specs.List.{flat_map}
 

@@ -3,7 +3,7 @@ use Rattle.std.proofs.Common.{◌≡◌, ◌≢◌, ℕ, zero, suc, ◌+◌, ◌
 use Rattle.std.proofs.lemmas.List.{append_assoc, length-append, length-drop, take-append-le, drop-append-le, drop_all, drop-drop, take-append-drop, take_at, drop_at, get_or_append_left}
 use Rattle.std.proofs.Math.Seq.{drop-cons, get_or-append_seam}
 use Rattle.std.specs.Prelude.{slice_range, slice_get}
-use Rattle.zone_answers.specs.AnswerLines.{lines_between, start_of, AreEnds, ended}
+use Rattle.zone_source.specs.LineLists.{lines_between, start_of, AreEnds, ended}
 
 pub length_lines : (from : ℕ) (ends bytes : List ℕ) → length (lines_between from ends bytes) ≡ length ends
 length_lines from [] bytes = refl

@@ -1,43 +1,44 @@
-//! The lines of an answer, in one buffer.
+//! Lines that are written one after another, in one buffer.
 ghost use Rattle.std.specs.Prelude.{◌≡◌, ◌-◌, ◌<◌, ◌≤◌, [], ◌∷◌, ◌++◌, length, slice_get, slice_range, vec_len, vec_capacity, OnOk, OnErr};
 ghost use Rattle.std.specs.Option.{option_copied};
-ghost use Rattle.zone_answers.specs.AnswerLines.{ended, start_of};
+ghost use Rattle.zone_source.specs.LineLists.{ended, start_of};
 
 use std::alloc::{AllocError, Global};
 use std::marker::Model;
 
-/// One line per request, in order. Contracts see the list of the lines' bytes.
+/// A list of lines. Contracts see the list of the lines' bytes.
 #[derive(Drop)]
-pub struct Answers {
+pub struct LineList {
     // each line with its LF
     bytes: Vec<u8>,
     // where each line's LF is past
     ends: Vec<usize>,
 }
 
-impl Model for Answers {
+impl Model for LineList {
     ghost use Rattle.std.specs.Prelude.{ℕ, List};
-    ghost use Rattle.zone_answers.specs.AnswerLines.{lines_between, AreEnds};
+    ghost use Rattle.zone_source.specs.LineLists.{lines_between, AreEnds};
 
     ghost Value = { List (List ℕ) };
 
-    ghost view = { λ answers. lines_between 0 answers.ends.items answers.bytes.items };
+    ghost view = { λ list. lines_between 0 list.ends.items list.bytes.items };
 
-    ghost invariant = { λ answers. AreEnds 0 answers.ends.items answers.bytes.items };
+    ghost invariant = { λ list. AreEnds 0 list.ends.items list.bytes.items };
 }
 
-impl Answers {
-    pub(crate) fn new(alloc: Global) -> Answers
+impl LineList {
+    /// No lines.
+    pub fn new(alloc: Global) -> LineList
         ensures { result ≡ [] }
     {
-        Answers {
+        LineList {
             bytes: Vec::new(alloc),
             ends: Vec::new(alloc),
         }
     }
 
     /// Adds a line. On an error nothing is added.
-    pub(crate) fn push(&mut self, line: &[u8]) -> Result<(), AllocError>
+    pub fn push(&mut self, line: &[u8]) -> Result<(), AllocError>
         ensures ok { OnOk result (self.new ≡ self.old ++ line.now ∷ []) }
         ensures err { OnErr result (self.new ≡ self.old) }
     {
@@ -67,10 +68,17 @@ impl Answers {
     }
 
     /// The lines, each followed by an LF.
-    pub(crate) fn as_bytes(&self) -> &[u8]
+    pub fn as_bytes(&self) -> &[u8]
         ensures { result.now ≡ ended self.now }
     {
         &self.bytes
+    }
+
+    /// The lines, each followed by an LF, in a buffer of their own.
+    pub fn into_bytes(self) -> Vec<u8>
+        ensures { result.items ≡ ended self }
+    {
+        self.bytes
     }
 }
 
