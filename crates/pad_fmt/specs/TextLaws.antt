@@ -42,7 +42,7 @@ take_chars-empty n = refl
 ascii_begins_char : (b : ℕ) → b < 128 → is_char_start b ≡ true
 ascii_begins_char b ascii = grind (arith, nat_tests)
 
-char_count-ascii : (text : List ℕ) → IsAscii text → char_count text ≡ length text
+pub char_count-ascii : (text : List ℕ) → IsAscii text → char_count text ≡ length text
 char_count-ascii [] ascii = char_count-empty
 char_count-ascii (b ∷ text) ascii = char_count-cons b text
     ∙ ap (λ t. (if t then 1 else 0) + char_count text) (ascii_begins_char b (ascii 0))

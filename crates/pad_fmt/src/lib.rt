@@ -21,4 +21,4 @@ pub use options::{Alignment, FormatterOptions};
 pub use padding::pad_with_width;
 pub use sink::{Full, TextSink};
 pub use smart_display::{Metadata, SmartDisplay, padded_width_of, unpadded_width_of};
-pub use text::Text;
+pub use text::{Text, char_count};

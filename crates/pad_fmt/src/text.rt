@@ -35,8 +35,8 @@ pub(crate) fn text_width(text: &str, options: FormatterOptions) -> usize
     }
 }
 
-// How many characters the text has.
-fn char_count(text: &str) -> usize
+/// How many characters the text has.
+pub fn char_count(text: &str) -> usize
     ensures { result ≡ char_count text.now }
 {
     let bytes = text.as_bytes().iter();
