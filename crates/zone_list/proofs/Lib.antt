@@ -1,0 +1,5 @@
+pub mod WindowLemmas
+pub mod ColumnLemmas
+pub mod WidthLemmas
+pub mod RangeLemmas
+pub mod ListRows

@@ -1,0 +1,31 @@
+-- What the words of the program ask of a zone.
+use Rattle.std.specs.Prelude.{ℕ, List, [], ◌∷◌, Option, Some, None, ℤ, codes, if◌then◌else◌}
+use Rattle.zone_run.specs.Asked.{Asked}
+use Rattle.zone_run.specs.Numbers.{number_in}
+use Rattle.zone_source.specs.LineLists.{ended}
+use Rattle.zone_list.specs.Ranges.{all_have_dates}
+use Rattle.zone_list.specs.Rows.{rows}
+use Rattle.zone_list.specs.Windows.{window}
+
+-- the rows of a window, each followed by a line feed; it is refused where an entry of the window has no dates
+abbrev pub asks : ℤ → ℤ → Asked
+asks from to = record {
+  cause = λ set. if all_have_dates (window set from to) then None else Some (codes "range");
+  due = λ set. ended (rows (window set from to));
+}
+
+abbrev pub asks_both : Option ℤ → Option ℤ → Option Asked
+asks_both (Some from) (Some to) = Some (asks from to)
+asks_both (Some from) None = None
+asks_both None to = None
+
+-- numbers of at most 13 digits
+abbrev pub most_seconds : ℕ
+most_seconds = 9999999999999
+
+-- FROM and TO
+abbrev pub form : List (List ℕ) → Option Asked
+form (from ∷ to ∷ []) = asks_both (number_in most_seconds from) (number_in most_seconds to)
+form (from ∷ to ∷ word ∷ words) = None
+form (from ∷ []) = None
+form [] = None

@@ -1,0 +1,15 @@
+-- The entries of a set in a window of time.
+use Rattle.std.specs.Prelude.{Bool, ◌&&◌, List, filter, ℤ, int_le, int_lt}
+use Rattle.zone_spans.specs.Entries.{Entry}
+use Rattle.tz_zone.specs.declared.set.FixedTimespanSet.{FixedTimespanSet}
+
+-- a time from the first second on, and before the other
+abbrev pub is_within : ℤ → ℤ → Entry → Bool
+is_within from to entry = int_le from entry.0 && int_lt entry.0 to
+
+-- the entries from the first second on and before the other, in their order; none where the first isn't below the other
+abbrev pub within : ℤ → ℤ → List Entry → List Entry
+within from to entries = filter (is_within from to) entries
+
+unfoldable pub window : FixedTimespanSet → ℤ → ℤ → List Entry
+window set from to = within from to set.others

@@ -1,0 +1,15 @@
+//! The changes of a zone in a window of time, a line each, in columns.
+#![tactic(auto)]
+
+mod listing;
+mod program;
+mod row;
+mod row_text;
+mod widths;
+mod window;
+
+pub use listing::{ListFault, Listing, list_lines};
+pub use program::{run_list, run_list_surely};
+pub use zone_run::{
+    Failed, FileShelf, MemShelf, MemSink, Shelf, Sink, Source, Status, StdSink, SureShelf, SureSink,
+};

@@ -1,0 +1,95 @@
+//! The program: its words, its answer, its run.
+ghost use Rattle.std.specs.Prelude.{◌≡◌, ◌≢◌, ◌↔◌, ◌<◌, ◌≤◌, length, codes, IfSome, IsNone};
+ghost use Rattle.std.specs.Option.{ForSome};
+ghost use Rattle.zone_list.specs.Asks.{asks, form};
+ghost use Rattle.zone_run.specs.Causes.{cause};
+ghost use Rattle.zone_run.specs.Ends.{Ends, EndsBy, IsPastLimit, seen};
+ghost use Rattle.zone_run.specs.Tasks.{task_of};
+
+use crate::listing::{ListFault, list_lines};
+use std::alloc::Global;
+use tz_lookup::FixedTimespanSet;
+use zone_line::LineParser;
+use zone_run::{
+    Refusal, Shelf, Sink, Status, SureShelf, SureSink, ZoneProgram, number_in, run_program,
+    run_program_surely,
+};
+use zone_source::LIMIT;
+
+/// The greatest size of FROM and TO, in seconds.
+const MOST_SECONDS: u64 = 9_999_999_999_999;
+
+/// A window of time, in seconds from 1970-01-01 00:00:00 UTC.
+#[derive(Clone, Copy, Debug, PartialEq, Eq)]
+struct Window {
+    from: i64,
+    to: i64,
+}
+
+impl ZoneProgram for Window {
+    ghost label = { codes "list" };
+
+    ghost form = { form };
+
+    ghost asked = { λ window. asks window.from window.to };
+
+    fn label() -> &'static str {
+        "list"
+    }
+
+    fn read(words: &[String]) -> Option<Window> {
+        let [from, to] = words else {
+            return None;
+        };
+        let Some(from) = number_in(from.as_str(), MOST_SECONDS) else {
+            return None;
+        };
+        let Some(to) = number_in(to.as_str(), MOST_SECONDS) else {
+            return None;
+        };
+        Some(Window { from, to })
+    }
+
+    fn answer(&self, alloc: Global, set: &FixedTimespanSet) -> Result<Vec<u8>, Refusal> {
+        match list_lines(alloc, set, self.from, self.to) {
+            Ok(listing) => Ok(listing.into_bytes()),
+            Err(ListFault::Range) => Err(Refusal::Cause("range")),
+            Err(ListFault::NoMemory) => Err(Refusal::NoMemory),
+        }
+    }
+}
+
+/// Writes the rows of a window of a zone, or the line of the first cause. The words are FILE, NAME, FROM and TO, the last
+/// two whole numbers of at most 13 digits, in seconds from 1970-01-01 00:00:00 UTC. What each status says is told field by
+/// field by `Ends`.
+pub fn run_list<H: Shelf, O: Sink>(
+    alloc: Global,
+    parser: &LineParser,
+    words: &[String],
+    shelf: &mut H,
+    output: &mut O,
+) -> Status
+    requires { ForSome (task_of form words.now) (λ task. H.open_to shelf.old task.file) }
+    ensures { Ends (codes "list") (task_of form words.now)
+        (seen H.Source O.Sink shelf.old output.old) (seen H.Source O.Sink shelf.new output.new) result }
+{
+    run_program::<Window, H, O>(alloc, parser, words, shelf, output)
+}
+
+/// A run over objects that never fail. It ends neither for a failed read nor for a failed write: by the words, the cause
+/// and the length alone, or for want of memory.
+pub fn run_list_surely(
+    alloc: Global,
+    parser: &LineParser,
+    words: &[String],
+    shelf: &mut SureShelf,
+    output: &mut SureSink,
+) -> Status
+    ensures read { result ≢ Status.Read }
+    ensures write { result ≢ Status.Write }
+    ensures words { (result ≡ Status.Words) ↔ IsNone (task_of form words.now) }
+    ensures complete { IfSome (task_of form words.now) (λ task. length shelf.old.bytes ≤ LIMIT → EndsBy (cause task shelf.old.bytes) result) }
+    ensures past_limit { IfSome (task_of form words.now) (λ task. LIMIT < length shelf.old.bytes → IsPastLimit result) }
+{
+    run_program_surely::<Window>(alloc, parser, words, shelf, output)
+}
