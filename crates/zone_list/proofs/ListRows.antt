@@ -1,10 +1,9 @@
 -- Windows, rows, dates and words, at worked rows.
-use Rattle.std.proofs.Common.{◌≡◌, ℕ, List, [], ◌∷◌, ◌++◌, map, Bool, true, false, Option, Some, None, refl, ℤ, pos, negsuc}
+use Rattle.std.proofs.Common.{◌≡◌, ℕ, List, [], ◌∷◌, ◌++◌, map, true, false, Some, None, refl, ℤ, pos, negsuc}
 use Rattle.std.specs.Prelude.{codes}
 use Rattle.std.specs.Fmt.{char_count, digits}
 use Rattle.civil_base.specs.Layout.{zoned_text}
 use Rattle.zone_spans.specs.Entries.{Entry}
-use Rattle.zone_run.specs.Asked.{Asked}
 use Rattle.zone_list.specs.Asks.{asks, form}
 use Rattle.zone_list.specs.Ranges.{has_dates}
 use Rattle.zone_list.specs.Rows.{row, rows}
