@@ -1,0 +1,4 @@
+pub mod OnceLemmas
+pub mod RingLemmas
+pub mod LineLemmas
+mod AlarmRows

@@ -1,0 +1,15 @@
+//! A daily local time: the instant at which it rings on each day, at most once a day; and the program that lists them.
+#![tactic(auto)]
+
+mod daily;
+mod line;
+mod program;
+mod ring;
+mod words;
+
+pub use daily::alarms;
+pub use program::{run_alarm, run_alarm_surely};
+pub use ring::{AlarmFault, Ring};
+pub use zone_run::{
+    Failed, FileShelf, MemShelf, MemSink, Shelf, Sink, Source, Status, StdSink, SureShelf, SureSink,
+};

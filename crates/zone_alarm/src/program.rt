@@ -1,0 +1,115 @@
+//! The program: its words, its answer, its run.
+ghost use Rattle.std.specs.Prelude.{◌≡◌, ◌≢◌, ◌↔◌, ◌<◌, ◌≤◌, length, codes, IfSome, IsNone};
+ghost use Rattle.std.specs.Option.{ForSome};
+ghost use Rattle.tz_lookup.specs.Sets.{schedule_of, IsAccepted};
+ghost use Rattle.tz_lookup.specs.Zones.{set_of};
+ghost use Rattle.zone_alarm.specs.Asks.{asks, form};
+ghost use Rattle.zone_run.specs.Causes.{cause};
+ghost use Rattle.zone_run.specs.Ends.{Ends, EndsBy, IsPastLimit, seen};
+ghost use Rattle.zone_run.specs.Tasks.{task_of};
+
+use crate::daily::alarms;
+use crate::line::lines_of;
+use crate::ring::AlarmFault;
+use crate::words::{days_in, start_in};
+use civil_base::PlainDateTime;
+use std::alloc::Global;
+use tz_lookup::{FixedTimespanSet, Tz};
+use zone_line::LineParser;
+use zone_run::{
+    Refusal, Shelf, Sink, Status, SureShelf, SureSink, ZoneProgram, run_program, run_program_surely,
+};
+use zone_source::LIMIT;
+
+/// A daily alarm: the first day and the time of day, and how many days.
+#[derive(Clone, Copy, Debug, PartialEq, Eq)]
+struct Daily {
+    start: PlainDateTime,
+    days: u32,
+}
+
+impl ZoneProgram for Daily {
+    ghost label = { codes "alarm" };
+
+    ghost form = { form };
+
+    ghost asked = { λ daily. asks daily.start daily.days };
+
+    fn label() -> &'static str {
+        "alarm"
+    }
+
+    fn read(words: &[String]) -> Option<Daily> {
+        let [start, time, days] = words else {
+            return None;
+        };
+        let Some(start) = start_in(start.as_str(), time.as_str()) else {
+            return None;
+        };
+        let Some(days) = days_in(days.as_str()) else {
+            return None;
+        };
+        Some(Daily { start, days })
+    }
+
+    fn answer(&self, alloc: Global, set: &FixedTimespanSet) -> Result<Vec<u8>, Refusal> {
+        let zone = zone_of(set);
+        match alarms(
+            alloc,
+            &zone,
+            self.start.time(),
+            self.start.date(),
+            self.days,
+        ) {
+            Ok(rings) => Ok(lines_of(alloc, &rings)?.into_bytes()),
+            Err(AlarmFault::Range) => Err(Refusal::Cause("range")),
+            Err(AlarmFault::NoMemory) => Err(Refusal::NoMemory),
+        }
+    }
+}
+
+/// The zone of a set that can be looked up.
+fn zone_of(set: &FixedTimespanSet) -> Tz<'_>
+    requires { IsAccepted (schedule_of set.now) }
+    ensures { set_of result ≡ set.now }
+{
+    match Tz::new(set) {
+        Ok(zone) => zone,
+        Err(_) => unreachable!(),
+    }
+}
+
+/// Writes when a daily alarm rings in a zone, or the line of the first cause. The words are FILE, NAME, START, TIME and
+/// DAYS: the first date, the time of day in whole seconds, and a number of days from 1 to 36,600. What each status says is
+/// told field by field by `Ends`.
+pub fn run_alarm<H: Shelf, O: Sink>(
+    alloc: Global,
+    parser: &LineParser,
+    words: &[String],
+    shelf: &mut H,
+    output: &mut O,
+) -> Status
+    requires { ForSome (task_of form words.now) (λ task. H.open_to shelf.old task.file) }
+    ensures { Ends (codes "alarm") (task_of form words.now)
+        (seen H.Source O.Sink shelf.old output.old) (seen H.Source O.Sink shelf.new output.new) result }
+{
+    run_program::<Daily, H, O>(alloc, parser, words, shelf, output)
+}
+
+/// A run over objects that never fail. It ends neither for a failed read nor for a failed write: by the words, the cause
+/// and the length alone, or for want of memory.
+pub fn run_alarm_surely(
+    alloc: Global,
+    parser: &LineParser,
+    words: &[String],
+    shelf: &mut SureShelf,
+    output: &mut SureSink,
+) -> Status
+    ensures read { result ≢ Status.Read }
+    ensures write { result ≢ Status.Write }
+    ensures words { (result ≡ Status.Words) ↔ IsNone (task_of form words.now) }
+    ensures complete { IfSome (task_of form words.now) (λ task. length shelf.old.bytes ≤ LIMIT → EndsBy (cause task shelf.old.bytes) result) }
+    ensures past_limit { IfSome (task_of form words.now) (λ task. LIMIT < length shelf.old.bytes → IsPastLimit result) }
+{
+    run_program_surely::<Daily>(alloc, parser, words, shelf, output)
+}
