@@ -1,7 +1,9 @@
 //! Tests of all that begins with source text, from outside the crates: lines and their faults, tables, schedules, the database of
-//! zones, compact forms, POSIX strings over a database, and whole runs over objects in memory and over made texts.
+//! zones, compact forms, POSIX strings over a database, daily alarms, and whole runs over objects in memory and over made texts.
 #![tactic(auto)]
 
+#[cfg(test)]
+mod alarms;
 #[cfg(test)]
 mod checks;
 #[cfg(test)]

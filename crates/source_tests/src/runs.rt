@@ -11,6 +11,7 @@ use zone_answers::{
     ZoneFault, answers, open_zone, read_table, run, run_surely, write_fault,
 };
 use zone_line::LineParser;
+use zone_source::read_all;
 use zone_table::Table;
 
 const FIXED: &[u8] = b"Zone Test/Fixed 1:30 - TST\n";
@@ -298,6 +299,20 @@ fn words_and_failed_reads(rt: HostRuntime) {
         };
         expect_silent(&rt, alloc, "source", &failing, 3);
     }
+}
+
+#[test]
+fn a_missing_file_leaves_the_input(rt: HostRuntime) {
+    let alloc = rt.alloc();
+    let parser = parser(&rt, alloc);
+    let words = words_of(&rt, alloc, "missing");
+    let mut shelf = shelf_of(&rt, alloc, &ONE_REQUEST, 7, &[]);
+    let mut input = input_of(&rt, alloc, &ONE_REQUEST, 7, &[]);
+    let mut sink = sink_of(&rt, alloc, 7, &[]);
+    let status = run(alloc, &parser, &words, &mut shelf, &mut input, &mut sink);
+    same(&rt, &status.code(), &3);
+    let left = read_all(alloc, &mut input).expect(&rt, "not read");
+    same(&rt, &left.as_slice(), &ONE_REQUEST.requests);
 }
 
 #[test]
