@@ -38,8 +38,8 @@ pub trait Offset: Drop {
 ///
 /// Three laws hold of each zone: the total at an instant is an offset, less than 26 hours in size; an instant's offset is
 /// the total at it; and the offsets of a local time are the totals at the instants that are read as it, by time: all of
-/// them, or the first two. Where the zone is orderly there are at most two, so the offsets give exactly the instants. An offset's abbreviation and its kind are those
-/// in force at its instant.
+/// them, or the first two. Where the zone is orderly there are at most two, so the offsets give exactly the instants. An
+/// offset's abbreviation and its kind are those in force at its instant.
 pub trait TimeZone {
     /// The kind of its offsets.
     type Offset: Offset;
