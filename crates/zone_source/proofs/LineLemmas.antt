@@ -1,12 +1,14 @@
 -- The lines of a text begin with what stands before its first line feed.
-use Rattle.std.proofs.Common.{Some, None, ◌≡◌, ℕ, suc, ◌-◌, ◌<◌, ◌≤◌, ◌+◌, Bool, true, false, List, [], ◌∷◌, length, map, refl, sym, ap, ◌∙◌, arith}
+use Rattle.std.proofs.Common.{Option, Some, None, ◌≡◌, ℕ, suc, ◌-◌, ◌<◌, ◌≤◌, ◌+◌, Bool, true, false, List, [], ◌∷◌, length, map, refl, sym, ap, ◌∙◌, arith}
 use Rattle.std.proofs.lemmas.Bool.{ltb-true, ltb-false}
 use Rattle.std.proofs.lemmas.List.{take_all, drop_all, length-map}
 use Rattle.std.proofs.lemmas.List.Splits.{slice_split_first, slice_split-cons_no, length-slice_split}
 use Rattle.std.specs.Prelude.{nat_lt, cond, not}
-use Rattle.std.proofs.lemmas.Option.{none-some}
-use Rattle.std.proofs.lemmas.List.Sums.{prefix_len-le-length}
-use Rattle.std.specs.List.{slice_split, onto_first, position, position_or_len, before_first, after_first}
+use Rattle.std.proofs.lemmas.List.Sums.{position_or_len_is}
+use Rattle.std.proofs.lemmas.Bool.{false_from_ne_true}
+use Rattle.std.specs.Option.{unwrap_or}
+use Rattle.memchr.specs.Find.{IsFirstByte, is_byte}
+use Rattle.std.specs.List.{slice_split, onto_first, position_or_len, before_first, after_first}
 use Rattle.std.specs.Str.Lines.{strip_carriage_return}
 use Rattle.zone_source.specs.Lines.{is_line_feed, without_last_empty, lines_of}
 
@@ -64,14 +66,15 @@ pub no_lines : lines_of [] ≡ []
 unfolding lines_of
 no_lines = refl
 
--- where no line feed is found, its place is the end
-pub place_of_none : (bytes : List ℕ) → position is_line_feed bytes ≡ None → length bytes ≡ position_or_len is_line_feed bytes
-place_of_none bytes = by_place (nat_lt (position_or_len is_line_feed bytes) (length bytes)) refl
-  where
-    by_place : (b : Bool) → nat_lt (position_or_len is_line_feed bytes) (length bytes) ≡ b →
-        cond b (Some (position_or_len is_line_feed bytes)) None ≡ None → length bytes ≡ position_or_len is_line_feed bytes
-    by_place true e none = absurd (none-some _ (sym none))
-    by_place false e none = omega (arith, ltb-false _ _ e, prefix_len-le-length (λ x. not (is_line_feed x)) bytes)
+-- where the first line feed was looked for, the place of it, or the end where there is none
+pub place_found : (bytes : List ℕ) (found : Option ℕ) → IsFirstByte (is_byte 10) bytes found
+    → unwrap_or found (length bytes) ≡ position_or_len is_line_feed bytes
+place_found bytes None nowhere =
+    sym (position_or_len_is is_line_feed bytes (length bytes) 0 (omega arith)
+    (λ k below. false_from_ne_true _ (nowhere k (omega arith) below)) (λ below. absurd (omega (arith, below))))
+place_found bytes (Some place) first =
+    sym (position_or_len_is is_line_feed bytes place 0 (omega (arith, first.0.high))
+    (λ k below. false_from_ne_true _ (first.0.before k (omega arith) below)) (λ _. first.1))
 
 -- the bytes of the pieces, and one for each piece
 sizes : List (List ℕ) → ℕ

@@ -1,8 +1,10 @@
 //! The lines of a text of bytes, lent one by one.
 ghost use Rattle.std.specs.Prelude.{◌≡◌};
-ghost use Rattle.std.specs.List.{before_first, after_first, position, position_or_len};
+ghost use Rattle.std.specs.List.{before_first, after_first, position_or_len};
 ghost use Rattle.std.specs.Str.Lines.{strip_carriage_return};
 ghost use Rattle.zone_source.specs.Lines.{is_line_feed, lines_of};
+
+use memchr::memchr;
 
 /// The lines of a text: cut at each LF, a last empty piece left out, one CR at the end of a piece dropped.
 #[derive(Drop)]
@@ -59,20 +61,10 @@ fn first_piece(text: &[u8]) -> (&[u8], &[u8])
 }
 
 /// The place of the first LF, or the length where there is none.
-#[tactic(auto, using(crate::proofs::LineLemmas::place_of_none))]
 fn line_end(text: &[u8]) -> usize
     ensures { result ≡ position_or_len is_line_feed text.now }
 {
-    match line_feed(text) {
-        Some(place) => place,
-        None => text.len(),
-    }
-}
-
-fn line_feed(text: &[u8]) -> Option<usize>
-    ensures { result ≡ position is_line_feed text.now }
-{
-    text.iter().position(|byte| *byte == b'\n')
+    memchr(b'\n', text).unwrap_or(text.len())
 }
 
 fn without_carriage_return(line: &[u8]) -> &[u8]
