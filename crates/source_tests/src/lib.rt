@@ -1,5 +1,5 @@
 //! Tests of all that begins with source text, from outside the crates: lines and their faults, tables, schedules, the database of
-//! zones, compact forms, POSIX strings over a database, daily alarms, and whole runs over objects in memory and over made texts.
+//! zones, compact forms, POSIX strings over a database, daily alarms, listings, and whole runs over objects in memory and over made texts.
 #![tactic(auto)]
 
 #[cfg(test)]
@@ -16,6 +16,8 @@ mod fixtures;
 mod generated;
 #[cfg(test)]
 mod lines;
+#[cfg(test)]
+mod lists;
 #[cfg(test)]
 mod posix;
 #[cfg(test)]

@@ -147,7 +147,7 @@ fn calls_of(rt: &impl Abort, alloc: Global, calls: &[u64]) -> Vec<u64> {
 }
 
 /// A shelf of one file.
-fn shelf_of(
+pub(crate) fn shelf_of(
     rt: &impl Abort,
     alloc: Global,
     given: &Given<'_>,
@@ -177,7 +177,7 @@ fn input_of(
     MemSource::new(requests, step, calls_of(rt, alloc, failing))
 }
 
-fn sink_of(rt: &impl Abort, alloc: Global, step: usize, failing: &[u64]) -> MemSink
+pub(crate) fn sink_of(rt: &impl Abort, alloc: Global, step: usize, failing: &[u64]) -> MemSink
     requires { 0 < step }
 {
     MemSink::new(alloc, ROOM, step, calls_of(rt, alloc, failing)).expect(rt, "memory")
