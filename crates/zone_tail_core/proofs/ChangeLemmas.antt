@@ -1,0 +1,173 @@
+-- The changes that come at a local second of the last year come there.
+use Rattle.std.proofs.Common.{◌≡◌, ℕ, ◌+◌, ◌-◌, ◌*◌, ◌/◌, ◌%◌, ◌<◌, ◌≤◌, Bool, true, false, cond, ◌++◌, [], ◌∷◌, length, map, nat_eq, nat_le, nat_lt, eq-eqb, All, ℤ, pos, ◌+ℤ◌, ◌-ℤ◌, ◌*ℤ◌, ◌≤ℤ◌, ◌<ℤ◌, unsigned_abs, refl, sym, ap, ◌∙◌, subst, arith}
+use Rattle.std.specs.Int.{int_div_euclid, int_rem_euclid}
+use Rattle.std.proofs.lemmas.Bool.Decides.{nat_tests}
+use Rattle.std.proofs.lemmas.List.{length-map}
+use Rattle.std.proofs.lemmas.List.Elements.{All-append, All-cons, All-map, All-nil, All-weaker}
+use Rattle.calendar.specs.Dates.{last_with, year_of, month_of, day_of}
+use Rattle.calendar.specs.DateLaws.{last_with-is, place_of, day_parts, year-between}
+use Rattle.calendar.specs.Days.{day, days_in_month, is_leap, days_in_year, days_after_zero, year_start, days_through, days_into_year, IsCountedYear, IsDate}
+use Rattle.calendar.specs.MonthLaws.{days_in_month-bounds}
+use Rattle.calendar.specs.Signs.{signed, floored}
+use Rattle.calendar.specs.Weekdays.{weekday_of}
+use Rattle.calendar.specs.YearLaws.{day-cycle}
+use Rattle.tz_posix.specs.Days.{nth_weekday, rule_day}
+use Rattle.tz_posix.specs.InForce.{instant_in}
+use Rattle.tz_posix.specs.Ranges.{is_rule_date}
+use Rattle.tz_posix.specs.declared.date.Date.TheVariants.{M}
+use Rattle.zone_tail_core.specs.Changes.{change_with, changes_at, weeks}
+use Rattle.zone_tail_core.specs.LastYear.{year_begin, year_end}
+use Rattle.zone_tail_core.specs.Rules.{IsChange, time_of}
+use Rattle.zone_tail_core.specs.declared.rule.Change.{Change}
+use Rattle.zone_tail_core.proofs.TotalLemmas.{day-2099}
+
+weekday_of-small : (k : ℤ) → weekday_of k < 7
+unfolding weekday_of
+weekday_of-small k = omega (arith, signed, floored (k +ℤ pos 4) 7)
+
+weekday_of-later : (k : ℤ) (n : ℕ) → weekday_of (k +ℤ pos n) ≡ (weekday_of k + n) % 7
+unfolding weekday_of
+weekday_of-later k n = omega (arith, signed, floored (k +ℤ pos 4) 7, floored (k +ℤ pos n +ℤ pos 4) 7)
+
+day_after : (y : ℤ) (m i j : ℕ) → IsCountedYear y → 1 ≤ i → i ≤ j → day y m j ≡ day y m i +ℤ pos (j - i)
+day_after y m i j years some later =
+    let n = unsigned_abs (y +ℤ pos 11999) in
+    let here = place_of y years in
+    omega (arith, signed, day-cycle y m i n here, day-cycle y m j n here)
+
+-- none of the six days after a day has its weekday
+other_weekday : (y : ℤ) (m i j : ℕ) → IsCountedYear y → 1 ≤ i → i < j → j < i + 7 → nat_eq (weekday_of (day y m j)) (weekday_of (day y m i)) ≡ false
+other_weekday y m i j years some above near =
+    let small = weekday_of-small (day y m i) in
+    let is : weekday_of (day y m j) ≡ (weekday_of (day y m i) + (j - i)) % 7 =
+    ap weekday_of (day_after y m i j years some (omega arith)) ∙ weekday_of-later (day y m i) (j - i) in
+    rw is (grind (arith, nat_tests, small))
+
+-- so it is the last one with its weekday up to six days later
+last_with_weekday : (y : ℤ) (m l i : ℕ) → IsCountedYear y → 1 ≤ i → i ≤ l → l < i + 7
+    → last_with (λ d. nat_eq (weekday_of (day y m d)) (weekday_of (day y m i))) l ≡ i
+last_with_weekday y m l i years some high near =
+    last_with-is (λ d. nat_eq (weekday_of (day y m d)) (weekday_of (day y m i))) l i high
+    (λ _. eq-eqb _ _ refl)
+    (λ j above last. other_weekday y m i j years some above (omega arith))
+
+-- the week n names the day d
+record Names (y : ℤ) (m d n : ℕ) : Type 0 where
+  pub nth : nth_weekday y m n (weekday_of (day y m d)) ≡ d
+  pub first : 1 ≤ n
+  pub last : n ≤ 5
+
+fifth : (y : ℤ) (m d : ℕ) → IsCountedYear y → IsDate y m d → days_in_month y m < d + 7 → Names y m d 5
+unfolding nth_weekday
+fifth y m d years date short = record {
+  nth = last_with_weekday y m (days_in_month y m) d years date.first_day date.last_day short;
+  first = omega arith;
+  last = omega arith;
+}
+
+counted_week : (y : ℤ) (m d n : ℕ) → IsCountedYear y → IsDate y m d → n ≡ (d + 6) / 7 → n ≤ 4 → Names y m d n
+unfolding nth_weekday
+counted_week y m d n years date is few =
+    let some = date.first_day in
+    let plain : nat_eq n 5 ≡ false = grind (arith, nat_tests) in
+    record {
+      nth = rw plain (last_with_weekday y m (7 * n) d years some (omega arith) (omega arith));
+      first = omega arith;
+      last = omega arith;
+    }
+
+all_weeks : (y : ℤ) (m d : ℕ) → IsCountedYear y → IsDate y m d → All (Names y m d) (weeks (days_in_month y m) d)
+all_weeks y m d years date =
+    All-append (Names y m d) _ _
+    (by_fifth (nat_lt (days_in_month y m) (d + 7)) (λ h. fifth y m d years date (grind (arith, nat_tests))))
+    (by_count (nat_le ((d + 6) / 7) 4) (λ h. counted_week y m d ((d + 6) / 7) years date refl (grind (arith, nat_tests))))
+  where
+    by_fifth : (b : Bool) → (b ≡ true → Names y m d 5) → All (Names y m d) (cond b (5 ∷ []) [])
+    by_fifth true h = All-cons (Names y m d) 5 [] (h refl) (All-nil (Names y m d))
+    by_fifth false h = All-nil (Names y m d)
+
+    by_count : (b : Bool) → (b ≡ true → Names y m d ((d + 6) / 7)) → All (Names y m d) (cond b ((d + 6) / 7 ∷ []) [])
+    by_count true h = All-cons (Names y m d) ((d + 6) / 7) [] (h refl) (All-nil (Names y m d))
+    by_count false h = All-nil (Names y m d)
+
+-- a change that comes at a local second of the last year
+pub record Comes (local : ℤ) (change : Change) : Type 0 where
+  pub sound : IsChange change
+  pub instant : (offset : ℤ) → instant_in (pos 2099) offset (time_of change) ≡ local -ℤ offset
+
+rule_date : (m n d : ℕ) → 1 ≤ m → m ≤ 12 → 1 ≤ n → n ≤ 5 → d < 7 → is_rule_date (M m n d) ≡ true
+rule_date m n d a b c e f = grind (arith, nat_tests)
+
+day-end : day (pos 2099) 12 31 ≡ pos 47481
+unfolding is_leap days_in_year days_in_month days_after_zero year_start days_through days_into_year day
+day-end = refl
+
+last_counted : IsCountedYear (pos 2099)
+last_counted = record { first = omega (arith, signed); last = omega (arith, signed) }
+
+-- the date of a day of the last year
+record IsDated (k : ℤ) : Type 0 where
+  pub year : year_of k ≡ pos 2099
+  pub date : IsDate (pos 2099) (month_of k) (day_of k)
+  pub number : day (pos 2099) (month_of k) (day_of k) ≡ k
+
+dated : (k : ℤ) → pos 47117 ≤ℤ k → k ≤ℤ pos 47481 → IsDated k
+dated k low high =
+    let parts = day_parts k (omega (arith, signed)) (omega (arith, signed)) in
+    let number = parts.1.number in
+    let within = year-between (year_of k) (month_of k) (day_of k) (pos 2099) (pos 2099) parts.0 last_counted last_counted parts.1.date
+    (omega (arith, signed, day-2099, number)) (omega (arith, signed, day-end, number)) in
+    let year : year_of k ≡ pos 2099 = omega (arith, signed, within.0, within.1) in
+    record {
+      year = year;
+      date = subst (λ y. IsDate y (month_of k) (day_of k)) year parts.1.date;
+      number = subst (λ y. day y (month_of k) (day_of k) ≡ k) year number;
+    }
+
+comes : (local k : ℤ) (second n : ℕ) → IsDated k → local ≡ pos 86400 *ℤ k +ℤ pos second → second < 86400 → Names (pos 2099) (month_of k) (day_of k) n
+    → Comes local (change_with k second n)
+unfolding instant_in rule_day
+comes local k second n at is few names =
+    let week = ap weekday_of at.number in
+    let nth : nth_weekday (pos 2099) (month_of k) n (weekday_of k) ≡ day_of k = ap (nth_weekday (pos 2099) (month_of k) n) (sym week) ∙ names.nth in
+    record {
+      sound = record {
+        date = rule_date (month_of k) n (weekday_of k) at.date.first_month at.date.last_month names.first names.last (weekday_of-small k);
+        second = few;
+      };
+      instant = λ offset. by_day offset (day (pos 2099) (month_of k) (nth_weekday (pos 2099) (month_of k) n (weekday_of k))) (ap (day (pos 2099) (month_of k)) nth ∙ at.number);
+    }
+  where
+    by_day : (offset d : ℤ) → d ≡ k → pos 86400 *ℤ d +ℤ pos second -ℤ offset ≡ local -ℤ offset
+    by_day offset d e = omega (arith, signed, e, is)
+
+pub all_come : (local : ℤ) → year_begin ≤ℤ local → local <ℤ year_end → All (Comes local) (changes_at local)
+unfolding changes_at
+all_come local low high =
+    let k = int_div_euclid local (pos 86400) in
+    let second = unsigned_abs (int_rem_euclid local (pos 86400)) in
+    let parts = floored local 86400 (omega arith) in
+    let at = dated k (omega (arith, signed, parts.0, parts.1, parts.2, low)) (omega (arith, signed, parts.0, parts.1, parts.2, high)) in
+    let all = all_weeks (pos 2099) (month_of k) (day_of k) last_counted at.date in
+    subst (λ y. All (Comes local) (map (change_with k second) (weeks (days_in_month y (month_of k)) (day_of k)))) (sym at.year)
+    (All-map (Comes local) (change_with k second) _ (All-weaker (Names (pos 2099) (month_of k) (day_of k)) (λ n. Comes local (change_with k second n)) (λ n names. comes local k second n at (omega (arith, signed, parts.0, parts.1, parts.2)) (omega (arith, signed, parts.1, parts.2)) names) _ all))
+
+-- there is one
+weeks_some : (days d : ℕ) → 1 ≤ d → d ≤ days → days ≤ 31 → 0 < length (weeks days d)
+weeks_some days d first last few = by_tests (nat_lt days (d + 7)) (nat_le ((d + 6) / 7) 4) refl refl
+  where
+    by_tests : (b c : Bool) → nat_lt days (d + 7) ≡ b → nat_le ((d + 6) / 7) 4 ≡ c → 0 < length (cond b (5 ∷ []) [] ++ cond c ((d + 6) / 7 ∷ []) [])
+    by_tests true c h k = omega arith
+    by_tests false true h k = omega arith
+    by_tests false false h k = absurd (grind (arith, nat_tests))
+
+pub changes_some : (local : ℤ) → year_begin ≤ℤ local → local <ℤ year_end → 0 < length (changes_at local)
+unfolding changes_at
+changes_some local low high =
+    let k = int_div_euclid local (pos 86400) in
+    let second = unsigned_abs (int_rem_euclid local (pos 86400)) in
+    let parts = floored local 86400 (omega arith) in
+    let at = dated k (omega (arith, signed, parts.0, parts.1, parts.2, low)) (omega (arith, signed, parts.0, parts.1, parts.2, high)) in
+    let some = weeks_some (days_in_month (pos 2099) (month_of k)) (day_of k) at.date.first_day at.date.last_day (days_in_month-bounds (pos 2099) (month_of k)).1 in
+    let all = subst (λ y. 0 < length (weeks (days_in_month y (month_of k)) (day_of k))) (sym at.year) some in
+    omega (arith, all, length-map (weeks (days_in_month (year_of k) (month_of k)) (day_of k)) (change_with k second))

@@ -1,0 +1,78 @@
+-- Worked rows: the forms of last years, and the first cause.
+use Rattle.std.proofs.Common.{◌≡◌, ℕ, List, [], ◌∷◌, map, Some, None, refl, ℤ, pos, neg_ℤ, ◌*ℤ◌}
+use Rattle.std.specs.Prelude.{codes}
+use Rattle.calendar.specs.Days.{day, days_after_zero, days_before_zero, days_in_month, days_in_year, days_into_year, days_through, is_leap, year_start}
+use Rattle.zone_spans.specs.Entries.{Entry}
+use Rattle.zone_spans.specs.declared.span.FixedTimespan.{FixedTimespan}
+use Rattle.tz_zone.specs.declared.set.FixedTimespanSet.{FixedTimespanSet}
+use Rattle.zone_tail_core.specs.Candidates.{year_1800}
+use Rattle.zone_tail_core.specs.LastYear.{steady, yearly, other, form, standard_of, year_begin, year_end}
+use Rattle.zone_tail_core.specs.Tails.{end_of_last_year, tail_fault}
+use Rattle.zone_tail_core.specs.declared.outcome.TailFault.TheVariants.{Shape, OffsetRange, Name}
+
+abbrev span : ℤ → ℤ → List ℕ → FixedTimespan
+span offset saving name = record { utc_offset = offset; dst_offset = saving; name = name }
+
+abbrev with : FixedTimespan → List Entry → FixedTimespanSet
+with first others = record { name = []; first = first; others = others }
+
+abbrev spring : ℤ
+spring = pos 4077000000
+
+abbrev autumn : ℤ
+autumn = pos 4095000000
+
+abbrev standard : ℤ → Entry
+standard time = (time, span (pos 3600) (pos 0) (codes "CET"))
+
+abbrev saving : ℤ → Entry
+saving time = (time, span (pos 3600) (pos 3600) (codes "CEST"))
+
+abbrev year : List Entry → FixedTimespanSet
+year others = with (span (pos 0) (pos 0) (codes "UTC")) others
+
+-- no entry of 2099 by standard time; the last second before it, and the first of it
+steady_years : map form (year [] ∷ year (standard (pos 4070905199) ∷ []) ∷ year (standard (pos 4070905200) ∷ []) ∷ [])
+    ≡ steady (span (pos 0) (pos 0) (codes "UTC")) ∷ steady (span (pos 3600) (pos 0) (codes "CET")) ∷ other ∷ []
+unfolding form standard_of
+steady_years = refl
+
+-- a start and an end, in either order, and no third entry
+yearly_years : map form (year (saving spring ∷ standard autumn ∷ []) ∷ year (standard spring ∷ saving autumn ∷ []) ∷ year (saving spring ∷ saving autumn ∷ [])
+    ∷ year (standard spring ∷ standard autumn ∷ []) ∷ year (saving spring ∷ standard spring ∷ []) ∷ year (saving spring ∷ standard autumn ∷ saving autumn ∷ []) ∷ [])
+    ≡ yearly (saving spring) (standard autumn) ∷ yearly (saving autumn) (standard spring) ∷ other ∷ other ∷ other ∷ other ∷ []
+unfolding form standard_of
+yearly_years = refl
+
+-- the end lies in the year by clocks of daylight saving time: it may come at 22:59:59 on 31 December, and not a second later
+last_end : map form (year (saving spring ∷ standard (pos 4102437599) ∷ []) ∷ year (saving spring ∷ standard (pos 4102437600) ∷ []) ∷ [])
+    ≡ yearly (saving spring) (standard (pos 4102437599)) ∷ other ∷ []
+unfolding form standard_of
+last_end = refl
+
+-- a saving below 0, and an entry with another standard offset
+other_kinds : map form (year ((spring, span (pos 3600) (neg_ℤ (pos 3600)) (codes "GMT")) ∷ standard autumn ∷ [])
+    ∷ year ((spring, span (pos 0) (pos 7200) (codes "CEST")) ∷ standard autumn ∷ []) ∷ [])
+    ≡ other ∷ other ∷ []
+unfolding form standard_of
+other_kinds = refl
+
+-- the causes, in their order
+causes : map tail_fault (year [] ∷ year (standard (pos 4070905200) ∷ []) ∷ with (span (pos 90000) (pos 0) []) [] ∷ with (span (pos 89999) (pos 0) []) []
+    ∷ year ((spring, span (pos 86399) (pos 3601) (codes "D")) ∷ (autumn, span (pos 86399) (pos 0) []) ∷ [])
+    ∷ year ((spring, span (pos 3600) (pos 3600) (codes "<D>")) ∷ standard autumn ∷ []) ∷ [])
+    ≡ None ∷ Some Shape ∷ Some OffsetRange ∷ Some Name ∷ Some OffsetRange ∷ Some Name ∷ []
+unfolding form standard_of
+causes = refl
+
+-- the seconds of the years are those of the calendar
+year_seconds : map (λ y. pos 86400 *ℤ day y 1 1) (pos 1800 ∷ pos 2099 ∷ pos 2100 ∷ [])
+    ≡ year_1800 ∷ year_begin ∷ year_end ∷ []
+unfolding is_leap days_in_year days_in_month days_after_zero days_before_zero year_start days_through days_into_year day
+year_seconds = refl
+
+-- the last year ends by the set's standard offset
+year_ends : map end_of_last_year (year [] ∷ year (saving spring ∷ standard autumn ∷ []) ∷ year (saving spring ∷ []) ∷ [])
+    ≡ pos 4102444800 ∷ pos 4102441200 ∷ pos 4102441200 ∷ []
+unfolding standard_of
+year_ends = refl

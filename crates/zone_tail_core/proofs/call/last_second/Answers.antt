@@ -1,0 +1,34 @@
+use Rattle.std.proofs.Common.{◌≡◌, ℤ, pos, ◌-ℤ◌, w64, to_z, of_z, to_z-of_z, FitsSigned, rules, sym, subst, ◌∙◌, arith}
+use Rattle.std.proofs.lemmas.Int.{ints}
+use Rattle.zone_tail_core.specs.LastYear.{standard_of, year_end}
+use Rattle.zone_tail_core.specs.Ready.{IsReady}
+use Rattle.zone_tail_core.specs.Rules.{IsSmall}
+use Rattle.zone_tail_core.proofs.ReadyLemmas.{ready_before_entry, ready_far, standard_small, yearly_ready}
+use Rattle.zone_tail_core.proofs.call.last_second.Goals as goal
+
+difference : (o p : ℤ) → FitsSigned w64 o → o ≡ p → IsSmall p → FitsSigned w64 (pos 4102444800 -ℤ to_z w64 (of_z w64 o))
+difference o p fits is small = omega (arith, ints, is, small.least, small.greatest)
+
+difference_is : (o p : ℤ) → FitsSigned w64 o → o ≡ p → IsSmall p → to_z w64 (of_z w64 (pos 4102444800 -ℤ to_z w64 (of_z w64 o))) ≡ year_end -ℤ p
+difference_is o p fits is small = omega (arith, ints, is, small.least, small.greatest)
+
+pub overflow_sub-result : goal.overflow_sub-result
+overflow_sub-result c =
+    let small = standard_small c.args.set.now c.requires.accepted c.in-Yearly.start c.in-Yearly.end (rw c.in-Yearly.is at c.requires.form) in
+    difference c.args.offset (standard_of c.args.set.now) c.ranges.offset c.requires.offset small
+
+pub returns-then-span-entry_count : goal.returns-then-span-entry_count
+returns-then-span-entry_count c =
+    let fits : FitsSigned w64 c.time.result = search rules in
+    ready_before_entry c.args.set.now c.requires.accepted c.in-Steady.span (rw c.in-Steady.is at c.requires.form) _ (omega (arith, c.entry_count.ensures.count)) (to_z-of_z fits ∙ c.time.ensures)
+
+pub returns-else-span-entry_count : goal.returns-else-span-entry_count
+returns-else-span-entry_count c =
+    ready_far c.args.set.now c.requires.accepted c.in-Steady.span (rw c.in-Steady.is at c.requires.form) (omega (arith, c.entry_count.ensures.count))
+
+pub returns-in-Yearly : goal.returns-in-Yearly
+returns-in-Yearly c =
+    let h = rw c.in-Yearly.is at c.requires.form in
+    let small = standard_small c.args.set.now c.requires.accepted c.in-Yearly.start c.in-Yearly.end h in
+    subst (IsReady c.args.set.now) (sym (difference_is c.args.offset (standard_of c.args.set.now) c.ranges.offset c.requires.offset small))
+    (yearly_ready c.args.set.now c.requires.accepted c.in-Yearly.start c.in-Yearly.end h)

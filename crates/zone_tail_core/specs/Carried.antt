@@ -1,0 +1,33 @@
+-- What a set's string is read as, and where it gives the set's offset.
+use Rattle.std.specs.Prelude.{◌≡◌, ℕ, List, Option, Some, None, Ok, ℤ, ◌≤ℤ◌, ◌<ℤ◌}
+use Rattle.civil_base.specs.Instants.{seconds_of}
+use Rattle.zone_spans.specs.Schedules.{total_at}
+use Rattle.tz_zone.specs.Sets.{schedule_of}
+use Rattle.tz_zone.specs.declared.set.FixedTimespanSet.{FixedTimespanSet}
+use Rattle.tz_posix.specs.PosixZones.{Given, Gives, PosixZone, posix_refusal}
+use Rattle.tz_posix.specs.Ranges.{posix_range}
+use Rattle.tz_posix.specs.Resolved.{resolved}
+use Rattle.tz_posix.specs.Spells.{Spells}
+use Rattle.tz_posix.specs.Values.{TzValue}
+use Rattle.zone_tail_core.specs.Tails.{end_of_last_year}
+
+-- at or after the second from which on a string says the same; none stands for the beginning of time
+abbrev pub IsFrom : Option ℤ → ℤ → Type 0
+IsFrom None second = Unit {0}
+IsFrom (Some from) second = from ≤ℤ second
+
+-- an instant of the span of time that a string carries a set on through
+pub record IsCovered (set : FixedTimespanSet) (from : Option ℤ) (t : ℤ) : Type 0 where
+  pub begun : IsFrom from (seconds_of t)
+  pub not_over : seconds_of t <ℤ end_of_last_year set
+
+-- a text spells a value whose parts are in their ranges and which stands for the same time zone over every database; at each of these
+-- instants that zone refuses nothing, and gives the set's offset alone
+pub record CarriesOn (set : FixedTimespanSet) (from : Option ℤ) (text : List ℕ) : Type 0 where
+  pub value : TzValue
+  pub zone : PosixZone
+  pub spelled : Spells text value
+  pub in_range : posix_range value ≡ None
+  pub stands_for : (zones : List FixedTimespanSet) → resolved zones value ≡ Ok zone
+  pub accepts : (t : ℤ) → IsCovered set from t → posix_refusal zone t ≡ None
+  pub agrees : (t : ℤ) (given : Given) → IsCovered set from t → Gives zone t given → given.total ≡ total_at (schedule_of set) t

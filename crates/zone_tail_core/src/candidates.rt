@@ -1,0 +1,116 @@
+//! The candidates of a set.
+ghost use Rattle.std.specs.Prelude.{◌≡◌, ◌++◌, ◌∷◌, [], OnOk, IfOk, map, None};
+ghost use Rattle.tz_zone.specs.Sets.{IsAccepted, schedule_of};
+ghost use Rattle.zone_tail_core.specs.Changes.{changes_shown};
+ghost use Rattle.zone_tail_core.specs.LastYear.{standard_of};
+ghost use Rattle.zone_tail_core.specs.Shapes.{IsForm};
+ghost use Rattle.zone_tail_core.specs.Tails.{candidates, rule_with, rules_with, tail_fault};
+ghost use Rattle.zone_tail_core.specs.declared.candidate.Candidate.TheVariants.{Ruled};
+ghost use Rattle.zone_tail_core.specs.declared.last_year.Form.TheVariants.{Yearly};
+
+use crate::candidate::Candidate;
+use crate::changes::{Changes, changes_at};
+use crate::last_year::Form;
+use crate::rule::{Change, YearlyRule};
+use crate::spans::{entry, total_of};
+use std::alloc::{AllocError, Global};
+use tz_lookup::FixedTimespanSet;
+
+/// What may stand for the tail of a set, in order.
+pub(crate) fn candidates_of(
+    alloc: Global,
+    set: &FixedTimespanSet,
+    form: &Form,
+    offset: i64,
+) -> Result<Vec<Candidate>, AllocError>
+    requires accepted { IsAccepted (schedule_of set.now) }
+    requires offset { offset ≡ standard_of set.now }
+    requires form { IsForm set.now form.now }
+    requires none { tail_fault set.now ≡ None }
+    ensures { IfOk result (λ list. list.items ≡ candidates set.now) }
+{
+    match form {
+        Form::Steady(span) => {
+            let mut list = Vec::new(alloc);
+            list.push(Candidate::Fixed(total_of(set, *span)))?;
+            Ok(list)
+        }
+        Form::Yearly { start, end } => yearly_candidates(alloc, set, *start, *end, offset),
+        Form::Other => unreachable!(),
+    }
+}
+
+/// Those of a yearly set, by its entries.
+fn yearly_candidates(
+    alloc: Global,
+    set: &FixedTimespanSet,
+    start: usize,
+    end: usize,
+    offset: i64,
+) -> Result<Vec<Candidate>, AllocError>
+    requires accepted { IsAccepted (schedule_of set.now) }
+    requires offset { offset ≡ standard_of set.now }
+    requires form { IsForm set.now (Yearly start end) }
+    ensures { IfOk result (λ list. list.items ≡ candidates set.now) }
+{
+    let saving = total_of(set, start + 1);
+    let starts = changes_at(entry(set, start).0 + offset);
+    let ends = changes_at(entry(set, end).0 + saving);
+    rules(alloc, offset, saving, &starts, &ends)
+}
+
+/// The rules of each start with each end.
+fn rules(
+    alloc: Global,
+    standard: i64,
+    saving: i64,
+    starts: &Changes,
+    ends: &Changes,
+) -> Result<Vec<Candidate>, AllocError>
+    ensures { IfOk result (λ list. list.items ≡ rules_with standard saving (changes_shown starts.now) (changes_shown ends.now)) }
+{
+    let mut list = Vec::new(alloc);
+    add_rules(&mut list, standard, saving, &starts.first, ends)?;
+    match &starts.other {
+        Some(start) => add_rules(&mut list, standard, saving, start, ends)?,
+        None => {}
+    }
+    Ok(list)
+}
+
+/// Adds the rules of one start with each end.
+fn add_rules(
+    list: &mut Vec<Candidate>,
+    standard: i64,
+    saving: i64,
+    start: &Change,
+    ends: &Changes,
+) -> Result<(), AllocError>
+    ensures { OnOk result (list.new.items ≡ list.old.items ++ map (λ end. Ruled (rule_with standard saving start.now end)) (changes_shown ends.now)) }
+{
+    match &ends.other {
+        Some(end) => {
+            add_rule(list, standard, saving, start, &ends.first)?;
+            add_rule(list, standard, saving, start, end)
+        }
+        None => add_rule(list, standard, saving, start, &ends.first),
+    }
+}
+
+fn add_rule(
+    list: &mut Vec<Candidate>,
+    standard: i64,
+    saving: i64,
+    start: &Change,
+    end: &Change,
+) -> Result<(), AllocError>
+    ensures { OnOk result (list.new.items ≡ list.old.items ++ Ruled (rule_with standard saving start.now end.now) ∷ []) }
+{
+    list.push(Candidate::Ruled(YearlyRule {
+        standard,
+        saving,
+        start: *start,
+        end: *end,
+    }))?;
+    Ok(())
+}

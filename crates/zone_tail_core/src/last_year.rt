@@ -1,0 +1,165 @@
+//! The last year of a set, 2099 by its own clocks of standard time.
+ghost use Rattle.std.specs.Prelude.{◌≡◌, ◌↔◌, ◌<◌, IsTrue, length, int_lt, pos, ◌+ℤ◌, ◌-ℤ◌, ◌<ℤ◌, ◌≤ℤ◌};
+ghost use Rattle.zone_spans.specs.Entries.{total};
+ghost use Rattle.tz_zone.specs.Sets.{IsAccepted, IsSpanTime, schedule_of, shifts_of};
+ghost use Rattle.zone_tail_core.specs.LastYear.{are_start_and_end, is_end, is_start, standard_of, year_begin, year_end};
+ghost use Rattle.zone_tail_core.specs.Shapes.{entry_in, IsForm, IsShape};
+ghost use Rattle.zone_tail_core.specs.Totals.{IsCount};
+ghost use Rattle.zone_tail_core.specs.declared.last_year.Shape.TheVariants.{Pair};
+
+use crate::spans::{entry, total_of};
+use tz_lookup::{FixedTimespan, FixedTimespanSet, SpanTable};
+
+/// 2099-01-01 00:00:00 and 2100-01-01 00:00:00, in seconds from 1970-01-01 00:00:00.
+const YEAR_BEGIN: i64 = 4_070_908_800;
+
+pub(crate) const YEAR_END: i64 = 4_102_444_800;
+
+/// Further than any entry, 2^41 seconds.
+const FAR: i64 = 1 << 41;
+
+/// What the last year of a set has.
+#[derive(Clone, Copy, Debug, PartialEq, Eq)]
+pub(crate) enum Form {
+    /// No entry; the span that is in force.
+    Steady(usize),
+    /// The entry with which daylight saving time starts, and the one with which it ends.
+    Yearly { start: usize, end: usize },
+    Other,
+}
+
+/// What the entries of a time are.
+#[derive(Clone, Copy, Debug, PartialEq, Eq)]
+enum Shape {
+    /// None; the span that is in force.
+    Steady(usize),
+    /// Two of different times.
+    Pair(usize, usize),
+    Other,
+}
+
+/// Whether a second lies before a local one, by clocks so many seconds ahead of UTC.
+fn is_before(second: i64, local: i64, offset: i64) -> bool
+    requires second { IsSpanTime second }
+    requires least { pos 0 ≤ℤ local }
+    requires greatest { local ≤ℤ pos 5_000_000_000 }
+    ensures { IsTrue result ↔ (second <ℤ (local -ℤ offset)) }
+{
+    if offset > FAR {
+        false
+    } else if offset < -FAR {
+        true
+    } else {
+        second + offset < local
+    }
+}
+
+/// How many entries lie before a local second, by clocks so many seconds ahead of UTC.
+fn entries_before(set: &FixedTimespanSet, local: i64, offset: i64) -> usize
+    requires accepted { IsAccepted (schedule_of set.now) }
+    requires least { pos 0 ≤ℤ local }
+    requires greatest { local ≤ℤ pos 5_000_000_000 }
+    ensures { IsCount (shifts_of set.now) (local -ℤ offset) result }
+{
+    for i in 0..set.entry_count() {
+        if !is_before(set.time(i), local, offset) {
+            return i;
+        }
+    }
+    set.entry_count()
+}
+
+/// The standard offset in force at the beginning of 2100 in UTC.
+pub(crate) fn standard_of(set: &FixedTimespanSet) -> i64
+    requires accepted { IsAccepted (schedule_of set.now) }
+    ensures { result ≡ standard_of set.now }
+{
+    set.span_at(entries_before(set, YEAR_END + 1, 0)).utc_offset
+}
+
+/// What the entries of the last year are, by its standard offset.
+fn shape_of(set: &FixedTimespanSet, offset: i64) -> Shape
+    requires accepted { IsAccepted (schedule_of set.now) }
+    ensures { IsShape set.now (year_begin -ℤ offset) (year_end -ℤ offset) result }
+{
+    let begin = entries_before(set, YEAR_BEGIN, offset);
+    let end = entries_before(set, YEAR_END, offset);
+    if begin >= end {
+        Shape::Steady(begin)
+    } else if end - begin == 2 && set.time(begin) < set.time(begin + 1) {
+        Shape::Pair(begin, begin + 1)
+    } else {
+        Shape::Other
+    }
+}
+
+fn is_start(offset: i64, span: &FixedTimespan) -> bool
+    ensures { result ≡ is_start offset span.now }
+{
+    span.utc_offset == offset && 0 < span.dst_offset
+}
+
+fn is_end(offset: i64, span: &FixedTimespan) -> bool
+    ensures { result ≡ is_end offset span.now }
+{
+    span.utc_offset == offset && span.dst_offset == 0
+}
+
+/// Whether daylight saving time ends with an entry in the year, by its clocks.
+fn ends_in_year(set: &FixedTimespanSet, start: usize, end: usize) -> bool
+    requires accepted { IsAccepted (schedule_of set.now) }
+    requires start { start < length set.now.others }
+    requires end { end < length set.now.others }
+    requires bound { start < 18446744073709551615 }
+    ensures { result ≡ int_lt ((entry_in set.now end).0 +ℤ total (entry_in set.now start).1) year_end }
+{
+    set.time(end) + total_of(set, start + 1) < YEAR_END
+}
+
+/// Whether daylight saving time starts with one entry and ends with another.
+fn are_start_and_end(set: &FixedTimespanSet, offset: i64, start: usize, end: usize) -> bool
+    requires accepted { IsAccepted (schedule_of set.now) }
+    requires start { start < length set.now.others }
+    requires end { end < length set.now.others }
+    requires start_bound { start < 18446744073709551615 }
+    ensures { result ≡ are_start_and_end offset (entry_in set.now start) (entry_in set.now end) }
+{
+    is_start(offset, &entry(set, start).1)
+        && is_end(offset, &entry(set, end).1)
+        && ends_in_year(set, start, end)
+}
+
+/// What two entries of the last year are.
+fn form_of_pair(set: &FixedTimespanSet, offset: i64, first: usize, second: usize) -> Form
+    requires accepted { IsAccepted (schedule_of set.now) }
+    requires offset { offset ≡ standard_of set.now }
+    requires shape { IsShape set.now (year_begin -ℤ offset) (year_end -ℤ offset) (Pair first second) }
+    ensures { IsForm set.now result }
+{
+    if are_start_and_end(set, offset, first, second) {
+        Form::Yearly {
+            start: first,
+            end: second,
+        }
+    } else if are_start_and_end(set, offset, second, first) {
+        Form::Yearly {
+            start: second,
+            end: first,
+        }
+    } else {
+        Form::Other
+    }
+}
+
+/// What the last year of a set has, by its standard offset.
+pub(crate) fn form_of(set: &FixedTimespanSet, offset: i64) -> Form
+    requires accepted { IsAccepted (schedule_of set.now) }
+    requires offset { offset ≡ standard_of set.now }
+    ensures { IsForm set.now result }
+{
+    match shape_of(set, offset) {
+        Shape::Steady(span) => Form::Steady(span),
+        Shape::Pair(first, second) => form_of_pair(set, offset, first, second),
+        Shape::Other => Form::Other,
+    }
+}
