@@ -1,0 +1,86 @@
+//! The program: its words, its answer, its run.
+ghost use Rattle.std.specs.Prelude.{◌≡◌, ◌≢◌, ◌↔◌, ◌<◌, ◌≤◌, length, codes, IfSome, IsNone};
+ghost use Rattle.std.specs.Option.{ForSome};
+ghost use Rattle.zone_run.specs.Causes.{cause};
+ghost use Rattle.zone_run.specs.Ends.{Ends, EndsBy, IsPastLimit, seen};
+ghost use Rattle.zone_run.specs.Tasks.{task_of};
+ghost use Rattle.zone_tail.specs.Asks.{asks, form};
+
+use crate::line::line_of;
+use std::alloc::Global;
+use tz_lookup::FixedTimespanSet;
+use zone_line::LineParser;
+use zone_run::{
+    Refusal, Shelf, Sink, Status, SureShelf, SureSink, ZoneProgram, run_program, run_program_surely,
+};
+use zone_source::LIMIT;
+use zone_tail_core::laws::one_tail;
+use zone_tail_core::{TailFault, tail};
+
+/// The string that carries a zone on. There is nothing more to ask.
+#[derive(Clone, Copy, Debug, PartialEq, Eq)]
+struct Carried;
+
+impl ZoneProgram for Carried {
+    ghost label = { codes "tail" };
+
+    ghost form = { form };
+
+    ghost asked = { λ _. asks };
+
+    fn label() -> &'static str {
+        "tail"
+    }
+
+    fn read(words: &[String]) -> Option<Carried> {
+        match words {
+            [] => Some(Carried),
+            _ => None,
+        }
+    }
+
+    fn answer(&self, alloc: Global, set: &FixedTimespanSet) -> Result<Vec<u8>, Refusal> {
+        one_tail();
+        match tail(alloc, set) {
+            Ok(tail) => Ok(line_of(alloc, &tail)?),
+            Err(TailFault::Shape) => Err(Refusal::Cause("shape")),
+            Err(TailFault::OffsetRange) => Err(Refusal::Cause("range")),
+            Err(TailFault::Name) => Err(Refusal::Cause("name")),
+            Err(TailFault::NoMemory) => Err(Refusal::NoMemory),
+        }
+    }
+}
+
+/// Writes the POSIX TZ string that carries a zone on, after the second from which on it agrees, or `all`; or the line of the first
+/// cause. The words are FILE and NAME. What each status says is told field by field by `Ends`.
+pub fn run_tail<H: Shelf, O: Sink>(
+    alloc: Global,
+    parser: &LineParser,
+    words: &[String],
+    shelf: &mut H,
+    output: &mut O,
+) -> Status
+    requires { ForSome (task_of form words.now) (λ task. H.open_to shelf.old task.file) }
+    ensures { Ends (codes "tail") (task_of form words.now)
+        (seen H.Source O.Sink shelf.old output.old) (seen H.Source O.Sink shelf.new output.new) result }
+{
+    run_program::<Carried, H, O>(alloc, parser, words, shelf, output)
+}
+
+/// A run over objects that never fail. It ends neither for a failed read nor for a failed write: by the words, the cause
+/// and the length alone, or for want of memory.
+pub fn run_tail_surely(
+    alloc: Global,
+    parser: &LineParser,
+    words: &[String],
+    shelf: &mut SureShelf,
+    output: &mut SureSink,
+) -> Status
+    ensures read { result ≢ Status.Read }
+    ensures write { result ≢ Status.Write }
+    ensures words { (result ≡ Status.Words) ↔ IsNone (task_of form words.now) }
+    ensures complete { IfSome (task_of form words.now) (λ task. length shelf.old.bytes ≤ LIMIT → EndsBy (cause task shelf.old.bytes) result) }
+    ensures past_limit { IfSome (task_of form words.now) (λ task. LIMIT < length shelf.old.bytes → IsPastLimit result) }
+{
+    run_program_surely::<Carried>(alloc, parser, words, shelf, output)
+}
