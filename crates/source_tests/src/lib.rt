@@ -1,5 +1,6 @@
 //! Tests of all that begins with source text, from outside the crates: lines and their faults, tables, schedules, the database of
-//! zones, compact forms, POSIX strings over a database, daily alarms, listings, and whole runs over objects in memory and over made texts.
+//! zones, compact forms, POSIX strings over a database, daily alarms, listings, strings for the tails of zones, and whole runs over
+//! objects in memory and over made texts.
 #![tactic(auto)]
 
 #[cfg(test)]
@@ -26,3 +27,5 @@ mod runs;
 mod schedules;
 #[cfg(test)]
 mod source;
+#[cfg(test)]
+mod tails;

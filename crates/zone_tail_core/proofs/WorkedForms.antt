@@ -76,3 +76,10 @@ year_ends : map end_of_last_year (year [] ∷ year (saving spring ∷ standard a
     ≡ pos 4102444800 ∷ pos 4102441200 ∷ pos 4102441200 ∷ []
 unfolding standard_of
 year_ends = refl
+
+-- the standard offset is that in force as 2100 begins in UTC: an entry at that second counts, one a second later doesn't
+standards : map standard_of (year ((pos 4102444800, span (pos 7200) (pos 0) []) ∷ []) ∷ year ((pos 4102444801, span (pos 7200) (pos 0) []) ∷ [])
+    ∷ year (standard spring ∷ saving autumn ∷ []) ∷ [])
+    ≡ pos 7200 ∷ pos 0 ∷ pos 3600 ∷ []
+unfolding standard_of
+standards = refl
