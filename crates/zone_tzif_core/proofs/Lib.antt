@@ -1,0 +1,15 @@
+mod AgainLemmas
+mod CheckLemmas
+mod DistinctLemmas
+mod ExactLemmas
+mod FoundLemmas
+mod JoinedLemmas
+mod LoopLemmas
+mod NameLemmas
+mod ProfileLemmas
+mod PutLemmas
+mod TextLemmas
+mod WorkedFaults
+mod WorkedFiles
+mod WorkedReads
+mod WrittenLemmas

@@ -1,0 +1,129 @@
+-- What the loops read so far, and what is left.
+use Rattle.std.proofs.Common.{◌≡◌, ℕ, suc, ◌+◌, ◌-◌, ◌*◌, ◌<◌, ◌≤◌, ℤ, int_lt, true, false, ◌&&◌, List, [], ◌∷◌, ◌++◌, length, map, take, drop, get_or, Option, Some, None, option_map, option_and_then, slice_get, refl, sym, ap, ◌∙◌, arith, append_assoc, append-nil, length-drop}
+use Rattle.std.proofs.lemmas.List.{map-append, drop_more, drop-drop, get_or-map, length-map}
+use Rattle.zone_tzif_core.specs.Zones.{KindValue, go_up}
+use Rattle.zone_tzif_core.specs.Numbers.{eight_of}
+use Rattle.zone_tzif_core.specs.Reading.{kind_in, kinds_in, shifts_in}
+use Rattle.zone_tzif_core.specs.Shown.{record_shown, records_shown, found_shown, all_found, Faults}
+use Rattle.zone_tzif_core.specs.declared.kinds.Record.{Record}
+use Rattle.zone_tzif_core.specs.declared.values.ReadFault.{ReadFault}
+use Rattle.zone_tzif_core.specs.declared.values.ReadFault.TheVariants.{Refused, NoMemory}
+
+-- one more item is found
+moved : {A : Type 0} (so_far : List A) (x : A) (left : Option (List A)) → option_map (λ more. so_far ++ more) (option_and_then (λ more. Some (x ∷ more)) left) ≡ option_map (λ more. (so_far ++ x ∷ []) ++ more) left
+moved so_far x (Some more) = ap Some (sym (append_assoc so_far (x ∷ []) more))
+moved so_far x None = refl
+
+pub kinds_more : (names : List ℕ) (n m : ℕ) (bytes rest : List ℕ) (so_far : List KindValue) (kind : KindValue) → n ≡ suc m → rest ≡ drop 6 bytes → Some kind ≡ kind_in names (take 6 bytes) → option_map (λ more. so_far ++ more) (kinds_in names n bytes) ≡ option_map (λ more. (so_far ++ kind ∷ []) ++ more) (kinds_in names m rest)
+unfolding kinds_in
+kinds_more names n m bytes rest so_far kind count front found = rw (count, ← found, front) (moved so_far kind (kinds_in names m (drop 6 bytes)))
+
+pub kinds_none : (names : List ℕ) (n m : ℕ) (bytes : List ℕ) (so_far : List KindValue) (whole : Option (List KindValue)) → n ≡ suc m → option_map (λ more. so_far ++ more) (kinds_in names n bytes) ≡ whole → None ≡ kind_in names (take 6 bytes) → None ≡ whole
+unfolding kinds_in
+kinds_none names n m bytes so_far whole count is refused = let e : kinds_in names n bytes ≡ None = rw (count, ← refused) refl in ap (option_map (λ more. so_far ++ more)) (sym e) ∙ is
+
+pub kinds_end : (names : List ℕ) (n : ℕ) (bytes : List ℕ) (so_far : List KindValue) (whole : Option (List KindValue)) → n ≡ 0 → option_map (λ more. so_far ++ more) (kinds_in names n bytes) ≡ whole → Some so_far ≡ whole
+unfolding kinds_in
+kinds_end names n bytes so_far whole count is = let e : kinds_in names n bytes ≡ Some [] = rw count refl in ap Some (sym (append-nil so_far)) ∙ sym (ap (option_map (λ more. so_far ++ more)) e) ∙ is
+
+pub shifts_more : (kinds : List KindValue) (times later numbers left : List ℕ) (number : ℕ) (so_far : List (ℤ × KindValue)) (kind : KindValue) → left ≡ number ∷ numbers → later ≡ drop 8 times → Some kind ≡ slice_get kinds number → option_map (λ more. so_far ++ more) (shifts_in kinds times left) ≡ option_map (λ more. (so_far ++ (eight_of (take 8 times), kind) ∷ []) ++ more) (shifts_in kinds later numbers)
+unfolding shifts_in
+shifts_more kinds times later numbers left number so_far kind front time found = rw (front, ← found, time) (moved so_far (eight_of (take 8 times), kind) (shifts_in kinds (drop 8 times) numbers))
+
+pub shifts_none : (kinds : List KindValue) (times numbers left : List ℕ) (number : ℕ) (so_far : List (ℤ × KindValue)) (whole : Option (List (ℤ × KindValue))) → left ≡ number ∷ numbers → option_map (λ more. so_far ++ more) (shifts_in kinds times left) ≡ whole → None ≡ slice_get kinds number → None ≡ whole
+unfolding shifts_in
+shifts_none kinds times numbers left number so_far whole front is refused = let e : shifts_in kinds times left ≡ None = rw (front, ← refused) refl in ap (option_map (λ more. so_far ++ more)) (sym e) ∙ is
+
+pub shifts_end : (kinds : List KindValue) (times left : List ℕ) (so_far : List (ℤ × KindValue)) (whole : Option (List (ℤ × KindValue))) → left ≡ [] → option_map (λ more. so_far ++ more) (shifts_in kinds times left) ≡ whole → Some so_far ≡ whole
+unfolding shifts_in
+shifts_end kinds times left so_far whole over is = let e : shifts_in kinds times left ≡ Some [] = rw over refl in ap Some (sym (append-nil so_far)) ∙ sym (ap (option_map (λ more. so_far ++ more)) e) ∙ is
+
+-- a fault that a step tells is the whole's
+pub fault_passes : {W X : Type 0} (fault : ReadFault) (step : Option W) (whole : Option X) → Faults fault step → (None ≡ step → None ≡ whole) → Faults fault whole
+fault_passes Refused step whole told then = then told
+fault_passes NoMemory step whole told then = tt
+
+-- the kinds so far and those that are left make those of all records
+abbrev pub KindsSoFar : List ℕ → ℕ → List ℕ → ℕ → List Record → Type 0
+KindsSoFar names count records i kinds = option_map (λ more. records_shown kinds ++ more) (kinds_in names (count - i) (drop (6 * i) records)) ≡ kinds_in names count records
+
+pub kinds_kept : (names : List ℕ) (count : ℕ) (records : List ℕ) (i : ℕ) (kinds grown : List Record) (kind : Record) → i < count → grown ≡ kinds ++ kind ∷ [] → Some (record_shown kind) ≡ kind_in names (take (6 * i + 6 - 6 * i) (drop (6 * i) records)) → KindsSoFar names count records i kinds → KindsSoFar names count records (i + 1) grown
+kinds_kept names count records i kinds grown kind within items told is =
+    let left : count - i ≡ suc (count - (i + 1)) = omega arith in
+    let six : 6 * i + 6 - 6 * i ≡ 6 = omega arith in
+    let next : 6 * i + 6 ≡ 6 * (i + 1) = omega arith in
+    let rest : drop (6 * (i + 1)) records ≡ drop 6 (drop (6 * i) records) = sym (drop-drop 6 (6 * i) records ∙ ap (λ n. drop n records) next) in
+    let shown : records_shown grown ≡ records_shown kinds ++ record_shown kind ∷ [] = ap records_shown items ∙ map-append record_shown kinds (kind ∷ []) in
+    let found : Some (record_shown kind) ≡ kind_in names (take 6 (drop (6 * i) records)) = told ∙ ap (λ n. kind_in names (take n (drop (6 * i) records))) six in
+    ap (λ front. option_map (λ more. front ++ more) (kinds_in names (count - (i + 1)) (drop (6 * (i + 1)) records))) shown
+    ∙ sym (kinds_more names (count - i) (count - (i + 1)) (drop (6 * i) records) (drop (6 * (i + 1)) records) (records_shown kinds) (record_shown kind) left rest found) ∙ is
+
+pub kinds_refused : (names : List ℕ) (count : ℕ) (records : List ℕ) (i : ℕ) (kinds : List Record) → i < count → KindsSoFar names count records i kinds → None ≡ kind_in names (take (6 * i + 6 - 6 * i) (drop (6 * i) records)) → None ≡ kinds_in names count records
+kinds_refused names count records i kinds within is refused =
+    let left : count - i ≡ suc (count - (i + 1)) = omega arith in
+    let six : 6 * i + 6 - 6 * i ≡ 6 = omega arith in
+    kinds_none names (count - i) (count - (i + 1)) (drop (6 * i) records) (records_shown kinds) _ left is (refused ∙ ap (λ n. kind_in names (take n (drop (6 * i) records))) six)
+
+-- the times so far and those that are left make those of all numbers
+abbrev pub ShiftsSoFar : List Record → List ℕ → List ℕ → ℕ → List (ℤ × Record) → Type 0
+ShiftsSoFar kinds times numbers i shifts = option_map (λ more. all_found shifts ++ more) (shifts_in (records_shown kinds) (drop (8 * i) times) (drop i numbers)) ≡ shifts_in (records_shown kinds) times numbers
+
+pub shifts_kept : (kinds : List Record) (times numbers : List ℕ) (i : ℕ) (shifts grown : List (ℤ × Record)) (kind : Record) (time : ℤ) → i < length numbers → grown ≡ shifts ++ (time, kind) ∷ [] → time ≡ eight_of (take (8 * i + 8 - 8 * i) (drop (8 * i) times)) → Some (record_shown kind) ≡ slice_get (records_shown kinds) (get_or numbers i 0) → ShiftsSoFar kinds times numbers i shifts → ShiftsSoFar kinds times numbers (i + 1) grown
+shifts_kept kinds times numbers i shifts grown kind time within items read told is =
+    let next : 8 * i + 8 ≡ 8 * (i + 1) = omega arith in
+    let rest : drop (8 * (i + 1)) times ≡ drop 8 (drop (8 * i) times) = sym (drop-drop 8 (8 * i) times ∙ ap (λ n. drop n times) next) in
+    let eight : 8 * i + 8 - 8 * i ≡ 8 = omega arith in
+    let clock : time ≡ eight_of (take 8 (drop (8 * i) times)) = read ∙ ap (λ n. eight_of (take n (drop (8 * i) times))) eight in
+    let shown : all_found grown ≡ all_found shifts ++ (eight_of (take 8 (drop (8 * i) times)), record_shown kind) ∷ [] = ap all_found items ∙ map-append found_shown shifts ((time, kind) ∷ []) ∙ ap (λ t. all_found shifts ++ (t, record_shown kind) ∷ []) clock in
+    ap (λ front. option_map (λ more. front ++ more) (shifts_in (records_shown kinds) (drop (8 * (i + 1)) times) (drop (i + 1) numbers))) shown
+    ∙ sym (shifts_more (records_shown kinds) (drop (8 * i) times) (drop (8 * (i + 1)) times) (drop (i + 1) numbers) (drop i numbers) (get_or numbers i 0) (all_found shifts) (record_shown kind) (drop_more numbers i 0 within) rest told) ∙ is
+
+pub shifts_refused : (kinds : List Record) (times numbers : List ℕ) (i : ℕ) (shifts : List (ℤ × Record)) → i < length numbers → ShiftsSoFar kinds times numbers i shifts → None ≡ slice_get (records_shown kinds) (get_or numbers i 0) → None ≡ shifts_in (records_shown kinds) times numbers
+shifts_refused kinds times numbers i shifts within is refused =
+    shifts_none (records_shown kinds) (drop (8 * i) times) (drop (i + 1) numbers) (drop i numbers) (get_or numbers i 0) (all_found shifts) _ (drop_more numbers i 0 within) is refused
+
+-- two neighbours, and the rest
+up_pair : (times : List ℤ) (x y : ℤ) (rest : List ℤ) → times ≡ x ∷ y ∷ rest → go_up times ≡ (int_lt x y && go_up (y ∷ rest))
+up_pair times x y rest e = rw e refl
+
+-- the times rise where they do from the last one seen
+abbrev pub RiseFrom : List ℤ → ℕ → Type 0
+RiseFrom times i = go_up (drop (i - 1) times) ≡ go_up times
+
+up_step : (times : List ℤ) (i : ℕ) (x y d : ℤ) → 1 ≤ i → i < length times → x ≡ get_or times (i - 1) d → y ≡ get_or times i d → go_up (drop (i - 1) times) ≡ (int_lt x y && go_up (drop i times))
+up_step times i x y d some within first second =
+    let next : i - 1 + 1 ≡ i = omega arith in
+    let here : drop (i - 1) times ≡ x ∷ drop i times = drop_more times (i - 1) d (omega arith) ∙ ap (λ z. z ∷ drop (i - 1 + 1) times) (sym first) ∙ ap (λ n. x ∷ drop n times) next in
+    let there : drop i times ≡ y ∷ drop (i + 1) times = drop_more times i d within ∙ ap (λ z. z ∷ drop (i + 1) times) (sym second) in
+    up_pair (drop (i - 1) times) x y (drop (i + 1) times) (here ∙ ap (λ l. x ∷ l) there) ∙ ap (λ l. int_lt x y && go_up l) (sym there)
+
+-- a time of the list
+abbrev times_of : {V : Type 0} → List (ℤ × V) → List ℤ
+times_of shifts = map (λ shift. shift.0) shifts
+
+time_at : {V : Type 0} (shifts : List (ℤ × V)) (i : ℕ) (x : ℤ × V) (d : ℤ) → i < length shifts → x ≡ get_or shifts i x → x.0 ≡ get_or (times_of shifts) i d
+time_at shifts i x d within is = ap (λ s. s.0) is ∙ sym (get_or-map (λ shift. shift.0) shifts i x d within)
+
+step : {V : Type 0} (shifts : List (ℤ × V)) (i : ℕ) (x y : ℤ × V) → 1 ≤ i → i < length shifts → x ≡ get_or shifts (i - 1) x → y ≡ get_or shifts i y → go_up (drop (i - 1) (times_of shifts)) ≡ (int_lt x.0 y.0 && go_up (drop i (times_of shifts)))
+step shifts i x y some within first second =
+    let long : length (times_of shifts) ≡ length shifts = length-map _ _ in
+    up_step (times_of shifts) i x.0 y.0 x.0 some (omega (arith, long, within)) (time_at shifts (i - 1) x x.0 (omega (arith, within)) first) (time_at shifts i y x.0 within second)
+
+pub rises_kept : {V : Type 0} (shifts : List (ℤ × V)) (i : ℕ) (x y : ℤ × V) → 1 ≤ i → i < length shifts → x ≡ get_or shifts (i - 1) x → y ≡ get_or shifts i y → true ≡ int_lt x.0 y.0 → RiseFrom (times_of shifts) i → RiseFrom (times_of shifts) (i + 1)
+rises_kept shifts i x y some within first second before is =
+    let now : i + 1 - 1 ≡ i = omega arith in
+    ap (λ n. go_up (drop n (times_of shifts))) now ∙ ap (λ b. b && go_up (drop i (times_of shifts))) before ∙ sym (step shifts i x y some within first second) ∙ is
+
+pub rises_refused : {V : Type 0} (shifts : List (ℤ × V)) (i : ℕ) (x y : ℤ × V) → 1 ≤ i → i < length shifts → x ≡ get_or shifts (i - 1) x → y ≡ get_or shifts i y → false ≡ int_lt x.0 y.0 → RiseFrom (times_of shifts) i → false ≡ go_up (times_of shifts)
+rises_refused shifts i x y some within first second before is =
+    ap (λ b. b && go_up (drop i (times_of shifts))) before ∙ sym (step shifts i x y some within first second) ∙ is
+
+up_short : (times : List ℤ) → length times ≤ 1 → true ≡ go_up times
+up_short [] few = refl
+up_short (x ∷ []) few = refl
+up_short (x ∷ y ∷ rest) few = absurd (omega arith)
+
+pub rises_end : {V : Type 0} (shifts : List (ℤ × V)) (i : ℕ) → 1 ≤ i → length shifts ≤ i → RiseFrom (times_of shifts) i → true ≡ go_up (times_of shifts)
+rises_end shifts i some over is =
+    let long : length (times_of shifts) ≡ length shifts = length-map _ _ in
+    up_short (drop (i - 1) (times_of shifts)) (omega (arith, length-drop (i - 1) (times_of shifts), long)) ∙ is

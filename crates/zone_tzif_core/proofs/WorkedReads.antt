@@ -1,0 +1,51 @@
+-- Which changed files are read, and as what.
+use Rattle.std.proofs.Common.{◌≡◌, ℕ, pos, negsuc, true, false, List, [], ◌∷◌, ◌++◌, map, take, drop, replicate, Option, Some, None, option_map, refl}
+use lib.Utf8.{encode}
+use Rattle.std.specs.Prelude.{codes}
+use Rattle.std.specs.Str.{is_utf8, chars}
+use Rattle.zone_tzif_core.specs.Format.{header_of, begins_well, block_len, suits}
+use Rattle.zone_tzif_core.specs.Numbers.{count_of, four_of, eight_of}
+use Rattle.zone_tzif_core.specs.Reading.{cut, header_at, text_in, between, footer_in, second_in, parts_in, before_zero, name_in, kind_in, kinds_in, shifts_in, joined_in, zone_in}
+use Rattle.zone_tzif_core.specs.Zones.{KindValue}
+use Rattle.zone_tzif_core.proofs.WorkedFiles.{a_kind, changing, fixed_file, changing_file, patched, of_version}
+
+abbrev first_read : List ℕ → Option KindValue
+first_read file = option_map (λ zone. zone.first) (zone_in file)
+
+-- bytes put in at a place
+abbrev with : List ℕ → ℕ → List ℕ → List ℕ
+with file place bytes = take place file ++ bytes ++ drop place file
+
+-- version 1, version 5, two versions; a leap second; no kind; no name; `TZif` misspelled; no last byte, one byte more
+no_file : map zone_in
+    (of_version 49 ∷ of_version 53 ∷ patched fixed_file 4 51 ∷ patched fixed_file 82 1 ∷ patched fixed_file 90 0 ∷ patched fixed_file 94 0
+    ∷ patched fixed_file 0 116 ∷ patched fixed_file 54 70 ∷ take 114 fixed_file ∷ (fixed_file ++ 10 ∷ []) ∷ []) ≡ replicate 10 None
+unfolding zone_in parts_in joined_in second_in footer_in between text_in header_at cut header_of begins_well block_len suits kinds_in shifts_in kind_in name_in before_zero count_of four_of eight_of is_utf8 chars encode
+no_file = refl
+
+-- the offset's bounds, `is_dst` of 1 and of 2, places of the name: one in it, its zero byte, one past the last; a name without a zero
+-- byte; a name and a footer that are not UTF-8; a footer with an LF, with a zero byte
+records : map first_read
+    (patched (patched (patched fixed_file 96 1) 97 109) 98 159 ∷ patched (patched (patched fixed_file 96 1) 97 109) 98 160
+    ∷ patched (patched (patched (patched fixed_file 95 255) 96 254) 97 146) 98 97 ∷ patched (patched (patched (patched fixed_file 95 255) 96 254) 97 146) 98 96
+    ∷ patched fixed_file 99 1 ∷ patched fixed_file 99 2 ∷ patched fixed_file 100 1 ∷ patched fixed_file 100 3 ∷ patched fixed_file 100 4
+    ∷ patched fixed_file 104 65 ∷ patched fixed_file 101 255 ∷ patched fixed_file 106 255 ∷ patched fixed_file 106 10 ∷ patched fixed_file 106 0 ∷ [])
+    ≡ Some (a_kind (pos 93599) false (codes "TST")) ∷ None ∷ Some (a_kind (negsuc 93598) false (codes "TST")) ∷ None
+    ∷ Some (a_kind (pos 5400) true (codes "TST")) ∷ None ∷ Some (a_kind (pos 5400) false (codes "ST")) ∷ Some (a_kind (pos 5400) false []) ∷ None
+    ∷ None ∷ None ∷ None ∷ None ∷ None ∷ []
+unfolding zone_in parts_in joined_in second_in footer_in between text_in header_at cut header_of begins_well block_len suits kinds_in shifts_in kind_in name_in before_zero count_of four_of eight_of is_utf8 chars encode
+records = refl
+
+-- of four kinds: four bytes of each flag, and one; a time equal to the one before; a kind's number that there isn't
+blocks : map zone_in
+    (with (patched changing_file 74 4) 170 (1 ∷ 2 ∷ 3 ∷ 4 ∷ []) ∷ with (patched changing_file 78 4) 170 (1 ∷ 2 ∷ 3 ∷ 4 ∷ [])
+    ∷ with (patched changing_file 74 1) 170 (1 ∷ []) ∷ with (patched changing_file 78 1) 170 (1 ∷ []) ∷ patched changing_file 118 5 ∷ patched changing_file 127 4 ∷ [])
+    ≡ Some changing ∷ Some changing ∷ None ∷ None ∷ None ∷ None ∷ []
+unfolding zone_in parts_in joined_in second_in footer_in between text_in header_at cut header_of begins_well block_len suits kinds_in shifts_in kind_in name_in before_zero count_of four_of eight_of is_utf8 chars encode
+blocks = refl
+
+-- each count of a header stands in its place, and each entry takes its bytes in a first block
+counts : map (λ bytes. block_len (header_of (codes "TZif2" ++ replicate 15 0 ++ bytes)))
+    ((0 ∷ 0 ∷ 0 ∷ 1 ∷ 0 ∷ 0 ∷ 0 ∷ 10 ∷ 0 ∷ 0 ∷ 0 ∷ 100 ∷ 0 ∷ 0 ∷ 3 ∷ 232 ∷ 0 ∷ 0 ∷ 39 ∷ 16 ∷ 0 ∷ 1 ∷ 134 ∷ 160 ∷ []) ∷ []) ≡ 165811 ∷ []
+unfolding header_of block_len count_of
+counts = refl

@@ -1,0 +1,5 @@
+use Rattle.zone_tzif_core.proofs.LoopLemmas.{ShiftsSoFar}
+use Rattle.zone_tzif_core.proofs.shifts.read_shifts.Given as goal
+
+abbrev pub invariant-loop-i : goal.invariant-loop-i
+invariant-loop-i l = ShiftsSoFar l.kinds l.times l.numbers l.i l.shifts.items

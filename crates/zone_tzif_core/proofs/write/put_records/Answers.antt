@@ -1,0 +1,14 @@
+use Rattle.std.proofs.Common.{◌<◌, subst, Bor}
+use Rattle.zone_tzif_core.specs.Shown.{kind_shown, names_seen}
+use Rattle.zone_tzif_core.specs.Tzif.{name_place}
+use Rattle.zone_tzif_core.specs.Zones.{KindValue}
+use Rattle.zone_tzif_core.specs.declared.values.Kind.{Kind}
+use Rattle.zone_tzif_core.proofs.PutLemmas.{seen_at, seen_long}
+use Rattle.zone_tzif_core.proofs.write.put_records.Goals as goal
+
+pub put_record-requires-clause-named : goal.put_record-requires-clause-named
+put_record-requires-clause-named c =
+    let x = c.kind-item.result in
+    subst (λ (kind : KindValue). name_place (names_seen c.args.names.now) kind.name < 256)
+    (seen_at (λ (kind : Bor Kind). kind_shown kind.now) c.args.kinds.now c.loop-kind.kind-index x c.loop-kind-test.true c.kind-item.is)
+    (c.requires.named c.loop-kind.kind-index (kind_shown x.now) (seen_long (λ (kind : Bor Kind). kind_shown kind.now) c.args.kinds.now c.loop-kind.kind-index c.loop-kind-test.true))

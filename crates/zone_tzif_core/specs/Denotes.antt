@@ -1,0 +1,80 @@
+-- What a file says, part by part.
+use Rattle.std.specs.Prelude.{◌≡◌, ℕ, ◌+◌, ◌≤◌, ◌==◌, not, ℤ, true, List, [], ◌∷◌, ◌++◌, length, Some, slice_get, slice_index}
+use Rattle.std.specs.List.{list_all}
+use Rattle.std.specs.Str.{IsUtf8}
+use Rattle.zone_tzif_core.specs.Zones.{KindValue, ZoneValue, is_small, rises}
+use Rattle.zone_tzif_core.specs.Numbers.{four_of, eight_of}
+use Rattle.zone_tzif_core.specs.Format.{header_of, begins_well, block_len, suits, is_one_line}
+use Rattle.zone_tzif_core.specs.declared.header.Header.{Header}
+
+-- 44 bytes that begin with `TZif`; the 15 bytes after the version are any
+pub record IsHeader (bytes : List ℕ) (says : Header) : Type 0 where
+  pub long : length bytes ≡ 44
+  pub begins : begins_well bytes ≡ true
+  pub read : header_of bytes ≡ says
+
+-- the name: the bytes from its place up to the first zero
+pub record IsName (names : List ℕ) (place : ℕ) (name : List ℕ) : Type 0 where
+  pub before : List ℕ
+  pub after : List ℕ
+  pub whole : names ≡ before ++ (name ++ 0 ∷ after)
+  pub starts : length before ≡ place
+  pub no_zero : list_all (λ c. not (c == 0)) name ≡ true
+  pub text : IsUtf8 name
+
+-- six bytes: the offset, whether it is daylight saving time, the place of the name
+pub record IsKind (names : List ℕ) (bytes : List ℕ) (kind : KindValue) : Type 0 where
+  pub long : length bytes ≡ 6
+  pub offset : four_of bytes ≡ kind.utoff
+  pub small : is_small kind.utoff ≡ true
+  pub flag : slice_index bytes 4 ≤ 1
+  pub is_dst : (slice_index bytes 4 == 1) ≡ kind.is_dst
+  pub named : IsName names (slice_index bytes 5) kind.name
+
+-- a record for each kind
+pub data AreKinds (names : List ℕ) : List ℕ → List KindValue → Type 0 where
+  no_kind : AreKinds names [] []
+  a_kind : {bytes records : List ℕ} {kind : KindValue} {kinds : List KindValue} → IsKind names bytes kind →
+      AreKinds names records kinds → AreKinds names (bytes ++ records) (kind ∷ kinds)
+
+-- eight bytes and a kind's number for each time
+pub data AreShifts (kinds : List KindValue) : List ℕ → List ℕ → List (ℤ × KindValue) → Type 0 where
+  no_shift : AreShifts kinds [] [] []
+  a_shift : (time : List ℕ) {times numbers : List ℕ} {number : ℕ} {kind : KindValue} {shifts : List (ℤ × KindValue)} → length time ≡ 8 →
+      slice_get kinds number ≡ Some kind → AreShifts kinds times numbers shifts →
+      AreShifts kinds (time ++ times) (number ∷ numbers) ((eight_of time, kind) ∷ shifts)
+
+-- the second block
+pub record IsBlock (says : Header) (bytes : List ℕ) (kinds : List KindValue) (shifts : List (ℤ × KindValue)) : Type 0 where
+  pub times : List ℕ
+  pub numbers : List ℕ
+  pub records : List ℕ
+  pub names : List ℕ
+  pub flags : List ℕ
+  pub whole : bytes ≡ times ++ numbers ++ records ++ names ++ flags
+  pub time_count : length numbers ≡ says.time
+  pub kind_count : length kinds ≡ says.kind
+  pub char_count : length names ≡ says.char
+  pub flag_count : length flags ≡ says.isstd + says.isut
+  pub are_kinds : AreKinds names records kinds
+  pub are_shifts : AreShifts kinds times numbers shifts
+
+-- the bytes are a header, its block of any bytes, a header, its block, an LF, the footer and an LF
+pub record Denotes (bytes : List ℕ) (zone : ZoneValue) : Type 0 where
+  pub head : List ℕ
+  pub skipped : List ℕ
+  pub second_head : List ℕ
+  pub block : List ℕ
+  pub first_says : Header
+  pub says : Header
+  pub kinds : List KindValue
+  pub whole : bytes ≡ head ++ skipped ++ second_head ++ block ++ 10 ∷ zone.footer ++ 10 ∷ []
+  pub first_header : IsHeader head first_says
+  pub first_length : length skipped ≡ block_len first_says
+  pub second_header : IsHeader second_head says
+  pub suited : suits first_says.version says ≡ true
+  pub block_is : IsBlock says block kinds zone.rest
+  pub rising : rises zone.rest ≡ true
+  pub first_kind : slice_get kinds 0 ≡ Some zone.first
+  pub one_line : is_one_line zone.footer ≡ true
+  pub text : IsUtf8 zone.footer

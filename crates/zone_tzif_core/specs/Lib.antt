@@ -1,0 +1,11 @@
+pub mod Numbers
+pub mod Zones
+pub mod Format
+pub mod Reading
+pub mod Names
+pub mod Shown
+pub mod Denotes
+pub mod Tzif
+pub mod Collected
+pub mod Profile
+pub mod Totals

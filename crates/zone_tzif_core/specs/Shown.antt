@@ -1,0 +1,60 @@
+-- What the values of the code show.
+use Rattle.std.specs.Borrow.{Bor}
+use Rattle.std.specs.Prelude.{◌≡◌, ℕ, ℤ, List, map, Option, Some, None, Result, Ok, Err, string_bytes}
+use Rattle.zone_tzif_core.specs.Zones.{KindValue, ZoneValue}
+use Rattle.zone_tzif_core.specs.declared.values.Kind.{Kind}
+use Rattle.zone_tzif_core.specs.declared.values.TzifZone.{TzifZone}
+use Rattle.zone_tzif_core.specs.declared.values.ReadFault.{ReadFault}
+use Rattle.zone_tzif_core.specs.declared.values.ReadFault.TheVariants.{Refused, NoMemory}
+use Rattle.zone_tzif_core.specs.declared.kinds.Record.{Record}
+
+abbrev pub kind_shown : Kind → KindValue
+kind_shown kind = record { utoff = kind.utoff; is_dst = kind.is_dst; name = string_bytes kind.name }
+
+abbrev pub record_shown : Record → KindValue
+record_shown kind = record { utoff = kind.utoff; is_dst = kind.is_dst; name = kind.name.now }
+
+abbrev pub kinds_shown : List Kind → List KindValue
+kinds_shown kinds = map kind_shown kinds
+
+abbrev pub records_shown : List Record → List KindValue
+records_shown kinds = map record_shown kinds
+
+-- a change whose kind is still in the file
+abbrev pub found_shown : (ℤ × Record) → ℤ × KindValue
+found_shown shift = (shift.0, record_shown shift.1)
+
+abbrev pub all_found : List (ℤ × Record) → List (ℤ × KindValue)
+all_found shifts = map found_shown shifts
+
+abbrev pub shift_shown : (ℤ × Kind) → ℤ × KindValue
+shift_shown shift = (shift.0, kind_shown shift.1)
+
+abbrev pub shifts_shown : List (ℤ × Kind) → List (ℤ × KindValue)
+shifts_shown shifts = map shift_shown shifts
+
+abbrev pub zone_shown : TzifZone → ZoneValue
+zone_shown zone = record { first = kind_shown zone.first; rest = shifts_shown zone.rest.items; footer = string_bytes zone.footer }
+
+-- a reader refuses only where there is nothing
+abbrev pub Faults : {W : Type 0} → ReadFault → Option W → Type 0
+Faults Refused answer = None ≡ answer
+Faults NoMemory answer = Unit {0}
+
+-- a reader tells what it found, or that there is nothing, or that it had no memory
+abbrev pub Tells : {V W : Type 0} → (V → W) → Result V ReadFault → Option W → Type 0
+Tells shown (Ok value) answer = Some (shown value) ≡ answer
+Tells shown (Err fault) answer = Faults fault answer
+
+-- the value of the result is what the bytes are, and no value is where they are refused
+abbrev pub Reads : (ZoneValue → Type 0) → Result TzifZone ReadFault → Type 0
+Reads Is (Ok zone) = Is (zone_shown zone)
+Reads Is (Err Refused) = (zone : ZoneValue) → ¬ (Is zone)
+Reads Is (Err NoMemory) = Unit {0}
+
+-- kinds and names that are borrowed
+abbrev pub kinds_seen : List (Bor Kind) → List KindValue
+kinds_seen kinds = map (λ kind. kind_shown kind.now) kinds
+
+abbrev pub names_seen : List (Bor (List ℕ)) → List (List ℕ)
+names_seen names = map (λ name. name.now) names

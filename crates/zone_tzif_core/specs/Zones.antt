@@ -1,0 +1,26 @@
+-- Compiled zones, with texts by their bytes.
+use Rattle.std.specs.Prelude.{ℕ, ℤ, pos, negsuc, int_le, int_lt, Bool, true, ◌&&◌, List, [], ◌∷◌, map}
+
+pub record KindValue : Type 0 where
+  pub utoff : ℤ
+  pub is_dst : Bool
+  pub name : List ℕ
+
+pub record ZoneValue : Type 0 where
+  pub first : KindValue
+  pub rest : List (ℤ × KindValue)
+  pub footer : List ℕ
+
+-- at most 93,599 in size
+abbrev pub is_small : ℤ → Bool
+is_small x = int_le (negsuc 93598) x && int_le x (pos 93599)
+
+-- each is before the next
+abbrev pub go_up : List ℤ → Bool
+go_up [] = true
+go_up (x ∷ []) = true
+go_up (x ∷ y ∷ rest) = int_lt x y && go_up (y ∷ rest)
+
+-- the times strictly rise
+abbrev pub rises : List (ℤ × KindValue) → Bool
+rises shifts = go_up (map (λ shift. shift.0) shifts)

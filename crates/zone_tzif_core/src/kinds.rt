@@ -1,0 +1,92 @@
+//! The kinds of a block.
+ghost use Rattle.std.specs.Prelude.{◌≡◌, ◌*◌, ◌≤◌, length, option_map, IfOk, string_bytes};
+ghost use Rattle.zone_tzif_core.specs.Zones.{is_small};
+ghost use Rattle.zone_tzif_core.specs.Names.{AreNames};
+ghost use Rattle.zone_tzif_core.specs.Reading.{kind_in, kinds_in};
+ghost use Rattle.zone_tzif_core.specs.Shown.{kind_shown, record_shown, records_shown, Tells};
+
+use crate::names::name_at;
+use crate::numbers::signed_four;
+use crate::values::{Kind, ReadFault};
+use std::alloc::{AllocError, Global};
+
+/// A kind as its record says it, with its name in the file.
+#[derive(Clone, Copy)]
+pub(crate) struct Record<'a> {
+    pub utoff: i32,
+    pub is_dst: bool,
+    pub name: &'a str,
+}
+
+/// Whether an offset is at most 93,599 in size.
+pub(crate) fn is_small(utoff: i32) -> bool
+    ensures { result ≡ is_small utoff }
+{
+    utoff >= -93_599 && utoff <= 93_599
+}
+
+/// The kind that a record of six bytes is.
+#[tactic(auto, unfolding(crate::specs::Reading::kind_in))]
+fn read_record<'a>(names: &'a [u8], table: &[Option<&'a str>], bytes: &[u8]) -> Option<Record<'a>>
+    requires six { 6 ≤ length bytes.now }
+    requires names { AreNames names.now table.now }
+    ensures { option_map record_shown result ≡ kind_in names.now bytes.now }
+{
+    let utoff = signed_four(bytes);
+    if !is_small(utoff) || bytes[4] > 1 {
+        return None;
+    }
+    let name = name_at(names, table, bytes[5])?;
+    Some(Record {
+        utoff,
+        is_dst: bytes[4] == 1,
+        name,
+    })
+}
+
+/// The kind that owns its name.
+pub(crate) fn owned(alloc: Global, kind: Record<'_>) -> Result<Kind, AllocError>
+    ensures { IfOk result (λ owned. kind_shown owned ≡ record_shown kind.entry) }
+{
+    Ok(Kind {
+        utoff: kind.utoff,
+        is_dst: kind.is_dst,
+        name: String::from_str(alloc, kind.name)?,
+    })
+}
+
+/// The kind that a record is, or a refusal.
+fn kind<'a>(
+    names: &'a [u8],
+    table: &[Option<&'a str>],
+    bytes: &[u8],
+) -> Result<Record<'a>, ReadFault>
+    requires six { 6 ≤ length bytes.now }
+    requires names { AreNames names.now table.now }
+    ensures { Tells record_shown result (kind_in names.now bytes.now) }
+{
+    match read_record(names, table, bytes) {
+        Some(record) => Ok(record),
+        None => Err(ReadFault::Refused),
+    }
+}
+
+/// The kinds that the records are. Their names stay in the file, so that records that no time uses cost no more than their
+/// six bytes.
+pub(crate) fn read_kinds<'a>(
+    alloc: Global,
+    names: &'a [u8],
+    table: &[Option<&'a str>],
+    count: u32,
+    records: &[u8],
+) -> Result<Vec<Record<'a>>, ReadFault>
+    requires records { length records.now ≡ 6 * count }
+    requires names { AreNames names.now table.now }
+    ensures { Tells (λ kinds. records_shown kinds.items) result (kinds_in names.now count records.now) }
+{
+    let mut kinds = Vec::new(alloc);
+    for i in 0..count as usize {
+        kinds.push(kind(names, table, &records[6 * i..6 * i + 6])?)?;
+    }
+    Ok(kinds)
+}

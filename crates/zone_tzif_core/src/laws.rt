@@ -1,0 +1,20 @@
+//! Laws of the files.
+ghost use Rattle.std.specs.Prelude.{◌≡◌, ℕ, List};
+ghost use Rattle.zone_tzif_core.specs.Denotes.{Denotes};
+ghost use Rattle.zone_tzif_core.specs.Tzif.{IsTzif};
+ghost use Rattle.zone_tzif_core.specs.Zones.{ZoneValue};
+
+/// A file denotes one value at most.
+pub fn one_reading()
+    ensures { (bytes : List ℕ) (x y : ZoneValue) → Denotes bytes x → Denotes bytes y → x ≡ y }
+{}
+
+/// What is written for a value denotes it.
+pub fn written_denotes()
+    ensures { (bytes : List ℕ) (zone : ZoneValue) → IsTzif bytes zone → Denotes bytes zone }
+{}
+
+/// One file is written for one value at most.
+pub fn one_value()
+    ensures { (bytes : List ℕ) (x y : ZoneValue) → IsTzif bytes x → IsTzif bytes y → x ≡ y }
+{}

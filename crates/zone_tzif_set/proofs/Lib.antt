@@ -1,0 +1,2 @@
+mod TotalLemmas
+mod ValueLemmas

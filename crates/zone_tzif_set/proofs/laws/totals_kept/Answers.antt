@@ -1,0 +1,5 @@
+use Rattle.zone_tzif_set.proofs.TotalLemmas.{totals_kept}
+use Rattle.zone_tzif_set.proofs.laws.totals_kept.Goals as goal
+
+pub returns : goal.returns
+returns c = totals_kept
