@@ -9,6 +9,7 @@ mod NameLemmas
 mod ProfileLemmas
 mod PutLemmas
 mod TextLemmas
+mod ValueLemmas
 mod WorkedFaults
 mod WorkedFiles
 mod WorkedReads

@@ -1,6 +1,7 @@
 -- What is put so far, and what is left.
-use Rattle.std.proofs.Common.{◌≡◌, ℕ, ◌+◌, ◌<◌, ◌≤◌, List, [], ◌∷◌, ◌++◌, length, drop, map, get_or, refl, sym, ap, ◌∙◌, append_assoc, append-nil, Bool, true, false, not, cond, Some, None, Bor, position, bytes_eq, ◌||◌, arith, length-append, lt-ltb}
+use Rattle.std.proofs.Common.{◌≡◌, ℕ, ◌+◌, ◌<◌, ◌≤◌, List, [], ◌∷◌, ◌++◌, length, drop, map, get_or, refl, sym, ap, subst, ◌∙◌, append_assoc, append-nil, Bool, true, false, not, cond, Some, None, Bor, position, bytes_eq, ◌||◌, arith, length-append, lt-ltb}
 use Rattle.std.proofs.lemmas.Bool.{false≢true, cond-true}
+use borrow.Author.Count.{below_more}
 use Rattle.zone_tzif_core.proofs.DistinctLemmas.{any_seen}
 use Rattle.std.proofs.lemmas.Option.{cond_some, none-some}
 use Rattle.zone_tzif_core.specs.Shown.{names_seen}
@@ -86,3 +87,10 @@ unfolding name_place
 place_end names name i place over is =
     let here : name_place (names_seen (drop i names)) name ≡ 0 = ap (λ l. name_place (names_seen l) name) (drop_all i names over) in
     omega (arith, is.sum, here)
+
+-- what holds of each item so far, and of the next one
+pub each_kept : {A B : Type 0} (P : A → Type 0) (view : B → A) (all : List B) (i : ℕ) (x : B) → i < length all → x ≡ get_or all i x → P (view x)
+    → ((k : ℕ) → k < i → (d : A) → P (get_or (map view all) k d)) → (k : ℕ) → k < i + 1 → (d : A) → P (get_or (map view all) k d)
+each_kept {A} P view all i x within at here before =
+    below_more (λ k. (d : A) → P (get_or (map view all) k d)) i before
+    (λ d. subst P (sym (get_or-map view all i x d within)) (subst (λ y. P (view y)) at here))

@@ -85,11 +85,15 @@ unfoldable pub write_fault : ZoneValue → Option WriteFault
 write_fault zone = first_fault (are_times zone.rest) (nat_le (length (kinds_of zone)) 256) (are_names (names_of (kinds_of zone)))
     (list_all (λ kind. is_small kind.utoff) (kinds_of zone)) (is_one_line zone.footer)
 
+-- each time has 64 bits
+abbrev pub TimesFit : List (ℤ × KindValue) → Type 0
+TimesFit shifts = (k : ℕ) (d : ℤ × KindValue) → k < length shifts → FitsSigned w64 (slice_index_or shifts k d).0
+
 -- what the code's own values meet: texts are UTF-8, and a time has 64 bits
 pub record IsValue (zone : ZoneValue) : Type 0 where
   pub first_text : IsUtf8 zone.first.name
   pub texts : (k : ℕ) (d : ℤ × KindValue) → k < length zone.rest → IsUtf8 (slice_index_or zone.rest k d).1.name
-  pub times : (k : ℕ) (d : ℤ × KindValue) → k < length zone.rest → FitsSigned w64 (slice_index_or zone.rest k d).0
+  pub times : TimesFit zone.rest
   pub footer : IsUtf8 zone.footer
 
 -- the bytes are the file that is written for the value

@@ -1,8 +1,9 @@
 //! The file of a value.
-ghost use Rattle.std.specs.Prelude.{◌≡◌, ℕ, ℤ, true, position, slice_index_or, string_bytes, IfSome, ◌≤◌, ◌+◌, ◌^◌, ◌<◌, [], ◌∷◌, ◌++◌, length, map, OnOk, IfOk};
+ghost use Rattle.std.specs.Prelude.{◌≡◌, ℕ, ℤ, true, position, slice_index_or, string_bytes, IfSome, ◌≤◌, ◌+◌, ◌^◌, ◌<◌, [], ◌∷◌, ◌++◌, length, map, OnOk, IfOk, FitsSigned};
+ghost use Rattle.std.specs.Int.{w64};
 ghost use Rattle.std.specs.List.{flat_map, list_all, list_any, position_or_len};
 ghost use Rattle.zone_tzif_core.specs.Numbers.{count_bytes, four_bytes, eight_bytes};
-ghost use Rattle.zone_tzif_core.specs.Tzif.{header_bytes, kind_number, name_bytes, name_place, record_bytes, is_same};
+ghost use Rattle.zone_tzif_core.specs.Tzif.{header_bytes, kind_number, name_bytes, name_place, record_bytes, is_same, TimesFit};
 ghost use Rattle.zone_tzif_core.specs.Zones.{KindValue};
 ghost use Rattle.zone_tzif_core.specs.Shown.{kind_shown, kinds_seen, names_seen, shifts_shown};
 
@@ -55,12 +56,21 @@ pub(crate) fn put_header(
     Ok(())
 }
 
+/// The time of a change.
+fn time_of(shift: &(i64, Kind)) -> i64
+    ensures time { result ≡ shift.now.0 }
+    ensures range { FitsSigned w64 shift.now.0 }
+{
+    shift.0
+}
+
 /// Puts the times at the end.
 pub(crate) fn put_times(into: &mut Vec<u8>, shifts: &[(i64, Kind)]) -> Result<(), AllocError>
-    ensures { OnOk result (into.new.items ≡ into.old.items ++ flat_map (λ shift. eight_bytes shift.0) (shifts_shown shifts.now)) }
+    ensures bytes { OnOk result (into.new.items ≡ into.old.items ++ flat_map (λ shift. eight_bytes shift.0) (shifts_shown shifts.now)) }
+    ensures range { OnOk result (TimesFit (shifts_shown shifts.now)) }
 {
     for shift in shifts {
-        put_eight(into, shift.0)?;
+        put_eight(into, time_of(shift))?;
     }
     Ok(())
 }

@@ -1,7 +1,7 @@
 //! A value as its one file.
 ghost use Rattle.std.specs.Prelude.{◌≡◌, ◌==◌, nat_le, ◌≤◌, ◌<◌, ◌^◌, not, ℕ, ℤ, None, true, [], ◌∷◌, ◌++◌, length, slice_index_or, OnOk, IfOk};
 ghost use Rattle.std.specs.List.{list_all, list_any};
-ghost use Rattle.zone_tzif_core.specs.Tzif.{is_same, kinds_of, names_of, name_bytes, name_place, block_bytes, tzif, are_times, are_names, first_fault, write_fault, Writes};
+ghost use Rattle.zone_tzif_core.specs.Tzif.{is_same, kinds_of, names_of, name_bytes, name_place, block_bytes, tzif, are_times, are_names, first_fault, write_fault, Writes, IsTzif, TimesFit};
 ghost use Rattle.zone_tzif_core.specs.Shown.{kinds_seen, names_seen, shifts_shown, zone_shown};
 ghost use Rattle.zone_tzif_core.specs.Zones.{is_small};
 
@@ -96,7 +96,8 @@ fn put_block(
     requires distinct { kinds_seen kinds.now ≡ kinds_of (zone_shown zone.now) }
     requires named { names_seen names.now ≡ names_of (kinds_of (zone_shown zone.now)) }
     requires fits { write_fault (zone_shown zone.now) ≡ None }
-    ensures { OnOk result (into.new.items ≡ into.old.items ++ block_bytes (kinds_of (zone_shown zone.now)) (zone_shown zone.now).rest) }
+    ensures bytes { OnOk result (into.new.items ≡ into.old.items ++ block_bytes (kinds_of (zone_shown zone.now)) (zone_shown zone.now).rest) }
+    ensures range { OnOk result (TimesFit (zone_shown zone.now).rest) }
 {
     put_times(into, zone.rest.as_slice())?;
     put_numbers(into, kinds, zone.rest.as_slice())?;
@@ -129,7 +130,8 @@ fn written(
     requires named { names_seen names.now ≡ names_of (kinds_of (zone_shown zone.now)) }
     requires bytes { chars.now ≡ name_bytes (names_of (kinds_of (zone_shown zone.now))) }
     requires fits { write_fault (zone_shown zone.now) ≡ None }
-    ensures { IfOk result (λ file. file.items ≡ tzif (zone_shown zone.now)) }
+    ensures bytes { IfOk result (λ file. file.items ≡ tzif (zone_shown zone.now)) }
+    ensures range { OnOk result (TimesFit (zone_shown zone.now).rest) }
 {
     let mut file = Vec::new(alloc);
     put_header(&mut file, 0, 1, 1)?;
@@ -146,7 +148,8 @@ fn write_kinds(alloc: Global, zone: &TzifZone, kinds: &[&Kind]) -> Result<Vec<u8
     requires times { are_times (zone_shown zone.now).rest ≡ true }
     requires few { length (kinds_seen kinds.now) ≤ 256 }
     requires distinct { kinds_seen kinds.now ≡ kinds_of (zone_shown zone.now) }
-    ensures { Writes (λ file. file.items) (zone_shown zone.now) result }
+    ensures exact { Writes (λ file. file.items) (zone_shown zone.now) result }
+    ensures range { OnOk result (TimesFit (zone_shown zone.now).rest) }
 {
     let names = distinct_names(alloc, kinds)?;
     let mut chars = Vec::new(alloc);
@@ -160,8 +163,11 @@ fn write_kinds(alloc: Global, zone: &TzifZone, kinds: &[&Kind]) -> Result<Vec<u8
 /// The one file of a zone, of version 2 of RFC 8536, or the first cause that refuses it, in the order of `WriteFault`. Its first
 /// block has one kind of zeros and no time. Its second one has each kind once, in order of first use, that of `first` being
 /// number 0, and each name once, in the order of the kinds. Flags and leap seconds it has none.
+///
+/// What is written is read by both readers as the zone again: this is the file of a value, as the laws speak of it.
 pub fn write_tzif(alloc: Global, zone: &TzifZone) -> Result<Vec<u8>, WriteFault>
     ensures exact { Writes (λ file. file.items) (zone_shown zone.now) result }
+    ensures file { IfOk result (λ file. IsTzif file.items (zone_shown zone.now)) }
 {
     let times = are_times(zone.rest.as_slice());
     if !times {

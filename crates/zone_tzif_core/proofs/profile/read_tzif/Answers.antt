@@ -2,7 +2,7 @@ use Rattle.std.proofs.Common.{subst, Ok}
 use Rattle.std.proofs.lemmas.Result.{err_from_is_err_and}
 use Rattle.zone_tzif_core.specs.Profile.{Compares}
 use Rattle.zone_tzif_core.specs.Shown.{zone_shown}
-use Rattle.zone_tzif_core.proofs.ProfileLemmas.{read_value, read_refused, other_file}
+use Rattle.zone_tzif_core.proofs.ProfileLemmas.{read_refused, other_file}
 use Rattle.zone_tzif_core.proofs.profile.read_tzif.Goals as goal
 
 pub returns-in_err-zone : goal.returns-in_err-zone
@@ -11,15 +11,9 @@ returns-in_err-zone c =
     rw (p.1, p.2) (record { exact = read_refused c.args.bytes.now c.in_err-zone.field-0.0 c.in_err-zone.ensures.exact })
 
 pub returns-then-same : goal.returns-then-same
-returns-then-same c =
-    let written = subst (λ same. Compares c.args.bytes.now (zone_shown c.in_ok-zone.zone) (Ok same)) c.if-same.true c.in_ok-same.ensures in
-    record {
-      exact = record {
-        value = read_value c.args.bytes.now c.in_ok-zone.zone c.type_inv.bytes c.in_ok-zone.ensures.exact;
-        writable = written.0;
-        written = written.1;
-      };
-    }
+returns-then-same c = record {
+  exact = subst (λ same. Compares c.args.bytes.now (zone_shown c.in_ok-zone.zone) (Ok same)) c.if-same.true c.in_ok-same.ensures;
+}
 
 pub returns-else-same : goal.returns-else-same
 returns-else-same c =
