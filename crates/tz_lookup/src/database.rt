@@ -186,7 +186,7 @@ impl<'a> Iterator for DatabaseIter<'a> {
 }
 
 /// Every name of a table that finds a zone, in byte order, each once.
-fn names_in_order(alloc: Global, table: &Table) -> Result<BTreeSet<&str>, AllocError>
+pub fn names_in_order(alloc: Global, table: &Table) -> Result<BTreeSet<&str>, AllocError>
     ensures { IfOk result (λ names. each name_shown names.keys ≡ names_of table.now) }
 {
     let mut all = table.zonesets.keys_in_any_order(alloc)?;

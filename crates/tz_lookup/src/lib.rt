@@ -14,7 +14,7 @@ mod years;
 pub use compact_instants::CompactInstants;
 pub use compact_set::{CompactFault, CompactSet};
 pub use compact_tz::{CompactOffset, CompactTz};
-pub use database::{Database, DatabaseFault, DatabaseIter};
+pub use database::{Database, DatabaseFault, DatabaseIter, names_in_order};
 pub use tz_zone::{
     Fixed, FixedOffset, FixedTimespan, FixedTimespanSet, InstantsLocal, Offset, OffsetDateTimeExt,
     OffsetResult, PrimitiveDateTimeExt, Probe, SpanFault, SpanTable, Steps, TimeZone, Tz, TzFault,
