@@ -1,0 +1,53 @@
+-- The days of a month that rules and ends name.
+use Rattle.std.specs.Prelude.{ℕ, ℤ, pos, List, Result, Ok, Err, ok_or}
+use Rattle.std.specs.Option.{option_map_or}
+use Rattle.calendar.specs.Days.{days_in_month}
+use Rattle.zone_values.specs.Months.{month_number}
+use Rattle.zone_values.specs.declared.day.DaySpec.{DaySpec}
+use Rattle.zone_values.specs.declared.day.DaySpec.TheVariants.{Ordinal, Last, LastOnOrBefore, FirstOnOrAfter}
+use Rattle.zone_values.specs.declared.month.Month.{Month}
+use Rattle.zone_values.specs.declared.weekday.Weekday.{Weekday}
+use Rattle.zone_plain_lines.specs.Numbers.{number_between, cut, after_mark}
+use Rattle.zone_plain_lines.specs.Steps.{◌>>=◌}
+use Rattle.zone_plain_lines.specs.Words.{weekday_of, last_weekday_of}
+use Rattle.zone_plain_lines.specs.declared.cause.PlainCause.{PlainCause}
+use Rattle.zone_plain_lines.specs.declared.cause.PlainCause.TheVariants as cause
+
+-- the most days that the month has, as in the leap year 2000
+abbrev pub longest : Month → ℕ
+longest month = days_in_month (pos 2000) (month_number month)
+
+-- a number from 1 to that
+unfoldable pub day_number : Month → List ℕ → Result ℤ PlainCause
+day_number month text = option_map_or (λ number. Ok (pos number)) (number_between 1 (longest month) text) (Err cause.Day)
+
+-- a weekday before `<` or `>`, and a number after the `=` that follows
+unfoldable pub side_of : Month → List ℕ → List ℕ → Result (Weekday × ℤ) PlainCause
+side_of month word rest = do
+  weekday ← ok_or (weekday_of word) cause.Day
+  digits ← ok_or (after_mark 61 rest) cause.Day
+  number ← day_number month digits
+  Ok (weekday, number)
+
+abbrev pub on_or_before : Month → List ℕ → List ℕ → Result DaySpec PlainCause
+on_or_before month word rest = do
+  side ← side_of month word rest
+  Ok (LastOnOrBefore side.0 side.1)
+
+abbrev pub on_or_after : Month → List ℕ → List ℕ → Result DaySpec PlainCause
+on_or_after month word rest = do
+  side ← side_of month word rest
+  Ok (FirstOnOrAfter side.0 side.1)
+
+abbrev pub numbered : Month → List ℕ → Result DaySpec PlainCause
+numbered month text = do
+  number ← day_number month text
+  Ok (Ordinal number)
+
+unfoldable pub sided : Month → List ℕ → Result DaySpec PlainCause
+sided month text = option_map_or (λ parts. on_or_before month parts.0 parts.1) (cut 60 text)
+    (option_map_or (λ parts. on_or_after month parts.0 parts.1) (cut 62 text) (numbered month text))
+
+-- `last` and a weekday, a weekday on one side of a number, or a number
+unfoldable pub day_of : Month → List ℕ → Result DaySpec PlainCause
+day_of month text = option_map_or (λ weekday. Ok (Last weekday)) (last_weekday_of text) (sided month text)

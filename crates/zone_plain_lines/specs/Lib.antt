@@ -1,0 +1,8 @@
+pub mod Steps
+pub mod Quotes
+pub mod Words
+pub mod Numbers
+pub mod Clocks
+pub mod Days
+pub mod Columns
+pub mod Meanings
