@@ -173,12 +173,12 @@ days_into_year-julian y n m d some is =
           ]
     ]
 
-pub julian_day-is : (y : ℤ) (n : ℕ) → IsYear y → 1 ≤ n → n ≤ 365
+pub julian_day-is : (y : ℤ) (n : ℕ) → IsCountedYear y → 1 ≤ n → n ≤ 365
     → julian_day y n ≡ day y 1 1 +ℤ pos (cond (nat_le 60 n && is_leap y) n (n - 1))
 unfolding julian_day
 julian_day-is y n year some few =
     let is = in_common (n - 1) (omega arith) in
-    rw (day-into_year y _ _ (counted y year), days_into_year-julian y n _ _ some is) refl
+    rw (day-into_year y _ _ year, days_into_year-julian y n _ _ some is) refl
 
 pub julian_day-inside : (y : ℤ) (n : ℕ) → IsYear y → 1 ≤ n → n ≤ 365 → IsDay (julian_day y n)
 unfolding julian_day

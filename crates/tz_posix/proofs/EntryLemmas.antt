@@ -1,8 +1,8 @@
 -- The reading of a text is the value that it spells.
 use Rattle.std.proofs.Common.{◌≡◌, ℕ, List, Option, Some, None, option_map, MatchOption, sym, ◌∙◌}
 use Rattle.std.proofs.lemmas.Option.{same_Some, none-some}
-use Rattle.tz_posix.proofs.AgainLemmas.{entry_again}
-use Rattle.tz_posix.proofs.FoundLemmas.{entry_found}
+use Rattle.tz_posix.specs.AgainLaws.{entry_again}
+use Rattle.tz_posix.specs.FoundLaws.{entry_found}
 use Rattle.tz_posix.specs.Reading.{entry_in}
 use Rattle.tz_posix.specs.Shown.{tz_shown}
 use Rattle.tz_posix.specs.Spells.{Spells}

@@ -24,7 +24,7 @@ use Rattle.tz_posix.specs.Seconds.{offset_seconds, time_seconds}
 use Rattle.tz_posix.specs.Spells.{Spells}
 use Rattle.tz_posix.proofs.NorthernLemmas.{northern_agrees}
 use Rattle.tz_posix.proofs.SouthernLemmas.{southern_agrees}
-use Rattle.tz_posix.proofs.FoundLemmas.{entry_found}
+use Rattle.tz_posix.specs.FoundLaws.{entry_found}
 use Rattle.tz_posix.proofs.MonthPairLemmas.{AreInnerRules, end_inside, northern_apart, northern_order, southern_apart, southern_order, start_inside}
 
 pub new_york_spelled : Spells new_york_text (value_of new_york_value)

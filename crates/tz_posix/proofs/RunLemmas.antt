@@ -13,6 +13,7 @@ use Rattle.std.specs.Option.{MatchOption}
 use Rattle.std.specs.Result.{result_ok, OkIff}
 use Rattle.std.specs.Str.{IsUtf8, IsCharBoundary}
 use Rattle.std.specs.Str.Parse.{ParsesUnsigned, digits_value}
+use Rattle.tz_posix.specs.FoundLaws.{nat_eq-true}
 use Rattle.tz_posix.specs.Reading.{value_in, after_mark}
 use Rattle.tz_posix.specs.Spells.{is_enclosed}
 
@@ -44,20 +45,8 @@ boundary_before_bracket text utf8 = (
   λ inside. (IsCharBoundary-before_ascii text _ inside (bracket_is_ascii _ (prefix_len_stops is_enclosed text 0 inside))).1 inside,
 )
 
--- what passes at the front passes
-pub run_passes : (p : ℕ → Bool) (text : List ℕ) → list_all p (take_while p text) ≡ true
-run_passes p [] = refl
-run_passes p (b ∷ text) = rw take_while-cons (by_test (p b) refl (run_passes p text))
-  where
-    by_test : (t : Bool) → p b ≡ t → list_all p (take_while p text) ≡ true → list_all p (cond t (b ∷ take_while p text) []) ≡ true
-    by_test true e more = rw e more
-    by_test false e more = refl
-
 same_byte : (b : ℕ) → nat_eq b b ≡ true
 same_byte b = grind (arith, nat_tests)
-
-pub nat_eq-true : (b c : ℕ) → nat_eq b c ≡ true → b ≡ c
-nat_eq-true b c e = grind (arith, nat_tests)
 
 -- what `strip_prefix` gives at an ASCII character
 pub stripped : (mark : ℕ) (text : List ℕ) (r : Option (Bor (List ℕ)))

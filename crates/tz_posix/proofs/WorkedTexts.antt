@@ -7,8 +7,8 @@ use Rattle.tz_posix.specs.Reading.{expanded_in, entry_in}
 use Rattle.tz_posix.specs.Spells.{Spells}
 use Rattle.tz_posix.specs.Values.{TzValue, short, expanded}
 use Rattle.tz_posix.specs.declared.date.Date.TheVariants.{J, M}
-use Rattle.tz_posix.proofs.AgainLemmas.{entry_again}
-use Rattle.tz_posix.proofs.FoundLemmas.{entry_found}
+use Rattle.tz_posix.specs.AgainLaws.{entry_again}
+use Rattle.tz_posix.specs.FoundLaws.{entry_found}
 
 -- a name in brackets is kept without them
 worked_bracket : Spells (codes "<AB>0") (expanded (record {

@@ -44,14 +44,14 @@ past_dates = refl
 abbrev numbered : ℕ → ℤ
 numbered n = pos n -ℤ pos 10000
 
-year_of-later : (k : ℤ) → last_day <ℤ k → year_of k ≡ pos 10000
+pub year_of-later : (k : ℤ) → last_day <ℤ k → year_of k ≡ pos 10000
 unfolding year_of
 year_of-later k later =
     ap numbered (last_with-is (λ n. int_le (day (numbered n) 1 1) k) 20000 20000 (omega arith)
     (λ _. le_pass (day (numbered 20000) 1 1) k (omega (arith, signed, past_dates)))
     (λ j above high. absurd (omega arith)))
 
-year_of-earlier : (k : ℤ) → k <ℤ first_day → year_of k ≡ neg_ℤ (pos 10000)
+pub year_of-earlier : (k : ℤ) → k <ℤ first_day → year_of k ≡ neg_ℤ (pos 10000)
 unfolding year_of
 year_of-earlier k earlier =
     ap numbered (last_with-is (λ n. int_le (day (numbered n) 1 1) k) 20000 0 (omega arith)

@@ -1,5 +1,7 @@
+pub mod AgainLaws
 pub mod Agreement
 pub mod Days
+pub mod FoundLaws
 pub mod InForce
 pub mod Marks
 pub mod NamedShown

@@ -1,7 +1,8 @@
 //! The days of a rule.
 ghost use Rattle.std.specs.Prelude.{◌≡◌, ◌≤◌, ◌<◌, ◌+◌, ◌-◌, if◌then◌else◌, ◌&&◌, ◌==◌, nat_le, nat_lt, IsTrue, IfOk};
 ghost use Rattle.std.specs.Result.{result_err};
-ghost use Rattle.calendar.specs.Days.{is_leap, days_in_year};
+ghost use Rattle.std.specs.Prelude.{pos, neg_ℤ, ◌+ℤ◌, ◌≤ℤ◌};
+ghost use Rattle.calendar.specs.Days.{day as day_of_date, is_leap, days_in_year, IsCountedYear};
 ghost use Rattle.civil_base.specs.Ranges.{IsDay, IsYear};
 ghost use Rattle.tz_posix.specs.Days.{rule_day, day_refusal, is_last_month, julian_day as julian_in, nth_weekday as nth_in, IsNth};
 ghost use Rattle.tz_posix.specs.Ranges.{is_rule_date};
@@ -47,6 +48,23 @@ impl Date {
         }
     }
 
+    /// The day number of the date in a year of -10000 to 10000, also where `to_date` refuses: `N(365)` of a year of 365 days
+    /// is the first day of the next one.
+    #[tactic(auto, unfolding(crate::specs::Days::rule_day))]
+    pub fn day_number(self, year: i32) -> i32
+        requires year { IsCountedYear year }
+        requires date { IsTrue (is_rule_date self) }
+        ensures value { result ≡ rule_day self year }
+        ensures least { neg_ℤ (pos 5_000_000) ≤ℤ result }
+        ensures greatest { result ≤ℤ pos 5_000_000 }
+    {
+        match self {
+            Date::J(n) => julian_day(year, n),
+            Date::N(n) => day_after_first(year, n),
+            Date::M { m, n, d } => nth_day(year, m, n, d),
+        }
+    }
+
     /// The day number of the date in a year, refused as by `to_date`.
     #[tactic(auto, unfolding(crate::specs::Days::rule_day, crate::specs::Days::day_refusal))]
     pub(crate) fn day_in(self, year: i32) -> Result<i32, Error>
@@ -73,10 +91,12 @@ fn date_with(day: i32) -> civil_base::Date
 
 /// The day number of the nth day of a year, February 29 left out.
 fn julian_day(year: i32, n: u16) -> i32
-    requires year { IsYear year }
+    requires year { IsCountedYear year }
     requires date { IsTrue (is_rule_date (Date.J n)) }
     ensures value { result ≡ julian_in year n }
-    ensures inside { IsDay result }
+    ensures inside { IsYear year → IsDay result }
+    ensures least { neg_ℤ (pos 5_000_000) ≤ℤ result }
+    ensures greatest { result ≤ℤ pos 5_000_000 }
 {
     day_number(year, 1, 1) + i32::from(days_before_julian(year, n))
 }
@@ -91,6 +111,17 @@ fn days_before_julian(year: i32, n: u16) -> u16
     } else {
         n - 1
     }
+}
+
+/// The day number of the day n of a year, from 0, counted on into the next year.
+fn day_after_first(year: i32, n: u16) -> i32
+    requires year { IsCountedYear year }
+    requires date { IsTrue (is_rule_date (Date.N n)) }
+    ensures value { result ≡ day_of_date year 1 1 +ℤ pos n }
+    ensures least { neg_ℤ (pos 5_000_000) ≤ℤ result }
+    ensures greatest { result ≤ℤ pos 5_000_000 }
+{
+    day_number(year, 1, 1) + i32::from(n)
 }
 
 /// The day number of the day n of a year, from 0.
@@ -130,6 +161,18 @@ fn weekday_day(year: i32, m: u8, n: u8, d: u8) -> Result<i32, Error>
     Ok(day_number(year, m, nth_weekday(year, m, n, first)))
 }
 
+/// The day number of the nth weekday d of month m, for every year that is counted.
+fn nth_day(year: i32, m: u8, n: u8, d: u8) -> i32
+    requires year { IsCountedYear year }
+    requires date { IsTrue (is_rule_date (Date.M m n d)) }
+    ensures value { result ≡ day_of_date year m (nth_in year m n d) }
+    ensures least { neg_ℤ (pos 5_000_000) ≤ℤ result }
+    ensures greatest { result ≤ℤ pos 5_000_000 }
+{
+    let first = first_weekday(year, m, d);
+    day_number(year, m, nth_weekday(year, m, n, first))
+}
+
 /// Whether four weeks after the first weekday would be past all dates.
 fn is_too_large(year: i32, month: u8, n: u8, first: u8) -> bool
     requires { first ≤ 7 }
@@ -140,7 +183,7 @@ fn is_too_large(year: i32, month: u8, n: u8, first: u8) -> bool
 
 /// The first day of the month with the weekday.
 fn first_weekday(year: i32, month: u8, weekday_number: u8) -> u8
-    requires year { IsYear year }
+    requires year { IsCountedYear year }
     requires first_month { 1 ≤ month }
     requires last_month { month ≤ 12 }
     requires weekday { weekday_number ≤ 6 }

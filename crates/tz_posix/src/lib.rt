@@ -8,6 +8,7 @@ mod error;
 pub mod laws;
 mod offset;
 mod parse;
+pub mod parts;
 mod posix;
 mod range;
 mod read;

@@ -5,10 +5,10 @@ ghost use Rattle.tz_posix.specs.Spells.{Spells};
 ghost use Rattle.tz_posix.specs.Values.{TzValue};
 ghost use Rattle.tz_posix.specs.Shown.{dst_shown, tz_shown};
 
-mod dates;
-mod names;
-mod numbers;
-mod times;
+pub(crate) mod dates;
+pub(crate) mod names;
+pub(crate) mod numbers;
+pub(crate) mod times;
 
 use crate::read::dates::rule;
 use crate::read::names::name;
@@ -29,7 +29,7 @@ fn is_over(text: &str) -> bool
 
 /// The offset of daylight saving time, where one is written, and the rest.
 #[tactic(auto, unfolding(crate::specs::Reading::own_offset_at))]
-fn own_offset(text: &str) -> Option<(Option<Offset>, &str)>
+pub fn own_offset(text: &str) -> Option<(Option<Offset>, &str)>
     ensures { read_as (λ offset. offset) result ≡ own_offset_at text.now }
 {
     if is_over(text) {

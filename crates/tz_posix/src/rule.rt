@@ -4,6 +4,7 @@ ghost use Rattle.std.specs.Prelude.{pos, ◌+ℤ◌, ◌-ℤ◌, ◌*ℤ◌};
 ghost use Rattle.std.specs.Int.{int_div_euclid};
 ghost use Rattle.std.specs.Result.{result_err};
 ghost use Rattle.calendar.specs.Dates.{year_of};
+ghost use Rattle.calendar.specs.Days.{IsCountedYear};
 ghost use Rattle.civil_base.specs.Ranges.{far_seconds, IsYear};
 ghost use Rattle.tz_posix.specs.Days.{day_refusal};
 ghost use Rattle.tz_posix.specs.InForce.{instant_in, is_saving as is_saving_at, is_within as is_between, is_year, rule_refusal};
@@ -134,7 +135,7 @@ fn second_at(day: i32, seconds: u32, offset: UtcOffset) -> i64
 
 /// Whether a second lies from the start up to, without, the end; or, where the end lies before the start, before the end or
 /// from the start on.
-fn is_within(start: i64, end: i64, second: i64) -> bool
+pub fn is_within(start: i64, end: i64, second: i64) -> bool
     ensures { result ≡ is_between start end second }
 {
     if end < start {
@@ -152,6 +153,30 @@ fn year_at(offset: UtcOffset, second: i64) -> Option<i32>
         (λ year. (year ≡ year_in offset second) × (is_year year ≡ true)) }
 {
     year_of_second(second + i64::from(offset.whole_seconds()))
+}
+
+/// The year of the date at a second, where clocks are that far ahead of UTC; past the years of dates it is -10000 or 10000.
+#[tactic(auto, unfolding(crate::specs::InForce::year_at))]
+pub fn counted_year_at(offset: UtcOffset, second: i64) -> i32
+    requires { unsigned_abs second ≤ 800_000_000_000 }
+    ensures year { result ≡ year_in offset second }
+    ensures counted { IsCountedYear result }
+{
+    counted_year(second + i64::from(offset.whole_seconds()))
+}
+
+/// The year of the date at a local second, or -10000 or 10000.
+fn counted_year(second: i64) -> i32
+    ensures year { result ≡ year_of (int_div_euclid second (pos 86_400)) }
+    ensures counted { IsCountedYear result }
+{
+    if second < FIRST_SECOND {
+        return -10_000;
+    }
+    if END <= second {
+        return 10_000;
+    }
+    date_of(second.div_euclid(SECONDS_PER_DAY) as i32).year
 }
 
 /// The year of the date at a local second, if dates have it.

@@ -51,7 +51,7 @@ impl Time {
     }
 
     /// Whether there are at most so many hours, and minutes and seconds of a clock.
-    pub(crate) fn is_within(&self, hours: u8) -> bool
+    pub fn is_within(&self, hours: u8) -> bool
         ensures { result ≡ is_time hours self.now }
     {
         self.hh <= hours && self.minute() <= 59 && self.second() <= 59
@@ -83,7 +83,7 @@ impl Offset {
     }
 
     /// The offset from UTC, which lies east of it where this one is negative.
-    pub(crate) fn to_utc_offset(&self) -> UtcOffset
+    pub fn to_utc_offset(&self) -> UtcOffset
         requires { offset_miss self.now ≡ None }
         ensures value { result ≡ east_of self.now }
         ensures bound { IsWritten result }
@@ -101,7 +101,7 @@ pub(crate) fn offset_of(seconds: i32) -> UtcOffset
 }
 
 /// The offset of daylight saving time: an hour ahead of standard time where it has none of its own.
-pub(crate) fn saving_offset(own: &Option<Offset>, standard: UtcOffset) -> UtcOffset
+pub fn saving_offset(own: &Option<Offset>, standard: UtcOffset) -> UtcOffset
     requires own { option_and_then offset_miss own.now ≡ None }
     requires standard { IsWritten standard }
     ensures { result ≡ option_map_or east_of own.now (standard +ℤ pos 3600) }

@@ -18,7 +18,7 @@ pub trait Offset: Drop {
     /// The abbreviation.
     ghost called: { Self → List ℕ };
 
-    /// Whether a saving above 0 is in force.
+    /// Whether this is daylight saving time.
     ghost is_saving: { Self → Bool };
 
     /// The offset from UTC.
@@ -29,7 +29,8 @@ pub trait Offset: Drop {
     fn name(&self) -> &str
         ensures { result.now ≡ called self.now };
 
-    /// Whether a saving above 0 is in force.
+    /// Whether this is daylight saving time, as the zone says: of a set of spans, where the saving is above 0; of a compiled file,
+    /// where its flag is set, whatever the offset.
     fn is_dst(&self) -> bool
         ensures { result ≡ is_saving self.now };
 }
@@ -50,7 +51,7 @@ pub trait TimeZone {
     /// No local time has more than two instants.
     ghost orderly: { Self → Type 0 };
 
-    /// This abbreviation is in force at an instant, with a saving above 0 or without one.
+    /// This abbreviation is in force at an instant, and whether it is daylight saving time.
     ghost gives: { Self → ℤ → List ℕ → Bool → Type 0 };
 
     /// The zone's name.
@@ -59,7 +60,7 @@ pub trait TimeZone {
     /// The seconds east of UTC of the zone's first offset.
     ghost primary: { Self → ℤ };
 
-    /// The first offset has this abbreviation, and a saving above 0 or none.
+    /// The first offset has this abbreviation, and is daylight saving time or not.
     ghost begins: { Self → List ℕ → Bool → Type 0 };
 
     /// The offset in force at an instant.

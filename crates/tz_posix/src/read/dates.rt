@@ -21,7 +21,7 @@ fn weekday(text: &str) -> Option<(Date, &str)>
 
 /// A date, and the rest.
 #[tactic(auto, unfolding(crate::specs::Reading::date_at))]
-fn date(text: &str) -> Option<(Date, &str)>
+pub fn date(text: &str) -> Option<(Date, &str)>
     ensures { read_as (λ date. date) result ≡ date_at text.now }
 {
     if let Some(rest) = after_mark('J', text) {

@@ -36,7 +36,7 @@ fn enclosed(text: &str) -> Option<(&str, &str)>
 
 /// A name, without its brackets, and the rest.
 #[tactic(auto, unfolding(crate::specs::Reading::name_at))]
-pub(crate) fn name(text: &str) -> Option<(&str, &str)>
+pub fn name(text: &str) -> Option<(&str, &str)>
     ensures { read_as (λ name. name.now) result ≡ name_at text.now }
 {
     match after_mark('<', text) {

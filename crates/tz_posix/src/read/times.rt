@@ -49,7 +49,7 @@ fn sign(text: &str) -> (bool, &str)
 
 /// An offset at the front, and the rest.
 #[tactic(auto, unfolding(crate::specs::Reading::offset_at))]
-pub(crate) fn offset(text: &str) -> Option<(Offset, &str)>
+pub fn offset(text: &str) -> Option<(Offset, &str)>
     ensures { read_as (λ o. o) result ≡ offset_at text.now }
 {
     let (positive, rest) = sign(text);

@@ -1,6 +1,5 @@
 use Rattle.std.proofs.Common.{refl, arith, to_z-of_z, ◌≡◌, ◌<◌, w32, to_z, of_z}
 use Rattle.calendar.specs.Signs.{signed_casts}
-use Rattle.tz_posix.proofs.DayLemmas.{counted}
 use Rattle.tz_posix.proofs.WeekdayLemmas.{first_weekday-is}
 use Rattle.tz_posix.proofs.date.first_weekday.Goals as goal
 
@@ -11,4 +10,4 @@ returns-clause-value c =
     let number : to_z w32 (of_z w32 c.day_number.result) ≡ c.day_number.result =
     omega (arith, signed_casts, c.day_number.ensures.least, c.day_number.ensures.greatest) in
     let weekday = rw (number, start) at c.weekday.ensures.value in
-    rw (first_weekday-is c.args.year c.args.month c.args.weekday_number (counted c.args.year c.requires.year) small, weekday) refl
+    rw (first_weekday-is c.args.year c.args.month c.args.weekday_number c.requires.year small, weekday) refl

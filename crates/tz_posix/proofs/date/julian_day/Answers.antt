@@ -1,4 +1,4 @@
-use Rattle.std.proofs.Common.{◌≡◌, ◌≤◌, arith, ap, ◌∙◌, cond, nat_le, ◌&&◌, ◌-◌, pos, ◌+ℤ◌, w32, to_z, of_z, to_z-of_z}
+use Rattle.std.proofs.Common.{◌≡◌, ◌≤◌, ◌≤ℤ◌, ℕ, ℤ, neg_ℤ, Bool, true, false, arith, ap, ◌∙◌, cond, nat_le, ◌&&◌, ◌-◌, pos, ◌+ℤ◌, w32, to_z, of_z, to_z-of_z}
 use Rattle.std.proofs.lemmas.Bool.{and_parts, leb-true}
 use Rattle.calendar.specs.Days.{day, is_leap}
 use Rattle.calendar.specs.Signs.{signed_casts}
@@ -26,7 +26,30 @@ sum_is c =
     let is = julian_day-is c.args.year c.args.n c.requires.year range.0 range.1 in
     omega (arith, signed_casts, c.day_number.ensures.least, c.day_number.ensures.greatest, c.days_before_julian.ensures)
 
+few : (b : Bool) (n : ℕ) → n ≤ 365 → cond b n (n - 1) ≤ 365
+few true n h = h
+few false n h = omega (arith, h)
+
+record IsNear (z : ℤ) : Type 0 where
+  least : neg_ℤ (pos 5000000) ≤ℤ z
+  greatest : z ≤ℤ pos 5000000
+
+near : (c : goal.After-from) → IsNear (to_z w32 (of_z w32 (to_z w32 (of_z w32 c.day_number.result) +ℤ to_z w32 (of_z w32 c.from.result))))
+near c =
+    let before = days_before c in
+    let small = few (nat_le 60 c.args.n && is_leap c.args.year) c.args.n (bounds c).1 in
+    record {
+      least = omega (arith, signed_casts, c.day_number.ensures.least, c.day_number.ensures.greatest, before, small);
+      greatest = omega (arith, signed_casts, c.day_number.ensures.least, c.day_number.ensures.greatest, before, small);
+    }
+
 pub returns : goal.returns
 returns c =
     let range = bounds c in
-    record { value = sum_is c; inside = rw (sum_is c) (julian_day-inside c.args.year c.args.n c.requires.year range.0 range.1) }
+    let is_near = near c in
+    record {
+      value = sum_is c;
+      inside = λ year. rw (sum_is c) (julian_day-inside c.args.year c.args.n year range.0 range.1);
+      least = is_near.least;
+      greatest = is_near.greatest;
+    }

@@ -5,12 +5,12 @@ use Rattle.std.proofs.Common.{take_while, ltb-true, append_assoc, append-nil}
 use Rattle.std.proofs.lemmas.Bool.{and_parts}
 use Rattle.std.proofs.lemmas.Bool.Decides.{nat_tests}
 use Rattle.std.proofs.lemmas.List.{take-append-drop, nil_from_length}
+use Rattle.std.proofs.lemmas.List.Sums.{take_while-cons}
 use Rattle.std.proofs.lemmas.Option.{cond_some, same_Some, none-some}
 use Rattle.std.specs.Char.{is_ascii_digit, is_ascii_alphabetic}
 use Rattle.std.specs.List.{prefix_len, list_all}
 use Rattle.std.specs.Option.{option_map_or}
 use Rattle.std.specs.Str.Parse.{digits_value}
-use Rattle.tz_posix.proofs.RunLemmas.{run_passes, nat_eq-true}
 use Rattle.tz_posix.specs.Marks.{colon, plus_sign, comma, minus_sign, dot, slash, less, greater, letter_J, letter_M}
 use Rattle.tz_posix.specs.Reading.{after_mark, after_run, value_in, number_at, part_at, seconds_at, time_at, offset_at, sign_at}
 use Rattle.tz_posix.specs.Reading.{letters_at, enclosed_at, name_at, day_at, weekday_at, date_at, date_time_at, moment_at, rule_in}
@@ -25,28 +25,40 @@ use Rattle.tz_posix.specs.declared.date.Date.{Date}
 use Rattle.tz_posix.specs.declared.date.Date.TheVariants.{J, N, M}
 use Rattle.tz_posix.specs.declared.values.Rule.{Rule}
 
+-- what passes at the front passes
+pub run_passes : (p : ℕ → Bool) (text : List ℕ) → list_all p (take_while p text) ≡ true
+run_passes p [] = refl
+run_passes p (b ∷ text) = rw take_while-cons (by_test (p b) refl (run_passes p text))
+  where
+    by_test : (t : Bool) → p b ≡ t → list_all p (take_while p text) ≡ true → list_all p (cond t (b ∷ take_while p text) []) ≡ true
+    by_test true e more = rw e more
+    by_test false e more = refl
+
+pub nat_eq-true : (b c : ℕ) → nat_eq b c ≡ true → b ≡ c
+nat_eq-true b c e = grind (arith, nat_tests)
+
 -- a text of the value stands at the front, before the rest
-data Takes {V : Type 0} (Is : List ℕ → V → Type 0) : List ℕ → V → List ℕ → Type 0 where
+pub data Takes {V : Type 0} (Is : List ℕ → V → Type 0) : List ℕ → V → List ℕ → Type 0 where
   takes : {front rest : List ℕ} {value : V} → Is front value → Takes Is (front ++ rest) value rest
 
-takes_as : {V : Type 0} {Is : List ℕ → V → Type 0} {text : List ℕ} {x y : V × List ℕ} → Some x ≡ Some y → Takes Is text x.0 x.1
+pub takes_as : {V : Type 0} {Is : List ℕ → V → Type 0} {text : List ℕ} {x y : V × List ℕ} → Some x ≡ Some y → Takes Is text x.0 x.1
     → Takes Is text y.0 y.1
 takes_as {V} {Is} {text} {x} {y} e t = subst (λ (p : V × List ℕ). Takes Is text p.0 p.1) (same_Some x y e) t
 
-bind_some : {A B : Type 0} (f : A → Option B) (o : Option A) (y : B) → option_and_then f o ≡ Some y
+pub bind_some : {A B : Type 0} (f : A → Option B) (o : Option A) (y : B) → option_and_then f o ≡ Some y
     → (x : A) × (o ≡ Some x) × (f x ≡ Some y)
 bind_some f (Some x) y e = (x, refl, e)
 bind_some f None y e = absurd cc
 
-map_some : {A B : Type 0} (f : A → B) (o : Option A) (y : B) → option_map f o ≡ Some y → (x : A) × (o ≡ Some x) × (f x ≡ y)
+pub map_some : {A B : Type 0} (f : A → B) (o : Option A) (y : B) → option_map f o ≡ Some y → (x : A) × (o ≡ Some x) × (f x ≡ y)
 map_some f (Some x) y e = (x, refl, same_Some _ _ e)
 map_some f None y e = absurd cc
 
-chosen : {A : Type 0} (b : Bool) (x y z : A) → cond b x y ≡ z → ((b ≡ true) × (x ≡ z)) ⊎ ((b ≡ false) × (y ≡ z))
+pub chosen : {A : Type 0} (b : Bool) (x y z : A) → cond b x y ≡ z → ((b ≡ true) × (x ≡ z)) ⊎ ((b ≡ false) × (y ≡ z))
 chosen true x y z e = inl (refl, e)
 chosen false x y z e = inr (refl, e)
 
-mark_found : (mark : ℕ) (text rest : List ℕ) → after_mark mark text ≡ Some rest → text ≡ mark ∷ rest
+pub mark_found : (mark : ℕ) (text rest : List ℕ) → after_mark mark text ≡ Some rest → text ≡ mark ∷ rest
 mark_found mark [] rest e = absurd cc
 mark_found mark (c ∷ text) rest e =
     let both = cond_some (nat_eq c mark) text rest e in
@@ -54,7 +66,7 @@ mark_found mark (c ∷ text) rest e =
     cc
 
 -- a text with a mark at its front, or another
-marked : {B : Type 0} (f : List ℕ → B) (mark : ℕ) (text : List ℕ) (d y : B) → option_map_or f (after_mark mark text) d ≡ y
+pub marked : {B : Type 0} (f : List ℕ → B) (mark : ℕ) (text : List ℕ) (d y : B) → option_map_or f (after_mark mark text) d ≡ y
     → ((rest : List ℕ) × (text ≡ mark ∷ rest) × (f rest ≡ y)) ⊎ (d ≡ y)
 marked f mark text d y e = by_mark (after_mark mark text) refl e
   where
@@ -139,7 +151,7 @@ offset_built unsigned (takes t) = takes (bare t)
 offset_built with_plus (takes t) = takes (plus t)
 offset_built with_minus (takes t) = takes (minus t)
 
-offset_found : (text : List ℕ) (y : Offset × List ℕ) → offset_at text ≡ Some y → Takes IsOffset text y.0 y.1
+pub offset_found : (text : List ℕ) (y : Offset × List ℕ) → offset_at text ≡ Some y → Takes IsOffset text y.0 y.1
 unfolding offset_at
 offset_found text y e =
     let t = bind_some _ (time_at (sign_at text).1) y e in
@@ -177,7 +189,7 @@ letters_found text y e =
     (take-append-drop (prefix_len is_ascii_alphabetic text) text)
     (takes (letters fewest most (run_passes is_ascii_alphabetic text))))
 
-name_found : (text : List ℕ) (y : List ℕ × List ℕ) → name_at text ≡ Some y → Takes IsName text y.0 y.1
+pub name_found : (text : List ℕ) (y : List ℕ × List ℕ) → name_at text ≡ Some y → Takes IsName text y.0 y.1
 unfolding name_at
 name_found text y e = elim (marked enclosed_at less text (letters_at text) (Some y) e) [
   | inl found ↦ rw found.1 (enclosed_found found.0 y found.2)
@@ -210,7 +222,7 @@ julian_built (takes n) = takes (julian n)
 counted_built : {text rest : List ℕ} {n : ℕ} → Takes (IsNumber 16) text n rest → Takes IsDate text (N n) rest
 counted_built (takes n) = takes (counted n)
 
-date_found : (text : List ℕ) (y : Date × List ℕ) → date_at text ≡ Some y → Takes IsDate text y.0 y.1
+pub date_found : (text : List ℕ) (y : Date × List ℕ) → date_at text ≡ Some y → Takes IsDate text y.0 y.1
 unfolding date_at
 date_found text y e = elim (marked (day_at J) letter_J text _ (Some y) e) [
   | inl found ↦
@@ -264,7 +276,7 @@ rule_found text y e =
 offset_there : {text rest : List ℕ} {o : Offset} → Takes IsOffset text o rest → Takes (Optional IsOffset) text (Some o) rest
 offset_there (takes o) = takes (present o)
 
-own_offset_found : (text : List ℕ) (y : Option Offset × List ℕ) → own_offset_at text ≡ Some y → Takes (Optional IsOffset) text y.0 y.1
+pub own_offset_found : (text : List ℕ) (y : Option Offset × List ℕ) → own_offset_at text ≡ Some y → Takes (Optional IsOffset) text y.0 y.1
 unfolding own_offset_at
 own_offset_found text y e = elim (chosen (is_over text) _ _ (Some y) e) [
   | inl over ↦ takes_as over.1 (takes absent)

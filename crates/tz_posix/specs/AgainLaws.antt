@@ -25,7 +25,7 @@ use Rattle.tz_posix.specs.declared.values.Rule.{Rule}
 abbrev pub goes_on : ℕ → Bool
 goes_on c = is_ascii_digit c || (nat_eq c colon || nat_eq c slash)
 
-stop_digit : (rest : List ℕ) → begins goes_on rest ≡ false → begins is_ascii_digit rest ≡ false
+pub stop_digit : (rest : List ℕ) → begins goes_on rest ≡ false → begins is_ascii_digit rest ≡ false
 stop_digit [] e = refl
 stop_digit (c ∷ rest) e = grind (arith, nat_tests)
 
@@ -53,7 +53,7 @@ number_again {bits} {a} {n} is rest stops =
     rw (run.0, run.1, lt-ltb _ _ is.some, lt-ltb _ _ fits, is.value) refl
 
 -- no mark stands where another byte does, or none
-no_mark : (mark : ℕ) (rest : List ℕ) → begins (λ c. nat_eq c mark) rest ≡ false → after_mark mark rest ≡ None
+pub no_mark : (mark : ℕ) (rest : List ℕ) → begins (λ c. nat_eq c mark) rest ≡ false → after_mark mark rest ≡ None
 no_mark mark [] stops = refl
 no_mark mark (c ∷ rest) stops = rw stops refl
 
@@ -61,7 +61,7 @@ stop_colon : (rest : List ℕ) → begins goes_on rest ≡ false → begins (λ 
 stop_colon [] e = refl
 stop_colon (c ∷ rest) e = grind (arith, nat_tests)
 
-stop_slash : (rest : List ℕ) → begins goes_on rest ≡ false → begins (λ c. nat_eq c slash) rest ≡ false
+pub stop_slash : (rest : List ℕ) → begins goes_on rest ≡ false → begins (λ c. nat_eq c slash) rest ≡ false
 stop_slash [] e = refl
 stop_slash (c ∷ rest) e = grind (arith, nat_tests)
 
@@ -105,7 +105,7 @@ module _ {B : Type 0} (test : List ℕ → B) (answer : B) (at_digit : (c : ℕ)
   time_first (minutes {a} {b} h m) rest = rw append_assoc (number_first h (colon ∷ (b ++ rest)))
   time_first (seconds {a} {b} {c} h m s) rest = rw (append_assoc, append_assoc) (number_first h (colon ∷ (b ++ (colon ∷ (c ++ rest)))))
 
-  offset_first : ((cs : List ℕ) → test (plus_sign ∷ cs) ≡ answer) → ((cs : List ℕ) → test (minus_sign ∷ cs) ≡ answer)
+  pub offset_first : ((cs : List ℕ) → test (plus_sign ∷ cs) ≡ answer) → ((cs : List ℕ) → test (minus_sign ∷ cs) ≡ answer)
       → {a : List ℕ} {o : Offset} → IsOffset a o → (rest : List ℕ) → test (a ++ rest) ≡ answer
   offset_first at_plus at_minus (bare t) rest = time_first t rest
   offset_first at_plus at_minus (plus {a} t) rest = at_plus (a ++ rest)
@@ -113,22 +113,22 @@ module _ {B : Type 0} (test : List ℕ → B) (answer : B) (at_digit : (c : ℕ)
 
 module _ {B : Type 0} (test : List ℕ → B) (answer : B) (at_letter : (c : ℕ) (cs : List ℕ) → is_ascii_alphabetic c ≡ true
     → test (c ∷ cs) ≡ answer) (at_bracket : (cs : List ℕ) → test (less ∷ cs) ≡ answer) where
-  name_first : {a name : List ℕ} → IsName a name → (rest : List ℕ) → test (a ++ rest) ≡ answer
+  pub name_first : {a name : List ℕ} → IsName a name → (rest : List ℕ) → test (a ++ rest) ≡ answer
   name_first (enclosed {name} some inside) rest = at_bracket (name ++ greater ∷ [] ++ rest)
   name_first (letters {name} three sixteen passes) rest = run_first is_ascii_alphabetic test answer at_letter name rest (omega arith) passes
 
-no_digit_is : (mark : ℕ) → is_ascii_digit mark ≡ false → (c : ℕ) (cs : List ℕ) → is_ascii_digit c ≡ true → after_mark mark (c ∷ cs) ≡ None
+pub no_digit_is : (mark : ℕ) → is_ascii_digit mark ≡ false → (c : ℕ) (cs : List ℕ) → is_ascii_digit c ≡ true → after_mark mark (c ∷ cs) ≡ None
 no_digit_is mark other c cs digit =
     let differs : nat_eq c mark ≡ false = grind (arith, nat_tests) in
     rw differs refl
 
-no_letter_is : (mark : ℕ) → is_ascii_alphabetic mark ≡ false → (c : ℕ) (cs : List ℕ) → is_ascii_alphabetic c ≡ true
+pub no_letter_is : (mark : ℕ) → is_ascii_alphabetic mark ≡ false → (c : ℕ) (cs : List ℕ) → is_ascii_alphabetic c ≡ true
     → after_mark mark (c ∷ cs) ≡ None
 no_letter_is mark other c cs letter =
     let differs : nat_eq c mark ≡ false = grind (arith, nat_tests) in
     rw differs refl
 
-offset_again : {a : List ℕ} {o : Offset} → IsOffset a o → (rest : List ℕ) → begins goes_on rest ≡ false
+pub offset_again : {a : List ℕ} {o : Offset} → IsOffset a o → (rest : List ℕ) → begins goes_on rest ≡ false
     → offset_at (a ++ rest) ≡ Some (o, rest)
 unfolding offset_at sign_at
 offset_again (bare {a} t) rest stops =
@@ -140,7 +140,7 @@ offset_again (bare {a} t) rest stops =
 offset_again (plus t) rest stops = rw (time_again t rest stops) refl
 offset_again (minus t) rest stops = rw (time_again t rest stops) refl
 
-some_text : (c : ℕ) (cs : List ℕ) → nat_eq (length (c ∷ cs)) 0 ≡ false
+pub some_text : (c : ℕ) (cs : List ℕ) → nat_eq (length (c ∷ cs)) 0 ≡ false
 some_text c cs = grind (arith, nat_tests)
 
 enclosed_again : (name rest : List ℕ) → 0 < length name → list_all is_enclosed name ≡ true
@@ -151,7 +151,7 @@ enclosed_again name rest some inside =
     let more : nat_eq (length name) 0 ≡ false = grind (arith, nat_tests) in
     rw (append_assoc, run.0, run.1, more) refl
 
-name_again : {a name : List ℕ} → IsName a name → (rest : List ℕ) → begins is_ascii_alphabetic rest ≡ false
+pub name_again : {a name : List ℕ} → IsName a name → (rest : List ℕ) → begins is_ascii_alphabetic rest ≡ false
     → name_at (a ++ rest) ≡ Some (name, rest)
 unfolding name_at letters_at
 name_again (enclosed {name} some inside) rest stops = enclosed_again name rest some inside
@@ -179,7 +179,7 @@ weekday_again {a} {b} {c} m n d rest stops =
       number_again d rest stops,
     ) refl
 
-date_again : {a : List ℕ} {d : Date} → IsDate a d → (rest : List ℕ) → begins is_ascii_digit rest ≡ false
+pub date_again : {a : List ℕ} {d : Date} → IsDate a d → (rest : List ℕ) → begins is_ascii_digit rest ≡ false
     → date_at (a ++ rest) ≡ Some (d, rest)
 unfolding date_at
 date_again (julian n) rest stops = rw (number_again n rest stops) refl
@@ -207,17 +207,17 @@ rule_over : {a : List ℕ} {r : Option Rule} → Optional IsRule a r → is_over
 rule_over absent = refl
 rule_over (present (rule s e)) = refl
 
-over_stops : (rest : List ℕ) → is_over rest ≡ true → (begins goes_on rest ≡ false) × (begins is_ascii_alphabetic rest ≡ false)
+pub over_stops : (rest : List ℕ) → is_over rest ≡ true → (begins goes_on rest ≡ false) × (begins is_ascii_alphabetic rest ≡ false)
 over_stops [] e = (refl, refl)
 over_stops (c ∷ rest) e = (grind (arith, nat_tests), grind (arith, nat_tests))
 
 digit_goes : (c : ℕ) (cs : List ℕ) → is_ascii_digit c ≡ true → is_over (c ∷ cs) ≡ false
 digit_goes c cs h = grind (arith, nat_tests)
 
-digit_no_letter : (c : ℕ) (cs : List ℕ) → is_ascii_digit c ≡ true → begins is_ascii_alphabetic (c ∷ cs) ≡ false
+pub digit_no_letter : (c : ℕ) (cs : List ℕ) → is_ascii_digit c ≡ true → begins is_ascii_alphabetic (c ∷ cs) ≡ false
 digit_no_letter c cs h = grind (arith, nat_tests)
 
-own_offset_again : {a : List ℕ} {o : Option Offset} → Optional IsOffset a o → (rest : List ℕ) → is_over rest ≡ true
+pub own_offset_again : {a : List ℕ} {o : Option Offset} → Optional IsOffset a o → (rest : List ℕ) → is_over rest ≡ true
     → own_offset_at (a ++ rest) ≡ Some (o, rest)
 unfolding own_offset_at
 own_offset_again absent rest over = rw over refl
@@ -229,7 +229,7 @@ unfolding own_rule_in
 own_rule_again absent = refl
 own_rule_again (present (rule {a} {b} s e)) = rw (rule_again (rule s e), some_text comma (a ++ comma ∷ b)) refl
 
-after_name : {a : List ℕ} {o : Option Offset} → Optional IsOffset a o → (rest : List ℕ) → is_over rest ≡ true
+pub after_name : {a : List ℕ} {o : Option Offset} → Optional IsOffset a o → (rest : List ℕ) → is_over rest ≡ true
     → begins is_ascii_alphabetic (a ++ rest) ≡ false
 after_name absent rest over = (over_stops rest over).1
 after_name (present o) rest over = offset_first (begins is_ascii_alphabetic) false digit_no_letter (λ cs. refl) (λ cs. refl) o rest
@@ -242,7 +242,7 @@ dst_again (present (dst {a} {b} {c} name o r)) =
     let some = name_first (λ text. nat_eq (length text) 0) false (λ c cs h. some_text c cs) (some_text less) name (b ++ c) in
     rw (append_assoc, some, name_again name (b ++ c) (after_name o c over), own_offset_again o c over, own_rule_again r) refl
 
-letter_stops : (c : ℕ) (cs : List ℕ) → is_ascii_alphabetic c ≡ true → begins goes_on (c ∷ cs) ≡ false
+pub letter_stops : (c : ℕ) (cs : List ℕ) → is_ascii_alphabetic c ≡ true → begins goes_on (c ∷ cs) ≡ false
 letter_stops c cs h = grind (arith, nat_tests)
 
 dst_stops : {a : List ℕ} {d : Option DstPart} → Optional IsDst a d → begins goes_on a ≡ false
