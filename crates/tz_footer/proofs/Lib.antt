@@ -1,0 +1,4 @@
+mod AgainLemmas
+mod FoundLemmas
+mod RangeLemmas
+mod ReadLemmas

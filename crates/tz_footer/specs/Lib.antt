@@ -1,0 +1,9 @@
+pub mod FooterShown
+pub mod InForce
+pub mod Ranges
+pub mod Reading
+pub mod Shown
+pub mod Spells
+pub mod Standing
+pub mod Values
+pub mod Yearly

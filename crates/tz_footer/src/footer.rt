@@ -1,0 +1,126 @@
+//! Footers and what they put in force.
+ghost use Rattle.std.specs.Prelude.{◌≡◌, ◌≤◌, true, IsTrue, unsigned_abs, pos, ◌+ℤ◌};
+ghost use Rattle.std.specs.Option.{option_map_or};
+ghost use Rattle.tz_footer.specs.Ranges.{is_in_range, is_saving};
+ghost use Rattle.tz_footer.specs.Shown.{saving_shown, text_shown};
+ghost use Rattle.tz_footer.specs.FooterShown.{held_shown};
+ghost use Rattle.tz_footer.specs.Standing.{saving_kind, moment_of};
+ghost use Rattle.tz_footer.specs.Yearly.{time_shown};
+ghost use Rattle.tz_posix.specs.Seconds.{IsWritten};
+
+use crate::held::Held;
+use crate::range::is_in_range;
+use crate::read::footer_text;
+use crate::rule::YearlyRule;
+use crate::values::{FooterText, Saving};
+use civil_base::UtcOffset;
+use tz_posix::parts::saving_offset;
+
+/// What a footer puts in force at each second.
+#[derive(Clone, Debug, Drop, PartialEq, Eq)]
+pub struct Footer<'a> {
+    standard: Held<'a>,
+    saving: Option<Yearly<'a>>,
+}
+
+/// Daylight saving time, and when it holds.
+#[derive(Clone, Debug, Drop, PartialEq, Eq)]
+struct Yearly<'a> {
+    held: Held<'a>,
+    rule: YearlyRule,
+}
+
+impl<'a> Footer<'a> {
+    ghost use Rattle.std.specs.Prelude.{MatchOption};
+    ghost use Rattle.tz_footer.specs.FooterShown.{footer_shown};
+    ghost use Rattle.tz_footer.specs.InForce.{held_at, standard_total, saving_total};
+    ghost use Rattle.tz_footer.specs.Ranges.{IsFooterOf};
+    ghost use Rattle.tz_footer.specs.Standing.{StandsFor, stands_for};
+    ghost use Rattle.tz_footer.specs.Values.{FooterValue};
+
+    /// What a whole footer stands for. There is nothing exactly where the text is no footer, or has a part that is out of its
+    /// range: an offset of more than 24 hours, a time of a rule of more than 167, a minute or a second past 59, or a day
+    /// outside the ranges of POSIX TZ strings.
+    pub fn parse(text: &'a str) -> Option<Footer<'a>>
+        ensures { MatchOption result ((value : FooterValue) → ¬ (IsFooterOf text.now value)) (λ footer. StandsFor text.now (footer_shown footer)) }
+    {
+        match footer_text(text) {
+            Some(read) if is_in_range(&read) => Some(Footer::of(&read)),
+            Some(_) => None,
+            None => None,
+        }
+    }
+
+    /// What a value in its ranges stands for.
+    #[tactic(auto, unfolding(crate::specs::Standing::stands_for))]
+    fn of(text: &FooterText<'a>) -> Footer<'a>
+        requires { is_in_range (text_shown text.now) ≡ true }
+        ensures { footer_shown result ≡ stands_for (text_shown text.now) }
+    {
+        let offset = text.std.offset.to_utc_offset();
+        let standard = Held::new(text.std.name, offset, false);
+        match &text.dst {
+            None => Footer {
+                standard,
+                saving: None,
+            },
+            Some(saving) => Footer {
+                standard,
+                saving: Some(Yearly::of(saving, offset)),
+            },
+        }
+    }
+
+    /// What holds at a second from 1970-01-01 00:00:00 UTC.
+    ///
+    /// Daylight saving time holds from the start, read at the standard offset, up to, without, the end, read at the offset of
+    /// daylight saving time, both in the year of the second's date at the standard offset; where the end lies before the
+    /// start, before the end and from the start on.
+    #[tactic(auto, unfolding(crate::specs::InForce::held_at))]
+    pub fn held_at(&self, second: i64) -> Held<'a>
+        requires { unsigned_abs second ≤ 800_000_000_000 }
+        ensures { held_shown result ≡ held_at (footer_shown self.now) second }
+    {
+        match &self.saving {
+            None => self.standard.copied(),
+            Some(saving) => {
+                let holds = saving
+                    .rule
+                    .is_saving(self.standard.offset(), saving.held.offset(), second);
+                if holds {
+                    saving.held.copied()
+                } else {
+                    self.standard.copied()
+                }
+            }
+        }
+    }
+
+    /// The offset of standard time, and that of daylight saving time, or the same once more where there is none.
+    pub fn offsets(&self) -> (UtcOffset, UtcOffset)
+        ensures standard { result.0 ≡ standard_total (footer_shown self.now) }
+        ensures saving { result.1 ≡ saving_total (footer_shown self.now) }
+    {
+        match &self.saving {
+            None => (self.standard.offset(), self.standard.offset()),
+            Some(saving) => (self.standard.offset(), saving.held.offset()),
+        }
+    }
+}
+
+impl<'a> Yearly<'a> {
+    /// Daylight saving time of a value, beside standard time.
+    fn of(saving: &Saving<'a>, standard: UtcOffset) -> Yearly<'a>
+        requires range { is_saving (saving_shown saving.now) ≡ true }
+        requires standard { IsWritten standard }
+        ensures held { held_shown result.held ≡ saving_kind (saving_shown saving.now) standard }
+        ensures start { time_shown result.rule.start ≡ moment_of saving.now.rule.start }
+        ensures end { time_shown result.rule.end ≡ moment_of saving.now.rule.end }
+    {
+        let offset = saving_offset(&saving.offset, standard);
+        Yearly {
+            held: Held::new(saving.name, offset, true),
+            rule: YearlyRule::new(&saving.rule),
+        }
+    }
+}

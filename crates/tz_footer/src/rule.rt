@@ -1,0 +1,95 @@
+//! Daylight saving time by a footer's rule: whether it is in force at a second.
+ghost use Rattle.std.specs.Prelude.{◌≡◌, ◌≤◌, IsTrue, unsigned_abs, pos, ◌+ℤ◌, ◌-ℤ◌, ◌*ℤ◌};
+ghost use Rattle.calendar.specs.Days.{IsCountedYear};
+ghost use Rattle.tz_footer.specs.InForce.{is_saving, second_in};
+ghost use Rattle.tz_footer.specs.Ranges.{is_moment, is_rule};
+ghost use Rattle.tz_footer.specs.Standing.{moment_of};
+ghost use Rattle.tz_posix.specs.Ranges.{is_rule_date};
+
+use crate::values::FooterRule;
+use civil_base::UtcOffset;
+use tz_posix::parts::{counted_year_at, is_within};
+use tz_posix::{Date, Offset};
+
+const SECONDS_PER_DAY: i64 = 86_400;
+
+/// The seconds from midnight to 02:00:00, at which a change comes where the rule has no time.
+const TWO_HOURS: i32 = 7_200;
+
+/// A day of each year, and the seconds from its midnight, which may be below 0.
+#[derive(Clone, Copy, Debug, PartialEq, Eq)]
+pub(crate) struct YearlyTime {
+    date: Date,
+    seconds: i32,
+    ghost named: { IsTrue (is_rule_date date) },
+}
+
+/// The start and the end of daylight saving time in each year.
+#[derive(Clone, Copy, Debug, PartialEq, Eq)]
+pub(crate) struct YearlyRule {
+    pub(crate) start: YearlyTime,
+    pub(crate) end: YearlyTime,
+}
+
+impl YearlyTime {
+    ghost use Rattle.tz_footer.specs.Yearly.{time_shown};
+
+    /// The day and the time of a rule's start or end.
+    fn new(moment: &(Date, Option<Offset>)) -> YearlyTime
+        requires { IsTrue (is_moment moment.now) }
+        ensures { time_shown result ≡ moment_of moment.now }
+    {
+        let seconds = match &moment.1 {
+            Some(time) => time.to_seconds(),
+            None => TWO_HOURS,
+        };
+        YearlyTime {
+            date: moment.0,
+            seconds,
+        }
+    }
+
+    /// The second at which clocks at that offset show the time in a year.
+    #[tactic(auto, unfolding(crate::specs::InForce::second_in))]
+    fn in_year(&self, year: i32, offset: UtcOffset) -> i64
+        requires { IsCountedYear year }
+        ensures { result ≡ second_in year offset (time_shown self.now) }
+    {
+        second_at(self.date.day_number(year), self.seconds, offset)
+    }
+}
+
+impl YearlyRule {
+    ghost use Rattle.tz_footer.specs.Yearly.{time_shown};
+
+    /// The start and the end of a rule.
+    pub(crate) fn new(rule: &FooterRule) -> YearlyRule
+        requires { IsTrue (is_rule rule.now) }
+        ensures start { time_shown result.start ≡ moment_of rule.now.start }
+        ensures end { time_shown result.end ≡ moment_of rule.now.end }
+    {
+        YearlyRule {
+            start: YearlyTime::new(&rule.start),
+            end: YearlyTime::new(&rule.end),
+        }
+    }
+
+    /// Whether daylight saving time is in force at a second, where it and standard time have these offsets.
+    #[tactic(auto, unfolding(crate::specs::InForce::is_saving))]
+    pub(crate) fn is_saving(&self, standard: UtcOffset, saving: UtcOffset, second: i64) -> bool
+        requires { unsigned_abs second ≤ 800_000_000_000 }
+        ensures { result ≡ is_saving standard saving (time_shown self.now.start) (time_shown self.now.end) second }
+    {
+        let year = counted_year_at(standard, second);
+        let start = self.start.in_year(year, standard);
+        let end = self.end.in_year(year, saving);
+        is_within(start, end, second)
+    }
+}
+
+/// The second at which clocks at that offset show so many seconds from the midnight of a day.
+fn second_at(day: i32, seconds: i32, offset: UtcOffset) -> i64
+    ensures { result ≡ pos 86_400 *ℤ day +ℤ seconds -ℤ offset }
+{
+    i64::from(day) * SECONDS_PER_DAY + i64::from(seconds) - i64::from(offset.whole_seconds())
+}
