@@ -1,0 +1,7 @@
+pub mod Asked
+pub mod Clocks
+pub mod Faults
+pub mod Gaps
+pub mod Rooms
+pub mod Sources
+pub mod Zones

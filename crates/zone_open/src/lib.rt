@@ -1,0 +1,20 @@
+//! Sources and zones that are opened once and asked many times, as a program in another language holds them.
+//!
+//! What is asked is answered in plain numbers, and lists and texts go as far as the caller's room. No question takes memory
+//! but those for a zone's whole tail.
+#![tactic(auto)]
+
+mod asking;
+mod clock;
+mod gap;
+mod names;
+mod room;
+mod source;
+mod zone;
+
+pub use asking::{InForce, Reading};
+pub use clock::Clock;
+pub use gap::Gap;
+pub use room::fill;
+pub use source::{OpenFault, OpenSource};
+pub use zone::OpenZone;
