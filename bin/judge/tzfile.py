@@ -64,9 +64,9 @@ class Footer:
         """The kind of an instant: offset, whether it is daylight saving time, and name."""
         if not self.daylight:
             return self.standard
-        year = date.fromordinal(date(1970, 1, 1).toordinal() + (second + self.standard[0]) // DAY).year
-        begun = [(edge, number) for y in (year - 1, year, year + 1) for number, edge in enumerate(self.edges(y)) if edge <= second]
-        return self.standard if max(begun)[1] else self.daylight
+        start, end = self.edges(date.fromordinal(date(1970, 1, 1).toordinal() + (second + self.standard[0]) // DAY).year)
+        holds = start <= second < end if start < end else not end <= second < start
+        return self.daylight if holds else self.standard
 
 
 class TzFile:
