@@ -15,5 +15,6 @@ pub mod ReadLemmas
 pub mod CarryLemmas
 pub mod OneLemmas
 pub mod FoundLemmas
+pub mod LineLemmas
 pub mod WorkedTexts
 pub mod WorkedForms

@@ -1,5 +1,6 @@
-//! Laws: a set and its string give one offset, and a set has one string.
-ghost use Rattle.std.specs.Prelude.{◌≡◌, ℕ, ℤ, List, Ok, Option, Some};
+//! Laws: a set and its string give one offset, a set has one string, and a string is one line.
+ghost use Rattle.std.specs.Prelude.{◌≡◌, ◌==◌, not, ◌&&◌, true, ℕ, ℤ, List, Ok, Option, Some, None};
+ghost use Rattle.std.specs.List.{list_all};
 ghost use Rattle.civil_base.specs.DateTimes.{instant};
 ghost use Rattle.zone_spans.specs.Schedules.{total_at};
 ghost use Rattle.tz_zone.specs.Sets.{IsAccepted, schedule_of};
@@ -8,7 +9,7 @@ ghost use Rattle.tz_zone.specs.declared.set.FixedTimespanSet.{FixedTimespanSet};
 ghost use Rattle.tz_posix.specs.Parses.{IsParsed};
 ghost use Rattle.zone_tail_core.specs.Carried.{CarriesOn, IsCovered};
 ghost use Rattle.zone_tail_core.specs.Found.{found_from, found_text};
-ghost use Rattle.zone_tail_core.specs.Tails.{IsTail};
+ghost use Rattle.zone_tail_core.specs.Tails.{IsTail, tail_fault};
 
 use civil_base::{OffsetDateTime, UtcOffset};
 use tz_lookup::{Offset, TimeZone, Tz};
@@ -40,4 +41,9 @@ pub fn both_offsets(
 pub fn one_tail()
     ensures { (set : FixedTimespanSet) (from : Option ℤ) (text : List ℕ) → IsAccepted (schedule_of set) → IsTail set from text
         → (from ≡ found_from set) × (text ≡ found_text set) }
+{}
+
+/// A set's string has no line feed and no zero byte.
+pub fn one_line()
+    ensures { (set : FixedTimespanSet) → tail_fault set ≡ None → list_all (λ c. not (c == 10) && not (c == 0)) (found_text set) ≡ true }
 {}
