@@ -1,2 +1,4 @@
-mod TotalLemmas
-mod ValueLemmas
+mod FileLemmas
+mod FooterLemmas
+pub mod TotalLemmas
+pub mod ValueLemmas

@@ -1,15 +1,17 @@
 //! What a file of a compiled set says.
-ghost use Rattle.std.specs.Prelude.{◌≡◌, ℕ, ℤ, List};
+ghost use Rattle.std.specs.Prelude.{◌≡◌, ◌≢◌, ℕ, ℤ, List, Some};
 ghost use Rattle.zone_spans.specs.Schedules.{total_at as set_total_at};
-ghost use Rattle.tz_zone.specs.Sets.{schedule_of};
+ghost use Rattle.tz_zone.specs.Sets.{schedule_of, IsAccepted};
 ghost use Rattle.tz_zone.specs.declared.set.FixedTimespanSet.{FixedTimespanSet};
 ghost use Rattle.zone_tzif_core.specs.Denotes.{Denotes};
 ghost use Rattle.zone_tzif_core.specs.Totals.{total_at};
 ghost use Rattle.zone_tzif_core.specs.Tzif.{IsTzif};
 ghost use Rattle.zone_tzif_core.specs.Zones.{ZoneValue};
+ghost use Rattle.zone_tzif_set.specs.Files.{file_fault};
 ghost use Rattle.zone_tzif_set.specs.Values.{value_of};
 
-use zone_tzif_core::{one_reading, one_value, written_denotes};
+use zone_tail_core::laws::one_line;
+use zone_tzif_core::{WriteFault, one_reading, one_value, written_denotes};
 
 /// At each instant the zone of a set has the set's offset.
 pub fn totals_kept()
@@ -27,4 +29,11 @@ pub fn reads_back()
     one_reading();
     one_value();
     written_denotes();
+}
+
+/// The file of a set that can be looked up is refused neither for an offset nor for the footer.
+pub fn few_causes()
+    ensures { (set : FixedTimespanSet) → IsAccepted (schedule_of set) → (file_fault set ≢ Some WriteFault.Offset) × (file_fault set ≢ Some WriteFault.Footer) }
+{
+    one_line();
 }

@@ -1,8 +1,10 @@
-//! Compiled sets of spans as zones of a TZif file.
+//! Compiled sets of spans as zones of a TZif file, and their files.
 #![tactic(auto)]
 
 mod convert;
+mod file;
 mod laws;
 
 pub use convert::from_set;
+pub use file::{FileFault, tzif_of};
 pub use laws::{reads_back, totals_kept};
