@@ -6,6 +6,7 @@
 
 mod footer;
 mod held;
+mod laws;
 mod range;
 mod read;
 mod rule;
@@ -13,5 +14,6 @@ mod values;
 
 pub use footer::Footer;
 pub use held::Held;
+pub use laws::one_footer;
 pub use read::footer_text;
 pub use values::{FooterRule, FooterText, Saving};

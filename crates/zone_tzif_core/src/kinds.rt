@@ -19,7 +19,7 @@ pub(crate) struct Record<'a> {
 }
 
 /// Whether an offset is at most 93,599 in size.
-pub(crate) fn is_small(utoff: i32) -> bool
+pub fn is_small(utoff: i32) -> bool
     ensures { result ≡ is_small utoff }
 {
     utoff >= -93_599 && utoff <= 93_599

@@ -16,7 +16,9 @@ mod write;
 mod writer;
 
 pub use laws::{one_reading, one_value, written_denotes};
+pub use kinds::is_small;
 pub use profile::read_tzif;
 pub use reader::read_any;
+pub use shifts::do_rise;
 pub use values::{Kind, ReadFault, TzifZone, WriteFault};
 pub use writer::write_tzif;

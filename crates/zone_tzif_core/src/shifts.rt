@@ -66,7 +66,7 @@ fn is_before<T>(a: &(i64, T), b: &(i64, T)) -> bool
 }
 
 /// Whether the times strictly rise.
-pub(crate) fn do_rise<T>(shifts: &[(i64, T)]) -> bool
+pub fn do_rise<T>(shifts: &[(i64, T)]) -> bool
     ensures { result ≡ go_up (map (λ shift. shift.0) shifts.now) }
 {
     for i in 1..shifts.len() {

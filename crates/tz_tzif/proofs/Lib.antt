@@ -1,0 +1,7 @@
+mod CutLemmas
+mod GivenLemmas
+mod HeldLemmas
+mod InstantLemmas
+mod KindLemmas
+mod OffsetLemmas
+mod ReadLemmas

@@ -1,0 +1,28 @@
+-- The second of a local time, and how many date-times there are at most.
+use Rattle.std.proofs.Common.{◌≡◌, ◌≤◌, Bool, true, false, cond, List, [], ◌∷◌, length, map, ℤ, pos, ap, ◌∙◌, arith, w64, to_z, of_z, SFits}
+use Rattle.std.specs.List.{filter}
+use Rattle.std.proofs.lemmas.Int.{ints, to_z-of_z}
+use Rattle.civil_base.specs.DateTimes.{instant, local_of, offset_of}
+use Rattle.civil_base.specs.Instants.{instant_at, seconds_of}
+use Rattle.civil_base.specs.declared.offset_date_time.OffsetDateTime.{OffsetDateTime}
+
+at_zero : (x : ℤ) → instant_at x (pos 0) ≡ x
+at_zero x = omega (arith, ints)
+
+-- the second of a date-time at UTC
+utc_second : (date : OffsetDateTime) (x : ℤ) → local_of date ≡ x → offset_of date ≡ pos 0 → seconds_of (instant date) ≡ seconds_of x
+unfolding instant
+utc_second date x local at_utc = (λ i. seconds_of (instant_at (local i) (at_utc i))) ∙ ap seconds_of (at_zero x)
+
+-- as the code has it
+pub utc_second_cast : (date : OffsetDateTime) (x r : ℤ) → SFits w64 r → r ≡ seconds_of (instant date) → local_of date ≡ x
+    → offset_of date ≡ pos 0 → to_z w64 (of_z w64 r) ≡ seconds_of x
+utc_second_cast date x r fits is local at_utc = to_z-of_z w64 r fits ∙ is ∙ utc_second date x local at_utc
+
+pub few_pass : {X Y : Type 0} (f : X → Y) (p : X → Bool) (xs : List X) → length (map f (filter p xs)) ≤ length xs
+few_pass f p [] = omega arith
+few_pass {X} f p (x ∷ xs) = by_test (p x) (few_pass f p xs)
+  where
+    by_test : (b : Bool) → length (map f (filter p xs)) ≤ length xs → length (map f (cond b (x ∷ filter p xs) (filter p xs))) ≤ length (x ∷ xs)
+    by_test true h = omega (arith, h)
+    by_test false h = omega (arith, h)

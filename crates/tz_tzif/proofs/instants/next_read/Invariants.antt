@@ -1,0 +1,13 @@
+use Rattle.std.proofs.Common.{◌≡◌, ◌≤◌, drop}
+use Rattle.tz_tzif.specs.InForce.{total_in}
+use Rattle.tz_tzif.specs.Instants.{read_at}
+use Rattle.tz_tzif.specs.Zones.{value_of, says_of}
+use Rattle.tz_tzif.proofs.instants.next_read.Given as goal
+
+-- none was passed over
+abbrev pub invariant-loop-place : goal.invariant-loop-place
+invariant-loop-place l = record {
+  later : l.from ≤ l.place;
+  none : read_at (total_in (value_of l.tz) (says_of l.tz)) l.second (drop l.from l.tz.offsets.items)
+      ≡ read_at (total_in (value_of l.tz) (says_of l.tz)) l.second (drop l.place l.tz.offsets.items);
+}

@@ -1,0 +1,15 @@
+//! Compiled zone files as time zones: the offset at an instant and the instants of a local time, also past the last change, where
+//! the rules of today stand in the footer alone.
+#![tactic(auto)]
+
+mod fault;
+mod instants;
+mod offsets;
+mod search;
+mod tests_of;
+mod zone;
+
+pub use fault::TzifFault;
+pub use instants::TzifInstants;
+pub use tz_footer::{Footer, Held};
+pub use zone::TzifTz;

@@ -1,0 +1,96 @@
+//! The distinct offsets of a compiled zone, the greatest first.
+ghost use Rattle.std.specs.Prelude.{◌≡◌, ◌≤◌, OnOk, IfOk, cond, insert, length, drop, option_map};
+ghost use Rattle.tz_footer.specs.FooterShown.{footer_shown};
+ghost use Rattle.tz_tzif.specs.Offsets.{AreOffsets, begins_with, offsets_of, put, put_all, put_footer};
+ghost use Rattle.zone_tzif_core.specs.Shown.{shifts_shown, zone_shown};
+
+use std::alloc::{AllocError, Global};
+use tz_footer::Footer;
+use zone_tzif_core::{Kind, TzifZone};
+
+/// The distinct offsets of a zone and its footer, the greatest first.
+#[tactic(auto, unfolding(crate::specs::Offsets::offsets_of))]
+pub(crate) fn offsets_of(
+    alloc: Global,
+    zone: &TzifZone,
+    footer: &Option<Footer<'_>>,
+) -> Result<Vec<i32>, AllocError>
+    ensures value { IfOk result (λ offsets. offsets.items ≡ offsets_of (zone_shown zone.now) (option_map footer_shown footer.now)) }
+    ensures range { IfOk result (λ _. AreOffsets (option_map footer_shown footer.now)) }
+{
+    let mut offsets = Vec::new(alloc);
+    offsets.push(zone.first.utoff)?;
+    put_all(&mut offsets, zone.rest.as_slice())?;
+    put_footer(&mut offsets, footer)?;
+    Ok(offsets)
+}
+
+/// Puts in the offset of each change.
+fn put_all(offsets: &mut Vec<i32>, changes: &[(i64, Kind)]) -> Result<(), AllocError>
+    ensures { OnOk result (offsets.new.items ≡ put_all offsets.old.items (shifts_shown changes.now)) }
+{
+    for change in changes {
+        put_change(offsets, change)?;
+    }
+    Ok(())
+}
+
+/// Puts in the offset of a change.
+fn put_change(offsets: &mut Vec<i32>, change: &(i64, Kind)) -> Result<(), AllocError>
+    ensures { OnOk result (offsets.new.items ≡ put change.now.1.utoff offsets.old.items) }
+{
+    put(offsets, change.1.utoff)
+}
+
+/// Puts in the offsets of a footer.
+fn put_footer(offsets: &mut Vec<i32>, footer: &Option<Footer<'_>>) -> Result<(), AllocError>
+    ensures value { OnOk result (offsets.new.items ≡ put_footer offsets.old.items (option_map footer_shown footer.now)) }
+    ensures range { OnOk result (AreOffsets (option_map footer_shown footer.now)) }
+{
+    match footer {
+        None => Ok(()),
+        Some(footer) => {
+            let (standard, saving) = footer.offsets();
+            put(offsets, standard.whole_seconds())?;
+            put(offsets, saving.whole_seconds())?;
+            Ok(())
+        }
+    }
+}
+
+/// Puts an offset in its place, if it is not there.
+fn put(offsets: &mut Vec<i32>, offset: i32) -> Result<(), AllocError>
+    ensures { OnOk result (offsets.new.items ≡ put offset offsets.old.items) }
+{
+    let place = place_of(offsets.as_slice(), offset);
+    if has_at(offsets.as_slice(), place, offset) {
+        return Ok(());
+    }
+    offsets.insert(place, offset)?;
+    Ok(())
+}
+
+/// Whether an offset stands at a place.
+fn has_at(offsets: &[i32], place: usize, offset: i32) -> bool
+    ensures { result ≡ begins_with offset (drop place offsets.now) }
+{
+    match offsets.get(place) {
+        None => false,
+        Some(other) => *other == offset,
+    }
+}
+
+/// The place of an offset: how many greater ones come before all others.
+fn place_of(offsets: &[i32], offset: i32) -> usize
+    ensures within { result ≤ length offsets.now }
+    ensures put { put offset offsets.now ≡ cond (begins_with offset (drop result offsets.now)) offsets.now (insert offsets.now result offset) }
+{
+    let mut place = 0;
+    while place < offsets.len() {
+        if offset >= offsets[place] {
+            return place;
+        }
+        place += 1;
+    }
+    place
+}

@@ -1,0 +1,146 @@
+//! Compiled zones that can be looked up.
+ghost use Rattle.std.specs.Prelude.{◌≡◌, ℕ, ℤ, ◌≤◌, true, length, option_map};
+ghost use Rattle.civil_base.specs.Ranges.{IsOffset};
+ghost use Rattle.zone_spans.specs.Schedules.{instants};
+ghost use Rattle.zone_tzif_core.specs.Shown.{zone_shown};
+ghost use Rattle.zone_tzif_core.specs.Zones.{rises};
+ghost use Rattle.tz_footer.specs.FooterShown.{footer_shown};
+ghost use Rattle.tz_tzif.specs.Faults.{are_small};
+ghost use Rattle.tz_tzif.specs.InForce.{total_at};
+ghost use Rattle.tz_tzif.specs.Offsets.{offsets_of};
+
+use crate::fault::TzifFault;
+use crate::instants::{TzifInstants, next_read};
+use crate::offsets::offsets_of;
+use crate::search::{changes_until, held_after};
+use crate::tests_of::{are_small, read_footer, times_rise};
+use civil_base::{OffsetDateTime, PlainDateTime};
+use std::alloc::Global;
+use tz_footer::{Footer, Held};
+use tz_zone::{OffsetResult, TimeZone};
+use zone_tzif_core::TzifZone;
+
+/// A compiled zone that can be looked up, with what its footer says from the last change on. It borrows the value, and
+/// remembers its distinct offsets.
+#[derive(Drop)]
+pub struct TzifTz<'a> {
+    pub(crate) name: &'a str,
+    pub(crate) zone: &'a TzifZone,
+    pub(crate) footer: Option<Footer<'a>>,
+    pub(crate) offsets: Vec<i32>,
+    ghost rising: { rises (zone_shown zone.now).rest ≡ true },
+    ghost small: { are_small (zone_shown zone.now) ≡ true },
+    ghost made: { offsets.items ≡ offsets_of (zone_shown zone.now) (option_map footer_shown footer) },
+    ghost range: { (t : ℤ) → IsOffset (total_at (zone_shown zone.now) (option_map footer_shown footer) t) },
+}
+
+impl<'a> TzifTz<'a> {
+    ghost use Rattle.std.specs.Prelude.{MatchResult, map, unsigned_abs};
+    ghost use Rattle.civil_base.specs.DateTimes.{instant};
+    ghost use Rattle.tz_zone.specs.InForce.{all_in_force, shown_of, AreInstants};
+    ghost use Rattle.tz_footer.specs.FooterShown.{held_shown};
+    ghost use Rattle.tz_tzif.specs.Faults.{IsFault};
+    ghost use Rattle.tz_tzif.specs.InForce.{kind_in};
+    ghost use Rattle.tz_tzif.specs.InstantsLeft.{dates_left};
+    ghost use Rattle.tz_tzif.specs.Zones.{value_of, says_of, IsZoneOf};
+
+    /// The zone of a value, under that name.
+    ///
+    /// # Errors
+    ///
+    /// In this order: `Times` exactly where the times don't strictly rise; `Offset` exactly where an offset is past 93,599
+    /// seconds in size; `Footer` exactly where there is a footer and it is no footer in the ranges of its parts; `NoMemory`.
+    pub fn new(alloc: Global, name: &'a str, zone: &'a TzifZone) -> Result<TzifTz<'a>, TzifFault>
+        ensures { MatchResult result (IsZoneOf name.now (zone_shown zone.now)) (IsFault (zone_shown zone.now)) }
+    {
+        if !times_rise(zone.rest.as_slice()) {
+            return Err(TzifFault::Times);
+        }
+        if !are_small(zone) {
+            return Err(TzifFault::Offset);
+        }
+        let Some(footer) = read_footer(zone.footer.as_str()) else {
+            return Err(TzifFault::Footer);
+        };
+        match offsets_of(alloc, zone, &footer) {
+            Ok(offsets) => Ok(TzifTz {
+                name,
+                zone,
+                footer,
+                offsets,
+            }),
+            Err(_) => Err(TzifFault::NoMemory),
+        }
+    }
+
+    /// The date-times that the zone reads as that local time: each once, by time, at most one for each distinct offset. It
+    /// takes no memory.
+    pub fn instants_local(&self, date_time: &PlainDateTime) -> TzifInstants<'_, 'a>
+        ensures all { map shown_of (dates_left result) ≡ all_in_force (total_at (value_of self.now) (says_of self.now)) date_time.now }
+        ensures few { length (dates_left result) ≤ length (offsets_of (value_of self.now) (says_of self.now)) }
+        ensures exact { AreInstants (total_at (value_of self.now) (says_of self.now)) date_time.now (map instant (dates_left result)) }
+    {
+        TzifInstants::new(self, date_time)
+    }
+
+    /// What holds at a second.
+    #[tactic(auto, unfolding(crate::specs::InForce::kind_in))]
+    pub(crate) fn held_at(&self, second: i64) -> Held<'a>
+        requires { unsigned_abs second ≤ 800_000_000_000 }
+        ensures { held_shown result ≡ kind_in (value_of self.now) (says_of self.now) second }
+    {
+        let changes = self.zone.rest.as_slice();
+        let count = changes_until(changes, second);
+        let over = count == changes.len();
+        match &self.footer {
+            Some(footer) if over => footer.held_at(second),
+            Some(_) => held_after(self.zone, count),
+            None => held_after(self.zone, count),
+        }
+    }
+}
+
+impl<'a> TimeZone for TzifTz<'a> {
+    ghost use Rattle.tz_tzif.specs.Zones.{value_of, says_of, GivesAt, IsOfKind};
+
+    type Offset = Held<'a>;
+
+    ghost total_at = { λ tz. total_at (value_of tz) (says_of tz) };
+
+    ghost orderly = { λ tz. (time : ℤ) → length (instants (total_at (value_of tz) (says_of tz)) time) ≤ 2 };
+
+    ghost gives = { GivesAt };
+
+    ghost called = { λ tz. tz.name.now };
+
+    ghost primary = { λ tz. (value_of tz).first.utoff };
+
+    ghost begins = { λ tz. IsOfKind (value_of tz).first };
+
+    fn get_offset_utc(&self, date_time: &OffsetDateTime) -> Held<'a> {
+        self.held_at(date_time.unix_timestamp())
+    }
+
+    fn get_offset_local(&self, date_time: &OffsetDateTime) -> OffsetResult<Held<'a>> {
+        let second = date_time.unix_timestamp();
+        match next_read(self, second, 0) {
+            None => OffsetResult::None,
+            Some((place, first)) => match next_read(self, second, place + 1) {
+                None => OffsetResult::Some(first),
+                Some((_, other)) => OffsetResult::Ambiguous(first, other),
+            },
+        }
+    }
+
+    fn get_offset_primary(&self) -> Held<'a> {
+        held_after(self.zone, 0)
+    }
+
+    fn name(&self) -> &str {
+        self.name
+    }
+
+    ghost in_range = { λ tz t. tz.range t };
+
+    ghost two_at_most = { λ tz time orderly. orderly time };
+}
