@@ -7,4 +7,4 @@ mod laws;
 
 pub use convert::from_set;
 pub use file::{FileFault, tzif_of};
-pub use laws::{reads_back, totals_kept};
+pub use laws::{few_causes, reads_back, totals_kept};

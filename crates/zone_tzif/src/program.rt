@@ -1,0 +1,83 @@
+//! The program: its words, its answer, its run.
+ghost use Rattle.std.specs.Prelude.{◌≡◌, ◌≢◌, ◌↔◌, ◌<◌, ◌≤◌, length, codes, IfSome, IsNone};
+ghost use Rattle.std.specs.Option.{ForSome};
+ghost use Rattle.zone_run.specs.Causes.{cause};
+ghost use Rattle.zone_run.specs.Ends.{Ends, EndsBy, IsPastLimit, seen};
+ghost use Rattle.zone_run.specs.Tasks.{task_of};
+ghost use Rattle.zone_tzif.specs.Asks.{asks, form};
+
+use std::alloc::Global;
+use tz_lookup::FixedTimespanSet;
+use zone_line::LineParser;
+use zone_run::{
+    Refusal, Shelf, Sink, Status, SureShelf, SureSink, ZoneProgram, run_program, run_program_surely,
+};
+use zone_source::LIMIT;
+use zone_tzif_set::{FileFault, tzif_of};
+
+/// The file of a zone. There is nothing more to ask.
+#[derive(Clone, Copy, Debug, PartialEq, Eq)]
+struct Compiled;
+
+impl ZoneProgram for Compiled {
+    ghost label = { codes "tzif" };
+
+    ghost form = { form };
+
+    ghost asked = { λ _. asks };
+
+    fn label() -> &'static str {
+        "tzif"
+    }
+
+    fn read(words: &[String]) -> Option<Compiled> {
+        match words {
+            [] => Some(Compiled),
+            _ => None,
+        }
+    }
+
+    fn answer(&self, alloc: Global, set: &FixedTimespanSet) -> Result<Vec<u8>, Refusal> {
+        match tzif_of(alloc, set) {
+            Ok(file) => Ok(file),
+            Err(FileFault::Times) => Err(Refusal::Cause("times")),
+            Err(FileFault::Types) => Err(Refusal::Cause("types")),
+            Err(FileFault::Names) => Err(Refusal::Cause("names")),
+            Err(FileFault::NoMemory) => Err(Refusal::NoMemory),
+        }
+    }
+}
+
+/// Writes the TZif file of a zone, with nothing before or after it; or the line of the first cause. The words are FILE and NAME.
+/// What each status says is told field by field by `Ends`.
+pub fn run_tzif<H: Shelf, O: Sink>(
+    alloc: Global,
+    parser: &LineParser,
+    words: &[String],
+    shelf: &mut H,
+    output: &mut O,
+) -> Status
+    requires { ForSome (task_of form words.now) (λ task. H.open_to shelf.old task.file) }
+    ensures { Ends (codes "tzif") (task_of form words.now)
+        (seen H.Source O.Sink shelf.old output.old) (seen H.Source O.Sink shelf.new output.new) result }
+{
+    run_program::<Compiled, H, O>(alloc, parser, words, shelf, output)
+}
+
+/// A run over objects that never fail. It ends neither for a failed read nor for a failed write: by the words, the cause
+/// and the length alone, or for want of memory.
+pub fn run_tzif_surely(
+    alloc: Global,
+    parser: &LineParser,
+    words: &[String],
+    shelf: &mut SureShelf,
+    output: &mut SureSink,
+) -> Status
+    ensures read { result ≢ Status.Read }
+    ensures write { result ≢ Status.Write }
+    ensures words { (result ≡ Status.Words) ↔ IsNone (task_of form words.now) }
+    ensures complete { IfSome (task_of form words.now) (λ task. length shelf.old.bytes ≤ LIMIT → EndsBy (cause task shelf.old.bytes) result) }
+    ensures past_limit { IfSome (task_of form words.now) (λ task. LIMIT < length shelf.old.bytes → IsPastLimit result) }
+{
+    run_program_surely::<Compiled>(alloc, parser, words, shelf, output)
+}
