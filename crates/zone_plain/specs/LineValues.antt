@@ -1,0 +1,56 @@
+-- The values of the lines of a source, each in its place.
+use Rattle.std.specs.Prelude.{ℕ, suc, List, [], ◌∷◌, Bool, true, false, Option, Some, None, is_some, Result, Ok, Err, if◌then◌else◌}
+use Rattle.std.specs.Str.{is_utf8}
+use Rattle.zone_values.specs.Values.{InfoValue, LineValue, space, zone, continuation, rule, link}
+use Rattle.zone_plain_lines.specs.Meanings.{meaning}
+use Rattle.zone_plain_lines.specs.Quotes.{fields, laid_out}
+use Rattle.zone_plain_lines.specs.Steps.{◌>>=◌}
+use Rattle.zone_plain_lines.specs.declared.cause.PlainCause.{PlainCause}
+use Rattle.zone_plain_lines.specs.declared.cause.PlainCause.TheVariants as cause
+use Rattle.zone_plain.specs.ReadBack.{is_said}
+
+abbrev pub if_said : LineValue → Result LineValue PlainCause
+if_said meant = if is_said meant then Ok meant else Err cause.Unsayable
+
+-- what a line means whose fields stand in its text; the text of a line without its comment and its quotes is text too
+abbrev pub meant_by : Bool → List ℕ → List (List ℕ) → Result LineValue PlainCause
+meant_by is_continued line found = if is_utf8 (laid_out line) then (do
+  meant ← meaning is_continued found
+  if_said meant) else Err cause.NotText
+
+-- what a line means, if the plain form can say it
+unfoldable pub line_meaning : Bool → List ℕ → Result LineValue PlainCause
+line_meaning is_continued line = if is_utf8 line then (do
+  found ← fields line
+  meant_by is_continued line found) else Err cause.NotText
+
+-- whether a line of the zone has to follow, where one had to before
+abbrev pub is_open_after : Bool → LineValue → Bool
+is_open_after is_open space = is_open
+is_open_after is_open (zone name info) = is_some info.time
+is_open_after is_open (continuation info) = is_some info.time
+is_open_after is_open (rule r) = false
+is_open_after is_open (link existing new) = false
+
+-- a line's number, and why it is refused
+pub record LineFault : Type 0 where
+  pub number : ℕ
+  pub cause : PlainCause
+
+abbrev pub at : ℕ → PlainCause → LineFault
+at number cause = record { number = number; cause = cause }
+
+abbrev pub numbered : {A : Type 0} → ℕ → Result A PlainCause → Result A LineFault
+numbered n (Ok x) = Ok x
+numbered n (Err e) = Err (at n e)
+
+abbrev pub onto : LineValue → Result (List LineValue) LineFault → Result (List LineValue) LineFault
+onto v (Ok vs) = Ok (v ∷ vs)
+onto v (Err e) = Err e
+
+-- the values of lines from the nth on; a line that isn't there is told as the one after the last
+unfoldable pub values_from : Bool → ℕ → List (List ℕ) → Result (List LineValue) LineFault
+values_from is_open n [] = if is_open then Err (at n cause.Continuation) else Ok []
+values_from is_open n (line ∷ lines) = do
+  v ← numbered n (line_meaning is_open line)
+  onto v (values_from (is_open_after is_open v) (suc n) lines)
