@@ -1,3 +1,6 @@
-pub mod Same
 pub mod ReadBack
+pub mod ReadBackLaws
 pub mod LineValues
+pub mod Told
+pub mod Written
+pub mod Plain

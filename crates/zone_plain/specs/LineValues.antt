@@ -1,12 +1,13 @@
 -- The values of the lines of a source, each in its place.
-use Rattle.std.specs.Prelude.{ℕ, suc, List, [], ◌∷◌, Bool, true, false, Option, Some, None, is_some, Result, Ok, Err, if◌then◌else◌}
+use Rattle.std.specs.Prelude.{ℕ, suc, List, [], ◌∷◌, Bool, false, is_some, Result, Ok, Err, if◌then◌else◌}
 use Rattle.std.specs.Str.{is_utf8}
-use Rattle.zone_values.specs.Values.{InfoValue, LineValue, space, zone, continuation, rule, link}
+use Rattle.zone_values.specs.Values.{LineValue, space, zone, continuation, rule, link}
 use Rattle.zone_plain_lines.specs.Meanings.{meaning}
 use Rattle.zone_plain_lines.specs.Quotes.{fields, laid_out}
 use Rattle.zone_plain_lines.specs.Steps.{◌>>=◌}
 use Rattle.zone_plain_lines.specs.declared.cause.PlainCause.{PlainCause}
 use Rattle.zone_plain_lines.specs.declared.cause.PlainCause.TheVariants as cause
+use Rattle.zone_source.specs.Lines.{lines_of}
 use Rattle.zone_plain.specs.ReadBack.{is_said}
 
 abbrev pub if_said : LineValue → Result LineValue PlainCause
@@ -54,3 +55,7 @@ values_from is_open n [] = if is_open then Err (at n cause.Continuation) else Ok
 values_from is_open n (line ∷ lines) = do
   v ← numbered n (line_meaning is_open line)
   onto v (values_from (is_open_after is_open v) (suc n) lines)
+
+-- the values of a source's lines, in order
+unfoldable pub values_in : List ℕ → Result (List LineValue) LineFault
+values_in source = values_from false 1 (lines_of source)

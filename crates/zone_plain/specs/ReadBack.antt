@@ -1,10 +1,10 @@
 -- What can be said: what is written of a line is read as what the line means.
-use Rattle.std.specs.Prelude.{ℕ, List, Bool, false, ◌&&◌, Result, Ok, Err, if◌then◌else◌}
+use Rattle.std.specs.Prelude.{ℕ, List, Bool, false, ◌&&◌, Result, Ok, Err}
 use Rattle.std.specs.Str.{is_utf8}
 use Rattle.zone_line.specs.LineValues.{value}
 use Rattle.zone_values.specs.Faults.{Fault}
 use Rattle.zone_values.specs.Values.{LineValue}
-use Rattle.zone_plain.specs.Same.{same_line}
+use Rattle.zone_plain_text.specs.Same.{same_line}
 use Rattle.zone_plain_text.specs.PlainTexts.{plain_text}
 
 -- what was read is this

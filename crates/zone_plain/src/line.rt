@@ -1,16 +1,18 @@
 //! One line of a source: what it means, written and read back.
-ghost use Rattle.std.specs.Prelude.{◌≡◌, ◌++◌, [], ◌∷◌, IfOk, IfErr, OnErr, Ok, Err, MatchResult};
+ghost use Rattle.std.specs.Prelude.{◌≡◌, IfOk, IfErr};
+ghost use Rattle.std.specs.Str.{is_utf8};
 ghost use Rattle.zone_values.specs.Values.{line_value};
-ghost use Rattle.zone_source.specs.Zones.{source_value};
 ghost use Rattle.zone_plain_text.specs.PlainTexts.{plain_text};
 ghost use Rattle.zone_plain.specs.ReadBack.{is_said_by, is_said};
-ghost use Rattle.zone_plain.specs.LineValues.{is_open_after, line_meaning};
+ghost use Rattle.zone_plain.specs.LineValues.{is_open_after};
+ghost use Rattle.zone_plain.specs.Told.{IsToldBy, IsReadLine, IsRefusedLine};
+ghost use Rattle.zone_plain_lines.specs.Meanings.{meaning};
+ghost use Rattle.zone_plain_lines.specs.Quotes.{pieces};
 
-use crate::same::same_line;
 use std::alloc::{AllocError, Global};
 use zone_line::{Error, Line, LineReader};
 use zone_plain_lines::{PlainCause, fields_of, lay_out, meaning};
-use zone_plain_text::put_plain;
+use zone_plain_text::{put_plain, same_line};
 use zone_source::{LineList, text_of};
 
 /// Why a line isn't read.
@@ -29,22 +31,6 @@ impl From<AllocError> for Refused {
 
     fn from(_: AllocError) -> Refused {
         Refused::NoMemory
-    }
-}
-
-/// What is written anew for each line.
-#[derive(Drop)]
-pub(crate) struct Buffers {
-    laid: Vec<u8>,
-    plain: Vec<u8>,
-}
-
-impl Buffers {
-    pub(crate) fn new(alloc: Global) -> Buffers {
-        Buffers {
-            laid: Vec::new(alloc),
-            plain: Vec::new(alloc),
-        }
     }
 }
 
@@ -70,7 +56,7 @@ fn is_said_by(
 
 /// Writes what a line means, in place of what the buffer has, and answers whether it is read as this.
 #[tactic(auto, unfolding(crate::specs::ReadBack::is_said))]
-fn write_said(
+pub(crate) fn write_said(
     alloc: Global,
     reader: &mut LineReader<'_>,
     meant: &Line<'_>,
@@ -85,7 +71,7 @@ fn write_said(
 }
 
 /// Whether a line of the zone has to follow, where one had to before.
-fn is_open_after(is_open: bool, line: &Line<'_>) -> bool
+pub(crate) fn is_open_after(is_open: bool, line: &Line<'_>) -> bool
     ensures { result ≡ is_open_after is_open (line_value line.now) }
 {
     match line {
@@ -94,4 +80,59 @@ fn is_open_after(is_open: bool, line: &Line<'_>) -> bool
         Line::Continuation(info) => info.time.is_some(),
         Line::Rule(_) | Line::Link(_) => false,
     }
+}
+
+/// Whether the bytes are UTF-8.
+fn is_text(bytes: &[u8]) -> bool
+    ensures { result ≡ is_utf8 bytes.now }
+{
+    match text_of(bytes) {
+        Some(_) => true,
+        None => false,
+    }
+}
+
+/// What the fields of a line mean that stand in a text.
+fn parsed<'t>(alloc: Global, is_open: bool, text: &'t str) -> Result<Line<'t>, Refused>
+    ensures { IsToldBy line_value result (meaning is_open (pieces text.now)) }
+{
+    let fields = fields_of(alloc, text)?;
+    match meaning(is_open, fields.as_slice()) {
+        Ok(line) => Ok(line),
+        Err(cause) => Err(Refused::Cause(cause)),
+    }
+}
+
+/// Reads a line in its place, and adds its plain text to the lines. Answers whether a line of the zone has to follow.
+pub(crate) fn read_line(
+    alloc: Global,
+    reader: &mut LineReader<'_>,
+    is_open: bool,
+    line: &[u8],
+    laid: &mut Vec<u8>,
+    plain: &mut Vec<u8>,
+    lines: &mut LineList,
+) -> Result<bool, Refused>
+    ensures ok { IfOk result (IsReadLine lines.old lines.new is_open line.now) }
+    ensures err { IfErr result (IsRefusedLine is_open line.now) }
+{
+    if !is_text(line) {
+        return Err(Refused::Cause(PlainCause::NotText));
+    }
+    if !lay_out(line, laid)? {
+        return Err(Refused::Cause(PlainCause::Quotes));
+    }
+    let text = match text_of(laid.as_slice()) {
+        Some(text) => text,
+        None => return Err(Refused::Cause(PlainCause::NotText)),
+    };
+    let meant = match parsed(alloc, is_open, text) {
+        Ok(meant) => meant,
+        Err(refused) => return Err(refused),
+    };
+    if !write_said(alloc, reader, &meant, plain)? {
+        return Err(Refused::Cause(PlainCause::Unsayable));
+    }
+    lines.push(plain.as_slice())?;
+    Ok(is_open_after(is_open, &meant))
 }

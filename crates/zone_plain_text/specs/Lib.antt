@@ -1,1 +1,3 @@
 pub mod PlainTexts
+pub mod Same
+pub mod SameLaws

@@ -3,7 +3,7 @@ ghost use Rattle.std.specs.Prelude.{◌≡◌, bytes_eq, option_map};
 ghost use Rattle.zone_values.specs.Values.{line_value, info_value, rule_value, saving_value};
 ghost use Rattle.zone_values.specs.contracts.year.YearPartialEq.TheImpl as of_year;
 ghost use Rattle.zone_values.specs.contracts.change.ChangeTimePartialEq.TheImpl as of_end;
-ghost use Rattle.zone_plain.specs.Same.{same_option, same_saving, same_info, same_years, same_moment, same_rule, same_line};
+ghost use Rattle.zone_plain_text.specs.Same.{same_option, same_saving, same_info, same_years, same_moment, same_rule, same_line};
 
 use zone_values::{ChangeTime, Line, Rule, Saving, Year, ZoneInfo};
 
@@ -108,7 +108,7 @@ fn same_rule(one: &Rule<'_>, other: &Rule<'_>) -> bool
 
 /// Whether two lines mean the same.
 #[tactic(auto, unfolding(crate::specs::Same::same_line))]
-pub(crate) fn same_line(one: &Line<'_>, other: &Line<'_>) -> bool
+pub fn same_line(one: &Line<'_>, other: &Line<'_>) -> bool
     ensures { result ≡ same_line (line_value one.now) (line_value other.now) }
 {
     match one {

@@ -1,5 +1,5 @@
 -- Whether two lines mean the same.
-use Rattle.std.specs.Prelude.{ℕ, List, [], ◌∷◌, Bool, true, false, ◌&&◌, Option, Some, None, bytes_eq}
+use Rattle.std.specs.Prelude.{Bool, true, false, ◌&&◌, Option, Some, None, bytes_eq}
 use Rattle.zone_values.specs.Values.{SavingValue, no_saving, one_off, multiple, InfoValue, RuleValue, LineValue, space, zone, continuation, rule, link}
 use Rattle.zone_values.specs.contracts.time.TimeSpecPartialEq.TheImpl as of_time
 use Rattle.zone_values.specs.contracts.time.TimeSpecAndTypePartialEq.TheImpl as of_marked_time

@@ -1,0 +1,88 @@
+-- Lines that were read, and those that are left.
+use Rattle.std.proofs.Common.{◌≡◌, ℕ, suc, ◌+◌, List, [], ◌∷◌, ◌++◌, map, length, Bool, true, false, Result, Ok, Err, refl, sym, ap, ◌∙◌, append_assoc, append-nil, arith}
+use Rattle.zone_source.specs.Lines.{lines_of}
+use Rattle.zone_source.specs.Zones.{source_value}
+use Rattle.zone_values.specs.Values.{LineValue}
+use Rattle.zone_plain_lines.specs.declared.cause.PlainCause.{PlainCause}
+use Rattle.zone_plain_lines.specs.declared.cause.PlainCause.TheVariants as cause
+use Rattle.zone_plain_text.specs.PlainTexts.{plain_text}
+use Rattle.zone_plain.specs.LineValues.{LineFault, at, onto, line_meaning, is_open_after, values_from, values_in}
+use Rattle.zone_plain.specs.ReadBackLaws.{source_value_is}
+use Rattle.zone_plain.specs.Told.{IsReadLine, IsRefusedLine, IsLineFault, fault_at}
+use Rattle.zone_plain.specs.declared.line.Refused.{Refused}
+use Rattle.zone_plain.specs.declared.line.Refused.TheVariants.{Cause, NoMemory}
+
+-- these values come before those that are found
+abbrev pub before : List LineValue → Result (List LineValue) LineFault → Result (List LineValue) LineFault
+before vs (Ok ws) = Ok (vs ++ ws)
+before vs (Err e) = Err e
+
+before_none : (r : Result (List LineValue) LineFault) → before [] r ≡ r
+before_none (Ok ws) = refl
+before_none (Err e) = refl
+
+before_one : (vs : List LineValue) (v : LineValue) (r : Result (List LineValue) LineFault) → before vs (onto v r) ≡ before (vs ++ v ∷ []) r
+before_one vs v (Ok ws) = ap Ok (sym (append_assoc vs (v ∷ []) ws))
+before_one vs v (Err e) = refl
+
+-- the lines before the nth were read, and what is left gives the rest
+pub record HasRead (source : List ℕ) (lines : List (List ℕ)) (is_open : Bool) (n : ℕ) (left : List (List ℕ)) : Type 0 where
+  pub values : List LineValue
+  pub number : n + length left ≡ 1 + length (lines_of source)
+  pub texts : map source_value lines ≡ values
+  pub goes_on : before values (values_from is_open n left) ≡ values_in source
+
+pub nothing_read : (source : List ℕ) → HasRead source [] false 1 (lines_of source)
+unfolding values_in
+nothing_read source = record { values = []; number = refl; texts = refl; goes_on = before_none _ }
+
+map_more : (lines : List (List ℕ)) (line : List ℕ) → map source_value (lines ++ line ∷ []) ≡ map source_value lines ++ source_value line ∷ []
+map_more [] line = refl
+map_more (l ∷ lines) line = ap (λ vs. source_value l ∷ vs) (map_more lines line)
+
+pub one_more : (source : List ℕ) (old new : List (List ℕ)) (is_open is_open_now : Bool) (n : ℕ) (line : List ℕ) (left : List (List ℕ))
+    → HasRead source old is_open n (line ∷ left) → IsReadLine old new is_open line is_open_now → HasRead source new is_open_now (suc n) left
+unfolding values_from
+one_more source old new is_open is_open_now n line left so_far line_read = record {
+  values = so_far.values ++ line_read.value ∷ [];
+  number = omega (arith, so_far.number);
+  texts = ap (map source_value) line_read.added ∙ map_more old (plain_text line_read.value)
+      ∙ (λ i. so_far.texts i ++ source_value_is line_read.value line_read.said i ∷ []);
+  goes_on = ap (λ o. before (so_far.values ++ line_read.value ∷ []) (values_from o (suc n) left)) line_read.open_now
+      ∙ sym (before_one so_far.values line_read.value (values_from (is_open_after is_open line_read.value) (suc n) left))
+      ∙ ap (before so_far.values) (sym (step line_read.meant)) ∙ so_far.goes_on;
+}
+  where
+    step : line_meaning is_open line ≡ Ok line_read.value
+        → values_from is_open n (line ∷ left) ≡ onto line_read.value (values_from (is_open_after is_open line_read.value) (suc n) left)
+    step e = rw e refl
+
+pub refused_here : (source : List ℕ) (old : List (List ℕ)) (is_open : Bool) (n : ℕ) (line : List ℕ) (left : List (List ℕ)) (c : PlainCause)
+    → HasRead source old is_open n (line ∷ left) → line_meaning is_open line ≡ Err c → values_in source ≡ Err (at n c)
+unfolding values_from
+refused_here source old is_open n line left c so_far e = sym so_far.goes_on ∙ ap (before so_far.values) (step e)
+  where
+    step : line_meaning is_open line ≡ Err c → values_from is_open n (line ∷ left) ≡ Err (at n c)
+    step e = rw e refl
+
+pub left_open : (source : List ℕ) (old : List (List ℕ)) (is_open : Bool) (n : ℕ) → HasRead source old is_open n [] → is_open ≡ true
+    → values_in source ≡ Err (at n cause.Continuation)
+unfolding values_from
+left_open source old is_open n so_far e = sym so_far.goes_on ∙ ap (before so_far.values) (step e)
+  where
+    step : is_open ≡ true → values_from is_open n [] ≡ Err (at n cause.Continuation)
+    step e = rw e refl
+
+pub all_read : (source : List ℕ) (old : List (List ℕ)) (is_open : Bool) (n : ℕ) → HasRead source old is_open n [] → is_open ≡ false
+    → values_in source ≡ Ok (map source_value old)
+unfolding values_from
+all_read source old is_open n so_far e =
+    sym so_far.goes_on ∙ ap (before so_far.values) (step e) ∙ ap Ok (append-nil so_far.values ∙ sym so_far.texts)
+  where
+    step : is_open ≡ false → values_from is_open n [] ≡ Ok []
+    step e = rw e refl
+
+pub told_here : (source : List ℕ) (old : List (List ℕ)) (is_open : Bool) (n : ℕ) (line : List ℕ) (left : List (List ℕ)) (r : Refused)
+    → HasRead source old is_open n (line ∷ left) → IsRefusedLine is_open line r → IsLineFault (values_in source) (fault_at n r)
+told_here source old is_open n line left (Cause c) so_far e = refused_here source old is_open n line left c so_far e
+told_here source old is_open n line left NoMemory so_far e = tt

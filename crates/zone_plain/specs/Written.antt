@@ -1,0 +1,35 @@
+-- What is written of the values of a source's lines.
+use Rattle.std.specs.Prelude.{ℕ, List, [], ◌∷◌, ◌++◌, Bool, true, false, map, flat_map, slice_index_or, if◌then◌else◌}
+use Rattle.zone_source.specs.Zones.{source_value}
+use Rattle.zone_values.specs.Values.{LineValue, space, zone, continuation, rule, link}
+use Rattle.zone_plain_text.specs.PlainTexts.{plain_text}
+use Rattle.zone_plain.specs.declared.output.Part.{Part}
+use Rattle.zone_plain.specs.declared.output.Part.TheVariants.{Rules, Zones, Links}
+
+-- what the line at a place says, from 0 on
+abbrev pub value_at : List (List ℕ) → ℕ → LineValue
+value_at lines place = slice_index_or (map source_value lines) place space
+
+-- a value of that part
+abbrev pub is_in : Part → LineValue → Bool
+is_in part space = false
+is_in Rules (rule r) = true
+is_in Rules (zone name info) = false
+is_in Rules (continuation info) = false
+is_in Rules (link existing new) = false
+is_in Zones (rule r) = false
+is_in Zones (zone name info) = true
+is_in Zones (continuation info) = true
+is_in Zones (link existing new) = false
+is_in Links (rule r) = false
+is_in Links (zone name info) = false
+is_in Links (continuation info) = false
+is_in Links (link existing new) = true
+
+-- its plain text and a line feed, or nothing
+abbrev pub part_text : Part → LineValue → List ℕ
+part_text part v = if is_in part v then plain_text v ++ 10 ∷ [] else []
+
+-- the rules, then the zones, then the links, each in the order of the source
+unfoldable pub written : List LineValue → List ℕ
+written values = (flat_map (part_text Rules) values ++ flat_map (part_text Zones) values) ++ flat_map (part_text Links) values

@@ -1,0 +1,46 @@
+//! The plain form of a source.
+ghost use Rattle.std.specs.Prelude.{◌≡◌, ◌≤◌, Ok, length, IfOk, IfErr, OnOk};
+ghost use Rattle.zone_source.specs.Zones.{source_value};
+ghost use Rattle.std.specs.Prelude.{map};
+ghost use Rattle.zone_plain.specs.Plain.{plain_of, IsFaultOf};
+ghost use Rattle.zone_plain.specs.Written.{written};
+
+use crate::error::PlainFault;
+use crate::output::{Part, put_part};
+use crate::reading::read_lines;
+use std::alloc::{AllocError, Global};
+use zone_line::LineParser;
+use zone_source::{LIMIT, LineList};
+
+/// The plain form of a source in any form that `zic` reads: its rules, then its zones, then its links, each in the order of the
+/// source, a line each. Each line is written so that `LineParser::parse_str` reads it as what the source's line means.
+///
+/// # Errors
+///
+/// `Line` tells the first line that is refused, and why; `TooLong` comes where more than 16,777,216 bytes would be written.
+#[tactic(auto, unfolding(crate::specs::Plain::plain_of))]
+pub fn plain(alloc: Global, parser: &LineParser, source: &[u8]) -> Result<Vec<u8>, PlainFault>
+    requires { length source.now ≤ LIMIT }
+    ensures ok { IfOk result (λ bytes. plain_of source.now ≡ Ok bytes.items) }
+    ensures err { IfErr result (IsFaultOf (plain_of source.now)) }
+{
+    let lines = read_lines(alloc, parser, source)?;
+    let bytes = write_lines(alloc, parser, &lines)?;
+    if bytes.as_slice().len() > LIMIT {
+        return Err(PlainFault::TooLong);
+    }
+    Ok(bytes)
+}
+
+/// What is written of the lines.
+#[tactic(auto, unfolding(crate::specs::Written::written))]
+fn write_lines(alloc: Global, parser: &LineParser, lines: &LineList) -> Result<Vec<u8>, AllocError>
+    ensures { IfOk result (λ bytes. bytes.items ≡ written (map source_value lines.now)) }
+{
+    let mut reader = parser.reader(alloc)?;
+    let mut bytes = Vec::new(alloc);
+    put_part(alloc, &mut reader, lines, Part::Rules, &mut bytes)?;
+    put_part(alloc, &mut reader, lines, Part::Zones, &mut bytes)?;
+    put_part(alloc, &mut reader, lines, Part::Links, &mut bytes)?;
+    Ok(bytes)
+}
