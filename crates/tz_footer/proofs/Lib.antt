@@ -2,3 +2,4 @@ mod AgainLemmas
 mod FoundLemmas
 mod RangeLemmas
 mod ReadLemmas
+mod WorkedFooters

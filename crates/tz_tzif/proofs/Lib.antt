@@ -5,3 +5,4 @@ mod InstantLemmas
 mod KindLemmas
 mod OffsetLemmas
 mod ReadLemmas
+mod WorkedKinds

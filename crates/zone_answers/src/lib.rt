@@ -16,7 +16,9 @@ mod zones;
 pub use answering::{answers, read_table};
 pub use error::{AnswerError, Side};
 pub use fault::write_fault;
+pub use request::nanoseconds;
 pub use running::{run, run_surely};
+pub use showing::{add_bytes, add_text};
 pub use tz_lookup::ZoneFault;
 /// One line per request, in order. Contracts see the list of the lines' bytes.
 pub use zone_source::{

@@ -66,7 +66,7 @@ fn local_time(text: &str) -> Option<PlainDateTime>
 }
 
 /// The number that an optional `-` and 1 to 30 digits write.
-fn nanoseconds(text: &str) -> Option<i128>
+pub fn nanoseconds(text: &str) -> Option<i128>
     ensures { result ≡ nanoseconds_in text.now }
 {
     if is_number(without_minus(text.as_bytes())) {

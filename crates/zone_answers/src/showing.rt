@@ -114,7 +114,7 @@ fn show_each(
 }
 
 /// Adds the zoned text of a date-time.
-fn add_text(shown: &OffsetDateTime, text: &mut Vec<u8>) -> Result<(), AllocError>
+pub fn add_text(shown: &OffsetDateTime, text: &mut Vec<u8>) -> Result<(), AllocError>
     ensures { OnOk result (text.new.items ≡ text.old.items ++ text_shown (shown_of shown.now)) }
 {
     let mut zoned = [0; 40];
@@ -122,7 +122,7 @@ fn add_text(shown: &OffsetDateTime, text: &mut Vec<u8>) -> Result<(), AllocError
     add_bytes(&zoned[..end], text)
 }
 
-fn add_bytes(bytes: &[u8], text: &mut Vec<u8>) -> Result<(), AllocError>
+pub fn add_bytes(bytes: &[u8], text: &mut Vec<u8>) -> Result<(), AllocError>
     ensures { OnOk result (text.new.items ≡ text.old.items ++ bytes.now) }
 {
     text.extend_from_slice(bytes)?;

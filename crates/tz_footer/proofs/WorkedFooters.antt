@@ -1,0 +1,135 @@
+-- Footers that spell a value and texts that spell none, what is in range, and what values stand for, by hand.
+use Rattle.std.proofs.Common.{◌≡◌, refl, sym, ◌∙◌, ℕ, ℤ, pos, neg_ℤ, Bool, true, false, List, [], ◌∷◌, map, Option, Some, None, codes}
+use Rattle.std.proofs.lemmas.Option.{none-some}
+use Rattle.calendar.specs.Dates.{last_with}
+use Rattle.calendar.specs.Days.{day, days_after_zero, days_in_month, days_in_year, days_into_year, days_through, is_leap, year_start}
+use Rattle.calendar.specs.Weekdays.{weekday_of}
+use Rattle.tz_posix.specs.Days.{nth_weekday, rule_day}
+use Rattle.tz_posix.specs.Reading.{value_in, number_at, part_at, time_at, sign_at, offset_at, letters_at, enclosed_at, name_at}
+use Rattle.tz_posix.specs.Reading.{weekday_at, date_at, own_offset_at}
+use Rattle.tz_posix.specs.Seconds.{offset_seconds, time_seconds}
+use Rattle.tz_posix.specs.declared.date.Date.TheVariants.{J, M}
+use Rattle.tz_posix.specs.declared.time.Offset.{Offset}
+use Rattle.tz_footer.specs.InForce.{fixed, yearly, second_in}
+use Rattle.tz_footer.specs.Ranges.{is_in_range, is_moment}
+use Rattle.tz_footer.specs.Reading.{moment_at, rule_in, saving_in, footer_in}
+use Rattle.tz_footer.specs.Spells.{IsFooter}
+use Rattle.tz_footer.specs.Standing.{stands_for}
+use Rattle.tz_footer.specs.Values.{FooterValue, SavingValue}
+use Rattle.tz_footer.proofs.AgainLemmas.{footer_again}
+use Rattle.tz_footer.proofs.FoundLemmas.{footer_found}
+
+-- so many hours, after a sign or none
+abbrev hours : Bool → ℕ → Offset
+hours positive h = record { positive = positive; time = record { hh = h; mm = None; ss = None } }
+
+abbrev nuuk : FooterValue
+nuuk = record {
+  standard = record { name = codes "-02"; offset = hours true 2 };
+  saving = Some (record {
+    name = codes "-01";
+    offset = None;
+    rule = record { start = (M 3 5 0, Some (hours false 1)); end = (M 10 5 0, Some (hours true 0)) };
+  });
+}
+
+-- an hour before midnight, and midnight
+worked_nuuk : IsFooter (codes "<-02>2<-01>,M3.5.0/-1,M10.5.0/0") nuuk
+unfolding
+    value_in number_at part_at time_at sign_at offset_at letters_at enclosed_at name_at weekday_at date_at own_offset_at
+    moment_at rule_in saving_in footer_in
+worked_nuuk = footer_found (codes "<-02>2<-01>,M3.5.0/-1,M10.5.0/0") _ refl
+
+abbrev dublin : FooterValue
+dublin = record {
+  standard = record { name = codes "IST"; offset = hours false 1 };
+  saving = Some (record {
+    name = codes "GMT";
+    offset = Some (hours true 0);
+    rule = record { start = (J 60, None); end = (M 3 5 0, Some (hours true 24)) };
+  });
+}
+
+worked_dublin : IsFooter (codes "IST-1GMT0,J60,M3.5.0/24") dublin
+unfolding
+    value_in number_at part_at time_at sign_at offset_at letters_at enclosed_at name_at weekday_at date_at own_offset_at
+    moment_at rule_in saving_in footer_in
+worked_dublin = footer_found (codes "IST-1GMT0,J60,M3.5.0/24") _ refl
+
+-- what is read as nothing spells nothing
+spells_none : (text : List ℕ) → footer_in text ≡ None → (value : FooterValue) → IsFooter text value → ⊥
+spells_none text none value spelled = none-some value (sym none ∙ footer_again spelled)
+
+-- daylight saving time without a rule; a zone's name; text after the rule; nothing
+no_rule : (value : FooterValue) → IsFooter (codes "EST5EDT") value → ⊥
+unfolding
+    value_in number_at part_at time_at sign_at offset_at letters_at enclosed_at name_at weekday_at date_at own_offset_at
+    moment_at rule_in saving_in footer_in
+no_rule = spells_none (codes "EST5EDT") refl
+
+no_zone : (value : FooterValue) → IsFooter (codes ":EST") value → ⊥
+unfolding
+    value_in number_at part_at time_at sign_at offset_at letters_at enclosed_at name_at weekday_at date_at own_offset_at
+    moment_at rule_in saving_in footer_in
+no_zone = spells_none (codes ":EST") refl
+
+text_after : (value : FooterValue) → IsFooter (codes "EST5EDT,J1,J2 ") value → ⊥
+unfolding
+    value_in number_at part_at time_at sign_at offset_at letters_at enclosed_at name_at weekday_at date_at own_offset_at
+    moment_at rule_in saving_in footer_in
+text_after = spells_none (codes "EST5EDT,J1,J2 ") refl
+
+nothing : (value : FooterValue) → IsFooter [] value → ⊥
+unfolding
+    value_in number_at part_at time_at sign_at offset_at letters_at enclosed_at name_at weekday_at date_at own_offset_at
+    moment_at rule_in saving_in footer_in
+nothing = spells_none [] refl
+
+-- hours of rules to 167 and of offsets to 24, whatever the sign
+worked_moments : map (λ h. is_moment (J 1, Some (hours false h))) (0 ∷ 167 ∷ 168 ∷ []) ≡ true ∷ true ∷ false ∷ []
+worked_moments = refl
+
+abbrev with_offsets : ℕ → Option Offset → ℕ → ℕ → FooterValue
+with_offsets h own start end = record {
+  standard = record { name = codes "AAA"; offset = hours false h };
+  saving = Some (record {
+    name = codes "BBB";
+    offset = own;
+    rule = record { start = (J 1, Some (hours true start)); end = (J 2, Some (hours true end)) };
+  });
+}
+
+worked_ranges : map is_in_range (with_offsets 24 None 1 1 ∷ with_offsets 25 None 1 1 ∷ with_offsets 1 (Some (hours true 24)) 1 1
+    ∷ with_offsets 1 (Some (hours true 25)) 1 1 ∷ with_offsets 1 None 168 1 ∷ with_offsets 1 None 1 168 ∷ [])
+    ≡ true ∷ false ∷ true ∷ false ∷ false ∷ false ∷ []
+unfolding is_in_range
+worked_ranges = refl
+
+worked_alone : map (λ h. is_in_range (record { standard = record { name = codes "AAA"; offset = hours true h }; saving = None })) (24 ∷ 25 ∷ [])
+    ≡ true ∷ false ∷ []
+unfolding is_in_range
+worked_alone = refl
+
+-- an hour ahead without an offset of its own, and a time before midnight
+nuuk_stands : stands_for nuuk ≡ yearly (record { utoff = neg_ℤ (pos 7200); is_dst = false; name = codes "-02" })
+    (record { utoff = neg_ℤ (pos 3600); is_dst = true; name = codes "-01" }) (M 3 5 0, neg_ℤ (pos 3600)) (M 10 5 0, pos 0)
+unfolding stands_for offset_seconds time_seconds
+nuuk_stands = refl
+
+-- daylight saving time behind standard time, and a time that is not written
+dublin_stands : stands_for dublin ≡ yearly (record { utoff = pos 3600; is_dst = false; name = codes "IST" })
+    (record { utoff = pos 0; is_dst = true; name = codes "GMT" }) (J 60, pos 7200) (M 3 5 0, pos 86400)
+unfolding stands_for offset_seconds time_seconds
+dublin_stands = refl
+
+alone_stands : stands_for (record { standard = record { name = codes "AAA"; offset = hours false 3 }; saving = None })
+    ≡ fixed (record { utoff = pos 10800; is_dst = false; name = codes "AAA" })
+unfolding stands_for offset_seconds time_seconds
+alone_stands = refl
+
+-- the last Sunday of March 2024 at an hour before midnight, two hours behind UTC
+nuuk_start : second_in (pos 2024) (neg_ℤ (pos 7200)) (M 3 5 0, neg_ℤ (pos 3600)) ≡ pos 1711846800
+unfolding
+    second_in rule_day nth_weekday last_with weekday_of
+    is_leap days_in_year days_in_month days_after_zero year_start days_through days_into_year day
+nuuk_start = refl

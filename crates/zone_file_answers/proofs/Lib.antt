@@ -1,0 +1,4 @@
+mod EndLemmas
+mod ResponseLemmas
+mod RefusalLemmas
+mod ShowingLemmas

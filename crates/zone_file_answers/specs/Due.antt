@@ -1,0 +1,43 @@
+-- The bytes that are due for a file and its requests.
+use Rattle.std.specs.Prelude.{◌≡◌, ℕ, ℤ, List, [], ◌∷◌, ◌++◌, map, Some, None}
+use Rattle.std.specs.Option.{option_map_or}
+use Rattle.tz_zone.specs.InForce.{in_force, all_in_force}
+use Rattle.zone_answers.specs.Due.{line_shown}
+use Rattle.zone_source.specs.LineLists.{ended}
+use Rattle.zone_source.specs.Lines.{lines_of}
+use Rattle.zone_file_answers.specs.Faults.{Fault, file, fault_line, first_refused}
+use Rattle.zone_file_answers.specs.Files.{IsFile, IsNoFile}
+use Rattle.zone_file_answers.specs.Requests.{Request, at, local, request_of}
+
+-- the instants that answer a request at a zone of these totals, by time, each at the offset in force
+unfoldable pub shown_at : (ℤ → ℤ) → Request → List (ℤ × ℤ)
+shown_at total (at instant) = in_force total instant ∷ []
+shown_at total (local time) = all_in_force total time
+
+-- the line of a request that is not refused
+unfoldable pub answer_line : (ℤ → ℤ) → List ℕ → List ℕ
+answer_line total line = line_shown (option_map_or (shown_at total) (request_of line) [])
+
+-- no request is refused, and these are the lines
+pub record AreAnswers (source requests : List ℕ) (bytes : List ℕ) : Type 0 where
+  pub total : ℤ → ℤ
+  pub is : IsFile source total
+  pub none : first_refused total 1 (lines_of requests) ≡ None
+  pub lines : bytes ≡ ended (map (answer_line total) (lines_of requests))
+
+-- this request is the first that is refused
+pub record IsRefused (source requests : List ℕ) (f : Fault) : Type 0 where
+  pub total : ℤ → ℤ
+  pub is : IsFile source total
+  pub first : first_refused total 1 (lines_of requests) ≡ Some f
+
+-- the first fault of the file, else of the requests
+abbrev pub IsFault : List ℕ → List ℕ → Fault → Type 0
+IsFault source requests file = IsNoFile source
+IsFault source requests other = IsRefused source requests other
+
+-- this fault's line
+pub record IsFaultLine (source requests : List ℕ) (bytes : List ℕ) : Type 0 where
+  pub fault : Fault
+  pub found : IsFault source requests fault
+  pub line : bytes ≡ fault_line fault ++ 10 ∷ []

@@ -1,0 +1,9 @@
+pub mod Asked
+pub mod Due
+pub mod Ends
+pub mod Faults
+pub mod Files
+pub mod Requests
+pub mod Responses
+pub mod Told
+pub mod Words

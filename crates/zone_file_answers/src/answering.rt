@@ -1,0 +1,80 @@
+//! The answers to the requests over a file.
+ghost use Rattle.std.specs.Prelude.{◌≡◌, ◌≤◌, None, IfErr, IfOk, OnOk, MatchResult, length, map};
+ghost use Rattle.tz_tzif.specs.InForce.{total_at};
+ghost use Rattle.tz_tzif.specs.Zones.{value_of, says_of};
+ghost use Rattle.zone_source.specs.Lines.{lines_of};
+ghost use Rattle.zone_file_answers.specs.Due.{answer_line};
+ghost use Rattle.zone_file_answers.specs.Faults.{first_refused, request_refusal};
+ghost use Rattle.zone_file_answers.specs.Told.{AnswersFile, FaultOfFile, TellsOf};
+
+use crate::fault::FileFault;
+use crate::request::Request;
+use crate::showing::show;
+use std::alloc::Global;
+use tz_tzif::{TzifFault, TzifTz};
+use zone_source::{LIMIT, LineList, Lines, text_of};
+use zone_tzif_core::{ReadFault, one_reading, read_any};
+
+/// Answers each request over the zone of a file, in order, or tells the first fault: that of the file, else that of the
+/// requests. Lines end at an LF, a CR before it is dropped, and they are numbered from 1.
+pub fn answers(alloc: Global, file: &[u8], requests: &[u8]) -> Result<LineList, FileFault>
+    requires { length requests.now ≤ LIMIT }
+    ensures { MatchResult result (AnswersFile file.now requests.now) (FaultOfFile file.now requests.now) }
+{
+    one_reading();
+    let zone = match read_any(alloc, file) {
+        Ok(zone) => zone,
+        Err(ReadFault::Refused) => return Err(FileFault::File),
+        Err(ReadFault::NoMemory) => return Err(FileFault::NoMemory),
+    };
+    match TzifTz::new(alloc, "", &zone) {
+        Ok(tz) => answer_all(alloc, &tz, requests),
+        Err(TzifFault::NoMemory) => Err(FileFault::NoMemory),
+        Err(TzifFault::Times) => Err(FileFault::File),
+        Err(TzifFault::Offset) => Err(FileFault::File),
+        Err(TzifFault::Footer) => Err(FileFault::File),
+    }
+}
+
+/// Answers each request at a zone.
+fn answer_all(alloc: Global, zone: &TzifTz<'_>, requests: &[u8]) -> Result<LineList, FileFault>
+    requires { length requests.now ≤ LIMIT }
+    ensures valid { OnOk result (first_refused (total_at (value_of zone.now) (says_of zone.now)) 1 (lines_of requests.now) ≡ None) }
+    ensures lines { IfOk result (λ lines. lines ≡ map (answer_line (total_at (value_of zone.now) (says_of zone.now))) (lines_of requests.now)) }
+    ensures err { IfErr result (TellsOf (first_refused (total_at (value_of zone.now) (says_of zone.now)) 1 (lines_of requests.now))) }
+{
+    let mut answers = LineList::new(alloc);
+    let mut text = Vec::new(alloc);
+    let mut number = 1;
+    for line in Lines::new(requests) {
+        answer(zone, number, line, &mut text)?;
+        answers.push(&text)?;
+        number += 1;
+    }
+    Ok(answers)
+}
+
+/// Puts the line of the nth request into the text, in place of what is there.
+fn answer(
+    zone: &TzifTz<'_>,
+    number: usize,
+    line: &[u8],
+    text: &mut Vec<u8>,
+) -> Result<(), FileFault>
+    ensures accepted { OnOk result (request_refusal (total_at (value_of zone.now) (says_of zone.now)) number line.now ≡ None) }
+    ensures text { OnOk result (text.new.items ≡ answer_line (total_at (value_of zone.now) (says_of zone.now)) line.now) }
+    ensures err { IfErr result (TellsOf (request_refusal (total_at (value_of zone.now) (says_of zone.now)) number line.now)) }
+{
+    let Some(asked) = text_of(line) else {
+        return Err(FileFault::NotText(number));
+    };
+    let Some(request) = Request::read(asked) else {
+        return Err(FileFault::Request(number));
+    };
+    text.clear();
+    match show(zone, &request, text) {
+        Ok(true) => Ok(()),
+        Ok(false) => Err(FileFault::Range(number)),
+        Err(_) => Err(FileFault::NoMemory),
+    }
+}

@@ -1,0 +1,17 @@
+//! Answers requests over a compiled zone file: the top call, over the outside as traits.
+#![tactic(auto)]
+
+mod answering;
+mod fault;
+mod request;
+mod respond;
+mod running;
+mod showing;
+
+pub use answering::answers;
+pub use fault::FileFault;
+pub use running::run;
+pub use zone_source::{
+    FileShelf, LineList, MemShelf, MemSink, MemSource, Shelf, Sink, Source, Status, StdSink,
+    StdSource,
+};

@@ -1,0 +1,54 @@
+//! The answers to two texts, written to an output.
+ghost use Rattle.std.specs.Prelude.{◌≤◌, length};
+ghost use Rattle.zone_outside.specs.Seen.{output_seen};
+ghost use Rattle.zone_file_answers.specs.Responses.{Responds, RespondsFault};
+
+use crate::answering::answers;
+use crate::fault::{FileFault, line_of};
+use std::alloc::Global;
+use zone_source::{LIMIT, Sink, write_all};
+
+/// What was written.
+#[derive(Clone, Copy, Debug, PartialEq, Eq)]
+pub(crate) enum Answered {
+    /// The lines.
+    Done,
+    /// The line of a fault.
+    Fault,
+    /// Some of it: the output failed.
+    Failed,
+    /// Nothing: memory ran out.
+    NoMemory,
+}
+
+/// Answers the requests over the file, and writes the lines or the first fault.
+pub(crate) fn respond<O: Sink>(
+    alloc: Global,
+    file: &[u8],
+    requests: &[u8],
+    output: &mut O,
+) -> Answered
+    requires { length requests.now ≤ LIMIT }
+    ensures { Responds file.now requests.now (output_seen O.Sink output.old) (output_seen O.Sink output.new) result }
+{
+    match answers(alloc, file, requests) {
+        Ok(lines) => match write_all(output, lines.as_bytes()) {
+            Ok(()) => Answered::Done,
+            Err(_) => Answered::Failed,
+        },
+        Err(fault) => write_fault(alloc, fault, output),
+    }
+}
+
+/// Writes the line of the fault, if it tells one.
+fn write_fault<O: Sink>(alloc: Global, fault: FileFault, output: &mut O) -> Answered
+    ensures { RespondsFault fault (output_seen O.Sink output.old) (output_seen O.Sink output.new) result }
+{
+    let Ok(line) = line_of(alloc, fault) else {
+        return Answered::NoMemory;
+    };
+    match write_all(output, &line) {
+        Ok(()) => Answered::Fault,
+        Err(_) => Answered::Failed,
+    }
+}

@@ -1,0 +1,62 @@
+//! The top call.
+ghost use Rattle.std.specs.Prelude.{◌≡◌, ℕ, List, Some};
+ghost use Rattle.zone_answers.specs.Seen.{seen};
+ghost use Rattle.zone_file_answers.specs.Ends.{Ends};
+ghost use Rattle.zone_file_answers.specs.Words.{file_of};
+
+use crate::respond::{Answered, respond};
+use std::alloc::Global;
+use zone_source::{Shelf, Sink, Source, Status, fetch_all, read_all};
+
+/// Answers the requests of the input over the compiled zone file of the shelf that the words name, and writes the answers, or
+/// the first fault, to the output.
+///
+/// It works in this order: the words; the file to its end; the input to its end; the answers; the writing. What each status says is
+/// told field by field by `Ends`: 0 only where the file is a zone that can be looked up and each request is in its form, with
+/// exactly one line written for each; every other status only by its stated cause.
+pub fn run<H: Shelf, I: Source, O: Sink>(
+    alloc: Global,
+    words: &[String],
+    shelf: &mut H,
+    input: &mut I,
+    output: &mut O,
+) -> Status
+    requires { (name : List ℕ) → file_of words.now ≡ Some name → H.open_to shelf.old name }
+    ensures { Ends (file_of words.now)
+        (seen H.Source I.Source O.Sink shelf.old input.old output.old)
+        (seen H.Source I.Source O.Sink shelf.new input.new output.new) result }
+{
+    match words {
+        [name] => run_over(alloc, name.as_str(), shelf, input, output),
+        _ => Status::Words,
+    }
+}
+
+/// Answers the requests of the input over the named file.
+fn run_over<H: Shelf, I: Source, O: Sink>(
+    alloc: Global,
+    name: &str,
+    shelf: &mut H,
+    input: &mut I,
+    output: &mut O,
+) -> Status
+    requires { H.open_to shelf.old name.now }
+    ensures { Ends (Some name.now)
+        (seen H.Source I.Source O.Sink shelf.old input.old output.old)
+        (seen H.Source I.Source O.Sink shelf.new input.new output.new) result }
+{
+    let file = match fetch_all(alloc, shelf, name) {
+        Ok(file) => file,
+        Err(end) => return Status::from(end),
+    };
+    let requests = match read_all(alloc, input) {
+        Ok(requests) => requests,
+        Err(end) => return Status::from(end),
+    };
+    match respond(alloc, &file, &requests, output) {
+        Answered::Done => Status::Done,
+        Answered::Fault => Status::Fault,
+        Answered::Failed => Status::Write,
+        Answered::NoMemory => Status::NoMemory,
+    }
+}
