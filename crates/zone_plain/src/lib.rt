@@ -5,7 +5,13 @@ mod error;
 mod line;
 mod output;
 mod reading;
+mod respond;
+mod running;
 mod whole;
 
 pub use error::PlainFault;
+pub use running::{run_plain, run_plain_surely};
 pub use whole::plain;
+pub use zone_source::{
+    Failed, FileShelf, MemShelf, MemSink, Shelf, Sink, Source, Status, StdSink, SureShelf, SureSink,
+};
