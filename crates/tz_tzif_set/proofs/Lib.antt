@@ -1,0 +1,2 @@
+mod CarriedLemmas
+mod FooterLemmas
