@@ -65,6 +65,24 @@ pub struct NameCounts {
     pub orderly: u64,
 }
 
+/// Files that were made.
+#[derive(Clone, Copy)]
+pub struct FileCounts {
+    /// Zones, and links to one.
+    pub names: u64,
+    /// The bytes of their files.
+    pub bytes: u64,
+}
+
+/// Files that were read.
+#[derive(Clone, Copy)]
+pub struct ReadCounts {
+    /// All.
+    pub files: u64,
+    /// Their changes.
+    pub changes: u64,
+}
+
 /// POSIX TZ strings.
 #[derive(Clone, Copy)]
 pub struct StringCounts {
@@ -98,6 +116,10 @@ pub enum Counts {
     Kinds(KindCounts),
     /// Of building a database.
     Database(NameCounts),
+    /// Of making files.
+    Files(FileCounts),
+    /// Of reading a file.
+    Zone(ReadCounts),
     /// Of reading POSIX TZ strings.
     Posix(StringCounts),
     /// Of asking them.

@@ -13,6 +13,8 @@ pub enum Part {
     Posix,
     /// Asking them for offsets.
     Offset,
+    /// Reading a compiled zone.
+    Zone,
 }
 
 /// A part of the work over a table.
@@ -28,6 +30,8 @@ pub enum TablePart {
     Kinds,
     /// Building the database of the table.
     Database,
+    /// Compiling the names of the table, and making their files.
+    Files,
 }
 
 /// What a zone is asked.
@@ -58,6 +62,7 @@ impl Part {
             "join" => Some(Part::Join),
             "posix" => Some(Part::Posix),
             "offset" => Some(Part::Offset),
+            "zone" => Some(Part::Zone),
             _ => Some(Part::Table(TablePart::named(name)?)),
         }
     }
@@ -74,6 +79,7 @@ impl TablePart {
             "compact-locals" => Some(TablePart::Compact(Question::Local)),
             "kinds" => Some(TablePart::Kinds),
             "database" => Some(TablePart::Database),
+            "files" => Some(TablePart::Files),
             _ => None,
         }
     }

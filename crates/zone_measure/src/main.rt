@@ -11,17 +11,20 @@
 //! - `compact-instants`, `compact-locals`: the same of their compact sets;
 //! - `kinds`: the compact sets are built; counts the names, their spans, and the distinct kinds of each;
 //! - `database`: the database of the table is built; counts its names, and those whose spans are orderly;
+//! - `files`: each name is compiled and its TZif file made; counts the names, and the bytes of the files;
+//! - `zone`: FILE, which is a TZif file, is read; counts the files and their changes;
 //! - `posix`: each line is read as a POSIX TZ string; counts those that are read and those that are refused;
 //! - `offset`: each of these strings is asked at the same instants; counts the instants, and those with daylight saving.
 //!
 //! The exit status is 0 where the line was printed. With any other nothing is: 1, the words are not these; 2, a line or a
-//! zone of FILE is refused; 3, FILE can't be read; 4, the line can't be written; 5, memory ran out; 6, FILE is longer than
+//! zone of FILE, or FILE itself, is refused; 3, FILE can't be read; 4, the line can't be written; 5, memory ran out; 6, FILE is longer than
 //! 16,777,216 bytes; 7, the words can't be taken; 8, the parser can't be built.
 #![tactic(auto)]
 
 ghost use Rattle.std.specs.Prelude.{◌≤◌, length, IfOk};
 
 mod counts;
+mod files;
 mod job;
 mod looks;
 mod parts;
@@ -96,6 +99,8 @@ fn print(rt: HostRuntime, counts: &Counts) -> io::Result<()> {
         }
         Counts::Compile(c) => println!(rt; "{} names, {} spans", c.names, c.spans),
         Counts::Database(c) => println!(rt; "{} names, {} orderly", c.names, c.orderly),
+        Counts::Files(c) => println!(rt; "{} names, {} bytes", c.names, c.bytes),
+        Counts::Zone(c) => println!(rt; "{} files, {} changes", c.files, c.changes),
         Counts::Posix(c) => println!(rt; "{} strings, {} refused", c.strings, c.refused),
         Counts::Offset(c) => println!(rt; "{} instants, {} saving", c.instants, c.saving),
         Counts::Kinds(c) => {

@@ -3,6 +3,7 @@ ghost use Rattle.std.specs.Prelude.{◌≤◌, length};
 ghost use Rattle.zone_table.specs.BoundedTables.{IsBoundedTable};
 
 use crate::counts::{Counts, LineCounts, NameCounts, SpanCounts, TableCounts, add};
+use crate::files::{read_files, write_files};
 use crate::job::{Job, Part, TablePart};
 use crate::looks::{build_compact, look, look_compact};
 use crate::stopped::Stopped;
@@ -34,6 +35,7 @@ pub(crate) fn count(
             let database = Database::build(alloc, &table)?;
             count_strings(&database, source, job)
         }
+        Part::Zone => read_files(alloc, source, job.times),
     }
 }
 
@@ -47,6 +49,7 @@ fn count_table(alloc: Global, table: &Table, part: TablePart, times: u32) -> Res
         TablePart::Compact(question) => look_compact(alloc, table, question, times),
         TablePart::Kinds => build_compact(alloc, table, times),
         TablePart::Database => build(alloc, table, times),
+        TablePart::Files => write_files(alloc, table, times),
     }
 }
 

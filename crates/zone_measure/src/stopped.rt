@@ -3,6 +3,8 @@
 use std::alloc::AllocError;
 use tz_lookup::{DatabaseFault, ZoneFault};
 use zone_source::{ReadEnd, SourceError, Status};
+use zone_tzif_core::ReadFault;
+use zone_tzif_set::FileFault;
 
 /// Why a job stopped, as the status that a run ends with.
 #[derive(Clone, Copy)]
@@ -65,6 +67,24 @@ impl From<DatabaseFault> for Stopped {
     fn from(fault: DatabaseFault) -> Stopped {
         match fault {
             DatabaseFault::NoMemory => Stopped::by(Status::NoMemory),
+            _ => Stopped::by(Status::Fault),
+        }
+    }
+}
+
+impl From<FileFault> for Stopped {
+    fn from(fault: FileFault) -> Stopped {
+        match fault {
+            FileFault::NoMemory => Stopped::by(Status::NoMemory),
+            _ => Stopped::by(Status::Fault),
+        }
+    }
+}
+
+impl From<ReadFault> for Stopped {
+    fn from(fault: ReadFault) -> Stopped {
+        match fault {
+            ReadFault::NoMemory => Stopped::by(Status::NoMemory),
             _ => Stopped::by(Status::Fault),
         }
     }
