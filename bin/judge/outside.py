@@ -43,6 +43,13 @@ def program(name):
     return os.path.join(os.path.dirname(BIN), "crates", f"{name}_program", "out", f"{name}_program")
 
 
+def named_copy(source, path):
+    """Writes a copy of a source with `%z` replaced by `ZZZ`, since zic spells that name and a text in the plain form stands as it is."""
+    with open(source, encoding="utf-8") as file, open(path, "w", encoding="utf-8") as copy:
+        copy.write(file.read().replace("%z", "ZZZ"))
+    return path
+
+
 def compiled(source, folder, bloat):
     """The files that `zic -b BLOAT` makes of a source in a new folder, by name."""
     made = subprocess.run([found("zic"), "-b", bloat, "-d", folder, source], stderr=subprocess.PIPE, text=True)
