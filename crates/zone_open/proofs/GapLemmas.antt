@@ -1,9 +1,13 @@
 -- Local times that clocks skip.
-use Rattle.std.proofs.Common.{◌≡◌, ◌+◌, ℕ, false, ℤ, pos, ◌+ℤ◌, ◌-ℤ◌, ◌*ℤ◌, ◌≤ℤ◌, ◌<ℤ◌, int_lt, sym, ap, ◌∙◌, subst, arith}
+use Rattle.std.proofs.Common.{length, ◌≡◌, ◌+◌, ℕ, false, ℤ, pos, ◌+ℤ◌, ◌-ℤ◌, ◌*ℤ◌, ◌≤ℤ◌, ◌<ℤ◌, int_lt, sym, ap, ◌∙◌, subst, arith}
 use Rattle.std.proofs.lemmas.Int.{ints}
+use Rattle.std.proofs.lemmas.List.{length-map}
 use Rattle.civil_base.specs.Instants.{instant_at, seconds_of}
 use Rattle.civil_base.specs.Ranges.{IsOffset}
 use Rattle.civil_base.specs.RangeLaws.{offset_least, offset_greatest}
+use Rattle.zone_spans.specs.Schedules.{instants}
+use Rattle.tz_zone.specs.InForce.{all_in_force, in_force}
+use Rattle.tz_zone.specs.InstantLaws.{instants_are}
 use Rattle.zone_open.specs.Gaps.{nth_offset, IsNeverRead, IsSkippedBy}
 
 reads : (x k total : ℤ) → total ≡ k → (instant_at x k +ℤ pos 1000000000 *ℤ total) ≡ x
@@ -49,3 +53,10 @@ skipped_by total x place p second before after e s b a less more =
       behind = is_behind x k l before step (subst (λ o. o <ℤ l) (sym b) less);
       ahead = is_ahead x k after (subst (λ o. k <ℤ o) (sym a) more);
     }
+
+-- a local time without an instant is never shown
+pub never_read : (total : ℤ → ℤ) (x : ℤ) → ((t : ℤ) → IsOffset (total t)) → length (all_in_force total x) ≡ 0 → IsNeverRead total x
+unfolding IsNeverRead all_in_force
+never_read total x range none t e =
+    let found = ((instants_are total x range).exact t).1 e in
+    absurd (omega (arith, found.1, none, length-map (instants total x) (in_force total)))

@@ -45,7 +45,8 @@ impl OpenSource {
     ghost use Rattle.zone_source.specs.Zones.{values_of};
     ghost use Rattle.zone_open.specs.Faults.{IsOpenFault};
     ghost use Rattle.zone_open.specs.Sources.{table_in};
-    ghost use Rattle.zone_open.specs.Zones.{IsOpened};
+    ghost use Rattle.zone_open.specs.Zones.{set_in, IsOpened};
+    ghost use Rattle.tz_zone.specs.Sets.{schedule_of, IsAccepted};
     ghost use Rattle.zone_open.specs.declared.source.OpenFault.TheVariants.{NoMemory};
 
     /// Opens a source from its text in plain form.
@@ -110,6 +111,7 @@ impl OpenSource {
     /// never want of memory; `OffsetRange` exactly where some span has an offset of 26 hours or more; `NoMemory`.
     pub fn zone(&self, alloc: Global, name: &str) -> Result<OpenZone, ZoneFault>
         ensures ok { IfOk result (IsOpened name.now (compiled_in (table_in self.now) name.now)) }
+        ensures accepted { IfOk result (λ zone. IsAccepted (schedule_of (set_in zone))) }
         ensures err { IfErr result (IsZoneFault (compiled_in (table_in self.now) name.now)) }
     {
         let set = compile_zone(alloc, &self.table, name)?;

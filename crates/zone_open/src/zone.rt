@@ -22,7 +22,7 @@ impl OpenZone {
     ghost use Rattle.tz_zone.specs.InForce.{all_in_force, in_force as force_at, shown_of};
     ghost use Rattle.tz_zone.specs.Sets.{schedule_of, IsAccepted};
     ghost use Rattle.zone_open.specs.Asked.{reading_of, IsNamed};
-    ghost use Rattle.zone_open.specs.Gaps.{IsNeverRead, IsSkippedBy};
+    ghost use Rattle.zone_open.specs.Gaps.{IsSkippedBy};
     ghost use Rattle.zone_open.specs.Rooms.{filled};
     ghost use Rattle.zone_open.specs.Zones.{given_in, set_in, total_in};
     ghost use Rattle.tz_lookup.specs.CompactZones.{compact_of};
@@ -79,7 +79,7 @@ impl OpenZone {
 
     /// The change by which clocks skip a local time that they never show.
     pub fn gap(&self, local: &PlainDateTime) -> Gap
-        requires { IsNeverRead (total_in self.now) local.now }
+        requires { length (all_in_force (total_in self.now) local.now) ≡ 0 }
         ensures { IsSkippedBy (total_in self.now) local.now result }
     {
         find_gap(&self.zone(), local)

@@ -1,0 +1,10 @@
+//! Sefunjaro for C: `include/sefunjaro.h` declares these functions, and says what each means and what its caller owes.
+//!
+//! Each export hands on a call of the libraries below and states its clauses again.
+#![tactic(auto)]
+
+mod fault;
+mod sources;
+mod status;
+mod times;
+mod zones;

@@ -1,0 +1,125 @@
+//! Sources, and the zones that are opened from them.
+ghost use Rattle.std.specs.Prelude.{◌≡◌, ◌<◌, IfErr, IfOk, IfSome, MatchOption, None, is_some, length, nat_eq};
+ghost use Rattle.sefunjaro_c.specs.Faults.{source_due, zone_due, IsRefused};
+ghost use Rattle.sefunjaro_c.specs.Opened.{IsSourceOf, IsZoneOf};
+ghost use Rattle.sefunjaro_handles.specs.Held.{OfSource, OnSource, IsSource, IsZone};
+ghost use Rattle.zone_open.specs.Sources.{table_in};
+
+use crate::fault::{Fault, opening_fault, plain_fault, zone_fault};
+use crate::status::{DONE, NO_MEMORY, NOT_OPEN, NOT_TEXT};
+use sefunjaro_handles::{Handle, Opened};
+use std::alloc::Global;
+use zone_open::OpenSource;
+use zone_source::text_of;
+
+/// Opens a source from its text in plain form. What the handle held before is closed.
+#[unsafe(no_mangle)]
+pub extern "C" fn sefunjaro_source_open(
+    alloc: Global,
+    text: &[u8],
+    source: &mut Handle,
+    fault: &mut Fault,
+) -> u32
+    ensures status { result ≡ fault.new.status }
+    ensures opened { is_some source.new.opened ≡ nat_eq result 0 }
+    ensures answer { MatchOption source.new.opened (IsRefused (source_due text.now) fault.new) (IsSource (IsSourceOf text.now)) }
+{
+    drop(source.take(alloc));
+    match open_source(alloc, text) {
+        Ok(opened) => {
+            source.put(opened);
+            *fault = plain_fault(DONE);
+            DONE
+        }
+        Err(told) => {
+            *fault = told;
+            told.status
+        }
+    }
+}
+
+/// A source, on the heap.
+fn open_source(alloc: Global, text: &[u8]) -> Result<Box<Opened>, Fault>
+    ensures ok { IfOk result (λ opened. IsSource (IsSourceOf text.now) opened.value) }
+    ensures err { IfErr result (IsRefused (source_due text.now)) }
+{
+    match OpenSource::open(alloc, text) {
+        Ok(source) => match Opened::source(alloc, source) {
+            Ok(opened) => Ok(opened),
+            Err(_) => Err(plain_fault(NO_MEMORY)),
+        },
+        Err(fault) => Err(opening_fault(&fault)),
+    }
+}
+
+/// Closes a handle, whatever it holds. A handle that holds nothing stays as it is.
+#[unsafe(no_mangle)]
+pub extern "C" fn sefunjaro_close(alloc: Global, handle: &mut Handle)
+    ensures { handle.new.opened ≡ None }
+{
+    drop(handle.take(alloc));
+}
+
+/// Opens the zone of a name in a source. What the zone's handle held before is closed. The zone needs its source no more.
+#[unsafe(no_mangle)]
+pub extern "C" fn sefunjaro_zone_open(
+    alloc: Global,
+    source: &mut Handle,
+    name: &[u8],
+    zone: &mut Handle,
+    fault: &mut Fault,
+) -> u32
+    ensures same { source.new.opened ≡ source.old.opened }
+    ensures status { result ≡ fault.new.status }
+    ensures opened { is_some zone.new.opened ≡ nat_eq result 0 }
+    ensures answer { OnSource source.old.opened result (zone.new.opened ≡ None)
+        (λ from. MatchOption zone.new.opened (IsRefused (zone_due (table_in from) name.now) fault.new) (IsZone (IsZoneOf (table_in from) name.now))) }
+{
+    drop(zone.take(alloc));
+    let Some(from) = source.take(alloc) else {
+        *fault = plain_fault(NOT_OPEN);
+        return NOT_OPEN;
+    };
+    let made = open_zone(alloc, &from, name);
+    source.put(from);
+    match made {
+        Ok(opened) => {
+            zone.put(opened);
+            *fault = plain_fault(DONE);
+            DONE
+        }
+        Err(told) => {
+            *fault = told;
+            told.status
+        }
+    }
+}
+
+/// The zone of a name, on the heap.
+fn open_zone(alloc: Global, from: &Opened, name: &[u8]) -> Result<Box<Opened>, Fault>
+    ensures ok { IfOk result (λ opened. IsSource (λ source. IsZone (IsZoneOf (table_in source) name.now) opened.value) from.now) }
+    ensures err { IfErr result (λ fault. OfSource from.now fault.status (Unit {0}) (λ source. IsRefused (zone_due (table_in source) name.now) fault)) }
+    ensures refused { IfErr result (λ fault. 0 < fault.status) }
+{
+    match from {
+        Opened::Source(source) => zone_of(alloc, source, name),
+        Opened::Zone(_) => Err(plain_fault(NOT_OPEN)),
+    }
+}
+
+/// The zone of a name in a source, on the heap.
+fn zone_of(alloc: Global, source: &OpenSource, name: &[u8]) -> Result<Box<Opened>, Fault>
+    ensures ok { IfOk result (λ opened. IsZone (IsZoneOf (table_in source.now) name.now) opened.value) }
+    ensures err { IfErr result (IsRefused (zone_due (table_in source.now) name.now)) }
+{
+    let Some(name) = text_of(name) else {
+        return Err(plain_fault(NOT_TEXT));
+    };
+    match source.zone(alloc, name) {
+        Ok(zone) => match Opened::zone(alloc, zone) {
+            Ok(opened) => Ok(opened),
+            Err(_) => Err(plain_fault(NO_MEMORY)),
+        },
+        Err(fault) => Err(zone_fault(fault)),
+    }
+}
