@@ -1,0 +1,71 @@
+//! From the bytes of a source to zones that can be asked.
+ghost use Rattle.std.specs.Prelude.{◌≡◌, None, IfErr, IfOk, OnOk, map as each};
+ghost use Rattle.zone_source.specs.Faults.{source_fault};
+ghost use Rattle.zone_source.specs.Zones.{values_of};
+ghost use Rattle.zone_table.specs.BoundedTables.{IsBoundedTable};
+ghost use Rattle.zone_table.specs.Tables.{IsTableOf};
+ghost use Rattle.tz_lookup.specs.CompactShown.{seen};
+ghost use Rattle.tz_lookup.specs.Compiles.{compiled_in, IsCompiledAs};
+ghost use Rattle.tz_lookup.specs.Databases.{names_of, found_in, found_as};
+ghost use Rattle.sefunjaro.specs.Causes.{IsSourceCause, IsZoneCause, IsDatabaseCause};
+
+use crate::error::Error;
+use std::alloc::Global;
+use tz_lookup::{CompactFault, CompactSet, Database, ZoneFault, compile_zone};
+use zone_line::LineParser;
+use zone_source::{LIMIT, read_table};
+use zone_table::Table;
+
+/// The table of all rulesets, zones and links of a source, the text of the tz database in its plain form. A parser serves for
+/// any number of sources.
+///
+/// # Errors
+///
+/// `TooLong` exactly where the source is longer than 16,777,216 bytes; else `Source` with the first line that is refused and
+/// its cause; `NoMemory`.
+pub fn open_source(alloc: Global, parser: &LineParser, source: &[u8]) -> Result<Table, Error>
+    ensures ok { OnOk result (source_fault source.now ≡ None) }
+    ensures table { IfOk result (λ table. IsTableOf table (values_of source.now)) }
+    ensures bounded { IfOk result IsBoundedTable }
+    ensures err { IfErr result (IsSourceCause source.now) }
+{
+    if source.len() > LIMIT {
+        return Err(Error::TooLong);
+    }
+    Ok(read_table(alloc, parser, source)?)
+}
+
+/// The zone of that name, or of the link of that name, worked out and kept compactly: [`CompactTz::new`] asks it. A table of
+/// [`open_source`] is bounded.
+///
+/// # Errors
+///
+/// `Zone`, in this order: `UnknownZone` exactly where the name finds no zone; `Schedule` with the zone's first fault;
+/// `OffsetRange` exactly where some offset is 26 hours or more in size; `NoMemory`.
+pub fn open_zone(alloc: Global, table: &Table, name: &str) -> Result<CompactSet, Error>
+    requires { IsBoundedTable table.now }
+    ensures ok { IfOk result (λ set. IsCompiledAs (seen set) (compiled_in table.now name.now)) }
+    ensures err { IfErr result (IsZoneCause (compiled_in table.now name.now)) }
+{
+    let set = compile_zone(alloc, table, name)?;
+    match CompactSet::build(alloc, &set) {
+        Ok(compact) => Ok(compact),
+        Err(CompactFault::NoMemory) => Err(Error::NoMemory),
+        Err(CompactFault::OffsetRange | CompactFault::Falling | CompactFault::Bound) => {
+            unreachable!()
+        }
+    }
+}
+
+/// Every zone and link of a table, found by its name or by a part of it. A table of [`open_source`] is bounded.
+///
+/// # Errors
+///
+/// `Database` with the first name in byte order whose zone can't be asked, and why; want of memory too.
+pub fn open_database(alloc: Global, table: &Table) -> Result<Database, Error>
+    requires { IsBoundedTable table.now }
+    ensures ok { IfOk result (λ database. each found_as database ≡ each (found_in table.now) (names_of table.now)) }
+    ensures err { IfErr result (IsDatabaseCause table.now) }
+{
+    Ok(Database::build(alloc, table)?)
+}

@@ -1,0 +1,31 @@
+-- What the callers answer.
+use Rattle.std.specs.Prelude.{◌≡◌, ℕ, ℤ, List, [], ◌∷◌, Option, Some, None, Ok}
+use Rattle.tz_posix.specs.Parses.{IsParsed}
+use Rattle.tz_posix.specs.PosixShown.{posix_of}
+use Rattle.tz_posix.specs.PosixZones.{GivesTotal}
+use Rattle.tz_posix.specs.declared.posix.PosixTz.{PosixTz}
+use Rattle.tz_zone.specs.declared.set.FixedTimespanSet.{FixedTimespanSet}
+use Rattle.tz_tzif.specs.InForce.{total_at}
+use Rattle.tz_tzif.specs.Zones.{value_of, says_of}
+use Rattle.tz_tzif.specs.declared.zone.TzifTz.{TzifTz}
+use Rattle.zone_tzif_core.specs.Denotes.{Denotes}
+use Rattle.zone_tzif_core.specs.Zones.{ZoneValue}
+
+-- the first of a list, if it has one
+abbrev pub first_of : {A : Type 0} → List A → Option A
+first_of [] = None
+first_of (first ∷ rest) = Some first
+
+-- the text is read as a zone over those of a database, and that gives the instant this total
+pub record IsGivenBy (text : List ℕ) (zones : List FixedTimespanSet) (t total : ℤ) : Type 0 where
+  pub zone : PosixTz
+  pub is_parsed : IsParsed text zones (Ok zone)
+  pub given : GivesTotal (posix_of zone) t total
+
+-- the bytes are a file of a zone that can be asked, and that has this total at an instant
+pub record IsGivenByFile (bytes : List ℕ) (t total : ℤ) : Type 0 where
+  pub value : ZoneValue
+  pub zone : TzifTz
+  pub is_file : Denotes bytes value
+  pub is_zone : value_of zone ≡ value
+  pub is : total ≡ total_at (value_of zone) (says_of zone) t

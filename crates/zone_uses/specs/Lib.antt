@@ -1,0 +1,4 @@
+pub mod Answers
+pub mod Moves
+pub mod MovedShown
+pub mod Opened

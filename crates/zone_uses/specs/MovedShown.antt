@@ -1,0 +1,9 @@
+-- What a zone of one change shows.
+use Rattle.std.specs.Prelude.{ℤ}
+use Rattle.civil_base.specs.DateTimes.{instant}
+use Rattle.zone_uses.specs.Moves.{total_around}
+use Rattle.zone_uses.specs.declared.moved.Moved.{Moved}
+
+-- its total offset at each instant
+unfoldable pub total_shown : Moved → ℤ → ℤ
+total_shown zone = total_around (instant zone.change) zone.before zone.after

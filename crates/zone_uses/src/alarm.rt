@@ -1,0 +1,43 @@
+//! A daily alarm.
+ghost use Rattle.std.specs.Prelude.{◌≡◌, ◌++◌, IfOk, OnOk, filter_map, map, option_to_list};
+ghost use Rattle.tz_zone.specs.InForce.{shown_of};
+ghost use Rattle.zone_alarm.specs.Rings.{rings};
+ghost use Rattle.zone_alarm.specs.Shown.{ring_shown};
+
+use sefunjaro::{Date, Error, OffsetDateTime, Ring, Time, TimeZone, alarms};
+use std::alloc::{AllocError, Global};
+
+/// The instants of an alarm in so many days: on a day on which clocks skip the time there is none.
+pub fn wake_ups<T: TimeZone>(
+    alloc: Global,
+    zone: &T,
+    at: Time,
+    first: Date,
+    days: u32,
+) -> Result<Vec<OffsetDateTime>, Error>
+    ensures { IfOk result (λ found. map shown_of found.items ≡ filter_map (λ ring. ring.1) (rings (T.total_at zone.now) at first days)) }
+{
+    let rings = alarms(alloc, zone, at, first, days)?;
+    Ok(instants_of(alloc, &rings)?)
+}
+
+/// The instants of those rings that have one.
+fn instants_of(alloc: Global, rings: &[Ring]) -> Result<Vec<OffsetDateTime>, AllocError>
+    ensures { IfOk result (λ found. map shown_of found.items ≡ filter_map (λ ring. ring.1) (map ring_shown rings.now)) }
+{
+    let mut found = Vec::new(alloc);
+    for ring in rings {
+        add_ring(&mut found, ring)?;
+    }
+    Ok(found)
+}
+
+/// Adds the instant of a ring, if there is one.
+fn add_ring(found: &mut Vec<OffsetDateTime>, ring: &Ring) -> Result<(), AllocError>
+    ensures { OnOk result (found.new.items ≡ found.old.items ++ option_to_list ring.now.at) }
+{
+    match ring.at {
+        Some(time) => found.extend_from_slice(&[time]),
+        None => Ok(()),
+    }
+}

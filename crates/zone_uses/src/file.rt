@@ -1,0 +1,20 @@
+//! A compiled zone file, as those of the machine.
+ghost use Rattle.std.specs.Prelude.{IfOk};
+ghost use Rattle.civil_base.specs.DateTimes.{instant};
+ghost use Rattle.zone_uses.specs.Answers.{IsGivenByFile};
+
+use sefunjaro::{Error, Offset, OffsetDateTime, TimeZone, TzifTz, UtcOffset, read_any};
+use std::alloc::Global;
+
+/// The offset that a compiled zone file gives an instant: past its last change by its footer, so in any year.
+///
+/// # Errors
+///
+/// `File` where the bytes are no such file; `FileZone` where its footer is none; both for want of memory too.
+pub fn offset_in_file(alloc: Global, bytes: &[u8], at: &OffsetDateTime) -> Result<UtcOffset, Error>
+    ensures { IfOk result (IsGivenByFile bytes.now (instant at.now)) }
+{
+    let value = read_any(alloc, bytes)?;
+    let zone = TzifTz::new(alloc, "file", &value)?;
+    Ok(zone.get_offset_utc(at).to_utc())
+}

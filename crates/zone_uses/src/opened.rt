@@ -1,0 +1,20 @@
+//! A zone from the bytes of a source.
+ghost use Rattle.std.specs.Prelude.{IfOk};
+ghost use Rattle.zone_uses.specs.Opened.{IsOpened};
+
+use sefunjaro::{CompactSet, Error, LineParser, open_source, open_zone};
+use std::alloc::Global;
+
+/// The zone of that name in a source, the text of the tz database in its plain form. Whoever needs more zones of one source
+/// keeps its table, and the parser.
+///
+/// # Errors
+///
+/// Those of [`open_source`] and then those of [`open_zone`]; `Parser` where the patterns can't be built.
+pub fn zone_of_source(alloc: Global, source: &[u8], name: &str) -> Result<CompactSet, Error>
+    ensures { IfOk result (IsOpened source.now name.now) }
+{
+    let parser = LineParser::new(alloc)?;
+    let table = open_source(alloc, &parser, source)?;
+    open_zone(alloc, &table, name)
+}
