@@ -1,4 +1,5 @@
 mod CutLemmas
+mod FileLemmas
 mod GivenLemmas
 mod HeldLemmas
 mod InstantLemmas

@@ -1,6 +1,6 @@
 -- What holds in a zone of two changes, by hand.
-use Rattle.std.proofs.Common.{◌≡◌, refl, ℤ, pos, List, [], ◌∷◌, map, Option, Some, None, true, false}
-use Rattle.tz_footer.specs.InForce.{FooterZone, fixed, held_at}
+use Rattle.std.proofs.Common.{◌≡◌, refl, ℤ, pos, [], ◌∷◌, map, Some, None, true}
+use Rattle.tz_footer.specs.InForce.{fixed, held_at}
 use Rattle.zone_tzif_core.specs.Zones.{KindValue, ZoneValue}
 use Rattle.tz_tzif.specs.InForce.{kind_in}
 use Rattle.tz_tzif.specs.Offsets.{offsets_of}

@@ -2,14 +2,16 @@
 //! the rules of today stand in the footer alone.
 #![tactic(auto)]
 
+mod accept;
 mod fault;
 mod instants;
+mod laws;
 mod offsets;
 mod search;
-mod tests_of;
 mod zone;
 
 pub use fault::TzifFault;
 pub use instants::TzifInstants;
+pub use laws::file_totals;
 pub use tz_footer::{Footer, Held};
 pub use zone::TzifTz;

@@ -9,11 +9,11 @@ ghost use Rattle.tz_tzif.specs.Faults.{are_small};
 ghost use Rattle.tz_tzif.specs.InForce.{total_at};
 ghost use Rattle.tz_tzif.specs.Offsets.{offsets_of};
 
+use crate::accept::{are_small, read_footer, times_rise};
 use crate::fault::TzifFault;
 use crate::instants::{TzifInstants, next_read};
 use crate::offsets::offsets_of;
 use crate::search::{changes_until, held_after};
-use crate::tests_of::{are_small, read_footer, times_rise};
 use civil_base::{OffsetDateTime, PlainDateTime};
 use std::alloc::Global;
 use tz_footer::{Footer, Held};

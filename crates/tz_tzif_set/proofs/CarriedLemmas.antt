@@ -1,5 +1,5 @@
 -- From its last change on a set's zone has what its string gives, and before it what the set gives.
-use Rattle.std.proofs.Common.{◌≡◌, ℕ, zero, suc, ◌<◌, Bool, true, false, cond, List, [], ◌∷◌, length, map, filter, Option, Some, ℤ, pos, negsuc, ◌+ℤ◌, ◌*ℤ◌, ◌≤ℤ◌, ◌<ℤ◌, int_le, refl, sym, ap, ◌∙◌, subst, arith}
+use Rattle.std.proofs.Common.{◌≡◌, ℕ, zero, suc, ◌<◌, Bool, true, false, List, [], ◌∷◌, length, map, Option, Some, ℤ, ◌≤ℤ◌, ◌<ℤ◌, int_le, refl, sym, ap, ◌∙◌, subst, arith}
 use Rattle.std.specs.List.{list_all}
 use Rattle.std.proofs.lemmas.Bool.{and_parts}
 use Rattle.std.proofs.lemmas.Int.{ints}
@@ -13,34 +13,15 @@ use Rattle.tz_footer.specs.InForce.{FooterZone, held_at}
 use Rattle.tz_footer.specs.Spells.{IsFooter}
 use Rattle.tz_footer.specs.Standing.{StandsFor, stands_for}
 use Rattle.tz_footer.specs.Values.{FooterValue}
-use Rattle.tz_tzif.specs.InForce.{are_over, changed_kind, kind_in, kind_at, total_at}
+use Rattle.tz_tzif.specs.InForce.{are_over, total_at}
 use Rattle.zone_tail_core.specs.Candidates.{IsAllowed}
 use Rattle.zone_tail_core.specs.Carried.{CarriesOn, IsCovered, IsFrom}
 use Rattle.zone_tail_core.specs.Tails.{IsTail, beginning, end_of_last_year}
-use Rattle.zone_tzif_core.specs.Totals.{last_kind, total_at as file_total_at}
+use Rattle.zone_tzif_core.specs.Totals.{total_at as file_total_at}
 use Rattle.zone_tzif_core.specs.Zones.{KindValue, ZoneValue}
 use Rattle.zone_tzif_set.specs.Values.{change_of, value_of}
 use Rattle.tz_tzif_set.proofs.FooterLemmas.{Both, both}
 use Rattle.tz_tzif_set.specs.Footers.{IsFooterText}
-
-record IsSecond (t s : ℤ) : Type 0 where
-  low : (pos 1000000000 *ℤ s) ≤ℤ t
-  high : t <ℤ ((pos 1000000000 *ℤ s) +ℤ pos 1000000000)
-
-second_is : (t : ℤ) → IsSecond t (seconds_of t)
-unfolding seconds_of
-second_is (pos n) = record { low = omega (arith, ints); high = omega (arith, ints) }
-second_is (negsuc n) = record { low = omega (arith, ints); high = omega (arith, ints) }
-
-test_same : (a t s : ℤ) → IsSecond t s → int_le (a *ℤ pos 1000000000) t ≡ int_le a s
-test_same a t s h = grind (arith, ints, h.low, h.high)
-
--- a change is at or before an instant where it is at or before its second
-before_over : (zone : ZoneValue) (t : ℤ) → (changed_kind zone (seconds_of t)).utoff ≡ file_total_at zone t
-unfolding file_total_at
-before_over zone t =
-    ap (λ (p : ℤ × KindValue → Bool). (last_kind zone.first (filter p zone.rest)).utoff)
-    (λ i change. sym (test_same change.0 t (seconds_of t) (second_is t)) i)
 
 le_from_pass : (a s : ℤ) → int_le a s ≡ true → a ≤ℤ s
 le_from_pass a s h = grind (arith, ints)
@@ -86,15 +67,18 @@ module _ (set : FixedTimespanSet) (from : Option ℤ) (text : List ℕ) (carries
       let gives = both_of.gives t in
       ap (λ f. (held_at f s).utoff) (sym same) ∙ sym gives.is ∙ carries.agrees t gives.given covered gives.gives
 
+  -- by the laws on the totals of files
   pub carried : ((z : FixedTimespanSet) (footer : List ℕ) (t : ℤ) → file_total_at (value_of z footer) t ≡ set_total_at (schedule_of z) t)
+      → ((zone : ZoneValue) (footer : FooterZone) (t : ℤ) → are_over zone.rest (seconds_of t) ≡ false
+      → total_at zone (Some footer) t ≡ file_total_at zone t)
+      → ((zone : ZoneValue) (footer : FooterZone) (t : ℤ) → are_over zone.rest (seconds_of t) ≡ true
+      → total_at zone (Some footer) t ≡ (held_at footer (seconds_of t)).utoff)
       → (tail : IsTail set from text) (footer : FooterZone) (t : ℤ) → ((x y : FooterValue) → IsFooter text x → IsFooter text y → x ≡ y)
       → StandsFor text footer → seconds_of t <ℤ end_of_last_year set
       → total_at (value_of set text) (Some footer) t ≡ set_total_at (schedule_of set) t
-  unfolding kind_at kind_in
-  carried kept tail footer t one stands last =
-      by_over (are_over (value_of set text).rest (seconds_of t)) refl
+  carried kept before after tail footer t one stands last = by_over (are_over (value_of set text).rest (seconds_of t)) refl
     where
       by_over : (b : Bool) → are_over (value_of set text).rest (seconds_of t) ≡ b
-          → (cond b (held_at footer (seconds_of t)) (changed_kind (value_of set text) (seconds_of t))).utoff ≡ set_total_at (schedule_of set) t
-      by_over false over = before_over (value_of set text) t ∙ kept set text t
-      by_over true over = after_over tail footer t one stands last (over_of set text (seconds_of t) over)
+          → total_at (value_of set text) (Some footer) t ≡ set_total_at (schedule_of set) t
+      by_over false over = before (value_of set text) footer t over ∙ kept set text t
+      by_over true over = after (value_of set text) footer t over ∙ after_over tail footer t one stands last (over_of set text (seconds_of t) over)

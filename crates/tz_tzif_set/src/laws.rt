@@ -13,6 +13,7 @@ ghost use Rattle.zone_tzif_set.specs.Values.{value_of};
 ghost use Rattle.tz_tzif_set.specs.Footers.{IsFooterText};
 
 use tz_footer::one_footer;
+use tz_tzif::file_totals;
 use zone_tzif_set::totals_kept;
 
 /// The string that `tail` gives for a set is a footer, and of the zone that `from_set` makes of the set with it, the total is the
@@ -24,5 +25,6 @@ pub fn carried_on()
         → total_at (value_of set text) (Some footer) t ≡ set_total_at (schedule_of set) t }
 {
     one_footer();
+    file_totals();
     totals_kept();
 }

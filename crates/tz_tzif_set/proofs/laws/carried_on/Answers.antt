@@ -6,4 +6,4 @@ returns-clause-footer c = is_footer
 
 pub returns-clause-totals : goal.returns-clause-totals
 returns-clause-totals c = λ set from text footer t tail carries stands last.
-    carried set from text carries c.totals_kept.ensures tail footer t (c.one_footer.ensures text) stands last
+    carried set from text carries c.totals_kept.ensures c.file_totals.ensures.before c.file_totals.ensures.after tail footer t (c.one_footer.ensures text) stands last

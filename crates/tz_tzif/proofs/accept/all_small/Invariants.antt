@@ -2,7 +2,7 @@ use Rattle.std.proofs.Common.{◌≡◌, drop}
 use Rattle.std.specs.List.{list_all}
 use Rattle.zone_tzif_core.specs.Shown.{shifts_shown}
 use Rattle.zone_tzif_core.specs.Zones.{is_small}
-use Rattle.tz_tzif.proofs.tests_of.all_small.Given as goal
+use Rattle.tz_tzif.proofs.accept.all_small.Given as goal
 
 abbrev pub invariant-loop-change : goal.invariant-loop-change
 invariant-loop-change l =
