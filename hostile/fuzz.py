@@ -7,7 +7,7 @@ import shutil
 
 import reference
 import sources
-from programs import ZONED
+from programs import SOURCE, ZONED
 
 # How many cases of each kind there are among ten.
 SHARES = (("common", 4), ("fault", 2), ("broken", 4))
@@ -43,7 +43,7 @@ class Fuzzer:
     def __init__(self, runner, tally, programs, seed, database):
         self.runner, self.tally, self.seed = runner, tally, seed
         self.programs = {program.name: program for program in programs}
-        self.others = [program for program in programs if not program.has_input and program.has_zone()]
+        self.others = [program for program in programs if program.takes == SOURCE and program.has_zone()]
         self.zic = reference.find_zic()
         self.database = sources.Database(database)
 
@@ -91,6 +91,8 @@ class Fuzzer:
         got = run.output.decode().split("\n")[:-1]
         wrong = [(request, due, line) for (request, due), line in zip(asked, got) if due != line]
         self.hold(run.status == 0 and not run.errors and len(got) == len(asked) and not wrong, name, text, run.told(), *wrong[:3])
+        if "zone_file_answers" in self.programs:
+            self.over_file(r, name, zones[names[0]])
         zone, (program, ask) = r.choice(names), r.choice([("zone_list", self.listed), ("zone_alarm", self.rung), ("zone_tzif", self.filed)])
         if program in self.programs:
             ask(r, name, text, zone, zones[zone])
@@ -105,6 +107,17 @@ class Fuzzer:
         for local in [edge + zone.total(edge + side) + step for edge in edges for side in (-1, 0) for step in (-1, 0)] + anywhere:
             nanos = r.choice([0, 1, 999999999, r.randrange(NANOS)])
             yield f"local {name} {reference.local_text(local, nanos)}", reference.local_answer(zone, local, nanos)
+
+    def over_file(self, r, name, zone):
+        """The file that zic made, asked for the same, and with some bytes changed."""
+        asked = list(self.asked(r, "-", zone))
+        requests = [request.replace(" -", "", 1) for request, _ in asked]
+        run = self.run("zone_file_answers", [], zone.data, requests)
+        due = "".join(f"{answer}\n" for _, answer in asked)
+        self.hold((run.status, run.output.decode(), run.errors) == (0, due, b""), f"{name}: zone_file_answers", zone.data, run.told(), due)
+        changed = sources.change_bytes(r, zone.data)
+        run = self.run("zone_file_answers", [], changed, requests)
+        self.has_form(f"{name}: a changed file", "zone_file_answers", run, changed, len(requests))
 
     def listed(self, r, name, text, zone_name, zone):
         """The listed changes are those at which zic's zone changes its offset or its name."""
@@ -127,8 +140,12 @@ class Fuzzer:
         self.hold((run.status, run.output.decode(), run.errors) == (0, due, b""), f"{name}: zone_alarm {zone_name} {date} {time} {days}", text, run.told(), due)
 
     def filed(self, r, name, text, zone_name, zone):
-        """The file of the zone, read by zoneinfo, has the offsets and the names of zic's."""
+        """The file of the zone, read by zoneinfo, has the offsets and the names of zic's. There is none where two changes have one
+        time, as where a line ends at the very second at which a rule fires."""
         run = self.run("zone_tzif", [zone_name], text)
+        if (run.status, run.output, run.errors) == (2, b"tzif: times\n", b""):
+            self.tally.note("zones with two changes at one time, which have no file")
+            return
         asked = [second + step for second in zone.changes for step in (-1, 0)] + [r.randint(reference.LOW, reference.HIGH) for _ in range(20)]
         wrong = ["no file"]
         if run.status == 0:

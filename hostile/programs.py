@@ -16,16 +16,20 @@ ZONE_FAULTS = (
 # What stands for the file among the words.
 FILE = "FILE"
 
+# What a file is: source text, or a compiled zone.
+SOURCE, COMPILED = "source", "compiled"
+
 
 @dataclass(frozen=True)
 class Program:
-    """A program: its words, the form of what it writes at status 0, the label and the own causes of its fault lines, and whether
-    standard input holds requests."""
+    """A program: its words, the form of what it writes at status 0, the label and the own causes of its fault lines, what its file
+    is, and whether standard input holds requests."""
     name: str
     words: tuple
     form: str
     label: str
     causes: str
+    takes: str = SOURCE
     has_input: bool = False
 
     def is_answer(self, output):
@@ -34,8 +38,10 @@ class Program:
 
     def is_fault(self, output):
         """Whether these bytes are a fault line."""
-        fault = rf"({SOURCE_FAULTS}|{self.label}: ({ZONE_FAULTS}|{self.causes}))\n"
-        return re.fullmatch(fault.encode(), output) is not None
+        fault = f"{SOURCE_FAULTS}|{self.label}: ({ZONE_FAULTS}|{self.causes})"
+        if self.takes == COMPILED:
+            fault = f"file: refused|{self.label}: ({self.causes})"
+        return re.fullmatch(rf"({fault})\n".encode(), output) is not None
 
     def is_own_fault(self, output):
         """Whether these bytes are a fault line with a cause of the program's own, which a sound zone may have."""
@@ -55,23 +61,30 @@ class Program:
 
 NEW_YORK = "America/New_York"
 
+ANSWERS = rf"(({ZONED}( \| {ZONED})*|none)\n)*"
+
 PROGRAMS = [
-    Program("zone_answers", (FILE,), rf"(({ZONED}( \| {ZONED})*|none)\n)*", r"request \d+", "not text|request|range", has_input=True),
+    Program("zone_answers", (FILE,), ANSWERS, r"request \d+", "not text|request|range", has_input=True),
+    Program("zone_file_answers", (FILE,), ANSWERS, r"request \d+", "not text|request|range", takes=COMPILED, has_input=True),
     Program("zone_list", (FILE, NEW_YORK, "1000000000", "4102444800"), rf"( *-?\d+  [^\n]*  {ZONED}\n)*", "list", "range"),
     Program("zone_alarm", (FILE, NEW_YORK, "2024-03-09", "02:30:00", "30"), rf"(({ZONED}|-?\d{{4}}-\d\d-\d\d none)\n)*", "alarm", "range"),
     Program("zone_tail", (FILE, NEW_YORK), r"(-?\d+|all) [^\n]+\n", "tail", "shape|range|name"),
     Program("zone_tzif", (FILE, NEW_YORK), r"TZif[\0-\xff]*", "tzif", "times|types|names"),
 ]
 
-# A small file with ruled zones, links and a tangled zone.
-SMALL = b"""\
-# Two rulesets, three zones and a link.
+# A zone of two yearly rules, which zic can compile.
+ONE_ZONE = b"""\
 Rule US 2007 max - Mar Sun>=8 2:00 1:00 D
 Rule US 2007 max - Nov Sun>=1 2:00 0 S
+Zone America/New_York -5:00 US E%sT
+"""
+
+# A small file with ruled zones, links and a tangled zone.
+SMALL = ONE_ZONE + b"""\
+# Another ruleset, two more zones and a link.
 Rule EU 1977 1980 - Apr Sun>=1 1:00u 1:00 S
 Rule EU 1977 only - Sep lastSun 1:00u 0 -
 Rule EU 1978 only - Oct 1 1:00u 0 -
-Zone America/New_York -5:00 US E%sT
 Zone Europe/Madrid -0:14:44 - LMT 1901 Jan 1 0:00u
  0:00 - WET 1940 Mar 16 23:00
 
@@ -94,6 +107,13 @@ local Test/Knot 1999-12-31 19:30:00.000000000
 """
 
 
+
+
+def without_names(requests):
+    """The same requests to a program whose file is one zone."""
+    return re.sub(rb"^(at|local) \S+", rb"\1", requests, flags=re.MULTILINE)
+
+
 @dataclass(frozen=True)
 class Case:
     """A program with its words, the text of its file, and its standard input."""
@@ -109,11 +129,15 @@ class Case:
         return [path if word == FILE else word for word in self.words]
 
 
-def small_cases(programs):
-    """For each program a run over the small file, one that ends with a fault line, and what it does besides."""
+def small_cases(programs, compiled):
+    """For each program a run over the small file, or over a zone of it that is compiled, one that ends with a fault line, and what it
+    does besides."""
     cases = []
     for program in programs:
         given = REQUESTS if program.has_input else b""
+        if program.takes == COMPILED:
+            cases += [Case(program, program.words, compiled, without_names(given)), Case(program, program.words, compiled + b"x")]
+            continue
         cases.append(Case(program, program.words, SMALL, given))
         cases.append(Case(program, program.words, SMALL + b"Zone America/New_York 0:00 - UTC\n", given))
         if program.name == "zone_answers":

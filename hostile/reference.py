@@ -39,7 +39,8 @@ class Zone:
     def __init__(self, file, name):
         self.info = ZoneInfo.from_file(file, key=name)
         file.seek(0)
-        self.changes = [second for second in changes(file.read()) if LOW <= second <= HIGH]
+        self.data = file.read()
+        self.changes = [second for second in changes(self.data) if LOW <= second <= HIGH]
         seen = [second + step for second in self.changes + [LOW, HIGH] for step in (-1, 0)]
         self.totals = sorted({self.total(second) for second in seen})
 

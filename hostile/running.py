@@ -2,14 +2,17 @@
 import collections
 import os
 import resource
+import signal
 import subprocess
 import tempfile
 import threading
 from dataclasses import dataclass, field
 
-# Every run has to end within these seconds, and those for each megabyte of the texts that it reads.
+# Every run has to end within these seconds of the processor, and those for each megabyte of the texts that it reads; past them the
+# system ends it. One that only waits is ended after ten minutes.
 SECONDS = 10
 SECONDS_PER_MEGABYTE = 3
+WAITING = 600
 
 # The most memory, in bytes, that a run may ask for: every program meets it, and so does this one.
 MEMORY = 1 << 31
@@ -34,7 +37,7 @@ class Run:
     counts: tuple = ()
 
     def told(self):
-        ended = "past its time" if self.status is None else f"status {self.status}"
+        ended = "past its time" if self.status in (None, -signal.SIGKILL, -signal.SIGXCPU) else f"status {self.status}"
         return f"{ended}, {len(self.output)} bytes {self.output[:120]!r} {self.errors[:80]!r}"
 
 
@@ -92,9 +95,13 @@ class Runner:
             environment.update((f"HOSTILE_{key.upper()}", str(value)) for key, value in told.items())
         pipes = {"stdin": subprocess.PIPE, "stdout": subprocess.PIPE, "stderr": subprocess.PIPE} | streams
         process = subprocess.Popen([self.paths[name], *words], env=environment, **pipes)
-        seconds = SECONDS + SECONDS_PER_MEGABYTE * (len(text) + len(given)) / 1e6
+        seconds = SECONDS + SECONDS_PER_MEGABYTE * (len(text) + len(given)) // 1_000_000
         try:
-            output, errors = process.communicate(given if pipes["stdin"] == subprocess.PIPE else None, timeout=seconds)
+            resource.prlimit(process.pid, resource.RLIMIT_CPU, (seconds, seconds))
+        except ProcessLookupError:
+            pass
+        try:
+            output, errors = process.communicate(given if pipes["stdin"] == subprocess.PIPE else None, timeout=WAITING)
             status = process.returncode
         except subprocess.TimeoutExpired:
             process.kill()

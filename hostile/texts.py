@@ -2,6 +2,8 @@
 import re
 from dataclasses import dataclass
 
+from programs import COMPILED, SOURCE
+
 # The most bytes that a text may have.
 LIMIT = 1 << 24
 
@@ -137,10 +139,22 @@ def request_texts():
     yield Text("300,000 local requests", b"local A 1970-01-01 00:00:00.000000000\n" * 300_000, ANSWERS)
 
 
+def compiled_texts(compiled):
+    """A compiled zone that is cut at each byte, and one with a byte changed or put in at each place."""
+    for length in range(len(compiled)):
+        yield Text(f"a compiled zone of {length} bytes", compiled[:length], "file: refused")
+        yield Text(f"a compiled zone with byte {length} changed", compiled[:length] + bytes([compiled[length] ^ 0x41]) + compiled[length + 1:], None)
+        yield Text(f"a compiled zone with a byte put in at {length}", compiled[:length] + b"\1" + compiled[length:], None)
+    yield Text("a compiled zone and more", compiled + b"\n", "file: refused")
+    yield Text("a compiled zone and 16 MiB more", compiled + b"\n" * (LIMIT - len(compiled)), "file: refused")
+
+
 def is_due(program, run, due):
     """Whether a run over a text ended as is due of it."""
     if run.errors:
         return False
+    if program.takes == COMPILED and due != 6 and run.status == 2 and run.output == b"file: refused\n":
+        return due is None or due == "file: refused"
     answers = run.status == 0 and program.is_answer(run.output)
     fault = run.status == 2 and program.is_fault(run.output)
     if due is None:
@@ -151,30 +165,43 @@ def is_due(program, run, due):
         return answers or program.is_own_fault(run.output)
     if due == MAY_RUN_OUT:
         return answers or program.is_own_fault(run.output) or (run.status, run.output) == (5, b"")
-    if due.startswith(("source", "request")):
+    if due.startswith(("source", "request", "file")):
         return fault and run.output == due.encode() + b"\n"
     return fault and re.fullmatch(rf"{program.label}: {due}\n".encode(), run.output) is not None
 
 
-def try_all(pool, runner, tally, programs):
+def try_all(pool, runner, tally, programs, compiled):
     """Each text over each program, as its file or as its standard input."""
-    def hold(program, text, path, given):
+    def hold(program, text, path, given, due):
         run = runner.run(program.name, program.words_for(path, "A"), text.text, given)
-        tally.hold(is_due(program, run, text.due), f"{program.name} over {text.name}", f"due {text.due}", f"got {run.told()}")
+        tally.hold(is_due(program, run, due), f"{program.name} over {text.name}", f"due {due}", f"got {run.told()}")
 
     def as_file(text):
         path = runner.keep(text.text)
         for program in programs:
-            hold(program, text, path, b"at A 0\n" if program.has_input else b"")
+            if program.takes == SOURCE:
+                hold(program, text, path, b"at A 0\n" if program.has_input else b"", text.due)
+            else:
+                hold(program, text, path, b"at 0\n", text.due if text.due == 6 else "file: refused")
+        runner.drop(path)
+
+    def as_compiled(text):
+        path = runner.keep(text.text)
+        for program in programs:
+            if program.takes == COMPILED:
+                hold(program, text, path, b"at 0\nlocal 2024-03-10 02:30:00.000000000\n", text.due)
         runner.drop(path)
 
     def as_input(text):
-        path = runner.keep(ZONE)
+        paths = {SOURCE: runner.keep(ZONE), COMPILED: runner.keep(compiled)}
         for program in programs:
-            if program.has_input:
-                hold(program, text, path, text.text)
-        runner.drop(path)
+            if program.has_input and (program.takes == SOURCE or text.due != "request 1: unknown zone"):
+                given = text.text if program.takes == SOURCE or text.due == 6 else text.text.replace(b" A ", b" ")
+                hold(program, text, paths[program.takes], given, text.due)
+        for path in paths.values():
+            runner.drop(path)
     list(pool.map(as_file, small_texts()))
+    list(pool.map(as_compiled, compiled_texts(compiled)))
     list(pool.map(as_input, request_texts()))
     for text in large_texts():
         as_file(text)
