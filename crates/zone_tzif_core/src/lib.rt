@@ -15,8 +15,8 @@ mod values;
 mod write;
 mod writer;
 
-pub use laws::{one_reading, one_value, written_denotes};
 pub use kinds::is_small;
+pub use laws::{one_reading, one_value, written_denotes};
 pub use profile::read_tzif;
 pub use reader::read_any;
 pub use shifts::do_rise;
