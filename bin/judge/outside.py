@@ -44,7 +44,7 @@ def program(name):
 
 
 def named_copy(source, path):
-    """Writes a copy of a source with `%z` replaced by `ZZZ`, since zic spells that name and a text in the plain form stands as it is."""
+    """Writes a copy of a source with `%z` replaced by `ZZZ`: zic spells out that name, and the programs take it as it stands."""
     with open(source, encoding="utf-8") as file, open(path, "w", encoding="utf-8") as copy:
         copy.write(file.read().replace("%z", "ZZZ"))
     return path
@@ -175,7 +175,8 @@ def compare_shown(name, ours, theirs, seconds, tally):
 
 
 # the zones of the tz database with a saving below 0, and the links to them: here daylight saving time is a saving above 0
-BELOW_ZERO = {"Africa/Casablanca", "Africa/El_Aaiun", "Africa/Windhoek", "Europe/Dublin", "Eire", "Europe/Prague", "Europe/Bratislava"}
+BELOW_ZERO = {"Africa/Casablanca", "Africa/El_Aaiun", "Africa/Windhoek", "Europe/Dublin", "Eire", "Europe/Prague",
+              "Europe/Bratislava"}
 
 
 def compare_by_zdump(ours, theirs, folder):
