@@ -16,8 +16,8 @@ ZONE_FAULTS = (
 # What stands for the file among the words.
 FILE = "FILE"
 
-# What a file is: source text, or a compiled zone.
-SOURCE, COMPILED = "source", "compiled"
+# What a file is: source text in its plain form, source text in any form, or a compiled zone.
+SOURCE, ANY_SOURCE, COMPILED = "source", "any source", "compiled"
 
 
 @dataclass(frozen=True)
@@ -38,9 +38,8 @@ class Program:
 
     def is_fault(self, output):
         """Whether these bytes are a fault line."""
-        fault = f"{SOURCE_FAULTS}|{self.label}: ({ZONE_FAULTS}|{self.causes})"
-        if self.takes == COMPILED:
-            fault = f"file: refused|{self.label}: ({self.causes})"
+        of_file = {SOURCE: f"{SOURCE_FAULTS}|{self.label}: ({ZONE_FAULTS})", ANY_SOURCE: r"source \d+: (not text|line \w+)", COMPILED: "file: refused"}
+        fault = f"{of_file[self.takes]}|{self.label}: ({self.causes})"
         return re.fullmatch(rf"({fault})\n".encode(), output) is not None
 
     def is_own_fault(self, output):
@@ -66,6 +65,7 @@ ANSWERS = rf"(({ZONED}( \| {ZONED})*|none)\n)*"
 PROGRAMS = [
     Program("zone_answers", (FILE,), ANSWERS, r"request \d+", "not text|request|range", has_input=True),
     Program("zone_file_answers", (FILE,), ANSWERS, r"request \d+", "not text|request|range", takes=COMPILED, has_input=True),
+    Program("zone_plain", (FILE,), r"((Rule|Zone|Link)? [^\n]*\n)*", "plain", "too long", takes=ANY_SOURCE),
     Program("zone_list", (FILE, NEW_YORK, "1000000000", "4102444800"), rf"( *-?\d+  [^\n]*  {ZONED}\n)*", "list", "range"),
     Program("zone_alarm", (FILE, NEW_YORK, "2024-03-09", "02:30:00", "30"), rf"(({ZONED}|-?\d{{4}}-\d\d-\d\d none)\n)*", "alarm", "range"),
     Program("zone_tail", (FILE, NEW_YORK), r"(-?\d+|all) [^\n]+\n", "tail", "shape|range|name"),

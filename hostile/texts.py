@@ -2,7 +2,7 @@
 import re
 from dataclasses import dataclass
 
-from programs import COMPILED, SOURCE
+from programs import ANY_SOURCE, COMPILED, SOURCE
 
 # The most bytes that a text may have.
 LIMIT = 1 << 24
@@ -158,7 +158,7 @@ def is_due(program, run, due):
     answers = run.status == 0 and program.is_answer(run.output)
     fault = run.status == 2 and program.is_fault(run.output)
     if due is None:
-        return answers or fault
+        return answers or fault or (program.takes == ANY_SOURCE and (run.status, run.output) == (5, b""))
     if isinstance(due, int):
         return (run.status, run.output) == (due, b"")
     if due == ANSWERS:
@@ -170,6 +170,16 @@ def is_due(program, run, due):
     return fault and re.fullmatch(rf"{program.label}: {due}\n".encode(), run.output) is not None
 
 
+def due_of(program, due):
+    """What is due of a program that reads the text as another kind of file."""
+    if program.takes == SOURCE or due == 6:
+        return due
+    if program.takes == COMPILED:
+        return "file: refused"
+    is_same = isinstance(due, str) and due.endswith("not text")
+    return due if is_same else None
+
+
 def try_all(pool, runner, tally, programs, compiled):
     """Each text over each program, as its file or as its standard input."""
     def hold(program, text, path, given, due):
@@ -179,10 +189,7 @@ def try_all(pool, runner, tally, programs, compiled):
     def as_file(text):
         path = runner.keep(text.text)
         for program in programs:
-            if program.takes == SOURCE:
-                hold(program, text, path, b"at A 0\n" if program.has_input else b"", text.due)
-            else:
-                hold(program, text, path, b"at 0\n", text.due if text.due == 6 else "file: refused")
+            hold(program, text, path, b"at A 0\n" if program.has_input else b"", due_of(program, text.due))
         runner.drop(path)
 
     def as_compiled(text):
