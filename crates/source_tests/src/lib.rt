@@ -1,6 +1,6 @@
 //! Tests of all that begins with source text, from outside the crates: lines and their faults, tables, schedules, the database of
-//! zones, compact forms, POSIX strings over a database, daily alarms, listings, strings for the tails of zones, and whole runs over
-//! objects in memory and over made texts.
+//! zones, compact forms, POSIX strings over a database, daily alarms, listings, strings for the tails of zones, files of compiled
+//! zones, and whole runs over objects in memory and over made texts.
 #![tactic(auto)]
 
 #[cfg(test)]
@@ -11,6 +11,8 @@ mod checks;
 mod compact;
 #[cfg(test)]
 mod database;
+#[cfg(test)]
+mod files;
 #[cfg(test)]
 mod fixtures;
 #[cfg(test)]
