@@ -1,15 +1,18 @@
 //! Sources, and the zones that are opened from them.
 ghost use Rattle.std.specs.Prelude.{◌≡◌, ◌<◌, IfErr, IfOk, IfSome, MatchOption, None, is_some, length, nat_eq};
 ghost use Rattle.sefunjaro_c.specs.Faults.{source_due, zone_due, IsRefused};
+ghost use Rattle.sefunjaro_c.specs.Names.{IsNameAt};
 ghost use Rattle.sefunjaro_c.specs.Opened.{IsSourceOf, IsZoneOf};
+ghost use Rattle.std.specs.List.{slice_get};
+ghost use Rattle.tz_lookup.specs.Databases.{names_of};
 ghost use Rattle.sefunjaro_handles.specs.Held.{OfSource, OnSource, IsSource, IsZone};
 ghost use Rattle.zone_open.specs.Sources.{table_in};
 
 use crate::fault::{Fault, opening_fault, plain_fault, zone_fault};
-use crate::status::{DONE, NO_MEMORY, NOT_OPEN, NOT_TEXT};
+use crate::status::{DONE, NO_MEMORY, NONE_THERE, NOT_OPEN, NOT_TEXT};
 use sefunjaro_handles::{Handle, Opened};
 use std::alloc::Global;
-use zone_open::OpenSource;
+use zone_open::{OpenSource, fill};
 use zone_source::text_of;
 
 /// Opens a source from its text in plain form. What the handle held before is closed.
@@ -121,5 +124,68 @@ fn zone_of(alloc: Global, source: &OpenSource, name: &[u8]) -> Result<Box<Opened
             Err(_) => Err(plain_fault(NO_MEMORY)),
         },
         Err(fault) => Err(zone_fault(fault)),
+    }
+}
+
+/// How many names of a source find a zone: those of its zones, and of the links to them.
+#[unsafe(no_mangle)]
+pub extern "C" fn sefunjaro_name_count(alloc: Global, source: &mut Handle, count: &mut usize) -> u32
+    ensures same { source.new.opened ≡ source.old.opened }
+    ensures answer { OnSource source.old.opened result (count.new ≡ count.old)
+        (λ from. (result ≡ 0) × (count.new ≡ length (names_of (table_in from)))) }
+{
+    let Some(from) = source.take(alloc) else {
+        return NOT_OPEN;
+    };
+    let status = name_count(&from, count);
+    source.put(from);
+    status
+}
+
+fn name_count(from: &Opened, count: &mut usize) -> u32
+    ensures { OfSource from.now result (count.new ≡ count.old) (λ source. (result ≡ 0) × (count.new ≡ length (names_of (table_in source)))) }
+{
+    let Opened::Source(source) = from else {
+        return NOT_OPEN;
+    };
+    *count = source.name_count();
+    DONE
+}
+
+/// The name at a place of the byte order, which counts from 0. It goes into the room, as far as it fits, and its whole length
+/// is told.
+#[unsafe(no_mangle)]
+pub extern "C" fn sefunjaro_name(
+    alloc: Global,
+    source: &mut Handle,
+    place: usize,
+    name: &mut [u8],
+    whole: &mut usize,
+) -> u32
+    ensures same { source.new.opened ≡ source.old.opened }
+    ensures answer { OnSource source.old.opened result (name.new ≡ name.old)
+        (λ from. IsNameAt (slice_get (names_of (table_in from)) place) result name.old name.new whole.new) }
+{
+    let Some(from) = source.take(alloc) else {
+        return NOT_OPEN;
+    };
+    let status = name_at(&from, place, name, whole);
+    source.put(from);
+    status
+}
+
+fn name_at(from: &Opened, place: usize, name: &mut [u8], whole: &mut usize) -> u32
+    ensures { OfSource from.now result (name.new ≡ name.old)
+        (λ source. IsNameAt (slice_get (names_of (table_in source)) place) result name.old name.new whole.new) }
+{
+    let Opened::Source(source) = from else {
+        return NOT_OPEN;
+    };
+    match source.name(place) {
+        Some(text) => {
+            *whole = fill(text.as_bytes(), name);
+            DONE
+        }
+        None => NONE_THERE,
     }
 }

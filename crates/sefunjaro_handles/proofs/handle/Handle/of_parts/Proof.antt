@@ -25,35 +25,35 @@ use denote.Triple.Walked.{says, Stays, stay_dropped, walk_of, ends_at, Goes-drop
 use Rattle.std.specs.Prelude.{Some}
 use Rattle.std.proofs.BoxSteps.Form.{D, B, word, box_typed}
 use Rattle.std.proofs.BoxSteps.Steps.{box_out}
-use Rattle.sefunjaro_handles.proofs.Forms.{E, H as To, Held as From, three, handle_in}
+use Rattle.sefunjaro_handles.proofs.Forms.{E as Kept, H as To, Held as From, three, handle_in}
 use Rattle.sefunjaro_handles.specs.contracts.handle.Handle.of_parts as F
 use Rattle.sefunjaro_handles.specs.contracts.handle.Handle.of_parts.Key.{name as #self}
 use Rattle.sefunjaro_handles.proofs.handle.Handle.of_parts.Statement as stated
 use Rattle.sefunjaro_handles.proofs.handle.Handle.of_parts.Code as code
 
-abbrev stayed : Stays (F.ended).signature.params (F.ended).kept
-stayed = (stay_dropped (plain (λ _. From)) yes, tt)
+abbrev stays : Stays (F.ended).signature.params (F.ended).kept
+stays = (stay_dropped (plain (λ _. From)) yes, tt)
 
-module _ {M : Type 1} {𝓤 : Ura M} (𝓛 : Logic 𝓤) (at_mem : Memory → SProp 𝓤) (run : Routine → Fun 𝓤) (𝓣 : Tables 𝓤 𝓛.H) where
+module _ {M : Type 1} {𝓤 : Ura M} (𝓛 : Logic 𝓤) (memory : Memory → SProp 𝓤) (runs : Routine → Fun 𝓤) (𝓣 : Tables 𝓤 𝓛.H) where
   open 𝓛 use {H}
 
-  walk : (z : (walk_of 𝓛 F.ended stayed (F.clauses 𝓛 at_mem run)).Ghost)
-      → ent 𝓤 ((walk_of 𝓛 F.ended stayed (F.clauses 𝓛 at_mem run)).pre z) (WpFn 𝓤 H 𝓣.C 𝓣.Λ code.function (z.0.4.0 ++ []) ((walk_of 𝓛 F.ended stayed (F.clauses 𝓛 at_mem run)).post z))
-  walk z =
-      let Post = (walk_of 𝓛 F.ended stayed (F.clauses 𝓛 at_mem run)).post z in
-      let d : From.Denot = z.0.3.0 in
-      let v : D E = record { ptr = d.at; alloc = d.alloc; value = d.value } in
-      qed 𝓛 ((‵ ftrue ⊛ ‵ (fsep ((B E).own_val v z.0.4.0) ftrue)) ∷ raw (emp 𝓤) ∷ []) ∵ split ! $ drop ! $ fsplit ! $
-      box_out E ! v z.0.4.0 (λ b o h e ws fits. fjoin ! $ feq_i ! Bool true true refl $ fjoin ! $ handle_in ! (block_ptr b o) d.alloc true (Some d.value) h $ move ! (1 ∷ 2 ∷ []) $ drop ! $ drop ! $
+  go : (given : (walk_of 𝓛 F.ended stays (F.clauses 𝓛 memory runs)).Ghost)
+      → ent 𝓤 ((walk_of 𝓛 F.ended stays (F.clauses 𝓛 memory runs)).pre given) (WpFn 𝓤 H 𝓣.C 𝓣.Λ code.function (given.0.4.0 ++ []) ((walk_of 𝓛 F.ended stays (F.clauses 𝓛 memory runs)).post given))
+  go given =
+      let Ends = (walk_of 𝓛 F.ended stays (F.clauses 𝓛 memory runs)).post given in
+      let d : From.Denot = given.0.3.0 in
+      let v : D Kept = record { ptr = d.at; alloc = d.alloc; value = d.value } in
+      qed 𝓛 ((‵ ftrue ⊛ ‵ (fsep ((B Kept).own_val v given.0.4.0) ftrue)) ∷ raw (emp 𝓤) ∷ []) ∵ split ! $ drop ! $ fsplit ! $
+      box_out Kept ! v given.0.4.0 (λ b o h e is_word fits. fjoin ! $ feq_i ! Bool true true refl $ fjoin ! $ handle_in ! (block_ptr b o) d.alloc true (Some d.value) h $ move ! (1 ∷ 2 ∷ []) $ drop ! $ drop ! $
       let made : To.Denot = record { at = block_ptr b o; alloc = d.alloc; is_open = true; opened = Some d.value } in
-      let w : Val = word E h b o in let out : Val = three (vptr b o) h true in
-      let Γ : List (Item 𝓤) = ‵ (To.own_val made (out ∷ [])) ∷ [] in
-      by ! (subst (λ (us : List Val). ent 𝓤 (types.Kit.⋆ 𝓛 Γ) (WpFn 𝓤 H 𝓣.C 𝓣.Λ code.function (us ++ []) Post)) (sym ws)
-      (qed 𝓛 Γ ∵ enter ! 𝓣.C 𝓣.Λ code.function (w ∷ []) _ $ alloc_all ! (λ ls. pass_all ! refl (box_typed E h b o fits, tt) $
+      let whole_box : Val = word Kept h b o in let out : Val = three (vptr b o) h true in
+      let owned : List (Item 𝓤) = ‵ (To.own_val made (out ∷ [])) ∷ [] in
+      by ! (subst (λ (words : List Val). ent 𝓤 (types.Kit.⋆ 𝓛 owned) (WpFn 𝓤 H 𝓣.C 𝓣.Λ code.function (words ++ []) Ends)) (sym is_word)
+      (qed 𝓛 owned ∵ enter ! 𝓣.C 𝓣.Λ code.function (whole_box ∷ []) _ $ alloc_all ! (λ slots. pass_all ! refl (box_typed Kept h b o fits, tt) $
       sets ! (of_opd ! (get_in ! (fld ! refl (stop !)) (sub ! 0 refl (whole !)))) refl (tt, tt) $ sets ! (of_opd ! (get_in ! (fld ! refl (stop !)) (sub ! 1 refl (whole !)))) refl fits $
       sets ! (of_opd ! (get ! refl)) refl (tt, tt) $
-      sets ! (agg ! (and_then ! (get ! refl) (and_then ! (get ! refl) (and_then ! (true_lit !) (no_more !))))) refl ((box_typed E h b o fits).0, (tt, (fits.1, (tt, tt)))) $ returns ! (look_at ! 0 refl) $ free_all ! refl $
-      suffices ! _ (ends_at 𝓛 F.ended stayed (F.clauses 𝓛 at_mem run) z out made (tt, tt) (tt, tt)) $ says ! refl $
+      sets ! (agg ! (and_then ! (get ! refl) (and_then ! (get ! refl) (and_then ! (true_lit !) (no_more !))))) refl ((box_typed Kept h b o fits).0, (tt, (fits.1, (tt, tt)))) $ returns ! (look_at ! 0 refl) $ free_all ! refl $
+      suffices ! _ (ends_at 𝓛 F.ended stays (F.clauses 𝓛 memory runs) given out made (tt, tt) (tt, tt)) $ says ! refl $
       nothing ! $ nothing ! $ fjoin ! $ join ! $ nothing ! $ join ! $ done !))))
 
 pub of_parts_spec : {M : Type 1} → stated.statement M
@@ -61,5 +61,5 @@ unfolding tables_of
 of_parts_spec 𝓤 𝓛 𝓜 𝓡 wired =
     let 𝓣 : Tables 𝓤 𝓛.H = tables_of 𝓤 𝓛.H 𝓜 (tables 𝓤 𝓛.H 𝓜 𝓡 𝓡.env) in
     entered 𝓤 𝓛.H (triple_of 𝓛 F.signature (F.spec 𝓛 𝓜.mem 𝓡.returns)) 𝓣.C 𝓣.Λ #self code.function (code.unfolded 𝓤 𝓛.H 𝓜 𝓡 wired)
-    (walk_Meets 𝓛 F.ended stayed (Goes-dropped 𝓛 0 (plain (λ _. From)) yes (λ κs x f. refl), tt) (F.clauses 𝓛 𝓜.mem 𝓡.returns) (WpFn 𝓤 𝓛.H 𝓣.C 𝓣.Λ code.function) (WpFn-mono 𝓤 𝓛.H 𝓛.laws 𝓣 code.function)
-    (walk 𝓛 𝓜.mem 𝓡.returns 𝓣))
+    (walk_Meets 𝓛 F.ended stays (Goes-dropped 𝓛 0 (plain (λ _. From)) yes (λ κs x f. refl), tt) (F.clauses 𝓛 𝓜.mem 𝓡.returns) (WpFn 𝓤 𝓛.H 𝓣.C 𝓣.Λ code.function) (WpFn-mono 𝓤 𝓛.H 𝓛.laws 𝓣 code.function)
+    (go 𝓛 𝓜.mem 𝓡.returns 𝓣))
