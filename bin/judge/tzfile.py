@@ -58,7 +58,8 @@ class Footer:
         if not self.daylight:
             return []
         (start, start_clock), (end, end_clock) = self.start, self.end
-        return [day_in(year, start) * DAY + start_clock - self.standard[0], day_in(year, end) * DAY + end_clock - self.daylight[0]]
+        standard, daylight = self.standard[0], self.daylight[0]
+        return [day_in(year, start) * DAY + start_clock - standard, day_in(year, end) * DAY + end_clock - daylight]
 
     def at(self, second):
         """The kind of an instant: offset, whether it is daylight saving time, and name."""
@@ -70,7 +71,7 @@ class Footer:
 
 
 class TzFile:
-    """The second block of a file of version 2 and up, and its footer; `parts` are the places at which the parts of the file end."""
+    """The second block of a file of version 2 and up, and its footer; `parts` are the places at which the file's parts end."""
 
     def __init__(self, data):
         if data[:4] != b"TZif" or data[4:5] < b"2":
