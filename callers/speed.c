@@ -1,4 +1,4 @@
-/* speed ZONES ROUNDS: the nanoseconds of a look-up, the best of nine turns: of an offset, an offset with its abbreviation, a local time,
+/* speed ZONES ROUNDS: the nanoseconds of processor time of a look-up, the best of nine turns: of an offset, an offset with its abbreviation, a local time,
    and of localtime_r of the C library, which has read the same zone from the file that TZ names. */
 #define _DEFAULT_SOURCE
 #include "sefunjaro.h"
@@ -50,9 +50,9 @@ static void of_libc(void) {
 
 static double taken(void (*part)(void)) {
     struct timespec start, end;
-    clock_gettime(CLOCK_MONOTONIC, &start);
+    clock_gettime(CLOCK_PROCESS_CPUTIME_ID, &start);
     part();
-    clock_gettime(CLOCK_MONOTONIC, &end);
+    clock_gettime(CLOCK_PROCESS_CPUTIME_ID, &end);
     return ((double)(end.tv_sec - start.tv_sec) * 1e9 + (double)(end.tv_nsec - start.tv_nsec)) / (double)rounds;
 }
 
