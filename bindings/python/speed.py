@@ -1,8 +1,9 @@
 #!/usr/bin/env python3
 """usage: speed.py SOURCE [ROUNDS]
 
-The nanoseconds of a call, the best of nine turns: of a function of the library that does nothing, which is ctypes' own cost, of an
-offset at an instant, and of a datetime's utcoffset and astimezone with a zone of sefunjaro.py and with Python's zoneinfo."""
+The processor time of a call in nanoseconds, the best of nine turns: of a function of the library that does nothing, which is
+ctypes' own cost, of an offset at an instant, and of a datetime's utcoffset and astimezone with a zone of sefunjaro.py and with
+Python's zoneinfo."""
 import ctypes
 import sys
 import time
@@ -22,7 +23,7 @@ def locals_in(zone, rounds):
 def main():
     if not 2 <= len(sys.argv) <= 3:
         sys.exit(__doc__)
-    rounds = int((sys.argv[2:] or ["20000"])[0])
+    rounds = int((sys.argv[2:] or ["2000"])[0])
     mine, theirs = sefunjaro.Source.from_path(sys.argv[1]).zone(NAME), ZoneInfo(NAME)
     nothing, closed = sefunjaro._close, ctypes.byref(sefunjaro._RawHandle())
     seconds = [turn * 7919 * 3600 % 2030000000 for turn in range(rounds)]
@@ -40,9 +41,9 @@ def main():
     best = dict.fromkeys(parts, float("inf"))
     for _ in range(9):
         for name, part in parts.items():
-            start = time.perf_counter()
+            start = time.process_time()
             part()
-            best[name] = min(best[name], (time.perf_counter() - start) / rounds * 1e9)
+            best[name] = min(best[name], (time.process_time() - start) / rounds * 1e9)
     for name, nanos in best.items():
         print(f"{name}: {nanos:.0f}")
 

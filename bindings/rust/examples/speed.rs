@@ -21,18 +21,20 @@ fn local_of(turn: i64) -> Clock {
     }
 }
 
-fn taken(rounds: i64, mut part: impl FnMut(i64)) -> f64 {
+fn taken<T>(rounds: i64, part: impl Fn(i64) -> T) -> f64 {
     let start = Instant::now();
-    (0..rounds).for_each(&mut part);
+    for turn in 0..rounds {
+        black_box(part(turn));
+    }
     start.elapsed().as_nanos() as f64 / rounds as f64
 }
 
 fn turn(zone: &Zone, rounds: i64) -> [f64; 4] {
     [
-        taken(rounds, |turn| drop(black_box(zone.offset_at(second_of(turn), 0)))),
-        taken(rounds, |turn| drop(black_box(zone.in_force(second_of(turn), 0)))),
-        taken(rounds, |turn| drop(black_box(zone.clock_at(second_of(turn), 0)))),
-        taken(rounds, |turn| drop(black_box(zone.instants(&local_of(turn))))),
+        taken(rounds, |turn| zone.offset_at(second_of(turn), 0)),
+        taken(rounds, |turn| zone.in_force(second_of(turn), 0)),
+        taken(rounds, |turn| zone.clock_at(second_of(turn), 0)),
+        taken(rounds, |turn| zone.instants(&local_of(turn))),
     ]
 }
 
