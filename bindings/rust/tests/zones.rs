@@ -65,6 +65,8 @@ fn local_times() {
     assert_eq!(gap, Gap { second: SPRING, before: 3600, after: 7200 });
     let LocalTime::Shown(instants) = zone.local_time(&local("2024-07-01 12:00:00.000000000")).unwrap() else { panic!("skipped") };
     assert_eq!(instants.map(|instant| instant.offset).collect::<Vec<_>>(), [7200]);
+    let LocalTime::Shown(instants) = zone.local_time(&local("2024-10-27 02:30:00.000000000")).unwrap() else { panic!("skipped") };
+    assert_eq!(instants.len(), 2);
     let thrice = self::zone("Here/Twice").instants(&local("2000-01-01 01:15:00.000000000")).unwrap();
     assert_eq!(thrice.len(), 3);
     assert_eq!(thrice.map(|instant| instant.offset).collect::<Vec<_>>(), [0, -3600, -7200]);
