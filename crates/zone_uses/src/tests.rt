@@ -5,8 +5,8 @@ use crate::{
     zone_of_source,
 };
 use sefunjaro::{
-    CompactSet, CompactTz, Database, Date, Error, LineParser, Month, OffsetDateTime, PlainDateTime,
-    Time, ZoneFault, open_database, open_source, read_local, read_zoned,
+    CompactSet, CompactTz, Database, Date, LineParser, Month, OffsetDateTime, PlainDateTime, Time,
+    open_database, open_source, read_local, read_zoned,
 };
 use std::alloc::Global;
 use std::fmt::Debug;
@@ -128,12 +128,25 @@ fn an_alarm(rt: HostRuntime) {
     same_list(&rt, &found, &[first_ring, last_ring]);
 }
 
+/// What is printed of the error that comes of a source and a name.
+fn told(rt: &impl Abort, alloc: Global, source: &[u8], name: &str) -> String {
+    match zone_of_source(alloc, source, name) {
+        Ok(_) => panic!(rt; "a zone"),
+        Err(error) => format!(in alloc; "{error}").expect(rt, "memory"),
+    }
+}
+
 #[test]
 fn faults(rt: HostRuntime) {
     let alloc = rt.alloc();
-    let unknown = zone_of_source(alloc, SOURCE, "Asia/Kyoto");
-    let Err(error) = unknown else {
-        panic!(&rt; "a zone");
-    };
-    same(&rt, &error, &Error::Zone(ZoneFault::UnknownZone));
+    let unknown = told(&rt, alloc, SOURCE, "Asia/Kyoto");
+    same(&rt, &unknown.as_str(), &"unknown zone");
+    let line = told(&rt, alloc, b"Zone A 0 - A\nRule", "A");
+    same(&rt, &line.as_str(), &"source 2: line InvalidLineType");
+    let schedule = told(&rt, alloc, b"Zone A 0 - A 10000\n 0 - A\n", "A");
+    same(
+        &rt,
+        &schedule.as_str(),
+        &"the zone has no schedule: YearRange",
+    );
 }
