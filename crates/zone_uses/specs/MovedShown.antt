@@ -1,8 +1,11 @@
 -- What a zone of one change shows.
-use Rattle.std.specs.Prelude.{ℤ}
+use Rattle.std.specs.Prelude.{ℕ, List, ℤ}
 use Rattle.civil_base.specs.DateTimes.{instant}
 use Rattle.zone_uses.specs.Moves.{total_around}
 use Rattle.zone_uses.specs.declared.moved.Moved.{Moved}
+
+abbrev pub name_shown : Moved → List ℕ
+name_shown zone = zone.name.now
 
 -- its total offset at each instant
 unfoldable pub total_shown : Moved → ℤ → ℤ

@@ -1,6 +1,8 @@
 //! A zone asked both ways.
-ghost use Rattle.std.specs.Prelude.{◌≡◌, IfOk, IfSome, map, option_map};
+ghost use Rattle.std.specs.Prelude.{◌≡◌, IfOk, IfSome, is_some, map, option_map};
 ghost use Rattle.civil_base.specs.DateTimes.{instant};
+ghost use Rattle.civil_base.specs.Instants.{local_at};
+ghost use Rattle.civil_base.specs.Ranges.{is_in_years};
 ghost use Rattle.tz_lookup.specs.CompactShown.{seen};
 ghost use Rattle.tz_zone.specs.InForce.{all_in_force, in_force, shown_of, AreInstants};
 ghost use Rattle.zone_spans.specs.Schedules.{total_at};
@@ -15,7 +17,8 @@ use std::alloc::{AllocError, Global};
 
 /// What a clock in the zone shows at an instant, with its offset; none where the date leaves the years -9999 to 9999.
 pub fn local_time(set: &CompactSet, at: &OffsetDateTime) -> Option<OffsetDateTime>
-    ensures { IfSome result (λ shown. shown_of shown ≡ in_force (total_at (schedule_of (seen set.now))) (instant at.now)) }
+    ensures shown { IfSome result (λ shown. shown_of shown ≡ in_force (total_at (schedule_of (seen set.now))) (instant at.now)) }
+    ensures years { is_some result ≡ is_in_years (local_at (instant at.now) (total_at (schedule_of (seen set.now)) (instant at.now))) }
 {
     at.to_timezone(&CompactTz::new(set))
 }

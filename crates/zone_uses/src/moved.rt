@@ -32,7 +32,7 @@ impl<'a> Moved<'a> {
     ghost use Rattle.tz_zone.specs.Answers.{listed, EachOf};
     ghost use Rattle.civil_base.specs.DateTimes.{instant};
     ghost use Rattle.zone_uses.specs.Moves.{around_list, total_around};
-    ghost use Rattle.zone_uses.specs.MovedShown.{total_shown};
+    ghost use Rattle.zone_uses.specs.MovedShown.{name_shown, total_shown};
 
     /// The zone of that name, that has the first offset before the instant of a date-time, and the second from it on.
     #[tactic(auto, unfolding(crate::specs::MovedShown::total_shown))]
@@ -42,7 +42,8 @@ impl<'a> Moved<'a> {
         before: UtcOffset,
         after: UtcOffset,
     ) -> Moved<'a>
-        ensures { total_shown result ≡ total_around (instant change.now) before after }
+        ensures name { name_shown result ≡ name.now }
+        ensures total { total_shown result ≡ total_around (instant change.now) before after }
     {
         // Read for what they say of every offset: that it is in range.
         let _before = before.whole_seconds();
