@@ -10,10 +10,11 @@ use Rattle.zone_plain_lines.specs.declared.quotes.Place.TheVariants.{Outside}
 use Rattle.zone_values.specs.Values.{line_value}
 use Rattle.zone_values.specs.declared.line.Line.{Line}
 use Rattle.zone_plain.specs.LineValues.{line_meaning}
-use Rattle.zone_plain.specs.Told.{IsToldBy, IsRefusedLine}
-use Rattle.zone_plain.specs.declared.line.Refused.{Refused}
-use Rattle.zone_plain.specs.declared.line.Refused.TheVariants.{Cause, NoMemory}
-use Rattle.zone_plain.specs.ReadBack.{is_said}
+use Rattle.zone_plain_base.specs.Told.{IsToldBy}
+use Rattle.zone_plain.specs.Told.{IsRefusedLine}
+use Rattle.zone_plain_base.specs.declared.error.Refused.{Refused}
+use Rattle.zone_plain_base.specs.declared.error.Refused.TheVariants.{Cause, NoMemory}
+use Rattle.zone_plain_base.specs.Said.{is_said}
 
 pub no_text : (is_open : Bool) (line : List ℕ) → is_utf8 line ≡ false → line_meaning is_open line ≡ Err cause.NotText
 unfolding line_meaning

@@ -6,11 +6,13 @@ use Rattle.zone_values.specs.Values.{LineValue}
 use Rattle.zone_plain_lines.specs.declared.cause.PlainCause.{PlainCause}
 use Rattle.zone_plain_lines.specs.declared.cause.PlainCause.TheVariants as cause
 use Rattle.zone_plain_text.specs.PlainTexts.{plain_text}
-use Rattle.zone_plain.specs.LineValues.{LineFault, at, onto, line_meaning, is_open_after, values_from, values_in}
-use Rattle.zone_plain.specs.ReadBackLaws.{source_value_is}
-use Rattle.zone_plain.specs.Told.{IsReadLine, IsRefusedLine, IsLineFault, fault_at}
-use Rattle.zone_plain.specs.declared.line.Refused.{Refused}
-use Rattle.zone_plain.specs.declared.line.Refused.TheVariants.{Cause, NoMemory}
+use Rattle.zone_plain_base.specs.LineFaults.{LineFault, at, onto}
+use Rattle.zone_plain.specs.LineValues.{line_meaning, is_open_after, values_from, values_in}
+use Rattle.zone_plain_base.specs.SaidLaws.{source_value_is}
+use Rattle.zone_plain_base.specs.Told.{fault_at}
+use Rattle.zone_plain.specs.Told.{IsReadLine, IsRefusedLine, IsLineFault}
+use Rattle.zone_plain_base.specs.declared.error.Refused.{Refused}
+use Rattle.zone_plain_base.specs.declared.error.Refused.TheVariants.{Cause, NoMemory}
 
 -- these values come before those that are found
 abbrev pub before : List LineValue → Result (List LineValue) LineFault → Result (List LineValue) LineFault

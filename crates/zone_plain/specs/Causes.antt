@@ -4,9 +4,10 @@ use Rattle.zone_source.specs.FaultLines.{line_with}
 use Rattle.zone_plain_lines.specs.Causes.{cause_name}
 use Rattle.zone_plain_lines.specs.declared.cause.PlainCause.{PlainCause}
 use Rattle.zone_plain_lines.specs.declared.cause.PlainCause.TheVariants as why
-use Rattle.zone_plain.specs.Plain.{Refusal, bad_line, too_long, plain_of}
-use Rattle.zone_plain.specs.declared.error.PlainFault.{PlainFault}
-use Rattle.zone_plain.specs.declared.error.PlainFault.TheVariants as fault
+use Rattle.zone_plain_base.specs.LineFaults.{Refusal, bad_line, too_long}
+use Rattle.zone_plain.specs.Plain.{plain_of}
+use Rattle.zone_plain_base.specs.declared.error.PlainFault.{PlainFault}
+use Rattle.zone_plain_base.specs.declared.error.PlainFault.TheVariants as fault
 use Rattle.zone_plain.specs.declared.respond.Response.{Response}
 use Rattle.zone_plain.specs.declared.respond.Response.TheVariants.{Answer, Fault}
 

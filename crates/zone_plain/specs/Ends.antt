@@ -8,7 +8,7 @@ use Rattle.zone_outside.specs.declared.outside.Sink.{Ghosts as SinkOf}
 use Rattle.zone_source.specs.declared.status.Status.{Status}
 use Rattle.zone_source.specs.declared.status.Status.TheVariants as status
 use Rattle.zone_plain.specs.Causes.{cause, due_bytes}
-use Rattle.zone_plain.specs.Plain.{Refusal}
+use Rattle.zone_plain_base.specs.LineFaults.{Refusal}
 
 -- what is seen of the outside of a run
 pub record Seen : Type 0 where

@@ -1,5 +1,3 @@
-pub mod ReadBack
-pub mod ReadBackLaws
 pub mod LineValues
 pub mod Told
 pub mod Written

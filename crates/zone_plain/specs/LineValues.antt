@@ -8,10 +8,8 @@ use Rattle.zone_plain_lines.specs.Steps.{◌>>=◌}
 use Rattle.zone_plain_lines.specs.declared.cause.PlainCause.{PlainCause}
 use Rattle.zone_plain_lines.specs.declared.cause.PlainCause.TheVariants as cause
 use Rattle.zone_source.specs.Lines.{lines_of}
-use Rattle.zone_plain.specs.ReadBack.{is_said}
-
-abbrev pub if_said : LineValue → Result LineValue PlainCause
-if_said meant = if is_said meant then Ok meant else Err cause.Unsayable
+use Rattle.zone_plain_base.specs.LineFaults.{LineFault, at, numbered, onto}
+use Rattle.zone_plain_base.specs.Said.{if_said}
 
 -- what a line means whose fields stand in its text; the text of a line without its comment and its quotes is text too
 abbrev pub meant_by : Bool → List ℕ → List (List ℕ) → Result LineValue PlainCause
@@ -32,22 +30,6 @@ is_open_after is_open (zone name info) = is_some info.time
 is_open_after is_open (continuation info) = is_some info.time
 is_open_after is_open (rule r) = false
 is_open_after is_open (link existing new) = false
-
--- a line's number, and why it is refused
-pub record LineFault : Type 0 where
-  pub number : ℕ
-  pub cause : PlainCause
-
-abbrev pub at : ℕ → PlainCause → LineFault
-at number cause = record { number = number; cause = cause }
-
-abbrev pub numbered : {A : Type 0} → ℕ → Result A PlainCause → Result A LineFault
-numbered n (Ok x) = Ok x
-numbered n (Err e) = Err (at n e)
-
-abbrev pub onto : LineValue → Result (List LineValue) LineFault → Result (List LineValue) LineFault
-onto v (Ok vs) = Ok (v ∷ vs)
-onto v (Err e) = Err e
 
 -- the values of lines from the nth on; a line that isn't there is told as the one after the last
 unfoldable pub values_from : Bool → ℕ → List (List ℕ) → Result (List LineValue) LineFault

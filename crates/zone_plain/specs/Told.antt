@@ -1,20 +1,14 @@
 -- What the code's answers tell.
 use Rattle.std.specs.Prelude.{◌≡◌, ℕ, List, [], ◌∷◌, ◌++◌, Bool, true, Result, Ok, Err}
 use Rattle.zone_values.specs.Values.{LineValue}
-use Rattle.zone_plain_lines.specs.declared.cause.PlainCause.{PlainCause}
 use Rattle.zone_plain_text.specs.PlainTexts.{plain_text}
-use Rattle.zone_plain.specs.LineValues.{LineFault, at, line_meaning, is_open_after}
-use Rattle.zone_plain.specs.ReadBack.{is_said}
-use Rattle.zone_plain.specs.declared.error.PlainFault.{PlainFault}
-use Rattle.zone_plain.specs.declared.error.PlainFault.TheVariants as fault
-use Rattle.zone_plain.specs.declared.line.Refused.{Refused}
-use Rattle.zone_plain.specs.declared.line.Refused.TheVariants.{Cause, NoMemory}
-
--- the value, its cause, or want of memory
-abbrev pub IsToldBy : {A B : Type 0} → (A → B) → Result A Refused → Result B PlainCause → Type 0
-IsToldBy shown (Ok x) expected = expected ≡ Ok (shown x)
-IsToldBy shown (Err (Cause c)) expected = expected ≡ Err c
-IsToldBy shown (Err NoMemory) expected = Unit {0}
+use Rattle.zone_plain_base.specs.LineFaults.{LineFault, at}
+use Rattle.zone_plain_base.specs.Said.{is_said}
+use Rattle.zone_plain_base.specs.declared.error.PlainFault.{PlainFault}
+use Rattle.zone_plain_base.specs.declared.error.PlainFault.TheVariants as fault
+use Rattle.zone_plain_base.specs.declared.error.Refused.{Refused}
+use Rattle.zone_plain_base.specs.declared.error.Refused.TheVariants.{Cause, NoMemory}
+use Rattle.zone_plain.specs.LineValues.{line_meaning, is_open_after}
 
 -- a line was read and added, after which a line of the zone has to follow or not
 pub record IsReadLine (old new : List (List ℕ)) (is_open : Bool) (line : List ℕ) (is_open_now : Bool) : Type 0 where
@@ -34,8 +28,3 @@ abbrev pub IsLineFault : {A : Type 0} → Result A LineFault → PlainFault → 
 IsLineFault found (fault.Line n c) = found ≡ Err (at n c)
 IsLineFault found fault.TooLong = ⊥
 IsLineFault found fault.NoMemory = Unit {0}
-
--- what is told of the nth line
-abbrev pub fault_at : ℕ → Refused → PlainFault
-fault_at n (Cause c) = fault.Line n c
-fault_at n NoMemory = fault.NoMemory

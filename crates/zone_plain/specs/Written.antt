@@ -1,14 +1,9 @@
 -- What is written of the values of a source's lines.
-use Rattle.std.specs.Prelude.{ℕ, List, [], ◌∷◌, ◌++◌, Bool, true, false, map, flat_map, slice_index_or, if◌then◌else◌}
-use Rattle.zone_source.specs.Zones.{source_value}
+use Rattle.std.specs.Prelude.{ℕ, List, [], ◌∷◌, ◌++◌, Bool, true, false, flat_map, if◌then◌else◌}
 use Rattle.zone_values.specs.Values.{LineValue, space, zone, continuation, rule, link}
 use Rattle.zone_plain_text.specs.PlainTexts.{plain_text}
 use Rattle.zone_plain.specs.declared.output.Part.{Part}
 use Rattle.zone_plain.specs.declared.output.Part.TheVariants.{Rules, Zones, Links}
-
--- what the line at a place says, from 0 on
-abbrev pub value_at : List (List ℕ) → ℕ → LineValue
-value_at lines place = slice_index_or (map source_value lines) place space
 
 -- a value of that part
 abbrev pub is_in : Part → LineValue → Bool

@@ -1,7 +1,6 @@
 //! A tz source in any form that `zic` reads, written in the plain form that the other crates read.
 #![tactic(auto)]
 
-mod error;
 mod line;
 mod output;
 mod reading;
@@ -9,9 +8,9 @@ mod respond;
 mod running;
 mod whole;
 
-pub use error::PlainFault;
 pub use running::{run_plain, run_plain_surely};
 pub use whole::plain;
+pub use zone_plain_base::PlainFault;
 pub use zone_source::{
     Failed, FileShelf, MemShelf, MemSink, Shelf, Sink, Source, Status, StdSink, SureShelf, SureSink,
 };

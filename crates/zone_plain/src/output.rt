@@ -2,12 +2,13 @@
 ghost use Rattle.std.specs.Prelude.{◌≡◌, ◌<◌, ◌++◌, [], ◌∷◌, map, flat_map, length, IfOk, OnOk};
 ghost use Rattle.zone_values.specs.Values.{line_value};
 ghost use Rattle.zone_source.specs.Zones.{source_value};
-ghost use Rattle.zone_plain.specs.Written.{value_at, is_in, part_text};
+ghost use Rattle.zone_plain.specs.Written.{is_in, part_text};
 
 use std::alloc::{AllocError, Global};
 use zone_line::{Line, LineReader};
+use zone_plain_base::line_at;
 use zone_plain_text::put_plain;
-use zone_source::{LineList, text_of};
+use zone_source::LineList;
 
 /// A part of what is written.
 #[derive(Clone, Copy, Debug, PartialEq, Eq)]
@@ -18,30 +19,6 @@ pub(crate) enum Part {
     Zones,
     /// The links.
     Links,
-}
-
-/// The line at a place, from 0 on.
-fn line_at<'t>(
-    alloc: Global,
-    reader: &mut LineReader<'_>,
-    lines: &'t LineList,
-    place: usize,
-) -> Result<Line<'t>, AllocError>
-    ensures { IfOk result (λ line. line_value line ≡ value_at lines.now place) }
-{
-    let bytes = match lines.get(place) {
-        Some(bytes) => bytes,
-        None => return Err(AllocError),
-    };
-    let text = match text_of(bytes) {
-        Some(text) => text,
-        None => return Err(AllocError),
-    };
-    let line = match reader.parse_str(alloc, text) {
-        Ok(line) => line,
-        Err(_) => return Err(AllocError),
-    };
-    Ok(line)
 }
 
 /// Whether the line belongs to a part.

@@ -2,12 +2,12 @@
 ghost use Rattle.std.specs.Prelude.{◌≡◌, ◌≤◌, Ok, map, length, IfOk, IfErr};
 ghost use Rattle.zone_source.specs.Zones.{source_value};
 ghost use Rattle.zone_plain.specs.LineValues.{values_in};
-ghost use Rattle.zone_plain.specs.Told.{IsLineFault, fault_at};
+ghost use Rattle.zone_plain.specs.Told.{IsLineFault};
 
-use crate::error::PlainFault;
-use crate::line::{Refused, read_line};
+use crate::line::read_line;
 use std::alloc::Global;
 use zone_line::LineParser;
+use zone_plain_base::{PlainFault, fault_at};
 use zone_plain_lines::PlainCause;
 use zone_source::{LIMIT, LineList, Lines};
 
@@ -46,14 +46,4 @@ pub(crate) fn read_lines(
         return Err(PlainFault::Line(number, PlainCause::Continuation));
     }
     Ok(lines)
-}
-
-/// What is told of a line that isn't read.
-fn fault_at(number: usize, refused: Refused) -> PlainFault
-    ensures { result ≡ fault_at number refused }
-{
-    match refused {
-        Refused::Cause(cause) => PlainFault::Line(number, cause),
-        Refused::NoMemory => PlainFault::NoMemory,
-    }
 }

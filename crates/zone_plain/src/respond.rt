@@ -4,10 +4,10 @@ ghost use Rattle.zone_plain.specs.Causes.{IsResponse, IsFaultLine};
 ghost use Rattle.zone_plain.specs.Causes.{group_of, line_text};
 ghost use Rattle.zone_source.specs.FaultLines.{line_shown, IsShort};
 
-use crate::error::PlainFault;
 use crate::whole::plain;
 use std::alloc::{AllocError, Global};
 use zone_line::LineParser;
+use zone_plain_base::PlainFault;
 use zone_plain_lines::PlainCause;
 use zone_source::{FaultText, LIMIT, write_fault_line};
 

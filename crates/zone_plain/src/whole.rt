@@ -2,14 +2,15 @@
 ghost use Rattle.std.specs.Prelude.{◌≡◌, ◌≤◌, Ok, length, IfOk, IfErr, OnOk};
 ghost use Rattle.zone_source.specs.Zones.{source_value};
 ghost use Rattle.std.specs.Prelude.{map};
-ghost use Rattle.zone_plain.specs.Plain.{plain_of, IsFaultOf};
+ghost use Rattle.zone_plain_base.specs.LineFaults.{IsFaultOf};
+ghost use Rattle.zone_plain.specs.Plain.{plain_of};
 ghost use Rattle.zone_plain.specs.Written.{written};
 
-use crate::error::PlainFault;
 use crate::output::{Part, put_part};
 use crate::reading::read_lines;
 use std::alloc::{AllocError, Global};
 use zone_line::LineParser;
+use zone_plain_base::PlainFault;
 use zone_source::{LIMIT, LineList};
 
 /// The plain form of a source in any form that `zic` reads: its rules, then its zones, then its links, each in the order of the

@@ -6,7 +6,7 @@ use Rattle.zone_line.specs.LineValues.{value}
 use Rattle.zone_source.specs.Zones.{source_value}
 use Rattle.zone_values.specs.Faults.{Fault}
 use Rattle.zone_values.specs.Values.{LineValue}
-use Rattle.zone_plain.specs.ReadBack.{is_read_as, is_said_by, is_said}
+use Rattle.zone_plain_base.specs.Said.{is_read_as, is_said_by, is_said}
 use Rattle.zone_plain_text.specs.PlainTexts.{plain_text}
 use Rattle.zone_plain_text.specs.SameLaws.{line_is}
 

@@ -1,0 +1,18 @@
+-- What an error of one line tells.
+use Rattle.std.specs.Prelude.{◌≡◌, ℕ, Result, Ok, Err}
+use Rattle.zone_plain_lines.specs.declared.cause.PlainCause.{PlainCause}
+use Rattle.zone_plain_base.specs.declared.error.PlainFault.{PlainFault}
+use Rattle.zone_plain_base.specs.declared.error.PlainFault.TheVariants as fault
+use Rattle.zone_plain_base.specs.declared.error.Refused.{Refused}
+use Rattle.zone_plain_base.specs.declared.error.Refused.TheVariants.{Cause, NoMemory}
+
+-- what is told of the nth line
+abbrev pub fault_at : ℕ → Refused → PlainFault
+fault_at n (Cause c) = fault.Line n c
+fault_at n NoMemory = fault.NoMemory
+
+-- the value, its cause, or want of memory
+abbrev pub IsToldBy : {A B : Type 0} → (A → B) → Result A Refused → Result B PlainCause → Type 0
+IsToldBy shown (Ok x) expected = expected ≡ Ok (shown x)
+IsToldBy shown (Err (Cause c)) expected = expected ≡ Err c
+IsToldBy shown (Err NoMemory) expected = Unit {0}

@@ -1,0 +1,10 @@
+//! What the stages of the plain form share: its faults, and lines that are written and read back.
+#![tactic(auto)]
+
+mod error;
+mod place;
+mod said;
+
+pub use error::{PlainFault, Refused, fault_at};
+pub use place::line_at;
+pub use said::write_said;

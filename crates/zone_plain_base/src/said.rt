@@ -1,0 +1,50 @@
+//! What a line means, written and read back.
+ghost use Rattle.std.specs.Prelude.{◌≡◌, IfOk};
+ghost use Rattle.zone_values.specs.Values.{line_value};
+ghost use Rattle.zone_plain_text.specs.PlainTexts.{plain_text};
+ghost use Rattle.zone_plain_base.specs.Said.{is_said_by, is_said};
+
+use std::alloc::{AllocError, Global};
+use zone_line::{Error, Line, LineReader};
+use zone_plain_text::{put_plain, same_line};
+use zone_source::text_of;
+
+/// Whether the text is read as this.
+#[tactic(auto, unfolding(crate::specs::Said::is_said_by))]
+fn is_said_by(
+    alloc: Global,
+    reader: &mut LineReader<'_>,
+    meant: &Line<'_>,
+    text: &[u8],
+) -> Result<bool, AllocError>
+    ensures { IfOk result (λ said. said ≡ is_said_by (line_value meant.now) text.now) }
+{
+    let Some(text) = text_of(text) else {
+        return Ok(false);
+    };
+    match reader.parse_str(alloc, text) {
+        Ok(read) => Ok(same_line(&read, meant)),
+        Err(Error::NoMemory) => Err(AllocError),
+        Err(_) => Ok(false),
+    }
+}
+
+/// Writes what a line means, in place of what the buffer has, and answers whether it is read as this.
+///
+/// # Errors
+///
+/// Want of memory alone.
+#[tactic(auto, unfolding(crate::specs::Said::is_said))]
+pub fn write_said(
+    alloc: Global,
+    reader: &mut LineReader<'_>,
+    meant: &Line<'_>,
+    into: &mut Vec<u8>,
+) -> Result<bool, AllocError>
+    ensures text { IfOk result (λ _. into.new.items ≡ plain_text (line_value meant.now)) }
+    ensures said { IfOk result (λ said. said ≡ is_said (line_value meant.now)) }
+{
+    into.clear();
+    put_plain(into, meant)?;
+    is_said_by(alloc, reader, meant, into.as_slice())
+}
