@@ -1,7 +1,10 @@
 """How the time and the memory of a run grow with its text: a table in the form of docs/PERFORMANCE.md."""
-from texts import LIMIT, SHAPES
+from texts import LIMIT, SHAPES, rules_and_lines
 
 SMALL = LIMIT // 10
+
+# What takes rules times lines is measured at these many bytes, each some three times the one before.
+MANY_LINES = (13_000, 42_000, 132_000)
 
 
 def measured(runner, program, text):
@@ -26,3 +29,10 @@ def show(runner, programs):
         ended = "" if status == 0 else f", status {status}"
         print(f"| {name} | {time_1} ms | {time_10} ms{ended} | {time_10 / time_1:.0f} "
               f"| {memory_1:.0f}, {memory_10:.0f} | {memory_10 / memory_1:.0f} |", flush=True)
+    print("\n| Half rules, half lines | rules, lines | time |\n|---|---|---|")
+    for size in MANY_LINES:
+        text = rules_and_lines(size)
+        rules, lines = text.count(b"Rule"), text.count(b"%sB")
+        taken, _, status = measured(runner, program, text)
+        ended = "" if status == 0 else f", status {status}"
+        print(f"| {size // 1000} KB | {rules}, {lines} | {taken} ms{ended} |", flush=True)

@@ -86,6 +86,13 @@ SHAPES = {
 }
 
 
+def rules_and_lines(size):
+    """Half rules of all years, half lines under them, whose ends rise."""
+    half = size // 2
+    return (numbered(all_years, half) + b"Zone A 0:00 - AAA 1\n"
+            + numbered(lambda n: b" 0:00 R B%%sB %s\n" % hour_of(n), size - half - 40) + b" 0:00 - CCC\n")
+
+
 def small_texts():
     yield Text("nothing", b"", UNKNOWN)
     for value in range(256):

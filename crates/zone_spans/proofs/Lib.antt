@@ -9,6 +9,8 @@ pub mod FoundLemmas
 pub mod EntryLemmas
 pub mod LineLemmas
 pub mod QuietLemmas
+pub mod RuleLemmas
+pub mod KeptLemmas
 pub mod CompiledLemmas
 pub mod FiringRows
 mod SpanRows

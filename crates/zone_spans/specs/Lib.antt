@@ -4,6 +4,7 @@ pub mod Firings
 pub mod Fires
 pub mod Fronts
 pub mod Quiet
+pub mod Kept
 pub mod Listing
 pub mod Entries
 pub mod Collapse

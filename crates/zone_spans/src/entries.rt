@@ -23,14 +23,16 @@ ghost use Rattle.zone_spans.specs.Entries.{
   first_span,
 };
 ghost use Rattle.zone_spans.specs.Firings.{firings};
+ghost use Rattle.zone_spans.specs.Kept.{BeginWithMarked};
 ghost use Rattle.zone_spans.specs.Windows.{line_end};
 ghost use Rattle.zone_spans.specs.Listing.{listed, listed_from, start_firing};
 
 use crate::firing::Firing;
+use crate::kept::Kept;
 use crate::line::Line;
 use crate::listing::{place_at, start_firing};
 use crate::span::FixedTimespan;
-use crate::year::{LineFirings, fire_line, line_end};
+use crate::year::line_end;
 use owned::{Items, Text};
 use std::alloc::{AllocError, Global};
 use zone_table::Format;
@@ -177,25 +179,28 @@ fn push_fixed(
 }
 
 /// Adds the entries of a line with that start, and gives the start of the next line.
-#[tactic(auto, unfolding(crate::specs::Entries::entries_of, crate::specs::Entries::next_start))]
-fn push_line(
+#[tactic(auto, unfolding(crate::specs::Entries::entries_of, crate::specs::Entries::next_start, crate::specs::Firings::line_firings))]
+fn push_line<'a>(
     entries: &mut Entries,
     alloc: Global,
-    line: &Line<'_>,
+    kept: &mut Kept<'a>,
+    line: &Line<'a>,
     start: Option<i64>,
 ) -> Result<Option<i64>, AllocError>
-    requires { IsSound line.now }
+    requires line { IsSound line.now }
+    requires kept { BeginWithMarked kept.old.offset kept.old.rules.now kept.old.quiet kept.old.fired.items kept.old.marks.items }
     ensures entries { IfOk result (λ _. entries.new ≡ entries.old ++ entries_of line.now start) }
     ensures next { IfOk result (λ next. next ≡ next_start line.now) }
     ensures bounded { IfOk result (λ next. IsTrue (is_start start) → IsTrue (is_start next) × IsTrue (list_all is_bounded_entry (entries_of line.now start))) }
+    ensures kept { IfOk result (λ _. BeginWithMarked kept.new.offset kept.new.rules.now kept.new.quiet kept.new.fired.items kept.new.marks.items) }
 {
-    let LineFirings { fired, last_saving } = fire_line(alloc, line)?;
     if line.is_ruled() {
-        push_ruled(entries, alloc, line, start, &fired)?;
-    } else {
-        push_fixed(entries, alloc, line, start)?;
+        let last_saving = kept.fire_line(alloc, line)?;
+        push_ruled(entries, alloc, line, start, &kept.fired)?;
+        return Ok(next_start(line, last_saving));
     }
-    Ok(next_start(line, last_saving))
+    push_fixed(entries, alloc, line, start)?;
+    Ok(next_start(line, line.fixed_saving()))
 }
 
 /// Where the next line starts, after that saving.
@@ -212,15 +217,16 @@ fn next_start(line: &Line<'_>, last_saving: i64) -> Option<i64>
 }
 
 /// The entries of a zone, line by line.
-fn raw_entries(alloc: Global, lines: &[Line<'_>]) -> Result<Entries, AllocError>
+fn raw_entries<'a>(alloc: Global, lines: &[Line<'a>]) -> Result<Entries, AllocError>
     requires { All IsSound lines.now }
     ensures raw { IfOk result (λ entries. entries ≡ raw_entries lines.now) }
     ensures bounded { IfOk result (λ entries. IsTrue (list_all is_bounded_entry entries)) }
 {
     let mut entries = Items::new(alloc);
+    let mut kept = Kept::new(alloc);
     let mut start = None;
     for line in lines {
-        start = push_line(&mut entries, alloc, line, start)?;
+        start = push_line(&mut entries, alloc, &mut kept, line, start)?;
     }
     Ok(entries)
 }

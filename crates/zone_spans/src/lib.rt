@@ -8,6 +8,7 @@ mod entries;
 mod fault;
 mod firing;
 mod front;
+mod kept;
 mod line;
 mod listing;
 mod quiet;

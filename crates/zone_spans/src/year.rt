@@ -5,14 +5,13 @@ ghost use Rattle.zone_values.specs.Bounds.{are_small_seconds};
 ghost use Rattle.zone_table.specs.Moments.{applies_to_year, has_years, moment};
 ghost use Rattle.zone_spans.specs.Bounds.{IsSound, can_fire, has_moment, is_bounded_firing, is_end, is_small};
 ghost use Rattle.zone_spans.specs.Fires.{Fires, after};
-ghost use Rattle.zone_spans.specs.Firings.{fired, firings_of_years, is_earlier, is_over, line_firings, year_firings, years_expanded};
+ghost use Rattle.zone_spans.specs.Firings.{fired, firings_of_years, is_earlier, is_over, year_firings, years_expanded};
 ghost use Rattle.zone_spans.specs.Fronts.{IsSmallPlaced, front_firings};
 ghost use Rattle.zone_spans.specs.Windows.{line_end};
 
 use crate::firing::Firing;
 use crate::front::{Applying, Placed, first_of, front_of, left_of};
 use crate::line::Line;
-use crate::quiet::years_before_all;
 use std::alloc::{AllocError, Global};
 use zone_table::{RuleInfo, instant_of};
 use zone_values::{ChangeTime, TimeType};
@@ -172,74 +171,60 @@ fn fire_applying<'a>(
     Ok(last)
 }
 
-/// Adds the firings of a year, which begins with that saving, and gives the saving after them.
+/// Adds the firings of a year under an end, which begins with that saving, and gives the saving after them.
 #[tactic(auto, unfolding(crate::specs::Firings::year_firings))]
-fn fire_year<'a>(
+pub(crate) fn fire_year<'a>(
     alloc: Global,
     fired: &mut Vec<Firing<'a>>,
     left: &mut Vec<Applying<'a>>,
     line: &Line<'a>,
+    end: Option<ChangeTime>,
     year: i64,
     saving: i64,
 ) -> Result<i64, AllocError>
     requires first_year { pos 1 ≤ℤ year }
     requires last_year { year ≤ℤ pos 9999 }
     requires rules { IsTrue (list_all (can_fire year) line.now.rules) }
-    requires end { IsTrue (is_end line.now.end) }
+    requires end { IsTrue (is_end end) }
     requires offset { IsTrue (are_small_seconds line.now.info.offset) }
     requires saving { IsTrue (are_small_seconds saving) }
     requires bounded { IsTrue (list_all is_bounded_firing fired.old.items) }
     ensures fired { IfOk result (λ last. Fires fired.new.items last
-        (after fired.old.items (year_firings year line.now.info.offset line.now.end saving line.now.rules))) }
+        (after fired.old.items (year_firings year line.now.info.offset end saving line.now.rules))) }
     ensures small { IfOk result (λ last. IsTrue (are_small_seconds last)) }
     ensures bounded { IfOk result (λ _. IsTrue (list_all is_bounded_firing fired.new.items)) }
 {
     take_applying(left, line.rules, year)?;
-    let last = fire_applying(alloc, fired, left, year, line.end, line.info.offset, saving)?;
+    let last = fire_applying(alloc, fired, left, year, end, line.info.offset, saving)?;
     Ok(last)
 }
 
-/// The firings of a line, and the saving after them.
-#[derive(Drop)]
-pub(crate) struct LineFirings<'a> {
-    pub(crate) fired: Vec<Firing<'a>>,
-    pub(crate) last_saving: i64,
-}
-
-/// The firings of the years that a line expands.
-fn fire_years<'a>(alloc: Global, line: &Line<'a>) -> Result<LineFirings<'a>, AllocError>
-    requires { IsSound line.now }
-    ensures fired { IfOk result (λ r. Fires r.fired.items r.last_saving
+/// Adds the firings of the years that a line expands, those after the first ones, which end with that saving, and gives the
+/// saving after them.
+pub(crate) fn fire_years<'a>(
+    alloc: Global,
+    fired: &mut Vec<Firing<'a>>,
+    left: &mut Vec<Applying<'a>>,
+    line: &Line<'a>,
+    first: u16,
+    saving: i64,
+) -> Result<i64, AllocError>
+    requires line { IsSound line.now }
+    requires first { first ≤ years_expanded line.now.end }
+    requires fired { Fires fired.old.items saving
+        (firings_of_years line.now.info.offset line.now.end line.now.rules first) }
+    requires small { IsTrue (are_small_seconds saving) }
+    requires bounded { IsTrue (list_all is_bounded_firing fired.old.items) }
+    ensures fired { IfOk result (λ last. Fires fired.new.items last
         (firings_of_years line.now.info.offset line.now.end line.now.rules (years_expanded line.now.end))) }
-    ensures small { IfOk result (λ r. IsTrue (are_small_seconds r.last_saving)) }
-    ensures bounded { IfOk result (λ r. IsTrue (list_all is_bounded_firing r.fired.items)) }
+    ensures small { IfOk result (λ last. IsTrue (are_small_seconds last)) }
+    ensures bounded { IfOk result (λ _. IsTrue (list_all is_bounded_firing fired.new.items)) }
 {
-    let mut fired = Vec::new(alloc);
-    let mut left = Vec::new(alloc);
-    let mut last_saving = 0;
+    let mut last_saving = saving;
     let count = years_expanded(line.end);
-    let first = years_before_all(line.rules, count);
     for i in first..count {
         let year = i64::from(1_800 + i);
-        last_saving = fire_year(alloc, &mut fired, &mut left, line, year, last_saving)?;
+        last_saving = fire_year(alloc, fired, left, line, line.end, year, last_saving)?;
     }
-    Ok(LineFirings { fired, last_saving })
-}
-
-/// The firings of a line: none where it is not ruled.
-#[tactic(auto, unfolding(crate::specs::Firings::line_firings))]
-pub(crate) fn fire_line<'a>(alloc: Global, line: &Line<'a>) -> Result<LineFirings<'a>, AllocError>
-    requires { IsSound line.now }
-    ensures fired { IfOk result (λ r. Fires r.fired.items r.last_saving (line_firings line.now)) }
-    ensures small { IfOk result (λ r. IsTrue (are_small_seconds r.last_saving)) }
-    ensures bounded { IfOk result (λ r. IsTrue (list_all is_bounded_firing r.fired.items)) }
-{
-    if line.is_ruled() {
-        fire_years(alloc, line)
-    } else {
-        Ok(LineFirings {
-            fired: Vec::new(alloc),
-            last_saving: line.fixed_saving(),
-        })
-    }
+    Ok(last_saving)
 }

@@ -22,6 +22,7 @@ loop-line-preserved c =
       bounded = ap (list_all is_bounded_entry) step.entries ∙ list_all-append is_bounded_entry c.loop-line.entries
           (entries_of line c.loop-line.start)
           ∙ both (list_all is_bounded_entry c.loop-line.entries) _ before.bounded more.1;
+      kept = step.kept;
     }
 
 pub returns-clause-raw : goal.returns-clause-raw

@@ -1,14 +1,11 @@
-use Rattle.std.proofs.Common.{◌<◌, List, Option, refl, sym, ap, ◌∙◌, subst, rules, to_z, of_z, w64, SFits, IsTrue}
+use Rattle.std.proofs.Common.{◌<◌, ◌++◌, Option, sym, ap, ◌∙◌, subst, rules, to_z, of_z, w64, SFits, IsTrue}
 use Rattle.std.specs.List.{list_all}
 use Rattle.std.proofs.lemmas.Int.{to_z-of_z}
 use Rattle.zone_values.specs.Bounds.{are_small_seconds}
 use Rattle.zone_values.specs.declared.change.ChangeTime.{ChangeTime}
-use Rattle.zone_spans.specs.Bounds.{can_fire, is_bounded_firing, is_end}
-use Rattle.zone_spans.specs.Firings.{years_expanded}
-use Rattle.zone_table.specs.declared.rule.RuleInfo.{RuleInfo}
+use Rattle.zone_spans.specs.Bounds.{can_fire, is_end}
+use Rattle.zone_spans.specs.Firings.{year_firings, years_expanded}
 use Rattle.zone_spans.specs.Lines.{Line}
-use Rattle.zone_spans.specs.Quiet.{AppliesToNone}
-use Rattle.zone_spans.proofs.QuietLemmas.{quiet_years}
 use Rattle.zone_spans.proofs.SoundLemmas.{sound_end, sound_offset, sound_rules}
 use Rattle.zone_spans.proofs.YearLemmas.{fires_more}
 use Rattle.zone_spans.proofs.year.fire_years.Goals as goal
@@ -16,20 +13,7 @@ use Rattle.zone_spans.proofs.year.fire_years.Goals as goal
 pub years_expanded-count-requires : goal.years_expanded-count-requires
 years_expanded-count-requires c =
     subst (λ (e : Option ChangeTime). IsTrue (is_end e)) (ap (λ (l : Line). l.end) (sym c.line.view_is))
-    (sound_end c.args.line.now c.requires)
-
-pub loop-i-init : goal.loop-i-init
-loop-i-init c =
-    let line = c.args.line.now in
-    let before = subst (λ (rs : List RuleInfo). AppliesToNone rs c.years_before_all-first.result)
-    (ap (λ (l : Line). l.rules) c.line.view_is)
-    c.years_before_all-first.ensures.before in
-    let quiet = sym (quiet_years line.info.offset line.end line.rules c.years_before_all-first.result before) in
-    record {
-      fired = record { firings = c.new-fired.ensures.items ∙ ap (λ p. p.0) quiet; saving = ap (λ p. p.1) quiet };
-      small = refl;
-      bounded = ap (list_all is_bounded_firing) c.new-fired.ensures.items;
-    }
+    (sound_end c.args.line.now c.requires.line)
 
 pub fire_year-requires-clause-rules : goal.fire_year-requires-clause-rules
 fire_year-requires-clause-rules c =
@@ -37,13 +21,15 @@ fire_year-requires-clause-rules c =
     let year_is = to_z-of_z w64 c.from-year.result f ∙ c.from-year.ensures in
     let count = c.years_expanded-count.ensures.value ∙ ap (λ (l : Line). years_expanded l.end) c.line.view_is in
     subst (λ y. IsTrue (list_all (can_fire y) c.args.line.now.rules)) (sym year_is)
-    (sound_rules c.args.line.now c.requires c.loop-i.i (subst (λ n. c.loop-i.i < n) count c.loop-i-test.true))
+    (sound_rules c.args.line.now c.requires.line c.loop-i.i (subst (λ n. c.loop-i.i < n) count c.loop-i-test.true))
 
 pub fire_year-requires-clause-end : goal.fire_year-requires-clause-end
-fire_year-requires-clause-end c = sound_end c.args.line.now c.requires
+fire_year-requires-clause-end c =
+    subst (λ (e : Option ChangeTime). IsTrue (is_end e)) (ap (λ (l : Line). l.end) (sym c.line.view_is))
+    (sound_end c.args.line.now c.requires.line)
 
 pub fire_year-requires-clause-offset : goal.fire_year-requires-clause-offset
-fire_year-requires-clause-offset c = sound_offset c.args.line.now c.requires
+fire_year-requires-clause-offset c = sound_offset c.args.line.now c.requires.line
 
 pub loop-i-preserved : goal.loop-i-preserved
 loop-i-preserved c =
@@ -52,12 +38,17 @@ loop-i-preserved c =
     let g : SFits w64 c.from-year.result = search rules in
     let last_is = to_z-of_z w64 c.in_ok-last_saving.last_saving f in
     let year_is = to_z-of_z w64 c.from-year.result g ∙ c.from-year.ensures in
+    let ends = ap (λ (l : Line). l.end) c.line.view_is in
+    let here = λ (e : Option ChangeTime). year_firings (to_z w64 (of_z w64 c.from-year.result)) line.info.offset e (to_z w64 c.loop-i.last_saving-bits) line.rules in
     let fired = c.in_ok-last_saving.ensures.fired in
     record {
       fired = fires_more line.info.offset line.end line.rules c.loop-i.i c.loop-i.fired.items c.fire_year.new.fired.items
           (to_z w64 (of_z w64 c.from-year.result)) (to_z w64 c.loop-i.last_saving-bits)
           (to_z w64 (of_z w64 c.in_ok-last_saving.last_saving))
-          year_is c.loop-i.invariant.fired (record { firings = fired.firings; saving = last_is ∙ fired.saving });
+          year_is c.loop-i.invariant.fired (record {
+            firings = fired.firings ∙ (λ i. c.loop-i.fired.items ++ (here (ends i)).0);
+            saving = last_is ∙ fired.saving ∙ (λ i. (here (ends i)).1);
+          });
       small = subst (λ s. IsTrue (are_small_seconds s)) (sym last_is) c.in_ok-last_saving.ensures.small;
       bounded = c.in_ok-last_saving.ensures.bounded;
     }

@@ -1,0 +1,11 @@
+use Rattle.std.proofs.Common.{Option, IsTrue, sym, ap, subst}
+use Rattle.zone_values.specs.declared.change.ChangeTime.{ChangeTime}
+use Rattle.zone_spans.specs.Bounds.{is_end}
+use Rattle.zone_spans.specs.Lines.{Line}
+use Rattle.zone_spans.proofs.SoundLemmas.{sound_end}
+use Rattle.zone_spans.proofs.kept.Kept.fire_line.Goals as goal
+
+pub years_expanded-years-requires : goal.years_expanded-years-requires
+years_expanded-years-requires c =
+    subst (λ (e : Option ChangeTime). IsTrue (is_end e)) (ap (λ (l : Line). l.end) (sym c.line.view_is))
+    (sound_end c.args.line.now c.requires.line)

@@ -1,0 +1,5 @@
+use Rattle.zone_spans.specs.Kept.{AreBelow}
+use Rattle.zone_spans.proofs.kept.marks_below.Given as goal
+
+abbrev pub invariant-loop-i : goal.invariant-loop-i
+invariant-loop-i l = AreBelow l.limit l.i l.marks

@@ -1,0 +1,289 @@
+//! Firings that are kept from line to line: what a ruleset fires under an offset is the same for each line of them, up to
+//! the line's end.
+ghost use Rattle.std.specs.Prelude.{◌≡◌, ◌+◌, ◌<◌, ◌≤◌, ◌≤ℤ◌, if◌then◌else◌, List, ℕ, ℤ, true, IfOk, IsTrue, length, int_le};
+ghost use Rattle.std.specs.List.{list_all};
+ghost use Rattle.zone_values.specs.Bounds.{are_small_seconds};
+ghost use Rattle.zone_table.specs.declared.rule.RuleInfo.{RuleInfo};
+ghost use Rattle.zone_spans.specs.Bounds.{IsSound, can_fire, is_bounded_firing, is_end};
+ghost use Rattle.zone_spans.specs.Fires.{Fires};
+ghost use Rattle.zone_spans.specs.Firings.{firings_of_years, line_firings, years_expanded};
+ghost use Rattle.zone_spans.specs.Kept.{AreBelow, AreMarkedBelow, BeginWithMarked, IsLastMark, IsLimit};
+ghost use Rattle.zone_spans.specs.Lines.{is_ruled};
+
+use crate::firing::Firing;
+use crate::front::Applying;
+use crate::line::Line;
+use crate::quiet::years_before_all;
+use crate::year::{fire_year, fire_years, line_end, years_expanded};
+use std::alloc::{AllocError, Global};
+use std::marker::Model;
+use zone_table::RuleInfo;
+use zone_values::ChangeTime;
+
+/// What a number of years fire: how many firings, the saving after them, and a second that none of them is after.
+#[derive(Clone, Copy)]
+pub(crate) struct Mark {
+    count: usize,
+    saving: i64,
+    latest: i64,
+}
+
+impl Model for Mark {
+    ghost use Rattle.zone_spans.specs.Kept.{Mark};
+
+    ghost Value = { Mark };
+
+    ghost view = { λ m. record { count = m.count; saving = m.saving; latest = m.latest } };
+
+    ghost inverse = { λ m. record { count = m.count; saving = m.saving; latest = m.latest } };
+}
+
+/// A second before which nothing is at or after the end, whatever the saving.
+fn limit_of(end: Option<ChangeTime>, offset: i64) -> i64
+    requires end { IsTrue (is_end end) }
+    requires offset { IsTrue (are_small_seconds offset) }
+    ensures { IsLimit end offset result }
+{
+    match end {
+        Some(end) => line_end(&end, offset, 1_000_000),
+        None => i64::MAX,
+    }
+}
+
+/// A second that none of the firings is after, nor that second.
+fn latest_of(second: i64, fired: &[Firing<'_>]) -> i64
+    ensures firings { IsTrue (list_all (λ f. int_le f.time result) fired.now) }
+    ensures second { second ≤ℤ result }
+{
+    let mut latest = second;
+    for firing in fired {
+        latest = later_of(latest, firing);
+    }
+    latest
+}
+
+/// A second that the firing is not after, nor that second.
+fn later_of(second: i64, firing: &Firing<'_>) -> i64
+    ensures firing { IsTrue (int_le firing.now.time result) }
+    ensures second { second ≤ℤ result }
+{
+    if firing.is_above(second) {
+        firing.time
+    } else {
+        second
+    }
+}
+
+/// The last of the marks, or the mark of no firings where there is none.
+fn last_mark(marks: &[Mark]) -> Mark
+    ensures { IsLastMark marks.now result }
+{
+    if marks.is_empty() {
+        Mark {
+            count: 0,
+            saving: 0,
+            latest: i64::MIN,
+        }
+    } else {
+        marks[marks.len() - 1]
+    }
+}
+
+/// How many of the first marks have their firings before the limit, so many at most.
+fn marks_below(marks: &[Mark], limit: i64, most: usize) -> usize
+    ensures len { result ≤ length marks.now }
+    ensures most { result ≤ most }
+    ensures below { AreBelow limit result marks.now }
+{
+    let count = most.min(marks.len());
+    for i in 0..count {
+        let mark = &marks[i];
+        if mark.latest >= limit {
+            return i;
+        }
+    }
+    count
+}
+
+/// Leaves the firings and marks of so many years at most, with their firings before the limit.
+fn cut_back<'a>(fired: &mut Vec<Firing<'a>>, marks: &mut Vec<Mark>, limit: i64, most: usize)
+    ensures cut { (offset : ℤ) (rules : List RuleInfo) (quiet : ℕ) → BeginWithMarked offset rules quiet fired.old.items marks.old.items
+        → AreMarkedBelow limit offset rules quiet fired.new.items marks.new.items }
+    ensures most { length marks.new.items ≤ most }
+{
+    let count = marks_below(marks, limit, most);
+    marks.truncate(count);
+    fired.truncate(last_mark(marks).count);
+}
+
+/// Adds the firings of one year more and their mark, where they are before the limit; otherwise all stays as it is. Gives
+/// whether they are.
+fn keep_year<'a>(
+    alloc: Global,
+    fired: &mut Vec<Firing<'a>>,
+    marks: &mut Vec<Mark>,
+    left: &mut Vec<Applying<'a>>,
+    line: &Line<'a>,
+    limit: i64,
+    quiet: u16,
+    count: u16,
+) -> Result<bool, AllocError>
+    requires line { IsSound line.now }
+    requires count { count ≡ quiet + length marks.old.items }
+    requires years { count < years_expanded line.now.end }
+    requires marked { AreMarkedBelow limit line.now.info.offset line.now.rules quiet fired.old.items marks.old.items }
+    ensures marked { IfOk result (λ _. AreMarkedBelow limit line.now.info.offset line.now.rules quiet fired.new.items marks.new.items) }
+    ensures more { IfOk result (λ kept. length marks.new.items ≡ length marks.old.items + (if kept then 1 else 0)) }
+{
+    let mark = last_mark(marks);
+    let before = fired.as_slice().len();
+    let year = i64::from(1_800 + count);
+    let saving = fire_year(alloc, fired, left, line, None, year, mark.saving)?;
+    let latest = latest_of(mark.latest, &fired.as_slice()[before..]);
+    if latest >= limit {
+        fired.truncate(before);
+        return Ok(false);
+    }
+    let count = fired.as_slice().len();
+    marks.push(Mark {
+        count,
+        saving,
+        latest,
+    })?;
+    Ok(true)
+}
+
+/// Adds the firings of further years and their marks, up to so many years, as long as they are before the limit.
+fn keep_years<'a>(
+    alloc: Global,
+    fired: &mut Vec<Firing<'a>>,
+    marks: &mut Vec<Mark>,
+    left: &mut Vec<Applying<'a>>,
+    line: &Line<'a>,
+    limit: i64,
+    quiet: u16,
+    most: u16,
+) -> Result<(), AllocError>
+    requires line { IsSound line.now }
+    requires most { most ≤ years_expanded line.now.end }
+    requires years { quiet + length marks.old.items ≤ years_expanded line.now.end }
+    requires marked { AreMarkedBelow limit line.now.info.offset line.now.rules quiet fired.old.items marks.old.items }
+    ensures marked { IfOk result (λ _. AreMarkedBelow limit line.now.info.offset line.now.rules quiet fired.new.items marks.new.items) }
+    ensures years { IfOk result (λ _. quiet + length marks.new.items ≤ years_expanded line.now.end) }
+{
+    let first = quiet + marks.as_slice().len() as u16;
+    for i in first..most {
+        if !keep_year(alloc, fired, marks, left, line, limit, quiet, i)? {
+            break;
+        }
+    }
+    Ok(())
+}
+
+/// How many years may be kept: those before the year of the end, and none more where there is no end, since no line follows.
+fn years_to_keep(end: Option<ChangeTime>, years: u16) -> u16
+    ensures { result ≤ years }
+{
+    if end.is_some() {
+        years.saturating_sub(1)
+    } else {
+        0
+    }
+}
+
+/// Makes of the firings that are kept those of a line, and gives the saving after them.
+fn fire_from_marks<'a>(
+    alloc: Global,
+    fired: &mut Vec<Firing<'a>>,
+    marks: &mut Vec<Mark>,
+    line: &Line<'a>,
+    quiet: u16,
+    years: u16,
+) -> Result<i64, AllocError>
+    requires line { IsSound line.now }
+    requires years { years ≡ years_expanded line.now.end }
+    requires quiet { quiet ≤ years }
+    requires begun { BeginWithMarked line.now.info.offset line.now.rules quiet fired.old.items marks.old.items }
+    ensures begun { IfOk result (λ _. BeginWithMarked line.now.info.offset line.now.rules quiet fired.new.items marks.new.items) }
+    ensures fired { IfOk result (λ last. Fires fired.new.items last
+        (firings_of_years line.now.info.offset line.now.end line.now.rules years)) }
+    ensures small { IfOk result (λ last. IsTrue (are_small_seconds last)) }
+{
+    let mut left = Vec::new(alloc);
+    let limit = limit_of(line.end, line.info.offset);
+    cut_back(fired, marks, limit, usize::from(years - quiet));
+    let most = years_to_keep(line.end, years);
+    keep_years(alloc, fired, marks, &mut left, line, limit, quiet, most)?;
+    let first = quiet + marks.as_slice().len() as u16;
+    let saving = last_mark(marks).saving;
+    let last = fire_years(alloc, fired, &mut left, line, first, saving)?;
+    Ok(last)
+}
+
+/// The firings of the last ruled line, begun by those that any line of its rules and its offset has up to its end.
+#[derive(Drop)]
+pub(crate) struct Kept<'a> {
+    rules: &'a [RuleInfo],
+    offset: i64,
+    quiet: u16,
+    pub(crate) fired: Vec<Firing<'a>>,
+    marks: Vec<Mark>,
+}
+
+impl<'a> Kept<'a> {
+    /// Nothing is kept.
+    pub(crate) fn new(alloc: Global) -> Kept<'a>
+        ensures { BeginWithMarked result.offset result.rules.now result.quiet result.fired.items result.marks.items }
+    {
+        Kept {
+            rules: &[],
+            offset: 0,
+            quiet: 0,
+            fired: Vec::new(alloc),
+            marks: Vec::new(alloc),
+        }
+    }
+
+    /// Lets go what another ruleset or another offset has fired.
+    fn begin(&mut self, line: &Line<'a>, years: u16)
+        requires years { years ≤ 300 }
+        requires begun { BeginWithMarked self.old.offset self.old.rules.now self.old.quiet self.old.fired.items self.old.marks.items }
+        ensures begun { BeginWithMarked line.now.info.offset line.now.rules self.new.quiet self.new.fired.items self.new.marks.items }
+        ensures offset { self.new.offset ≡ line.now.info.offset }
+        ensures rules { self.new.rules.now ≡ line.now.rules }
+        ensures quiet { self.new.quiet ≤ years }
+    {
+        if self.offset == line.info.offset && self.quiet <= years && self.rules == line.rules {
+            return;
+        }
+        self.rules = line.rules;
+        self.offset = line.info.offset;
+        self.quiet = years_before_all(line.rules, years);
+        self.fired.clear();
+        self.marks.clear();
+    }
+
+    /// Puts the firings of a ruled line into `fired`, and gives the saving after them.
+    #[tactic(auto, unfolding(crate::specs::Firings::line_firings))]
+    pub(crate) fn fire_line(&mut self, alloc: Global, line: &Line<'a>) -> Result<i64, AllocError>
+        requires line { IsSound line.now }
+        requires ruled { is_ruled line.now.info.saving ≡ true }
+        requires begun { BeginWithMarked self.old.offset self.old.rules.now self.old.quiet self.old.fired.items self.old.marks.items }
+        ensures begun { IfOk result (λ _. BeginWithMarked self.new.offset self.new.rules.now self.new.quiet self.new.fired.items self.new.marks.items) }
+        ensures fired { IfOk result (λ last. Fires self.new.fired.items last (line_firings line.now)) }
+        ensures small { IfOk result (λ last. IsTrue (are_small_seconds last)) }
+        ensures bounded { IfOk result (λ _. IsTrue (list_all is_bounded_firing self.new.fired.items)) }
+    {
+        let years = years_expanded(line.end);
+        self.begin(line, years);
+        let last = fire_from_marks(
+            alloc,
+            &mut self.fired,
+            &mut self.marks,
+            line,
+            self.quiet,
+            years,
+        )?;
+        Ok(last)
+    }
+}
