@@ -1,15 +1,40 @@
 -- A zone opened from a table is opened from the source of that table.
-use Rattle.std.proofs.Common.{ℕ, List, Result, Ok, Err, IfOk}
+use Rattle.std.proofs.Common.{◌≡◌, ℕ, List, None, Result, Ok, Err, IfOk, IfErr, OnOk}
+use Rattle.zone_source.specs.Faults.{source_fault}
 use Rattle.zone_source.specs.Zones.{values_of}
 use Rattle.zone_table.specs.Tables.{IsTableOf}
 use Rattle.zone_table.specs.declared.table.Table.{Table}
 use Rattle.tz_lookup.specs.CompactShown.{seen}
 use Rattle.tz_lookup.specs.Compiles.{compiled_in, IsCompiledAs}
 use Rattle.tz_lookup.specs.declared.compact_set.CompactSet.{CompactSet}
+use Rattle.sefunjaro.specs.Causes.{IsZoneCause}
 use Rattle.sefunjaro.specs.declared.error.Error.{Error}
+use Rattle.sefunjaro.specs.declared.error.Error.TheVariants as error
+use Rattle.zone_uses.specs.Causes.{IsOpenCause}
 use Rattle.zone_uses.specs.Opened.{IsOpened}
 
 pub opened_from : (source name : List ℕ) (table : Table) (found : Result CompactSet Error) → IsTableOf table (values_of source)
     → IfOk found (λ set. IsCompiledAs (seen set) (compiled_in table name)) → IfOk found (IsOpened source name)
 opened_from source name table (Ok set) h compiled = record { table = table; is_table = h; is_compiled = compiled }
 opened_from source name table (Err error) h compiled = tt
+
+pub whatever_is_found : {P : Type 0} (found : Result CompactSet Error) → P → OnOk found P
+whatever_is_found (Ok set) h = h
+whatever_is_found (Err error) h = tt
+
+pub cause_from : (source name : List ℕ) (table : Table) (found : Result CompactSet Error) → source_fault source ≡ None
+    → IsTableOf table (values_of source) → IfErr found (IsZoneCause (compiled_in table name)) → IfErr found (IsOpenCause source name)
+cause_from source name table (Ok set) valid h cause = tt
+cause_from source name table (Err (error.Zone fault)) valid h cause =
+    record { valid = valid; table = table; is_table = h; cause = cause }
+cause_from source name table (Err error.NoMemory) valid h cause = tt
+cause_from source name table (Err error.TooLong) valid h cause = absurd cause
+cause_from source name table (Err error.Parser) valid h cause = absurd cause
+cause_from source name table (Err (error.Source fault)) valid h cause = absurd cause
+cause_from source name table (Err (error.Set fault)) valid h cause = absurd cause
+cause_from source name table (Err (error.Database fault)) valid h cause = absurd cause
+cause_from source name table (Err (error.List fault)) valid h cause = absurd cause
+cause_from source name table (Err (error.Alarm fault)) valid h cause = absurd cause
+cause_from source name table (Err (error.Tail fault)) valid h cause = absurd cause
+cause_from source name table (Err (error.File fault)) valid h cause = absurd cause
+cause_from source name table (Err (error.FileZone fault)) valid h cause = absurd cause

@@ -1,4 +1,5 @@
 pub mod Answers
+pub mod Causes
 pub mod Moves
 pub mod MovedShown
 pub mod Opened

@@ -1,13 +1,18 @@
 //! A daily alarm.
-ghost use Rattle.std.specs.Prelude.{◌≡◌, ◌++◌, IfOk, OnOk, filter_map, map, option_to_list};
+ghost use Rattle.std.specs.Prelude.{◌≡◌, ◌++◌, true, IfErr, IfOk, OnOk, filter_map, map, option_to_list};
 ghost use Rattle.tz_zone.specs.InForce.{shown_of};
-ghost use Rattle.zone_alarm.specs.Rings.{rings};
+ghost use Rattle.zone_alarm.specs.Rings.{ends_in_years, rings};
 ghost use Rattle.zone_alarm.specs.Shown.{ring_shown};
+ghost use Rattle.zone_uses.specs.Causes.{IsAlarmCause};
 
 use sefunjaro::{Date, Error, OffsetDateTime, Ring, Time, TimeZone, alarms};
 use std::alloc::{AllocError, Global};
 
 /// The instants of an alarm in so many days: on a day on which clocks skip the time there is none.
+///
+/// # Errors
+///
+/// `Alarm` exactly where `days` is above 0 and the last day is past 9999-12-31, or for want of memory; `NoMemory`.
 pub fn wake_ups<T: TimeZone>(
     alloc: Global,
     zone: &T,
@@ -15,7 +20,9 @@ pub fn wake_ups<T: TimeZone>(
     first: Date,
     days: u32,
 ) -> Result<Vec<OffsetDateTime>, Error>
-    ensures { IfOk result (λ found. map shown_of found.items ≡ filter_map (λ ring. ring.1) (rings (T.total_at zone.now) at first days)) }
+    ensures ok { OnOk result (ends_in_years first days ≡ true) }
+    ensures found { IfOk result (λ found. map shown_of found.items ≡ filter_map (λ ring. ring.1) (rings (T.total_at zone.now) at first days)) }
+    ensures err { IfErr result (IsAlarmCause first days) }
 {
     let rings = alarms(alloc, zone, at, first, days)?;
     Ok(instants_of(alloc, &rings)?)

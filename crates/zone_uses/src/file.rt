@@ -1,7 +1,8 @@
 //! A compiled zone file, as those of the machine.
-ghost use Rattle.std.specs.Prelude.{IfOk};
+ghost use Rattle.std.specs.Prelude.{IfErr, IfOk};
 ghost use Rattle.civil_base.specs.DateTimes.{instant};
 ghost use Rattle.zone_uses.specs.Answers.{IsGivenByFile};
+ghost use Rattle.zone_uses.specs.Causes.{IsFileCause};
 
 use sefunjaro::{Error, Offset, OffsetDateTime, TimeZone, TzifTz, UtcOffset, read_any};
 use std::alloc::Global;
@@ -12,7 +13,8 @@ use std::alloc::Global;
 ///
 /// `File` where the bytes are no such file; `FileZone` where its footer is none; both for want of memory too.
 pub fn offset_in_file(alloc: Global, bytes: &[u8], at: &OffsetDateTime) -> Result<UtcOffset, Error>
-    ensures { IfOk result (IsGivenByFile bytes.now (instant at.now)) }
+    ensures given { IfOk result (IsGivenByFile bytes.now (instant at.now)) }
+    ensures err { IfErr result (IsFileCause bytes.now) }
 {
     let value = read_any(alloc, bytes)?;
     let zone = TzifTz::new(alloc, "file", &value)?;

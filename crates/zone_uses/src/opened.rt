@@ -1,5 +1,7 @@
 //! A zone from the bytes of a source.
-ghost use Rattle.std.specs.Prelude.{IfOk};
+ghost use Rattle.std.specs.Prelude.{◌≡◌, None, IfErr, IfOk, OnOk};
+ghost use Rattle.zone_source.specs.Faults.{source_fault};
+ghost use Rattle.zone_uses.specs.Causes.{IsOpenCause};
 ghost use Rattle.zone_uses.specs.Opened.{IsOpened};
 
 use sefunjaro::{CompactSet, Error, LineParser, open_source, open_zone};
@@ -12,7 +14,9 @@ use std::alloc::Global;
 ///
 /// Those of [`open_source`] and then those of [`open_zone`]; `Parser` where the patterns can't be built.
 pub fn zone_of_source(alloc: Global, source: &[u8], name: &str) -> Result<CompactSet, Error>
-    ensures { IfOk result (IsOpened source.now name.now) }
+    ensures valid { OnOk result (source_fault source.now ≡ None) }
+    ensures opened { IfOk result (IsOpened source.now name.now) }
+    ensures err { IfErr result (IsOpenCause source.now name.now) }
 {
     let parser = LineParser::new(alloc)?;
     let table = open_source(alloc, &parser, source)?;

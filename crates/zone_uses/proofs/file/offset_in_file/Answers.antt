@@ -4,9 +4,12 @@ use Rattle.zone_uses.proofs.file.offset_in_file.Goals as goal
 
 pub returns : goal.returns
 returns c = record {
-  value = zone_shown c.in_ok-value.value;
-  zone = c.in_ok-zone.zone;
-  is_file = c.in_ok-value.ensures.exact;
-  is_zone = c.in_ok-zone.ensures.is;
-  is = c.to_utc.ensures ∙ c.get_offset_utc.ensures.total;
+  given = record {
+    value = zone_shown c.in_ok-value.value;
+    zone = c.in_ok-zone.zone;
+    is_file = c.in_ok-value.ensures.exact;
+    is_zone = c.in_ok-zone.ensures.is;
+    is = c.to_utc.ensures ∙ c.get_offset_utc.ensures.total;
+  };
+  err = tt;
 }

@@ -1,6 +1,16 @@
-use Rattle.zone_uses.proofs.OpenedLemmas.{opened_from}
+use Rattle.zone_uses.proofs.OpenedLemmas.{opened_from, whatever_is_found, cause_from}
 use Rattle.zone_uses.proofs.opened.zone_of_source.Goals as goal
 
 pub returns : goal.returns
 returns c =
-    opened_from c.args.source.now c.args.name.now c.in_ok-table.table c.open_zone.result c.in_ok-table.ensures.table c.open_zone.ensures.ok
+    let source = c.args.source.now in
+    let name = c.args.name.now in
+    let table = c.in_ok-table.table in
+    let found = c.open_zone.result in
+    let is_table = c.in_ok-table.ensures.table in
+    let valid = c.in_ok-table.ensures.ok in
+    record {
+      valid = whatever_is_found found valid;
+      opened = opened_from source name table found is_table c.open_zone.ensures.ok;
+      err = cause_from source name table found valid is_table c.open_zone.ensures.err;
+    }

@@ -1,0 +1,67 @@
+-- Why the callers have no answer.
+use Rattle.std.specs.Prelude.{◌≡◌, ℕ, List, ℤ, false, Option, Some, None, Result, Ok, Err}
+use Rattle.sefunjaro.specs.Causes.{IsSourceCause}
+use Rattle.sefunjaro.specs.declared.error.Error.{Error}
+use Rattle.sefunjaro.specs.declared.error.Error.TheVariants as error
+use Rattle.tz_posix.specs.Parses.{IsParsed}
+use Rattle.tz_posix.specs.PosixShown.{posix_of}
+use Rattle.tz_posix.specs.PosixZones.{posix_refusal}
+use Rattle.tz_posix.specs.declared.error.Error as range
+use Rattle.tz_posix.specs.declared.error.ParseError.{ParseError}
+use Rattle.tz_posix.specs.declared.posix.PosixTz.{PosixTz}
+use Rattle.tz_tzif.specs.Faults.{IsFault}
+use Rattle.tz_tzif.specs.declared.fault.TzifFault.{TzifFault}
+use Rattle.tz_zone.specs.Compiles.{compiled_in, IsZoneFault}
+use Rattle.tz_zone.specs.declared.compile.ZoneFault.{ZoneFault}
+use Rattle.tz_zone.specs.declared.set.FixedTimespanSet.{FixedTimespanSet}
+use Rattle.zone_alarm.specs.Rings.{ends_in_years}
+use Rattle.zone_alarm.specs.declared.ring.AlarmFault.TheVariants as alarm
+use Rattle.zone_source.specs.Faults.{source_fault}
+use Rattle.zone_source.specs.Zones.{values_of}
+use Rattle.zone_table.specs.Tables.{IsTableOf}
+use Rattle.zone_table.specs.declared.table.Table.{Table}
+use Rattle.zone_tzif_core.specs.Denotes.{Denotes}
+use Rattle.zone_tzif_core.specs.Zones.{ZoneValue}
+use Rattle.zone_tzif_core.specs.declared.values.ReadFault.TheVariants as read
+
+-- no line of the source is refused, and the name has no zone in its table
+pub record IsNoZone (source name : List ℕ) (fault : ZoneFault) : Type 0 where
+  pub valid : source_fault source ≡ None
+  pub table : Table
+  pub is_table : IsTableOf table (values_of source)
+  pub cause : IsZoneFault (compiled_in table name) fault
+
+-- why a name has no zone in a source: the patterns couldn't be built, the source is refused, or the name; or memory ran out
+abbrev pub IsOpenCause : List ℕ → List ℕ → Error → Type 0
+IsOpenCause source name error.Parser = Unit {0}
+IsOpenCause source name error.TooLong = IsSourceCause source error.TooLong
+IsOpenCause source name (error.Source fault) = IsSourceCause source (error.Source fault)
+IsOpenCause source name (error.Zone fault) = IsNoZone source name fault
+IsOpenCause source name error.NoMemory = Unit {0}
+IsOpenCause source name _ = ⊥
+
+-- why an alarm has no rings: its last day is past the years; or memory ran out
+abbrev pub IsAlarmCause : ℤ → ℕ → Error → Type 0
+IsAlarmCause first days (error.Alarm alarm.Range) = ends_in_years first days ≡ false
+IsAlarmCause first days (error.Alarm alarm.NoMemory) = Unit {0}
+IsAlarmCause first days error.NoMemory = Unit {0}
+IsAlarmCause first days _ = ⊥
+
+-- the bytes are a file of a zone that can't be asked
+pub record IsNoFileZone (bytes : List ℕ) (fault : TzifFault) : Type 0 where
+  pub value : ZoneValue
+  pub is_file : Denotes bytes value
+  pub cause : IsFault value fault
+
+-- why bytes have no zone: they are no file, or its zone can't be asked; or memory ran out
+abbrev pub IsFileCause : List ℕ → Error → Type 0
+IsFileCause bytes (error.File read.Refused) = (value : ZoneValue) → ¬ (Denotes bytes value)
+IsFileCause bytes (error.File read.NoMemory) = Unit {0}
+IsFileCause bytes (error.FileZone fault) = IsNoFileZone bytes fault
+IsFileCause bytes _ = ⊥
+
+-- why a text gives an instant no offset: it is no zone over those of a database; or it is one, and refuses the instant's year
+pub data IsNotGiven (text : List ℕ) (zones : List FixedTimespanSet) (t : ℤ) : Type 0 where
+  no_zone : (why : ParseError) → IsParsed text zones (Err why) → IsNotGiven text zones t
+  no_year : (zone : PosixTz) → IsParsed text zones (Ok zone) → (why : range.Error) → posix_refusal (posix_of zone) t ≡ Some why
+      → IsNotGiven text zones t
