@@ -1,0 +1,51 @@
+-- Lines that are added to others.
+use Rattle.std.proofs.Common.{◌≡◌, ℕ, zero, suc, ◌+◌, ◌<◌, ◌≤◌, List, [], ◌∷◌, ◌++◌, length, map, get_or, drop, drop-cons, Some, slice_get, unwrap_or, true, false, refl, sym, ap, ◌∙◌, append_assoc, append-nil, arith, rules}
+use Rattle.std.proofs.lemmas.List.{drop_all, map-append}
+use Rattle.zone_source.specs.Zones.{source_value}
+use Rattle.zone_values.specs.Values.{LineValue, space}
+use Rattle.zone_plain_base.specs.LinesAt.{value_at}
+use Rattle.zone_plain_base.specs.Said.{is_said}
+use Rattle.zone_plain_base.specs.SaidLaws.{source_value_is}
+use Rattle.zone_plain_text.specs.PlainTexts.{plain_text}
+use Rattle.zone_plain_offsets.specs.Told.{IsAdded}
+
+-- a line that was found at a place says what stands there
+pub value_of_found : (lines : List (List ℕ)) (i : ℕ) (bytes : List ℕ) → Some bytes ≡ slice_get lines i → source_value bytes ≡ value_at lines i
+value_of_found [] i bytes e = search rules
+value_of_found (l ∷ lines) zero bytes e = ap (λ o. source_value (unwrap_or o [])) e
+value_of_found (l ∷ lines) (suc i) bytes e = value_of_found lines i bytes e
+
+pub values_more : (lines : List (List ℕ)) (line : List ℕ) → map source_value (lines ++ line ∷ []) ≡ map source_value lines ++ source_value line ∷ []
+values_more lines line = map-append source_value lines (line ∷ [])
+
+-- the values so far, and those that are left
+pub record HasCopied (values old now : List LineValue) (i : ℕ) : Type 0 where
+  pub goes_on : now ++ drop i values ≡ old ++ values
+
+pub nothing_copied : (values old : List LineValue) → HasCopied values old old 0
+nothing_copied values old = record { goes_on = refl }
+
+step : (values : List LineValue) (i : ℕ) → i < length values → drop i values ≡ get_or values i space ∷ drop (i + 1) values
+step values i inside = grind (arith, drop-cons)
+
+pub one_copied : (values old now : List LineValue) (i : ℕ) → i < length values → HasCopied values old now i
+    → HasCopied values old (now ++ get_or values i space ∷ []) (i + 1)
+one_copied values old now i inside so_far = record {
+  goes_on = append_assoc now (get_or values i space ∷ []) (drop (i + 1) values)
+      ∙ ap (λ vs. now ++ vs) (sym (step values i inside)) ∙ so_far.goes_on;
+}
+
+pub all_copied : (values old now : List LineValue) (i : ℕ) → length values ≤ i → HasCopied values old now i → now ≡ old ++ values
+all_copied values old now i past so_far =
+    sym (append-nil now) ∙ ap (λ vs. now ++ vs) (sym (drop_all i values past)) ∙ so_far.goes_on
+
+pub said_and_added : (old new : List (List ℕ)) (v : LineValue) (text : List ℕ) → is_said v ≡ true → text ≡ plain_text v → new ≡ old ++ text ∷ []
+    → IsAdded old new v true
+said_and_added old new v text said same added = record {
+  told = sym said;
+  added = λ is_yes. ap (map source_value) added ∙ values_more old text
+      ∙ ap (λ w. map source_value old ++ w ∷ []) (ap source_value same ∙ source_value_is v said);
+}
+
+pub unsaid : (old new : List (List ℕ)) (v : LineValue) → is_said v ≡ false → IsAdded old new v false
+unsaid old new v said = record { told = sym said; added = λ is_yes. absurd (cc) }

@@ -1,0 +1,9 @@
+pub mod PairLemmas
+pub mod NameLemmas
+pub mod GroupLemmas
+pub mod CopyLemmas
+pub mod MadeLemmas
+pub mod RuleLemmas
+pub mod OutLemmas
+pub mod StageLemmas
+mod WorkedOffsets

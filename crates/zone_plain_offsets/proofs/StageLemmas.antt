@@ -1,0 +1,213 @@
+-- The lines so far, and those that are left.
+use Rattle.std.proofs.Common.{◌≡◌, ℕ, suc, ◌+◌, Bool, true, false, cond, List, [], ◌∷◌, ◌++◌, length, map, inl, inr, Some, Ok, Err, get_or, drop, drop-cons, ◌<◌, ◌≤◌, subst, refl, sym, ap, ◌∙◌, append_assoc, append-nil, arith}
+use Rattle.std.specs.Prelude.{◌||◌, ◌&&◌, ◌⊎◌, flat_map}
+use Rattle.zone_source.specs.Zones.{source_value}
+use Rattle.std.proofs.lemmas.List.{drop_all}
+use Rattle.zone_values.specs.Values.{LineValue, space}
+use Rattle.zone_plain_lines.specs.declared.cause.PlainCause.TheVariants as cause
+use Rattle.zone_plain_base.specs.LineFaults.{at, by_line, bad_line}
+use Rattle.zone_plain_base.specs.Said.{is_said}
+use Rattle.zone_plain_offsets.specs.Names.{front, made_name}
+use Rattle.zone_plain_offsets.specs.Pairs.{Pair, Asked, nothing, total, under, asked, is_same, with_pair, number_of, joined_by, pairs_from, pairs_of}
+use Rattle.zone_plain_offsets.specs.Made.{rules_for, are_rules_said, changed_by, changed, is_changed_said, named_in, name_in, made}
+use Rattle.zone_plain_offsets.specs.WrittenOut.{unsaid_from, written_unless, written_out}
+use Rattle.zone_plain_offsets.specs.Told.{asked_rules, is_asked_said, IsWrittenOut}
+use Rattle.zone_plain_offsets.proofs.PairLemmas.{is_among, same_pair, among_with, number_kept}
+
+-- the lines of the ruleset that a source gets for a pair
+abbrev pub rules_of : List LineValue → Pair → List LineValue
+rules_of values pair = rules_for values (name_in values pair) pair
+
+-- the lines before the nth were written out
+pub record HasWritten (values : List LineValue) (pairs : List Pair) (made_lines out : List (List ℕ)) (n : ℕ) (left : List LineValue) : Type 0 where
+  pub pairs_go : pairs_from pairs left ≡ pairs_of values
+  pub said : (pair : Pair) → is_among pair pairs ≡ true → are_rules_said values (name_in values pair) pair ≡ true
+  pub made_is : map source_value made_lines ≡ flat_map (rules_of values) pairs
+  pub out_goes : map source_value out ++ map (changed (name_in values)) left ≡ map (changed (name_in values)) values
+  pub goes_on : unsaid_from values n left ≡ unsaid_from values 1 values
+
+pub nothing_written : (values : List LineValue) → HasWritten values [] [] [] 1 values
+nothing_written values = record { pairs_go = refl; said = λ pair e. absurd (cc); made_is = refl; out_goes = refl; goes_on = refl }
+
+-- a pair that was just asked for has the name that it has in the whole source
+name_is : (values left : List LineValue) (run : ℕ) (pairs : List Pair) (pair : Pair) → run ≡ front values
+    → pairs_from (with_pair pairs pair) left ≡ pairs_of values → named_in run (with_pair pairs pair) pair ≡ name_in values pair
+name_is values left run pairs pair run_is go =
+    let number = sym (number_kept left (with_pair pairs pair) pair (among_with pairs pair)) ∙ ap (λ ps. number_of ps pair) go in
+    λ i. made_name (run_is i) (number i)
+
+test_is : (values left : List LineValue) (run : ℕ) (pairs : List Pair) (a : Asked) (v : LineValue) → run ≡ front values
+    → pairs_from (joined_by a pairs) left ≡ pairs_of values
+    → ((pair : Pair) → is_among pair pairs ≡ true → are_rules_said values (name_in values pair) pair ≡ true)
+    → is_asked_said values run pairs a v ≡ is_changed_said values (name_in values) a v
+test_is values left run pairs nothing v run_is go said = refl
+test_is values left run pairs (total parts t) v run_is go said = refl
+test_is values left run pairs (under parts pair) v run_is go said =
+    ap (λ name. cond (is_among pair pairs) true (are_rules_said values name pair) && is_said (changed_by (λ p. name) (under parts pair) v)) name
+    ∙ ap (λ b. b && is_said (changed_by (name_in values) (under parts pair) v)) (by_test (is_among pair pairs) refl)
+  where
+    name : named_in run (with_pair pairs pair) pair ≡ name_in values pair
+    name = name_is values left run pairs pair run_is go
+
+    by_test : (b : Bool) → is_among pair pairs ≡ b
+        → cond b true (are_rules_said values (name_in values pair) pair) ≡ are_rules_said values (name_in values pair) pair
+    by_test true e = sym (said pair e)
+    by_test false e = refl
+
+changed_is : (values left : List LineValue) (run : ℕ) (pairs : List Pair) (a : Asked) (v : LineValue) → run ≡ front values
+    → pairs_from (joined_by a pairs) left ≡ pairs_of values → changed_by (named_in run (joined_by a pairs)) a v ≡ changed_by (name_in values) a v
+changed_is values left run pairs nothing v run_is go = refl
+changed_is values left run pairs (total parts t) v run_is go = refl
+changed_is values left run pairs (under parts pair) v run_is go =
+    ap (λ name. changed_by (λ p. name) (under parts pair) v) (name_is values left run pairs pair run_is go)
+
+flat_more : (f : Pair → List LineValue) (pairs : List Pair) (pair : Pair) → flat_map f (pairs ++ pair ∷ []) ≡ flat_map f pairs ++ f pair
+flat_more f [] pair = append-nil (f pair)
+flat_more f (p ∷ pairs) pair = ap (λ vs. f p ++ vs) (flat_more f pairs pair) ∙ sym (append_assoc (f p) (flat_map f pairs) (f pair))
+
+rules_more : (values left : List LineValue) (run : ℕ) (pairs : List Pair) (a : Asked) → run ≡ front values
+    → pairs_from (joined_by a pairs) left ≡ pairs_of values
+    → flat_map (rules_of values) pairs ++ asked_rules values run pairs a ≡ flat_map (rules_of values) (joined_by a pairs)
+rules_more values left run pairs nothing run_is go = append-nil _
+rules_more values left run pairs (total parts t) run_is go = append-nil _
+rules_more values left run pairs (under parts pair) run_is go =
+    ap (λ name. flat_map (rules_of values) pairs ++ cond (is_among pair pairs) [] (rules_for values name pair))
+    (name_is values left run pairs pair run_is go)
+    ∙ by_test (is_among pair pairs)
+  where
+    by_test : (b : Bool) → flat_map (rules_of values) pairs ++ cond b [] (rules_of values pair) ≡ flat_map (rules_of values) (cond b pairs (pairs ++ pair ∷ []))
+    by_test true = append-nil _
+    by_test false = sym (flat_more (rules_of values) pairs pair)
+
+either : (a b c : Bool) → (a || (b || c)) ≡ true → ((a || b) ≡ true) ⊎ (c ≡ true)
+either true b c e = inl refl
+either false true c e = inl refl
+either false false c e = inr e
+
+among_parts : (pair more : Pair) (pairs : List Pair) → is_among pair (pairs ++ more ∷ []) ≡ true → (is_among pair pairs ≡ true) ⊎ (is_same pair more ≡ true)
+among_parts pair more [] e = inr (or_false (is_same pair more) e)
+  where
+    or_false : (b : Bool) → (b || false) ≡ true → b ≡ true
+    or_false true e = refl
+    or_false false e = e
+among_parts pair more (p ∷ pairs) e = here (is_same pair p) e (λ rest. among_parts pair more pairs rest)
+  where
+    here : (b : Bool) → (b || is_among pair (pairs ++ more ∷ [])) ≡ true
+        → (is_among pair (pairs ++ more ∷ []) ≡ true → (is_among pair pairs ≡ true) ⊎ (is_same pair more ≡ true))
+        → ((b || is_among pair pairs) ≡ true) ⊎ (is_same pair more ≡ true)
+    here true e rest = inl refl
+    here false e rest = rest e
+
+and_first : (a b : Bool) → (a && b) ≡ true → a ≡ true
+and_first true b e = refl
+and_first false b e = e
+
+-- the rules of all pairs so far can be said
+said_more : (values : List LineValue) (pairs : List Pair) (a : Asked) (v : LineValue)
+    → ((pair : Pair) → is_among pair pairs ≡ true → are_rules_said values (name_in values pair) pair ≡ true)
+    → is_changed_said values (name_in values) a v ≡ true
+    → (pair : Pair) → is_among pair (joined_by a pairs) ≡ true → are_rules_said values (name_in values pair) pair ≡ true
+said_more values pairs nothing v said is_yes pair e = said pair e
+said_more values pairs (total parts t) v said is_yes pair e = said pair e
+said_more values pairs (under parts more) v said is_yes pair e = by_test (is_among more pairs) e
+  where
+    here : are_rules_said values (name_in values more) more ≡ true
+    here = and_first (are_rules_said values (name_in values more) more) _ is_yes
+
+    by_case : (is_among pair pairs ≡ true) ⊎ (is_same pair more ≡ true) → are_rules_said values (name_in values pair) pair ≡ true
+    by_case (inl e) = said pair e
+    by_case (inr e) = ap (λ p. are_rules_said values (name_in values p) p) (same_pair pair more e) ∙ here
+
+    by_test : (b : Bool) → is_among pair (cond b pairs (pairs ++ more ∷ [])) ≡ true → are_rules_said values (name_in values pair) pair ≡ true
+    by_test true e = said pair e
+    by_test false e = by_case (among_parts pair more pairs e)
+
+next_line : (values left : List LineValue) (n : ℕ) (v : LineValue) (b : Bool) → is_changed_said values (name_in values) (asked v) v ≡ b
+    → unsaid_from values n (v ∷ left) ≡ cond b (unsaid_from values (suc n) left) (Some n)
+unfolding unsaid_from
+next_line values left n v b e = ap (λ t. cond t (unsaid_from values (suc n) left) (Some n)) e
+
+joined_go : (values left : List LineValue) (pairs : List Pair) (v : LineValue) → pairs_from pairs (v ∷ left) ≡ pairs_of values
+    → pairs_from (joined_by (asked v) pairs) left ≡ pairs_of values
+unfolding pairs_from
+joined_go values left pairs v go = go
+
+pub one_written : (values left : List LineValue) (run : ℕ) (old_pairs pairs : List Pair) (old_made made_lines old out : List (List ℕ)) (n : ℕ) (v : LineValue) (said : Bool)
+    → run ≡ front values → HasWritten values old_pairs old_made old n (v ∷ left)
+    → IsWrittenOut values run old_pairs pairs old_made made_lines old out v said → said ≡ true
+    → HasWritten values pairs made_lines out (suc n) left
+one_written values left run old_pairs pairs old_made made_lines old out n v said run_is so_far now is_yes =
+    let go = joined_go values left old_pairs v so_far.pairs_go in
+    let test = sym (test_is values left run old_pairs (asked v) v run_is go so_far.said) ∙ sym now.told ∙ is_yes in
+    record {
+      pairs_go = ap (λ ps. pairs_from ps left) now.pairs ∙ go;
+      said = λ pair e. said_more values old_pairs (asked v) v so_far.said test pair (ap (is_among pair) (sym now.pairs) ∙ e);
+      made_is = now.made is_yes ∙ ap (λ vs. vs ++ asked_rules values run old_pairs (asked v)) so_far.made_is
+          ∙ rules_more values left run old_pairs (asked v) run_is go ∙ ap (flat_map (rules_of values)) (sym now.pairs);
+      out_goes = ap (λ vs. vs ++ map (changed (name_in values)) left) (now.added is_yes)
+          ∙ append_assoc (map source_value old) (changed_by (named_in run pairs) (asked v) v ∷ []) (map (changed (name_in values)) left)
+          ∙ ap (λ w. map source_value old ++ w ∷ map (changed (name_in values)) left)
+          (ap (λ ps. changed_by (named_in run ps) (asked v) v) now.pairs ∙ changed_is values left run old_pairs (asked v) v run_is go)
+          ∙ so_far.out_goes;
+      goes_on = sym (next_line values left n v true test) ∙ so_far.goes_on;
+    }
+
+pub refused_here : (values left : List LineValue) (run : ℕ) (old_pairs pairs : List Pair) (old_made made_lines old out : List (List ℕ)) (n : ℕ) (v : LineValue) (said : Bool)
+    → run ≡ front values → HasWritten values old_pairs old_made old n (v ∷ left)
+    → IsWrittenOut values run old_pairs pairs old_made made_lines old out v said → said ≡ false
+    → written_out values ≡ Err (at n cause.Unsayable)
+unfolding written_out
+refused_here values left run old_pairs pairs old_made made_lines old out n v said run_is so_far now is_no =
+    let go = joined_go values left old_pairs v so_far.pairs_go in
+    let test = sym (test_is values left run old_pairs (asked v) v run_is go so_far.said) ∙ sym now.told ∙ is_no in
+    ap (written_unless values) (sym so_far.goes_on ∙ next_line values left n v false test)
+
+pub all_written : (values : List LineValue) (pairs : List Pair) (made_lines old out : List (List ℕ)) (n : ℕ) → HasWritten values pairs made_lines old n []
+    → map source_value out ≡ map source_value old ++ map source_value made_lines → written_out values ≡ Ok (map source_value out)
+unfolding written_out unsaid_from made pairs_from
+all_written values pairs made_lines old out n so_far added =
+    ap (written_unless values) (sym so_far.goes_on)
+    ∙ ap Ok (sym (added ∙ (λ i. (sym (append-nil (map source_value old)) ∙ so_far.out_goes) i ++ (so_far.made_is ∙ ap (flat_map (rules_of values)) so_far.pairs_go) i)))
+
+-- the same by places
+
+step : (values : List LineValue) (i : ℕ) → i < length values → drop i values ≡ get_or values i space ∷ drop (i + 1) values
+step values i inside = grind (arith, drop-cons)
+
+-- the lines before a place were written out
+pub record HasReached (values : List LineValue) (pairs : List Pair) (made_lines out : List (List ℕ)) (i : ℕ) : Type 0 where
+  pub written : HasWritten values pairs made_lines out (i + 1) (drop i values)
+
+pub nothing_reached : (values : List LineValue) → HasReached values [] [] [] 0
+nothing_reached values = record { written = nothing_written values }
+
+here : (values : List LineValue) (pairs : List Pair) (made_lines out : List (List ℕ)) (i : ℕ) → i < length values → HasReached values pairs made_lines out i
+    → HasWritten values pairs made_lines out (i + 1) (get_or values i space ∷ drop (i + 1) values)
+here values pairs made_lines out i inside so_far = subst (HasWritten values pairs made_lines out (i + 1)) (step values i inside) so_far.written
+
+pub one_reached : (values : List LineValue) (run : ℕ) (old_pairs pairs : List Pair) (old_made made_lines old out : List (List ℕ)) (i : ℕ) (v : LineValue) (said : Bool)
+    → run ≡ front values → i < length values → v ≡ get_or values i space → HasReached values old_pairs old_made old i
+    → IsWrittenOut values run old_pairs pairs old_made made_lines old out v said → said ≡ true
+    → HasReached values pairs made_lines out (i + 1)
+one_reached values run old_pairs pairs old_made made_lines old out i v said run_is inside is so_far now is_yes =
+    let next : suc (i + 1) ≡ i + 1 + 1 = omega arith in
+    record {
+      written = subst (λ n. HasWritten values pairs made_lines out n (drop (i + 1) values)) next
+          (one_written values (drop (i + 1) values) run old_pairs pairs old_made made_lines old out (i + 1) (get_or values i space) said run_is
+          (here values old_pairs old_made old i inside so_far)
+          (subst (λ w. IsWrittenOut values run old_pairs pairs old_made made_lines old out w said) is now) is_yes);
+    }
+
+pub refused_at : (values : List LineValue) (run : ℕ) (old_pairs pairs : List Pair) (old_made made_lines old out : List (List ℕ)) (i : ℕ) (v : LineValue) (said : Bool)
+    → run ≡ front values → i < length values → v ≡ get_or values i space → HasReached values old_pairs old_made old i
+    → IsWrittenOut values run old_pairs pairs old_made made_lines old out v said → said ≡ false
+    → by_line (written_out values) ≡ Err (bad_line (at (i + 1) cause.Unsayable))
+refused_at values run old_pairs pairs old_made made_lines old out i v said run_is inside is so_far now is_no =
+    ap by_line (refused_here values (drop (i + 1) values) run old_pairs pairs old_made made_lines old out (i + 1) (get_or values i space) said run_is
+    (here values old_pairs old_made old i inside so_far)
+    (subst (λ w. IsWrittenOut values run old_pairs pairs old_made made_lines old out w said) is now) is_no)
+
+pub all_reached : (values : List LineValue) (pairs : List Pair) (made_lines old out : List (List ℕ)) (i : ℕ) → length values ≤ i → HasReached values pairs made_lines old i
+    → map source_value out ≡ map source_value old ++ map source_value made_lines → written_out values ≡ Ok (map source_value out)
+all_reached values pairs made_lines old out i past so_far added =
+    all_written values pairs made_lines old out (i + 1) (subst (HasWritten values pairs made_lines old (i + 1)) (drop_all i values past) so_far.written) added

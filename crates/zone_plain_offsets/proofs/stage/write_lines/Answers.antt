@@ -1,0 +1,26 @@
+use Rattle.std.proofs.Common.{◌<◌, ◌≤◌, map, length, refl, arith}
+use Rattle.zone_source.specs.Zones.{source_value}
+use Rattle.zone_plain_offsets.proofs.NameLemmas.{length_values}
+use Rattle.zone_plain_offsets.proofs.StageLemmas.{nothing_reached, one_reached, refused_at, all_reached}
+use Rattle.zone_plain_offsets.proofs.stage.write_lines.Goals as goal
+
+pub loop-place-init : goal.loop-place-init
+loop-place-init c = rw (c.new-pairs.ensures, c.new-made.ensures, c.new-out.ensures) (nothing_reached _)
+
+pub loop-place-preserved : goal.loop-place-preserved
+loop-place-preserved c =
+    let inside : c.loop-place.place < length (map source_value c.args.lines.now) =
+    omega (arith, length_values c.args.lines.now, c.loop-place-test.true, c.len-place-end.ensures) in
+    one_reached _ _ _ _ _ _ _ _ _ _ _ c.requires.run inside refl c.loop-place.invariant c.in_ok-write_line.ensures c.if-not-branch.false
+
+pub returns-then-not-branch-clause-err : goal.returns-then-not-branch-clause-err
+returns-then-not-branch-clause-err c =
+    let inside : c.loop-place.place < length (map source_value c.args.lines.now) =
+    omega (arith, length_values c.args.lines.now, c.loop-place-test.true, c.len-place-end.ensures) in
+    refused_at _ _ _ _ _ _ _ _ _ _ _ c.requires.run inside refl c.loop-place.invariant c.in_ok-write_line.ensures c.if-not-branch.true
+
+pub returns-clause-ok : goal.returns-clause-ok
+returns-clause-ok c =
+    let past : length (map source_value c.args.lines.now) ≤ c.loop-place.place =
+    omega (arith, length_values c.args.lines.now, c.loop-place-test.false, c.len-place-end.ensures) in
+    all_reached _ _ _ _ _ _ past c.loop-place.invariant c.in_ok-add_all.ensures

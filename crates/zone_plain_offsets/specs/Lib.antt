@@ -1,0 +1,11 @@
+pub mod OffsetTexts
+pub mod Names
+pub mod Formats
+pub mod Pairs
+pub mod Made
+pub mod WrittenOut
+pub mod Shown
+pub mod Told
+pub mod OffsetTextLaws
+pub mod NameLaws
+pub mod MadeLaws

@@ -1,0 +1,93 @@
+-- What the code's answers tell.
+use Rattle.std.specs.Prelude.{◌≡◌, ℕ, suc, ℤ, List, [], ◌∷◌, ◌++◌, Bool, true, false, ◌&&◌, codes, map, unwrap_or, bytes_eq, if◌then◌else◌}
+use Rattle.std.specs.FinMap.{FinMap, get, insert}
+use Rattle.std.specs.List.{list_any}
+use Rattle.owned.specs.Keyed.{text_cmp}
+use Rattle.owned.specs.Listed.{listed}
+use Rattle.zone_source.specs.Zones.{source_value}
+use Rattle.zone_values.specs.Values.{LineValue, space, zone, continuation, rule, link}
+use Rattle.zone_plain_offsets.specs.Pairs.{Pair, Asked, nothing, total, under, is_same, with_pair, joined_by, asked}
+use Rattle.zone_plain_base.specs.Said.{is_said}
+use Rattle.zone_plain_offsets.specs.Made.{named_in, rules_for, are_rules_said, made_rule, is_rule_said, with_format, with_ruleset, filled, changed_by}
+use Rattle.zone_plain_offsets.specs.OffsetTexts.{offset_text, has_text}
+
+-- it is a rule of that name
+abbrev pub is_named : List ℕ → LineValue → Bool
+is_named name (rule r) = bytes_eq r.name name
+is_named name space = false
+is_named name (zone zone_name info) = false
+is_named name (continuation info) = false
+is_named name (link existing new) = false
+
+-- where the rules of that name stand, of lines that begin at a place
+unfoldable pub places_from : ℕ → List LineValue → List ℕ → List ℕ
+places_from at [] name = []
+places_from at (v ∷ values) name = (if is_named name v then at ∷ [] else []) ++ places_from (suc at) values name
+
+-- each name has the places of its rules
+abbrev pub IsGrouped : List LineValue → FinMap text_cmp (List ℕ) → Type 0
+IsGrouped values groups = (name : List ℕ) → get groups name ≡ listed (places_from 0 values name)
+
+-- the map with the place of a line among those of its ruleset, if it is a rule
+abbrev pub with_place : FinMap text_cmp (List ℕ) → LineValue → ℕ → FinMap text_cmp (List ℕ)
+with_place groups (rule r) place = insert groups r.name (unwrap_or (get groups r.name) [] ++ place ∷ [])
+with_place groups space place = groups
+with_place groups (zone name info) place = groups
+with_place groups (continuation info) place = groups
+with_place groups (link existing new) place = groups
+
+-- a line was added where it can be said
+pub record IsAdded (old new : List (List ℕ)) (v : LineValue) (said : Bool) : Type 0 where
+  pub told : said ≡ is_said v
+  pub added : said ≡ true → map source_value new ≡ map source_value old ++ v ∷ []
+
+-- lines were added where each can be said
+pub record AreAdded (old new : List (List ℕ)) (values : List LineValue) (are_said said : Bool) : Type 0 where
+  pub told : said ≡ are_said
+  pub added : said ≡ true → map source_value new ≡ map source_value old ++ values
+
+-- what is made of a line, if it is a rule
+abbrev pub made_lines : List ℕ → ℤ → LineValue → List LineValue
+made_lines name offset (rule r) = rule (made_rule name offset r) ∷ []
+made_lines name offset space = []
+made_lines name offset (zone zone_name info) = []
+made_lines name offset (continuation info) = []
+made_lines name offset (link existing new) = []
+
+-- it has its text and can be said
+abbrev pub is_made_said : List ℕ → ℤ → LineValue → Bool
+is_made_said name offset (rule r) = is_rule_said name offset r
+is_made_said name offset space = true
+is_made_said name offset (zone zone_name info) = true
+is_made_said name offset (continuation info) = true
+is_made_said name offset (link existing new) = true
+
+-- the ruleset that is made for a pair, the first time that a line asks for it
+abbrev pub new_rules : List LineValue → ℕ → List Pair → Pair → List LineValue
+new_rules values run pairs pair =
+    if list_any (is_same pair) pairs then [] else rules_for values (named_in run (with_pair pairs pair) pair) pair
+
+abbrev pub are_new_said : List LineValue → ℕ → List Pair → Pair → Bool
+are_new_said values run pairs pair =
+    if list_any (is_same pair) pairs then true else are_rules_said values (named_in run (with_pair pairs pair) pair) pair
+
+-- the same of what a line asks for
+abbrev pub asked_rules : List LineValue → ℕ → List Pair → Asked → List LineValue
+asked_rules values run pairs nothing = []
+asked_rules values run pairs (total parts t) = []
+asked_rules values run pairs (under parts pair) = new_rules values run pairs pair
+
+abbrev pub is_asked_said : List LineValue → ℕ → List Pair → Asked → LineValue → Bool
+is_asked_said values run pairs nothing v = true
+is_asked_said values run pairs (total parts t) v = has_text t && is_said (with_format v (filled parts (offset_text t)))
+is_asked_said values run pairs (under parts pair) v =
+    are_new_said values run pairs pair
+    && is_said (with_ruleset (with_format v (filled parts (codes "%s"))) (named_in run (with_pair pairs pair) pair))
+
+-- a line was written out, and the ruleset was made that it asks for, if none was yet
+pub record IsWrittenOut (values : List LineValue) (run : ℕ) (old_pairs new_pairs : List Pair) (old_made new_made old new : List (List ℕ)) (v : LineValue) (said : Bool)
+    : Type 0 where
+  pub told : said ≡ is_asked_said values run old_pairs (asked v) v
+  pub pairs : new_pairs ≡ joined_by (asked v) old_pairs
+  pub made : said ≡ true → map source_value new_made ≡ map source_value old_made ++ asked_rules values run old_pairs (asked v)
+  pub added : said ≡ true → map source_value new ≡ map source_value old ++ changed_by (named_in run new_pairs) (asked v) v ∷ []

@@ -1,0 +1,89 @@
+//! What `%z` asks of a line.
+ghost use Rattle.std.specs.Prelude.{◌≡◌};
+ghost use Rattle.zone_values.specs.Values.{line_value, info_value};
+ghost use Rattle.zone_plain_offsets.specs.Pairs.{asked, asked_by};
+ghost use Rattle.zone_plain_offsets.specs.Made.{with_format, with_ruleset};
+ghost use Rattle.zone_plain_offsets.specs.Shown.{asked_shown};
+
+use crate::format::{Around, around_mark};
+use crate::pairs::Pair;
+use zone_line::{Line, Saving, Zone, ZoneInfo};
+
+/// What `%z` asks of a line.
+#[derive(Clone, Copy)]
+pub(crate) enum Asked<'t> {
+    /// There is no `%z`.
+    Nothing,
+    /// The text of this total, in seconds.
+    Total(Around<'t>, i64),
+    /// What the ruleset that is made for this pair says.
+    Under(Around<'t>, Pair<'t>),
+}
+
+/// What `%z` asks of what a line says of a stretch of time.
+#[tactic(auto, unfolding(crate::specs::Pairs::asked_by))]
+fn asked_by<'t>(info: &ZoneInfo<'t>) -> Asked<'t>
+    ensures { asked_shown result ≡ asked_by (info_value info.now) }
+{
+    let Some(parts) = around_mark(info.format) else {
+        return Asked::Nothing;
+    };
+    let offset = info.utc_offset.as_seconds();
+    match info.saving {
+        Saving::NoSaving => Asked::Total(parts, offset),
+        Saving::OneOff(amount) => Asked::Total(parts, offset + amount.as_seconds()),
+        Saving::Multiple(rules) => Asked::Under(parts, Pair { offset, rules }),
+    }
+}
+
+/// What `%z` asks of a line.
+pub(crate) fn asked_of<'t>(line: &Line<'t>) -> Asked<'t>
+    ensures { asked_shown result ≡ asked (line_value line.now) }
+{
+    match line {
+        Line::Zone(zone) => asked_by(&zone.info),
+        Line::Continuation(info) => asked_by(info),
+        Line::Space | Line::Rule(_) | Line::Link(_) => Asked::Nothing,
+    }
+}
+
+/// The line with another format.
+pub(crate) fn with_format<'a>(line: &Line<'a>, format: &'a str) -> Line<'a>
+    ensures { line_value result ≡ with_format (line_value line.now) format.now }
+{
+    match *line {
+        Line::Zone(zone) => Line::Zone(Zone {
+            name: zone.name,
+            info: ZoneInfo {
+                format,
+                ..zone.info
+            },
+        }),
+        Line::Continuation(info) => Line::Continuation(ZoneInfo { format, ..info }),
+        Line::Space => Line::Space,
+        Line::Rule(rule) => Line::Rule(rule),
+        Line::Link(link) => Line::Link(link),
+    }
+}
+
+/// The line under another ruleset.
+pub(crate) fn with_ruleset<'a>(line: &Line<'a>, name: &'a str) -> Line<'a>
+    ensures { line_value result ≡ with_ruleset (line_value line.now) name.now }
+{
+    match *line {
+        Line::Zone(zone) => Line::Zone(Zone {
+            name: zone.name,
+            info: ZoneInfo {
+                saving: Saving::Multiple(name),
+                ..zone.info
+            },
+        }),
+        Line::Continuation(info) => Line::Continuation(ZoneInfo {
+            saving: Saving::Multiple(name),
+            ..info
+        }),
+        Line::Space => Line::Space,
+        Line::Rule(rule) => Line::Rule(rule),
+        Line::Link(link) => Line::Link(link),
+    }
+}

@@ -1,0 +1,56 @@
+//! Formats with `%z`.
+ghost use Rattle.std.specs.Prelude.{◌≡◌, option_map, IfOk};
+ghost use Rattle.zone_plain_lines.specs.Numbers.{cut};
+ghost use Rattle.zone_plain_offsets.specs.Formats.{after_z, around_mark};
+ghost use Rattle.zone_plain_offsets.specs.Made.{filled};
+ghost use Rattle.zone_plain_offsets.specs.Shown.{parts_shown};
+
+use std::alloc::{AllocError, Global};
+
+/// What stands before `%z` and what stands after it.
+#[derive(Clone, Copy)]
+pub(crate) struct Around<'t> {
+    /// What stands before it.
+    pub(crate) before: &'t str,
+    /// What stands after it.
+    pub(crate) after: &'t [u8],
+}
+
+/// What follows a `z`, where the text begins with one.
+fn after_z(text: &[u8]) -> Option<&[u8]>
+    ensures { option_map (λ rest. rest.now) result ≡ after_z text.now }
+{
+    match text {
+        [first, rest @ ..] if *first == b'z' => Some(rest),
+        _ => None,
+    }
+}
+
+/// What stands before the first `%`, and what stands after it.
+fn cut(text: &str) -> Option<(&str, &str)>
+    ensures { option_map (λ parts. (parts.0.now, parts.1.now)) result ≡ cut 37 text.now }
+{
+    text.split_once('%')
+}
+
+/// The parts of a format with `%z`.
+#[tactic(auto, unfolding(crate::specs::Formats::around_mark))]
+pub(crate) fn around_mark(format: &str) -> Option<Around<'_>>
+    ensures { option_map parts_shown result ≡ around_mark format.now }
+{
+    let (before, after) = cut(format)?;
+    let after = after_z(after.as_bytes())?;
+    Some(Around { before, after })
+}
+
+/// The parts of a format with a text between.
+#[tactic(auto, using(std::proofs::Common::append_assoc))]
+pub(crate) fn filled(alloc: Global, parts: &Around<'_>, text: &[u8]) -> Result<Vec<u8>, AllocError>
+    ensures { IfOk result (λ format. format.items ≡ filled (parts_shown parts.now) text.now) }
+{
+    let mut format = Vec::new(alloc);
+    format.extend_from_slice(parts.before.as_bytes())?;
+    format.extend_from_slice(text)?;
+    format.extend_from_slice(parts.after)?;
+    Ok(format)
+}

@@ -1,0 +1,13 @@
+//! `%z` written out: a text where a line has an amount, and where it has a ruleset another one that is made for it.
+#![tactic(auto)]
+
+mod asked;
+mod format;
+mod group;
+mod made;
+mod name;
+mod offset;
+mod pairs;
+mod stage;
+
+pub use stage::write_out;

@@ -1,0 +1,105 @@
+//! The names of the rulesets that are made.
+ghost use Rattle.std.specs.Prelude.{◌≡◌, ◌++◌, map, decimal, max, replicate, OnOk, IfOk};
+ghost use Rattle.zone_source.specs.Zones.{source_value};
+ghost use Rattle.zone_values.specs.Values.{line_value};
+ghost use Rattle.zone_plain_offsets.specs.Names.{leading, leading_of, deepest, front, letter, made_name};
+
+use itoa::Buffer;
+use std::alloc::{AllocError, Global};
+use zone_line::{Line, LineReader};
+use zone_plain_base::line_at;
+use zone_source::LineList;
+
+/// How many `_` a name begins with.
+fn leading(name: &[u8]) -> usize
+    ensures { result ≡ leading name.now }
+{
+    name.iter().take_while(|byte| **byte == b'_').count()
+}
+
+/// How many `_` the name of a rule's ruleset begins with; 0 of other lines.
+fn leading_of(line: &Line<'_>) -> usize
+    ensures { result ≡ leading_of (line_value line.now) }
+{
+    match line {
+        Line::Rule(rule) => leading(rule.name.as_bytes()),
+        Line::Space | Line::Zone(_) | Line::Continuation(_) | Line::Link(_) => 0,
+    }
+}
+
+/// The larger of two numbers.
+fn larger(one: usize, other: usize) -> usize
+    ensures { result ≡ max one other }
+{
+    if one < other { other } else { one }
+}
+
+/// The most `_` with which the name of a ruleset begins.
+fn deepest(
+    alloc: Global,
+    reader: &mut LineReader<'_>,
+    lines: &LineList,
+) -> Result<usize, AllocError>
+    ensures { IfOk result (λ most. most ≡ deepest (map source_value lines.now)) }
+{
+    let mut most = 0;
+    for place in 0..lines.len() {
+        let line = line_at(alloc, reader, lines, place)?;
+        most = larger(most, leading_of(&line));
+    }
+    Ok(most)
+}
+
+/// How long the shortest run of `_` is with which no name of a ruleset begins.
+pub(crate) fn front(
+    alloc: Global,
+    reader: &mut LineReader<'_>,
+    lines: &LineList,
+) -> Result<usize, AllocError>
+    ensures { IfOk result (λ run. run ≡ front (map source_value lines.now)) }
+{
+    let most = deepest(alloc, reader, lines)?;
+    match most.checked_add(1) {
+        Some(run) => Ok(run),
+        None => Err(AllocError),
+    }
+}
+
+/// The byte of a digit as a letter from a to j.
+fn letter(digit: u8) -> u8
+    ensures { result ≡ letter digit }
+{
+    b'a' + digit % 16
+}
+
+/// Writes digits as letters.
+fn put_letters(into: &mut Vec<u8>, digits: &[u8]) -> Result<(), AllocError>
+    ensures { OnOk result (into.new.items ≡ into.old.items ++ map letter digits.now) }
+{
+    for digit in digits {
+        into.push(letter(*digit))?;
+    }
+    Ok(())
+}
+
+/// Writes a run of `_`.
+fn put_run(into: &mut Vec<u8>, run: usize) -> Result<(), AllocError>
+    ensures { OnOk result (into.new.items ≡ into.old.items ++ replicate run 95) }
+{
+    for _ in 0..run {
+        into.push(b'_')?;
+    }
+    Ok(())
+}
+
+/// The name of the ruleset of that number, which counts from 0, after a run of `_`.
+#[tactic(auto, unfolding(crate::specs::Names::made_name))]
+pub(crate) fn made_name(alloc: Global, run: usize, number: usize) -> Result<Vec<u8>, AllocError>
+    ensures { IfOk result (λ name. name.items ≡ made_name run number) }
+{
+    let mut name = Vec::new(alloc);
+    put_run(&mut name, run)?;
+    let mut digits = Buffer::new();
+    put_letters(&mut name, digits.format(number).as_bytes())?;
+    Ok(name)
+}

@@ -1,0 +1,81 @@
+//! The text that stands for `%z`.
+ghost use Rattle.std.specs.Prelude.{◌≡◌, ◌∷◌, ◌++◌, ◌<◌, ◌+ℤ◌, true, OnOk, IfOk, Some, None, if◌then◌else◌};
+ghost use Rattle.zone_values.specs.Seconds.{seconds_of};
+ghost use Rattle.zone_plain_text.specs.PlainTexts.{two_digits};
+ghost use Rattle.zone_plain_offsets.specs.OffsetTexts.{seconds_text, minutes_text, offset_text, has_text};
+
+use std::alloc::{AllocError, Global};
+use zone_values::TimeSpec;
+
+/// Whether a total has a text: its hours have two digits.
+pub(crate) fn has_text(total: i64) -> bool
+    ensures { result ≡ has_text total }
+{
+    total.unsigned_abs() < 360_000
+}
+
+/// The sum of an offset and a saving, where it has a text.
+pub(crate) fn named_total(offset: i64, saving: TimeSpec) -> Option<i64>
+    ensures { result ≡ (if has_text (offset +ℤ seconds_of saving) then Some (offset +ℤ seconds_of saving) else None) }
+{
+    let total = offset.checked_add(saving.as_seconds())?;
+    if has_text(total) { Some(total) } else { None }
+}
+
+/// Writes a number in two digits.
+fn put_two(into: &mut Vec<u8>, number: u64) -> Result<(), AllocError>
+    requires { number < 100 }
+    ensures { OnOk result (into.new.items ≡ into.old.items ++ two_digits number) }
+{
+    into.extend_from_slice(&[b'0' + (number / 10) as u8, b'0' + (number % 10) as u8])?;
+    Ok(())
+}
+
+/// Writes seconds, where they aren't 0.
+fn put_seconds(into: &mut Vec<u8>, seconds: u64) -> Result<(), AllocError>
+    requires { seconds < 100 }
+    ensures { OnOk result (into.new.items ≡ into.old.items ++ seconds_text seconds) }
+{
+    if seconds == 0 {
+        return Ok(());
+    }
+    put_two(into, seconds)
+}
+
+/// Writes minutes, and seconds where they aren't 0; nothing at 0.
+#[tactic(auto, using(std::proofs::Common::append_assoc))]
+fn put_minutes(into: &mut Vec<u8>, seconds: u64) -> Result<(), AllocError>
+    requires { seconds < 3_600 }
+    ensures { OnOk result (into.new.items ≡ into.old.items ++ minutes_text seconds) }
+{
+    if seconds == 0 {
+        return Ok(());
+    }
+    put_two(into, seconds / 60)?;
+    put_seconds(into, seconds % 60)?;
+    Ok(())
+}
+
+/// Writes a sign and hours.
+#[tactic(auto, using(std::proofs::Common::append_assoc))]
+fn put_hours(into: &mut Vec<u8>, is_negative: bool, hours: u64) -> Result<(), AllocError>
+    requires { hours < 100 }
+    ensures { OnOk result (into.new.items ≡ into.old.items ++ (if is_negative then 45 else 43) ∷ two_digits hours) }
+{
+    into.extend_from_slice(if is_negative { b"-" } else { b"+" })?;
+    put_two(into, hours)?;
+    Ok(())
+}
+
+/// The text of a total in seconds: `+hh`, `+hhmm` or `+hhmmss`, the shortest that says all.
+#[tactic(auto, using(std::proofs::Common::append_assoc), unfolding(crate::specs::OffsetTexts::offset_text))]
+pub(crate) fn offset_text(alloc: Global, total: i64) -> Result<Vec<u8>, AllocError>
+    requires { has_text total ≡ true }
+    ensures { IfOk result (λ text. text.items ≡ offset_text total) }
+{
+    let size = total.unsigned_abs();
+    let mut text = Vec::new(alloc);
+    put_hours(&mut text, total < 0, size / 3_600)?;
+    put_minutes(&mut text, size % 3_600)?;
+    Ok(text)
+}

@@ -1,0 +1,255 @@
+//! The lines of a source with `%z` written out.
+ghost use Rattle.std.specs.Prelude.{◌≡◌, [], ◌∷◌, ◌++◌, ◌&&◌, Ok, map, codes, IfOk, IfErr, OnOk};
+ghost use Rattle.zone_source.specs.Zones.{source_value};
+ghost use Rattle.zone_plain_base.specs.LineFaults.{IsFaultOf, by_line};
+ghost use Rattle.zone_plain_base.specs.LinesAt.{value_at};
+ghost use Rattle.zone_plain_base.specs.Said.{is_said};
+ghost use Rattle.zone_plain_offsets.specs.Made.{with_format, with_ruleset, filled, named_in, rules_for, are_rules_said};
+ghost use Rattle.zone_plain_offsets.specs.Pairs.{with_pair};
+ghost use Rattle.zone_plain_offsets.specs.Names.{front};
+ghost use Rattle.zone_plain_offsets.specs.OffsetTexts.{offset_text, has_text};
+ghost use Rattle.zone_plain_offsets.specs.Shown.{parts_shown, pair_shown};
+ghost use Rattle.zone_plain_offsets.specs.Told.{IsGrouped, IsAdded, AreAdded, IsWrittenOut, new_rules, are_new_said};
+ghost use Rattle.zone_plain_offsets.specs.WrittenOut.{written_out};
+
+use crate::asked::{Asked, asked_of, with_format, with_ruleset};
+use crate::format::{Around, filled};
+use crate::group::{places_by_name, places_of};
+use crate::made::{add_rules, add_said, text_in};
+use crate::name::{front, made_name};
+use crate::offset::{has_text, offset_text};
+use crate::pairs::{Pair, Pairs, offset_of};
+use owned::{Items, TextMap};
+use std::alloc::{AllocError, Global};
+use zone_line::{LineParser, LineReader};
+use zone_plain_base::{PlainFault, line_at};
+use zone_plain_lines::PlainCause;
+use zone_source::LineList;
+
+/// Adds the line at a place with another format. Answers whether it can be said.
+fn add_with_format<'a>(
+    alloc: Global,
+    reader: &mut LineReader<'_>,
+    lines: &'a LineList,
+    place: usize,
+    format: &'a str,
+    out: &mut LineList,
+) -> Result<bool, AllocError>
+    ensures { IfOk result (IsAdded out.old out.new (with_format (value_at lines.now place) format.now)) }
+{
+    let line = line_at(alloc, reader, lines, place)?;
+    add_said(alloc, reader, &with_format(&line, format), out)
+}
+
+/// Adds the line at a place with another format and under another ruleset. Answers whether it can be said.
+fn add_with_ruleset<'a>(
+    alloc: Global,
+    reader: &mut LineReader<'_>,
+    lines: &'a LineList,
+    place: usize,
+    format: &'a str,
+    name: &'a str,
+    out: &mut LineList,
+) -> Result<bool, AllocError>
+    ensures { IfOk result (IsAdded out.old out.new (with_ruleset (with_format (value_at lines.now place) format.now) name.now)) }
+{
+    let line = line_at(alloc, reader, lines, place)?;
+    add_said(
+        alloc,
+        reader,
+        &with_ruleset(&with_format(&line, format), name),
+        out,
+    )
+}
+
+/// Adds the line at a place with the text of a total for `%z`. Answers whether the total has a text and the line can be said.
+fn add_with_total(
+    alloc: Global,
+    reader: &mut LineReader<'_>,
+    lines: &LineList,
+    place: usize,
+    parts: &Around<'_>,
+    total: i64,
+    out: &mut LineList,
+) -> Result<bool, AllocError>
+    ensures { IfOk result (AreAdded out.old out.new (with_format (value_at lines.now place) (filled (parts_shown parts.now) (offset_text total)) ∷ [])
+        (has_text total && is_said (with_format (value_at lines.now place) (filled (parts_shown parts.now) (offset_text total))))) }
+{
+    if !has_text(total) {
+        return Ok(false);
+    }
+    let text = offset_text(alloc, total)?;
+    let format = filled(alloc, parts, text.as_slice())?;
+    let format = text_in(format.as_slice())?;
+    let is_said = add_with_format(alloc, reader, lines, place, format, out)?;
+    Ok(is_said)
+}
+
+/// Adds the line at a place with `%s` for `%z`, under the ruleset of that name. Answers whether the line can be said.
+fn add_under(
+    alloc: Global,
+    reader: &mut LineReader<'_>,
+    lines: &LineList,
+    place: usize,
+    parts: &Around<'_>,
+    name: &[u8],
+    out: &mut LineList,
+) -> Result<bool, AllocError>
+    ensures { IfOk result (IsAdded out.old out.new (with_ruleset (with_format (value_at lines.now place) (filled (parts_shown parts.now) (codes "%s"))) name.now)) }
+{
+    let format = filled(alloc, parts, b"%s")?;
+    let format = text_in(format.as_slice())?;
+    add_with_ruleset(alloc, reader, lines, place, format, text_in(name)?, out)
+}
+
+/// Adds the rules of the ruleset that is made for a pair, under a name. Answers whether each has its text and can be said.
+fn add_ruleset(
+    alloc: Global,
+    reader: &mut LineReader<'_>,
+    lines: &LineList,
+    groups: &TextMap<Items<usize>>,
+    pair: &Pair<'_>,
+    name: &[u8],
+    made: &mut LineList,
+) -> Result<bool, AllocError>
+    requires { IsGrouped (map source_value lines.now) groups.now }
+    ensures { IfOk result (AreAdded made.old made.new (rules_for (map source_value lines.now) name.now (pair_shown pair.now))
+        (are_rules_said (map source_value lines.now) name.now (pair_shown pair.now))) }
+{
+    let text = text_in(name)?;
+    let places = places_of(groups, pair.rules);
+    let is_said = add_rules(alloc, reader, lines, places, text, offset_of(pair), made)?;
+    Ok(is_said)
+}
+
+/// Names the ruleset that is made for a pair, and adds its rules to those that are made, if no line has asked for it yet. Answers its
+/// name, and whether each of these rules has its text and can be said.
+fn name_pair<'t>(
+    alloc: Global,
+    reader: &mut LineReader<'_>,
+    lines: &LineList,
+    groups: &TextMap<Items<usize>>,
+    run: usize,
+    pair: Pair<'t>,
+    pairs: &mut Pairs<'t>,
+    made: &mut LineList,
+) -> Result<(Vec<u8>, bool), AllocError>
+    requires { IsGrouped (map source_value lines.now) groups.now }
+    ensures pairs { OnOk result (pairs.new ≡ with_pair pairs.old (pair_shown pair.entry)) }
+    ensures name { IfOk result (λ named. named.0.items ≡ named_in run (with_pair pairs.old (pair_shown pair.entry)) (pair_shown pair.entry)) }
+    ensures rules { IfOk result (λ named. AreAdded made.old made.new (new_rules (map source_value lines.now) run pairs.old (pair_shown pair.entry))
+        (are_new_said (map source_value lines.now) run pairs.old (pair_shown pair.entry)) named.1) }
+{
+    let (number, is_new) = pairs.number(pair)?;
+    let name = made_name(alloc, run, number)?;
+    if !is_new {
+        return Ok((name, true));
+    }
+    let is_said = add_ruleset(alloc, reader, lines, groups, &pair, name.as_slice(), made)?;
+    Ok((name, is_said))
+}
+
+/// Adds the line at a place as it stands.
+fn add_as_it_stands(lines: &LineList, place: usize, out: &mut LineList) -> Result<(), AllocError>
+    ensures { OnOk result (map source_value out.new ≡ map source_value out.old ++ value_at lines.now place ∷ []) }
+{
+    let bytes = match lines.get(place) {
+        Some(bytes) => bytes,
+        None => return Err(AllocError),
+    };
+    out.push(bytes)?;
+    Ok(())
+}
+
+/// Adds what becomes of the line at a place, and the ruleset that it asks for, if no line has asked for it yet. Answers whether each
+/// of these lines has its text and can be said.
+fn write_line<'t>(
+    alloc: Global,
+    reader: &mut LineReader<'_>,
+    lines: &'t LineList,
+    groups: &TextMap<Items<usize>>,
+    run: usize,
+    place: usize,
+    pairs: &mut Pairs<'t>,
+    made: &mut LineList,
+    out: &mut LineList,
+) -> Result<bool, AllocError>
+    requires { IsGrouped (map source_value lines.now) groups.now }
+    ensures { IfOk result (IsWrittenOut (map source_value lines.now) run pairs.old pairs.new made.old made.new out.old out.new (value_at lines.now place)) }
+{
+    let line = line_at(alloc, reader, lines, place)?;
+    match asked_of(&line) {
+        Asked::Nothing => {
+            add_as_it_stands(lines, place, out)?;
+            Ok(true)
+        }
+        Asked::Total(parts, total) => {
+            let is_said = add_with_total(alloc, reader, lines, place, &parts, total, out)?;
+            Ok(is_said)
+        }
+        Asked::Under(parts, pair) => {
+            let (name, are_said) = name_pair(alloc, reader, lines, groups, run, pair, pairs, made)?;
+            if !are_said {
+                return Ok(false);
+            }
+            let is_said = add_under(alloc, reader, lines, place, &parts, name.as_slice(), out)?;
+            Ok(is_said)
+        }
+    }
+}
+
+/// Adds lines to others.
+fn add_all(lines: &LineList, out: &mut LineList) -> Result<(), AllocError>
+    ensures { OnOk result (map source_value out.new ≡ map source_value out.old ++ map source_value lines.now) }
+{
+    for place in 0..lines.len() {
+        add_as_it_stands(lines, place, out)?;
+    }
+    Ok(())
+}
+
+/// The lines with `%z` written out, and behind them the rules that are made; or the first that can't be said.
+fn write_lines(
+    alloc: Global,
+    reader: &mut LineReader<'_>,
+    lines: &LineList,
+    groups: &TextMap<Items<usize>>,
+    run: usize,
+) -> Result<LineList, PlainFault>
+    requires grouped { IsGrouped (map source_value lines.now) groups.now }
+    requires run { run ≡ front (map source_value lines.now) }
+    ensures ok { IfOk result (λ out. written_out (map source_value lines.now) ≡ Ok (map source_value out)) }
+    ensures err { IfErr result (IsFaultOf (by_line (written_out (map source_value lines.now)))) }
+{
+    let mut pairs = Pairs::new(alloc);
+    let mut made = LineList::new(alloc);
+    let mut out = LineList::new(alloc);
+    for place in 0..lines.len() {
+        if !write_line(
+            alloc, reader, lines, groups, run, place, &mut pairs, &mut made, &mut out,
+        )? {
+            return Err(PlainFault::Line(place + 1, PlainCause::Unsayable));
+        }
+    }
+    add_all(&made, &mut out)?;
+    Ok(out)
+}
+
+/// The lines of a source, each as it was read and written, with `%z` written out, and behind them the rules that are made.
+///
+/// # Errors
+///
+/// `Line` tells the first line for which something can't be said: a total of 100 hours or more, or what isn't read as it is meant.
+pub fn write_out(
+    alloc: Global,
+    parser: &LineParser,
+    lines: &LineList,
+) -> Result<LineList, PlainFault>
+    ensures ok { IfOk result (λ out. written_out (map source_value lines.now) ≡ Ok (map source_value out)) }
+    ensures err { IfErr result (IsFaultOf (by_line (written_out (map source_value lines.now)))) }
+{
+    let mut reader = parser.reader(alloc)?;
+    let groups = places_by_name(alloc, &mut reader, lines)?;
+    let run = front(alloc, &mut reader, lines)?;
+    write_lines(alloc, &mut reader, lines, &groups, run)
+}
