@@ -1,0 +1,612 @@
+"""Sefunjaro for Python: the zones of the tz database, as `datetime.tzinfo` and asked both ways.
+
+    from datetime import datetime
+    from sefunjaro import Source
+
+    source = Source.from_path("zones.txt")
+    paris = source.zone("Europe/Paris")
+    datetime(2024, 7, 14, 21, 15, tzinfo=paris).isoformat()      # '2024-07-14T21:15:00+02:00'
+    paris.instants(datetime(2024, 10, 27, 2, 30))                # both instants of a local time that clocks show twice
+
+One file over ctypes. It loads libsefunjaro.so, which `bin/make_library` makes: the file that the environment variable
+SEFUNJARO_LIBRARY names, else the one beside this module, else the one that the system's loader finds.
+
+Instants are given as seconds from 1970-01-01 00:00:00 UTC and nanoseconds, offsets as seconds east of UTC. Each source and each zone
+has a lock, so threads may use one object; `Zone.share` gives a thread an object of its own, without waiting, on the same zone. As the
+library is for C, nothing here may be called in the forked child of a process that has threads.
+"""
+from __future__ import annotations
+
+import ctypes
+import datetime
+import enum
+import functools
+import operator
+import os
+import threading
+from typing import Iterator, List, NamedTuple, Optional, Tuple, Union
+
+__all__ = [
+    "BadLine", "BadJoin", "Clock", "Error", "Gap", "InForce", "Instant", "JoinCause", "LineCause", "NoSchedule", "NotOpen", "NotRead",
+    "OffsetRange", "OffsetTooLarge", "OutOfRange", "ScheduleCause", "Source", "SourceError", "Status", "UnknownZone", "Zone", "ZoneError",
+    "read_local",
+]
+
+
+class Status(enum.IntEnum):
+    """What a call of the library answers: `enum sefunjaro_status` of the header."""
+
+    DONE = 0
+    NOT_OPEN = 1
+    NO_MEMORY = 2
+    TOO_LONG = 3
+    NOT_TEXT = 4
+    BAD_LINE = 5
+    BAD_JOIN = 6
+    UNKNOWN_ZONE = 7
+    NO_SCHEDULE = 8
+    OFFSET_RANGE = 9
+    OUT_OF_RANGE = 10
+    NONE = 11
+    NOT_READ = 12
+
+
+class LineCause(enum.IntEnum):
+    """Why a line of a source can't be read."""
+
+    FAILED_YEAR_PARSE = 1
+    FAILED_MONTH_PARSE = 2
+    FAILED_WEEKDAY_PARSE = 3
+    INVALID_LINE_TYPE = 4
+    TYPE_COLUMN_CONTAINED_NON_HYPHEN = 5
+    COULD_NOT_PARSE_SAVING = 6
+    INVALID_DAY_SPEC = 7
+    INVALID_TIME_SPEC_AND_TYPE = 8
+    NON_WALL_CLOCK_IN_TIME_SPEC = 9
+
+
+class JoinCause(enum.IntEnum):
+    """Why a line of a source may not follow those before it."""
+
+    SURPRISE_CONTINUATION_LINE = 1
+    UNKNOWN_RULESET = 2
+    DUPLICATE_LINK = 3
+    DUPLICATE_ZONE = 4
+
+
+class ScheduleCause(enum.IntEnum):
+    """Why a zone has no schedule."""
+
+    UNKNOWN_RULESET = 1
+    MISSING_UNTIL = 2
+    YEAR_RANGE = 3
+    RULE_YEARS = 4
+    DAY_RANGE = 5
+    NO_STANDARD_SPAN = 6
+
+
+class Error(Exception):
+    """What the library refuses: its `status`, and the `cause` and the `line` of the source (from 1), or None where there is none."""
+
+    status = Status.DONE
+
+    def __init__(self, words: str, *, status: Optional[Status] = None, cause: Optional[enum.IntEnum] = None, line: Optional[int] = None):
+        super().__init__(words)
+        if status is not None:
+            self.status = status
+        self.cause = cause
+        self.line = line
+
+    def __str__(self) -> str:
+        return str(self.args[0])
+
+
+class NotOpen(Error):
+    """The source or the zone was closed."""
+
+    status = Status.NOT_OPEN
+
+
+class SourceError(Error):
+    """A source is refused: it is longer than 16,777,216 bytes (TOO_LONG), or a line of it is not UTF-8 (NOT_TEXT)."""
+
+
+class BadLine(SourceError):
+    """A line of a source can't be read; `cause` is a LineCause."""
+
+    status = Status.BAD_LINE
+
+
+class BadJoin(SourceError):
+    """A line of a source may not follow those before it; `cause` is a JoinCause."""
+
+    status = Status.BAD_JOIN
+
+
+class ZoneError(Error):
+    """A zone of a source can't be opened."""
+
+
+class UnknownZone(ZoneError, KeyError):
+    """The name is that of no zone, and of no link to one."""
+
+    status = Status.UNKNOWN_ZONE
+
+
+class NoSchedule(ZoneError):
+    """The zone has no schedule; `cause` is a ScheduleCause."""
+
+    status = Status.NO_SCHEDULE
+
+
+class OffsetRange(ZoneError):
+    """Some offset of the zone is 26 hours or more in size."""
+
+    status = Status.OFFSET_RANGE
+
+
+class OutOfRange(Error, ValueError):
+    """A date lies outside the years -9999 to 9999, or the parts are no date, no time or no instant."""
+
+    status = Status.OUT_OF_RANGE
+
+
+class NotRead(Error, ValueError):
+    """The text is none of those that are read."""
+
+    status = Status.NOT_READ
+
+
+class OffsetTooLarge(Error, ValueError):
+    """An offset of 24 hours or more, which the zone has and `datetime` can't hold."""
+
+
+class Clock(NamedTuple):
+    """A local date and a time of day. The year before 1 is 0."""
+
+    year: int
+    month: int
+    day: int
+    hour: int = 0
+    minute: int = 0
+    second: int = 0
+    nanosecond: int = 0
+
+    @classmethod
+    def of(cls, local: datetime.datetime) -> "Clock":
+        """The parts of a datetime, whose zone is left aside."""
+        return cls(local.year, local.month, local.day, local.hour, local.minute, local.second, local.microsecond * 1000)
+
+
+class Instant(NamedTuple):
+    """An instant at which clocks show a local time, and the offset in force then."""
+
+    second: int
+    nanosecond: int
+    offset: int
+
+    @property
+    def utc(self) -> datetime.datetime:
+        """The instant as a datetime in UTC, to the microsecond below. OverflowError outside the years 1 to 9999."""
+        return _EPOCH + datetime.timedelta(seconds=self.second, microseconds=self.nanosecond // 1000)
+
+
+class Gap(NamedTuple):
+    """A change by which clocks are set ahead over a local time: its second, and the offsets up to it and from it on."""
+
+    second: int
+    before: int
+    after: int
+
+
+class InForce(NamedTuple):
+    """What is in force in a zone: the offset, whether there is daylight saving time, and the abbreviation."""
+
+    offset: int
+    is_saving: bool
+    name: str
+
+
+class _RawHandle(ctypes.Structure):
+    _fields_ = [("at", ctypes.c_void_p), ("is_open", ctypes.c_bool)]
+
+
+class _RawFault(ctypes.Structure):
+    _fields_ = [("status", ctypes.c_uint32), ("cause", ctypes.c_uint32), ("line", ctypes.c_size_t)]
+
+
+class _RawInForce(ctypes.Structure):
+    _fields_ = [("offset", ctypes.c_int32), ("is_saving", ctypes.c_bool), ("name_length", ctypes.c_size_t)]
+
+
+class _RawClock(ctypes.Structure):
+    _fields_ = [
+        ("year", ctypes.c_int32),
+        ("month", ctypes.c_uint8),
+        ("day", ctypes.c_uint8),
+        ("hour", ctypes.c_uint8),
+        ("minute", ctypes.c_uint8),
+        ("second", ctypes.c_uint8),
+        ("nanosecond", ctypes.c_uint32),
+    ]
+
+
+class _RawReading(ctypes.Structure):
+    _fields_ = [("second", ctypes.c_int64), ("offset", ctypes.c_int32)]
+
+
+class _RawGap(ctypes.Structure):
+    _fields_ = [("second", ctypes.c_int64), ("before", ctypes.c_int32), ("after", ctypes.c_int32)]
+
+
+_TwoReadings = _RawReading * 2
+# Each abbreviation of the tz database fits; a longer one is asked for again.
+_NAME_ROOM = 16
+_Name = ctypes.c_uint8 * _NAME_ROOM
+_EPOCH = datetime.datetime(1970, 1, 1, tzinfo=datetime.timezone.utc)
+_EPOCH_DAY = _EPOCH.toordinal()
+
+
+def _load() -> ctypes.CDLL:
+    file = "libsefunjaro.so"
+    named = os.environ.get("SEFUNJARO_LIBRARY")
+    beside = os.path.join(os.path.dirname(os.path.abspath(__file__)), file)
+    try:
+        return ctypes.CDLL(named or (beside if os.path.exists(beside) else file))
+    except OSError as error:
+        raise ImportError(f"{error}; SEFUNJARO_LIBRARY names the file {file} that bin/make_library makes") from error
+
+
+def _function(name: str, *arguments, answer=ctypes.c_uint32):
+    found = getattr(_library, name)
+    found.argtypes = arguments
+    found.restype = answer
+    return found
+
+
+_library = _load()
+_at, _size, _length = ctypes.c_void_p, ctypes.c_size_t, ctypes.c_size_t
+_instant = (ctypes.c_int64, ctypes.c_uint32)
+_source_open = _function("sefunjaro_source_open", ctypes.c_char_p, _length, _at, _at)
+_name_count = _function("sefunjaro_name_count", _at, _at)
+_name = _function("sefunjaro_name", _at, _size, _at, _size, _at)
+_zone_open = _function("sefunjaro_zone_open", _at, ctypes.c_char_p, _length, _at, _at)
+_share = _function("sefunjaro_share", _at, _at)
+_close = _function("sefunjaro_close", _at, answer=None)
+_offset_at = _function("sefunjaro_offset_at", _at, *_instant, _at)
+_in_force = _function("sefunjaro_in_force", _at, *_instant, _at, _at, _size)
+_clock_at = _function("sefunjaro_clock_at", _at, *_instant, _at, _at)
+_text_at = _function("sefunjaro_text_at", _at, *_instant, _at, _size, _at)
+_readings = _function("sefunjaro_readings", _at, _at, _at, _size, _at, _at)
+_read_local = _function("sefunjaro_read_local", ctypes.c_char_p, _length, _at)
+
+
+def _raise(status: int, of: str, fault: Optional[_RawFault] = None) -> None:
+    """Raises what a status other than DONE stands for; `of` names what was asked."""
+    line = fault.line or None if fault is not None else None
+    cause = fault.cause if fault is not None else 0
+    if status == Status.NO_MEMORY:
+        raise MemoryError(of)
+    if status == Status.NOT_OPEN:
+        raise NotOpen(f"{of} is closed")
+    if status == Status.BAD_LINE:
+        raise BadLine(f"{of}, line {line}: {LineCause(cause).name}", cause=LineCause(cause), line=line)
+    if status == Status.BAD_JOIN:
+        raise BadJoin(f"{of}, line {line}: {JoinCause(cause).name}", cause=JoinCause(cause), line=line)
+    if status == Status.NO_SCHEDULE:
+        raise NoSchedule(f"{of}: no schedule, {ScheduleCause(cause).name}", cause=ScheduleCause(cause), line=line)
+    if status == Status.UNKNOWN_ZONE:
+        raise UnknownZone(f"{of} is no zone of the source")
+    if status == Status.OFFSET_RANGE:
+        raise OffsetRange(f"{of}: an offset of 26 hours or more")
+    if status == Status.OUT_OF_RANGE:
+        raise OutOfRange(f"{of}: out of range")
+    if status == Status.NOT_READ:
+        raise NotRead(f"{of}: not a text of a local time")
+    kind = SourceError if of == "source" else ZoneError
+    where = f"{of}, line {line}" if line else of
+    raise kind(f"{where}: {Status(status).name}", status=Status(status), line=line)
+
+
+def _within(value: int, low: int, high: int) -> int:
+    """An integer that the C type holds. ctypes would cut off the bits that don't fit."""
+    value = operator.index(value)
+    if not low <= value <= high:
+        raise OutOfRange(f"{value}: out of range")
+    return value
+
+
+def _second(value: int) -> int:
+    return _within(value, -(2**63), 2**63 - 1)
+
+
+def _nanosecond(value: int) -> int:
+    return _within(value, 0, 999_999_999)
+
+
+def _raw_clock(local: Union[datetime.datetime, Clock]) -> _RawClock:
+    if isinstance(local, datetime.datetime):
+        return _RawClock(local.year, local.month, local.day, local.hour, local.minute, local.second, local.microsecond * 1000)
+    year, *parts, nanosecond = local
+    return _RawClock(_within(year, -(2**31), 2**31 - 1), *(_within(part, 0, 255) for part in parts), _within(nanosecond, 0, 2**32 - 1))
+
+
+def _clock(raw: _RawClock) -> Clock:
+    return Clock(raw.year, raw.month, raw.day, raw.hour, raw.minute, raw.second, raw.nanosecond)
+
+
+@functools.lru_cache(maxsize=1024)
+def _delta(offset: int) -> datetime.timedelta:
+    if abs(offset) >= 86400:
+        raise OffsetTooLarge(f"an offset of {offset} seconds is 24 hours or more, which datetime can't hold")
+    return datetime.timedelta(seconds=offset)
+
+
+class _Handle:
+    """A handle of the library. Each call holds the lock, since ctypes lets other threads run meanwhile. The lock may be taken again
+    by its own thread, as a signal's handler does, so what a call writes is never kept here."""
+
+    __slots__ = ("raw", "at", "lock")
+
+    def __init__(self) -> None:
+        self.raw = _RawHandle()
+        self.at = ctypes.byref(self.raw)
+        self.lock = threading.RLock()
+
+    def close(self) -> None:
+        with self.lock:
+            _close(self.at)
+
+    def __del__(self, close=_close) -> None:
+        # Nobody else has the handle any more, so there is nothing to wait for.
+        if hasattr(self, "at"):
+            close(self.at)
+
+
+class _Opened:
+    """What sources and zones have in common."""
+
+    __slots__ = ()
+
+    def close(self) -> None:
+        """Gives back the memory. What is asked afterwards raises NotOpen; closing again does nothing."""
+        self._handle.close()
+
+    def __enter__(self):
+        return self
+
+    def __exit__(self, *_exception) -> None:
+        self.close()
+
+    def __copy__(self):
+        return self
+
+    def __deepcopy__(self, _memo):
+        return self
+
+    def __reduce_ex__(self, _protocol):
+        raise TypeError(f"a {type(self).__name__} can't be pickled: pickle the name of the zone, and open it from its source again")
+
+
+class Source(_Opened):
+    """A source of the tz database in its plain form.
+
+    Raises SourceError where the text has more than 16,777,216 bytes or a line is not UTF-8, BadLine and BadJoin with the first line
+    that is refused and the cause."""
+
+    __slots__ = ("_handle", "__weakref__")
+
+    def __init__(self, text: Union[bytes, bytearray, memoryview, str]) -> None:
+        self._handle = _Handle()
+        if isinstance(text, str):
+            text = text.encode()
+        elif not isinstance(text, bytes):
+            text = memoryview(text).tobytes()
+        fault = _RawFault()
+        status = _source_open(text, len(text), self._handle.at, ctypes.byref(fault))
+        if status:
+            _raise(status, "source", fault)
+
+    @classmethod
+    def from_path(cls, path: Union[str, os.PathLike]) -> "Source":
+        """The source that a file holds. OSError where it can't be read."""
+        with open(path, "rb") as file:
+            return cls(file.read())
+
+    def zone(self, name: str) -> "Zone":
+        """The zone of a name; it needs the source no more.
+
+        Raises UnknownZone, NoSchedule, OffsetRange, and NotOpen where the source was closed."""
+        return Zone(self, name)
+
+    def __len__(self) -> int:
+        """How many names find a zone: those of zones, and of the links to them."""
+        count = ctypes.c_size_t()
+        with self._handle.lock:
+            status = _name_count(self._handle.at, ctypes.byref(count))
+        if status:
+            _raise(status, "source")
+        return count.value
+
+    def __iter__(self) -> Iterator[str]:
+        """The names that find a zone, in byte order."""
+        return map(self._name_at, range(len(self)))
+
+    def __bool__(self) -> bool:
+        return True
+
+    def _name_at(self, place: int) -> str:
+        whole = ctypes.c_size_t()
+        room = 64
+        while True:
+            name = (ctypes.c_uint8 * room)()
+            with self._handle.lock:
+                status = _name(self._handle.at, place, name, room, ctypes.byref(whole))
+            if status:
+                _raise(status, "source")
+            if whole.value <= room:
+                return bytes(name[: whole.value]).decode()
+            room = whole.value
+
+    def __repr__(self) -> str:
+        return f"<sefunjaro.Source at {id(self):#x}>"
+
+
+class Zone(datetime.tzinfo, _Opened):
+    """A zone, as `datetime.tzinfo`, and with calls of its own.
+
+    As tzinfo it follows PEP 495. Of a local time that clocks show twice, `fold` 0 is the first instant and 1 the second. A local time
+    that clocks skip has the offset before the change where `fold` is 0, and that after it where it is 1. Where the offset is 24 hours
+    or more, which `datetime` can't hold, OffsetTooLarge is raised."""
+
+    __slots__ = ("_handle", "_name", "__weakref__")
+
+    def __init__(self, source: Source, name: str) -> None:
+        self._handle = _Handle()
+        self._name = name
+        told = name.encode()
+        fault = _RawFault()
+        with source._handle.lock:
+            status = _zone_open(source._handle.at, told, len(told), self._handle.at, ctypes.byref(fault))
+        if status:
+            _raise(status, "source" if status == Status.NOT_OPEN else repr(name), fault)
+
+    def share(self) -> "Zone":
+        """Another object on the same zone, with a lock of its own. The zone itself is there once, until its last object is closed."""
+        other = Zone.__new__(Zone)
+        other._handle = _Handle()
+        other._name = self._name
+        with self._handle.lock:
+            status = _share(self._handle.at, other._handle.at)
+        if status:
+            _raise(status, repr(self._name))
+        return other
+
+    @property
+    def name(self) -> str:
+        """The name by which the zone was opened."""
+        return self._name
+
+    def offset_at(self, second: int, nanosecond: int = 0) -> int:
+        """The offset in force at an instant. Raises OutOfRange outside the years -9999 to 9999."""
+        offset = ctypes.c_int32()
+        handle, second, nanosecond = self._handle, _second(second), _nanosecond(nanosecond)
+        with handle.lock:
+            status = _offset_at(handle.at, second, nanosecond, ctypes.byref(offset))
+        if status:
+            _raise(status, repr(self._name))
+        return offset.value
+
+    def in_force(self, second: int, nanosecond: int = 0) -> InForce:
+        """The offset, whether there is daylight saving time, and the abbreviation at an instant. Raises OutOfRange as `offset_at`."""
+        found, name, room = _RawInForce(), _Name(), _NAME_ROOM
+        handle, second, nanosecond = self._handle, _second(second), _nanosecond(nanosecond)
+        while True:
+            with handle.lock:
+                status = _in_force(handle.at, second, nanosecond, ctypes.byref(found), name, room)
+            if status:
+                _raise(status, repr(self._name))
+            if found.name_length <= room:
+                return InForce(found.offset, found.is_saving, bytes(name[: found.name_length]).decode())
+            room = found.name_length
+            name = (ctypes.c_uint8 * room)()
+
+    def clock_at(self, second: int, nanosecond: int = 0) -> Tuple[Clock, int]:
+        """The local date and time of an instant, and the offset in force. Raises OutOfRange where the instant or the local date lies
+        outside the years -9999 to 9999."""
+        clock, offset = _RawClock(), ctypes.c_int32()
+        handle, second, nanosecond = self._handle, _second(second), _nanosecond(nanosecond)
+        with handle.lock:
+            status = _clock_at(handle.at, second, nanosecond, ctypes.byref(clock), ctypes.byref(offset))
+        if status:
+            _raise(status, repr(self._name))
+        return _clock(clock), offset.value
+
+    def text_at(self, second: int, nanosecond: int = 0) -> str:
+        """The text of an instant, `YYYY-MM-DD hh:mm:ss.nnnnnnnnn +hh:mm:ss`. Raises OutOfRange as `clock_at`."""
+        text, whole = ctypes.create_string_buffer(40), ctypes.c_size_t()
+        handle, second, nanosecond = self._handle, _second(second), _nanosecond(nanosecond)
+        with handle.lock:
+            status = _text_at(handle.at, second, nanosecond, text, 40, ctypes.byref(whole))
+        if status:
+            _raise(status, repr(self._name))
+        return text.raw[: whole.value].decode()
+
+    def instants(self, local: Union[datetime.datetime, Clock]) -> List[Instant]:
+        """All instants at which clocks show a local time, by time. A datetime's own zone and fold are left aside. Raises OutOfRange
+        where the parts are no date or no time, or the year is outside -9999 to 9999."""
+        clock = _raw_clock(local)
+        readings, count, _ = self._read(clock)
+        nanosecond = clock.nanosecond
+        return [Instant(reading.second, nanosecond, reading.offset) for reading in readings[:count]]
+
+    def gap(self, local: Union[datetime.datetime, Clock]) -> Optional[Gap]:
+        """The change by which clocks skip a local time, or None where they show it. Raises OutOfRange as `instants`."""
+        _, count, gap = self._read(_raw_clock(local))
+        return None if count else Gap(gap.second, gap.before, gap.after)
+
+    def _read(self, clock: _RawClock):
+        """All readings of a local time, how many there are, and the gap where there are none."""
+        readings, room, count, gap = _TwoReadings(), 2, ctypes.c_size_t(), _RawGap()
+        handle = self._handle
+        while True:
+            with handle.lock:
+                status = _readings(handle.at, ctypes.byref(clock), readings, room, ctypes.byref(count), ctypes.byref(gap))
+            if status:
+                _raise(status, repr(self._name))
+            if count.value <= room:
+                return readings, count.value, gap
+            room = count.value
+            readings = (_RawReading * room)()
+
+    def _chosen(self, local: datetime.datetime) -> Tuple[int, int, int]:
+        """The offset of a local time by PEP 495, and a second and nanosecond at which it is in force."""
+        clock = _raw_clock(local)
+        readings, count, gap = self._read(clock)
+        if count:
+            reading = readings[1 if local.fold and count > 1 else 0]
+            return reading.offset, reading.second, clock.nanosecond
+        return (gap.after, gap.second, 0) if local.fold else (gap.before, gap.second - 1, 0)
+
+    def utcoffset(self, dt: Optional[datetime.datetime]) -> Optional[datetime.timedelta]:
+        """The offset of a local time. Raises OffsetTooLarge."""
+        return None if dt is None else _delta(self._chosen(dt)[0])
+
+    def tzname(self, dt: Optional[datetime.datetime]) -> Optional[str]:
+        """The abbreviation of a local time."""
+        if dt is None:
+            return None
+        _, second, nanosecond = self._chosen(dt)
+        return self.in_force(second, nanosecond).name
+
+    def dst(self, dt: Optional[datetime.datetime]) -> Optional[datetime.timedelta]:
+        """None, as where the saving is not known: the library tells whether it is above 0 (`in_force`), and not its size."""
+        return None
+
+    def fromutc(self, dt: datetime.datetime) -> datetime.datetime:
+        """The local time of a UTC time to which this zone is attached, with its fold. Raises OffsetTooLarge, and OverflowError where
+        the local date lies outside the years 1 to 9999."""
+        if not isinstance(dt, datetime.datetime):
+            raise TypeError("fromutc() requires a datetime argument")
+        if dt.tzinfo is not self:
+            raise ValueError("fromutc: dt.tzinfo is not self")
+        second = (dt.toordinal() - _EPOCH_DAY) * 86400 + dt.hour * 3600 + dt.minute * 60 + dt.second
+        local = dt + _delta(self.offset_at(second, dt.microsecond * 1000))
+        readings, _, _ = self._read(_raw_clock(local))
+        return local if readings[0].second == second else local.replace(fold=1)
+
+    def __repr__(self) -> str:
+        return f"<sefunjaro.Zone {self._name!r}>"
+
+    def __str__(self) -> str:
+        return self._name
+
+
+def read_local(text: str) -> Clock:
+    """The local time that a text `YYYY-MM-DD hh:mm:ss.nnnnnnnnn` names. Raises NotRead."""
+    told = text.encode()
+    clock = _RawClock()
+    status = _read_local(told, len(told), ctypes.byref(clock))
+    if status:
+        _raise(status, repr(text))
+    return _clock(clock)

@@ -1,0 +1,51 @@
+#!/usr/bin/env python3
+"""usage: speed.py SOURCE [ROUNDS]
+
+The processor time of a call in nanoseconds, the best of nine turns: of a function of the library that does nothing, which is
+ctypes' own cost, of an offset at an instant, and of a datetime's utcoffset and astimezone with a zone of sefunjaro.py and with
+Python's zoneinfo."""
+import ctypes
+import sys
+import time
+from datetime import datetime, timedelta, timezone
+from zoneinfo import ZoneInfo
+
+import sefunjaro
+
+NAME = "America/New_York"
+
+
+def locals_in(zone, rounds):
+    start = datetime(1970, 1, 1, tzinfo=zone)
+    return [start + timedelta(seconds=turn * 7919 * 3600 % 2030000000) for turn in range(rounds)]
+
+
+def main():
+    if not 2 <= len(sys.argv) <= 3:
+        sys.exit(__doc__)
+    rounds = int((sys.argv[2:] or ["2000"])[0])
+    mine, theirs = sefunjaro.Source.from_path(sys.argv[1]).zone(NAME), ZoneInfo(NAME)
+    nothing, closed = sefunjaro._close, ctypes.byref(sefunjaro._RawHandle())
+    seconds = [turn * 7919 * 3600 % 2030000000 for turn in range(rounds)]
+    in_utc = locals_in(timezone.utc, rounds)
+    in_mine, in_theirs = locals_in(mine, rounds), locals_in(theirs, rounds)
+    parts = {
+        "an empty loop": lambda: [None for _ in seconds],
+        "a call that does nothing": lambda: [nothing(closed) for _ in seconds],
+        "offset_at": lambda: [mine.offset_at(second) for second in seconds],
+        "utcoffset": lambda: [moment.utcoffset() for moment in in_mine],
+        "utcoffset, zoneinfo": lambda: [moment.utcoffset() for moment in in_theirs],
+        "astimezone": lambda: [moment.astimezone(mine) for moment in in_utc],
+        "astimezone, zoneinfo": lambda: [moment.astimezone(theirs) for moment in in_utc],
+    }
+    best = dict.fromkeys(parts, float("inf"))
+    for _ in range(9):
+        for name, part in parts.items():
+            start = time.process_time()
+            part()
+            best[name] = min(best[name], (time.process_time() - start) / rounds * 1e9)
+    for name, nanos in best.items():
+        print(f"{name}: {nanos:.0f}")
+
+
+main()

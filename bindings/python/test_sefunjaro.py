@@ -1,0 +1,265 @@
+"""The tests of sefunjaro.py over a small source of its own: python3 -m unittest, with SEFUNJARO_LIBRARY set."""
+import copy
+import pickle
+import resource
+import threading
+import unittest
+from datetime import datetime, time, timedelta, timezone
+
+import sefunjaro
+from sefunjaro import Clock, Gap, Instant, Source, Status
+
+SOURCE = """\
+Rule Mid 1900 only - Jan 1 0:00 0 -
+Rule Mid 1981 max - Mar lastSun 1:00u 1:00 S
+Rule Mid 1996 max - Oct lastSun 1:00u 0 -
+Zone Here/Middle 1:00 Mid CE%sT
+Zone Here/Far 25:00 - FAR
+Zone Here/Long 1:00 - AbbreviationOfTwentySix
+Zone Here/Twice 0:00 - A 2000 Jan 1 2:00
+  -1:00 - B 2000 Jan 1 1:30
+  -2:00 - C
+Link Here/Middle There/Middle
+"""
+SPRING, AUTUMN = 1711846800, 1729990800  # 2024-03-31 and 2024-10-27, 01:00 UTC
+SKIPPED, TWICE = datetime(2024, 3, 31, 2, 30), datetime(2024, 10, 27, 2, 30)
+
+
+def hours(number):
+    return timedelta(hours=number)
+
+
+class Zones(unittest.TestCase):
+    @classmethod
+    def setUpClass(cls):
+        cls.source = Source(SOURCE)
+        cls.zone = cls.source.zone("Here/Middle")
+
+    def test_names(self):
+        self.assertEqual(list(self.source), ["Here/Far", "Here/Long", "Here/Middle", "Here/Twice", "There/Middle"])
+        self.assertEqual(len(self.source), 5)
+        self.assertEqual((self.zone.name, str(self.zone)), ("Here/Middle", "Here/Middle"))
+
+    def test_sources(self):
+        for text in (SOURCE.encode(), bytearray(SOURCE.encode()), memoryview(SOURCE.encode())):
+            self.assertEqual(len(Source(text)), 5)
+        self.assertEqual(list(Source("")), [])
+        for text in (None, 5, ["Zone"]):
+            with self.assertRaises(TypeError):
+                Source(text)
+
+    def test_look_ups(self):
+        zone = self.zone
+        self.assertEqual((zone.offset_at(SPRING - 1, 999_999_999), zone.offset_at(SPRING)), (3600, 7200))
+        self.assertEqual(zone.in_force(SPRING - 1), (3600, False, "CET"))
+        self.assertEqual(zone.in_force(SPRING), (7200, True, "CEST"))
+        self.assertEqual(zone.clock_at(SPRING, 5), (Clock(2024, 3, 31, 3, 0, 0, 5), 7200))
+        self.assertEqual(zone.text_at(SPRING, 5), "2024-03-31 03:00:00.000000005 +02:00:00")
+        self.assertEqual(self.source.zone("Here/Long").in_force(0).name, "AbbreviationOfTwentySix")
+
+    def test_instants(self):
+        self.assertEqual(self.zone.instants(TWICE), [(AUTUMN - 1800, 0, 7200), (AUTUMN + 1800, 0, 3600)])
+        self.assertEqual(self.zone.instants(Clock(2024, 7, 1, 12, 0, 0, 7)), [(1719828000, 7, 7200)])
+        self.assertEqual(self.zone.instants(datetime(2024, 7, 1, 12, 0, 0, 7)), [(1719828000, 7000, 7200)])
+        self.assertEqual(self.zone.instants(Clock.of(datetime(2024, 7, 1, 12, 0, 0, 7))), [(1719828000, 7000, 7200)])
+        self.assertEqual(self.zone.instants(SKIPPED), [])
+        self.assertEqual(self.zone.gap(SKIPPED), Gap(SPRING, 3600, 7200))
+        self.assertIsNone(self.zone.gap(TWICE))
+        self.assertEqual(Instant(AUTUMN, 1999, 0).utc, datetime(2024, 10, 27, 1, 0, 0, 1, tzinfo=timezone.utc))
+        zone = self.source.zone("Here/Twice")
+        offsets = [instant.offset for instant in zone.instants(datetime(2000, 1, 1, 1, 15))]
+        self.assertEqual(offsets, sorted(offsets, reverse=True))
+        self.assertEqual(len(offsets), 3)
+
+    def test_read_local(self):
+        self.assertEqual(sefunjaro.read_local("-0044-03-15 12:30:00.000000001"), Clock(-44, 3, 15, 12, 30, 0, 1))
+        for text in ("", "2024-03-15 12:30:00", "2024-02-30 12:30:00.000000000", "x"):
+            with self.assertRaises(sefunjaro.NotRead):
+                sefunjaro.read_local(text)
+
+    def test_fold_and_gap(self):
+        # local time, fold, offset in hours, name
+        rows = [
+            (datetime(2024, 3, 31, 1, 59, 59, 999999), 1, 1, "CET"),
+            (datetime(2024, 3, 31, 2), 0, 1, "CET"),
+            (datetime(2024, 3, 31, 2), 1, 2, "CEST"),
+            (SKIPPED, 0, 1, "CET"),
+            (SKIPPED, 1, 2, "CEST"),
+            (datetime(2024, 3, 31, 3), 0, 2, "CEST"),
+            (datetime(2024, 10, 27, 1, 59, 59, 999999), 1, 2, "CEST"),
+            (TWICE, 0, 2, "CEST"),
+            (TWICE, 1, 1, "CET"),
+            (datetime(2024, 10, 27, 3), 0, 1, "CET"),
+        ]
+        for local, fold, offset, name in rows:
+            moment = local.replace(tzinfo=self.zone, fold=fold)
+            self.assertEqual((moment.utcoffset(), moment.tzname(), moment.dst()), (hours(offset), name, None), moment)
+
+    def test_datetime(self):
+        first, second = (TWICE.replace(tzinfo=self.zone, fold=fold) for fold in (0, 1))
+        self.assertEqual(first.isoformat(), "2024-10-27T02:30:00+02:00")
+        self.assertEqual(second.isoformat(), "2024-10-27T02:30:00+01:00")
+        self.assertEqual(second.timestamp() - first.timestamp(), 3600)
+        for second_of_day, fold in ((AUTUMN - 3601, 0), (AUTUMN - 1, 0), (AUTUMN, 1), (AUTUMN + 3599, 1), (AUTUMN + 3600, 0)):
+            self.assertEqual(datetime.fromtimestamp(second_of_day, self.zone).fold, fold)
+            self.assertEqual(datetime.fromtimestamp(second_of_day, self.zone).timestamp(), second_of_day)
+        self.assertEqual(f"{first:%Z %z}", "CEST +0200")
+        self.assertEqual(first + timedelta(days=1), datetime(2024, 10, 28, 2, 30, tzinfo=self.zone))
+        self.assertEqual(datetime(2024, 7, 1, 12, tzinfo=timezone.utc).astimezone(self.zone).hour, 14)
+        self.assertIsNone(time(12, tzinfo=self.zone).utcoffset())
+        self.assertEqual(datetime.max.replace(tzinfo=self.zone).utcoffset(), hours(2 - 1))
+        with self.assertRaises(OverflowError):
+            datetime.max.replace(tzinfo=timezone.utc).astimezone(self.zone)
+        with self.assertRaises(TypeError):
+            self.zone.fromutc("noon")
+        with self.assertRaises(ValueError):
+            self.zone.fromutc(datetime(2024, 1, 1, tzinfo=timezone.utc))
+
+    def test_day_or_more(self):
+        far = self.source.zone("Here/Far")
+        self.assertEqual(far.text_at(0), "1970-01-02 01:00:00.000000000 +25:00:00")
+        for ask in (far.utcoffset, lambda moment: moment.replace(tzinfo=timezone.utc).astimezone(far)):
+            with self.assertRaises(sefunjaro.OffsetTooLarge):
+                ask(datetime(2024, 1, 1))
+        self.assertEqual(far.tzname(datetime(2024, 1, 1)), "FAR")
+
+    def test_numbers(self):
+        # None of these may be cut to a number that the library takes.
+        for second, nanosecond in ((2**63, 0), (-(2**63) - 1, 0), (2**64, 0), (0, -1), (0, 10**9), (0, 2**32), (10**12, 0)):
+            for ask in (self.zone.offset_at, self.zone.in_force, self.zone.clock_at, self.zone.text_at):
+                with self.assertRaises(sefunjaro.OutOfRange):
+                    ask(second, nanosecond)
+        day = Clock(2024, 1, 1)
+        wrong = [{"year": 10000}, {"year": 2024 + 2**32}, {"month": 257}, {"month": 13}, {"day": 257}, {"hour": 256}, {"minute": -1},
+                 {"second": 60}, {"nanosecond": 2**32}, {"nanosecond": 10**9}, {"month": 2, "day": 30}]
+        for parts in wrong:
+            with self.assertRaises(sefunjaro.OutOfRange):
+                self.zone.instants(day._replace(**parts))
+        with self.assertRaises(TypeError):
+            self.zone.offset_at(0.5)
+
+    def test_copies(self):
+        moment = TWICE.replace(tzinfo=self.zone)
+        self.assertIs(copy.copy(self.zone), self.zone)
+        self.assertIs(copy.deepcopy(moment).tzinfo, self.zone)
+        for value in (self.zone, moment, self.source):
+            with self.assertRaisesRegex(TypeError, "pickle"):
+                pickle.dumps(value)
+
+
+class Faults(unittest.TestCase):
+    def test_sources(self):
+        # text, exception, status, cause, line
+        rows = [
+            ("\nRule R 2000 max - Nof Sun>=1 2:00 0 S\n", sefunjaro.BadLine, 5, sefunjaro.LineCause.FAILED_MONTH_PARSE, 2),
+            ("Zone A 1:00 - X\nnothing\n", sefunjaro.BadLine, 5, sefunjaro.LineCause.INVALID_LINE_TYPE, 2),
+            ("Zone A 1:00 - X\nZone A 1:00 - X\n", sefunjaro.BadJoin, 6, sefunjaro.JoinCause.DUPLICATE_ZONE, 2),
+            ("Zone A 1:00 None X\n", sefunjaro.BadJoin, 6, sefunjaro.JoinCause.UNKNOWN_RULESET, 1),
+            (b"\n\n\xff\n", sefunjaro.SourceError, 4, None, 3),
+            (b"#" * (2**24 + 1), sefunjaro.SourceError, 3, None, None),
+        ]
+        for text, kind, status, cause, line in rows:
+            with self.assertRaises(kind) as raised:
+                Source(text)
+            error = raised.exception
+            self.assertEqual((type(error), error.status, error.line), (kind, status, line))
+            self.assertIs(error.cause, cause)
+
+    def test_zones(self):
+        source = Source("Rule R min 1990 - Jan 1 0:00 0 -\nZone Rules 0:00 R A\nZone Open 0:00 - A\n 1:00 - B\nZone Wide 26:00 - X\n")
+        for name, kind, status, cause in (
+            ("None", sefunjaro.UnknownZone, Status.UNKNOWN_ZONE, None),
+            ("", sefunjaro.UnknownZone, Status.UNKNOWN_ZONE, None),
+            ("Open", sefunjaro.NoSchedule, Status.NO_SCHEDULE, sefunjaro.ScheduleCause.MISSING_UNTIL),
+            ("Rules", sefunjaro.NoSchedule, Status.NO_SCHEDULE, sefunjaro.ScheduleCause.RULE_YEARS),
+            ("Wide", sefunjaro.OffsetRange, Status.OFFSET_RANGE, None),
+        ):
+            with self.assertRaises(kind) as raised:
+                source.zone(name)
+            self.assertEqual(raised.exception.status, status)
+            self.assertIs(raised.exception.cause, cause)
+        with self.assertRaises(KeyError):
+            source.zone("None")
+
+
+class Lifetimes(unittest.TestCase):
+    def test_closed(self):
+        source = Source(SOURCE)
+        zone = source.zone("Here/Middle")
+        other = zone.share()
+        source.close()
+        source.close()
+        for ask in (lambda: source.zone("Here/Middle"), lambda: len(source), lambda: list(source)):
+            with self.assertRaises(sefunjaro.NotOpen):
+                ask()
+        moment = TWICE.replace(tzinfo=zone)
+        with zone:
+            self.assertEqual(moment.utcoffset(), hours(2))
+        for ask in (moment.utcoffset, moment.tzname, zone.share, lambda: zone.offset_at(0), lambda: zone.in_force(0),
+                    lambda: zone.clock_at(0), lambda: zone.text_at(0), lambda: zone.instants(TWICE), lambda: zone.gap(TWICE)):
+            with self.assertRaises(sefunjaro.NotOpen):
+                ask()
+        self.assertEqual(other.offset_at(SPRING), 7200)
+
+    def test_threads(self):
+        zone, wrong = Source(SOURCE).zone("Here/Middle"), []
+        zones = [zone] * 4 + [zone.share() for _ in range(4)]
+
+        def ask(zone):
+            for second in range(SPRING - 500, SPRING + 500):
+                if zone.offset_at(second) != (3600 if second < SPRING else 7200):
+                    wrong.append(second)
+
+        threads = [threading.Thread(target=ask, args=(zone,)) for zone in zones]
+        for thread in threads:
+            thread.start()
+        for thread in threads:
+            thread.join()
+        self.assertEqual(wrong, [])
+
+    def test_closed_while_asked(self):
+        zone = Source(SOURCE).zone("Here/Middle")
+        ends = []
+
+        def ask():
+            try:
+                while True:
+                    zone.offset_at(SPRING)
+            except sefunjaro.NotOpen:
+                ends.append(True)
+
+        threads = [threading.Thread(target=ask) for _ in range(4)]
+        for thread in threads:
+            thread.start()
+        zone.close()
+        for thread in threads:
+            thread.join()
+        self.assertEqual(ends, [True] * 4)
+
+    def test_memory(self):
+        # A million zones, most of one line, closed or only dropped; with sources, shared zones and some that are refused.
+        source = Source(SOURCE)
+
+        def rounds(number):
+            for turn in range(number):
+                if turn % 100 == 0:
+                    source.zone("Here/Middle").share().close()
+                    Source("Zone A 1:00 - X\n").zone("A")
+                    for refused in (lambda: Source("Zone A 1:00 None X\n"), lambda: source.zone("None")):
+                        with self.assertRaises(sefunjaro.Error):
+                            refused()
+                zone = source.zone("Here/Long")
+                if turn % 2 == 0:
+                    zone.close()
+
+        def held():
+            return resource.getrusage(resource.RUSAGE_SELF).ru_maxrss
+
+        rounds(20_000)
+        before = held()
+        rounds(980_000)
+        self.assertLess(held() - before, 2048)
+
+
+if __name__ == "__main__":
+    unittest.main()

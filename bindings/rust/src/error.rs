@@ -1,0 +1,153 @@
+//! What the library refuses.
+
+use crate::raw::{
+    RawFault, BAD_JOIN, BAD_LINE, NONE, NOT_OPEN, NOT_READ, NOT_TEXT, NO_MEMORY, NO_SCHEDULE, OFFSET_RANGE, OUT_OF_RANGE, TOO_LONG,
+    UNKNOWN_ZONE,
+};
+use std::fmt;
+
+/// Why a call was refused. A `line` is that of the source, from 1.
+#[derive(Clone, Copy, Debug, PartialEq, Eq)]
+#[non_exhaustive]
+pub enum Error {
+    /// There is no memory.
+    NoMemory,
+    /// The source is longer than 16,777,216 bytes.
+    TooLong,
+    /// A line of the source is not UTF-8.
+    NotText { line: usize },
+    /// A line of the source can't be read.
+    BadLine { line: usize, cause: LineCause },
+    /// A line of the source may not follow those before it.
+    BadJoin { line: usize, cause: JoinCause },
+    /// The name is that of no zone, and of no link to one.
+    UnknownZone,
+    /// The zone has no schedule.
+    NoSchedule { cause: ScheduleCause },
+    /// Some offset of the zone is 26 hours or more in size.
+    OffsetRange,
+    /// A date lies outside the years -9999 to 9999, or the parts are no date, no time or no instant.
+    OutOfRange,
+    /// The text is none of those that are read.
+    NotRead,
+    /// The library answered a status, or told a cause, that this crate doesn't know: the archive is of another version.
+    Unexpected { status: u32, cause: u32 },
+}
+
+/// Why a line of a source can't be read.
+#[derive(Clone, Copy, Debug, PartialEq, Eq)]
+#[non_exhaustive]
+pub enum LineCause {
+    FailedYearParse,
+    FailedMonthParse,
+    FailedWeekdayParse,
+    InvalidLineType,
+    TypeColumnContainedNonHyphen,
+    CouldNotParseSaving,
+    InvalidDaySpec,
+    InvalidTimeSpecAndType,
+    NonWallClockInTimeSpec,
+}
+
+/// Why a line of a source may not follow those before it.
+#[derive(Clone, Copy, Debug, PartialEq, Eq)]
+#[non_exhaustive]
+pub enum JoinCause {
+    SurpriseContinuationLine,
+    UnknownRuleset,
+    DuplicateLink,
+    DuplicateZone,
+}
+
+/// Why a zone has no schedule.
+#[derive(Clone, Copy, Debug, PartialEq, Eq)]
+#[non_exhaustive]
+pub enum ScheduleCause {
+    UnknownRuleset,
+    MissingUntil,
+    YearRange,
+    RuleYears,
+    DayRange,
+    NoStandardSpan,
+}
+
+const LINE_CAUSES: [LineCause; 9] = [
+    LineCause::FailedYearParse,
+    LineCause::FailedMonthParse,
+    LineCause::FailedWeekdayParse,
+    LineCause::InvalidLineType,
+    LineCause::TypeColumnContainedNonHyphen,
+    LineCause::CouldNotParseSaving,
+    LineCause::InvalidDaySpec,
+    LineCause::InvalidTimeSpecAndType,
+    LineCause::NonWallClockInTimeSpec,
+];
+
+const JOIN_CAUSES: [JoinCause; 4] = [
+    JoinCause::SurpriseContinuationLine,
+    JoinCause::UnknownRuleset,
+    JoinCause::DuplicateLink,
+    JoinCause::DuplicateZone,
+];
+
+const SCHEDULE_CAUSES: [ScheduleCause; 6] = [
+    ScheduleCause::UnknownRuleset,
+    ScheduleCause::MissingUntil,
+    ScheduleCause::YearRange,
+    ScheduleCause::RuleYears,
+    ScheduleCause::DayRange,
+    ScheduleCause::NoStandardSpan,
+];
+
+/// The cause of a number, which counts from 1.
+fn numbered<Cause: Copy>(causes: &[Cause], number: u32) -> Option<Cause> {
+    causes.get((number as usize).checked_sub(1)?).copied()
+}
+
+impl Error {
+    /// What a status other than DONE stands for, where the call tells no fault.
+    pub(crate) fn of_status(status: u32) -> Error {
+        Error::of_fault(status, &RawFault::default())
+    }
+
+    /// What a status other than DONE and the fault of its call stand for.
+    pub(crate) fn of_fault(status: u32, fault: &RawFault) -> Error {
+        let line = fault.line;
+        let told = match status {
+            NO_MEMORY => Some(Error::NoMemory),
+            TOO_LONG => Some(Error::TooLong),
+            NOT_TEXT => Some(Error::NotText { line }),
+            BAD_LINE => numbered(&LINE_CAUSES, fault.cause).map(|cause| Error::BadLine { line, cause }),
+            BAD_JOIN => numbered(&JOIN_CAUSES, fault.cause).map(|cause| Error::BadJoin { line, cause }),
+            UNKNOWN_ZONE => Some(Error::UnknownZone),
+            NO_SCHEDULE => numbered(&SCHEDULE_CAUSES, fault.cause).map(|cause| Error::NoSchedule { cause }),
+            OFFSET_RANGE => Some(Error::OffsetRange),
+            OUT_OF_RANGE => Some(Error::OutOfRange),
+            NOT_READ => Some(Error::NotRead),
+            // A value of this crate is always open and a name is asked for below the count, so these two are never met.
+            NOT_OPEN | NONE => None,
+            _ => None,
+        };
+        told.unwrap_or(Error::Unexpected { status, cause: fault.cause })
+    }
+}
+
+impl fmt::Display for Error {
+    fn fmt(&self, out: &mut fmt::Formatter<'_>) -> fmt::Result {
+        match self {
+            Error::NoMemory => write!(out, "no memory"),
+            Error::TooLong => write!(out, "the source is longer than 16,777,216 bytes"),
+            Error::NotText { line } => write!(out, "line {line}: not UTF-8"),
+            Error::BadLine { line, cause } => write!(out, "line {line}: {cause:?}"),
+            Error::BadJoin { line, cause } => write!(out, "line {line}: {cause:?}"),
+            Error::UnknownZone => write!(out, "unknown zone"),
+            Error::NoSchedule { cause } => write!(out, "no schedule: {cause:?}"),
+            Error::OffsetRange => write!(out, "an offset of 26 hours or more"),
+            Error::OutOfRange => write!(out, "out of range"),
+            Error::NotRead => write!(out, "not a text of a local time"),
+            Error::Unexpected { status, cause } => write!(out, "the library answered status {status} with cause {cause}"),
+        }
+    }
+}
+
+impl std::error::Error for Error {}

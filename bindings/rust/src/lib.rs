@@ -1,0 +1,118 @@
+//! The zones of the tz database, asked at instants and at local times, by the proved engine of `libsefunjaro.a`.
+//!
+//! The environment variable `SEFUNJARO_FOLDER` names the folder that `bin/make_library` made.
+//!
+//! ```
+//! use sefunjaro::{Clock, Source};
+//!
+//! let text = "Rule EU 1981 max - Mar lastSun 1:00u 1:00 S
+//! Rule EU 1996 max - Oct lastSun 1:00u 0 -
+//! Zone Europe/Paris 1:00 EU CE%sT
+//! ";
+//! let paris = Source::open(text.as_bytes())?.zone("Europe/Paris")?;
+//! assert_eq!(paris.offset_at(1711846800, 0)?, 7200);
+//!
+//! let twice = Clock { year: 2024, month: 10, day: 27, hour: 2, minute: 30, second: 0, nanosecond: 0 };
+//! let offsets: Vec<i32> = paris.instants(&twice)?.map(|instant| instant.offset).collect();
+//! assert_eq!(offsets, [7200, 3600]);
+//! # Ok::<(), sefunjaro::Error>(())
+//! ```
+//!
+//! Instants are seconds from 1970-01-01 00:00:00 UTC and nanoseconds, from 0 to 999,999,999; offsets are seconds east of UTC, at most
+//! 93,599 to either side. A value is used by one thread at a time and may go to another (it is [`Send`], not [`Sync`]);
+//! [`Zone::share`] gives a thread a value of its own on the same zone. Look-ups take no memory, but for a local time with more than
+//! two instants, which no zone of the tz database has.
+
+mod error;
+mod raw;
+mod source;
+mod zone;
+
+pub use error::{Error, JoinCause, LineCause, ScheduleCause};
+pub use source::{Names, Source};
+pub use zone::{InForce, Instant, Instants, LocalTime, Zone};
+
+use raw::{RawHandle, DONE};
+use std::cell::UnsafeCell;
+use std::str::FromStr;
+
+/// A local date and a time of day. Any numbers may stand in it; a call answers [`Error::OutOfRange`] where they are no date or no time.
+#[repr(C)]
+#[derive(Clone, Copy, Debug, Default, PartialEq, Eq, PartialOrd, Ord, Hash)]
+pub struct Clock {
+    /// The year; the year before 1 is 0.
+    pub year: i32,
+    pub month: u8,
+    pub day: u8,
+    pub hour: u8,
+    pub minute: u8,
+    pub second: u8,
+    pub nanosecond: u32,
+}
+
+/// The local time that a text `YYYY-MM-DD hh:mm:ss.nnnnnnnnn` names, with a `-` before a year below 0.
+///
+/// # Errors
+///
+/// [`Error::NotRead`] for any other text.
+///
+/// ```
+/// let local: sefunjaro::Clock = "2024-03-31 02:30:00.000000000".parse()?;
+/// assert_eq!((local.year, local.hour), (2024, 2));
+/// assert_eq!("2024-03-31".parse::<sefunjaro::Clock>(), Err(sefunjaro::Error::NotRead));
+/// # Ok::<(), sefunjaro::Error>(())
+/// ```
+impl FromStr for Clock {
+    type Err = Error;
+
+    fn from_str(text: &str) -> Result<Clock, Error> {
+        let mut clock = Clock::default();
+        // SAFETY: the text is never null, and nothing overlaps.
+        let status = unsafe { raw::sefunjaro_read_local(text.as_ptr(), text.len(), &mut clock) };
+        done(status).map(|()| clock)
+    }
+}
+
+/// A change by which clocks are set ahead over a local time.
+#[repr(C)]
+#[derive(Clone, Copy, Debug, Default, PartialEq, Eq, Hash)]
+pub struct Gap {
+    /// The second of the change.
+    pub second: i64,
+    /// The offset in force up to it.
+    pub before: i32,
+    /// The offset in force from it on.
+    pub after: i32,
+}
+
+fn done(status: u32) -> Result<(), Error> {
+    if status == DONE {
+        Ok(())
+    } else {
+        Err(Error::of_status(status))
+    }
+}
+
+/// A handle of the library. The calls write to it, also those that only look something up, one at a time; the cell keeps other
+/// threads out.
+struct Handle(UnsafeCell<RawHandle>);
+
+// SAFETY: a handle may go to another thread where the calls are ordered, and moving a value between threads orders them.
+unsafe impl Send for Handle {}
+
+impl Handle {
+    fn closed() -> Handle {
+        Handle(UnsafeCell::new(RawHandle::CLOSED))
+    }
+
+    fn at(&self) -> *mut RawHandle {
+        self.0.get()
+    }
+}
+
+impl Drop for Handle {
+    fn drop(&mut self) {
+        // SAFETY: nobody else has the handle.
+        unsafe { raw::sefunjaro_close(self.at()) }
+    }
+}

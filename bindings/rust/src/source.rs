@@ -1,0 +1,130 @@
+//! A source of the tz database.
+
+use crate::raw::{self, RawFault, DONE};
+use crate::{done, Error, Handle, Zone};
+use std::fmt;
+
+/// A source of the tz database, in its plain form.
+pub struct Source {
+    handle: Handle,
+}
+
+impl Source {
+    /// Opens a source from its text, which is used no more afterwards.
+    ///
+    /// # Errors
+    ///
+    /// [`Error::TooLong`]; [`Error::NotText`], [`Error::BadLine`] and [`Error::BadJoin`] of the first line that is refused;
+    /// [`Error::NoMemory`].
+    ///
+    /// ```
+    /// use sefunjaro::{Error, LineCause, Source};
+    ///
+    /// let refused = Source::open(b"Zone A 1:00 - A\nRule R 2000 max - Nof Sun>=1 2:00 0 S\n").err();
+    /// assert_eq!(refused, Some(Error::BadLine { line: 2, cause: LineCause::FailedMonthParse }));
+    /// ```
+    pub fn open(text: &[u8]) -> Result<Source, Error> {
+        let handle = Handle::closed();
+        let mut fault = RawFault::default();
+        // SAFETY: the text is never null, nobody writes it during the call, and nothing overlaps.
+        let status = unsafe { raw::sefunjaro_source_open(text.as_ptr(), text.len(), handle.at(), &mut fault) };
+        if status == DONE {
+            Ok(Source { handle })
+        } else {
+            Err(Error::of_fault(status, &fault))
+        }
+    }
+
+    /// Opens the zone of a name. The zone needs its source no more.
+    ///
+    /// # Errors
+    ///
+    /// [`Error::UnknownZone`], [`Error::NoSchedule`], [`Error::OffsetRange`], [`Error::NoMemory`].
+    ///
+    /// ```
+    /// use sefunjaro::{Error, Source};
+    ///
+    /// let source = Source::open(b"Zone A 1:00 - A\nLink A B\n")?;
+    /// assert_eq!(source.zone("B")?.offset_at(0, 0), Ok(3600));
+    /// assert_eq!(source.zone("C").err(), Some(Error::UnknownZone));
+    /// # Ok::<(), sefunjaro::Error>(())
+    /// ```
+    pub fn zone(&self, name: &str) -> Result<Zone, Error> {
+        let handle = Handle::closed();
+        let mut fault = RawFault::default();
+        // SAFETY: the name is never null, and the two handles are not one.
+        let status =
+            unsafe { raw::sefunjaro_zone_open(self.handle.at(), name.as_ptr(), name.len(), handle.at(), &mut fault) };
+        if status == DONE {
+            Ok(Zone::of(handle))
+        } else {
+            Err(Error::of_fault(status, &fault))
+        }
+    }
+
+    /// The names that find a zone, in byte order: those of zones, and of the links to them.
+    ///
+    /// # Errors
+    ///
+    /// None that a caller can bring about.
+    ///
+    /// ```
+    /// use sefunjaro::Source;
+    ///
+    /// let source = Source::open(b"Zone B 1:00 - B\nLink B A\n")?;
+    /// assert_eq!(source.names()?.collect::<Vec<_>>(), ["A", "B"]);
+    /// # Ok::<(), sefunjaro::Error>(())
+    /// ```
+    pub fn names(&self) -> Result<Names<'_>, Error> {
+        let mut count = 0;
+        // SAFETY: the handle is used by no other call.
+        done(unsafe { raw::sefunjaro_name_count(self.handle.at(), &mut count) })?;
+        Ok(Names { source: self, places: 0..count })
+    }
+
+    /// The name at a place below the count.
+    fn name(&self, place: usize) -> Option<String> {
+        let mut name = vec![0; 64];
+        loop {
+            let mut whole = 0;
+            // SAFETY: the room is as long as is said, and never null.
+            let status =
+                unsafe { raw::sefunjaro_name(self.handle.at(), place, name.as_mut_ptr(), name.len(), &mut whole) };
+            if status != DONE {
+                return None;
+            }
+            let is_whole = whole <= name.len();
+            name.resize(whole, 0);
+            if is_whole {
+                return String::from_utf8(name).ok();
+            }
+        }
+    }
+}
+
+impl fmt::Debug for Source {
+    fn fmt(&self, out: &mut fmt::Formatter<'_>) -> fmt::Result {
+        out.debug_struct("Source").finish_non_exhaustive()
+    }
+}
+
+/// The names of a source, in byte order.
+#[derive(Debug, Clone)]
+pub struct Names<'a> {
+    source: &'a Source,
+    places: std::ops::Range<usize>,
+}
+
+impl Iterator for Names<'_> {
+    type Item = String;
+
+    fn next(&mut self) -> Option<String> {
+        self.source.name(self.places.next()?)
+    }
+
+    fn size_hint(&self) -> (usize, Option<usize>) {
+        self.places.size_hint()
+    }
+}
+
+impl ExactSizeIterator for Names<'_> {}

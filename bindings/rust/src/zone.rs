@@ -1,0 +1,240 @@
+//! A zone.
+
+use crate::raw::{self, RawInForce, RawReading};
+use crate::{done, Clock, Error, Gap, Handle};
+use std::fmt;
+use std::iter::FusedIterator;
+
+/// A zone of the tz database.
+///
+/// It may go to another thread, and isn't shared between them:
+///
+/// ```
+/// use sefunjaro::Source;
+/// use std::thread;
+///
+/// let zone = Source::open(b"Zone A 1:00 - A\n")?.zone("A")?;
+/// let other = zone.share()?;
+/// assert_eq!(thread::spawn(move || other.offset_at(0, 0)).join().unwrap(), zone.offset_at(0, 0));
+/// # Ok::<(), sefunjaro::Error>(())
+/// ```
+///
+/// ```compile_fail,E0277
+/// fn is_shared<T: Sync>() {}
+/// is_shared::<sefunjaro::Zone>();
+/// ```
+pub struct Zone {
+    handle: Handle,
+}
+
+/// What is in force in a zone.
+#[derive(Clone, Debug, PartialEq, Eq, Hash)]
+pub struct InForce {
+    pub offset: i32,
+    /// Whether there is daylight saving time: a saving above 0.
+    pub is_saving: bool,
+    /// The abbreviation.
+    pub name: String,
+}
+
+/// An instant at which clocks show a local time, and the offset in force then.
+#[derive(Clone, Copy, Debug, PartialEq, Eq, Hash)]
+pub struct Instant {
+    pub second: i64,
+    pub nanosecond: u32,
+    pub offset: i32,
+}
+
+/// What a zone makes of a local time: its instants, or the change that skips it.
+#[derive(Clone, Debug)]
+pub enum LocalTime {
+    Shown(Instants),
+    Skipped(Gap),
+}
+
+impl Zone {
+    pub(crate) fn of(handle: Handle) -> Zone {
+        Zone { handle }
+    }
+
+    /// Another value on the same zone, for another thread. The zone itself is there once.
+    ///
+    /// # Errors
+    ///
+    /// [`Error::NoMemory`].
+    pub fn share(&self) -> Result<Zone, Error> {
+        let handle = Handle::closed();
+        // SAFETY: the two handles are not one.
+        done(unsafe { raw::sefunjaro_share(self.handle.at(), handle.at()) })?;
+        Ok(Zone { handle })
+    }
+
+    /// The offset in force at an instant.
+    ///
+    /// # Errors
+    ///
+    /// [`Error::OutOfRange`] where the UTC date lies outside the years -9999 to 9999, or the nanosecond is a second or more.
+    #[inline]
+    pub fn offset_at(&self, second: i64, nanosecond: u32) -> Result<i32, Error> {
+        let mut offset = 0;
+        // SAFETY: the handle is used by no other call.
+        done(unsafe { raw::sefunjaro_offset_at(self.handle.at(), second, nanosecond, &mut offset) })?;
+        Ok(offset)
+    }
+
+    /// The offset, whether there is daylight saving time, and the abbreviation at an instant.
+    ///
+    /// # Errors
+    ///
+    /// As [`Zone::offset_at`].
+    ///
+    /// ```
+    /// let zone = sefunjaro::Source::open(b"Zone A -5:00 - EST\n")?.zone("A")?;
+    /// let found = zone.in_force(0, 0)?;
+    /// assert_eq!((found.offset, found.is_saving, found.name.as_str()), (-18000, false, "EST"));
+    /// # Ok::<(), sefunjaro::Error>(())
+    /// ```
+    pub fn in_force(&self, second: i64, nanosecond: u32) -> Result<InForce, Error> {
+        let mut name = vec![0; 16];
+        loop {
+            let mut found = RawInForce::default();
+            // SAFETY: the room is as long as is said, and never null.
+            done(unsafe {
+                raw::sefunjaro_in_force(self.handle.at(), second, nanosecond, &mut found, name.as_mut_ptr(), name.len())
+            })?;
+            let is_whole = found.name_length <= name.len();
+            name.resize(found.name_length, 0);
+            if is_whole {
+                let name = String::from_utf8(name).map_err(|_| Error::Unexpected { status: 0, cause: 0 })?;
+                return Ok(InForce { offset: found.offset, is_saving: found.is_saving, name });
+            }
+        }
+    }
+
+    /// The local date and time of an instant, and the offset in force.
+    ///
+    /// # Errors
+    ///
+    /// [`Error::OutOfRange`] as [`Zone::offset_at`], and where the local date lies outside the years -9999 to 9999.
+    #[inline]
+    pub fn clock_at(&self, second: i64, nanosecond: u32) -> Result<(Clock, i32), Error> {
+        let (mut clock, mut offset) = (Clock::default(), 0);
+        // SAFETY: the handle is used by no other call.
+        done(unsafe { raw::sefunjaro_clock_at(self.handle.at(), second, nanosecond, &mut clock, &mut offset) })?;
+        Ok((clock, offset))
+    }
+
+    /// The text of an instant, `YYYY-MM-DD hh:mm:ss.nnnnnnnnn +hh:mm:ss` with a `-` before a year below 0.
+    ///
+    /// # Errors
+    ///
+    /// As [`Zone::clock_at`].
+    ///
+    /// ```
+    /// let zone = sefunjaro::Source::open(b"Zone A 1:00 - A\n")?.zone("A")?;
+    /// assert_eq!(zone.text_at(0, 5)?, "1970-01-01 01:00:00.000000005 +01:00:00");
+    /// # Ok::<(), sefunjaro::Error>(())
+    /// ```
+    pub fn text_at(&self, second: i64, nanosecond: u32) -> Result<String, Error> {
+        let mut text = vec![0; 40];
+        let mut whole = 0;
+        // SAFETY: the room is as long as is said, and never null.
+        done(unsafe {
+            raw::sefunjaro_text_at(self.handle.at(), second, nanosecond, text.as_mut_ptr(), text.len(), &mut whole)
+        })?;
+        text.truncate(whole);
+        String::from_utf8(text).map_err(|_| Error::Unexpected { status: 0, cause: 0 })
+    }
+
+    /// All instants at which clocks show a local time, by time: none where clocks skip it, most often one, two where they are set
+    /// back over it, and more in zones without order.
+    ///
+    /// # Errors
+    ///
+    /// [`Error::OutOfRange`] where the parts are no date or no time, or the year lies outside -9999 to 9999.
+    pub fn instants(&self, local: &Clock) -> Result<Instants, Error> {
+        Ok(self.read(local)?.0)
+    }
+
+    /// The instants of a local time, or the change that skips it where there are none.
+    ///
+    /// # Errors
+    ///
+    /// As [`Zone::instants`].
+    ///
+    /// ```
+    /// use sefunjaro::{LocalTime, Source};
+    ///
+    /// let zone = Source::open(b"Zone A 1:00 - A 2000\n 2:00 - B\n")?.zone("A")?;
+    /// let LocalTime::Skipped(gap) = zone.local_time(&"2000-01-01 00:30:00.000000000".parse()?)? else { panic!() };
+    /// assert_eq!((gap.second, gap.before, gap.after), (946681200, 3600, 7200));
+    /// # Ok::<(), sefunjaro::Error>(())
+    /// ```
+    pub fn local_time(&self, local: &Clock) -> Result<LocalTime, Error> {
+        let (instants, gap) = self.read(local)?;
+        Ok(if instants.len() == 0 { LocalTime::Skipped(gap) } else { LocalTime::Shown(instants) })
+    }
+
+    fn read(&self, local: &Clock) -> Result<(Instants, Gap), Error> {
+        let mut two = [RawReading::default(); 2];
+        let (count, gap) = self.fill(local, &mut two)?;
+        let mut instants = Instants { two, more: Vec::new(), next: 0, count, nanosecond: local.nanosecond };
+        if count > two.len() {
+            instants.more = vec![RawReading::default(); count];
+            self.fill(local, &mut instants.more)?;
+        }
+        Ok((instants, gap))
+    }
+
+    fn fill(&self, local: &Clock, room: &mut [RawReading]) -> Result<(usize, Gap), Error> {
+        let (mut count, mut gap) = (0, Gap::default());
+        // SAFETY: the room is as long as is said, and nothing overlaps.
+        done(unsafe {
+            raw::sefunjaro_readings(self.handle.at(), local, room.as_mut_ptr(), room.len(), &mut count, &mut gap)
+        })?;
+        Ok((count, gap))
+    }
+}
+
+impl fmt::Debug for Zone {
+    fn fmt(&self, out: &mut fmt::Formatter<'_>) -> fmt::Result {
+        out.debug_struct("Zone").finish_non_exhaustive()
+    }
+}
+
+/// The instants of a local time, by time.
+#[derive(Clone)]
+pub struct Instants {
+    two: [RawReading; 2],
+    /// All of them, where there are more than two.
+    more: Vec<RawReading>,
+    next: usize,
+    count: usize,
+    nanosecond: u32,
+}
+
+impl Iterator for Instants {
+    type Item = Instant;
+
+    fn next(&mut self) -> Option<Instant> {
+        let all = if self.more.is_empty() { &self.two[..self.count] } else { &self.more[..] };
+        let found = all.get(self.next)?;
+        self.next += 1;
+        Some(Instant { second: found.second, nanosecond: self.nanosecond, offset: found.offset })
+    }
+
+    fn size_hint(&self) -> (usize, Option<usize>) {
+        let left = self.count - self.next;
+        (left, Some(left))
+    }
+}
+
+impl ExactSizeIterator for Instants {}
+
+impl FusedIterator for Instants {}
+
+impl fmt::Debug for Instants {
+    fn fmt(&self, out: &mut fmt::Formatter<'_>) -> fmt::Result {
+        out.debug_list().entries(self.clone()).finish()
+    }
+}

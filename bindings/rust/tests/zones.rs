@@ -1,0 +1,162 @@
+//! Each call, each error, threads and memory, over a small source.
+
+use sefunjaro::{Clock, Error, Gap, JoinCause, LineCause, LocalTime, ScheduleCause, Source, Zone};
+use std::{fs, thread};
+
+const SOURCE: &str = "\
+Rule Mid 1900 only - Jan 1 0:00 0 -
+Rule Mid 1981 max - Mar lastSun 1:00u 1:00 S
+Rule Mid 1996 max - Oct lastSun 1:00u 0 -
+Zone Here/Middle 1:00 Mid CE%sT
+Zone Here/Far 25:00 - FAR
+Zone Here/Long 1:00 - AbbreviationOfTwentySix
+Zone Here/Twice 0:00 - A 2000 Jan 1 2:00
+  -1:00 - B 2000 Jan 1 1:30
+  -2:00 - C
+Link Here/Middle There/Middle
+";
+/// 2024-03-31 and 2024-10-27, 01:00 UTC.
+const SPRING: i64 = 1711846800;
+const AUTUMN: i64 = 1729990800;
+
+fn zone(name: &str) -> Zone {
+    Source::open(SOURCE.as_bytes()).unwrap().zone(name).unwrap()
+}
+
+fn local(text: &str) -> Clock {
+    text.parse().unwrap()
+}
+
+#[test]
+fn names() {
+    let source = Source::open(SOURCE.as_bytes()).unwrap();
+    let names = source.names().unwrap();
+    assert_eq!(names.len(), 5);
+    assert_eq!(names.collect::<Vec<_>>(), ["Here/Far", "Here/Long", "Here/Middle", "Here/Twice", "There/Middle"]);
+    assert_eq!(Source::open(b"").unwrap().names().unwrap().count(), 0);
+    let long = "A".repeat(1000);
+    let source = Source::open(format!("Zone {long} 1:00 - A\n").as_bytes()).unwrap();
+    assert_eq!(source.names().unwrap().collect::<Vec<_>>(), [long]);
+}
+
+#[test]
+fn look_ups() {
+    let zone = zone("There/Middle");
+    assert_eq!(zone.offset_at(SPRING - 1, 999_999_999), Ok(3600));
+    assert_eq!(zone.offset_at(SPRING, 0), Ok(7200));
+    let found = zone.in_force(SPRING, 0).unwrap();
+    assert_eq!((found.offset, found.is_saving, found.name.as_str()), (7200, true, "CEST"));
+    let shown = Clock { year: 2024, month: 3, day: 31, hour: 3, minute: 0, second: 0, nanosecond: 5 };
+    assert_eq!(zone.clock_at(SPRING, 5), Ok((shown, 7200)));
+    assert_eq!(zone.text_at(SPRING, 5).unwrap(), "2024-03-31 03:00:00.000000005 +02:00:00");
+    assert_eq!(self::zone("Here/Long").in_force(0, 0).unwrap().name, "AbbreviationOfTwentySix");
+    assert_eq!(self::zone("Here/Far").offset_at(0, 0), Ok(90000));
+}
+
+#[test]
+fn local_times() {
+    let zone = zone("Here/Middle");
+    let instants: Vec<_> = zone.instants(&local("2024-10-27 02:30:00.000000007")).unwrap().collect();
+    let told: Vec<_> = instants.iter().map(|instant| (instant.second, instant.nanosecond, instant.offset)).collect();
+    assert_eq!(told, [(AUTUMN - 1800, 7, 7200), (AUTUMN + 1800, 7, 3600)]);
+    let skipped = local("2024-03-31 02:30:00.000000000");
+    assert_eq!(zone.instants(&skipped).unwrap().next(), None);
+    let LocalTime::Skipped(gap) = zone.local_time(&skipped).unwrap() else { panic!("shown") };
+    assert_eq!(gap, Gap { second: SPRING, before: 3600, after: 7200 });
+    let LocalTime::Shown(instants) = zone.local_time(&local("2024-07-01 12:00:00.000000000")).unwrap() else { panic!("skipped") };
+    assert_eq!(instants.map(|instant| instant.offset).collect::<Vec<_>>(), [7200]);
+    let LocalTime::Shown(instants) = zone.local_time(&local("2024-10-27 02:30:00.000000000")).unwrap() else { panic!("skipped") };
+    assert_eq!(instants.len(), 2);
+    let thrice = self::zone("Here/Twice").instants(&local("2000-01-01 01:15:00.000000000")).unwrap();
+    assert_eq!(thrice.len(), 3);
+    assert_eq!(thrice.map(|instant| instant.offset).collect::<Vec<_>>(), [0, -3600, -7200]);
+}
+
+#[test]
+fn out_of_range() {
+    let zone = zone("Here/Middle");
+    for (second, nanosecond) in [(i64::MAX, 0), (i64::MIN, 0), (0, 1_000_000_000), (0, u32::MAX)] {
+        assert_eq!(zone.offset_at(second, nanosecond), Err(Error::OutOfRange));
+        assert_eq!(zone.in_force(second, nanosecond), Err(Error::OutOfRange));
+        assert_eq!(zone.clock_at(second, nanosecond), Err(Error::OutOfRange));
+        assert_eq!(zone.text_at(second, nanosecond), Err(Error::OutOfRange));
+    }
+    let day = local("2024-02-29 00:00:00.000000000");
+    for wrong in [Clock { year: 2023, ..day }, Clock { month: 13, ..day }, Clock { hour: 24, ..day }, Clock { year: 10000, ..day }] {
+        assert_eq!(zone.instants(&wrong).err(), Some(Error::OutOfRange));
+    }
+    for text in ["", "2024-02-29 00:00:00", "2023-02-29 00:00:00.000000000"] {
+        assert_eq!(text.parse::<Clock>(), Err(Error::NotRead));
+    }
+}
+
+#[test]
+fn faults() {
+    let rows: [(&[u8], Error, &str); 6] = [
+        (b"\nRule R 2000 max - Nof Sun>=1 2:00 0 S\n", Error::BadLine { line: 2, cause: LineCause::FailedMonthParse }, "line 2: FailedMonthParse"),
+        (b"nothing\n", Error::BadLine { line: 1, cause: LineCause::InvalidLineType }, "line 1: InvalidLineType"),
+        (b"Zone A 1:00 - X\nZone A 1:00 - X\n", Error::BadJoin { line: 2, cause: JoinCause::DuplicateZone }, "line 2: DuplicateZone"),
+        (b"Zone A 1:00 None X\n", Error::BadJoin { line: 1, cause: JoinCause::UnknownRuleset }, "line 1: UnknownRuleset"),
+        (b"\n\n\xff\n", Error::NotText { line: 3 }, "line 3: not UTF-8"),
+        (&[b'#'; (1 << 24) + 1], Error::TooLong, "the source is longer than 16,777,216 bytes"),
+    ];
+    for (text, error, words) in rows {
+        let told: Box<dyn std::error::Error> = Box::new(Source::open(text).unwrap_err());
+        assert_eq!(told.to_string(), words);
+        assert_eq!(told.downcast_ref(), Some(&error));
+    }
+    let text = b"Rule R min 1990 - Jan 1 0:00 0 -\nZone Rules 0:00 R A\nZone Open 0:00 - A\n 1:00 - B\nZone Wide 26:00 - X\n";
+    let source = Source::open(text).unwrap();
+    for (name, error) in [
+        ("None", Error::UnknownZone),
+        ("", Error::UnknownZone),
+        ("Open", Error::NoSchedule { cause: ScheduleCause::MissingUntil }),
+        ("Rules", Error::NoSchedule { cause: ScheduleCause::RuleYears }),
+        ("Wide", Error::OffsetRange),
+    ] {
+        assert_eq!(source.zone(name).err(), Some(error));
+    }
+}
+
+#[test]
+fn threads() {
+    let zone = zone("Here/Middle");
+    let asked: Vec<_> = (0..8)
+        .map(|_| {
+            let zone = zone.share().unwrap();
+            thread::spawn(move || (SPRING - 5000..SPRING + 5000).filter(|&second| zone.offset_at(second, 0) == Ok(7200)).count())
+        })
+        .collect();
+    drop(zone);
+    for thread in asked {
+        assert_eq!(thread.join().unwrap(), 5000);
+    }
+}
+
+/// The kilobytes that the process holds, of Linux.
+fn held() -> i64 {
+    let status = fs::read_to_string("/proc/self/status").unwrap();
+    let line = status.lines().find(|line| line.starts_with("VmHWM:")).unwrap();
+    line.split_whitespace().nth(1).unwrap().parse().unwrap()
+}
+
+/// A million zones opened and closed, most of one line, with sources, shared zones and some that are refused.
+#[test]
+#[ignore = "it watches the memory of the process, so it runs alone"]
+fn memory() {
+    let source = Source::open(SOURCE.as_bytes()).unwrap();
+    let rounds = |number: usize| {
+        for turn in 0..number {
+            if turn % 100 == 0 {
+                source.zone("Here/Middle").unwrap().share().unwrap();
+                Source::open(b"Zone A 1:00 - X\n").unwrap().zone("A").unwrap();
+                assert!(Source::open(b"Zone A 1:00 None X\n").is_err() && source.zone("None").is_err());
+            }
+            source.zone("Here/Long").unwrap();
+        }
+    };
+    rounds(20_000);
+    let before = held();
+    rounds(980_000);
+    assert!(held() - before < 2048);
+}

@@ -1,0 +1,85 @@
+/* fails: each request for memory is refused in turn, and all from it on. Each call then answers SEFUNJARO_NO_MEMORY, gives back what it
+   took and leaves the handle closed; look-ups take none. It is linked with --wrap=malloc, --wrap=realloc and --wrap=free. */
+#include "sefunjaro.h"
+#include "small.h"
+#include <stdio.h>
+#include <stdlib.h>
+#include <string.h>
+
+void *__real_malloc(size_t size);
+void *__real_realloc(void *block, size_t size);
+void __real_free(void *block);
+
+static long left = -1; /* how many requests are granted; -1 is all of them */
+static bool for_good;  /* whether all are refused from then on */
+static long live;      /* blocks that are taken and not given back */
+
+static bool refuses(void) {
+    if (left < 0 || left-- > 0) return false;
+    left = for_good ? 0 : -1;
+    return true;
+}
+
+void *__wrap_malloc(size_t size) {
+    void *block = refuses() ? NULL : __real_malloc(size);
+    live += block != NULL;
+    return block;
+}
+
+void *__wrap_realloc(void *block, size_t size) {
+    void *other = refuses() ? NULL : __real_realloc(block, size);
+    live += other && !block;
+    return other;
+}
+
+void __wrap_free(void *block) {
+    live -= block != NULL;
+    __real_free(block);
+}
+
+static struct sefunjaro_handle source = SEFUNJARO_CLOSED, zone = SEFUNJARO_CLOSED, other = SEFUNJARO_CLOSED;
+static struct sefunjaro_fault fault;
+
+static uint32_t open_source(void) { return sefunjaro_source_open((const uint8_t *)small_source, strlen(small_source), &source, &fault); }
+static uint32_t open_zone(void) { return sefunjaro_zone_open(&source, (const uint8_t *)"Europe/Paris", 12, &zone, &fault); }
+static uint32_t share(void) { return sefunjaro_share(&zone, &other); }
+
+/* How many requests a call makes: each refused in turn; -1 where an answer is wrong or something is not given back. */
+static long tried(uint32_t (*call)(void), struct sefunjaro_handle *made) {
+    for (long n = 0;; n++) {
+        long before = live;
+        int32_t offset;
+        left = n;
+        uint32_t status = call();
+        left = -1;
+        if (status == SEFUNJARO_DONE) return n;
+        if (status != SEFUNJARO_NO_MEMORY || live != before || sefunjaro_offset_at(made, 0, 0, &offset) != SEFUNJARO_NOT_OPEN) return -1;
+    }
+}
+
+static bool look(void) {
+    struct sefunjaro_clock local = { 2024, 3, 31, 2, 30, 0, 0 };
+    struct sefunjaro_reading reading;
+    struct sefunjaro_gap gap;
+    uint8_t text[40];
+    size_t whole;
+    left = 0;
+    bool done = !sefunjaro_text_at(&other, 0, 0, text, 40, &whole) && !sefunjaro_readings(&other, &local, &reading, 1, &whole, &gap);
+    done = done && left == 0;
+    left = -1;
+    return done;
+}
+
+int main(void) {
+    for (int pass = 0; pass < 2; pass++) {
+        for_good = pass;
+        long of_source = tried(open_source, &source), of_zone = tried(open_zone, &zone), of_share = tried(share, &other);
+        if (of_source < 0 || of_zone < 0 || of_share < 0 || !look()) return 1;
+        sefunjaro_close(&source);
+        sefunjaro_close(&zone);
+        sefunjaro_close(&other);
+        if (live) return 2;
+        if (pass) printf("%ld requests of a source, %ld of a zone and %ld of a share refused in turn\n", of_source, of_zone, of_share);
+    }
+    return 0;
+}

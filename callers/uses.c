@@ -1,0 +1,111 @@
+/* uses: calls each function for each of its statuses that need no want of memory, and ends with the number of the first check that
+   fails, or 0. */
+#include "sefunjaro.h"
+#include "small.h"
+#include <string.h>
+
+static struct sefunjaro_handle source = SEFUNJARO_CLOSED, zone = SEFUNJARO_CLOSED, other = SEFUNJARO_CLOSED;
+static struct sefunjaro_fault fault;
+
+static uint32_t open_text(const char *text, size_t length) { return sefunjaro_source_open((const uint8_t *)text, length, &source, &fault); }
+static uint32_t open_name(const char *name) { return sefunjaro_zone_open(&source, (const uint8_t *)name, strlen(name), &zone, &fault); }
+static bool is_fault(uint32_t status, uint32_t cause, size_t line) { return fault.status == status && fault.cause == cause && fault.line == line; }
+
+static int closed_handles(void) {
+    struct sefunjaro_clock clock = { 2024, 1, 1, 0, 0, 0, 0 };
+    struct sefunjaro_reading reading;
+    struct sefunjaro_gap gap;
+    struct sefunjaro_in_force found;
+    uint8_t text[40] = { 7 };
+    size_t count = 9;
+    int32_t offset = 9;
+    if (sefunjaro_name_count(&source, &count) != SEFUNJARO_NOT_OPEN || count != 9) return 1;
+    if (sefunjaro_name(&source, 0, text, 40, &count) != SEFUNJARO_NOT_OPEN || text[0] != 7) return 2;
+    if (open_name("Europe/Paris") != SEFUNJARO_NOT_OPEN || !is_fault(SEFUNJARO_NOT_OPEN, 0, 0)) return 3;
+    if (sefunjaro_offset_at(&zone, 0, 0, &offset) != SEFUNJARO_NOT_OPEN || offset != 9) return 4;
+    if (sefunjaro_in_force(&zone, 0, 0, &found, text, 40) != SEFUNJARO_NOT_OPEN) return 5;
+    if (sefunjaro_clock_at(&zone, 0, 0, &clock, &offset) != SEFUNJARO_NOT_OPEN) return 6;
+    if (sefunjaro_text_at(&zone, 0, 0, text, 40, &count) != SEFUNJARO_NOT_OPEN || text[0] != 7) return 7;
+    if (sefunjaro_readings(&zone, &clock, &reading, 1, &count, &gap) != SEFUNJARO_NOT_OPEN) return 8;
+    if (sefunjaro_share(&zone, &other) != SEFUNJARO_NOT_OPEN) return 9;
+    sefunjaro_close(&zone);
+    return 0;
+}
+
+static int sources(void) {
+    if (open_text("\nZone A 1:00 - \xff\n", 16) != SEFUNJARO_NOT_TEXT || !is_fault(SEFUNJARO_NOT_TEXT, 0, 2)) return 10;
+    if (open_text("Nonsense", 8) != SEFUNJARO_BAD_LINE || !is_fault(SEFUNJARO_BAD_LINE, SEFUNJARO_INVALID_LINE_TYPE, 1)) return 11;
+    if (open_text("Zone A 1:00 X A\n", 16) != SEFUNJARO_BAD_JOIN || !is_fault(SEFUNJARO_BAD_JOIN, SEFUNJARO_UNKNOWN_RULESET, 1)) return 12;
+    static char many[(1 << 24) + 1];
+    if (open_text(many, sizeof many) != SEFUNJARO_TOO_LONG || !is_fault(SEFUNJARO_TOO_LONG, 0, 0)) return 13;
+    size_t count = 9;
+    if (open_text("", 0) != SEFUNJARO_DONE || sefunjaro_name_count(&source, &count) || count != 0) return 14;
+    if (open_text(small_source, strlen(small_source)) != SEFUNJARO_DONE || !is_fault(0, 0, 0)) return 15;
+    if (sefunjaro_name_count(&source, &count) || count != 5) return 16;
+    uint8_t name[20];
+    memset(name, '.', sizeof name);
+    if (sefunjaro_name(&source, 2, name, 4, &count) || count != 13 || memcmp(name, "Euro...", 7)) return 17;
+    if (sefunjaro_name(&source, 4, name, 20, &count) || count != 5 || memcmp(name, "Fixed", 5)) return 18;
+    if (sefunjaro_name(&source, 5, name, 20, &count) != SEFUNJARO_NONE) return 19;
+    return 0;
+}
+
+static int zones(void) {
+    int32_t offset = 9;
+    if (sefunjaro_offset_at(&source, 0, 0, &offset) != SEFUNJARO_NOT_OPEN) return 20;
+    if (open_name("Europe/Rome") != SEFUNJARO_UNKNOWN_ZONE || !is_fault(SEFUNJARO_UNKNOWN_ZONE, 0, 0)) return 21;
+    if (open_name("\xff") != SEFUNJARO_NOT_TEXT) return 22;
+    if (open_name("Fixed") != SEFUNJARO_OFFSET_RANGE) return 23;
+    if (open_name("Ends") != SEFUNJARO_DONE) return 24;
+    if (open_name("Europe/Monaco") != SEFUNJARO_DONE || !is_fault(0, 0, 0)) return 25;
+    if (sefunjaro_zone_open(&zone, (const uint8_t *)"A", 1, &other, &fault) != SEFUNJARO_NOT_OPEN) return 26;
+    if (sefunjaro_share(&zone, &other) != SEFUNJARO_DONE) return 27;
+    sefunjaro_close(&zone);
+    if (sefunjaro_offset_at(&other, 1720000000, 0, &offset) || offset != 7200) return 28;
+    if (sefunjaro_share(&other, &zone) != SEFUNJARO_DONE) return 29;
+    sefunjaro_close(&source);
+    sefunjaro_close(&other);
+    return 0;
+}
+
+static int looks(void) {
+    struct sefunjaro_in_force found;
+    struct sefunjaro_clock clock, skipped = { 2024, 3, 31, 2, 30, 0, 5 }, twice = { 2024, 10, 27, 2, 30, 0, 0 }, none = { 2023, 2, 29, 0, 0, 0, 0 };
+    struct sefunjaro_reading readings[3] = { { 0, 0 }, { 0, 0 }, { 77, 0 } };
+    struct sefunjaro_gap gap = { 0, 0, 0 };
+    uint8_t text[40], name[4] = "....";
+    size_t whole;
+    int32_t offset;
+    if (sefunjaro_offset_at(&zone, 1711846799, 999999999, &offset) || offset != 3600) return 30;
+    if (sefunjaro_offset_at(&zone, 1711846800, 0, &offset) || offset != 7200) return 31;
+    if (sefunjaro_offset_at(&zone, 0, 1000000000, &offset) != SEFUNJARO_OUT_OF_RANGE) return 32;
+    if (sefunjaro_offset_at(&zone, INT64_MAX, 0, &offset) != SEFUNJARO_OUT_OF_RANGE) return 33;
+    if (sefunjaro_in_force(&zone, 1711846800, 0, &found, name, 3) || found.offset != 7200 || !found.is_saving) return 34;
+    if (found.name_length != 4 || memcmp(name, "CES.", 4)) return 35;
+    if (sefunjaro_clock_at(&zone, -1, 1, &clock, &offset) || offset != 3600) return 36;
+    if (clock.year != 1970 || clock.month != 1 || clock.day != 1 || clock.hour != 0 || clock.minute != 59 || clock.second != 59 || clock.nanosecond != 1) return 37;
+    if (sefunjaro_text_at(&zone, 0, 0, text, 40, &whole) || whole != 39 || memcmp(text, "1970-01-01 01:00:00.000000000 +01:00:00", 39)) return 38;
+    if (sefunjaro_text_at(&zone, 0, 0, text, 0, &whole) || whole != 39) return 39;
+    if (sefunjaro_text_at(&zone, 253402300799, 0, text, 40, &whole) != SEFUNJARO_OUT_OF_RANGE) return 40;
+    if (sefunjaro_readings(&zone, &twice, readings, 3, &whole, &gap) || whole != 2 || gap.second != 0) return 41;
+    if (readings[0].second != 1729989000 || readings[0].offset != 7200 || readings[1].second != 1729992600 || readings[1].offset != 3600) return 42;
+    if (readings[2].second != 77) return 43;
+    if (sefunjaro_readings(&zone, &twice, readings + 1, 1, &whole, &gap) || whole != 2 || readings[1].second != 1729989000 || readings[2].second != 77) return 44;
+    if (sefunjaro_readings(&zone, &skipped, readings, 3, &whole, &gap) || whole != 0) return 45;
+    if (gap.second != 1711846800 || gap.before != 3600 || gap.after != 7200) return 46;
+    if (sefunjaro_readings(&zone, &none, readings, 3, &whole, &gap) != SEFUNJARO_OUT_OF_RANGE) return 47;
+    const char *local = "2024-03-31 02:30:00.000000005";
+    if (sefunjaro_read_local((const uint8_t *)local, 29, &clock) || memcmp(&clock.year, &skipped.year, 4) || clock.day != 31 || clock.nanosecond != 5) return 48;
+    if (sefunjaro_read_local((const uint8_t *)local, 28, &clock) != SEFUNJARO_NOT_READ) return 49;
+    return 0;
+}
+
+int main(void) {
+    int failed = closed_handles();
+    if (!failed) failed = sources();
+    if (!failed) failed = zones();
+    if (!failed) failed = looks();
+    sefunjaro_close(&zone);
+    sefunjaro_close(&zone);
+    return failed;
+}

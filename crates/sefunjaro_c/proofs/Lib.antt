@@ -1,0 +1,3 @@
+mod FaultLemmas
+mod ShownLemmas
+pub mod WorkedStatuses

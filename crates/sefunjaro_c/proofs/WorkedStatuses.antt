@@ -1,0 +1,55 @@
+-- Worked examples: numbers of causes, faults as they are told, and what may be answered. The numbers are those of the header.
+use Rattle.std.proofs.Common.{◌≡◌, true, false, refl, [], ◌∷◌, map}
+use Rattle.std.specs.Prelude.{None}
+use Rattle.zone_source.specs.Faults as source
+use Rattle.zone_source.specs.declared.error.BuildKind.TheVariants as join
+use Rattle.zone_spans.specs.declared.fault.SpanFault.TheVariants as span
+use Rattle.tz_zone.specs.declared.compile.ZoneFault.TheVariants as zone
+use Rattle.zone_values.specs.declared.fault.FaultKind.TheVariants as line
+use Rattle.sefunjaro_c.specs.Answers.{Where}
+use Rattle.sefunjaro_c.specs.Faults.{fault_told, join_number, kind_number, plain, schedule_number, told_or_memory, zone_told}
+
+-- each cause has a number of its own, in the header's order
+line_causes : map kind_number (
+    line.FailedYearParse ∷ line.FailedMonthParse ∷ line.FailedWeekdayParse ∷ line.InvalidLineType ∷ line.TypeColumnContainedNonHyphen
+    ∷ line.CouldNotParseSaving ∷ line.InvalidDaySpec ∷ line.InvalidTimeSpecAndType ∷ line.NonWallClockInTimeSpec ∷ []
+    ) ≡ 1 ∷ 2 ∷ 3 ∷ 4 ∷ 5 ∷ 6 ∷ 7 ∷ 8 ∷ 9 ∷ []
+line_causes = refl
+
+join_causes : map join_number (join.SurpriseContinuationLine ∷ join.UnknownRuleset ∷ join.DuplicateLink ∷ join.DuplicateZone ∷ [])
+    ≡ 1 ∷ 2 ∷ 3 ∷ 4 ∷ []
+join_causes = refl
+
+schedule_causes : map schedule_number (
+    span.UnknownRuleset ∷ span.MissingUntil ∷ span.YearRange ∷ span.RuleYears ∷ span.DayRange ∷ span.NoStandardSpan ∷ []
+    ) ≡ 1 ∷ 2 ∷ 3 ∷ 4 ∷ 5 ∷ 6 ∷ []
+schedule_causes = refl
+
+-- a line that isn't text, one that may not follow those before it, and want of memory
+third_line_no_text : fault_told (source.not_text 3) ≡ record { status = 4; cause = 0; line = 3 }
+third_line_no_text = refl
+
+seventh_line_second_link : fault_told (source.bad_join 7 join.DuplicateLink) ≡ record { status = 6; cause = 3; line = 7 }
+seventh_line_second_link = refl
+
+no_memory : told_or_memory None ≡ plain 2
+no_memory = refl
+
+no_standard_span : zone_told (zone.Schedule span.NoStandardSpan) ≡ record { status = 8; cause = 6; line = 0 }
+no_standard_span = refl
+
+far_offset : zone_told zone.OffsetRange ≡ plain 9
+far_offset = refl
+
+-- what may be asked is answered with 0, and what may not with 10; nothing else is
+answered : Where true 0 ⊥ (Unit {0})
+answered = (refl, tt)
+
+refused : Where false 10 (Unit {0}) ⊥
+refused = (refl, tt)
+
+not_refused : Where true 10 (Unit {0}) (Unit {0}) → ⊥
+not_refused h = cc
+
+not_answered : Where false 0 (Unit {0}) (Unit {0}) → ⊥
+not_answered h = cc

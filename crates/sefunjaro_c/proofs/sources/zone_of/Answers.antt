@@ -1,0 +1,17 @@
+use Rattle.std.proofs.Common.{sym, subst}
+use Rattle.tz_zone.specs.Compiles.{compiled_in, IsZoneFault}
+use Rattle.zone_open.specs.Sources.{table_in}
+use Rattle.sefunjaro_c.specs.Faults.{zone_due, IsRefused}
+use Rattle.sefunjaro_c.proofs.FaultLemmas.{no_text, zone_refused}
+use Rattle.sefunjaro_c.proofs.sources.zone_of.Goals as goal
+
+pub returns-in_default-clause-err : goal.returns-in_default-clause-err
+returns-in_default-clause-err c =
+    let table = table_in c.args.source.now in
+    subst (IsRefused (zone_due table c.args.name.now)) (sym c.plain_fault.ensures) (no_text table c.args.name.now c.in_default.ensures.none)
+
+pub returns-in-Err-clause-err : goal.returns-in-Err-clause-err
+returns-in-Err-clause-err c =
+    let table = table_in c.args.source.now in let name = c.args.name.now in let text = c.in-Some.ensures.text in
+    subst (IsRefused (zone_due table name)) (sym c.zone_fault.ensures)
+    (zone_refused table name c.in-Err.fault text.1 (subst (λ n. IsZoneFault (compiled_in table n) c.in-Err.fault) text.0 c.in-Err.ensures.err))

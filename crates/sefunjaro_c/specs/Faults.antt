@@ -1,0 +1,103 @@
+-- Why a source or a zone isn't opened, in numbers.
+use Rattle.std.specs.Prelude.{◌≡◌, ◌<◌, ◌⊎◌, ℕ, List, length, nat_lt, Option, Some, None, option_map, if◌then◌else◌}
+use Rattle.std.specs.Str.{is_utf8}
+use Rattle.zone_values.specs.Faults.{fault_of}
+use Rattle.zone_values.specs.declared.error.Error.{Error}
+use Rattle.zone_values.specs.declared.fault.FaultKind.{FaultKind}
+use Rattle.zone_values.specs.declared.fault.FaultKind.TheVariants.{
+  FailedYearParse,
+  FailedMonthParse,
+  FailedWeekdayParse,
+  InvalidLineType,
+  TypeColumnContainedNonHyphen,
+  CouldNotParseSaving,
+  InvalidDaySpec,
+  InvalidTimeSpecAndType,
+  NonWallClockInTimeSpec,
+}
+use Rattle.zone_values.specs.Faults as line
+use Rattle.zone_source.specs.Faults.{SourceFault, source_fault}
+use Rattle.zone_source.specs.Faults as source
+use Rattle.zone_source.specs.Told.{told_by_source}
+use Rattle.zone_source.specs.declared.error.BuildKind.{BuildKind}
+use Rattle.zone_source.specs.declared.error.BuildKind.TheVariants as join
+use Rattle.zone_source.specs.declared.error.SourceError.{SourceError}
+use Rattle.zone_spans.specs.declared.fault.SpanFault.{SpanFault}
+use Rattle.zone_spans.specs.declared.fault.SpanFault.TheVariants as span
+use Rattle.zone_table.specs.declared.table.Table.{Table}
+use Rattle.tz_zone.specs.declared.compile.ZoneFault.{ZoneFault}
+use Rattle.tz_zone.specs.declared.compile.ZoneFault.TheVariants as zone
+use Rattle.tz_lookup.specs.Databases.{zone_refusal}
+use Rattle.zone_open.specs.declared.source.OpenFault.{OpenFault}
+use Rattle.zone_open.specs.declared.source.OpenFault.TheVariants as opening
+use Rattle.sefunjaro_handles.specs.Statuses.{bad_join, bad_line, no_schedule, not_text, offset_range, out_of_memory, too_long, unknown_zone}
+use Rattle.sefunjaro_c.specs.declared.fault.Fault.{Fault}
+
+-- a status that says it all
+abbrev pub plain : ℕ → Fault
+plain status = record { status = status; cause = 0; line = 0 }
+
+-- the cause of a line that can't be read
+abbrev pub kind_number : FaultKind → ℕ
+kind_number FailedYearParse = 1
+kind_number FailedMonthParse = 2
+kind_number FailedWeekdayParse = 3
+kind_number InvalidLineType = 4
+kind_number TypeColumnContainedNonHyphen = 5
+kind_number CouldNotParseSaving = 6
+kind_number InvalidDaySpec = 7
+kind_number InvalidTimeSpecAndType = 8
+kind_number NonWallClockInTimeSpec = 9
+
+-- the cause of a line that may not follow those before it
+abbrev pub join_number : BuildKind → ℕ
+join_number join.SurpriseContinuationLine = 1
+join_number join.UnknownRuleset = 2
+join_number join.DuplicateLink = 3
+join_number join.DuplicateZone = 4
+
+-- the cause of a zone without a schedule
+abbrev pub schedule_number : SpanFault → ℕ
+schedule_number span.UnknownRuleset = 1
+schedule_number span.MissingUntil = 2
+schedule_number span.YearRange = 3
+schedule_number span.RuleYears = 4
+schedule_number span.DayRange = 5
+schedule_number span.NoStandardSpan = 6
+schedule_number span.NoMemory = 0
+
+abbrev pub fault_told : SourceFault → Fault
+fault_told (source.not_text n) = record { status = not_text; cause = 0; line = n }
+fault_told (source.bad_line n fault) = record { status = bad_line; cause = kind_number fault.kind; line = n }
+fault_told (source.bad_join n kind) = record { status = bad_join; cause = join_number kind; line = n }
+
+abbrev pub told_or_memory : Option SourceFault → Fault
+told_or_memory None = plain out_of_memory
+told_or_memory (Some fault) = fault_told fault
+
+abbrev pub error_told : SourceError → Fault
+error_told error = told_or_memory (told_by_source error)
+
+abbrev pub opening_told : OpenFault → Fault
+opening_told opening.TooLong = plain too_long
+opening_told (opening.Source error) = error_told error
+opening_told opening.NoMemory = plain out_of_memory
+
+abbrev pub zone_told : ZoneFault → Fault
+zone_told zone.UnknownZone = plain unknown_zone
+zone_told (zone.Schedule fault) = record { status = no_schedule; cause = schedule_number fault; line = 0 }
+zone_told zone.OffsetRange = plain offset_range
+zone_told zone.NoMemory = plain out_of_memory
+
+-- why a text isn't opened as a source, if so: it is too long, else its first fault
+unfoldable pub source_due : List ℕ → Option Fault
+source_due text = if nat_lt 16777216 (length text) then Some (plain too_long) else option_map fault_told (source_fault text)
+
+-- why the zone of a name isn't opened, if so: the name is no text, else what keeps its zone from being looked up
+unfoldable pub zone_due : Table → List ℕ → Option Fault
+zone_due table name = if is_utf8 name then option_map zone_told (zone_refusal table name) else Some (plain not_text)
+
+-- the fault that is due is told, or that memory ran out
+pub record IsRefused (due : Option Fault) (fault : Fault) : Type 0 where
+  pub told : (fault ≡ plain out_of_memory) ⊎ (due ≡ Some fault)
+  pub refused : 0 < fault.status

@@ -1,0 +1,22 @@
+-- What is opened.
+use Rattle.std.specs.Prelude.{◌≡◌, ℕ, List, None}
+use Rattle.zone_table.specs.Tables.{IsTableOf}
+use Rattle.zone_table.specs.declared.table.Table.{Table}
+use Rattle.zone_source.specs.Zones.{values_of}
+use Rattle.tz_zone.specs.Compiles.{compiled_in}
+use Rattle.tz_zone.specs.Sets.{schedule_of, IsAccepted}
+use Rattle.zone_open.specs.Sources.{table_in}
+use Rattle.zone_open.specs.Zones.{set_in, IsOpened}
+use Rattle.zone_open.specs.declared.source.OpenSource.{OpenSource}
+use Rattle.zone_open.specs.declared.zone.OpenZone.{OpenZone}
+use Rattle.sefunjaro_c.specs.Faults.{source_due}
+
+-- the source is that of a text with no fault
+pub record IsSourceOf (text : List ℕ) (source : OpenSource) : Type 0 where
+  pub valid : source_due text ≡ None
+  pub table : IsTableOf (table_in source) (values_of text)
+
+-- the zone is what a table's lines under a name are compiled to, and can be looked up
+pub record IsZoneOf (table : Table) (name : List ℕ) (zone : OpenZone) : Type 0 where
+  pub opened : IsOpened name (compiled_in table name) zone
+  pub accepted : IsAccepted (schedule_of (set_in zone))

@@ -1,0 +1,129 @@
+//! Why a source or a zone isn't opened, in numbers.
+ghost use Rattle.std.specs.Prelude.{◌≡◌};
+ghost use Rattle.sefunjaro_c.specs.Faults.{error_told, join_number, kind_number, opening_told, schedule_number, zone_told};
+
+use crate::status::{
+    BAD_JOIN, BAD_LINE, NO_MEMORY, NO_SCHEDULE, NOT_TEXT, OFFSET_RANGE, TOO_LONG, UNKNOWN_ZONE,
+};
+use tz_lookup::{SpanFault, ZoneFault};
+use zone_line::FaultKind;
+use zone_open::OpenFault;
+use zone_source::{BuildKind, SourceError};
+
+/// What a call refuses: its status, and where there is one, the cause and the line of the source.
+#[derive(Clone, Copy, Debug, PartialEq, Eq)]
+#[repr(C)]
+pub struct Fault {
+    /// The status that the call answers.
+    pub status: u32,
+    /// The number of the cause, from 1, or 0 where the status says it all.
+    pub cause: u32,
+    /// The line of the source, from 1, or 0 where none is to blame.
+    pub line: usize,
+}
+
+/// A status that says it all.
+pub(crate) fn plain_fault(status: u32) -> Fault
+    ensures { result ≡ record { status = status; cause = 0; line = 0 } }
+{
+    Fault {
+        status,
+        cause: 0,
+        line: 0,
+    }
+}
+
+/// Why a source isn't opened.
+pub(crate) fn opening_fault(fault: &OpenFault) -> Fault
+    ensures { result ≡ opening_told fault.now }
+{
+    match fault {
+        OpenFault::TooLong => plain_fault(TOO_LONG),
+        OpenFault::Source(error) => source_fault(error),
+        OpenFault::NoMemory => plain_fault(NO_MEMORY),
+    }
+}
+
+/// The first fault of a source.
+fn source_fault(error: &SourceError) -> Fault
+    ensures { result ≡ error_told error.now }
+{
+    match error {
+        SourceError::NotText(line) => Fault {
+            status: NOT_TEXT,
+            cause: 0,
+            line: *line,
+        },
+        SourceError::Line(line, error) => match error.kind() {
+            Some(kind) => Fault {
+                status: BAD_LINE,
+                cause: kind_number(kind),
+                line: *line,
+            },
+            None => plain_fault(NO_MEMORY),
+        },
+        SourceError::Build(line, kind) => Fault {
+            status: BAD_JOIN,
+            cause: join_number(*kind),
+            line: *line,
+        },
+        SourceError::NoMemory => plain_fault(NO_MEMORY),
+    }
+}
+
+/// Why a name's zone isn't opened.
+pub(crate) fn zone_fault(fault: ZoneFault) -> Fault
+    ensures { result ≡ zone_told fault }
+{
+    match fault {
+        ZoneFault::UnknownZone => plain_fault(UNKNOWN_ZONE),
+        ZoneFault::Schedule(cause) => Fault {
+            status: NO_SCHEDULE,
+            cause: schedule_number(cause),
+            line: 0,
+        },
+        ZoneFault::OffsetRange => plain_fault(OFFSET_RANGE),
+        ZoneFault::NoMemory => plain_fault(NO_MEMORY),
+    }
+}
+
+fn kind_number(kind: FaultKind) -> u32
+    ensures { result ≡ kind_number kind }
+{
+    match kind {
+        FaultKind::FailedYearParse => 1,
+        FaultKind::FailedMonthParse => 2,
+        FaultKind::FailedWeekdayParse => 3,
+        FaultKind::InvalidLineType => 4,
+        FaultKind::TypeColumnContainedNonHyphen => 5,
+        FaultKind::CouldNotParseSaving => 6,
+        FaultKind::InvalidDaySpec => 7,
+        FaultKind::InvalidTimeSpecAndType => 8,
+        FaultKind::NonWallClockInTimeSpec => 9,
+    }
+}
+
+fn join_number(kind: BuildKind) -> u32
+    ensures { result ≡ join_number kind }
+{
+    match kind {
+        BuildKind::SurpriseContinuationLine => 1,
+        BuildKind::UnknownRuleset => 2,
+        BuildKind::DuplicateLink => 3,
+        BuildKind::DuplicateZone => 4,
+    }
+}
+
+fn schedule_number(fault: SpanFault) -> u32
+    ensures { result ≡ schedule_number fault }
+{
+    match fault {
+        SpanFault::UnknownRuleset => 1,
+        SpanFault::MissingUntil => 2,
+        SpanFault::YearRange => 3,
+        SpanFault::RuleYears => 4,
+        SpanFault::DayRange => 5,
+        SpanFault::NoStandardSpan => 6,
+        SpanFault::NoMemory => 0,
+    }
+}

@@ -1,0 +1,14 @@
+//! Sefunjaro for C: `include/sefunjaro.h` declares these functions, and says what each means and what its caller owes.
+//!
+//! Each export hands on a call of the libraries below and states its clauses again.
+#![tactic(auto)]
+
+#[cfg(test)]
+mod checks;
+mod fault;
+mod sources;
+mod status;
+#[cfg(test)]
+mod tests;
+mod times;
+mod zones;

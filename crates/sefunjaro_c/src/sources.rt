@@ -1,0 +1,191 @@
+//! Sources, and the zones that are opened from them.
+ghost use Rattle.std.specs.Prelude.{◌≡◌, ◌<◌, IfErr, IfOk, IfSome, MatchOption, None, is_some, length, nat_eq};
+ghost use Rattle.sefunjaro_c.specs.Faults.{source_due, zone_due, IsRefused};
+ghost use Rattle.sefunjaro_c.specs.Names.{IsNameAt};
+ghost use Rattle.sefunjaro_c.specs.Opened.{IsSourceOf, IsZoneOf};
+ghost use Rattle.std.specs.List.{slice_get};
+ghost use Rattle.tz_lookup.specs.Databases.{names_of};
+ghost use Rattle.sefunjaro_handles.specs.Held.{OfSource, OnSource, IsSource, IsZone};
+ghost use Rattle.zone_open.specs.Sources.{table_in};
+
+use crate::fault::{Fault, opening_fault, plain_fault, zone_fault};
+use crate::status::{DONE, NO_MEMORY, NONE_THERE, NOT_OPEN, NOT_TEXT};
+use sefunjaro_handles::{Handle, Opened};
+use std::alloc::Global;
+use zone_open::{OpenSource, fill};
+use zone_source::text_of;
+
+/// Opens a source from its text in plain form. What the handle held before is closed.
+#[unsafe(no_mangle)]
+pub extern "C" fn sefunjaro_source_open(
+    alloc: Global,
+    text: &[u8],
+    source: &mut Handle,
+    fault: &mut Fault,
+) -> u32
+    ensures status { result ≡ fault.new.status }
+    ensures opened { is_some source.new.held.opened ≡ nat_eq result 0 }
+    ensures answer { MatchOption source.new.held.opened (IsRefused (source_due text.now) fault.new) (IsSource (IsSourceOf text.now)) }
+{
+    drop(source.take(alloc));
+    match open_source(alloc, text) {
+        Ok(opened) => {
+            source.put(alloc, opened);
+            *fault = plain_fault(DONE);
+            DONE
+        }
+        Err(told) => {
+            *fault = told;
+            told.status
+        }
+    }
+}
+
+/// A source, on the heap.
+fn open_source(alloc: Global, text: &[u8]) -> Result<Box<Opened>, Fault>
+    ensures ok { IfOk result (λ opened. IsSource (IsSourceOf text.now) opened.value) }
+    ensures err { IfErr result (IsRefused (source_due text.now)) }
+{
+    match OpenSource::open(alloc, text) {
+        Ok(source) => match Opened::source(alloc, source) {
+            Ok(opened) => Ok(opened),
+            Err(_) => Err(plain_fault(NO_MEMORY)),
+        },
+        Err(fault) => Err(opening_fault(&fault)),
+    }
+}
+
+/// Closes a handle, whatever it holds. A handle that holds nothing stays as it is.
+#[unsafe(no_mangle)]
+pub extern "C" fn sefunjaro_close(alloc: Global, handle: &mut Handle)
+    ensures { handle.new.held.opened ≡ None }
+{
+    drop(handle.take(alloc));
+}
+
+/// Opens the zone of a name in a source. What the zone's handle held before is closed. The zone needs its source no more.
+#[unsafe(no_mangle)]
+pub extern "C" fn sefunjaro_zone_open(
+    alloc: Global,
+    source: &mut Handle,
+    name: &[u8],
+    zone: &mut Handle,
+    fault: &mut Fault,
+) -> u32
+    ensures same { source.new.held.opened ≡ source.old.held.opened }
+    ensures status { result ≡ fault.new.status }
+    ensures opened { is_some zone.new.held.opened ≡ nat_eq result 0 }
+    ensures answer { OnSource source.old.held.opened result (zone.new.held.opened ≡ None)
+        (λ from. MatchOption zone.new.held.opened (IsRefused (zone_due (table_in from) name.now) fault.new) (IsZone (IsZoneOf (table_in from) name.now))) }
+{
+    drop(zone.take(alloc));
+    let Some(from) = source.take(alloc) else {
+        *fault = plain_fault(NOT_OPEN);
+        return NOT_OPEN;
+    };
+    let made = open_zone(alloc, &from, name);
+    source.put(alloc, from);
+    match made {
+        Ok(opened) => {
+            zone.put(alloc, opened);
+            *fault = plain_fault(DONE);
+            DONE
+        }
+        Err(told) => {
+            *fault = told;
+            told.status
+        }
+    }
+}
+
+/// The zone of a name, on the heap.
+fn open_zone(alloc: Global, from: &Opened, name: &[u8]) -> Result<Box<Opened>, Fault>
+    ensures ok { IfOk result (λ opened. IsSource (λ source. IsZone (IsZoneOf (table_in source) name.now) opened.value) from.now) }
+    ensures err { IfErr result (λ fault. OfSource from.now fault.status (Unit {0}) (λ source. IsRefused (zone_due (table_in source) name.now) fault)) }
+    ensures refused { IfErr result (λ fault. 0 < fault.status) }
+{
+    match from {
+        Opened::Source(source) => zone_of(alloc, source, name),
+        Opened::Zone(_) => Err(plain_fault(NOT_OPEN)),
+    }
+}
+
+/// The zone of a name in a source, on the heap.
+fn zone_of(alloc: Global, source: &OpenSource, name: &[u8]) -> Result<Box<Opened>, Fault>
+    ensures ok { IfOk result (λ opened. IsZone (IsZoneOf (table_in source.now) name.now) opened.value) }
+    ensures err { IfErr result (IsRefused (zone_due (table_in source.now) name.now)) }
+{
+    let Some(name) = text_of(name) else {
+        return Err(plain_fault(NOT_TEXT));
+    };
+    match source.zone(alloc, name) {
+        Ok(zone) => match Opened::zone(alloc, zone) {
+            Ok(opened) => Ok(opened),
+            Err(_) => Err(plain_fault(NO_MEMORY)),
+        },
+        Err(fault) => Err(zone_fault(fault)),
+    }
+}
+
+/// How many names of a source find a zone: those of its zones, and of the links to them.
+#[unsafe(no_mangle)]
+pub extern "C" fn sefunjaro_name_count(alloc: Global, source: &mut Handle, count: &mut usize) -> u32
+    ensures same { source.new.held.opened ≡ source.old.held.opened }
+    ensures answer { OnSource source.old.held.opened result (count.new ≡ count.old)
+        (λ from. (result ≡ 0) × (count.new ≡ length (names_of (table_in from)))) }
+{
+    let Some(from) = source.take(alloc) else {
+        return NOT_OPEN;
+    };
+    let status = name_count(&from, count);
+    source.put(alloc, from);
+    status
+}
+
+fn name_count(from: &Opened, count: &mut usize) -> u32
+    ensures { OfSource from.now result (count.new ≡ count.old) (λ source. (result ≡ 0) × (count.new ≡ length (names_of (table_in source)))) }
+{
+    let Opened::Source(source) = from else {
+        return NOT_OPEN;
+    };
+    *count = source.name_count();
+    DONE
+}
+
+/// The name at a place of the byte order, which counts from 0. It goes into the room, as far as it fits, and its whole length
+/// is told.
+#[unsafe(no_mangle)]
+pub extern "C" fn sefunjaro_name(
+    alloc: Global,
+    source: &mut Handle,
+    place: usize,
+    name: &mut [u8],
+    whole: &mut usize,
+) -> u32
+    ensures same { source.new.held.opened ≡ source.old.held.opened }
+    ensures answer { OnSource source.old.held.opened result (name.new ≡ name.old)
+        (λ from. IsNameAt (slice_get (names_of (table_in from)) place) result name.old name.new whole.new) }
+{
+    let Some(from) = source.take(alloc) else {
+        return NOT_OPEN;
+    };
+    let status = name_at(&from, place, name, whole);
+    source.put(alloc, from);
+    status
+}
+
+fn name_at(from: &Opened, place: usize, name: &mut [u8], whole: &mut usize) -> u32
+    ensures { OfSource from.now result (name.new ≡ name.old)
+        (λ source. IsNameAt (slice_get (names_of (table_in source)) place) result name.old name.new whole.new) }
+{
+    let Opened::Source(source) = from else {
+        return NOT_OPEN;
+    };
+    match source.name(place) {
+        Some(text) => {
+            *whole = fill(text.as_bytes(), name);
+            DONE
+        }
+        None => NONE_THERE,
+    }
+}

@@ -1,0 +1,257 @@
+//! Each export once where it has an answer. The values are those of the tz database for New York, as Python's `zoneinfo` gives
+//! them.
+
+use crate::checks::same;
+use crate::fault::{Fault, plain_fault};
+use crate::sources::{
+    sefunjaro_close, sefunjaro_name, sefunjaro_name_count, sefunjaro_source_open,
+    sefunjaro_zone_open,
+};
+use crate::status::{BAD_LINE, DONE, NOT_OPEN};
+use crate::times::sefunjaro_read_local;
+use crate::zones::{
+    sefunjaro_clock_at, sefunjaro_in_force, sefunjaro_offset_at, sefunjaro_readings,
+    sefunjaro_share, sefunjaro_text_at,
+};
+use sefunjaro_handles::Handle;
+use std::alloc::Global;
+use std::process::Abort;
+use zone_open::{Clock, Gap, InForce, Reading};
+
+const NEW_YORK: &[u8] =
+    b"Rule US 2007 max - Mar Sun>=8 2:00 1:00 D\nRule US 2007 max - Nov Sun>=1 2:00 0 S\nZone America/New_York -5:00 US E%sT\nLink America/New_York US/Eastern\n";
+
+/// An open source.
+fn source_of(rt: &impl Abort, alloc: Global, text: &[u8]) -> Handle {
+    let mut source = Handle::closed();
+    let mut fault = plain_fault(NOT_OPEN);
+    same(
+        rt,
+        &sefunjaro_source_open(alloc, text, &mut source, &mut fault),
+        &DONE,
+    );
+    same(rt, &fault, &plain_fault(DONE));
+    source
+}
+
+/// An open zone of it.
+fn zone_of(rt: &impl Abort, alloc: Global, name: &[u8]) -> Handle {
+    let mut source = source_of(rt, alloc, NEW_YORK);
+    let mut zone = Handle::closed();
+    let mut fault = plain_fault(NOT_OPEN);
+    same(
+        rt,
+        &sefunjaro_zone_open(alloc, &mut source, name, &mut zone, &mut fault),
+        &DONE,
+    );
+    sefunjaro_close(alloc, &mut source);
+    drop(source.value(alloc));
+    zone
+}
+
+#[test]
+fn a_source_has_names_and_faults(rt: HostRuntime) {
+    let alloc = rt.alloc();
+    let mut source = source_of(&rt, alloc, NEW_YORK);
+    let mut count = 0;
+    same(
+        &rt,
+        &sefunjaro_name_count(alloc, &mut source, &mut count),
+        &DONE,
+    );
+    same(&rt, &count, &2);
+    let mut name = [0; 7];
+    let mut whole = 0;
+    same(
+        &rt,
+        &sefunjaro_name(alloc, &mut source, 0, &mut name, &mut whole),
+        &DONE,
+    );
+    same(&rt, &(&name, whole), &(b"America", 16));
+    let mut fault = plain_fault(DONE);
+    same(
+        &rt,
+        &sefunjaro_source_open(alloc, b"\nNonsense\n", &mut source, &mut fault),
+        &BAD_LINE,
+    );
+    same(
+        &rt,
+        &fault,
+        &Fault {
+            status: BAD_LINE,
+            cause: 4,
+            line: 2,
+        },
+    );
+    same(
+        &rt,
+        &sefunjaro_name_count(alloc, &mut source, &mut count),
+        &NOT_OPEN,
+    );
+    drop(source.value(alloc));
+}
+
+#[test]
+fn a_zone_is_asked_at_an_instant(rt: HostRuntime) {
+    let alloc = rt.alloc();
+    let mut zone = zone_of(&rt, alloc, b"US/Eastern");
+    let mut offset = 0;
+    same(
+        &rt,
+        &sefunjaro_offset_at(alloc, &mut zone, 1_710_053_999, 0, &mut offset),
+        &DONE,
+    );
+    same(&rt, &offset, &-18_000);
+    let mut found = InForce {
+        offset: 0,
+        is_saving: false,
+        name_length: 0,
+    };
+    let mut name = [0; 3];
+    same(
+        &rt,
+        &sefunjaro_in_force(alloc, &mut zone, 1_710_054_000, 0, &mut found, &mut name),
+        &DONE,
+    );
+    same(
+        &rt,
+        &found,
+        &InForce {
+            offset: -14_400,
+            is_saving: true,
+            name_length: 3,
+        },
+    );
+    same(&rt, &name, b"EDT");
+    let mut clock = Clock {
+        year: 0,
+        month: 0,
+        day: 0,
+        hour: 0,
+        minute: 0,
+        second: 0,
+        nanosecond: 0,
+    };
+    same(
+        &rt,
+        &sefunjaro_clock_at(alloc, &mut zone, 1_710_054_000, 5, &mut clock, &mut offset),
+        &DONE,
+    );
+    same(
+        &rt,
+        &clock,
+        &Clock {
+            year: 2024,
+            month: 3,
+            day: 10,
+            hour: 3,
+            minute: 0,
+            second: 0,
+            nanosecond: 5,
+        },
+    );
+    let mut text = [0; 10];
+    let mut whole = 0;
+    same(
+        &rt,
+        &sefunjaro_text_at(alloc, &mut zone, 1_710_054_000, 0, &mut text, &mut whole),
+        &DONE,
+    );
+    same(&rt, &(&text, whole), &(b"2024-03-10", 39));
+    drop(zone.value(alloc));
+}
+
+#[test]
+fn a_zone_is_asked_at_a_local_time(rt: HostRuntime) {
+    let alloc = rt.alloc();
+    let mut first = zone_of(&rt, alloc, b"America/New_York");
+    let mut zone = Handle::closed();
+    same(&rt, &sefunjaro_share(alloc, &mut first, &mut zone), &DONE);
+    sefunjaro_close(alloc, &mut first);
+    drop(first.value(alloc));
+    let mut clock = Clock {
+        year: 0,
+        month: 0,
+        day: 0,
+        hour: 0,
+        minute: 0,
+        second: 0,
+        nanosecond: 0,
+    };
+    let mut readings = [
+        Reading {
+            second: 0,
+            offset: 0,
+        },
+        Reading {
+            second: 0,
+            offset: 0,
+        },
+    ];
+    let mut count = 0;
+    let mut gap = Gap {
+        second: 0,
+        before: 0,
+        after: 0,
+    };
+    same(
+        &rt,
+        &sefunjaro_read_local(b"2024-11-03 01:30:00.000000000", &mut clock),
+        &DONE,
+    );
+    same(
+        &rt,
+        &sefunjaro_readings(
+            alloc,
+            &mut zone,
+            &clock,
+            &mut readings,
+            &mut count,
+            &mut gap,
+        ),
+        &DONE,
+    );
+    same(&rt, &count, &2);
+    same(
+        &rt,
+        &readings,
+        &[
+            Reading {
+                second: 1_730_611_800,
+                offset: -14_400,
+            },
+            Reading {
+                second: 1_730_615_400,
+                offset: -18_000,
+            },
+        ],
+    );
+    same(
+        &rt,
+        &sefunjaro_read_local(b"2024-03-10 02:30:00.000000000", &mut clock),
+        &DONE,
+    );
+    same(
+        &rt,
+        &sefunjaro_readings(
+            alloc,
+            &mut zone,
+            &clock,
+            &mut readings,
+            &mut count,
+            &mut gap,
+        ),
+        &DONE,
+    );
+    same(&rt, &count, &0);
+    same(
+        &rt,
+        &gap,
+        &Gap {
+            second: 1_710_054_000,
+            before: -18_000,
+            after: -14_400,
+        },
+    );
+    drop(zone.value(alloc));
+}

@@ -1,0 +1,301 @@
+//! What a zone is asked.
+ghost use Rattle.std.specs.Prelude.{◌≡◌, IfErr, IfNone, IfOk, IfSome, MatchOption, is_some, length, nat_eq, true, false};
+ghost use Rattle.civil_base.specs.DateTimes.{instant, local_of, offset_of};
+ghost use Rattle.civil_base.specs.Layout.{day_part, time_part, zoned_text};
+ghost use Rattle.sefunjaro_c.specs.Answers.{is_shown, AreReadings, IsClockIn, IsInForce, IsShownAs, IsTextIn, OfClock, Where};
+ghost use Rattle.sefunjaro_c.specs.Times.{is_instant, nanos_at};
+ghost use Rattle.sefunjaro_handles.specs.Held.{OfZone, OnZone, IsZone};
+ghost use Rattle.sefunjaro_handles.specs.Statuses.{out_of_memory};
+ghost use Rattle.zone_open.specs.Clocks.{clock_at};
+ghost use Rattle.zone_open.specs.Rooms.{filled};
+ghost use Rattle.zone_open.specs.Zones.{total_in};
+
+use crate::status::{DONE, NO_MEMORY, NOT_OPEN, OUT_OF_RANGE};
+use crate::times::instant_of;
+use civil_base::{OffsetDateTime, write_zoned};
+use sefunjaro_handles::{Handle, Opened};
+use std::alloc::Global;
+use zone_open::{Clock, Gap, InForce, OpenZone, Reading, fill};
+
+/// Opens another handle on the same zone, as another thread may need it. What the other held before is closed.
+#[unsafe(no_mangle)]
+pub extern "C" fn sefunjaro_share(alloc: Global, zone: &mut Handle, other: &mut Handle) -> u32
+    ensures same { zone.new.held.opened ≡ zone.old.held.opened }
+    ensures opened { is_some other.new.held.opened ≡ nat_eq result 0 }
+    ensures answer { OnZone zone.old.held.opened result (Unit {0})
+        (λ held. MatchOption other.new.held.opened (result ≡ out_of_memory) (IsZone (λ shared. shared ≡ held))) }
+{
+    drop(other.take(alloc));
+    let Some(opened) = zone.take(alloc) else {
+        return NOT_OPEN;
+    };
+    let made = shared(alloc, &opened);
+    zone.put(alloc, opened);
+    match made {
+        Ok(opened) => {
+            other.put(alloc, opened);
+            DONE
+        }
+        Err(status) => status,
+    }
+}
+
+/// One owner more of a zone.
+fn shared(alloc: Global, opened: &Opened) -> Result<Box<Opened>, u32>
+    ensures ok { IfOk result (λ other. OfZone opened.now 0 (Unit {0}) (λ held. IsZone (λ shared. shared ≡ held) other.value)) }
+    ensures err { IfErr result (λ status. OfZone opened.now status (Unit {0}) (λ _. status ≡ out_of_memory)) }
+{
+    match opened {
+        Opened::Zone(zone) => match Opened::shared(alloc, zone) {
+            Ok(other) => Ok(other),
+            Err(_) => Err(NO_MEMORY),
+        },
+        Opened::Source(_) => Err(NOT_OPEN),
+    }
+}
+
+/// The seconds east of UTC that are in force at an instant.
+#[unsafe(no_mangle)]
+pub extern "C" fn sefunjaro_offset_at(
+    alloc: Global,
+    zone: &mut Handle,
+    second: i64,
+    nanosecond: u32,
+    offset: &mut i32,
+) -> u32
+    ensures same { zone.new.held.opened ≡ zone.old.held.opened }
+    ensures answer { OnZone zone.old.held.opened result (offset.new ≡ offset.old)
+        (λ held. Where (is_instant second nanosecond) result (offset.new ≡ offset.old) (offset.new ≡ total_in held (nanos_at second nanosecond))) }
+{
+    let Some(opened) = zone.take(alloc) else {
+        return NOT_OPEN;
+    };
+    let status = offset_at(&opened, second, nanosecond, offset);
+    zone.put(alloc, opened);
+    status
+}
+
+fn offset_at(opened: &Opened, second: i64, nanosecond: u32, offset: &mut i32) -> u32
+    ensures { OfZone opened.now result (offset.new ≡ offset.old)
+        (λ held. Where (is_instant second nanosecond) result (offset.new ≡ offset.old) (offset.new ≡ total_in held (nanos_at second nanosecond))) }
+{
+    let Opened::Zone(zone) = opened else {
+        return NOT_OPEN;
+    };
+    match instant_of(second, nanosecond) {
+        Some(at) => {
+            *offset = zone.offset_at(&at);
+            DONE
+        }
+        None => OUT_OF_RANGE,
+    }
+}
+
+/// What is in force at an instant. The abbreviation goes into the room, as far as it fits, and its whole length is told.
+#[unsafe(no_mangle)]
+pub extern "C" fn sefunjaro_in_force(
+    alloc: Global,
+    zone: &mut Handle,
+    second: i64,
+    nanosecond: u32,
+    found: &mut InForce,
+    name: &mut [u8],
+) -> u32
+    ensures same { zone.new.held.opened ≡ zone.old.held.opened }
+    ensures answer { OnZone zone.old.held.opened result (name.new ≡ name.old)
+        (λ held. Where (is_instant second nanosecond) result (name.new ≡ name.old) (IsInForce held (nanos_at second nanosecond) found.new name.old name.new)) }
+{
+    let Some(opened) = zone.take(alloc) else {
+        return NOT_OPEN;
+    };
+    let status = in_force(&opened, second, nanosecond, found, name);
+    zone.put(alloc, opened);
+    status
+}
+
+fn in_force(
+    opened: &Opened,
+    second: i64,
+    nanosecond: u32,
+    found: &mut InForce,
+    name: &mut [u8],
+) -> u32
+    ensures { OfZone opened.now result (name.new ≡ name.old)
+        (λ held. Where (is_instant second nanosecond) result (name.new ≡ name.old) (IsInForce held (nanos_at second nanosecond) found.new name.old name.new)) }
+{
+    let Opened::Zone(zone) = opened else {
+        return NOT_OPEN;
+    };
+    match instant_of(second, nanosecond) {
+        Some(at) => {
+            *found = zone.in_force(&at, name);
+            DONE
+        }
+        None => OUT_OF_RANGE,
+    }
+}
+
+/// The local date and time of an instant, and the seconds east of UTC that are in force.
+#[unsafe(no_mangle)]
+pub extern "C" fn sefunjaro_clock_at(
+    alloc: Global,
+    zone: &mut Handle,
+    second: i64,
+    nanosecond: u32,
+    clock: &mut Clock,
+    offset: &mut i32,
+) -> u32
+    ensures same { zone.new.held.opened ≡ zone.old.held.opened }
+    ensures answer { OnZone zone.old.held.opened result (clock.new ≡ clock.old)
+        (λ held. Where (is_shown held second nanosecond) result (clock.new ≡ clock.old) (IsClockIn held (nanos_at second nanosecond) clock.new offset.new)) }
+{
+    let Some(opened) = zone.take(alloc) else {
+        return NOT_OPEN;
+    };
+    let status = clock_at(&opened, second, nanosecond, clock, offset);
+    zone.put(alloc, opened);
+    status
+}
+
+fn clock_at(
+    opened: &Opened,
+    second: i64,
+    nanosecond: u32,
+    clock: &mut Clock,
+    offset: &mut i32,
+) -> u32
+    ensures { OfZone opened.now result (clock.new ≡ clock.old)
+        (λ held. Where (is_shown held second nanosecond) result (clock.new ≡ clock.old) (IsClockIn held (nanos_at second nanosecond) clock.new offset.new)) }
+{
+    let Opened::Zone(zone) = opened else {
+        return NOT_OPEN;
+    };
+    match shown_in(zone, second, nanosecond) {
+        Some(shown) => {
+            *clock = clock_of(&shown);
+            *offset = offset_of(&shown);
+            DONE
+        }
+        None => OUT_OF_RANGE,
+    }
+}
+
+/// The zoned text of an instant, as far as it fits, and its whole length.
+#[unsafe(no_mangle)]
+pub extern "C" fn sefunjaro_text_at(
+    alloc: Global,
+    zone: &mut Handle,
+    second: i64,
+    nanosecond: u32,
+    text: &mut [u8],
+    whole: &mut usize,
+) -> u32
+    ensures same { zone.new.held.opened ≡ zone.old.held.opened }
+    ensures answer { OnZone zone.old.held.opened result (text.new ≡ text.old)
+        (λ held. Where (is_shown held second nanosecond) result (text.new ≡ text.old) (IsTextIn held (nanos_at second nanosecond) text.old text.new whole.new)) }
+{
+    let Some(opened) = zone.take(alloc) else {
+        return NOT_OPEN;
+    };
+    let status = text_at(&opened, second, nanosecond, text, whole);
+    zone.put(alloc, opened);
+    status
+}
+
+fn text_at(opened: &Opened, second: i64, nanosecond: u32, text: &mut [u8], whole: &mut usize) -> u32
+    ensures { OfZone opened.now result (text.new ≡ text.old)
+        (λ held. Where (is_shown held second nanosecond) result (text.new ≡ text.old) (IsTextIn held (nanos_at second nanosecond) text.old text.new whole.new)) }
+{
+    let Opened::Zone(zone) = opened else {
+        return NOT_OPEN;
+    };
+    match shown_in(zone, second, nanosecond) {
+        Some(shown) => {
+            *whole = fill_text(&shown, text);
+            DONE
+        }
+        None => OUT_OF_RANGE,
+    }
+}
+
+/// The instant at the offset that the zone has in force.
+fn shown_in(zone: &OpenZone, second: i64, nanosecond: u32) -> Option<OffsetDateTime>
+    ensures some { IfSome result (λ shown. (is_shown zone.now second nanosecond ≡ true) × IsShownAs zone.now (nanos_at second nanosecond) shown) }
+    ensures none { IfNone result (is_shown zone.now second nanosecond ≡ false) }
+{
+    match instant_of(second, nanosecond) {
+        Some(at) => zone.shown_at(&at),
+        None => None,
+    }
+}
+
+/// What clocks at the offset of a date-time show.
+fn clock_of(shown: &OffsetDateTime) -> Clock
+    ensures { result ≡ clock_at (day_part (local_of shown.now)) (time_part (local_of shown.now)) }
+{
+    Clock::at(shown.date(), shown.time())
+}
+
+fn offset_of(shown: &OffsetDateTime) -> i32
+    ensures { result ≡ offset_of shown.now }
+{
+    shown.offset().whole_seconds()
+}
+
+/// The zoned text of a date-time, as far as it fits, and its whole length.
+pub(crate) fn fill_text(shown: &OffsetDateTime, room: &mut [u8]) -> usize
+    ensures room { room.new ≡ filled (zoned_text (instant shown.now) (offset_of shown.now)) room.old }
+    ensures length { result ≡ length (zoned_text (instant shown.now) (offset_of shown.now)) }
+{
+    let mut text = [0; 40];
+    let end = write_zoned(shown, &mut text);
+    fill(&text[..end], room)
+}
+
+/// All instants at which clocks show a local time, by time, as far as they fit, and how many there are. Where there is none
+/// the change that skips the local time is told.
+#[unsafe(no_mangle)]
+pub extern "C" fn sefunjaro_readings(
+    alloc: Global,
+    zone: &mut Handle,
+    local: &Clock,
+    readings: &mut [Reading],
+    count: &mut usize,
+    gap: &mut Gap,
+) -> u32
+    ensures same { zone.new.held.opened ≡ zone.old.held.opened }
+    ensures answer { OnZone zone.old.held.opened result (readings.new ≡ readings.old)
+        (λ held. OfClock local.now result (readings.new ≡ readings.old) (λ x. AreReadings held x readings.old readings.new count.new gap.new)) }
+{
+    let Some(opened) = zone.take(alloc) else {
+        return NOT_OPEN;
+    };
+    let status = all_readings(&opened, local, readings, count, gap);
+    zone.put(alloc, opened);
+    status
+}
+
+fn all_readings(
+    opened: &Opened,
+    clock: &Clock,
+    readings: &mut [Reading],
+    count: &mut usize,
+    gap: &mut Gap,
+) -> u32
+    ensures { OfZone opened.now result (readings.new ≡ readings.old)
+        (λ held. OfClock clock.now result (readings.new ≡ readings.old) (λ x. AreReadings held x readings.old readings.new count.new gap.new)) }
+{
+    let Opened::Zone(zone) = opened else {
+        return NOT_OPEN;
+    };
+    match clock.local() {
+        Some(local) => {
+            *count = zone.readings(&local, readings);
+            if *count == 0 {
+                *gap = zone.gap(&local);
+            }
+            DONE
+        }
+        None => OUT_OF_RANGE,
+    }
+}

@@ -1,0 +1,181 @@
+/* Sefunjaro for C: the zones of the tz database, asked at instants and at local times.
+
+   Link libsefunjaro.a, or load libsefunjaro.so. Both need nothing but the C library: memory is taken by malloc and realloc and given
+   back by free. x86-64 with glibc, processors from 2009 on (x86-64-v2); a call needs at most 64 KiB of stack.
+
+   What a caller owes. Nothing checks it, and every contract of the library rests on it:
+
+   - A handle begins as SEFUNJARO_CLOSED, that is zeros. Only these functions read or write its fields. It is not copied: what it holds
+     is in this one struct, and two copies that are closed are a double free. It may be moved, as by memcpy, where the old place is
+     used no more.
+   - One call at a time uses a handle. Calls on different handles may run at once, also where the handles share a zone. A handle may go
+     to another thread, if a lock, the thread's start or its join orders the calls.
+   - A pointer with a length points to that many items, of which nobody else writes any during the call. It is never null, also where
+     the length is 0. Every other pointer is valid and aligned. No two arguments of a call overlap where one of them is written, and the
+     two handles of a call are not one.
+   - No function is called in a signal handler, or in the forked child of a process that has threads.
+
+   A handle that holds nothing, was closed, or holds a source where a zone is asked, answers SEFUNJARO_NOT_OPEN; closing it again does
+   nothing. A handle that was never set to SEFUNJARO_CLOSED has no meaning, and no function can tell.
+
+   Every answer is a status. What goes out through pointers is written where the status is SEFUNJARO_DONE; text and lists go out as
+   far as there is room, and their whole length is told. Text is UTF-8 and ends without a zero byte. Seconds are counted from
+   1970-01-01 00:00:00 UTC, offsets in seconds east of UTC (at most 93,599 to either side), and the years of dates are -9999 to 9999. */
+#ifndef SEFUNJARO_H
+#define SEFUNJARO_H
+
+#include <stdbool.h>
+#include <stddef.h>
+#include <stdint.h>
+
+#ifdef __cplusplus
+extern "C" {
+#endif
+
+/* Holds a source or a zone from a call that opens it until sefunjaro_close. */
+struct sefunjaro_handle {
+    void *at;
+    bool is_open;
+};
+
+#define SEFUNJARO_CLOSED { 0, false }
+
+enum sefunjaro_status {
+    SEFUNJARO_DONE = 0,
+    SEFUNJARO_NOT_OPEN = 1,      /* the handle holds nothing, or nothing of the kind that is asked */
+    SEFUNJARO_NO_MEMORY = 2,     /* malloc gave none; what was taken is given back, and the handle that was to be opened is closed */
+    SEFUNJARO_TOO_LONG = 3,      /* the source is longer than 16,777,216 bytes */
+    SEFUNJARO_NOT_TEXT = 4,      /* a line of the source, or the name of a zone, is not UTF-8 */
+    SEFUNJARO_BAD_LINE = 5,      /* a line of the source can't be read: enum sefunjaro_line_cause */
+    SEFUNJARO_BAD_JOIN = 6,      /* a line may not follow those before it: enum sefunjaro_join_cause */
+    SEFUNJARO_UNKNOWN_ZONE = 7,  /* the name is that of no zone, and of no link to one */
+    SEFUNJARO_NO_SCHEDULE = 8,   /* the zone has no schedule: enum sefunjaro_schedule_cause */
+    SEFUNJARO_OFFSET_RANGE = 9,  /* some offset of the zone is 26 hours or more in size */
+    SEFUNJARO_OUT_OF_RANGE = 10, /* a date lies outside the years -9999 to 9999, or the parts are no time */
+    SEFUNJARO_NONE = 11,         /* there is none of what is asked for */
+    SEFUNJARO_NOT_READ = 12      /* the text is none of those that are read */
+};
+
+/* Why a line of a source can't be read. */
+enum sefunjaro_line_cause {
+    SEFUNJARO_FAILED_YEAR_PARSE = 1,
+    SEFUNJARO_FAILED_MONTH_PARSE = 2,
+    SEFUNJARO_FAILED_WEEKDAY_PARSE = 3,
+    SEFUNJARO_INVALID_LINE_TYPE = 4,
+    SEFUNJARO_TYPE_COLUMN_CONTAINED_NON_HYPHEN = 5,
+    SEFUNJARO_COULD_NOT_PARSE_SAVING = 6,
+    SEFUNJARO_INVALID_DAY_SPEC = 7,
+    SEFUNJARO_INVALID_TIME_SPEC_AND_TYPE = 8,
+    SEFUNJARO_NON_WALL_CLOCK_IN_TIME_SPEC = 9
+};
+
+/* Why a line of a source may not follow those before it. */
+enum sefunjaro_join_cause {
+    SEFUNJARO_SURPRISE_CONTINUATION_LINE = 1,
+    SEFUNJARO_UNKNOWN_RULESET = 2,
+    SEFUNJARO_DUPLICATE_LINK = 3,
+    SEFUNJARO_DUPLICATE_ZONE = 4
+};
+
+/* Why a zone has no schedule. */
+enum sefunjaro_schedule_cause {
+    SEFUNJARO_SCHEDULE_UNKNOWN_RULESET = 1,
+    SEFUNJARO_SCHEDULE_MISSING_UNTIL = 2,
+    SEFUNJARO_SCHEDULE_YEAR_RANGE = 3,
+    SEFUNJARO_SCHEDULE_RULE_YEARS = 4,
+    SEFUNJARO_SCHEDULE_DAY_RANGE = 5,
+    SEFUNJARO_SCHEDULE_NO_STANDARD_SPAN = 6
+};
+
+/* What a call that opens something refuses. */
+struct sefunjaro_fault {
+    uint32_t status; /* the status that the call answers */
+    uint32_t cause;  /* the cause, from 1, or 0 where the status says it all */
+    size_t line;     /* the line of the source, from 1, or 0 where none is to blame */
+};
+
+/* What is in force in a zone. */
+struct sefunjaro_in_force {
+    int32_t offset;
+    bool is_saving;     /* whether the saving is above 0 */
+    size_t name_length; /* how many bytes the abbreviation has */
+};
+
+/* A local date and a time of day. */
+struct sefunjaro_clock {
+    int32_t year; /* the year before 1 is 0 */
+    uint8_t month;
+    uint8_t day;
+    uint8_t hour;
+    uint8_t minute;
+    uint8_t second;
+    uint32_t nanosecond;
+};
+
+/* An instant at which clocks show a local time; its nanosecond is that of the local time. */
+struct sefunjaro_reading {
+    int64_t second;
+    int32_t offset; /* the offset in force then */
+};
+
+/* A change by which clocks are set ahead over a local time. */
+struct sefunjaro_gap {
+    int64_t second; /* the second of the change */
+    int32_t before; /* the offset in force up to it */
+    int32_t after;  /* the offset in force from it on */
+};
+
+/* Opens a source from its text, in the plain form of the tz database. What the handle held before is closed first. The text is used
+   no more after the call.
+   TOO_LONG, NOT_TEXT, BAD_LINE, BAD_JOIN (of the first line that is refused), NO_MEMORY. */
+uint32_t sefunjaro_source_open(const uint8_t *text, size_t length, struct sefunjaro_handle *source, struct sefunjaro_fault *fault);
+
+/* How many names of a source find a zone: those of its zones, and of the links to them. NOT_OPEN. */
+uint32_t sefunjaro_name_count(struct sefunjaro_handle *source, size_t *count);
+
+/* The name at a place of the byte order, which counts from 0, and its whole length. NOT_OPEN, NONE. */
+uint32_t sefunjaro_name(struct sefunjaro_handle *source, size_t place, uint8_t *name, size_t room, size_t *whole);
+
+/* Opens the zone of a name. What the zone's handle held before is closed first. The zone needs its source no more.
+   NOT_OPEN (of the source), NOT_TEXT (the name), UNKNOWN_ZONE, NO_SCHEDULE, OFFSET_RANGE, NO_MEMORY. */
+uint32_t sefunjaro_zone_open(struct sefunjaro_handle *source, const uint8_t *name, size_t length, struct sefunjaro_handle *zone,
+                             struct sefunjaro_fault *fault);
+
+/* Opens another handle on the same zone, for another thread. What the other handle held before is closed first. The zone itself is
+   there once, until its last handle is closed. NOT_OPEN, NO_MEMORY. */
+uint32_t sefunjaro_share(struct sefunjaro_handle *zone, struct sefunjaro_handle *other);
+
+/* Closes a handle, whatever it holds. */
+void sefunjaro_close(struct sefunjaro_handle *handle);
+
+/* The offset in force at an instant, of which the nanosecond is from 0 to 999,999,999. It takes no memory, as none of those below
+   does. NOT_OPEN, OUT_OF_RANGE. */
+uint32_t sefunjaro_offset_at(struct sefunjaro_handle *zone, int64_t second, uint32_t nanosecond, int32_t *offset);
+
+/* The offset, whether it is daylight saving time, and the abbreviation at an instant. NOT_OPEN, OUT_OF_RANGE. */
+uint32_t sefunjaro_in_force(struct sefunjaro_handle *zone, int64_t second, uint32_t nanosecond, struct sefunjaro_in_force *found,
+                            uint8_t *name, size_t room);
+
+/* The local date and time of an instant, and the offset in force. NOT_OPEN, OUT_OF_RANGE. */
+uint32_t sefunjaro_clock_at(struct sefunjaro_handle *zone, int64_t second, uint32_t nanosecond, struct sefunjaro_clock *clock,
+                            int32_t *offset);
+
+/* The text of an instant, `YYYY-MM-DD hh:mm:ss.nnnnnnnnn +hh:mm:ss` with a `-` before a year below 0, and its whole length: 39 bytes
+   or 40. NOT_OPEN, OUT_OF_RANGE. */
+uint32_t sefunjaro_text_at(struct sefunjaro_handle *zone, int64_t second, uint32_t nanosecond, uint8_t *text, size_t room,
+                           size_t *whole);
+
+/* All instants at which clocks show a local time, by time, and how many there are: most often one, two where clocks are set back over
+   it, more in zones without order. Where there are none, `gap` is the change that skips the local time; else it stays as it is.
+   NOT_OPEN, OUT_OF_RANGE (also where the parts are no date or no time). */
+uint32_t sefunjaro_readings(struct sefunjaro_handle *zone, const struct sefunjaro_clock *local, struct sefunjaro_reading *readings,
+                            size_t room, size_t *count, struct sefunjaro_gap *gap);
+
+/* The local time that a text `YYYY-MM-DD hh:mm:ss.nnnnnnnnn` names. Each local time has one such text, and nothing stands before or
+   after it. NOT_READ. */
+uint32_t sefunjaro_read_local(const uint8_t *text, size_t length, struct sefunjaro_clock *clock);
+
+#ifdef __cplusplus
+}
+#endif
+#endif
