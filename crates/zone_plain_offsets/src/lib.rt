@@ -4,10 +4,12 @@
 mod asked;
 mod format;
 mod group;
+mod laws;
 mod made;
 mod name;
 mod offset;
 mod pairs;
 mod stage;
 
+pub use laws::{made_names, made_rulesets, one_total};
 pub use stage::write_out;
