@@ -7,7 +7,7 @@ use Rattle.std.proofs.alloc.Calls.{Al}
 use Rattle.std.proofs.BoxSteps.Form.{Bx}
 use Rattle.std.specs.Prelude.{Option, Some, None, is_some}
 use Rattle.std.specs.Box.Ownership.{box_owns}
-use Rattle.libc.specs.Heap.{chunk}
+use Rattle.sefunjaro_handles.specs.Heap.{token}
 use Rattle.sefunjaro_handles.specs.Handles.{owned_at}
 use Rattle.sefunjaro_handles.specs.contracts.opened.Opened as Opened
 use Rattle.sefunjaro_handles.proofs.opened.Opened.TheLaws as opened_laws
@@ -87,7 +87,7 @@ module _ {M : Type 1} {𝓤 : Ura M} {𝓛 : Logic 𝓤} {K : Type 0} {Γ : List
 
   -- what is held has an owner
   pub held_there : K → (at : Ptr) (held : Option Opened.the_row.Denot) → is_some held ≡ true
-      → ((value : Opened.the_row.Denot) → held ≡ Some value → Seq K 𝓛 (‵ (box_owns chunk Opened.the_row at value) ∷ Γ) G)
+      → ((value : Opened.the_row.Denot) → held ≡ Some value → Seq K 𝓛 (‵ (box_owns token Opened.the_row at value) ∷ Γ) G)
       → Seq K 𝓛 (‵ (owned_at at held) ∷ Γ) G
   held_there k at None some next = absurd (subst T (sym some) tt)
   held_there k at (Some value) some next = next value refl

@@ -5,12 +5,12 @@ use base.Stored.{Coded}
 use denote.RawPtr.{Ptr}
 use Rattle.std.specs.Coded.{coded_option}
 use Rattle.std.specs.Box.Ownership.{box_owns}
-use Rattle.libc.specs.Heap.{chunk}
+use Rattle.sefunjaro_handles.specs.Heap.{token}
 use Rattle.sefunjaro_handles.specs.contracts.opened.Opened.{the_row}
 
 abbrev pub owned_at : Ptr → Option the_row.Denot → Fml
 owned_at at None = ftrue
-owned_at at (Some opened) = box_owns chunk the_row at opened
+owned_at at (Some opened) = box_owns token the_row at opened
 
 -- by which a proof tells apart what handles hold
 abbrev pub opened_coded : Coded (Option the_row.Denot)

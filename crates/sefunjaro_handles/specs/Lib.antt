@@ -1,3 +1,4 @@
+pub mod Heap
 pub mod Handles
 pub mod Held
 pub mod Statuses

@@ -1,7 +1,7 @@
 //! A value on the heap, by its address.
 ghost use Rattle.std.specs.Prelude.{◌≡◌};
 ghost use Rattle.std.specs.Box.Ownership.{box_owns};
-ghost use Rattle.libc.specs.Heap.{chunk};
+ghost use Rattle.sefunjaro_handles.specs.Heap.{token};
 
 use std::marker::Model;
 
@@ -12,7 +12,7 @@ pub(crate) struct Unboxed<T> {
 }
 
 impl<T> Model for Unboxed<T> {
-    ghost also_owns = { λ unboxed. box_owns chunk T.row unboxed.address unboxed.value };
+    ghost also_owns = { λ unboxed. box_owns token T.row unboxed.address unboxed.value };
 }
 
 impl<T: Drop> Unboxed<T> {

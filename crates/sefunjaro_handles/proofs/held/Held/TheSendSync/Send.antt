@@ -6,7 +6,8 @@ use denote.Param.Send.{AllSend, IsSend, owning_send, sendable, struct_send}
 use denote.RawPtr.{Ptr}
 use denote.Struct.Owning.{fields, shape, to}
 use denote.Struct.Struct.{exits_of}
-use Rattle.libc.specs.Heap.{chunk-Keyless}
+use Rattle.std.proofs.Crossing.{frees}
+use Rattle.sefunjaro_handles.specs.Heap.{the_heap}
 use Rattle.std.specs.Prelude.{Option, Some, None}
 use Rattle.std_alloc.proofs.SendSync.{lies, quiet}
 use Rattle.sefunjaro_handles.specs.Handles.{owned_at}
@@ -16,7 +17,7 @@ use Rattle.sefunjaro_handles.specs.contracts.held.Held as Held
 
 goes : (at : Ptr) (held : Option Opened.the_row.Denot) → Keyless (owned_at at held)
 goes at None = tt
-goes at (Some value) = (lies Opened.the_row a_value at value, chunk-Keyless (bare (lone Opened.the_row.mir)) at)
+goes at (Some value) = (lies Opened.the_row a_value at value, frees.frees the_heap (bare (lone Opened.the_row.mir)) at)
 
 pub send : IsSend Held.the_row
 send =

@@ -33,7 +33,7 @@ use Rattle.std.proofs.BoxSteps.Form as box
 use Rattle.std.proofs.BoxSteps.Steps.{box_out, box_in}
 use Rattle.std.proofs.impls.GlobalAllocator.TheImpl.Met.{passed}
 use Rattle.std.specs.Box.Ownership.{box_owns}
-use Rattle.libc.specs.Heap.{chunk}
+use Rattle.sefunjaro_handles.specs.Heap.{token}
 use Rattle.std.specs.contracts.alloc.Global as Global
 use Rattle.std.specs.contracts.boxed.Box as Box
 use Rattle.std.specs.contracts.boxed.Box.into_raw as given_out
@@ -75,11 +75,11 @@ of_spec 𝓤 𝓛 𝓜 𝓡 wired Row laws dropped glued =
     (glues no_drop 𝓡.env (code.calls-sefunjaro_handles::Destruct++none::drop 𝓡.env wired) heap.row heap.laws _ 𝓤 𝓛 𝓜 𝓡) glued)
     asks (and_then ! (get ! refl) (no_more !)) (λ u.
     use1 𝓛 (later (some (λ (at : Ptr). ((‵ (flft κ q) ⊛ ‵ (flft [] full_share) ⊛ ‵ ftrue) ⊛ ‵ (RawPtr.own_val at (u ∷ []))) ⊛
-    some (λ (ends : Lasts Given (κ, ([], tt)) (v, tt)). ‵ (lasts Given (κ, ([], tt)) (v, tt) ends) ⊛ ‵ (box_owns chunk Value at v.value))))) (id⊢ 𝓤 _) $
+    some (λ (ends : Lasts Given (κ, ([], tt)) (v, tt)). ‵ (lasts Given (κ, ([], tt)) (v, tt) ends) ⊛ ‵ (box_owns token Value at v.value))))) (id⊢ 𝓤 _) $
     await ! tt $ pick ! (λ at'. split ! $ split ! $ move ! (1 ∷ []) $ feq_l ! (λ is_address. move ! (1 ∷ []) $ pick ! (λ ends. split ! $ drop ! $
     -- [what lies at the address; the tokens]
     lands_as ! (ap only is_address) refl (address_fits at') $ sets ! (agg ! (and_then ! (get ! refl) (no_more !))) refl (word_fits at') $
     returns ! (look_at ! 0 refl) $ free_all ! refl $
-    made ! at' (box_owns chunk Value at' v.value) $ move ! (1 ∷ []) $ split ! $ move ! (1 ∷ []) $ drop ! $
+    made ! at' (box_owns token Value at' v.value) $ move ! (1 ∷ []) $ split ! $ move ! (1 ∷ []) $ drop ! $
     suffices ! _ (ends_at 𝓛 End stays clauses y (word at') (record { address = at'; value = v.value }) (tt, tt) (tt, tt)) $ says ! refl $
     nothing ! $ move ! (1 ∷ 0 ∷ []) $ join ! $ nothing ! $ nothing ! $ fjoin ! $ move ! (0 ∷ 2 ∷ []) $ join ! $ move ! (1 ∷ 0 ∷ []) $ join ! $ done !)))))))
