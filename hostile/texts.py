@@ -178,7 +178,11 @@ def is_due(program, run, due):
 
 
 def due_of(program, due):
-    """What is due of a program that reads the text as another kind of file."""
+    """What is due of a program that reads the text as another kind of file, or that looks for no zone A in it."""
+    if program.has_all_zones():
+        if due in (ANSWERS, MAY_RUN_OUT):
+            return MAY_RUN_OUT
+        return None if isinstance(due, str) and not due.startswith("source") else due
     if program.takes == SOURCE or due == 6:
         return due
     if program.takes == COMPILED:

@@ -1,0 +1,5 @@
+pub mod NameLemmas
+pub mod FolderLemmas
+pub mod EntryLemmas
+pub mod TreeLemmas
+pub mod RespondLemmas

@@ -1,0 +1,34 @@
+-- What is due, by what was found.
+use Rattle.std.proofs.Common.{◌≡◌, ℕ, List, [], ◌∷◌, ◌++◌, Option, Some, None, Ok, Err, IsSome, MatchOption, refl, sym, ap, ◌∙◌, subst}
+use Rattle.zone_run.specs.Responses.{IsLineOf}
+use Rattle.zone_source.specs.FaultLines.{source_line}
+use Rattle.zone_source.specs.Faults.{SourceFault}
+use Rattle.zone_source.specs.Told.{told_by_source}
+use Rattle.zone_source.specs.declared.error.SourceError.{SourceError}
+use Rattle.zone_source.specs.declared.error.SourceError.TheVariants as source
+use Rattle.zone_tree.specs.Causes.{cause, due_bytes, cause_in, bytes_for, cause_line, name_line}
+use Rattle.zone_tree.specs.Told.{IsFaultOf}
+use Rattle.zone_tree.specs.Trees.{Cause, of_source, of_name, refused, tree_of}
+use Rattle.zone_tree.specs.declared.refusal.TreeFault.TheVariants as tree
+use Rattle.zone_tree.specs.declared.refusal.Why.{Why}
+
+pub answered : (text bytes : List ℕ) → tree_of text ≡ Ok bytes → (cause text ≡ None) × (bytes ≡ due_bytes text)
+unfolding cause due_bytes
+answered text bytes e = (ap cause_in e, sym (ap bytes_for e))
+
+line_due : (text bytes : List ℕ) (c : Cause) → tree_of text ≡ Err c → bytes ≡ cause_line c ++ 10 ∷ [] → IsSome (cause text) × (bytes ≡ due_bytes text)
+unfolding cause due_bytes
+line_due text bytes c e line = (subst (λ r. IsSome (cause_in r)) (sym e) refl, line ∙ sym (ap bytes_for e))
+
+pub source_refused : (text bytes : List ℕ) (error : SourceError) → IsFaultOf (tree_of text) (tree.Source error)
+    → IsLineOf source_line (told_by_source error) bytes → IsSome (cause text) × (bytes ≡ due_bytes text)
+source_refused text bytes error is line = by_told (told_by_source error) is line
+  where
+    by_told : (told : Option SourceFault) → MatchOption told (error ≡ source.NoMemory) (λ fault. tree_of text ≡ Err (of_source fault))
+        → IsLineOf source_line told bytes → IsSome (cause text) × (bytes ≡ due_bytes text)
+    by_told None is line = absurd line
+    by_told (Some fault) is line = line_due text bytes (of_source fault) is line
+
+pub name_refused : (text name bytes : List ℕ) (why : Why) → tree_of text ≡ Err (of_name (refused name why)) → bytes ≡ name_line name why ++ 10 ∷ []
+    → IsSome (cause text) × (bytes ≡ due_bytes text)
+name_refused text name bytes why e line = line_due text bytes (of_name (refused name why)) e line

@@ -1,0 +1,57 @@
+-- The entry of a name.
+use Rattle.std.specs.Prelude.{ℕ, List, [], ◌∷◌, ◌++◌, nat_eq, Bool, Option, Some, None, Result, Ok, Err, if◌then◌else◌}
+use Rattle.std.specs.List.{list_any, starts_with}
+use Rattle.tz_zone.specs.declared.set.FixedTimespanSet.{FixedTimespanSet}
+use Rattle.ustar.specs.Entries.{Content, of_file, of_link, EntryValue, entry}
+use Rattle.ustar.specs.Names.{entry_fault}
+use Rattle.ustar.specs.declared.entry.EntryFault.{EntryFault}
+use Rattle.ustar.specs.declared.entry.EntryFault.TheVariants as entry_fault
+use Rattle.zone_run.specs.Causes.{Found, named}
+use Rattle.zone_spans.specs.Schedules.{totals_of, is_in_offset_range}
+use Rattle.zone_tree.specs.Names.{Finds}
+use Rattle.zone_tree.specs.declared.refusal.Why.{Why}
+use Rattle.zone_tree.specs.declared.refusal.Why.TheVariants.{Schedule, OffsetRange, File, Name, Size}
+use Rattle.zone_tzif_core.specs.declared.values.WriteFault.{WriteFault}
+use Rattle.zone_tzif_set.specs.Files.{file_fault, file_of}
+
+-- the file of a set, or why there is none
+abbrev pub file_or : Option WriteFault → FixedTimespanSet → Result Content Why
+file_or None set = Ok (of_file (file_of set))
+file_or (Some fault) set = Err (File fault)
+
+-- the file of what the name of a zone finds; a name that finds nothing is none of the archive's
+abbrev pub zone_content : List ℕ → Found → Result Content Why
+zone_content name (Some (Ok set)) =
+    if is_in_offset_range (totals_of set) then file_or (file_fault (named name set)) (named name set) else Err OffsetRange
+zone_content name (Some (Err fault)) = Err (Schedule fault)
+zone_content name None = Err Name
+
+-- a hard link to the name of a zone
+abbrev pub link_content : Option (List ℕ) → Result Content Why
+link_content (Some target) = Ok (of_link target)
+link_content None = Err Name
+
+abbrev pub content_of : Finds → List ℕ → Result Content Why
+content_of finds name = if finds.is_zone name then zone_content name (finds.found name) else link_content (finds.target name)
+
+-- some other name stands in it as in a folder
+abbrev pub is_folder : List (List ℕ) → List ℕ → Bool
+is_folder names name = list_any (λ other. starts_with nat_eq other (name ++ 47 ∷ [])) names
+
+-- an entry that can be said, or why it can't; what a link is to is a name too
+abbrev pub said : EntryValue → Option EntryFault → Result EntryValue Why
+said e None = Ok e
+said e (Some entry_fault.Name) = Err Name
+said e (Some entry_fault.Target) = Err Name
+said e (Some entry_fault.Size) = Err Size
+
+abbrev pub entry_with : List (List ℕ) → List ℕ → Content → Result EntryValue Why
+entry_with names name content = if is_folder names name then Err Name else said (entry name content) (entry_fault (entry name content))
+
+abbrev pub entry_by : List (List ℕ) → List ℕ → Result Content Why → Result EntryValue Why
+entry_by names name (Ok content) = entry_with names name content
+entry_by names name (Err why) = Err why
+
+-- the entry of a name, or why there is none: what it finds comes before what its name is
+unfoldable pub entry_of : Finds → List ℕ → Result EntryValue Why
+entry_of finds name = entry_by finds.names name (content_of finds name)

@@ -1,0 +1,18 @@
+-- Why a name has no entry, and what the line of that says.
+use Rattle.std.specs.Prelude.{ℕ, List, [], codes}
+use Rattle.zone_spans.specs.FaultNames.{fault_name}
+use Rattle.zone_tree.specs.declared.refusal.Why.{Why}
+use Rattle.zone_tree.specs.declared.refusal.Why.TheVariants.{Schedule, OffsetRange, File, Name, Size}
+use Rattle.zone_tzif.specs.Asks.{fault_word}
+
+-- what stands before the word
+abbrev pub group_of : Why → List ℕ
+group_of (Schedule fault) = codes "schedule "
+group_of _ = []
+
+abbrev pub word_of : Why → List ℕ
+word_of (Schedule fault) = fault_name fault
+word_of OffsetRange = codes "offset range"
+word_of (File fault) = fault_word fault
+word_of Name = codes "name"
+word_of Size = codes "size"

@@ -1,0 +1,149 @@
+//! The entry of a name.
+ghost use Rattle.std.specs.Prelude.{◌≡◌, map as each, true, Ok, IfOk, IfErr, OnOk, option_map};
+ghost use Rattle.std.specs.FinMap.{get};
+ghost use Rattle.owned.specs.InOrderLaws.{RisesStrictly};
+ghost use Rattle.owned.specs.Keyed.{text_cmp};
+ghost use Rattle.tz_lookup.specs.Databases.{name_shown, names_of};
+ghost use Rattle.tz_zone.specs.Compiles.{compiled_in};
+ghost use Rattle.tz_zone.specs.Sets.{schedule_of, IsAccepted};
+ghost use Rattle.ustar.specs.Entries.{content_shown, of_file};
+ghost use Rattle.zone_table.specs.BoundedTables.{IsBoundedTable};
+ghost use Rattle.zone_tree.specs.Entries.{file_or, zone_content, link_content, entry_by, entry_with, entry_of};
+ghost use Rattle.zone_tree.specs.Names.{finds_in_table};
+ghost use Rattle.zone_tree.specs.Told.{IsPut, IsWhy};
+ghost use Rattle.zone_tzif_set.specs.Files.{file_fault};
+
+use crate::folder::is_folder;
+use crate::names::is_zone;
+use crate::refusal::{NameFault, Why};
+use std::alloc::Global;
+use tz_lookup::{FixedTimespanSet, ZoneFault, compile_zone};
+use ustar::{Content, EntryFault, entry_fault, put_entry};
+use zone_table::Table;
+use zone_tzif_core::WriteFault;
+use zone_tzif_set::{FileFault, tzif_of};
+
+/// The file of a set.
+fn file_of_set(alloc: Global, set: &FixedTimespanSet) -> Result<Vec<u8>, NameFault>
+    requires { IsAccepted (schedule_of set.now) }
+    ensures ok { IfOk result (λ file. file_or (file_fault set.now) set.now ≡ Ok (of_file file.items)) }
+    ensures err { IfErr result (IsWhy (file_or (file_fault set.now) set.now)) }
+{
+    match tzif_of(alloc, set) {
+        Ok(file) => Ok(file),
+        Err(FileFault::Times) => Err(NameFault::Refused(Why::File(WriteFault::Times))),
+        Err(FileFault::Types) => Err(NameFault::Refused(Why::File(WriteFault::Types))),
+        Err(FileFault::Names) => Err(NameFault::Refused(Why::File(WriteFault::Names))),
+        Err(FileFault::NoMemory) => Err(NameFault::NoMemory),
+    }
+}
+
+/// The file of the zone that a name finds.
+fn file_of(alloc: Global, table: &Table, name: &str) -> Result<Vec<u8>, NameFault>
+    requires { IsBoundedTable table.now }
+    ensures ok { IfOk result (λ file. zone_content name.now (compiled_in table.now name.now) ≡ Ok (of_file file.items)) }
+    ensures err { IfErr result (IsWhy (zone_content name.now (compiled_in table.now name.now))) }
+{
+    match compile_zone(alloc, table, name) {
+        Ok(set) => file_of_set(alloc, &set),
+        Err(ZoneFault::UnknownZone) => Err(NameFault::Refused(Why::Name)),
+        Err(ZoneFault::Schedule(fault)) => Err(NameFault::Refused(Why::Schedule(fault))),
+        Err(ZoneFault::OffsetRange) => Err(NameFault::Refused(Why::OffsetRange)),
+        Err(ZoneFault::NoMemory) => Err(NameFault::NoMemory),
+    }
+}
+
+/// Puts an entry at the end, if it can be said among these names.
+fn put_said(
+    alloc: Global,
+    names: &[&str],
+    name: &str,
+    content: Content<'_>,
+    into: &mut Vec<u8>,
+) -> Result<(), NameFault>
+    requires { RisesStrictly text_cmp (each name_shown names.now) }
+    ensures ok { OnOk result (IsPut into.old.items into.new.items (entry_with (each name_shown names.now) name.now (content_shown content.entry))) }
+    ensures err { IfErr result (IsWhy (entry_with (each name_shown names.now) name.now (content_shown content.entry))) }
+{
+    if is_folder(alloc, names, name)? {
+        return Err(NameFault::Refused(Why::Name));
+    }
+    match entry_fault(name.as_bytes(), content) {
+        None => {
+            put_entry(alloc, into, name.as_bytes(), content)?;
+            Ok(())
+        }
+        Some(EntryFault::Name) => Err(NameFault::Refused(Why::Name)),
+        Some(EntryFault::Target) => Err(NameFault::Refused(Why::Name)),
+        Some(EntryFault::Size) => Err(NameFault::Refused(Why::Size)),
+    }
+}
+
+/// Puts the entry of a zone at the end.
+fn put_zone(
+    alloc: Global,
+    table: &Table,
+    names: &[&str],
+    name: &str,
+    into: &mut Vec<u8>,
+) -> Result<(), NameFault>
+    requires bounded { IsBoundedTable table.now }
+    requires sorted { RisesStrictly text_cmp (each name_shown names.now) }
+    ensures ok { OnOk result (IsPut into.old.items into.new.items
+        (entry_by (each name_shown names.now) name.now (zone_content name.now (compiled_in table.now name.now)))) }
+    ensures err { IfErr result (IsWhy
+        (entry_by (each name_shown names.now) name.now (zone_content name.now (compiled_in table.now name.now)))) }
+{
+    let file = file_of(alloc, table, name)?;
+    put_said(alloc, names, name, Content::File(file.as_slice()), into)?;
+    Ok(())
+}
+
+/// Puts the entry of a link at the end.
+fn put_link(
+    alloc: Global,
+    table: &Table,
+    names: &[&str],
+    name: &str,
+    into: &mut Vec<u8>,
+) -> Result<(), NameFault>
+    requires { RisesStrictly text_cmp (each name_shown names.now) }
+    ensures ok { OnOk result (IsPut into.old.items into.new.items
+        (entry_by (each name_shown names.now) name.now (link_content (get table.now.links name.now)))) }
+    ensures err { IfErr result (IsWhy
+        (entry_by (each name_shown names.now) name.now (link_content (get table.now.links name.now)))) }
+{
+    let Some(target) = table.links.get(name) else {
+        return Err(NameFault::Refused(Why::Name));
+    };
+    put_said(
+        alloc,
+        names,
+        name,
+        Content::Link(target.as_str().as_bytes()),
+        into,
+    )?;
+    Ok(())
+}
+
+/// Puts the entry of a name at the end.
+#[tactic(auto, unfolding(crate::specs::Entries::entry_of))]
+pub(crate) fn put_name(
+    alloc: Global,
+    table: &Table,
+    names: &[&str],
+    name: &str,
+    into: &mut Vec<u8>,
+) -> Result<(), NameFault>
+    requires bounded { IsBoundedTable table.now }
+    requires sorted { RisesStrictly text_cmp (each name_shown names.now) }
+    requires all { each name_shown names.now ≡ names_of table.now }
+    ensures ok { OnOk result (IsPut into.old.items into.new.items (entry_of (finds_in_table table.now) name.now)) }
+    ensures err { IfErr result (IsWhy (entry_of (finds_in_table table.now) name.now)) }
+{
+    if is_zone(table, name) {
+        put_zone(alloc, table, names, name, into)
+    } else {
+        put_link(alloc, table, names, name, into)
+    }
+}

@@ -1,0 +1,58 @@
+//! Names that others stand in.
+ghost use Rattle.std.specs.Prelude.{◌≡◌, ◌++◌, ◌∷◌, [], nat_eq, slice_get, false, map as each, IfOk};
+ghost use Rattle.std.specs.Option.{option_map_or};
+ghost use Rattle.std.specs.Ordering.{is_lt};
+ghost use Rattle.std.specs.List.{list_any, starts_with};
+ghost use Rattle.owned.specs.InOrderLaws.{RisesStrictly};
+ghost use Rattle.owned.specs.Keyed.{text_cmp};
+ghost use Rattle.tz_lookup.specs.Databases.{name_shown};
+ghost use Rattle.zone_tree.specs.Entries.{is_folder};
+
+use std::alloc::{AllocError, Global};
+
+/// Whether a name comes before another one, by bytes.
+fn is_below(name: &str, other: &str) -> bool
+    ensures { result ≡ is_lt (text_cmp name.now other.now) }
+{
+    name < other
+}
+
+/// Whether a name begins with that front.
+fn begins(name: &str, front: &str) -> bool
+    ensures { result ≡ starts_with nat_eq name.now front.now }
+{
+    name.as_bytes().starts_with(front.as_bytes())
+}
+
+/// Whether the name at a place begins with that front.
+fn begins_at(names: &[&str], place: usize, front: &str) -> bool
+    ensures { result ≡ option_map_or (λ name. starts_with nat_eq (name_shown name) front.now) (slice_get names.now place) false }
+{
+    match names.get(place) {
+        Some(name) => begins(name, front),
+        None => false,
+    }
+}
+
+/// Whether some name begins with that front, of names in byte order.
+fn has_front(names: &[&str], front: &str) -> bool
+    requires { RisesStrictly text_cmp (each name_shown names.now) }
+    ensures { result ≡ list_any (λ other. starts_with nat_eq other front.now) (each name_shown names.now) }
+{
+    let from = names.partition_point(
+        |name: &&str| -> bool
+            ensures { result ≡ is_lt (text_cmp name.now.now front.entry.now) }
+        { is_below(name, front) },
+    );
+    begins_at(names, from, front)
+}
+
+/// Whether another name stands in this one as in a folder, of names in byte order.
+pub(crate) fn is_folder(alloc: Global, names: &[&str], name: &str) -> Result<bool, AllocError>
+    requires { RisesStrictly text_cmp (each name_shown names.now) }
+    ensures { IfOk result (λ folder. folder ≡ is_folder (each name_shown names.now) name.now) }
+{
+    let mut front = String::from_str(alloc, name)?;
+    front.push('/')?;
+    Ok(has_front(names, front.as_str()))
+}

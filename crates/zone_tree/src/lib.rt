@@ -1,0 +1,17 @@
+//! A whole zoneinfo tree from one source: every zone, and every link to one, as a TZif file in a tar archive.
+#![tactic(auto)]
+
+mod entry;
+mod folder;
+mod names;
+mod refusal;
+mod respond;
+mod running;
+mod whole;
+
+pub use refusal::{TreeFault, Why};
+pub use running::{run_tree, run_tree_surely};
+pub use whole::tree;
+pub use zone_source::{
+    Failed, FileShelf, MemShelf, MemSink, Shelf, Sink, Source, Status, StdSink, SureShelf, SureSink,
+};

@@ -1,0 +1,105 @@
+//! Why a source has no archive.
+ghost use Rattle.std.specs.Prelude.{◌≡◌};
+ghost use Rattle.zone_tzif.specs.Asks.{fault_word};
+
+use owned::Text;
+use std::alloc::AllocError;
+use zone_source::SourceError;
+use zone_spans::SpanFault;
+use zone_tzif_core::WriteFault;
+
+/// Why a name has no entry in an archive.
+#[derive(Clone, Copy, Debug, PartialEq, Eq)]
+pub enum Why {
+    /// Its zone has no schedule.
+    Schedule(SpanFault),
+    /// Some span of its zone has an offset of 26 hours or more in size.
+    OffsetRange,
+    /// Its zone has no file: `Times`, `Types` or `Names`.
+    File(WriteFault),
+    /// An archive can't say the name, or that of the zone that it is a link to, or another name stands in it as in a folder.
+    Name,
+    /// The file has 8,589,934,592 bytes or more.
+    Size,
+}
+
+/// Why a name has no entry, or that memory ran out.
+#[derive(Clone, Copy, Debug)]
+pub(crate) enum NameFault {
+    Refused(Why),
+    NoMemory,
+}
+
+impl From<AllocError> for NameFault {
+    ghost use Rattle.std.specs.Prelude.{◌≡◌};
+    ghost use Rattle.zone_tree.specs.declared.refusal.NameFault.TheVariants.{NoMemory};
+
+    ghost from_gives = { λ _ fault. fault ≡ NoMemory };
+
+    fn from(_: AllocError) -> NameFault {
+        NameFault::NoMemory
+    }
+}
+
+/// Why a source has no archive, the first cause.
+#[derive(Debug, Drop)]
+pub enum TreeFault {
+    /// The source is refused for this.
+    Source(SourceError),
+    /// The name has no entry, for this.
+    Refused(Text, Why),
+    /// Memory ran out.
+    NoMemory,
+}
+
+impl From<AllocError> for TreeFault {
+    ghost use Rattle.std.specs.Prelude.{◌≡◌};
+    ghost use Rattle.zone_tree.specs.declared.refusal.TreeFault.TheVariants.{NoMemory};
+
+    ghost from_gives = { λ _ fault. fault ≡ NoMemory };
+
+    fn from(_: AllocError) -> TreeFault {
+        TreeFault::NoMemory
+    }
+}
+
+impl Why {
+    ghost use Rattle.std.specs.Prelude.{◌≡◌};
+    ghost use Rattle.zone_tree.specs.Refusals.{group_of, word_of};
+    ghost use Rattle.zone_tzif.specs.Asks.{fault_word};
+
+    /// What stands before the word in a line that tells why.
+    pub(crate) fn group(self) -> &'static str
+        ensures { result.now ≡ group_of self }
+    {
+        match self {
+            Why::Schedule(_) => "schedule ",
+            Why::OffsetRange | Why::File(_) | Why::Name | Why::Size => "",
+        }
+    }
+
+    /// The word in a line that tells why.
+    pub(crate) fn word(self) -> &'static str
+        ensures { result.now ≡ word_of self }
+    {
+        match self {
+            Why::Schedule(fault) => fault.name(),
+            Why::OffsetRange => "offset range",
+            Why::File(fault) => file_word(fault),
+            Why::Name => "name",
+            Why::Size => "size",
+        }
+    }
+}
+
+/// The word for what keeps a zone from having a file; of the last three, which come at no zone, none.
+fn file_word(fault: WriteFault) -> &'static str
+    ensures { result.now ≡ fault_word fault }
+{
+    match fault {
+        WriteFault::Times => "times",
+        WriteFault::Types => "types",
+        WriteFault::Names => "names",
+        WriteFault::Offset | WriteFault::Footer | WriteFault::NoMemory => "",
+    }
+}

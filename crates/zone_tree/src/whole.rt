@@ -1,0 +1,95 @@
+//! The archive of a source.
+ghost use Rattle.std.specs.Prelude.{◌≡◌, ◌≤◌, length, map as each, Ok, IfOk, IfErr, OnOk};
+ghost use Rattle.owned.specs.InOrderLaws.{RisesStrictly};
+ghost use Rattle.owned.specs.Keyed.{text_cmp};
+ghost use Rattle.tz_lookup.specs.Databases.{name_shown, names_of};
+ghost use Rattle.zone_table.specs.BoundedTables.{IsBoundedTable};
+ghost use Rattle.zone_tree.specs.Entries.{entry_of};
+ghost use Rattle.zone_tree.specs.Names.{finds_in_table};
+ghost use Rattle.zone_tree.specs.Told.{ArePut, IsFirst, IsFaultOf};
+ghost use Rattle.zone_tree.specs.Trees.{entries_of, tree_by, tree_of};
+
+use crate::entry::put_name;
+use crate::names::{archive_names, listed};
+use crate::refusal::{NameFault, TreeFault};
+use owned::Text;
+use std::alloc::Global;
+use tz_lookup::names_in_order;
+use ustar::put_end;
+use zone_line::LineParser;
+use zone_source::{LIMIT, read_table};
+use zone_table::Table;
+
+/// Puts the entries of some names at the end, in their order.
+fn put_names(
+    alloc: Global,
+    table: &Table,
+    names: &[&str],
+    ordered: &[&str],
+    into: &mut Vec<u8>,
+) -> Result<(), TreeFault>
+    requires bounded { IsBoundedTable table.now }
+    requires all { each name_shown names.now ≡ names_of table.now }
+    ensures ok { OnOk result (ArePut into.old.items into.new.items
+        (entries_of (entry_of (finds_in_table table.now)) (each name_shown ordered.now))) }
+    ensures err { IfErr result (IsFirst (entries_of (entry_of (finds_in_table table.now)) (each name_shown ordered.now))) }
+{
+    for name in ordered {
+        match put_name(alloc, table, names, name, into) {
+            Ok(()) => {}
+            Err(NameFault::Refused(why)) => {
+                return Err(TreeFault::Refused(Text::new(alloc, name)?, why));
+            }
+            Err(NameFault::NoMemory) => return Err(TreeFault::NoMemory),
+        }
+    }
+    Ok(())
+}
+
+/// The archive of a table.
+#[tactic(auto, unfolding(crate::specs::Trees::tree_by))]
+fn tree_of_table(alloc: Global, table: &Table) -> Result<Vec<u8>, TreeFault>
+    requires { IsBoundedTable table.now }
+    ensures ok { IfOk result (λ bytes. tree_by (finds_in_table table.now) ≡ Ok bytes.items) }
+    ensures err { IfErr result (IsFirst (tree_by (finds_in_table table.now))) }
+{
+    let set = names_in_order(alloc, table)?;
+    let names = listed(alloc, &set)?;
+    let ordered = archive_names(alloc, table, names.as_slice())?;
+    let mut bytes = Vec::new(alloc);
+    match put_names(
+        alloc,
+        table,
+        names.as_slice(),
+        ordered.as_slice(),
+        &mut bytes,
+    ) {
+        Ok(()) => {}
+        Err(fault) => return Err(fault),
+    }
+    put_end(&mut bytes)?;
+    Ok(bytes)
+}
+
+/// Every zone of a source, and every link to one, in a tar archive in the ustar format of POSIX: first the zones in byte order
+/// of their names, each as a file with the bytes of its TZif file, and then the links that find a zone, in byte order, each a
+/// hard link to its zone's name. Mode 0644, owner 0, time 0. The source is at most 16,777,216 bytes long.
+///
+/// # Errors
+///
+/// `Source` has the first fault of the source; `Refused` the first name in the archive's order that has no entry, and why.
+pub fn tree(alloc: Global, parser: &LineParser, source: &[u8]) -> Result<Vec<u8>, TreeFault>
+    requires { length source.now ≤ LIMIT }
+    ensures ok { IfOk result (λ bytes. tree_of source.now ≡ Ok bytes.items) }
+    ensures err { IfErr result (IsFaultOf (tree_of source.now)) }
+{
+    let table = match read_table(alloc, parser, source) {
+        Ok(table) => table,
+        Err(error) => return Err(TreeFault::Source(error)),
+    };
+    let bytes = match tree_of_table(alloc, &table) {
+        Ok(bytes) => bytes,
+        Err(fault) => return Err(fault),
+    };
+    Ok(bytes)
+}
