@@ -1,0 +1,4 @@
+pub mod NameLemmas
+pub mod LeadLemmas
+pub mod LineLemmas
+pub mod StageLemmas

@@ -1,0 +1,119 @@
+//! The lines of a source with each link led to its zone.
+ghost use Rattle.std.specs.Prelude.{◌≡◌, ◌≤◌, ℕ, List, [], ◌∷◌, ◌++◌, Result, Ok, map as each, length, IfOk, IfErr, OnOk};
+ghost use Rattle.zone_source.specs.Zones.{source_value};
+ghost use Rattle.zone_values.specs.Values.{LineValue};
+ghost use Rattle.zone_plain_lines.specs.declared.cause.PlainCause.{PlainCause};
+ghost use Rattle.zone_plain_base.specs.LineFaults.{IsFaultOf};
+ghost use Rattle.zone_plain_base.specs.LinesAt.{value_at};
+ghost use Rattle.zone_plain_links.specs.Stands.{IsDeclared, IsAt, IsOutcome, Adds, IsPast};
+ghost use Rattle.zone_plain_links.specs.declared.names.Declared.{Declared};
+ghost use Rattle.zone_plain_links.specs.Settled.{settled};
+
+use crate::line::{Outcome, settle_line};
+use crate::names::{Seen, declared_by};
+use owned::TextMap;
+use std::alloc::{AllocError, Global};
+use zone_line::LineParser;
+use zone_plain_base::{PlainFault, fault_at, line_at};
+use zone_source::{LIMIT, LineList};
+
+/// Nothing that was seen.
+fn nothing_seen(alloc: Global) -> Seen
+    ensures { (d : Declared) (values : List LineValue) (limit : ℕ) → IsDeclared d values → limit ≡ length values → IsAt d result limit values [] }
+{
+    Seen {
+        zones: TextMap::new(alloc),
+        targets: TextMap::new(alloc),
+        known: TextMap::new(alloc),
+    }
+}
+
+/// Adds the line at a place of another list.
+fn keep_line(into: &mut LineList, lines: &LineList, place: usize) -> Result<(), AllocError>
+    ensures { OnOk result (each source_value into.new ≡ each source_value into.old ++ value_at lines.now place ∷ []) }
+{
+    match lines.get(place) {
+        Some(line) => {
+            into.push(line)?;
+            Ok(())
+        }
+        None => Err(AllocError),
+    }
+}
+
+/// Adds what a line became, after links of so many bytes. Answers how many bytes they take then.
+fn add_line(
+    into: &mut LineList,
+    lines: &LineList,
+    place: usize,
+    text: &[u8],
+    size: usize,
+    outcome: Outcome,
+) -> Result<usize, PlainFault>
+    requires { size ≤ LIMIT }
+    ensures ok { IfOk result (λ size_now. (found : Result LineValue PlainCause)
+        → IsOutcome found (value_at lines.now place) text.now outcome
+        → Adds found (each source_value into.old) (each source_value into.new) size size_now) }
+    ensures err { IfErr result (λ fault. (found : Result LineValue PlainCause)
+        → IsOutcome found (value_at lines.now place) text.now outcome → IsPast found size fault) }
+{
+    match outcome {
+        Outcome::Kept => {
+            keep_line(into, lines, place)?;
+            Ok(size)
+        }
+        Outcome::Written(added) => {
+            if added > LIMIT - size {
+                return Err(PlainFault::TooLong);
+            }
+            into.push(text)?;
+            Ok(size + added)
+        }
+    }
+}
+
+/// The lines of a source, each in its place: a link with the zone to which its target leads, over as many links as it takes;
+/// nothing where the same link stood before; and every other line as it is.
+///
+/// # Errors
+///
+/// `Line` tells the first line that can't stand in the source, by its number from 1 on: for a ruleset of which the source has no
+/// rule (`UnknownRuleset`), a zone of a name that an earlier one has (`DuplicateZone`), a link of a name that a zone has
+/// (`LinkIsZone`) or that an earlier link has with another target (`DuplicateLink`), a link that leads to no zone (`Target`), and one
+/// that can't be written (`Unsayable`). `TooLong` comes where the links so far take more than 16,777,216 bytes.
+pub fn settle(
+    alloc: Global,
+    parser: &LineParser,
+    lines: &LineList,
+) -> Result<LineList, PlainFault>
+    ensures ok { IfOk result (λ new. settled (each source_value lines.now) ≡ Ok (each source_value new)) }
+    ensures err { IfErr result (IsFaultOf (settled (each source_value lines.now))) }
+{
+    let mut reader = parser.reader(alloc)?;
+    let declared = declared_by(alloc, &mut reader, lines)?;
+    let mut seen = nothing_seen(alloc);
+    let mut text = Vec::new(alloc);
+    let mut settled = LineList::new(alloc);
+    let mut size = 0;
+    let count = lines.len();
+    for place in 0..count {
+        let line = line_at(alloc, &mut reader, lines, place)?;
+        let outcome = match settle_line(
+            alloc,
+            &mut reader,
+            &declared,
+            &mut seen,
+            count,
+            &line,
+            &mut text,
+        ) {
+            Ok(outcome) => outcome,
+            Err(refused) => return Err(fault_at(place + 1, refused)),
+        };
+        size = match add_line(&mut settled, lines, place, text.as_slice(), size, outcome) {
+            Ok(size) => size,
+            Err(fault) => return Err(fault),
+        };
+    }
+    Ok(settled)
+}
