@@ -11,11 +11,12 @@ use crate::reading::read_lines;
 use std::alloc::{AllocError, Global};
 use zone_line::LineParser;
 use zone_plain_base::PlainFault;
+use zone_plain_links::settle;
 use zone_plain_offsets::write_out;
 use zone_source::{LIMIT, LineList};
 
 /// The plain form of a source in any form that `zic` reads: its rules, then its zones, then its links, each in the order of the
-/// source, a line each, with `%z` written out. Each line is written so that `LineParser::parse_str` reads it as what is meant.
+/// source, a line each, with `%z` written out and each link led to its zone. Each line is written so that `LineParser::parse_str` reads it as what is meant.
 ///
 /// # Errors
 ///
@@ -27,6 +28,7 @@ pub fn plain(alloc: Global, parser: &LineParser, source: &[u8]) -> Result<Vec<u8
     ensures err { IfErr result (IsFaultOf (plain_of source.now)) }
 {
     let lines = read_lines(alloc, parser, source)?;
+    let lines = settle(alloc, parser, &lines)?;
     let lines = write_out(alloc, parser, &lines)?;
     let bytes = write_lines(alloc, parser, &lines)?;
     if bytes.as_slice().len() > LIMIT {

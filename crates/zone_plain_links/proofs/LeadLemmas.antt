@@ -1,6 +1,6 @@
 -- A name and the names on its way.
-use Rattle.std.proofs.Common.{◌≡◌, ℕ, zero, suc, ◌+◌, ◌≤◌, List, [], ◌∷◌, length, Bool, true, false, cond, Option, Some, None, refl, sym, ap, ◌∙◌, subst, arith, rules}
-use Rattle.std.specs.Prelude.{bytes_eq, is_some, slice_get}
+use Rattle.std.proofs.Common.{◌≡◌, ℕ, suc, ◌+◌, ◌≤◌, List, length, Bool, true, false, cond, Option, Some, None, refl, sym, ap, ◌∙◌, subst, arith, rules}
+use Rattle.std.specs.Prelude.{bytes_eq, is_some}
 use Rattle.std.specs.Option.{option_or}
 use Rattle.std.specs.FinMap.{FinMap, get, insert}
 use Rattle.std.specs.Cmp.Lexicographic.{bytes_decides}
@@ -43,7 +43,9 @@ met d values known name place declared known_is e =
     by None None placed kept e = no_some e
     by None (Some p) placed kept e = subst (LeadsTo d.names values name) (same_place e) kept
     by (Some p) b placed kept e = subst (LeadsTo d.names values name) (same_place e) (record {
-      zone = name; here = placed.1; behind = behind_itself values name placed.0;
+      zone = name;
+      here = placed.1;
+      behind = behind_itself values name placed.0;
     })
 
 pub unmet : (d : Declared) (values : List LineValue) (known : FinMap text_cmp ℕ) (name : List ℕ) → IsDeclared d values
@@ -58,7 +60,9 @@ pub found : (names : List (List ℕ)) (values : List LineValue) (name at : List 
     → LeadsTo names values at place → LeadsTo names values name place
 unfolding zone_behind
 found names values name at i place steps leads = record {
-  zone = leads.zone; here = leads.here; behind = is_behind values (length values + i) name leads.zone (steps (length values) ∙ leads.behind);
+  zone = leads.zone;
+  here = leads.here;
+  behind = is_behind values (length values + i) name leads.zone (steps (length values) ∙ leads.behind);
 }
 
 -- what leads nowhere by any number of links
@@ -92,7 +96,9 @@ one_on values name at t i steps is to k =
 pub on_the_way : (names : List (List ℕ)) (values : List LineValue) (at t : List ℕ) (place : ℕ) → has_zone values at ≡ false
     → target_of values at ≡ Some t → LeadsTo names values at place → LeadsTo names values t place
 on_the_way names values at t place is to leads = record {
-  zone = leads.zone; here = leads.here; behind = sym (behind_link values at t is to) ∙ leads.behind;
+  zone = leads.zone;
+  here = leads.here;
+  behind = sym (behind_link values at t is to) ∙ leads.behind;
 }
 
 -- what is known with one name more
@@ -146,5 +152,5 @@ pub noted : (d : Declared) (values : List LineValue) (known new : FinMap text_cm
 noted d values known new at next target place none to is put declared so_far = (
   known_more d.names values known new at place put so_far.0 so_far.1,
   on_the_way d.names values at next place (unmet d values known at declared none)
-  (sym (declared.targets at) ∙ sym to ∙ ap Some (sym is)) so_far.1
+      (sym (declared.targets at) ∙ sym to ∙ ap Some (sym is)) so_far.1,
 )

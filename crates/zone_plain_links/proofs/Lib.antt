@@ -2,3 +2,4 @@ pub mod NameLemmas
 pub mod LeadLemmas
 pub mod LineLemmas
 pub mod StageLemmas
+mod WorkedLinks

@@ -1,20 +1,17 @@
 -- What becomes of a line, by what was found of it.
-use Rattle.std.proofs.Common.{◌≡◌, ℕ, List, [], ◌∷◌, ◌++◌, length, Bool, true, false, not, Option, Some, None, Result, Ok, Err, refl, sym, ap, ◌∙◌, subst, rules}
-use Rattle.std.specs.Prelude.{bytes_eq, is_some, slice_get, option_map, unwrap_or, ◌||◌, if◌then◌else◌}
-use Rattle.std.specs.FinMap.{FinMap, get, insert, contains_key}
-use Rattle.owned.specs.Keyed.{text_cmp}
+use Rattle.std.proofs.Common.{◌≡◌, ℕ, List, [], ◌∷◌, ◌++◌, Bool, true, false, not, Option, Some, None, Ok, Err, refl, sym, ap, ◌∙◌, subst, rules}
+use Rattle.std.specs.Prelude.{bytes_eq, is_some, option_map, unwrap_or, ◌||◌, if◌then◌else◌}
+use Rattle.std.specs.FinMap.{get, insert, contains_key}
 use Rattle.zone_values.specs.Values.{LineValue, InfoValue, RuleValue, multiple, space, zone, continuation, rule, link}
-use Rattle.zone_plain_lines.specs.declared.cause.PlainCause.{PlainCause}
 use Rattle.zone_plain_lines.specs.declared.cause.PlainCause.TheVariants as cause
 use Rattle.zone_plain_text.specs.PlainTexts.{plain_text}
-use Rattle.zone_plain_base.specs.Said.{is_said, if_said}
+use Rattle.zone_plain_base.specs.Said.{is_said}
 use Rattle.zone_plain_base.specs.declared.error.Refused.{Refused}
 use Rattle.zone_plain_base.specs.declared.error.Refused.TheVariants.{Cause, NoMemory}
 use Rattle.zone_plain_links.proofs.NameLemmas.{declares-more, declares-other, target-other, contains-inserted, link_known}
 use Rattle.zone_plain_links.specs.Named.{zone_name, has_zone, target_by, target_of}
-use Rattle.zone_plain_links.specs.Leads.{zone_behind}
 use Rattle.zone_plain_links.specs.Settled.{lacks_rules, link_to, link_after, link_size, settled_link, settled_line}
-use Rattle.zone_plain_links.specs.Stands.{IsPlaced, IsDeclared, IsKnown, AddsTarget, LeadsTo, HasSeen, IsAt, IsRefused, IsWritten, line_at_place}
+use Rattle.zone_plain_links.specs.Stands.{IsPlaced, IsDeclared, IsKnown, AddsTarget, LeadsTo, IsAt, IsRefused, IsWritten, line_at_place}
 use Rattle.zone_plain_links.specs.declared.names.Declared.{Declared}
 use Rattle.zone_plain_links.specs.declared.names.Seen.{Seen}
 
@@ -126,9 +123,10 @@ pub same_before : (d : Declared) (s : Seen) (limit : ℕ) (values before : List 
     → option_map (λ earlier. bytes_eq earlier existing) (get s.targets new) ≡ Some true → IsAt d s limit values before
     → (link_after values (target_of before new) existing new ≡ Ok space) × IsAt d s limit values (before ++ link existing new ∷ [])
 same_before d s limit values before existing new e here =
-    let found = by (get s.targets new) e in
-    (ap (λ o. link_after values o existing new) (sym (here.seen.targets new)) ∙ found.1,
-    link_seen d s s limit values before existing new refl (link_known s.targets existing new found.0) here.seen.known here)
+    let found = by (get s.targets new) e in (
+      ap (λ o. link_after values o existing new) (sym (here.seen.targets new)) ∙ found.1,
+      link_seen d s s limit values before existing new refl (link_known s.targets existing new found.0) here.seen.known here,
+    )
   where
     same : (b : Bool) → Some b ≡ Some true → b ≡ true
     same b e = search rules

@@ -4,12 +4,12 @@ use Rattle.std.specs.Prelude.{bytes_eq, is_some, slice_get, ◌||◌, take, get_
 use Rattle.std.specs.Option.{option_or}
 use Rattle.std.specs.FinMap.{FinMap, get, insert, empty, get-empty, contains_key}
 use Rattle.std.specs.Cmp.Lexicographic.{bytes_decides}
-use Rattle.std.proofs.Math.Bool.{or_assoc, or-false}
+use Rattle.std.proofs.Math.Bool.{or-false}
 use Rattle.std.proofs.Math.Seq.{take-suc}
 use Rattle.owned.specs.Keyed.{text_cmp}
 use Rattle.owned.specs.KeyedLaws.{get-inserted}
-use Rattle.zone_values.specs.Values.{LineValue, InfoValue, RuleValue, space, zone, continuation, rule, link}
-use Rattle.zone_plain_links.specs.Named.{zone_name, ruleset_name, is_that, declares, has_zone, has_ruleset, target_by, target_of}
+use Rattle.zone_values.specs.Values.{LineValue, InfoValue, RuleValue, zone, rule, link}
+use Rattle.zone_plain_links.specs.Named.{zone_name, ruleset_name, is_that, declares, has_zone, target_by, target_of}
 use Rattle.zone_plain_links.specs.Stands.{IsPlaced, IsDeclared, AddsTarget}
 use Rattle.zone_plain_links.specs.declared.names.Declared.{Declared}
 

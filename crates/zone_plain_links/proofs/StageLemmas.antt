@@ -1,7 +1,7 @@
 -- The lines that were settled, and those that are left.
-use Rattle.std.proofs.Common.{◌≡◌, ℕ, zero, suc, ◌+◌, ◌-◌, ◌≤◌, ◌<◌, List, [], ◌∷◌, ◌++◌, map, length, take, drop, drop-cons, get_or, Bool, true, false, nat_lt, Option, Some, None, Result, Ok, Err, refl, sym, ap, ◌∙◌, subst, arith, append_assoc, append-nil, rules, slice_get, unwrap_or}
+use Rattle.std.proofs.Common.{◌≡◌, ℕ, zero, suc, ◌+◌, ◌-◌, ◌≤◌, ◌<◌, List, [], ◌∷◌, ◌++◌, map, length, take, drop, drop-cons, get_or, true, false, nat_lt, Some, Result, Ok, Err, refl, sym, ap, ◌∙◌, subst, arith, append_assoc, append-nil, rules, slice_get, unwrap_or}
 use Rattle.std.specs.Prelude.{is_some}
-use Rattle.std.specs.FinMap.{FinMap, get, empty, get-empty, contains_key}
+use Rattle.std.specs.FinMap.{get, empty, get-empty}
 use Rattle.std.proofs.lemmas.List.{drop_all}
 use Rattle.std.proofs.lemmas.Bool.{ltb-false, le-ltb, lt-ltb}
 use Rattle.owned.specs.Keyed.{text_cmp}
@@ -21,7 +21,7 @@ use Rattle.zone_plain_base.specs.declared.error.Refused.{Refused}
 use Rattle.zone_plain_base.specs.declared.error.Refused.TheVariants.{Cause, NoMemory}
 use Rattle.zone_plain_links.proofs.NameLemmas.{one_more}
 use Rattle.zone_plain_links.specs.Settled.{link_size, settled_line, settled_from, settled}
-use Rattle.zone_plain_links.specs.Stands.{IsDeclared, IsKept, IsKnown, IsAt, IsWritten, IsRefused, Adds, Overflows, IsPast}
+use Rattle.zone_plain_links.specs.Stands.{IsDeclared, IsKept, IsAt, IsWritten, IsRefused, Adds, Overflows, IsPast}
 use Rattle.zone_plain_links.specs.declared.names.Declared.{Declared}
 use Rattle.zone_plain_links.specs.declared.names.Seen.{Seen}
 
@@ -97,7 +97,7 @@ pub one_settled : (d : Declared) (s new : Seen) (limit : ℕ) (values ws : List 
 one_settled d s new limit values ws place size size_now w inside so_far is sized small here =
     let taken = one_more values place space inside in
     let on : settled_from values (take place values) (place + 1) size (drop place values)
-        ≡ onto w (settled_from values (take (place + 1) values) (suc (place + 1)) size_now (drop (place + 1) values)) =
+    ≡ onto w (settled_from values (take (place + 1) values) (suc (place + 1)) size_now (drop (place + 1) values)) =
     ap (settled_from values (take place values) (place + 1) size) (next values place inside)
     ∙ goes values (take place values) (place + 1) size (get_or values place space) w (drop (place + 1) values) is
     (ap (nat_lt text_limit) (sym sized) ∙ small)
@@ -151,7 +151,11 @@ all_settled d s limit values ws place size past so_far =
 pub adds_kept : (found : Result LineValue PlainCause) (old new : List LineValue) (v : LineValue) (size : ℕ) → size ≤ 16777216
     → (found ≡ Ok v) × (link_size v ≡ 0) → new ≡ old ++ v ∷ [] → Adds found old new size size
 adds_kept found old new v size small is added = record {
-  value = v; is = is.0; added = added; sized = omega (arith, is.1); small = not_less size small;
+  value = v;
+  is = is.0;
+  added = added;
+  sized = omega (arith, is.1);
+  small = not_less size small;
 }
   where
     not_less : (n : ℕ) → n ≤ 16777216 → nat_lt 16777216 n ≡ false
@@ -161,8 +165,11 @@ pub adds_written : (found : Result LineValue PlainCause) (old new : List (List �
     → added ≤ 16777216 - size → IsWritten found text added → new ≡ old ++ text ∷ []
     → Adds found (map source_value old) (map source_value new) size (size + added)
 adds_written found old new text size added few room is put = record {
-  value = is.value; is = is.is; added = line_written old new text is.value put is.plain is.said;
-  sized = ap (λ n. size + n) is.sized; small = not_less size added few room;
+  value = is.value;
+  is = is.is;
+  added = line_written old new text is.value put is.plain is.said;
+  sized = ap (λ n. size + n) is.sized;
+  small = not_less size added few room;
 }
   where
     not_less : (n m : ℕ) → n ≤ 16777216 → m ≤ 16777216 - n → nat_lt 16777216 (n + m) ≡ false
@@ -174,12 +181,13 @@ passes m n less = lt-ltb m n less
 pub overflows_written : (found : Result LineValue PlainCause) (text : List ℕ) (size added : ℕ) → size ≤ 16777216
     → 16777216 - size < added → IsWritten found text added → Overflows found size
 overflows_written found text size added few room is = record {
-  value = is.value; is = is.is; large = subst (λ n. nat_lt 16777216 (size + n) ≡ true) is.sized (more size added few room);
+  value = is.value;
+  is = is.is;
+  large = subst (λ n. nat_lt 16777216 (size + n) ≡ true) is.sized (more size added few room);
 }
   where
     more : (n m : ℕ) → n ≤ 16777216 → 16777216 - n < m → nat_lt 16777216 (n + m) ≡ true
     more n m few room = passes 16777216 (n + m) (omega (arith, few, room))
-
 
 pub size_is_small : (d : Declared) (s : Seen) (limit : ℕ) (values ws : List LineValue) (place size : ℕ)
     → Settling d s limit values ws place size → size ≤ 16777216

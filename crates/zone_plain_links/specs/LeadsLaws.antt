@@ -1,10 +1,10 @@
 -- Where names lead, however many links are followed.
-use Rattle.std.proofs.Common.{◌≡◌, ℕ, zero, suc, ◌≤◌, ◌<◌, ◌⊎◌, inl, inr, List, [], ◌∷◌, length, Bool, true, false, cond, unwrap_or, Option, Some, None, refl, sym, ap, ◌∙◌, subst, arith, rules}
-use Rattle.std.specs.Prelude.{bytes_eq, option_and_then, is_some, ◌||◌}
+use Rattle.std.proofs.Common.{◌≡◌, ℕ, zero, suc, ◌≤◌, ◌<◌, List, [], ◌∷◌, length, Bool, true, false, cond, unwrap_or, Option, Some, None, refl, sym, ap, ◌∙◌, subst, arith, rules}
+use Rattle.std.specs.Prelude.{bytes_eq, option_and_then, ◌||◌}
 use Rattle.std.specs.Option.{option_or}
 use Rattle.std.specs.Cmp.Lexicographic.{bytes_decides}
 use Rattle.zone_values.specs.Values.{LineValue, space, zone, continuation, rule, link}
-use Rattle.zone_plain_links.specs.Named.{has_zone, target_by, target_of}
+use Rattle.zone_plain_links.specs.Named.{has_zone, target_of}
 use Rattle.zone_plain_links.specs.Leads.{leads, leads_to, zone_behind}
 
 no_some : {A : Type 0} {x : List ℕ} → None ≡ Some x → A
@@ -109,7 +109,12 @@ module _ (is_zone : List ℕ → Bool) where
       by : (o : Option (List ℕ)) → target name ≡ o → Goes target (suc n) name z
       by None to = no_some (sym (dead_end target (suc n) name is to) ∙ h)
       by (Some t) to = record {
-        no_zone = is; next = t; points = to; steps = n; one_less = refl; on = sym (followed target n name t is to) ∙ h;
+        no_zone = is;
+        next = t;
+        points = to;
+        steps = n;
+        one_less = refl;
+        on = sym (followed target n name t is to) ∙ h;
       }
 
   -- with more links the answer stays

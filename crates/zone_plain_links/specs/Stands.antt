@@ -13,7 +13,7 @@ use Rattle.zone_plain_base.specs.declared.error.Refused.{Refused}
 use Rattle.zone_plain_base.specs.declared.error.Refused.TheVariants.{Cause, NoMemory}
 use Rattle.zone_plain_links.specs.Named.{has_zone, has_ruleset, target_of}
 use Rattle.zone_plain_links.specs.Leads.{zone_behind}
-use Rattle.zone_plain_links.specs.Settled.{settled_line, link_size}
+use Rattle.zone_plain_links.specs.Settled.{link_size}
 use Rattle.zone_plain_links.specs.declared.names.Declared.{Declared}
 use Rattle.zone_plain_links.specs.declared.names.Seen.{Seen}
 use Rattle.zone_plain_links.specs.declared.line.Outcome.{Outcome}

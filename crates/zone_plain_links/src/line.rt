@@ -138,7 +138,7 @@ fn settle_link(
 ) -> Result<Outcome, Refused>
     ensures ok { IfOk result (λ outcome. (values before : List LineValue) → IsAt declared.now seen.old limit values before
         → IsOutcome (settled_link values before link.now.existing.now link.now.new.now)
-            (value.link link.now.existing.now link.now.new.now) text.new.items outcome
+        (value.link link.now.existing.now link.now.new.now) text.new.items outcome
         × IsAt declared.now seen.new limit values (before ++ value.link link.now.existing.now link.now.new.now ∷ [])) }
     ensures err { IfErr result (λ refused. (values before : List LineValue) → IsAt declared.now seen.old limit values before
         → IsRefused (settled_link values before link.now.existing.now link.now.new.now) refused) }

@@ -81,11 +81,7 @@ fn add_line(
 /// rule (`UnknownRuleset`), a zone of a name that an earlier one has (`DuplicateZone`), a link of a name that a zone has
 /// (`LinkIsZone`) or that an earlier link has with another target (`DuplicateLink`), a link that leads to no zone (`Target`), and one
 /// that can't be written (`Unsayable`). `TooLong` comes where the links so far take more than 16,777,216 bytes.
-pub fn settle(
-    alloc: Global,
-    parser: &LineParser,
-    lines: &LineList,
-) -> Result<LineList, PlainFault>
+pub fn settle(alloc: Global, parser: &LineParser, lines: &LineList) -> Result<LineList, PlainFault>
     ensures ok { IfOk result (λ new. settled (each source_value lines.now) ≡ Ok (each source_value new)) }
     ensures err { IfErr result (IsFaultOf (settled (each source_value lines.now))) }
 {

@@ -10,8 +10,10 @@ returns-in-None c values declared known leads =
 
 pub loop-step-preserved : goal.loop-step-preserved
 loop-step-preserved c =
-    let none = none_met c.args.declared.now c.loop-step.known c.loop-step.at.now _ c.place_of.ensures (sym c.is_some.ensures ∙ c.if-is_some.false) in
-    (c.as_str-at.utf8, λ values declared known leads.
-    noted c.args.declared.now values c.loop-step.known c.insert.new.self c.loop-step.at.now c.as_str-at.result.now c.in-Some.target.now
-    c.args.place none c.in-Some.ensures c.as_str-at.ensures c.in_ok-insert.ensures.ok declared
-    (c.loop-step.invariant.1 values declared known leads))
+    let none = none_met c.args.declared.now c.loop-step.known c.loop-step.at.now _ c.place_of.ensures (sym c.is_some.ensures ∙ c.if-is_some.false) in (
+      c.as_str-at.utf8,
+      λ values declared known leads.
+          noted c.args.declared.now values c.loop-step.known c.insert.new.self c.loop-step.at.now c.as_str-at.result.now c.in-Some.target.now
+          c.args.place none c.in-Some.ensures c.as_str-at.ensures c.in_ok-insert.ensures.ok declared
+          (c.loop-step.invariant.1 values declared known leads),
+    )

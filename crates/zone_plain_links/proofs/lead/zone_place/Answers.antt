@@ -1,5 +1,4 @@
-use Rattle.std.proofs.Common.{sym, ◌∙◌, ap, ◌≤◌, length, subst, arith}
-use Rattle.std.specs.Prelude.{is_some}
+use Rattle.std.proofs.Common.{sym, ◌∙◌, ◌≤◌, length, arith}
 use Rattle.zone_plain_links.proofs.LeadLemmas.{none_met, met_here, met_last, ended, stepped}
 use Rattle.zone_plain_links.proofs.lead.zone_place.Goals as goal
 
@@ -16,10 +15,12 @@ returns-in-None c values declared known few =
 
 pub loop-step-preserved : goal.loop-step-preserved
 loop-step-preserved c =
-    let none = none_met c.args.declared.now c.args.known.now c.loop-step.at.now _ c.place_of-place.ensures (sym c.is_some.ensures ∙ c.if-is_some.false) in
-    (c.as_str-at.utf8, λ values declared.
-    stepped c.args.declared.now values c.args.known.now c.args.name.now c.loop-step.at.now c.as_str-at.result.now c.in-Some.target.now
-    c.loop-step.step none c.in-Some.ensures c.as_str-at.ensures (c.loop-step.invariant.1 values declared) declared)
+    let none = none_met c.args.declared.now c.args.known.now c.loop-step.at.now _ c.place_of-place.ensures (sym c.is_some.ensures ∙ c.if-is_some.false) in (
+      c.as_str-at.utf8,
+      λ values declared.
+          stepped c.args.declared.now values c.args.known.now c.args.name.now c.loop-step.at.now c.as_str-at.result.now c.in-Some.target.now
+          c.loop-step.step none c.in-Some.ensures c.as_str-at.ensures (c.loop-step.invariant.1 values declared) declared,
+    )
 
 pub returns : goal.returns
 returns c values declared known few =

@@ -1,4 +1,4 @@
-use Rattle.std.proofs.Common.{List, ◌≤◌}
+use Rattle.std.proofs.Common.{List}
 use denote.Text.{Utf8}
 use denote.Shadow.{shadow}
 use Rattle.zone_values.specs.Values.{LineValue}

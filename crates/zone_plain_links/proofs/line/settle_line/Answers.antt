@@ -18,8 +18,10 @@ returns-then-lacks_rules-clause-err c values before here =
 
 pub returns-else-lacks_rules-clause-ok : goal.returns-else-lacks_rules-clause-ok
 returns-else-lacks_rules-clause-ok c values before here =
-    rw c.in-Continuation.is ((continuation_stays values before _ (sym (c.lacks_rules.ensures values here.declared) ∙ c.if-lacks_rules.false), refl),
-    plain_more _ _ _ values before _ refl (λ _. refl) here)
+    rw c.in-Continuation.is (
+      (continuation_stays values before _ (sym (c.lacks_rules.ensures values here.declared) ∙ c.if-lacks_rules.false), refl),
+      plain_more _ _ _ values before _ refl (λ _. refl) here,
+    )
 
 pub returns-in-Ok-clause-ok : goal.returns-in-Ok-clause-ok
 returns-in-Ok-clause-ok c values before here =
@@ -34,8 +36,11 @@ returns-in-Ok-settle_link-clause-ok c values before here =
     let existing = c.in-Link.link.existing.now in
     let new = c.in-Link.link.new.now in
     let found = c.in-Ok-settle_link.ensures.ok values before here in
-    rw c.in-Link.is (subst (λ f. IsOutcome f (link existing new) c.settle_link.new.text.items c.in-Ok-settle_link.outcome)
-    (sym (link_is values before existing new)) found.0, found.1)
+    rw c.in-Link.is (
+      subst (λ f. IsOutcome f (link existing new) c.settle_link.new.text.items c.in-Ok-settle_link.outcome)
+          (sym (link_is values before existing new)) found.0,
+      found.1,
+    )
 
 pub returns-in-Err-settle_link-clause-err : goal.returns-in-Err-settle_link-clause-err
 returns-in-Err-settle_link-clause-err c values before here =

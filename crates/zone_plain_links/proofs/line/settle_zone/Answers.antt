@@ -14,6 +14,6 @@ returns-then-contains_key-clause-err c limit values before here =
 pub returns-clause-ok : goal.returns-clause-ok
 returns-clause-ok c limit values before here = (
   zone_stays values before _ _ (sym (c.lacks_rules.ensures values here.declared) ∙ c.if-lacks_rules.false)
-  (sym (here.seen.zones _) ∙ sym c.contains_key.ensures ∙ c.if-contains_key.false),
-  zone_seen _ _ _ limit values before _ _ c.in_ok-insert.ensures.ok refl refl here
+      (sym (here.seen.zones _) ∙ sym c.contains_key.ensures ∙ c.if-contains_key.false),
+  zone_seen _ _ _ limit values before _ _ c.in_ok-insert.ensures.ok refl refl here,
 )

@@ -1,5 +1,5 @@
 use Rattle.std.proofs.Common.{refl}
-use Rattle.zone_values.specs.Values.{line_value, info_value, rule_value}
+use Rattle.zone_values.specs.Values.{rule_value}
 use Rattle.zone_plain_links.proofs.NameLemmas.{nothing_more, zone_more, rule_more, link_more}
 use Rattle.zone_plain_links.proofs.names.declare.Goals as goal
 

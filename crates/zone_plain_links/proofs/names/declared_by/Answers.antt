@@ -1,4 +1,4 @@
-use Rattle.std.proofs.Common.{◌≡◌, ◌∙◌, ◌<◌, ◌≤◌, map, take, length, sym, ap, subst, refl, arith}
+use Rattle.std.proofs.Common.{◌<◌, ◌≤◌, map, length, sym, subst, arith}
 use Rattle.std.proofs.lemmas.List.{length-map, take_all}
 use Rattle.zone_source.specs.Zones.{source_value}
 use Rattle.zone_values.specs.Values.{space}

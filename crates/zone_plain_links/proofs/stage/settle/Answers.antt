@@ -1,11 +1,11 @@
-use Rattle.std.proofs.Common.{◌<◌, ◌≤◌, map, length, arith, sym, ◌∙◌, ap, take, get_or, subst, ◌++◌, ◌∷◌, []}
+use Rattle.std.proofs.Common.{◌<◌, ◌≤◌, map, length, arith, sym, ◌∙◌, take, get_or, subst, ◌++◌, ◌∷◌, []}
 use Rattle.std.proofs.lemmas.List.{length-map}
 use Rattle.zone_source.specs.Zones.{source_value}
-use Rattle.zone_values.specs.Values.{line_value, space, LineValue}
+use Rattle.zone_values.specs.Values.{space}
 use Rattle.zone_plain_links.specs.Settled.{settled, settled_line}
 use Rattle.zone_plain_links.specs.Stands.{IsRefused, IsAt, IsOutcome}
 use Rattle.zone_plain_base.specs.LineFaults.{IsFaultOf}
-use Rattle.zone_plain_links.proofs.StageLemmas.{nothing_settled, refused_here, past_here, added_here, all_settled, size_is_small}
+use Rattle.zone_plain_links.proofs.StageLemmas.{nothing_settled, refused_here, past_here, added_here, all_settled}
 use Rattle.zone_plain_links.proofs.stage.settle.Goals as goal
 
 pub loop-place-init : goal.loop-place-init
