@@ -118,6 +118,8 @@ def large_texts():
     yield Text("a million empty lines", b"\n" * 1_000_000 + ZONE, ANSWERS)
     yield Text("a million empty lines, and no line", b"\n" * 1_000_000 + b"x", "source 1000001: line InvalidLineType")
     yield Text("100,000 links", ZONE + b"".join(b"Link A L%d\n" % n for n in range(100_000)), ANSWERS)
+    yield Text("a chain of 100,000 links", ZONE + b"".join(b"Link L%d L%d\n" % (n - 1, n) for n in range(100_000, 0, -1)) + b"Link A L0\n", MAY_RUN_OUT)
+    yield Text("a circle of 100,000 links", ZONE + b"".join(b"Link L%d L%d\n" % (n, (n + 1) % 100_000) for n in range(100_000)), MAY_RUN_OUT)
     yield Text("100,000 continuations", b"Zone A 0:00 - AAA 1\n" + b"".join(b" 1:00 - BBB %s\n" % day_of(n) for n in range(99_999)) + b" 0:00 - CCC\n", ANSWERS)
     yield Text("10,000 rules of all years", b"".join(map(all_years, range(10_000))) + b"Zone A 0:00 R AAA\n", ANSWERS)
     yield Text("rules from min on", b"".join(map(rule, range(1000))) + b"Zone A 0:00 R AAA\n", "schedule RuleYears")
