@@ -17,7 +17,7 @@ pub use tz_lookup::{
     CompactSet, CompactTz, Database, DatabaseFault, Fixed, FixedTimespanSet, InstantsLocal, Offset,
     OffsetDateTimeExt, OffsetResult, PrimitiveDateTimeExt, TimeZone, Tz, TzFault, ZoneFault,
 };
-pub use tz_posix::PosixTz;
+pub use tz_posix_core::PosixTz;
 pub use tz_tzif::{TzifFault, TzifTz};
 pub use zone_alarm::{AlarmFault, Ring, alarms};
 pub use zone_line::LineParser;

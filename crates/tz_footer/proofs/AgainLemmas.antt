@@ -1,13 +1,13 @@
 -- What is spelled is read, whatever follows.
 use Rattle.std.proofs.Common.{◌≡◌, ℕ, true, false, List, [], ◌∷◌, ◌++◌, length, Option, Some, refl, nat_eq, append_assoc, append-nil}
 use Rattle.std.specs.Char.{is_ascii_alphabetic}
-use Rattle.tz_posix.specs.AgainLaws.{goes_on, stop_digit, no_mark, stop_slash, offset_first, name_first, offset_again, some_text}
-use Rattle.tz_posix.specs.AgainLaws.{name_again, date_again, digit_no_letter, after_name, own_offset_again, letter_stops}
-use Rattle.tz_posix.specs.Marks.{comma, slash, less}
-use Rattle.tz_posix.specs.Reading.{is_over}
-use Rattle.tz_posix.specs.Spells.{Optional, absent, present, begins}
-use Rattle.tz_posix.specs.declared.date.Date.{Date}
-use Rattle.tz_posix.specs.declared.time.Offset.{Offset}
+use Rattle.tz_posix_core.specs.AgainLaws.{goes_on, stop_digit, no_mark, stop_slash, offset_first, name_first, offset_again, some_text}
+use Rattle.tz_posix_core.specs.AgainLaws.{name_again, date_again, digit_no_letter, after_name, own_offset_again, letter_stops}
+use Rattle.tz_posix_core.specs.Marks.{comma, slash, less}
+use Rattle.tz_posix_core.specs.Reading.{is_over}
+use Rattle.tz_posix_core.specs.Spells.{Optional, absent, present, begins}
+use Rattle.tz_posix_core.specs.declared.date.Date.{Date}
+use Rattle.tz_posix_core.specs.declared.time.Offset.{Offset}
 use Rattle.tz_footer.specs.Reading.{moment_at, rule_in, saving_in, footer_in}
 use Rattle.tz_footer.specs.Spells.{IsMoment, date, timed, IsRule, rule, IsSaving, saving, IsFooter, footer}
 use Rattle.tz_footer.specs.Values.{SavingValue, FooterValue}

@@ -2,13 +2,13 @@
 use Rattle.std.proofs.Common.{◌≡◌, ℕ, inl, inr, List, [], ◌∷◌, length, Option, Some, None, subst, nat_eq, append_assoc, append-nil}
 use Rattle.std.proofs.lemmas.List.{nil_from_length}
 use Rattle.std.proofs.lemmas.Option.{cond_some, same_Some}
-use Rattle.tz_posix.specs.FoundLaws.{nat_eq-true, Takes, takes, takes_as, bind_some, map_some, chosen, mark_found, marked}
-use Rattle.tz_posix.specs.FoundLaws.{offset_found, name_found, date_found, own_offset_found}
-use Rattle.tz_posix.specs.Marks.{comma, slash}
-use Rattle.tz_posix.specs.Reading.{after_mark, date_at, name_at, offset_at, own_offset_at}
-use Rattle.tz_posix.specs.Spells.{Optional, absent, present, IsName, IsOffset, IsDate}
-use Rattle.tz_posix.specs.declared.date.Date.{Date}
-use Rattle.tz_posix.specs.declared.time.Offset.{Offset}
+use Rattle.tz_posix_core.specs.FoundLaws.{nat_eq-true, Takes, takes, takes_as, bind_some, map_some, chosen, mark_found, marked}
+use Rattle.tz_posix_core.specs.FoundLaws.{offset_found, name_found, date_found, own_offset_found}
+use Rattle.tz_posix_core.specs.Marks.{comma, slash}
+use Rattle.tz_posix_core.specs.Reading.{after_mark, date_at, name_at, offset_at, own_offset_at}
+use Rattle.tz_posix_core.specs.Spells.{Optional, absent, present, IsName, IsOffset, IsDate}
+use Rattle.tz_posix_core.specs.declared.date.Date.{Date}
+use Rattle.tz_posix_core.specs.declared.time.Offset.{Offset}
 use Rattle.tz_footer.specs.Reading.{date_time_at, moment_at, rule_in, saving_in, footer_in}
 use Rattle.tz_footer.specs.Spells.{IsMoment, date, timed, IsRule, rule, IsSaving, saving, IsFooter, footer}
 use Rattle.tz_footer.specs.Values.{SavingValue, FooterValue}

@@ -1,7 +1,7 @@
 -- The parts of a footer in its ranges.
 use Rattle.std.proofs.Common.{◌≡◌, Bool, true, Option, Some, None, refl}
 use Rattle.std.proofs.lemmas.Bool.{and_parts}
-use Rattle.tz_posix.specs.Ranges.{offset_miss, is_time}
+use Rattle.tz_posix_core.specs.Ranges.{offset_miss, is_time}
 use Rattle.tz_footer.specs.Ranges.{is_part, is_saving, is_in_range}
 use Rattle.tz_footer.specs.Values.{SavingValue, FooterValue}
 

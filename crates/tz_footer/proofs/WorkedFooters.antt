@@ -4,12 +4,12 @@ use Rattle.std.proofs.lemmas.Option.{none-some}
 use Rattle.calendar.specs.Dates.{last_with}
 use Rattle.calendar.specs.Days.{day, days_after_zero, days_in_month, days_in_year, days_into_year, days_through, is_leap, year_start}
 use Rattle.calendar.specs.Weekdays.{weekday_of}
-use Rattle.tz_posix.specs.Days.{nth_weekday, rule_day}
-use Rattle.tz_posix.specs.Reading.{value_in, number_at, part_at, time_at, sign_at, offset_at, letters_at, enclosed_at, name_at}
-use Rattle.tz_posix.specs.Reading.{weekday_at, date_at, own_offset_at}
-use Rattle.tz_posix.specs.Seconds.{offset_seconds, time_seconds}
-use Rattle.tz_posix.specs.declared.date.Date.TheVariants.{J, M}
-use Rattle.tz_posix.specs.declared.time.Offset.{Offset}
+use Rattle.tz_posix_core.specs.Days.{nth_weekday, rule_day}
+use Rattle.tz_posix_core.specs.Reading.{value_in, number_at, part_at, time_at, sign_at, offset_at, letters_at, enclosed_at, name_at}
+use Rattle.tz_posix_core.specs.Reading.{weekday_at, date_at, own_offset_at}
+use Rattle.tz_posix_core.specs.Seconds.{offset_seconds, time_seconds}
+use Rattle.tz_posix_core.specs.declared.date.Date.TheVariants.{J, M}
+use Rattle.tz_posix_core.specs.declared.time.Offset.{Offset}
 use Rattle.tz_footer.specs.InForce.{fixed, yearly, second_in}
 use Rattle.tz_footer.specs.Ranges.{is_in_range, is_moment}
 use Rattle.tz_footer.specs.Reading.{moment_at, rule_in, saving_in, footer_in}

@@ -1,8 +1,8 @@
 -- What a footer puts in force. Seconds are from 1970-01-01 00:00 UTC.
 use Rattle.std.specs.Prelude.{Bool, if◌then◌else◌, ℤ, pos, ◌+ℤ◌, ◌-ℤ◌, ◌*ℤ◌}
-use Rattle.tz_posix.specs.Days.{rule_day}
-use Rattle.tz_posix.specs.InForce.{is_within, year_at}
-use Rattle.tz_posix.specs.declared.date.Date.{Date}
+use Rattle.tz_posix_core.specs.Days.{rule_day}
+use Rattle.tz_posix_core.specs.InForce.{is_within, year_at}
+use Rattle.tz_posix_core.specs.declared.date.Date.{Date}
 use Rattle.zone_tzif_core.specs.Zones.{KindValue}
 
 -- a day of each year, and the seconds from its midnight, which may be below 0

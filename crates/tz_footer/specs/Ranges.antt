@@ -1,8 +1,8 @@
 -- The ranges of a footer's parts.
 use Rattle.std.specs.Prelude.{◌≡◌, ℕ, Bool, true, ◌&&◌, List, Option, Some, None}
-use Rattle.tz_posix.specs.Ranges.{is_time, is_rule_date}
-use Rattle.tz_posix.specs.declared.date.Date.{Date}
-use Rattle.tz_posix.specs.declared.time.Offset.{Offset}
+use Rattle.tz_posix_core.specs.Ranges.{is_time, is_rule_date}
+use Rattle.tz_posix_core.specs.declared.date.Date.{Date}
+use Rattle.tz_posix_core.specs.declared.time.Offset.{Offset}
 use Rattle.tz_footer.specs.Spells.{IsFooter}
 use Rattle.tz_footer.specs.Values.{SavingValue, FooterValue}
 use Rattle.tz_footer.specs.declared.values.FooterRule.{FooterRule}

@@ -1,10 +1,10 @@
 -- The texts of footers, each whole text cut into its parts, by the grammar of POSIX TZ strings. A time of a rule may have a sign,
 -- so it is written as an offset is, and daylight saving time has a rule.
 use Rattle.std.specs.Prelude.{ℕ, List, ◌∷◌, ◌++◌, Option, Some, None}
-use Rattle.tz_posix.specs.Marks.{comma, slash}
-use Rattle.tz_posix.specs.Spells.{Optional, IsName, IsOffset, IsDate}
-use Rattle.tz_posix.specs.declared.date.Date.{Date}
-use Rattle.tz_posix.specs.declared.time.Offset.{Offset}
+use Rattle.tz_posix_core.specs.Marks.{comma, slash}
+use Rattle.tz_posix_core.specs.Spells.{Optional, IsName, IsOffset, IsDate}
+use Rattle.tz_posix_core.specs.declared.date.Date.{Date}
+use Rattle.tz_posix_core.specs.declared.time.Offset.{Offset}
 use Rattle.tz_footer.specs.Values.{SavingValue, FooterValue}
 use Rattle.tz_footer.specs.declared.values.FooterRule.{FooterRule}
 

@@ -1,9 +1,9 @@
 -- What the value of a footer stands for.
 use Rattle.std.specs.Prelude.{◌≡◌, ℕ, Bool, true, false, List, Option, Some, None, ℤ, pos, ◌+ℤ◌}
 use Rattle.std.specs.Option.{option_map_or}
-use Rattle.tz_posix.specs.Seconds.{east_of, offset_seconds}
-use Rattle.tz_posix.specs.declared.date.Date.{Date}
-use Rattle.tz_posix.specs.declared.time.Offset.{Offset}
+use Rattle.tz_posix_core.specs.Seconds.{east_of, offset_seconds}
+use Rattle.tz_posix_core.specs.declared.date.Date.{Date}
+use Rattle.tz_posix_core.specs.declared.time.Offset.{Offset}
 use Rattle.tz_footer.specs.InForce.{YearlyTime, FooterZone, fixed, yearly}
 use Rattle.tz_footer.specs.Ranges.{IsFooterOf}
 use Rattle.tz_footer.specs.Values.{SavingValue, FooterValue}

@@ -1,7 +1,7 @@
 -- What a footer says, with names by their bytes.
 use Rattle.std.specs.Prelude.{ℕ, List, Option}
-use Rattle.tz_posix.specs.Values.{StdPart}
-use Rattle.tz_posix.specs.declared.time.Offset.{Offset}
+use Rattle.tz_posix_core.specs.Values.{StdPart}
+use Rattle.tz_posix_core.specs.declared.time.Offset.{Offset}
 use Rattle.tz_footer.specs.declared.values.FooterRule.{FooterRule}
 
 pub record SavingValue : Type 0 where

@@ -6,7 +6,7 @@ ghost use Rattle.tz_footer.specs.Shown.{saving_shown, text_shown};
 ghost use Rattle.tz_footer.specs.FooterShown.{held_shown};
 ghost use Rattle.tz_footer.specs.Standing.{saving_kind, moment_of};
 ghost use Rattle.tz_footer.specs.Yearly.{time_shown};
-ghost use Rattle.tz_posix.specs.Seconds.{IsWritten};
+ghost use Rattle.tz_posix_core.specs.Seconds.{IsWritten};
 
 use crate::held::Held;
 use crate::range::is_in_range;
@@ -14,7 +14,7 @@ use crate::read::footer_text;
 use crate::rule::YearlyRule;
 use crate::values::{FooterText, Saving};
 use civil_base::UtcOffset;
-use tz_posix::parts::saving_offset;
+use tz_posix_core::parts::saving_offset;
 
 /// What a footer puts in force at each second.
 #[derive(Clone, Debug, Drop, PartialEq, Eq)]

@@ -4,7 +4,7 @@ ghost use Rattle.tz_footer.specs.Ranges.{has_time, is_moment, is_rule, is_own_of
 ghost use Rattle.tz_footer.specs.Shown.{saving_shown, text_shown};
 
 use crate::values::{FooterRule, FooterText, Saving};
-use tz_posix::{Date, Offset};
+use tz_posix_core::{Date, Offset};
 
 /// Whether all parts are in their ranges.
 #[tactic(auto, unfolding(crate::specs::Ranges::is_in_range))]

@@ -4,11 +4,11 @@ ghost use Rattle.tz_footer.specs.Reading.{moment_at, rule_in, saving_in, footer_
 ghost use Rattle.tz_footer.specs.Shown.{saving_shown, text_shown};
 ghost use Rattle.tz_footer.specs.Spells.{IsFooter};
 ghost use Rattle.tz_footer.specs.Values.{FooterValue};
-ghost use Rattle.tz_posix.specs.Reading.{read_as};
+ghost use Rattle.tz_posix_core.specs.Reading.{read_as};
 
 use crate::values::{FooterRule, FooterText, Saving};
-use tz_posix::parts::{after_mark, date, name, offset, own_offset};
-use tz_posix::{Date, Offset, Std};
+use tz_posix_core::parts::{after_mark, date, name, offset, own_offset};
+use tz_posix_core::{Date, Offset, Std};
 
 /// A date and maybe a time, and the rest.
 #[tactic(auto, unfolding(crate::specs::Reading::moment_at))]

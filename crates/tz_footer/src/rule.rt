@@ -4,12 +4,12 @@ ghost use Rattle.calendar.specs.Days.{IsCountedYear};
 ghost use Rattle.tz_footer.specs.InForce.{is_saving, second_in};
 ghost use Rattle.tz_footer.specs.Ranges.{is_moment, is_rule};
 ghost use Rattle.tz_footer.specs.Standing.{moment_of};
-ghost use Rattle.tz_posix.specs.Ranges.{is_rule_date};
+ghost use Rattle.tz_posix_core.specs.Ranges.{is_rule_date};
 
 use crate::values::FooterRule;
 use civil_base::UtcOffset;
-use tz_posix::parts::{counted_year_at, is_within};
-use tz_posix::{Date, Offset};
+use tz_posix_core::parts::{counted_year_at, is_within};
+use tz_posix_core::{Date, Offset};
 
 const SECONDS_PER_DAY: i64 = 86_400;
 

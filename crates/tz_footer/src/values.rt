@@ -1,6 +1,6 @@
 //! What a footer is read as.
 
-use tz_posix::{Date, Offset, Std};
+use tz_posix_core::{Date, Offset, Std};
 
 /// When daylight saving time begins and ends in each year: a day, and a time where one is written, which counts from the
 /// day's midnight back after `-`.

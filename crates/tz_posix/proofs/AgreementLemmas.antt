@@ -12,14 +12,14 @@ use Rattle.zone_spans.specs.Compiled.{compiled, set_of_lines, unless}
 use Rattle.zone_spans.specs.Faults.{schedule_fault}
 use Rattle.zone_spans.specs.Lines.{Line, Rulesets, is_known, is_ruled, rules_named, zone_lines}
 use Rattle.zone_spans.specs.Schedules.{schedule_of, shown_by, total_at, totals_of}
-use Rattle.zone_spans.specs.TwoRules.{AreBoth, HasTwoRules, written, year_from}
-use Rattle.zone_spans.specs.TwoRuleSets.{IsExpandable}
-use Rattle.zone_spans.specs.TwoRuleFirings.{wall_moment}
+use Rattle.tz_posix.specs.TwoRules.{AreBoth, HasTwoRules, written, year_from}
+use Rattle.tz_posix.proofs.TwoRuleSetLemmas.{IsExpandable}
+use Rattle.tz_posix.proofs.TwoRuleFiringLemmas.{wall_moment}
 use Rattle.zone_spans.specs.declared.fault.SpanFault.{SpanFault}
 use Rattle.zone_spans.specs.declared.span.FixedTimespanSet.{FixedTimespanSet}
 use Rattle.tz_posix.specs.Agreement.{IsChange, IsInYears, IsRuleYear, IsSameTime, RuledValue, SaysTheSame, TwoRuleZone}
 use Rattle.tz_posix.specs.Agreement.{end_in, first_year, start_in, value_total}
-use Rattle.tz_posix.specs.InForce.{YearlyTime, instant_in, is_saving, is_within, posix_total, year_at, yearly_time}
+use Rattle.tz_posix_core.specs.InForce.{YearlyTime, instant_in, is_saving, is_within, posix_total, year_at, yearly_time}
 use Rattle.tz_posix.proofs.HemisphereLemmas.{savings_differ}
 use Rattle.tz_posix.proofs.NamedDayLemmas.{named_day-is, never_outside}
 use Rattle.tz_posix.proofs.StandardYearLemmas.{ArePlaces, IsNear, applies_from, are_places, earlier_year, near-counted, near_year, not_before, place_in, place_in-is, rule_year, year_at-is, years_before}

@@ -22,9 +22,9 @@ use Rattle.zone_table.specs.Moments.{applies_to_year}
 use Rattle.zone_table.specs.declared.rule.RuleInfo.{RuleInfo}
 use Rattle.zone_spans.specs.Faults.{is_outside}
 use Rattle.tz_posix.specs.Agreement.{IsSameDay, from_first, from_eighth, from_fifteenth, from_twenty_second, last_of_month}
-use Rattle.tz_posix.specs.Days.{nth_weekday, rule_day}
-use Rattle.tz_posix.specs.declared.date.Date.{Date}
-use Rattle.tz_posix.proofs.WeekdayLemmas.{day-from_first, last_with_weekday, weekday_of-later, weekday_of-small, weekday_in_month}
+use Rattle.tz_posix_core.specs.Days.{nth_weekday, rule_day}
+use Rattle.tz_posix_core.specs.declared.date.Date.{Date}
+use Rattle.tz_posix_core.specs.WeekdayLaws.{day-from_first, last_with_weekday, weekday_of-later, weekday_of-small, weekday_in_month}
 
 pub weekday_number-small : (w : Weekday) → weekday_number w < 7
 weekday_number-small Sunday = omega arith

@@ -12,19 +12,19 @@ use Rattle.zone_values.specs.declared.weekday.Weekday.TheVariants.{Sunday}
 use Rattle.zone_table.specs.declared.zone.ZoneInfo.{ZoneInfo}
 use Rattle.zone_spans.specs.Lines.{Rulesets}
 use Rattle.zone_spans.specs.Schedules.{schedule_of, total_at}
-use Rattle.zone_spans.specs.TwoRuleFirings.{wall_moment}
+use Rattle.tz_posix.proofs.TwoRuleFiringLemmas.{wall_moment}
 use Rattle.tz_posix.specs.Agreement.{IsNorthern, IsSouthern, SaysTheSame, start_in, value_of, value_total}
 use Rattle.tz_posix.specs.Agreement.{from_first, from_eighth, last_of_month}
-use Rattle.tz_posix.specs.Reading.{value_in, number_at, part_at, time_at, sign_at, offset_at, letters_at, enclosed_at, name_at}
-use Rattle.tz_posix.specs.Reading.{weekday_at, date_at, moment_at, rule_in, own_offset_at, own_rule_in, dst_in, short_in}
-use Rattle.tz_posix.specs.Reading.{expanded_in, entry_in}
+use Rattle.tz_posix_core.specs.Reading.{value_in, number_at, part_at, time_at, sign_at, offset_at, letters_at, enclosed_at, name_at}
+use Rattle.tz_posix_core.specs.Reading.{weekday_at, date_at, moment_at, rule_in, own_offset_at, own_rule_in, dst_in, short_in}
+use Rattle.tz_posix_core.specs.Reading.{expanded_in, entry_in}
 use Rattle.tz_posix.specs.RealPairs.{IsRuledBy, lord_howe_rules, lord_howe_text, lord_howe_value}
 use Rattle.tz_posix.specs.RealPairs.{moldova_rules, moldova_text, moldova_value, new_york_text, new_york_value, us_rules}
-use Rattle.tz_posix.specs.Seconds.{offset_seconds, time_seconds}
-use Rattle.tz_posix.specs.Spells.{Spells}
+use Rattle.tz_posix_core.specs.Seconds.{offset_seconds, time_seconds}
+use Rattle.tz_posix_core.specs.Spells.{Spells}
 use Rattle.tz_posix.proofs.NorthernLemmas.{northern_agrees}
 use Rattle.tz_posix.proofs.SouthernLemmas.{southern_agrees}
-use Rattle.tz_posix.specs.FoundLaws.{entry_found}
+use Rattle.tz_posix_core.specs.FoundLaws.{entry_found}
 use Rattle.tz_posix.proofs.MonthPairLemmas.{AreInnerRules, end_inside, northern_apart, northern_order, southern_apart, southern_order, start_inside}
 
 pub new_york_spelled : Spells new_york_text (value_of new_york_value)

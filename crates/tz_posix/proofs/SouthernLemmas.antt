@@ -7,14 +7,14 @@ use Rattle.zone_table.specs.Moments.{moment}
 use Rattle.zone_spans.specs.Compiled.{compiled}
 use Rattle.zone_spans.specs.Lines.{Rulesets}
 use Rattle.zone_spans.specs.Schedules.{schedule_of, total_at, totals_of}
-use Rattle.zone_spans.specs.TwoRules.{AreInTurn, IsInYear, first_at, saving_in, second_at, written, year_from}
-use Rattle.zone_spans.specs.TwoRuleSets.{IsCompiled, two_rules_compile}
-use Rattle.zone_spans.specs.TwoRuleFirings.{wall_moment}
-use Rattle.zone_spans.specs.TwoRuleTotals.{two_rules_total}
+use Rattle.tz_posix.specs.TwoRules.{AreInTurn, IsCompiled, IsInYear, first_at, saving_in, second_at, written, year_from}
+use Rattle.tz_posix.proofs.TwoRuleSetLemmas.{two_rules_compile}
+use Rattle.tz_posix.proofs.TwoRuleFiringLemmas.{wall_moment}
+use Rattle.tz_posix.proofs.TwoRuleTotalLemmas.{two_rules_total}
 use Rattle.zone_spans.specs.declared.span.FixedTimespanSet.{FixedTimespanSet}
 use Rattle.tz_posix.specs.Agreement.{IsFromFirstStart, IsInYears, IsSouthern, RuledValue, SaysTheSame, TwoRuleZone}
 use Rattle.tz_posix.specs.Agreement.{end_in, first_year, start_in, value_total}
-use Rattle.tz_posix.specs.InForce.{is_within}
+use Rattle.tz_posix_core.specs.InForce.{is_within}
 use Rattle.tz_posix.proofs.HemisphereLemmas.{southern_total, start_before_end, end_before_start, up_le, up_lt, lt_le, le_same, later_end}
 use Rattle.tz_posix.proofs.StandardYearLemmas.{years_before}
 use Rattle.tz_posix.proofs.AgreementLemmas.{a_start, an_end, at, compiled_line, differ, end-written, end_expandable, end_first, first_place, first_rule_year, found_place, in_order, known, line_of, schedule-is, start-written, start_expandable, value_total-is, year_of_place}

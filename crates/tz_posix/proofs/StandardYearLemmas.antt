@@ -10,10 +10,10 @@ use Rattle.calendar.specs.Signs.{signed, floored, natural}
 use Rattle.zone_values.specs.declared.year.Year.TheVariants.{Maximum, Number}
 use Rattle.zone_table.specs.Moments.{applies_to_year, last_year, is_at_most, is_at_least}
 use Rattle.zone_table.specs.declared.rule.RuleInfo.{RuleInfo}
-use Rattle.zone_spans.specs.TwoRules.{year_from}
+use Rattle.tz_posix.specs.TwoRules.{year_from}
 use Rattle.tz_posix.specs.Agreement.{first_year, IsInYears, IsRuleYear}
-use Rattle.tz_posix.specs.InForce.{year_at}
-use Rattle.tz_posix.proofs.DayLemmas.{new_year}
+use Rattle.tz_posix_core.specs.InForce.{year_at}
+use Rattle.tz_posix_core.specs.DayLaws.{new_year}
 
 -- ---- years in order
 

@@ -1,20 +1,4 @@
-pub mod AgainLaws
+-- Definitions: what the laws say.
 pub mod Agreement
-pub mod Days
-pub mod FoundLaws
-pub mod InForce
-pub mod Marks
-pub mod NamedShown
-pub mod Offsets
-pub mod Parses
-pub mod PosixShown
-pub mod PosixZones
-pub mod Ranges
-pub mod Reading
 pub mod RealPairs
-pub mod Resolved
-pub mod Seconds
-pub mod Shown
-pub mod Spells
-pub mod Values
-pub mod Yearly
+pub mod TwoRules

@@ -1,4 +1,4 @@
-//! Laws of the texts, and of zones that say the same as one.
+//! Laws of zones and strings that say the same.
 ghost use Rattle.std.specs.Prelude.{◌≡◌, ℕ, ℤ, pos, neg_ℤ, ◌≤ℤ◌, ◌<ℤ◌, true, List, [], ◌∷◌, Option, is_some, IfSome, Ok};
 ghost use Rattle.civil_base.specs.DateTimes.{instant};
 ghost use Rattle.civil_base.specs.Instants.{seconds_of};
@@ -6,7 +6,7 @@ ghost use Rattle.zone_table.specs.declared.zone.ZoneInfo.{ZoneInfo};
 ghost use Rattle.zone_spans.specs.Compiled.{compiled};
 ghost use Rattle.zone_spans.specs.Lines.{Rulesets};
 ghost use Rattle.zone_spans.specs.Schedules.{schedule_of, total_at};
-ghost use Rattle.zone_spans.specs.TwoRuleSets.{IsCompiled};
+ghost use Rattle.tz_posix.specs.TwoRules.{IsCompiled};
 ghost use Rattle.tz_lookup.specs.Compiles.{spans_of};
 ghost use Rattle.tz_lookup.specs.Sets.{schedule_of as schedule_in};
 ghost use Rattle.tz_lookup.specs.Zones.{set_of};
@@ -24,8 +24,8 @@ ghost use Rattle.tz_posix.specs.Agreement.{
   value_of,
   value_total,
 };
-ghost use Rattle.tz_posix.specs.PosixShown.{posix_of};
-ghost use Rattle.tz_posix.specs.PosixZones.{GivesTotal};
+ghost use Rattle.tz_posix_core.specs.PosixShown.{posix_of};
+ghost use Rattle.tz_posix_core.specs.PosixZones.{GivesTotal};
 ghost use Rattle.tz_posix.specs.RealPairs.{
   IsRuledBy,
   lord_howe_rules,
@@ -38,23 +38,13 @@ ghost use Rattle.tz_posix.specs.RealPairs.{
   new_york_value,
   us_rules,
 };
-ghost use Rattle.tz_posix.specs.Resolved.{resolved};
-ghost use Rattle.tz_posix.specs.Spells.{Spells, RunsAreLongest};
-ghost use Rattle.tz_posix.specs.Values.{TzValue};
+ghost use Rattle.tz_posix_core.specs.Resolved.{resolved};
+ghost use Rattle.tz_posix_core.specs.Spells.{Spells};
+ghost use Rattle.tz_posix_core.specs.Values.{TzValue};
 
-use crate::posix::PosixTz;
 use civil_base::{OffsetDateTime, UtcOffset};
 use tz_lookup::{Offset, TimeZone, Tz};
-
-/// A text spells at most one value.
-pub fn one_reading()
-    ensures { (text : List ℕ) (x y : TzValue) → Spells text x → Spells text y → x ≡ y }
-{}
-
-/// What may follow a name or a number in a text doesn't go on with its letters or digits, so each is a longest run.
-pub fn longest_runs()
-    ensures { RunsAreLongest }
-{}
+use tz_posix_core::PosixTz;
 
 /// A zone of one line and two yearly rules and the POSIX TZ string that says the same give each instant the same offset.
 ///

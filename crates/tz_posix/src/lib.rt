@@ -1,25 +1,12 @@
-//! POSIX TZ strings, such as `EST5EDT,M3.2.0,M11.1.0`: read by a written grammar, and the offset that they give an instant.
+//! POSIX TZ strings, such as `EST5EDT,M3.2.0,M11.1.0`, and the laws by which a zone of the tz database and a string that says the
+//! same agree.
 //!
-//! The names are those of the crate `time-tz`. No call takes memory.
+//! The strings themselves are those of `tz_posix_core`, which this crate passes on.
 #![tactic(auto)]
 
-mod date;
-mod error;
 pub mod laws;
-mod offset;
-mod parse;
-pub mod parts;
-mod posix;
-mod range;
-mod read;
-mod rule;
-mod time;
-mod values;
 
-pub use date::Date;
-pub use error::{Error, ParseError, RangeError};
-pub use offset::PosixTzOffset;
-pub use posix::PosixTz;
-pub use read::entry;
-pub use time::{Offset, Time};
-pub use values::{Dst, Rule, Std, Tz};
+pub use tz_posix_core::{
+    Date, Dst, Error, Offset, ParseError, PosixTz, PosixTzOffset, RangeError, Rule, Std, Time, Tz,
+    entry,
+};

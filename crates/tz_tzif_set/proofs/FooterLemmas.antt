@@ -3,21 +3,21 @@ use Rattle.std.proofs.Common.{◌≡◌, ℕ, ◌≤◌, Bool, true, false, cond
 use Rattle.std.proofs.lemmas.Bool.{and_parts, and_from}
 use Rattle.std.proofs.lemmas.Bool.Decides.{nat_tests}
 use Rattle.civil_base.specs.Instants.{seconds_of}
-use Rattle.tz_posix.specs.InForce.{instant_in, is_saving, posix_total, year_at, is_within, yearly_time}
-use Rattle.tz_posix.specs.PosixZones.{PosixZone, fixed, ruled, GivesTotal, Named, either}
-use Rattle.tz_posix.specs.Ranges.{posix_range, first_some, offset_miss, time_miss, rule_range, rule_time_miss, date_miss, is_time, is_rule_date}
-use Rattle.tz_posix.specs.Resolved.{resolved}
-use Rattle.tz_posix.specs.Seconds.{offset_seconds, east_of, part}
-use Rattle.tz_posix.specs.Spells.{Optional, absent, present, IsDst, dst, Spells, short_form, full_form}
-use Rattle.tz_posix.specs.Spells as spells
-use Rattle.tz_posix.specs.Values.{TzValue}
-use Rattle.tz_posix.specs.declared.date.Date.{Date}
+use Rattle.tz_posix_core.specs.InForce.{instant_in, is_saving, posix_total, year_at, is_within, yearly_time}
+use Rattle.tz_posix_core.specs.PosixZones.{PosixZone, fixed, ruled, GivesTotal, Named, either}
+use Rattle.tz_posix_core.specs.Ranges.{posix_range, first_some, offset_miss, time_miss, rule_range, rule_time_miss, date_miss, is_time, is_rule_date}
+use Rattle.tz_posix_core.specs.Resolved.{resolved}
+use Rattle.tz_posix_core.specs.Seconds.{offset_seconds, east_of, part}
+use Rattle.tz_posix_core.specs.Spells.{Optional, absent, present, IsDst, dst, Spells, short_form, full_form}
+use Rattle.tz_posix_core.specs.Spells as spells
+use Rattle.tz_posix_core.specs.Values.{TzValue}
+use Rattle.tz_posix_core.specs.declared.date.Date.{Date}
 use Rattle.std.specs.Option.{option_map_or}
 use Rattle.zone_tzif_core.specs.Zones.{KindValue}
-use Rattle.tz_posix.specs.declared.error.RangeError.{RangeError}
-use Rattle.tz_posix.specs.declared.time.Offset.{Offset}
-use Rattle.tz_posix.specs.declared.time.Time.{Time}
-use Rattle.tz_posix.specs.declared.values.Rule.{Rule}
+use Rattle.tz_posix_core.specs.declared.error.RangeError.{RangeError}
+use Rattle.tz_posix_core.specs.declared.time.Offset.{Offset}
+use Rattle.tz_posix_core.specs.declared.time.Time.{Time}
+use Rattle.tz_posix_core.specs.declared.values.Rule.{Rule}
 use Rattle.tz_zone.specs.declared.set.FixedTimespanSet.{FixedTimespanSet}
 use Rattle.tz_footer.specs.InForce.{held_at, second_in, yearly, is_saving as footer_saving}
 use Rattle.tz_footer.specs.Ranges.{IsFooterOf, is_in_range, is_rule, is_own_offset, has_time}

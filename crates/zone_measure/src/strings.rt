@@ -6,7 +6,7 @@ use crate::looks::{FIRST, LOOKS, STEP};
 use crate::stopped::Stopped;
 use civil_base::OffsetDateTime;
 use tz_lookup::{Database, Offset};
-use tz_posix::PosixTz;
+use tz_posix_core::PosixTz;
 use zone_source::{Lines, Status, text_of};
 
 /// Reads the strings as often as the job says, and counts; asks each for offsets where the job says that.

@@ -16,8 +16,3 @@ pub mod Compiled
 pub mod Bounds
 pub mod Schedules
 pub mod ScheduleLaws
-pub mod TwoRules
-pub mod TwoRuleFirings
-pub mod TwoRuleEntries
-pub mod TwoRuleTotals
-pub mod TwoRuleSets

@@ -11,10 +11,10 @@ use Rattle.calendar.specs.MonthLaws.{days_in_month-bounds}
 use Rattle.calendar.specs.Signs.{signed, floored}
 use Rattle.calendar.specs.Weekdays.{weekday_of}
 use Rattle.calendar.specs.YearLaws.{day-cycle}
-use Rattle.tz_posix.specs.Days.{nth_weekday, rule_day}
-use Rattle.tz_posix.specs.InForce.{instant_in}
-use Rattle.tz_posix.specs.Ranges.{is_rule_date}
-use Rattle.tz_posix.specs.declared.date.Date.TheVariants.{M}
+use Rattle.tz_posix_core.specs.Days.{nth_weekday, rule_day}
+use Rattle.tz_posix_core.specs.InForce.{instant_in}
+use Rattle.tz_posix_core.specs.Ranges.{is_rule_date}
+use Rattle.tz_posix_core.specs.declared.date.Date.TheVariants.{M}
 use Rattle.zone_tail_core.specs.Changes.{change_with, changes_at, weeks}
 use Rattle.zone_tail_core.specs.LastYear.{year_begin, year_end}
 use Rattle.zone_tail_core.specs.Rules.{IsChange, time_of}

@@ -2,7 +2,7 @@
 use Rattle.std.proofs.Common.{◌≡◌, false, None, ℤ, pos, refl, arith}
 use Rattle.std.specs.Ordering.{int_eq}
 use Rattle.std.proofs.lemmas.Int.{ints}
-use Rattle.tz_posix.specs.Days.{day_refusal}
+use Rattle.tz_posix_core.specs.Days.{day_refusal}
 use Rattle.zone_tail_core.specs.Rules.{IsNearYear, date_of}
 use Rattle.zone_tail_core.specs.declared.rule.Change.{Change}
 

@@ -1,12 +1,12 @@
 -- What a set's string is parsed as is the zone that it stands for.
 use Rattle.std.proofs.Common.{◌≡◌, ℕ, List, Option, Ok, ℤ, sym, ap, ◌∙◌}
 use Rattle.tz_zone.specs.declared.set.FixedTimespanSet.{FixedTimespanSet}
-use Rattle.tz_posix.specs.Parses.{IsParsed}
-use Rattle.tz_posix.specs.PosixShown.{posix_of}
-use Rattle.tz_posix.specs.Resolved.{resolved}
-use Rattle.tz_posix.specs.Spells.{Spells}
-use Rattle.tz_posix.specs.Values.{TzValue}
-use Rattle.tz_posix.specs.declared.posix.PosixTz.{PosixTz}
+use Rattle.tz_posix_core.specs.Parses.{IsParsed}
+use Rattle.tz_posix_core.specs.PosixShown.{posix_of}
+use Rattle.tz_posix_core.specs.Resolved.{resolved}
+use Rattle.tz_posix_core.specs.Spells.{Spells}
+use Rattle.tz_posix_core.specs.Values.{TzValue}
+use Rattle.tz_posix_core.specs.declared.posix.PosixTz.{PosixTz}
 use Rattle.zone_tail_core.specs.Carried.{CarriesOn}
 
 pub one_zone : (set : FixedTimespanSet) (from : Option ℤ) (text : List ℕ) (zones : List FixedTimespanSet) (posix : PosixTz) (carries : CarriesOn set from text)

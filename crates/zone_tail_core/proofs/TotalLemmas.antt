@@ -6,7 +6,7 @@ use Rattle.calendar.specs.Days.{day, is_leap, days_in_year, days_in_month, days_
 use Rattle.calendar.specs.Signs.{signed}
 use Rattle.zone_spans.specs.Schedules.{Schedule}
 use Rattle.tz_zone.specs.Spans.{IsCut, Shift, TimesDontFall, shift_at, total_of}
-use Rattle.tz_posix.specs.InForce.{instant_in, is_within, year_at}
+use Rattle.tz_posix_core.specs.InForce.{instant_in, is_within, year_at}
 use Rattle.zone_tail_core.specs.Agreement.{Agrees, AgreesFrom}
 use Rattle.zone_tail_core.specs.Candidates.{IsAllowed}
 use Rattle.zone_tail_core.specs.Choices.{candidate_at, IsChoice}

@@ -5,7 +5,7 @@ use Rattle.zone_spans.specs.Entries.{total}
 use Rattle.tz_zone.specs.Sets.{schedule_of, shifts_of}
 use Rattle.tz_zone.specs.Spans.{Shift, shift_at}
 use Rattle.tz_zone.specs.declared.set.FixedTimespanSet.{FixedTimespanSet}
-use Rattle.tz_posix.specs.Marks.{less, greater}
+use Rattle.tz_posix_core.specs.Marks.{less, greater}
 use Rattle.zone_tail_core.specs.Changes.{changes_at}
 use Rattle.zone_tail_core.specs.Choices.{candidate_at, IsChoice}
 use Rattle.zone_tail_core.specs.LastYear.{Form, steady, yearly, other, form, standard_of, year_end}

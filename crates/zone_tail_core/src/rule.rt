@@ -2,12 +2,12 @@
 ghost use Rattle.std.specs.Prelude.{◌≡◌, ℤ, pos, neg_ℤ, ◌-ℤ◌, ◌*ℤ◌, ◌≤ℤ◌, ◌<ℤ◌};
 ghost use Rattle.calendar.specs.Days.{day as day_at};
 ghost use Rattle.civil_base.specs.Ranges.{IsDay};
-ghost use Rattle.tz_posix.specs.Days.{rule_day};
-ghost use Rattle.tz_posix.specs.InForce.{instant_in, is_within as is_between, year_at};
+ghost use Rattle.tz_posix_core.specs.Days.{rule_day};
+ghost use Rattle.tz_posix_core.specs.InForce.{instant_in, is_within as is_between, year_at};
 ghost use Rattle.zone_tail_core.specs.Rules.{IsChange, IsNearYear, IsReach, IsSound, date_of, rule_total, time_of};
 
 use calendar::day_number;
-use tz_posix::Date;
+use tz_posix_core::Date;
 
 const SECONDS_PER_DAY: i64 = 86_400;
 
@@ -60,7 +60,7 @@ impl Change {
     }
 
     /// The second in a year, by clocks so many seconds ahead of UTC.
-    #[tactic(auto, unfolding(tz_posix::specs::InForce::instant_in))]
+    #[tactic(auto, unfolding(tz_posix_core::specs::InForce::instant_in))]
     fn instant_in(&self, year: i32, offset: i64) -> i64
         requires change { IsChange self.now }
         requires year { IsNearYear year }
@@ -75,7 +75,7 @@ impl Change {
 
 impl YearlyRule {
     /// The year of the date at a second, by clocks of standard time.
-    #[tactic(auto, unfolding(tz_posix::specs::InForce::year_at))]
+    #[tactic(auto, unfolding(tz_posix_core::specs::InForce::year_at))]
     fn year_at(&self, second: i64) -> i32
         requires sound { IsSound self.now }
         requires reach { IsReach second }

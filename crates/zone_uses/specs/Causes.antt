@@ -3,12 +3,12 @@ use Rattle.std.specs.Prelude.{◌≡◌, ℕ, List, ℤ, false, Option, Some, No
 use Rattle.sefunjaro.specs.Causes.{IsSourceCause}
 use Rattle.sefunjaro.specs.declared.error.Error.{Error}
 use Rattle.sefunjaro.specs.declared.error.Error.TheVariants as error
-use Rattle.tz_posix.specs.Parses.{IsParsed}
-use Rattle.tz_posix.specs.PosixShown.{posix_of}
-use Rattle.tz_posix.specs.PosixZones.{posix_refusal}
-use Rattle.tz_posix.specs.declared.error.Error as range
-use Rattle.tz_posix.specs.declared.error.ParseError.{ParseError}
-use Rattle.tz_posix.specs.declared.posix.PosixTz.{PosixTz}
+use Rattle.tz_posix_core.specs.Parses.{IsParsed}
+use Rattle.tz_posix_core.specs.PosixShown.{posix_of}
+use Rattle.tz_posix_core.specs.PosixZones.{posix_refusal}
+use Rattle.tz_posix_core.specs.declared.error.Error as range
+use Rattle.tz_posix_core.specs.declared.error.ParseError.{ParseError}
+use Rattle.tz_posix_core.specs.declared.posix.PosixTz.{PosixTz}
 use Rattle.tz_tzif.specs.Faults.{IsFault}
 use Rattle.tz_tzif.specs.declared.fault.TzifFault.{TzifFault}
 use Rattle.tz_zone.specs.Compiles.{compiled_in, IsZoneFault}

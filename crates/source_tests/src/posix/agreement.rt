@@ -10,7 +10,7 @@ ghost use Rattle.zone_table.specs.Resolved.{resolved_in};
 ghost use Rattle.tz_lookup.specs.Compiles.{compiled_in, spans_of, IsZoneFault};
 ghost use Rattle.tz_lookup.specs.Sets.{schedule_of, IsAccepted};
 ghost use Rattle.tz_posix.specs.Agreement.{IsCovered, RuledValue, SaysTheSame, TwoRuleZone, value_of};
-ghost use Rattle.tz_posix.specs.Parses.{IsInRange};
+ghost use Rattle.tz_posix_core.specs.Parses.{IsInRange};
 
 use crate::checks::holds_at;
 use crate::fixtures::table_of;

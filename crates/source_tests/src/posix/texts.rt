@@ -1,7 +1,7 @@
 //! Texts that are read and refused, and what their values are.
 ghost use Rattle.std.specs.Prelude.{IsTrue};
 ghost use Rattle.civil_base.specs.Ranges.{IsYear};
-ghost use Rattle.tz_posix.specs.Ranges.{is_rule_date};
+ghost use Rattle.tz_posix_core.specs.Ranges.{is_rule_date};
 
 use crate::checks::{holds_at, same};
 use std::process::Abort;

@@ -1,8 +1,8 @@
 use Rattle.std.proofs.Common.{Some, ap, sym, subst, ◌∙◌}
 use Rattle.civil_base.specs.DateTimes.{instant}
 use Rattle.tz_zone.specs.Zones.{set_of}
-use Rattle.tz_posix.specs.Offsets.{given_of}
-use Rattle.tz_posix.specs.PosixZones.{Gives, posix_refusal}
+use Rattle.tz_posix_core.specs.Offsets.{given_of}
+use Rattle.tz_posix_core.specs.PosixZones.{Gives, posix_refusal}
 use Rattle.zone_tail_core.proofs.OneLemmas.{one_zone}
 use Rattle.zone_tail_core.proofs.laws.both_offsets.Goals as goal
 

@@ -1,5 +1,5 @@
 use Rattle.std.proofs.Common.{◌≡◌, true, option_map, subst}
-use Rattle.tz_posix.specs.Ranges.{is_time}
+use Rattle.tz_posix_core.specs.Ranges.{is_time}
 use Rattle.tz_footer.specs.Ranges.{is_part, is_in_range}
 use Rattle.tz_footer.specs.Shown.{saving_shown}
 use Rattle.tz_footer.proofs.RangeLemmas.{standard_offset, saving_part}

@@ -1,7 +1,7 @@
 use Rattle.std.proofs.Common.{◌≡◌, ◌<◌, ℕ, ℤ, pos, neg_ℤ, ◌+ℤ◌, ◌-ℤ◌, ◌*ℤ◌, ◌≤ℤ◌, w32, w64, to_z, of_z, to_z-of_z, FitsSigned, rules, ap, ◌∙◌, arith}
 use Rattle.std.proofs.lemmas.Int.{ints}
-use Rattle.tz_posix.specs.Days.{rule_day}
-use Rattle.tz_posix.specs.InForce.{instant_in}
+use Rattle.tz_posix_core.specs.Days.{rule_day}
+use Rattle.tz_posix_core.specs.InForce.{instant_in}
 use Rattle.zone_tail_core.specs.Rules.{date_of}
 use Rattle.zone_tail_core.proofs.rule.Change.instant_in.Goals as goal
 

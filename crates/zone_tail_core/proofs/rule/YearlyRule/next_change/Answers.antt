@@ -1,7 +1,7 @@
 use Rattle.std.proofs.Common.{◌≡◌, ℤ, pos, ◌+ℤ◌, ◌-ℤ◌, ◌*ℤ◌, w32, w64, to_z, of_z, FitsSigned, to_z-of_z, rules, arith, ap, ◌∙◌}
 use Rattle.std.proofs.lemmas.Int.{ints}
 use Rattle.calendar.specs.Days.{day}
-use Rattle.tz_posix.specs.InForce.{instant_in, year_at}
+use Rattle.tz_posix_core.specs.InForce.{instant_in, year_at}
 use Rattle.zone_tail_core.specs.Rules.{IsNearYear, time_of}
 use Rattle.zone_tail_core.proofs.PieceLemmas.{constant_up_to}
 use Rattle.zone_tail_core.proofs.YearLemmas.{year_at-in}

@@ -1,5 +1,5 @@
 use Rattle.std.proofs.Common.{◌≡◌, ℤ, Bool, true, false, cond, w32, w64, FitsSigned, to_z-of_z, rules, sym, ap, ◌∙◌}
-use Rattle.tz_posix.specs.InForce.{instant_in, is_within, year_at}
+use Rattle.tz_posix_core.specs.InForce.{instant_in, is_within, year_at}
 use Rattle.zone_tail_core.specs.Rules.{rule_total, time_of}
 use Rattle.zone_tail_core.specs.declared.rule.YearlyRule.{YearlyRule}
 use Rattle.zone_tail_core.proofs.PieceLemmas.{of_year}

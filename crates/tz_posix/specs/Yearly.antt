@@ -1,6 +1,0 @@
--- What is seen of the code's times of each year.
-use Rattle.tz_posix.specs.InForce as force
-use Rattle.tz_posix.specs.declared.rule.YearlyTime.{YearlyTime}
-
-abbrev pub time_shown : YearlyTime → force.YearlyTime
-time_shown time = (time.date, time.seconds)

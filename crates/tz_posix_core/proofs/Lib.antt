@@ -1,0 +1,11 @@
+mod EntryLemmas
+mod GivenLemmas
+mod OffsetLemmas
+mod RangeLemmas
+mod RunLemmas
+mod WorkedDates
+mod WorkedForce
+mod WorkedRanges
+mod WorkedResolved
+mod WorkedTexts
+mod YearLemmas

@@ -1,0 +1,39 @@
+-- Where nothing misses its range, no part does.
+use Rattle.std.proofs.Common.{◌≡◌, refl, List, [], ◌∷◌, Option, Some, None}
+use Rattle.std.specs.Prelude.{option_and_then, option_map}
+use Rattle.tz_posix_core.specs.Ranges.{first_some, offset_miss, posix_range, rule_range}
+use Rattle.tz_posix_core.specs.Shown.{dst_shown, std_shown, tz_shown}
+use Rattle.tz_posix_core.specs.Values.{StdPart, DstPart, expanded}
+use Rattle.tz_posix_core.specs.declared.values.Dst.{Dst}
+use Rattle.tz_posix_core.specs.declared.values.Std.{Std}
+use Rattle.tz_posix_core.specs.declared.values.Tz.{Tz}
+use Rattle.tz_posix_core.specs.declared.values.Tz.TheVariants.{Expanded}
+
+none_first : {A : Type 0} (x : Option A) (rest : List (Option A)) → first_some (x ∷ rest) ≡ None → (x ≡ None) × (first_some rest ≡ None)
+none_first None rest e = (refl, e)
+none_first (Some x) rest e = absurd cc
+
+standard_fits : (std : StdPart) (dst : Option DstPart) → posix_range (expanded std dst) ≡ None → offset_miss std.offset ≡ None
+unfolding posix_range
+standard_fits std None e = e
+standard_fits std (Some dst) e = (none_first _ _ e).0
+
+saving_fits : (std : StdPart) (dst : DstPart) → posix_range (expanded std (Some dst)) ≡ None
+    → (option_and_then offset_miss dst.offset ≡ None) × (option_and_then rule_range dst.rule ≡ None)
+unfolding posix_range
+saving_fits std dst e =
+    let own = option_and_then offset_miss dst.offset in
+    let rule = option_and_then rule_range dst.rule in
+    let later = none_first (offset_miss std.offset) (own ∷ rule ∷ []) e in
+    let both = none_first own (rule ∷ []) later.1 in
+    (both.0, (none_first rule [] both.1).0)
+
+-- the same of a value of the code
+pub standard_in_range : (tz : Tz) (std : Std) (dst : Option Dst) → tz ≡ Expanded std dst → posix_range (tz_shown tz) ≡ None
+    → offset_miss std.offset ≡ None
+standard_in_range tz std dst is fits = standard_fits (std_shown std) (option_map dst_shown dst) (rw is at fits)
+
+pub saving_in_range : (tz : Tz) (std : Std) (d : Option Dst) (dst : Dst) → tz ≡ Expanded std d → d ≡ Some dst
+    → posix_range (tz_shown tz) ≡ None
+    → (option_and_then offset_miss dst.offset ≡ None) × (option_and_then rule_range dst.rule ≡ None)
+saving_in_range tz std d dst is there fits = saving_fits (std_shown std) (dst_shown dst) (rw (is, there) at fits)

@@ -1,0 +1,31 @@
+use Rattle.std.proofs.Common.{arith, to_z-of_z, ap, sym, ◌≡◌, ◌∙◌, w32, to_z, of_z}
+use Rattle.calendar.specs.Days.{day}
+use Rattle.calendar.specs.MonthLaws.{days_in_month-bounds}
+use Rattle.calendar.specs.Signs.{signed_casts}
+use Rattle.tz_posix_core.specs.WeekdayLaws.{IsFound, found}
+use Rattle.tz_posix_core.proofs.date.nth_day.Goals as goal
+
+pub day_number-requires-clause-last_day : goal.day_number-requires-clause-last_day
+day_number-requires-clause-last_day c =
+    let first = c.first_weekday-first.ensures in
+    let year = to_z-of_z c.ranges.year in
+    let is = found c.args.year c.args.m c.args.n c.args.d c.first_weekday-first.result c.nth_weekday.result
+    c.requires.year c.requires.date (rw year at first.value) first.first first.last
+    (rw year at c.nth_weekday.ensures.nth) in
+    omega (arith, is.date.last_day, (days_in_month-bounds c.args.year c.args.m).1)
+
+is_found : (c : goal.After-day_number) → IsFound c.args.year c.args.m c.args.n c.args.d c.nth_weekday.result
+is_found c =
+    let first = c.first_weekday-first.ensures in
+    let year = to_z-of_z c.ranges.year in
+    found c.args.year c.args.m c.args.n c.args.d c.first_weekday-first.result c.nth_weekday.result
+    c.requires.year c.requires.date (rw year at first.value) first.first first.last
+    (rw year at c.nth_weekday.ensures.nth)
+
+value_is : (c : goal.After-day_number) → to_z w32 (of_z w32 c.day_number.result) ≡ day c.args.year c.args.m c.nth_weekday.result
+value_is c =
+    let day_is = rw (to_z-of_z c.ranges.year) at c.day_number.ensures.value in
+    omega (arith, signed_casts, c.day_number.ensures.least, c.day_number.ensures.greatest, day_is)
+
+pub returns-clause-value : goal.returns-clause-value
+returns-clause-value c = value_is c ∙ ap (day c.args.year c.args.m) (sym (is_found c).nth)

@@ -1,0 +1,17 @@
+-- What the values of the code show.
+use Rattle.std.specs.Prelude.{option_map}
+use Rattle.tz_posix_core.specs.Values.{StdPart, DstPart, TzValue, short, expanded}
+use Rattle.tz_posix_core.specs.declared.values.Std.{Std}
+use Rattle.tz_posix_core.specs.declared.values.Dst.{Dst}
+use Rattle.tz_posix_core.specs.declared.values.Tz.{Tz}
+use Rattle.tz_posix_core.specs.declared.values.Tz.TheVariants.{Short, Expanded}
+
+abbrev pub std_shown : Std → StdPart
+std_shown s = record { name = s.name.now; offset = s.offset }
+
+abbrev pub dst_shown : Dst → DstPart
+dst_shown d = record { name = d.name.now; offset = d.offset; rule = d.rule }
+
+abbrev pub tz_shown : Tz → TzValue
+tz_shown (Short name) = short name.now
+tz_shown (Expanded s d) = expanded (std_shown s) (option_map dst_shown d)
