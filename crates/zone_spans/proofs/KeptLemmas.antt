@@ -264,6 +264,24 @@ cut_marks limit offset rules quiet fired marks count mark le below last begun =
       bounded = passes_take is_bounded_firing mark.count fired begun.bounded;
     }
 
+-- the firings that a mark counts, where it is below a second
+pub before_second : (offset : ℤ) (rules : List RuleInfo) (quiet : ℕ) (fired : List Firing) (marks : List Mark) (i : ℕ) (mark : Mark)
+    (second : ℤ) → i < length marks → mark ≡ get_or marks i mark → IsTrue (int_lt mark.latest second)
+    → BeginWithMarked offset rules quiet fired marks
+    → IsTrue (list_all (λ f. int_lt f.time second) (take mark.count fired)) × (mark.count ≤ length fired)
+before_second offset rules quiet fired marks i mark second l is less begun =
+    let here : IsMark (unended offset rules (quiet + suc i)) mark =
+    subst (λ (m : Mark). IsMark (unended offset rules (quiet + suc i)) m) (sym is) (begun.are.each i mark l) in
+    let all = (marked offset rules quiet marks).0 in
+    let due = (unended offset rules (quiet + suc i)).0 in
+    let more = more_years offset None rules (quiet + suc i) (quiet + length marks) (omega (arith, l)) in
+    let rest = drop (length all) fired in
+    let fired_is : fired ≡ due ++ (more.0 ++ rest) = sym (take-append-drop (length all) fired)
+    ∙ ap (λ xs. xs ++ rest) (begun.firings ∙ more.1) ∙ append_assoc due more.0 rest in
+    let len : length fired ≡ length due + length (more.0 ++ rest) = ap length fired_is ∙ length-append due (more.0 ++ rest) in
+    let are : take mark.count fired ≡ due = (λ k. take (here.count k) (fired_is k)) ∙ take-append_seam due (more.0 ++ rest) in
+    (ap (list_all (λ f. int_lt f.time second)) are ∙ below_of mark.latest second less due here.latest, omega (arith, len, here.count))
+
 -- the mark of one year more
 one_mark_more : (offset : ℤ) (rules : List RuleInfo) (quiet : ℕ) (marks : List Mark) (mark : Mark) → quiet + length marks < 300
     → AreMarks offset rules quiet marks → IsMark (unended offset rules (quiet + length marks + 1)) mark

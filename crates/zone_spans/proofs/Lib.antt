@@ -11,6 +11,8 @@ pub mod LineLemmas
 pub mod QuietLemmas
 pub mod RuleLemmas
 pub mod KeptLemmas
+pub mod ListingLemmas
+pub mod TestedLemmas
 pub mod CompiledLemmas
 pub mod FiringRows
 mod SpanRows

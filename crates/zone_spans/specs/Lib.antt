@@ -11,6 +11,7 @@ pub mod Collapse
 pub mod Places
 pub mod Faults
 pub mod FaultNames
+pub mod Tested
 pub mod Causes
 pub mod Compiled
 pub mod Bounds

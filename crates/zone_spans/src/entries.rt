@@ -1,6 +1,6 @@
 //! The entries of a zone.
-ghost use Rattle.std.specs.Prelude.{◌≡◌, ◌++◌, List, All, IfOk, IfSome, IsTrue, Some, pos, filter, find, int_lt, map, None, option_map};
-ghost use Rattle.std.specs.List.{list_all};
+ghost use Rattle.std.specs.Prelude.{◌≡◌, ◌≤◌, ◌++◌, List, All, IfOk, IfSome, IsTrue, Some, pos, filter, find, int_lt, length, map, None, option_map, take};
+ghost use Rattle.std.specs.List.{list_all, position_or_len};
 ghost use Rattle.std.specs.Option.{option_map_or};
 ghost use Rattle.owned.specs.Sorted.{stable_sort};
 ghost use Rattle.zone_values.specs.Bounds.{are_small_seconds};
@@ -25,7 +25,7 @@ ghost use Rattle.zone_spans.specs.Entries.{
 ghost use Rattle.zone_spans.specs.Firings.{firings};
 ghost use Rattle.zone_spans.specs.Kept.{BeginWithMarked};
 ghost use Rattle.zone_spans.specs.Windows.{line_end};
-ghost use Rattle.zone_spans.specs.Listing.{listed, listed_from, start_firing};
+ghost use Rattle.zone_spans.specs.Listing.{is_at, listed, listed_from, start_firing};
 
 use crate::firing::Firing;
 use crate::kept::Kept;
@@ -110,56 +110,84 @@ fn push_above(
     Ok(())
 }
 
-/// Adds an entry for each of the firings that a line with that start lists.
+/// Adds an entry for each of the firings that a line with that start lists. The first of those at the start has that place,
+/// and so many of the first ones are below the start.
 #[tactic(auto, unfolding(crate::specs::Listing::listed_from))]
 fn push_listed(
     entries: &mut Entries,
     alloc: Global,
     line: &Line<'_>,
     start: i64,
+    below: usize,
+    place: usize,
     fired: &[Firing<'_>],
 ) -> Result<(), AllocError>
+    requires below { IsTrue (list_all (λ f. int_lt f.time start) (take below fired.now)) }
+    requires least { below ≤ place }
+    requires most { place ≤ length fired.now }
+    requires place { place ≡ position_or_len (is_at start) fired.now }
     ensures { IfOk result (λ _. entries.new ≡ entries.old ++ map (entry_of line.now) (listed_from start fired.now)) }
 {
-    let place = place_at(start, fired);
-    push_above(entries, alloc, line, start, &fired[..place])?;
+    push_above(entries, alloc, line, start, &fired[below..place])?;
     push_all(entries, alloc, line, &fired[place..])?;
     Ok(())
 }
 
-/// Adds the entry at the start, where there is one.
+/// Adds the entry at the start, where there is one. The first firing at the start has that place.
 fn push_start(
     entries: &mut Entries,
     alloc: Global,
     line: &Line<'_>,
     start: i64,
+    place: usize,
     fired: &[Firing<'_>],
 ) -> Result<(), AllocError>
+    requires { place ≡ position_or_len (is_at start) fired.now }
     ensures { IfOk result (λ _. entries.new ≡ entries.old ++ at_start (Some start) (option_map (span_of line.now) (start_firing start fired.now))) }
 {
-    if let Some(firing) = start_firing(start, fired) {
+    if let Some(firing) = start_firing(start, place, fired) {
         entries.push((start, span_of(alloc, line, firing)?))?;
     }
     Ok(())
 }
 
-/// Adds the entries of a ruled line with that start and these firings.
+/// Adds the entries of a ruled line with that start and these firings, of which so many of the first ones are below the start.
+fn push_from(
+    entries: &mut Entries,
+    alloc: Global,
+    line: &Line<'_>,
+    start: i64,
+    below: usize,
+    fired: &[Firing<'_>],
+) -> Result<(), AllocError>
+    requires len { below ≤ length fired.now }
+    requires below { IsTrue (list_all (λ f. int_lt f.time start) (take below fired.now)) }
+    ensures { IfOk result (λ _. entries.new ≡ entries.old
+        ++ (map (entry_of line.now) (listed_from start fired.now) ++ start_entry line.now (Some start) fired.now)) }
+{
+    let place = place_at(start, below, fired);
+    push_listed(entries, alloc, line, start, below, place, fired)?;
+    push_start(entries, alloc, line, start, place, fired)
+}
+
+/// Adds the entries of a ruled line with that start, whose firings are kept.
 fn push_ruled(
     entries: &mut Entries,
     alloc: Global,
     line: &Line<'_>,
     start: Option<i64>,
-    fired: &[Firing<'_>],
+    kept: &Kept<'_>,
 ) -> Result<(), AllocError>
+    requires { BeginWithMarked kept.now.offset kept.now.rules.now kept.now.quiet kept.now.fired.items kept.now.marks.items }
     ensures { IfOk result (λ _. entries.new ≡ entries.old
-        ++ (map (entry_of line.now) (listed start fired.now) ++ start_entry line.now start fired.now)) }
+        ++ (map (entry_of line.now) (listed start kept.now.fired.items) ++ start_entry line.now start kept.now.fired.items)) }
 {
     match start {
         Some(start) => {
-            push_listed(entries, alloc, line, start, fired)?;
-            push_start(entries, alloc, line, start, fired)
+            let below = kept.firings_below(start);
+            push_from(entries, alloc, line, start, below, &kept.fired)
         }
-        None => push_all(entries, alloc, line, fired),
+        None => push_all(entries, alloc, line, &kept.fired),
     }
 }
 
@@ -196,7 +224,7 @@ fn push_line<'a>(
 {
     if line.is_ruled() {
         let last_saving = kept.fire_line(alloc, line)?;
-        push_ruled(entries, alloc, line, start, &kept.fired)?;
+        push_ruled(entries, alloc, line, start, kept)?;
         return Ok(next_start(line, last_saving));
     }
     push_fixed(entries, alloc, line, start)?;

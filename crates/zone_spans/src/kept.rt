@@ -1,12 +1,12 @@
 //! Firings that are kept from line to line: what a ruleset fires under an offset is the same for each line of them, up to
 //! the line's end.
-ghost use Rattle.std.specs.Prelude.{◌≡◌, ◌+◌, ◌<◌, ◌≤◌, ◌≤ℤ◌, if◌then◌else◌, List, ℕ, ℤ, true, IfOk, IsTrue, length, int_le};
+ghost use Rattle.std.specs.Prelude.{◌≡◌, ◌+◌, ◌<◌, ◌≤◌, ◌≤ℤ◌, if◌then◌else◌, List, ℕ, ℤ, true, IfOk, IsTrue, length, int_le, int_lt, take};
 ghost use Rattle.std.specs.List.{list_all};
 ghost use Rattle.zone_values.specs.Bounds.{are_small_seconds};
 ghost use Rattle.zone_table.specs.declared.rule.RuleInfo.{RuleInfo};
 ghost use Rattle.zone_spans.specs.Bounds.{IsSound, can_fire, is_bounded_firing, is_end};
 ghost use Rattle.zone_spans.specs.Fires.{Fires};
-ghost use Rattle.zone_spans.specs.Firings.{firings_of_years, line_firings, years_expanded};
+ghost use Rattle.zone_spans.specs.Firings.{Firing, firings_of_years, line_firings, years_expanded};
 ghost use Rattle.zone_spans.specs.Kept.{AreBelow, AreMarkedBelow, BeginWithMarked, IsLastMark, IsLimit};
 ghost use Rattle.zone_spans.specs.Lines.{is_ruled};
 
@@ -103,6 +103,22 @@ fn marks_below(marks: &[Mark], limit: i64, most: usize) -> usize
         }
     }
     count
+}
+
+/// How many of the first firings a mark says to be before that second. The last of such marks is taken.
+fn firings_below(marks: &[Mark], second: i64) -> usize
+    ensures len { (offset : ℤ) (rules : List RuleInfo) (quiet : ℕ) (fired : List Firing) → BeginWithMarked offset rules quiet fired marks.now
+        → result ≤ length fired }
+    ensures below { (offset : ℤ) (rules : List RuleInfo) (quiet : ℕ) (fired : List Firing) → BeginWithMarked offset rules quiet fired marks.now
+        → IsTrue (list_all (λ f. int_lt f.time second) (take result fired)) }
+{
+    for i in 0..marks.len() {
+        let mark = &marks[marks.len() - 1 - i];
+        if mark.latest < second {
+            return mark.count;
+        }
+    }
+    0
 }
 
 /// Leaves the firings and marks of so many years at most, with their firings before the limit.
@@ -261,6 +277,15 @@ impl<'a> Kept<'a> {
         self.quiet = years_before_all(line.rules, years);
         self.fired.clear();
         self.marks.clear();
+    }
+
+    /// How many of the first firings are before that second, as far as the marks say.
+    pub(crate) fn firings_below(&self, second: i64) -> usize
+        requires { BeginWithMarked self.now.offset self.now.rules.now self.now.quiet self.now.fired.items self.now.marks.items }
+        ensures len { result ≤ length self.now.fired.items }
+        ensures below { IsTrue (list_all (λ f. int_lt f.time second) (take result self.now.fired.items)) }
+    {
+        firings_below(&self.marks, second)
     }
 
     /// Puts the firings of a ruled line into `fired`, and gives the saving after them.

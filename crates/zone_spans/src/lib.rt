@@ -13,6 +13,7 @@ mod line;
 mod listing;
 mod quiet;
 mod span;
+mod tested;
 mod transitions;
 mod year;
 

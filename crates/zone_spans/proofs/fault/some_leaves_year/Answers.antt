@@ -6,16 +6,18 @@ use Rattle.zone_spans.proofs.fault.some_leaves_year.Goals as goal
 
 pub returns-then-leaves_year : goal.returns-then-leaves_year
 returns-then-leaves_year c =
-    any_here leaves_year c.args.lines.now c.loop-line.line-index c.line-item.result (omega arith) c.line-item.is c.loop-line.invariant
-    (sym c.leaves_year.ensures ∙ c.if-leaves_year.true)
+    any_here leaves_year c.args.lines.now c.loop-line.line-index c.line-item.result (omega arith) c.line-item.is c.loop-line.invariant.behind
+    (sym c.leaves_year.ensures.value ∙ c.if-leaves_year.true)
 
 pub loop-line-preserved : goal.loop-line-preserved
-loop-line-preserved c =
-    any_behind leaves_year c.args.lines.now c.loop-line.line-index c.line-item.result (omega arith) c.line-item.is c.loop-line.invariant
-    (sym c.leaves_year.ensures ∙ c.if-leaves_year.false)
+loop-line-preserved c = record {
+  behind = any_behind leaves_year c.args.lines.now c.loop-line.line-index c.line-item.result (omega arith) c.line-item.is
+      c.loop-line.invariant.behind (sym c.leaves_year.ensures.value ∙ c.if-leaves_year.false);
+  tested = c.leaves_year.ensures.tested;
+}
 
 pub returns : goal.returns
 returns c =
     let lines = c.args.lines.now in
     let end : c.loop-line.line-index ≡ length lines = omega arith in
-    any_nowhere leaves_year lines (subst (λ n. list_any leaves_year (drop n lines) ≡ list_any leaves_year lines) end c.loop-line.invariant)
+    any_nowhere leaves_year lines (subst (λ n. list_any leaves_year (drop n lines) ≡ list_any leaves_year lines) end c.loop-line.invariant.behind)

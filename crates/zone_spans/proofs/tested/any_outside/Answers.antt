@@ -1,9 +1,15 @@
-use Rattle.std.proofs.Common.{◌≡◌, Bool, length, drop, sym, ◌∙◌, subst, arith}
+use Rattle.std.proofs.Common.{◌≡◌, Bool, false, length, drop, sym, ◌∙◌, subst, arith}
 use Rattle.std.specs.List.{list_any}
 use Rattle.zone_table.specs.declared.rule.RuleInfo.{RuleInfo}
 use Rattle.zone_spans.specs.Faults.{is_outside, some_year}
-use Rattle.zone_spans.proofs.SoundLemmas.{any_here, any_behind, any_nowhere}
-use Rattle.zone_spans.proofs.fault.any_outside.Goals as goal
+use Rattle.zone_spans.proofs.SoundLemmas.{any_here, any_behind, any_nowhere, none_at}
+use Rattle.zone_spans.proofs.tested.any_outside.Goals as goal
+
+pub is_outside_in_some_year-requires-clause-tested : goal.is_outside_in_some_year-requires-clause-tested
+is_outside_in_some_year-requires-clause-tested c =
+    let test : RuleInfo → Bool = λ rule. some_year (is_outside rule) c.args.tested in
+    subst (λ (rule : RuleInfo). test rule ≡ false) (sym c.rule-item.is)
+    (none_at test c.args.rules.now c.requires.tested c.loop-rule.rule-index c.rule-item.result (omega arith))
 
 pub returns-then-is_outside_in_some_year : goal.returns-then-is_outside_in_some_year
 returns-then-is_outside_in_some_year c =

@@ -1,12 +1,8 @@
 use Rattle.std.proofs.Common.{◌≡◌, false, sym, ap, ◌∙◌, subst, arith, rules, w64, SFits}
 use Rattle.std.proofs.lemmas.Int.{to_z-of_z}
 use Rattle.zone_spans.specs.Faults.{is_outside, some_year}
-use Rattle.zone_spans.proofs.QuietLemmas.{quiet_days}
 use Rattle.zone_spans.proofs.SoundLemmas.{year_at, year_more}
-use Rattle.zone_spans.proofs.fault.is_outside_in_some_year.Goals as goal
-
-pub loop-i-init : goal.loop-i-init
-loop-i-init c = quiet_days c.args.rule.now c.years_before-first.result c.years_before-first.ensures.before
+use Rattle.zone_spans.proofs.tested.is_outside_in_some_year.Goals as goal
 
 pub returns-then-is_outside : goal.returns-then-is_outside
 returns-then-is_outside c =

@@ -1,0 +1,153 @@
+//! Whether the days of ends and rules lie in their years. What was tested of a ruleset is not tested again for the next line
+//! of it.
+ghost use Rattle.std.specs.Prelude.{◌≡◌, ◌≤◌, ◌≤ℤ◌, IsTrue, true, false, pos};
+ghost use Rattle.std.specs.List.{list_all, list_any};
+ghost use Rattle.std.specs.Option.{option_map_or};
+ghost use Rattle.zone_values.specs.Days.{has_day_of_month};
+ghost use Rattle.zone_values.specs.Ends.{end_day, end_year, is_dated_year};
+ghost use Rattle.zone_table.specs.Bounds.{is_bounded_rule};
+ghost use Rattle.zone_table.specs.Moments.{has_years};
+ghost use Rattle.zone_spans.specs.Bounds.{is_bounded_line};
+ghost use Rattle.zone_spans.specs.Faults.{ends_in_no_year, ends_outside, is_outside, lacks_years, leaves_year, some_year};
+ghost use Rattle.zone_spans.specs.Tested.{NoneLeaves};
+
+use crate::line::Line;
+use crate::quiet::years_before;
+use crate::year::years_expanded;
+use zone_table::RuleInfo;
+use zone_values::ChangeTime;
+
+/// The rules of the last line, and how many of the first years from 1800 on are tested: in these no day of the rules lies in
+/// another year.
+#[derive(Drop)]
+pub(crate) struct Tested<'a> {
+    rules: &'a [RuleInfo],
+    years: u16,
+}
+
+impl<'a> Tested<'a> {
+    /// Nothing is tested.
+    pub(crate) fn new() -> Tested<'a>
+        ensures { NoneLeaves result.rules.now result.years }
+    {
+        Tested {
+            rules: &[],
+            years: 0,
+        }
+    }
+
+    /// Lets go what was tested of other rules.
+    fn begin(&mut self, line: &Line<'a>)
+        requires { NoneLeaves self.old.rules.now self.old.years }
+        ensures tested { NoneLeaves line.now.rules self.new.years }
+        ensures rules { self.new.rules.now ≡ line.now.rules }
+    {
+        if self.rules == line.rules {
+            return;
+        }
+        self.rules = line.rules;
+        self.years = 0;
+    }
+
+    /// Whether the day of the line's end lies in another year, or that of a rule in a year that the line expands.
+    #[tactic(auto, unfolding(crate::specs::Faults::leaves_year))]
+    pub(crate) fn leaves_year(&mut self, line: &Line<'a>) -> bool
+        requires bounded { IsTrue (is_bounded_line line.now) }
+        requires year { ends_in_no_year line.now ≡ false }
+        requires years { lacks_years line.now ≡ false }
+        requires tested { NoneLeaves self.old.rules.now self.old.years }
+        ensures value { result ≡ leaves_year line.now }
+        ensures tested { NoneLeaves self.new.rules.now self.new.years }
+    {
+        if ends_outside(line.end) {
+            return true;
+        }
+        self.begin(line);
+        let count = years_expanded(line.end);
+        if count <= self.years {
+            return false;
+        }
+        if any_outside(line.rules, self.years, count) {
+            return true;
+        }
+        self.years = count;
+        false
+    }
+}
+
+/// Whether the day of an end lies in another year than the end's.
+fn ends_outside(end: Option<ChangeTime>) -> bool
+    requires year { IsTrue (option_map_or (λ e. is_dated_year (end_year e)) end true) }
+    requires day { IsTrue (option_map_or (λ e. has_day_of_month (end_day e)) end true) }
+    ensures { result ≡ option_map_or ends_outside end false }
+{
+    match end {
+        Some(end) => !end.lies_in_its_year(),
+        None => false,
+    }
+}
+
+/// Whether some rule's day lies in another year, in one of the first years from 1800 on to which it applies. Of these the
+/// tested ones come first.
+fn any_outside(rules: &[RuleInfo], tested: u16, count: u16) -> bool
+    requires bounded { IsTrue (list_all is_bounded_rule rules.now) }
+    requires years { IsTrue (list_all has_years rules.now) }
+    requires tested { NoneLeaves rules.now tested }
+    requires more { tested ≤ count }
+    requires most { count ≤ 300 }
+    ensures { result ≡ list_any (λ rule. some_year (is_outside rule) count) rules.now }
+{
+    for rule in rules {
+        if is_outside_in_some_year(rule, tested, count) {
+            return true;
+        }
+    }
+    false
+}
+
+/// Whether the rule's day lies in another year, in one of the first years from 1800 on to which it applies. Of these the
+/// tested ones come first.
+fn is_outside_in_some_year(rule: &RuleInfo, tested: u16, count: u16) -> bool
+    requires bounded { IsTrue (is_bounded_rule rule.now) }
+    requires years { IsTrue (has_years rule.now) }
+    requires tested { some_year (is_outside rule.now) tested ≡ false }
+    requires more { tested ≤ count }
+    requires most { count ≤ 300 }
+    ensures { result ≡ some_year (is_outside rule.now) count }
+{
+    let first = first_untested(rule, tested, count);
+    for i in first..count {
+        if is_outside(rule, i64::from(1_800 + i)) {
+            return true;
+        }
+    }
+    false
+}
+
+/// The first year that is to be tested for a rule, counted from 1800 on: those before it are tested or come before the rule's
+/// own.
+fn first_untested(rule: &RuleInfo, tested: u16, count: u16) -> u16
+    requires tested { some_year (is_outside rule.now) tested ≡ false }
+    requires more { tested ≤ count }
+    requires most { count ≤ 300 }
+    ensures tested { some_year (is_outside rule.now) result ≡ false }
+    ensures most { result ≤ count }
+{
+    let quiet = years_before(rule, count);
+    if quiet < tested {
+        return tested;
+    }
+    quiet
+}
+
+/// Whether the rule applies to the year, and its day lies in another.
+#[tactic(auto, unfolding(crate::specs::Faults::is_outside))]
+fn is_outside(rule: &RuleInfo, year: i64) -> bool
+    requires bounded { IsTrue (is_bounded_rule rule.now) }
+    requires years { IsTrue (has_years rule.now) }
+    requires first_year { pos 1 ≤ℤ year }
+    requires last_year { year ≤ℤ pos 9999 }
+    ensures { result ≡ is_outside rule.now year }
+{
+    rule.applies_to_year(year) && !rule.day.lies_in_year(year, rule.month)
+}
