@@ -1,9 +1,11 @@
+-- Definitions: what public clauses say.
 pub mod FooterShown
 pub mod InForce
 pub mod Ranges
-pub mod Reading
 pub mod Shown
 pub mod Spells
 pub mod Standing
 pub mod Values
 pub mod Yearly
+-- Words of private clauses.
+pub mod Reading

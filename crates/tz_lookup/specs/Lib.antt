@@ -1,3 +1,4 @@
+-- Passed on from the crate below.
 pub use Rattle.tz_zone.specs.Spans
 pub use Rattle.tz_zone.specs.Sets
 pub use Rattle.tz_zone.specs.Search
@@ -16,10 +17,9 @@ pub use Rattle.tz_zone.specs.FixedZones
 pub use Rattle.tz_zone.specs.Zones
 pub use Rattle.tz_zone.specs.Compiles
 pub use Rattle.tz_zone.specs.CompileLaws
+-- Definitions: what public clauses say.
 pub mod Databases
-pub mod PartLaws
 pub mod Kinds
-pub mod KindLaws
 pub mod KindShown
 pub mod Years
 pub mod YearCounts
@@ -28,3 +28,6 @@ pub mod CompactShown
 pub mod CompactFaults
 pub mod CompactZones
 pub mod CompactLeft
+-- Laws: what a caller may use.
+pub mod PartLaws
+pub mod KindLaws

@@ -1,7 +1,9 @@
+-- Definitions: what public clauses say.
 pub mod Faults
 pub mod InForce
 pub mod InstantsLeft
 pub mod Instants
-pub mod Next
 pub mod Offsets
 pub mod Zones
+-- Words of private clauses.
+pub mod Next

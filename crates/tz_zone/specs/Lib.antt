@@ -1,13 +1,10 @@
+-- Definitions: what public clauses say.
 pub mod Spans
 pub mod Sets
 pub mod Search
 pub mod Faults
 pub mod Answers
 pub mod InForce
-pub mod InForceLaws
-pub mod RisingLaws
-pub mod InstantLaws
-pub mod AnswerLaws
 pub mod Results
 pub mod Scans
 pub mod Dates
@@ -15,4 +12,9 @@ pub mod InstantsLeft
 pub mod FixedZones
 pub mod Zones
 pub mod Compiles
+-- Laws: what a caller may use.
+pub mod InForceLaws
+pub mod RisingLaws
+pub mod InstantLaws
+pub mod AnswerLaws
 pub mod CompileLaws

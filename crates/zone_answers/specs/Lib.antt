@@ -1,3 +1,4 @@
+-- Definitions: what public clauses say.
 pub mod Requests
 pub mod Asked
 pub mod Found
@@ -7,13 +8,14 @@ pub mod Told
 pub mod Due
 pub mod Counts
 pub mod Words
-pub mod Tasks
 pub mod Seen
 pub mod ReadBack
-pub mod Responses
 pub mod Ends
 pub mod Made
 pub mod Summary
-pub mod Summarised
 pub mod Generated
+-- Words of private clauses.
+pub mod Tasks
+pub mod Responses
+pub mod Summarised
 pub mod Opened

@@ -1,8 +1,11 @@
+-- Definitions: what public clauses say.
 pub mod Windows
-pub mod WindowLaws
 pub mod Rows
 pub mod Ranges
 pub mod RowTexts
+pub mod Asks
+-- Laws: what a caller may use.
+pub mod WindowLaws
+-- Words of private clauses.
 pub mod Columns
 pub mod ShownEntries
-pub mod Asks

@@ -1,7 +1,9 @@
+-- Definitions: what public clauses say.
 pub mod Asked
 pub mod Numbers
 pub mod Tasks
 pub mod Causes
 pub mod Due
-pub mod Responses
 pub mod Ends
+-- Words of private clauses.
+pub mod Responses

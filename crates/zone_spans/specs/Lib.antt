@@ -1,19 +1,22 @@
+-- Definitions: what public clauses say.
 pub mod Lines
 pub mod Windows
 pub mod Firings
+pub mod Listing
+pub mod Entries
+pub mod Collapse
+pub mod Faults
+pub mod FaultNames
+pub mod Compiled
+pub mod Bounds
+pub mod Schedules
+-- Laws: what a caller may use.
+pub mod ScheduleLaws
+-- Words of private clauses.
 pub mod Fires
 pub mod Fronts
 pub mod Quiet
 pub mod Kept
-pub mod Listing
-pub mod Entries
-pub mod Collapse
 pub mod Places
-pub mod Faults
-pub mod FaultNames
 pub mod Tested
 pub mod Causes
-pub mod Compiled
-pub mod Bounds
-pub mod Schedules
-pub mod ScheduleLaws

@@ -1,14 +1,16 @@
+-- Definitions: what public clauses say.
 pub mod Rules
 pub mod Totals
 pub mod Candidates
 pub mod Agreement
 pub mod Choices
 pub mod LastYear
-pub mod Shapes
 pub mod Changes
 pub mod Texts
 pub mod Tails
-pub mod Ready
 pub mod Values
 pub mod Carried
 pub mod Found
+-- Words of private clauses.
+pub mod Shapes
+pub mod Ready

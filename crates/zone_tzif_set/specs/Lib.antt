@@ -1,2 +1,3 @@
+-- Definitions: what public clauses say.
 pub mod Values
 pub mod Files
