@@ -1,1 +1,2 @@
 pub mod LineAtLemmas
+pub mod ReadingLemmas
