@@ -1,5 +1,5 @@
 -- Why a call of this crate has no answer. Each call has its own causes, and no other.
-use Rattle.std.specs.Prelude.{ℕ, List, Option, Result, ◌<◌, length}
+use Rattle.std.specs.Prelude.{ℕ, List, Option, Result, ◌<◌, ◌≤◌, length}
 use Rattle.zone_outside.specs.Limit.{text_limit}
 use Rattle.zone_source.specs.Faults.{source_fault}
 use Rattle.zone_source.specs.Told.{TellsOfSource}
@@ -11,10 +11,10 @@ use Rattle.tz_lookup.specs.Databases.{names_of, first_refused, zone_refusal, IsD
 use Rattle.sefunjaro.specs.declared.error.Error.{Error}
 use Rattle.sefunjaro.specs.declared.error.Error.TheVariants as error
 
--- why a source has no table: it is too long, or a line of it is refused
+-- why a source has no table: it is too long; or it isn't, and a line of it is refused, or memory ran out
 abbrev pub IsSourceCause : List ℕ → Error → Type 0
 IsSourceCause source error.TooLong = text_limit < length source
-IsSourceCause source (error.Source fault) = TellsOfSource (source_fault source) fault
+IsSourceCause source (error.Source fault) = (length source ≤ text_limit) × TellsOfSource (source_fault source) fault
 IsSourceCause source _ = ⊥
 
 -- why a name has no zone

@@ -1,5 +1,5 @@
 //! From the bytes of a source to zones that can be asked.
-ghost use Rattle.std.specs.Prelude.{◌≡◌, None, IfErr, IfOk, OnOk, map as each};
+ghost use Rattle.std.specs.Prelude.{◌≡◌, ◌≤◌, None, IfErr, IfOk, OnOk, length, map as each};
 ghost use Rattle.zone_source.specs.Faults.{source_fault};
 ghost use Rattle.zone_source.specs.Zones.{values_of};
 ghost use Rattle.zone_table.specs.BoundedTables.{IsBoundedTable};
@@ -7,6 +7,7 @@ ghost use Rattle.zone_table.specs.Tables.{IsTableOf};
 ghost use Rattle.tz_lookup.specs.CompactShown.{seen};
 ghost use Rattle.tz_lookup.specs.Compiles.{compiled_in, IsCompiledAs};
 ghost use Rattle.tz_lookup.specs.Databases.{names_of, found_in, found_as};
+ghost use Rattle.tz_zone.specs.Sets.{schedule_of, IsAccepted};
 ghost use Rattle.sefunjaro.specs.Causes.{IsSourceCause, IsZoneCause, IsDatabaseCause};
 
 use crate::error::Error;
@@ -22,8 +23,9 @@ use zone_table::Table;
 /// # Errors
 ///
 /// `TooLong` exactly where the source is longer than 16,777,216 bytes; else `Source` with the first line that is refused and
-/// its cause; `NoMemory`.
+/// its cause, or for want of memory.
 pub fn open_source(alloc: Global, parser: &LineParser, source: &[u8]) -> Result<Table, Error>
+    ensures short { OnOk result (length source.now ≤ LIMIT) }
     ensures ok { OnOk result (source_fault source.now ≡ None) }
     ensures table { IfOk result (λ table. IsTableOf table (values_of source.now)) }
     ensures bounded { IfOk result IsBoundedTable }
@@ -41,10 +43,12 @@ pub fn open_source(alloc: Global, parser: &LineParser, source: &[u8]) -> Result<
 /// # Errors
 ///
 /// `Zone`, in this order: `UnknownZone` exactly where the name finds no zone; `Schedule` with the zone's first fault;
-/// `OffsetRange` exactly where some offset is 26 hours or more in size; `NoMemory`.
+/// `OffsetRange` exactly where some offset is 26 hours or more in size. Want of memory is `NoMemory`, or the `NoMemory` of `Zone`.
 pub fn open_zone(alloc: Global, table: &Table, name: &str) -> Result<CompactSet, Error>
     requires { IsBoundedTable table.now }
     ensures ok { IfOk result (λ set. IsCompiledAs (seen set) (compiled_in table.now name.now)) }
+    ensures named { IfOk result (λ set. (seen set).name ≡ name.now) }
+    ensures accepted { IfOk result (λ set. IsAccepted (schedule_of (seen set))) }
     ensures err { IfErr result (IsZoneCause (compiled_in table.now name.now)) }
 {
     let set = compile_zone(alloc, table, name)?;
@@ -61,7 +65,7 @@ pub fn open_zone(alloc: Global, table: &Table, name: &str) -> Result<CompactSet,
 ///
 /// # Errors
 ///
-/// `Database` with the first name in byte order whose zone can't be asked, and why; want of memory too.
+/// `Database` with the first name in byte order whose zone can't be asked, and why, or for want of memory.
 pub fn open_database(alloc: Global, table: &Table) -> Result<Database, Error>
     requires { IsBoundedTable table.now }
     ensures ok { IfOk result (λ database. each found_as database ≡ each (found_in table.now) (names_of table.now)) }

@@ -1,5 +1,5 @@
 -- Why the callers have no answer.
-use Rattle.std.specs.Prelude.{◌≡◌, ℕ, List, ℤ, false, Option, Some, None, Result, Ok, Err}
+use Rattle.std.specs.Prelude.{◌≡◌, ◌≤◌, ℕ, List, length, ℤ, false, Some, None, Ok, Err}
 use Rattle.sefunjaro.specs.Causes.{IsSourceCause}
 use Rattle.sefunjaro.specs.declared.error.Error.{Error}
 use Rattle.sefunjaro.specs.declared.error.Error.TheVariants as error
@@ -16,6 +16,7 @@ use Rattle.tz_zone.specs.declared.compile.ZoneFault.{ZoneFault}
 use Rattle.tz_zone.specs.declared.set.FixedTimespanSet.{FixedTimespanSet}
 use Rattle.zone_alarm.specs.Rings.{ends_in_years}
 use Rattle.zone_alarm.specs.declared.ring.AlarmFault.TheVariants as alarm
+use Rattle.zone_outside.specs.Limit.{text_limit}
 use Rattle.zone_source.specs.Faults.{source_fault}
 use Rattle.zone_source.specs.Zones.{values_of}
 use Rattle.zone_table.specs.Tables.{IsTableOf}
@@ -24,16 +25,16 @@ use Rattle.zone_tzif_core.specs.Denotes.{Denotes}
 use Rattle.zone_tzif_core.specs.Zones.{ZoneValue}
 use Rattle.zone_tzif_core.specs.declared.values.ReadFault.TheVariants as read
 
--- no line of the source is refused, and the name has no zone in its table
+-- the source isn't too long, no line of it is refused, and the name has no zone in its table
 pub record IsNoZone (source name : List ℕ) (fault : ZoneFault) : Type 0 where
+  pub short : length source ≤ text_limit
   pub valid : source_fault source ≡ None
   pub table : Table
   pub is_table : IsTableOf table (values_of source)
   pub cause : IsZoneFault (compiled_in table name) fault
 
--- why a name has no zone in a source: the patterns couldn't be built, the source is refused, or the name; or memory ran out
+-- why a name has no zone in a source: the source is refused, or the name; or memory ran out
 abbrev pub IsOpenCause : List ℕ → List ℕ → Error → Type 0
-IsOpenCause source name error.Parser = Unit {0}
 IsOpenCause source name error.TooLong = IsSourceCause source error.TooLong
 IsOpenCause source name (error.Source fault) = IsSourceCause source (error.Source fault)
 IsOpenCause source name (error.Zone fault) = IsNoZone source name fault

@@ -12,7 +12,7 @@ use std::alloc::{AllocError, Global};
 ///
 /// # Errors
 ///
-/// `Alarm` exactly where `days` is above 0 and the last day is past 9999-12-31, or for want of memory; `NoMemory`.
+/// `Alarm` exactly where `days` is above 0 and the last day is past 9999-12-31; for want of memory `Alarm` too, or `NoMemory`.
 pub fn wake_ups<T: TimeZone>(
     alloc: Global,
     zone: &T,

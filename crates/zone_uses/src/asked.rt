@@ -24,6 +24,10 @@ pub fn local_time(set: &CompactSet, at: &OffsetDateTime) -> Option<OffsetDateTim
 }
 
 /// Every instant at which a clock in the zone shows a local time, by time: none in a gap, two in a fold.
+///
+/// # Errors
+///
+/// Want of memory alone.
 pub fn every_instant(
     alloc: Global,
     set: &CompactSet,

@@ -19,6 +19,10 @@ pub fn offset_in(database: &Database, name: &str, at: &OffsetDateTime) -> Option
 }
 
 /// How many zones have a part in their names, as `America/` or `York`.
+///
+/// # Errors
+///
+/// Want of memory alone.
 pub fn how_many(alloc: Global, database: &Database, part: &str) -> Result<usize, AllocError>
     ensures { IfOk result (λ count. count ≡ length (filter (λ set. has_part part.now set.name) database.now)) }
 {

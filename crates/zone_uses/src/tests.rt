@@ -29,16 +29,19 @@ fn same_list(rt: &impl Abort, found: &[OffsetDateTime], wanted: &[OffsetDateTime
     assert_eq!(rt; found, wanted);
 }
 
+fn patterns(rt: &impl Abort, alloc: Global) -> LineParser {
+    LineParser::new(alloc).expect(rt, "patterns")
+}
+
 fn new_york(rt: &impl Abort, alloc: Global) -> CompactSet {
-    let Ok(set) = zone_of_source(alloc, SOURCE, "America/New_York") else {
+    let Ok(set) = zone_of_source(alloc, &patterns(rt, alloc), SOURCE, "America/New_York") else {
         panic!(rt; "no zone");
     };
     set
 }
 
 fn database(rt: &impl Abort, alloc: Global) -> Database {
-    let parser = LineParser::new(alloc).expect(rt, "patterns");
-    let Ok(table) = open_source(alloc, &parser, SOURCE) else {
+    let Ok(table) = open_source(alloc, &patterns(rt, alloc), SOURCE) else {
         panic!(rt; "no table");
     };
     let Ok(database) = open_database(alloc, &table) else {
@@ -129,8 +132,8 @@ fn an_alarm(rt: HostRuntime) {
 }
 
 /// What is printed of the error that comes of a source and a name.
-fn told(rt: &impl Abort, alloc: Global, source: &[u8], name: &str) -> String {
-    match zone_of_source(alloc, source, name) {
+fn told(rt: &impl Abort, alloc: Global, parser: &LineParser, source: &[u8], name: &str) -> String {
+    match zone_of_source(alloc, parser, source, name) {
         Ok(_) => panic!(rt; "a zone"),
         Err(error) => format!(in alloc; "{error}").expect(rt, "memory"),
     }
@@ -139,11 +142,12 @@ fn told(rt: &impl Abort, alloc: Global, source: &[u8], name: &str) -> String {
 #[test]
 fn faults(rt: HostRuntime) {
     let alloc = rt.alloc();
-    let unknown = told(&rt, alloc, SOURCE, "Asia/Kyoto");
+    let parser = patterns(&rt, alloc);
+    let unknown = told(&rt, alloc, &parser, SOURCE, "Asia/Kyoto");
     same(&rt, &unknown.as_str(), &"unknown zone");
-    let line = told(&rt, alloc, b"Zone A 0 - A\nRule", "A");
+    let line = told(&rt, alloc, &parser, b"Zone A 0 - A\nRule", "A");
     same(&rt, &line.as_str(), &"source 2: line InvalidLineType");
-    let schedule = told(&rt, alloc, b"Zone A 0 - A 10000\n 0 - A\n", "A");
+    let schedule = told(&rt, alloc, &parser, b"Zone A 0 - A 10000\n 0 - A\n", "A");
     same(
         &rt,
         &schedule.as_str(),
