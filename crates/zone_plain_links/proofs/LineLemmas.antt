@@ -8,7 +8,8 @@ use Rattle.zone_plain_text.specs.PlainTexts.{plain_text}
 use Rattle.zone_plain_base.specs.Said.{is_said}
 use Rattle.zone_plain_base.specs.declared.error.Refused.{Refused}
 use Rattle.zone_plain_base.specs.declared.error.Refused.TheVariants.{Cause, NoMemory}
-use Rattle.zone_plain_links.proofs.NameLemmas.{declares-more, declares-other, target-other, contains-inserted, link_known}
+use Rattle.zone_plain_links.proofs.NameLemmas.{declares-more, declares-other, contains-inserted, link_known}
+use Rattle.zone_plain_links.specs.NamedLaws.{target-other}
 use Rattle.zone_plain_links.specs.Named.{zone_name, has_zone, target_by, target_of}
 use Rattle.zone_plain_links.specs.Settled.{lacks_rules, link_to, link_after, link_size, settled_link, settled_line}
 use Rattle.zone_plain_links.specs.Stands.{IsPlaced, IsDeclared, IsKnown, AddsTarget, LeadsTo, IsAt, IsRefused, IsWritten, line_at_place}

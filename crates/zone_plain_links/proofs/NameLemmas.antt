@@ -1,5 +1,5 @@
 -- What is declared with a line more.
-use Rattle.std.proofs.Common.{◌≡◌, ℕ, zero, suc, ◌+◌, ◌<◌, List, [], ◌∷◌, ◌++◌, length, Bool, true, false, cond, Option, Some, None, refl, sym, ap, ◌∙◌, subst, arith, rules}
+use Rattle.std.proofs.Common.{◌≡◌, ℕ, zero, suc, ◌+◌, ◌<◌, List, [], ◌∷◌, ◌++◌, length, map, Bool, true, false, cond, Option, Some, None, refl, sym, ap, ◌∙◌, subst, arith, rules}
 use Rattle.std.specs.Prelude.{bytes_eq, is_some, slice_get, ◌||◌, take, get_or}
 use Rattle.std.specs.Option.{option_or}
 use Rattle.std.specs.FinMap.{FinMap, get, insert, empty, get-empty, contains_key}
@@ -8,8 +8,12 @@ use Rattle.std.proofs.Math.Bool.{or-false}
 use Rattle.std.proofs.Math.Seq.{take-suc}
 use Rattle.owned.specs.Keyed.{text_cmp}
 use Rattle.owned.specs.KeyedLaws.{get-inserted}
-use Rattle.zone_values.specs.Values.{LineValue, InfoValue, RuleValue, zone, rule, link}
+use Rattle.zone_values.specs.Values.{LineValue, InfoValue, RuleValue, line_value, space, zone, rule, link}
+use Rattle.zone_values.specs.declared.line.Line.{Line}
+use Rattle.zone_values.specs.declared.line.Line.TheVariants.{Space}
+use Rattle.std.proofs.lemmas.List.{get_or-map, length-map}
 use Rattle.zone_plain_links.specs.Named.{zone_name, ruleset_name, is_that, declares, has_zone, target_by, target_of}
+use Rattle.zone_plain_links.specs.NamedLaws.{target-more, or_none, target-other}
 use Rattle.zone_plain_links.specs.Stands.{IsPlaced, IsDeclared, AddsTarget}
 use Rattle.zone_plain_links.specs.declared.names.Declared.{Declared}
 
@@ -28,28 +32,6 @@ pub declares-other : (name_of : LineValue → Option (List ℕ)) (vs : List Line
     → declares name_of (vs ++ v ∷ []) name ≡ declares name_of vs name
 declares-other name_of vs v none name =
     declares-more name_of vs v name ∙ ap (λ o. declares name_of vs name || is_that o name) none ∙ or-false (declares name_of vs name)
-
-pub target-more : (vs : List LineValue) (v : LineValue) (name : List ℕ)
-    → target_of (vs ++ v ∷ []) name ≡ option_or (target_of vs name) (target_by v name)
-target-more [] v name = with_none (target_by v name)
-  where
-    with_none : (o : Option (List ℕ)) → option_or o None ≡ option_or None o
-    with_none None = refl
-    with_none (Some x) = refl
-target-more (w ∷ vs) v name =
-    ap (option_or (target_by w name)) (target-more vs v name) ∙ or_more (target_by w name) (target_of vs name) (target_by v name)
-  where
-    or_more : (a b c : Option (List ℕ)) → option_or a (option_or b c) ≡ option_or (option_or a b) c
-    or_more None b c = refl
-    or_more (Some x) b c = refl
-
-or_none : (o : Option (List ℕ)) → option_or o None ≡ o
-or_none None = refl
-or_none (Some x) = refl
-
-pub target-other : (vs : List LineValue) (v : LineValue) → ((name : List ℕ) → target_by v name ≡ None) → (name : List ℕ)
-    → target_of (vs ++ v ∷ []) name ≡ target_of vs name
-target-other vs v none name = target-more vs v name ∙ ap (option_or (target_of vs name)) (none name) ∙ or_none (target_of vs name)
 
 -- a set of names with one more
 pub contains-inserted : (m : FinMap text_cmp (Unit {0})) (name q : List ℕ)
@@ -181,3 +163,10 @@ one_more vs i d inside = ap (λ n. take n vs) (plus_one i) ∙ take-suc vs i d i
   where
     plus_one : (i : ℕ) → i + 1 ≡ suc i
     plus_one i = omega arith
+
+-- of lines that were read
+pub one_line_more : (lines : List Line) (i : ℕ) → i < length lines
+    → take (i + 1) (map line_value lines) ≡ take i (map line_value lines) ++ line_value (get_or lines i Space) ∷ []
+one_line_more lines i inside =
+    one_more (map line_value lines) i space (omega (arith, inside, length-map lines line_value))
+    ∙ ap (λ v. take i (map line_value lines) ++ v ∷ []) (get_or-map line_value lines i Space space inside)

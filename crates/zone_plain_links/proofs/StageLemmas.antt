@@ -2,12 +2,14 @@
 use Rattle.std.proofs.Common.{◌≡◌, ℕ, zero, suc, ◌+◌, ◌-◌, ◌≤◌, ◌<◌, List, [], ◌∷◌, ◌++◌, map, length, take, drop, drop-cons, get_or, true, false, nat_lt, Some, Result, Ok, Err, refl, sym, ap, ◌∙◌, subst, arith, append_assoc, append-nil, rules, slice_get, unwrap_or}
 use Rattle.std.specs.Prelude.{is_some}
 use Rattle.std.specs.FinMap.{get, empty, get-empty}
-use Rattle.std.proofs.lemmas.List.{drop_all}
+use Rattle.std.proofs.lemmas.List.{drop_all, get_or-map, length-map}
 use Rattle.std.proofs.lemmas.Bool.{ltb-false, le-ltb, lt-ltb}
 use Rattle.owned.specs.Keyed.{text_cmp}
 use Rattle.zone_outside.specs.Limit.{text_limit}
 use Rattle.zone_source.specs.Zones.{source_value}
-use Rattle.zone_values.specs.Values.{LineValue, space}
+use Rattle.zone_values.specs.Values.{LineValue, line_value, space}
+use Rattle.zone_values.specs.declared.line.Line.{Line}
+use Rattle.zone_values.specs.declared.line.Line.TheVariants.{Space}
 use Rattle.zone_plain_lines.specs.declared.cause.PlainCause.{PlainCause}
 use Rattle.zone_plain_text.specs.PlainTexts.{plain_text}
 use Rattle.zone_plain_base.specs.Said.{is_said}
@@ -211,3 +213,12 @@ past_here d s limit values ws place size (fault.Line n c) inside so_far past = a
 past_here d s limit values ws place size fault.TooLong inside so_far past =
     too_long_here d s limit values ws place size past.value inside so_far past.is past.large
 past_here d s limit values ws place size fault.NoMemory inside so_far past = tt
+
+-- the lines that were read are as many, and say what the list's lines say
+pub as_many : (lines : List (List ℕ)) (read : List Line) → map line_value read ≡ map source_value lines → length read ≡ length (map source_value lines)
+as_many lines read same = sym (length-map read line_value) ∙ ap length same
+
+pub read_at : (lines : List (List ℕ)) (read : List Line) (place : ℕ) → map line_value read ≡ map source_value lines → place < length read
+    → line_value (get_or read place Space) ≡ get_or (map source_value lines) place space
+read_at lines read place same inside =
+    sym (get_or-map line_value read place Space space inside) ∙ ap (λ vs. get_or vs place space) same

@@ -1,15 +1,12 @@
 //! What a source declares, and what was seen of it so far.
 ghost use Rattle.std.specs.Prelude.{◌≡◌, ℕ, List, [], ◌∷◌, ◌++◌, map as each, length, IfOk, OnOk};
 ghost use Rattle.std.specs.FinMap as map;
-ghost use Rattle.zone_source.specs.Zones.{source_value};
 ghost use Rattle.zone_values.specs.Values.{LineValue, line_value};
 ghost use Rattle.zone_plain_links.specs.Stands.{IsDeclared, AddsTarget};
 
 use owned::{Items, Text, TextMap};
 use std::alloc::{AllocError, Global};
-use zone_line::{Line, LineReader};
-use zone_plain_base::line_at;
-use zone_source::LineList;
+use zone_line::Line;
 
 /// The names that a source declares.
 #[derive(Drop)]
@@ -107,17 +104,12 @@ fn declare(alloc: Global, declared: &mut Declared, line: &Line<'_>) -> Result<()
 }
 
 /// What the lines declare.
-pub(crate) fn declared_by(
-    alloc: Global,
-    reader: &mut LineReader<'_>,
-    lines: &LineList,
-) -> Result<Declared, AllocError>
-    ensures { IfOk result (λ declared. IsDeclared declared (each source_value lines.now)) }
+pub(crate) fn declared_by(alloc: Global, lines: &[Line<'_>]) -> Result<Declared, AllocError>
+    ensures { IfOk result (λ declared. IsDeclared declared (each line_value lines.now)) }
 {
     let mut declared = Declared::new(alloc);
-    for place in 0..lines.len() {
-        let line = line_at(alloc, reader, lines, place)?;
-        declare(alloc, &mut declared, &line)?;
+    for line in lines {
+        declare(alloc, &mut declared, line)?;
     }
     Ok(declared)
 }

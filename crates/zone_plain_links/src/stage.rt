@@ -1,7 +1,7 @@
 //! The lines of a source with each link led to its zone.
-ghost use Rattle.std.specs.Prelude.{◌≡◌, ◌≤◌, ℕ, List, [], ◌∷◌, ◌++◌, Result, Ok, map as each, length, IfOk, IfErr, OnOk};
+ghost use Rattle.std.specs.Prelude.{◌≡◌, ◌<◌, ◌≤◌, ℕ, List, [], ◌∷◌, ◌++◌, Result, Ok, map as each, length, IfOk, IfErr, OnOk};
 ghost use Rattle.zone_source.specs.Zones.{source_value};
-ghost use Rattle.zone_values.specs.Values.{LineValue};
+ghost use Rattle.zone_values.specs.Values.{LineValue, line_value};
 ghost use Rattle.zone_plain_lines.specs.declared.cause.PlainCause.{PlainCause};
 ghost use Rattle.zone_plain_base.specs.LineFaults.{IsFaultOf};
 ghost use Rattle.zone_plain_base.specs.LinesAt.{value_at};
@@ -13,8 +13,8 @@ use crate::line::{Outcome, settle_line};
 use crate::names::{Seen, declared_by};
 use owned::TextMap;
 use std::alloc::{AllocError, Global};
-use zone_line::LineParser;
-use zone_plain_base::{PlainFault, fault_at, line_at};
+use zone_line::{Line, LineParser, LineReader};
+use zone_plain_base::{PlainFault, fault_at, lines_read};
 use zone_source::{LIMIT, LineList};
 
 /// Nothing that was seen.
@@ -30,15 +30,14 @@ fn nothing_seen(alloc: Global) -> Seen
 
 /// Adds the line at a place of another list.
 fn keep_line(into: &mut LineList, lines: &LineList, place: usize) -> Result<(), AllocError>
+    requires { place < length lines.now }
     ensures { OnOk result (each source_value into.new ≡ each source_value into.old ++ value_at lines.now place ∷ []) }
 {
-    match lines.get(place) {
-        Some(line) => {
-            into.push(line)?;
-            Ok(())
-        }
-        None => Err(AllocError),
-    }
+    let Some(line) = lines.get(place) else {
+        unreachable!();
+    };
+    into.push(line)?;
+    Ok(())
 }
 
 /// Adds what a line became, after links of so many bytes. Answers how many bytes they take then.
@@ -50,7 +49,8 @@ fn add_line(
     size: usize,
     outcome: Outcome,
 ) -> Result<usize, PlainFault>
-    requires { size ≤ LIMIT }
+    requires size { size ≤ LIMIT }
+    requires place { place < length lines.now }
     ensures ok { IfOk result (λ size_now. (found : Result LineValue PlainCause)
         → IsOutcome found (value_at lines.now place) text.now outcome
         → Adds found (each source_value into.old) (each source_value into.new) size size_now) }
@@ -86,21 +86,35 @@ pub fn settle(alloc: Global, parser: &LineParser, lines: &LineList) -> Result<Li
     ensures err { IfErr result (IsFaultOf (settled (each source_value lines.now))) }
 {
     let mut reader = parser.reader(alloc)?;
-    let declared = declared_by(alloc, &mut reader, lines)?;
+    let read = lines_read(alloc, &mut reader, lines)?;
+    settle_lines(alloc, &mut reader, lines, read.as_slice())
+}
+
+/// The lines of a source, each in its place, by what they say.
+fn settle_lines(
+    alloc: Global,
+    reader: &mut LineReader<'_>,
+    lines: &LineList,
+    read: &[Line<'_>],
+) -> Result<LineList, PlainFault>
+    requires { each line_value read.now ≡ each source_value lines.now }
+    ensures ok { IfOk result (λ new. settled (each source_value lines.now) ≡ Ok (each source_value new)) }
+    ensures err { IfErr result (IsFaultOf (settled (each source_value lines.now))) }
+{
+    let declared = declared_by(alloc, read)?;
     let mut seen = nothing_seen(alloc);
     let mut text = Vec::new(alloc);
     let mut settled = LineList::new(alloc);
     let mut size = 0;
-    let count = lines.len();
-    for place in 0..count {
-        let line = line_at(alloc, &mut reader, lines, place)?;
+    let count = read.len();
+    for (place, line) in read.iter().enumerate() {
         let outcome = match settle_line(
             alloc,
-            &mut reader,
+            reader,
             &declared,
             &mut seen,
             count,
-            &line,
+            line,
             &mut text,
         ) {
             Ok(outcome) => outcome,

@@ -1,20 +1,17 @@
-use Rattle.std.proofs.Common.{◌<◌, ◌≤◌, map, length, sym, subst, arith}
+use Rattle.std.proofs.Common.{◌≤◌, map, length, subst, arith}
 use Rattle.std.proofs.lemmas.List.{length-map, take_all}
-use Rattle.zone_source.specs.Zones.{source_value}
-use Rattle.zone_values.specs.Values.{space}
+use Rattle.zone_values.specs.Values.{line_value}
 use Rattle.zone_plain_links.specs.Stands.{IsDeclared}
-use Rattle.zone_plain_links.proofs.NameLemmas.{one_more}
+use Rattle.zone_plain_links.proofs.NameLemmas.{one_line_more}
 use Rattle.zone_plain_links.proofs.names.declared_by.Goals as goal
 
-pub loop-place-preserved : goal.loop-place-preserved
-loop-place-preserved c =
-    let inside : c.loop-place.place < length (map source_value c.args.lines.now) =
-    omega (arith, length-map c.args.lines.now source_value, c.loop-place-test.true, c.len-place-end.ensures) in
-    rw (one_more (map source_value c.args.lines.now) c.loop-place.place space inside, sym c.in_ok-line.ensures)
-    (c.in_ok-declare.ensures _ c.loop-place.invariant)
+pub loop-line-preserved : goal.loop-line-preserved
+loop-line-preserved c =
+    rw (one_line_more c.args.lines.now c.loop-line.line-index (omega (arith, c.loop-line-test.true)))
+    (c.in_ok-declare.ensures _ c.loop-line.invariant)
 
 pub returns : goal.returns
 returns c =
-    let past : length (map source_value c.args.lines.now) ≤ c.loop-place.place =
-    omega (arith, length-map c.args.lines.now source_value, c.loop-place-test.false, c.len-place-end.ensures) in
-    subst (IsDeclared c.loop-place.declared) (take_all _ _ past) c.loop-place.invariant
+    let past : length (map line_value c.args.lines.now) ≤ c.loop-line.line-index =
+    omega (arith, length-map c.args.lines.now line_value, c.loop-line-test.false) in
+    subst (IsDeclared c.loop-line.declared) (take_all _ _ past) c.loop-line.invariant

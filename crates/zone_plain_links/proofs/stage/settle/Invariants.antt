@@ -1,7 +1,7 @@
 use Rattle.std.proofs.Common.{map}
 use Rattle.zone_source.specs.Zones.{source_value}
 use Rattle.zone_plain_links.proofs.StageLemmas.{Settling}
-use Rattle.zone_plain_links.proofs.stage.settle.Given as goal
+use Rattle.zone_plain_links.proofs.stage.settle_lines.Given as goal
 
 abbrev pub invariant-loop-place : goal.invariant-loop-place
 invariant-loop-place l =

@@ -1,0 +1,5 @@
+use Rattle.zone_plain_links.specs.SettledLaws as laws
+use Rattle.zone_plain_links.proofs.laws.plain_stays.Goals as goal
+
+pub returns : goal.returns
+returns c = laws.plain_stays
