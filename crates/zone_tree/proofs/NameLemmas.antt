@@ -26,14 +26,14 @@ use Rattle.zone_table.specs.declared.zone.ZoneInfo.{ZoneInfo}
 use Rattle.zone_values.specs.Values.{LineValue, space, zone, continuation, rule, link}
 use Rattle.zone_tree.specs.Names.{names_by, names_in, finds_in, finds_in_table}
 
-text_same : IsAntisymmetric text_cmp
+pub text_same : IsAntisymmetric text_cmp
 text_same = slice_cmp-IsAntisymmetric nat_cmp-IsAntisymmetric
 
-or_right : (a b : Bool) → b ≡ true → (a || b) ≡ true
+pub or_right : (a b : Bool) → b ≡ true → (a || b) ≡ true
 or_right true b h = refl
 or_right false b h = h
 
-or_left : (a b : Bool) → a ≡ true → (a || b) ≡ true
+pub or_left : (a b : Bool) → a ≡ true → (a || b) ≡ true
 or_left true b h = refl
 or_left false b h = absurd (cc)
 
@@ -73,7 +73,7 @@ one_kept p q x xs more = step (eq_by_cmp text_cmp q x) refl
         ∙ passed (p x) (list_any (eq_by_cmp text_cmp q) (filter p xs)) ∙ more
         ∙ ap (λ b. p q && (b || list_any (eq_by_cmp text_cmp q) xs)) (sym h)
 
-kept_any : (p : List ℕ → Bool) (q : List ℕ) (xs : List (List ℕ))
+pub kept_any : (p : List ℕ → Bool) (q : List ℕ) (xs : List (List ℕ))
     → list_any (eq_by_cmp text_cmp q) (filter p xs) ≡ (p q && list_any (eq_by_cmp text_cmp q) xs)
 kept_any p q [] = by_front (p q)
   where
@@ -83,7 +83,7 @@ kept_any p q [] = by_front (p q)
 kept_any p q (x ∷ xs) = one_kept p q x xs (kept_any p q xs)
 
 -- where what passes is among the names, what is kept holds exactly what passes
-kept_is : (p : List ℕ → Bool) (q : List ℕ) (xs : List (List ℕ)) → (p q ≡ true → list_any (eq_by_cmp text_cmp q) xs ≡ true)
+pub kept_is : (p : List ℕ → Bool) (q : List ℕ) (xs : List (List ℕ)) → (p q ≡ true → list_any (eq_by_cmp text_cmp q) xs ≡ true)
     → list_any (eq_by_cmp text_cmp q) (filter p xs) ≡ p q
 kept_is p q xs among = kept_any p q xs ∙ by_test (p q) refl
   where
@@ -134,7 +134,7 @@ named : (value : LineValue) (latest : List LineValue) (q : List ℕ) → list_an
     → list_any (eq_by_cmp text_cmp q) (flat_map names_by (value ∷ latest)) ≡ true
 named value latest q h = list_any-append (eq_by_cmp text_cmp q) (names_by value) (flat_map names_by latest) ∙ or_right _ _ h
 
-is_itself : (q name : List ℕ) → bytes_eq name q ≡ true → eq_by_cmp text_cmp q name ≡ true
+pub is_itself : (q name : List ℕ) → bytes_eq name q ≡ true → eq_by_cmp text_cmp q name ≡ true
 is_itself q name h =
     is_eq-slice_cmp q name ∙ (bytes_eq-Decides q name).1 (sym ((bytes_eq-Decides name q).0 h))
 
@@ -187,7 +187,7 @@ link_named (link existing name ∷ before) q h = by_name (bytes_eq name q) refl 
     by_name false e more =
         named (link existing name) before q (more (ap (λ b. is_some (cond b (Some existing) (link_of before q))) (sym e) ∙ h))
 
-among_names : (latest : List LineValue) (q : List ℕ) → is_some (resolved latest q) ≡ true
+pub among_names : (latest : List LineValue) (q : List ℕ) → is_some (resolved latest q) ≡ true
     → list_any (eq_by_cmp text_cmp q) (flat_map names_by latest) ≡ true
 among_names latest q h = by_zone (listed (zone_of latest q)) refl
   where

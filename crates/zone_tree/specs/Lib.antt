@@ -2,6 +2,7 @@ pub mod Names
 pub mod Refusals
 pub mod Entries
 pub mod Trees
+pub mod Laws
 pub mod Told
 pub mod Files
 pub mod Causes

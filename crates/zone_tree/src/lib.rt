@@ -3,12 +3,14 @@
 
 mod entry;
 mod folder;
+mod laws;
 mod names;
 mod refusal;
 mod respond;
 mod running;
 mod whole;
 
+pub use laws::names_and_links;
 pub use refusal::{TreeFault, Why};
 pub use running::{run_tree, run_tree_surely};
 pub use whole::tree;

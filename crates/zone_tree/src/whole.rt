@@ -77,7 +77,8 @@ fn tree_of_table(alloc: Global, table: &Table) -> Result<Vec<u8>, TreeFault>
 ///
 /// # Errors
 ///
-/// `Source` has the first fault of the source; `Refused` the first name in the archive's order that has no entry, and why.
+/// `Source` has the first fault of the source; `Refused` the first name in the archive's order that has no entry, and why. Want
+/// of memory is `NoMemory`, or the `NoMemory` of `Source`.
 pub fn tree(alloc: Global, parser: &LineParser, source: &[u8]) -> Result<Vec<u8>, TreeFault>
     requires { length source.now ≤ LIMIT }
     ensures ok { IfOk result (λ bytes. tree_of source.now ≡ Ok bytes.items) }

@@ -1,0 +1,139 @@
+-- The entry of each name, at worked rows.
+use Rattle.std.proofs.Common.{◌≡◌, ℕ, List, [], ◌∷◌, map, replicate, codes, Bool, true, false, Some, None, Ok, Err, refl, ap, ℤ, pos, negsuc}
+use Rattle.std.specs.Prelude.{bytes_eq, if◌then◌else◌, ◌||◌}
+use Rattle.tz_zone.specs.declared.set.FixedTimespanSet.{FixedTimespanSet}
+use Rattle.ustar.specs.Archives.{archive}
+use Rattle.ustar.specs.Entries.{of_file, of_link, entry}
+use Rattle.ustar.specs.Names.{cut, entry_fault, is_path}
+use Rattle.ustar.specs.declared.entry.EntryFault.TheVariants as entry_fault_is
+use Rattle.zone_run.specs.Causes.{Found}
+use Rattle.zone_spans.specs.Schedules.{totals_of}
+use Rattle.zone_spans.specs.declared.fault.SpanFault.TheVariants as span
+use Rattle.zone_spans.specs.declared.span.FixedTimespanSet as spans
+use Rattle.zone_tree.specs.Entries.{file_or, zone_content, link_content, is_folder, said, entry_by, entry_of}
+use Rattle.zone_tree.specs.Laws.{are_behind}
+use Rattle.zone_tree.specs.Names.{Finds, archive_names}
+use Rattle.zone_tree.specs.Trees.{entries_of, refused, tree_by}
+use Rattle.zone_tree.specs.declared.refusal.Why.TheVariants.{Schedule, OffsetRange, File, Name, Size}
+use Rattle.zone_tzif_core.specs.declared.values.WriteFault.TheVariants as write
+use Rattle.zone_tzif_set.specs.Files.{file_fault, file_of}
+
+-- ---- which names others stand in
+
+abbrev some_names : List (List ℕ)
+some_names = codes "A" ∷ codes "A/B" ∷ codes "A/B/C" ∷ codes "A/BC" ∷ codes "AB" ∷ codes "B" ∷ codes "X/B" ∷ codes "X/B/" ∷ []
+
+-- a name stands in another one as in a folder where that one and a slash begin it: not in one that it only begins with, not in one
+-- that stands in the middle of it, and not in itself
+which_folders : map (is_folder some_names) some_names ≡ true ∷ true ∷ false ∷ false ∷ false ∷ false ∷ true ∷ false ∷ []
+which_folders = refl
+
+-- a name needn't be there to be a folder
+no_name_of_them : map (is_folder some_names) (codes "X" ∷ codes "A/" ∷ codes "C" ∷ []) ≡ true ∷ false ∷ false ∷ []
+no_name_of_them = refl
+
+-- ---- what a name of a zone, or of a link, finds
+
+-- the spans of one offset
+abbrev fixed_at : ℤ → spans.FixedTimespanSet
+fixed_at offset = record { first = record { utc_offset = offset; dst_offset = pos 0; name = codes "T" }; rest = [] }
+
+no_files : map (zone_content (codes "A"))
+    (None ∷ Some (Err span.MissingUntil) ∷ Some (Err span.DayRange) ∷ Some (Ok (fixed_at (pos 93600))) ∷ Some (Ok (fixed_at (negsuc 93599))) ∷ [])
+    ≡ Err Name ∷ Err (Schedule span.MissingUntil) ∷ Err (Schedule span.DayRange) ∷ Err OffsetRange ∷ Err OffsetRange ∷ []
+unfolding totals_of
+no_files = refl
+
+no_file_of : (set : FixedTimespanSet) → map (λ fault. file_or (Some fault) set) (write.Times ∷ write.Types ∷ write.Names ∷ [])
+    ≡ Err (File write.Times) ∷ Err (File write.Types) ∷ Err (File write.Names) ∷ []
+no_file_of set = refl
+
+-- the file of the spans under the name of the zone
+abbrev the_set : FixedTimespanSet
+the_set = record { name = codes "A/B"; first = record { utc_offset = pos 3600; dst_offset = pos 0; name = codes "T" }; others = [] }
+
+a_file : file_fault the_set ≡ None → zone_content (codes "A/B") (Some (Ok (fixed_at (pos 3600)))) ≡ Ok (of_file (file_of the_set))
+unfolding totals_of
+a_file sound = ap (λ fault. file_or fault the_set) sound
+
+links : map link_content (Some (codes "A/B") ∷ None ∷ []) ≡ Ok (of_link (codes "A/B")) ∷ Err Name ∷ []
+links = refl
+
+-- ---- what can't be said
+
+refusals : map (said (entry (codes "A") (of_link (codes "B"))))
+    (None ∷ Some entry_fault_is.Name ∷ Some entry_fault_is.Target ∷ Some entry_fault_is.Size ∷ [])
+    ≡ Ok (entry (codes "A") (of_link (codes "B"))) ∷ Err Name ∷ Err Name ∷ Err Size ∷ []
+refusals = refl
+
+-- ---- the entries of two zones, and of links to one of them
+
+abbrev is_own : List ℕ → Bool
+is_own name = bytes_eq name (codes "A/B") || bytes_eq name (codes "D") || bytes_eq name (codes "../E")
+
+abbrev finds_of : Found → Finds
+finds_of found = record {
+  names = codes "../E" ∷ codes "A/B" ∷ codes "C" ∷ codes "D" ∷ codes "D/F" ∷ codes "L" ∷ codes "Z" ∷ [];
+  is_zone = is_own;
+  found = λ name. found;
+  target = λ name. if bytes_eq name (codes "Z") then Some (replicate 101 65) else Some (codes "A/B");
+}
+
+-- a link is to its target, whatever that is compiled to; and a name that can't be said, or is a folder, has no entry
+link_entries : map (entry_of (finds_of (Some (Err span.DayRange)))) (codes "C" ∷ codes "D/F" ∷ codes "L/" ∷ codes "Z" ∷ [])
+    ≡ Ok (entry (codes "C") (of_link (codes "A/B"))) ∷ Ok (entry (codes "D/F") (of_link (codes "A/B"))) ∷ Err Name ∷ Err Name ∷ []
+unfolding entry_of entry_fault is_path cut
+link_entries = refl
+
+-- what is found comes before what the name is
+what_is_found_first : map (entry_of (finds_of (Some (Err span.DayRange)))) (codes "A/B" ∷ codes "../E" ∷ codes "D" ∷ [])
+    ≡ Err (Schedule span.DayRange) ∷ Err (Schedule span.DayRange) ∷ Err (Schedule span.DayRange) ∷ []
+unfolding entry_of
+what_is_found_first = refl
+
+-- an entry with a file is refused for its name, or for another name that stands in it
+bad_names : map (λ name. entry_by (codes "D" ∷ codes "D/F" ∷ []) name (Ok (of_file (1 ∷ []))))
+    (codes "../E" ∷ codes "D" ∷ codes "A//B" ∷ codes "A/B" ∷ [])
+    ≡ Err Name ∷ Err Name ∷ Err Name ∷ Ok (entry (codes "A/B") (of_file (1 ∷ []))) ∷ []
+unfolding entry_fault is_path cut
+bad_names = refl
+
+-- ---- all entries
+
+-- the zones come first and then the links, each in byte order, and none is left out
+in_their_order : archive_names (finds_of None)
+    ≡ codes "../E" ∷ codes "A/B" ∷ codes "D" ∷ codes "C" ∷ codes "D/F" ∷ codes "L" ∷ codes "Z" ∷ []
+in_their_order = refl
+
+-- links to B, but for two names that have no entry: the first of them is told, wherever the other stands
+two_refused : map (entries_of (λ name. if bytes_eq name (codes "C") then Err Size else (if bytes_eq name (codes "D") then Err Name
+    else Ok (entry name (of_link (codes "B"))))))
+    ([] ∷ (codes "E" ∷ codes "A" ∷ []) ∷ (codes "A" ∷ codes "C" ∷ codes "D" ∷ []) ∷ (codes "D" ∷ codes "C" ∷ codes "A" ∷ []) ∷ [])
+    ≡ Ok [] ∷ Ok (entry (codes "E") (of_link (codes "B")) ∷ entry (codes "A") (of_link (codes "B")) ∷ [])
+    ∷ Err (refused (codes "C") Size) ∷ Err (refused (codes "D") Name) ∷ []
+unfolding entries_of
+two_refused = refl
+
+-- a link stands behind its file; not before it, behind a file of another name, or behind a link alone
+behind : map (are_behind []) (
+    (entry (codes "A") (of_file []) ∷ entry (codes "B") (of_link (codes "A")) ∷ entry (codes "C") (of_link (codes "A")) ∷ [])
+    ∷ (entry (codes "B") (of_link (codes "A")) ∷ entry (codes "A") (of_file []) ∷ [])
+    ∷ (entry (codes "A") (of_file []) ∷ entry (codes "B") (of_link (codes "AB")) ∷ [])
+    ∷ (entry (codes "A") (of_file []) ∷ entry (codes "B") (of_link (codes "A")) ∷ entry (codes "C") (of_link (codes "B")) ∷ []) ∷ [])
+    ≡ true ∷ false ∷ false ∷ false ∷ []
+unfolding are_behind
+behind = refl
+
+-- the archive of a zone A/B of one offset and a link 0 to it: the link stands behind its zone, though its name comes before
+abbrev two_names : Finds
+two_names = record {
+  names = codes "0" ∷ codes "A/B" ∷ [];
+  is_zone = λ name. bytes_eq name (codes "A/B");
+  found = λ name. Some (Ok (fixed_at (pos 3600)));
+  target = λ name. Some (codes "A/B");
+}
+
+a_whole_tree : file_fault the_set ≡ None → entry_fault (entry (codes "A/B") (of_file (file_of the_set))) ≡ None
+    → tree_by two_names ≡ Ok (archive (entry (codes "A/B") (of_file (file_of the_set)) ∷ entry (codes "0") (of_link (codes "A/B")) ∷ []))
+unfolding tree_by entries_of entry_of entry_fault is_path cut
+a_whole_tree sound fits = rw (a_file sound, fits) refl

@@ -1,0 +1,28 @@
+-- What holds of each archive.
+use Rattle.std.specs.Prelude.{◌≡◌, ◌&&◌, ℕ, Bool, true, List, [], ◌∷◌, bytes_eq, is_some}
+use Rattle.std.specs.List.{list_any}
+use Rattle.ustar.specs.Archives.{IsArchive}
+use Rattle.ustar.specs.Entries.{Content, of_file, of_link, EntryValue}
+use Rattle.zone_source.specs.Zones.{zone_in}
+
+-- a link is to one of these names
+abbrev pub is_to : List (List ℕ) → Content → Bool
+is_to files (of_file bytes) = true
+is_to files (of_link target) = list_any (bytes_eq target) files
+
+-- the names of files, with that of one more entry if it is one
+abbrev pub files_with : List ℕ → List (List ℕ) → Content → List (List ℕ)
+files_with name files (of_file bytes) = name ∷ files
+files_with name files (of_link target) = files
+
+-- each link is to a file before it, or to one of these
+unfoldable pub are_behind : List (List ℕ) → List EntryValue → Bool
+are_behind files [] = true
+are_behind files (e ∷ entries) = is_to files e.content && are_behind (files_with e.name files e.content) entries
+
+-- the bytes are the archive of entries: a name has one exactly where it finds a zone, and each link is to a file before it
+pub record IsTree (source bytes : List ℕ) : Type 0 where
+  pub entries : List EntryValue
+  pub is_archive : IsArchive bytes entries
+  pub each : (name : List ℕ) → list_any (λ e. bytes_eq name e.name) entries ≡ is_some (zone_in source name)
+  pub behind : are_behind [] entries ≡ true

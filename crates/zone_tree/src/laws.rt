@@ -1,0 +1,11 @@
+//! Laws of the archives of sources.
+ghost use Rattle.std.specs.Prelude.{◌≡◌, ℕ, List, Ok};
+ghost use Rattle.zone_tree.specs.Laws.{IsTree};
+ghost use Rattle.zone_tree.specs.Trees.{tree_of};
+
+/// In the archive of a source a name has an entry exactly where it finds a zone, so no zone is left out and no link to one, and a
+/// link to nothing has none. Each link is to a file that stands before it, so whoever unpacks the archive from its beginning finds
+/// what the link is to.
+pub fn names_and_links()
+    ensures { (source bytes : List ℕ) → tree_of source ≡ Ok bytes → IsTree source bytes }
+{}
