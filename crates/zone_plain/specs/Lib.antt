@@ -2,6 +2,8 @@ pub mod LineValues
 pub mod Told
 pub mod Written
 pub mod Plain
+pub mod Kept
+pub mod KeptLaws
 pub mod Files
 pub mod Causes
 pub mod Ends

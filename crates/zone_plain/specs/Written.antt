@@ -2,8 +2,13 @@
 use Rattle.std.specs.Prelude.{ℕ, List, [], ◌∷◌, ◌++◌, Bool, true, false, flat_map, if◌then◌else◌}
 use Rattle.zone_values.specs.Values.{LineValue, space, zone, continuation, rule, link}
 use Rattle.zone_plain_text.specs.PlainTexts.{plain_text}
-use Rattle.zone_plain.specs.declared.output.Part.{Part}
-use Rattle.zone_plain.specs.declared.output.Part.TheVariants.{Rules, Zones, Links}
+
+-- the parts of what is written
+pub data Part : Type 0 where
+  Rules : Part
+  -- with their continuations
+  Zones : Part
+  Links : Part
 
 -- a value of that part
 abbrev pub is_in : Part → LineValue → Bool

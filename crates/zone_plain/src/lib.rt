@@ -1,6 +1,7 @@
 //! A tz source in any form that `zic` reads, written in the plain form that the other crates read.
 #![tactic(auto)]
 
+mod laws;
 mod line;
 mod output;
 mod reading;
@@ -8,6 +9,7 @@ mod respond;
 mod running;
 mod whole;
 
+pub use laws::plain_is_kept;
 pub use running::{run_plain, run_plain_surely};
 pub use whole::plain;
 pub use zone_plain_base::PlainFault;

@@ -6,11 +6,11 @@ ghost use Rattle.zone_plain_base.specs.LineFaults.{IsFaultOf};
 ghost use Rattle.zone_plain.specs.Plain.{plain_of};
 ghost use Rattle.zone_plain.specs.Written.{written};
 
-use crate::output::{Part, put_part};
+use crate::output::written;
 use crate::reading::read_lines;
 use std::alloc::{AllocError, Global};
 use zone_line::LineParser;
-use zone_plain_base::PlainFault;
+use zone_plain_base::{PlainFault, lines_read};
 use zone_plain_links::settle;
 use zone_plain_offsets::write_out;
 use zone_source::{LIMIT, LineList};
@@ -38,14 +38,11 @@ pub fn plain(alloc: Global, parser: &LineParser, source: &[u8]) -> Result<Vec<u8
 }
 
 /// What is written of the lines.
-#[tactic(auto, unfolding(crate::specs::Written::written))]
 fn write_lines(alloc: Global, parser: &LineParser, lines: &LineList) -> Result<Vec<u8>, AllocError>
     ensures { IfOk result (λ bytes. bytes.items ≡ written (map source_value lines.now)) }
 {
     let mut reader = parser.reader(alloc)?;
-    let mut bytes = Vec::new(alloc);
-    put_part(alloc, &mut reader, lines, Part::Rules, &mut bytes)?;
-    put_part(alloc, &mut reader, lines, Part::Zones, &mut bytes)?;
-    put_part(alloc, &mut reader, lines, Part::Links, &mut bytes)?;
+    let read = lines_read(alloc, &mut reader, lines)?;
+    let bytes = written(alloc, read.as_slice())?;
     Ok(bytes)
 }
