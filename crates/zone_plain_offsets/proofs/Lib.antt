@@ -7,3 +7,4 @@ pub mod RuleLemmas
 pub mod OutLemmas
 pub mod StageLemmas
 mod WorkedOffsets
+mod WorkedSources

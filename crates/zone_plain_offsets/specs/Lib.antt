@@ -9,3 +9,6 @@ pub mod Told
 pub mod OffsetTextLaws
 pub mod NameLaws
 pub mod MadeLaws
+pub mod TableLaws
+pub mod Abbreviations
+pub mod AbbreviationLaws

@@ -3,6 +3,7 @@ use Rattle.std.specs.Prelude.{ℕ, ℤ, ◌+ℤ◌, Bool, true, ◌&&◌, List, 
 use Rattle.std.specs.List.{list_all}
 use Rattle.zone_values.specs.Seconds.{seconds_of}
 use Rattle.zone_values.specs.Values.{multiple, RuleValue, LineValue, space, zone, continuation, rule, link}
+use Rattle.zone_table.specs.declared.rule.RuleInfo.{RuleInfo}
 use Rattle.zone_plain_base.specs.Said.{is_said}
 use Rattle.zone_plain_offsets.specs.Formats.{Around}
 use Rattle.zone_plain_offsets.specs.Names.{front, made_name}
@@ -38,6 +39,19 @@ renamed r name letters = record {
 -- the same rule under another name, its letters the text of its total
 abbrev pub made_rule : List ℕ → ℤ → RuleValue → RuleValue
 made_rule name offset r = renamed r name (offset_text (total_of offset r))
+
+-- the same rule as a table has it, its letters the text of its total
+abbrev pub made_info : ℤ → RuleInfo → RuleInfo
+made_info offset r = record {
+  from_year = r.from_year;
+  to_year = r.to_year;
+  month = r.month;
+  day = r.day;
+  time = r.time;
+  time_type = r.time_type;
+  time_to_add = r.time_to_add;
+  letters = Some (offset_text (offset +ℤ r.time_to_add));
+}
 
 -- the total has a text, and the rule can be said
 abbrev pub is_rule_said : List ℕ → ℤ → RuleValue → Bool

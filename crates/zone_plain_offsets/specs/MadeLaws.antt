@@ -85,7 +85,7 @@ same_pair a b h =
     let rules = (bytes_eq-Decides a.rules b.rules).0 both.1 in
     (λ i. record { rules = rules i; offset = offset i })
 
-pair_itself : (a : Pair) → is_same a a ≡ true
+pub pair_itself : (a : Pair) → is_same a a ≡ true
 pair_itself a = (λ i. number_itself a.offset i && (bytes_eq-Decides a.rules a.rules).1 refl i)
 
 -- the pair is one of these
@@ -113,7 +113,7 @@ one_pair (x ∷ pairs) a b p q e = by_test (is_same a x) (is_same b x) refl refl
     by_test false true s t p q e rest = absurd (omega (arith, e))
     by_test false false s t p q e rest = rest p q (omega (arith, e))
 
-among_more : (pair more : Pair) (pairs : List Pair) → is_among pair (pairs ++ more ∷ []) ≡ (is_among pair pairs || is_same pair more)
+pub among_more : (pair more : Pair) (pairs : List Pair) → is_among pair (pairs ++ more ∷ []) ≡ (is_among pair pairs || is_same pair more)
 among_more pair more [] = or_false (is_same pair more)
   where
     or_false : (b : Bool) → (b || false) ≡ b
@@ -226,7 +226,7 @@ made_named values pair few among =
     of : Pair → List RuleValue
     of other = map (made_rule (name_in values other) other.offset) (rules_named values other.rules)
 
-written_is : (values out : List LineValue) → written_out values ≡ Ok out → out ≡ map (changed (name_in values)) values ++ made values
+pub written_is : (values out : List LineValue) → written_out values ≡ Ok out → out ≡ map (changed (name_in values)) values ++ made values
 unfolding written_out
 written_is values out e = by_place (unsaid_from values 1 values) e
   where

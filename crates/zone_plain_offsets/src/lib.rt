@@ -11,5 +11,5 @@ mod offset;
 mod pairs;
 mod stage;
 
-pub use laws::{made_names, made_rulesets, one_total};
+pub use laws::{abbreviations, made_names, made_rulesets, one_total};
 pub use stage::write_out;
