@@ -34,14 +34,16 @@ fn patterns(rt: &impl Abort, alloc: Global) -> LineParser {
 }
 
 fn new_york(rt: &impl Abort, alloc: Global) -> CompactSet {
-    let Ok(set) = zone_of_source(alloc, &patterns(rt, alloc), SOURCE, "America/New_York") else {
+    let parser = patterns(rt, alloc);
+    let Ok(set) = zone_of_source(alloc, &parser, SOURCE, "America/New_York") else {
         panic!(rt; "no zone");
     };
     set
 }
 
 fn database(rt: &impl Abort, alloc: Global) -> Database {
-    let Ok(table) = open_source(alloc, &patterns(rt, alloc), SOURCE) else {
+    let parser = patterns(rt, alloc);
+    let Ok(table) = open_source(alloc, &parser, SOURCE) else {
         panic!(rt; "no table");
     };
     let Ok(database) = open_database(alloc, &table) else {
