@@ -1,7 +1,7 @@
 -- What a line means, step by step.
 use Rattle.std.proofs.Common.{◌≡◌, ℕ, List, [], ◌∷◌, ◌++◌, Bool, true, false, Ok, Err, refl, sym, ap, ◌∙◌}
 use Rattle.std.specs.Str.{is_utf8}
-use Rattle.zone_values.specs.Values.{LineValue}
+use Rattle.zone_values.specs.Values.{LineValue, space, zone, continuation, rule, link}
 use Rattle.zone_plain_lines.specs.Meanings.{meaning}
 use Rattle.zone_plain_lines.specs.Quotes.{fields, laid_out, kept, pieces, has_bad_quotes}
 use Rattle.zone_plain_lines.specs.declared.cause.PlainCause.{PlainCause}
@@ -9,12 +9,13 @@ use Rattle.zone_plain_lines.specs.declared.cause.PlainCause.TheVariants as cause
 use Rattle.zone_plain_lines.specs.declared.quotes.Place.TheVariants.{Outside}
 use Rattle.zone_values.specs.Values.{line_value}
 use Rattle.zone_values.specs.declared.line.Line.{Line}
-use Rattle.zone_plain.specs.LineValues.{line_meaning}
+use Rattle.zone_plain.specs.LineValues.{line_meaning, is_open_after}
 use Rattle.zone_plain_base.specs.Told.{IsToldBy}
 use Rattle.zone_plain.specs.Told.{IsRefusedLine}
 use Rattle.zone_plain_base.specs.declared.error.Refused.{Refused}
 use Rattle.zone_plain_base.specs.declared.error.Refused.TheVariants.{Cause, NoMemory}
 use Rattle.zone_plain_base.specs.Said.{is_said}
+use Rattle.zone_plain_names.specs.Renamed.{renamed}
 
 pub no_text : (is_open : Bool) (line : List ℕ) → is_utf8 line ≡ false → line_meaning is_open line ≡ Err cause.NotText
 unfolding line_meaning
@@ -40,12 +41,12 @@ unfolding line_meaning fields
 refused is_open line c good text e = rw (good.text, good.quotes, text, e) refl
 
 pub unsaid : (is_open : Bool) (line : List ℕ) (v : LineValue) → IsGood line → is_utf8 (laid_out line) ≡ true
-    → meaning is_open (pieces (laid_out line)) ≡ Ok v → is_said v ≡ false → line_meaning is_open line ≡ Err cause.Unsayable
+    → meaning is_open (pieces (laid_out line)) ≡ Ok v → is_said (renamed v) ≡ false → line_meaning is_open line ≡ Err cause.Unsayable
 unfolding line_meaning fields
 unsaid is_open line v good text e unread = rw (good.text, good.quotes, text, e, unread) refl
 
 pub said : (is_open : Bool) (line : List ℕ) (v : LineValue) → IsGood line → is_utf8 (laid_out line) ≡ true
-    → meaning is_open (pieces (laid_out line)) ≡ Ok v → is_said v ≡ true → line_meaning is_open line ≡ Ok v
+    → meaning is_open (pieces (laid_out line)) ≡ Ok v → is_said (renamed v) ≡ true → line_meaning is_open line ≡ Ok (renamed v)
 unfolding line_meaning fields
 said is_open line v good text e back = rw (good.text, good.quotes, text, e, back) refl
 
@@ -58,3 +59,11 @@ told_refused is_open line text NoMemory good utf8 same h = tt
 
 pub read_and_added : (old new : List (List ℕ)) (text plain : List ℕ) → new ≡ old ++ text ∷ [] → text ≡ plain → new ≡ old ++ plain ∷ []
 read_and_added old new text plain added same = added ∙ ap (λ t. old ++ t ∷ []) same
+
+-- whether a line has to follow is the same under another name
+pub open_renamed : (is_open : Bool) (v : LineValue) → is_open_after is_open v ≡ is_open_after is_open (renamed v)
+open_renamed is_open space = refl
+open_renamed is_open (zone name info) = refl
+open_renamed is_open (continuation info) = refl
+open_renamed is_open (rule r) = refl
+open_renamed is_open (link existing new) = refl

@@ -10,14 +10,15 @@ use Rattle.zone_plain_lines.specs.declared.cause.PlainCause.TheVariants as cause
 use Rattle.zone_source.specs.Lines.{lines_of}
 use Rattle.zone_plain_base.specs.LineFaults.{LineFault, at, numbered, onto}
 use Rattle.zone_plain_base.specs.Said.{if_said}
+use Rattle.zone_plain_names.specs.Renamed.{renamed}
 
--- what a line means whose fields stand in its text; the text of a line without its comment and its quotes is text too
+-- the same of a line whose fields stand in its text; the text of a line without its comment and its quotes is text too
 abbrev pub meant_by : Bool → List ℕ → List (List ℕ) → Result LineValue PlainCause
 meant_by is_continued line found = if is_utf8 (laid_out line) then (do
   meant ← meaning is_continued found
-  if_said meant) else Err cause.NotText
+  if_said (renamed meant)) else Err cause.NotText
 
--- what a line means, if the plain form can say it
+-- what a line means, with its ruleset by its name in the plain form, if that can say it
 unfoldable pub line_meaning : Bool → List ℕ → Result LineValue PlainCause
 line_meaning is_continued line = if is_utf8 line then (do
   found ← fields line

@@ -12,6 +12,7 @@ use std::alloc::Global;
 use zone_line::{Line, LineReader};
 use zone_plain_base::{Refused, write_said};
 use zone_plain_lines::{PlainCause, fields_of, lay_out, meaning};
+use zone_plain_names::{renamed, said_name_of};
 use zone_source::{LineList, text_of};
 
 /// Whether a line of the zone has to follow, where one had to before.
@@ -47,7 +48,8 @@ fn parsed<'t>(alloc: Global, is_open: bool, text: &'t str) -> Result<Line<'t>, R
     }
 }
 
-/// Reads a line in its place, and adds its plain text to the lines. Answers whether a line of the zone has to follow.
+/// Reads a line in its place, and adds its plain text to the lines, with its ruleset by its name in the plain form. Answers whether a
+/// line of the zone has to follow.
 pub(crate) fn read_line(
     alloc: Global,
     reader: &mut LineReader<'_>,
@@ -74,7 +76,9 @@ pub(crate) fn read_line(
         Ok(meant) => meant,
         Err(refused) => return Err(refused),
     };
-    if !write_said(alloc, reader, &meant, plain)? {
+    let name = said_name_of(alloc, &meant)?;
+    let named = renamed(&meant, name.as_str());
+    if !write_said(alloc, reader, &named, plain)? {
         return Err(Refused::Cause(PlainCause::Unsayable));
     }
     lines.push(plain.as_slice())?;

@@ -2,8 +2,11 @@ use Rattle.std.proofs.Common.{sym, ◌∙◌, ap, not}
 use Rattle.std.specs.Str.{is_utf8}
 use Rattle.zone_values.specs.Values.{line_value}
 use Rattle.zone_plain_lines.specs.Meanings.{meaning}
+use Rattle.zone_plain_names.specs.Renamed.{renamed}
+use Rattle.zone_plain_base.specs.Said.{is_said}
+use Rattle.zone_plain_text.specs.PlainTexts.{plain_text}
 use Rattle.zone_plain_lines.specs.Quotes.{pieces}
-use Rattle.zone_plain.proofs.LineLemmas.{IsGood, no_text, bad_quotes, laid_no_text, told_refused, unsaid, said, read_and_added}
+use Rattle.zone_plain.proofs.LineLemmas.{IsGood, no_text, bad_quotes, laid_no_text, told_refused, unsaid, said, read_and_added, open_renamed}
 use Rattle.zone_plain.proofs.line.read_line.Goals as goal
 
 pub returns-then-not-is_text-clause-err : goal.returns-then-not-is_text-clause-err
@@ -42,7 +45,7 @@ returns-then-not-branch-2-clause-err c =
     let same = c.in-Some.ensures.text.0 ∙ laid in
     unsaid c.args.is_open c.args.line.now _ good (ap is_utf8 (sym laid) ∙ c.in-Some.ensures.text.1)
     (ap (λ text. meaning c.args.is_open (pieces text)) (sym same) ∙ c.in-Ok.ensures)
-    (sym c.in_ok-write_said.ensures.said ∙ c.if-not-branch-2.true)
+    (ap is_said (sym c.renamed-named.ensures) ∙ sym c.in_ok-write_said.ensures.said ∙ c.if-not-branch-2.true)
 
 pub returns-clause-ok : goal.returns-clause-ok
 returns-clause-ok c =
@@ -52,12 +55,12 @@ returns-clause-ok c =
     } in
     let laid = c.as_slice.ensures.value ∙ c.in_ok-lay_out.ensures.text c.if-not-branch.false in
     let same = c.in-Some.ensures.text.0 ∙ laid in
-    let yes = sym c.in_ok-write_said.ensures.said ∙ c.if-not-branch-2.false in
+    let yes = ap is_said (sym c.renamed-named.ensures) ∙ sym c.in_ok-write_said.ensures.said ∙ c.if-not-branch-2.false in
     record {
-      value = line_value c.in-Ok.meant;
+      value = renamed (line_value c.in-Ok.meant);
       meant = said c.args.is_open c.args.line.now _ good (ap is_utf8 (sym laid) ∙ c.in-Some.ensures.text.1)
           (ap (λ text. meaning c.args.is_open (pieces text)) (sym same) ∙ c.in-Ok.ensures) yes;
       said = yes;
-      added = read_and_added _ _ _ _ c.in_ok-push.ensures.ok (c.as_slice-2.ensures.value ∙ c.in_ok-write_said.ensures.text);
-      open_now = c.is_open_after.ensures;
+      added = read_and_added _ _ _ _ c.in_ok-push.ensures.ok (c.as_slice-2.ensures.value ∙ c.in_ok-write_said.ensures.text ∙ ap plain_text c.renamed-named.ensures);
+      open_now = c.is_open_after.ensures ∙ open_renamed c.args.is_open (line_value c.in-Ok.meant);
     }
