@@ -1,5 +1,5 @@
 -- Sources whose links need nothing.
-use Rattle.std.specs.Prelude.{◌≡◌, ◌≤◌, ℕ, List, [], ◌∷◌, ◌++◌, Bool, true, false, None}
+use Rattle.std.specs.Prelude.{◌≡◌, ◌≤◌, ℕ, List, ◌∷◌, ◌++◌, Bool, true, false, None}
 use Rattle.std.specs.List.{list_all, sum_by}
 use Rattle.zone_outside.specs.Limit.{text_limit}
 use Rattle.zone_values.specs.Values.{LineValue, space, zone, continuation, rule, link}

@@ -1,5 +1,5 @@
 -- What becomes of a source as a whole: each link leads to a zone, and what needs nothing stays.
-use Rattle.std.proofs.Common.{◌≡◌, ℕ, suc, ◌+◌, ◌≤◌, List, [], ◌∷◌, ◌++◌, Bool, true, false, cond, Option, Some, None, Result, Ok, Err, refl, sym, ap, ◌∙◌, subst, append_assoc, append-nil, nat_lt, arith, rules}
+use Rattle.std.proofs.Common.{◌≡◌, ℕ, suc, ◌+◌, ◌≤◌, List, [], ◌∷◌, ◌++◌, Bool, true, false, cond, Option, Some, None, Result, Ok, Err, refl, sym, ap, ◌∙◌, subst, append_assoc, nat_lt, arith, rules}
 use Rattle.std.specs.Prelude.{bytes_eq, ◌&&◌, ◌||◌, is_some, option_and_then}
 use Rattle.std.specs.Result.{result_unwrap_or}
 use Rattle.std.specs.Cmp.Lexicographic.{bytes_decides}
@@ -18,7 +18,7 @@ use Rattle.zone_plain_links.specs.Named.{zone_name, is_that, has_zone, target_by
 use Rattle.zone_plain_links.specs.NamedLaws.{target-more, or_none}
 use Rattle.zone_plain_links.specs.Leads.{zone_behind}
 use Rattle.zone_plain_links.specs.LeadsLaws.{is_zone_behind, behind_itself}
-use Rattle.zone_plain_links.specs.Needs.{is_to_zone, has_zones_as_targets, IsPlainLink, NeedsNothing, IsPlain}
+use Rattle.zone_plain_links.specs.Needs.{is_to_zone, has_zones_as_targets, NeedsNothing, IsPlain}
 use Rattle.zone_plain_links.specs.Settled.{lacks_rules, link_to, link_after, settled_link, settled_line, link_size, settled_from, settled}
 
 ok_is : {A E : Type 0} {a b : A} → ◌≡◌ {A = Result A E} (Ok a) (Ok b) → a ≡ b

@@ -109,13 +109,7 @@ fn settle_lines(
     let count = read.len();
     for (place, line) in read.iter().enumerate() {
         let outcome = match settle_line(
-            alloc,
-            reader,
-            &declared,
-            &mut seen,
-            count,
-            line,
-            &mut text,
+            alloc, reader, &declared, &mut seen, count, line, &mut text,
         ) {
             Ok(outcome) => outcome,
             Err(refused) => return Err(fault_at(place + 1, refused)),
