@@ -5,7 +5,6 @@ use Rattle.std.proofs.lemmas.List.{reverse-append}
 use Rattle.zone_values.specs.Values.{RuleValue, LineValue, space, zone, continuation, rule, link}
 use Rattle.zone_table.specs.Joined.{rules_of}
 use Rattle.zone_table.specs.Owned.{owned_rule}
-use Rattle.zone_table.specs.declared.rule.RuleInfo.{RuleInfo}
 use Rattle.zone_plain_offsets.specs.Made.{rules_named, made_rule, made_info, name_in}
 use Rattle.zone_plain_offsets.specs.MadeLaws.{is_among, made_rules}
 use Rattle.zone_plain_offsets.specs.NameLaws.{name_is_new}
