@@ -65,6 +65,10 @@ static bool look(void) {
     size_t whole;
     left = 0;
     bool done = !sefunjaro_text_at(&other, 0, 0, text, 40, &whole) && !sefunjaro_readings(&other, &local, &reading, 1, &whole, &gap);
+    struct sefunjaro_change change;
+    int64_t saving;
+    done = done && !sefunjaro_saving_at(&other, 0, 0, &saving) && !sefunjaro_next_change(&other, 0, &change);
+    done = done && !sefunjaro_changes(&other, 0, 1 << 30, &change, 1, &whole) && sefunjaro_ring(&other, &local, &reading) == SEFUNJARO_NONE;
     done = done && left == 0;
     left = -1;
     return done;

@@ -28,6 +28,12 @@ static int closed_handles(void) {
     if (sefunjaro_text_at(&zone, 0, 0, text, 40, &count) != SEFUNJARO_NOT_OPEN || text[0] != 7) return 7;
     if (sefunjaro_readings(&zone, &clock, &reading, 1, &count, &gap) != SEFUNJARO_NOT_OPEN) return 8;
     if (sefunjaro_share(&zone, &other) != SEFUNJARO_NOT_OPEN) return 9;
+    struct sefunjaro_change change = { 5, 6, 7 };
+    int64_t saving = 9;
+    if (sefunjaro_saving_at(&zone, 0, 0, &saving) != SEFUNJARO_NOT_OPEN || saving != 9) return 60;
+    if (sefunjaro_next_change(&zone, 0, &change) != SEFUNJARO_NOT_OPEN || change.second != 5) return 61;
+    if (sefunjaro_changes(&zone, 0, 1, &change, 1, &count) != SEFUNJARO_NOT_OPEN || change.saving != 7) return 62;
+    if (sefunjaro_ring(&zone, &clock, &reading) != SEFUNJARO_NOT_OPEN) return 63;
     sefunjaro_close(&zone);
     return 0;
 }
@@ -100,11 +106,55 @@ static int looks(void) {
     return 0;
 }
 
+/* 2024 has its changes on 31 March and 27 October, both at 01:00 UTC. */
+static int changes(void) {
+    struct sefunjaro_change change, found[3] = { { 0, 0, 77 }, { 0, 0, 77 }, { 0, 0, 77 } };
+    int64_t saving = 9;
+    size_t count;
+    if (sefunjaro_saving_at(&zone, 1711846799, 999999999, &saving) || saving != 0) return 70;
+    if (sefunjaro_saving_at(&zone, 1711846800, 0, &saving) || saving != 3600) return 71;
+    if (sefunjaro_saving_at(&zone, 0, 1000000000, &saving) != SEFUNJARO_OUT_OF_RANGE || saving != 3600) return 72;
+    if (sefunjaro_next_change(&zone, 1711846799, &change) || change.second != 1711846800 || change.offset != 7200 || change.saving != 3600) return 73;
+    if (sefunjaro_next_change(&zone, 1711846800, &change) || change.second != 1729990800 || change.offset != 3600 || change.saving != 0) return 74;
+    if (sefunjaro_next_change(&zone, INT64_MIN, &change) || change.second != 354675600) return 75;
+    change.second = 5;
+    if (sefunjaro_next_change(&zone, INT64_MAX, &change) != SEFUNJARO_NONE || change.second != 5) return 76;
+    if (sefunjaro_changes(&zone, 1711846800, 1729990800, found, 3, &count) || count != 1) return 77;
+    if (found[0].second != 1711846800 || found[1].saving != 77) return 78;
+    if (sefunjaro_changes(&zone, 1711846801, INT64_MAX, found, 2, &count) || count != 151 || found[1].second != 1743296400 || found[2].saving != 77) return 79;
+    if (sefunjaro_changes(&zone, INT64_MAX, INT64_MIN, found, 3, &count) || count != 0 || found[0].second != 1729990800) return 80;
+    if (sefunjaro_changes(&zone, INT64_MIN, INT64_MAX, found, 0, &count) || count != 208) return 81;
+    return 0;
+}
+
+static int rings_and_texts(void) {
+    struct sefunjaro_clock twice = { 2024, 10, 27, 2, 30, 0, 0 }, skipped = { 2024, 3, 31, 2, 30, 0, 0 }, none = { 2024, 2, 30, 0, 0, 0, 0 };
+    struct sefunjaro_reading ring = { 77, 0 };
+    struct sefunjaro_instant instant = { 77, 0, 0 };
+    struct sefunjaro_years years;
+    uint8_t text[9] = "........";
+    size_t whole;
+    if (sefunjaro_ring(&zone, &twice, &ring) || ring.second != 1729989000 || ring.offset != 7200) return 90;
+    if (sefunjaro_ring(&zone, &skipped, &ring) != SEFUNJARO_NONE || ring.second != 1729989000) return 91;
+    if (sefunjaro_ring(&zone, &none, &ring) != SEFUNJARO_OUT_OF_RANGE || ring.second != 1729989000) return 92;
+    const char *zoned = "1969-12-31 18:59:59.999999999 -05:00:00";
+    if (sefunjaro_read_zoned((const uint8_t *)zoned, 38, &instant) != SEFUNJARO_NOT_READ || instant.second != 77) return 93;
+    if (sefunjaro_read_zoned((const uint8_t *)"\xff", 1, &instant) != SEFUNJARO_NOT_READ) return 94;
+    if (sefunjaro_read_zoned((const uint8_t *)zoned, 39, &instant) || instant.second != -1 || instant.nanosecond != 999999999 || instant.offset != -18000) return 95;
+    sefunjaro_version(text, 3, &whole, &years);
+    if (whole != strlen(SEFUNJARO_VERSION) || memcmp(text, "1.1.....", 8) || years.first != 1800 || years.last != 2099) return 96;
+    sefunjaro_version(text, 8, &whole, &years);
+    if (memcmp(text, SEFUNJARO_VERSION, whole)) return 97;
+    return 0;
+}
+
 int main(void) {
     int failed = closed_handles();
     if (!failed) failed = sources();
     if (!failed) failed = zones();
     if (!failed) failed = looks();
+    if (!failed) failed = changes();
+    if (!failed) failed = rings_and_texts();
     sefunjaro_close(&zone);
     sefunjaro_close(&zone);
     return failed;

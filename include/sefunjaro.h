@@ -40,6 +40,9 @@ struct sefunjaro_handle {
 
 #define SEFUNJARO_CLOSED { 0, false }
 
+/* The version of the calls that are declared here. A later one of the same first number has all of these, with the same meaning. */
+#define SEFUNJARO_VERSION "1.1.0"
+
 enum sefunjaro_status {
     SEFUNJARO_DONE = 0,
     SEFUNJARO_NOT_OPEN = 1,      /* the handle holds nothing, or nothing of the kind that is asked */
@@ -125,6 +128,29 @@ struct sefunjaro_gap {
     int32_t after;  /* the offset in force from it on */
 };
 
+/* The years in which the rules of a source fire; before the first and after the last nothing changes in a zone. */
+struct sefunjaro_years {
+    int32_t first;
+    int32_t last;
+};
+
+/* A change: what is in force from a second on. */
+struct sefunjaro_change {
+    int64_t second;
+    int32_t offset;
+    int64_t saving; /* how many seconds of the offset are the saving; below 0 where winter time is the one with a saving */
+};
+
+/* An instant, and an offset. */
+struct sefunjaro_instant {
+    int64_t second;      /* rounded down */
+    uint32_t nanosecond; /* from that second on: 0 to 999,999,999 */
+    int32_t offset;
+};
+
+/* The version of the calls that the library has, as SEFUNJARO_VERSION, and its whole length; and the years of the rules. */
+void sefunjaro_version(uint8_t *text, size_t room, size_t *whole, struct sefunjaro_years *years);
+
 /* Opens a source from its text, in the plain form of the tz database. What the handle held before is closed first. The text is used
    no more after the call.
    TOO_LONG, NOT_TEXT, BAD_LINE, BAD_JOIN (of the first line that is refused), NO_MEMORY. */
@@ -171,9 +197,29 @@ uint32_t sefunjaro_text_at(struct sefunjaro_handle *zone, int64_t second, uint32
 uint32_t sefunjaro_readings(struct sefunjaro_handle *zone, const struct sefunjaro_clock *local, struct sefunjaro_reading *readings,
                             size_t room, size_t *count, struct sefunjaro_gap *gap);
 
+/* How many seconds of the offset at an instant are the saving: above 0 in daylight saving time, and below 0 where winter time is the
+   one with a saving. NOT_OPEN, OUT_OF_RANGE. */
+uint32_t sefunjaro_saving_at(struct sefunjaro_handle *zone, int64_t second, uint32_t nanosecond, int64_t *saving);
+
+/* The first change after a second. NOT_OPEN, NONE. */
+uint32_t sefunjaro_next_change(struct sefunjaro_handle *zone, int64_t second, struct sefunjaro_change *change);
+
+/* The changes from the second `from` on and before `to`, by time, and how many there are: none where `from` is not below `to`.
+   NOT_OPEN. */
+uint32_t sefunjaro_changes(struct sefunjaro_handle *zone, int64_t from, int64_t to, struct sefunjaro_change *changes, size_t room,
+                           size_t *count);
+
+/* When a daily alarm rings on the day and at the time of day of a local time: at the first instant at which clocks show it, at its
+   nanosecond. NONE where clocks skip it. NOT_OPEN, OUT_OF_RANGE (also where the parts are no date or no time). */
+uint32_t sefunjaro_ring(struct sefunjaro_handle *zone, const struct sefunjaro_clock *local, struct sefunjaro_reading *ring);
+
 /* The local time that a text `YYYY-MM-DD hh:mm:ss.nnnnnnnnn` names. Each local time has one such text, and nothing stands before or
    after it. NOT_READ. */
 uint32_t sefunjaro_read_local(const uint8_t *text, size_t length, struct sefunjaro_clock *clock);
+
+/* The instant and the offset that a text `YYYY-MM-DD hh:mm:ss.nnnnnnnnn +hh:mm:ss` names, as sefunjaro_text_at writes it. Each pair of
+   an instant and an offset has one such text, and nothing stands before or after it. NOT_READ. */
+uint32_t sefunjaro_read_zoned(const uint8_t *text, size_t length, struct sefunjaro_instant *instant);
 
 #ifdef __cplusplus
 }

@@ -27,9 +27,9 @@ import threading
 from typing import Iterator, List, NamedTuple, Optional, Tuple, Union
 
 __all__ = [
-    "BadLine", "BadJoin", "Clock", "Error", "Gap", "InForce", "Instant", "JoinCause", "LineCause", "NoSchedule", "NotOpen", "NotRead",
-    "OffsetRange", "OffsetTooLarge", "OutOfRange", "ScheduleCause", "Source", "SourceError", "Status", "UnknownZone", "Zone", "ZoneError",
-    "read_local",
+    "BadLine", "BadJoin", "Change", "Clock", "Error", "FIRST_YEAR", "Gap", "InForce", "Instant", "JoinCause", "LAST_YEAR", "LineCause",
+    "NoSchedule", "NotOpen", "NotRead", "OffsetRange", "OffsetTooLarge", "OutOfRange", "ScheduleCause", "Source", "SourceError", "Status",
+    "UnknownZone", "VERSION", "Zone", "ZoneError", "read_local", "read_zoned",
 ]
 
 
@@ -158,7 +158,7 @@ class NotRead(Error, ValueError):
 
 
 class OffsetTooLarge(Error, ValueError):
-    """An offset of 24 hours or more, which the zone has and `datetime` can't hold."""
+    """An offset or a saving of 24 hours or more, which the zone has and `datetime` can't hold."""
 
 
 class Clock(NamedTuple):
@@ -179,7 +179,7 @@ class Clock(NamedTuple):
 
 
 class Instant(NamedTuple):
-    """An instant at which clocks show a local time, and the offset in force then."""
+    """An instant, and an offset: of an instant at which clocks show a local time, the one in force then."""
 
     second: int
     nanosecond: int
@@ -197,6 +197,19 @@ class Gap(NamedTuple):
     second: int
     before: int
     after: int
+
+
+class Change(NamedTuple):
+    """What is in force in a zone from a second on: the offset, and how many seconds of it are the saving."""
+
+    second: int
+    offset: int
+    saving: int
+
+    @property
+    def utc(self) -> datetime.datetime:
+        """The second as a datetime in UTC. OverflowError outside the years 1 to 9999."""
+        return _EPOCH + datetime.timedelta(seconds=self.second)
 
 
 class InForce(NamedTuple):
@@ -239,6 +252,18 @@ class _RawGap(ctypes.Structure):
     _fields_ = [("second", ctypes.c_int64), ("before", ctypes.c_int32), ("after", ctypes.c_int32)]
 
 
+class _RawYears(ctypes.Structure):
+    _fields_ = [("first", ctypes.c_int32), ("last", ctypes.c_int32)]
+
+
+class _RawChange(ctypes.Structure):
+    _fields_ = [("second", ctypes.c_int64), ("offset", ctypes.c_int32), ("saving", ctypes.c_int64)]
+
+
+class _RawInstant(ctypes.Structure):
+    _fields_ = [("second", ctypes.c_int64), ("nanosecond", ctypes.c_uint32), ("offset", ctypes.c_int32)]
+
+
 _TwoReadings = _RawReading * 2
 # Each abbreviation of the tz database fits; a longer one is asked for again.
 _NAME_ROOM = 16
@@ -279,6 +304,22 @@ _clock_at = _function("sefunjaro_clock_at", _at, *_instant, _at, _at)
 _text_at = _function("sefunjaro_text_at", _at, *_instant, _at, _size, _at)
 _readings = _function("sefunjaro_readings", _at, _at, _at, _size, _at, _at)
 _read_local = _function("sefunjaro_read_local", ctypes.c_char_p, _length, _at)
+_read_zoned = _function("sefunjaro_read_zoned", ctypes.c_char_p, _length, _at)
+_saving_at = _function("sefunjaro_saving_at", _at, *_instant, _at)
+_next_change = _function("sefunjaro_next_change", _at, ctypes.c_int64, _at)
+_changes = _function("sefunjaro_changes", _at, ctypes.c_int64, ctypes.c_int64, _at, _size, _at)
+_ring = _function("sefunjaro_ring", _at, _at, _at)
+_version = _function("sefunjaro_version", _at, _size, _at, _at, answer=None)
+
+
+def _version_of_library() -> Tuple[str, int, int]:
+    text, whole, years = ctypes.create_string_buffer(32), ctypes.c_size_t(), _RawYears()
+    _version(text, len(text), ctypes.byref(whole), ctypes.byref(years))
+    return text.raw[: whole.value].decode(), years.first, years.last
+
+
+VERSION, FIRST_YEAR, LAST_YEAR = _version_of_library()
+"""The version of the library's calls, and the first and the last year in which the rules of a source fire."""
 
 
 def _raise(status: int, of: str, fault: Optional[_RawFault] = None) -> None:
@@ -302,7 +343,7 @@ def _raise(status: int, of: str, fault: Optional[_RawFault] = None) -> None:
     if status == Status.OUT_OF_RANGE:
         raise OutOfRange(f"{of}: out of range")
     if status == Status.NOT_READ:
-        raise NotRead(f"{of}: not a text of a local time")
+        raise NotRead(f"{of}: not a text that is read")
     kind = SourceError if of == "source" else ZoneError
     where = f"{of}, line {line}" if line else of
     raise kind(f"{where}: {Status(status).name}", status=Status(status), line=line)
@@ -338,7 +379,7 @@ def _clock(raw: _RawClock) -> Clock:
 @functools.lru_cache(maxsize=1024)
 def _delta(offset: int) -> datetime.timedelta:
     if abs(offset) >= 86400:
-        raise OffsetTooLarge(f"an offset of {offset} seconds is 24 hours or more, which datetime can't hold")
+        raise OffsetTooLarge(f"{offset} seconds are 24 hours or more, which datetime can't hold")
     return datetime.timedelta(seconds=offset)
 
 
@@ -532,6 +573,63 @@ class Zone(datetime.tzinfo, _Opened):
             _raise(status, repr(self._name))
         return text.raw[: whole.value].decode()
 
+    def saving_at(self, second: int, nanosecond: int = 0) -> int:
+        """How many seconds of the offset at an instant are the saving: above 0 in daylight saving time, and below 0 where winter time
+        is the one with a saving. Raises OutOfRange as `offset_at`."""
+        saving = ctypes.c_int64()
+        handle, second, nanosecond = self._handle, _second(second), _nanosecond(nanosecond)
+        with handle.lock:
+            status = _saving_at(handle.at, second, nanosecond, ctypes.byref(saving))
+        if status:
+            _raise(status, repr(self._name))
+        return saving.value
+
+    def next_change(self, second: int) -> Optional[Change]:
+        """The first change after a second, or None where there is none. Raises OutOfRange where 64 bits don't hold the second."""
+        change = _RawChange()
+        handle, second = self._handle, _second(second)
+        with handle.lock:
+            status = _next_change(handle.at, second, ctypes.byref(change))
+        if status == Status.NONE:
+            return None
+        if status:
+            _raise(status, repr(self._name))
+        return Change(change.second, change.offset, change.saving)
+
+    def changes(self, begin: int, end: int) -> List[Change]:
+        """The changes from the second `begin` on and before the second `end`, by time. Raises OutOfRange as `next_change`."""
+        room, count = 0, ctypes.c_size_t()
+        found = (_RawChange * room)()
+        handle, begin, end = self._handle, _second(begin), _second(end)
+        while True:
+            with handle.lock:
+                status = _changes(handle.at, begin, end, ctypes.byref(found), room, ctypes.byref(count))
+            if status:
+                _raise(status, repr(self._name))
+            if count.value <= room:
+                return [Change(change.second, change.offset, change.saving) for change in found]
+            room = count.value
+            found = (_RawChange * room)()
+
+    def ring(self, local: Union[datetime.datetime, Clock]) -> Optional[Instant]:
+        """When a daily alarm rings on the day and at the time of day of a local time: the first instant at which clocks show it, or
+        None where they skip it. Raises OutOfRange as `instants`."""
+        clock, reading, handle = _raw_clock(local), _RawReading(), self._handle
+        with handle.lock:
+            status = _ring(handle.at, ctypes.byref(clock), ctypes.byref(reading))
+        if status == Status.NONE:
+            return None
+        if status:
+            _raise(status, repr(self._name))
+        return Instant(reading.second, clock.nanosecond, reading.offset)
+
+    def alarms(self, at: datetime.time, first: datetime.date, days: int) -> Iterator[Tuple[datetime.date, Optional[Instant]]]:
+        """Each of so many days with its ring, as `ring`, of an alarm that is set to a time of day. OverflowError where a day lies past
+        the year 9999."""
+        for day in range(days):
+            date = first + datetime.timedelta(days=day)
+            yield date, self.ring(datetime.datetime.combine(date, at.replace(tzinfo=None)))
+
     def instants(self, local: Union[datetime.datetime, Clock]) -> List[Instant]:
         """All instants at which clocks show a local time, by time. A datetime's own zone and fold are left aside. Raises OutOfRange
         where the parts are no date or no time, or the year is outside -9999 to 9999."""
@@ -580,8 +678,11 @@ class Zone(datetime.tzinfo, _Opened):
         return self.in_force(second, nanosecond).name
 
     def dst(self, dt: Optional[datetime.datetime]) -> Optional[datetime.timedelta]:
-        """None, as where the saving is not known: the library tells whether it is above 0 (`in_force`), and not its size."""
-        return None
+        """The saving of a local time: how much of the offset it is. Raises OffsetTooLarge."""
+        if dt is None:
+            return None
+        _, second, nanosecond = self._chosen(dt)
+        return _delta(self.saving_at(second, nanosecond))
 
     def fromutc(self, dt: datetime.datetime) -> datetime.datetime:
         """The local time of a UTC time to which this zone is attached, with its fold. Raises OffsetTooLarge, and OverflowError where
@@ -610,3 +711,14 @@ def read_local(text: str) -> Clock:
     if status:
         _raise(status, repr(text))
     return _clock(clock)
+
+
+def read_zoned(text: str) -> Instant:
+    """The instant and the offset that a text `YYYY-MM-DD hh:mm:ss.nnnnnnnnn +hh:mm:ss` names, as `Zone.text_at` writes it. Raises
+    NotRead."""
+    told = text.encode()
+    instant = _RawInstant()
+    status = _read_zoned(told, len(told), ctypes.byref(instant))
+    if status:
+        _raise(status, repr(text))
+    return Instant(instant.second, instant.nanosecond, instant.offset)

@@ -4,10 +4,10 @@ import pickle
 import resource
 import threading
 import unittest
-from datetime import datetime, time, timedelta, timezone
+from datetime import date, datetime, time, timedelta, timezone
 
 import sefunjaro
-from sefunjaro import Clock, Gap, Instant, Source, Status
+from sefunjaro import Change, Clock, Gap, Instant, Source, Status
 
 SOURCE = """\
 Rule Mid 1900 only - Jan 1 0:00 0 -
@@ -77,8 +77,46 @@ class Zones(unittest.TestCase):
             with self.assertRaises(sefunjaro.NotRead):
                 sefunjaro.read_local(text)
 
+    def test_read_zoned(self):
+        self.assertEqual(sefunjaro.read_zoned("1969-12-31 18:59:59.999999999 -05:00:00"), Instant(-1, 999_999_999, -18000))
+        text = self.zone.text_at(SPRING, 5)
+        self.assertEqual(sefunjaro.read_zoned(text), (SPRING, 5, 7200))
+        for text in ("", text[:-1], text + " ", "2024-02-30 03:00:00.000000005 +02:00:00"):
+            with self.assertRaises(sefunjaro.NotRead):
+                sefunjaro.read_zoned(text)
+
+    def test_changes(self):
+        zone = self.zone
+        self.assertEqual((zone.saving_at(SPRING - 1, 999_999_999), zone.saving_at(SPRING)), (0, 3600))
+        spring, autumn = Change(SPRING, 7200, 3600), Change(AUTUMN, 3600, 0)
+        self.assertEqual((zone.next_change(SPRING - 1), zone.next_change(SPRING)), (spring, autumn))
+        self.assertIsNone(zone.next_change(2**63 - 1))
+        self.assertEqual(zone.changes(SPRING, AUTUMN), [spring])
+        self.assertEqual(zone.changes(SPRING, AUTUMN + 1), [spring, autumn])
+        self.assertEqual(zone.changes(AUTUMN, SPRING), [])
+        every = zone.changes(-(2**63), 2**63 - 1)
+        self.assertEqual([change.second for change in every], sorted({change.second for change in every}))
+        self.assertEqual(spring.utc, datetime(2024, 3, 31, 1, tzinfo=timezone.utc))
+        winter = Source("Zone Here/Negative 1:00 -1:00 GMT\n").zone("Here/Negative")
+        self.assertEqual(datetime(2024, 1, 1, tzinfo=winter).dst(), -hours(1))
+        self.assertEqual(datetime(2024, 1, 1, tzinfo=winter).utcoffset(), hours(0))
+
+    def test_rings(self):
+        zone = self.zone
+        self.assertEqual(zone.ring(TWICE), (AUTUMN - 1800, 0, 7200))
+        self.assertIsNone(zone.ring(SKIPPED))
+        self.assertEqual(zone.ring(Clock(2024, 7, 1, 12, 0, 0, 7)), (1719828000, 7, 7200))
+        with self.assertRaises(sefunjaro.OutOfRange):
+            zone.ring(Clock(2024, 2, 30))
+        rings = list(zone.alarms(time(2, 30), date(2024, 3, 30), 3))
+        self.assertEqual([day for day, _ in rings], [date(2024, 3, 30), date(2024, 3, 31), date(2024, 4, 1)])
+        self.assertEqual([ring and ring.second for _, ring in rings], [SPRING - 84600, None, SPRING + 84600])
+
+    def test_version(self):
+        self.assertEqual((sefunjaro.VERSION, sefunjaro.FIRST_YEAR, sefunjaro.LAST_YEAR), ("1.1.0", 1800, 2099))
+
     def test_fold_and_gap(self):
-        # local time, fold, offset in hours, name
+        # local time, fold, offset in hours, name; the standard offset is 1 hour throughout
         rows = [
             (datetime(2024, 3, 31, 1, 59, 59, 999999), 1, 1, "CET"),
             (datetime(2024, 3, 31, 2), 0, 1, "CET"),
@@ -93,7 +131,7 @@ class Zones(unittest.TestCase):
         ]
         for local, fold, offset, name in rows:
             moment = local.replace(tzinfo=self.zone, fold=fold)
-            self.assertEqual((moment.utcoffset(), moment.tzname(), moment.dst()), (hours(offset), name, None), moment)
+            self.assertEqual((moment.utcoffset(), moment.tzname(), moment.dst()), (hours(offset), name, hours(offset - 1)), moment)
 
     def test_datetime(self):
         first, second = (TWICE.replace(tzinfo=self.zone, fold=fold) for fold in (0, 1))
@@ -118,6 +156,7 @@ class Zones(unittest.TestCase):
     def test_day_or_more(self):
         far = self.source.zone("Here/Far")
         self.assertEqual(far.text_at(0), "1970-01-02 01:00:00.000000000 +25:00:00")
+        self.assertEqual(far.changes(0, 10**10), [])
         for ask in (far.utcoffset, lambda moment: moment.replace(tzinfo=timezone.utc).astimezone(far)):
             with self.assertRaises(sefunjaro.OffsetTooLarge):
                 ask(datetime(2024, 1, 1))
@@ -126,7 +165,7 @@ class Zones(unittest.TestCase):
     def test_numbers(self):
         # None of these may be cut to a number that the library takes.
         for second, nanosecond in ((2**63, 0), (-(2**63) - 1, 0), (2**64, 0), (0, -1), (0, 10**9), (0, 2**32), (10**12, 0)):
-            for ask in (self.zone.offset_at, self.zone.in_force, self.zone.clock_at, self.zone.text_at):
+            for ask in (self.zone.offset_at, self.zone.in_force, self.zone.clock_at, self.zone.text_at, self.zone.saving_at):
                 with self.assertRaises(sefunjaro.OutOfRange):
                     ask(second, nanosecond)
         day = Clock(2024, 1, 1)
@@ -135,6 +174,9 @@ class Zones(unittest.TestCase):
         for parts in wrong:
             with self.assertRaises(sefunjaro.OutOfRange):
                 self.zone.instants(day._replace(**parts))
+        for ask in (self.zone.next_change, lambda second: self.zone.changes(0, second), lambda second: self.zone.changes(second, 0)):
+            with self.assertRaises(sefunjaro.OutOfRange):
+                ask(2**63)
         with self.assertRaises(TypeError):
             self.zone.offset_at(0.5)
 
@@ -196,7 +238,8 @@ class Lifetimes(unittest.TestCase):
         with zone:
             self.assertEqual(moment.utcoffset(), hours(2))
         for ask in (moment.utcoffset, moment.tzname, zone.share, lambda: zone.offset_at(0), lambda: zone.in_force(0),
-                    lambda: zone.clock_at(0), lambda: zone.text_at(0), lambda: zone.instants(TWICE), lambda: zone.gap(TWICE)):
+                    lambda: zone.clock_at(0), lambda: zone.text_at(0), lambda: zone.instants(TWICE), lambda: zone.gap(TWICE), moment.dst,
+                    lambda: zone.next_change(0), lambda: zone.changes(0, 1), lambda: zone.ring(TWICE)):
             with self.assertRaises(sefunjaro.NotOpen):
                 ask()
         self.assertEqual(other.offset_at(SPRING), 7200)

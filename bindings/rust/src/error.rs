@@ -144,7 +144,7 @@ impl fmt::Display for Error {
             Error::NoSchedule { cause } => write!(out, "no schedule: {cause:?}"),
             Error::OffsetRange => write!(out, "an offset of 26 hours or more"),
             Error::OutOfRange => write!(out, "out of range"),
-            Error::NotRead => write!(out, "not a text of a local time"),
+            Error::NotRead => write!(out, "not a text that is read"),
             Error::Unexpected { status, cause } => write!(out, "the library answered status {status} with cause {cause}"),
         }
     }

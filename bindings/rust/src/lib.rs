@@ -23,17 +23,20 @@
 //! [`Zone::share`] gives a thread a value of its own on the same zone. Look-ups take no memory, but for a local time with more than
 //! two instants, which no zone of the tz database has.
 
+mod changes;
 mod error;
 mod raw;
 mod source;
 mod zone;
 
+pub use changes::{Change, Changes};
 pub use error::{Error, JoinCause, LineCause, ScheduleCause};
 pub use source::{Names, Source};
 pub use zone::{InForce, Instant, Instants, LocalTime, Zone};
 
 use raw::{RawHandle, DONE};
 use std::cell::UnsafeCell;
+use std::ops::RangeInclusive;
 use std::str::FromStr;
 
 /// A local date and a time of day. Any numbers may stand in it; a call answers [`Error::OutOfRange`] where they are no date or no time.
@@ -83,6 +86,55 @@ pub struct Gap {
     pub before: i32,
     /// The offset in force from it on.
     pub after: i32,
+}
+
+/// The instant and the offset that a text `YYYY-MM-DD hh:mm:ss.nnnnnnnnn +hh:mm:ss` names, as [`Zone::text_at`] writes it.
+///
+/// # Errors
+///
+/// [`Error::NotRead`] for any other text.
+///
+/// ```
+/// let read: sefunjaro::Instant = "1969-12-31 18:59:59.000000005 -05:00:00".parse()?;
+/// assert_eq!((read.second, read.nanosecond, read.offset), (-1, 5, -18000));
+/// assert_eq!("1969-12-31".parse::<sefunjaro::Instant>(), Err(sefunjaro::Error::NotRead));
+/// # Ok::<(), sefunjaro::Error>(())
+/// ```
+impl FromStr for Instant {
+    type Err = Error;
+
+    fn from_str(text: &str) -> Result<Instant, Error> {
+        let mut read = raw::RawInstant::default();
+        // SAFETY: the text is never null, and nothing overlaps.
+        done(unsafe { raw::sefunjaro_read_zoned(text.as_ptr(), text.len(), &mut read) })?;
+        Ok(Instant { second: read.second, nanosecond: read.nanosecond, offset: read.offset })
+    }
+}
+
+/// The version of the library's calls, as `SEFUNJARO_VERSION` of its header.
+///
+/// ```
+/// assert_eq!(sefunjaro::version(), "1.1.0");
+/// ```
+pub fn version() -> String {
+    let mut text = vec![0; 32];
+    let (mut whole, mut years) = (0, raw::RawYears::default());
+    // SAFETY: the room is as long as is said, and nothing overlaps.
+    unsafe { raw::sefunjaro_version(text.as_mut_ptr(), text.len(), &mut whole, &mut years) };
+    text.truncate(whole);
+    String::from_utf8_lossy(&text).into_owned()
+}
+
+/// The years in which the rules of a source fire. Before the first and after the last nothing changes in a zone.
+///
+/// ```
+/// assert_eq!(sefunjaro::rule_years(), 1800..=2099);
+/// ```
+pub fn rule_years() -> RangeInclusive<i32> {
+    let (mut none, mut whole, mut years) = ([0; 1], 0, raw::RawYears::default());
+    // SAFETY: the room is as long as is said, and nothing overlaps.
+    unsafe { raw::sefunjaro_version(none.as_mut_ptr(), 0, &mut whole, &mut years) };
+    years.first..=years.last
 }
 
 fn done(status: u32) -> Result<(), Error> {

@@ -36,6 +36,21 @@ pub struct RawReading {
     pub offset: i32,
 }
 
+#[repr(C)]
+#[derive(Default)]
+pub struct RawInstant {
+    pub second: i64,
+    pub nanosecond: u32,
+    pub offset: i32,
+}
+
+#[repr(C)]
+#[derive(Default)]
+pub struct RawYears {
+    pub first: i32,
+    pub last: i32,
+}
+
 pub const DONE: u32 = 0;
 pub const NOT_OPEN: u32 = 1;
 pub const NO_MEMORY: u32 = 2;
@@ -96,4 +111,17 @@ extern "C" {
         gap: *mut crate::Gap,
     ) -> u32;
     pub fn sefunjaro_read_local(text: *const u8, length: usize, clock: *mut crate::Clock) -> u32;
+    pub fn sefunjaro_read_zoned(text: *const u8, length: usize, instant: *mut RawInstant) -> u32;
+    pub fn sefunjaro_saving_at(zone: *mut RawHandle, second: i64, nanosecond: u32, saving: *mut i64) -> u32;
+    pub fn sefunjaro_next_change(zone: *mut RawHandle, second: i64, change: *mut crate::Change) -> u32;
+    pub fn sefunjaro_changes(
+        zone: *mut RawHandle,
+        from: i64,
+        to: i64,
+        changes: *mut crate::Change,
+        room: usize,
+        count: *mut usize,
+    ) -> u32;
+    pub fn sefunjaro_ring(zone: *mut RawHandle, local: *const crate::Clock, ring: *mut RawReading) -> u32;
+    pub fn sefunjaro_version(text: *mut u8, room: usize, whole: *mut usize, years: *mut RawYears);
 }

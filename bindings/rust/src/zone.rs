@@ -37,7 +37,7 @@ pub struct InForce {
     pub name: String,
 }
 
-/// An instant at which clocks show a local time, and the offset in force then.
+/// An instant, and an offset: of an instant at which clocks show a local time, the one in force then.
 #[derive(Clone, Copy, Debug, PartialEq, Eq, Hash)]
 pub struct Instant {
     pub second: i64,
@@ -55,6 +55,10 @@ pub enum LocalTime {
 impl Zone {
     pub(crate) fn of(handle: Handle) -> Zone {
         Zone { handle }
+    }
+
+    pub(crate) fn handle(&self) -> &Handle {
+        &self.handle
     }
 
     /// Another value on the same zone, for another thread. The zone itself is there once.

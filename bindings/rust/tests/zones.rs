@@ -1,6 +1,6 @@
 //! Each call, each error, threads and memory, over a small source.
 
-use sefunjaro::{Clock, Error, Gap, JoinCause, LineCause, LocalTime, ScheduleCause, Source, Zone};
+use sefunjaro::{Change, Clock, Error, Gap, Instant, JoinCause, LineCause, LocalTime, ScheduleCause, Source, Zone};
 use std::{fs, thread};
 
 const SOURCE: &str = "\
@@ -73,6 +73,30 @@ fn local_times() {
 }
 
 #[test]
+fn changes() {
+    let zone = zone("Here/Middle");
+    assert_eq!((zone.saving_at(SPRING - 1, 999_999_999), zone.saving_at(SPRING, 0)), (Ok(0), Ok(3600)));
+    let spring = Change { second: SPRING, offset: 7200, saving: 3600 };
+    let autumn = Change { second: AUTUMN, offset: 3600, saving: 0 };
+    assert_eq!((zone.next_change(SPRING - 1), zone.next_change(SPRING)), (Some(spring), Some(autumn)));
+    assert_eq!(zone.next_change(i64::MAX), None);
+    assert_eq!(zone.changes(SPRING, AUTUMN).collect::<Vec<_>>(), [spring]);
+    assert_eq!(zone.changes(SPRING, AUTUMN + 1).collect::<Vec<_>>(), [spring, autumn]);
+    assert_eq!(zone.changes(AUTUMN, SPRING).next(), None);
+    let seconds: Vec<_> = zone.changes(i64::MIN, i64::MAX).map(|change| change.second).collect();
+    assert!(seconds.len() > 200 && seconds.windows(2).all(|two| two[0] < two[1]));
+}
+
+#[test]
+fn rings() {
+    let zone = zone("Here/Middle");
+    let ring = zone.ring(&local("2024-10-27 02:30:00.000000007")).unwrap().unwrap();
+    assert_eq!((ring.second, ring.nanosecond, ring.offset), (AUTUMN - 1800, 7, 7200));
+    assert_eq!(zone.ring(&local("2024-03-31 02:30:00.000000000")), Ok(None));
+    assert_eq!(zone.ring(&Clock { month: 13, ..local("2024-03-31 02:30:00.000000000") }), Err(Error::OutOfRange));
+}
+
+#[test]
 fn out_of_range() {
     let zone = zone("Here/Middle");
     for (second, nanosecond) in [(i64::MAX, 0), (i64::MIN, 0), (0, 1_000_000_000), (0, u32::MAX)] {
@@ -80,6 +104,7 @@ fn out_of_range() {
         assert_eq!(zone.in_force(second, nanosecond), Err(Error::OutOfRange));
         assert_eq!(zone.clock_at(second, nanosecond), Err(Error::OutOfRange));
         assert_eq!(zone.text_at(second, nanosecond), Err(Error::OutOfRange));
+        assert_eq!(zone.saving_at(second, nanosecond), Err(Error::OutOfRange));
     }
     let day = local("2024-02-29 00:00:00.000000000");
     for wrong in [Clock { year: 2023, ..day }, Clock { month: 13, ..day }, Clock { hour: 24, ..day }, Clock { year: 10000, ..day }] {
@@ -87,6 +112,7 @@ fn out_of_range() {
     }
     for text in ["", "2024-02-29 00:00:00", "2023-02-29 00:00:00.000000000"] {
         assert_eq!(text.parse::<Clock>(), Err(Error::NotRead));
+        assert_eq!(text.parse::<Instant>(), Err(Error::NotRead));
     }
 }
 

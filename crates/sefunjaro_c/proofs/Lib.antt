@@ -1,3 +1,4 @@
 mod FaultLemmas
 mod ShownLemmas
+mod TextLemmas
 pub mod WorkedStatuses

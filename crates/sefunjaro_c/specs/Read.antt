@@ -1,11 +1,16 @@
 -- What texts are read as.
-use Rattle.std.specs.Prelude.{◌≡◌, ℕ, ℤ, List, Option, Some, None, if◌then◌else◌}
+use Rattle.std.specs.Prelude.{◌≡◌, ◌≢◌, ◌<◌, ◌⊎◌, ℕ, ℤ, List, Option, Some, None, if◌then◌else◌}
 use Rattle.std.specs.Str.{is_utf8}
-use Rattle.civil_base.specs.Layout.{day_part, time_part}
+use Rattle.civil_base.specs.Instants.{local_at}
+use Rattle.civil_base.specs.Layout.{day_part, time_part, zoned_text}
 use Rattle.civil_base.specs.LocalTimes.{local_time_in}
+use Rattle.civil_base.specs.Ranges.{IsInYears, IsOffset}
+use Rattle.civil_base.specs.ReadAs.{IsReadAs}
 use Rattle.sefunjaro_handles.specs.Statuses.{done, not_read}
 use Rattle.zone_open.specs.Clocks.{clock_at}
 use Rattle.zone_open.specs.declared.clock.Clock.{Clock}
+use Rattle.sefunjaro_c.specs.Times.{nanos_at}
+use Rattle.sefunjaro_c.specs.declared.times.Instant.{Instant}
 
 -- the local time that a text names, if it is UTF-8
 unfoldable pub local_in : List ℕ → Option ℤ
@@ -15,3 +20,17 @@ local_in text = if is_utf8 text then local_time_in text else None
 abbrev pub IsLocalRead : Option ℤ → ℕ → Clock → Clock → Type 0
 IsLocalRead (Some x) status old new = (status ≡ done) × (new ≡ clock_at (day_part x) (time_part x))
 IsLocalRead None status old new = (status ≡ not_read) × (new ≡ old)
+
+-- the text names this instant and this offset, and nothing else
+pub record IsInstantOf (text : List ℕ) (read : Instant) : Type 0 where
+  pub named : IsReadAs text (nanos_at read.second read.nanosecond) read.offset
+  pub part : read.nanosecond < 1000000000
+
+-- no instant of the years -9999 to 9999 has that text at any offset
+abbrev pub IsNoZonedText : List ℕ → Type 0
+IsNoZonedText text = (t o : ℤ) → IsInYears (local_at t o) → IsOffset o → zoned_text t o ≢ text
+
+-- the instant and the offset that a text names are told, or it names none
+abbrev pub IsZonedRead : List ℕ → ℕ → Instant → Instant → Type 0
+IsZonedRead text status old new =
+    ((status ≡ done) × IsInstantOf text new) ⊎ ((status ≡ not_read) × (IsNoZonedText text × (new ≡ old)))

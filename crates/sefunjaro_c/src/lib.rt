@@ -3,6 +3,7 @@
 //! Each export hands on a call of the libraries below and states its clauses again.
 #![tactic(auto)]
 
+mod changes;
 #[cfg(test)]
 mod checks;
 mod fault;
@@ -11,4 +12,5 @@ mod status;
 #[cfg(test)]
 mod tests;
 mod times;
+mod version;
 mod zones;

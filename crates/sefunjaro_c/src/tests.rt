@@ -1,14 +1,18 @@
 //! Each export once where it has an answer. The values are those of the tz database for New York, as Python's `zoneinfo` gives
 //! them.
 
+use crate::changes::{
+    sefunjaro_changes, sefunjaro_next_change, sefunjaro_ring, sefunjaro_saving_at,
+};
 use crate::checks::same;
 use crate::fault::{Fault, plain_fault};
 use crate::sources::{
     sefunjaro_close, sefunjaro_name, sefunjaro_name_count, sefunjaro_source_open,
     sefunjaro_zone_open,
 };
-use crate::status::{BAD_LINE, DONE, NOT_OPEN};
-use crate::times::sefunjaro_read_local;
+use crate::status::{BAD_LINE, DONE, NONE_THERE, NOT_OPEN};
+use crate::times::{Instant, sefunjaro_read_local, sefunjaro_read_zoned};
+use crate::version::{Years, sefunjaro_version};
 use crate::zones::{
     sefunjaro_clock_at, sefunjaro_in_force, sefunjaro_offset_at, sefunjaro_readings,
     sefunjaro_share, sefunjaro_text_at,
@@ -16,7 +20,7 @@ use crate::zones::{
 use sefunjaro_handles::Handle;
 use std::alloc::Global;
 use std::process::Abort;
-use zone_open::{Clock, Gap, InForce, Reading};
+use zone_open::{Change, Clock, Gap, InForce, Reading};
 
 const NEW_YORK: &[u8] =
     b"Rule US 2007 max - Mar Sun>=8 2:00 1:00 D\nRule US 2007 max - Nov Sun>=1 2:00 0 S\nZone America/New_York -5:00 US E%sT\nLink America/New_York US/Eastern\n";
@@ -254,4 +258,133 @@ fn a_zone_is_asked_at_a_local_time(rt: HostRuntime) {
         },
     );
     drop(zone.value(alloc));
+}
+
+#[test]
+fn a_zone_tells_its_changes(rt: HostRuntime) {
+    let alloc = rt.alloc();
+    let mut zone = zone_of(&rt, alloc, b"America/New_York");
+    let mut saving = 0;
+    same(
+        &rt,
+        &sefunjaro_saving_at(alloc, &mut zone, 1_720_000_000, 0, &mut saving),
+        &DONE,
+    );
+    same(&rt, &saving, &3600);
+    let spring = Change {
+        second: 1_710_054_000,
+        offset: -14_400,
+        saving: 3600,
+    };
+    let autumn = Change {
+        second: 1_730_613_600,
+        offset: -18_000,
+        saving: 0,
+    };
+    let none = Change {
+        second: 0,
+        offset: 0,
+        saving: 0,
+    };
+    let mut next = none;
+    same(
+        &rt,
+        &sefunjaro_next_change(alloc, &mut zone, 1_710_053_999, &mut next),
+        &DONE,
+    );
+    same(&rt, &next, &spring);
+    same(
+        &rt,
+        &sefunjaro_next_change(alloc, &mut zone, 4_102_444_800, &mut next),
+        &NONE_THERE,
+    );
+    let mut changes = [none, none, none];
+    let mut count = 0;
+    same(
+        &rt,
+        &sefunjaro_changes(
+            alloc,
+            &mut zone,
+            1_704_067_200,
+            1_735_689_600,
+            &mut changes,
+            &mut count,
+        ),
+        &DONE,
+    );
+    same(&rt, &(count, &changes), &(2, &[spring, autumn, none]));
+    drop(zone.value(alloc));
+}
+
+#[test]
+fn an_alarm_rings_at_the_first_instant(rt: HostRuntime) {
+    let alloc = rt.alloc();
+    let mut zone = zone_of(&rt, alloc, b"America/New_York");
+    let twice = Clock {
+        year: 2024,
+        month: 11,
+        day: 3,
+        hour: 1,
+        minute: 30,
+        second: 0,
+        nanosecond: 0,
+    };
+    let mut ring = Reading {
+        second: 0,
+        offset: 0,
+    };
+    same(
+        &rt,
+        &sefunjaro_ring(alloc, &mut zone, &twice, &mut ring),
+        &DONE,
+    );
+    same(
+        &rt,
+        &ring,
+        &Reading {
+            second: 1_730_611_800,
+            offset: -14_400,
+        },
+    );
+    drop(zone.value(alloc));
+}
+
+#[test]
+fn a_text_of_an_instant_is_read(rt: HostRuntime) {
+    let mut read = Instant {
+        second: 0,
+        nanosecond: 0,
+        offset: 0,
+    };
+    same(
+        &rt,
+        &sefunjaro_read_zoned(b"1969-12-31 18:59:59.999999999 -05:00:00", &mut read),
+        &DONE,
+    );
+    same(
+        &rt,
+        &read,
+        &Instant {
+            second: -1,
+            nanosecond: 999_999_999,
+            offset: -18_000,
+        },
+    );
+}
+
+#[test]
+fn the_version_is_told(rt: HostRuntime) {
+    let mut text = [0; 3];
+    let mut whole = 0;
+    let mut years = Years { first: 0, last: 0 };
+    sefunjaro_version(&mut text, &mut whole, &mut years);
+    same(&rt, &(&text, whole), &(b"1.1", 5));
+    same(
+        &rt,
+        &years,
+        &Years {
+            first: 1800,
+            last: 2099,
+        },
+    );
 }

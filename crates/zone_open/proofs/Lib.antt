@@ -1,3 +1,6 @@
 mod AskLemmas
+mod ChangeLemmas
+pub mod ChangeRows
 mod GapLemmas
+pub mod GapRows
 mod RoomLemmas

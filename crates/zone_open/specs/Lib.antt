@@ -1,4 +1,5 @@
 pub mod Asked
+pub mod Changes
 pub mod Clocks
 pub mod Faults
 pub mod Gaps

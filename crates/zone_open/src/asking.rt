@@ -112,7 +112,7 @@ fn each_reading(
 }
 
 /// A date-time as a reading.
-fn reading_of(date: &OffsetDateTime) -> Reading
+pub(crate) fn reading_of(date: &OffsetDateTime) -> Reading
     ensures { result ≡ reading_of (shown_of date.now) }
 {
     Reading {

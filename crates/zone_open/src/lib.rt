@@ -5,6 +5,7 @@
 #![tactic(auto)]
 
 mod asking;
+mod changes;
 mod clock;
 mod gap;
 mod names;
@@ -13,6 +14,7 @@ mod source;
 mod zone;
 
 pub use asking::{InForce, Reading};
+pub use changes::Change;
 pub use clock::Clock;
 pub use gap::Gap;
 pub use room::fill;

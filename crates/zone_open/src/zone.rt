@@ -1,5 +1,6 @@
 //! A zone that is kept open.
-use crate::asking::{InForce, Reading, first_reading, in_force, offset_at, readings};
+use crate::asking::{InForce, Reading, first_reading, in_force, offset_at, reading_of, readings};
+use crate::changes::{Change, changes, next_change, saving_at};
 use crate::gap::{Gap, find_gap};
 use civil_base::{OffsetDateTime, PlainDateTime};
 use std::alloc::{AllocError, Global};
@@ -22,6 +23,7 @@ impl OpenZone {
     ghost use Rattle.tz_zone.specs.InForce.{all_in_force, in_force as force_at, shown_of};
     ghost use Rattle.tz_zone.specs.Sets.{schedule_of, IsAccepted};
     ghost use Rattle.zone_open.specs.Asked.{reading_of, IsNamed};
+    ghost use Rattle.zone_open.specs.Changes.{next_after, saving_at as saving_of, window};
     ghost use Rattle.zone_open.specs.Gaps.{IsSkippedBy};
     ghost use Rattle.zone_open.specs.Rooms.{filled};
     ghost use Rattle.zone_open.specs.Zones.{given_in, set_in, total_in};
@@ -61,6 +63,29 @@ impl OpenZone {
         in_force(&self.zone(), at, room)
     }
 
+    /// The saving that is in force at a second from 1970-01-01 00:00:00 UTC, in seconds: what the clocks are set ahead of
+    /// standard time by. It is below 0 where winter time is the one with a saving.
+    pub fn saving_at(&self, second: i64) -> i64
+        ensures { result ≡ saving_of (set_in self.now) second }
+    {
+        saving_at(&self.set, second)
+    }
+
+    /// The first change after a second from 1970-01-01 00:00:00 UTC, if there is one.
+    pub fn next_change(&self, second: i64) -> Option<Change>
+        ensures { result ≡ next_after (set_in self.now) second }
+    {
+        next_change(&self.set, second)
+    }
+
+    /// The changes from a second on and before another, by time, as far as they fit in the room, and how many there are.
+    pub fn changes(&self, from: i64, to: i64, room: &mut [Change]) -> usize
+        ensures room { room.new ≡ filled (window (set_in self.now) from to) room.old }
+        ensures count { result ≡ length (window (set_in self.now) from to) }
+    {
+        changes(&self.set, from, to, room)
+    }
+
     /// The instant at the offset in force. There is none exactly where the local date lies outside the years -9999 to 9999.
     pub fn shown_at(&self, at: &OffsetDateTime) -> Option<OffsetDateTime>
         ensures shown { IfSome result (λ value. shown_of value ≡ force_at (total_in self.now) (instant at.now)) }
@@ -90,5 +115,16 @@ impl OpenZone {
         ensures { option_map shown_of result ≡ slice_get (all_in_force (total_in self.now) local.now) 0 }
     {
         first_reading(&self.zone(), local)
+    }
+
+    /// The ring of a daily alarm on the day and at the time of day of a local time: the first of the instants at which clocks
+    /// show it, or none where they skip it.
+    pub fn ring(&self, local: &PlainDateTime) -> Option<Reading>
+        ensures { result ≡ option_map reading_of (slice_get (all_in_force (total_in self.now) local.now) 0) }
+    {
+        match self.first_reading(local) {
+            Some(first) => Some(reading_of(&first)),
+            None => None,
+        }
     }
 }

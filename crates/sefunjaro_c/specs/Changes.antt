@@ -1,0 +1,34 @@
+-- The changes of a zone, and the ring of an alarm.
+use Rattle.std.specs.Prelude.{◌≡◌, ◌⊎◌, ℕ, ℤ, List, Option, Some, None, length, option_map}
+use Rattle.std.specs.List.{slice_get}
+use Rattle.tz_lookup.specs.InForce.{all_in_force}
+use Rattle.zone_open.specs.Asked.{reading_of}
+use Rattle.zone_open.specs.Changes.{window}
+use Rattle.zone_open.specs.Clocks.{shown_by, IsClock}
+use Rattle.zone_open.specs.Rooms.{filled}
+use Rattle.zone_open.specs.Zones.{set_in, total_in}
+use Rattle.zone_open.specs.declared.asking.Reading.{Reading}
+use Rattle.zone_open.specs.declared.changes.Change.{Change}
+use Rattle.zone_open.specs.declared.clock.Clock.{Clock}
+use Rattle.zone_open.specs.declared.zone.OpenZone.{OpenZone}
+use Rattle.sefunjaro_handles.specs.Statuses.{done, none_there, out_of_range}
+
+-- what is found is told; there may be none
+abbrev pub IsFound : {A : Type 0} → Option A → ℕ → A → A → Type 0
+IsFound (Some found) status old new = (status ≡ done) × (new ≡ found)
+IsFound None status old new = (status ≡ none_there) × (new ≡ old)
+
+-- the changes of a window of time, as far as there is room, and how many there are
+pub record AreChanges (zone : OpenZone) (from to : ℤ) (status : ℕ) (old new : List Change) (count : ℕ) : Type 0 where
+  pub answered : status ≡ done
+  pub room : new ≡ filled (window (set_in zone) from to) old
+  pub all : count ≡ length (window (set_in zone) from to)
+
+-- of the instants at which clocks show these parts, the first
+abbrev pub first_reading : OpenZone → Clock → Option Reading
+first_reading zone clock = option_map reading_of (slice_get (all_in_force (total_in zone) (shown_by clock)) 0)
+
+-- parts that are a local time have that ring, or none; others are out of range
+abbrev pub IsRing : OpenZone → Clock → ℕ → Reading → Reading → Type 0
+IsRing zone clock status old new =
+    (IsClock clock × IsFound (first_reading zone clock) status old new) ⊎ ((IsClock clock → ⊥) × ((status ≡ out_of_range) × (new ≡ old)))

@@ -1,0 +1,165 @@
+//! The saving and the changes of a zone, and the ring of a daily alarm.
+ghost use Rattle.std.specs.Prelude.{◌≡◌};
+ghost use Rattle.sefunjaro_c.specs.Answers.{Where};
+ghost use Rattle.sefunjaro_c.specs.Changes.{AreChanges, IsFound, IsRing};
+ghost use Rattle.sefunjaro_c.specs.Times.{is_instant};
+ghost use Rattle.sefunjaro_handles.specs.Held.{OfZone, OnZone};
+ghost use Rattle.zone_open.specs.Changes.{next_after, saving_at};
+ghost use Rattle.zone_open.specs.Zones.{set_in};
+
+use crate::status::{DONE, NONE_THERE, NOT_OPEN, OUT_OF_RANGE};
+use crate::times::instant_of;
+use sefunjaro_handles::{Handle, Opened};
+use std::alloc::Global;
+use zone_open::{Change, Clock, Reading};
+
+/// The saving that is in force at an instant, in seconds. A change lies on a whole second, so the nanosecond only has to be one.
+#[unsafe(no_mangle)]
+pub extern "C" fn sefunjaro_saving_at(
+    alloc: Global,
+    zone: &mut Handle,
+    second: i64,
+    nanosecond: u32,
+    saving: &mut i64,
+) -> u32
+    ensures same { zone.new.held.opened ≡ zone.old.held.opened }
+    ensures answer { OnZone zone.old.held.opened result (saving.new ≡ saving.old)
+        (λ held. Where (is_instant second nanosecond) result (saving.new ≡ saving.old) (saving.new ≡ saving_at (set_in held) second)) }
+{
+    let Some(opened) = zone.take(alloc) else {
+        return NOT_OPEN;
+    };
+    let status = saving_at(&opened, second, nanosecond, saving);
+    zone.put(alloc, opened);
+    status
+}
+
+fn saving_at(opened: &Opened, second: i64, nanosecond: u32, saving: &mut i64) -> u32
+    ensures { OfZone opened.now result (saving.new ≡ saving.old)
+        (λ held. Where (is_instant second nanosecond) result (saving.new ≡ saving.old) (saving.new ≡ saving_at (set_in held) second)) }
+{
+    let Opened::Zone(zone) = opened else {
+        return NOT_OPEN;
+    };
+    match instant_of(second, nanosecond) {
+        Some(_) => {
+            *saving = zone.saving_at(second);
+            DONE
+        }
+        None => OUT_OF_RANGE,
+    }
+}
+
+/// The first change after a second, if there is one.
+#[unsafe(no_mangle)]
+pub extern "C" fn sefunjaro_next_change(
+    alloc: Global,
+    zone: &mut Handle,
+    second: i64,
+    change: &mut Change,
+) -> u32
+    ensures same { zone.new.held.opened ≡ zone.old.held.opened }
+    ensures answer { OnZone zone.old.held.opened result (change.new ≡ change.old)
+        (λ held. IsFound (next_after (set_in held) second) result change.old change.new) }
+{
+    let Some(opened) = zone.take(alloc) else {
+        return NOT_OPEN;
+    };
+    let status = next_change(&opened, second, change);
+    zone.put(alloc, opened);
+    status
+}
+
+fn next_change(opened: &Opened, second: i64, change: &mut Change) -> u32
+    ensures { OfZone opened.now result (change.new ≡ change.old)
+        (λ held. IsFound (next_after (set_in held) second) result change.old change.new) }
+{
+    let Opened::Zone(zone) = opened else {
+        return NOT_OPEN;
+    };
+    match zone.next_change(second) {
+        Some(found) => {
+            *change = found;
+            DONE
+        }
+        None => NONE_THERE,
+    }
+}
+
+/// The changes from a second on and before another, by time, as far as they fit, and how many there are.
+#[unsafe(no_mangle)]
+pub extern "C" fn sefunjaro_changes(
+    alloc: Global,
+    zone: &mut Handle,
+    from: i64,
+    to: i64,
+    changes: &mut [Change],
+    count: &mut usize,
+) -> u32
+    ensures same { zone.new.held.opened ≡ zone.old.held.opened }
+    ensures answer { OnZone zone.old.held.opened result (changes.new ≡ changes.old)
+        (λ held. AreChanges held from to result changes.old changes.new count.new) }
+{
+    let Some(opened) = zone.take(alloc) else {
+        return NOT_OPEN;
+    };
+    let status = all_changes(&opened, from, to, changes, count);
+    zone.put(alloc, opened);
+    status
+}
+
+fn all_changes(
+    opened: &Opened,
+    from: i64,
+    to: i64,
+    changes: &mut [Change],
+    count: &mut usize,
+) -> u32
+    ensures { OfZone opened.now result (changes.new ≡ changes.old)
+        (λ held. AreChanges held from to result changes.old changes.new count.new) }
+{
+    let Opened::Zone(zone) = opened else {
+        return NOT_OPEN;
+    };
+    *count = zone.changes(from, to, changes);
+    DONE
+}
+
+/// The ring of a daily alarm on the day and at the time of day of a local time: the first instant at which clocks show it, if
+/// they do.
+#[unsafe(no_mangle)]
+pub extern "C" fn sefunjaro_ring(
+    alloc: Global,
+    zone: &mut Handle,
+    local: &Clock,
+    ring: &mut Reading,
+) -> u32
+    ensures same { zone.new.held.opened ≡ zone.old.held.opened }
+    ensures answer { OnZone zone.old.held.opened result (ring.new ≡ ring.old)
+        (λ held. IsRing held local.now result ring.old ring.new) }
+{
+    let Some(opened) = zone.take(alloc) else {
+        return NOT_OPEN;
+    };
+    let status = ring_of(&opened, local, ring);
+    zone.put(alloc, opened);
+    status
+}
+
+fn ring_of(opened: &Opened, clock: &Clock, ring: &mut Reading) -> u32
+    ensures { OfZone opened.now result (ring.new ≡ ring.old) (λ held. IsRing held clock.now result ring.old ring.new) }
+{
+    let Opened::Zone(zone) = opened else {
+        return NOT_OPEN;
+    };
+    match clock.local() {
+        Some(local) => match zone.ring(&local) {
+            Some(first) => {
+                *ring = first;
+                DONE
+            }
+            None => NONE_THERE,
+        },
+        None => OUT_OF_RANGE,
+    }
+}

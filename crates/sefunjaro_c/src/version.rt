@@ -1,0 +1,30 @@
+//! Which version of the calls this is, and the years of the rules.
+ghost use Rattle.std.specs.Prelude.{◌≡◌, length};
+ghost use Rattle.sefunjaro_c.specs.Version.{rule_years, version};
+ghost use Rattle.zone_open.specs.Rooms.{filled};
+
+use zone_open::fill;
+
+/// The years in which the rules of a source fire. Before the first and after the last nothing changes in a zone.
+#[derive(Clone, Copy, Debug, PartialEq, Eq)]
+#[repr(C)]
+pub struct Years {
+    /// The first year.
+    pub first: i32,
+    /// The last year.
+    pub last: i32,
+}
+
+/// The version of the calls goes into the room, as far as it fits, and its whole length is told; and the years of the rules.
+#[unsafe(no_mangle)]
+pub extern "C" fn sefunjaro_version(text: &mut [u8], whole: &mut usize, years: &mut Years)
+    ensures text { text.new ≡ filled version text.old }
+    ensures length { whole.new ≡ length version }
+    ensures years { years.new ≡ rule_years }
+{
+    *whole = fill(b"1.1.0", text);
+    *years = Years {
+        first: 1800,
+        last: 2099,
+    };
+}
