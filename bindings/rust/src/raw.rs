@@ -114,14 +114,6 @@ extern "C" {
     pub fn sefunjaro_read_zoned(text: *const u8, length: usize, instant: *mut RawInstant) -> u32;
     pub fn sefunjaro_saving_at(zone: *mut RawHandle, second: i64, nanosecond: u32, saving: *mut i64) -> u32;
     pub fn sefunjaro_next_change(zone: *mut RawHandle, second: i64, change: *mut crate::Change) -> u32;
-    pub fn sefunjaro_changes(
-        zone: *mut RawHandle,
-        from: i64,
-        to: i64,
-        changes: *mut crate::Change,
-        room: usize,
-        count: *mut usize,
-    ) -> u32;
     pub fn sefunjaro_ring(zone: *mut RawHandle, local: *const crate::Clock, ring: *mut RawReading) -> u32;
     pub fn sefunjaro_version(text: *mut u8, room: usize, whole: *mut usize, years: *mut RawYears);
 }

@@ -19,10 +19,9 @@ IsFound (Some found) status old new = (status ≡ done) × (new ≡ found)
 IsFound None status old new = (status ≡ none_there) × (new ≡ old)
 
 -- the changes of a window of time, as far as there is room, and how many there are
-pub record AreChanges (zone : OpenZone) (from to : ℤ) (status : ℕ) (old new : List Change) (count : ℕ) : Type 0 where
-  pub answered : status ≡ done
-  pub room : new ≡ filled (window (set_in zone) from to) old
-  pub all : count ≡ length (window (set_in zone) from to)
+abbrev pub AreChanges : OpenZone → ℤ → ℤ → ℕ → List Change → List Change → ℕ → Type 0
+AreChanges zone from to status old new count =
+    (status ≡ done) × ((new ≡ filled (window (set_in zone) from to) old) × (count ≡ length (window (set_in zone) from to)))
 
 -- of the instants at which clocks show these parts, the first
 abbrev pub first_reading : OpenZone → Clock → Option Reading

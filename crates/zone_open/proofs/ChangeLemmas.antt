@@ -15,8 +15,6 @@ use Rattle.zone_open.specs.Changes.{change_of, changes_of, how_many, is_within, 
 use Rattle.zone_open.specs.Rooms.{filled, filled_at}
 use Rattle.zone_open.specs.declared.changes.Change.{Change}
 use Rattle.zone_open.proofs.AskLemmas.{all_taken, dropped}
-use Rattle.zone_open.proofs.ChangeRows as change_rows
-use Rattle.zone_open.proofs.GapRows as gap_rows
 
 -- where the first entry lies before, or after, the others are cut at the place before, or at the same
 cut_later : (e : Entry) (es : List Entry) (k : ℕ) (second : ℤ) → IsCut (map shift_of (e ∷ es)) (suc k) second → IsCut (map shift_of es) k second

@@ -14,6 +14,8 @@ returns-else-is_before_next c =
 
 pub returns-else-place-count : goal.returns-else-place-count
 returns-else-place-count c =
-    let found = c.entry_at-else-place-count in
-    (found.ensures, last_of_all (seen c.args.set.now).others c.args.place found.result found.ensures
-    (omega (arith, c.if-place-count.false, c.entry_count-count.ensures.count)))
+    let found = c.entry_at-else-place-count in (
+      found.ensures,
+      last_of_all (seen c.args.set.now).others c.args.place found.result found.ensures
+          (omega (arith, c.if-place-count.false, c.entry_count-count.ensures.count)),
+    )
