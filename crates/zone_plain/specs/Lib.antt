@@ -2,6 +2,8 @@ pub mod LineValues
 pub mod Told
 pub mod Written
 pub mod Plain
+pub mod ReadBack
+pub mod ReadBackLaws
 pub mod Kept
 pub mod KeptLaws
 pub mod Files

@@ -5,4 +5,5 @@ pub mod Settled
 pub mod LeadsLaws
 pub mod Needs
 pub mod SettledLaws
+pub mod SaidLaws
 pub mod Stands

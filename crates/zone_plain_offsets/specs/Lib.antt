@@ -8,6 +8,7 @@ pub mod Shown
 pub mod Told
 pub mod OffsetTextLaws
 pub mod NameLaws
+pub mod SaidLaws
 pub mod MadeLaws
 pub mod TableLaws
 pub mod Abbreviations
