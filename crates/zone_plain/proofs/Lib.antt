@@ -2,3 +2,4 @@ pub mod LineLemmas
 pub mod ReadingLemmas
 pub mod OutputLemmas
 pub mod RespondLemmas
+mod WorkedWritten

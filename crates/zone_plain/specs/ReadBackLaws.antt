@@ -13,6 +13,7 @@ use Rattle.zone_plain_lines.specs.declared.cause.PlainCause.TheVariants as cause
 use Rattle.zone_plain_base.specs.LineFaults.{LineFault, Refusal, too_long, numbered, by_line, onto}
 use Rattle.zone_plain_base.specs.Said.{if_said}
 use Rattle.zone_plain_base.specs.SaidLaws.{read_back}
+use Rattle.zone_plain_names.specs.Renamed.{renamed}
 use Rattle.zone_plain_links.specs.SaidLaws.{IsSaid, if_said_is, onto_said, settled_said}
 use Rattle.zone_plain_links.specs.Settled.{settled}
 use Rattle.zone_plain_offsets.specs.SaidLaws.{written_out_said}
@@ -25,10 +26,10 @@ use Rattle.zone_plain.specs.Written.{written}
 meant_said : (is_open : Bool) (line : List ℕ) (found : List (List ℕ)) → IfOk (meant_by is_open line found) IsSaid
 meant_said is_open line found = by (is_utf8 (laid_out line)) (meaning is_open found)
   where
-    by : (b : Bool) (r : Result LineValue PlainCause) → IfOk (cond b (◌>>=◌ r if_said) (Err cause.NotText)) IsSaid
+    by : (b : Bool) (r : Result LineValue PlainCause) → IfOk (cond b (◌>>=◌ r (λ v. if_said (renamed v))) (Err cause.NotText)) IsSaid
     by false r = tt
     by true (Err e) = tt
-    by true (Ok v) = if_said_is v
+    by true (Ok v) = if_said_is (renamed v)
 
 line_said : (is_open : Bool) (line : List ℕ) → IfOk (line_meaning is_open line) IsSaid
 unfolding line_meaning
@@ -56,32 +57,39 @@ in_said : (source : List ℕ) → IfOk (values_in source) (All IsSaid)
 unfolding values_in
 in_said source = said_from false 1 (lines_of source)
 
-written_back : (out : List LineValue) → All IsSaid out → IfOk (if_short (written out)) IsReadBack
-written_back out said = by (nat_lt text_limit (length (written out)))
-  where
-    by : (b : Bool) → IfOk (cond b (Err too_long) (Ok (written out))) IsReadBack
-    by true = tt
-    by false = record { values = out; wrote = refl; read = All-weaker IsSaid IsReadAsMeant read_back out said }
-
-read_of : (source : List ℕ) → IfOk (plain_of source) IsReadBack
+read_of : (source : List ℕ) → IfOk (plain_of source) (IsReadBack source)
 unfolding plain_of
-read_of source = by (values_in source) (in_said source)
+read_of source = by (values_in source) refl (in_said source)
   where
-    by_out : (r : Result (List LineValue) LineFault) → IfOk r (All IsSaid)
-        → IfOk (◌>>=◌ (by_line r) (λ out. if_short (written out))) IsReadBack
-    by_out (Err e) said = tt
-    by_out (Ok out) said = written_back out said
+    by_out : (values linked : List LineValue) (r : Result (List LineValue) LineFault) → values_in source ≡ Ok values → settled values ≡ Ok linked
+        → written_out linked ≡ r → IfOk r (All IsSaid) → IfOk (◌>>=◌ (by_line r) (λ out. if_short (written out))) (IsReadBack source)
+    by_out values linked (Err e) meant led spelled said = tt
+    by_out values linked (Ok out) meant led spelled said = short (nat_lt text_limit (length (written out)))
+      where
+        short : (b : Bool) → IfOk (cond b (Err too_long) (Ok (written out))) (IsReadBack source)
+        short true = tt
+        short false = record {
+          values = values;
+          meant = meant;
+          linked = linked;
+          led = led;
+          out = out;
+          spelled = spelled;
+          wrote = refl;
+          read = All-weaker IsSaid IsReadAsMeant read_back out said;
+        }
 
-    by_linked : (r : Result (List LineValue) Refusal) → IfOk r (All IsSaid)
-        → IfOk (◌>>=◌ r (λ linked. ◌>>=◌ (by_line (written_out linked)) (λ out. if_short (written out)))) IsReadBack
-    by_linked (Err e) said = tt
-    by_linked (Ok linked) said = by_out (written_out linked) (written_out_said linked said)
+    by_linked : (values : List LineValue) (r : Result (List LineValue) Refusal) → values_in source ≡ Ok values → settled values ≡ r → IfOk r (All IsSaid)
+        → IfOk (◌>>=◌ r (λ linked. ◌>>=◌ (by_line (written_out linked)) (λ out. if_short (written out)))) (IsReadBack source)
+    by_linked values (Err e) meant led said = tt
+    by_linked values (Ok linked) meant led said = by_out values linked (written_out linked) meant led refl (written_out_said linked said)
 
-    by : (r : Result (List LineValue) LineFault) → IfOk r (All IsSaid)
-        → IfOk (◌>>=◌ (by_line r) (λ values. ◌>>=◌ (settled values) (λ linked. ◌>>=◌ (by_line (written_out linked)) (λ out. if_short (written out))))) IsReadBack
-    by (Err e) said = tt
-    by (Ok values) said = by_linked (settled values) (settled_said values said)
+    by : (r : Result (List LineValue) LineFault) → values_in source ≡ r → IfOk r (All IsSaid)
+        → IfOk (◌>>=◌ (by_line r) (λ values. ◌>>=◌ (settled values) (λ linked. ◌>>=◌ (by_line (written_out linked)) (λ out. if_short (written out)))))
+        (IsReadBack source)
+    by (Err e) meant said = tt
+    by (Ok values) meant said = by_linked values (settled values) meant refl (settled_said values said)
 
 -- each line that is written of a source is read as it is meant
-pub read_as_meant : (source bytes : List ℕ) → plain_of source ≡ Ok bytes → IsReadBack bytes
-read_as_meant source bytes h = subst (λ r. IfOk r IsReadBack) h (read_of source)
+pub read_as_meant : (source bytes : List ℕ) → plain_of source ≡ Ok bytes → IsReadBack source bytes
+read_as_meant source bytes h = subst (λ r. IfOk r (IsReadBack source)) h (read_of source)

@@ -15,7 +15,8 @@ pub fn plain_is_kept()
         → length (written values) ≤ 16_777_216 → plain_of source ≡ Ok (written values) }
 {}
 
-/// Each line that is written of a source is UTF-8, and `LineParser::parse_str` reads it as what is meant.
+/// What is written of a source is written of what its lines mean, with each link led to its zone and `%z` written out; and each line
+/// that is written is UTF-8, and `LineParser::parse_str` reads it as what is meant.
 pub fn written_is_read()
-    ensures { (source bytes : List ℕ) → plain_of source ≡ Ok bytes → IsReadBack bytes }
+    ensures { (source bytes : List ℕ) → plain_of source ≡ Ok bytes → IsReadBack source bytes }
 {}

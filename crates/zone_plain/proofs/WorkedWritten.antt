@@ -1,0 +1,46 @@
+-- Worked rows: what is written of values, and what a line that is read as meant says.
+use Rattle.std.proofs.Common.{◌≡◌, List, [], ◌∷◌, ◌++◌, pos, neg_ℤ, None, Some, refl}
+use Rattle.std.specs.Prelude.{codes}
+use Rattle.std.specs.Fmt.{digits}
+use Rattle.zone_source.specs.Zones.{source_value}
+use Rattle.zone_values.specs.Seconds.{with_type}
+use Rattle.zone_values.specs.Values.{no_saving, multiple, LineValue, space, zone, continuation, rule, link}
+use Rattle.zone_values.specs.declared.change.ChangeTime.TheVariants.{UntilYear}
+use Rattle.zone_values.specs.declared.day.DaySpec.TheVariants.{Ordinal}
+use Rattle.zone_values.specs.declared.month.Month.TheVariants.{June}
+use Rattle.zone_values.specs.declared.time.TimeSpec.TheVariants.{Hours, HoursMinutes}
+use Rattle.zone_values.specs.declared.time.TimeType.TheVariants.{Standard}
+use Rattle.zone_values.specs.declared.year.Year.TheVariants.{Minimum, Number}
+use Rattle.zone_plain_text.specs.PlainTexts.{plain_text, rule_text, years_text, year_text, to_text, moment_text, day_text, time_text, clock_text, info_text, stretch_text, saving_text, end_text}
+use Rattle.zone_plain.specs.ReadBack.{IsReadAsMeant}
+use Rattle.zone_plain.specs.Written.{written}
+
+-- two links, a zone of two lines, and a rule behind them
+abbrev values : List LineValue
+values =
+    link (codes "A") (codes "B")
+    ∷ zone (codes "A") (record { utc_offset = HoursMinutes (neg_ℤ (pos 3)) (neg_ℤ (pos 30)); saving = no_saving; format = codes "X"; time = Some (UntilYear (Number (pos 9))) })
+    ∷ continuation (record { utc_offset = Hours (pos 2); saving = multiple (codes "d"); format = codes "C%sT"; time = None })
+    ∷ space
+    ∷ link (codes "A") (codes "C")
+    ∷ rule (record {
+      name = codes "d";
+      from_year = Minimum;
+      to_year = None;
+      month = June;
+      day = Ordinal (pos 14);
+      time = with_type (Hours (pos 2)) Standard;
+      time_to_add = Hours (pos 1);
+      letters = Some (codes "S");
+    })
+    ∷ []
+
+-- the rule first, then the zone with its second line, then the links; of a blank line nothing
+by_parts : written values ≡ codes "Rule d min only - Jun 14 2s 1 S\nZone A -3:30 - X 9\n 2 d C%sT\nLink A B\nLink A C\n"
+unfolding written plain_text rule_text years_text year_text to_text moment_text day_text time_text clock_text info_text stretch_text saving_text end_text digits
+by_parts = refl
+
+-- a source says of such a line what is meant
+says : (v : LineValue) → IsReadAsMeant v → source_value (plain_text v) ≡ v
+unfolding source_value
+says v back = rw (back.0, back.1) refl
