@@ -9,7 +9,7 @@ ghost use Rattle.zone_plain.specs.ReadBack.{IsReadBack};
 ghost use Rattle.zone_plain.specs.Written.{written};
 
 /// Of a source that needs nothing each rule, each line of a zone and each link is written, as it was meant and in the order of its
-/// part, and nothing else.
+/// part, and nothing else. What is meant is told under the names that RULES can say.
 pub fn plain_is_kept()
     ensures { (source : List ℕ) (values : List LineValue) → values_in source ≡ Ok values → IsPlain values → HasNoOffsets values
         → length (written values) ≤ 16_777_216 → plain_of source ≡ Ok (written values) }

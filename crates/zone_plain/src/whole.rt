@@ -16,7 +16,8 @@ use zone_plain_offsets::write_out;
 use zone_source::{LIMIT, LineList};
 
 /// The plain form of a source in any form that `zic` reads: its rules, then its zones, then its links, each in the order of the
-/// source, a line each, with `%z` written out and each link led to its zone. Each line is written so that `LineParser::parse_str` reads it as what is meant.
+/// source, a line each, with `%z` written out and each link led to its zone. A ruleset whose name RULES can't say has another name
+/// there. Each line is written so that `LineParser::parse_str` reads it as what is meant.
 ///
 /// # Errors
 ///
