@@ -8,10 +8,9 @@ use Rattle.owned.specs.Keyed.{text_cmp}
 use Rattle.owned.specs.Listed.{listed}
 use Rattle.zone_source.specs.Zones.{source_value}
 use Rattle.zone_values.specs.Values.{RuleValue, LineValue, space, zone, continuation, rule, link}
-use Rattle.zone_plain_base.specs.LinesAt.{value_at}
 use Rattle.zone_plain_offsets.specs.Pairs.{Pair}
 use Rattle.zone_plain_offsets.specs.Made.{rules_named, made_rule, is_rule_said, rules_for, are_rules_said}
-use Rattle.zone_plain_offsets.specs.Told.{places_from, IsGrouped, AreAdded, made_lines, is_made_said}
+use Rattle.zone_plain_offsets.specs.Told.{value_in, places_from, IsGrouped, AreAdded, made_lines, is_made_said}
 
 shifted : (at k : ℕ) → suc at + k ≡ at + suc k
 shifted at k = omega arith
@@ -49,23 +48,23 @@ said_of_rules : (rules : List RuleValue) (name : List ℕ) (offset : ℤ)
 said_of_rules [] name offset = refl
 said_of_rules (r ∷ rules) name offset = ap (λ b. is_rule_said name offset r && b) (said_of_rules rules name offset)
 
-rules_at : (lines : List (List ℕ)) (name : List ℕ) (places : List ℕ) → places ≡ places_from 0 (map source_value lines) name
-    → map (value_at lines) places ≡ map rule (rules_named (map source_value lines) name)
-rules_at lines name places e = ap (map (value_at lines)) e ∙ at_places (map source_value lines) 0 name (value_at lines) (λ k. ap (value_at lines) (from_zero k))
+rules_at : (values : List LineValue) (name : List ℕ) (places : List ℕ) → places ≡ places_from 0 values name
+    → map (value_in values) places ≡ map rule (rules_named values name)
+rules_at values name places e = ap (map (value_in values)) e ∙ at_places values 0 name (value_in values) (λ k. ap (value_in values) (from_zero k))
 
 -- what was added of the rules at the places of a ruleset is the ruleset that is made for a pair
-pub ruleset_added : (lines old new : List (List ℕ)) (name : List ℕ) (pair : Pair) (places : List ℕ) (said : Bool)
-    → places ≡ places_from 0 (map source_value lines) pair.rules
-    → AreAdded old new (flat_map (made_lines name pair.offset) (map (value_at lines) places))
-    (list_all (is_made_said name pair.offset) (map (value_at lines) places)) said
-    → AreAdded old new (rules_for (map source_value lines) name pair) (are_rules_said (map source_value lines) name pair) said
-ruleset_added lines old new name pair places said e added =
-    let values = rules_at lines pair.rules places e in
-    let rules = rules_named (map source_value lines) pair.rules in
+pub ruleset_added : (values : List LineValue) (old new : List (List ℕ)) (name : List ℕ) (pair : Pair) (places : List ℕ) (said : Bool)
+    → places ≡ places_from 0 values pair.rules
+    → AreAdded old new (flat_map (made_lines name pair.offset) (map (value_in values) places))
+    (list_all (is_made_said name pair.offset) (map (value_in values) places)) said
+    → AreAdded old new (rules_for values name pair) (are_rules_said values name pair) said
+ruleset_added values old new name pair places said e added =
+    let found = rules_at values pair.rules places e in
+    let rules = rules_named values pair.rules in
     record {
-      told = added.told ∙ ap (list_all (is_made_said name pair.offset)) values ∙ said_of_rules rules name pair.offset;
+      told = added.told ∙ ap (list_all (is_made_said name pair.offset)) found ∙ said_of_rules rules name pair.offset;
       added = λ is_yes. added.added is_yes
-          ∙ ap (λ vs. map source_value old ++ vs) (ap (flat_map (made_lines name pair.offset)) values ∙ made_of_rules rules name pair.offset);
+          ∙ ap (λ vs. map source_value old ++ vs) (ap (flat_map (made_lines name pair.offset)) found ∙ made_of_rules rules name pair.offset);
     }
 
 unlisted : (xs : List ℕ) → unwrap_or (listed xs) [] ≡ xs
@@ -87,82 +86,82 @@ nothing_made name offset values old = record { goes_on = refl; said = refl }
 step : (values : List LineValue) (i : ℕ) → i < length values → drop i values ≡ get_or values i space ∷ drop (i + 1) values
 step values i inside = grind (arith, drop-cons)
 
-value_read : (lines : List (List ℕ)) (places : List ℕ) (i : ℕ) → i < length places
-    → value_at lines (get_or places i 0) ≡ get_or (map (value_at lines) places) i space
-value_read lines [] i inside = absurd (omega (arith, inside))
-value_read lines (p ∷ places) zero inside = refl
-value_read lines (p ∷ places) (suc i) inside = value_read lines places i (omega (arith, inside))
+value_read : (values : List LineValue) (places : List ℕ) (i : ℕ) → i < length places
+    → value_in values (get_or places i 0) ≡ get_or (map (value_in values) places) i space
+value_read values [] i inside = absurd (omega (arith, inside))
+value_read values (p ∷ places) zero inside = refl
+value_read values (p ∷ places) (suc i) inside = value_read values places i (omega (arith, inside))
 
-pub one_made : (name : List ℕ) (offset : ℤ) (lines : List (List ℕ)) (places : List ℕ) (old before now : List (List ℕ)) (i : ℕ) (v : LineValue) (said : Bool)
-    → i < length places → v ≡ value_at lines (get_or places i 0) → HasMade name offset (map (value_at lines) places) old before i
+pub one_made : (name : List ℕ) (offset : ℤ) (values : List LineValue) (places : List ℕ) (old before now : List (List ℕ)) (i : ℕ) (v : LineValue) (said : Bool)
+    → i < length places → v ≡ value_in values (get_or places i 0) → HasMade name offset (map (value_in values) places) old before i
     → AreAdded before now (made_lines name offset v) (is_made_said name offset v) said → said ≡ true
-    → HasMade name offset (map (value_at lines) places) old now (i + 1)
-one_made name offset lines places old before now i v said inside is so_far added is_yes =
-    let values = map (value_at lines) places in
-    let here = is ∙ value_read lines places i inside in
-    let left : drop i values ≡ v ∷ drop (i + 1) values =
-    step values i (omega (arith, inside, length-map places (value_at lines))) ∙ ap (λ w. w ∷ drop (i + 1) values) (sym here) in
+    → HasMade name offset (map (value_in values) places) old now (i + 1)
+one_made name offset values places old before now i v said inside is so_far added is_yes =
+    let found = map (value_in values) places in
+    let here = is ∙ value_read values places i inside in
+    let left : drop i found ≡ v ∷ drop (i + 1) found =
+    step found i (omega (arith, inside, length-map places (value_in values))) ∙ ap (λ w. w ∷ drop (i + 1) found) (sym here) in
     let fits = sym added.told ∙ is_yes in
     record {
-      goes_on = ap (λ vs. vs ++ flat_map (made_lines name offset) (drop (i + 1) values)) (added.added is_yes)
+      goes_on = ap (λ vs. vs ++ flat_map (made_lines name offset) (drop (i + 1) found)) (added.added is_yes)
           ∙ append_assoc (map source_value before) (made_lines name offset v) _
           ∙ ap (λ vs. map source_value before ++ flat_map (made_lines name offset) vs) (sym left) ∙ so_far.goes_on;
-      said = ap (λ b. b && list_all (is_made_said name offset) (drop (i + 1) values)) (sym fits)
+      said = ap (λ b. b && list_all (is_made_said name offset) (drop (i + 1) found)) (sym fits)
           ∙ ap (list_all (is_made_said name offset)) (sym left) ∙ so_far.said;
     }
 
-pub one_unsaid : (name : List ℕ) (offset : ℤ) (lines : List (List ℕ)) (places : List ℕ) (old before now : List (List ℕ)) (i : ℕ) (v : LineValue) (said : Bool)
-    → i < length places → v ≡ value_at lines (get_or places i 0) → HasMade name offset (map (value_at lines) places) old before i
+pub one_unsaid : (name : List ℕ) (offset : ℤ) (values : List LineValue) (places : List ℕ) (old before now : List (List ℕ)) (i : ℕ) (v : LineValue) (said : Bool)
+    → i < length places → v ≡ value_in values (get_or places i 0) → HasMade name offset (map (value_in values) places) old before i
     → AreAdded before now (made_lines name offset v) (is_made_said name offset v) said → said ≡ false
-    → AreAdded old now (flat_map (made_lines name offset) (map (value_at lines) places)) (list_all (is_made_said name offset) (map (value_at lines) places)) false
-one_unsaid name offset lines places old before now i v said inside is so_far added is_no =
-    let values = map (value_at lines) places in
-    let here = is ∙ value_read lines places i inside in
-    let left : drop i values ≡ v ∷ drop (i + 1) values =
-    step values i (omega (arith, inside, length-map places (value_at lines))) ∙ ap (λ w. w ∷ drop (i + 1) values) (sym here) in
+    → AreAdded old now (flat_map (made_lines name offset) (map (value_in values) places)) (list_all (is_made_said name offset) (map (value_in values) places)) false
+one_unsaid name offset values places old before now i v said inside is so_far added is_no =
+    let found = map (value_in values) places in
+    let here = is ∙ value_read values places i inside in
+    let left : drop i found ≡ v ∷ drop (i + 1) found =
+    step found i (omega (arith, inside, length-map places (value_in values))) ∙ ap (λ w. w ∷ drop (i + 1) found) (sym here) in
     record {
-      told = ap (λ b. b && list_all (is_made_said name offset) (drop (i + 1) values)) (sym is_no ∙ added.told)
+      told = ap (λ b. b && list_all (is_made_said name offset) (drop (i + 1) found)) (sym is_no ∙ added.told)
           ∙ ap (list_all (is_made_said name offset)) (sym left) ∙ so_far.said;
       added = λ is_yes. absurd (cc);
     }
 
-pub all_made : (name : List ℕ) (offset : ℤ) (lines : List (List ℕ)) (places : List ℕ) (old now : List (List ℕ)) (i : ℕ) → length places ≤ i
-    → HasMade name offset (map (value_at lines) places) old now i
-    → AreAdded old now (flat_map (made_lines name offset) (map (value_at lines) places)) (list_all (is_made_said name offset) (map (value_at lines) places)) true
-all_made name offset lines places old now i past so_far =
-    let values = map (value_at lines) places in
-    let none = drop_all i values (omega (arith, past, length-map places (value_at lines))) in
+pub all_made : (name : List ℕ) (offset : ℤ) (values : List LineValue) (places : List ℕ) (old now : List (List ℕ)) (i : ℕ) → length places ≤ i
+    → HasMade name offset (map (value_in values) places) old now i
+    → AreAdded old now (flat_map (made_lines name offset) (map (value_in values) places)) (list_all (is_made_said name offset) (map (value_in values) places)) true
+all_made name offset values places old now i past so_far =
+    let found = map (value_in values) places in
+    let none = drop_all i found (omega (arith, past, length-map places (value_in values))) in
     record {
       told = ap (list_all (is_made_said name offset)) (sym none) ∙ so_far.said;
       added = λ is_yes. sym (append-nil (map source_value now)) ∙ ap (λ vs. map source_value now ++ flat_map (made_lines name offset) vs) (sym none) ∙ so_far.goes_on;
     }
 
-pub ruleset_named : (lines old new : List (List ℕ)) (text name : List ℕ) (pair : Pair) (offset : ℤ) (places : List ℕ) (said : Bool) → text ≡ name
-    → offset ≡ pair.offset → places ≡ places_from 0 (map source_value lines) pair.rules
-    → AreAdded old new (flat_map (made_lines text offset) (map (value_at lines) places))
-    (list_all (is_made_said text offset) (map (value_at lines) places)) said
-    → AreAdded old new (rules_for (map source_value lines) name pair) (are_rules_said (map source_value lines) name pair) said
-ruleset_named lines old new text name pair offset places said same same_offset e added =
-    subst (λ n. AreAdded old new (rules_for (map source_value lines) n pair) (are_rules_said (map source_value lines) n pair) said) same
-    (ruleset_added lines old new text pair places said e
-    (subst (λ o. AreAdded old new (flat_map (made_lines text o) (map (value_at lines) places))
-    (list_all (is_made_said text o) (map (value_at lines) places)) said) same_offset added))
+pub ruleset_named : (values : List LineValue) (old new : List (List ℕ)) (text name : List ℕ) (pair : Pair) (offset : ℤ) (places : List ℕ) (said : Bool) → text ≡ name
+    → offset ≡ pair.offset → places ≡ places_from 0 values pair.rules
+    → AreAdded old new (flat_map (made_lines text offset) (map (value_in values) places))
+    (list_all (is_made_said text offset) (map (value_in values) places)) said
+    → AreAdded old new (rules_for values name pair) (are_rules_said values name pair) said
+ruleset_named values old new text name pair offset places said same same_offset e added =
+    subst (λ n. AreAdded old new (rules_for values n pair) (are_rules_said values n pair) said) same
+    (ruleset_added values old new text pair places said e
+    (subst (λ o. AreAdded old new (flat_map (made_lines text o) (map (value_in values) places))
+    (list_all (is_made_said text o) (map (value_in values) places)) said) same_offset added))
 
 -- the same for an offset that is this one
 
-pub unsaid_at : (name : List ℕ) (given offset : ℤ) (lines : List (List ℕ)) (places : List ℕ) (old before now : List (List ℕ)) (i : ℕ) (v : LineValue) (said : Bool)
-    → given ≡ offset → i < length places → v ≡ value_at lines (get_or places i 0) → HasMade name given (map (value_at lines) places) old before i
+pub unsaid_at : (name : List ℕ) (given offset : ℤ) (values : List LineValue) (places : List ℕ) (old before now : List (List ℕ)) (i : ℕ) (v : LineValue) (said : Bool)
+    → given ≡ offset → i < length places → v ≡ value_in values (get_or places i 0) → HasMade name given (map (value_in values) places) old before i
     → AreAdded before now (made_lines name given v) (is_made_said name given v) said → said ≡ false
-    → AreAdded old now (flat_map (made_lines name offset) (map (value_at lines) places)) (list_all (is_made_said name offset) (map (value_at lines) places)) false
-unsaid_at name given offset lines places old before now i v said same inside is so_far added is_no =
-    subst (λ o. AreAdded old now (flat_map (made_lines name o) (map (value_at lines) places))
-    (list_all (is_made_said name o) (map (value_at lines) places)) false) same
-    (one_unsaid name given lines places old before now i v said inside is so_far added is_no)
+    → AreAdded old now (flat_map (made_lines name offset) (map (value_in values) places)) (list_all (is_made_said name offset) (map (value_in values) places)) false
+unsaid_at name given offset values places old before now i v said same inside is so_far added is_no =
+    subst (λ o. AreAdded old now (flat_map (made_lines name o) (map (value_in values) places))
+    (list_all (is_made_said name o) (map (value_in values) places)) false) same
+    (one_unsaid name given values places old before now i v said inside is so_far added is_no)
 
-pub all_made_at : (name : List ℕ) (given offset : ℤ) (lines : List (List ℕ)) (places : List ℕ) (old now : List (List ℕ)) (i : ℕ) → given ≡ offset
-    → length places ≤ i → HasMade name given (map (value_at lines) places) old now i
-    → AreAdded old now (flat_map (made_lines name offset) (map (value_at lines) places)) (list_all (is_made_said name offset) (map (value_at lines) places)) true
-all_made_at name given offset lines places old now i same past so_far =
-    subst (λ o. AreAdded old now (flat_map (made_lines name o) (map (value_at lines) places))
-    (list_all (is_made_said name o) (map (value_at lines) places)) true) same
-    (all_made name given lines places old now i past so_far)
+pub all_made_at : (name : List ℕ) (given offset : ℤ) (values : List LineValue) (places : List ℕ) (old now : List (List ℕ)) (i : ℕ) → given ≡ offset
+    → length places ≤ i → HasMade name given (map (value_in values) places) old now i
+    → AreAdded old now (flat_map (made_lines name offset) (map (value_in values) places)) (list_all (is_made_said name offset) (map (value_in values) places)) true
+all_made_at name given offset values places old now i same past so_far =
+    subst (λ o. AreAdded old now (flat_map (made_lines name o) (map (value_in values) places))
+    (list_all (is_made_said name o) (map (value_in values) places)) true) same
+    (all_made name given values places old now i past so_far)

@@ -3,7 +3,8 @@ use Rattle.std.proofs.Common.{◌≡◌, ℕ, ◌+◌, ◌<◌, ◌≤◌, List,
 use Rattle.std.specs.Prelude.{max}
 use Rattle.std.proofs.lemmas.List.{drop_all, length-map}
 use Rattle.zone_source.specs.Zones.{source_value}
-use Rattle.zone_values.specs.Values.{LineValue, space}
+use Rattle.zone_values.specs.Values.{LineValue, line_value, space}
+use Rattle.zone_values.specs.declared.line.Line.{Line}
 use Rattle.zone_plain_offsets.specs.Names.{leading_of, deepest}
 
 pub record IsDeep (values : List LineValue) (most i : ℕ) : Type 0 where
@@ -34,3 +35,6 @@ all_deep values most i past so_far =
 
 pub length_values : (lines : List (List ℕ)) → length (map source_value lines) ≡ length lines
 length_values lines = length-map lines source_value
+
+pub length_read : (lines : List Line) → length (map line_value lines) ≡ length lines
+length_read lines = length-map lines line_value

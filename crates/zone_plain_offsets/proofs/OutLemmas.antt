@@ -68,3 +68,9 @@ out_under values run old_pairs pairs old_made made old new v parts pair name rul
       ∙ ap (λ ps. map source_value old ++ changed_by (named_in run ps) (under parts pair) v ∷ []) (sym joined)
       ∙ ap (λ a. map source_value old ++ changed_by (named_in run pairs) a v ∷ []) (sym e);
 }
+
+-- what was written out of a line that is this one
+pub out_of_same : (values : List LineValue) (run : ℕ) (old_pairs pairs : List Pair) (old_made made old new : List (List ℕ)) (read v : LineValue) (said : Bool)
+    → read ≡ v → IsWrittenOut values run old_pairs pairs old_made made old new read said → IsWrittenOut values run old_pairs pairs old_made made old new v said
+out_of_same values run old_pairs pairs old_made made old new read v said same out =
+    subst (λ w. IsWrittenOut values run old_pairs pairs old_made made old new w said) same out

@@ -1,5 +1,5 @@
 -- What the code's answers tell.
-use Rattle.std.specs.Prelude.{◌≡◌, ℕ, suc, ℤ, List, [], ◌∷◌, ◌++◌, Bool, true, false, ◌&&◌, codes, map, unwrap_or, bytes_eq, if◌then◌else◌}
+use Rattle.std.specs.Prelude.{◌≡◌, ℕ, suc, ℤ, List, [], ◌∷◌, ◌++◌, Bool, true, false, ◌&&◌, codes, map, slice_index_or, unwrap_or, bytes_eq, if◌then◌else◌}
 use Rattle.std.specs.FinMap.{FinMap, get, insert}
 use Rattle.std.specs.List.{list_any}
 use Rattle.owned.specs.Keyed.{text_cmp}
@@ -10,6 +10,10 @@ use Rattle.zone_plain_offsets.specs.Pairs.{Pair, Asked, nothing, total, under, i
 use Rattle.zone_plain_base.specs.Said.{is_said}
 use Rattle.zone_plain_offsets.specs.Made.{named_in, rules_for, are_rules_said, made_rule, is_rule_said, with_format, with_ruleset, filled, changed_by}
 use Rattle.zone_plain_offsets.specs.OffsetTexts.{offset_text, has_text}
+
+-- the value at a place, from 0 on
+abbrev pub value_in : List LineValue → ℕ → LineValue
+value_in values place = slice_index_or values place space
 
 -- it is a rule of that name
 abbrev pub is_named : List ℕ → LineValue → Bool

@@ -1,15 +1,22 @@
 //! Where the rules of each ruleset stand.
 ghost use Rattle.std.specs.Prelude.{◌≡◌, [], map, unwrap_or, IfOk, OnOk};
 ghost use Rattle.std.specs.FinMap.{get};
-ghost use Rattle.zone_source.specs.Zones.{source_value};
 ghost use Rattle.zone_values.specs.Values.{line_value};
-ghost use Rattle.zone_plain_offsets.specs.Told.{IsGrouped, with_place};
+ghost use Rattle.zone_plain_offsets.specs.Told.{IsGrouped, value_in, with_place};
 
 use owned::{Items, TextMap};
 use std::alloc::{AllocError, Global};
-use zone_line::{Line, LineReader};
-use zone_plain_base::line_at;
-use zone_source::LineList;
+use zone_line::Line;
+
+/// The line at a place, which counts from 0; nothing past the end.
+pub(crate) fn line_in<'t>(lines: &[Line<'t>], place: usize) -> Line<'t>
+    ensures { line_value result ≡ value_in (map line_value lines.now) place }
+{
+    match lines.get(place) {
+        Some(line) => *line,
+        None => Line::Space,
+    }
+}
 
 /// Adds the place of a line to its ruleset, if it is a rule.
 fn add_place(
@@ -29,14 +36,13 @@ fn add_place(
 /// The places of the rules of each ruleset, in order, by the ruleset's name.
 pub(crate) fn places_by_name(
     alloc: Global,
-    reader: &mut LineReader<'_>,
-    lines: &LineList,
+    lines: &[Line<'_>],
 ) -> Result<TextMap<Items<usize>>, AllocError>
-    ensures { IfOk result (λ groups. IsGrouped (map source_value lines.now) groups) }
+    ensures { IfOk result (λ groups. IsGrouped (map line_value lines.now) groups) }
 {
     let mut groups = TextMap::new(alloc);
     for place in 0..lines.len() {
-        let line = line_at(alloc, reader, lines, place)?;
+        let line = line_in(lines, place);
         add_place(alloc, &mut groups, &line, place)?;
     }
     Ok(groups)

@@ -2,14 +2,14 @@
 ghost use Rattle.std.specs.Prelude.{◌≡◌, [], ◌∷◌, map, flat_map, IfOk};
 ghost use Rattle.std.specs.List.{list_all};
 ghost use Rattle.zone_values.specs.Values.{line_value, rule_value, rule};
-ghost use Rattle.zone_plain_base.specs.LinesAt.{value_at};
 ghost use Rattle.zone_plain_offsets.specs.Made.{made_rule, is_rule_said, renamed};
-ghost use Rattle.zone_plain_offsets.specs.Told.{IsAdded, AreAdded, made_lines, is_made_said};
+ghost use Rattle.zone_plain_offsets.specs.Told.{IsAdded, AreAdded, value_in, made_lines, is_made_said};
 
+use crate::group::line_in;
 use crate::offset::{named_total, offset_text};
 use std::alloc::{AllocError, Global};
 use zone_line::{Line, LineReader, Rule};
-use zone_plain_base::{line_at, write_said};
+use zone_plain_base::write_said;
 use zone_source::{LineList, text_of};
 
 /// The text of bytes that were written as one.
@@ -102,17 +102,17 @@ fn add_line(
 pub(crate) fn add_rules(
     alloc: Global,
     reader: &mut LineReader<'_>,
-    lines: &LineList,
+    lines: &[Line<'_>],
     places: &[usize],
     name: &str,
     offset: i64,
     made: &mut LineList,
 ) -> Result<bool, AllocError>
-    ensures { IfOk result (AreAdded made.old made.new (flat_map (made_lines name.now offset) (map (value_at lines.now) places.now))
-        (list_all (is_made_said name.now offset) (map (value_at lines.now) places.now))) }
+    ensures { IfOk result (AreAdded made.old made.new (flat_map (made_lines name.now offset) (map (value_in (map line_value lines.now)) places.now))
+        (list_all (is_made_said name.now offset) (map (value_in (map line_value lines.now)) places.now))) }
 {
     for index in 0..places.len() {
-        let line = line_at(alloc, reader, lines, places[index])?;
+        let line = line_in(lines, places[index]);
         if !add_line(alloc, reader, &line, name, offset, made)? {
             return Ok(false);
         }

@@ -1,14 +1,12 @@
 //! The names of the rulesets that are made.
 ghost use Rattle.std.specs.Prelude.{◌≡◌, ◌++◌, map, decimal, max, replicate, OnOk, IfOk};
-ghost use Rattle.zone_source.specs.Zones.{source_value};
 ghost use Rattle.zone_values.specs.Values.{line_value};
 ghost use Rattle.zone_plain_offsets.specs.Names.{leading, leading_of, deepest, front, letter, made_name};
 
+use crate::group::line_in;
 use itoa::Buffer;
 use std::alloc::{AllocError, Global};
-use zone_line::{Line, LineReader};
-use zone_plain_base::line_at;
-use zone_source::LineList;
+use zone_line::Line;
 
 /// How many `_` a name begins with.
 fn leading(name: &[u8]) -> usize
@@ -35,31 +33,22 @@ fn larger(one: usize, other: usize) -> usize
 }
 
 /// The most `_` with which the name of a ruleset begins.
-fn deepest(
-    alloc: Global,
-    reader: &mut LineReader<'_>,
-    lines: &LineList,
-) -> Result<usize, AllocError>
-    ensures { IfOk result (λ most. most ≡ deepest (map source_value lines.now)) }
+fn deepest(lines: &[Line<'_>]) -> usize
+    ensures { result ≡ deepest (map line_value lines.now) }
 {
     let mut most = 0;
     for place in 0..lines.len() {
-        let line = line_at(alloc, reader, lines, place)?;
+        let line = line_in(lines, place);
         most = larger(most, leading_of(&line));
     }
-    Ok(most)
+    most
 }
 
 /// How long the shortest run of `_` is with which no name of a ruleset begins.
-pub(crate) fn front(
-    alloc: Global,
-    reader: &mut LineReader<'_>,
-    lines: &LineList,
-) -> Result<usize, AllocError>
-    ensures { IfOk result (λ run. run ≡ front (map source_value lines.now)) }
+pub(crate) fn front(lines: &[Line<'_>]) -> Result<usize, AllocError>
+    ensures { IfOk result (λ run. run ≡ front (map line_value lines.now)) }
 {
-    let most = deepest(alloc, reader, lines)?;
-    match most.checked_add(1) {
+    match deepest(lines).checked_add(1) {
         Some(run) => Ok(run),
         None => Err(AllocError),
     }

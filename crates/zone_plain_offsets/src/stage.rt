@@ -1,6 +1,7 @@
 //! The lines of a source with `%z` written out.
 ghost use Rattle.std.specs.Prelude.{◌≡◌, [], ◌∷◌, ◌++◌, ◌&&◌, Ok, map, codes, IfOk, IfErr, OnOk};
 ghost use Rattle.zone_source.specs.Zones.{source_value};
+ghost use Rattle.zone_values.specs.Values.{line_value};
 ghost use Rattle.zone_plain_base.specs.LineFaults.{IsFaultOf, by_line};
 ghost use Rattle.zone_plain_base.specs.LinesAt.{value_at};
 ghost use Rattle.zone_plain_base.specs.Said.{is_said};
@@ -14,66 +15,57 @@ ghost use Rattle.zone_plain_offsets.specs.WrittenOut.{written_out};
 
 use crate::asked::{Asked, asked_of, with_format, with_ruleset};
 use crate::format::{Around, filled};
-use crate::group::{places_by_name, places_of};
+use crate::group::{line_in, places_by_name, places_of};
 use crate::made::{add_rules, add_said, text_in};
 use crate::name::{front, made_name};
 use crate::offset::{has_text, offset_text};
 use crate::pairs::{Pair, Pairs, offset_of};
 use owned::{Items, TextMap};
 use std::alloc::{AllocError, Global};
-use zone_line::{LineParser, LineReader};
-use zone_plain_base::{PlainFault, line_at};
+use zone_line::{Line, LineParser, LineReader};
+use zone_plain_base::{PlainFault, lines_read};
 use zone_plain_lines::PlainCause;
 use zone_source::LineList;
 
-/// Adds the line at a place with another format. Answers whether it can be said.
+/// Adds a line with another format. Answers whether it can be said.
 fn add_with_format<'a>(
     alloc: Global,
     reader: &mut LineReader<'_>,
-    lines: &'a LineList,
-    place: usize,
+    line: &Line<'a>,
     format: &'a str,
     out: &mut LineList,
 ) -> Result<bool, AllocError>
-    ensures { IfOk result (IsAdded out.old out.new (with_format (value_at lines.now place) format.now)) }
+    ensures { IfOk result (IsAdded out.old out.new (with_format (line_value line.now) format.now)) }
 {
-    let line = line_at(alloc, reader, lines, place)?;
-    add_said(alloc, reader, &with_format(&line, format), out)
+    add_said(alloc, reader, &with_format(line, format), out)
 }
 
-/// Adds the line at a place with another format and under another ruleset. Answers whether it can be said.
+/// Adds a line with another format and under another ruleset. Answers whether it can be said.
 fn add_with_ruleset<'a>(
     alloc: Global,
     reader: &mut LineReader<'_>,
-    lines: &'a LineList,
-    place: usize,
+    line: &Line<'a>,
     format: &'a str,
     name: &'a str,
     out: &mut LineList,
 ) -> Result<bool, AllocError>
-    ensures { IfOk result (IsAdded out.old out.new (with_ruleset (with_format (value_at lines.now place) format.now) name.now)) }
+    ensures { IfOk result (IsAdded out.old out.new (with_ruleset (with_format (line_value line.now) format.now) name.now)) }
 {
-    let line = line_at(alloc, reader, lines, place)?;
-    add_said(
-        alloc,
-        reader,
-        &with_ruleset(&with_format(&line, format), name),
-        out,
-    )
+    let line = with_format(line, format);
+    add_said(alloc, reader, &with_ruleset(&line, name), out)
 }
 
-/// Adds the line at a place with the text of a total for `%z`. Answers whether the total has a text and the line can be said.
+/// Adds a line with the text of a total for `%z`. Answers whether the total has a text and the line can be said.
 fn add_with_total(
     alloc: Global,
     reader: &mut LineReader<'_>,
-    lines: &LineList,
-    place: usize,
+    line: &Line<'_>,
     parts: &Around<'_>,
     total: i64,
     out: &mut LineList,
 ) -> Result<bool, AllocError>
-    ensures { IfOk result (AreAdded out.old out.new (with_format (value_at lines.now place) (filled (parts_shown parts.now) (offset_text total)) ∷ [])
-        (has_text total && is_said (with_format (value_at lines.now place) (filled (parts_shown parts.now) (offset_text total))))) }
+    ensures { IfOk result (AreAdded out.old out.new (with_format (line_value line.now) (filled (parts_shown parts.now) (offset_text total)) ∷ [])
+        (has_text total && is_said (with_format (line_value line.now) (filled (parts_shown parts.now) (offset_text total))))) }
 {
     if !has_text(total) {
         return Ok(false);
@@ -81,40 +73,40 @@ fn add_with_total(
     let text = offset_text(alloc, total)?;
     let format = filled(alloc, parts, text.as_slice())?;
     let format = text_in(format.as_slice())?;
-    let is_said = add_with_format(alloc, reader, lines, place, format, out)?;
+    let line = *line;
+    let is_said = add_with_format(alloc, reader, &line, format, out)?;
     Ok(is_said)
 }
 
-/// Adds the line at a place with `%s` for `%z`, under the ruleset of that name. Answers whether the line can be said.
+/// Adds a line with `%s` for `%z`, under the ruleset of that name. Answers whether the line can be said.
 fn add_under(
     alloc: Global,
     reader: &mut LineReader<'_>,
-    lines: &LineList,
-    place: usize,
+    line: &Line<'_>,
     parts: &Around<'_>,
     name: &[u8],
     out: &mut LineList,
 ) -> Result<bool, AllocError>
-    ensures { IfOk result (IsAdded out.old out.new (with_ruleset (with_format (value_at lines.now place) (filled (parts_shown parts.now) (codes "%s"))) name.now)) }
+    ensures { IfOk result (IsAdded out.old out.new (with_ruleset (with_format (line_value line.now) (filled (parts_shown parts.now) (codes "%s"))) name.now)) }
 {
     let format = filled(alloc, parts, b"%s")?;
     let format = text_in(format.as_slice())?;
-    add_with_ruleset(alloc, reader, lines, place, format, text_in(name)?, out)
+    add_with_ruleset(alloc, reader, line, format, text_in(name)?, out)
 }
 
 /// Adds the rules of the ruleset that is made for a pair, under a name. Answers whether each has its text and can be said.
 fn add_ruleset(
     alloc: Global,
     reader: &mut LineReader<'_>,
-    lines: &LineList,
+    lines: &[Line<'_>],
     groups: &TextMap<Items<usize>>,
     pair: &Pair<'_>,
     name: &[u8],
     made: &mut LineList,
 ) -> Result<bool, AllocError>
-    requires { IsGrouped (map source_value lines.now) groups.now }
-    ensures { IfOk result (AreAdded made.old made.new (rules_for (map source_value lines.now) name.now (pair_shown pair.now))
-        (are_rules_said (map source_value lines.now) name.now (pair_shown pair.now))) }
+    requires { IsGrouped (map line_value lines.now) groups.now }
+    ensures { IfOk result (AreAdded made.old made.new (rules_for (map line_value lines.now) name.now (pair_shown pair.now))
+        (are_rules_said (map line_value lines.now) name.now (pair_shown pair.now))) }
 {
     let text = text_in(name)?;
     let places = places_of(groups, pair.rules);
@@ -127,18 +119,18 @@ fn add_ruleset(
 fn name_pair<'t>(
     alloc: Global,
     reader: &mut LineReader<'_>,
-    lines: &LineList,
+    lines: &[Line<'_>],
     groups: &TextMap<Items<usize>>,
     run: usize,
     pair: Pair<'t>,
     pairs: &mut Pairs<'t>,
     made: &mut LineList,
 ) -> Result<(Vec<u8>, bool), AllocError>
-    requires { IsGrouped (map source_value lines.now) groups.now }
+    requires { IsGrouped (map line_value lines.now) groups.now }
     ensures pairs { OnOk result (pairs.new ≡ with_pair pairs.old (pair_shown pair.entry)) }
     ensures name { IfOk result (λ named. named.0.items ≡ named_in run (with_pair pairs.old (pair_shown pair.entry)) (pair_shown pair.entry)) }
-    ensures rules { IfOk result (λ named. AreAdded made.old made.new (new_rules (map source_value lines.now) run pairs.old (pair_shown pair.entry))
-        (are_new_said (map source_value lines.now) run pairs.old (pair_shown pair.entry)) named.1) }
+    ensures rules { IfOk result (λ named. AreAdded made.old made.new (new_rules (map line_value lines.now) run pairs.old (pair_shown pair.entry))
+        (are_new_said (map line_value lines.now) run pairs.old (pair_shown pair.entry)) named.1) }
 {
     let (number, is_new) = pairs.number(pair)?;
     let name = made_name(alloc, run, number)?;
@@ -166,7 +158,8 @@ fn add_as_it_stands(lines: &LineList, place: usize, out: &mut LineList) -> Resul
 fn write_line<'t>(
     alloc: Global,
     reader: &mut LineReader<'_>,
-    lines: &'t LineList,
+    texts: &LineList,
+    lines: &[Line<'t>],
     groups: &TextMap<Items<usize>>,
     run: usize,
     place: usize,
@@ -174,17 +167,18 @@ fn write_line<'t>(
     made: &mut LineList,
     out: &mut LineList,
 ) -> Result<bool, AllocError>
-    requires { IsGrouped (map source_value lines.now) groups.now }
-    ensures { IfOk result (IsWrittenOut (map source_value lines.now) run pairs.old pairs.new made.old made.new out.old out.new (value_at lines.now place)) }
+    requires read { map line_value lines.now ≡ map source_value texts.now }
+    requires grouped { IsGrouped (map line_value lines.now) groups.now }
+    ensures { IfOk result (IsWrittenOut (map line_value lines.now) run pairs.old pairs.new made.old made.new out.old out.new (value_at texts.now place)) }
 {
-    let line = line_at(alloc, reader, lines, place)?;
+    let line = line_in(lines, place);
     match asked_of(&line) {
         Asked::Nothing => {
-            add_as_it_stands(lines, place, out)?;
+            add_as_it_stands(texts, place, out)?;
             Ok(true)
         }
         Asked::Total(parts, total) => {
-            let is_said = add_with_total(alloc, reader, lines, place, &parts, total, out)?;
+            let is_said = add_with_total(alloc, reader, &line, &parts, total, out)?;
             Ok(is_said)
         }
         Asked::Under(parts, pair) => {
@@ -192,7 +186,7 @@ fn write_line<'t>(
             if !are_said {
                 return Ok(false);
             }
-            let is_said = add_under(alloc, reader, lines, place, &parts, name.as_slice(), out)?;
+            let is_said = add_under(alloc, reader, &line, &parts, name.as_slice(), out)?;
             Ok(is_said)
         }
     }
@@ -212,21 +206,23 @@ fn add_all(lines: &LineList, out: &mut LineList) -> Result<(), AllocError>
 fn write_lines(
     alloc: Global,
     reader: &mut LineReader<'_>,
-    lines: &LineList,
+    texts: &LineList,
+    lines: &[Line<'_>],
     groups: &TextMap<Items<usize>>,
     run: usize,
 ) -> Result<LineList, PlainFault>
-    requires grouped { IsGrouped (map source_value lines.now) groups.now }
-    requires run { run ≡ front (map source_value lines.now) }
-    ensures ok { IfOk result (λ out. written_out (map source_value lines.now) ≡ Ok (map source_value out)) }
-    ensures err { IfErr result (IsFaultOf (by_line (written_out (map source_value lines.now)))) }
+    requires read { map line_value lines.now ≡ map source_value texts.now }
+    requires grouped { IsGrouped (map line_value lines.now) groups.now }
+    requires run { run ≡ front (map line_value lines.now) }
+    ensures ok { IfOk result (λ out. written_out (map source_value texts.now) ≡ Ok (map source_value out)) }
+    ensures err { IfErr result (IsFaultOf (by_line (written_out (map source_value texts.now)))) }
 {
     let mut pairs = Pairs::new(alloc);
     let mut made = LineList::new(alloc);
     let mut out = LineList::new(alloc);
-    for place in 0..lines.len() {
+    for place in 0..texts.len() {
         if !write_line(
-            alloc, reader, lines, groups, run, place, &mut pairs, &mut made, &mut out,
+            alloc, reader, texts, lines, groups, run, place, &mut pairs, &mut made, &mut out,
         )? {
             return Err(PlainFault::Line(place + 1, PlainCause::Unsayable));
         }
@@ -249,7 +245,9 @@ pub fn write_out(
     ensures err { IfErr result (IsFaultOf (by_line (written_out (map source_value lines.now)))) }
 {
     let mut reader = parser.reader(alloc)?;
-    let groups = places_by_name(alloc, &mut reader, lines)?;
-    let run = front(alloc, &mut reader, lines)?;
-    write_lines(alloc, &mut reader, lines, &groups, run)
+    let read = lines_read(alloc, &mut reader, lines)?;
+    let read = read.as_slice();
+    let groups = places_by_name(alloc, read)?;
+    let run = front(read)?;
+    write_lines(alloc, &mut reader, lines, read, &groups, run)
 }

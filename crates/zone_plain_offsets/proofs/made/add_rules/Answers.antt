@@ -8,12 +8,12 @@ loop-index-init c = nothing_made _ _ _ _
 pub loop-index-preserved : goal.loop-index-preserved
 loop-index-preserved c =
     let inside : c.loop-index.index < length c.args.places.now = omega (arith, c.loop-index-test.true) in
-    one_made _ _ _ _ _ _ _ _ _ _ inside c.in_ok-line.ensures c.loop-index.invariant c.in_ok-add_line.ensures c.if-not-branch.false
+    one_made _ _ _ _ _ _ _ _ _ _ inside c.line_in-line.ensures c.loop-index.invariant c.in_ok-add_line.ensures c.if-not-branch.false
 
 pub returns-then-not-branch : goal.returns-then-not-branch
 returns-then-not-branch c =
     let inside : c.loop-index.index < length c.args.places.now = omega (arith, c.loop-index-test.true) in
-    unsaid_at _ _ c.args.offset _ _ _ _ _ _ _ _ (to_z-of_z c.ranges.offset) inside c.in_ok-line.ensures c.loop-index.invariant c.in_ok-add_line.ensures c.if-not-branch.true
+    unsaid_at _ _ c.args.offset _ _ _ _ _ _ _ _ (to_z-of_z c.ranges.offset) inside c.line_in-line.ensures c.loop-index.invariant c.in_ok-add_line.ensures c.if-not-branch.true
 
 pub returns : goal.returns
 returns c =

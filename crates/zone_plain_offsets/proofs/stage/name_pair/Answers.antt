@@ -1,5 +1,5 @@
 use Rattle.std.proofs.Common.{◌∙◌, sym, ap, map}
-use Rattle.zone_source.specs.Zones.{source_value}
+use Rattle.zone_values.specs.Values.{line_value}
 use Rattle.zone_plain_offsets.specs.Names.{made_name}
 use Rattle.zone_plain_offsets.specs.Shown.{pair_shown}
 use Rattle.zone_plain_offsets.proofs.PairLemmas.{number_with}
@@ -11,7 +11,7 @@ returns-then-not-is_new-clause-name c =
     c.in_ok-name.ensures ∙ ap (made_name c.args.run) (c.in_ok-number.ensures.number ∙ sym (number_with c.args.pairs.now (pair_shown c.args.pair)))
 
 pub returns-then-not-is_new-clause-rules : goal.returns-then-not-is_new-clause-rules
-returns-then-not-is_new-clause-rules c = known_rules (map source_value c.args.lines.now) c.args.run c.args.pairs.now (pair_shown c.args.pair) c.args.made.now _ c.in_ok-number.ensures.added c.if-not-is_new.true
+returns-then-not-is_new-clause-rules c = known_rules (map line_value c.args.lines.now) c.args.run c.args.pairs.now (pair_shown c.args.pair) c.args.made.now _ c.in_ok-number.ensures.added c.if-not-is_new.true
 
 pub returns-clause-name : goal.returns-clause-name
 returns-clause-name c =
@@ -19,6 +19,6 @@ returns-clause-name c =
 
 pub returns-clause-rules : goal.returns-clause-rules
 returns-clause-rules c =
-    new_added (map source_value c.args.lines.now) c.args.run c.args.pairs.now (pair_shown c.args.pair) _ c.args.made.now _ _ _ c.in_ok-number.ensures.added c.if-not-is_new.false
+    new_added (map line_value c.args.lines.now) c.args.run c.args.pairs.now (pair_shown c.args.pair) _ c.args.made.now _ _ _ c.in_ok-number.ensures.added c.if-not-is_new.false
     (c.as_slice.ensures.value ∙ c.in_ok-name.ensures ∙ ap (made_name c.args.run) (c.in_ok-number.ensures.number ∙ sym (number_with c.args.pairs.now (pair_shown c.args.pair))))
     c.in_ok-is_said.ensures

@@ -1,5 +1,8 @@
-use Rattle.std.proofs.Common.{◌<◌, ◌≤◌, map, length, refl, arith}
-use Rattle.zone_source.specs.Zones.{source_value}
+use Rattle.std.proofs.Common.{◌∙◌, ◌<◌, ◌≤◌, map, length, sym, ap, arith}
+use Rattle.zone_values.specs.Values.{line_value}
+use Rattle.zone_plain_base.specs.LineFaults.{by_line}
+use Rattle.zone_plain_offsets.specs.Told.{value_in}
+use Rattle.zone_plain_offsets.specs.WrittenOut.{written_out}
 use Rattle.zone_plain_offsets.proofs.NameLemmas.{length_values}
 use Rattle.zone_plain_offsets.proofs.StageLemmas.{nothing_reached, one_reached, refused_at, all_reached}
 use Rattle.zone_plain_offsets.proofs.stage.write_lines.Goals as goal
@@ -9,18 +12,21 @@ loop-place-init c = rw (c.new-pairs.ensures, c.new-made.ensures, c.new-out.ensur
 
 pub loop-place-preserved : goal.loop-place-preserved
 loop-place-preserved c =
-    let inside : c.loop-place.place < length (map source_value c.args.lines.now) =
-    omega (arith, length_values c.args.lines.now, c.loop-place-test.true, c.len-place-end.ensures) in
-    one_reached _ _ _ _ _ _ _ _ _ _ _ c.requires.run inside refl c.loop-place.invariant c.in_ok-write_line.ensures c.if-not-branch.false
+    let inside : c.loop-place.place < length (map line_value c.args.lines.now) =
+    omega (arith, ap length c.requires.read, length_values c.args.texts.now, c.loop-place-test.true, c.len-place-end.ensures) in
+    one_reached _ _ _ _ _ _ _ _ _ _ _ c.requires.run inside (ap (λ vs. value_in vs c.loop-place.place) (sym c.requires.read))
+    c.loop-place.invariant c.in_ok-write_line.ensures c.if-not-branch.false
 
 pub returns-then-not-branch-clause-err : goal.returns-then-not-branch-clause-err
 returns-then-not-branch-clause-err c =
-    let inside : c.loop-place.place < length (map source_value c.args.lines.now) =
-    omega (arith, length_values c.args.lines.now, c.loop-place-test.true, c.len-place-end.ensures) in
-    refused_at _ _ _ _ _ _ _ _ _ _ _ c.requires.run inside refl c.loop-place.invariant c.in_ok-write_line.ensures c.if-not-branch.true
+    let inside : c.loop-place.place < length (map line_value c.args.lines.now) =
+    omega (arith, ap length c.requires.read, length_values c.args.texts.now, c.loop-place-test.true, c.len-place-end.ensures) in
+    ap (λ vs. by_line (written_out vs)) (sym c.requires.read)
+    ∙ refused_at _ _ _ _ _ _ _ _ _ _ _ c.requires.run inside (ap (λ vs. value_in vs c.loop-place.place) (sym c.requires.read))
+    c.loop-place.invariant c.in_ok-write_line.ensures c.if-not-branch.true
 
 pub returns-clause-ok : goal.returns-clause-ok
 returns-clause-ok c =
-    let past : length (map source_value c.args.lines.now) ≤ c.loop-place.place =
-    omega (arith, length_values c.args.lines.now, c.loop-place-test.false, c.len-place-end.ensures) in
-    all_reached _ _ _ _ _ _ past c.loop-place.invariant c.in_ok-add_all.ensures
+    let past : length (map line_value c.args.lines.now) ≤ c.loop-place.place =
+    omega (arith, ap length c.requires.read, length_values c.args.texts.now, c.loop-place-test.false, c.len-place-end.ensures) in
+    ap written_out (sym c.requires.read) ∙ all_reached _ _ _ _ _ _ past c.loop-place.invariant c.in_ok-add_all.ensures
