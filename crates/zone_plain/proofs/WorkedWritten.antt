@@ -1,8 +1,9 @@
--- Worked rows: what is written of values, and what a line that is read as meant says.
-use Rattle.std.proofs.Common.{◌≡◌, List, [], ◌∷◌, ◌++◌, pos, neg_ℤ, None, Some, refl}
+-- Worked rows: what is written of values, and what is one line.
+use Rattle.std.proofs.Common.{◌≡◌, false, List, [], ◌∷◌, pos, neg_ℤ, None, Some, refl}
 use Rattle.std.specs.Prelude.{codes}
 use Rattle.std.specs.Fmt.{digits}
-use Rattle.zone_source.specs.Zones.{source_value}
+use Rattle.std.proofs.lemmas.List.Elements.{All-from_recursion}
+use Rattle.zone_source.specs.Lines.{is_line_feed}
 use Rattle.zone_values.specs.Seconds.{with_type}
 use Rattle.zone_values.specs.Values.{no_saving, multiple, LineValue, space, zone, continuation, rule, link}
 use Rattle.zone_values.specs.declared.change.ChangeTime.TheVariants.{UntilYear}
@@ -12,8 +13,8 @@ use Rattle.zone_values.specs.declared.time.TimeSpec.TheVariants.{Hours, HoursMin
 use Rattle.zone_values.specs.declared.time.TimeType.TheVariants.{Standard}
 use Rattle.zone_values.specs.declared.year.Year.TheVariants.{Minimum, Number}
 use Rattle.zone_plain_text.specs.PlainTexts.{plain_text, rule_text, years_text, year_text, to_text, moment_text, day_text, time_text, clock_text, info_text, stretch_text, saving_text, end_text}
-use Rattle.zone_plain.specs.ReadBack.{IsReadAsMeant}
 use Rattle.zone_plain.specs.Written.{written}
+use Rattle.zone_plain.specs.WrittenLines.{IsOneLine}
 
 -- two links, a zone of two lines, and a rule behind them
 abbrev values : List LineValue
@@ -40,7 +41,10 @@ by_parts : written values ≡ codes "Rule d min only - Jun 14 2s 1 S\nZone A -3:
 unfolding written plain_text rule_text years_text year_text to_text moment_text day_text time_text clock_text info_text stretch_text saving_text end_text digits
 by_parts = refl
 
--- a source says of such a line what is meant
-says : (v : LineValue) → IsReadAsMeant v → source_value (plain_text v) ≡ v
-unfolding source_value
-says v back = rw (back.0, back.1) refl
+-- a link is one line
+one_line : IsOneLine (link (codes "A") (codes "B"))
+unfolding plain_text
+one_line = record {
+  unbroken = All-from_recursion (λ byte. is_line_feed byte ≡ false) (codes "Link A B") (refl, (refl, (refl, (refl, (refl, (refl, (refl, (refl, tt))))))));
+  kept = refl;
+}

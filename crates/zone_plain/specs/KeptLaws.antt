@@ -1,14 +1,13 @@
 -- A source that needs nothing is written line by line.
-use Rattle.std.proofs.Common.{◌≡◌, ℕ, suc, List, [], ◌∷◌, ◌++◌, ◌≤◌, cond, length, map, None, Some, Ok, refl, sym, ap, ◌∙◌, append-nil}
+use Rattle.std.proofs.Common.{◌≡◌, ℕ, suc, List, [], ◌∷◌, ◌++◌, ◌≤◌, cond, length, map, None, Some, Ok, refl, ap, ◌∙◌, append-nil}
 use Rattle.std.specs.Prelude.{flat_map}
 use Rattle.std.proofs.lemmas.Bool.{le-ltb}
 use Rattle.zone_outside.specs.Limit.{text_limit}
 use Rattle.zone_values.specs.Values.{LineValue}
 use Rattle.zone_plain_links.specs.Needs.{IsPlain}
-use Rattle.zone_plain_links.specs.Settled.{settled}
 use Rattle.zone_plain_links.specs.SettledLaws.{plain_stays}
 use Rattle.zone_plain_offsets.specs.Made.{changed_by, changed, is_changed_said, name_in, rules_for, made}
-use Rattle.zone_plain_offsets.specs.Pairs.{Pair, asked, joined_by, pairs_from, pairs_of}
+use Rattle.zone_plain_offsets.specs.Pairs.{Pair, joined_by, pairs_from}
 use Rattle.zone_plain_offsets.specs.WrittenOut.{unsaid_from, written_unless, written_out}
 use Rattle.zone_plain.specs.Kept.{HasNoOffsets}
 use Rattle.zone_plain.specs.LineValues.{values_in}

@@ -4,6 +4,8 @@ pub mod Written
 pub mod Plain
 pub mod ReadBack
 pub mod ReadBackLaws
+pub mod WrittenLines
+pub mod WrittenLinesLaws
 pub mod Kept
 pub mod KeptLaws
 pub mod Files

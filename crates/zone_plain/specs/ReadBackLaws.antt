@@ -1,5 +1,5 @@
 -- Each line that is written is read as it is meant.
-use Rattle.std.proofs.Common.{◌≡◌, ℕ, suc, List, [], ◌∷◌, All, Bool, true, false, cond, Result, Ok, Err, IfOk, refl, sym, subst, length, nat_lt}
+use Rattle.std.proofs.Common.{◌≡◌, ℕ, suc, List, [], ◌∷◌, All, Bool, true, false, cond, Result, Ok, Err, IfOk, refl, subst, length, nat_lt}
 use Rattle.std.specs.Str.{is_utf8}
 use Rattle.std.proofs.lemmas.List.Elements.{All-nil, All-weaker}
 use Rattle.zone_outside.specs.Limit.{text_limit}

@@ -1,13 +1,12 @@
 -- What becomes of lines that can be said can be said.
-use Rattle.std.proofs.Common.{◌≡◌, ℕ, suc, ◌+◌, List, [], ◌∷◌, ◌++◌, All, Bool, true, false, cond, Option, Some, None, Result, Ok, Err, IfOk, nat_lt, refl}
-use Rattle.std.specs.Prelude.{bytes_eq}
+use Rattle.std.proofs.Common.{◌≡◌, ℕ, suc, ◌+◌, List, [], ◌∷◌, ◌++◌, All, Bool, true, false, cond, Result, Ok, Err, IfOk, nat_lt, refl}
 use Rattle.std.proofs.lemmas.List.Elements.{All-nil, All-cons, All-head, All-tail}
 use Rattle.zone_outside.specs.Limit.{text_limit}
 use Rattle.zone_values.specs.Values.{LineValue, space, zone, continuation, rule, link}
 use Rattle.zone_plain_lines.specs.Steps.{◌>>=◌}
 use Rattle.zone_plain_lines.specs.declared.cause.PlainCause.{PlainCause}
 use Rattle.zone_plain_lines.specs.declared.cause.PlainCause.TheVariants as cause
-use Rattle.zone_plain_base.specs.LineFaults.{Refusal, too_long, numbered, by_line, onto}
+use Rattle.zone_plain_base.specs.LineFaults.{too_long, numbered, by_line, onto}
 use Rattle.zone_plain_base.specs.Said.{is_said, if_said}
 use Rattle.zone_plain_links.specs.Named.{has_zone, target_of}
 use Rattle.zone_plain_links.specs.Settled.{lacks_rules, link_after, settled_link, settled_line, link_size, settled_from, settled}

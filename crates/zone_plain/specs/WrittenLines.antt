@@ -1,0 +1,16 @@
+-- The lines of what is written.
+use Rattle.std.specs.Prelude.{◌≡◌, List, ◌++◌, All, false, filter}
+use Rattle.std.specs.Str.Lines.{strip_carriage_return}
+use Rattle.zone_values.specs.Values.{LineValue}
+use Rattle.zone_source.specs.Lines.{is_line_feed}
+use Rattle.zone_plain_text.specs.PlainTexts.{plain_text}
+use Rattle.zone_plain.specs.Written.{Rules, Zones, Links, is_in}
+
+-- its text has no line feed, and no carriage return at its end
+pub record IsOneLine (v : LineValue) : Type 0 where
+  pub unbroken : All (λ byte. is_line_feed byte ≡ false) (plain_text v)
+  pub kept : strip_carriage_return (plain_text v) ≡ plain_text v
+
+-- the rules, then the zones, then the links, each in their order
+abbrev pub in_parts : List LineValue → List LineValue
+in_parts values = (filter (is_in Rules) values ++ filter (is_in Zones) values) ++ filter (is_in Links) values
