@@ -21,7 +21,8 @@ use std::alloc::Global;
 use std::process::Abort;
 use tz_lookup::{Database, FixedTimespanSet, Tz, ZoneFault, compile_zone, is_orderly};
 use tz_posix::PosixTz;
-use tz_posix::laws::{agreed_offset, one_reading};
+use tz_posix::laws::agreed_offset;
+use tz_posix_core::laws::one_reading;
 use zone_table::Table;
 
 /// Three pairs of rules of the tz database, each with a zone of one line; Moldova's as it was in 2025.
