@@ -1,2 +1,1 @@
-pub mod LineAtLemmas
 pub mod ReadingLemmas

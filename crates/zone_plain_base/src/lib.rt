@@ -2,11 +2,9 @@
 #![tactic(auto)]
 
 mod error;
-mod place;
 mod reading;
 mod said;
 
 pub use error::{PlainFault, Refused, fault_at};
-pub use place::line_at;
 pub use reading::lines_read;
 pub use said::write_said;
