@@ -5,5 +5,6 @@ mod HeldLemmas
 mod InstantLemmas
 mod KindLemmas
 mod OffsetLemmas
+mod OwnerLemmas
 mod ReadLemmas
 mod WorkedKinds

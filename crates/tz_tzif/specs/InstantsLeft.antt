@@ -4,10 +4,11 @@ use Rattle.civil_base.specs.DateTimes.{at_offset}
 use Rattle.civil_base.specs.declared.offset_date_time.OffsetDateTime.{OffsetDateTime}
 use Rattle.tz_tzif.specs.InForce.{total_in}
 use Rattle.tz_tzif.specs.Instants.{read_at}
+use Rattle.tz_tzif.specs.Kept.{items_of}
 use Rattle.tz_tzif.specs.Zones.{value_of, says_of}
 use Rattle.tz_tzif.specs.declared.instants.TzifInstants.{TzifInstants}
 
 -- the local time at each offset that is read, from the next one on
 abbrev pub dates_left : TzifInstants → List OffsetDateTime
 dates_left left = map (at_offset left.local)
-    (read_at (total_in (value_of left.tz.now) (says_of left.tz.now)) left.second (drop left.next left.tz.now.offsets.items))
+    (read_at (total_in (value_of left.tz.now) (says_of left.tz.now)) left.second (drop left.next (items_of left.tz.now.offsets)))

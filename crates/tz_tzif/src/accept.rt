@@ -1,23 +1,40 @@
 //! The tests of a compiled zone.
-ghost use Rattle.std.specs.Prelude.{◌≡◌, MatchOption, option_map};
+ghost use Rattle.std.specs.Prelude.{◌≡◌, MatchOption, MatchResult, option_map};
 ghost use Rattle.std.specs.List.{list_all};
 ghost use Rattle.zone_tzif_core.specs.Shown.{shifts_shown, zone_shown};
 ghost use Rattle.zone_tzif_core.specs.Zones.{is_small, rises};
 ghost use Rattle.tz_footer.specs.FooterShown.{footer_shown};
-ghost use Rattle.tz_tzif.specs.Faults.{are_small, IsNoFooter, SaysInFooter};
+ghost use Rattle.tz_tzif.specs.Faults.{are_small, IsAccepted, IsFault, IsNoFooter, SaysInFooter};
 
+use crate::fault::TzifFault;
 use tz_footer::Footer;
 use zone_tzif_core::{Kind, TzifZone, do_rise, is_small};
 
+/// What the footer of a zone that can be looked up says.
+pub(crate) fn accepted_footer(zone: &TzifZone) -> Result<Option<Footer<'_>>, TzifFault>
+    ensures { MatchResult result (λ footer. IsAccepted (zone_shown zone.now) (option_map footer_shown footer)) (IsFault (zone_shown zone.now)) }
+{
+    if !times_rise(zone.rest.as_slice()) {
+        return Err(TzifFault::Times);
+    }
+    if !are_small(zone) {
+        return Err(TzifFault::Offset);
+    }
+    match read_footer(zone.footer.as_str()) {
+        Some(footer) => Ok(footer),
+        None => Err(TzifFault::Footer),
+    }
+}
+
 /// Whether the times strictly rise.
-pub(crate) fn times_rise(changes: &[(i64, Kind)]) -> bool
+fn times_rise(changes: &[(i64, Kind)]) -> bool
     ensures { result ≡ rises (shifts_shown changes.now) }
 {
     do_rise(changes)
 }
 
 /// Whether each offset is at most 93,599 in size.
-pub(crate) fn are_small(zone: &TzifZone) -> bool
+fn are_small(zone: &TzifZone) -> bool
     ensures { result ≡ are_small (zone_shown zone.now) }
 {
     is_small(zone.first.utoff) && all_small(zone.rest.as_slice())

@@ -4,6 +4,7 @@ ghost use Rattle.civil_base.specs.Instants.{seconds_of};
 ghost use Rattle.tz_footer.specs.FooterShown.{held_shown};
 ghost use Rattle.tz_tzif.specs.InForce.{kind_in, total_in};
 ghost use Rattle.tz_tzif.specs.Instants.{is_read, read_at};
+ghost use Rattle.tz_tzif.specs.Kept.{items_of};
 ghost use Rattle.tz_tzif.specs.Next.{IsHeldFor, IsNext};
 ghost use Rattle.tz_tzif.specs.Zones.{value_of, says_of};
 
@@ -14,12 +15,12 @@ use tz_footer::Held;
 /// What holds by the offset at a place, if that is in force at the second at which clocks at it show a local second.
 fn held_by<'a>(tz: &TzifTz<'a>, second: i64, place: usize) -> Option<Held<'a>>
     requires second { unsigned_abs second ≤ 700_000_000_000 }
-    requires place { place < length tz.now.offsets.items }
+    requires place { place < length (items_of tz.now.offsets) }
     ensures { MatchOption result
-        (is_read (total_in (value_of tz.now) (says_of tz.now)) second (slice_index_or tz.now.offsets.items place (pos 0)) ≡ false)
-        (IsHeldFor (kind_in (value_of tz.now) (says_of tz.now)) second (slice_index_or tz.now.offsets.items place (pos 0))) }
+        (is_read (total_in (value_of tz.now) (says_of tz.now)) second (slice_index_or (items_of tz.now.offsets) place (pos 0)) ≡ false)
+        (IsHeldFor (kind_in (value_of tz.now) (says_of tz.now)) second (slice_index_or (items_of tz.now.offsets) place (pos 0))) }
 {
-    let offset = tz.offsets[place];
+    let offset = tz.offsets.as_slice()[place];
     let held = tz.held_at(second - i64::from(offset));
     if held.offset().whole_seconds() == offset {
         Some(held)
@@ -31,10 +32,10 @@ fn held_by<'a>(tz: &TzifTz<'a>, second: i64, place: usize) -> Option<Held<'a>>
 /// The first offset from a place on that is in force at the second at which clocks at it show a local second, with its place.
 pub(crate) fn next_read<'a>(tz: &TzifTz<'a>, second: i64, from: usize) -> Option<(usize, Held<'a>)>
     requires second { unsigned_abs second ≤ 700_000_000_000 }
-    requires from { from ≤ length tz.now.offsets.items }
+    requires from { from ≤ length (items_of tz.now.offsets) }
     ensures { MatchOption result
-        (read_at (total_in (value_of tz.now) (says_of tz.now)) second (drop from tz.now.offsets.items) ≡ [])
-        (λ found. IsNext (kind_in (value_of tz.now) (says_of tz.now)) second tz.now.offsets.items from found.0 found.1) }
+        (read_at (total_in (value_of tz.now) (says_of tz.now)) second (drop from (items_of tz.now.offsets)) ≡ [])
+        (λ found. IsNext (kind_in (value_of tz.now) (says_of tz.now)) second (items_of tz.now.offsets) from found.0 found.1) }
 {
     for place in from..tz.offsets.len() {
         if let Some(held) = held_by(tz, second, place) {
@@ -53,7 +54,7 @@ pub struct TzifInstants<'t, 'a> {
     next: usize,
     ghost is_second: { second ≡ seconds_of local },
     ghost near: { unsigned_abs second ≤ 700_000_000_000 },
-    ghost within: { next ≤ length tz.now.offsets.items },
+    ghost within: { next ≤ length (items_of tz.now.offsets) },
 }
 
 impl<'t, 'a> TzifInstants<'t, 'a> {

@@ -5,13 +5,16 @@
 mod accept;
 mod fault;
 mod instants;
+mod kept;
 mod laws;
 mod offsets;
+mod owner;
 mod search;
 mod zone;
 
 pub use fault::TzifFault;
 pub use instants::TzifInstants;
 pub use laws::file_totals;
+pub use owner::TzifOwner;
 pub use tz_footer::{Footer, Held};
 pub use zone::TzifTz;

@@ -1,5 +1,5 @@
 //! Compiled zones that can be looked up.
-ghost use Rattle.std.specs.Prelude.{◌≡◌, ℕ, ℤ, ◌≤◌, true, length, option_map};
+ghost use Rattle.std.specs.Prelude.{◌≡◌, ℕ, ℤ, ◌<◌, ◌≤◌, true, length, option_map};
 ghost use Rattle.civil_base.specs.Ranges.{IsOffset};
 ghost use Rattle.zone_spans.specs.Schedules.{instants};
 ghost use Rattle.zone_tzif_core.specs.Shown.{zone_shown};
@@ -7,11 +7,13 @@ ghost use Rattle.zone_tzif_core.specs.Zones.{rises};
 ghost use Rattle.tz_footer.specs.FooterShown.{footer_shown};
 ghost use Rattle.tz_tzif.specs.Faults.{are_small};
 ghost use Rattle.tz_tzif.specs.InForce.{total_at};
+ghost use Rattle.tz_tzif.specs.Kept.{items_of};
 ghost use Rattle.tz_tzif.specs.Offsets.{offsets_of};
 
-use crate::accept::{are_small, read_footer, times_rise};
+use crate::accept::accepted_footer;
 use crate::fault::TzifFault;
 use crate::instants::{TzifInstants, next_read};
+use crate::kept::KeptOffsets;
 use crate::offsets::offsets_of;
 use crate::search::{changes_until, held_after};
 use civil_base::{OffsetDateTime, PlainDateTime};
@@ -21,16 +23,16 @@ use tz_zone::{OffsetResult, TimeZone};
 use zone_tzif_core::TzifZone;
 
 /// A compiled zone that can be looked up, with what its footer says from the last change on. It borrows the value, and
-/// remembers its distinct offsets.
+/// remembers its distinct offsets, or borrows them too.
 #[derive(Drop)]
 pub struct TzifTz<'a> {
     pub(crate) name: &'a str,
     pub(crate) zone: &'a TzifZone,
     pub(crate) footer: Option<Footer<'a>>,
-    pub(crate) offsets: Vec<i32>,
+    pub(crate) offsets: KeptOffsets<'a>,
     ghost rising: { rises (zone_shown zone.now).rest ≡ true },
     ghost small: { are_small (zone_shown zone.now) ≡ true },
-    ghost made: { offsets.items ≡ offsets_of (zone_shown zone.now) (option_map footer_shown footer) },
+    ghost made: { items_of offsets ≡ offsets_of (zone_shown zone.now) (option_map footer_shown footer) },
     ghost range: { (t : ℤ) → IsOffset (total_at (zone_shown zone.now) (option_map footer_shown footer) t) },
 }
 
@@ -53,23 +55,17 @@ impl<'a> TzifTz<'a> {
     pub fn new(alloc: Global, name: &'a str, zone: &'a TzifZone) -> Result<TzifTz<'a>, TzifFault>
         ensures { MatchResult result (IsZoneOf name.now (zone_shown zone.now)) (IsFault (zone_shown zone.now)) }
     {
-        if !times_rise(zone.rest.as_slice()) {
-            return Err(TzifFault::Times);
-        }
-        if !are_small(zone) {
-            return Err(TzifFault::Offset);
-        }
-        let Some(footer) = read_footer(zone.footer.as_str()) else {
-            return Err(TzifFault::Footer);
-        };
-        match offsets_of(alloc, zone, &footer) {
-            Ok(offsets) => Ok(TzifTz {
-                name,
-                zone,
-                footer,
-                offsets,
-            }),
-            Err(_) => Err(TzifFault::NoMemory),
+        match accepted_footer(zone) {
+            Ok(footer) => match offsets_of(alloc, zone, &footer) {
+                Ok(offsets) => Ok(TzifTz {
+                    name,
+                    zone,
+                    footer,
+                    offsets: KeptOffsets::Owned(offsets),
+                }),
+                Err(_) => Err(TzifFault::NoMemory),
+            },
+            Err(fault) => Err(fault),
         }
     }
 
@@ -81,6 +77,14 @@ impl<'a> TzifTz<'a> {
         ensures exact { AreInstants (total_at (value_of self.now) (says_of self.now)) date_time.now (map instant (dates_left result)) }
     {
         TzifInstants::new(self, date_time)
+    }
+
+    /// How many distinct offsets it has, with those of its footer: a local time has at most as many instants.
+    pub fn offset_count(&self) -> usize
+        ensures count { result ≡ length (offsets_of (value_of self.now) (says_of self.now)) }
+        ensures bound { result < 18446744073709551615 }
+    {
+        self.offsets.len()
     }
 
     /// What holds at a second.

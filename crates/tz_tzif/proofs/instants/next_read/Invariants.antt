@@ -1,6 +1,7 @@
 use Rattle.std.proofs.Common.{◌≡◌, ◌≤◌, drop}
 use Rattle.tz_tzif.specs.InForce.{total_in}
 use Rattle.tz_tzif.specs.Instants.{read_at}
+use Rattle.tz_tzif.specs.Kept.{items_of}
 use Rattle.tz_tzif.specs.Zones.{value_of, says_of}
 use Rattle.tz_tzif.proofs.instants.next_read.Given as goal
 
@@ -8,6 +9,6 @@ use Rattle.tz_tzif.proofs.instants.next_read.Given as goal
 abbrev pub invariant-loop-place : goal.invariant-loop-place
 invariant-loop-place l = record {
   later : l.from ≤ l.place;
-  none : read_at (total_in (value_of l.tz) (says_of l.tz)) l.second (drop l.from l.tz.offsets.items)
-      ≡ read_at (total_in (value_of l.tz) (says_of l.tz)) l.second (drop l.place l.tz.offsets.items);
+  none : read_at (total_in (value_of l.tz) (says_of l.tz)) l.second (drop l.from (items_of l.tz.offsets))
+      ≡ read_at (total_in (value_of l.tz) (says_of l.tz)) l.second (drop l.place (items_of l.tz.offsets));
 }

@@ -10,6 +10,6 @@ invariant_of-result c =
     record {
       rising = search rules;
       small = is_small;
-      made = c.in-Ok.ensures.value;
-      range = λ t. in_range _ _ t is_small c.in-Ok.ensures.range;
+      made = c.in-Ok-offsets_of.ensures.value;
+      range = λ t. in_range _ _ t is_small c.in-Ok-offsets_of.ensures.range;
     }

@@ -2,6 +2,7 @@ use Rattle.std.proofs.Common.{◌∙◌, ◌∷◌, w64, SFits, rules, take, ref
 use Rattle.civil_base.specs.DateTimes.{local_of}
 use Rattle.tz_footer.specs.FooterShown.{held_shown}
 use Rattle.tz_zone.specs.AnswerLaws.{instants_of_offsets}
+use Rattle.tz_tzif.specs.Kept.{items_of}
 use Rattle.tz_tzif.specs.Zones.{value_of, says_of}
 use Rattle.tz_tzif.proofs.InstantLemmas.{totals_kept, kind_held}
 use Rattle.tz_tzif.proofs.ReadLemmas.{utc_second_cast}
@@ -13,7 +14,7 @@ returns-in-None-clause-totals c =
     let x = local_of c.args.date_time.now in
     let second = utc_second_cast c.args.date_time.now x _ fs c.unix_timestamp-second.ensures.value refl c.requires in
     let tz = c.args.self.now in
-    ap (take 2) (sym c.in-None.ensures ∙ totals_kept (value_of tz) (says_of tz) tz.offsets.items x _ tz.made tz.range second)
+    ap (take 2) (sym c.in-None.ensures ∙ totals_kept (value_of tz) (says_of tz) (items_of tz.offsets) x _ tz.made tz.range second)
 
 pub returns-in-None-clause-exact : goal.returns-in-None-clause-exact
 returns-in-None-clause-exact c = λ orderly.
@@ -26,7 +27,7 @@ returns-in-None-next_read-clause-totals c =
     let second = utc_second_cast c.args.date_time.now x _ fs c.unix_timestamp-second.ensures.value refl c.requires in
     let tz = c.args.self.now in
     ap (take 2) (sym (c.in-Some.ensures.next ∙ ap (λ l. (held_shown c.in-Some.first).utoff ∷ l) c.in-None-next_read.ensures)
-    ∙ totals_kept (value_of tz) (says_of tz) tz.offsets.items x _ tz.made tz.range second)
+    ∙ totals_kept (value_of tz) (says_of tz) (items_of tz.offsets) x _ tz.made tz.range second)
 
 pub returns-in-None-next_read-clause-names : goal.returns-in-None-next_read-clause-names
 returns-in-None-next_read-clause-names c =
@@ -46,7 +47,7 @@ returns-in-Some-next_read-clause-totals c =
     let second = utc_second_cast c.args.date_time.now x _ fs c.unix_timestamp-second.ensures.value refl c.requires in
     let tz = c.args.self.now in
     ap (take 2) (sym (c.in-Some.ensures.next ∙ ap (λ l. (held_shown c.in-Some.first).utoff ∷ l) c.in-Some-next_read.ensures.next)
-    ∙ totals_kept (value_of tz) (says_of tz) tz.offsets.items x _ tz.made tz.range second)
+    ∙ totals_kept (value_of tz) (says_of tz) (items_of tz.offsets) x _ tz.made tz.range second)
 
 pub returns-in-Some-next_read-clause-names : goal.returns-in-Some-next_read-clause-names
 returns-in-Some-next_read-clause-names c =

@@ -1,0 +1,54 @@
+-- What the footer of an owned value says is one thing.
+use Rattle.std.proofs.Common.{◌≡◌, ℕ, ◌<◌, List, [], ◌∷◌, ◌++◌, length, Option, Some, None, ℤ, refl, sym, ap, ◌∙◌, subst, arith}
+use Rattle.std.proofs.lemmas.List.{length-append}
+use Rattle.civil_base.specs.Ranges.{IsOffset}
+use Rattle.tz_footer.specs.InForce.{FooterZone}
+use Rattle.tz_footer.specs.Spells.{IsFooter, footer}
+use Rattle.tz_footer.specs.Standing.{StandsFor, stands_for}
+use Rattle.tz_footer.specs.Values.{FooterValue}
+use Rattle.tz_posix_core.specs.Spells.{IsName, enclosed, letters}
+use Rattle.tz_tzif.specs.Faults.{SaysInFooter, IsNoFooter}
+use Rattle.tz_tzif.specs.InForce.{total_at}
+use Rattle.tz_tzif.specs.Kept.{AreKept}
+use Rattle.tz_tzif.specs.Offsets.{offsets_of}
+use Rattle.tz_tzif.proofs.KindLemmas.{in_range}
+use Rattle.zone_tzif_core.specs.Zones.{ZoneValue}
+
+-- a text is the footer of one value at most
+abbrev OneFooter : Type 0
+OneFooter = (text : List ℕ) (x y : FooterValue) → IsFooter text x → IsFooter text y → x ≡ y
+
+named : {text name : List ℕ} → IsName text name → 0 < length text
+named (enclosed h k) = omega arith
+named (letters h k l) = omega (arith, h)
+
+some_text : {text : List ℕ} {value : FooterValue} → IsFooter text value → 0 < length text
+some_text (footer {a} {b} {c} name offset saving) =
+    omega (arith, named name, length-append (a ++ b) c, length-append a b)
+
+no_text : {text : List ℕ} {zone : FooterZone} → StandsFor text zone → text ≡ [] → ⊥
+no_text stands e = absurd (omega (arith, some_text stands.is.spelled, ap length e))
+
+one_says : OneFooter → (text : List ℕ) (f g : Option FooterZone) → SaysInFooter text f → SaysInFooter text g → f ≡ g
+one_says one text None None h k = refl
+one_says one text None (Some g) h k = absurd (no_text k h)
+one_says one text (Some f) None h k = absurd (no_text h k)
+one_says one text (Some f) (Some g) h k =
+    ap Some (sym h.stands ∙ ap stands_for (one text h.value k.value h.is.spelled k.is.spelled) ∙ k.stands)
+
+pub made_of : OneFooter → (zone : ZoneValue) (offsets : List ℤ) → AreKept zone offsets
+    → (f : Option FooterZone) → SaysInFooter zone.footer f → offsets ≡ offsets_of zone f
+made_of one zone offsets kept f h = kept.made ∙ ap (offsets_of zone) (one_says one zone.footer kept.footer f kept.accepted.says h)
+
+pub all_in_range : OneFooter → (zone : ZoneValue) (offsets : List ℤ) → AreKept zone offsets
+    → (f : Option FooterZone) → SaysInFooter zone.footer f → (t : ℤ) → IsOffset (total_at zone f t)
+all_in_range one zone offsets kept f h t =
+    subst (λ g. IsOffset (total_at zone g t)) (one_says one zone.footer kept.footer f kept.accepted.says h)
+    (in_range zone kept.footer t kept.accepted.offsets kept.range)
+
+readable_by : (text : List ℕ) (f : Option FooterZone) → SaysInFooter text f → ¬ (IsNoFooter text)
+readable_by text None h no_footer = no_footer.some h
+readable_by text (Some f) h no_footer = no_footer.none h.value h.is
+
+pub readable : (zone : ZoneValue) (offsets : List ℤ) → AreKept zone offsets → ¬ (IsNoFooter zone.footer)
+readable zone offsets kept = readable_by zone.footer kept.footer kept.accepted.says

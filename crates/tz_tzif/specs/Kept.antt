@@ -1,0 +1,19 @@
+-- The offsets that a zone remembers.
+use Rattle.std.specs.Prelude.{◌≡◌, ℤ, List, Option}
+use Rattle.tz_footer.specs.InForce.{FooterZone}
+use Rattle.tz_tzif.specs.Faults.{IsAccepted}
+use Rattle.tz_tzif.specs.Offsets.{offsets_of, AreOffsets}
+use Rattle.tz_tzif.specs.declared.kept.KeptOffsets.{KeptOffsets}
+use Rattle.tz_tzif.specs.declared.kept.KeptOffsets.TheVariants.{Owned, Lent}
+use Rattle.zone_tzif_core.specs.Zones.{ZoneValue}
+
+abbrev pub items_of : KeptOffsets → List ℤ
+items_of (Owned offsets) = offsets.items
+items_of (Lent offsets) = offsets.now
+
+-- they are those of a value that can be looked up, and less than 26 hours in size
+pub record AreKept (zone : ZoneValue) (offsets : List ℤ) : Type 0 where
+  pub footer : Option FooterZone
+  pub accepted : IsAccepted zone footer
+  pub made : offsets ≡ offsets_of zone footer
+  pub range : AreOffsets footer
