@@ -19,3 +19,4 @@ mod SpanRows
 pub mod Picks
 pub mod FrontLemmas
 pub mod MarkedLemmas
+pub mod SeveralLemmas

@@ -17,6 +17,8 @@ pub mod Fires
 pub mod Fronts
 pub mod Quiet
 pub mod Kept
+pub mod Several
+pub mod KeptFor
 pub mod Places
 pub mod Tested
 pub mod Causes

@@ -23,14 +23,15 @@ ghost use Rattle.zone_spans.specs.Entries.{
   first_span,
 };
 ghost use Rattle.zone_spans.specs.Firings.{firings};
-ghost use Rattle.zone_spans.specs.Kept.{BeginWithMarked};
+ghost use Rattle.zone_spans.specs.KeptFor.{AreKept, IsKept};
 ghost use Rattle.zone_spans.specs.Windows.{line_end};
 ghost use Rattle.zone_spans.specs.Listing.{is_at, listed, listed_from, start_firing};
 
 use crate::firing::Firing;
-use crate::kept::Kept;
+use crate::kept::{Kept, fire_line};
 use crate::line::Line;
 use crate::listing::{place_at, start_firing};
+use crate::several::Several;
 use crate::span::FixedTimespan;
 use crate::year::line_end;
 use owned::{Items, Text};
@@ -178,7 +179,7 @@ fn push_ruled(
     start: Option<i64>,
     kept: &Kept<'_>,
 ) -> Result<(), AllocError>
-    requires { BeginWithMarked kept.now.offset kept.now.rules.now kept.now.quiet kept.now.fired.items kept.now.marks.items }
+    requires { IsKept kept.now }
     ensures { IfOk result (λ _. entries.new ≡ entries.old
         ++ (map (entry_of line.now) (listed start kept.now.fired.items) ++ start_entry line.now start kept.now.fired.items)) }
 {
@@ -211,20 +212,20 @@ fn push_fixed(
 fn push_line<'a>(
     entries: &mut Entries,
     alloc: Global,
-    kept: &mut Kept<'a>,
+    kept: &mut Several<Kept<'a>>,
     line: &Line<'a>,
     start: Option<i64>,
 ) -> Result<Option<i64>, AllocError>
     requires line { IsSound line.now }
-    requires kept { BeginWithMarked kept.old.offset kept.old.rules.now kept.old.quiet kept.old.fired.items kept.old.marks.items }
+    requires kept { AreKept kept.old }
     ensures entries { IfOk result (λ _. entries.new ≡ entries.old ++ entries_of line.now start) }
     ensures next { IfOk result (λ next. next ≡ next_start line.now) }
     ensures bounded { IfOk result (λ next. IsTrue (is_start start) → IsTrue (is_start next) × IsTrue (list_all is_bounded_entry (entries_of line.now start))) }
-    ensures kept { IfOk result (λ _. BeginWithMarked kept.new.offset kept.new.rules.now kept.new.quiet kept.new.fired.items kept.new.marks.items) }
+    ensures kept { IfOk result (λ _. AreKept kept.new) }
 {
     if line.is_ruled() {
-        let last_saving = kept.fire_line(alloc, line)?;
-        push_ruled(entries, alloc, line, start, kept)?;
+        let last_saving = fire_line(kept, alloc, line)?;
+        push_ruled(entries, alloc, line, start, &kept.current)?;
         return Ok(next_start(line, last_saving));
     }
     push_fixed(entries, alloc, line, start)?;
@@ -251,7 +252,7 @@ fn raw_entries<'a>(alloc: Global, lines: &[Line<'a>]) -> Result<Entries, AllocEr
     ensures bounded { IfOk result (λ entries. IsTrue (list_all is_bounded_entry entries)) }
 {
     let mut entries = Items::new(alloc);
-    let mut kept = Kept::new(alloc);
+    let mut kept = Several::new(alloc, Kept::new(alloc));
     let mut start = None;
     for line in lines {
         start = push_line(&mut entries, alloc, &mut kept, line, start)?;

@@ -1,6 +1,6 @@
 //! Firings that are kept from line to line: what a ruleset fires under an offset is the same for each line of them, up to
 //! the line's end.
-ghost use Rattle.std.specs.Prelude.{◌≡◌, ◌+◌, ◌<◌, ◌≤◌, ◌≤ℤ◌, if◌then◌else◌, List, ℕ, ℤ, true, IfOk, IsTrue, length, int_le, int_lt, take};
+ghost use Rattle.std.specs.Prelude.{◌≡◌, ◌+◌, ◌<◌, ◌≤◌, ◌≤ℤ◌, if◌then◌else◌, List, ℕ, ℤ, true, IfOk, IfSome, IsTrue, length, int_le, int_lt, slice_index_or, take, vec_capacity};
 ghost use Rattle.std.specs.List.{list_all};
 ghost use Rattle.zone_values.specs.Bounds.{are_small_seconds};
 ghost use Rattle.zone_table.specs.declared.rule.RuleInfo.{RuleInfo};
@@ -8,17 +8,24 @@ ghost use Rattle.zone_spans.specs.Bounds.{IsSound, can_fire, is_bounded_firing, 
 ghost use Rattle.zone_spans.specs.Fires.{Fires};
 ghost use Rattle.zone_spans.specs.Firings.{Firing, firings_of_years, line_firings, years_expanded};
 ghost use Rattle.zone_spans.specs.Kept.{AreBelow, AreMarkedBelow, BeginWithMarked, IsLastMark, IsLimit};
+ghost use Rattle.zone_spans.specs.KeptFor.{AreKept, IsFor, IsKept};
 ghost use Rattle.zone_spans.specs.Lines.{is_ruled};
+ghost use Rattle.zone_spans.specs.declared.kept.Kept.{Kept};
 
 use crate::firing::Firing;
 use crate::front::Applying;
 use crate::line::Line;
 use crate::quiet::years_before_all;
+use crate::several::Several;
 use crate::year::{fire_year, fire_years, line_end, years_expanded};
 use std::alloc::{AllocError, Global};
 use std::marker::Model;
 use zone_table::RuleInfo;
 use zone_values::ChangeTime;
+
+/// For how many firings there may be room in what is kept while lines of other rules or offsets are expanded: 16 MB, and so
+/// some 120 MB for all that is.
+const MOST_FIRINGS: usize = 1_048_576;
 
 /// What a number of years fire: how many firings, the saving after them, and a second that none of them is after.
 #[derive(Clone, Copy)]
@@ -236,7 +243,7 @@ fn fire_from_marks<'a>(
     Ok(last)
 }
 
-/// The firings of the last ruled line, begun by those that any line of its rules and its offset has up to its end.
+/// The firings of the last ruled line of a ruleset under an offset, begun by those that any line of them has up to its end.
 #[derive(Drop)]
 pub(crate) struct Kept<'a> {
     rules: &'a [RuleInfo],
@@ -249,7 +256,7 @@ pub(crate) struct Kept<'a> {
 impl<'a> Kept<'a> {
     /// Nothing is kept.
     pub(crate) fn new(alloc: Global) -> Kept<'a>
-        ensures { BeginWithMarked result.offset result.rules.now result.quiet result.fired.items result.marks.items }
+        ensures { IsKept result }
     {
         Kept {
             rules: &[],
@@ -260,18 +267,29 @@ impl<'a> Kept<'a> {
         }
     }
 
-    /// Lets go what another ruleset or another offset has fired.
-    fn begin(&mut self, line: &Line<'a>, years: u16)
-        requires years { years ≤ 300 }
-        requires begun { BeginWithMarked self.old.offset self.old.rules.now self.old.quiet self.old.fired.items self.old.marks.items }
-        ensures begun { BeginWithMarked line.now.info.offset line.now.rules self.new.quiet self.new.fired.items self.new.marks.items }
-        ensures offset { self.new.offset ≡ line.now.info.offset }
-        ensures rules { self.new.rules.now ≡ line.now.rules }
-        ensures quiet { self.new.quiet ≤ years }
+    /// Whether the line has these rules and this offset, and expands the years without marks.
+    fn serves(&self, line: &Line<'_>, years: u16) -> bool
+        ensures { IsTrue result → IsFor line.now years self.now }
     {
-        if self.offset == line.info.offset && self.quiet <= years && self.rules == line.rules {
-            return;
+        if self.offset != line.info.offset || self.quiet > years {
+            return false;
         }
+        self.rules == line.rules
+    }
+
+    /// Whether there is room for so few firings that they are worth their memory while other lines are expanded.
+    fn is_small(&self) -> bool
+        ensures { IsTrue result → vec_capacity self.now.fired ≤ 1048576 }
+    {
+        self.fired.capacity() <= MOST_FIRINGS
+    }
+
+    /// Lets go what other lines have fired.
+    fn begin(&mut self, line: &Line<'a>, years: u16)
+        requires { years ≤ 300 }
+        ensures kept { IsKept self.new }
+        ensures serves { IsFor line.now years self.new }
+    {
         self.rules = line.rules;
         self.offset = line.info.offset;
         self.quiet = years_before_all(line.rules, years);
@@ -281,26 +299,26 @@ impl<'a> Kept<'a> {
 
     /// How many of the first firings are before that second, as far as the marks say.
     pub(crate) fn firings_below(&self, second: i64) -> usize
-        requires { BeginWithMarked self.now.offset self.now.rules.now self.now.quiet self.now.fired.items self.now.marks.items }
+        requires { IsKept self.now }
         ensures len { result ≤ length self.now.fired.items }
         ensures below { IsTrue (list_all (λ f. int_lt f.time second) (take result self.now.fired.items)) }
     {
         firings_below(&self.marks, second)
     }
 
-    /// Puts the firings of a ruled line into `fired`, and gives the saving after them.
+    /// Puts the firings of a ruled line, for which this is, into `fired`, and gives the saving after them.
     #[tactic(auto, unfolding(crate::specs::Firings::line_firings))]
-    pub(crate) fn fire_line(&mut self, alloc: Global, line: &Line<'a>) -> Result<i64, AllocError>
+    fn fire(&mut self, alloc: Global, line: &Line<'a>, years: u16) -> Result<i64, AllocError>
         requires line { IsSound line.now }
         requires ruled { is_ruled line.now.info.saving ≡ true }
-        requires begun { BeginWithMarked self.old.offset self.old.rules.now self.old.quiet self.old.fired.items self.old.marks.items }
-        ensures begun { IfOk result (λ _. BeginWithMarked self.new.offset self.new.rules.now self.new.quiet self.new.fired.items self.new.marks.items) }
+        requires years { years ≡ years_expanded line.now.end }
+        requires serves { IsFor line.now years self.old }
+        requires kept { IsKept self.old }
+        ensures kept { IfOk result (λ _. IsKept self.new) }
         ensures fired { IfOk result (λ last. Fires self.new.fired.items last (line_firings line.now)) }
         ensures small { IfOk result (λ last. IsTrue (are_small_seconds last)) }
         ensures bounded { IfOk result (λ _. IsTrue (list_all is_bounded_firing self.new.fired.items)) }
     {
-        let years = years_expanded(line.end);
-        self.begin(line, years);
         let last = fire_from_marks(
             alloc,
             &mut self.fired,
@@ -311,4 +329,63 @@ impl<'a> Kept<'a> {
         )?;
         Ok(last)
     }
+}
+
+/// The place of what is kept for lines like this one.
+fn place_for(others: &[Kept<'_>], line: &Line<'_>, years: u16) -> Option<usize>
+    ensures len { IfSome result (λ place. place < length others.now) }
+    ensures serves { IfSome result (λ place. (d : Kept) → IsFor line.now years (slice_index_or others.now place d)) }
+{
+    for i in 0..others.len() {
+        if others[i].serves(line, years) {
+            return Some(i);
+        }
+    }
+    None
+}
+
+/// Takes into use what is kept for lines like this one, or begins it.
+fn take_for<'a>(
+    kept: &mut Several<Kept<'a>>,
+    alloc: Global,
+    line: &Line<'a>,
+    years: u16,
+) -> Result<(), AllocError>
+    requires years { years ≤ 300 }
+    requires kept { AreKept kept.old }
+    ensures kept { IfOk result (λ _. AreKept kept.new) }
+    ensures serves { IfOk result (λ _. IsFor line.now years kept.new.current) }
+{
+    if kept.current.serves(line, years) {
+        return Ok(());
+    }
+    let keeps = kept.current.is_small();
+    match place_for(kept.others(), line, years) {
+        Some(place) => kept.take_up(place, keeps)?,
+        None => {
+            kept.begin(Kept::new(alloc), keeps)?;
+            kept.current.begin(line, years);
+        }
+    }
+    Ok(())
+}
+
+/// Takes the firings of a ruled line into use, and gives the saving after them.
+pub(crate) fn fire_line<'a>(
+    kept: &mut Several<Kept<'a>>,
+    alloc: Global,
+    line: &Line<'a>,
+) -> Result<i64, AllocError>
+    requires line { IsSound line.now }
+    requires ruled { is_ruled line.now.info.saving ≡ true }
+    requires kept { AreKept kept.old }
+    ensures kept { IfOk result (λ _. AreKept kept.new) }
+    ensures fired { IfOk result (λ last. Fires kept.new.current.fired.items last (line_firings line.now)) }
+    ensures small { IfOk result (λ last. IsTrue (are_small_seconds last)) }
+    ensures bounded { IfOk result (λ _. IsTrue (list_all is_bounded_firing kept.new.current.fired.items)) }
+{
+    let years = years_expanded(line.end);
+    take_for(kept, alloc, line, years)?;
+    let last = kept.current.fire(alloc, line, years)?;
+    Ok(last)
 }

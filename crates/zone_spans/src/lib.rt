@@ -12,6 +12,7 @@ mod kept;
 mod line;
 mod listing;
 mod quiet;
+mod several;
 mod span;
 mod tested;
 mod transitions;

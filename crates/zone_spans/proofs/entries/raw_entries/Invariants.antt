@@ -2,7 +2,7 @@ use Rattle.std.proofs.Common.{◌≡◌, ◌++◌, drop, IsTrue}
 use Rattle.std.specs.List.{list_all}
 use Rattle.zone_spans.specs.Bounds.{is_bounded_entry, is_start}
 use Rattle.zone_spans.specs.Entries.{entries_from, raw_entries}
-use Rattle.zone_spans.specs.Kept.{BeginWithMarked}
+use Rattle.zone_spans.specs.KeptFor.{AreKept}
 use Rattle.zone_spans.proofs.entries.raw_entries.Given as goal
 
 abbrev pub invariant-loop-line : goal.invariant-loop-line
@@ -10,5 +10,5 @@ invariant-loop-line l = record {
   entries : l.entries ++ entries_from l.start (drop l.line-index l.lines) ≡ raw_entries l.lines;
   start : IsTrue (is_start l.start);
   bounded : IsTrue (list_all is_bounded_entry l.entries);
-  kept : BeginWithMarked l.kept.offset l.kept.rules.now l.kept.quiet l.kept.fired.items l.kept.marks.items;
+  kept : AreKept l.kept;
 }

@@ -3,7 +3,7 @@ use Rattle.zone_values.specs.declared.change.ChangeTime.{ChangeTime}
 use Rattle.zone_spans.specs.Bounds.{is_end}
 use Rattle.zone_spans.specs.Lines.{Line}
 use Rattle.zone_spans.proofs.SoundLemmas.{sound_end}
-use Rattle.zone_spans.proofs.kept.Kept.fire_line.Goals as goal
+use Rattle.zone_spans.proofs.kept.fire_line.Goals as goal
 
 pub years_expanded-years-requires : goal.years_expanded-years-requires
 years_expanded-years-requires c =
