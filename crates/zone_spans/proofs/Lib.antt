@@ -19,4 +19,3 @@ mod SpanRows
 pub mod Picks
 pub mod FrontLemmas
 pub mod MarkedLemmas
-pub mod SeveralLemmas

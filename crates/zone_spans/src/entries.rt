@@ -23,7 +23,8 @@ ghost use Rattle.zone_spans.specs.Entries.{
   first_span,
 };
 ghost use Rattle.zone_spans.specs.Firings.{firings};
-ghost use Rattle.zone_spans.specs.KeptFor.{AreKept, IsKept};
+ghost use Rattle.zone_spans.specs.KeptFor.{IsKept};
+ghost use Rattle.zone_spans.specs.Several.{AreAll};
 ghost use Rattle.zone_spans.specs.Windows.{line_end};
 ghost use Rattle.zone_spans.specs.Listing.{is_at, listed, listed_from, start_firing};
 
@@ -217,11 +218,11 @@ fn push_line<'a>(
     start: Option<i64>,
 ) -> Result<Option<i64>, AllocError>
     requires line { IsSound line.now }
-    requires kept { AreKept kept.old }
+    requires kept { AreAll IsKept kept.old }
     ensures entries { IfOk result (λ _. entries.new ≡ entries.old ++ entries_of line.now start) }
     ensures next { IfOk result (λ next. next ≡ next_start line.now) }
     ensures bounded { IfOk result (λ next. IsTrue (is_start start) → IsTrue (is_start next) × IsTrue (list_all is_bounded_entry (entries_of line.now start))) }
-    ensures kept { IfOk result (λ _. AreKept kept.new) }
+    ensures kept { IfOk result (λ _. AreAll IsKept kept.new) }
 {
     if line.is_ruled() {
         let last_saving = fire_line(kept, alloc, line)?;

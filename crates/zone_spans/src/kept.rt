@@ -1,6 +1,6 @@
 //! Firings that are kept from line to line: what a ruleset fires under an offset is the same for each line of them, up to
 //! the line's end.
-ghost use Rattle.std.specs.Prelude.{◌≡◌, ◌+◌, ◌<◌, ◌≤◌, ◌≤ℤ◌, if◌then◌else◌, List, ℕ, ℤ, true, IfOk, IfSome, IsTrue, length, int_le, int_lt, slice_index_or, take, vec_capacity};
+ghost use Rattle.std.specs.Prelude.{◌≡◌, ◌+◌, ◌<◌, ◌≤◌, ◌≤ℤ◌, if◌then◌else◌, List, ℕ, ℤ, true, IfOk, IsTrue, length, int_le, int_lt, take};
 ghost use Rattle.std.specs.List.{list_all};
 ghost use Rattle.zone_values.specs.Bounds.{are_small_seconds};
 ghost use Rattle.zone_table.specs.declared.rule.RuleInfo.{RuleInfo};
@@ -8,15 +8,15 @@ ghost use Rattle.zone_spans.specs.Bounds.{IsSound, can_fire, is_bounded_firing, 
 ghost use Rattle.zone_spans.specs.Fires.{Fires};
 ghost use Rattle.zone_spans.specs.Firings.{Firing, firings_of_years, line_firings, years_expanded};
 ghost use Rattle.zone_spans.specs.Kept.{AreBelow, AreMarkedBelow, BeginWithMarked, IsLastMark, IsLimit};
-ghost use Rattle.zone_spans.specs.KeptFor.{AreKept, IsFor, IsKept};
+ghost use Rattle.zone_spans.specs.KeptFor.{IsFor, IsKept};
 ghost use Rattle.zone_spans.specs.Lines.{is_ruled};
-ghost use Rattle.zone_spans.specs.declared.kept.Kept.{Kept};
+ghost use Rattle.zone_spans.specs.Several.{AreAll};
 
 use crate::firing::Firing;
 use crate::front::Applying;
 use crate::line::Line;
 use crate::quiet::years_before_all;
-use crate::several::Several;
+use crate::several::{Serve, Several};
 use crate::year::{fire_year, fire_years, line_end, years_expanded};
 use std::alloc::{AllocError, Global};
 use std::marker::Model;
@@ -267,34 +267,19 @@ impl<'a> Kept<'a> {
         }
     }
 
-    /// Whether the line has these rules and this offset, and expands the years without marks.
-    fn serves(&self, line: &Line<'_>, years: u16) -> bool
-        ensures { IsTrue result → IsFor line.now years self.now }
-    {
-        if self.offset != line.info.offset || self.quiet > years {
-            return false;
-        }
-        self.rules == line.rules
-    }
-
-    /// Whether there is room for so few firings that they are worth their memory while other lines are expanded.
-    fn is_small(&self) -> bool
-        ensures { IsTrue result → vec_capacity self.now.fired ≤ 1048576 }
-    {
-        self.fired.capacity() <= MOST_FIRINGS
-    }
-
-    /// Lets go what other lines have fired.
-    fn begin(&mut self, line: &Line<'a>, years: u16)
+    /// Nothing of the line is fired yet.
+    fn begun(alloc: Global, line: &Line<'a>, years: u16) -> Kept<'a>
         requires { years ≤ 300 }
-        ensures kept { IsKept self.new }
-        ensures serves { IsFor line.now years self.new }
+        ensures kept { IsKept result }
+        ensures serves { IsFor line.now years result }
     {
-        self.rules = line.rules;
-        self.offset = line.info.offset;
-        self.quiet = years_before_all(line.rules, years);
-        self.fired.clear();
-        self.marks.clear();
+        Kept {
+            rules: line.rules,
+            offset: line.info.offset,
+            quiet: years_before_all(line.rules, years),
+            fired: Vec::new(alloc),
+            marks: Vec::new(alloc),
+        }
     }
 
     /// How many of the first firings are before that second, as far as the marks say.
@@ -331,17 +316,21 @@ impl<'a> Kept<'a> {
     }
 }
 
-/// The place of what is kept for lines like this one.
-fn place_for(others: &[Kept<'_>], line: &Line<'_>, years: u16) -> Option<usize>
-    ensures len { IfSome result (λ place. place < length others.now) }
-    ensures serves { IfSome result (λ place. (d : Kept) → IsFor line.now years (slice_index_or others.now place d)) }
-{
-    for i in 0..others.len() {
-        if others[i].serves(line, years) {
-            return Some(i);
+impl<'a> Serve for Kept<'a> {
+    ghost Holds = { IsKept };
+
+    ghost Suits = { IsFor };
+
+    fn serves(&self, line: &Line<'_>, years: u16) -> bool {
+        if self.offset != line.info.offset || self.quiet > years {
+            return false;
         }
+        self.rules == line.rules
     }
-    None
+
+    fn is_small(&self) -> bool {
+        self.fired.capacity() <= MOST_FIRINGS
+    }
 }
 
 /// Takes into use what is kept for lines like this one, or begins it.
@@ -352,21 +341,14 @@ fn take_for<'a>(
     years: u16,
 ) -> Result<(), AllocError>
     requires years { years ≤ 300 }
-    requires kept { AreKept kept.old }
-    ensures kept { IfOk result (λ _. AreKept kept.new) }
+    requires kept { AreAll IsKept kept.old }
+    ensures kept { IfOk result (λ _. AreAll IsKept kept.new) }
     ensures serves { IfOk result (λ _. IsFor line.now years kept.new.current) }
 {
-    if kept.current.serves(line, years) {
+    if kept.find_for(line, years)? {
         return Ok(());
     }
-    let keeps = kept.current.is_small();
-    match place_for(kept.others(), line, years) {
-        Some(place) => kept.take_up(place, keeps)?,
-        None => {
-            kept.begin(Kept::new(alloc), keeps)?;
-            kept.current.begin(line, years);
-        }
-    }
+    kept.begin(Kept::begun(alloc, line, years))?;
     Ok(())
 }
 
@@ -378,8 +360,8 @@ pub(crate) fn fire_line<'a>(
 ) -> Result<i64, AllocError>
     requires line { IsSound line.now }
     requires ruled { is_ruled line.now.info.saving ≡ true }
-    requires kept { AreKept kept.old }
-    ensures kept { IfOk result (λ _. AreKept kept.new) }
+    requires kept { AreAll IsKept kept.old }
+    ensures kept { IfOk result (λ _. AreAll IsKept kept.new) }
     ensures fired { IfOk result (λ last. Fires kept.new.current.fired.items last (line_firings line.now)) }
     ensures small { IfOk result (λ last. IsTrue (are_small_seconds last)) }
     ensures bounded { IfOk result (λ _. IsTrue (list_all is_bounded_firing kept.new.current.fired.items)) }

@@ -1,12 +1,30 @@
-//! Several values of one kind, of which one is in use.
-ghost use Rattle.std.specs.Prelude.{◌≡◌, ◌<◌, ◌∷◌, [], IfOk, length, slice_index_or};
-ghost use Rattle.zone_spans.specs.Several.{AreAmong};
+//! Several values of one kind, each for some of a zone's lines, of which one is in use.
+ghost use Rattle.std.specs.Prelude.{◌≡◌, ℕ, ◌<◌, All, IfOk, IfSome, IsTrue, length, slice_index_or};
+ghost use Rattle.zone_spans.specs.Lines.{Line};
+ghost use Rattle.zone_spans.specs.Several.{AreAll};
 
+use crate::line::Line;
 use std::alloc::{AllocError, Global};
 use std::mem;
 
-/// How many values are kept besides the one in use.
+/// How many values are kept besides the one in use. Each line looks at all of them.
 const MOST_OTHERS: usize = 7;
+
+/// What is found for one line, and serves others.
+pub(crate) trait Serve: Drop {
+    /// What is true of each.
+    ghost Holds: { Self → Type 0 };
+
+    /// It is for a line that expands so many years.
+    ghost Suits: { Line → ℕ → Self → Type 0 };
+
+    /// Whether it is for the line, which expands so many years.
+    fn serves(&self, line: &Line<'_>, years: u16) -> bool
+        ensures { IsTrue result → Suits line.now years self.now };
+
+    /// Whether it is worth its memory while another is in use.
+    fn is_small(&self) -> bool;
+}
 
 /// A value that is in use, and others that were. The one that was in use last stands last.
 #[derive(Drop)]
@@ -15,11 +33,11 @@ pub(crate) struct Several<T> {
     others: Vec<T>,
 }
 
-impl<T: Drop> Several<T> {
+impl<T: Serve> Several<T> {
     /// One value, and no others.
     pub(crate) fn new(alloc: Global, current: T) -> Several<T>
-        ensures current { result.current ≡ current }
-        ensures others { result.others.items ≡ [] }
+        requires { T.Holds current }
+        ensures { AreAll T.Holds result }
     {
         Several {
             current,
@@ -27,53 +45,64 @@ impl<T: Drop> Several<T> {
         }
     }
 
-    /// Those that aren't in use.
-    pub(crate) fn others(&self) -> &[T]
-        ensures { result.now ≡ self.now.others.items }
+    /// Takes one into use that is for the line, which expands so many years, and says whether there is one.
+    pub(crate) fn find_for(&mut self, line: &Line<'_>, years: u16) -> Result<bool, AllocError>
+        requires { AreAll T.Holds self.old }
+        ensures kept { IfOk result (λ _. AreAll T.Holds self.new) }
+        ensures serves { IfOk result (λ found. IsTrue found → T.Suits line.now years self.new.current) }
     {
-        self.others.as_slice()
+        if self.current.serves(line, years) {
+            return Ok(true);
+        }
+        match place_for(self.others.as_slice(), line, years) {
+            Some(place) => {
+                let next = self.others.remove(place);
+                self.put_in_use(next)?;
+                Ok(true)
+            }
+            None => Ok(false),
+        }
     }
 
-    /// Takes the one at that place among the others into use. The one that was goes among them, where it is kept.
-    pub(crate) fn take_up(&mut self, place: usize, keeps: bool) -> Result<(), AllocError>
-        requires { place < length self.old.others.items }
-        ensures current { IfOk result (λ _. (d : T) → self.new.current ≡ slice_index_or self.old.others.items place d) }
-        ensures others { IfOk result (λ _. AreAmong self.new.others.items (self.old.current ∷ self.old.others.items)) }
+    /// Takes a new one into use. Of the others the one that was in use longest ago is let go, where there are as many as may
+    /// be.
+    pub(crate) fn begin(&mut self, next: T) -> Result<(), AllocError>
+        requires kept { AreAll T.Holds self.old }
+        requires next { T.Holds next }
+        ensures kept { IfOk result (λ _. AreAll T.Holds self.new) }
+        ensures current { IfOk result (λ _. self.new.current ≡ next) }
     {
-        let next = self.others.remove(place);
-        self.put_in_use(next, keeps)?;
+        if self.others.len() >= MOST_OTHERS {
+            drop(self.others.remove(0));
+        }
+        self.put_in_use(next)?;
         Ok(())
     }
 
-    /// Takes a new one into use. The one that was goes among the others, where it is kept, and the one of them that was in
-    /// use longest ago is let go where there are as many as may be.
-    pub(crate) fn begin(&mut self, next: T, keeps: bool) -> Result<(), AllocError>
+    /// Takes a value into use. The one that was goes behind the others, where it is small.
+    fn put_in_use(&mut self, next: T) -> Result<(), AllocError>
+        requires kept { AreAll T.Holds self.old }
+        requires next { T.Holds next }
+        ensures kept { IfOk result (λ _. AreAll T.Holds self.new) }
         ensures current { IfOk result (λ _. self.new.current ≡ next) }
-        ensures others { IfOk result (λ _. AreAmong self.new.others.items (self.old.current ∷ self.old.others.items)) }
-    {
-        make_room(&mut self.others);
-        self.put_in_use(next, keeps)?;
-        Ok(())
-    }
-
-    /// Takes a value into use. The one that was goes behind the others, where it is kept.
-    fn put_in_use(&mut self, next: T, keeps: bool) -> Result<(), AllocError>
-        ensures current { IfOk result (λ _. self.new.current ≡ next) }
-        ensures others { IfOk result (λ _. AreAmong self.new.others.items (self.old.current ∷ self.old.others.items)) }
     {
         let used = mem::replace(&mut self.current, next);
-        if keeps {
+        if used.is_small() {
             self.others.push(used)?;
         }
         Ok(())
     }
 }
 
-/// Lets the first go where there are as many as may be.
-fn make_room<T: Drop>(others: &mut Vec<T>)
-    ensures { AreAmong others.new.items others.old.items }
+/// The place of the first that is for the line, which expands so many years.
+fn place_for<T: Serve>(others: &[T], line: &Line<'_>, years: u16) -> Option<usize>
+    ensures len { IfSome result (λ place. place < length others.now) }
+    ensures serves { IfSome result (λ place. (d : T) → T.Suits line.now years (slice_index_or others.now place d)) }
 {
-    if others.len() >= MOST_OTHERS {
-        drop(others.remove(0));
+    for i in 0..others.len() {
+        if others[i].serves(line, years) {
+            return Some(i);
+        }
     }
+    None
 }

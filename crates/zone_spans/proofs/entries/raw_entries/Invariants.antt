@@ -2,7 +2,8 @@ use Rattle.std.proofs.Common.{◌≡◌, ◌++◌, drop, IsTrue}
 use Rattle.std.specs.List.{list_all}
 use Rattle.zone_spans.specs.Bounds.{is_bounded_entry, is_start}
 use Rattle.zone_spans.specs.Entries.{entries_from, raw_entries}
-use Rattle.zone_spans.specs.KeptFor.{AreKept}
+use Rattle.zone_spans.specs.KeptFor.{IsKept}
+use Rattle.zone_spans.specs.Several.{AreAll}
 use Rattle.zone_spans.proofs.entries.raw_entries.Given as goal
 
 abbrev pub invariant-loop-line : goal.invariant-loop-line
@@ -10,5 +11,5 @@ invariant-loop-line l = record {
   entries : l.entries ++ entries_from l.start (drop l.line-index l.lines) ≡ raw_entries l.lines;
   start : IsTrue (is_start l.start);
   bounded : IsTrue (list_all is_bounded_entry l.entries);
-  kept : AreKept l.kept;
+  kept : AreAll IsKept l.kept;
 }

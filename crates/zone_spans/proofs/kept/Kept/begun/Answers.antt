@@ -1,0 +1,18 @@
+use Rattle.std.proofs.Common.{List, subst, sym, [], arith, rules, w64, SFits}
+use Rattle.std.proofs.lemmas.Int.{to_z-of_z}
+use Rattle.zone_spans.specs.Firings.{Firing}
+use Rattle.zone_spans.specs.Kept.{BeginWithMarked, Mark}
+use Rattle.zone_spans.proofs.KeptLemmas.{begun_quiet}
+use Rattle.zone_spans.proofs.kept.Kept.begun.Goals as goal
+
+pub returns-clause-kept : goal.returns-clause-kept
+returns-clause-kept c =
+    let its = c.line.inside.rules.now in
+    let offset = c.line.inside.info.now.offset in
+    let fits : SFits w64 offset = search rules in
+    let quiet = c.years_before_all.result in
+    let none = c.years_before_all.ensures.before in
+    subst (λ o. BeginWithMarked o its quiet c.new.result.items c.new-2.result.items) (sym (to_z-of_z w64 offset fits))
+    (subst (λ (ms : List Mark). BeginWithMarked offset its quiet c.new.result.items ms) (sym c.new-2.ensures.items)
+    (subst (λ (fs : List Firing). BeginWithMarked offset its quiet fs []) (sym c.new.ensures.items)
+    (begun_quiet offset its quiet none (omega (arith, c.years_before_all.ensures.most, c.requires)))))
