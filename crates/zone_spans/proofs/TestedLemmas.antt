@@ -1,11 +1,8 @@
 -- What was tested of more years is known of fewer, and nothing is to be tested of no years.
 use Rattle.std.proofs.Common.{◌≡◌, ℕ, zero, suc, ◌+◌, ◌≤◌, inl, inr, Bool, false, ◌||◌, List, [], ◌∷◌, ℤ, pos, refl, ap, ◌∙◌, arith}
 use Rattle.std.proofs.Math.Nat.{eq-or-lt_of_le}
-use Rattle.std.specs.Option.{option_map_or}
 use Rattle.zone_table.specs.declared.rule.RuleInfo.{RuleInfo}
-use Rattle.zone_spans.specs.Faults.{ends_outside, is_outside, leaves_year, some_year}
-use Rattle.zone_spans.specs.Firings.{years_expanded}
-use Rattle.zone_spans.specs.Lines.{Line}
+use Rattle.zone_spans.specs.Faults.{is_outside, some_year}
 use Rattle.zone_spans.specs.Tested.{NoneLeaves}
 use Rattle.zone_spans.proofs.SoundLemmas.{neither_left, neither_right, no_years}
 
@@ -19,7 +16,7 @@ fewer_years test k (suc n) le none =
       | inr less ↦ fewer_years test k n (omega (arith, less)) (neither_left (some_year test n) (test (pos (1800 + n))) none)
     ]
 
-fewer_leave : (rules : List RuleInfo) (k n : ℕ) → k ≤ n → NoneLeaves rules n → NoneLeaves rules k
+pub fewer_leave : (rules : List RuleInfo) (k n : ℕ) → k ≤ n → NoneLeaves rules n → NoneLeaves rules k
 fewer_leave [] k n le none = refl
 fewer_leave (r ∷ rs) k n le none =
     let here = fewer_years (is_outside r) k n le (neither_left (some_year (is_outside r) n) _ none) in
@@ -29,11 +26,3 @@ fewer_leave (r ∷ rs) k n le none =
 pub none_leaves_yet : (rules : List RuleInfo) → NoneLeaves rules 0
 none_leaves_yet [] = refl
 none_leaves_yet (r ∷ rs) = λ i. no_years (is_outside r) i || none_leaves_yet rs i
-
--- a line whose years are all tested
-pub tested_stays : (line : Line) (n : ℕ) → option_map_or ends_outside line.end false ≡ false → years_expanded line.end ≤ n
-    → NoneLeaves line.rules n → leaves_year line ≡ false
-unfolding leaves_year
-tested_stays line n end le none =
-    let rules = fewer_leave line.rules (years_expanded line.end) n le none in
-    λ i. end i || rules i

@@ -21,4 +21,5 @@ pub mod Several
 pub mod KeptFor
 pub mod Places
 pub mod Tested
+pub mod TestedFor
 pub mod Causes

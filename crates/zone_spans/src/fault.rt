@@ -1,13 +1,14 @@
 //! What keeps a zone from having a schedule.
-ghost use Rattle.std.specs.Prelude.{◌≡◌, IsTrue, false, is_none};
+ghost use Rattle.std.specs.Prelude.{◌≡◌, IfOk, IsTrue, false, is_none};
 ghost use Rattle.std.specs.List.{list_all, list_any};
 ghost use Rattle.zone_table.specs.Moments.{has_years};
 ghost use Rattle.zone_spans.specs.Bounds.{is_bounded_line};
 ghost use Rattle.zone_spans.specs.Faults.{all_but_last, lacks_years, line_fault, ends_in_no_year, leaves_year};
 
 use crate::line::Line;
-use crate::tested::Tested;
-use std::alloc::AllocError;
+use crate::several::Several;
+use crate::tested::{Tested, leaves_year};
+use std::alloc::{AllocError, Global};
 use zone_table::{RuleInfo, ZoneInfo};
 
 /// Why a zone has no schedule. Over the whole zone the first of these that is met comes.
@@ -63,23 +64,27 @@ impl SpanFault {
 
 /// The first fault that keeps known lines from being expanded.
 #[tactic(auto, unfolding(crate::specs::Faults::line_fault))]
-pub(crate) fn line_fault(infos: &[ZoneInfo], lines: &[Line<'_>]) -> Option<SpanFault>
+pub(crate) fn line_fault(
+    alloc: Global,
+    infos: &[ZoneInfo],
+    lines: &[Line<'_>],
+) -> Result<Option<SpanFault>, AllocError>
     requires { IsTrue (list_all is_bounded_line lines.now) }
-    ensures { result ≡ line_fault infos.now lines.now }
+    ensures { IfOk result (λ fault. fault ≡ line_fault infos.now lines.now) }
 {
     if misses_end(infos) {
-        return Some(SpanFault::MissingUntil);
+        return Ok(Some(SpanFault::MissingUntil));
     }
     if some_ends_in_no_year(lines) {
-        return Some(SpanFault::YearRange);
+        return Ok(Some(SpanFault::YearRange));
     }
     if some_lacks_years(lines) {
-        return Some(SpanFault::RuleYears);
+        return Ok(Some(SpanFault::RuleYears));
     }
-    if some_leaves_year(lines) {
-        return Some(SpanFault::DayRange);
+    if some_leaves_year(alloc, lines)? {
+        return Ok(Some(SpanFault::DayRange));
     }
-    None
+    Ok(None)
 }
 
 /// Whether a line other than the last has no end.
@@ -116,19 +121,19 @@ fn some_lacks_years(lines: &[Line<'_>]) -> bool
     lines.iter().any(lacks_years)
 }
 
-fn some_leaves_year(lines: &[Line<'_>]) -> bool
+fn some_leaves_year<'a>(alloc: Global, lines: &[Line<'a>]) -> Result<bool, AllocError>
     requires bounded { IsTrue (list_all is_bounded_line lines.now) }
     requires year { list_any ends_in_no_year lines.now ≡ false }
     requires years { list_any lacks_years lines.now ≡ false }
-    ensures { result ≡ list_any leaves_year lines.now }
+    ensures { IfOk result (λ leaves. leaves ≡ list_any leaves_year lines.now) }
 {
-    let mut tested = Tested::new();
+    let mut tested = Several::new(alloc, Tested::new(&[]));
     for line in lines {
-        if tested.leaves_year(line) {
-            return true;
+        if leaves_year(&mut tested, line)? {
+            return Ok(true);
         }
     }
-    false
+    Ok(false)
 }
 
 /// Whether a line's end is in no year from 1 to 9999.

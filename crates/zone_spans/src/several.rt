@@ -1,5 +1,5 @@
 //! Several values of one kind, each for some of a zone's lines, of which one is in use.
-ghost use Rattle.std.specs.Prelude.{◌≡◌, ℕ, ◌<◌, All, IfOk, IfSome, IsTrue, length, slice_index_or};
+ghost use Rattle.std.specs.Prelude.{◌≡◌, ℕ, ◌<◌, IfOk, IfSome, IsTrue, length, slice_index_or};
 ghost use Rattle.zone_spans.specs.Lines.{Line};
 ghost use Rattle.zone_spans.specs.Several.{AreAll};
 

@@ -1,6 +1,6 @@
-//! Whether the days of ends and rules lie in their years. What was tested of a ruleset is not tested again for the next line
+//! Whether the days of ends and rules lie in their years. What was tested of a ruleset is not tested again for the next lines
 //! of it.
-ghost use Rattle.std.specs.Prelude.{◌≡◌, ◌≤◌, ◌≤ℤ◌, IsTrue, true, false, pos};
+ghost use Rattle.std.specs.Prelude.{◌≡◌, ◌≤◌, ◌≤ℤ◌, IfOk, IsTrue, true, false, pos};
 ghost use Rattle.std.specs.List.{list_all, list_any};
 ghost use Rattle.std.specs.Option.{option_map_or};
 ghost use Rattle.zone_values.specs.Days.{has_day_of_month};
@@ -9,16 +9,19 @@ ghost use Rattle.zone_table.specs.Bounds.{is_bounded_rule};
 ghost use Rattle.zone_table.specs.Moments.{has_years};
 ghost use Rattle.zone_spans.specs.Bounds.{is_bounded_line};
 ghost use Rattle.zone_spans.specs.Faults.{ends_in_no_year, ends_outside, is_outside, lacks_years, leaves_year, some_year};
+ghost use Rattle.zone_spans.specs.Several.{AreAll};
 ghost use Rattle.zone_spans.specs.Tested.{NoneLeaves};
+ghost use Rattle.zone_spans.specs.TestedFor.{HasRulesOf, IsTested};
 
 use crate::line::Line;
 use crate::quiet::years_before;
+use crate::several::{Serve, Several};
 use crate::year::years_expanded;
+use std::alloc::AllocError;
 use zone_table::RuleInfo;
 use zone_values::ChangeTime;
 
-/// The rules of the last line, and how many of the first years from 1800 on are tested: in these no day of the rules lies in
-/// another year.
+/// Rules, and how many of the first years from 1800 on are tested: in these no day of the rules lies in another year.
 #[derive(Drop)]
 pub(crate) struct Tested<'a> {
     rules: &'a [RuleInfo],
@@ -27,52 +30,84 @@ pub(crate) struct Tested<'a> {
 
 impl<'a> Tested<'a> {
     /// Nothing is tested.
-    pub(crate) fn new() -> Tested<'a>
-        ensures { NoneLeaves result.rules.now result.years }
+    pub(crate) fn new(rules: &'a [RuleInfo]) -> Tested<'a>
+        ensures tested { IsTested result }
+        ensures rules { result.rules.now ≡ rules.now }
     {
-        Tested {
-            rules: &[],
-            years: 0,
-        }
+        Tested { rules, years: 0 }
     }
 
-    /// Lets go what was tested of other rules.
-    fn begin(&mut self, line: &Line<'a>)
-        requires { NoneLeaves self.old.rules.now self.old.years }
-        ensures tested { NoneLeaves line.now.rules self.new.years }
-        ensures rules { self.new.rules.now ≡ line.now.rules }
+    /// Whether the day of a rule lies in another year, in one of so many years from 1800 on.
+    fn leaves_year(&mut self, years: u16) -> bool
+        requires bounded { IsTrue (list_all is_bounded_rule self.old.rules.now) }
+        requires years { IsTrue (list_all has_years self.old.rules.now) }
+        requires most { years ≤ 300 }
+        requires tested { IsTested self.old }
+        ensures value { result ≡ list_any (λ rule. some_year (is_outside rule) years) self.old.rules.now }
+        ensures tested { IsTested self.new }
     {
-        if self.rules == line.rules {
-            return;
-        }
-        self.rules = line.rules;
-        self.years = 0;
-    }
-
-    /// Whether the day of the line's end lies in another year, or that of a rule in a year that the line expands.
-    #[tactic(auto, unfolding(crate::specs::Faults::leaves_year))]
-    pub(crate) fn leaves_year(&mut self, line: &Line<'a>) -> bool
-        requires bounded { IsTrue (is_bounded_line line.now) }
-        requires year { ends_in_no_year line.now ≡ false }
-        requires years { lacks_years line.now ≡ false }
-        requires tested { NoneLeaves self.old.rules.now self.old.years }
-        ensures value { result ≡ leaves_year line.now }
-        ensures tested { NoneLeaves self.new.rules.now self.new.years }
-    {
-        if ends_outside(line.end) {
-            return true;
-        }
-        self.begin(line);
-        let count = years_expanded(line.end);
-        if count <= self.years {
+        if years <= self.years {
             return false;
         }
-        if any_outside(line.rules, self.years, count) {
+        if any_outside(self.rules, self.years, years) {
             return true;
         }
-        self.years = count;
+        self.years = years;
         false
     }
+}
+
+impl<'a> Serve for Tested<'a> {
+    ghost Holds = { IsTested };
+
+    ghost Suits = { HasRulesOf };
+
+    fn serves(&self, line: &Line<'_>, _years: u16) -> bool {
+        self.rules == line.rules
+    }
+
+    fn is_small(&self) -> bool {
+        true
+    }
+}
+
+/// Takes into use what is tested of the line's rules, or begins it.
+fn take_for<'a>(
+    tested: &mut Several<Tested<'a>>,
+    line: &Line<'a>,
+    years: u16,
+) -> Result<(), AllocError>
+    requires { AreAll IsTested tested.old }
+    ensures tested { IfOk result (λ _. AreAll IsTested tested.new) }
+    ensures rules { IfOk result (λ _. tested.new.current.rules.now ≡ line.now.rules) }
+{
+    if tested.find_for(line, years)? {
+        return Ok(());
+    }
+    tested.begin(Tested::new(line.rules))?;
+    Ok(())
+}
+
+/// Whether the day of the line's end lies in another year, or that of a rule in a year that the line expands.
+#[tactic(auto, unfolding(crate::specs::Faults::leaves_year))]
+pub(crate) fn leaves_year<'a>(
+    tested: &mut Several<Tested<'a>>,
+    line: &Line<'a>,
+) -> Result<bool, AllocError>
+    requires bounded { IsTrue (is_bounded_line line.now) }
+    requires year { ends_in_no_year line.now ≡ false }
+    requires years { lacks_years line.now ≡ false }
+    requires tested { AreAll IsTested tested.old }
+    ensures value { IfOk result (λ leaves. leaves ≡ leaves_year line.now) }
+    ensures tested { IfOk result (λ _. AreAll IsTested tested.new) }
+{
+    if ends_outside(line.end) {
+        return Ok(true);
+    }
+    let years = years_expanded(line.end);
+    take_for(tested, line, years)?;
+    let leaves = tested.current.leaves_year(years);
+    Ok(leaves)
 }
 
 /// Whether the day of an end lies in another year than the end's.

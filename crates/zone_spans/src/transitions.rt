@@ -93,9 +93,10 @@ fn compile(alloc: Global, table: &Table, infos: &[ZoneInfo]) -> Result<FixedTime
     ensures law { IfOk result (λ set. LocalEndsRise set.rest) }
 {
     match zone_lines(alloc, table, infos) {
-        Ok(lines) => match line_fault(infos, lines.as_slice()) {
-            Some(fault) => Err(fault),
-            None => expand(alloc, lines.as_slice()),
+        Ok(lines) => match line_fault(alloc, infos, lines.as_slice()) {
+            Ok(Some(fault)) => Err(fault),
+            Ok(None) => expand(alloc, lines.as_slice()),
+            Err(refused) => Err(SpanFault::from(refused)),
         },
         Err(fault) => Err(fault),
     }

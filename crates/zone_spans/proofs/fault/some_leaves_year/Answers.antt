@@ -4,16 +4,16 @@ use Rattle.zone_spans.specs.Faults.{leaves_year}
 use Rattle.zone_spans.proofs.SoundLemmas.{any_here, any_behind, any_nowhere}
 use Rattle.zone_spans.proofs.fault.some_leaves_year.Goals as goal
 
-pub returns-then-leaves_year : goal.returns-then-leaves_year
-returns-then-leaves_year c =
+pub returns-then-branch : goal.returns-then-branch
+returns-then-branch c =
     any_here leaves_year c.args.lines.now c.loop-line.line-index c.line-item.result (omega arith) c.line-item.is c.loop-line.invariant.behind
-    (sym c.leaves_year.ensures.value ∙ c.if-leaves_year.true)
+    (sym c.in_ok-leaves_year.ensures.value ∙ c.if-branch.true)
 
 pub loop-line-preserved : goal.loop-line-preserved
 loop-line-preserved c = record {
   behind = any_behind leaves_year c.args.lines.now c.loop-line.line-index c.line-item.result (omega arith) c.line-item.is
-      c.loop-line.invariant.behind (sym c.leaves_year.ensures.value ∙ c.if-leaves_year.false);
-  tested = c.leaves_year.ensures.tested;
+      c.loop-line.invariant.behind (sym c.in_ok-leaves_year.ensures.value ∙ c.if-branch.false);
+  tested = c.in_ok-leaves_year.ensures.tested;
 }
 
 pub returns : goal.returns

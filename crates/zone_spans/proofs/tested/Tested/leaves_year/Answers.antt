@@ -1,46 +1,8 @@
-use Rattle.std.proofs.Common.{true, false, List, Option, IsTrue, sym, ap, ◌∙◌, subst, arith}
-use Rattle.std.specs.List.{list_all}
-use Rattle.std.specs.Option.{option_map_or}
-use Rattle.zone_values.specs.Days.{has_day_of_month}
-use Rattle.zone_values.specs.Ends.{end_day}
-use Rattle.zone_values.specs.declared.change.ChangeTime.{ChangeTime}
-use Rattle.zone_table.specs.Bounds.{is_bounded_rule}
-use Rattle.zone_table.specs.declared.rule.RuleInfo.{RuleInfo}
-use Rattle.zone_spans.specs.Bounds.{is_end}
-use Rattle.zone_spans.specs.Faults.{ends_outside}
-use Rattle.zone_spans.specs.Firings.{years_expanded}
-use Rattle.zone_spans.specs.Lines.{Line}
-use Rattle.zone_spans.specs.Tested.{NoneLeaves}
-use Rattle.zone_spans.proofs.SoundLemmas.{bounded_day, bounded_rules, end_dated}
-use Rattle.zone_spans.proofs.TestedLemmas.{tested_stays}
+use Rattle.std.proofs.Common.{sym}
+use Rattle.zone_spans.proofs.TestedLemmas.{fewer_leave}
 use Rattle.zone_spans.proofs.tested.Tested.leaves_year.Goals as goal
 
-pub ends_outside-requires-clause-day : goal.ends_outside-requires-clause-day
-ends_outside-requires-clause-day c =
-    subst (λ (e : Option ChangeTime). IsTrue (option_map_or (λ end. has_day_of_month (end_day end)) e true))
-    (ap (λ (l : Line). l.end) (sym c.line.view_is)) (bounded_day c.args.line.now c.requires.bounded)
-
-pub years_expanded-count-requires : goal.years_expanded-count-requires
-years_expanded-count-requires c =
-    let end_is = ap (λ (l : Line). l.end) c.line.view_is in
-    let stays = ap (λ e. option_map_or ends_outside e false) (sym end_is) ∙ sym c.ends_outside.ensures ∙ c.if-ends_outside.false in
-    subst (λ (e : Option ChangeTime). IsTrue (is_end e)) (sym end_is)
-    (end_dated c.args.line.now.end (bounded_day c.args.line.now c.requires.bounded) c.requires.year stays)
-
-pub any_outside-requires-clause-bounded : goal.any_outside-requires-clause-bounded
-any_outside-requires-clause-bounded c =
-    subst (λ (rs : List RuleInfo). IsTrue (list_all is_bounded_rule rs)) (ap (λ (l : Line). l.rules) (sym c.line.view_is))
-    (bounded_rules c.args.line.now c.requires.bounded)
-
-pub any_outside-requires-clause-tested : goal.any_outside-requires-clause-tested
-any_outside-requires-clause-tested c =
-    subst (λ (rs : List RuleInfo). NoneLeaves rs c.begin.new.self.years) (ap (λ (l : Line). l.rules) (sym c.line.view_is))
-    c.begin.ensures.tested
-
-pub returns-then-count-self-clause-value : goal.returns-then-count-self-clause-value
-returns-then-count-self-clause-value c =
-    let line = c.args.line.now in
-    let end_is = ap (λ (l : Line). l.end) c.line.view_is in
-    let stays = ap (λ e. option_map_or ends_outside e false) (sym end_is) ∙ sym c.ends_outside.ensures ∙ c.if-ends_outside.false in
-    let years = ap years_expanded end_is in
-    sym (tested_stays line c.begin.new.self.years stays (omega (arith, years)) c.begin.ensures.tested)
+pub returns-then-years-self-clause-value : goal.returns-then-years-self-clause-value
+returns-then-years-self-clause-value c =
+    let tested = c.args.self.now in
+    sym (fewer_leave tested.rules.now c.args.years tested.years c.if-years-self.true c.requires.tested)
