@@ -10,7 +10,7 @@ const LIMIT: usize = 16_777_216;
 
 /// Sources, and what is written of each, with `~` between them and `;` for each line feed: an old rule; `%z` with an amount and under a
 /// ruleset; a chain of links; a line of a zone that begins with a rule's word; quotes and a comment; a link that stands twice; a ruleset whose name
-/// RULES can't say; words and days.
+/// RULES can't say, alone and beside one of the name that it had there; words and days.
 const SOURCES: &str = "\
 R d 1916 o - Jun 14 23s 1 S~Rule d 1916 only - Jun 14 23:00s 1:00 S;
 R b 1990 o - O 1 0 1 -;R b 1991 o - F 1 0 0 -;Z A -3 b %z 1999 O 3;-4 - %z~Rule b 1990 only - Oct 1 0:00 1:00 -;Rule b 1991 only - Feb 1 0:00 0 -;Rule _a 1990 only - Oct 1 0:00 1:00 -02;Rule _a 1991 only - Feb 1 0:00 0 -03;Zone A -3:00 _a %s 1999 Oct 3; -4:00 - -04;
@@ -19,12 +19,13 @@ Z A 1 - X 1999;0 - Rule~Zone A 1:00 - X 1999; 0 - Rule;
 Z \"A\" 1 - \"X\" # \"~Zone A 1:00 - X;
 Z A 0 - X;L A B;L A B~Zone A 0 - X;Link A B;
 R b2 1990 o - O 1 0 1 -;Z A 0 b2 X~Rule _-b-dc 1990 only - Oct 1 0:00 1:00 -;Zone A 0 _-b-dc X;
+R b2 1990 o - O 1 0 1 -;R _-b-dc 1991 o - O 1 0 1 -;Z A 0 b2 X 1999;0 _-b-dc X~Rule __-b-dc 1990 only - Oct 1 0:00 1:00 -;Rule _-b-dc 1991 only - Oct 1 0:00 1:00 -;Zone A 0 __-b-dc X 1999; 0 _-b-dc X;
 R a mi ma - O Su<=25 2u 0 A;R a 1990 1991 - ap lastf 24 -0:30 -~Rule a min max - Oct Sun<=25 2:00u 0 A;Rule a 1990 1991 - Apr lastFri 24:00 -0:30 -;
 ";
 
 /// Sources that are refused, and the line with its cause: a word that fits two months; a saving of which the suffix says that it is
-/// standard time; a line of a zone that isn't there; links in a circle and to nothing; a ruleset without rules; names that stand twice;
-/// quotes that are left open; and a sharp within quotes, with which the plain form begins a comment.
+/// standard time; a line of a zone that isn't there; links in a circle and to nothing; a ruleset without rules, also where it has the name
+/// that another would get in the plain form; names that stand twice; quotes that are left open; and a sharp within quotes, with which the plain form begins a comment.
 const REFUSED: &str = "\
 Z A 0 - X;R d 1916 o - Ju 14 0 0 S~2 Month
 R d 1916 o - Jun 14 0 1s S~1 Saving
@@ -32,6 +33,7 @@ Z A 0 - X 1999~2 Continuation
 Z A 0 - X;L B C;L C B~2 Target
 L A B~1 Target
 Z A 0 b X~1 UnknownRuleset
+R b2 1990 o - O 1 0 1 -;Z A 0 _-b-dc X~2 UnknownRuleset
 Z A 0 - X;Z A 1 - Y~2 DuplicateZone
 Z A 0 - X;L A A~2 LinkIsZone
 Z A 0 - X;Z B 0 - Y;L A C;L B C~4 DuplicateLink

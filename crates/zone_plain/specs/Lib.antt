@@ -1,13 +1,22 @@
+-- Definitions: what public clauses say.
 pub mod LineValues
-pub mod Told
 pub mod Written
 pub mod Plain
+pub mod Named
 pub mod ReadBack
-pub mod ReadBackLaws
 pub mod WrittenLines
-pub mod WrittenLinesLaws
+pub mod Rebuilt
 pub mod Kept
-pub mod KeptLaws
 pub mod Files
 pub mod Causes
 pub mod Ends
+-- Laws: what a caller may use.
+pub mod NamedLaws
+pub mod PlacedLaws
+pub mod ReadBackLaws
+pub mod JoinedLaws
+pub mod WrittenLinesLaws
+pub mod KeptLaws
+-- Words of private clauses.
+pub mod Placed
+pub mod Told

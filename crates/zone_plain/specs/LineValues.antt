@@ -10,15 +10,13 @@ use Rattle.zone_plain_lines.specs.declared.cause.PlainCause.TheVariants as cause
 use Rattle.zone_source.specs.Lines.{lines_of}
 use Rattle.zone_plain_base.specs.LineFaults.{LineFault, at, numbered, onto}
 use Rattle.zone_plain_base.specs.Said.{if_said}
-use Rattle.zone_plain_names.specs.Renamed.{renamed}
+use Rattle.zone_plain_names.specs.Renamed.{deepest, renamed}
 
 -- the same of a line whose fields stand in its text; the text of a line without its comment and its quotes is text too
 abbrev pub meant_by : Bool → List ℕ → List (List ℕ) → Result LineValue PlainCause
-meant_by is_continued line found = if is_utf8 (laid_out line) then (do
-  meant ← meaning is_continued found
-  if_said (renamed meant)) else Err cause.NotText
+meant_by is_continued line found = if is_utf8 (laid_out line) then meaning is_continued found else Err cause.NotText
 
--- what a line means, with its ruleset by its name in the plain form, if that can say it
+-- what a line means, with its ruleset by the source's name
 unfoldable pub line_meaning : Bool → List ℕ → Result LineValue PlainCause
 line_meaning is_continued line = if is_utf8 line then (do
   found ← fields line
@@ -32,13 +30,30 @@ is_open_after is_open (continuation info) = is_some info.time
 is_open_after is_open (rule r) = false
 is_open_after is_open (link existing new) = false
 
--- the values of lines from the nth on; a line that isn't there is told as the one after the last
-unfoldable pub values_from : Bool → ℕ → List (List ℕ) → Result (List LineValue) LineFault
-values_from is_open n [] = if is_open then Err (at n cause.Continuation) else Ok []
-values_from is_open n (line ∷ lines) = do
-  v ← numbered n (line_meaning is_open line)
-  onto v (values_from (is_open_after is_open v) (suc n) lines)
+-- the values of lines from the nth on, as each is taken; a line that isn't there is told as the one after the last
+unfoldable pub values_from : (LineValue → Result LineValue PlainCause) → Bool → ℕ → List (List ℕ) → Result (List LineValue) LineFault
+values_from taken is_open n [] = if is_open then Err (at n cause.Continuation) else Ok []
+values_from taken is_open n (line ∷ lines) = do
+  meant ← numbered n (line_meaning is_open line)
+  v ← numbered n (taken meant)
+  onto v (values_from taken (is_open_after is_open meant) (suc n) lines)
 
--- the values of a source's lines, in order
+-- what the lines of a source mean, in order, with its own names
+unfoldable pub meant_in : List ℕ → Result (List LineValue) LineFault
+meant_in source = values_from Ok false 1 (lines_of source)
+
+abbrev pub depth_by : Result (List LineValue) LineFault → ℕ
+depth_by (Ok values) = deepest values
+depth_by (Err fault) = 0
+
+-- the most `_` with which the name of a ruleset begins; of a source that is refused nothing is written
+abbrev pub depth_of : List ℕ → ℕ
+depth_of source = depth_by (meant_in source)
+
+-- a line with its ruleset by its name in the plain form, if that can say it
+abbrev pub named : ℕ → LineValue → Result LineValue PlainCause
+named depth v = if_said (renamed depth v)
+
+-- the values of a source's lines, in order, with their rulesets by their names in the plain form
 unfoldable pub values_in : List ℕ → Result (List LineValue) LineFault
-values_in source = values_from false 1 (lines_of source)
+values_in source = values_from (named (depth_of source)) false 1 (lines_of source)

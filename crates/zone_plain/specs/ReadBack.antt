@@ -6,21 +6,25 @@ use Rattle.zone_values.specs.Values.{LineValue}
 use Rattle.zone_plain_text.specs.PlainTexts.{plain_text}
 use Rattle.zone_plain_links.specs.Settled.{settled}
 use Rattle.zone_plain_offsets.specs.WrittenOut.{written_out}
-use Rattle.zone_plain.specs.LineValues.{values_in}
+use Rattle.zone_plain.specs.LineValues.{meant_in}
+use Rattle.zone_plain.specs.Named.{named_lines}
 use Rattle.zone_plain.specs.Written.{written}
+use Rattle.zone_plain.specs.WrittenLines.{IsOneLine}
 
--- the line that is written of a value is UTF-8, and is read as this value
-abbrev pub IsReadAsMeant : LineValue → Type 0
-IsReadAsMeant v = (is_utf8 (plain_text v) ≡ true) × (value (plain_text v) ≡ Ok v)
+-- what is written of a value is UTF-8 and one line, and is read as this value
+pub record IsReadAsMeant (v : LineValue) : Type 0 where
+  pub text : is_utf8 (plain_text v) ≡ true
+  pub line : IsOneLine v
+  pub read : value (plain_text v) ≡ Ok v
 
 -- the bytes are written of what a source means, and each line of them is read as it is meant
 pub record IsReadBack (source bytes : List ℕ) : Type 0 where
-  -- what the lines of the source mean
-  pub values : List LineValue
-  pub meant : values_in source ≡ Ok values
-  -- the same with each link led to its zone
+  -- what the lines of the source mean, with its own names
+  pub meant : List LineValue
+  pub means : meant_in source ≡ Ok meant
+  -- the same with its rulesets by names that RULES can say, and with each link led to its zone
   pub linked : List LineValue
-  pub led : settled values ≡ Ok linked
+  pub led : settled (named_lines meant) ≡ Ok linked
   -- the same with `%z` written out
   pub out : List LineValue
   pub spelled : written_out linked ≡ Ok out

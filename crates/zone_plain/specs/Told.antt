@@ -8,20 +8,29 @@ use Rattle.zone_plain_base.specs.declared.error.PlainFault.{PlainFault}
 use Rattle.zone_plain_base.specs.declared.error.PlainFault.TheVariants as fault
 use Rattle.zone_plain_base.specs.declared.error.Refused.{Refused}
 use Rattle.zone_plain_base.specs.declared.error.Refused.TheVariants.{Cause, NoMemory}
-use Rattle.zone_plain.specs.LineValues.{line_meaning, is_open_after}
+use Rattle.zone_plain_lines.specs.Steps.{◌>>=◌}
+use Rattle.zone_plain_lines.specs.declared.cause.PlainCause.{PlainCause}
+use Rattle.zone_plain_names.specs.Renamed.{renamed}
+use Rattle.zone_plain.specs.LineValues.{line_meaning, is_open_after, named}
+
+-- what is added of a line of a source of that depth, if it can be said
+abbrev pub added_line : ℕ → Bool → List ℕ → Result LineValue PlainCause
+added_line depth is_open line = do
+  meant ← line_meaning is_open line
+  named depth meant
 
 -- a line was read and added, after which a line of the zone has to follow or not
-pub record IsReadLine (old new : List (List ℕ)) (is_open : Bool) (line : List ℕ) (is_open_now : Bool) : Type 0 where
+pub record IsReadLine (old new : List (List ℕ)) (depth : ℕ) (is_open : Bool) (line : List ℕ) (is_open_now : Bool) : Type 0 where
   pub value : LineValue
   pub meant : line_meaning is_open line ≡ Ok value
-  pub said : is_said value ≡ true
-  pub added : new ≡ old ++ plain_text value ∷ []
+  pub said : is_said (renamed depth value) ≡ true
+  pub added : new ≡ old ++ plain_text (renamed depth value) ∷ []
   pub open_now : is_open_now ≡ is_open_after is_open value
 
 -- why a line isn't read
-abbrev pub IsRefusedLine : Bool → List ℕ → Refused → Type 0
-IsRefusedLine is_open line (Cause c) = line_meaning is_open line ≡ Err c
-IsRefusedLine is_open line NoMemory = Unit {0}
+abbrev pub IsRefusedLine : ℕ → Bool → List ℕ → Refused → Type 0
+IsRefusedLine depth is_open line (Cause c) = added_line depth is_open line ≡ Err c
+IsRefusedLine depth is_open line NoMemory = Unit {0}
 
 -- the error tells the line's fault, or memory ran out
 abbrev pub IsLineFault : {A : Type 0} → Result A LineFault → PlainFault → Type 0

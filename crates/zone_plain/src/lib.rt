@@ -9,7 +9,7 @@ mod respond;
 mod running;
 mod whole;
 
-pub use laws::{plain_is_kept, written_is_read, written_lines};
+pub use laws::{plain_is_kept, written_is_read};
 pub use running::{run_plain, run_plain_surely};
 pub use whole::plain;
 pub use zone_plain_base::PlainFault;

@@ -3,7 +3,7 @@ ghost use Rattle.std.specs.Prelude.{◌≡◌, IfOk, IfErr};
 ghost use Rattle.std.specs.Str.{is_utf8};
 ghost use Rattle.zone_values.specs.Values.{line_value};
 ghost use Rattle.zone_plain_base.specs.Told.{IsToldBy};
-ghost use Rattle.zone_plain.specs.LineValues.{is_open_after};
+ghost use Rattle.zone_plain.specs.LineValues.{is_open_after, line_meaning};
 ghost use Rattle.zone_plain.specs.Told.{IsReadLine, IsRefusedLine};
 ghost use Rattle.zone_plain_lines.specs.Meanings.{meaning};
 ghost use Rattle.zone_plain_lines.specs.Quotes.{pieces};
@@ -12,7 +12,7 @@ use std::alloc::Global;
 use zone_line::{Line, LineReader};
 use zone_plain_base::{Refused, write_said};
 use zone_plain_lines::{PlainCause, fields_of, lay_out, meaning};
-use zone_plain_names::{renamed, said_name_of};
+use zone_plain_names::{said_name_of, under};
 use zone_source::{LineList, text_of};
 
 /// Whether a line of the zone has to follow, where one had to before.
@@ -48,19 +48,15 @@ fn parsed<'t>(alloc: Global, is_open: bool, text: &'t str) -> Result<Line<'t>, R
     }
 }
 
-/// Reads a line in its place, and adds its plain text to the lines, with its ruleset by its name in the plain form. Answers whether a
-/// line of the zone has to follow.
-pub(crate) fn read_line(
+/// What a line means in its place, with its ruleset by the source's name. Its fields are laid out in a text that lends itself to what it
+/// means.
+pub(crate) fn line_meant<'t>(
     alloc: Global,
-    reader: &mut LineReader<'_>,
     is_open: bool,
     line: &[u8],
-    laid: &mut Vec<u8>,
-    plain: &mut Vec<u8>,
-    lines: &mut LineList,
-) -> Result<bool, Refused>
-    ensures ok { IfOk result (IsReadLine lines.old lines.new is_open line.now) }
-    ensures err { IfErr result (IsRefusedLine is_open line.now) }
+    laid: &'t mut Vec<u8>,
+) -> Result<Line<'t>, Refused>
+    ensures { IsToldBy line_value result (line_meaning is_open line.now) }
 {
     if !is_text(line) {
         return Err(Refused::Cause(PlainCause::NotText));
@@ -72,13 +68,30 @@ pub(crate) fn read_line(
         Some(text) => text,
         None => return Err(Refused::Cause(PlainCause::NotText)),
     };
-    let meant = match parsed(alloc, is_open, text) {
+    parsed(alloc, is_open, text)
+}
+
+/// Reads a line in its place, and adds its plain text to the lines, with its ruleset by its name in the plain form of a source of which no
+/// name of a ruleset begins with more than `depth` times `_`. Answers whether a line of the zone has to follow.
+pub(crate) fn read_line(
+    alloc: Global,
+    reader: &mut LineReader<'_>,
+    depth: usize,
+    is_open: bool,
+    line: &[u8],
+    laid: &mut Vec<u8>,
+    plain: &mut Vec<u8>,
+    lines: &mut LineList,
+) -> Result<bool, Refused>
+    ensures ok { IfOk result (IsReadLine lines.old lines.new depth is_open line.now) }
+    ensures err { IfErr result (IsRefusedLine depth is_open line.now) }
+{
+    let meant = match line_meant(alloc, is_open, line, laid) {
         Ok(meant) => meant,
         Err(refused) => return Err(refused),
     };
-    let name = said_name_of(alloc, &meant)?;
-    let named = renamed(&meant, name.as_str());
-    if !write_said(alloc, reader, &named, plain)? {
+    let name = said_name_of(alloc, depth, &meant)?;
+    if !write_said(alloc, reader, &under(&meant, name.as_str()), plain)? {
         return Err(Refused::Cause(PlainCause::Unsayable));
     }
     lines.push(plain.as_slice())?;

@@ -4,6 +4,7 @@ ghost use Rattle.zone_source.specs.Zones.{source_value};
 ghost use Rattle.std.specs.Prelude.{map};
 ghost use Rattle.zone_plain_base.specs.LineFaults.{IsFaultOf};
 ghost use Rattle.zone_plain.specs.Plain.{plain_of};
+ghost use Rattle.zone_plain.specs.Rebuilt.{IsRebuilt};
 ghost use Rattle.zone_plain.specs.Written.{written};
 
 use crate::output::written;
@@ -17,13 +18,27 @@ use zone_source::{LIMIT, LineList};
 
 /// The plain form of a source in any form that `zic` reads: its rules, then its zones, then its links, each in the order of the
 /// source, a line each, with `%z` written out and each link led to its zone. A ruleset whose name RULES can't say has another name
-/// there. Each line is written so that `LineParser::parse_str` reads it as what is meant.
+/// there, and every other one its own. Each line is written so that `LineParser::parse_str` reads it as what is meant, and a source of
+/// what is written has the rules, the zones and the links that are meant.
 ///
 /// # Errors
 ///
 /// `Line` tells the first line that is refused, and why; `TooLong` comes where more than 16,777,216 bytes would be written.
-#[tactic(auto, unfolding(crate::specs::Plain::plain_of))]
 pub fn plain(alloc: Global, parser: &LineParser, source: &[u8]) -> Result<Vec<u8>, PlainFault>
+    requires { length source.now ≤ LIMIT }
+    ensures ok { IfOk result (λ bytes. plain_of source.now ≡ Ok bytes.items) }
+    ensures read { IfOk result (λ bytes. IsRebuilt source.now bytes.items) }
+    ensures err { IfErr result (IsFaultOf (plain_of source.now)) }
+{
+    match plain_of(alloc, parser, source) {
+        Ok(bytes) => Ok(bytes),
+        Err(fault) => Err(fault),
+    }
+}
+
+/// What is written of a source, or why nothing is.
+#[tactic(auto, unfolding(crate::specs::Plain::plain_of))]
+fn plain_of(alloc: Global, parser: &LineParser, source: &[u8]) -> Result<Vec<u8>, PlainFault>
     requires { length source.now ≤ LIMIT }
     ensures ok { IfOk result (λ bytes. plain_of source.now ≡ Ok bytes.items) }
     ensures err { IfErr result (IsFaultOf (plain_of source.now)) }

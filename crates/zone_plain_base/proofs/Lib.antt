@@ -1,1 +1,2 @@
 pub mod ReadingLemmas
+mod WorkedSaid

@@ -1,7 +1,9 @@
 -- What can be said: what is written of a line is read as what the line means.
-use Rattle.std.specs.Prelude.{ℕ, List, Bool, false, ◌&&◌, Result, Ok, Err, if◌then◌else◌}
+use Rattle.std.specs.Prelude.{ℕ, ◌-◌, ◌==◌, List, length, slice_index, Bool, false, ◌&&◌, not, Result, Ok, Err, if◌then◌else◌}
+use Rattle.std.specs.List.{list_any}
 use Rattle.std.specs.Str.{is_utf8}
 use Rattle.zone_line.specs.LineValues.{value}
+use Rattle.zone_source.specs.Lines.{is_line_feed}
 use Rattle.zone_values.specs.Faults.{Fault}
 use Rattle.zone_values.specs.Values.{LineValue}
 use Rattle.zone_plain_lines.specs.declared.cause.PlainCause.{PlainCause}
@@ -14,8 +16,17 @@ abbrev pub is_read_as : LineValue → Result LineValue Fault → Bool
 is_read_as meant (Ok read) = same_line read meant
 is_read_as meant (Err refused) = false
 
+-- it has a carriage return at its end
+abbrev pub ends_returned : List ℕ → Bool
+ends_returned text = slice_index text (length text - 1) == 13
+
+-- before a line feed it is a line of a source as it stands
+abbrev pub is_one_line : List ℕ → Bool
+is_one_line text = not (list_any is_line_feed text) && not (ends_returned text)
+
+-- it is the text of one line, and what was read of it is this
 unfoldable pub is_said_by : LineValue → List ℕ → Bool
-is_said_by meant text = is_utf8 text && is_read_as meant (value text)
+is_said_by meant text = is_utf8 text && (is_one_line text && is_read_as meant (value text))
 
 unfoldable pub is_said : LineValue → Bool
 is_said meant = is_said_by meant (plain_text meant)

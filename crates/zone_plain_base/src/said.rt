@@ -2,14 +2,31 @@
 ghost use Rattle.std.specs.Prelude.{◌≡◌, IfOk};
 ghost use Rattle.zone_values.specs.Values.{line_value};
 ghost use Rattle.zone_plain_text.specs.PlainTexts.{plain_text};
-ghost use Rattle.zone_plain_base.specs.Said.{is_said_by, is_said};
+ghost use Rattle.zone_plain_base.specs.Said.{ends_returned, is_one_line, is_said_by, is_said};
 
 use std::alloc::{AllocError, Global};
 use zone_line::{Error, Line, LineReader};
 use zone_plain_text::{put_plain, same_line};
 use zone_source::text_of;
 
-/// Whether the text is read as this.
+/// Whether a text has a carriage return at its end.
+fn ends_returned(text: &[u8]) -> bool
+    ensures { result ≡ ends_returned text.now }
+{
+    match text.last() {
+        Some(last) => *last == b'\r',
+        None => false,
+    }
+}
+
+/// Whether a text is one line of a source as it stands: it has no line feed, and no carriage return at its end, which reading would take.
+fn is_one_line(text: &[u8]) -> bool
+    ensures { result ≡ is_one_line text.now }
+{
+    !text.contains(&b'\n') && !ends_returned(text)
+}
+
+/// Whether the text is one line that is read as this.
 #[tactic(auto, unfolding(crate::specs::Said::is_said_by))]
 fn is_said_by(
     alloc: Global,
@@ -22,6 +39,9 @@ fn is_said_by(
     let Some(text) = text_of(text) else {
         return Ok(false);
     };
+    if !is_one_line(text.as_bytes()) {
+        return Ok(false);
+    }
     match reader.parse_str(alloc, text) {
         Ok(read) => Ok(same_line(&read, meant)),
         Err(Error::NoMemory) => Err(AllocError),
@@ -29,7 +49,7 @@ fn is_said_by(
     }
 }
 
-/// Writes what a line means, in place of what the buffer has, and answers whether it is read as this.
+/// Writes what a line means, in place of what the buffer has, and answers whether it is one line that is read as this.
 ///
 /// # Errors
 ///

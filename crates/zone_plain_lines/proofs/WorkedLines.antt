@@ -181,6 +181,13 @@ a_continuation : meaning true (codes "0" ∷ codes "-" ∷ codes "Rule" ∷ code
 unfolding meaning info_of offset_of saving_of is_format end_of end_at year_of from_word signed_in amount_spec amount_of clock_of unsigned number_between value_in
 a_continuation = refl
 
+-- none by its first word: where a line of the zone has to follow, a link is no offset and a rule has too many fields
+not_by_word : map (meaning true) ((codes "Link" ∷ codes "A" ∷ codes "B" ∷ []) ∷ (codes "R" ∷ codes "d" ∷ codes "1916" ∷ codes "o" ∷ codes "-" ∷ codes "Jun" ∷ codes "14" ∷ codes "23s" ∷ codes "1"
+    ∷ codes "S" ∷ []) ∷ [])
+    ≡ Err cause.Time ∷ Err cause.FieldCount ∷ []
+unfolding meaning info_of offset_of amount_of clock_of unsigned number_between value_in
+not_by_word = refl
+
 other_lines : map (meaning false) ((codes "l" ∷ codes "B" ∷ codes "C" ∷ []) ∷ [] ∷ (codes "L" ∷ codes "B" ∷ []) ∷ (codes "Zone" ∷ codes "A" ∷ codes "1" ∷ codes "-" ∷ [])
     ∷ (codes "R" ∷ codes "b" ∷ []) ∷ (codes "1" ∷ codes "-" ∷ codes "X" ∷ []) ∷ [])
     ≡ Ok (link (codes "B") (codes "C")) ∷ Ok space ∷ Err cause.FieldCount ∷ Err cause.FieldCount ∷ Err cause.FieldCount ∷ Err cause.LineType ∷ []

@@ -1,5 +1,5 @@
 //! What becomes of a line.
-ghost use Rattle.std.specs.Prelude.{◌≡◌, ℕ, List, [], ◌∷◌, ◌++◌, Ok, None, Some, option_map, bytes_eq, length, IfOk, IfErr};
+ghost use Rattle.std.specs.Prelude.{◌≡◌, ℕ, List, [], ◌∷◌, ◌++◌, Ok, None, Some, option_map, bytes_eq, length, slice_get, unwrap_or, IfOk, IfErr};
 ghost use Rattle.std.specs.FinMap as map;
 ghost use Rattle.zone_values.specs.Values.{LineValue, line_value, saving_value};
 ghost use Rattle.zone_values.specs.Values as value;
@@ -12,7 +12,7 @@ ghost use Rattle.zone_plain_links.specs.Stands.{IsDeclared, IsAt, IsOutcome, IsR
 use crate::lead::{keep, zone_place};
 use crate::names::{Declared, Seen, add_target};
 use owned::{Items, Text, TextMap};
-use std::alloc::{AllocError, Global};
+use std::alloc::Global;
 use zone_line::{Line, LineReader};
 use zone_plain_base::{Refused, write_said};
 use zone_plain_lines::PlainCause;
@@ -106,23 +106,26 @@ fn link_place(
     }
 }
 
+/// The name at a place, and no letters past the end.
+fn name_at(names: &Items<Text>, place: usize) -> &str
+    ensures { result.now ≡ unwrap_or (slice_get names.now place) [] }
+{
+    match names.get(place) {
+        Some(name) => name.as_str(),
+        None => "",
+    }
+}
+
 /// A link to the zone at a place among the names, or a blank line.
-fn line_of<'a>(
-    names: &'a Items<Text>,
-    place: Option<usize>,
-    new: &'a str,
-) -> Result<Line<'a>, AllocError>
-    ensures { IfOk result (λ line. line_value line ≡ line_at_place names.now place new.now) }
+fn line_of<'a>(names: &'a Items<Text>, place: Option<usize>, new: &'a str) -> Line<'a>
+    ensures { line_value result ≡ line_at_place names.now place new.now }
 {
     match place {
-        None => Ok(Line::Space),
-        Some(place) => match names.get(place) {
-            Some(name) => Ok(Line::Link(Link {
-                existing: name.as_str(),
-                new,
-            })),
-            None => Err(AllocError),
-        },
+        None => Line::Space,
+        Some(place) => Line::Link(Link {
+            existing: name_at(names, place),
+            new,
+        }),
     }
 }
 
@@ -150,7 +153,7 @@ fn settle_link(
         Ok(place) => place,
         Err(refused) => return Err(refused),
     };
-    let meant = line_of(&declared.names, place, link.new)?;
+    let meant = line_of(&declared.names, place, link.new);
     if !write_said(alloc, reader, &meant, text)? {
         return Err(Refused::Cause(PlainCause::Unsayable));
     }

@@ -1,3 +1,5 @@
+-- definitions
 pub mod Names
-pub mod NameLaws
 pub mod Renamed
+-- laws
+pub mod NameLaws

@@ -1,6 +1,7 @@
 -- The names of rulesets in the plain form, whose RULES column says letters, hyphens and underscores alone.
-use Rattle.std.specs.Prelude.{ℕ, ◌+◌, ◌/◌, ◌%◌, ◌==◌, Bool, ◌&&◌, ◌||◌, not, List, [], ◌∷◌, ◌++◌, take, flat_map, codes, bytes_eq, if◌then◌else◌}
+use Rattle.std.specs.Prelude.{ℕ, ◌+◌, ◌/◌, ◌%◌, ◌==◌, Bool, ◌||◌, List, [], ◌∷◌, ◌++◌, flat_map, replicate, codes, if◌then◌else◌}
 use Rattle.std.specs.Char.{is_ascii_alphabetic}
+use Rattle.std.specs.List.{prefix_len}
 use Rattle.zone_line.specs.Fields.{is_ruleset_name}
 
 -- an ASCII letter or `_`
@@ -15,14 +16,14 @@ letter bits = 97 + bits
 abbrev pub byte_text : ℕ → List ℕ
 byte_text byte = if is_letter byte then byte ∷ [] else 45 ∷ letter (byte / 16) ∷ letter (byte % 16) ∷ []
 
--- it begins as the names do that stand for others
-abbrev pub is_marked : List ℕ → Bool
-is_marked name = bytes_eq (take 2 name) (codes "_-")
+-- how many `_` a name begins with
+abbrev pub leading : List ℕ → ℕ
+leading name = prefix_len (λ byte. byte == 95) name
 
--- RULES can say the name, and it doesn't begin so
-abbrev pub stays : List ℕ → Bool
-stays name = is_ruleset_name name && not (is_marked name)
+-- so many `_`, one more and a hyphen: no name begins so that begins with no more `_` than so many
+abbrev pub mark : ℕ → List ℕ
+mark depth = replicate depth 95 ++ codes "_-"
 
--- a name that stays, or `_-` and what stands for its bytes
-unfoldable pub said_name : List ℕ → List ℕ
-said_name name = if stays name then name else codes "_-" ++ flat_map byte_text name
+-- a name that RULES can say, or a mark and what stands for its bytes
+unfoldable pub said_name : ℕ → List ℕ → List ℕ
+said_name depth name = if is_ruleset_name name then name else mark depth ++ flat_map byte_text name

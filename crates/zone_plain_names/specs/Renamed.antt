@@ -1,7 +1,8 @@
 -- Lines with their rulesets by the names of the plain form.
-use Rattle.std.specs.Prelude.{ℕ, List, []}
+use Rattle.std.specs.Prelude.{ℕ, List, [], ◌∷◌, Bool, bytes_eq, max}
+use Rattle.std.specs.List.{list_any}
 use Rattle.zone_values.specs.Values.{SavingValue, no_saving, one_off, multiple, InfoValue, LineValue, space, zone, continuation, rule, link}
-use Rattle.zone_plain_names.specs.Names.{said_name}
+use Rattle.zone_plain_names.specs.Names.{leading, said_name}
 
 -- the ruleset in RULES, or nothing
 abbrev pub saved_by : SavingValue → List ℕ
@@ -16,6 +17,15 @@ ruleset_of (zone name info) = saved_by info.saving
 ruleset_of (continuation info) = saved_by info.saving
 ruleset_of (rule r) = r.name
 ruleset_of (link existing new) = []
+
+-- a line of a source is of that ruleset or names it
+abbrev pub has_name : List LineValue → List ℕ → Bool
+has_name values name = list_any (λ v. bytes_eq (ruleset_of v) name) values
+
+-- the most `_` with which the name of a source's ruleset begins
+unfoldable pub deepest : List LineValue → ℕ
+deepest [] = 0
+deepest (v ∷ values) = max (leading (ruleset_of v)) (deepest values)
 
 -- another name for a ruleset in RULES
 abbrev pub saving_by : SavingValue → List ℕ → SavingValue
@@ -43,6 +53,6 @@ under (rule r) name = rule (record {
 })
 under (link existing new) name = link existing new
 
--- the line with its ruleset by the name of the plain form
-abbrev pub renamed : LineValue → LineValue
-renamed v = under v (said_name (ruleset_of v))
+-- the line with its ruleset by the name of the plain form, where no name of a ruleset begins with more `_` than so many
+abbrev pub renamed : ℕ → LineValue → LineValue
+renamed depth v = under v (said_name depth (ruleset_of v))

@@ -6,5 +6,5 @@ mod line;
 mod name;
 
 pub use laws::said_names;
-pub use line::{renamed, said_name_of};
+pub use line::{deeper, said_name_of, under};
 pub use name::said_name;

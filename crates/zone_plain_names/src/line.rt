@@ -1,10 +1,10 @@
 //! Lines with the rulesets that they name.
-ghost use Rattle.std.specs.Prelude.{◌≡◌, string_bytes, IfOk};
+ghost use Rattle.std.specs.Prelude.{◌≡◌, string_bytes, max, IfOk};
 ghost use Rattle.zone_values.specs.Values.{line_value, info_value, saving_value};
-ghost use Rattle.zone_plain_names.specs.Names.{said_name};
-ghost use Rattle.zone_plain_names.specs.Renamed.{saved_by, info_by, ruleset_of, under, renamed};
+ghost use Rattle.zone_plain_names.specs.Names.{leading, said_name};
+ghost use Rattle.zone_plain_names.specs.Renamed.{saved_by, info_by, ruleset_of, under};
 
-use crate::name::said_name;
+use crate::name::{leading, said_name};
 use std::alloc::{AllocError, Global};
 use zone_values::{Line, Rule, Saving, Zone, ZoneInfo};
 
@@ -45,7 +45,7 @@ fn info_by<'a>(info: &ZoneInfo<'a>, name: &'a str) -> ZoneInfo<'a>
 }
 
 /// The line with another name for its ruleset.
-fn under<'a>(line: &Line<'a>, name: &'a str) -> Line<'a>
+pub fn under<'a>(line: &Line<'a>, name: &'a str) -> Line<'a>
     ensures { line_value result ≡ under (line_value line.now) name.now }
 {
     match *line {
@@ -60,21 +60,28 @@ fn under<'a>(line: &Line<'a>, name: &'a str) -> Line<'a>
     }
 }
 
-/// The name in the plain form of the ruleset that a line is of or names, or nothing where it names none.
+/// The larger of two numbers.
+fn larger(one: usize, other: usize) -> usize
+    ensures { result ≡ max one other }
+{
+    if one < other { other } else { one }
+}
+
+/// The most `_` with which the name of a ruleset begins, where it was `depth` before this line.
+pub fn deeper(depth: usize, line: &Line<'_>) -> usize
+    ensures { result ≡ max depth (leading (ruleset_of (line_value line.now))) }
+{
+    larger(depth, leading(ruleset_of(line).as_bytes()))
+}
+
+/// The name in the plain form of the ruleset that a line is of or names, or nothing where it names none, in a source of which no name of
+/// a ruleset begins with more than `depth` times `_`.
 ///
 /// # Errors
 ///
 /// Want of memory alone.
-pub fn said_name_of(alloc: Global, line: &Line<'_>) -> Result<String, AllocError>
-    ensures { IfOk result (λ name. string_bytes name ≡ said_name (ruleset_of (line_value line.now))) }
+pub fn said_name_of(alloc: Global, depth: usize, line: &Line<'_>) -> Result<String, AllocError>
+    ensures { IfOk result (λ name. string_bytes name ≡ said_name depth (ruleset_of (line_value line.now))) }
 {
-    said_name(alloc, ruleset_of(line))
-}
-
-/// What a line means, with its ruleset by its name in the plain form, which is that of `said_name_of` for this line.
-pub fn renamed<'a>(line: &Line<'a>, name: &'a str) -> Line<'a>
-    requires { name.now ≡ said_name (ruleset_of (line_value line.now)) }
-    ensures { line_value result ≡ renamed (line_value line.now) }
-{
-    under(line, name)
+    said_name(alloc, depth, ruleset_of(line))
 }

@@ -1,7 +1,7 @@
 //! The name of a ruleset in the plain form.
-ghost use Rattle.std.specs.Prelude.{◌≡◌, ◌<◌, ◌++◌, flat_map, string_bytes, OnOk, IfOk};
+ghost use Rattle.std.specs.Prelude.{◌≡◌, ◌<◌, ◌++◌, flat_map, replicate, string_bytes, OnOk, IfOk};
 ghost use Rattle.zone_line.specs.Fields.{is_ruleset_name};
-ghost use Rattle.zone_plain_names.specs.Names.{is_letter, letter, byte_text, is_marked, stays, said_name};
+ghost use Rattle.zone_plain_names.specs.Names.{is_letter, letter, byte_text, leading, said_name};
 
 use std::alloc::{AllocError, Global};
 
@@ -19,18 +19,11 @@ fn is_ruleset_name(name: &str) -> bool
     name.bytes().all(|byte| byte == b'-' || byte == b'_' || byte.is_ascii_alphabetic())
 }
 
-/// Whether the name begins as those do that stand for others.
-fn is_marked(name: &str) -> bool
-    ensures { result ≡ is_marked name.now }
+/// How many `_` a name begins with.
+pub(crate) fn leading(name: &[u8]) -> usize
+    ensures { result ≡ leading name.now }
 {
-    name.strip_prefix("_-").is_some()
-}
-
-/// Whether the name stays as it is.
-fn stays(name: &str) -> bool
-    ensures { result ≡ stays name.now }
-{
-    is_ruleset_name(name) && !is_marked(name)
+    name.iter().take_while(|byte| **byte == b'_').count()
 }
 
 /// A letter from `a` to `p`.
@@ -64,22 +57,34 @@ fn put_bytes(text: &mut String, name: &[u8]) -> Result<(), AllocError>
     Ok(())
 }
 
-/// The name of a ruleset in the plain form. One that its RULES column can say stays, as far as it doesn't begin with `_-`; for any
-/// other stand `_-` and the bytes of the name, a letter or `_` as it is and any other byte as `-` and two letters from `a` to `p`, one
-/// for each four of its bits: `b2` becomes `_-b-dc`.
+/// Writes so many `_`.
+fn put_run(text: &mut String, count: usize) -> Result<(), AllocError>
+    ensures { OnOk result (string_bytes text.new ≡ string_bytes text.old ++ replicate count 95) }
+{
+    for _ in 0..count {
+        text.push('_')?;
+    }
+    Ok(())
+}
+
+/// The name of a ruleset in the plain form of a source, of which no name of a ruleset begins with more than `depth` times `_`. One that
+/// its RULES column can say stays. For any other stand a mark, `depth` times `_` and then `_-`, with which no name of the source begins,
+/// and the bytes of the name, a letter or `_` as it is and any other byte as `-` and two letters from `a` to `p`, one for each four of
+/// its bits: where no name begins with `_`, `b2` becomes `_-b-dc`.
 ///
 /// # Errors
 ///
 /// Want of memory alone.
-#[tactic(auto, unfolding(crate::specs::Names::said_name))]
-pub fn said_name(alloc: Global, name: &str) -> Result<String, AllocError>
-    ensures { IfOk result (λ said. string_bytes said ≡ said_name name.now) }
+#[tactic(auto, unfolding(crate::specs::Names::said_name), using(std::proofs::Common::append_assoc))]
+pub fn said_name(alloc: Global, depth: usize, name: &str) -> Result<String, AllocError>
+    ensures { IfOk result (λ said. string_bytes said ≡ said_name depth name.now) }
 {
     let mut said = String::new(alloc);
-    if stays(name) {
+    if is_ruleset_name(name) {
         said.push_str(name)?;
         return Ok(said);
     }
+    put_run(&mut said, depth)?;
     said.push_str("_-")?;
     put_bytes(&mut said, name.as_bytes())?;
     Ok(said)

@@ -16,17 +16,17 @@ returns-in-Err-clause-err c values before here =
 
 pub returns-then-not-branch-clause-err : goal.returns-then-not-branch-clause-err
 returns-then-not-branch-clause-err c values before here =
-    link_unsaid values before _ _ (line_value c.in_ok-meant.meant)
+    link_unsaid values before _ _ (line_value c.line_of-meant.result)
     (sym (is_declared _ values _ _ here.declared c.contains_key.ensures) ∙ c.if-contains_key.false)
-    ((c.in-Ok.ensures.ok values before here).0 ∙ ap Ok (sym c.in_ok-meant.ensures))
+    ((c.in-Ok.ensures.ok values before here).0 ∙ ap Ok (sym c.line_of-meant.ensures))
     (sym c.in_ok-write_said.ensures.said ∙ c.if-not-branch.true)
 
 pub returns-clause-ok : goal.returns-clause-ok
 returns-clause-ok c values before here =
     let found = c.in-Ok.ensures.ok values before here in (
-      link_written values before _ _ (line_value c.in_ok-meant.meant) _ _
+      link_written values before _ _ (line_value c.line_of-meant.result) _ _
           (sym (is_declared _ values _ _ here.declared c.contains_key.ensures) ∙ c.if-contains_key.false)
-          (found.0 ∙ ap Ok (sym c.in_ok-meant.ensures)) (sym c.in_ok-write_said.ensures.said ∙ c.if-not-branch.false)
+          (found.0 ∙ ap Ok (sym c.line_of-meant.ensures)) (sym c.in_ok-write_said.ensures.said ∙ c.if-not-branch.false)
           c.in_ok-write_said.ensures.text c.link_size.ensures,
       found.1,
     )

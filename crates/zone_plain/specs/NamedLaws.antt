@@ -1,0 +1,81 @@
+-- The values of a source are what it means, under names that can be said.
+use Rattle.std.proofs.Common.{◌≡◌, ℕ, suc, List, [], ◌∷◌, map, All, Bool, true, false, cond, Result, Ok, Err, IfOk, refl, sym, ap, ◌∙◌, subst}
+use Rattle.std.proofs.lemmas.List.Elements.{All-nil, All-cons, All-head, All-tail}
+use Rattle.zone_source.specs.Lines.{lines_of}
+use Rattle.zone_values.specs.Values.{LineValue, space, zone, continuation, rule, link, SavingValue, no_saving, one_off, multiple}
+use Rattle.zone_plain_lines.specs.Steps.{◌>>=◌}
+use Rattle.zone_plain_lines.specs.declared.cause.PlainCause.{PlainCause}
+use Rattle.zone_plain_lines.specs.declared.cause.PlainCause.TheVariants as cause
+use Rattle.zone_plain_base.specs.LineFaults.{LineFault, at, numbered, onto}
+use Rattle.zone_plain_base.specs.Said.{is_said, if_said}
+use Rattle.zone_plain_names.specs.Names.{said_name}
+use Rattle.zone_plain_names.specs.NameLaws.{stays_so}
+use Rattle.zone_plain_names.specs.Renamed.{saved_by, ruleset_of, saving_by, info_by, under, deepest, renamed}
+use Rattle.zone_plain.specs.LineValues.{line_meaning, is_open_after, values_from, meant_in, depth_by, depth_of, named, values_in}
+use Rattle.zone_plain.specs.Named.{IsSaid, named_lines, IsNamed, IsSaidAsMeant}
+
+-- what is taken as it is, and the same under the names of the plain form
+record AreNamed (depth : ℕ) (meant : Result (List LineValue) LineFault) (values : List LineValue) : Type 0 where
+  pub found : List LineValue
+  pub means : meant ≡ Ok found
+  pub by_name : values ≡ map (renamed depth) found
+  pub said : All IsSaid values
+
+named_one : (depth n : ℕ) (v : LineValue) (values found : List LineValue) (more : Result (List LineValue) LineFault) → more ≡ Ok found → values ≡ map (renamed depth) found → All IsSaid values
+    → IsSaid (renamed depth v) → AreNamed depth (onto v more) (renamed depth v ∷ values)
+named_one depth n v values found more means by_name all said = record {
+  found = v ∷ found;
+  means = ap (onto v) means;
+  by_name = ap (λ vs. renamed depth v ∷ vs) by_name;
+  said = All-cons IsSaid (renamed depth v) values said all;
+}
+
+named_from : (depth : ℕ) (is_open : Bool) (n : ℕ) (lines : List (List ℕ))
+    → IfOk (values_from (named depth) is_open n lines) (AreNamed depth (values_from Ok is_open n lines))
+unfolding values_from
+named_from depth true n [] = tt
+named_from depth false n [] = record { found = []; means = refl; by_name = refl; said = All-nil IsSaid }
+named_from depth is_open n (line ∷ lines) =
+    by (line_meaning is_open line) (λ v. named_from depth (is_open_after is_open v) (suc n) lines)
+  where
+    rest : (v : LineValue) (r : Result (List LineValue) LineFault) → IsSaid (renamed depth v)
+        → IfOk r (AreNamed depth (values_from Ok (is_open_after is_open v) (suc n) lines))
+        → IfOk (onto (renamed depth v) r) (AreNamed depth (onto v (values_from Ok (is_open_after is_open v) (suc n) lines)))
+    rest v (Err e) said more = tt
+    rest v (Ok values) said more = named_one depth n v values more.found _ more.means more.by_name more.said said
+
+    test : (v : LineValue) (b : Bool) → is_said (renamed depth v) ≡ b
+        → IfOk (values_from (named depth) (is_open_after is_open v) (suc n) lines) (AreNamed depth (values_from Ok (is_open_after is_open v) (suc n) lines))
+        → IfOk (◌>>=◌ (numbered n (cond b (Ok (renamed depth v)) (Err cause.Unsayable))) (λ w. onto w (values_from (named depth) (is_open_after is_open v) (suc n) lines)))
+        (AreNamed depth (onto v (values_from Ok (is_open_after is_open v) (suc n) lines)))
+    test v false e more = tt
+    test v true e more = rest v (values_from (named depth) (is_open_after is_open v) (suc n) lines) e more
+
+    by : (r : Result LineValue PlainCause)
+        → ((v : LineValue) → IfOk (values_from (named depth) (is_open_after is_open v) (suc n) lines) (AreNamed depth (values_from Ok (is_open_after is_open v) (suc n) lines)))
+        → IfOk (◌>>=◌ (numbered n r) (λ v. ◌>>=◌ (numbered n (named depth v)) (λ w. onto w (values_from (named depth) (is_open_after is_open v) (suc n) lines))))
+        (AreNamed depth (◌>>=◌ (numbered n r) (λ v. ◌>>=◌ (numbered n (Ok v)) (λ w. onto w (values_from Ok (is_open_after is_open v) (suc n) lines)))))
+    by (Err e) more = tt
+    by (Ok v) more = test v (is_said (renamed depth v)) refl (more v)
+
+-- the values of a source are what it means, under the names of the plain form
+
+in_names : (source : List ℕ) → IfOk (values_in source) (IsNamed source)
+unfolding values_in meant_in
+in_names source = by (values_in source) (named_from (depth_of source) false 1 (lines_of source))
+  where
+    whole : (depth : ℕ) (values : List LineValue) (is : AreNamed depth (meant_in source) values) → depth ≡ deepest is.found → IsNamed source values
+    whole depth values is depth_is = record {
+      meant = is.found;
+      means = is.means;
+      by_name = is.by_name ∙ ap (λ d. map (renamed d) is.found) depth_is;
+      said = is.said;
+    }
+
+    by : (r : Result (List LineValue) LineFault) → IfOk r (AreNamed (depth_of source) (meant_in source)) → IfOk r (IsNamed source)
+    by (Err e) is = tt
+    by (Ok values) is = whole (depth_of source) values is (ap depth_by is.means)
+
+-- the values of a source are what it means, under the names of the plain form
+pub is_named : (source : List ℕ) (values : List LineValue) → values_in source ≡ Ok values → IsNamed source values
+is_named source values h = subst (λ r. IfOk r (IsNamed source)) h (in_names source)
