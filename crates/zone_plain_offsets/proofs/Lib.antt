@@ -1,3 +1,4 @@
+pub mod FormatLemmas
 pub mod PairLemmas
 pub mod NameLemmas
 pub mod GroupLemmas

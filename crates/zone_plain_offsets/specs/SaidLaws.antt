@@ -6,7 +6,7 @@ use Rattle.std.proofs.lemmas.List.Elements.{All-nil, All-cons, All-head, All-tai
 use Rattle.zone_values.specs.Values.{RuleValue, LineValue, rule}
 use Rattle.zone_plain_base.specs.Said.{is_said}
 use Rattle.zone_plain_offsets.specs.OffsetTexts.{has_text}
-use Rattle.zone_plain_offsets.specs.Pairs.{Pair, Asked, nothing, total, under, asked, is_same, with_pair, joined_by, pairs_from, pairs_of}
+use Rattle.zone_plain_offsets.specs.Pairs.{Pair, Asked, nothing, total, under, asked, is_same, joined_by, pairs_from, pairs_of}
 use Rattle.zone_plain_offsets.specs.Made.{total_of, made_rule, rules_named, rules_for, is_rule_said, are_rules_said, changed_by, changed, is_changed_said, name_in, made}
 use Rattle.zone_plain_offsets.specs.WrittenOut.{unsaid_from, written_unless, written_out}
 

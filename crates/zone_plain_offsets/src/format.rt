@@ -1,5 +1,5 @@
 //! Formats with `%z`.
-ghost use Rattle.std.specs.Prelude.{◌≡◌, option_map, IfOk};
+ghost use Rattle.std.specs.Prelude.{◌≡◌, option_map, string_bytes, IfOk};
 ghost use Rattle.zone_plain_lines.specs.Numbers.{cut};
 ghost use Rattle.zone_plain_offsets.specs.Formats.{after_z, around_mark};
 ghost use Rattle.zone_plain_offsets.specs.Made.{filled};
@@ -13,17 +13,14 @@ pub(crate) struct Around<'t> {
     /// What stands before it.
     pub(crate) before: &'t str,
     /// What stands after it.
-    pub(crate) after: &'t [u8],
+    pub(crate) after: &'t str,
 }
 
 /// What follows a `z`, where the text begins with one.
-fn after_z(text: &[u8]) -> Option<&[u8]>
+fn after_z(text: &str) -> Option<&str>
     ensures { option_map (λ rest. rest.now) result ≡ after_z text.now }
 {
-    match text {
-        [first, rest @ ..] if *first == b'z' => Some(rest),
-        _ => None,
-    }
+    text.strip_prefix('z')
 }
 
 /// What stands before the first `%`, and what stands after it.
@@ -39,18 +36,18 @@ pub(crate) fn around_mark(format: &str) -> Option<Around<'_>>
     ensures { option_map parts_shown result ≡ around_mark format.now }
 {
     let (before, after) = cut(format)?;
-    let after = after_z(after.as_bytes())?;
+    let after = after_z(after)?;
     Some(Around { before, after })
 }
 
 /// The parts of a format with a text between.
 #[tactic(auto, using(std::proofs::Common::append_assoc))]
-pub(crate) fn filled(alloc: Global, parts: &Around<'_>, text: &[u8]) -> Result<Vec<u8>, AllocError>
-    ensures { IfOk result (λ format. format.items ≡ filled (parts_shown parts.now) text.now) }
+pub(crate) fn filled(alloc: Global, parts: &Around<'_>, text: &str) -> Result<String, AllocError>
+    ensures { IfOk result (λ format. string_bytes format ≡ filled (parts_shown parts.now) text.now) }
 {
-    let mut format = Vec::new(alloc);
-    format.extend_from_slice(parts.before.as_bytes())?;
-    format.extend_from_slice(text)?;
-    format.extend_from_slice(parts.after)?;
+    let mut format = String::new(alloc);
+    format.push_str(parts.before)?;
+    format.push_str(text)?;
+    format.push_str(parts.after)?;
     Ok(format)
 }

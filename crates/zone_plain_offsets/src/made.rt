@@ -10,21 +10,7 @@ use crate::offset::{named_total, offset_text};
 use std::alloc::{AllocError, Global};
 use zone_line::{Line, LineReader, Rule};
 use zone_plain_base::write_said;
-use zone_source::{LineList, text_of};
-
-/// The text of bytes that were written as one.
-///
-/// # Errors
-///
-/// Bytes that are no text, which none that were written as one are.
-pub(crate) fn text_in(bytes: &[u8]) -> Result<&str, AllocError>
-    ensures { IfOk result (λ text. text.now ≡ bytes.now) }
-{
-    match text_of(bytes) {
-        Some(text) => Ok(text),
-        None => Err(AllocError),
-    }
-}
+use zone_source::LineList;
 
 /// Adds a line, if it can be said. Answers whether it can.
 pub(crate) fn add_said(
@@ -75,9 +61,8 @@ fn add_rule(
         Some(total) => total,
         None => return Ok(false),
     };
-    let text = offset_text(alloc, total)?;
-    let letters = text_in(text.as_slice())?;
-    let is_said = add_said(alloc, reader, &renamed(old, name, letters), made)?;
+    let letters = offset_text(alloc, total)?;
+    let is_said = add_said(alloc, reader, &renamed(old, name, letters.as_str()), made)?;
     Ok(is_said)
 }
 

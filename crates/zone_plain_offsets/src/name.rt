@@ -1,5 +1,5 @@
 //! The names of the rulesets that are made.
-ghost use Rattle.std.specs.Prelude.{◌≡◌, ◌++◌, map, decimal, max, replicate, OnOk, IfOk};
+ghost use Rattle.std.specs.Prelude.{◌≡◌, ◌<◌, ◌++◌, map, decimal, max, replicate, string_bytes, OnOk, IfOk};
 ghost use Rattle.zone_values.specs.Values.{line_value};
 ghost use Rattle.zone_plain_offsets.specs.Names.{leading, leading_of, deepest, front, letter, made_name};
 
@@ -55,15 +55,16 @@ pub(crate) fn front(lines: &[Line<'_>]) -> Result<usize, AllocError>
 }
 
 /// The byte of a digit as a letter from a to j.
-fn letter(digit: u8) -> u8
-    ensures { result ≡ letter digit }
+fn letter(digit: u8) -> char
+    ensures letter { result ≡ letter digit }
+    ensures ascii { result < 128 }
 {
-    b'a' + digit % 16
+    char::from(b'a' + digit % 16)
 }
 
 /// Writes digits as letters.
-fn put_letters(into: &mut Vec<u8>, digits: &[u8]) -> Result<(), AllocError>
-    ensures { OnOk result (into.new.items ≡ into.old.items ++ map letter digits.now) }
+fn put_letters(into: &mut String, digits: &[u8]) -> Result<(), AllocError>
+    ensures { OnOk result (string_bytes into.new ≡ string_bytes into.old ++ map letter digits.now) }
 {
     for digit in digits {
         into.push(letter(*digit))?;
@@ -72,21 +73,21 @@ fn put_letters(into: &mut Vec<u8>, digits: &[u8]) -> Result<(), AllocError>
 }
 
 /// Writes a run of `_`.
-fn put_run(into: &mut Vec<u8>, run: usize) -> Result<(), AllocError>
-    ensures { OnOk result (into.new.items ≡ into.old.items ++ replicate run 95) }
+fn put_run(into: &mut String, run: usize) -> Result<(), AllocError>
+    ensures { OnOk result (string_bytes into.new ≡ string_bytes into.old ++ replicate run 95) }
 {
     for _ in 0..run {
-        into.push(b'_')?;
+        into.push('_')?;
     }
     Ok(())
 }
 
 /// The name of the ruleset of that number, which counts from 0, after a run of `_`.
 #[tactic(auto, unfolding(crate::specs::Names::made_name))]
-pub(crate) fn made_name(alloc: Global, run: usize, number: usize) -> Result<Vec<u8>, AllocError>
-    ensures { IfOk result (λ name. name.items ≡ made_name run number) }
+pub(crate) fn made_name(alloc: Global, run: usize, number: usize) -> Result<String, AllocError>
+    ensures { IfOk result (λ name. string_bytes name ≡ made_name run number) }
 {
-    let mut name = Vec::new(alloc);
+    let mut name = String::new(alloc);
     put_run(&mut name, run)?;
     let mut digits = Buffer::new();
     put_letters(&mut name, digits.format(number).as_bytes())?;

@@ -1,5 +1,5 @@
 //! The text that stands for `%z`.
-ghost use Rattle.std.specs.Prelude.{◌≡◌, ◌∷◌, ◌++◌, ◌<◌, ◌+ℤ◌, true, OnOk, IfOk, Some, None, if◌then◌else◌};
+ghost use Rattle.std.specs.Prelude.{◌≡◌, ◌∷◌, ◌++◌, ◌<◌, ◌+◌, ◌+ℤ◌, true, string_bytes, OnOk, IfOk, Some, None, if◌then◌else◌};
 ghost use Rattle.zone_values.specs.Seconds.{seconds_of};
 ghost use Rattle.zone_plain_text.specs.PlainTexts.{two_digits};
 ghost use Rattle.zone_plain_offsets.specs.OffsetTexts.{seconds_text, minutes_text, offset_text, has_text};
@@ -22,19 +22,29 @@ pub(crate) fn named_total(offset: i64, saving: TimeSpec) -> Option<i64>
     if has_text(total) { Some(total) } else { None }
 }
 
-/// Writes a number in two digits.
-fn put_two(into: &mut Vec<u8>, number: u64) -> Result<(), AllocError>
-    requires { number < 100 }
-    ensures { OnOk result (into.new.items ≡ into.old.items ++ two_digits number) }
+/// A digit.
+fn digit(number: u64) -> char
+    requires { number < 10 }
+    ensures digit { result ≡ 48 + number }
+    ensures ascii { result < 128 }
 {
-    into.extend_from_slice(&[b'0' + (number / 10) as u8, b'0' + (number % 10) as u8])?;
+    char::from(b'0' + number as u8)
+}
+
+/// Writes a number in two digits.
+fn put_two(into: &mut String, number: u64) -> Result<(), AllocError>
+    requires { number < 100 }
+    ensures { OnOk result (string_bytes into.new ≡ string_bytes into.old ++ two_digits number) }
+{
+    into.push(digit(number / 10))?;
+    into.push(digit(number % 10))?;
     Ok(())
 }
 
 /// Writes seconds, where they aren't 0.
-fn put_seconds(into: &mut Vec<u8>, seconds: u64) -> Result<(), AllocError>
+fn put_seconds(into: &mut String, seconds: u64) -> Result<(), AllocError>
     requires { seconds < 100 }
-    ensures { OnOk result (into.new.items ≡ into.old.items ++ seconds_text seconds) }
+    ensures { OnOk result (string_bytes into.new ≡ string_bytes into.old ++ seconds_text seconds) }
 {
     if seconds == 0 {
         return Ok(());
@@ -44,9 +54,9 @@ fn put_seconds(into: &mut Vec<u8>, seconds: u64) -> Result<(), AllocError>
 
 /// Writes minutes, and seconds where they aren't 0; nothing at 0.
 #[tactic(auto, using(std::proofs::Common::append_assoc))]
-fn put_minutes(into: &mut Vec<u8>, seconds: u64) -> Result<(), AllocError>
+fn put_minutes(into: &mut String, seconds: u64) -> Result<(), AllocError>
     requires { seconds < 3_600 }
-    ensures { OnOk result (into.new.items ≡ into.old.items ++ minutes_text seconds) }
+    ensures { OnOk result (string_bytes into.new ≡ string_bytes into.old ++ minutes_text seconds) }
 {
     if seconds == 0 {
         return Ok(());
@@ -58,23 +68,23 @@ fn put_minutes(into: &mut Vec<u8>, seconds: u64) -> Result<(), AllocError>
 
 /// Writes a sign and hours.
 #[tactic(auto, using(std::proofs::Common::append_assoc))]
-fn put_hours(into: &mut Vec<u8>, is_negative: bool, hours: u64) -> Result<(), AllocError>
+fn put_hours(into: &mut String, is_negative: bool, hours: u64) -> Result<(), AllocError>
     requires { hours < 100 }
-    ensures { OnOk result (into.new.items ≡ into.old.items ++ (if is_negative then 45 else 43) ∷ two_digits hours) }
+    ensures { OnOk result (string_bytes into.new ≡ string_bytes into.old ++ (if is_negative then 45 else 43) ∷ two_digits hours) }
 {
-    into.extend_from_slice(if is_negative { b"-" } else { b"+" })?;
+    into.push(if is_negative { '-' } else { '+' })?;
     put_two(into, hours)?;
     Ok(())
 }
 
 /// The text of a total in seconds: `+hh`, `+hhmm` or `+hhmmss`, the shortest that says all.
 #[tactic(auto, using(std::proofs::Common::append_assoc), unfolding(crate::specs::OffsetTexts::offset_text))]
-pub(crate) fn offset_text(alloc: Global, total: i64) -> Result<Vec<u8>, AllocError>
+pub(crate) fn offset_text(alloc: Global, total: i64) -> Result<String, AllocError>
     requires { has_text total ≡ true }
-    ensures { IfOk result (λ text. text.items ≡ offset_text total) }
+    ensures { IfOk result (λ text. string_bytes text ≡ offset_text total) }
 {
     let size = total.unsigned_abs();
-    let mut text = Vec::new(alloc);
+    let mut text = String::new(alloc);
     put_hours(&mut text, total < 0, size / 3_600)?;
     put_minutes(&mut text, size % 3_600)?;
     Ok(text)

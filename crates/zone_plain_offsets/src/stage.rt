@@ -1,5 +1,5 @@
 //! The lines of a source with `%z` written out.
-ghost use Rattle.std.specs.Prelude.{◌≡◌, [], ◌∷◌, ◌++◌, ◌&&◌, Ok, map, codes, IfOk, IfErr, OnOk};
+ghost use Rattle.std.specs.Prelude.{◌≡◌, ◌<◌, [], ◌∷◌, ◌++◌, ◌&&◌, Ok, length, map, codes, string_bytes, IfOk, IfErr, OnOk};
 ghost use Rattle.zone_source.specs.Zones.{source_value};
 ghost use Rattle.zone_values.specs.Values.{line_value};
 ghost use Rattle.zone_plain_base.specs.LineFaults.{IsFaultOf, by_line};
@@ -16,7 +16,7 @@ ghost use Rattle.zone_plain_offsets.specs.WrittenOut.{written_out};
 use crate::asked::{Asked, asked_of, with_format, with_ruleset};
 use crate::format::{Around, filled};
 use crate::group::{line_in, places_by_name, places_of};
-use crate::made::{add_rules, add_said, text_in};
+use crate::made::{add_rules, add_said};
 use crate::name::{front, made_name};
 use crate::offset::{has_text, offset_text};
 use crate::pairs::{Pair, Pairs, offset_of};
@@ -71,10 +71,9 @@ fn add_with_total(
         return Ok(false);
     }
     let text = offset_text(alloc, total)?;
-    let format = filled(alloc, parts, text.as_slice())?;
-    let format = text_in(format.as_slice())?;
+    let format = filled(alloc, parts, text.as_str())?;
     let line = *line;
-    let is_said = add_with_format(alloc, reader, &line, format, out)?;
+    let is_said = add_with_format(alloc, reader, &line, format.as_str(), out)?;
     Ok(is_said)
 }
 
@@ -84,14 +83,14 @@ fn add_under(
     reader: &mut LineReader<'_>,
     line: &Line<'_>,
     parts: &Around<'_>,
-    name: &[u8],
+    name: &str,
     out: &mut LineList,
 ) -> Result<bool, AllocError>
     ensures { IfOk result (IsAdded out.old out.new (with_ruleset (with_format (line_value line.now) (filled (parts_shown parts.now) (codes "%s"))) name.now)) }
 {
-    let format = filled(alloc, parts, b"%s")?;
-    let format = text_in(format.as_slice())?;
-    add_with_ruleset(alloc, reader, line, format, text_in(name)?, out)
+    let format = filled(alloc, parts, "%s")?;
+    let line = *line;
+    add_with_ruleset(alloc, reader, &line, format.as_str(), name, out)
 }
 
 /// Adds the rules of the ruleset that is made for a pair, under a name. Answers whether each has its text and can be said.
@@ -101,16 +100,15 @@ fn add_ruleset(
     lines: &[Line<'_>],
     groups: &TextMap<Items<usize>>,
     pair: &Pair<'_>,
-    name: &[u8],
+    name: &str,
     made: &mut LineList,
 ) -> Result<bool, AllocError>
     requires { IsGrouped (map line_value lines.now) groups.now }
     ensures { IfOk result (AreAdded made.old made.new (rules_for (map line_value lines.now) name.now (pair_shown pair.now))
         (are_rules_said (map line_value lines.now) name.now (pair_shown pair.now))) }
 {
-    let text = text_in(name)?;
     let places = places_of(groups, pair.rules);
-    let is_said = add_rules(alloc, reader, lines, places, text, offset_of(pair), made)?;
+    let is_said = add_rules(alloc, reader, lines, places, name, offset_of(pair), made)?;
     Ok(is_said)
 }
 
@@ -125,10 +123,10 @@ fn name_pair<'t>(
     pair: Pair<'t>,
     pairs: &mut Pairs<'t>,
     made: &mut LineList,
-) -> Result<(Vec<u8>, bool), AllocError>
+) -> Result<(String, bool), AllocError>
     requires { IsGrouped (map line_value lines.now) groups.now }
     ensures pairs { OnOk result (pairs.new ≡ with_pair pairs.old (pair_shown pair.entry)) }
-    ensures name { IfOk result (λ named. named.0.items ≡ named_in run (with_pair pairs.old (pair_shown pair.entry)) (pair_shown pair.entry)) }
+    ensures name { IfOk result (λ named. string_bytes named.0 ≡ named_in run (with_pair pairs.old (pair_shown pair.entry)) (pair_shown pair.entry)) }
     ensures rules { IfOk result (λ named. AreAdded made.old made.new (new_rules (map line_value lines.now) run pairs.old (pair_shown pair.entry))
         (are_new_said (map line_value lines.now) run pairs.old (pair_shown pair.entry)) named.1) }
 {
@@ -137,19 +135,19 @@ fn name_pair<'t>(
     if !is_new {
         return Ok((name, true));
     }
-    let is_said = add_ruleset(alloc, reader, lines, groups, &pair, name.as_slice(), made)?;
+    let is_said = add_ruleset(alloc, reader, lines, groups, &pair, name.as_str(), made)?;
     Ok((name, is_said))
 }
 
 /// Adds the line at a place as it stands.
 fn add_as_it_stands(lines: &LineList, place: usize, out: &mut LineList) -> Result<(), AllocError>
+    requires { place < length lines.now }
     ensures { OnOk result (map source_value out.new ≡ map source_value out.old ++ value_at lines.now place ∷ []) }
 {
-    let bytes = match lines.get(place) {
-        Some(bytes) => bytes,
-        None => return Err(AllocError),
+    let Some(line) = lines.get(place) else {
+        unreachable!();
     };
-    out.push(bytes)?;
+    out.push(line)?;
     Ok(())
 }
 
@@ -169,6 +167,7 @@ fn write_line<'t>(
 ) -> Result<bool, AllocError>
     requires read { map line_value lines.now ≡ map source_value texts.now }
     requires grouped { IsGrouped (map line_value lines.now) groups.now }
+    requires place { place < length texts.now }
     ensures { IfOk result (IsWrittenOut (map line_value lines.now) run pairs.old pairs.new made.old made.new out.old out.new (value_at texts.now place)) }
 {
     let line = line_in(lines, place);
@@ -186,7 +185,7 @@ fn write_line<'t>(
             if !are_said {
                 return Ok(false);
             }
-            let is_said = add_under(alloc, reader, &line, &parts, name.as_slice(), out)?;
+            let is_said = add_under(alloc, reader, &line, &parts, name.as_str(), out)?;
             Ok(is_said)
         }
     }

@@ -23,4 +23,4 @@ returns c =
     let fits : FitsSigned w64 c.in-Some.total = search rules in
     rule_added _ _ _ c.args.offset (rule_value c.args.old.now) c.in-Some.total _ _ _
     (c.in-Some.ensures ∙ ap (λ o. if has_text (total_of o (rule_value c.args.old.now)) then Some (total_of o (rule_value c.args.old.now)) else None) offset)
-    (c.in_ok-letters.ensures ∙ c.as_slice.ensures.value ∙ c.in_ok-text.ensures ∙ ap offset_text (to_z-of_z fits)) c.renamed.ensures c.in_ok-is_said.ensures
+    (c.as_str.ensures.value ∙ c.in_ok-letters.ensures ∙ ap offset_text (to_z-of_z fits)) c.renamed.ensures c.in_ok-is_said.ensures

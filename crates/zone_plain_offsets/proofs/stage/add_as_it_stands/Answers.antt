@@ -5,5 +5,5 @@ use Rattle.zone_plain_offsets.proofs.stage.add_as_it_stands.Goals as goal
 
 pub returns : goal.returns
 returns c =
-    ap (map source_value) c.in_ok-push.ensures.ok ∙ values_more c.args.out.now c.in-Some.bytes.now
-    ∙ ap (λ v. map source_value c.args.out.now ++ v ∷ []) (value_of_found c.args.lines.now c.args.place c.in-Some.bytes.now c.in-Some.ensures)
+    ap (map source_value) c.in_ok-push.ensures.ok ∙ values_more c.args.out.now c.in-Some.line.now
+    ∙ ap (λ v. map source_value c.args.out.now ++ v ∷ []) (value_of_found c.args.lines.now c.args.place c.in-Some.line.now c.in-Some.ensures)

@@ -1,4 +1,4 @@
-use Rattle.std.proofs.Common.{◌∙◌, ap, to_z, of_z, to_z-of_z, w64}
+use Rattle.std.proofs.Common.{◌∙◌, ap, refl, to_z, of_z, to_z-of_z, w64}
 use Rattle.zone_plain_offsets.specs.Shown.{pair_shown}
 use Rattle.zone_plain_offsets.proofs.MadeLemmas.{places_are, ruleset_named}
 use Rattle.zone_plain_offsets.proofs.stage.add_ruleset.Goals as goal
@@ -6,5 +6,5 @@ use Rattle.zone_plain_offsets.proofs.stage.add_ruleset.Goals as goal
 pub returns : goal.returns
 returns c =
     let offset = ap (λ z. to_z w64 (of_z w64 z)) c.offset_of.ensures.value ∙ to_z-of_z c.offset_of.ensures.fits in
-    ruleset_named _ _ _ _ _ (pair_shown c.args.pair.now) _ _ _ c.in_ok-text.ensures offset (places_are _ _ _ _ c.requires c.places_of-places.ensures)
+    ruleset_named _ _ _ _ _ (pair_shown c.args.pair.now) _ _ _ refl offset (places_are _ _ _ _ c.requires c.places_of-places.ensures)
     c.in_ok-is_said.ensures

@@ -14,6 +14,6 @@ pub returns : goal.returns
 returns c =
     let total = to_z-of_z c.ranges.total in
     total_added _ _ _ (parts_shown c.args.parts.now) _ c.args.total _ (ap has_text (sym total) ∙ sym c.has_text.ensures ∙ c.if-not-has_text.false)
-    (c.in_ok-format-2.ensures ∙ c.as_slice-2.ensures.value ∙ c.in_ok-format.ensures
-    ∙ ap (filled (parts_shown c.args.parts.now)) (c.as_slice.ensures.value ∙ c.in_ok-text.ensures ∙ ap offset_text total))
+    (c.as_str-2.ensures.value ∙ c.in_ok-format.ensures
+    ∙ ap (filled (parts_shown c.args.parts.now)) (c.as_str.ensures.value ∙ c.in_ok-text.ensures ∙ ap offset_text total))
     c.in_ok-is_said.ensures

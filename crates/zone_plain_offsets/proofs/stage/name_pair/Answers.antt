@@ -20,5 +20,5 @@ returns-clause-name c =
 pub returns-clause-rules : goal.returns-clause-rules
 returns-clause-rules c =
     new_added (map line_value c.args.lines.now) c.args.run c.args.pairs.now (pair_shown c.args.pair) _ c.args.made.now _ _ _ c.in_ok-number.ensures.added c.if-not-is_new.false
-    (c.as_slice.ensures.value ∙ c.in_ok-name.ensures ∙ ap (made_name c.args.run) (c.in_ok-number.ensures.number ∙ sym (number_with c.args.pairs.now (pair_shown c.args.pair))))
+    (c.as_str.ensures.value ∙ c.in_ok-name.ensures ∙ ap (made_name c.args.run) (c.in_ok-number.ensures.number ∙ sym (number_with c.args.pairs.now (pair_shown c.args.pair))))
     c.in_ok-is_said.ensures

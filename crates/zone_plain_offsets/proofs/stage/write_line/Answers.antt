@@ -17,5 +17,5 @@ returns-in_ok-is_said-in-Under c =
     out_of_same _ _ _ _ _ _ _ _ _ _ _ (c.line_in-line.ensures ∙ ap (λ vs. value_in vs c.args.place) c.requires.read)
     (out_under (map line_value c.args.lines.now) c.args.run c.args.pairs.now c.name_pair.new.pairs c.args.made.now c.name_pair.new.made c.args.out.now _
     _ (parts_shown c.in-Under.parts) (pair_shown c.in-Under.pair) _ _ _ (sym c.in-Under.ensures) c.in_ok-name-in-Under.ensures.pairs
-    (c.as_slice.ensures.value ∙ c.in_ok-name-in-Under.ensures.name) c.in_ok-name-in-Under.ensures.rules c.if-not-are_said.false
+    (c.as_str.ensures.value ∙ c.in_ok-name-in-Under.ensures.name) c.in_ok-name-in-Under.ensures.rules c.if-not-are_said.false
     c.in_ok-is_said-in-Under.ensures)
