@@ -41,6 +41,7 @@ static struct sefunjaro_handle source = SEFUNJARO_CLOSED, zone = SEFUNJARO_CLOSE
 static struct sefunjaro_fault fault;
 
 static uint32_t open_source(void) { return sefunjaro_source_open((const uint8_t *)small_source, strlen(small_source), &source, &fault); }
+static uint32_t open_any(void) { return sefunjaro_source_open_any((const uint8_t *)"Zone A 1 - A\n", 13, &source, &fault); }
 static uint32_t open_zone(void) { return sefunjaro_zone_open(&source, (const uint8_t *)"Europe/Paris", 12, &zone, &fault); }
 static uint32_t share(void) { return sefunjaro_share(&zone, &other); }
 
@@ -77,13 +78,13 @@ static bool look(void) {
 int main(void) {
     for (int pass = 0; pass < 2; pass++) {
         for_good = pass;
-        long of_source = tried(open_source, &source), of_zone = tried(open_zone, &zone), of_share = tried(share, &other);
-        if (of_source < 0 || of_zone < 0 || of_share < 0 || !look()) return 1;
+        long of_any = tried(open_any, &source), of_source = tried(open_source, &source), of_zone = tried(open_zone, &zone), of_share = tried(share, &other);
+        if (of_any < 0 || of_source < 0 || of_zone < 0 || of_share < 0 || !look()) return 1;
         sefunjaro_close(&source);
         sefunjaro_close(&zone);
         sefunjaro_close(&other);
         if (live) return 2;
-        if (pass) printf("%ld requests of a source, %ld of a zone and %ld of a share refused in turn\n", of_source, of_zone, of_share);
+        if (pass) printf("%ld requests of a source, %ld in any form, %ld of a zone and %ld of a share refused in turn\n", of_source, of_any, of_zone, of_share);
     }
     return 0;
 }

@@ -56,7 +56,8 @@ enum sefunjaro_status {
     SEFUNJARO_OFFSET_RANGE = 9,  /* some offset of the zone is 26 hours or more in size */
     SEFUNJARO_OUT_OF_RANGE = 10, /* a date lies outside the years -9999 to 9999, or the parts are no time */
     SEFUNJARO_NONE = 11,         /* there is none of what is asked for */
-    SEFUNJARO_NOT_READ = 12      /* the text is none of those that are read */
+    SEFUNJARO_NOT_READ = 12,     /* the text is none of those that are read */
+    SEFUNJARO_NO_PLAIN_FORM = 14 /* the source, in any form, has no plain form: enum sefunjaro_plain_cause */
 };
 
 /* Why a line of a source can't be read. */
@@ -88,6 +89,31 @@ enum sefunjaro_schedule_cause {
     SEFUNJARO_SCHEDULE_RULE_YEARS = 4,
     SEFUNJARO_SCHEDULE_DAY_RANGE = 5,
     SEFUNJARO_SCHEDULE_NO_STANDARD_SPAN = 6
+};
+
+/* Why a source in any form has no plain form. Each but the last is that of a line. */
+enum sefunjaro_plain_cause {
+    SEFUNJARO_PLAIN_NOT_TEXT = 1,         /* the line is not UTF-8 */
+    SEFUNJARO_PLAIN_QUOTES = 2,           /* quotes are left open, or nothing stands between two */
+    SEFUNJARO_PLAIN_LINE_TYPE = 3,        /* the first word fits neither Rule nor Zone nor Link */
+    SEFUNJARO_PLAIN_FIELD_COUNT = 4,      /* there are too few fields, or too many */
+    SEFUNJARO_PLAIN_RULESET_NAME = 5,     /* the name of a ruleset begins with a digit, `-` or `+` */
+    SEFUNJARO_PLAIN_YEAR = 6,             /* a year is no whole number, and no word that fits */
+    SEFUNJARO_PLAIN_YEAR_ORDER = 7,       /* FROM is after TO */
+    SEFUNJARO_PLAIN_TYPE = 8,             /* TYPE is not `-` */
+    SEFUNJARO_PLAIN_MONTH = 9,            /* no month fits the word, or two do */
+    SEFUNJARO_PLAIN_DAY = 10,             /* a day has no form of zic's manual, or lies past its month's longest length */
+    SEFUNJARO_PLAIN_TIME = 11,            /* a time has no form of that manual, minutes past 59, or hours past 99 */
+    SEFUNJARO_PLAIN_SAVING = 12,          /* the suffix of a saving changes which time is standard */
+    SEFUNJARO_PLAIN_FORMAT = 13,          /* a format has a `%` that can't be filled, or is empty */
+    SEFUNJARO_PLAIN_UNSAYABLE = 14,       /* what is written of the line would not be read as what it means */
+    SEFUNJARO_PLAIN_CONTINUATION = 15,    /* the source ends where a continuation has to follow; the line is the one after the last */
+    SEFUNJARO_PLAIN_UNKNOWN_RULESET = 16, /* RULES is no amount, and no rule of the source has that name */
+    SEFUNJARO_PLAIN_DUPLICATE_ZONE = 17,  /* an earlier zone has the name */
+    SEFUNJARO_PLAIN_LINK_IS_ZONE = 18,    /* a zone has the new name of a link */
+    SEFUNJARO_PLAIN_DUPLICATE_LINK = 19,  /* an earlier link has the new name, and another target */
+    SEFUNJARO_PLAIN_TARGET = 20,          /* a link leads to no zone: to nothing, or in a circle */
+    SEFUNJARO_PLAIN_TOO_LONG = 21         /* the plain form would be longer than 16,777,216 bytes; no line is to blame */
 };
 
 /* What a call that opens something refuses. */
@@ -155,6 +181,13 @@ void sefunjaro_version(uint8_t *text, size_t room, size_t *whole, struct sefunja
    no more after the call.
    TOO_LONG, NOT_TEXT, BAD_LINE, BAD_JOIN (of the first line that is refused), NO_MEMORY. */
 uint32_t sefunjaro_source_open(const uint8_t *text, size_t length, struct sefunjaro_handle *source, struct sefunjaro_fault *fault);
+
+/* Opens a source from its text in any form that zic reads: words cut short, times and days in each form of zic's manual, quotes, links to
+   links, %z. What is opened is its plain form, as the program zone_plain writes it. What the handle held before is closed first. The text
+   is used no more after the call.
+   TOO_LONG; NO_PLAIN_FORM, with the first line that is refused and why; NOT_TEXT, BAD_LINE or BAD_JOIN, of the plain form, in which the
+   line is counted, and not in the text; NO_MEMORY. */
+uint32_t sefunjaro_source_open_any(const uint8_t *text, size_t length, struct sefunjaro_handle *source, struct sefunjaro_fault *fault);
 
 /* How many names of a source find a zone: those of its zones, and of the links to them. NOT_OPEN. */
 uint32_t sefunjaro_name_count(struct sefunjaro_handle *source, size_t *count);

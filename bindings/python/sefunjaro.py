@@ -28,8 +28,8 @@ from typing import Iterator, List, NamedTuple, Optional, Tuple, Union
 
 __all__ = [
     "BadLine", "BadJoin", "Change", "Clock", "Error", "FIRST_YEAR", "Gap", "InForce", "Instant", "JoinCause", "LAST_YEAR", "LineCause",
-    "NoSchedule", "NotOpen", "NotRead", "OffsetRange", "OffsetTooLarge", "OutOfRange", "ScheduleCause", "Source", "SourceError", "Status",
-    "UnknownZone", "VERSION", "Zone", "ZoneError", "read_local", "read_zoned",
+    "NoPlainForm", "NoSchedule", "NotOpen", "NotRead", "OffsetRange", "OffsetTooLarge", "OutOfRange", "PlainCause", "ScheduleCause", "Source",
+    "SourceError", "Status", "UnknownZone", "VERSION", "Zone", "ZoneError", "read_local", "read_zoned",
 ]
 
 
@@ -49,6 +49,7 @@ class Status(enum.IntEnum):
     OUT_OF_RANGE = 10
     NONE = 11
     NOT_READ = 12
+    NO_PLAIN_FORM = 14
 
 
 class LineCause(enum.IntEnum):
@@ -83,6 +84,32 @@ class ScheduleCause(enum.IntEnum):
     RULE_YEARS = 4
     DAY_RANGE = 5
     NO_STANDARD_SPAN = 6
+
+
+class PlainCause(enum.IntEnum):
+    """Why a source in any form has no plain form; the header says more of each. Each but TOO_LONG is that of a line."""
+
+    NOT_TEXT = 1
+    QUOTES = 2
+    LINE_TYPE = 3
+    FIELD_COUNT = 4
+    RULESET_NAME = 5
+    YEAR = 6
+    YEAR_ORDER = 7
+    TYPE = 8
+    MONTH = 9
+    DAY = 10
+    TIME = 11
+    SAVING = 12
+    FORMAT = 13
+    UNSAYABLE = 14
+    CONTINUATION = 15
+    UNKNOWN_RULESET = 16
+    DUPLICATE_ZONE = 17
+    LINK_IS_ZONE = 18
+    DUPLICATE_LINK = 19
+    TARGET = 20
+    TOO_LONG = 21
 
 
 class Error(Exception):
@@ -121,6 +148,12 @@ class BadJoin(SourceError):
     """A line of a source may not follow those before it; `cause` is a JoinCause."""
 
     status = Status.BAD_JOIN
+
+
+class NoPlainForm(SourceError):
+    """A source in any form has no plain form; `cause` is a PlainCause."""
+
+    status = Status.NO_PLAIN_FORM
 
 
 class ZoneError(Error):
@@ -264,6 +297,7 @@ class _RawInstant(ctypes.Structure):
     _fields_ = [("second", ctypes.c_int64), ("nanosecond", ctypes.c_uint32), ("offset", ctypes.c_int32)]
 
 
+_FORM = "plain form of the source"
 _TwoReadings = _RawReading * 2
 # Each abbreviation of the tz database fits; a longer one is asked for again.
 _NAME_ROOM = 16
@@ -293,6 +327,7 @@ _library = _load()
 _at, _size, _length = ctypes.c_void_p, ctypes.c_size_t, ctypes.c_size_t
 _instant = (ctypes.c_int64, ctypes.c_uint32)
 _source_open = _function("sefunjaro_source_open", ctypes.c_char_p, _length, _at, _at)
+_source_open_any = _function("sefunjaro_source_open_any", ctypes.c_char_p, _length, _at, _at)
 _name_count = _function("sefunjaro_name_count", _at, _at)
 _name = _function("sefunjaro_name", _at, _size, _at, _size, _at)
 _zone_open = _function("sefunjaro_zone_open", _at, ctypes.c_char_p, _length, _at, _at)
@@ -334,6 +369,9 @@ def _raise(status: int, of: str, fault: Optional[_RawFault] = None) -> None:
         raise BadLine(f"{of}, line {line}: {LineCause(cause).name}", cause=LineCause(cause), line=line)
     if status == Status.BAD_JOIN:
         raise BadJoin(f"{of}, line {line}: {JoinCause(cause).name}", cause=JoinCause(cause), line=line)
+    if status == Status.NO_PLAIN_FORM:
+        where = f"{of}, line {line}" if line else of
+        raise NoPlainForm(f"{where}: no plain form, {PlainCause(cause).name}", cause=PlainCause(cause), line=line)
     if status == Status.NO_SCHEDULE:
         raise NoSchedule(f"{of}: no schedule, {ScheduleCause(cause).name}", cause=ScheduleCause(cause), line=line)
     if status == Status.UNKNOWN_ZONE:
@@ -344,7 +382,7 @@ def _raise(status: int, of: str, fault: Optional[_RawFault] = None) -> None:
         raise OutOfRange(f"{of}: out of range")
     if status == Status.NOT_READ:
         raise NotRead(f"{of}: not a text that is read")
-    kind = SourceError if of == "source" else ZoneError
+    kind = SourceError if of in ("source", _FORM) else ZoneError
     where = f"{of}, line {line}" if line else of
     raise kind(f"{where}: {Status(status).name}", status=Status(status), line=line)
 
@@ -430,29 +468,32 @@ class _Opened:
 
 
 class Source(_Opened):
-    """A source of the tz database in its plain form.
+    """A source of the tz database: in its plain form, or with `any_form` in any form that zic reads, as that of tzdata.zi.
 
     Raises SourceError where the text has more than 16,777,216 bytes or a line is not UTF-8, BadLine and BadJoin with the first line
-    that is refused and the cause."""
+    that is refused and the cause. With `any_form` it raises NoPlainForm with that line and its cause; what the others say is then of
+    the plain form that is made of the text, and so is their line."""
 
     __slots__ = ("_handle", "__weakref__")
 
-    def __init__(self, text: Union[bytes, bytearray, memoryview, str]) -> None:
+    def __init__(self, text: Union[bytes, bytearray, memoryview, str], *, any_form: bool = False) -> None:
         self._handle = _Handle()
         if isinstance(text, str):
             text = text.encode()
         elif not isinstance(text, bytes):
             text = memoryview(text).tobytes()
         fault = _RawFault()
-        status = _source_open(text, len(text), self._handle.at, ctypes.byref(fault))
+        open_text = _source_open_any if any_form else _source_open
+        status = open_text(text, len(text), self._handle.at, ctypes.byref(fault))
         if status:
-            _raise(status, "source", fault)
+            of_form = any_form and status in (Status.NOT_TEXT, Status.BAD_LINE, Status.BAD_JOIN)
+            _raise(status, _FORM if of_form else "source", fault)
 
     @classmethod
-    def from_path(cls, path: Union[str, os.PathLike]) -> "Source":
+    def from_path(cls, path: Union[str, os.PathLike], *, any_form: bool = False) -> "Source":
         """The source that a file holds. OSError where it can't be read."""
         with open(path, "rb") as file:
-            return cls(file.read())
+            return cls(file.read(), any_form=any_form)
 
     def zone(self, name: str) -> "Zone":
         """The zone of a name; it needs the source no more.

@@ -207,6 +207,26 @@ class Faults(unittest.TestCase):
             self.assertEqual((type(error), error.status, error.line), (kind, status, line))
             self.assertIs(error.cause, cause)
 
+    def test_any_form(self):
+        text = "R EU 1981 ma - Mar lastSu 1u 1 S\nR EU 1996 ma - O lastSu 1u 0 -\nZ Here 1 EU CE%sT\nL There Here/Too\nL Here There\n"
+        source = Source(text, any_form=True)
+        self.assertEqual(list(source), ["Here", "Here/Too", "There"])
+        self.assertEqual([source.zone("Here/Too").offset_at(second) for second in (SPRING - 1, SPRING)], [3600, 7200])
+        with self.assertRaises(sefunjaro.BadLine):
+            Source(text)
+        cause = sefunjaro.PlainCause
+        for text, kind, status, why, line in (
+            ("\nRule R 2000 max - Foo 1 2:00 0 S\n", sefunjaro.NoPlainForm, Status.NO_PLAIN_FORM, cause.MONTH, 2),
+            (b"\n\n\xff\n", sefunjaro.NoPlainForm, Status.NO_PLAIN_FORM, cause.NOT_TEXT, 3),
+            ("Link A B\n", sefunjaro.NoPlainForm, Status.NO_PLAIN_FORM, cause.TARGET, 1),
+            (b"#" * (2**24 + 1), sefunjaro.SourceError, Status.TOO_LONG, None, None),
+        ):
+            with self.assertRaises(kind) as raised:
+                Source(text, any_form=True)
+            error = raised.exception
+            self.assertEqual((type(error), error.status, error.line), (kind, status, line))
+            self.assertIs(error.cause, why)
+
     def test_zones(self):
         source = Source("Rule R min 1990 - Jan 1 0:00 0 -\nZone Rules 0:00 R A\nZone Open 0:00 - A\n 1:00 - B\nZone Wide 26:00 - X\n")
         for name, kind, status, cause in (

@@ -1,12 +1,13 @@
 //! What the library refuses.
 
 use crate::raw::{
-    RawFault, BAD_JOIN, BAD_LINE, NONE, NOT_OPEN, NOT_READ, NOT_TEXT, NO_MEMORY, NO_SCHEDULE, OFFSET_RANGE, OUT_OF_RANGE, TOO_LONG,
-    UNKNOWN_ZONE,
+    RawFault, BAD_JOIN, BAD_LINE, NONE, NOT_OPEN, NOT_READ, NOT_TEXT, NO_MEMORY, NO_PLAIN_FORM, NO_SCHEDULE, OFFSET_RANGE, OUT_OF_RANGE,
+    TOO_LONG, UNKNOWN_ZONE,
 };
 use std::fmt;
 
-/// Why a call was refused. A `line` is that of the source, from 1.
+/// Why a call was refused. A `line` is that of the source, from 1; of [`Source::open_any`](crate::Source::open_any) it is that of the text
+/// where the error is `NoPlainForm`, and else that of the text's plain form.
 #[derive(Clone, Copy, Debug, PartialEq, Eq)]
 #[non_exhaustive]
 pub enum Error {
@@ -20,6 +21,10 @@ pub enum Error {
     BadLine { line: usize, cause: LineCause },
     /// A line of the source may not follow those before it.
     BadJoin { line: usize, cause: JoinCause },
+    /// A source in any form has no plain form.
+    NoPlainForm { line: usize, cause: PlainCause },
+    /// The plain form of a source would be longer than 16,777,216 bytes.
+    PlainTooLong,
     /// The name is that of no zone, and of no link to one.
     UnknownZone,
     /// The zone has no schedule.
@@ -59,6 +64,32 @@ pub enum JoinCause {
     DuplicateZone,
 }
 
+/// Why a line of a source in any form has no plain form. The header says more of each.
+#[derive(Clone, Copy, Debug, PartialEq, Eq)]
+#[non_exhaustive]
+pub enum PlainCause {
+    NotText,
+    Quotes,
+    LineType,
+    FieldCount,
+    RulesetName,
+    Year,
+    YearOrder,
+    Type,
+    Month,
+    Day,
+    Time,
+    Saving,
+    Format,
+    Unsayable,
+    Continuation,
+    UnknownRuleset,
+    DuplicateZone,
+    LinkIsZone,
+    DuplicateLink,
+    Target,
+}
+
 /// Why a zone has no schedule.
 #[derive(Clone, Copy, Debug, PartialEq, Eq)]
 #[non_exhaustive]
@@ -90,6 +121,32 @@ const JOIN_CAUSES: [JoinCause; 4] = [
     JoinCause::DuplicateZone,
 ];
 
+const PLAIN_CAUSES: [PlainCause; 20] = [
+    PlainCause::NotText,
+    PlainCause::Quotes,
+    PlainCause::LineType,
+    PlainCause::FieldCount,
+    PlainCause::RulesetName,
+    PlainCause::Year,
+    PlainCause::YearOrder,
+    PlainCause::Type,
+    PlainCause::Month,
+    PlainCause::Day,
+    PlainCause::Time,
+    PlainCause::Saving,
+    PlainCause::Format,
+    PlainCause::Unsayable,
+    PlainCause::Continuation,
+    PlainCause::UnknownRuleset,
+    PlainCause::DuplicateZone,
+    PlainCause::LinkIsZone,
+    PlainCause::DuplicateLink,
+    PlainCause::Target,
+];
+
+/// The number of the cause that no line is to blame for.
+const PLAIN_TOO_LONG: u32 = 21;
+
 const SCHEDULE_CAUSES: [ScheduleCause; 6] = [
     ScheduleCause::UnknownRuleset,
     ScheduleCause::MissingUntil,
@@ -119,6 +176,8 @@ impl Error {
             NOT_TEXT => Some(Error::NotText { line }),
             BAD_LINE => numbered(&LINE_CAUSES, fault.cause).map(|cause| Error::BadLine { line, cause }),
             BAD_JOIN => numbered(&JOIN_CAUSES, fault.cause).map(|cause| Error::BadJoin { line, cause }),
+            NO_PLAIN_FORM if fault.cause == PLAIN_TOO_LONG => Some(Error::PlainTooLong),
+            NO_PLAIN_FORM => numbered(&PLAIN_CAUSES, fault.cause).map(|cause| Error::NoPlainForm { line, cause }),
             UNKNOWN_ZONE => Some(Error::UnknownZone),
             NO_SCHEDULE => numbered(&SCHEDULE_CAUSES, fault.cause).map(|cause| Error::NoSchedule { cause }),
             OFFSET_RANGE => Some(Error::OffsetRange),
@@ -140,6 +199,8 @@ impl fmt::Display for Error {
             Error::NotText { line } => write!(out, "line {line}: not UTF-8"),
             Error::BadLine { line, cause } => write!(out, "line {line}: {cause:?}"),
             Error::BadJoin { line, cause } => write!(out, "line {line}: {cause:?}"),
+            Error::NoPlainForm { line, cause } => write!(out, "line {line}: no plain form, {cause:?}"),
+            Error::PlainTooLong => write!(out, "the source's plain form would be longer than 16,777,216 bytes"),
             Error::UnknownZone => write!(out, "unknown zone"),
             Error::NoSchedule { cause } => write!(out, "no schedule: {cause:?}"),
             Error::OffsetRange => write!(out, "an offset of 26 hours or more"),

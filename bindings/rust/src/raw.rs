@@ -64,9 +64,11 @@ pub const OFFSET_RANGE: u32 = 9;
 pub const OUT_OF_RANGE: u32 = 10;
 pub const NONE: u32 = 11;
 pub const NOT_READ: u32 = 12;
+pub const NO_PLAIN_FORM: u32 = 14;
 
 extern "C" {
     pub fn sefunjaro_source_open(text: *const u8, length: usize, source: *mut RawHandle, fault: *mut RawFault) -> u32;
+    pub fn sefunjaro_source_open_any(text: *const u8, length: usize, source: *mut RawHandle, fault: *mut RawFault) -> u32;
     pub fn sefunjaro_name_count(source: *mut RawHandle, count: *mut usize) -> u32;
     pub fn sefunjaro_name(source: *mut RawHandle, place: usize, name: *mut u8, room: usize, whole: *mut usize) -> u32;
     pub fn sefunjaro_zone_open(

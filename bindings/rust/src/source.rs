@@ -4,13 +4,13 @@ use crate::raw::{self, RawFault, DONE};
 use crate::{done, Error, Handle, Zone};
 use std::fmt;
 
-/// A source of the tz database, in its plain form.
+/// A source of the tz database.
 pub struct Source {
     handle: Handle,
 }
 
 impl Source {
-    /// Opens a source from its text, which is used no more afterwards.
+    /// Opens a source from its text in plain form, which is used no more afterwards.
     ///
     /// # Errors
     ///
@@ -28,10 +28,39 @@ impl Source {
         let mut fault = RawFault::default();
         // SAFETY: the text is never null, nobody writes it during the call, and nothing overlaps.
         let status = unsafe { raw::sefunjaro_source_open(text.as_ptr(), text.len(), handle.at(), &mut fault) };
+        Source::opened(handle, status, &fault)
+    }
+
+    /// Opens a source from its text in any form that zic reads, as that of tzdata.zi. The text is used no more afterwards.
+    ///
+    /// # Errors
+    ///
+    /// [`Error::TooLong`]; [`Error::NoPlainForm`] of the first line that is refused; [`Error::PlainTooLong`]; [`Error::NotText`],
+    /// [`Error::BadLine`] and [`Error::BadJoin`] of the plain form, in which the line is then counted; [`Error::NoMemory`].
+    ///
+    /// ```
+    /// use sefunjaro::{Error, PlainCause, Source};
+    ///
+    /// let source = Source::open_any(b"Z Europe/Paris 1 EU CE%sT\nR EU 1981 ma - Mar lastSu 1u 1 S\nR EU 1996 ma - O lastSu 1u 0 -\n")?;
+    /// assert_eq!(source.zone("Europe/Paris")?.offset_at(1711846800, 0), Ok(7200));
+    ///
+    /// let refused = Source::open_any(b"R EU 1981 ma - Foo 1 0 1 S\n").err();
+    /// assert_eq!(refused, Some(Error::NoPlainForm { line: 1, cause: PlainCause::Month }));
+    /// # Ok::<(), sefunjaro::Error>(())
+    /// ```
+    pub fn open_any(text: &[u8]) -> Result<Source, Error> {
+        let handle = Handle::closed();
+        let mut fault = RawFault::default();
+        // SAFETY: the text is never null, nobody writes it during the call, and nothing overlaps.
+        let status = unsafe { raw::sefunjaro_source_open_any(text.as_ptr(), text.len(), handle.at(), &mut fault) };
+        Source::opened(handle, status, &fault)
+    }
+
+    fn opened(handle: Handle, status: u32, fault: &RawFault) -> Result<Source, Error> {
         if status == DONE {
             Ok(Source { handle })
         } else {
-            Err(Error::of_fault(status, &fault))
+            Err(Error::of_fault(status, fault))
         }
     }
 

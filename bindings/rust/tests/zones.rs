@@ -1,6 +1,6 @@
 //! Each call, each error, threads and memory, over a small source.
 
-use sefunjaro::{Change, Clock, Error, Gap, Instant, JoinCause, LineCause, LocalTime, ScheduleCause, Source, Zone};
+use sefunjaro::{Change, Clock, Error, Gap, Instant, JoinCause, LineCause, LocalTime, PlainCause, ScheduleCause, Source, Zone};
 use std::{fs, thread};
 
 const SOURCE: &str = "\
@@ -141,6 +141,25 @@ fn faults() {
         ("Wide", Error::OffsetRange),
     ] {
         assert_eq!(source.zone(name).err(), Some(error));
+    }
+}
+
+#[test]
+fn any_form() {
+    let text = b"R EU 1981 ma - Mar lastSu 1u 1 S\nR EU 1996 ma - O lastSu 1u 0 -\nZ Here 1 EU CE%sT\nL There Here/Too\nL Here There\n";
+    let source = Source::open_any(text).unwrap();
+    assert_eq!(source.names().unwrap().collect::<Vec<_>>(), ["Here", "Here/Too", "There"]);
+    let zone = source.zone("Here/Too").unwrap();
+    assert_eq!((zone.offset_at(SPRING - 1, 0), zone.offset_at(SPRING, 0)), (Ok(3600), Ok(7200)));
+    assert_eq!(Source::open(text).err(), Some(Error::BadLine { line: 1, cause: LineCause::InvalidLineType }));
+    let rows: [(&[u8], Error, &str); 3] = [
+        (b"\nRule R 2000 max - Foo 1 2:00 0 S\n", Error::NoPlainForm { line: 2, cause: PlainCause::Month }, "line 2: no plain form, Month"),
+        (b"Link A B\n", Error::NoPlainForm { line: 1, cause: PlainCause::Target }, "line 1: no plain form, Target"),
+        (&[b'#'; (1 << 24) + 1], Error::TooLong, "the source is longer than 16,777,216 bytes"),
+    ];
+    for (text, error, words) in rows {
+        let told = Source::open_any(text).unwrap_err();
+        assert_eq!((told, told.to_string().as_str()), (error, words));
     }
 }
 

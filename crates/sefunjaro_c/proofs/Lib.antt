@@ -1,4 +1,6 @@
+mod AnySourceLemmas
 mod FaultLemmas
 mod ShownLemmas
 mod TextLemmas
+pub mod WorkedPlain
 pub mod WorkedStatuses

@@ -1,4 +1,5 @@
 pub mod Answers
+pub mod AnySources
 pub mod Changes
 pub mod Faults
 pub mod Names

@@ -45,7 +45,7 @@ pub(crate) fn opening_fault(fault: &OpenFault) -> Fault
 }
 
 /// The first fault of a source.
-fn source_fault(error: &SourceError) -> Fault
+pub(crate) fn source_fault(error: &SourceError) -> Fault
     ensures { result ≡ error_told error.now }
 {
     match error {

@@ -3,6 +3,7 @@
 //! Each export hands on a call of the libraries below and states its clauses again.
 #![tactic(auto)]
 
+mod any_source;
 mod changes;
 #[cfg(test)]
 mod checks;
@@ -11,6 +12,8 @@ mod sources;
 mod status;
 #[cfg(test)]
 mod tests;
+#[cfg(test)]
+mod text_tests;
 mod times;
 mod version;
 mod zones;

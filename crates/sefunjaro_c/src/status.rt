@@ -38,3 +38,6 @@ pub(crate) const NONE_THERE: u32 = 11;
 
 /// The text is none of those that are read.
 pub(crate) const NOT_READ: u32 = 12;
+
+/// The source, in any form, has no plain form.
+pub(crate) const NO_PLAIN_FORM: u32 = 14;

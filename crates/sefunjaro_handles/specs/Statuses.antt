@@ -42,3 +42,7 @@ none_there = 11
 
 abbrev pub not_read : ℕ
 not_read = 12
+
+-- a source in any form has no plain form
+abbrev pub no_plain_form : ℕ
+no_plain_form = 14

@@ -16,3 +16,9 @@ abbrev pub IsOpenFault : List ℕ → OpenFault → Type 0
 IsOpenFault text TooLong = 16777216 < length text
 IsOpenFault text (Source error) = (length text ≤ 16777216) × IsFirstFault text error
 IsOpenFault text NoMemory = Unit {0}
+
+-- the same of a text that isn't too long
+abbrev pub IsReadFault : List ℕ → OpenFault → Type 0
+IsReadFault text TooLong = ⊥
+IsReadFault text (Source error) = IsFirstFault text error
+IsReadFault text NoMemory = Unit {0}

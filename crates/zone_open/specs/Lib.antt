@@ -1,3 +1,4 @@
+pub mod AnySources
 pub mod Asked
 pub mod Changes
 pub mod Clocks

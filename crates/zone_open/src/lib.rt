@@ -1,9 +1,10 @@
 //! Sources and zones that are opened once and asked many times, as a program in another language holds them.
 //!
 //! What is asked is answered in plain numbers, and lists and texts go as far as the caller's room. No question takes memory
-//! but those for a zone's whole tail.
+//! but those for the string that carries a zone on and for its file.
 #![tactic(auto)]
 
+mod any_source;
 mod asking;
 mod changes;
 mod clock;
@@ -11,8 +12,10 @@ mod gap;
 mod names;
 mod room;
 mod source;
+mod whole;
 mod zone;
 
+pub use any_source::AnySourceFault;
 pub use asking::{InForce, Reading};
 pub use changes::Change;
 pub use clock::Clock;

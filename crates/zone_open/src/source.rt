@@ -43,7 +43,7 @@ impl OpenSource {
     ghost use Rattle.zone_table.specs.Tables.{IsTableOf};
     ghost use Rattle.zone_source.specs.Faults.{source_fault};
     ghost use Rattle.zone_source.specs.Zones.{values_of};
-    ghost use Rattle.zone_open.specs.Faults.{IsOpenFault};
+    ghost use Rattle.zone_open.specs.Faults.{IsOpenFault, IsReadFault};
     ghost use Rattle.zone_open.specs.Sources.{table_in};
     ghost use Rattle.zone_open.specs.Zones.{set_in, IsOpened};
     ghost use Rattle.tz_zone.specs.Sets.{schedule_of, IsAccepted};
@@ -67,7 +67,21 @@ impl OpenSource {
         let Ok(parser) = LineParser::new(alloc) else {
             return Err(OpenFault::NoMemory);
         };
-        match read_table(alloc, &parser, text) {
+        OpenSource::read(alloc, &parser, text)
+    }
+
+    /// The same with a parser of lines that is there, of a text that isn't too long.
+    pub(crate) fn read(
+        alloc: Global,
+        parser: &LineParser,
+        text: &[u8],
+    ) -> Result<OpenSource, OpenFault>
+        requires { length text.now ≤ LIMIT }
+        ensures ok { OnOk result (source_fault text.now ≡ None) }
+        ensures table { IfOk result (λ source. IsTableOf (table_in source) (values_of text.now)) }
+        ensures err { IfErr result (IsReadFault text.now) }
+    {
+        match read_table(alloc, parser, text) {
             Ok(table) => OpenSource::of(alloc, table),
             Err(SourceError::NoMemory) => Err(OpenFault::NoMemory),
             Err(error) => Err(OpenFault::Source(error)),

@@ -27,6 +27,7 @@ impl OpenZone {
     ghost use Rattle.zone_open.specs.Gaps.{IsSkippedBy};
     ghost use Rattle.zone_open.specs.Rooms.{filled};
     ghost use Rattle.zone_open.specs.Zones.{given_in, set_in, total_in};
+    ghost use Rattle.tz_lookup.specs.CompactShown.{seen};
     ghost use Rattle.tz_lookup.specs.CompactZones.{compact_of};
 
     /// A set that can be looked up, kept compactly.
@@ -40,6 +41,13 @@ impl OpenZone {
             Err(CompactFault::OffsetRange | CompactFault::Falling | CompactFault::Bound) =>
                 unreachable!(),
         }
+    }
+
+    /// The set that it keeps.
+    pub(crate) fn compact(&self) -> &CompactSet
+        ensures { seen result.now ≡ set_in self.now }
+    {
+        &self.set
     }
 
     fn zone(&self) -> CompactTz<'_>

@@ -1,0 +1,58 @@
+-- What is refused of a source in any form, and what is opened.
+use Rattle.std.proofs.Common.{◌≡◌, ◌<◌, ◌≤◌, ℕ, Bool, true, false, cond, List, length, nat_lt, inl, inr, refl, ap, ◌∙◌, arith}
+use Rattle.std.specs.Prelude.{Option, Some, None, Result, Ok, Err, option_map}
+use Rattle.zone_plain_base.specs.LineFaults.{Refusal, at, bad_line}
+use Rattle.zone_plain_base.specs.LineFaults as refused
+use Rattle.zone_plain.specs.Plain.{plain_of}
+use Rattle.zone_source.specs.Faults.{SourceFault, source_fault}
+use Rattle.zone_source.specs.Faults as source
+use Rattle.zone_source.specs.Told.{told_by_source}
+use Rattle.zone_open.specs.AnySources.{IsAnyFault, IsAnySource}
+use Rattle.zone_open.specs.declared.any_source.AnySourceFault.{AnySourceFault}
+use Rattle.zone_open.specs.declared.any_source.AnySourceFault.TheVariants as opening
+use Rattle.zone_open.specs.declared.source.OpenSource.{OpenSource}
+use Rattle.sefunjaro_handles.specs.Statuses.{too_long}
+use Rattle.sefunjaro_c.specs.AnySources.{any_due, any_told, form_due, refusal_told, IsAnySourceOf}
+use Rattle.sefunjaro_c.specs.Faults.{fault_told, plain, told_or_memory, IsRefused}
+
+less : (a b : ℕ) → a < b → nat_lt a b ≡ true
+less a b h = grind arith
+
+not_less : (a b : ℕ) → b ≤ a → nat_lt a b ≡ false
+not_less a b h = grind arith
+
+told_positive : (fault : SourceFault) → 0 < (fault_told fault).status
+told_positive (source.not_text n) = omega arith
+told_positive (source.bad_line n fault) = omega arith
+told_positive (source.bad_join n kind) = omega arith
+
+-- of a text that isn't too long what its plain form is due
+form_is : (text : List ℕ) (found : Result (List ℕ) Refusal) → length text ≤ 16777216 → plain_of text ≡ found → any_due text ≡ form_due found
+unfolding any_due
+form_is text found h e =
+    ap (λ b. cond b (Some (plain too_long)) (form_due (plain_of text))) (not_less 16777216 (length text) h) ∙ ap form_due e
+
+told_refused : (text form : List ℕ) (found : Option SourceFault) → length text ≤ 16777216 → plain_of text ≡ Ok form → source_fault form ≡ found
+    → IsRefused (any_due text) (told_or_memory found)
+told_refused text form None h e f = record { told = inl refl; refused = omega arith }
+told_refused text form (Some fault) h e f =
+    record { told = inr (form_is text (Ok form) h e ∙ ap (option_map fault_told) f); refused = told_positive fault }
+
+pub any_refused : (text : List ℕ) (fault : AnySourceFault) → IsAnyFault text fault → IsRefused (any_due text) (any_told fault)
+unfolding any_due
+any_refused text opening.TooLong h = record {
+  told = inr (ap (λ b. cond b (Some (plain too_long)) (form_due (plain_of text))) (less 16777216 (length text) h));
+  refused = omega arith;
+}
+any_refused text (opening.Line n c) h = record { told = inr (form_is text (Err (bad_line (at n c))) h.0 h.1); refused = omega arith }
+any_refused text opening.PlainTooLong h = record { told = inr (form_is text (Err refused.too_long) h.0 h.1); refused = omega arith }
+any_refused text (opening.Plain error) h = told_refused text h.1.form (told_by_source error) h.0 h.1.written h.1.fault.first
+any_refused text opening.NoMemory h = record { told = inl refl; refused = omega arith }
+
+pub any_opened : (text : List ℕ) (source : OpenSource) → IsAnySource text source → IsAnySourceOf text source
+any_opened text source h = record {
+  valid = form_is text (Ok h.form) h.short h.written ∙ ap (option_map fault_told) h.opened.valid;
+  form = h.form;
+  written = h.written;
+  table = h.opened.table;
+}
