@@ -1,5 +1,5 @@
 -- What is refused of a source in any form, and what is opened.
-use Rattle.std.proofs.Common.{◌≡◌, ◌<◌, ◌≤◌, ℕ, Bool, true, false, cond, List, length, nat_lt, inl, inr, refl, ap, ◌∙◌, arith}
+use Rattle.std.proofs.Common.{◌≡◌, ◌<◌, ◌≤◌, ℕ, true, false, cond, List, length, nat_lt, inl, inr, refl, ap, ◌∙◌, arith}
 use Rattle.std.specs.Prelude.{Option, Some, None, Result, Ok, Err, option_map}
 use Rattle.zone_plain_base.specs.LineFaults.{Refusal, at, bad_line}
 use Rattle.zone_plain_base.specs.LineFaults as refused

@@ -1,7 +1,7 @@
 -- Worked examples: the numbers of the causes that a source has no plain form, and faults as they are told. The numbers are those of the
 -- header.
 use Rattle.std.proofs.Common.{◌≡◌, refl, [], ◌∷◌, map}
-use Rattle.std.specs.Prelude.{Some, None, Ok, Err}
+use Rattle.std.specs.Prelude.{Some, Err}
 use Rattle.zone_plain_lines.specs.declared.cause.PlainCause.TheVariants as cause
 use Rattle.zone_plain_base.specs.LineFaults.{at, bad_line}
 use Rattle.zone_plain_base.specs.LineFaults as refused

@@ -1,5 +1,4 @@
 use Rattle.std.proofs.Common.{◌≤◌, length, sym, subst, rules, arith}
-use Rattle.zone_open.specs.AnySources.{IsFormFault}
 use Rattle.zone_open.proofs.AnySourceLemmas.{form_refused, plain_short}
 use Rattle.zone_open.proofs.source.OpenSource.open_any.Goals as goal
 
