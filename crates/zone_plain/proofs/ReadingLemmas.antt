@@ -1,16 +1,15 @@
 -- Lines that were read, and those that are left.
-use Rattle.std.proofs.Common.{◌≡◌, ℕ, suc, ◌+◌, List, [], ◌∷◌, ◌++◌, map, length, Bool, true, false, cond, Result, Ok, Err, refl, sym, ap, ◌∙◌, append_assoc, append-nil, arith}
+use Rattle.std.proofs.Common.{◌≡◌, ℕ, suc, ◌+◌, List, [], ◌∷◌, ◌++◌, map, length, Bool, true, false, Result, Ok, Err, refl, sym, ap, ◌∙◌, append_assoc, append-nil, arith}
 use Rattle.std.specs.Prelude.{max}
 use Rattle.zone_source.specs.Lines.{lines_of}
 use Rattle.zone_source.specs.Zones.{source_value}
-use Rattle.zone_values.specs.Values.{LineValue, line_value}
-use Rattle.zone_values.specs.declared.line.Line.{Line}
+use Rattle.zone_values.specs.Values.{LineValue}
 use Rattle.zone_plain_lines.specs.Steps.{◌>>=◌}
 use Rattle.zone_plain_lines.specs.declared.cause.PlainCause.{PlainCause}
 use Rattle.zone_plain_lines.specs.declared.cause.PlainCause.TheVariants as cause
 use Rattle.zone_plain_text.specs.PlainTexts.{plain_text}
 use Rattle.zone_plain_base.specs.LineFaults.{LineFault, at, numbered, onto}
-use Rattle.zone_plain_base.specs.Said.{is_said, if_said}
+use Rattle.zone_plain_base.specs.Said.{is_said}
 use Rattle.zone_plain_base.specs.SaidLaws.{source_value_is}
 use Rattle.zone_plain_base.specs.Told.{fault_at}
 use Rattle.zone_plain_base.specs.declared.error.Refused.{Refused}

@@ -1,18 +1,16 @@
 -- The values of a source are what it means, under names that can be said.
-use Rattle.std.proofs.Common.{◌≡◌, ℕ, suc, List, [], ◌∷◌, map, All, Bool, true, false, cond, Result, Ok, Err, IfOk, refl, sym, ap, ◌∙◌, subst}
-use Rattle.std.proofs.lemmas.List.Elements.{All-nil, All-cons, All-head, All-tail}
+use Rattle.std.proofs.Common.{◌≡◌, ℕ, suc, List, [], ◌∷◌, map, All, Bool, true, false, cond, Result, Ok, Err, IfOk, refl, ap, ◌∙◌, subst}
+use Rattle.std.proofs.lemmas.List.Elements.{All-nil, All-cons}
 use Rattle.zone_source.specs.Lines.{lines_of}
-use Rattle.zone_values.specs.Values.{LineValue, space, zone, continuation, rule, link, SavingValue, no_saving, one_off, multiple}
+use Rattle.zone_values.specs.Values.{LineValue}
 use Rattle.zone_plain_lines.specs.Steps.{◌>>=◌}
 use Rattle.zone_plain_lines.specs.declared.cause.PlainCause.{PlainCause}
 use Rattle.zone_plain_lines.specs.declared.cause.PlainCause.TheVariants as cause
-use Rattle.zone_plain_base.specs.LineFaults.{LineFault, at, numbered, onto}
-use Rattle.zone_plain_base.specs.Said.{is_said, if_said}
-use Rattle.zone_plain_names.specs.Names.{said_name}
-use Rattle.zone_plain_names.specs.NameLaws.{stays_so}
-use Rattle.zone_plain_names.specs.Renamed.{saved_by, ruleset_of, saving_by, info_by, under, deepest, renamed}
+use Rattle.zone_plain_base.specs.LineFaults.{LineFault, numbered, onto}
+use Rattle.zone_plain_base.specs.Said.{is_said}
+use Rattle.zone_plain_names.specs.Renamed.{deepest, renamed}
 use Rattle.zone_plain.specs.LineValues.{line_meaning, is_open_after, values_from, meant_in, depth_by, depth_of, named, values_in}
-use Rattle.zone_plain.specs.Named.{IsSaid, named_lines, IsNamed, IsSaidAsMeant}
+use Rattle.zone_plain.specs.Named.{IsSaid, IsNamed}
 
 -- what is taken as it is, and the same under the names of the plain form
 record AreNamed (depth : ℕ) (meant : Result (List LineValue) LineFault) (values : List LineValue) : Type 0 where

@@ -1,5 +1,5 @@
 -- Lines of zones in their places.
-use Rattle.std.specs.Prelude.{ℕ, List, [], ◌∷◌, Bool, true, false, ◌&&◌}
+use Rattle.std.specs.Prelude.{List, [], ◌∷◌, Bool, true, false, ◌&&◌}
 use Rattle.zone_values.specs.Values.{LineValue, space, zone, continuation, rule, link}
 
 -- each continuation follows a line of a zone, with blank lines at most between; the first one by what is told

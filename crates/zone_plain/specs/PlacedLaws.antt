@@ -1,8 +1,8 @@
 -- The lines of zones that are written stand in their places.
-use Rattle.std.proofs.Common.{◌≡◌, ℕ, suc, ◌+◌, List, [], ◌∷◌, ◌++◌, map, length, Bool, true, false, cond, Option, Some, None, Result, Ok, Err, IfOk, refl, subst, nat_lt}
-use Rattle.std.specs.Prelude.{◌&&◌, ◌==◌, flat_map, is_some}
+use Rattle.std.proofs.Common.{◌≡◌, ℕ, suc, ◌+◌, List, [], ◌∷◌, ◌++◌, map, length, Bool, true, false, cond, Option, Some, None, Result, Ok, Err, IfOk, refl, nat_lt}
+use Rattle.std.specs.Prelude.{◌==◌, flat_map, is_some}
 use Rattle.std.specs.Str.{is_utf8}
-use Rattle.std.proofs.lemmas.Bool.{both_ways, and_parts}
+use Rattle.std.proofs.lemmas.Bool.{both_ways}
 use Rattle.zone_outside.specs.Limit.{text_limit}
 use Rattle.zone_values.specs.Values.{InfoValue, RuleValue, LineValue, space, zone, continuation, rule, link}
 use Rattle.zone_source.specs.Lines.{lines_of}

@@ -11,7 +11,7 @@ use Rattle.zone_plain_links.specs.Settled.{settled}
 use Rattle.zone_plain_offsets.specs.SaidLaws.{written_out_said}
 use Rattle.zone_plain_offsets.specs.WrittenOut.{written_out}
 use Rattle.zone_plain.specs.LineValues.{values_in}
-use Rattle.zone_plain.specs.Named.{IsSaid, IsNamed, named_lines}
+use Rattle.zone_plain.specs.Named.{IsSaid}
 use Rattle.zone_plain.specs.NamedLaws.{is_named}
 use Rattle.zone_plain.specs.Placed.{are_placed}
 use Rattle.zone_plain.specs.PlacedLaws.{StaysPlaced, source_placed, settled_placed, out_placed}

@@ -7,4 +7,4 @@ mod name;
 
 pub use laws::said_names;
 pub use line::{deeper, said_name_of, under};
-pub use name::said_name;
+pub use name::{larger, leading, put_run, said_name};

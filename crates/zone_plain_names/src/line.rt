@@ -4,7 +4,7 @@ ghost use Rattle.zone_values.specs.Values.{line_value, info_value, saving_value}
 ghost use Rattle.zone_plain_names.specs.Names.{leading, said_name};
 ghost use Rattle.zone_plain_names.specs.Renamed.{saved_by, info_by, ruleset_of, under};
 
-use crate::name::{leading, said_name};
+use crate::name::{larger, leading, said_name};
 use std::alloc::{AllocError, Global};
 use zone_values::{Line, Rule, Saving, Zone, ZoneInfo};
 
@@ -58,13 +58,6 @@ pub fn under<'a>(line: &Line<'a>, name: &'a str) -> Line<'a>
         Line::Space => Line::Space,
         Line::Link(link) => Line::Link(link),
     }
-}
-
-/// The larger of two numbers.
-fn larger(one: usize, other: usize) -> usize
-    ensures { result ≡ max one other }
-{
-    if one < other { other } else { one }
 }
 
 /// The most `_` with which the name of a ruleset begins, where it was `depth` before this line.

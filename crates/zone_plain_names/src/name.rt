@@ -1,5 +1,5 @@
 //! The name of a ruleset in the plain form.
-ghost use Rattle.std.specs.Prelude.{◌≡◌, ◌<◌, ◌++◌, flat_map, replicate, string_bytes, OnOk, IfOk};
+ghost use Rattle.std.specs.Prelude.{◌≡◌, ◌<◌, ◌++◌, flat_map, max, replicate, string_bytes, OnOk, IfOk};
 ghost use Rattle.zone_line.specs.Fields.{is_ruleset_name};
 ghost use Rattle.zone_plain_names.specs.Names.{is_letter, letter, byte_text, leading, said_name};
 
@@ -20,7 +20,7 @@ fn is_ruleset_name(name: &str) -> bool
 }
 
 /// How many `_` a name begins with.
-pub(crate) fn leading(name: &[u8]) -> usize
+pub fn leading(name: &[u8]) -> usize
     ensures { result ≡ leading name.now }
 {
     name.iter().take_while(|byte| **byte == b'_').count()
@@ -57,8 +57,19 @@ fn put_bytes(text: &mut String, name: &[u8]) -> Result<(), AllocError>
     Ok(())
 }
 
+/// The larger of two numbers.
+pub fn larger(one: usize, other: usize) -> usize
+    ensures { result ≡ max one other }
+{
+    if one < other { other } else { one }
+}
+
 /// Writes so many `_`.
-fn put_run(text: &mut String, count: usize) -> Result<(), AllocError>
+///
+/// # Errors
+///
+/// Want of memory alone.
+pub fn put_run(text: &mut String, count: usize) -> Result<(), AllocError>
     ensures { OnOk result (string_bytes text.new ≡ string_bytes text.old ++ replicate count 95) }
 {
     for _ in 0..count {

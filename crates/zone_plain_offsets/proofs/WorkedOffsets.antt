@@ -3,7 +3,8 @@ use Rattle.std.proofs.Common.{◌≡◌, pos, neg_ℤ, true, false, refl}
 use Rattle.std.specs.Prelude.{codes, Some, None}
 use Rattle.std.specs.Fmt.{digits}
 use Rattle.zone_plain_offsets.specs.OffsetTexts.{offset_text, has_text}
-use Rattle.zone_plain_offsets.specs.Names.{leading, made_name}
+use Rattle.zone_plain_names.specs.Names.{leading}
+use Rattle.zone_plain_offsets.specs.Names.{made_name}
 use Rattle.zone_plain_offsets.specs.Formats.{around, around_mark}
 
 zero : offset_text (pos 0) ≡ codes "+00"

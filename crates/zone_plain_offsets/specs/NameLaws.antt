@@ -7,7 +7,8 @@ use Rattle.std.specs.Str.Parse.{AllDigits}
 use Rattle.std.proofs.lemmas.Fmt.{decimal_injective, decimal_is_IsNumeral}
 use Rattle.std.proofs.lemmas.Slice.Eq.{bytes_eq-Decides}
 use Rattle.zone_values.specs.Values.{LineValue, space, zone, continuation, rule, link}
-use Rattle.zone_plain_offsets.specs.Names.{leading, deepest, front, letter, made_name}
+use Rattle.zone_plain_names.specs.Names.{leading}
+use Rattle.zone_plain_offsets.specs.Names.{deepest, front, letter, made_name}
 use Rattle.zone_plain_offsets.specs.Made.{rules_named}
 
 letters_lead : (digits : List ℕ) → leading (map letter digits) ≡ 0

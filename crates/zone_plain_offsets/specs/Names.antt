@@ -1,11 +1,7 @@
 -- The names of the rulesets that are made.
-use Rattle.std.specs.Prelude.{ℕ, suc, ◌+◌, ◌%◌, ◌==◌, List, [], ◌∷◌, ◌++◌, map, decimal, max, replicate}
-use Rattle.std.specs.List.{prefix_len}
+use Rattle.std.specs.Prelude.{ℕ, suc, ◌+◌, ◌%◌, List, [], ◌∷◌, ◌++◌, map, decimal, max, replicate}
 use Rattle.zone_values.specs.Values.{LineValue, space, zone, continuation, rule, link}
-
--- how many `_` a name begins with
-abbrev pub leading : List ℕ → ℕ
-leading name = prefix_len (λ byte. byte == 95) name
+use Rattle.zone_plain_names.specs.Names.{leading}
 
 -- how many the name of a rule's ruleset begins with; 0 of other lines
 abbrev pub leading_of : LineValue → ℕ

@@ -1,19 +1,14 @@
 //! The names of the rulesets that are made.
 ghost use Rattle.std.specs.Prelude.{◌≡◌, ◌<◌, ◌++◌, map, decimal, max, replicate, string_bytes, OnOk, IfOk};
 ghost use Rattle.zone_values.specs.Values.{line_value};
-ghost use Rattle.zone_plain_offsets.specs.Names.{leading, leading_of, deepest, front, letter, made_name};
+ghost use Rattle.zone_plain_names.specs.Names.{leading};
+ghost use Rattle.zone_plain_offsets.specs.Names.{leading_of, deepest, front, letter, made_name};
 
 use crate::group::line_in;
 use itoa::Buffer;
 use std::alloc::{AllocError, Global};
 use zone_line::Line;
-
-/// How many `_` a name begins with.
-fn leading(name: &[u8]) -> usize
-    ensures { result ≡ leading name.now }
-{
-    name.iter().take_while(|byte| **byte == b'_').count()
-}
+use zone_plain_names::{larger, leading, put_run};
 
 /// How many `_` the name of a rule's ruleset begins with; 0 of other lines.
 fn leading_of(line: &Line<'_>) -> usize
@@ -23,13 +18,6 @@ fn leading_of(line: &Line<'_>) -> usize
         Line::Rule(rule) => leading(rule.name.as_bytes()),
         Line::Space | Line::Zone(_) | Line::Continuation(_) | Line::Link(_) => 0,
     }
-}
-
-/// The larger of two numbers.
-fn larger(one: usize, other: usize) -> usize
-    ensures { result ≡ max one other }
-{
-    if one < other { other } else { one }
 }
 
 /// The most `_` with which the name of a ruleset begins.
@@ -68,16 +56,6 @@ fn put_letters(into: &mut String, digits: &[u8]) -> Result<(), AllocError>
 {
     for digit in digits {
         into.push(letter(*digit))?;
-    }
-    Ok(())
-}
-
-/// Writes a run of `_`.
-fn put_run(into: &mut String, run: usize) -> Result<(), AllocError>
-    ensures { OnOk result (string_bytes into.new ≡ string_bytes into.old ++ replicate run 95) }
-{
-    for _ in 0..run {
-        into.push('_')?;
     }
     Ok(())
 }
