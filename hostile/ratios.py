@@ -6,6 +6,9 @@ SMALL = LIMIT // 10
 # What takes rules times lines is measured at these many bytes, each some three times the one before.
 MANY_LINES = (13_000, 42_000, 132_000)
 
+# Among how many rulesets, and under how many offsets, the lines go round.
+PAIRS = ((1, 1), (1, 2), (2, 1), (4, 2), (8, 1), (3, 3), (1, 12), (1, 1440))
+
 
 def measured(runner, program, text):
     """The least milliseconds of the processor in three runs (in one, where it is long), the most memory in MB, and the status."""
@@ -29,10 +32,11 @@ def show(runner, programs):
         ended = "" if status == 0 else f", status {status}"
         print(f"| {name} | {time_1} ms | {time_10} ms{ended} | {time_10 / time_1:.0f} "
               f"| {memory_1:.0f}, {memory_10:.0f} | {memory_10 / memory_1:.0f} |", flush=True)
-    print("\n| Half rules, half lines | rules, lines | time |\n|---|---|---|")
-    for size in MANY_LINES:
-        text = rules_and_lines(size)
-        rules, lines = text.count(b"Rule"), text.count(b"%sB")
-        taken, _, status = measured(runner, program, text)
-        ended = "" if status == 0 else f", status {status}"
-        print(f"| {size // 1000} KB | {rules}, {lines} | {taken} ms{ended} |", flush=True)
+    print("\n| Rulesets, offsets | rules, lines | time | memory, MB |\n|---|---|---|---|")
+    for rulesets, offsets in PAIRS:
+        for size in MANY_LINES:
+            text = rules_and_lines(size, rulesets, offsets)
+            rules, lines = text.count(b"Rule"), text.count(b"%sB")
+            taken, memory, status = measured(runner, program, text)
+            ended = "" if status == 0 else f", status {status}"
+            print(f"| {rulesets}, {offsets} | {rules}, {lines} | {taken} ms{ended} | {memory:.0f} |", flush=True)

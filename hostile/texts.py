@@ -86,11 +86,21 @@ SHAPES = {
 }
 
 
-def rules_and_lines(size):
-    """Half rules of all years, half lines under them, whose ends rise."""
+def ruleset_name(number, rulesets):
+    """The name of one of so many rulesets, which go round."""
+    return b"R" if rulesets == 1 else b"R%c" % (97 + number % rulesets)
+
+
+def rules_and_lines(size, rulesets=1, offsets=1):
+    """Half rules of all years, half lines under them, whose ends rise, and whose rulesets and offsets go round."""
     half = size // 2
-    return (numbered(all_years, half) + b"Zone A 0:00 - AAA 1\n"
-            + numbered(lambda n: b" 0:00 R B%%sB %s\n" % hour_of(n), size - half - 40) + b" 0:00 - CCC\n")
+
+    def ruled(number):
+        hour, minute = divmod(number // rulesets % offsets, 60)
+        return b" %d:%02d %s B%%sB %s\n" % (hour, minute, ruleset_name(number, rulesets), hour_of(number))
+
+    return (numbered(lambda n: all_years(n).replace(b" R ", b" %s " % ruleset_name(n, rulesets)), half) + b"Zone A 0:00 - AAA 1\n"
+            + numbered(ruled, size - half - 40) + b" 0:00 - CCC\n")
 
 
 def small_texts():
