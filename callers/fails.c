@@ -2,6 +2,7 @@
    took and leaves the handle closed; look-ups take none. It is linked with --wrap=malloc, --wrap=realloc and --wrap=free. */
 #include "sefunjaro.h"
 #include "small.h"
+#include "small_file.h"
 #include <stdio.h>
 #include <stdlib.h>
 #include <string.h>
@@ -43,6 +44,8 @@ static struct sefunjaro_fault fault;
 static uint32_t open_source(void) { return sefunjaro_source_open((const uint8_t *)small_source, strlen(small_source), &source, &fault); }
 static uint32_t open_any(void) { return sefunjaro_source_open_any((const uint8_t *)"Zone A 1 - A\n", 13, &source, &fault); }
 static uint32_t open_zone(void) { return sefunjaro_zone_open(&source, (const uint8_t *)"Europe/Paris", 12, &zone, &fault); }
+static uint32_t open_file(void) { return sefunjaro_file_open(small_file, sizeof small_file, &zone, &fault); }
+static uint32_t open_posix(void) { return sefunjaro_posix_open((const uint8_t *)"CET-1CEST,M3.5.0,M10.5.0/3", 26, &zone, &fault); }
 static uint32_t share(void) { return sefunjaro_share(&zone, &other); }
 
 /* How many requests a call makes: each refused in turn; -1 where an answer is wrong or something is not given back. */
@@ -75,6 +78,20 @@ static bool look(void) {
     return done;
 }
 
+/* A zone of a file is asked without memory, where its footer speaks. */
+static bool look_far(void) {
+    struct sefunjaro_clock local = { 2400, 3, 26, 2, 30, 0, 0 };
+    struct sefunjaro_reading reading;
+    struct sefunjaro_gap gap;
+    uint8_t text[40];
+    size_t whole;
+    left = 0;
+    bool done = !sefunjaro_text_at(&zone, 13576813200, 0, text, 40, &whole) && !sefunjaro_readings(&zone, &local, &reading, 1, &whole, &gap);
+    done = done && gap.second == 13576813200 && sefunjaro_ring(&zone, &local, &reading) == SEFUNJARO_NONE && left == 0;
+    left = -1;
+    return done;
+}
+
 int main(void) {
     for (int pass = 0; pass < 2; pass++) {
         for_good = pass;
@@ -83,7 +100,14 @@ int main(void) {
         sefunjaro_close(&source);
         sefunjaro_close(&zone);
         sefunjaro_close(&other);
+        long of_file = tried(open_file, &zone);
+        if (of_file < 0 || !look_far()) return 3;
+        sefunjaro_close(&zone);
+        long of_posix = tried(open_posix, &zone);
+        if (of_posix < 0 || !look_far()) return 4;
+        sefunjaro_close(&zone);
         if (live) return 2;
+        if (pass) printf("%ld requests of a file and %ld of a string refused in turn\n", of_file, of_posix);
         if (pass) printf("%ld requests of a source, %ld in any form, %ld of a zone and %ld of a share refused in turn\n", of_source, of_any, of_zone, of_share);
     }
     return 0;

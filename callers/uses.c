@@ -2,6 +2,7 @@
    fails, or 0. */
 #include "sefunjaro.h"
 #include "small.h"
+#include "small_file.h"
 #include <string.h>
 
 static struct sefunjaro_handle source = SEFUNJARO_CLOSED, zone = SEFUNJARO_CLOSED, other = SEFUNJARO_CLOSED;
@@ -148,6 +149,62 @@ static int rings_and_texts(void) {
     return 0;
 }
 
+static uint32_t open_file(const uint8_t *bytes, size_t length) { return sefunjaro_file_open(bytes, length, &zone, &fault); }
+static uint32_t open_posix(const char *text) { return sefunjaro_posix_open((const uint8_t *)text, strlen(text), &zone, &fault); }
+
+/* The file and the string have the same rules. 2400 has its changes on 26 March and 29 October, both at 01:00 UTC. */
+static int far_off(void) {
+    struct sefunjaro_clock clock, twice = { 2400, 10, 29, 2, 30, 0, 0 }, skipped = { 2400, 3, 26, 2, 30, 0, 0 };
+    struct sefunjaro_reading readings[2] = { { 0, 0 }, { 0, 0 } }, ring = { 77, 0 };
+    struct sefunjaro_change change = { 77, 0, 0 };
+    struct sefunjaro_in_force found;
+    struct sefunjaro_gap gap = { 0, 0, 0 };
+    uint8_t text[40];
+    int64_t saving = 77;
+    size_t count = 77;
+    int32_t offset;
+    if (sefunjaro_offset_at(&zone, 13576813199, 999999999, &offset) || offset != 3600) return 1;
+    if (sefunjaro_in_force(&zone, 13576813200, 0, &found, text, 40) || found.offset != 7200 || !found.is_saving) return 2;
+    if (found.name_length != 4 || memcmp(text, "CEST", 4)) return 3;
+    if (sefunjaro_clock_at(&zone, 13576813200, 5, &clock, &offset) || clock.year != 2400 || clock.hour != 3 || clock.nanosecond != 5) return 4;
+    if (sefunjaro_text_at(&zone, 13576813200, 0, text, 40, &count) || memcmp(text, "2400-03-26 03:00:00.000000000 +02:00:00", count)) return 5;
+    if (sefunjaro_readings(&zone, &twice, readings, 2, &count, &gap) || count != 2 || gap.second != 0) return 6;
+    if (readings[0].second != 13595560200 || readings[0].offset != 7200 || readings[1].second != 13595563800 || readings[1].offset != 3600) return 7;
+    if (sefunjaro_readings(&zone, &skipped, readings, 2, &count, &gap) || count != 0) return 8;
+    if (gap.second != 13576813200 || gap.before != 3600 || gap.after != 7200) return 9;
+    if (sefunjaro_ring(&zone, &twice, &ring) || ring.second != 13595560200 || ring.offset != 7200) return 10;
+    if (sefunjaro_ring(&zone, &skipped, &ring) != SEFUNJARO_NONE) return 11;
+    if (sefunjaro_saving_at(&zone, 0, 0, &saving) != SEFUNJARO_NOT_KEPT || saving != 77) return 12;
+    if (sefunjaro_next_change(&zone, 0, &change) != SEFUNJARO_NOT_KEPT || change.second != 77) return 13;
+    if (sefunjaro_changes(&zone, 0, 1, &change, 1, &count) != SEFUNJARO_NOT_KEPT || change.second != 77) return 14;
+    if (sefunjaro_share(&zone, &other) || sefunjaro_offset_at(&other, 13576813200, 0, &offset) || offset != 7200) return 15;
+    if (sefunjaro_name_count(&zone, &count) != SEFUNJARO_NOT_OPEN) return 16;
+    sefunjaro_close(&other);
+    return 0;
+}
+
+static int files(void) {
+    struct sefunjaro_in_force found;
+    uint8_t broken[sizeof small_file], name[4] = "....";
+    int32_t offset;
+    if (open_file(small_file, sizeof small_file - 1) != SEFUNJARO_NOT_READ || !is_fault(SEFUNJARO_NOT_READ, SEFUNJARO_FILE_REFUSED, 0)) return 100;
+    if (sefunjaro_offset_at(&zone, 0, 0, &offset) != SEFUNJARO_NOT_OPEN) return 101;
+    memcpy(broken, small_file, sizeof broken);
+    broken[sizeof broken - 2] = 'X';
+    if (open_file(broken, sizeof broken) != SEFUNJARO_NOT_READ || !is_fault(SEFUNJARO_NOT_READ, SEFUNJARO_FILE_FOOTER, 0)) return 102;
+    if (open_file(small_file, sizeof small_file) != SEFUNJARO_DONE || !is_fault(0, 0, 0)) return 103;
+    if (sefunjaro_in_force(&zone, -1855958962, 0, &found, name, 4) || found.offset != 561 || found.is_saving || memcmp(name, "LMT.", 4)) return 104;
+    if (sefunjaro_in_force(&zone, -1855958961, 0, &found, name, 4) || found.offset != 3600 || memcmp(name, "CET.", 4)) return 105;
+    int failed = far_off();
+    if (failed) return 110 + failed;
+    if (open_posix("CET") != SEFUNJARO_NOT_READ || !is_fault(SEFUNJARO_NOT_READ, 0, 0)) return 106;
+    if (open_posix("\xff") != SEFUNJARO_NOT_TEXT || !is_fault(SEFUNJARO_NOT_TEXT, 0, 0)) return 107;
+    if (open_posix("CET-1CEST,M3.5.0,M10.5.0/3") != SEFUNJARO_DONE || !is_fault(0, 0, 0)) return 108;
+    if (sefunjaro_offset_at(&zone, -1855958962, 0, &offset) || offset != 3600) return 109;
+    failed = far_off();
+    return failed ? 130 + failed : 0;
+}
+
 int main(void) {
     int failed = closed_handles();
     if (!failed) failed = sources();
@@ -155,6 +212,7 @@ int main(void) {
     if (!failed) failed = looks();
     if (!failed) failed = changes();
     if (!failed) failed = rings_and_texts();
+    if (!failed) failed = files();
     sefunjaro_close(&zone);
     sefunjaro_close(&zone);
     return failed;

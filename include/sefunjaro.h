@@ -48,7 +48,7 @@ enum sefunjaro_status {
     SEFUNJARO_NOT_OPEN = 1,      /* the handle holds nothing, or nothing of the kind that is asked */
     SEFUNJARO_NO_MEMORY = 2,     /* malloc gave none; what was taken is given back, and the handle that was to be opened is closed */
     SEFUNJARO_TOO_LONG = 3,      /* the source is longer than 16,777,216 bytes */
-    SEFUNJARO_NOT_TEXT = 4,      /* a line of the source, or the name of a zone, is not UTF-8 */
+    SEFUNJARO_NOT_TEXT = 4,      /* a line of the source, the name of a zone, or a POSIX string, is not UTF-8 */
     SEFUNJARO_BAD_LINE = 5,      /* a line of the source can't be read: enum sefunjaro_line_cause */
     SEFUNJARO_BAD_JOIN = 6,      /* a line may not follow those before it: enum sefunjaro_join_cause */
     SEFUNJARO_UNKNOWN_ZONE = 7,  /* the name is that of no zone, and of no link to one */
@@ -56,7 +56,8 @@ enum sefunjaro_status {
     SEFUNJARO_OFFSET_RANGE = 9,  /* some offset of the zone is 26 hours or more in size */
     SEFUNJARO_OUT_OF_RANGE = 10, /* a date lies outside the years -9999 to 9999, or the parts are no time */
     SEFUNJARO_NONE = 11,         /* there is none of what is asked for */
-    SEFUNJARO_NOT_READ = 12,     /* the text is none of those that are read */
+    SEFUNJARO_NOT_READ = 12,     /* the text is none of those that are read; of a file: enum sefunjaro_file_cause */
+    SEFUNJARO_NOT_KEPT = 13,     /* the zone is that of a file or of a POSIX string, which has no changes and no saving */
     SEFUNJARO_NO_PLAIN_FORM = 14 /* the source, in any form, has no plain form: enum sefunjaro_plain_cause */
 };
 
@@ -116,6 +117,12 @@ enum sefunjaro_plain_cause {
     SEFUNJARO_PLAIN_TOO_LONG = 21         /* the plain form would be longer than 16,777,216 bytes; no line is to blame */
 };
 
+/* Why a compiled file is not read. */
+enum sefunjaro_file_cause {
+    SEFUNJARO_FILE_REFUSED = 1, /* it is no TZif file of version 2 to 4, or has leap seconds or an offset of 26 hours or more */
+    SEFUNJARO_FILE_FOOTER = 2   /* its footer is not empty, and no POSIX string of those that are read */
+};
+
 /* What a call that opens something refuses. */
 struct sefunjaro_fault {
     uint32_t status; /* the status that the call answers */
@@ -126,7 +133,7 @@ struct sefunjaro_fault {
 /* What is in force in a zone. */
 struct sefunjaro_in_force {
     int32_t offset;
-    bool is_saving;     /* whether the saving is above 0 */
+    bool is_saving;     /* whether the saving is above 0; of a file, whether it marks daylight saving time */
     size_t name_length; /* how many bytes the abbreviation has */
 };
 
@@ -200,6 +207,17 @@ uint32_t sefunjaro_name(struct sefunjaro_handle *source, size_t place, uint8_t *
 uint32_t sefunjaro_zone_open(struct sefunjaro_handle *source, const uint8_t *name, size_t length, struct sefunjaro_handle *zone,
                              struct sefunjaro_fault *fault);
 
+/* Opens the zone of a compiled file (TZif, RFC 8536) from its bytes, as zic writes it and systems keep it below
+   /usr/share/zoneinfo, with what its footer says from its last change on. What the handle held before is closed first. The bytes are
+   used no more after the call. Daylight saving time is what the file marks as such.
+   NOT_READ (with its cause), NO_MEMORY. */
+uint32_t sefunjaro_file_open(const uint8_t *bytes, size_t length, struct sefunjaro_handle *zone, struct sefunjaro_fault *fault);
+
+/* Opens the zone that a POSIX string stands for at all times, as `CET-1CEST,M3.5.0,M10.5.0/3`: standard time alone, or with daylight
+   saving time and its rule, whose times may have a sign and up to 167 hours. What the handle held before is closed first.
+   NOT_TEXT, NOT_READ, NO_MEMORY. */
+uint32_t sefunjaro_posix_open(const uint8_t *text, size_t length, struct sefunjaro_handle *zone, struct sefunjaro_fault *fault);
+
 /* Opens another handle on the same zone, for another thread. What the other handle held before is closed first. The zone itself is
    there once, until its last handle is closed. NOT_OPEN, NO_MEMORY. */
 uint32_t sefunjaro_share(struct sefunjaro_handle *zone, struct sefunjaro_handle *other);
@@ -231,14 +249,14 @@ uint32_t sefunjaro_readings(struct sefunjaro_handle *zone, const struct sefunjar
                             size_t room, size_t *count, struct sefunjaro_gap *gap);
 
 /* How many seconds of the offset at an instant are the saving: above 0 in daylight saving time, and below 0 where winter time is the
-   one with a saving. NOT_OPEN, OUT_OF_RANGE. */
+   one with a saving. NOT_OPEN, NOT_KEPT, OUT_OF_RANGE. */
 uint32_t sefunjaro_saving_at(struct sefunjaro_handle *zone, int64_t second, uint32_t nanosecond, int64_t *saving);
 
-/* The first change after a second. NOT_OPEN, NONE. */
+/* The first change after a second. NOT_OPEN, NOT_KEPT, NONE. */
 uint32_t sefunjaro_next_change(struct sefunjaro_handle *zone, int64_t second, struct sefunjaro_change *change);
 
 /* The changes from the second `from` on and before `to`, by time, and how many there are: none where `from` is not below `to`.
-   NOT_OPEN. */
+   NOT_OPEN, NOT_KEPT. */
 uint32_t sefunjaro_changes(struct sefunjaro_handle *zone, int64_t from, int64_t to, struct sefunjaro_change *changes, size_t room,
                            size_t *count);
 

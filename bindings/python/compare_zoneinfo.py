@@ -105,4 +105,5 @@ def main():
     sys.exit(1 if differing or missing else 0)
 
 
-main()
+if __name__ == "__main__":
+    main()

@@ -27,9 +27,9 @@ import threading
 from typing import Iterator, List, NamedTuple, Optional, Tuple, Union
 
 __all__ = [
-    "BadLine", "BadJoin", "Change", "Clock", "Error", "FIRST_YEAR", "Gap", "InForce", "Instant", "JoinCause", "LAST_YEAR", "LineCause",
-    "NoPlainForm", "NoSchedule", "NotOpen", "NotRead", "OffsetRange", "OffsetTooLarge", "OutOfRange", "PlainCause", "ScheduleCause", "Source",
-    "SourceError", "Status", "UnknownZone", "VERSION", "Zone", "ZoneError", "read_local", "read_zoned",
+    "BadLine", "BadJoin", "Change", "Clock", "Error", "FIRST_YEAR", "FileCause", "Gap", "InForce", "Instant", "JoinCause", "LAST_YEAR",
+    "LineCause", "NoPlainForm", "NoSchedule", "NotKept", "NotOpen", "NotRead", "OffsetRange", "OffsetTooLarge", "OutOfRange", "PlainCause",
+    "ScheduleCause", "Source", "SourceError", "Status", "UnknownZone", "VERSION", "Zone", "ZoneError", "read_local", "read_zoned",
 ]
 
 
@@ -49,6 +49,7 @@ class Status(enum.IntEnum):
     OUT_OF_RANGE = 10
     NONE = 11
     NOT_READ = 12
+    NOT_KEPT = 13
     NO_PLAIN_FORM = 14
 
 
@@ -110,6 +111,13 @@ class PlainCause(enum.IntEnum):
     DUPLICATE_LINK = 19
     TARGET = 20
     TOO_LONG = 21
+
+
+class FileCause(enum.IntEnum):
+    """Why a compiled file is not read."""
+
+    REFUSED = 1
+    FOOTER = 2
 
 
 class Error(Exception):
@@ -185,9 +193,15 @@ class OutOfRange(Error, ValueError):
 
 
 class NotRead(Error, ValueError):
-    """The text is none of those that are read."""
+    """The text is none of those that are read; of a compiled file, `cause` is a FileCause."""
 
     status = Status.NOT_READ
+
+
+class NotKept(Error):
+    """The zone is that of a file or of a POSIX string, which has no changes and no saving."""
+
+    status = Status.NOT_KEPT
 
 
 class OffsetTooLarge(Error, ValueError):
@@ -331,6 +345,8 @@ _source_open_any = _function("sefunjaro_source_open_any", ctypes.c_char_p, _leng
 _name_count = _function("sefunjaro_name_count", _at, _at)
 _name = _function("sefunjaro_name", _at, _size, _at, _size, _at)
 _zone_open = _function("sefunjaro_zone_open", _at, ctypes.c_char_p, _length, _at, _at)
+_file_open = _function("sefunjaro_file_open", ctypes.c_char_p, _length, _at, _at)
+_posix_open = _function("sefunjaro_posix_open", ctypes.c_char_p, _length, _at, _at)
 _share = _function("sefunjaro_share", _at, _at)
 _close = _function("sefunjaro_close", _at, answer=None)
 _offset_at = _function("sefunjaro_offset_at", _at, *_instant, _at)
@@ -380,8 +396,12 @@ def _raise(status: int, of: str, fault: Optional[_RawFault] = None) -> None:
         raise OffsetRange(f"{of}: an offset of 26 hours or more")
     if status == Status.OUT_OF_RANGE:
         raise OutOfRange(f"{of}: out of range")
+    if status == Status.NOT_READ and cause:
+        raise NotRead(f"{of}: no compiled file that is read, {FileCause(cause).name}", cause=FileCause(cause))
     if status == Status.NOT_READ:
         raise NotRead(f"{of}: not a text that is read")
+    if status == Status.NOT_KEPT:
+        raise NotKept(f"{of} is a zone of a file or of a POSIX string, which has no changes and no saving")
     kind = SourceError if of in ("source", _FORM) else ZoneError
     where = f"{of}, line {line}" if line else of
     raise kind(f"{where}: {Status(status).name}", status=Status(status), line=line)
@@ -553,6 +573,35 @@ class Zone(datetime.tzinfo, _Opened):
         if status:
             _raise(status, "source" if status == Status.NOT_OPEN else repr(name), fault)
 
+    @classmethod
+    def from_file(cls, file: Union[bytes, bytearray, memoryview, str, os.PathLike], name: Optional[str] = None) -> "Zone":
+        """The zone of a compiled file (TZif, as below /usr/share/zoneinfo), from its bytes or its path, with what its footer says from
+        its last change on. It has no changes and no saving: `dst` is None, and `changes`, `next_change` and `saving_at` raise NotKept.
+
+        Raises NotRead with its cause, and OSError where the file can't be read."""
+        if isinstance(file, (str, os.PathLike)):
+            path = os.fspath(file)
+            with open(path, "rb") as opened:
+                return cls._opened(_file_open, opened.read(), name or str(path))
+        return cls._opened(_file_open, memoryview(file).tobytes(), name or "file")
+
+    @classmethod
+    def from_posix(cls, text: str) -> "Zone":
+        """The zone that a POSIX string stands for at all times, as "CET-1CEST,M3.5.0,M10.5.0/3"; its name is the string. It has no
+        changes and no saving, as the zone of a file. Raises NotRead."""
+        return cls._opened(_posix_open, text.encode(), text)
+
+    @classmethod
+    def _opened(cls, call, told: bytes, name: str) -> "Zone":
+        zone = cls.__new__(cls)
+        zone._handle = _Handle()
+        zone._name = name
+        fault = _RawFault()
+        status = call(told, len(told), zone._handle.at, ctypes.byref(fault))
+        if status:
+            _raise(status, repr(name), fault)
+        return zone
+
     def share(self) -> "Zone":
         """Another object on the same zone, with a lock of its own. The zone itself is there once, until its last object is closed."""
         other = Zone.__new__(Zone)
@@ -566,18 +615,21 @@ class Zone(datetime.tzinfo, _Opened):
 
     @property
     def name(self) -> str:
-        """The name by which the zone was opened."""
+        """The name by which the zone was opened; of a file its path or what it was called, of a POSIX string the string."""
         return self._name
 
     def offset_at(self, second: int, nanosecond: int = 0) -> int:
         """The offset in force at an instant. Raises OutOfRange outside the years -9999 to 9999."""
-        offset = ctypes.c_int32()
+        return self._number_at(_offset_at, ctypes.c_int32(), second, nanosecond)
+
+    def _number_at(self, call, number, second: int, nanosecond: int) -> int:
+        """The number that a call tells of an instant."""
         handle, second, nanosecond = self._handle, _second(second), _nanosecond(nanosecond)
         with handle.lock:
-            status = _offset_at(handle.at, second, nanosecond, ctypes.byref(offset))
+            status = call(handle.at, second, nanosecond, ctypes.byref(number))
         if status:
             _raise(status, repr(self._name))
-        return offset.value
+        return number.value
 
     def in_force(self, second: int, nanosecond: int = 0) -> InForce:
         """The offset, whether there is daylight saving time, and the abbreviation at an instant. Raises OutOfRange as `offset_at`."""
@@ -616,17 +668,12 @@ class Zone(datetime.tzinfo, _Opened):
 
     def saving_at(self, second: int, nanosecond: int = 0) -> int:
         """How many seconds of the offset at an instant are the saving: above 0 in daylight saving time, and below 0 where winter time
-        is the one with a saving. Raises OutOfRange as `offset_at`."""
-        saving = ctypes.c_int64()
-        handle, second, nanosecond = self._handle, _second(second), _nanosecond(nanosecond)
-        with handle.lock:
-            status = _saving_at(handle.at, second, nanosecond, ctypes.byref(saving))
-        if status:
-            _raise(status, repr(self._name))
-        return saving.value
+        is the one with a saving. Raises OutOfRange as `offset_at`, and NotKept."""
+        return self._number_at(_saving_at, ctypes.c_int64(), second, nanosecond)
 
     def next_change(self, second: int) -> Optional[Change]:
-        """The first change after a second, or None where there is none. Raises OutOfRange where 64 bits don't hold the second."""
+        """The first change after a second, or None where there is none. Raises OutOfRange where 64 bits don't hold the second, and
+        NotKept."""
         change = _RawChange()
         handle, second = self._handle, _second(second)
         with handle.lock:
@@ -719,11 +766,15 @@ class Zone(datetime.tzinfo, _Opened):
         return self.in_force(second, nanosecond).name
 
     def dst(self, dt: Optional[datetime.datetime]) -> Optional[datetime.timedelta]:
-        """The saving of a local time: how much of the offset it is. Raises OffsetTooLarge."""
+        """The saving of a local time: how much of the offset it is; None in a zone of a file or of a POSIX string, which has none.
+        Raises OffsetTooLarge."""
         if dt is None:
             return None
         _, second, nanosecond = self._chosen(dt)
-        return _delta(self.saving_at(second, nanosecond))
+        try:
+            return _delta(self.saving_at(second, nanosecond))
+        except NotKept:
+            return None
 
     def fromutc(self, dt: datetime.datetime) -> datetime.datetime:
         """The local time of a UTC time to which this zone is attached, with its fold. Raises OffsetTooLarge, and OverflowError where

@@ -1,7 +1,10 @@
 """The tests of sefunjaro.py over a small source of its own: python3 -m unittest, with SEFUNJARO_LIBRARY set."""
+import base64
 import copy
+import pathlib
 import pickle
 import resource
+import tempfile
 import threading
 import unittest
 from datetime import date, datetime, time, timedelta, timezone
@@ -187,6 +190,60 @@ class Zones(unittest.TestCase):
         for value in (self.zone, moment, self.source):
             with self.assertRaisesRegex(TypeError, "pickle"):
                 pickle.dumps(value)
+
+
+class Files(unittest.TestCase):
+    """A file that `zic -b slim` wrote of the rules of Europe from 1996 on, after local mean time, and the string at its end."""
+
+    STRING = "CET-1CEST,M3.5.0,M10.5.0/3"
+    FILE = base64.b64decode(
+        "VFppZjIAAAAAAAAAAAAAAAAAAAAAAAAAAAAAAAAAAAAAAAAAAAAAAQAAAAEAAAAAAAAAVFppZjIAAAAAAAAAAAAAAAAAAAAAAAAA"
+        "AAAAAAAAAAAAAAACAAAAAwAAAA3/////kWBQTwAAAAAxXdkQAgEAAAIxAAAAABwgAQQAAA4QAAlMTVQAQ0VTVABDRVQACkNFVC0x"
+        "Q0VTVCxNMy41LjAsTTEwLjUuMC8zCg=="
+    )
+
+    def test_far_off(self):
+        # 2400 has its changes on 26 March and 29 October, both at 01:00 UTC
+        for zone in (sefunjaro.Zone.from_file(self.FILE), sefunjaro.Zone.from_posix(self.STRING)):
+            self.assertEqual(zone.in_force(13576813199), (3600, False, "CET"))
+            self.assertEqual(zone.in_force(13576813200), (7200, True, "CEST"))
+            self.assertEqual(zone.text_at(13576813200, 5), "2400-03-26 03:00:00.000000005 +02:00:00")
+            self.assertEqual(zone.instants(datetime(2400, 10, 29, 2, 30)), [(13595560200, 0, 7200), (13595563800, 0, 3600)])
+            self.assertEqual(zone.gap(datetime(2400, 3, 26, 2, 30)), Gap(13576813200, 3600, 7200))
+            self.assertIsNone(zone.ring(datetime(2400, 3, 26, 2, 30)))
+            summer = datetime(2400, 7, 1, 12, tzinfo=zone)
+            self.assertEqual((summer.utcoffset(), summer.tzname(), summer.dst()), (hours(2), "CEST", None))
+            self.assertEqual(summer.astimezone(timezone.utc).astimezone(zone), summer)
+            for ask in (lambda: zone.saving_at(0), lambda: zone.next_change(0), lambda: zone.changes(0, 1)):
+                with self.assertRaises(sefunjaro.NotKept):
+                    ask()
+            self.assertEqual(zone.share().offset_at(13576813200), 7200)
+
+    def test_mean_time(self):
+        zone = sefunjaro.Zone.from_file(bytearray(self.FILE))
+        self.assertEqual((zone.in_force(-1855958962), zone.in_force(-1855958961)), ((561, False, "LMT"), (3600, False, "CET")))
+        self.assertEqual(sefunjaro.Zone.from_posix(self.STRING).offset_at(-1855958962), 3600)
+
+    def test_names(self):
+        with tempfile.TemporaryDirectory() as folder:
+            path = pathlib.Path(folder, "Paris")
+            path.write_bytes(self.FILE)
+            self.assertEqual([sefunjaro.Zone.from_file(named).name for named in (path, str(path))], [str(path)] * 2)
+            self.assertEqual(sefunjaro.Zone.from_file(path, "Paris").name, "Paris")
+        self.assertEqual(sefunjaro.Zone.from_posix("UTC0").name, "UTC0")
+        with self.assertRaises(FileNotFoundError):
+            sefunjaro.Zone.from_file(path)
+
+    def test_faults(self):
+        for told, cause in ((b"", sefunjaro.FileCause.REFUSED), (self.FILE[:-1], sefunjaro.FileCause.REFUSED),
+                            (self.FILE[:-2] + b"X\n", sefunjaro.FileCause.FOOTER)):
+            with self.assertRaises(sefunjaro.NotRead) as caught:
+                sefunjaro.Zone.from_file(told)
+            self.assertEqual((caught.exception.status, caught.exception.cause), (Status.NOT_READ, cause))
+        for text in ("", "CET", "CET-25", "CET-1CEST"):
+            with self.assertRaises(sefunjaro.NotRead) as caught:
+                sefunjaro.Zone.from_posix(text)
+            self.assertIsNone(caught.exception.cause)
 
 
 class Faults(unittest.TestCase):

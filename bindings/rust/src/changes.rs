@@ -21,7 +21,7 @@ impl Zone {
     ///
     /// # Errors
     ///
-    /// As [`Zone::offset_at`].
+    /// As [`Zone::offset_at`], and [`Error::NotKept`].
     ///
     /// ```
     /// let zone = sefunjaro::Source::open(b"Zone A 1:00 1:00 A\n")?.zone("A")?;
@@ -36,7 +36,7 @@ impl Zone {
         Ok(saving)
     }
 
-    /// The first change after a second, or none.
+    /// The first change after a second, or none. The zone of a file or of a POSIX string keeps none, as [`Zone::keeps_changes`] tells.
     ///
     /// ```
     /// let zone = sefunjaro::Source::open(b"Zone A 1:00 - A 2000 Jan 1\n 2:00 - B\n")?.zone("A")?;
@@ -50,6 +50,17 @@ impl Zone {
         // SAFETY: the handle is used by no other call.
         let status = unsafe { raw::sefunjaro_next_change(self.handle().at(), second, &mut change) };
         (status == DONE).then_some(change)
+    }
+
+    /// Whether the zone keeps its changes and their saving: not that of a file or of a POSIX string.
+    ///
+    /// ```
+    /// assert!(sefunjaro::Source::open(b"Zone A 1:00 - A\n")?.zone("A")?.keeps_changes());
+    /// assert!(!sefunjaro::Zone::from_posix("AAA0")?.keeps_changes());
+    /// # Ok::<(), sefunjaro::Error>(())
+    /// ```
+    pub fn keeps_changes(&self) -> bool {
+        self.saving_at(0, 0) != Err(Error::NotKept)
     }
 
     /// The changes from the second `from` on and before the second `to`, by time. It takes no memory.

@@ -1,8 +1,8 @@
 //! What the library refuses.
 
 use crate::raw::{
-    RawFault, BAD_JOIN, BAD_LINE, NONE, NOT_OPEN, NOT_READ, NOT_TEXT, NO_MEMORY, NO_PLAIN_FORM, NO_SCHEDULE, OFFSET_RANGE, OUT_OF_RANGE,
-    TOO_LONG, UNKNOWN_ZONE,
+    RawFault, BAD_JOIN, BAD_LINE, NONE, NOT_KEPT, NOT_OPEN, NOT_READ, NOT_TEXT, NO_MEMORY, NO_PLAIN_FORM, NO_SCHEDULE, OFFSET_RANGE,
+    OUT_OF_RANGE, TOO_LONG, UNKNOWN_ZONE,
 };
 use std::fmt;
 
@@ -35,6 +35,10 @@ pub enum Error {
     OutOfRange,
     /// The text is none of those that are read.
     NotRead,
+    /// The bytes are no compiled file that is read.
+    File { cause: FileCause },
+    /// The zone is that of a file or of a POSIX string, which has no changes and no saving.
+    NotKept,
     /// The library answered a status, or told a cause, that this crate doesn't know: the archive is of another version.
     Unexpected { status: u32, cause: u32 },
 }
@@ -101,6 +105,18 @@ pub enum ScheduleCause {
     DayRange,
     NoStandardSpan,
 }
+
+/// Why a compiled file is not read.
+#[derive(Clone, Copy, Debug, PartialEq, Eq)]
+#[non_exhaustive]
+pub enum FileCause {
+    /// It is no TZif file of version 2 to 4, or has leap seconds or an offset of 26 hours or more.
+    Refused,
+    /// Its footer is not empty, and no POSIX string of those that are read.
+    Footer,
+}
+
+const FILE_CAUSES: [FileCause; 2] = [FileCause::Refused, FileCause::Footer];
 
 const LINE_CAUSES: [LineCause; 9] = [
     LineCause::FailedYearParse,
@@ -182,7 +198,9 @@ impl Error {
             NO_SCHEDULE => numbered(&SCHEDULE_CAUSES, fault.cause).map(|cause| Error::NoSchedule { cause }),
             OFFSET_RANGE => Some(Error::OffsetRange),
             OUT_OF_RANGE => Some(Error::OutOfRange),
-            NOT_READ => Some(Error::NotRead),
+            NOT_READ if fault.cause == 0 => Some(Error::NotRead),
+            NOT_READ => numbered(&FILE_CAUSES, fault.cause).map(|cause| Error::File { cause }),
+            NOT_KEPT => Some(Error::NotKept),
             // A value of this crate is always open and a name is asked for below the count, so these two are never met.
             NOT_OPEN | NONE => None,
             _ => None,
@@ -206,6 +224,8 @@ impl fmt::Display for Error {
             Error::OffsetRange => write!(out, "an offset of 26 hours or more"),
             Error::OutOfRange => write!(out, "out of range"),
             Error::NotRead => write!(out, "not a text that is read"),
+            Error::File { cause } => write!(out, "no compiled file that is read: {cause:?}"),
+            Error::NotKept => write!(out, "a zone of a file or of a POSIX string has no changes and no saving"),
             Error::Unexpected { status, cause } => write!(out, "the library answered status {status} with cause {cause}"),
         }
     }

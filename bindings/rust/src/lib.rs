@@ -30,7 +30,7 @@ mod source;
 mod zone;
 
 pub use changes::{Change, Changes};
-pub use error::{Error, JoinCause, LineCause, PlainCause, ScheduleCause};
+pub use error::{Error, FileCause, JoinCause, LineCause, PlainCause, ScheduleCause};
 pub use source::{Names, Source};
 pub use zone::{InForce, Instant, Instants, LocalTime, Zone};
 

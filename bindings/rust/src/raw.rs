@@ -64,6 +64,7 @@ pub const OFFSET_RANGE: u32 = 9;
 pub const OUT_OF_RANGE: u32 = 10;
 pub const NONE: u32 = 11;
 pub const NOT_READ: u32 = 12;
+pub const NOT_KEPT: u32 = 13;
 pub const NO_PLAIN_FORM: u32 = 14;
 
 extern "C" {
@@ -78,6 +79,8 @@ extern "C" {
         zone: *mut RawHandle,
         fault: *mut RawFault,
     ) -> u32;
+    pub fn sefunjaro_file_open(bytes: *const u8, length: usize, zone: *mut RawHandle, fault: *mut RawFault) -> u32;
+    pub fn sefunjaro_posix_open(text: *const u8, length: usize, zone: *mut RawHandle, fault: *mut RawFault) -> u32;
     pub fn sefunjaro_share(zone: *mut RawHandle, other: *mut RawHandle) -> u32;
     pub fn sefunjaro_close(handle: *mut RawHandle);
     pub fn sefunjaro_offset_at(zone: *mut RawHandle, second: i64, nanosecond: u32, offset: *mut i32) -> u32;

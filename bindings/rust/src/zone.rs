@@ -1,6 +1,6 @@
 //! A zone.
 
-use crate::raw::{self, RawInForce, RawReading};
+use crate::raw::{self, RawFault, RawHandle, RawInForce, RawReading, DONE};
 use crate::{done, Clock, Error, Gap, Handle};
 use std::fmt;
 use std::iter::FusedIterator;
@@ -31,7 +31,7 @@ pub struct Zone {
 #[derive(Clone, Debug, PartialEq, Eq, Hash)]
 pub struct InForce {
     pub offset: i32,
-    /// Whether there is daylight saving time: a saving above 0.
+    /// Whether there is daylight saving time: a saving above 0, or what a file marks as such.
     pub is_saving: bool,
     /// The abbreviation.
     pub name: String,
@@ -59,6 +59,54 @@ impl Zone {
 
     pub(crate) fn handle(&self) -> &Handle {
         &self.handle
+    }
+
+    /// Opens the zone of a compiled file (TZif, as below /usr/share/zoneinfo) from its bytes, which are used no more afterwards, with
+    /// what its footer says from its last change on. Its changes and their saving are not kept.
+    ///
+    /// # Errors
+    ///
+    /// [`Error::File`], [`Error::NoMemory`].
+    ///
+    /// ```
+    /// use sefunjaro::{Error, FileCause, Zone};
+    ///
+    /// assert_eq!(Zone::from_tzif(b"TZif").err(), Some(Error::File { cause: FileCause::Refused }));
+    /// ```
+    pub fn from_tzif(bytes: &[u8]) -> Result<Zone, Error> {
+        Zone::opened(raw::sefunjaro_file_open, bytes)
+    }
+
+    /// Opens the zone that a POSIX string stands for at all times. Its changes and their saving are not kept.
+    ///
+    /// # Errors
+    ///
+    /// [`Error::NotRead`] where the text is no such string, [`Error::NoMemory`].
+    ///
+    /// ```
+    /// use sefunjaro::{Error, Zone};
+    ///
+    /// let zone = Zone::from_posix("CET-1CEST,M3.5.0,M10.5.0/3")?;
+    /// assert_eq!((zone.offset_at(1711846799, 0)?, zone.offset_at(1711846800, 0)?), (3600, 7200));
+    /// assert_eq!(zone.saving_at(0, 0), Err(Error::NotKept));
+    /// assert_eq!(Zone::from_posix("CET").err(), Some(Error::NotRead));
+    /// # Ok::<(), sefunjaro::Error>(())
+    /// ```
+    pub fn from_posix(text: &str) -> Result<Zone, Error> {
+        Zone::opened(raw::sefunjaro_posix_open, text.as_bytes())
+    }
+
+    fn opened(
+        open: unsafe extern "C" fn(*const u8, usize, *mut RawHandle, *mut RawFault) -> u32,
+        told: &[u8],
+    ) -> Result<Zone, Error> {
+        let handle = Handle::closed();
+        let mut fault = RawFault::default();
+        // SAFETY: the bytes are never null, nobody writes them during the call, and nothing overlaps.
+        match unsafe { open(told.as_ptr(), told.len(), handle.at(), &mut fault) } {
+            DONE => Ok(Zone { handle }),
+            status => Err(Error::of_fault(status, &fault)),
+        }
     }
 
     /// Another value on the same zone, for another thread. The zone itself is there once.

@@ -1,6 +1,8 @@
 //! Each call, each error, threads and memory, over a small source.
 
-use sefunjaro::{Change, Clock, Error, Gap, Instant, JoinCause, LineCause, LocalTime, PlainCause, ScheduleCause, Source, Zone};
+use sefunjaro::{
+    Change, Clock, Error, FileCause, Gap, Instant, JoinCause, LineCause, LocalTime, PlainCause, ScheduleCause, Source, Zone,
+};
 use std::{fs, thread};
 
 const SOURCE: &str = "\
@@ -18,6 +20,14 @@ Link Here/Middle There/Middle
 /// 2024-03-31 and 2024-10-27, 01:00 UTC.
 const SPRING: i64 = 1711846800;
 const AUTUMN: i64 = 1729990800;
+
+/// A file that `zic -b slim` wrote of the rules of Europe from 1996 on, after local mean time, and the string at its end.
+const FILE: &[u8] = b"\
+TZif2\0\0\0\0\0\0\0\0\0\0\0\0\0\0\0\0\0\0\0\0\0\0\0\0\0\0\0\0\0\0\0\0\0\0\x01\0\0\0\x01\0\0\0\0\0\0\
+\0TZif2\0\0\0\0\0\0\0\0\0\0\0\0\0\0\0\0\0\0\0\0\0\0\0\0\0\0\0\0\0\0\x02\0\0\0\x03\0\0\0\x0d\xff\xff\
+\xff\xff\x91`PO\0\0\0\01]\xd9\x10\x02\x01\0\0\x021\0\0\0\0\x1c \x01\x04\0\0\x0e\x10\0\x09LMT\0CEST\0\
+CET\0\nCET-1CEST,M3.5.0,M10.5.0/3\n";
+const STRING: &str = "CET-1CEST,M3.5.0,M10.5.0/3";
 
 fn zone(name: &str) -> Zone {
     Source::open(SOURCE.as_bytes()).unwrap().zone(name).unwrap()
@@ -70,6 +80,29 @@ fn local_times() {
     let thrice = self::zone("Here/Twice").instants(&local("2000-01-01 01:15:00.000000000")).unwrap();
     assert_eq!(thrice.len(), 3);
     assert_eq!(thrice.map(|instant| instant.offset).collect::<Vec<_>>(), [0, -3600, -7200]);
+}
+
+#[test]
+fn files_and_strings() {
+    // 2400 has its changes on 26 March and 29 October, both at 01:00 UTC.
+    for zone in [Zone::from_tzif(FILE).unwrap(), Zone::from_posix(STRING).unwrap()] {
+        assert_eq!(zone.offset_at(13576813199, 0), Ok(3600));
+        let found = zone.in_force(13576813200, 0).unwrap();
+        assert_eq!((found.offset, found.is_saving, found.name.as_str()), (7200, true, "CEST"));
+        assert_eq!(zone.text_at(13576813200, 5).unwrap(), "2400-03-26 03:00:00.000000005 +02:00:00");
+        let twice: Vec<_> = zone.instants(&local("2400-10-29 02:30:00.000000000")).unwrap().map(|instant| instant.second).collect();
+        assert_eq!(twice, [13595560200, 13595563800]);
+        let LocalTime::Skipped(gap) = zone.local_time(&local("2400-03-26 02:30:00.000000000")).unwrap() else { panic!("shown") };
+        assert_eq!(gap, Gap { second: 13576813200, before: 3600, after: 7200 });
+        assert_eq!(zone.ring(&local("2400-03-26 02:30:00.000000000")), Ok(None));
+        assert_eq!((zone.saving_at(0, 0), zone.next_change(0), zone.keeps_changes()), (Err(Error::NotKept), None, false));
+        assert_eq!(zone.share().unwrap().offset_at(13576813200, 0), Ok(7200));
+    }
+    assert_eq!(Zone::from_tzif(FILE).unwrap().offset_at(-1855958962, 0), Ok(561));
+    assert_eq!(Zone::from_tzif(&FILE[1..]).err(), Some(Error::File { cause: FileCause::Refused }));
+    let broken = [&FILE[..FILE.len() - 1], b"X\n"].concat();
+    assert_eq!(Zone::from_tzif(&broken).err(), Some(Error::File { cause: FileCause::Footer }));
+    assert_eq!(Zone::from_posix("CET-1CEST").err(), Some(Error::NotRead));
 }
 
 #[test]

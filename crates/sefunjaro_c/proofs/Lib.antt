@@ -1,4 +1,5 @@
 mod AnySourceLemmas
+mod AskedLemmas
 mod FaultLemmas
 mod ShownLemmas
 mod TextLemmas

@@ -1,51 +1,40 @@
--- Instants at the offset in force.
-use Rattle.std.proofs.Common.{◌≡◌, ℕ, Bool, true, false, ℤ, pos, ◌+ℤ◌, ◌*ℤ◌, sym, ap, ◌∙◌, arith}
-use Rattle.std.specs.Prelude.{◌&&◌, Option, Some, None, is_some, IfSome, IfNone}
+-- What is seen of zones of any kind, and instants at the offset in force.
+use Rattle.std.proofs.Common.{◌≡◌, ℕ, Bool, true, false, List, ℤ, pos, ◌+ℤ◌, ◌*ℤ◌, refl, ap, subst, arith}
+use Rattle.std.specs.Prelude.{Some, None}
 use Rattle.std.proofs.lemmas.Int.{ints}
 use Rattle.civil_base.specs.DateTimes.{instant, local_of, offset_of}
 use Rattle.civil_base.specs.Instants.{instant_at, local_at}
-use Rattle.civil_base.specs.Ranges.{is_in_years}
 use Rattle.civil_base.specs.declared.offset_date_time.OffsetDateTime.{OffsetDateTime}
 use Rattle.tz_zone.specs.InForce.{in_force, shown_of}
-use Rattle.zone_open.specs.Zones.{total_in}
-use Rattle.zone_open.specs.declared.zone.OpenZone.{OpenZone}
-use Rattle.sefunjaro_c.specs.Answers.{is_shown, IsShownAs}
-use Rattle.sefunjaro_c.specs.Times.{is_instant, nanos_at}
+use Rattle.zone_open.specs.Answered.{IsShown}
+use Rattle.zone_open.specs.Any.{Seen}
+use Rattle.zone_open.specs.declared.any.AnyZone.{AnyZone}
+use Rattle.zone_open.specs.declared.any.AnyZone.TheVariants.{Source, File}
+use Rattle.sefunjaro_c.specs.Answers.{is_shown, IsShownAs, Where}
 
-pub not_instant : (zone : OpenZone) (second : ℤ) (nanosecond : ℕ) → is_instant second nanosecond ≡ false → is_shown zone second nanosecond ≡ false
-unfolding is_shown
-not_instant zone second nanosecond h =
-    let t = nanos_at second nanosecond in ap (λ b. b && is_in_years (local_at t (total_in zone t))) h
-
-shown_where : (zone : OpenZone) (second : ℤ) (nanosecond : ℕ) (t : ℤ) (b : Bool) → is_instant second nanosecond ≡ true
-    → t ≡ nanos_at second nanosecond → b ≡ is_in_years (local_at t (total_in zone t)) → is_shown zone second nanosecond ≡ b
-unfolding is_shown
-shown_where zone second nanosecond t b h e years =
-    let u = nanos_at second nanosecond in
-    ap (λ c. c && is_in_years (local_at u (total_in zone u))) h ∙ ap (λ s. is_in_years (local_at s (total_in zone s))) (sym e) ∙ sym years
+-- what follows from what is seen, whatever zone it is
+pub seen_map : (zone : AnyZone) (P Q : (ℤ → ℤ) → (ℤ → List ℕ → Bool → Type 0) → Type 0)
+    → ((total : ℤ → ℤ) (gives : ℤ → List ℕ → Bool → Type 0) → P total gives → Q total gives) → Seen zone P → Seen zone Q
+seen_map (Source zone) P Q f h = f _ _ h
+seen_map (File zone) P Q f h = record { footer = h.footer; says = h.says; holds = f _ _ h.holds }
 
 local_from : (x o t p : ℤ) → instant_at x o ≡ t → o ≡ p → x ≡ local_at t p
 local_from x o t p e f = omega (arith, ints, e, f)
 
-shown_as : (zone : OpenZone) (t u : ℤ) (value : OffsetDateTime) → u ≡ t → shown_of value ≡ in_force (total_in zone) u → IsShownAs zone t value
+shown_as : (total : ℤ → ℤ) (t : ℤ) (value : OffsetDateTime) → shown_of value ≡ in_force total t → IsShownAs total t value
 unfolding shown_of instant
-shown_as zone t u value e shown =
-    let at = ap (λ p. p.0) shown ∙ e in let offset = ap (λ p. p.1) shown ∙ ap (total_in zone) e in record {
+shown_as total t value shown =
+    let at = ap (λ p. p.0) shown in let offset = ap (λ p. p.1) shown in record {
       instant = at;
       offset = offset;
-      local = local_from (local_of value) (offset_of value) t (total_in zone t) at offset;
+      local = local_from (local_of value) (offset_of value) t (total t) at offset;
     }
 
-pub some_shown : (zone : OpenZone) (second : ℤ) (nanosecond : ℕ) (t : ℤ) (found : Option OffsetDateTime) → is_instant second nanosecond ≡ true
-    → t ≡ nanos_at second nanosecond → is_some found ≡ is_in_years (local_at t (total_in zone t))
-    → IfSome found (λ value. shown_of value ≡ in_force (total_in zone) t)
-    → IfSome found (λ value. (is_shown zone second nanosecond ≡ true) × IsShownAs zone (nanos_at second nanosecond) value)
-some_shown zone second nanosecond t (Some value) h e years shown =
-    (shown_where zone second nanosecond t true h e years, shown_as zone (nanos_at second nanosecond) t value e shown)
-some_shown zone second nanosecond t None h e years shown = tt
+pub where_shown : (total : ℤ → ℤ) (t : ℤ) (value : OffsetDateTime) (kept P : Type 0) → IsShown total t (Some value)
+    → (IsShownAs total t value → P) → Where (is_shown total t) 0 kept P
+unfolding is_shown
+where_shown total t value kept P h f = subst (λ b. Where b 0 kept P) h.years (refl, f (shown_as total t value h.shown))
 
-pub none_shown : (zone : OpenZone) (second : ℤ) (nanosecond : ℕ) (t : ℤ) (found : Option OffsetDateTime) → is_instant second nanosecond ≡ true
-    → t ≡ nanos_at second nanosecond → is_some found ≡ is_in_years (local_at t (total_in zone t))
-    → IfNone found (is_shown zone second nanosecond ≡ false)
-none_shown zone second nanosecond t (Some value) h e years = tt
-none_shown zone second nanosecond t None h e years = shown_where zone second nanosecond t false h e years
+pub where_none : (total : ℤ → ℤ) (t : ℤ) (kept P : Type 0) → IsShown total t None → kept → Where (is_shown total t) 10 kept P
+unfolding is_shown
+where_none total t kept P h k = subst (λ b. Where b 10 kept P) h.years (refl, k)

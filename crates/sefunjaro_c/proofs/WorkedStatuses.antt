@@ -6,7 +6,11 @@ use Rattle.zone_source.specs.declared.error.BuildKind.TheVariants as join
 use Rattle.zone_spans.specs.declared.fault.SpanFault.TheVariants as span
 use Rattle.tz_zone.specs.declared.compile.ZoneFault.TheVariants as zone
 use Rattle.zone_values.specs.declared.fault.FaultKind.TheVariants as line
+use Rattle.zone_open.specs.declared.file.FileFault.TheVariants as file
+use Rattle.zone_open.specs.declared.file.PosixFault.TheVariants as posix
+use Rattle.sefunjaro_handles.specs.Statuses.{not_kept}
 use Rattle.sefunjaro_c.specs.Answers.{Where}
+use Rattle.sefunjaro_c.specs.Files.{file_told, posix_told}
 use Rattle.sefunjaro_c.specs.Faults.{fault_told, join_number, kind_number, plain, schedule_number, told_or_memory, zone_told}
 
 -- each cause has a number of its own, in the header's order
@@ -53,3 +57,14 @@ not_refused h = cc
 
 not_answered : Where false 0 (Unit {0}) (Unit {0}) → ⊥
 not_answered h = cc
+
+-- a file that isn't read, by its cause, and a string; and what a zone of theirs doesn't keep
+unread_files : map file_told (file.Refused ∷ file.Footer ∷ file.NoMemory ∷ [])
+    ≡ record { status = 12; cause = 1; line = 0 } ∷ record { status = 12; cause = 2; line = 0 } ∷ plain 2 ∷ []
+unread_files = refl
+
+unread_strings : map posix_told (posix.Refused ∷ posix.NoMemory ∷ []) ≡ plain 12 ∷ plain 2 ∷ []
+unread_strings = refl
+
+nothing_kept : not_kept ≡ 13
+nothing_kept = refl

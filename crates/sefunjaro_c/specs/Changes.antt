@@ -1,12 +1,12 @@
 -- The changes of a zone, and the ring of an alarm.
-use Rattle.std.specs.Prelude.{◌≡◌, ◌⊎◌, ℕ, ℤ, List, Option, Some, None, length, option_map}
-use Rattle.std.specs.List.{slice_get}
-use Rattle.tz_lookup.specs.InForce.{all_in_force}
-use Rattle.zone_open.specs.Asked.{reading_of}
+use Rattle.std.specs.Prelude.{◌≡◌, ◌⊎◌, ℕ, ℤ, List, Option, Some, None, length}
+use Rattle.zone_open.specs.Answered.{first_of}
+use Rattle.zone_open.specs.Any.{Seen}
 use Rattle.zone_open.specs.Changes.{window}
 use Rattle.zone_open.specs.Clocks.{shown_by, IsClock}
 use Rattle.zone_open.specs.Rooms.{filled}
-use Rattle.zone_open.specs.Zones.{set_in, total_in}
+use Rattle.zone_open.specs.Zones.{set_in}
+use Rattle.zone_open.specs.declared.any.AnyZone.{AnyZone}
 use Rattle.zone_open.specs.declared.asking.Reading.{Reading}
 use Rattle.zone_open.specs.declared.changes.Change.{Change}
 use Rattle.zone_open.specs.declared.clock.Clock.{Clock}
@@ -23,11 +23,8 @@ abbrev pub AreChanges : OpenZone → ℤ → ℤ → ℕ → List Change → Lis
 AreChanges zone from to status old new count =
     (status ≡ done) × ((new ≡ filled (window (set_in zone) from to) old) × (count ≡ length (window (set_in zone) from to)))
 
--- of the instants at which clocks show these parts, the first
-abbrev pub first_reading : OpenZone → Clock → Option Reading
-first_reading zone clock = option_map reading_of (slice_get (all_in_force (total_in zone) (shown_by clock)) 0)
-
 -- parts that are a local time have that ring, or none; others are out of range
-abbrev pub IsRing : OpenZone → Clock → ℕ → Reading → Reading → Type 0
+abbrev pub IsRing : AnyZone → Clock → ℕ → Reading → Reading → Type 0
 IsRing zone clock status old new =
-    (IsClock clock × IsFound (first_reading zone clock) status old new) ⊎ ((IsClock clock → ⊥) × ((status ≡ out_of_range) × (new ≡ old)))
+    (IsClock clock × Seen zone (λ total _. IsFound (first_of total (shown_by clock)) status old new))
+    ⊎ ((IsClock clock → ⊥) × ((status ≡ out_of_range) × (new ≡ old)))

@@ -2,6 +2,7 @@ pub mod Answers
 pub mod AnySources
 pub mod Changes
 pub mod Faults
+pub mod Files
 pub mod Names
 pub mod Opened
 pub mod Read

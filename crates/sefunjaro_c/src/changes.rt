@@ -3,15 +3,15 @@ ghost use Rattle.std.specs.Prelude.{◌≡◌};
 ghost use Rattle.sefunjaro_c.specs.Answers.{Where};
 ghost use Rattle.sefunjaro_c.specs.Changes.{AreChanges, IsFound, IsRing};
 ghost use Rattle.sefunjaro_c.specs.Times.{is_instant};
-ghost use Rattle.sefunjaro_handles.specs.Held.{OfZone, OnZone};
+ghost use Rattle.sefunjaro_handles.specs.Held.{OfKept, OfZone, OnZone};
 ghost use Rattle.zone_open.specs.Changes.{next_after, saving_at};
 ghost use Rattle.zone_open.specs.Zones.{set_in};
 
-use crate::status::{DONE, NONE_THERE, NOT_OPEN, OUT_OF_RANGE};
+use crate::status::{DONE, NONE_THERE, NOT_KEPT, NOT_OPEN, OUT_OF_RANGE};
 use crate::times::instant_of;
 use sefunjaro_handles::{Handle, Opened};
 use std::alloc::Global;
-use zone_open::{Change, Clock, Reading};
+use zone_open::{AnyZone, Change, Clock, Reading};
 
 /// The saving that is in force at an instant, in seconds. A change lies on a whole second, so the nanosecond only has to be one.
 #[unsafe(no_mangle)]
@@ -24,7 +24,8 @@ pub extern "C" fn sefunjaro_saving_at(
 ) -> u32
     ensures same { zone.new.held.opened ≡ zone.old.held.opened }
     ensures answer { OnZone zone.old.held.opened result (saving.new ≡ saving.old)
-        (λ held. Where (is_instant second nanosecond) result (saving.new ≡ saving.old) (saving.new ≡ saving_at (set_in held) second)) }
+        (λ held. OfKept held result (saving.new ≡ saving.old)
+        (λ zone. Where (is_instant second nanosecond) result (saving.new ≡ saving.old) (saving.new ≡ saving_at (set_in zone) second))) }
 {
     let Some(opened) = zone.take(alloc) else {
         return NOT_OPEN;
@@ -36,10 +37,14 @@ pub extern "C" fn sefunjaro_saving_at(
 
 fn saving_at(opened: &Opened, second: i64, nanosecond: u32, saving: &mut i64) -> u32
     ensures { OfZone opened.now result (saving.new ≡ saving.old)
-        (λ held. Where (is_instant second nanosecond) result (saving.new ≡ saving.old) (saving.new ≡ saving_at (set_in held) second)) }
+        (λ held. OfKept held result (saving.new ≡ saving.old)
+        (λ zone. Where (is_instant second nanosecond) result (saving.new ≡ saving.old) (saving.new ≡ saving_at (set_in zone) second))) }
 {
     let Opened::Zone(zone) = opened else {
         return NOT_OPEN;
+    };
+    let AnyZone::Source(zone) = &**zone else {
+        return NOT_KEPT;
     };
     match instant_of(second, nanosecond) {
         Some(_) => {
@@ -60,7 +65,7 @@ pub extern "C" fn sefunjaro_next_change(
 ) -> u32
     ensures same { zone.new.held.opened ≡ zone.old.held.opened }
     ensures answer { OnZone zone.old.held.opened result (change.new ≡ change.old)
-        (λ held. IsFound (next_after (set_in held) second) result change.old change.new) }
+        (λ held. OfKept held result (change.new ≡ change.old) (λ zone. IsFound (next_after (set_in zone) second) result change.old change.new)) }
 {
     let Some(opened) = zone.take(alloc) else {
         return NOT_OPEN;
@@ -72,10 +77,13 @@ pub extern "C" fn sefunjaro_next_change(
 
 fn next_change(opened: &Opened, second: i64, change: &mut Change) -> u32
     ensures { OfZone opened.now result (change.new ≡ change.old)
-        (λ held. IsFound (next_after (set_in held) second) result change.old change.new) }
+        (λ held. OfKept held result (change.new ≡ change.old) (λ zone. IsFound (next_after (set_in zone) second) result change.old change.new)) }
 {
     let Opened::Zone(zone) = opened else {
         return NOT_OPEN;
+    };
+    let AnyZone::Source(zone) = &**zone else {
+        return NOT_KEPT;
     };
     match zone.next_change(second) {
         Some(found) => {
@@ -98,7 +106,7 @@ pub extern "C" fn sefunjaro_changes(
 ) -> u32
     ensures same { zone.new.held.opened ≡ zone.old.held.opened }
     ensures answer { OnZone zone.old.held.opened result (changes.new ≡ changes.old)
-        (λ held. AreChanges held from to result changes.old changes.new count.new) }
+        (λ held. OfKept held result (changes.new ≡ changes.old) (λ zone. AreChanges zone from to result changes.old changes.new count.new)) }
 {
     let Some(opened) = zone.take(alloc) else {
         return NOT_OPEN;
@@ -116,10 +124,13 @@ fn all_changes(
     count: &mut usize,
 ) -> u32
     ensures { OfZone opened.now result (changes.new ≡ changes.old)
-        (λ held. AreChanges held from to result changes.old changes.new count.new) }
+        (λ held. OfKept held result (changes.new ≡ changes.old) (λ zone. AreChanges zone from to result changes.old changes.new count.new)) }
 {
     let Opened::Zone(zone) = opened else {
         return NOT_OPEN;
+    };
+    let AnyZone::Source(zone) = &**zone else {
+        return NOT_KEPT;
     };
     *count = zone.changes(from, to, changes);
     DONE

@@ -8,6 +8,9 @@ mod changes;
 #[cfg(test)]
 mod checks;
 mod fault;
+#[cfg(test)]
+mod file_tests;
+mod files;
 mod sources;
 mod status;
 #[cfg(test)]

@@ -6,13 +6,14 @@ ghost use Rattle.sefunjaro_c.specs.Opened.{IsSourceOf, IsZoneOf};
 ghost use Rattle.std.specs.List.{slice_get};
 ghost use Rattle.tz_lookup.specs.Databases.{names_of};
 ghost use Rattle.sefunjaro_handles.specs.Held.{OfSource, OnSource, IsSource, IsZone};
+ghost use Rattle.zone_open.specs.Any.{IsOfSource};
 ghost use Rattle.zone_open.specs.Sources.{table_in};
 
 use crate::fault::{Fault, opening_fault, plain_fault, zone_fault};
 use crate::status::{DONE, NO_MEMORY, NONE_THERE, NOT_OPEN, NOT_TEXT};
 use sefunjaro_handles::{Handle, Opened};
 use std::alloc::Global;
-use zone_open::{OpenSource, fill};
+use zone_open::{AnyZone, OpenSource, fill};
 use zone_source::text_of;
 
 /// Opens a source from its text in plain form. What the handle held before is closed.
@@ -76,7 +77,7 @@ pub extern "C" fn sefunjaro_zone_open(
     ensures status { result ≡ fault.new.status }
     ensures opened { is_some zone.new.held.opened ≡ nat_eq result 0 }
     ensures answer { OnSource source.old.held.opened result (zone.new.held.opened ≡ None)
-        (λ from. MatchOption zone.new.held.opened (IsRefused (zone_due (table_in from) name.now) fault.new) (IsZone (IsZoneOf (table_in from) name.now))) }
+        (λ from. MatchOption zone.new.held.opened (IsRefused (zone_due (table_in from) name.now) fault.new) (IsZone (IsOfSource (IsZoneOf (table_in from) name.now)))) }
 {
     drop(zone.take(alloc));
     let Some(from) = source.take(alloc) else {
@@ -100,7 +101,7 @@ pub extern "C" fn sefunjaro_zone_open(
 
 /// The zone of a name, on the heap.
 fn open_zone(alloc: Global, from: &Opened, name: &[u8]) -> Result<Box<Opened>, Fault>
-    ensures ok { IfOk result (λ opened. IsSource (λ source. IsZone (IsZoneOf (table_in source) name.now) opened.value) from.now) }
+    ensures ok { IfOk result (λ opened. IsSource (λ source. IsZone (IsOfSource (IsZoneOf (table_in source) name.now)) opened.value) from.now) }
     ensures err { IfErr result (λ fault. OfSource from.now fault.status (Unit {0}) (λ source. IsRefused (zone_due (table_in source) name.now) fault)) }
     ensures refused { IfErr result (λ fault. 0 < fault.status) }
 {
@@ -112,14 +113,14 @@ fn open_zone(alloc: Global, from: &Opened, name: &[u8]) -> Result<Box<Opened>, F
 
 /// The zone of a name in a source, on the heap.
 fn zone_of(alloc: Global, source: &OpenSource, name: &[u8]) -> Result<Box<Opened>, Fault>
-    ensures ok { IfOk result (λ opened. IsZone (IsZoneOf (table_in source.now) name.now) opened.value) }
+    ensures ok { IfOk result (λ opened. IsZone (IsOfSource (IsZoneOf (table_in source.now) name.now)) opened.value) }
     ensures err { IfErr result (IsRefused (zone_due (table_in source.now) name.now)) }
 {
     let Some(name) = text_of(name) else {
         return Err(plain_fault(NOT_TEXT));
     };
     match source.zone(alloc, name) {
-        Ok(zone) => match Opened::zone(alloc, zone) {
+        Ok(zone) => match Opened::zone(alloc, AnyZone::Source(zone)) {
             Ok(opened) => Ok(opened),
             Err(_) => Err(plain_fault(NO_MEMORY)),
         },

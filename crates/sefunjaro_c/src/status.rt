@@ -39,5 +39,8 @@ pub(crate) const NONE_THERE: u32 = 11;
 /// The text is none of those that are read.
 pub(crate) const NOT_READ: u32 = 12;
 
+/// A zone of a file, or of a POSIX string, doesn't keep what is asked.
+pub(crate) const NOT_KEPT: u32 = 13;
+
 /// The source, in any form, has no plain form.
 pub(crate) const NO_PLAIN_FORM: u32 = 14;

@@ -1,21 +1,22 @@
 //! What a zone is asked.
-ghost use Rattle.std.specs.Prelude.{◌≡◌, IfErr, IfNone, IfOk, IfSome, MatchOption, is_some, length, nat_eq, true, false};
+ghost use Rattle.std.specs.Prelude.{◌≡◌, IfErr, IfOk, MatchOption, is_some, length, nat_eq};
 ghost use Rattle.civil_base.specs.DateTimes.{instant, local_of, offset_of};
 ghost use Rattle.civil_base.specs.Layout.{day_part, time_part, zoned_text};
-ghost use Rattle.sefunjaro_c.specs.Answers.{is_shown, AreReadings, IsClockIn, IsInForce, IsShownAs, IsTextIn, OfClock, Where};
+ghost use Rattle.sefunjaro_c.specs.Answers.{is_shown, IsClockIn, IsTextIn, OfClock, Within, Where};
 ghost use Rattle.sefunjaro_c.specs.Times.{is_instant, nanos_at};
 ghost use Rattle.sefunjaro_handles.specs.Held.{OfZone, OnZone, IsZone};
 ghost use Rattle.sefunjaro_handles.specs.Statuses.{out_of_memory};
+ghost use Rattle.zone_open.specs.Answered.{AreReadings, IsInForce};
+ghost use Rattle.zone_open.specs.Any.{Seen};
 ghost use Rattle.zone_open.specs.Clocks.{clock_at};
 ghost use Rattle.zone_open.specs.Rooms.{filled};
-ghost use Rattle.zone_open.specs.Zones.{total_in};
 
 use crate::status::{DONE, NO_MEMORY, NOT_OPEN, OUT_OF_RANGE};
 use crate::times::instant_of;
 use civil_base::{OffsetDateTime, write_zoned};
 use sefunjaro_handles::{Handle, Opened};
 use std::alloc::Global;
-use zone_open::{Clock, Gap, InForce, OpenZone, Reading, fill};
+use zone_open::{AnyZone, Clock, Gap, InForce, Reading, fill};
 
 /// Opens another handle on the same zone, as another thread may need it. What the other held before is closed.
 #[unsafe(no_mangle)]
@@ -65,7 +66,7 @@ pub extern "C" fn sefunjaro_offset_at(
 ) -> u32
     ensures same { zone.new.held.opened ≡ zone.old.held.opened }
     ensures answer { OnZone zone.old.held.opened result (offset.new ≡ offset.old)
-        (λ held. Where (is_instant second nanosecond) result (offset.new ≡ offset.old) (offset.new ≡ total_in held (nanos_at second nanosecond))) }
+        (λ held. Where (is_instant second nanosecond) result (offset.new ≡ offset.old) (Seen held (λ total _. offset.new ≡ total (nanos_at second nanosecond)))) }
 {
     let Some(opened) = zone.take(alloc) else {
         return NOT_OPEN;
@@ -77,7 +78,7 @@ pub extern "C" fn sefunjaro_offset_at(
 
 fn offset_at(opened: &Opened, second: i64, nanosecond: u32, offset: &mut i32) -> u32
     ensures { OfZone opened.now result (offset.new ≡ offset.old)
-        (λ held. Where (is_instant second nanosecond) result (offset.new ≡ offset.old) (offset.new ≡ total_in held (nanos_at second nanosecond))) }
+        (λ held. Where (is_instant second nanosecond) result (offset.new ≡ offset.old) (Seen held (λ total _. offset.new ≡ total (nanos_at second nanosecond)))) }
 {
     let Opened::Zone(zone) = opened else {
         return NOT_OPEN;
@@ -103,7 +104,8 @@ pub extern "C" fn sefunjaro_in_force(
 ) -> u32
     ensures same { zone.new.held.opened ≡ zone.old.held.opened }
     ensures answer { OnZone zone.old.held.opened result (name.new ≡ name.old)
-        (λ held. Where (is_instant second nanosecond) result (name.new ≡ name.old) (IsInForce held (nanos_at second nanosecond) found.new name.old name.new)) }
+        (λ held. Where (is_instant second nanosecond) result (name.new ≡ name.old)
+        (Seen held (λ total gives. IsInForce total gives (nanos_at second nanosecond) found.new name.old name.new))) }
 {
     let Some(opened) = zone.take(alloc) else {
         return NOT_OPEN;
@@ -121,7 +123,8 @@ fn in_force(
     name: &mut [u8],
 ) -> u32
     ensures { OfZone opened.now result (name.new ≡ name.old)
-        (λ held. Where (is_instant second nanosecond) result (name.new ≡ name.old) (IsInForce held (nanos_at second nanosecond) found.new name.old name.new)) }
+        (λ held. Where (is_instant second nanosecond) result (name.new ≡ name.old)
+        (Seen held (λ total gives. IsInForce total gives (nanos_at second nanosecond) found.new name.old name.new))) }
 {
     let Opened::Zone(zone) = opened else {
         return NOT_OPEN;
@@ -147,7 +150,8 @@ pub extern "C" fn sefunjaro_clock_at(
 ) -> u32
     ensures same { zone.new.held.opened ≡ zone.old.held.opened }
     ensures answer { OnZone zone.old.held.opened result (clock.new ≡ clock.old)
-        (λ held. Where (is_shown held second nanosecond) result (clock.new ≡ clock.old) (IsClockIn held (nanos_at second nanosecond) clock.new offset.new)) }
+        (λ held. Within (is_instant second nanosecond) result (clock.new ≡ clock.old) (Seen held (λ total _.
+        Where (is_shown total (nanos_at second nanosecond)) result (clock.new ≡ clock.old) (IsClockIn total (nanos_at second nanosecond) clock.new offset.new)))) }
 {
     let Some(opened) = zone.take(alloc) else {
         return NOT_OPEN;
@@ -165,12 +169,22 @@ fn clock_at(
     offset: &mut i32,
 ) -> u32
     ensures { OfZone opened.now result (clock.new ≡ clock.old)
-        (λ held. Where (is_shown held second nanosecond) result (clock.new ≡ clock.old) (IsClockIn held (nanos_at second nanosecond) clock.new offset.new)) }
+        (λ held. Within (is_instant second nanosecond) result (clock.new ≡ clock.old) (Seen held (λ total _.
+        Where (is_shown total (nanos_at second nanosecond)) result (clock.new ≡ clock.old) (IsClockIn total (nanos_at second nanosecond) clock.new offset.new)))) }
 {
     let Opened::Zone(zone) = opened else {
         return NOT_OPEN;
     };
-    match shown_in(zone, second, nanosecond) {
+    match instant_of(second, nanosecond) {
+        Some(at) => clock_in(zone, &at, clock, offset),
+        None => OUT_OF_RANGE,
+    }
+}
+
+fn clock_in(zone: &AnyZone, at: &OffsetDateTime, clock: &mut Clock, offset: &mut i32) -> u32
+    ensures { Seen zone.now (λ total _. Where (is_shown total (instant at.now)) result (clock.new ≡ clock.old) (IsClockIn total (instant at.now) clock.new offset.new)) }
+{
+    match zone.shown_at(at) {
         Some(shown) => {
             *clock = clock_of(&shown);
             *offset = offset_of(&shown);
@@ -192,7 +206,8 @@ pub extern "C" fn sefunjaro_text_at(
 ) -> u32
     ensures same { zone.new.held.opened ≡ zone.old.held.opened }
     ensures answer { OnZone zone.old.held.opened result (text.new ≡ text.old)
-        (λ held. Where (is_shown held second nanosecond) result (text.new ≡ text.old) (IsTextIn held (nanos_at second nanosecond) text.old text.new whole.new)) }
+        (λ held. Within (is_instant second nanosecond) result (text.new ≡ text.old) (Seen held (λ total _.
+        Where (is_shown total (nanos_at second nanosecond)) result (text.new ≡ text.old) (IsTextIn total (nanos_at second nanosecond) text.old text.new whole.new)))) }
 {
     let Some(opened) = zone.take(alloc) else {
         return NOT_OPEN;
@@ -204,28 +219,27 @@ pub extern "C" fn sefunjaro_text_at(
 
 fn text_at(opened: &Opened, second: i64, nanosecond: u32, text: &mut [u8], whole: &mut usize) -> u32
     ensures { OfZone opened.now result (text.new ≡ text.old)
-        (λ held. Where (is_shown held second nanosecond) result (text.new ≡ text.old) (IsTextIn held (nanos_at second nanosecond) text.old text.new whole.new)) }
+        (λ held. Within (is_instant second nanosecond) result (text.new ≡ text.old) (Seen held (λ total _.
+        Where (is_shown total (nanos_at second nanosecond)) result (text.new ≡ text.old) (IsTextIn total (nanos_at second nanosecond) text.old text.new whole.new)))) }
 {
     let Opened::Zone(zone) = opened else {
         return NOT_OPEN;
     };
-    match shown_in(zone, second, nanosecond) {
+    match instant_of(second, nanosecond) {
+        Some(at) => text_in(zone, &at, text, whole),
+        None => OUT_OF_RANGE,
+    }
+}
+
+fn text_in(zone: &AnyZone, at: &OffsetDateTime, text: &mut [u8], whole: &mut usize) -> u32
+    ensures { Seen zone.now (λ total _. Where (is_shown total (instant at.now)) result (text.new ≡ text.old) (IsTextIn total (instant at.now) text.old text.new whole.new)) }
+{
+    match zone.shown_at(at) {
         Some(shown) => {
             *whole = fill_text(&shown, text);
             DONE
         }
         None => OUT_OF_RANGE,
-    }
-}
-
-/// The instant at the offset that the zone has in force.
-fn shown_in(zone: &OpenZone, second: i64, nanosecond: u32) -> Option<OffsetDateTime>
-    ensures some { IfSome result (λ shown. (is_shown zone.now second nanosecond ≡ true) × IsShownAs zone.now (nanos_at second nanosecond) shown) }
-    ensures none { IfNone result (is_shown zone.now second nanosecond ≡ false) }
-{
-    match instant_of(second, nanosecond) {
-        Some(at) => zone.shown_at(&at),
-        None => None,
     }
 }
 
@@ -265,7 +279,7 @@ pub extern "C" fn sefunjaro_readings(
 ) -> u32
     ensures same { zone.new.held.opened ≡ zone.old.held.opened }
     ensures answer { OnZone zone.old.held.opened result (readings.new ≡ readings.old)
-        (λ held. OfClock local.now result (readings.new ≡ readings.old) (λ x. AreReadings held x readings.old readings.new count.new gap.new)) }
+        (λ held. OfClock local.now result (readings.new ≡ readings.old) (λ x. Seen held (λ total _. AreReadings total x readings.old readings.new count.new gap.new))) }
 {
     let Some(opened) = zone.take(alloc) else {
         return NOT_OPEN;
@@ -283,17 +297,14 @@ fn all_readings(
     gap: &mut Gap,
 ) -> u32
     ensures { OfZone opened.now result (readings.new ≡ readings.old)
-        (λ held. OfClock clock.now result (readings.new ≡ readings.old) (λ x. AreReadings held x readings.old readings.new count.new gap.new)) }
+        (λ held. OfClock clock.now result (readings.new ≡ readings.old) (λ x. Seen held (λ total _. AreReadings total x readings.old readings.new count.new gap.new))) }
 {
     let Opened::Zone(zone) = opened else {
         return NOT_OPEN;
     };
     match clock.local() {
         Some(local) => {
-            *count = zone.readings(&local, readings);
-            if *count == 0 {
-                *gap = zone.gap(&local);
-            }
+            *count = zone.readings(&local, readings, gap);
             DONE
         }
         None => OUT_OF_RANGE,

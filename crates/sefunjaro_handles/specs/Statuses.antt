@@ -43,6 +43,10 @@ none_there = 11
 abbrev pub not_read : ℕ
 not_read = 12
 
+-- a zone of a file, or of a string, has no changes and no saving
+abbrev pub not_kept : ℕ
+not_kept = 13
+
 -- a source in any form has no plain form
 abbrev pub no_plain_form : ℕ
 no_plain_form = 14

@@ -2,7 +2,7 @@
 
 use std::alloc::{AllocError, Global};
 use std::sync::Arc;
-use zone_open::{OpenSource, OpenZone};
+use zone_open::{AnyZone, OpenSource};
 
 /// What was opened: a source, or a zone that handles share.
 #[derive(Drop)]
@@ -10,7 +10,7 @@ pub enum Opened {
     /// The zones of a source.
     Source(OpenSource),
     /// A zone.
-    Zone(Arc<OpenZone>),
+    Zone(Arc<AnyZone>),
 }
 
 impl Opened {
@@ -26,7 +26,7 @@ impl Opened {
     }
 
     /// A zone, on the heap.
-    pub fn zone(alloc: Global, zone: OpenZone) -> Result<Box<Opened>, AllocError>
+    pub fn zone(alloc: Global, zone: AnyZone) -> Result<Box<Opened>, AllocError>
         ensures { IfOk result (λ opened. IsZone (λ held. held ≡ zone) opened.value) }
     {
         match Arc::new(alloc, zone) {
@@ -36,7 +36,7 @@ impl Opened {
     }
 
     /// The same zone, for one owner more.
-    pub fn shared(alloc: Global, zone: &Arc<OpenZone>) -> Result<Box<Opened>, AllocError>
+    pub fn shared(alloc: Global, zone: &Arc<AnyZone>) -> Result<Box<Opened>, AllocError>
         ensures { IfOk result (λ opened. IsZone (λ held. held ≡ arc_value zone.now) opened.value) }
     {
         let other = Arc::try_clone(zone)?;

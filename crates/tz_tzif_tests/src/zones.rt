@@ -3,7 +3,7 @@ use crate::checks::{holds, same};
 use civil_base::{OffsetDateTime, PlainDateTime, read_local};
 use std::alloc::Global;
 use std::process::Abort;
-use tz_tzif::{TzifFault, TzifTz};
+use tz_tzif::{TzifFault, TzifOwner, TzifTz};
 use tz_zone::{Offset, OffsetDateTimeExt, OffsetResult, PrimitiveDateTimeExt, TimeZone};
 use zone_tzif_core::{Kind, TzifZone};
 
@@ -87,6 +87,24 @@ fn a_slim_file_answers_past_its_last_change(rt: HostRuntime) {
     );
     expect_instants(&rt, &tz, "2024-03-10 02:30:00.000000000", (0, 0));
     expect_instants(&rt, &tz, "1883-11-18 11:59:00.000000000", (-2717651098, 0));
+}
+
+#[test]
+fn an_owner_lends_its_zone(rt: HostRuntime) {
+    let alloc = rt.alloc();
+    let Ok(owner) = TzifOwner::new(alloc, new_york(&rt, alloc)) else {
+        panic!(rt; "refused");
+    };
+    let tz = owner.lend("America/New_York");
+    same(&rt, &tz.name(), &"America/New_York");
+    expect_offset(&rt, &tz, -2717650801, -17762, "LMT");
+    expect_offset(&rt, &tz, 5695977600, -14400, "EDT");
+    expect_instants(
+        &rt,
+        &tz,
+        "2024-11-03 01:30:00.000000000",
+        (1730611800, 1730615400),
+    );
 }
 
 /// Which cause a footer, a first offset and a second time have.

@@ -1,10 +1,7 @@
 -- Worked examples: which change skips a local time. At 1970-01-01 00:00:00 UTC clocks are set ahead from offset 0 to one hour.
-use Rattle.std.proofs.Common.{◌≡◌, ℕ, true, false, cond, ℤ, pos, negsuc, ◌-ℤ◌, ◌≤ℤ◌, ◌<ℤ◌, refl, ap, ◌∙◌, arith}
+use Rattle.std.proofs.Common.{◌≡◌, cond, ℤ, pos, negsuc, ◌≤ℤ◌, ◌<ℤ◌, refl, arith}
 use Rattle.std.specs.Prelude.{int_lt}
-use Rattle.std.specs.Int.{int_div_euclid}
 use Rattle.std.proofs.lemmas.Int.{ints}
-use Rattle.calendar.specs.Orders.{lt_fail, lt_pass}
-use Rattle.civil_base.specs.Instants.{local_at, seconds_of}
 use Rattle.zone_open.specs.Gaps.{IsSkippedBy}
 use Rattle.zone_open.specs.declared.gap.Gap.{Gap}
 
@@ -14,44 +11,43 @@ jump t = cond (int_lt t (pos 0)) (pos 0) (pos 3600)
 abbrev gap : ℤ → ℤ → ℤ → Gap
 gap second before after = record { second = second; before = before; after = after }
 
--- half past midnight is skipped by it, and so is midnight itself
-half_past : IsSkippedBy jump (pos 1800000000000) (gap (pos 0) (pos 0) (pos 3600))
-unfolding seconds_of
-half_past = record { t = pos 0; second = refl; before = refl; after = refl; behind = omega (arith, ints); ahead = omega (arith, ints) }
+-- that a local time is skipped by the change, and that it is not
+abbrev Skips : ℤ → Type 0
+Skips x = IsSkippedBy jump x (gap (pos 0) (pos 0) (pos 3600))
 
-midnight : IsSkippedBy jump (pos 0) (gap (pos 0) (pos 0) (pos 3600))
-unfolding seconds_of
-midnight = record { t = pos 0; second = refl; before = refl; after = refl; behind = omega (arith, ints); ahead = omega (arith, ints) }
+-- midnight is skipped, half past and the last nanosecond before one o'clock
+midnight : Skips (pos 0)
+midnight = record { before = refl; after = refl; behind = omega (arith, ints); ahead = omega (arith, ints) }
 
--- a second past one o'clock is not: clocks show it after the change
-past_one : IsSkippedBy jump (pos 3601000000000) (gap (pos 0) (pos 0) (pos 3600)) → ⊥
-unfolding seconds_of
-past_one skipped = past skipped.t skipped.second skipped.ahead
-  where
-    past : (t : ℤ) → pos 0 ≡ seconds_of t → pos 3601000000000 <ℤ local_at t (pos 3600) → ⊥
-    past (pos n) e h = omega (arith, ints, e, h)
-    past (negsuc n) e h = omega (arith, ints, e, h)
+half_past : Skips (pos 1800000000000)
+half_past = record { before = refl; after = refl; behind = omega (arith, ints); ahead = omega (arith, ints) }
 
--- the second after the change is not its second: one second before it the new offset is in force
+last_nanosecond : Skips (pos 3599999999999)
+last_nanosecond = record { before = refl; after = refl; behind = omega (arith, ints); ahead = omega (arith, ints) }
+
+-- the nanosecond before midnight is shown before the change, and one o'clock at it
+before_midnight : Skips (negsuc 0) → ⊥
+before_midnight skipped = absurd (omega (arith, ints, skipped.behind))
+
+one_o_clock : Skips (pos 3600000000000) → ⊥
+one_o_clock skipped = absurd (omega (arith, ints, skipped.ahead))
+
+-- the seconds beside it are not its second: by them one offset is in force before and after
 a_second_later : IsSkippedBy jump (pos 1800000000000) (gap (pos 1) (pos 0) (pos 3600)) → ⊥
-unfolding seconds_of
-a_second_later skipped = apart (skipped.before ∙ ap (λ b. cond b (pos 0) (pos 3600)) (lt_fail _ _ (begun skipped.t skipped.second)))
+a_second_later skipped = apart skipped.before
   where
-    begun : (t : ℤ) → pos 1 ≡ seconds_of t → pos 0 ≤ℤ (t -ℤ pos 1000000000)
-    begun (pos n) e = omega (arith, ints, e)
-    begun (negsuc n) e = omega (arith, ints, e)
-
     apart : pos 0 ≡ pos 3600 → ⊥
+    apart e = cc
+
+a_second_earlier : IsSkippedBy jump (pos 1800000000000) (gap (negsuc 0) (pos 0) (pos 3600)) → ⊥
+a_second_earlier skipped = apart skipped.after
+  where
+    apart : pos 3600 ≡ pos 0 → ⊥
     apart e = cc
 
 -- nor are its offsets to be told the other way round
 the_other_way : IsSkippedBy jump (pos 1800000000000) (gap (pos 0) (pos 3600) (pos 0)) → ⊥
-unfolding seconds_of
-the_other_way skipped = apart (skipped.after ∙ ap (λ b. cond b (pos 0) (pos 3600)) (lt_fail _ _ (begun skipped.t skipped.second)))
+the_other_way skipped = apart skipped.after
   where
-    begun : (t : ℤ) → pos 0 ≡ seconds_of t → pos 0 ≤ℤ t
-    begun (pos n) e = omega (arith, ints, e)
-    begun (negsuc n) e = omega (arith, ints, e)
-
     apart : pos 0 ≡ pos 3600 → ⊥
     apart e = cc

@@ -1,9 +1,13 @@
 pub mod AnySources
+pub mod Answered
+pub mod Any
 pub mod Asked
 pub mod Changes
 pub mod Clocks
 pub mod Faults
+pub mod Files
 pub mod Gaps
+pub mod Posix
 pub mod Rooms
 pub mod Sources
 pub mod Zones

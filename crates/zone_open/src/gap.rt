@@ -2,7 +2,7 @@
 ghost use Rattle.std.specs.Prelude.{◌≡◌, ◌-◌, ◌<◌, ◌<ℤ◌, int_lt};
 ghost use Rattle.civil_base.specs.DateTimes.{instant};
 ghost use Rattle.civil_base.specs.Instants.{instant_at};
-ghost use Rattle.zone_open.specs.Gaps.{nth_offset, IsNeverRead, IsSkippedBy};
+ghost use Rattle.zone_open.specs.Gaps.{nth_offset, HoldsSeconds, IsNeverRead, IsSkippedBy};
 
 use civil_base::{OffsetDateTime, PlainDateTime, UtcOffset};
 use tz_lookup::{Offset, TimeZone};
@@ -24,7 +24,8 @@ const SPREAD: u32 = 93_600;
 
 /// The change by which the clocks of a zone skip a local time that they never show.
 pub(crate) fn find_gap<T: TimeZone>(zone: &T, local: &PlainDateTime) -> Gap
-    requires { IsNeverRead (T.total_at zone.now) local.now }
+    requires never { IsNeverRead (T.total_at zone.now) local.now }
+    requires seconds { HoldsSeconds (T.total_at zone.now) }
     ensures { IsSkippedBy (T.total_at zone.now) local.now result }
 {
     let place = skipped(zone, local);

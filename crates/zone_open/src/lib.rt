@@ -4,21 +4,26 @@
 //! but those for the string that carries a zone on and for its file.
 #![tactic(auto)]
 
+mod any;
 mod any_source;
 mod asking;
 mod changes;
 mod clock;
+mod file;
 mod gap;
+mod lent;
 mod names;
 mod room;
 mod source;
 mod whole;
 mod zone;
 
+pub use any::AnyZone;
 pub use any_source::AnySourceFault;
 pub use asking::{InForce, Reading};
 pub use changes::Change;
 pub use clock::Clock;
+pub use file::{FileFault, FileZone, PosixFault};
 pub use gap::Gap;
 pub use room::fill;
 pub use source::{OpenFault, OpenSource};

@@ -10,7 +10,7 @@ returns g c =
     let second : FitsSigned w64 c.unix_timestamp.result = search rules in
     let before : FitsSigned w32 c.total_at.result = search rules in
     let after : FitsSigned w32 c.total_at-2.result = search rules in
-    skipped_by total c.args.local.now place (place - 1) _ _ _ (omega (arith, c.skipped-place.ensures.first))
+    skipped_by total c.args.local.now place (place - 1) _ _ _ c.requires.seconds (omega (arith, c.skipped-place.ensures.first))
     (to_z-of_z second ∙ c.unix_timestamp.ensures.value ∙ ap seconds_of c.date_at-date.ensures)
     (to_z-of_z before ∙ c.total_at.ensures ∙ ap total c.date_at.ensures)
     (to_z-of_z after ∙ c.total_at-2.ensures ∙ ap total c.date_at-date.ensures)

@@ -3,10 +3,13 @@ use Rattle.zone_spans.specs.Schedules.{total_at}
 use Rattle.tz_zone.specs.Sets.{schedule_of}
 use Rattle.zone_open.specs.Gaps.{IsNeverRead}
 use Rattle.zone_open.specs.Zones.{total_in}
-use Rattle.zone_open.proofs.GapLemmas.{never_read}
+use Rattle.zone_open.proofs.GapLemmas.{never_read, schedule_holds}
 use Rattle.zone_open.proofs.zone.OpenZone.gap.Goals as goal
 
-pub find_gap-requires : goal.find_gap-requires
-find_gap-requires c =
+pub find_gap-requires-clause-never : goal.find_gap-requires-clause-never
+find_gap-requires-clause-never c =
     subst (λ set. IsNeverRead (total_at (schedule_of set)) c.args.local.now) (sym c.zone.ensures)
     (never_read (total_in c.args.self.now) c.args.local.now c.args.self.now.set.range c.requires)
+
+pub find_gap-requires-clause-seconds : goal.find_gap-requires-clause-seconds
+find_gap-requires-clause-seconds c = schedule_holds _

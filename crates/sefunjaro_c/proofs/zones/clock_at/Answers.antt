@@ -1,0 +1,23 @@
+use Rattle.std.proofs.Common.{◌≡◌, ◌∙◌, to_z-of_z, ℤ, true, ap, subst}
+use Rattle.std.specs.Arc.{arc_value}
+use Rattle.civil_base.specs.DateTimes.{instant}
+use Rattle.zone_open.specs.Any.{Seen}
+use Rattle.zone_open.specs.declared.any.AnyZone.{AnyZone}
+use Rattle.sefunjaro_handles.specs.declared.opened.Opened.TheVariants.{Zone}
+use Rattle.sefunjaro_c.specs.Answers.{is_shown, IsClockIn, Where, Within}
+use Rattle.sefunjaro_c.specs.Times.{is_instant, nanos_at}
+use Rattle.sefunjaro_c.proofs.AskedLemmas.{of_zone, within_true}
+use Rattle.sefunjaro_c.proofs.zones.clock_at.Goals as goal
+
+pub returns-in-Some : goal.returns-in-Some
+returns-in-Some c =
+    let s = c.args.second in let n = c.args.nanosecond in let zone = arc_value c.in-Zone.zone in
+    let same = to_z-of_z c.ranges.second in let known = c.in-Some.ensures.some in let told = c.clock_in in
+    let kept = told.new.clock ≡ c.args.clock.now in
+    let shown : AnyZone → ℤ → Type 0 = λ z t. Seen z (λ total _.
+    Where (is_shown total t) told.result kept (IsClockIn total t told.new.clock told.new.offset)) in
+    of_zone c.args.opened.now (Zone c.in-Zone.zone) told.result kept
+    (λ held. Within (is_instant s n) told.result kept (shown held (nanos_at s n))) c.in-Zone.is
+    (within_true (is_instant s n) told.result kept (shown zone (nanos_at s n)) (subst (λ u. is_instant u n ≡ true) same known.0)
+    (subst (shown zone) (known.1 ∙ ap (λ u. nanos_at u n) same)
+    (subst (λ z. shown z (instant c.in-Some.at)) c.deref.ensures told.ensures)))

@@ -1,0 +1,23 @@
+use Rattle.std.proofs.Common.{◌∙◌, to_z-of_z, FitsSigned, w32, rules, refl, ap}
+use Rattle.std.specs.Prelude.{Some, None}
+use Rattle.civil_base.specs.DateTimes.{instant}
+use Rattle.civil_base.specs.Layout.{day_part, time_part}
+use Rattle.zone_open.specs.Answered.{IsShown}
+use Rattle.zone_open.specs.Clocks.{clock_at}
+use Rattle.sefunjaro_c.proofs.ShownLemmas.{seen_map, where_none, where_shown}
+use Rattle.sefunjaro_c.proofs.zones.clock_in.Goals as goal
+
+pub returns-in-Some : goal.returns-in-Some
+returns-in-Some c =
+    let t = instant c.args.at.now in let fits : FitsSigned w32 c.offset_of.result = search rules in
+    seen_map c.args.zone.now (λ total _. IsShown total t (Some c.in-Some.shown)) _
+    (λ total gives h. where_shown total t c.in-Some.shown _ _ h (λ is. record {
+      clock = c.clock_of.ensures ∙ ap (λ x. clock_at (day_part x) (time_part x)) is.local;
+      offset = to_z-of_z fits ∙ c.offset_of.ensures ∙ is.offset;
+    }))
+    c.in-Some.ensures
+
+pub returns-in-None : goal.returns-in-None
+returns-in-None c =
+    let t = instant c.args.at.now in
+    seen_map c.args.zone.now (λ total _. IsShown total t None) _ (λ total gives h. where_none total t _ _ h refl) c.in-None.ensures
