@@ -40,15 +40,20 @@ void __wrap_free(void *block) {
 
 static struct sefunjaro_handle source = SEFUNJARO_CLOSED, zone = SEFUNJARO_CLOSED, other = SEFUNJARO_CLOSED;
 static struct sefunjaro_fault fault;
+static uint8_t found[64];
+static size_t length;
 
 static uint32_t open_source(void) { return sefunjaro_source_open((const uint8_t *)small_source, strlen(small_source), &source, &fault); }
 static uint32_t open_any(void) { return sefunjaro_source_open_any((const uint8_t *)"Zone A 1 - A\n", 13, &source, &fault); }
 static uint32_t open_zone(void) { return sefunjaro_zone_open(&source, (const uint8_t *)"Europe/Paris", 12, &zone, &fault); }
 static uint32_t open_file(void) { return sefunjaro_file_open(small_file, sizeof small_file, &zone, &fault); }
 static uint32_t open_posix(void) { return sefunjaro_posix_open((const uint8_t *)"CET-1CEST,M3.5.0,M10.5.0/3", 26, &zone, &fault); }
+static uint32_t tail(void) { return sefunjaro_tail(&zone, found, sizeof found, &length, &fault); }
+static uint32_t tzif(void) { return sefunjaro_tzif(&zone, found, sizeof found, &length, &fault); }
 static uint32_t share(void) { return sefunjaro_share(&zone, &other); }
 
-/* How many requests a call makes: each refused in turn; -1 where an answer is wrong or something is not given back. */
+/* How many requests a call makes, which opens a handle, if one is given: each refused in turn; -1 where an answer is wrong or something is
+   not given back. */
 static long tried(uint32_t (*call)(void), struct sefunjaro_handle *made) {
     for (long n = 0;; n++) {
         long before = live;
@@ -57,7 +62,8 @@ static long tried(uint32_t (*call)(void), struct sefunjaro_handle *made) {
         uint32_t status = call();
         left = -1;
         if (status == SEFUNJARO_DONE) return n;
-        if (status != SEFUNJARO_NO_MEMORY || live != before || sefunjaro_offset_at(made, 0, 0, &offset) != SEFUNJARO_NOT_OPEN) return -1;
+        if (status != SEFUNJARO_NO_MEMORY || live != before) return -1;
+        if (made && sefunjaro_offset_at(made, 0, 0, &offset) != SEFUNJARO_NOT_OPEN) return -1;
     }
 }
 
@@ -97,6 +103,8 @@ int main(void) {
         for_good = pass;
         long of_any = tried(open_any, &source), of_source = tried(open_source, &source), of_zone = tried(open_zone, &zone), of_share = tried(share, &other);
         if (of_any < 0 || of_source < 0 || of_zone < 0 || of_share < 0 || !look()) return 1;
+        long of_tail = tried(tail, NULL), of_tzif = tried(tzif, NULL);
+        if (of_tail < 0 || of_tzif < 0) return 5;
         sefunjaro_close(&source);
         sefunjaro_close(&zone);
         sefunjaro_close(&other);
@@ -108,6 +116,7 @@ int main(void) {
         sefunjaro_close(&zone);
         if (live) return 2;
         if (pass) printf("%ld requests of a file and %ld of a string refused in turn\n", of_file, of_posix);
+        if (pass) printf("%ld requests for a zone's string and %ld for its file refused in turn\n", of_tail, of_tzif);
         if (pass) printf("%ld requests of a source, %ld in any form, %ld of a zone and %ld of a share refused in turn\n", of_source, of_any, of_zone, of_share);
     }
     return 0;

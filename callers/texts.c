@@ -1,6 +1,10 @@
-/* texts: opens sources in any form that zic reads, with each cause that one is refused for, and ends with the number of the first check
-   that fails, or 0. Dates and offsets are those of New York and Paris. */
+/* texts: opens sources in any form that zic reads, with each cause that one is refused for, asks zones for the string that carries them
+   on and for their TZif files, and ends with the number of the first check that fails, or 0. Dates and offsets are those of New York and
+   Paris, strings and the file's bytes those of `zic -b slim`.
+   With the words SOURCE and NAME it writes the file of that zone. */
 #include "sefunjaro.h"
+#include <stdio.h>
+#include <stdlib.h>
 #include <string.h>
 
 static struct sefunjaro_handle source = SEFUNJARO_CLOSED, zone = SEFUNJARO_CLOSED;
@@ -71,9 +75,88 @@ static int faults(void) {
     return 0;
 }
 
-int main(void) {
-    int failed = any_form();
-    if (!failed) failed = faults();
+/* Zones that have no string, or no file, and one that has both. */
+static const char whole_source[] =
+    "Zone Shape 1 - A 2099 June 1\n"
+    " 2 - B\n"
+    "Zone Far 25:30 - FAR\n"
+    "Zone Name 1 - A<B\n"
+    "Zone Twice 1 - A 2000 Jan 1 0:00u\n"
+    " 2 - B 2000 Jan 1 0:00u\n"
+    " 3 - C\n"
+    "Zone America/Sao_Paulo -3 - %z\n"
+    "R EU 1981 max - Mar lastSun 1u 1 S\n"
+    "R EU 1996 max - Oct lastSun 1u 0 -\n"
+    "Zone Europe/Paris 1 EU CE%sT\n";
+
+static int tails(void) {
+    static const struct { const char *name; uint32_t cause; } none[] = {
+        { "Shape", SEFUNJARO_TAIL_SHAPE }, { "Far", SEFUNJARO_TAIL_OFFSET_RANGE }, { "Name", SEFUNJARO_TAIL_NAME }
+    };
+    uint8_t text[40];
+    size_t whole = 9;
+    memset(text, '.', sizeof text);
+    sefunjaro_close(&zone);
+    if (open_any(whole_source) || sefunjaro_tail(&zone, text, 40, &whole, &fault) != SEFUNJARO_NOT_OPEN) return 80;
+    if (!is_fault(SEFUNJARO_NOT_OPEN, 0, 0) || whole != 9 || text[0] != '.') return 81;
+    if (sefunjaro_tail(&source, text, 40, &whole, &fault) != SEFUNJARO_NOT_OPEN) return 82;
+    for (size_t i = 0; i < sizeof none / sizeof *none; i++) {
+        if (open_name(none[i].name) || sefunjaro_tail(&zone, text, 40, &whole, &fault) != SEFUNJARO_NONE) return 83 + (int)i;
+        if (!is_fault(SEFUNJARO_NONE, none[i].cause, 0) || text[0] != '.') return 86 + (int)i;
+    }
+    if (open_name("Europe/Paris") || sefunjaro_tail(&zone, text, 0, &whole, &fault) || whole != 26 || text[0] != '.') return 90;
+    if (sefunjaro_tail(&zone, text, 6, &whole, &fault) || !is_fault(0, 0, 0) || memcmp(text, "CET-1C.", 7)) return 91;
+    if (sefunjaro_tail(&zone, text, 40, &whole, &fault) || memcmp(text, "CET-1CEST,M3.5.0,M10.5.0/3.", 27)) return 92;
+    if (open_name("America/Sao_Paulo") || sefunjaro_tail(&zone, text, 40, &whole, &fault) || whole != 6 || memcmp(text, "<-03>3CET", 6)) return 93;
+    if (sefunjaro_posix_open((const uint8_t *)"UTC0", 4, &zone, &fault) || sefunjaro_tail(&zone, text, 40, &whole, &fault) != SEFUNJARO_NOT_KEPT) return 94;
+    if (sefunjaro_tzif(&zone, text, 40, &whole, &fault) != SEFUNJARO_NOT_KEPT || !is_fault(SEFUNJARO_NOT_KEPT, 0, 0) || whole != 6) return 95;
+    return 0;
+}
+
+/* A zone of more kinds than a file can have, or of names too long for one. */
+static uint32_t open_many(int kinds, const char *name) {
+    char *text = malloc((size_t)kinds * 40 + 40), *end = text;
+    for (int i = 0; i <= kinds; i++)
+        end += sprintf(end, "%s 0:%02d:%02d - %s%04d%s", i ? "" : "Zone Many", i / 60, i % 60, name, i % 64, i < kinds ? "" : "\n"),
+        end += i < kinds ? sprintf(end, " %d\n", 1900 + i) : 0;
+    uint32_t status = open_any(text);
+    free(text);
+    return status ? status : open_name("Many");
+}
+
+static int files(void) {
+    uint8_t file[4] = "....";
+    size_t whole = 9;
+    if (sefunjaro_tzif(&source, file, 4, &whole, &fault) != SEFUNJARO_NOT_OPEN || whole != 9 || file[0] != '.') return 100;
+    if (open_name("Twice") || sefunjaro_tzif(&zone, file, 4, &whole, &fault) != SEFUNJARO_NONE) return 101;
+    if (!is_fault(SEFUNJARO_NONE, SEFUNJARO_TZIF_TIMES, 0) || whole != 9 || file[0] != '.') return 102;
+    if (open_name("Shape") || sefunjaro_tzif(&zone, file, 4, &whole, &fault) || memcmp(file, "TZif", 4)) return 103;
+    if (open_many(256, "A") || sefunjaro_tzif(&zone, file, 4, &whole, &fault) != SEFUNJARO_NONE) return 104;
+    if (!is_fault(SEFUNJARO_NONE, SEFUNJARO_TZIF_TYPES, 0)) return 105;
+    if (open_many(60, "AAAAAA") || sefunjaro_tzif(&zone, file, 4, &whole, &fault) != SEFUNJARO_NONE) return 106;
+    if (!is_fault(SEFUNJARO_NONE, SEFUNJARO_TZIF_NAMES, 0)) return 107;
+    return 0;
+}
+
+/* The file of a zone of a source, to standard output. */
+static int written(const char *path, const char *name) {
+    static char text[1 << 24];
+    FILE *from = fopen(path, "rb");
+    size_t length = from ? fread(text, 1, sizeof text, from) : 0, whole = 0, room = 0;
+    uint8_t *file = malloc(1);
+    if (!from || sefunjaro_source_open_any((const uint8_t *)text, length, &source, &fault) || open_name(name)) return 1;
+    fclose(from);
+    while (!sefunjaro_tzif(&zone, file, room, &whole, &fault) && room < whole) file = realloc(file, room = whole);
+    bool is_done = !fault.status && fwrite(file, 1, whole, stdout) == whole;
+    free(file);
+    return is_done ? 0 : 2;
+}
+
+int main(int count, char **words) {
+    int failed = count == 3 ? written(words[1], words[2]) : any_form();
+    if (!failed && count == 1) failed = faults();
+    if (!failed && count == 1) failed = tails();
+    if (!failed && count == 1) failed = files();
     sefunjaro_close(&source);
     sefunjaro_close(&zone);
     return failed;

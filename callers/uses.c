@@ -143,7 +143,7 @@ static int rings_and_texts(void) {
     if (sefunjaro_read_zoned((const uint8_t *)"\xff", 1, &instant) != SEFUNJARO_NOT_READ) return 94;
     if (sefunjaro_read_zoned((const uint8_t *)zoned, 39, &instant) || instant.second != -1 || instant.nanosecond != 999999999 || instant.offset != -18000) return 95;
     sefunjaro_version(text, 3, &whole, &years);
-    if (whole != strlen(SEFUNJARO_VERSION) || memcmp(text, "1.1.....", 8) || years.first != 1800 || years.last != 2099) return 96;
+    if (whole != strlen(SEFUNJARO_VERSION) || memcmp(text, "1.2.....", 8) || years.first != 1800 || years.last != 2099) return 96;
     sefunjaro_version(text, 8, &whole, &years);
     if (memcmp(text, SEFUNJARO_VERSION, whole)) return 97;
     return 0;

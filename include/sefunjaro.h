@@ -41,7 +41,7 @@ struct sefunjaro_handle {
 #define SEFUNJARO_CLOSED { 0, false }
 
 /* The version of the calls that are declared here. A later one of the same first number has all of these, with the same meaning. */
-#define SEFUNJARO_VERSION "1.1.0"
+#define SEFUNJARO_VERSION "1.2.0"
 
 enum sefunjaro_status {
     SEFUNJARO_DONE = 0,
@@ -57,7 +57,7 @@ enum sefunjaro_status {
     SEFUNJARO_OUT_OF_RANGE = 10, /* a date lies outside the years -9999 to 9999, or the parts are no time */
     SEFUNJARO_NONE = 11,         /* there is none of what is asked for */
     SEFUNJARO_NOT_READ = 12,     /* the text is none of those that are read; of a file: enum sefunjaro_file_cause */
-    SEFUNJARO_NOT_KEPT = 13,     /* the zone is that of a file or of a POSIX string, which has no changes and no saving */
+    SEFUNJARO_NOT_KEPT = 13,     /* the zone is that of a file or of a POSIX string, of which this is not asked */
     SEFUNJARO_NO_PLAIN_FORM = 14 /* the source, in any form, has no plain form: enum sefunjaro_plain_cause */
 };
 
@@ -123,7 +123,21 @@ enum sefunjaro_file_cause {
     SEFUNJARO_FILE_FOOTER = 2   /* its footer is not empty, and no POSIX string of those that are read */
 };
 
-/* What a call that opens something refuses. */
+/* Why a zone has no string that carries it on. */
+enum sefunjaro_tail_cause {
+    SEFUNJARO_TAIL_SHAPE = 1,        /* 2099 has changes, and they are not one into daylight saving time and one back to standard time */
+    SEFUNJARO_TAIL_OFFSET_RANGE = 2, /* an offset that would be written is past 24:59:59 */
+    SEFUNJARO_TAIL_NAME = 3          /* an abbreviation that would be written is empty, or has a `<`, a `>`, a line feed or a zero byte */
+};
+
+/* Why a zone has no TZif file. */
+enum sefunjaro_tzif_cause {
+    SEFUNJARO_TZIF_TIMES = 1, /* the times of its changes don't strictly rise, or are more than 4,294,967,295 */
+    SEFUNJARO_TZIF_TYPES = 2, /* it has more than 256 distinct kinds: offset, whether it is daylight saving time, abbreviation */
+    SEFUNJARO_TZIF_NAMES = 3  /* an abbreviation has a zero byte, or the distinct ones take more than 256 bytes, a zero after each */
+};
+
+/* What a call refuses that opens something, or asks for a zone's string or file. */
 struct sefunjaro_fault {
     uint32_t status; /* the status that the call answers */
     uint32_t cause;  /* the cause, from 1, or 0 where the status says it all */
@@ -263,6 +277,16 @@ uint32_t sefunjaro_changes(struct sefunjaro_handle *zone, int64_t from, int64_t 
 /* When a daily alarm rings on the day and at the time of day of a local time: at the first instant at which clocks show it, at its
    nanosecond. NONE where clocks skip it. NOT_OPEN, OUT_OF_RANGE (also where the parts are no date or no time). */
 uint32_t sefunjaro_ring(struct sefunjaro_handle *zone, const struct sefunjaro_clock *local, struct sefunjaro_reading *ring);
+
+/* The POSIX TZ string that carries a zone on after its last change, as zic writes it at a file's end, and its whole length: up to the end
+   of 2099 it gives the zone's offsets from some change on. It takes memory.
+   NOT_OPEN; NOT_KEPT; NONE, with why there is no string: enum sefunjaro_tail_cause; NO_MEMORY. */
+uint32_t sefunjaro_tail(struct sefunjaro_handle *zone, uint8_t *text, size_t room, size_t *whole, struct sefunjaro_fault *fault);
+
+/* The zone's TZif file (RFC 8536, version 2), and its whole length: each change, and as the footer the string of sefunjaro_tail, or
+   nothing where there is none. It takes memory: each call writes the file whole, and then as much of it into the room as fits.
+   NOT_OPEN; NOT_KEPT; NONE, with why there is no file: enum sefunjaro_tzif_cause; NO_MEMORY. */
+uint32_t sefunjaro_tzif(struct sefunjaro_handle *zone, uint8_t *file, size_t room, size_t *whole, struct sefunjaro_fault *fault);
 
 /* The local time that a text `YYYY-MM-DD hh:mm:ss.nnnnnnnnn` names. Each local time has one such text, and nothing stands before or
    after it. NOT_READ. */

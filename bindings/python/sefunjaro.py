@@ -27,9 +27,10 @@ import threading
 from typing import Iterator, List, NamedTuple, Optional, Tuple, Union
 
 __all__ = [
-    "BadLine", "BadJoin", "Change", "Clock", "Error", "FIRST_YEAR", "FileCause", "Gap", "InForce", "Instant", "JoinCause", "LAST_YEAR",
-    "LineCause", "NoPlainForm", "NoSchedule", "NotKept", "NotOpen", "NotRead", "OffsetRange", "OffsetTooLarge", "OutOfRange", "PlainCause",
-    "ScheduleCause", "Source", "SourceError", "Status", "UnknownZone", "VERSION", "Zone", "ZoneError", "read_local", "read_zoned",
+    "BadJoin", "BadLine", "Change", "Clock", "Error", "FileCause", "FIRST_YEAR", "Gap", "InForce", "Instant", "JoinCause", "LAST_YEAR",
+    "LineCause", "NoPlainForm", "NoSchedule", "NoTail", "NotKept", "NotOpen", "NotRead", "NoTzif", "OffsetRange", "OffsetTooLarge",
+    "OutOfRange", "PlainCause", "ScheduleCause", "Source", "SourceError", "Status", "TailCause", "TzifCause", "UnknownZone", "VERSION",
+    "Zone", "ZoneError", "read_local", "read_zoned",
 ]
 
 
@@ -120,6 +121,22 @@ class FileCause(enum.IntEnum):
     FOOTER = 2
 
 
+class TailCause(enum.IntEnum):
+    """Why a zone has no string that carries it on."""
+
+    SHAPE = 1
+    OFFSET_RANGE = 2
+    NAME = 3
+
+
+class TzifCause(enum.IntEnum):
+    """Why a zone has no TZif file."""
+
+    TIMES = 1
+    TYPES = 2
+    NAMES = 3
+
+
 class Error(Exception):
     """What the library refuses: its `status`, and the `cause` and the `line` of the source (from 1), or None where there is none."""
 
@@ -186,6 +203,18 @@ class OffsetRange(ZoneError):
     status = Status.OFFSET_RANGE
 
 
+class NoTail(ZoneError):
+    """No string carries the zone on; `cause` is a TailCause."""
+
+    status = Status.NONE
+
+
+class NoTzif(ZoneError):
+    """The zone has no TZif file; `cause` is a TzifCause."""
+
+    status = Status.NONE
+
+
 class OutOfRange(Error, ValueError):
     """A date lies outside the years -9999 to 9999, or the parts are no date, no time or no instant."""
 
@@ -199,7 +228,7 @@ class NotRead(Error, ValueError):
 
 
 class NotKept(Error):
-    """The zone is that of a file or of a POSIX string, which has no changes and no saving."""
+    """The zone is that of a file or of a POSIX string, of which this is not asked."""
 
     status = Status.NOT_KEPT
 
@@ -360,6 +389,8 @@ _saving_at = _function("sefunjaro_saving_at", _at, *_instant, _at)
 _next_change = _function("sefunjaro_next_change", _at, ctypes.c_int64, _at)
 _changes = _function("sefunjaro_changes", _at, ctypes.c_int64, ctypes.c_int64, _at, _size, _at)
 _ring = _function("sefunjaro_ring", _at, _at, _at)
+_tail = _function("sefunjaro_tail", _at, _at, _size, _at, _at)
+_tzif = _function("sefunjaro_tzif", _at, _at, _size, _at, _at)
 _version = _function("sefunjaro_version", _at, _size, _at, _at, answer=None)
 
 
@@ -401,7 +432,7 @@ def _raise(status: int, of: str, fault: Optional[_RawFault] = None) -> None:
     if status == Status.NOT_READ:
         raise NotRead(f"{of}: not a text that is read")
     if status == Status.NOT_KEPT:
-        raise NotKept(f"{of} is a zone of a file or of a POSIX string, which has no changes and no saving")
+        raise NotKept(f"{of} is a zone of a file or of a POSIX string, of which this is not asked")
     kind = SourceError if of in ("source", _FORM) else ZoneError
     where = f"{of}, line {line}" if line else of
     raise kind(f"{where}: {Status(status).name}", status=Status(status), line=line)
@@ -576,7 +607,8 @@ class Zone(datetime.tzinfo, _Opened):
     @classmethod
     def from_file(cls, file: Union[bytes, bytearray, memoryview, str, os.PathLike], name: Optional[str] = None) -> "Zone":
         """The zone of a compiled file (TZif, as below /usr/share/zoneinfo), from its bytes or its path, with what its footer says from
-        its last change on. It has no changes and no saving: `dst` is None, and `changes`, `next_change` and `saving_at` raise NotKept.
+        its last change on. It has no changes and no saving: `dst` is None, and `changes`, `next_change`, `saving_at`, `posix_tail` and
+        `to_tzif` raise NotKept.
 
         Raises NotRead with its cause, and OSError where the file can't be read."""
         if isinstance(file, (str, os.PathLike)):
@@ -698,6 +730,35 @@ class Zone(datetime.tzinfo, _Opened):
                 return [Change(change.second, change.offset, change.saving) for change in found]
             room = count.value
             found = (_RawChange * room)()
+
+    def posix_tail(self) -> str:
+        """The POSIX TZ string that carries the zone on after its last change, as zic writes it at a file's end. Raises NoTail and NotKept."""
+        told, cause = self._whole(_tail, 64)
+        if cause:
+            raise NoTail(f"{self._name!r}: no string, {TailCause(cause).name}", cause=TailCause(cause))
+        return told.decode()
+
+    def to_tzif(self) -> bytes:
+        """The zone's TZif file, which `zoneinfo.ZoneInfo.from_file` reads. Raises NoTzif, and NotKept."""
+        told, cause = self._whole(_tzif, 4096)
+        if cause:
+            raise NoTzif(f"{self._name!r}: no file, {TzifCause(cause).name}", cause=TzifCause(cause))
+        return told
+
+    def _whole(self, call, room: int) -> Tuple[bytes, int]:
+        """What a call puts into a room, which grows as it has to, or the number of the cause that there is none."""
+        whole, fault, handle = ctypes.c_size_t(), _RawFault(), self._handle
+        while True:
+            found = ctypes.create_string_buffer(room)
+            with handle.lock:
+                status = call(handle.at, found, room, ctypes.byref(whole), ctypes.byref(fault))
+            if status == Status.NONE:
+                return b"", fault.cause
+            if status:
+                _raise(status, repr(self._name))
+            if whole.value <= room:
+                return found.raw[: whole.value], 0
+            room = whole.value
 
     def ring(self, local: Union[datetime.datetime, Clock]) -> Optional[Instant]:
         """When a daily alarm rings on the day and at the time of day of a local time: the first instant at which clocks show it, or

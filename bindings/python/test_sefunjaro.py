@@ -1,12 +1,14 @@
 """The tests of sefunjaro.py over a small source of its own: python3 -m unittest, with SEFUNJARO_LIBRARY set."""
 import base64
 import copy
+import io
 import pathlib
 import pickle
 import resource
 import tempfile
 import threading
 import unittest
+import zoneinfo
 from datetime import date, datetime, time, timedelta, timezone
 
 import sefunjaro
@@ -115,8 +117,28 @@ class Zones(unittest.TestCase):
         self.assertEqual([day for day, _ in rings], [date(2024, 3, 30), date(2024, 3, 31), date(2024, 4, 1)])
         self.assertEqual([ring and ring.second for _, ring in rings], [SPRING - 84600, None, SPRING + 84600])
 
+    def test_whole(self):
+        self.assertEqual(self.zone.posix_tail(), "CET-1CEST,M3.5.0,M10.5.0/3")
+        file = self.zone.to_tzif()
+        read = zoneinfo.ZoneInfo.from_file(io.BytesIO(file))
+        for second in (0, SPRING - 1, SPRING, AUTUMN - 1, AUTUMN, 4_000_000_000):
+            local = datetime.fromtimestamp(second, timezone.utc).astimezone(read)
+            self.assertEqual((local.utcoffset(), local.tzname()), (hours(self.zone.offset_at(second) / 3600), self.zone.in_force(second).name))
+        self.assertEqual(file.split(b"\n")[-2], b"CET-1CEST,M3.5.0,M10.5.0/3")
+        source = Source("Zone Shape 1:00 - A 2099 Jun 1\n 2:00 - B\nZone Wide 25:30 - X\nZone Names 1:00 - A<B\nZone Long 1:00 - " + "A" * 256 + "\n")
+        for name, cause in (("Shape", "SHAPE"), ("Wide", "OFFSET_RANGE"), ("Names", "NAME")):
+            with self.assertRaises(sefunjaro.NoTail) as raised:
+                source.zone(name).posix_tail()
+            self.assertEqual((raised.exception.status, raised.exception.cause), (Status.NONE, sefunjaro.TailCause[cause]))
+        with self.assertRaises(sefunjaro.NoTzif) as raised:
+            source.zone("Long").to_tzif()
+        self.assertIs(raised.exception.cause, sefunjaro.TzifCause.NAMES)
+        for call in (sefunjaro.Zone.posix_tail, sefunjaro.Zone.to_tzif):
+            with self.assertRaises(sefunjaro.NotKept):
+                call(sefunjaro.Zone.from_posix("UTC0"))
+
     def test_version(self):
-        self.assertEqual((sefunjaro.VERSION, sefunjaro.FIRST_YEAR, sefunjaro.LAST_YEAR), ("1.1.0", 1800, 2099))
+        self.assertEqual((sefunjaro.VERSION, sefunjaro.FIRST_YEAR, sefunjaro.LAST_YEAR), ("1.2.0", 1800, 2099))
 
     def test_fold_and_gap(self):
         # local time, fold, offset in hours, name; the standard offset is 1 hour throughout

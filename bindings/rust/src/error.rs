@@ -29,6 +29,10 @@ pub enum Error {
     UnknownZone,
     /// The zone has no schedule.
     NoSchedule { cause: ScheduleCause },
+    /// No string carries the zone on.
+    NoTail { cause: TailCause },
+    /// The zone has no TZif file.
+    NoTzif { cause: TzifCause },
     /// Some offset of the zone is 26 hours or more in size.
     OffsetRange,
     /// A date lies outside the years -9999 to 9999, or the parts are no date, no time or no instant.
@@ -37,7 +41,7 @@ pub enum Error {
     NotRead,
     /// The bytes are no compiled file that is read.
     File { cause: FileCause },
-    /// The zone is that of a file or of a POSIX string, which has no changes and no saving.
+    /// The zone is that of a file or of a POSIX string, of which this is not asked.
     NotKept,
     /// The library answered a status, or told a cause, that this crate doesn't know: the archive is of another version.
     Unexpected { status: u32, cause: u32 },
@@ -118,6 +122,24 @@ pub enum FileCause {
 
 const FILE_CAUSES: [FileCause; 2] = [FileCause::Refused, FileCause::Footer];
 
+/// Why a zone has no string that carries it on. The header says more of each.
+#[derive(Clone, Copy, Debug, PartialEq, Eq)]
+#[non_exhaustive]
+pub enum TailCause {
+    Shape,
+    OffsetRange,
+    Name,
+}
+
+/// Why a zone has no TZif file. The header says more of each.
+#[derive(Clone, Copy, Debug, PartialEq, Eq)]
+#[non_exhaustive]
+pub enum TzifCause {
+    Times,
+    Types,
+    Names,
+}
+
 const LINE_CAUSES: [LineCause; 9] = [
     LineCause::FailedYearParse,
     LineCause::FailedMonthParse,
@@ -172,6 +194,10 @@ const SCHEDULE_CAUSES: [ScheduleCause; 6] = [
     ScheduleCause::NoStandardSpan,
 ];
 
+const TAIL_CAUSES: [TailCause; 3] = [TailCause::Shape, TailCause::OffsetRange, TailCause::Name];
+
+const TZIF_CAUSES: [TzifCause; 3] = [TzifCause::Times, TzifCause::Types, TzifCause::Names];
+
 /// The cause of a number, which counts from 1.
 fn numbered<Cause: Copy>(causes: &[Cause], number: u32) -> Option<Cause> {
     causes.get((number as usize).checked_sub(1)?).copied()
@@ -181,6 +207,18 @@ impl Error {
     /// What a status other than DONE stands for, where the call tells no fault.
     pub(crate) fn of_status(status: u32) -> Error {
         Error::of_fault(status, &RawFault::default())
+    }
+
+    /// What a status other than DONE stands for, of a call that asks for a zone's string.
+    pub(crate) fn of_tail(status: u32, fault: &RawFault) -> Error {
+        let cause = if status == NONE { numbered(&TAIL_CAUSES, fault.cause) } else { None };
+        cause.map_or_else(|| Error::of_fault(status, fault), |cause| Error::NoTail { cause })
+    }
+
+    /// The same of a zone's file.
+    pub(crate) fn of_tzif(status: u32, fault: &RawFault) -> Error {
+        let cause = if status == NONE { numbered(&TZIF_CAUSES, fault.cause) } else { None };
+        cause.map_or_else(|| Error::of_fault(status, fault), |cause| Error::NoTzif { cause })
     }
 
     /// What a status other than DONE and the fault of its call stand for.
@@ -221,11 +259,13 @@ impl fmt::Display for Error {
             Error::PlainTooLong => write!(out, "the source's plain form would be longer than 16,777,216 bytes"),
             Error::UnknownZone => write!(out, "unknown zone"),
             Error::NoSchedule { cause } => write!(out, "no schedule: {cause:?}"),
+            Error::NoTail { cause } => write!(out, "no string carries the zone on: {cause:?}"),
+            Error::NoTzif { cause } => write!(out, "no TZif file: {cause:?}"),
             Error::OffsetRange => write!(out, "an offset of 26 hours or more"),
             Error::OutOfRange => write!(out, "out of range"),
             Error::NotRead => write!(out, "not a text that is read"),
             Error::File { cause } => write!(out, "no compiled file that is read: {cause:?}"),
-            Error::NotKept => write!(out, "a zone of a file or of a POSIX string has no changes and no saving"),
+            Error::NotKept => write!(out, "of a zone of a file or of a POSIX string this is not asked"),
             Error::Unexpected { status, cause } => write!(out, "the library answered status {status} with cause {cause}"),
         }
     }

@@ -27,10 +27,11 @@ mod changes;
 mod error;
 mod raw;
 mod source;
+mod whole;
 mod zone;
 
 pub use changes::{Change, Changes};
-pub use error::{Error, FileCause, JoinCause, LineCause, PlainCause, ScheduleCause};
+pub use error::{Error, FileCause, JoinCause, LineCause, PlainCause, ScheduleCause, TailCause, TzifCause};
 pub use source::{Names, Source};
 pub use zone::{InForce, Instant, Instants, LocalTime, Zone};
 
@@ -114,7 +115,7 @@ impl FromStr for Instant {
 /// The version of the library's calls, as `SEFUNJARO_VERSION` of its header.
 ///
 /// ```
-/// assert_eq!(sefunjaro::version(), "1.1.0");
+/// assert_eq!(sefunjaro::version(), "1.2.0");
 /// ```
 pub fn version() -> String {
     let mut text = vec![0; 32];

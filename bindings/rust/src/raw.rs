@@ -120,5 +120,7 @@ extern "C" {
     pub fn sefunjaro_saving_at(zone: *mut RawHandle, second: i64, nanosecond: u32, saving: *mut i64) -> u32;
     pub fn sefunjaro_next_change(zone: *mut RawHandle, second: i64, change: *mut crate::Change) -> u32;
     pub fn sefunjaro_ring(zone: *mut RawHandle, local: *const crate::Clock, ring: *mut RawReading) -> u32;
+    pub fn sefunjaro_tail(zone: *mut RawHandle, text: *mut u8, room: usize, whole: *mut usize, fault: *mut RawFault) -> u32;
+    pub fn sefunjaro_tzif(zone: *mut RawHandle, file: *mut u8, room: usize, whole: *mut usize, fault: *mut RawFault) -> u32;
     pub fn sefunjaro_version(text: *mut u8, room: usize, whole: *mut usize, years: *mut RawYears);
 }

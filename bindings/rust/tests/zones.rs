@@ -1,7 +1,8 @@
 //! Each call, each error, threads and memory, over a small source.
 
 use sefunjaro::{
-    Change, Clock, Error, FileCause, Gap, Instant, JoinCause, LineCause, LocalTime, PlainCause, ScheduleCause, Source, Zone,
+    Change, Clock, Error, FileCause, Gap, Instant, JoinCause, LineCause, LocalTime, PlainCause, ScheduleCause, Source, TailCause,
+    TzifCause, Zone,
 };
 use std::{fs, thread};
 
@@ -194,6 +195,22 @@ fn any_form() {
         let told = Source::open_any(text).unwrap_err();
         assert_eq!((told, told.to_string().as_str()), (error, words));
     }
+}
+
+#[test]
+fn whole() {
+    let zone = zone("Here/Middle");
+    assert_eq!(zone.posix_tail().unwrap(), "CET-1CEST,M3.5.0,M10.5.0/3");
+    let file = zone.to_tzif().unwrap();
+    assert!(file.starts_with(b"TZif2") && file.ends_with(b"\nCET-1CEST,M3.5.0,M10.5.0/3\n"));
+    let text = format!("Zone Shape 1:00 - A 2099 Jun 1\n 2:00 - B\nZone Wide 25:30 - X\nZone Name 1:00 - A<B\nZone Long 1:00 - {}\n", "A".repeat(256));
+    let source = Source::open(text.as_bytes()).unwrap();
+    for (name, cause) in [("Shape", TailCause::Shape), ("Wide", TailCause::OffsetRange), ("Name", TailCause::Name)] {
+        assert_eq!(source.zone(name).unwrap().posix_tail(), Err(Error::NoTail { cause }));
+    }
+    assert_eq!(source.zone("Long").unwrap().to_tzif(), Err(Error::NoTzif { cause: TzifCause::Names }));
+    let other = Zone::from_posix("UTC0").unwrap();
+    assert_eq!((other.posix_tail(), other.to_tzif()), (Err(Error::NotKept), Err(Error::NotKept)));
 }
 
 #[test]

@@ -5,3 +5,4 @@ mod ShownLemmas
 mod TextLemmas
 pub mod WorkedPlain
 pub mod WorkedStatuses
+pub mod WorkedWhole

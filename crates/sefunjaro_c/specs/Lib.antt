@@ -8,3 +8,4 @@ pub mod Opened
 pub mod Read
 pub mod Times
 pub mod Version
+pub mod Whole

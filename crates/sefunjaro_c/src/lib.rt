@@ -19,4 +19,5 @@ mod tests;
 mod text_tests;
 mod times;
 mod version;
+mod whole;
 mod zones;

@@ -378,7 +378,7 @@ fn the_version_is_told(rt: HostRuntime) {
     let mut whole = 0;
     let mut years = Years { first: 0, last: 0 };
     sefunjaro_version(&mut text, &mut whole, &mut years);
-    same(&rt, &(&text, whole), &(b"1.1", 5));
+    same(&rt, &(&text, whole), &(b"1.2", 5));
     same(
         &rt,
         &years,

@@ -1,10 +1,11 @@
-//! A source in any form, the string that carries a zone on, and a zone's file, each once.
+//! A source in any form, the string that carries a zone on, and a zone's file, each once. The string is that of `zic -b slim`.
 
 use crate::any_source::sefunjaro_source_open_any;
 use crate::checks::same;
 use crate::fault::{Fault, plain_fault};
 use crate::sources::{sefunjaro_name_count, sefunjaro_zone_open};
 use crate::status::{DONE, NO_PLAIN_FORM, NOT_OPEN};
+use crate::whole::{sefunjaro_tail, sefunjaro_tzif};
 use crate::zones::sefunjaro_offset_at;
 use sefunjaro_handles::Handle;
 use std::alloc::Global;
@@ -80,4 +81,28 @@ fn a_month_that_is_none_is_told(rt: HostRuntime) {
         },
     );
     drop(source.value(alloc));
+}
+
+#[test]
+fn a_zone_tells_its_string_and_its_file(rt: HostRuntime) {
+    let alloc = rt.alloc();
+    let mut zone = zone_of(&rt, alloc, b"US/Eastern");
+    let mut fault = plain_fault(NOT_OPEN);
+    let mut whole = 0;
+    let mut text = [0; 8];
+    same(
+        &rt,
+        &sefunjaro_tail(alloc, &mut zone, &mut text, &mut whole, &mut fault),
+        &DONE,
+    );
+    same(&rt, &(&text, whole), &(b"EST5EDT,", 22));
+    same(&rt, &fault, &plain_fault(DONE));
+    let mut file = [0; 5];
+    same(
+        &rt,
+        &sefunjaro_tzif(alloc, &mut zone, &mut file, &mut whole, &mut fault),
+        &DONE,
+    );
+    same(&rt, &(&file, whole), &(b"TZif2", 1813));
+    drop(zone.value(alloc));
 }

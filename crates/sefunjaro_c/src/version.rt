@@ -22,7 +22,7 @@ pub extern "C" fn sefunjaro_version(text: &mut [u8], whole: &mut usize, years: &
     ensures length { whole.new ≡ length version }
     ensures years { years.new ≡ rule_years }
 {
-    *whole = fill(b"1.1.0", text);
+    *whole = fill(b"1.2.0", text);
     *years = Years {
         first: 1800,
         last: 2099,

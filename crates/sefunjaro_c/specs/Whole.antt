@@ -1,0 +1,93 @@
+-- The string that carries a zone on, and the zone's file; and why there is none, in numbers.
+use Rattle.std.specs.Prelude.{◌≡◌, ◌⊎◌, ℕ, ℤ, List, length, Option, None, option_map}
+use Rattle.zone_tail_core.specs.Carried.{CarriesOn}
+use Rattle.zone_tail_core.specs.Found.{found_from}
+use Rattle.zone_tail_core.specs.Tails.{tail_fault, IsTail}
+use Rattle.zone_tail_core.specs.declared.outcome.TailFault.{TailFault}
+use Rattle.zone_tail_core.specs.declared.outcome.TailFault.TheVariants as tail
+use Rattle.zone_tzif_core.specs.Denotes.{Denotes}
+use Rattle.zone_tzif_core.specs.Totals.{total_at}
+use Rattle.zone_tzif_core.specs.Zones.{ZoneValue}
+use Rattle.zone_tzif_core.specs.declared.values.WriteFault.{WriteFault}
+use Rattle.zone_tzif_core.specs.declared.values.WriteFault.TheVariants as write
+use Rattle.zone_tzif_set.specs.Files.{file_fault, file_of, footer_of}
+use Rattle.zone_tzif_set.specs.declared.file.FileFault.{FileFault}
+use Rattle.zone_tzif_set.specs.declared.file.FileFault.TheVariants as file
+use Rattle.zone_open.specs.Rooms.{filled}
+use Rattle.zone_open.specs.Zones.{set_in, total_in}
+use Rattle.zone_open.specs.declared.zone.OpenZone.{OpenZone}
+use Rattle.sefunjaro_handles.specs.Statuses.{done, none_there, out_of_memory}
+use Rattle.sefunjaro_c.specs.Faults.{plain, IsRefused}
+use Rattle.sefunjaro_c.specs.declared.fault.Fault.{Fault}
+
+-- there is none of what is asked for, for this cause
+abbrev pub none_for : ℕ → Fault
+none_for cause = record { status = none_there; cause = cause; line = 0 }
+
+-- ---- the string
+
+-- the cause of a zone without a string
+abbrev pub tail_number : TailFault → ℕ
+tail_number tail.Shape = 1
+tail_number tail.OffsetRange = 2
+tail_number tail.Name = 3
+tail_number tail.NoMemory = 0
+
+abbrev pub tail_told : TailFault → Fault
+tail_told tail.Shape = none_for (tail_number tail.Shape)
+tail_told tail.OffsetRange = none_for (tail_number tail.OffsetRange)
+tail_told tail.Name = none_for (tail_number tail.Name)
+tail_told tail.NoMemory = plain out_of_memory
+
+-- why a zone has no string, if so
+abbrev pub tail_due : OpenZone → Option Fault
+tail_due zone = option_map tail_told (tail_fault (set_in zone))
+
+-- the string that carries the zone on stands in the room, as far as it fits, and its length is told
+pub record IsTailIn (zone : OpenZone) (old new : List ℕ) (whole : ℕ) : Type 0 where
+  pub from : Option ℤ
+  pub text : List ℕ
+  pub tail : IsTail (set_in zone) from text
+  pub carries : CarriesOn (set_in zone) from text
+  pub room : new ≡ filled text old
+  pub length : whole ≡ length text
+
+-- it is told, or why there is none
+abbrev pub IsTailTold : OpenZone → List ℕ → List ℕ → ℕ → Fault → Type 0
+IsTailTold zone old new whole fault =
+    ((fault ≡ plain done) × IsTailIn zone old new whole) ⊎ (IsRefused (tail_due zone) fault × (new ≡ old))
+
+-- ---- the file
+
+-- the cause of a zone without a file; it is refused neither for an offset nor for the footer
+abbrev pub file_number : WriteFault → ℕ
+file_number write.Times = 1
+file_number write.Types = 2
+file_number write.Names = 3
+file_number write.Offset = 0
+file_number write.Footer = 0
+file_number write.NoMemory = 0
+
+abbrev pub file_told : FileFault → Fault
+file_told file.Times = none_for (file_number write.Times)
+file_told file.Types = none_for (file_number write.Types)
+file_told file.Names = none_for (file_number write.Names)
+file_told file.NoMemory = plain out_of_memory
+
+-- why a zone has no file, if so
+abbrev pub file_due : OpenZone → Option Fault
+file_due zone = option_map (λ fault. none_for (file_number fault)) (file_fault (set_in zone))
+
+-- The zone's file stands in the room, as far as it fits, and its length is told. Whatever is read from that file has the zone's offset
+-- at each instant, and its footer is the string that carries the zone on, if there is one.
+pub record IsFileIn (zone : OpenZone) (old new : List ℕ) (whole : ℕ) : Type 0 where
+  pub none : file_fault (set_in zone) ≡ None
+  pub room : new ≡ filled (file_of (set_in zone)) old
+  pub length : whole ≡ length (file_of (set_in zone))
+  pub totals : (value : ZoneValue) → Denotes (file_of (set_in zone)) value → (t : ℤ) → total_at value t ≡ total_in zone t
+  pub carried : tail_fault (set_in zone) ≡ None → CarriesOn (set_in zone) (found_from (set_in zone)) (footer_of (set_in zone))
+
+-- it is told, or why there is none
+abbrev pub IsFileTold : OpenZone → List ℕ → List ℕ → ℕ → Fault → Type 0
+IsFileTold zone old new whole fault =
+    ((fault ≡ plain done) × IsFileIn zone old new whole) ⊎ (IsRefused (file_due zone) fault × (new ≡ old))

@@ -1,0 +1,145 @@
+//! A zone as a whole: the string that carries it on, and its file.
+ghost use Rattle.std.specs.Prelude.{◌≡◌};
+ghost use Rattle.sefunjaro_c.specs.Whole.{file_told, none_for, tail_told, IsFileTold, IsTailTold};
+ghost use Rattle.sefunjaro_handles.specs.Held.{OfKept, OfZone, OnZone};
+
+use crate::fault::{Fault, plain_fault};
+use crate::status::{DONE, NO_MEMORY, NONE_THERE, NOT_KEPT, NOT_OPEN};
+use sefunjaro_handles::{Handle, Opened};
+use std::alloc::Global;
+use zone_open::{AnyZone, OpenZone, fill};
+use zone_tail_core::TailFault;
+use zone_tzif_set::FileFault;
+
+/// The POSIX TZ string that carries a zone on. It goes into the room, as far as it fits, and its whole length is told.
+#[unsafe(no_mangle)]
+pub extern "C" fn sefunjaro_tail(
+    alloc: Global,
+    zone: &mut Handle,
+    text: &mut [u8],
+    whole: &mut usize,
+    fault: &mut Fault,
+) -> u32
+    ensures same { zone.new.held.opened ≡ zone.old.held.opened }
+    ensures status { result ≡ fault.new.status }
+    ensures answer { OnZone zone.old.held.opened result (text.new ≡ text.old)
+        (λ held. OfKept held result (text.new ≡ text.old) (λ zone. IsTailTold zone text.old text.new whole.new fault.new)) }
+{
+    let Some(opened) = zone.take(alloc) else {
+        *fault = plain_fault(NOT_OPEN);
+        return NOT_OPEN;
+    };
+    let told = tail_in(alloc, &opened, text, whole);
+    zone.put(alloc, opened);
+    *fault = told;
+    told.status
+}
+
+fn tail_in(alloc: Global, opened: &Opened, text: &mut [u8], whole: &mut usize) -> Fault
+    ensures { OfZone opened.now result.status (text.new ≡ text.old)
+        (λ held. OfKept held result.status (text.new ≡ text.old) (λ zone. IsTailTold zone text.old text.new whole.new result)) }
+{
+    let Opened::Zone(zone) = opened else {
+        return plain_fault(NOT_OPEN);
+    };
+    match &**zone {
+        AnyZone::Source(zone) => tail_of(alloc, zone, text, whole),
+        AnyZone::File(_) => plain_fault(NOT_KEPT),
+    }
+}
+
+fn tail_of(alloc: Global, zone: &OpenZone, text: &mut [u8], whole: &mut usize) -> Fault
+    ensures { IsTailTold zone.now text.old text.new whole.new result }
+{
+    match zone.tail(alloc) {
+        Ok(tail) => {
+            *whole = fill(tail.text.as_bytes(), text);
+            plain_fault(DONE)
+        }
+        Err(fault) => tail_fault(fault),
+    }
+}
+
+/// Why a zone has no string.
+fn tail_fault(fault: TailFault) -> Fault
+    ensures { result ≡ tail_told fault }
+{
+    match fault {
+        TailFault::Shape => none_for(1),
+        TailFault::OffsetRange => none_for(2),
+        TailFault::Name => none_for(3),
+        TailFault::NoMemory => plain_fault(NO_MEMORY),
+    }
+}
+
+/// A zone's TZif file. It goes into the room, as far as it fits, and its whole length is told.
+#[unsafe(no_mangle)]
+pub extern "C" fn sefunjaro_tzif(
+    alloc: Global,
+    zone: &mut Handle,
+    file: &mut [u8],
+    whole: &mut usize,
+    fault: &mut Fault,
+) -> u32
+    ensures same { zone.new.held.opened ≡ zone.old.held.opened }
+    ensures status { result ≡ fault.new.status }
+    ensures answer { OnZone zone.old.held.opened result (file.new ≡ file.old)
+        (λ held. OfKept held result (file.new ≡ file.old) (λ zone. IsFileTold zone file.old file.new whole.new fault.new)) }
+{
+    let Some(opened) = zone.take(alloc) else {
+        *fault = plain_fault(NOT_OPEN);
+        return NOT_OPEN;
+    };
+    let told = file_in(alloc, &opened, file, whole);
+    zone.put(alloc, opened);
+    *fault = told;
+    told.status
+}
+
+fn file_in(alloc: Global, opened: &Opened, file: &mut [u8], whole: &mut usize) -> Fault
+    ensures { OfZone opened.now result.status (file.new ≡ file.old)
+        (λ held. OfKept held result.status (file.new ≡ file.old) (λ zone. IsFileTold zone file.old file.new whole.new result)) }
+{
+    let Opened::Zone(zone) = opened else {
+        return plain_fault(NOT_OPEN);
+    };
+    match &**zone {
+        AnyZone::Source(zone) => file_of(alloc, zone, file, whole),
+        AnyZone::File(_) => plain_fault(NOT_KEPT),
+    }
+}
+
+fn file_of(alloc: Global, zone: &OpenZone, file: &mut [u8], whole: &mut usize) -> Fault
+    ensures { IsFileTold zone.now file.old file.new whole.new result }
+{
+    match zone.tzif(alloc) {
+        Ok(written) => {
+            *whole = fill(written.as_slice(), file);
+            plain_fault(DONE)
+        }
+        Err(fault) => file_fault(fault),
+    }
+}
+
+/// Why a zone has no file.
+fn file_fault(fault: FileFault) -> Fault
+    ensures { result ≡ file_told fault }
+{
+    match fault {
+        FileFault::Times => none_for(1),
+        FileFault::Types => none_for(2),
+        FileFault::Names => none_for(3),
+        FileFault::NoMemory => plain_fault(NO_MEMORY),
+    }
+}
+
+/// There is none, for that cause.
+fn none_for(cause: u32) -> Fault
+    ensures { result ≡ none_for cause }
+{
+    Fault {
+        status: NONE_THERE,
+        cause,
+        line: 0,
+    }
+}
