@@ -11,13 +11,15 @@ void *__real_malloc(size_t size);
 void *__real_realloc(void *block, size_t size);
 void __real_free(void *block);
 
-static long left = -1; /* how many requests are granted; -1 is all of them */
-static bool for_good;  /* whether all are refused from then on */
-static long live;      /* blocks that are taken and not given back */
+static long left = -1;  /* how many requests are granted; -1 is all of them */
+static bool for_good;   /* whether all are refused from then on */
+static long live;       /* blocks that are taken and not given back */
+static bool is_refused; /* whether one was refused */
 
 static bool refuses(void) {
     if (left < 0 || left-- > 0) return false;
     left = for_good ? 0 : -1;
+    is_refused = true;
     return true;
 }
 
@@ -53,16 +55,19 @@ static uint32_t tzif(void) { return sefunjaro_tzif(&zone, found, sizeof found, &
 static uint32_t share(void) { return sefunjaro_share(&zone, &other); }
 
 /* How many requests a call makes, which opens a handle, if one is given: each refused in turn; -1 where an answer is wrong or something is
-   not given back. */
+   not given back. Some that a source makes it can do without, and is opened all the same. */
 static long tried(uint32_t (*call)(void), struct sefunjaro_handle *made) {
     for (long n = 0;; n++) {
         long before = live;
         int32_t offset;
         left = n;
+        is_refused = false;
         uint32_t status = call();
         left = -1;
-        if (status == SEFUNJARO_DONE) return n;
-        if (status != SEFUNJARO_NO_MEMORY || live != before) return -1;
+        if (!is_refused) return status == SEFUNJARO_DONE ? n : -1;
+        if (made && status == SEFUNJARO_DONE) sefunjaro_close(made);
+        else if (status != SEFUNJARO_NO_MEMORY) return -1;
+        if (live != before) return -1;
         if (made && sefunjaro_offset_at(made, 0, 0, &offset) != SEFUNJARO_NOT_OPEN) return -1;
     }
 }

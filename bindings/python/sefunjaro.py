@@ -34,107 +34,49 @@ __all__ = [
 ]
 
 
-class Status(enum.IntEnum):
-    """What a call of the library answers: `enum sefunjaro_status` of the header."""
+Status = enum.IntEnum(
+    "Status",
+    "DONE NOT_OPEN NO_MEMORY TOO_LONG NOT_TEXT BAD_LINE BAD_JOIN UNKNOWN_ZONE NO_SCHEDULE OFFSET_RANGE OUT_OF_RANGE NONE "
+    "NOT_READ NOT_KEPT NO_PLAIN_FORM",
+    module=__name__,
+    start=0,
+)
+"""What a call of the library answers: `enum sefunjaro_status` of the header."""
 
-    DONE = 0
-    NOT_OPEN = 1
-    NO_MEMORY = 2
-    TOO_LONG = 3
-    NOT_TEXT = 4
-    BAD_LINE = 5
-    BAD_JOIN = 6
-    UNKNOWN_ZONE = 7
-    NO_SCHEDULE = 8
-    OFFSET_RANGE = 9
-    OUT_OF_RANGE = 10
-    NONE = 11
-    NOT_READ = 12
-    NOT_KEPT = 13
-    NO_PLAIN_FORM = 14
+LineCause = enum.IntEnum(
+    "LineCause",
+    "FAILED_YEAR_PARSE FAILED_MONTH_PARSE FAILED_WEEKDAY_PARSE INVALID_LINE_TYPE TYPE_COLUMN_CONTAINED_NON_HYPHEN "
+    "COULD_NOT_PARSE_SAVING INVALID_DAY_SPEC INVALID_TIME_SPEC_AND_TYPE NON_WALL_CLOCK_IN_TIME_SPEC",
+    module=__name__,
+)
+"""Why a line of a source can't be read."""
 
+JoinCause = enum.IntEnum("JoinCause", "SURPRISE_CONTINUATION_LINE UNKNOWN_RULESET DUPLICATE_LINK DUPLICATE_ZONE", module=__name__)
+"""Why a line of a source may not follow those before it."""
 
-class LineCause(enum.IntEnum):
-    """Why a line of a source can't be read."""
+ScheduleCause = enum.IntEnum(
+    "ScheduleCause",
+    "UNKNOWN_RULESET MISSING_UNTIL YEAR_RANGE RULE_YEARS DAY_RANGE NO_STANDARD_SPAN",
+    module=__name__,
+)
+"""Why a zone has no schedule."""
 
-    FAILED_YEAR_PARSE = 1
-    FAILED_MONTH_PARSE = 2
-    FAILED_WEEKDAY_PARSE = 3
-    INVALID_LINE_TYPE = 4
-    TYPE_COLUMN_CONTAINED_NON_HYPHEN = 5
-    COULD_NOT_PARSE_SAVING = 6
-    INVALID_DAY_SPEC = 7
-    INVALID_TIME_SPEC_AND_TYPE = 8
-    NON_WALL_CLOCK_IN_TIME_SPEC = 9
+PlainCause = enum.IntEnum(
+    "PlainCause",
+    "NOT_TEXT QUOTES LINE_TYPE FIELD_COUNT RULESET_NAME YEAR YEAR_ORDER TYPE MONTH DAY TIME SAVING FORMAT UNSAYABLE CONTINUATION "
+    "UNKNOWN_RULESET DUPLICATE_ZONE LINK_IS_ZONE DUPLICATE_LINK TARGET TOO_LONG",
+    module=__name__,
+)
+"""Why a source in any form has no plain form; the header says more of each. Each but TOO_LONG is that of a line."""
 
+FileCause = enum.IntEnum("FileCause", "REFUSED FOOTER", module=__name__)
+"""Why a compiled file is not read."""
 
-class JoinCause(enum.IntEnum):
-    """Why a line of a source may not follow those before it."""
+TailCause = enum.IntEnum("TailCause", "SHAPE OFFSET_RANGE NAME", module=__name__)
+"""Why a zone has no string that carries it on."""
 
-    SURPRISE_CONTINUATION_LINE = 1
-    UNKNOWN_RULESET = 2
-    DUPLICATE_LINK = 3
-    DUPLICATE_ZONE = 4
-
-
-class ScheduleCause(enum.IntEnum):
-    """Why a zone has no schedule."""
-
-    UNKNOWN_RULESET = 1
-    MISSING_UNTIL = 2
-    YEAR_RANGE = 3
-    RULE_YEARS = 4
-    DAY_RANGE = 5
-    NO_STANDARD_SPAN = 6
-
-
-class PlainCause(enum.IntEnum):
-    """Why a source in any form has no plain form; the header says more of each. Each but TOO_LONG is that of a line."""
-
-    NOT_TEXT = 1
-    QUOTES = 2
-    LINE_TYPE = 3
-    FIELD_COUNT = 4
-    RULESET_NAME = 5
-    YEAR = 6
-    YEAR_ORDER = 7
-    TYPE = 8
-    MONTH = 9
-    DAY = 10
-    TIME = 11
-    SAVING = 12
-    FORMAT = 13
-    UNSAYABLE = 14
-    CONTINUATION = 15
-    UNKNOWN_RULESET = 16
-    DUPLICATE_ZONE = 17
-    LINK_IS_ZONE = 18
-    DUPLICATE_LINK = 19
-    TARGET = 20
-    TOO_LONG = 21
-
-
-class FileCause(enum.IntEnum):
-    """Why a compiled file is not read."""
-
-    REFUSED = 1
-    FOOTER = 2
-
-
-class TailCause(enum.IntEnum):
-    """Why a zone has no string that carries it on."""
-
-    SHAPE = 1
-    OFFSET_RANGE = 2
-    NAME = 3
-
-
-class TzifCause(enum.IntEnum):
-    """Why a zone has no TZif file."""
-
-    TIMES = 1
-    TYPES = 2
-    NAMES = 3
+TzifCause = enum.IntEnum("TzifCause", "TIMES TYPES NAMES", module=__name__)
+"""Why a zone has no TZif file."""
 
 
 class Error(Exception):
@@ -296,49 +238,24 @@ class InForce(NamedTuple):
     name: str
 
 
-class _RawHandle(ctypes.Structure):
-    _fields_ = [("at", ctypes.c_void_p), ("is_open", ctypes.c_bool)]
+def _struct(name: str, **fields) -> type:
+    """A struct of the header, by its fields in order."""
+    return type(name, (ctypes.Structure,), {"_fields_": list(fields.items())})
 
 
-class _RawFault(ctypes.Structure):
-    _fields_ = [("status", ctypes.c_uint32), ("cause", ctypes.c_uint32), ("line", ctypes.c_size_t)]
-
-
-class _RawInForce(ctypes.Structure):
-    _fields_ = [("offset", ctypes.c_int32), ("is_saving", ctypes.c_bool), ("name_length", ctypes.c_size_t)]
-
-
-class _RawClock(ctypes.Structure):
-    _fields_ = [
-        ("year", ctypes.c_int32),
-        ("month", ctypes.c_uint8),
-        ("day", ctypes.c_uint8),
-        ("hour", ctypes.c_uint8),
-        ("minute", ctypes.c_uint8),
-        ("second", ctypes.c_uint8),
-        ("nanosecond", ctypes.c_uint32),
-    ]
-
-
-class _RawReading(ctypes.Structure):
-    _fields_ = [("second", ctypes.c_int64), ("offset", ctypes.c_int32)]
-
-
-class _RawGap(ctypes.Structure):
-    _fields_ = [("second", ctypes.c_int64), ("before", ctypes.c_int32), ("after", ctypes.c_int32)]
-
-
-class _RawYears(ctypes.Structure):
-    _fields_ = [("first", ctypes.c_int32), ("last", ctypes.c_int32)]
-
-
-class _RawChange(ctypes.Structure):
-    _fields_ = [("second", ctypes.c_int64), ("offset", ctypes.c_int32), ("saving", ctypes.c_int64)]
-
-
-class _RawInstant(ctypes.Structure):
-    _fields_ = [("second", ctypes.c_int64), ("nanosecond", ctypes.c_uint32), ("offset", ctypes.c_int32)]
-
+_RawHandle = _struct("_RawHandle", at=ctypes.c_void_p, is_open=ctypes.c_bool)
+_RawFault = _struct("_RawFault", status=ctypes.c_uint32, cause=ctypes.c_uint32, line=ctypes.c_size_t)
+_RawInForce = _struct("_RawInForce", offset=ctypes.c_int32, is_saving=ctypes.c_bool, name_length=ctypes.c_size_t)
+_RawClock = _struct(
+    "_RawClock",
+    year=ctypes.c_int32, month=ctypes.c_uint8, day=ctypes.c_uint8, hour=ctypes.c_uint8, minute=ctypes.c_uint8,
+    second=ctypes.c_uint8, nanosecond=ctypes.c_uint32,
+)
+_RawReading = _struct("_RawReading", second=ctypes.c_int64, offset=ctypes.c_int32)
+_RawGap = _struct("_RawGap", second=ctypes.c_int64, before=ctypes.c_int32, after=ctypes.c_int32)
+_RawYears = _struct("_RawYears", first=ctypes.c_int32, last=ctypes.c_int32)
+_RawChange = _struct("_RawChange", second=ctypes.c_int64, offset=ctypes.c_int32, saving=ctypes.c_int64)
+_RawInstant = _struct("_RawInstant", second=ctypes.c_int64, nanosecond=ctypes.c_uint32, offset=ctypes.c_int32)
 
 _FORM = "plain form of the source"
 _TwoReadings = _RawReading * 2
