@@ -338,7 +338,7 @@ class Lifetimes(unittest.TestCase):
             self.assertEqual(moment.utcoffset(), hours(2))
         for ask in (moment.utcoffset, moment.tzname, zone.share, lambda: zone.offset_at(0), lambda: zone.in_force(0),
                     lambda: zone.clock_at(0), lambda: zone.text_at(0), lambda: zone.instants(TWICE), lambda: zone.gap(TWICE), moment.dst,
-                    lambda: zone.next_change(0), lambda: zone.changes(0, 1), lambda: zone.ring(TWICE)):
+                    lambda: zone.next_change(0), lambda: zone.changes(0, 1), lambda: zone.ring(TWICE), zone.posix_tail, zone.to_tzif):
             with self.assertRaises(sefunjaro.NotOpen):
                 ask()
         self.assertEqual(other.offset_at(SPRING), 7200)
