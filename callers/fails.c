@@ -106,7 +106,9 @@ static bool look_far(void) {
 int main(void) {
     for (int pass = 0; pass < 2; pass++) {
         for_good = pass;
-        long of_any = tried(open_any, &source), of_source = tried(open_source, &source), of_zone = tried(open_zone, &zone), of_share = tried(share, &other);
+        long of_any = tried(open_any, &source);
+        sefunjaro_close(&source);
+        long of_source = tried(open_source, &source), of_zone = tried(open_zone, &zone), of_share = tried(share, &other);
         if (of_any < 0 || of_source < 0 || of_zone < 0 || of_share < 0 || !look()) return 1;
         long of_tail = tried(tail, NULL), of_tzif = tried(tzif, NULL);
         if (of_tail < 0 || of_tzif < 0) return 5;
