@@ -239,8 +239,8 @@ uint32_t sefunjaro_share(struct sefunjaro_handle *zone, struct sefunjaro_handle 
 /* Closes a handle, whatever it holds. */
 void sefunjaro_close(struct sefunjaro_handle *handle);
 
-/* The offset in force at an instant, of which the nanosecond is from 0 to 999,999,999. It takes no memory, as none of those below
-   does. NOT_OPEN, OUT_OF_RANGE. */
+/* The offset in force at an instant, of which the nanosecond is from 0 to 999,999,999. It takes no memory, nor does one below
+   that doesn't say so. NOT_OPEN, OUT_OF_RANGE. */
 uint32_t sefunjaro_offset_at(struct sefunjaro_handle *zone, int64_t second, uint32_t nanosecond, int32_t *offset);
 
 /* The offset, whether it is daylight saving time, and the abbreviation at an instant. NOT_OPEN, OUT_OF_RANGE. */
