@@ -1,9 +1,12 @@
+-- Definitions: what public clauses say.
 pub mod Cycles
-pub mod DateLaws
 pub mod Dates
 pub mod Days
+pub mod Weekdays
+-- Laws: what a caller may use.
+pub mod DateLaws
+pub mod LogicLaws
 pub mod MonthLaws
 pub mod Orders
 pub mod Signs
-pub mod Weekdays
 pub mod YearLaws
