@@ -7,11 +7,11 @@ use Rattle.calendar.specs.MonthLaws.{days_in_month-bounds}
 use Rattle.calendar.specs.Weekdays.{weekday_of}
 use Rattle.zone_values.specs.Days.{first_from, last_up_to, named_day}
 use Rattle.zone_values.specs.Months.{month_number}
+use Rattle.zone_values.specs.WeekdayLaws.{weekday_number-small}
 use Rattle.zone_values.specs.Weekdays.{weekday_number}
 use Rattle.zone_values.specs.declared.day.DaySpec.TheVariants.{Last}
 use Rattle.zone_values.specs.declared.month.Month.{Month}
 use Rattle.zone_values.specs.declared.weekday.Weekday.{Weekday}
-use Rattle.zone_values.specs.declared.weekday.Weekday.TheVariants.{Sunday, Monday, Tuesday, Wednesday, Thursday, Friday, Saturday}
 use Rattle.zone_values.proofs.WeekdayLemmas.{first_from-is, weekday_of-small, weekday_of-first_from}
 
 pub first_from-after : (weekday : ℕ) (k : ℤ) → weekday < 7 → k ≤ℤ first_from weekday k
@@ -25,15 +25,6 @@ last_up_to-before weekday k small = let week = first_from-within weekday (k -ℤ
 
 pub weekday_of-last_up_to : (weekday : ℕ) (k : ℤ) → weekday < 7 → weekday_of (last_up_to weekday k) ≡ weekday
 weekday_of-last_up_to weekday k small = weekday_of-first_from weekday (k -ℤ pos 6) small
-
-pub weekday_number-small : (w : Weekday) → weekday_number w < 7
-weekday_number-small Sunday = omega arith
-weekday_number-small Monday = omega arith
-weekday_number-small Tuesday = omega arith
-weekday_number-small Wednesday = omega arith
-weekday_number-small Thursday = omega arith
-weekday_number-small Friday = omega arith
-weekday_number-small Saturday = omega arith
 
 week_in_month : (y : ℤ) (m : ℕ) → day y m 1 ≤ℤ (day y m (days_in_month y m) -ℤ pos 6)
 unfolding days_into_year day

@@ -1,5 +1,5 @@
+-- Definitions: what public clauses say.
 pub mod Numbers
-pub mod ReadNumbers
 pub mod Names
 pub mod Faults
 pub mod Years
@@ -10,3 +10,8 @@ pub mod Values
 pub mod Days
 pub mod Ends
 pub mod Bounds
+pub mod Results
+-- Laws: what a caller may use.
+pub mod NumberLaws
+pub mod SameLaws
+pub mod WeekdayLaws

@@ -1,6 +1,6 @@
 //! What is wrong with a line: a kind, and the text of the line that is refused.
-ghost use Rattle.std.specs.Prelude.{◌≡◌, ◌≤◌, length, Some, IfOk, IfSome, string_bytes};
-ghost use Rattle.zone_values.specs.Faults.{fault_shown, fault_of, fault_name, refused, told_text};
+ghost use Rattle.std.specs.Prelude.{◌≡◌, ◌≤◌, length, Some, ok_or, IfOk, IfSome, string_bytes};
+ghost use Rattle.zone_values.specs.Faults.{fault_shown, fault_of, fault_name, refused, told, told_text, Tells};
 
 use crate::error::Error;
 use std::alloc::{AllocError, Global};
@@ -94,5 +94,29 @@ impl Fault<'_> {
             copy.make_ascii_lowercase();
         }
         Ok(copy)
+    }
+}
+
+/// The value that a text has, or where it has none the fault that the text is none of that kind.
+///
+/// # Errors
+///
+/// The fault of that kind, which borrows the text.
+pub fn value_or_fault<T>(value: Option<T>, kind: FaultKind, text: &str) -> Result<T, Fault<'_>>
+    ensures { told (λ value. value) result ≡ ok_or value (refused kind (told_text kind text.now)) }
+{
+    match value {
+        Some(value) => Ok(value),
+        None => Err(Fault { kind, text }),
+    }
+}
+
+/// What was read, or the error that tells its fault.
+pub(crate) fn or_error<T>(alloc: Global, read: Result<T, Fault<'_>>) -> Result<T, Error>
+    ensures { Tells (λ value. value) result (told (λ value. value) read.entry) }
+{
+    match read {
+        Ok(value) => Ok(value),
+        Err(fault) => Err(fault.error(alloc)),
     }
 }

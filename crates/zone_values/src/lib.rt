@@ -19,7 +19,7 @@ mod year;
 pub use change::ChangeTime;
 pub use day::DaySpec;
 pub use error::Error;
-pub use fault::{Fault, FaultKind};
+pub use fault::{Fault, FaultKind, value_or_fault};
 pub use line::{Line, Link, Rule, Saving, Zone, ZoneInfo};
 pub use month::Month;
 pub use time::{TimeSpec, TimeSpecAndType, TimeType};

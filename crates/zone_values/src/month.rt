@@ -4,7 +4,7 @@ ghost use Rattle.zone_values.specs.Faults.{Tells, told};
 ghost use Rattle.zone_values.specs.Months.{month_number, month_numbered, month_field};
 
 use crate::error::Error;
-use crate::fault::{Fault, FaultKind};
+use crate::fault::{Fault, FaultKind, or_error, value_or_fault};
 use crate::names::month_named;
 use std::alloc::Global;
 
@@ -27,27 +27,27 @@ pub enum Month {
 
 impl Month {
     /// Reads an English name of a month, in full or in three letters, without regard to ASCII
-    /// case. `FailedMonthParse` holds every other text, in ASCII lower case.
+    /// case.
+    ///
+    /// # Errors
+    ///
+    /// `FailedMonthParse` with every other text, in ASCII lower case, or `NoMemory` where memory for
+    /// it runs out.
     pub fn parse(alloc: Global, input: &str) -> Result<Month, Error>
         ensures { Tells (λ month. month) result (month_field input.now) }
     {
-        match Month::read(input) {
-            Ok(month) => Ok(month),
-            Err(fault) => Err(fault.error(alloc)),
-        }
+        or_error(alloc, Month::read(input))
     }
 
-    /// Reads the same texts, and takes no memory: the fault borrows a text that is none of them.
+    /// Reads the same texts, and takes no memory.
+    ///
+    /// # Errors
+    ///
+    /// `FailedMonthParse` for every other text, which the fault borrows as it stands.
     pub fn read(text: &str) -> Result<Month, Fault<'_>>
         ensures { told (λ month. month) result ≡ month_field text.now }
     {
-        match month_named(text) {
-            Some(month) => Ok(month),
-            None => Err(Fault {
-                kind: FaultKind::FailedMonthParse,
-                text,
-            }),
-        }
+        value_or_fault(month_named(text), FaultKind::FailedMonthParse, text)
     }
 
     /// The number of the month, from 1 to 12.

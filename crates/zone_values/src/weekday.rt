@@ -4,7 +4,7 @@ ghost use Rattle.zone_values.specs.Faults.{Tells, told};
 ghost use Rattle.zone_values.specs.Weekdays.{weekday_number, weekday_field};
 
 use crate::error::Error;
-use crate::fault::{Fault, FaultKind};
+use crate::fault::{Fault, FaultKind, or_error, value_or_fault};
 use crate::names::weekday_named;
 use std::alloc::Global;
 
@@ -22,27 +22,27 @@ pub enum Weekday {
 
 impl Weekday {
     /// Reads an English name of a weekday, in full or in three letters, without regard to ASCII
-    /// case. `FailedWeekdayParse` holds every other text, in ASCII lower case.
+    /// case.
+    ///
+    /// # Errors
+    ///
+    /// `FailedWeekdayParse` with every other text, in ASCII lower case, or `NoMemory` where memory for
+    /// it runs out.
     pub fn parse(alloc: Global, input: &str) -> Result<Weekday, Error>
         ensures { Tells (λ weekday. weekday) result (weekday_field input.now) }
     {
-        match Weekday::read(input) {
-            Ok(weekday) => Ok(weekday),
-            Err(fault) => Err(fault.error(alloc)),
-        }
+        or_error(alloc, Weekday::read(input))
     }
 
-    /// Reads the same texts, and takes no memory: the fault borrows a text that is none of them.
+    /// Reads the same texts, and takes no memory.
+    ///
+    /// # Errors
+    ///
+    /// `FailedWeekdayParse` for every other text, which the fault borrows as it stands.
     pub fn read(text: &str) -> Result<Weekday, Fault<'_>>
         ensures { told (λ weekday. weekday) result ≡ weekday_field text.now }
     {
-        match weekday_named(text) {
-            Some(weekday) => Ok(weekday),
-            None => Err(Fault {
-                kind: FaultKind::FailedWeekdayParse,
-                text,
-            }),
-        }
+        value_or_fault(weekday_named(text), FaultKind::FailedWeekdayParse, text)
     }
 
     /// The number of the weekday, from 0 for Sunday to 6 for Saturday.

@@ -4,7 +4,7 @@ ghost use Rattle.zone_values.specs.Faults.{Tells, told};
 ghost use Rattle.zone_values.specs.Years.{year_field};
 
 use crate::error::Error;
-use crate::fault::{Fault, FaultKind};
+use crate::fault::{Fault, FaultKind, or_error, value_or_fault};
 use crate::names::year_named;
 use std::alloc::Global;
 
@@ -21,26 +21,25 @@ pub enum Year {
 
 impl Year {
     /// Reads `min`, `minimum`, `max` or `maximum`, without regard to ASCII case, or a number of 64
-    /// bits as Rust reads it. `FailedYearParse` holds every other text.
+    /// bits as Rust reads it.
+    ///
+    /// # Errors
+    ///
+    /// `FailedYearParse` with every other text, or `NoMemory` where memory for it runs out.
     pub fn parse(alloc: Global, input: &str) -> Result<Year, Error>
         ensures { Tells (λ year. year) result (year_field input.now) }
     {
-        match Year::read(input) {
-            Ok(year) => Ok(year),
-            Err(fault) => Err(fault.error(alloc)),
-        }
+        or_error(alloc, Year::read(input))
     }
 
-    /// Reads the same texts, and takes no memory: the fault borrows a text that is none of them.
+    /// Reads the same texts, and takes no memory.
+    ///
+    /// # Errors
+    ///
+    /// `FailedYearParse` for every other text, which the fault borrows.
     pub fn read(text: &str) -> Result<Year, Fault<'_>>
         ensures { told (λ year. year) result ≡ year_field text.now }
     {
-        match year_named(text) {
-            Some(year) => Ok(year),
-            None => Err(Fault {
-                kind: FaultKind::FailedYearParse,
-                text,
-            }),
-        }
+        value_or_fault(year_named(text), FaultKind::FailedYearParse, text)
     }
 }

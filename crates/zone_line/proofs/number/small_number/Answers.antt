@@ -1,5 +1,5 @@
 use Rattle.std.proofs.Common.{◌∙◌}
-use Rattle.zone_values.specs.ReadNumbers.{signed_read}
+use Rattle.zone_values.specs.NumberLaws.{signed_read}
 use mir.Syntax.{w8}
 use Rattle.zone_line.proofs.number.small_number.Goals as goal
 
