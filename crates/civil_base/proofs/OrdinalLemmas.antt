@@ -1,17 +1,14 @@
 -- Days of the year.
-use Rattle.std.proofs.Common.{◌≡◌, arith, ℕ, ℤ, pos, neg_ℤ, ◌+ℤ◌, ◌-ℤ◌, to_z, of_z, w32}
-use Rattle.calendar.specs.Days.{day, IsDate, IsCountedYear}
+use Rattle.std.proofs.Common.{◌≡◌, arith, ℕ, ℤ, pos, ◌+ℤ◌, ◌-ℤ◌, to_z, of_z, w32}
+use Rattle.calendar.specs.Days.{day, IsDate}
 use Rattle.calendar.specs.Dates.{year_of, month_of, day_of}
-use Rattle.calendar.specs.DateLaws.{day-into_year, day-last_of_year, days_into_year-bound, day-between}
-use Rattle.calendar.specs.MonthLaws.{days_in_year-bounds, days_in_month-january, days_in_month-december}
+use Rattle.calendar.specs.DateLaws.{day-into_year, day-last_of_year, days_into_year-bound}
+use Rattle.calendar.specs.MonthLaws.{days_in_year-bounds, days_in_month-december}
 use Rattle.calendar.specs.Signs.{signed, signed_casts}
 use Rattle.civil_base.specs.Ordinals.{IsOrdinal, ordinal_day, ordinal_of}
 use Rattle.civil_base.specs.Ranges.{IsYear, IsDay}
 use Rattle.civil_base.specs.DayLaws.{date_of-day}
-use Rattle.civil_base.specs.DayRangeLaws.{counted-first, counted-last, day-first, day-last}
-
-counted : (y : ℤ) → IsYear y → IsCountedYear y
-counted y h = record { first = omega (arith, signed); last = omega (arith, signed) }
+use Rattle.civil_base.specs.DayRangeLaws.{counted, date-inside, new_year}
 
 -- a day is the one of its year that its place says
 pub ordinal_day-of : (k : ℤ) → IsDay k → ordinal_day (year_of k) (ordinal_of k) ≡ k
@@ -27,25 +24,8 @@ ordinal_of-inside k h =
     let few = days_into_year-bound (year_of k) (month_of k) (day_of k) date.date in
     record { first = omega arith; last = omega arith }
 
--- the first and the last day of a year that dates have
-year_inside : (y : ℤ) (m d : ℕ) → IsYear y → IsDate y m d → IsDay (day y m d)
-year_inside y m d year date =
-    let inside = day-between y m d (neg_ℤ (pos 9999)) (pos 9999) counted-first counted-last year.first year.last date in
-    record { first = omega (arith, signed, inside.0, day-first); last = omega (arith, signed, inside.1, day-last) }
-
-new_year : (y : ℤ) → IsDate y 1 1
-new_year y = record {
-  first_month = omega arith;
-  last_month = omega arith;
-  first_day = omega arith;
-  last_day = omega (
-    arith,
-    days_in_month-january y,
-  );
-}
-
 pub new_year-inside : (y : ℤ) → IsYear y → IsDay (day y 1 1)
-new_year-inside y year = year_inside y 1 1 year (new_year y)
+new_year-inside y year = date-inside y 1 1 year (new_year y)
 
 last_date : (y : ℤ) → IsDate y 12 31
 last_date y = record {
@@ -59,7 +39,7 @@ pub ordinal_day-inside : (y : ℤ) (n : ℕ) → IsYear y → IsOrdinal y n → 
 unfolding ordinal_day
 ordinal_day-inside y n year place =
     let first = new_year-inside y year in
-    let last = year_inside y 12 31 year (last_date y) in
+    let last = date-inside y 12 31 year (last_date y) in
     record {
       first = omega (arith, signed);
       last = omega (arith, signed, day-last_of_year y (counted y year));

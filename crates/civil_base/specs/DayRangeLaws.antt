@@ -2,10 +2,12 @@
 use Rattle.std.specs.Int.{int_div_euclid}
 use Rattle.std.proofs.Common.{◌≡◌, refl, arith, ℕ, ◌<◌, ◌+ℤ◌, ℤ, pos, neg_ℤ, ◌≤ℤ◌, ◌*ℤ◌}
 use Rattle.calendar.specs.Days.{is_leap, days_in_year, days_in_month, days_after_zero, days_before_zero, year_start, days_through}
-use Rattle.calendar.specs.Days.{days_into_year, day, IsCountedYear}
+use Rattle.calendar.specs.Days.{days_into_year, day, IsCountedYear, IsDate}
+use Rattle.calendar.specs.DateLaws.{day-between}
+use Rattle.calendar.specs.MonthLaws.{days_in_month-january}
 use Rattle.calendar.specs.Signs.{signed}
 use Rattle.civil_base.specs.Clock.{nanos_per_day}
-use Rattle.civil_base.specs.Ranges.{first_day, last_day, IsDay, IsInYears}
+use Rattle.civil_base.specs.Ranges.{first_day, last_day, IsDay, IsInYears, IsYear}
 use Rattle.civil_base.specs.RangeLaws.{years_begin, years_end, years_between}
 
 pub day-first : day (neg_ℤ (pos 9999)) 1 1 ≡ first_day
@@ -16,12 +18,32 @@ pub day-last : day (pos 9999) 12 31 ≡ last_day
 unfolding is_leap days_in_year days_in_month days_after_zero days_before_zero year_start days_through days_into_year day
 day-last = refl
 
--- the first and the last year of dates can be counted in
+-- the years of dates can be counted in
+pub counted : (y : ℤ) → IsYear y → IsCountedYear y
+counted y h = record { first = omega (arith, signed); last = omega (arith, signed) }
+
 pub counted-first : IsCountedYear (neg_ℤ (pos 9999))
 counted-first = record { first = omega (arith, signed); last = omega (arith, signed) }
 
 pub counted-last : IsCountedYear (pos 9999)
 counted-last = record { first = omega (arith, signed); last = omega (arith, signed) }
+
+-- the dates of those years have the days of those years
+pub date-inside : (y : ℤ) (m d : ℕ) → IsYear y → IsDate y m d → IsDay (day y m d)
+date-inside y m d year date =
+    let inside = day-between y m d (neg_ℤ (pos 9999)) (pos 9999) counted-first counted-last year.first year.last date in
+    record { first = omega (arith, signed, inside.0, day-first); last = omega (arith, signed, inside.1, day-last) }
+
+pub new_year : (y : ℤ) → IsDate y 1 1
+new_year y = record {
+  first_month = omega arith;
+  last_month = omega arith;
+  first_day = omega arith;
+  last_day = omega (
+    arith,
+    days_in_month-january y,
+  );
+}
 
 pub day-counted : (k : ℤ) → IsDay k → (neg_ℤ (pos 4371953) ≤ℤ k) × (k ≤ℤ pos 2933262)
 day-counted k h = (omega (arith, signed), omega (arith, signed))

@@ -5,7 +5,7 @@ use Rattle.std.proofs.lemmas.Bool.{and_from, and_parts, leb-true}
 use Rattle.std.proofs.lemmas.Bool.Decides.{nat_tests}
 use Rattle.calendar.specs.Orders.{le_pass, lt_pass, le_from_pass, lt_from_pass}
 use Rattle.calendar.specs.Signs.{signed, signed_casts, one_sided}
-use Rattle.civil_base.specs.Ranges.{first_time, end_of_times, IsInYears, IsOffset, far_seconds}
+use Rattle.civil_base.specs.Ranges.{first_time, end_of_times, IsInYears, IsOffset, greatest_offset, far_seconds}
 
 -- a local time in the years lies between -9999-01-01 00:00 and the end of 9999-12-31
 pub years_begin : (x : ℤ) → IsInYears x → neg_ℤ (pos 377705116800000000000) ≤ℤ x
@@ -22,16 +22,16 @@ years_near x h = omega (arith, signed, one_sided x, years_begin x h, years_end x
 pub years_between : (x : ℤ) → neg_ℤ (pos 377705116800000000000) ≤ℤ x → x <ℤ pos 253402300800000000000 → IsInYears x
 years_between x low high = and_from _ _ (le_pass first_time x low) (lt_pass x end_of_times high)
 
-pub offset_size : (o : ℤ) → IsOffset o → unsigned_abs o ≤ 93599
+pub offset_size : (o : ℤ) → IsOffset o → unsigned_abs o ≤ greatest_offset
 offset_size o h = leb-true _ _ h
 
-pub offset_by_size : (o : ℤ) → unsigned_abs o ≤ 93599 → IsOffset o
+pub offset_by_size : (o : ℤ) → unsigned_abs o ≤ greatest_offset → IsOffset o
 offset_by_size o h = grind (arith, nat_tests)
 
-pub offset_least : (o : ℤ) → IsOffset o → neg_ℤ (pos 93599) ≤ℤ o
+pub offset_least : (o : ℤ) → IsOffset o → neg_ℤ (pos greatest_offset) ≤ℤ o
 offset_least o h = omega (arith, signed, offset_size o h)
 
-pub offset_greatest : (o : ℤ) → IsOffset o → o ≤ℤ pos 93599
+pub offset_greatest : (o : ℤ) → IsOffset o → o ≤ℤ pos greatest_offset
 offset_greatest o h = omega (arith, signed, offset_size o h)
 
 -- what the ranges say, for `grind`, with what signs and casts take

@@ -33,9 +33,13 @@ is_in_years x = int_le first_time x && int_lt x end_of_times
 abbrev pub IsInYears : ℤ → Type 0
 IsInYears x = IsTrue (is_in_years x)
 
+-- the seconds of the largest offset, 25:59:59
+abbrev pub greatest_offset : ℕ
+greatest_offset = 93599
+
 -- so many seconds are an offset: less than 26 hours in size
 abbrev pub is_offset : ℤ → Bool
-is_offset o = nat_le (unsigned_abs o) 93599
+is_offset o = nat_le (unsigned_abs o) greatest_offset
 
 abbrev pub IsOffset : ℤ → Type 0
 IsOffset o = IsTrue (is_offset o)

@@ -47,8 +47,11 @@ impl Date {
         day_number: 2_932_896,
     };
 
-    /// The date with these parts. It is refused exactly where the year is past 9999 in size or the month of that year
-    /// has no such day.
+    /// The date with these parts.
+    ///
+    /// # Errors
+    ///
+    /// `ComponentRange` exactly where the year is past 9999 in size or the month of that year has no such day.
     pub fn from_calendar_date(year: i32, month: Month, day: u8) -> Result<Date, ComponentRange>
         ensures accepts { IsOk result ↔ (IsYear year × IsDate year (month_number month) day) }
         ensures value { IfOk result (λ date. date ≡ day_at year (month_number month) day) }
@@ -61,8 +64,11 @@ impl Date {
         })
     }
 
-    /// The date of a day of the year, counted from 1. It is refused exactly where the year is past 9999 in size or has
-    /// no such day.
+    /// The date of a day of the year, counted from 1.
+    ///
+    /// # Errors
+    ///
+    /// `ComponentRange` exactly where the year is past 9999 in size or has no such day.
     pub fn from_ordinal_date(year: i32, ordinal: u16) -> Result<Date, ComponentRange>
         ensures accepts { IsOk result ↔ (IsYear year × IsOrdinal year ordinal) }
         ensures value { IfOk result (λ date. date ≡ ordinal_day year ordinal) }
@@ -75,8 +81,11 @@ impl Date {
         })
     }
 
-    /// The date of a Julian day, of which 2,440,588 is 1970-01-01. It is refused exactly where the date lies outside the
-    /// years -9999 to 9999.
+    /// The date of a Julian day, of which 2,440,588 is 1970-01-01.
+    ///
+    /// # Errors
+    ///
+    /// `ComponentRange` exactly where the date lies outside the years -9999 to 9999.
     pub fn from_julian_day(julian_day: i32) -> Result<Date, ComponentRange>
         ensures accepts { IsOk result ↔ IsDay (day_of_julian julian_day) }
         ensures value { IfOk result (λ date. date ≡ day_of_julian julian_day) }

@@ -25,5 +25,5 @@ pub use read::{read_local, read_zoned};
 pub use time::Time;
 pub use timestamp::Timestamp;
 pub use utc_date_time::UtcDateTime;
-pub use utc_offset::UtcOffset;
+pub use utc_offset::{GREATEST_OFFSET, UtcOffset};
 pub use write::{write_local, write_zoned};

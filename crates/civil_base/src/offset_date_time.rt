@@ -52,8 +52,11 @@ impl OffsetDateTime {
         Some(local.assume_offset(offset))
     }
 
-    /// The instant that many seconds after 1970-01-01 00:00:00 UTC, at UTC. It is refused exactly where its UTC date
-    /// lies outside the years -9999 to 9999.
+    /// The instant that many seconds after 1970-01-01 00:00:00 UTC, at UTC.
+    ///
+    /// # Errors
+    ///
+    /// `ComponentRange` exactly where its UTC date lies outside the years -9999 to 9999.
     pub fn from_unix_timestamp(timestamp: i64) -> Result<OffsetDateTime, ComponentRange>
         ensures accepts { is_ok result ≡ is_in_years (nanos_of timestamp) }
         ensures instant { IfOk result (λ value. instant value ≡ nanos_of timestamp) }
@@ -62,8 +65,11 @@ impl OffsetDateTime {
         OffsetDateTime::from_unix_timestamp_nanos(nanos_of(timestamp))
     }
 
-    /// The instant that many nanoseconds after 1970-01-01 00:00:00 UTC, at UTC. It is refused exactly where its UTC
-    /// date lies outside the years -9999 to 9999.
+    /// The instant that many nanoseconds after 1970-01-01 00:00:00 UTC, at UTC.
+    ///
+    /// # Errors
+    ///
+    /// `ComponentRange` exactly where its UTC date lies outside the years -9999 to 9999.
     pub fn from_unix_timestamp_nanos(timestamp: i128) -> Result<OffsetDateTime, ComponentRange>
         ensures accepts { is_ok result ≡ is_in_years timestamp }
         ensures instant { IfOk result (λ value. instant value ≡ timestamp) }

@@ -31,8 +31,11 @@ impl Time {
     /// 00:00:00, the start of a day.
     pub const MIDNIGHT: Time = Time { nanos: 0 };
 
-    /// The time with these parts and no nanoseconds. It is refused exactly where the hour is past 23, or the minute or
-    /// the second past 59.
+    /// The time with these parts and no nanoseconds.
+    ///
+    /// # Errors
+    ///
+    /// `ComponentRange` exactly where the hour is past 23, or the minute or the second past 59.
     pub fn from_hms(hour: u8, minute: u8, second: u8) -> Result<Time, ComponentRange>
         ensures accepts { IsOk result ↔ IsClockTime hour minute second 0 }
         ensures value { IfOk result (λ time. time ≡ time_at hour minute second 0) }
@@ -40,8 +43,12 @@ impl Time {
         Time::from_hms_nano(hour, minute, second, 0)
     }
 
-    /// The time with these parts. It is refused exactly where the hour is past 23, the minute or the second past 59, or
-    /// the nanosecond past 999,999,999.
+    /// The time with these parts.
+    ///
+    /// # Errors
+    ///
+    /// `ComponentRange` exactly where the hour is past 23, the minute or the second past 59, or the nanosecond past
+    /// 999,999,999.
     #[tactic(auto, unfolding(crate::specs::Clock::time_at))]
     pub fn from_hms_nano(
         hour: u8,

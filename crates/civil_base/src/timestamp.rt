@@ -30,8 +30,12 @@ impl Timestamp {
     /// 1970-01-01 00:00:00 UTC.
     pub const UNIX_EPOCH: Timestamp = Timestamp { nanos: 0 };
 
-    /// The instant that many seconds and nanoseconds after 1970-01-01 00:00:00 UTC. It is refused exactly where the
-    /// nanoseconds are past 999,999,999 or the UTC date lies outside the years -9999 to 9999.
+    /// The instant that many seconds and nanoseconds after 1970-01-01 00:00:00 UTC.
+    ///
+    /// # Errors
+    ///
+    /// `ComponentRange` exactly where the nanoseconds are past 999,999,999 or the UTC date lies outside the years -9999
+    /// to 9999.
     pub fn new(seconds: i64, nanoseconds: u32) -> Result<Timestamp, ComponentRange>
         ensures accepts { is_ok result
             ≡ (nat_lt nanoseconds 1000000000 && is_in_years (nanos_of seconds +ℤ pos nanoseconds)) }
@@ -44,8 +48,11 @@ impl Timestamp {
         }
     }
 
-    /// The instant that many seconds after 1970-01-01 00:00:00 UTC. It is refused exactly where its UTC date lies
-    /// outside the years -9999 to 9999.
+    /// The instant that many seconds after 1970-01-01 00:00:00 UTC.
+    ///
+    /// # Errors
+    ///
+    /// `ComponentRange` exactly where its UTC date lies outside the years -9999 to 9999.
     pub fn from_seconds(seconds: i64) -> Result<Timestamp, ComponentRange>
         ensures accepts { is_ok result ≡ is_in_years (nanos_of seconds) }
         ensures value { IfOk result (λ value. value ≡ nanos_of seconds) }
@@ -53,8 +60,11 @@ impl Timestamp {
         Timestamp::from_nanoseconds(nanos_of(seconds))
     }
 
-    /// The instant that many milliseconds after 1970-01-01 00:00:00 UTC. It is refused exactly where its UTC date lies
-    /// outside the years -9999 to 9999.
+    /// The instant that many milliseconds after 1970-01-01 00:00:00 UTC.
+    ///
+    /// # Errors
+    ///
+    /// `ComponentRange` exactly where its UTC date lies outside the years -9999 to 9999.
     pub fn from_milliseconds(milliseconds: i64) -> Result<Timestamp, ComponentRange>
         ensures accepts { is_ok result ≡ is_in_years (milliseconds *ℤ pos 1000000) }
         ensures value { IfOk result (λ value. value ≡ milliseconds *ℤ pos 1000000) }
@@ -62,8 +72,11 @@ impl Timestamp {
         Timestamp::from_nanoseconds(i128::from(milliseconds) * 1_000_000)
     }
 
-    /// The instant that many nanoseconds after 1970-01-01 00:00:00 UTC. It is refused exactly where its UTC date lies
-    /// outside the years -9999 to 9999.
+    /// The instant that many nanoseconds after 1970-01-01 00:00:00 UTC.
+    ///
+    /// # Errors
+    ///
+    /// `ComponentRange` exactly where its UTC date lies outside the years -9999 to 9999.
     pub fn from_nanoseconds(nanoseconds: i128) -> Result<Timestamp, ComponentRange>
         ensures accepts { is_ok result ≡ is_in_years nanoseconds }
         ensures value { IfOk result (λ value. value ≡ nanoseconds) }

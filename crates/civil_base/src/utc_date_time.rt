@@ -42,8 +42,11 @@ impl UtcDateTime {
         }
     }
 
-    /// The instant that many seconds after 1970-01-01 00:00:00. It is refused exactly where its date lies outside the
-    /// years -9999 to 9999.
+    /// The instant that many seconds after 1970-01-01 00:00:00.
+    ///
+    /// # Errors
+    ///
+    /// `ComponentRange` exactly where its date lies outside the years -9999 to 9999.
     pub fn from_unix_timestamp(timestamp: i64) -> Result<UtcDateTime, ComponentRange>
         ensures accepts { is_ok result ≡ is_in_years (nanos_of timestamp) }
         ensures value { IfOk result (λ value. value ≡ nanos_of timestamp) }
@@ -51,8 +54,11 @@ impl UtcDateTime {
         UtcDateTime::from_unix_timestamp_nanos(nanos_of(timestamp))
     }
 
-    /// The instant that many nanoseconds after 1970-01-01 00:00:00. It is refused exactly where its date lies outside
-    /// the years -9999 to 9999.
+    /// The instant that many nanoseconds after 1970-01-01 00:00:00.
+    ///
+    /// # Errors
+    ///
+    /// `ComponentRange` exactly where its date lies outside the years -9999 to 9999.
     pub fn from_unix_timestamp_nanos(timestamp: i128) -> Result<UtcDateTime, ComponentRange>
         ensures accepts { is_ok result ≡ is_in_years timestamp }
         ensures value { IfOk result (λ value. value ≡ timestamp) }

@@ -8,6 +8,9 @@ use crate::ComponentRange;
 use civil_parts::units::NANOS_PER_SECOND;
 use std::marker::Model;
 
+/// The seconds of the largest offset in size, 25:59:59.
+pub const GREATEST_OFFSET: u32 = 93_599;
+
 /// How far a local time is ahead of UTC, from -25:59:59 to +25:59:59. Contracts see the seconds.
 #[derive(Clone, Copy, Debug, PartialEq, Eq, PartialOrd, Ord, Hash)]
 pub struct UtcOffset {
@@ -33,7 +36,11 @@ impl UtcOffset {
     pub const UTC: UtcOffset = UtcOffset { seconds: 0 };
 
     /// The offset of these hours, minutes and seconds. The first part that isn't 0 gives its sign to the parts after
-    /// it. It is refused exactly where the hours are past 25, the minutes past 59 or the seconds past 59 in size.
+    /// it.
+    ///
+    /// # Errors
+    ///
+    /// `ComponentRange` exactly where the hours are past 25, the minutes past 59 or the seconds past 59 in size.
     pub fn from_hms(hours: i8, minutes: i8, seconds: i8) -> Result<UtcOffset, ComponentRange>
         ensures accepts { IsOk result ↔ IsOffsetParts hours minutes seconds }
         ensures value { IfOk result (λ offset. offset ≡ offset_at hours minutes seconds) }
@@ -52,7 +59,11 @@ impl UtcOffset {
         })
     }
 
-    /// The offset of that many seconds. It is refused exactly past 93,599 seconds in size.
+    /// The offset of that many seconds.
+    ///
+    /// # Errors
+    ///
+    /// `ComponentRange` exactly where they are past 93,599 in size.
     pub fn from_whole_seconds(seconds: i32) -> Result<UtcOffset, ComponentRange>
         ensures accepts { is_ok result ≡ is_offset seconds }
         ensures value { IfOk result (λ offset. offset ≡ seconds) }
@@ -140,7 +151,7 @@ impl UtcOffset {
 fn is_offset(seconds: i32) -> bool
     ensures { result ≡ is_offset seconds }
 {
-    seconds.unsigned_abs() <= 93_599
+    seconds.unsigned_abs() <= GREATEST_OFFSET
 }
 
 // Whether the first part that isn't 0 is negative.

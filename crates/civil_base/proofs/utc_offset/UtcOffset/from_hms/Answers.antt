@@ -1,6 +1,7 @@
 use Rattle.std.proofs.Common.{rules, arith, ◌≤◌, ◌≡◌, ℕ, ◌+◌, ◌*◌, Bool, ℤ, to_z, of_z, to_z-of_z, FitsSigned, w32, ap, ◌∙◌, unsigned_abs}
 use Rattle.std.proofs.lemmas.Int.{ints}
 use Rattle.civil_base.specs.RangeLaws.{offset_by_size}
+use Rattle.civil_base.specs.Ranges.{greatest_offset}
 use mir.Syntax.{w8}
 use Rattle.civil_base.specs.Offsets.{offset_at, is_first_negative, signed_by}
 use Rattle.civil_base.proofs.utc_offset.UtcOffset.from_hms.Goals as goal
@@ -34,7 +35,7 @@ returns-clause-value c =
 
 pub invariant_of-result : goal.invariant_of-result
 invariant_of-result c =
-    let size : (c.from.result * 60 + c.from-2.result) * 60 + c.from-3.result ≤ 93599 = omega arith in
+    let size : (c.from.result * 60 + c.from-2.result) * 60 + c.from-3.result ≤ greatest_offset = omega arith in
     let fits : FitsSigned w32 c.signed.result = search rules in
     rw (to_z-of_z fits) (offset_by_size c.signed.result (omega (
       arith,
