@@ -1,6 +1,6 @@
 -- Keys that differ: in order they strictly rise.
 use Rattle.std.proofs.Common.{◌≡◌, Bool, true, false, List, [], ◌∷◌, map, cond, refl, sym, ap, ◌∙◌, subst}
-use Rattle.std.specs.Prelude.{T, ◌&&◌}
+use Rattle.std.specs.Prelude.{◌&&◌}
 use Rattle.std.specs.declared.cmp.Ordering.{Ordering}
 use Rattle.std.specs.Cmp.{IsTotalOrder, eq_by_cmp_equiv}
 use Rattle.std.specs.FinMap.{FinMap, keys, entries, entries_sorted, is_sorted}
@@ -10,11 +10,7 @@ use Rattle.std.specs.List.Sorted.{IsStrictlySortedBy, IsSorted}
 use Rattle.std.specs.Ordering.{is_lt, eq_by_cmp}
 use Rattle.std.proofs.lemmas.List.Kept.{IsStrictlySortedBy-dedup}
 use Rattle.std.proofs.lemmas.Map.Keys.{IsDistinct-head, IsDistinct-tail}
-use Rattle.owned.specs.InOrderLaws.{tagged, RisesStrictly}
-
-true_from_T : (b : Bool) → T b → b ≡ true
-true_from_T true h = refl
-true_from_T false h = absurd h
+use Rattle.owned.specs.InOrderLaws.{tagged, RisesStrictly, true_from_T}
 
 below_keys : {K X : Type 0} (R : K → K → Ordering) (x : K) (es : List (K × X))
     → below_all R x es ≡ below_all R x (tagged (map (λ e. e.0) es))

@@ -50,7 +50,7 @@ same_rising {K} {R = R} o same xs ys up-x up-y alike =
 
 -- ---- by std's word
 
-less : (r : Ordering) → is_lt r ≡ true → r ≡ Less
+pub less : (r : Ordering) → is_lt r ≡ true → r ≡ Less
 less Less e = refl
 less Equal e = cc
 less Greater e = cc
@@ -89,7 +89,7 @@ rises-viewed R S view tied (x ∷ xs) h =
 
 -- ---- the word `in_order`
 
-true_from_T : (b : Bool) → T b → b ≡ true
+pub true_from_T : (b : Bool) → T b → b ≡ true
 true_from_T true h = refl
 true_from_T false h = absurd h
 
@@ -114,8 +114,8 @@ pub or_twice : (a b : Bool) → (a || b) ≡ (a || (a || b))
 or_twice true b = refl
 or_twice false b = refl
 
-turned : (a b c : Bool) → (a || (b || c)) ≡ (b || (a || c))
-turned a b c = sym (or_assoc a b c) ∙ ap (λ ab. ab || c) (or_comm a b) ∙ or_assoc b a c
+pub or_turned : (a b c : Bool) → (a || (b || c)) ≡ (b || (a || c))
+or_turned a b c = sym (or_assoc a b c) ∙ ap (λ ab. ab || c) (or_comm a b) ∙ or_assoc b a c
 
 any-insert_key : {K : Type 0} {R : K → K → Ordering} → IsAntisymmetric R → (test : K → Bool) (ks : List K) (k : K)
     → list_any test (insert_key R ks k) ≡ (test k || list_any test ks)
@@ -126,7 +126,7 @@ any-insert_key {R = R} same test (x ∷ xs) k =
     ≡ (test k || (test x || list_any test xs))) [
       | Less ↦ λ _. refl
       | Equal ↦ λ tie. or_twice (test x) (list_any test xs) ∙ ap (λ y. test y || (test x || list_any test xs)) (sym (same k x tie))
-      | Greater ↦ λ _. ap (λ b. test x || b) (any-insert_key same test xs k) ∙ turned (test x) (test k) (list_any test xs)
+      | Greater ↦ λ _. ap (λ b. test x || b) (any-insert_key same test xs k) ∙ or_turned (test x) (test k) (list_any test xs)
     ] refl
 
 -- a test passes at the same items

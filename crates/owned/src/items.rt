@@ -59,7 +59,11 @@ impl<T> Items<T> {
         self.vec.as_slice()
     }
 
-    /// Puts an item at the end. On an error nothing is added.
+    /// Puts an item at the end.
+    ///
+    /// # Errors
+    ///
+    /// Want of memory alone. Nothing is added then.
     pub fn push(&mut self, item: T) -> Result<(), AllocError>
     where
         T: Drop,
@@ -127,8 +131,12 @@ impl<T> Items<T> {
         self.vec.truncate(count);
     }
 
-    /// Sorts by what the closure answers of each item; items with equal answers keep their order. The closure has to answer
-    /// by the item alone. On an error nothing moves.
+    /// Sorts by what the closure answers of each item; items with equal answers keep their order. The closure has to
+    /// answer by the item alone.
+    ///
+    /// # Errors
+    ///
+    /// Want of memory alone. Nothing moves then.
     pub fn sort_by_key<K: Ord, F: FnMut(&T) -> K>(&mut self, key_of: F) -> Result<(), AllocError>
     where
         K: Drop,

@@ -70,6 +70,10 @@ impl<V> TextMap<V> {
     }
 
     /// The keys in the order of their bytes, each once.
+    ///
+    /// # Errors
+    ///
+    /// Want of memory alone.
     pub fn keys(&self, alloc: Global) -> Result<Vec<&str>, AllocError>
         ensures { IfOk result (λ keys. each deref keys.items ≡ map.keys self.now) }
     {
@@ -79,6 +83,10 @@ impl<V> TextMap<V> {
     }
 
     /// The keys, each once, in an order that is left open.
+    ///
+    /// # Errors
+    ///
+    /// Want of memory alone.
     pub fn keys_in_any_order(&self, alloc: Global) -> Result<Vec<&str>, AllocError>
         ensures { IfOk result (λ keys. IsPermutation (map.keys self.now) (each deref keys.items)) }
     {
@@ -96,7 +104,11 @@ impl<V> TextMap<V> {
         self.hashed.values()
     }
 
-    /// Puts a value at a key, in place of one that is there. On an error nothing changes.
+    /// Puts a value at a key, in place of one that is there.
+    ///
+    /// # Errors
+    ///
+    /// Want of memory alone. Nothing changes then.
     pub fn insert(&mut self, alloc: Global, key: &str, value: V) -> Result<(), AllocError>
     where
         V: Drop,
@@ -110,8 +122,11 @@ impl<V> TextMap<V> {
 }
 
 impl<T: Drop> TextMap<Items<T>> {
-    /// Puts an item at the end of the list at a key, which begins with it where there is no such key. On an error nothing
-    /// changes.
+    /// Puts an item at the end of the list at a key, which begins with it where there is no such key.
+    ///
+    /// # Errors
+    ///
+    /// Want of memory alone. Nothing changes then.
     pub fn append(&mut self, alloc: Global, key: &str, item: T) -> Result<(), AllocError>
         ensures ok { OnOk result (self.new ≡ map.insert self.old key.now (unwrap_or (map.get self.old key.now) [] ++ item ∷ [])) }
         ensures err { OnErr result (self.new ≡ self.old) }

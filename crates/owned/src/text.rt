@@ -21,6 +21,10 @@ impl Model for Text {
 
 impl Text {
     /// A copy of the text.
+    ///
+    /// # Errors
+    ///
+    /// Want of memory alone.
     pub fn new(alloc: Global, text: &str) -> Result<Text, AllocError>
         ensures { IfOk result (λ copy. copy ≡ text.now) }
     {
