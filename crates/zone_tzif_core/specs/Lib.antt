@@ -1,11 +1,13 @@
+-- Definitions: what public clauses say.
 pub mod Numbers
 pub mod Zones
 pub mod Format
-pub mod Reading
-pub mod Names
 pub mod Shown
 pub mod Denotes
 pub mod Tzif
+pub mod Totals
+-- Words of private clauses.
+pub mod Reading
+pub mod Names
 pub mod Collected
 pub mod Profile
-pub mod Totals

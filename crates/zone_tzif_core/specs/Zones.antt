@@ -1,5 +1,5 @@
 -- Compiled zones, with texts by their bytes.
-use Rattle.std.specs.Prelude.{ℕ, ℤ, pos, negsuc, int_le, int_lt, Bool, true, ◌&&◌, List, [], ◌∷◌, map}
+use Rattle.std.specs.Prelude.{ℕ, ℤ, pos, neg_ℤ, int_le, int_lt, Bool, true, ◌&&◌, List, [], ◌∷◌, map}
 
 pub record KindValue : Type 0 where
   pub utoff : ℤ
@@ -11,9 +11,14 @@ pub record ZoneValue : Type 0 where
   pub rest : List (ℤ × KindValue)
   pub footer : List ℕ
 
--- at most 93,599 in size
+-- the seconds of the largest offset, 25:59:59: it is civil_base's, with a name of its own here, since these readers of RFC 8536
+-- stand on no other crate
+abbrev pub greatest_utoff : ℕ
+greatest_utoff = 93599
+
+-- at most that in size
 abbrev pub is_small : ℤ → Bool
-is_small x = int_le (negsuc 93598) x && int_le x (pos 93599)
+is_small x = int_le (neg_ℤ (pos greatest_utoff)) x && int_le x (pos greatest_utoff)
 
 -- each is before the next
 abbrev pub go_up : List ℤ → Bool

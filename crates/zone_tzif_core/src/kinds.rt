@@ -18,11 +18,15 @@ pub(crate) struct Record<'a> {
     pub name: &'a str,
 }
 
+// The seconds of the largest offset in size, 25:59:59. It is `civil_base`'s, with a name of its own here: the readers and
+// the writer of RFC 8536 stand on no other crate.
+const GREATEST_UTOFF: i32 = 93_599;
+
 /// Whether an offset is at most 93,599 in size.
 pub fn is_small(utoff: i32) -> bool
     ensures { result ≡ is_small utoff }
 {
-    utoff >= -93_599 && utoff <= 93_599
+    utoff >= -GREATEST_UTOFF && utoff <= GREATEST_UTOFF
 }
 
 /// The kind that a record of six bytes is.

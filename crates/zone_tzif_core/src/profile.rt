@@ -20,7 +20,11 @@ fn is_written(alloc: Global, zone: &TzifZone, bytes: &[u8]) -> Result<bool, Read
     }
 }
 
-/// The zone whose one file, as `write_tzif` writes it, this is. It is refused exactly where it is the file of none.
+/// The zone whose one file, as `write_tzif` writes it, this is.
+///
+/// # Errors
+///
+/// `Refused` exactly where it is the file of none, or `NoMemory`.
 pub fn read_tzif(alloc: Global, bytes: &[u8]) -> Result<TzifZone, ReadFault>
     ensures exact { Reads (IsTzif bytes.now) result }
 {

@@ -62,9 +62,13 @@ fn read_file(alloc: Global, bytes: &[u8]) -> Result<TzifZone, ReadFault>
     }
 }
 
-/// The zone that a file of RFC 8536 denotes, as any compiler writes it, of version 2 to 4 without leap seconds. It is refused
-/// exactly where it denotes none: nothing may follow the footer, times strictly rise, each record has a flag of 0 or 1, an offset
-/// of 93,599 seconds at most to either side and a name that is UTF-8 and ends in a zero byte, and the footer is UTF-8 of one line.
+/// The zone that a file of RFC 8536 denotes, as any compiler writes it, of version 2 to 4 without leap seconds. Nothing
+/// may follow the footer, times strictly rise, each record has a flag of 0 or 1, an offset of 93,599 seconds at most to
+/// either side and a name that is UTF-8 and ends in a zero byte, and the footer is UTF-8 of one line.
+///
+/// # Errors
+///
+/// `Refused` exactly where the file denotes none, or `NoMemory`.
 pub fn read_any(alloc: Global, bytes: &[u8]) -> Result<TzifZone, ReadFault>
     ensures exact { Reads (Denotes bytes.now) result }
 {

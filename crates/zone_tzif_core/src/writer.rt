@@ -160,11 +160,18 @@ fn write_kinds(alloc: Global, zone: &TzifZone, kinds: &[&Kind]) -> Result<Vec<u8
     }
 }
 
-/// The one file of a zone, of version 2 of RFC 8536, or the first cause that refuses it, in the order of `WriteFault`. Its first
-/// block has one kind of zeros and no time. Its second one has each kind once, in order of first use, that of `first` being
-/// number 0, and each name once, in the order of the kinds. Flags and leap seconds it has none.
+/// The one file of a zone, of version 2 of RFC 8536. Its first block has one kind of zeros and no time. Its second one
+/// has each kind once, in order of first use, that of `first` being number 0, and each name once, in the order of the
+/// kinds. Flags and leap seconds it has none.
 ///
 /// What is written is read by both readers as the zone again: this is the file of a value, as the laws speak of it.
+///
+/// # Errors
+///
+/// The first cause that holds, in the order of `WriteFault`: `Times` where the times don't strictly rise or are more
+/// than 4,294,967,295, `Types` where there are more than 256 distinct kinds, `Names` where a name has a zero byte or
+/// the names take more than 256 bytes, `Offset` where an offset is past 93,599 seconds in size, and `Footer` where the
+/// footer has an LF or a zero byte. Or `NoMemory`.
 pub fn write_tzif(alloc: Global, zone: &TzifZone) -> Result<Vec<u8>, WriteFault>
     ensures exact { Writes (λ file. file.items) (zone_shown zone.now) result }
     ensures file { IfOk result (λ file. IsTzif file.items (zone_shown zone.now)) }
