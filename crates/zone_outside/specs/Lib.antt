@@ -1,3 +1,4 @@
+-- Definitions: what public clauses say.
 pub mod Outside
 pub mod Seen
 pub mod Memory

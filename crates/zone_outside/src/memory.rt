@@ -301,6 +301,10 @@ impl Model for MemSink {
 impl MemSink {
     /// A sink with room for `room` bytes, which takes at most `step` of them a write and fails the writes whose numbers
     /// are listed.
+    ///
+    /// # Errors
+    ///
+    /// Want of memory for `room` bytes alone.
     pub fn new(
         alloc: Global,
         room: usize,

@@ -26,8 +26,11 @@ pub trait Source {
     /// The names that a shelf may be asked for. No call changes it.
     ghost open_to: { Self → List ℕ → Type 0 } = { λ _ _. Unit {0} };
 
-    /// Puts the next bytes at the front of the buffer and answers how many; 0 only at the end. After `Failed` what is
-    /// left and what was given are as before.
+    /// Puts the next bytes at the front of the buffer and answers how many; 0 only at the end.
+    ///
+    /// # Errors
+    ///
+    /// `Failed` where the call is refused. What is left and what was given are then as before.
     fn read(&mut self, into: &mut [u8]) -> Result<usize, Failed>
         requires { 0 < length into.old }
         ensures bound { IfOk result (λ n. n ≤ length into.old) }
@@ -39,7 +42,11 @@ pub trait Source {
 
 /// Texts by name: `fetch` chooses one, and the reads give its bytes.
 pub trait Shelf: Source {
-    /// Begins the text of that name. A missing name is a fault. After `Failed` what is left is as before.
+    /// Begins the text of that name.
+    ///
+    /// # Errors
+    ///
+    /// `Failed` where the call is refused, as it is at a missing name. What is left is then as before.
     fn fetch(&mut self, name: &str) -> Result<(), Failed>
         requires { Self.open_to self.old name.now }
         ensures bytes { Fetches (Self.told self.old name.now) (Self.left self.old) (Self.left self.new) result }
@@ -56,7 +63,11 @@ pub trait Sink {
     /// How often it has failed, up to the last value of the count.
     ghost faults: { Self → ℕ };
 
-    /// Takes the first bytes of the piece, at least one, and answers how many. After `Failed` what is taken is as before.
+    /// Takes the first bytes of the piece, at least one, and answers how many.
+    ///
+    /// # Errors
+    ///
+    /// `Failed` where the call is refused. What is taken is then as before.
     fn write(&mut self, piece: &[u8]) -> Result<usize, Failed>
         requires { 0 < length piece.now }
         ensures some { IfOk result (λ n. 0 < n) }

@@ -39,8 +39,10 @@ impl From<outside::Failed> for ReadEnd {
 
 /// Reads the source to its end, for at most 16,777,216 bytes.
 ///
-/// `Failed` comes where a read fails, and `TooLong` as soon as more than the limit was given. What was given before a
-/// refusal is gone from the source.
+/// # Errors
+///
+/// `Failed` where a read fails, `TooLong` as soon as more than 16,777,216 bytes were given, and `NoMemory`. What was
+/// given before a refusal is gone from the source.
 pub fn read_all<S: Source>(alloc: Global, source: &mut S) -> Result<Vec<u8>, ReadEnd>
     ensures bytes { IfOk result (λ bytes. IfSome (S.left source.old) (λ left. (bytes.items ≡ left) × (S.left source.new ≡ Some []))) }
     ensures within { IfOk result (λ bytes. length bytes.items ≤ LIMIT) }
@@ -67,8 +69,11 @@ pub fn read_all<S: Source>(alloc: Global, source: &mut S) -> Result<Vec<u8>, Rea
 
 /// Reads the whole text of a name, of at most 16,777,216 bytes.
 ///
-/// `Failed` comes where the name can't be fetched or a read fails, and `TooLong` as soon as more than the limit was
-/// given. After a refusal the shelf may have given a first part of the text, or still have what was left before.
+/// # Errors
+///
+/// `Failed` where the name can't be fetched or a read fails, `TooLong` as soon as more than 16,777,216 bytes were
+/// given, and `NoMemory`. After a refusal the shelf may have given a first part of the text, or still have what was
+/// left before.
 pub fn fetch_all<H: Shelf>(alloc: Global, shelf: &mut H, name: &str) -> Result<Vec<u8>, ReadEnd>
     requires { H.open_to shelf.old name.now }
     ensures names { KeepsNames (H.told shelf.old) (H.told shelf.new) (H.open_to shelf.old) (H.open_to shelf.new) }
@@ -85,7 +90,11 @@ pub fn fetch_all<H: Shelf>(alloc: Global, shelf: &mut H, name: &str) -> Result<V
     read_all(alloc, shelf)
 }
 
-/// Writes these bytes to their end; after `Failed` some first part of them was taken.
+/// Writes these bytes to their end.
+///
+/// # Errors
+///
+/// `Failed` where a write fails; some first part of the bytes was then taken.
 pub fn write_all<O: Sink>(sink: &mut O, bytes: &[u8]) -> Result<(), outside::Failed>
     ensures ok { OnOk result (IfSome (O.taken sink.old) (λ had. O.taken sink.new ≡ Some (had ++ bytes.now))) }
     ensures later { O.faults sink.old ≤ O.faults sink.new }
