@@ -43,6 +43,7 @@ use Rattle.std.specs.Char.{is_ascii_digit}
 use Rattle.std.specs.Option.{option_map_or, ok_or}
 use Rattle.std.specs.Str.Parse.{without_leading_sign, signed_digits_value}
 use Rattle.std.proofs.lemmas.Int.{ints}
+use Rattle.std.proofs.lemmas.Bool.{and_from}
 use Rattle.std.proofs.lemmas.Grind.{common_steps}
 use lib.Signed.{mag}
 use Rattle.zone_values.specs.Bounds.{
@@ -92,7 +93,7 @@ use Rattle.zone_line.specs.LineValues.{
 use Rattle.zone_values.specs.Numbers.{is_numeral, signed_in}
 use Rattle.zone_line.specs.Digits.{two_digits, digit_of}
 use Rattle.zone_line.specs.Options.{first_some}
-use Rattle.zone_line.specs.Results as results
+use Rattle.zone_values.specs.Results as results
 use Rattle.zone_values.specs.Seconds.{seconds_of, with_type}
 use Rattle.zone_line.specs.Times.{no_time, hours_alone, is_bare, signed, clock_type, clock_time, time_of, if_wall, if_by_wall}
 use Rattle.zone_values.specs.Values.{SavingValue, InfoValue, RuleValue, LineValue}
@@ -313,10 +314,6 @@ day_field-passes text = ok_either Numbered (is_numeral text) _ _
 abbrev Bounded : ChangeTime → Type 0
 Bounded end = IsTrue (is_bounded_end end)
 
-both : (a b : Bool) → IsTrue a → IsTrue b → IsTrue (a && b)
-both true b first second = second
-both false b first second = first
-
 until-bounded : (year : List ℕ) (month day time : Option (List ℕ)) → IfOk (until year month day time) Bounded
 unfolding until
 until-bounded year None day time = onward Any Bounded (year_field year) _ (any_ok (year_field year)) (λ y _. refl)
@@ -326,12 +323,12 @@ until-bounded year (Some month) None time =
 until-bounded year (Some month) (Some day) None =
     onward Any Bounded (year_field year) _ (any_ok (year_field year)) (λ y _.
     onward Any Bounded (month_field month) _ (any_ok (month_field month)) (λ m _.
-    onward Numbered Bounded (day_field day) _ (day_field-passes day) (λ d numbered. both (has_day_of_month d) true numbered refl)))
+    onward Numbered Bounded (day_field day) _ (day_field-passes day) (λ d numbered. and_from (has_day_of_month d) true numbered refl)))
 until-bounded year (Some month) (Some day) (Some time) =
     onward Any Bounded (year_field year) _ (any_ok (year_field year)) (λ y _.
     onward Any Bounded (month_field month) _ (any_ok (month_field month)) (λ m _.
     onward Numbered Bounded (day_field day) _ (day_field-passes day) (λ d numbered.
-    onward Timed Bounded (time_field time) _ (time_field-small time) (λ t small. both (has_day_of_month d) _ numbered small))))
+    onward Timed Bounded (time_field time) _ (time_field-small time) (λ t small. and_from (has_day_of_month d) _ numbered small))))
 
 -- lines
 abbrev BoundedSaving : SavingValue → Type 0
@@ -383,7 +380,7 @@ info_of-bounded line columns =
     onward HasSmallSeconds BoundedInfo (wall_field columns.gmtoff) _ (wall_field-small columns.gmtoff) (λ offset small.
     onward BoundedSaving BoundedInfo (saving_field columns.rules) _ (saving_field-bounded columns.rules) (λ saving held.
     onward BoundedEnd BoundedInfo (end_of line columns) _ (end_of-bounded line columns) (λ end bounded.
-    both _ _ (both _ _ small held) bounded)))
+    and_from _ _ (and_from _ _ small held) bounded)))
 
 rule_of-bounded : (columns : RuleTexts) → IfOk (rule_of columns) BoundedRule
 unfolding rule_of
@@ -395,7 +392,7 @@ rule_of-bounded columns =
     onward Numbered BoundedRule (day_field columns.on) _ (day_field-passes columns.on) (λ day numbered.
     onward Timed BoundedRule (time_field columns.at) _ (time_field-small columns.at) (λ time small.
     onward HasSmallSeconds BoundedRule (wall_field columns.save) _ (wall_field-small columns.save) (λ saving added.
-    both _ _ (both _ _ numbered small) added)))))))
+    and_from _ _ (and_from _ _ numbered small) added)))))))
 
 kind-bounded : (line : List ℕ) (k : LineKind) → IfOk (value_of_kind line k) (λ v. IsTrue (is_bounded_line v))
 unfolding value_of_kind

@@ -16,7 +16,7 @@ use Rattle.zone_line.specs.DayColumns.{DayTexts}
 use Rattle.zone_line.specs.Fields.{to_field, type_field, day_field, time_field, wall_field, sided_day, day_of_month}
 use Rattle.zone_line.specs.LineValues.{one_off_of, saving_field, until, end_of, info_of, rule_of}
 use Rattle.zone_line.specs.Options.{first_some}
-use Rattle.zone_line.specs.Results as results
+use Rattle.zone_values.specs.Results as results
 use Rattle.zone_line.specs.Times.{no_time, hours_alone, clock_time, clock_type, if_wall, time_of}
 
 abbrev fault_in : {A : Type 0} → Result A Fault → Option Fault

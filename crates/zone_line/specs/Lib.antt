@@ -1,3 +1,4 @@
+-- Definitions: what public clauses say.
 pub use Rattle.zone_values.specs.Bounds
 pub use Rattle.zone_values.specs.Days
 pub use Rattle.zone_values.specs.Ends
@@ -5,6 +6,7 @@ pub use Rattle.zone_values.specs.Faults
 pub use Rattle.zone_values.specs.Months
 pub use Rattle.zone_values.specs.Names
 pub use Rattle.zone_values.specs.Numbers
+pub use Rattle.zone_values.specs.Results
 pub use Rattle.zone_values.specs.Seconds
 pub use Rattle.zone_values.specs.Values
 pub use Rattle.zone_values.specs.Weekdays
@@ -12,13 +14,13 @@ pub use Rattle.zone_values.specs.Years
 pub mod Texts
 pub mod Patterns
 pub mod Options
-pub mod Results
 pub mod Columns
 pub mod Clocks
 pub mod DayColumns
 pub mod Kinds
-mod Shown
 pub mod Digits
 pub mod Times
 pub mod Fields
 pub mod LineValues
+-- Words of private clauses.
+mod Shown

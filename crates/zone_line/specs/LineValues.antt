@@ -8,7 +8,7 @@ use Rattle.zone_values.specs.declared.fault.FaultKind.TheVariants.{
   InvalidTimeSpecAndType,
   NonWallClockInTimeSpec,
 }
-use Rattle.zone_line.specs.Results.{◌>>=◌}
+use Rattle.zone_values.specs.Results.{◌>>=◌}
 use Rattle.zone_line.specs.Columns.{InfoTexts, RuleTexts}
 use Rattle.zone_values.specs.Seconds.{with_type}
 use Rattle.zone_line.specs.Clocks.{ClockTexts, minute_clock}

@@ -1,11 +1,6 @@
 //! The texts of the columns of a line.
-ghost use Rattle.std.specs.Prelude.{◌≡◌, option_map};
-ghost use Rattle.zone_line.specs.Columns.{rule_columns_of, link_columns_of};
-ghost use Rattle.zone_line.specs.DayColumns.{day_columns_of};
-ghost use Rattle.zone_line.specs.Columns.{zone_columns_of, info_columns_of};
-ghost use Rattle.zone_line.specs.Clocks.{minute_clock_of, second_clock_of};
+ghost use Rattle.std.specs.Prelude.{◌≡◌, ℕ, List, Option, option_map};
 ghost use Rattle.zone_line.specs.Patterns.{captured};
-ghost use Rattle.zone_line.specs.Shown.{rule_shown, link_shown, day_shown, zone_shown, info_shown, clock_shown};
 
 use crate::patterns::part;
 use regex::Captures;
@@ -68,8 +63,17 @@ pub(crate) struct ClockColumns<'a> {
     pub flag: Option<&'a str>,
 }
 
+/// The parts of a time of hours and minutes.
+#[derive(Clone, Copy)]
+pub(crate) struct MinuteClock<'a>(pub ClockColumns<'a>);
+
+/// The parts of a time of hours, minutes and seconds.
+#[derive(Clone, Copy)]
+pub(crate) struct SecondClock<'a>(pub ClockColumns<'a>);
+
 impl InfoColumns<'_> {
     ghost use Rattle.zone_line.specs.LineValues.{has_yearless_end};
+    ghost use Rattle.zone_line.specs.Shown.{info_shown};
 
     /// Whether some column of an end is there, beside the year.
     pub(crate) fn has_yearless_end(&self) -> bool
@@ -79,98 +83,170 @@ impl InfoColumns<'_> {
     }
 }
 
-/// The columns that the captures of a Zone line show.
-#[tactic(auto, unfolding(crate::specs::Columns::zone_columns_of))]
-pub(crate) fn zone_columns_of<'a>(captures: &Captures<'_, 'a>) -> Option<ZoneColumns<'a>>
-    ensures { option_map zone_shown result ≡ zone_columns_of (captured captures.now) }
-{
-    Some(ZoneColumns {
-        name: part(captures, "name")?,
-        info: info_columns_of(captures)?,
-    })
+/// What the named groups of a pattern take of a line.
+pub(crate) trait Columns<'a>: Sized {
+    /// The texts.
+    ghost Texts: { Type 0 };
+
+    /// The texts that the columns show.
+    ghost shown: { Self → Texts };
+
+    /// The texts from the parts that the groups take, by their names.
+    ghost texts_of: { (List ℕ → Option (List ℕ)) → Option Texts };
+
+    /// The columns that the captures of a match show.
+    fn of(captures: &Captures<'_, 'a>) -> Option<Self>
+        ensures { option_map shown result ≡ texts_of (captured captures.now) };
 }
 
-/// The columns that the captures of a Zone line or a continuation show.
-#[tactic(auto, unfolding(crate::specs::Columns::info_columns_of))]
-pub(crate) fn info_columns_of<'a>(captures: &Captures<'_, 'a>) -> Option<InfoColumns<'a>>
-    ensures { option_map info_shown result ≡ info_columns_of (captured captures.now) }
-{
-    Some(InfoColumns {
-        gmtoff: part(captures, "gmtoff")?,
-        rules: part(captures, "rulessave")?,
-        format: part(captures, "format")?,
-        year: part(captures, "year"),
-        month: part(captures, "month"),
-        day: part(captures, "day"),
-        time: part(captures, "time"),
-    })
+impl<'a> Columns<'a> for ZoneColumns<'a> {
+    ghost use Rattle.zone_line.specs.Columns.{ZoneTexts, zone_columns_of};
+    ghost use Rattle.zone_line.specs.Shown.{zone_shown};
+
+    ghost Texts = { ZoneTexts };
+
+    ghost shown = { zone_shown };
+
+    ghost texts_of = { zone_columns_of };
+
+    #[tactic(auto, unfolding(crate::specs::Columns::zone_columns_of))]
+    fn of(captures: &Captures<'_, 'a>) -> Option<ZoneColumns<'a>> {
+        Some(ZoneColumns {
+            name: part(captures, "name")?,
+            info: InfoColumns::of(captures)?,
+        })
+    }
 }
 
-/// The columns that the captures of a Rule line show.
-#[tactic(auto, unfolding(crate::specs::Columns::rule_columns_of))]
-pub(crate) fn rule_columns_of<'a>(captures: &Captures<'_, 'a>) -> Option<RuleColumns<'a>>
-    ensures { option_map rule_shown result ≡ rule_columns_of (captured captures.now) }
-{
-    Some(RuleColumns {
-        name: part(captures, "name")?,
-        from: part(captures, "from")?,
-        to: part(captures, "to")?,
-        kind: part(captures, "type")?,
-        month: part(captures, "in")?,
-        on: part(captures, "on")?,
-        at: part(captures, "at")?,
-        save: part(captures, "save")?,
-        letters: part(captures, "letters")?,
-    })
+impl<'a> Columns<'a> for InfoColumns<'a> {
+    ghost use Rattle.zone_line.specs.Columns.{InfoTexts, info_columns_of};
+    ghost use Rattle.zone_line.specs.Shown.{info_shown};
+
+    ghost Texts = { InfoTexts };
+
+    ghost shown = { info_shown };
+
+    ghost texts_of = { info_columns_of };
+
+    #[tactic(auto, unfolding(crate::specs::Columns::info_columns_of))]
+    fn of(captures: &Captures<'_, 'a>) -> Option<InfoColumns<'a>> {
+        Some(InfoColumns {
+            gmtoff: part(captures, "gmtoff")?,
+            rules: part(captures, "rulessave")?,
+            format: part(captures, "format")?,
+            year: part(captures, "year"),
+            month: part(captures, "month"),
+            day: part(captures, "day"),
+            time: part(captures, "time"),
+        })
+    }
 }
 
-/// The columns that the captures of a Link line show.
-#[tactic(auto, unfolding(crate::specs::Columns::link_columns_of))]
-pub(crate) fn link_columns_of<'a>(captures: &Captures<'_, 'a>) -> Option<LinkColumns<'a>>
-    ensures { option_map link_shown result ≡ link_columns_of (captured captures.now) }
-{
-    Some(LinkColumns {
-        target: part(captures, "target")?,
-        name: part(captures, "name")?,
-    })
+impl<'a> Columns<'a> for RuleColumns<'a> {
+    ghost use Rattle.zone_line.specs.Columns.{RuleTexts, rule_columns_of};
+    ghost use Rattle.zone_line.specs.Shown.{rule_shown};
+
+    ghost Texts = { RuleTexts };
+
+    ghost shown = { rule_shown };
+
+    ghost texts_of = { rule_columns_of };
+
+    #[tactic(auto, unfolding(crate::specs::Columns::rule_columns_of))]
+    fn of(captures: &Captures<'_, 'a>) -> Option<RuleColumns<'a>> {
+        Some(RuleColumns {
+            name: part(captures, "name")?,
+            from: part(captures, "from")?,
+            to: part(captures, "to")?,
+            kind: part(captures, "type")?,
+            month: part(captures, "in")?,
+            on: part(captures, "on")?,
+            at: part(captures, "at")?,
+            save: part(captures, "save")?,
+            letters: part(captures, "letters")?,
+        })
+    }
 }
 
-/// The parts that the captures of a day on one side of a number show.
-#[tactic(auto, unfolding(crate::specs::DayColumns::day_columns_of))]
-pub(crate) fn day_columns_of<'a>(captures: &Captures<'_, 'a>) -> Option<DayColumns<'a>>
-    ensures { option_map day_shown result ≡ day_columns_of (captured captures.now) }
-{
-    Some(DayColumns {
-        weekday: part(captures, "weekday")?,
-        sign: part(captures, "sign")?,
-        day: part(captures, "day")?,
-    })
+impl<'a> Columns<'a> for LinkColumns<'a> {
+    ghost use Rattle.zone_line.specs.Columns.{LinkTexts, link_columns_of};
+    ghost use Rattle.zone_line.specs.Shown.{link_shown};
+
+    ghost Texts = { LinkTexts };
+
+    ghost shown = { link_shown };
+
+    ghost texts_of = { link_columns_of };
+
+    #[tactic(auto, unfolding(crate::specs::Columns::link_columns_of))]
+    fn of(captures: &Captures<'_, 'a>) -> Option<LinkColumns<'a>> {
+        Some(LinkColumns {
+            target: part(captures, "target")?,
+            name: part(captures, "name")?,
+        })
+    }
 }
 
-/// The parts that the captures of hours and minutes show.
-#[tactic(auto, unfolding(crate::specs::Clocks::minute_clock_of))]
-pub(crate) fn minute_clock_of<'a>(captures: &Captures<'_, 'a>) -> Option<ClockColumns<'a>>
-    ensures { option_map clock_shown result ≡ minute_clock_of (captured captures.now) }
-{
-    Some(ClockColumns {
-        sign: part(captures, "sign")?,
-        hour: part(captures, "hour")?,
-        minute: part(captures, "minute")?,
-        second: None,
-        flag: part(captures, "flag"),
-    })
+impl<'a> Columns<'a> for DayColumns<'a> {
+    ghost use Rattle.zone_line.specs.DayColumns.{DayTexts, day_columns_of};
+    ghost use Rattle.zone_line.specs.Shown.{day_shown};
+
+    ghost Texts = { DayTexts };
+
+    ghost shown = { day_shown };
+
+    ghost texts_of = { day_columns_of };
+
+    #[tactic(auto, unfolding(crate::specs::DayColumns::day_columns_of))]
+    fn of(captures: &Captures<'_, 'a>) -> Option<DayColumns<'a>> {
+        Some(DayColumns {
+            weekday: part(captures, "weekday")?,
+            sign: part(captures, "sign")?,
+            day: part(captures, "day")?,
+        })
+    }
 }
 
-/// The parts that the captures of hours, minutes and seconds show.
-#[tactic(auto, unfolding(crate::specs::Clocks::second_clock_of))]
-pub(crate) fn second_clock_of<'a>(captures: &Captures<'_, 'a>) -> Option<ClockColumns<'a>>
-    ensures { option_map clock_shown result ≡ second_clock_of (captured captures.now) }
-{
-    Some(ClockColumns {
-        sign: part(captures, "sign")?,
-        hour: part(captures, "hour")?,
-        minute: part(captures, "minute")?,
-        second: Some(part(captures, "second")?),
-        flag: part(captures, "flag"),
-    })
+impl<'a> Columns<'a> for MinuteClock<'a> {
+    ghost use Rattle.zone_line.specs.Clocks.{ClockTexts, minute_clock_of};
+    ghost use Rattle.zone_line.specs.Shown.{clock_shown};
+
+    ghost Texts = { ClockTexts };
+
+    ghost shown = { λ clock. clock_shown clock.0 };
+
+    ghost texts_of = { minute_clock_of };
+
+    #[tactic(auto, unfolding(crate::specs::Clocks::minute_clock_of))]
+    fn of(captures: &Captures<'_, 'a>) -> Option<MinuteClock<'a>> {
+        Some(MinuteClock(ClockColumns {
+            sign: part(captures, "sign")?,
+            hour: part(captures, "hour")?,
+            minute: part(captures, "minute")?,
+            second: None,
+            flag: part(captures, "flag"),
+        }))
+    }
+}
+
+impl<'a> Columns<'a> for SecondClock<'a> {
+    ghost use Rattle.zone_line.specs.Clocks.{ClockTexts, second_clock_of};
+    ghost use Rattle.zone_line.specs.Shown.{clock_shown};
+
+    ghost Texts = { ClockTexts };
+
+    ghost shown = { λ clock. clock_shown clock.0 };
+
+    ghost texts_of = { second_clock_of };
+
+    #[tactic(auto, unfolding(crate::specs::Clocks::second_clock_of))]
+    fn of(captures: &Captures<'_, 'a>) -> Option<SecondClock<'a>> {
+        Some(SecondClock(ClockColumns {
+            sign: part(captures, "sign")?,
+            hour: part(captures, "hour")?,
+            minute: part(captures, "minute")?,
+            second: Some(part(captures, "second")?),
+            flag: part(captures, "flag"),
+        }))
+    }
 }

@@ -51,8 +51,16 @@ impl LineParser {
     ghost use Rattle.zone_line.specs.LineValues.{value};
     ghost use Rattle.zone_values.specs.Values.{line_value};
 
-    /// Compiles the patterns. `NotBuilt` comes where the crate `regex` refuses one of them or memory
-    /// runs out.
+    /// Compiles the patterns of the lines and of their columns, all of them. That each is the one
+    /// of its text in `specs/Texts.antt` is kept by the ghost fields of `LineParser`, so this needs
+    /// no clause: from then on `parse_str` reads each line as `value` says, by its own clauses.
+    ///
+    /// # Errors
+    ///
+    /// `NotBuilt` where the crate `regex` refuses a pattern or memory runs out. Which refusals of a
+    /// text that crate can give stands in the clauses of `Regex::new`, by the words of its
+    /// `specs/Sources.antt` and `specs/Failures.antt`. The patterns are always the same texts, so
+    /// what can differ from one call to the next is the memory alone.
     pub fn new(alloc: Global) -> Result<LineParser, NotBuilt> {
         Ok(LineParser {
             empty: compile(alloc, texts::EMPTY)?,
@@ -67,18 +75,25 @@ impl LineParser {
     }
 
     /// What reads lines with matchers that are made once. A caller that goes over a whole text
-    /// uses one reader. Only want of memory is an error.
+    /// uses one reader.
+    ///
+    /// # Errors
+    ///
+    /// Want of memory alone.
     pub fn reader(&self, alloc: Global) -> Result<LineReader<'_>, AllocError> {
         LineReader::new(alloc, self)
     }
 
     /// Reads one line. Its kind is that of the first pattern that matches: blank, Zone,
     /// continuation, Rule, Link. Its columns are then read in order: of a rule FROM, TO, TYPE, IN,
-    /// ON, AT and SAVE; of a zone line GMTOFF, RULES and the end's year, month, day and time. The
-    /// first that has no value is the error. A line of no kind is `InvalidLineType`, and so, after
-    /// RULES, is one whose end has no year. Columns of an end after one that is missing are not
-    /// read. Each day number in a line that is read is from 1 to 31, and each amount of time in it
-    /// at most 1,000,000 seconds.
+    /// ON, AT and SAVE; of a zone line GMTOFF, RULES and the end's year, month, day and time.
+    /// Columns of an end after one that is missing are not read. Each day number in a line that is
+    /// read is from 1 to 31, and each amount of time in it at most 1,000,000 seconds.
+    ///
+    /// # Errors
+    ///
+    /// That of the first column that has no value. A line of no kind is `InvalidLineType`, and so,
+    /// after RULES, is one whose end has no year. `NoMemory` where memory runs out.
     pub fn parse_str<'a>(&self, alloc: Global, input: &'a str) -> Result<Line<'a>, Error>
         ensures value { Tells line_value result (value input.now) }
         ensures bounded { IfOk result (λ line. IsTrue (is_bounded_line (line_value line))) }

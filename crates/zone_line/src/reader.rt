@@ -16,13 +16,12 @@ mod lines;
 mod matched_fields;
 
 use crate::columns::{
-    ClockColumns, DayColumns, InfoColumns, LinkColumns, RuleColumns, ZoneColumns,
+    ClockColumns, DayColumns, InfoColumns, LinkColumns, MinuteClock, RuleColumns, SecondClock,
+    ZoneColumns,
 };
 use crate::parser::LineParser;
 use crate::patterns::matcher;
-use crate::searches::{
-    day_columns, info_columns, link_columns, minute_clock, rule_columns, second_clock, zone_columns,
-};
+use crate::searches::found;
 use regex::Matcher;
 use std::alloc::{AllocError, Global};
 
@@ -88,7 +87,7 @@ impl<'p> LineReader<'p> {
     pub(crate) fn zone_columns<'a>(&mut self, line: &'a str) -> Option<ZoneColumns<'a>>
         ensures { option_map zone_shown result ≡ zone_columns line.now }
     {
-        zone_columns(&mut self.zone, line)
+        found(&mut self.zone, line)
     }
 
     /// The columns of a continuation.
@@ -96,7 +95,7 @@ impl<'p> LineReader<'p> {
     pub(crate) fn continuation_columns<'a>(&mut self, line: &'a str) -> Option<InfoColumns<'a>>
         ensures { option_map info_shown result ≡ continuation_columns line.now }
     {
-        info_columns(&mut self.continuation, line)
+        found(&mut self.continuation, line)
     }
 
     /// The columns of a Rule line.
@@ -104,7 +103,7 @@ impl<'p> LineReader<'p> {
     pub(crate) fn rule_columns<'a>(&mut self, line: &'a str) -> Option<RuleColumns<'a>>
         ensures { option_map rule_shown result ≡ rule_columns line.now }
     {
-        rule_columns(&mut self.rule, line)
+        found(&mut self.rule, line)
     }
 
     /// The columns of a Link line.
@@ -112,7 +111,7 @@ impl<'p> LineReader<'p> {
     pub(crate) fn link_columns<'a>(&mut self, line: &'a str) -> Option<LinkColumns<'a>>
         ensures { option_map link_shown result ≡ link_columns line.now }
     {
-        link_columns(&mut self.link, line)
+        found(&mut self.link, line)
     }
 
     /// The parts of a day on one side of a number.
@@ -120,7 +119,7 @@ impl<'p> LineReader<'p> {
     pub(crate) fn day_columns<'a>(&mut self, text: &'a str) -> Option<DayColumns<'a>>
         ensures { option_map day_shown result ≡ day_columns text.now }
     {
-        day_columns(&mut self.day, text)
+        found(&mut self.day, text)
     }
 
     /// The parts of hours and minutes.
@@ -128,7 +127,8 @@ impl<'p> LineReader<'p> {
     pub(crate) fn minute_clock<'a>(&mut self, text: &'a str) -> Option<ClockColumns<'a>>
         ensures { option_map clock_shown result ≡ minute_clock text.now }
     {
-        minute_clock(&mut self.hm, text)
+        let found: MinuteClock<'a> = found(&mut self.hm, text)?;
+        Some(found.0)
     }
 
     /// The parts of hours, minutes and seconds.
@@ -136,6 +136,7 @@ impl<'p> LineReader<'p> {
     pub(crate) fn second_clock<'a>(&mut self, text: &'a str) -> Option<ClockColumns<'a>>
         ensures { option_map clock_shown result ≡ second_clock text.now }
     {
-        second_clock(&mut self.hms, text)
+        let found: SecondClock<'a> = found(&mut self.hms, text)?;
+        Some(found.0)
     }
 }

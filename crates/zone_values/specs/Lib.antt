@@ -12,6 +12,7 @@ pub mod Ends
 pub mod Bounds
 pub mod Results
 -- Laws: what a caller may use.
+pub use Rattle.calendar.specs.LogicLaws
 pub mod NumberLaws
 pub mod SameLaws
 pub mod WeekdayLaws

@@ -1,6 +1,7 @@
 -- Values that are found to be the same by `==` are one value.
-use Rattle.std.proofs.Common.{◌≡◌, ℕ, List, true, false, ◌&&◌, ap, rules, bytes_eq}
+use Rattle.std.proofs.Common.{◌≡◌, ℕ, List, true, ◌&&◌, ap, rules, bytes_eq}
 use Rattle.std.proofs.lemmas.Bool.{and_parts}
+use Rattle.calendar.specs.LogicLaws.{no_case}
 use Rattle.zone_values.specs.contracts.change.ChangeTimePartialEq.TheImpl as of_end
 use Rattle.zone_values.specs.contracts.day.DaySpecPartialEq.TheImpl as of_day
 use Rattle.zone_values.specs.contracts.month.MonthPartialEq.TheImpl as of_month
@@ -17,9 +18,6 @@ use Rattle.zone_values.specs.declared.time.TimeSpec.TheVariants.{Hours, HoursMin
 use Rattle.zone_values.specs.declared.time.TimeSpecAndType.{TimeSpecAndType}
 use Rattle.zone_values.specs.declared.time.TimeType.{TimeType}
 use Rattle.zone_values.specs.declared.year.Year.{Year}
-
-pub no_case : {A : Type 0} → false ≡ true → A
-no_case h = search rules
 
 pub text_is : (a b : List ℕ) → bytes_eq a b ≡ true → a ≡ b
 text_is a b h = search rules

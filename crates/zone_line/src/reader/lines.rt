@@ -19,6 +19,10 @@ impl LineReader<'_> {
     ghost use Rattle.zone_line.specs.Shown.{info_shown, rule_shown, zone_shown, kind_shown};
 
     /// Reads one line, as `LineParser::parse_str` does.
+    ///
+    /// # Errors
+    ///
+    /// Those of `LineParser::parse_str`.
     pub fn parse_str<'a>(&mut self, alloc: Global, input: &'a str) -> Result<Line<'a>, Error>
         ensures value { Tells line_value result (value input.now) }
         ensures bounded { IfOk result (λ line. IsTrue (is_bounded_line (line_value line))) }

@@ -1,7 +1,7 @@
 //! The columns of a line that take a pattern: times, days and the RULES column.
 ghost use Rattle.std.specs.Prelude.{◌≡◌, option_map};
 ghost use Rattle.zone_values.specs.Faults.{told};
-ghost use Rattle.zone_line.specs.Fields.{sided_day, last_weekday};
+ghost use Rattle.zone_line.specs.Fields.{sided, sided_day, last_weekday};
 ghost use Rattle.zone_line.specs.LineValues.{one_off_of};
 ghost use Rattle.zone_values.specs.Values.{saving_value};
 ghost use Rattle.zone_line.specs.Shown.{clock_shown, day_shown};
@@ -11,7 +11,9 @@ use crate::fields::{after_last, day_numbered, day_of_month, is_ruleset_name};
 use crate::number::is_numeral;
 use crate::reader::LineReader;
 use crate::time_texts::{clock_time, clock_type, hours_alone, if_wall, no_time};
-use zone_values::{DaySpec, Fault, FaultKind, Saving, TimeSpec, TimeSpecAndType, Weekday};
+use zone_values::{
+    DaySpec, Fault, FaultKind, Saving, TimeSpec, TimeSpecAndType, Weekday, value_or_fault,
+};
 
 impl LineReader<'_> {
     ghost use Rattle.zone_line.specs.Clocks.{clock_in};
@@ -51,13 +53,7 @@ impl LineReader<'_> {
     pub(crate) fn time_field<'a>(&mut self, text: &'a str) -> Result<TimeSpecAndType, Fault<'a>>
         ensures { told (λ time. time) result ≡ time_field text.now }
     {
-        match self.time(text) {
-            Some(time) => Ok(time),
-            None => Err(Fault {
-                kind: FaultKind::InvalidTimeSpecAndType,
-                text,
-            }),
-        }
+        value_or_fault(self.time(text), FaultKind::InvalidTimeSpecAndType, text)
     }
 
     /// A time that has to be the wall's.
@@ -66,13 +62,7 @@ impl LineReader<'_> {
         ensures { told (λ time. time) result ≡ wall_field text.now }
     {
         let time = self.time_field(text)?;
-        match if_wall(time) {
-            Some(time) => Ok(time),
-            None => Err(Fault {
-                kind: FaultKind::NonWallClockInTimeSpec,
-                text,
-            }),
-        }
+        value_or_fault(if_wall(time), FaultKind::NonWallClockInTimeSpec, text)
     }
 
     /// The RULES column: a hyphen, the name of a ruleset, or an amount of time.
@@ -127,19 +117,10 @@ impl LineReader<'_> {
 fn one_off<'a>(text: &'a str, parts: &ClockColumns<'a>) -> Result<Saving<'a>, Fault<'a>>
     ensures { told saving_value result ≡ one_off_of text.now (clock_shown parts.now) }
 {
-    let Some(time) = clock_time(parts) else {
-        return Err(Fault {
-            kind: FaultKind::InvalidTimeSpecAndType,
-            text,
-        });
-    };
-    match if_wall(time.with_type(clock_type(parts.flag))) {
-        Some(amount) => Ok(Saving::OneOff(amount)),
-        None => Err(Fault {
-            kind: FaultKind::NonWallClockInTimeSpec,
-            text,
-        }),
-    }
+    let time = value_or_fault(clock_time(parts), FaultKind::InvalidTimeSpecAndType, text)?;
+    let amount = if_wall(time.with_type(clock_type(parts.flag)));
+    let amount = value_or_fault(amount, FaultKind::NonWallClockInTimeSpec, text)?;
+    Ok(Saving::OneOff(amount))
 }
 
 /// The last such weekday of a month.
@@ -157,12 +138,17 @@ fn sided_day<'a>(text: &'a str, columns: &DayColumns<'a>) -> Result<DaySpec, Fau
     ensures { told (λ day. day) result ≡ sided_day text.now (day_shown columns.now) }
 {
     let weekday = Weekday::read(columns.weekday)?;
-    match day_of_month(columns.day) {
-        Some(number) if columns.sign == "<=" => Ok(DaySpec::LastOnOrBefore(weekday, number)),
-        Some(number) => Ok(DaySpec::FirstOnOrAfter(weekday, number)),
-        None => Err(Fault {
-            kind: FaultKind::InvalidDaySpec,
-            text,
-        }),
+    let number = value_or_fault(day_of_month(columns.day), FaultKind::InvalidDaySpec, text)?;
+    Ok(sided(columns.sign, weekday, number))
+}
+
+/// The day on or before or the day on or after, by the sign.
+fn sided(sign: &str, weekday: Weekday, number: i8) -> DaySpec
+    ensures { result ≡ sided sign.now weekday number }
+{
+    if sign == "<=" {
+        DaySpec::LastOnOrBefore(weekday, number)
+    } else {
+        DaySpec::FirstOnOrAfter(weekday, number)
     }
 }
