@@ -1,7 +1,7 @@
 -- Plain forms are short, and their faults are those of the text.
 use Rattle.std.proofs.Common.{◌≡◌, ◌≤◌, ℕ, Bool, true, false, cond, List, length, nat_lt, refl, subst, ap, arith}
 use Rattle.std.specs.Prelude.{Result, Ok, Err, IfErr}
-use Rattle.zone_plain_lines.specs.Steps.{◌>>=◌}
+use Rattle.zone_values.specs.Results.{◌>>=◌}
 use Rattle.zone_plain_base.specs.LineFaults.{Refusal, by_line, too_long}
 use Rattle.zone_plain_links.specs.Settled.{settled}
 use Rattle.zone_plain_offsets.specs.WrittenOut.{written_out}

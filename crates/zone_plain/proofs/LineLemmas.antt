@@ -5,7 +5,7 @@ use Rattle.zone_values.specs.Values.{LineValue, line_value}
 use Rattle.zone_values.specs.declared.line.Line.{Line}
 use Rattle.zone_plain_lines.specs.Meanings.{meaning}
 use Rattle.zone_plain_lines.specs.Quotes.{fields, laid_out, kept, pieces, has_bad_quotes}
-use Rattle.zone_plain_lines.specs.Steps.{◌>>=◌}
+use Rattle.zone_values.specs.Results.{◌>>=◌}
 use Rattle.zone_plain_lines.specs.declared.cause.PlainCause.TheVariants as cause
 use Rattle.zone_plain_lines.specs.declared.quotes.Place.TheVariants.{Outside}
 use Rattle.zone_plain_base.specs.Said.{is_said, if_said}

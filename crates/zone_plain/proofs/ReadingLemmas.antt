@@ -4,7 +4,7 @@ use Rattle.std.specs.Prelude.{max}
 use Rattle.zone_source.specs.Lines.{lines_of}
 use Rattle.zone_source.specs.Zones.{source_value}
 use Rattle.zone_values.specs.Values.{LineValue}
-use Rattle.zone_plain_lines.specs.Steps.{◌>>=◌}
+use Rattle.zone_values.specs.Results.{◌>>=◌}
 use Rattle.zone_plain_lines.specs.declared.cause.PlainCause.{PlainCause}
 use Rattle.zone_plain_lines.specs.declared.cause.PlainCause.TheVariants as cause
 use Rattle.zone_plain_text.specs.PlainTexts.{plain_text}

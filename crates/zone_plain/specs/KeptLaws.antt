@@ -7,7 +7,7 @@ use Rattle.zone_line.specs.Fields.{is_ruleset_name}
 use Rattle.zone_outside.specs.Limit.{text_limit}
 use Rattle.zone_source.specs.Lines.{lines_of}
 use Rattle.zone_values.specs.Values.{SavingValue, no_saving, one_off, multiple, LineValue, space, zone, continuation, rule, link}
-use Rattle.zone_plain_lines.specs.Steps.{◌>>=◌}
+use Rattle.zone_values.specs.Results.{◌>>=◌}
 use Rattle.zone_plain_lines.specs.declared.cause.PlainCause.{PlainCause}
 use Rattle.zone_plain_lines.specs.declared.cause.PlainCause.TheVariants as cause
 use Rattle.zone_plain_base.specs.LineFaults.{LineFault, numbered, onto}

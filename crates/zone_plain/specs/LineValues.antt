@@ -4,7 +4,7 @@ use Rattle.std.specs.Str.{is_utf8}
 use Rattle.zone_values.specs.Values.{LineValue, space, zone, continuation, rule, link}
 use Rattle.zone_plain_lines.specs.Meanings.{meaning}
 use Rattle.zone_plain_lines.specs.Quotes.{fields, laid_out}
-use Rattle.zone_plain_lines.specs.Steps.{◌>>=◌}
+use Rattle.zone_values.specs.Results.{◌>>=◌}
 use Rattle.zone_plain_lines.specs.declared.cause.PlainCause.{PlainCause}
 use Rattle.zone_plain_lines.specs.declared.cause.PlainCause.TheVariants as cause
 use Rattle.zone_source.specs.Lines.{lines_of}

@@ -9,7 +9,7 @@ use Rattle.zone_source.specs.Lines.{lines_of}
 use Rattle.zone_plain_lines.specs.Meanings.{rule_of, info_of, by_word, first_line_of, meaning}
 use Rattle.zone_plain_lines.specs.Columns.{column}
 use Rattle.zone_plain_lines.specs.Quotes.{fields, laid_out}
-use Rattle.zone_plain_lines.specs.Steps.{◌>>=◌}
+use Rattle.zone_values.specs.Results.{◌>>=◌}
 use Rattle.zone_plain_lines.specs.Words.{line_word}
 use Rattle.zone_plain_lines.specs.declared.cause.PlainCause.{PlainCause}
 use Rattle.zone_plain_lines.specs.declared.cause.PlainCause.TheVariants as cause

@@ -3,7 +3,7 @@ use Rattle.std.proofs.Common.{◌≡◌, ℕ, List, All, Bool, true, false, cond
 use Rattle.std.proofs.lemmas.List.Elements.{All-weaker}
 use Rattle.zone_outside.specs.Limit.{text_limit}
 use Rattle.zone_values.specs.Values.{LineValue}
-use Rattle.zone_plain_lines.specs.Steps.{◌>>=◌}
+use Rattle.zone_values.specs.Results.{◌>>=◌}
 use Rattle.zone_plain_base.specs.LineFaults.{LineFault, Refusal, too_long, by_line}
 use Rattle.zone_plain_base.specs.SaidLaws.{read_back, one_line}
 use Rattle.zone_plain_links.specs.SaidLaws.{settled_said}

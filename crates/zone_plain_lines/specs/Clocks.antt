@@ -10,7 +10,8 @@ use Rattle.zone_values.specs.declared.time.TimeType.{TimeType}
 use Rattle.zone_values.specs.declared.time.TimeType.TheVariants.{Wall, Standard, UTC}
 use Rattle.zone_values.specs.declared.time.TimeSpecAndType.{TimeSpecAndType}
 use Rattle.zone_plain_lines.specs.Numbers.{number_between, cut, after_mark, before_mark}
-use Rattle.zone_plain_lines.specs.Steps.{then_some, ◌>>=◌}
+use Rattle.zone_plain_lines.specs.Steps.{then_some}
+use Rattle.zone_values.specs.Results.{◌>>=◌}
 use Rattle.zone_plain_lines.specs.declared.cause.PlainCause.{PlainCause}
 use Rattle.zone_plain_lines.specs.declared.cause.PlainCause.TheVariants as cause
 use Rattle.zone_plain_lines.specs.declared.clock.Amount.{Amount}

@@ -10,7 +10,7 @@ use Rattle.zone_values.specs.declared.year.Year.{Year}
 use Rattle.zone_values.specs.declared.year.Year.TheVariants.{Minimum, Maximum, Number}
 use Rattle.zone_plain_lines.specs.Clocks.{clock_spec, saved}
 use Rattle.zone_plain_lines.specs.Numbers.{cut}
-use Rattle.zone_plain_lines.specs.Steps.{◌>>=◌}
+use Rattle.zone_values.specs.Results.{◌>>=◌}
 use Rattle.zone_plain_lines.specs.Words.{shortens, from_word}
 use Rattle.zone_plain_lines.specs.declared.cause.PlainCause.{PlainCause}
 use Rattle.zone_plain_lines.specs.declared.cause.PlainCause.TheVariants as cause

@@ -8,7 +8,7 @@ use Rattle.zone_values.specs.declared.day.DaySpec.TheVariants.{Ordinal, Last, La
 use Rattle.zone_values.specs.declared.month.Month.{Month}
 use Rattle.zone_values.specs.declared.weekday.Weekday.{Weekday}
 use Rattle.zone_plain_lines.specs.Numbers.{number_between, cut, after_mark}
-use Rattle.zone_plain_lines.specs.Steps.{◌>>=◌}
+use Rattle.zone_values.specs.Results.{◌>>=◌}
 use Rattle.zone_plain_lines.specs.Words.{weekday_of, last_weekday_of}
 use Rattle.zone_plain_lines.specs.declared.cause.PlainCause.{PlainCause}
 use Rattle.zone_plain_lines.specs.declared.cause.PlainCause.TheVariants as cause

@@ -1,3 +1,4 @@
+-- Definitions: what public clauses say.
 pub mod Causes
 pub mod Steps
 pub mod Quotes

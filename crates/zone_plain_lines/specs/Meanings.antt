@@ -10,7 +10,7 @@ use Rattle.zone_values.specs.declared.time.TimeSpecAndType.{TimeSpecAndType}
 use Rattle.zone_plain_lines.specs.Clocks.{amount_of, amount_spec, at_of, saved}
 use Rattle.zone_plain_lines.specs.Columns.{column, year_of, years_of, type_of, ruleset_name, saving_of, is_format, letters_of}
 use Rattle.zone_plain_lines.specs.Days.{day_of}
-use Rattle.zone_plain_lines.specs.Steps.{◌>>=◌}
+use Rattle.zone_values.specs.Results.{◌>>=◌}
 use Rattle.zone_plain_lines.specs.Words.{line_word, month_of}
 use Rattle.zone_plain_lines.specs.declared.cause.PlainCause.{PlainCause}
 use Rattle.zone_plain_lines.specs.declared.cause.PlainCause.TheVariants as cause

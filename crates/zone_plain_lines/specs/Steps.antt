@@ -1,15 +1,10 @@
 -- Readings that may fail, one after another.
-use Rattle.std.specs.Prelude.{Option, option_and_then, Result, Ok, Err}
+use Rattle.std.specs.Prelude.{Option, option_and_then, Result}
 use Rattle.std.specs.Result.{result_map_both}
 
 -- the next value needs the one before
 abbrev pub then_some : {A B : Type 0} → Option A → (A → Option B) → Option B
 then_some value next = option_and_then next value
-
--- the first cause is the cause
-abbrev pub ◌>>=◌ : {A B E : Type 0} → Result A E → (A → Result B E) → Result B E
-◌>>=◌ (Ok x) next = next x
-◌>>=◌ (Err e) next = Err e
 
 -- a result by what its value shows
 abbrev pub shown_by : {A B E : Type 0} → (A → B) → Result A E → Result B E

@@ -8,6 +8,10 @@ use std::alloc::{AllocError, Global};
 
 /// Writes the fields of a line into the buffer, in place of what it has, each gap as a line feed, without the comment and
 /// the quotes. Answers whether the quotes are in order: none is left open, and something stands between two.
+///
+/// # Errors
+///
+/// Want of memory alone.
 pub fn lay_out(line: &[u8], into: &mut Vec<u8>) -> Result<bool, AllocError>
     ensures text { IfOk result (λ good. good ≡ true → into.new.items ≡ laid_out line.now) }
     ensures quotes { IfOk result (λ good. has_bad_quotes (kept Outside line.now) ≡ not good) }
@@ -40,6 +44,10 @@ fn put_byte(into: &mut Vec<u8>, place: Place, byte: u8) -> Result<(), AllocError
 }
 
 /// The fields that are laid out in a text.
+///
+/// # Errors
+///
+/// Want of memory alone.
 pub fn fields_of(alloc: Global, text: &str) -> Result<Vec<&str>, AllocError>
     ensures { IfOk result (λ fields. map (λ t. t.now) fields.items ≡ pieces text.now) }
 {

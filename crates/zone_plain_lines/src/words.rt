@@ -44,6 +44,10 @@ fn is_word(text: &[u8], word: &[u8]) -> bool
 }
 
 /// What a line is by its first word.
+///
+/// # Errors
+///
+/// `LineType` where the word shortens none of `rule`, `zone` and `link`.
 #[tactic(auto, unfolding(crate::specs::Words::line_word))]
 pub fn line_word(text: &str) -> Result<LineWord, PlainCause>
     ensures { result ≡ line_word text.now }

@@ -3,7 +3,7 @@ use Rattle.std.proofs.Common.{◌≡◌, ℕ, suc, ◌+◌, List, [], ◌∷◌,
 use Rattle.std.proofs.lemmas.List.Elements.{All-nil, All-cons, All-head, All-tail}
 use Rattle.zone_outside.specs.Limit.{text_limit}
 use Rattle.zone_values.specs.Values.{LineValue, space, zone, continuation, rule, link}
-use Rattle.zone_plain_lines.specs.Steps.{◌>>=◌}
+use Rattle.zone_values.specs.Results.{◌>>=◌}
 use Rattle.zone_plain_lines.specs.declared.cause.PlainCause.{PlainCause}
 use Rattle.zone_plain_lines.specs.declared.cause.PlainCause.TheVariants as cause
 use Rattle.zone_plain_base.specs.LineFaults.{too_long, numbered, by_line, onto}
