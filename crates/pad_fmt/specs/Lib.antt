@@ -1,12 +1,15 @@
+-- Definitions: what public clauses say.
 pub mod Options
 pub mod Sink
 pub mod Buffer
 pub mod Exact
 pub mod Padding
-pub mod PaddingLaws
 pub mod Metadata
 pub mod Text
-pub mod TextLaws
 pub mod Number
+-- Laws: what a caller may use.
+pub mod BufferLaws
+pub mod PaddingLaws
+pub mod TextLaws
 pub mod NumberLaws
 pub mod WidthLaws

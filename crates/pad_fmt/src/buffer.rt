@@ -3,7 +3,8 @@ ghost use Rattle.std.specs.Prelude.{◌↔◌, ◌≤◌, ◌+◌, IsOk, OnOk, O
 ghost use Rattle.std.specs.Cmp.Lexicographic.{texts_po, texts_ties};
 ghost use Rattle.std.specs.Fmt.{padded};
 ghost use Rattle.std.specs.Hash as fed;
-ghost use Rattle.pad_fmt.specs.Buffer.{are_same_bytes, cmp_by_bytes, partial_cmp_by_bytes, same_bytes_equivalence, same_bytes_partial_equivalence, bytes_total_order, same_bytes_same_hash};
+ghost use Rattle.pad_fmt.specs.Buffer.{are_same_bytes, cmp_by_bytes, partial_cmp_by_bytes};
+ghost use Rattle.pad_fmt.specs.BufferLaws.{same_bytes_equivalence, same_bytes_partial_equivalence, bytes_total_order, same_bytes_same_hash};
 
 use crate::sink::{Full, TextSink};
 use arrayvec::ArrayString;
@@ -61,7 +62,11 @@ impl<const SIZE: usize> WriteBuffer<SIZE> {
         self.written.remaining_capacity()
     }
 
-    /// Appends the whole text. `Full`, with no change, exactly where its bytes do not fit.
+    /// Appends the whole text.
+    ///
+    /// # Errors
+    ///
+    /// `Full`, with no change, exactly where the text has more bytes than `remaining_capacity` answers.
     pub fn write_str(&mut self, text: &str) -> Result<(), Full>
         ensures fits { IsOk result ↔ (length self.old + length text.now ≤ SIZE) }
         ensures ok { OnOk result (self.new ≡ self.old ++ text.now) }

@@ -10,8 +10,11 @@ use crate::sink::{Full, TextSink};
 
 /// Writes the text, padded to the requested width as if it were `width` wide.
 ///
-/// The fill follows the text where no alignment is set. `Full` exactly where text and fill do not fit; a part of
-/// them, from the first byte on, may then be written.
+/// The fill follows the text where no alignment is set.
+///
+/// # Errors
+///
+/// `Full` exactly where text and fill do not fit; a part of them, from the first byte on, may then be written.
 pub fn pad_with_width<S: TextSink>(
     out: &mut S,
     options: FormatterOptions,

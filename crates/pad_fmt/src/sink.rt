@@ -14,11 +14,19 @@ pub trait TextSink {
     // How many bytes still fit.
     ghost room: { Self → ℕ };
 
-    /// Appends the whole text. `Full`, with no change, exactly where its bytes do not fit.
+    /// Appends the whole text.
+    ///
+    /// # Errors
+    ///
+    /// `Full`, with no change, exactly where its bytes do not fit.
     fn write_str(&mut self, string: &str) -> Result<(), Full>
         ensures wrote { Wrote Self.text room self.old self.new string.now result };
 
-    /// Appends the character in UTF-8. `Full`, with no change, exactly where its bytes do not fit.
+    /// Appends the character in UTF-8.
+    ///
+    /// # Errors
+    ///
+    /// `Full`, with no change, exactly where its bytes do not fit.
     fn write_char(&mut self, c: char) -> Result<(), Full>
         ensures wrote { Wrote Self.text room self.old self.new (encode_utf8 c) result };
 }

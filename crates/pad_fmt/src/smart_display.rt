@@ -34,6 +34,11 @@ pub trait SmartDisplay: Sized {
         ensures width { result.unpadded_width ≡ wide self.now f };
 
     /// Writes the value as `fmt` does; the metadata, which `metadata` gave, only spares work.
+    ///
+    /// # Errors
+    ///
+    /// `Full` exactly where the bytes of the value do not fit; a part of them, from the first byte on, may then be
+    /// written.
     fn fmt_with_metadata<S: TextSink>(
         &self,
         out: &mut S,
@@ -46,8 +51,11 @@ pub trait SmartDisplay: Sized {
         self.fmt(out, f)
     }
 
-    /// Writes the value, padded as the options ask. `Full` exactly where its bytes do not fit; a part of them, from
-    /// the first byte on, may then be written.
+    /// Writes the value, padded as the options ask.
+    ///
+    /// # Errors
+    ///
+    /// `Full` exactly where its bytes do not fit; a part of them, from the first byte on, may then be written.
     fn fmt<S: TextSink>(&self, out: &mut S, f: FormatterOptions) -> Result<(), Full>
         ensures wrote { WroteInPieces S.text S.room out.old out.new (due self.now f) result };
 
