@@ -25,7 +25,11 @@ pub enum OwnedFormatItem {
 }
 
 impl OwnedFormatItem {
-    /// A copy of the item. Only want of memory is refused.
+    /// A copy of the item.
+    ///
+    /// # Errors
+    ///
+    /// Want of memory alone.
     pub fn from_borrowed(
         alloc: Global,
         item: &BorrowedFormatItem<'_>,
@@ -35,7 +39,11 @@ impl OwnedFormatItem {
         copy_of(alloc, item)
     }
 
-    /// The compound of copies of the items. Only want of memory is refused.
+    /// The compound of copies of the items.
+    ///
+    /// # Errors
+    ///
+    /// Want of memory alone.
     pub fn from_slice(
         alloc: Global,
         items: &[BorrowedFormatItem<'_>],
@@ -45,7 +53,11 @@ impl OwnedFormatItem {
         Ok(OwnedFormatItem::Compound(copies_of(alloc, items)?))
     }
 
-    /// The compound of copies of the items. Only want of memory is refused.
+    /// The compound of copies of the items.
+    ///
+    /// # Errors
+    ///
+    /// Want of memory alone.
     pub fn from_borrowed_vec(
         alloc: Global,
         items: Vec<BorrowedFormatItem<'_>>,
@@ -55,7 +67,11 @@ impl OwnedFormatItem {
         OwnedFormatItem::from_slice(alloc, items.as_slice())
     }
 
-    /// The items of a compound. An item of another variant is refused.
+    /// The items of a compound.
+    ///
+    /// # Errors
+    ///
+    /// `DifferentVariant` exactly where the item is of another variant.
     pub fn into_items(self) -> Result<Vec<OwnedFormatItem>, DifferentVariant>
         ensures { told_items result ≡ compound_in (tree_of self) }
     {
