@@ -1,3 +1,4 @@
+-- Definitions: what public clauses say.
 pub mod Durations
 pub mod Months
 pub mod Weekdays
