@@ -336,6 +336,10 @@ fn put_info(into: &mut Vec<u8>, info: &ZoneInfo<'_>) -> Result<(), AllocError>
 }
 
 /// Writes the plain text of what a line means, without a line feed.
+///
+/// # Errors
+///
+/// Want of memory alone.
 #[tactic(auto, using(std::proofs::Common::append_assoc), unfolding(crate::specs::PlainTexts::plain_text))]
 pub fn put_plain(into: &mut Vec<u8>, line: &Line<'_>) -> Result<(), AllocError>
     ensures { OnOk result (into.new.items ≡ into.old.items ++ plain_text (line_value line.now)) }
