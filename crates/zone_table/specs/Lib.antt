@@ -1,3 +1,4 @@
+-- Definitions: what public clauses say.
 pub mod BoundedTables
 pub mod Bounds
 pub mod Built
@@ -6,8 +7,9 @@ pub mod Joined
 pub mod Moments
 pub mod NameTree
 pub mod Owned
-pub mod Placed
 pub mod Refusals
 pub mod Resolved
 pub mod Shown
 pub mod Tables
+-- Words of private clauses.
+pub mod Placed

@@ -31,6 +31,10 @@ pub enum Format {
 impl Format {
     /// The format that a FORMAT column names. With a slash it is an `Alternate`, cut at the first
     /// one; else with a `%s` a `Placeholder`; else a `Constant`.
+    ///
+    /// # Errors
+    ///
+    /// Want of memory alone.
     #[tactic(auto, unfolding(crate::specs::Formats::format_of))]
     pub fn new(alloc: Global, template: &str) -> Result<Format, AllocError>
         ensures { IfOk result (λ format. format ≡ format_of template.now) }
@@ -52,6 +56,10 @@ impl Format {
     /// The abbreviation under a saving in seconds and the letters of a rule. A `Constant` is its
     /// text, an `Alternate` its standard text where the saving is 0 and else its other text, and in
     /// a `Placeholder` the letters, or nothing, stand for each `%s`.
+    ///
+    /// # Errors
+    ///
+    /// Want of memory alone.
     #[tactic(auto, unfolding(crate::specs::Formats::abbreviation))]
     pub fn format(
         &self,
@@ -72,6 +80,10 @@ impl Format {
     }
 
     /// The text of a `Constant`, which this has to be.
+    ///
+    /// # Errors
+    ///
+    /// Want of memory alone.
     pub fn format_constant(&self, alloc: Global) -> Result<String, AllocError>
         requires { IsTrue (is_constant self.now) }
         ensures { IfOk result (λ text. string_bytes text ≡ constant_text self.now) }

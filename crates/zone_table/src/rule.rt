@@ -42,6 +42,10 @@ pub struct RuleInfo {
 
 impl RuleInfo {
     /// The owned form of a rule: its times are seconds, and its name is not kept.
+    ///
+    /// # Errors
+    ///
+    /// Want of memory alone.
     pub fn from_line(alloc: Global, info: zone_values::Rule<'_>) -> Result<RuleInfo, AllocError>
         ensures { IfOk result (λ owned. owned ≡ owned_rule (rule_value info.entry)) }
     {

@@ -48,6 +48,10 @@ impl Saving {
 impl ZoneInfo {
     /// The owned form of a zone line or a continuation: its offset and its saving are seconds, and
     /// its format is read.
+    ///
+    /// # Errors
+    ///
+    /// Want of memory alone.
     pub fn from_line(alloc: Global, info: zone_values::ZoneInfo<'_>) -> Result<ZoneInfo, AllocError>
         ensures { IfOk result (λ owned. owned ≡ owned_info (info_value info.entry)) }
     {
