@@ -1,5 +1,5 @@
 -- The file that is written for a value denotes it.
-use Rattle.std.proofs.Common.{◌≡◌, ℕ, zero, suc, ◌+◌, ◌<◌, ◌≤◌, ◌^◌, ℤ, pos, negsuc, Bool, true, false, cond, not, ◌&&◌, ◌||◌, List, [], ◌∷◌, ◌++◌, length, map, get_or, replicate, Option, Some, None, slice_get, refl, sym, ap, subst, ◌∙◌, arith, nat_eq, nat_le, append_assoc, append-nil, length-append, bytes_eq, int_le, find, FitsSigned, to_z, of_z}
+use Rattle.std.proofs.Common.{◌≡◌, ℕ, zero, suc, ◌+◌, ◌<◌, ◌≤◌, ◌^◌, ℤ, pos, neg_ℤ, Bool, true, false, cond, not, ◌&&◌, ◌||◌, List, [], ◌∷◌, ◌++◌, length, map, get_or, replicate, Option, Some, None, slice_get, refl, sym, ap, subst, ◌∙◌, arith, nat_eq, nat_le, append_assoc, append-nil, length-append, bytes_eq, int_le, find, FitsSigned, to_z, of_z}
 use Rattle.std.proofs.lemmas.Bool.{and_parts, and_from, or_left, or_right, not-false, leb-true, false≢true}
 use Rattle.std.proofs.lemmas.Bool.Decides.{nat_tests, Decides-int_eq}
 use Rattle.std.proofs.lemmas.Int.{ints, to_z-of_z}
@@ -16,7 +16,7 @@ use Rattle.std.specs.Ordering.{int_eq}
 use Rattle.std.proofs.Math.Facts.{Fits-of_z, Fits-lt-pow}
 use Rattle.std.specs.List.{list_all, list_any, flat_map}
 use Rattle.std.specs.Str.{IsUtf8}
-use Rattle.zone_tzif_core.specs.Zones.{KindValue, ZoneValue, is_small, rises}
+use Rattle.zone_tzif_core.specs.Zones.{KindValue, ZoneValue, greatest_utoff, is_small, rises}
 use Rattle.zone_tzif_core.specs.Numbers.{count_of, four_of, eight_of, count_bytes, four_bytes, eight_bytes}
 use Rattle.zone_tzif_core.specs.Format.{header_of, begins_well, block_len, suits, is_one_line}
 use Rattle.zone_tzif_core.specs.Denotes.{IsHeader, IsKind, AreKinds, no_kind, a_kind, AreShifts, no_shift, a_shift, IsBlock, Denotes}
@@ -123,7 +123,7 @@ all_at test (other ∷ names) name all there = by_test (bytes_eq name other) ref
 
 small_fits : (x : ℤ) → is_small x ≡ true → FitsSigned w32 x
 small_fits x small =
-    let parts = and_parts (int_le (negsuc 93598) x) _ small in
+    let parts = and_parts (int_le (neg_ℤ (pos greatest_utoff)) x) _ small in
     grind (arith, ints, parts.0, parts.1)
 
 four_again : (x : ℤ) (rest : List ℕ) → FitsSigned w32 x → four_of (four_bytes x ++ rest) ≡ x
