@@ -5,6 +5,7 @@ use Rattle.std.specs.Str.Lines.{strip_carriage_return}
 use Rattle.std.proofs.lemmas.List.Concat.{flat_map-append}
 use Rattle.std.proofs.lemmas.List.Elements.{All-head, All-tail, All-append, All-filter, All-weaker}
 use Rattle.std.proofs.lemmas.List.Splits.{slice_split_at, length-slice_split}
+use Rattle.zone_source.specs.LineLaws.{without_last_empty-more}
 use Rattle.zone_source.specs.Lines.{is_line_feed, without_last_empty, lines_of}
 use Rattle.zone_source.specs.Zones.{source_value, values_of}
 use Rattle.zone_values.specs.Values.{LineValue}
@@ -44,11 +45,6 @@ written_is values =
     ∙ ap (λ bytes. bytes ++ flat_map ended links) (sym (flat_map-append ended rules zones))
     ∙ sym (flat_map-append ended (rules ++ zones) links)
 
-before_more : (piece : List ℕ) (pieces : List (List ℕ)) → 0 < length pieces → without_last_empty (piece ∷ pieces) ≡ piece ∷ without_last_empty pieces
-before_more piece [] some = absurd (omega (arith, some))
-before_more [] (next ∷ pieces) some = refl
-before_more (byte ∷ piece) (next ∷ pieces) some = refl
-
 cut : (values : List LineValue) → All IsOneLine values
     → map strip_carriage_return (without_last_empty (slice_split is_line_feed (flat_map ended values))) ≡ map plain_text values
 cut [] lines = refl
@@ -58,7 +54,7 @@ cut (v ∷ values) lines =
     let pieces = slice_split is_line_feed rest in
     ap (λ bytes. map strip_carriage_return (without_last_empty (slice_split is_line_feed bytes))) (append_assoc (plain_text v) (10 ∷ []) rest)
     ∙ ap (λ found. map strip_carriage_return (without_last_empty found)) (slice_split_at is_line_feed (plain_text v) 10 rest line.unbroken refl)
-    ∙ ap (map strip_carriage_return) (before_more (plain_text v) pieces (some (length pieces) _ (length-slice_split is_line_feed rest)))
+    ∙ ap (map strip_carriage_return) (without_last_empty-more (plain_text v) pieces (some (length pieces) _ (length-slice_split is_line_feed rest)))
     ∙ ap (λ text. text ∷ map strip_carriage_return (without_last_empty pieces)) line.kept
     ∙ ap (λ texts. plain_text v ∷ texts) (cut values (All-tail IsOneLine v values lines))
   where

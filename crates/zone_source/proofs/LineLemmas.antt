@@ -10,13 +10,8 @@ use Rattle.std.specs.Option.{unwrap_or}
 use Rattle.memchr.specs.Find.{IsFirstByte, is_byte}
 use Rattle.std.specs.List.{slice_split, onto_first, position_or_len, before_first, after_first}
 use Rattle.std.specs.Str.Lines.{strip_carriage_return}
+use Rattle.zone_source.specs.LineLaws.{without_last_empty-more}
 use Rattle.zone_source.specs.Lines.{is_line_feed, without_last_empty, lines_of}
-
-keeps : (piece : List ℕ) (pieces : List (List ℕ)) → 0 < length pieces
-    → without_last_empty (piece ∷ pieces) ≡ piece ∷ without_last_empty pieces
-keeps [] [] h = absurd (omega arith)
-keeps [] (q ∷ qs) h = refl
-keeps (x ∷ xs) pieces h = refl
 
 -- a text without a line feed is one piece
 uncut : (bytes : List ℕ) → length bytes ≤ position_or_len is_line_feed bytes → slice_split is_line_feed bytes ≡ bytes ∷ []
@@ -52,7 +47,7 @@ first_line bytes some = by_place (nat_lt (position_or_len is_line_feed bytes) (l
         let more : 0 < length (slice_split is_line_feed (after_first is_line_feed bytes)) =
         omega (arith, length-slice_split is_line_feed (after_first is_line_feed bytes)) in
         ap (λ pieces. map strip_carriage_return (without_last_empty pieces)) cut
-        ∙ ap (map strip_carriage_return) (keeps (before_first is_line_feed bytes) _ more)
+        ∙ ap (map strip_carriage_return) (without_last_empty-more (before_first is_line_feed bytes) _ more)
     by_place false e =
         let past = ltb-false _ _ e in
         let whole : before_first is_line_feed bytes ≡ bytes = take_all _ bytes past in

@@ -1,3 +1,4 @@
+-- Definitions: what public clauses say.
 pub mod Lines
 pub mod LinesLeft
 pub mod LineLists
@@ -5,5 +6,8 @@ pub mod Zones
 pub mod Faults
 pub mod FaultLines
 pub mod Told
-pub mod Joining
 pub mod Statuses
+-- Laws: what a caller may use.
+pub mod LineLaws
+-- Words of private clauses.
+pub mod Joining

@@ -37,7 +37,11 @@ impl LineList {
         }
     }
 
-    /// Adds a line. On an error nothing is added.
+    /// Adds a line.
+    ///
+    /// # Errors
+    ///
+    /// Want of memory alone; nothing is added then.
     pub fn push(&mut self, line: &[u8]) -> Result<(), AllocError>
         ensures ok { OnOk result (self.new ≡ self.old ++ line.now ∷ []) }
         ensures err { OnErr result (self.new ≡ self.old) }

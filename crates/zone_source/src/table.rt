@@ -15,8 +15,12 @@ use zone_line::{LineParser, LineReader};
 use zone_outside::LIMIT;
 use zone_table::{Table, TableBuilder};
 
-/// The table that the lines of a source join to, or the first fault of the source. Lines end at an LF, a CR before it is
-/// dropped, and they are numbered from 1. The source is at most 16,777,216 bytes long.
+/// The table that the lines of a source join to. Lines end at an LF, a CR before it is dropped, and they are numbered from
+/// 1. The source is at most 16,777,216 bytes long.
+///
+/// # Errors
+///
+/// The first fault of the source, with its line's number, or want of memory.
 pub fn read_table(alloc: Global, parser: &LineParser, source: &[u8]) -> Result<Table, SourceError>
     requires { length source.now ≤ LIMIT }
     ensures ok { OnOk result (source_fault source.now ≡ None) }
