@@ -26,6 +26,7 @@ use Rattle.zone_spans.proofs.Picks.{all_filter}
 use Rattle.zone_spans.proofs.QuietLemmas.{quiet_years}
 use Rattle.zone_spans.proofs.SoundLemmas.{bounded_rules}
 use Rattle.zone_spans.proofs.YearLemmas.{fires_more}
+use Rattle.zone_spans.specs.Years.{earliest_year, most_years}
 
 -- the saving of a rule is small
 abbrev pub HasSmallSaving : RuleInfo → Type 0
@@ -88,7 +89,7 @@ pub unended_small : (offset : ℤ) (rules : List RuleInfo) (n : ℕ) → AllByRe
 unfolding firings_of_years year_firings
 unended_small offset rules zero all = refl
 unended_small offset rules (suc n) all =
-    let year = pos (1800 + n) in
+    let year = pos (earliest_year + n) in
     let rs = filter (λ r. applies_to_year r year) rules in
     fired_small (length rs) year offset (unended offset rules n).1 rs (unended_small offset rules n all)
     (all_filter HasSmallSaving (λ r. applies_to_year r year) rules all)
@@ -100,7 +101,7 @@ pub unended_below : (offset : ℤ) (end : Option ChangeTime) (limit : ℤ) (rule
 unfolding firings_of_years year_firings
 unended_below offset end limit rules zero ends all below = refl
 unended_below offset end limit rules (suc n) ends all below =
-    let year = pos (1800 + n) in
+    let year = pos (earliest_year + n) in
     let rs = filter (λ r. applies_to_year r year) rules in
     let before = unended offset rules n in
     let test : Firing → Bool = λ f. int_lt f.time limit in
@@ -123,7 +124,7 @@ more_years offset end rules k (suc n) le =
       | inl same ↦ ([], ap (λ m. (firings_of_years offset end rules m).0) (sym same) ∙ sym (append-nil (firings_of_years offset end rules k).0))
       | inr less ↦
           let before = more_years offset end rules k n (omega (arith, less)) in
-          let here = (year_firings (pos (1800 + n)) offset end (firings_of_years offset end rules n).1 rules).0 in
+          let here = (year_firings (pos (earliest_year + n)) offset end (firings_of_years offset end rules n).1 rules).0 in
           (before.0 ++ here, ap (λ xs. xs ++ here) before.1 ∙ append_assoc (firings_of_years offset end rules k).0 before.0 here)
     ]
 
@@ -176,10 +177,10 @@ not_at_most a b h = grind (arith, ints)
 pub le_chain : (a b c : ℤ) → a ≤ℤ b → b ≤ℤ c → a ≤ℤ c
 le_chain a b c h k = omega (arith, ints, h, k)
 
-pub most_years : (end : Option ChangeTime) → years_expanded end ≤ 300
+pub years_at_most : (end : Option ChangeTime) → years_expanded end ≤ most_years
 unfolding years_expanded
-most_years None = omega arith
-most_years (Some end) = omega arith
+years_at_most None = omega arith
+years_at_most (Some end) = omega arith
 
 -- one firing more
 pub latest_more : (fired : List Firing) (i : ℕ) (f : Firing) (early later : ℤ) → i < length fired → f ≡ get_or fired i f
@@ -283,7 +284,7 @@ before_second offset rules quiet fired marks i mark second l is less begun =
     (ap (list_all (λ f. int_lt f.time second)) are ∙ below_of mark.latest second less due here.latest, omega (arith, len, here.count))
 
 -- the mark of one year more
-one_mark_more : (offset : ℤ) (rules : List RuleInfo) (quiet : ℕ) (marks : List Mark) (mark : Mark) → quiet + length marks < 300
+one_mark_more : (offset : ℤ) (rules : List RuleInfo) (quiet : ℕ) (marks : List Mark) (mark : Mark) → quiet + length marks < most_years
     → AreMarks offset rules quiet marks → IsMark (unended offset rules (quiet + length marks + 1)) mark
     → AreMarks offset rules quiet (marks ++ mark ∷ [])
 one_mark_more offset rules quiet marks mark most are here =
@@ -308,7 +309,7 @@ one_mark_more offset rules quiet marks mark most are here =
 
 -- one year more, whose firings are before the limit
 pub year_kept : (limit offset : ℤ) (rules : List RuleInfo) (quiet : ℕ) (fired fired' : List Firing) (marks : List Mark) (mark : Mark)
-    (year saving latest : ℤ) (count : ℕ) → quiet + length marks < 300 → year ≡ pos (1800 + (quiet + length marks)) → IsLastMark marks mark
+    (year saving latest : ℤ) (count : ℕ) → quiet + length marks < most_years → year ≡ pos (earliest_year + (quiet + length marks)) → IsLastMark marks mark
     → AreMarkedBelow limit offset rules quiet fired marks
     → Fires fired' saving (after fired (year_firings year offset None mark.saving rules))
     → IsTrue (list_all (λ f. int_le f.time latest) (drop (length fired) fired')) → mark.latest ≤ℤ latest → IsTrue (int_lt latest limit)
@@ -381,7 +382,7 @@ fires_kept limit offset end rules quiet fired marks mark ends small kept last =
     }
 
 -- nothing is kept
-pub begun_quiet : (offset : ℤ) (rules : List RuleInfo) (quiet : ℕ) → AppliesToNone rules quiet → quiet ≤ 300
+pub begun_quiet : (offset : ℤ) (rules : List RuleInfo) (quiet : ℕ) → AppliesToNone rules quiet → quiet ≤ most_years
     → BeginWithMarked offset rules quiet [] []
 begun_quiet offset rules quiet none le =
     let is : unended offset rules quiet ≡ ([], pos 0) = quiet_years offset None rules quiet none in

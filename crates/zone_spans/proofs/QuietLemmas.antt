@@ -13,6 +13,7 @@ use Rattle.zone_spans.specs.Faults.{is_outside, some_year}
 use Rattle.zone_spans.specs.Firings.{fired, firings_of_years, year_firings}
 use Rattle.zone_spans.specs.Quiet.{AppliesToNone}
 use Rattle.zone_spans.proofs.SoundLemmas.{neither_left}
+use Rattle.zone_spans.specs.Years.{earliest_year}
 
 not_reached : (n year : ℤ) → year <ℤ n → int_le n year ≡ false
 not_reached n year before = grind (arith, ints)
@@ -29,7 +30,7 @@ too_early rule first year is before =
 pub one_rule_more : (rules : List RuleInfo) (k : ℕ) (rule : RuleInfo) (n m : ℕ) → k < length rules → rule ≡ get_or rules k rule
     → AppliesToNone (take k rules) n → AppliesToNone (rule ∷ []) m → ((i : ℕ) → i < m → i < n) → AppliesToNone (take (k + 1) rules) m
 one_rule_more rules k rule n m l is before here less i below =
-    let test : RuleInfo → Bool = λ r. applies_to_year r (pos (1800 + i)) in
+    let test : RuleInfo → Bool = λ r. applies_to_year r (pos (earliest_year + i)) in
     ap (list_any test) (take_more rules k rule l ∙ ap (λ x. take k rules ++ x ∷ []) (sym is))
     ∙ list_any-append test (take k rules) (rule ∷ [])
     ∙ (λ t. before i (less i below) t || here i below t)
@@ -55,7 +56,7 @@ unfolding firings_of_years
 quiet_years offset end rules zero none = refl
 quiet_years offset end rules (suc n) none =
     let before = quiet_years offset end rules n (λ i l. none i (omega (arith, l))) in
-    let year = pos (1800 + n) in
+    let year = pos (earliest_year + n) in
     (λ k. ((before k).0 ++ (year_firings year offset end (before k).1 rules).0, (year_firings year offset end (before k).1 rules).1))
     ∙ quiet_year year offset end (pos 0) rules (none n (omega arith))
 
@@ -65,7 +66,7 @@ unfolding some_year is_outside
 quiet_days rule zero none = refl
 quiet_days rule (suc n) none =
     let before = quiet_days rule n (λ i l. none i (omega (arith, l))) in
-    let here = neither_left (applies_to_year rule (pos (1800 + n))) false (none n (omega arith)) in
-    let year = pos (1800 + n) in
+    let here = neither_left (applies_to_year rule (pos (earliest_year + n))) false (none n (omega arith)) in
+    let year = pos (earliest_year + n) in
     let outside = not (is_in_year (named_day rule.day year rule.month) year) in
     λ k. before k || (here k && outside)

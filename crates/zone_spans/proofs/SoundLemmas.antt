@@ -21,6 +21,7 @@ use Rattle.zone_spans.specs.Firings.{years_expanded}
 use Rattle.zone_spans.specs.Lines.{Line, fixed_saving}
 use Rattle.zone_spans.proofs.BoundLemmas.{both, first, second}
 use Rattle.zone_spans.proofs.FoundLemmas.{from_here}
+use Rattle.zone_spans.specs.Years.{earliest_year}
 
 pub neither_left : (a b : Bool) → (a || b) ≡ false → a ≡ false
 neither_left true b h = h
@@ -69,21 +70,21 @@ years_of year (r ∷ rs) h =
     both (has_years r) _ here (years_of year rs (second (can_fire year r) _ h))
 
 -- what holds in none of the years holds in no one of them
-no_year : (test : ℤ → Bool) (n i : ℕ) → i < n → some_year test n ≡ false → test (pos (1800 + i)) ≡ false
+no_year : (test : ℤ → Bool) (n i : ℕ) → i < n → some_year test n ≡ false → test (pos (earliest_year + i)) ≡ false
 unfolding some_year
 no_year test zero i l none = absurd (omega arith)
 no_year test (suc n) i l none =
     elim (eq-or-lt_of_le {n = i} {m = n} (omega (arith, l))) [
-      | inl same ↦ ap (λ k. test (pos (1800 + k))) same ∙ neither_right (some_year test n) (test (pos (1800 + n))) none
-      | inr less ↦ no_year test n i less (neither_left (some_year test n) (test (pos (1800 + n))) none)
+      | inl same ↦ ap (λ k. test (pos (earliest_year + k))) same ∙ neither_right (some_year test n) (test (pos (earliest_year + n))) none
+      | inr less ↦ no_year test n i less (neither_left (some_year test n) (test (pos (earliest_year + n))) none)
     ]
 
 all_can_fire : (n i : ℕ) → i < n → (rules : List RuleInfo) → IsTrue (list_all is_bounded_rule rules) → IsTrue (list_all has_years rules)
-    → list_any (λ rule. some_year (is_outside rule) n) rules ≡ false → IsTrue (list_all (can_fire (pos (1800 + i))) rules)
+    → list_any (λ rule. some_year (is_outside rule) n) rules ≡ false → IsTrue (list_all (can_fire (pos (earliest_year + i))) rules)
 unfolding can_fire
 all_can_fire n i l [] bounded years none = refl
 all_can_fire n i l (r ∷ rs) bounded years none =
-    let year = pos (1800 + i) in
+    let year = pos (earliest_year + i) in
     let stays = no_year (is_outside r) n i l (neither_left (some_year (is_outside r) n) _ none) in
     both (can_fire year r) _
     (both (is_bounded_rule r && has_years r) _
@@ -93,7 +94,7 @@ all_can_fire n i l (r ∷ rs) bounded years none =
 
 -- each rule of a sound line has its moment in each year that the line expands
 pub sound_rules : (line : Line) → IsSound line → (i : ℕ) → i < years_expanded line.end
-    → IsTrue (list_all (can_fire (pos (1800 + i))) line.rules)
+    → IsTrue (list_all (can_fire (pos (earliest_year + i))) line.rules)
 unfolding is_bounded_line leaves_year
 sound_rules line sound i l =
     all_can_fire (years_expanded line.end) i l line.rules
@@ -144,16 +145,16 @@ first_sound [] line e all = cc
 first_sound (l ∷ ls) line e all = let same : l ≡ line = cc in subst IsSound same (all 0 l (omega arith))
 
 -- what holds in one of the years
-pub year_at : (test : ℤ → Bool) (n i : ℕ) → i < n → test (pos (1800 + i)) ≡ true → true ≡ some_year test n
+pub year_at : (test : ℤ → Bool) (n i : ℕ) → i < n → test (pos (earliest_year + i)) ≡ true → true ≡ some_year test n
 unfolding some_year
 year_at test zero i l met = absurd (omega arith)
 year_at test (suc n) i l met =
     elim (eq-or-lt_of_le {n = i} {m = n} (omega (arith, l))) [
-      | inl same ↦ sym (ap (λ b. some_year test n || b) (ap (λ k. test (pos (1800 + k))) (sym same) ∙ met) ∙ or-true (some_year test n))
-      | inr less ↦ sym (ap (λ b. b || test (pos (1800 + n))) (sym (year_at test n i less met)))
+      | inl same ↦ sym (ap (λ b. some_year test n || b) (ap (λ k. test (pos (earliest_year + k))) (sym same) ∙ met) ∙ or-true (some_year test n))
+      | inr less ↦ sym (ap (λ b. b || test (pos (earliest_year + n))) (sym (year_at test n i less met)))
     ]
 
-pub year_more : (test : ℤ → Bool) (n : ℕ) → some_year test n ≡ false → test (pos (1800 + n)) ≡ false → some_year test (n + 1) ≡ false
+pub year_more : (test : ℤ → Bool) (n : ℕ) → some_year test n ≡ false → test (pos (earliest_year + n)) ≡ false → some_year test (n + 1) ≡ false
 unfolding some_year
 year_more test n none here = ap (some_year test) (add-one n) ∙ (λ i. none i || here i)
 

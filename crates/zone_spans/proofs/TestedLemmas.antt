@@ -5,6 +5,7 @@ use Rattle.zone_table.specs.declared.rule.RuleInfo.{RuleInfo}
 use Rattle.zone_spans.specs.Faults.{is_outside, some_year}
 use Rattle.zone_spans.specs.Tested.{NoneLeaves}
 use Rattle.zone_spans.proofs.SoundLemmas.{neither_left, neither_right, no_years}
+use Rattle.zone_spans.specs.Years.{earliest_year}
 
 -- what holds in none of the years holds in none of the first of them
 fewer_years : (test : ℤ → Bool) (k n : ℕ) → k ≤ n → some_year test n ≡ false → some_year test k ≡ false
@@ -13,7 +14,7 @@ fewer_years test k zero le none = let no_more : k ≡ zero = omega (arith, le) i
 fewer_years test k (suc n) le none =
     elim (eq-or-lt_of_le {n = k} {m = suc n} le) [
       | inl same ↦ ap (some_year test) same ∙ none
-      | inr less ↦ fewer_years test k n (omega (arith, less)) (neither_left (some_year test n) (test (pos (1800 + n))) none)
+      | inr less ↦ fewer_years test k n (omega (arith, less)) (neither_left (some_year test n) (test (pos (earliest_year + n))) none)
     ]
 
 pub fewer_leave : (rules : List RuleInfo) (k n : ℕ) → k ≤ n → NoneLeaves rules n → NoneLeaves rules k

@@ -10,10 +10,11 @@ use Rattle.zone_spans.specs.Bounds.{has_moment, is_bounded_firing}
 use Rattle.zone_spans.specs.Fires.{Fires, after}
 use Rattle.zone_spans.specs.Firings.{Firing, year_firings, firings_of_years}
 use Rattle.zone_spans.proofs.BoundLemmas.{both, first, second}
+use Rattle.zone_spans.specs.Years.{earliest_year}
 
 pub fires_more : (offset : ℤ) (end : Option ChangeTime) (rules : List RuleInfo) (n : ℕ) (fired fired' : List Firing)
     (year saving saving' : ℤ)
-    → year ≡ pos (1800 + n) → Fires fired saving (firings_of_years offset end rules n)
+    → year ≡ pos (earliest_year + n) → Fires fired saving (firings_of_years offset end rules n)
     → Fires fired' saving' (after fired (year_firings year offset end saving rules))
     → Fires fired' saving' (firings_of_years offset end rules (n + 1))
 unfolding firings_of_years

@@ -1,5 +1,5 @@
 -- Sizes under which sums of times and offsets fit, and what a line has to be to be expanded.
-use Rattle.std.specs.Prelude.{◌≡◌, ℤ, pos, neg_ℤ, ◌≤ℤ◌, int_le, Bool, true, false, not, ◌&&◌, IsTrue, Option, Some, None}
+use Rattle.std.specs.Prelude.{◌≡◌, ℕ, ℤ, pos, neg_ℤ, ◌≤ℤ◌, int_le, Bool, true, false, not, ◌&&◌, IsTrue, Option, Some, None}
 use Rattle.std.specs.List.{list_all}
 use Rattle.std.specs.Option.{option_map_or}
 use Rattle.zone_values.specs.Bounds.{are_small_seconds}
@@ -16,9 +16,13 @@ use Rattle.zone_spans.specs.Lines.{Line}
 use Rattle.zone_spans.specs.declared.span.FixedTimespan.{FixedTimespan}
 use Rattle.zone_spans.specs.declared.span.FixedTimespanSet.{FixedTimespanSet}
 
--- at most 2^40 in size
+-- 2^40: no second of an entry, and no offset, is greater in size
+abbrev pub greatest_second : ℕ
+greatest_second = 1099511627776
+
+-- at most that in size
 abbrev pub is_small : ℤ → Bool
-is_small z = int_le (neg_ℤ (pos 1099511627776)) z && int_le z (pos 1099511627776)
+is_small z = int_le (neg_ℤ (pos greatest_second)) z && int_le z (pos greatest_second)
 
 abbrev pub is_bounded_span : FixedTimespan → Bool
 is_bounded_span span = is_small span.utc_offset && is_small span.dst_offset
@@ -28,7 +32,7 @@ is_bounded_entry e = is_small e.0 && is_bounded_span e.1
 
 -- the same of an entry, as bounds
 abbrev pub IsSmall : ℤ → Type 0
-IsSmall z = (neg_ℤ (pos 1099511627776) ≤ℤ z) × (z ≤ℤ pos 1099511627776)
+IsSmall z = (neg_ℤ (pos greatest_second) ≤ℤ z) × (z ≤ℤ pos greatest_second)
 
 pub record IsSmallEntry (e : Entry) : Type 0 where
   pub time : IsSmall e.0

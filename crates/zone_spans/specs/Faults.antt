@@ -13,6 +13,7 @@ use Rattle.zone_spans.specs.Firings.{years_expanded}
 use Rattle.zone_spans.specs.Entries.{raw_entries, is_standard}
 use Rattle.zone_spans.specs.declared.fault.SpanFault.{SpanFault}
 use Rattle.zone_spans.specs.declared.fault.SpanFault.TheVariants.{UnknownRuleset, MissingUntil, YearRange, RuleYears, DayRange, NoStandardSpan}
+use Rattle.zone_spans.specs.Years.{earliest_year}
 
 -- the fault of the first test that is met
 abbrev pub first_met : List (Bool × SpanFault) → Option SpanFault
@@ -31,10 +32,10 @@ ends_in_no_year line = option_map_or (λ end. not (is_dated_year (end_year end))
 abbrev pub lacks_years : Line → Bool
 lacks_years line = not (list_all has_years line.rules)
 
--- in one of the first n years from 1800 on
+-- in one of the first n years from the earliest on
 unfoldable pub some_year : (ℤ → Bool) → ℕ → Bool
 some_year test zero = false
-some_year test (suc n) = some_year test n || test (pos (1800 + n))
+some_year test (suc n) = some_year test n || test (pos (earliest_year + n))
 
 -- the rule applies to the year, and its day lies in another
 unfoldable pub is_outside : RuleInfo → ℤ → Bool

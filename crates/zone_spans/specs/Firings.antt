@@ -6,6 +6,7 @@ use Rattle.zone_table.specs.Moments.{moment, applies_to_year}
 use Rattle.zone_table.specs.declared.rule.RuleInfo.{RuleInfo}
 use Rattle.zone_spans.specs.Lines.{Line, is_ruled, fixed_saving}
 use Rattle.zone_spans.specs.Windows.{line_end}
+use Rattle.zone_spans.specs.Years.{earliest_year, most_years}
 
 pub record Firing : Type 0 where
   pub time : ℤ
@@ -47,18 +48,18 @@ year_firings year offset end saving rules =
     let rs = filter (λ r. applies_to_year r year) rules in
     fired (length rs) year offset end saving rs
 
--- of the first n years from 1800 on, begun with no saving
+-- of the first n years from the earliest on, begun with no saving
 unfoldable pub firings_of_years : ℤ → Option ChangeTime → List RuleInfo → ℕ → Fired
 firings_of_years offset end rules zero = ([], pos 0)
 firings_of_years offset end rules (suc n) =
     let before = firings_of_years offset end rules n in
-    let here = year_firings (pos (1800 + n)) offset end before.1 rules in
+    let here = year_firings (pos (earliest_year + n)) offset end before.1 rules in
     (before.0 ++ here.0, here.1)
 
--- how many years from 1800 on a line expands: to 2099, or to the year of its end
+-- how many years from the earliest on a line expands: to the latest, or to the year of its end
 unfoldable pub years_expanded : Option ChangeTime → ℕ
-years_expanded None = 300
-years_expanded (Some end) = min 300 (nat_abs (year_number (end_year end)) - 1799)
+years_expanded None = most_years
+years_expanded (Some end) = min most_years (nat_abs (year_number (end_year end)) - (earliest_year - 1))
 
 -- a line that is not ruled has no firing
 unfoldable pub line_firings : Line → Fired

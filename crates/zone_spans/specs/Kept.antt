@@ -6,6 +6,7 @@ use Rattle.zone_values.specs.declared.change.ChangeTime.{ChangeTime}
 use Rattle.zone_table.specs.declared.rule.RuleInfo.{RuleInfo}
 use Rattle.zone_spans.specs.Bounds.{is_bounded_firing}
 use Rattle.zone_spans.specs.Firings.{Fired, Firing, firings_of_years, is_over}
+use Rattle.zone_spans.specs.Years.{most_years}
 
 -- of the first n years, cut by no end
 abbrev pub unended : ℤ → List RuleInfo → ℕ → Fired
@@ -25,7 +26,7 @@ pub record IsMark (due : Fired) (mark : Mark) : Type 0 where
 -- one mark for each year after the first ones, which fire nothing
 pub record AreMarks (offset : ℤ) (rules : List RuleInfo) (quiet : ℕ) (marks : List Mark) : Type 0 where
   pub nothing : unended offset rules quiet ≡ ([], pos 0)
-  pub most : quiet + length marks ≤ 300
+  pub most : quiet + length marks ≤ most_years
   pub each : (i : ℕ) (d : Mark) → i < length marks → IsMark (unended offset rules (quiet + suc i)) (slice_index_or marks i d)
 
 -- the last of the marks, or the mark of no firings where there is none

@@ -1,4 +1,5 @@
 -- Definitions: what public clauses say.
+pub mod Years
 pub mod Lines
 pub mod Windows
 pub mod Firings

@@ -4,6 +4,6 @@ use Rattle.std.specs.List.{list_any}
 use Rattle.zone_table.specs.declared.rule.RuleInfo.{RuleInfo}
 use Rattle.zone_spans.specs.Faults.{is_outside, some_year}
 
--- in none of the first n years from 1800 on does the day of one of the rules lie in another year
+-- in none of the first n years from the earliest on does the day of one of the rules lie in another year
 abbrev pub NoneLeaves : List RuleInfo → ℕ → Type 0
 NoneLeaves rules n = list_any (λ rule. some_year (is_outside rule) n) rules ≡ false

@@ -11,13 +11,14 @@ ghost use Rattle.zone_spans.specs.Kept.{AreBelow, AreMarkedBelow, BeginWithMarke
 ghost use Rattle.zone_spans.specs.KeptFor.{IsFor, IsKept};
 ghost use Rattle.zone_spans.specs.Lines.{is_ruled};
 ghost use Rattle.zone_spans.specs.Several.{AreAll};
+ghost use Rattle.zone_spans.specs.Years.{most_years};
 
 use crate::firing::Firing;
 use crate::front::Applying;
 use crate::line::Line;
 use crate::quiet::years_before_all;
 use crate::several::{Serve, Several};
-use crate::year::{fire_year, fire_years, line_end, years_expanded};
+use crate::year::{EARLIEST_YEAR, fire_year, fire_years, line_end, years_expanded};
 use std::alloc::{AllocError, Global};
 use std::marker::Model;
 use zone_table::RuleInfo;
@@ -160,7 +161,7 @@ fn keep_year<'a>(
 {
     let mark = last_mark(marks);
     let before = fired.as_slice().len();
-    let year = i64::from(1_800 + count);
+    let year = i64::from(EARLIEST_YEAR + count);
     let saving = fire_year(alloc, fired, left, line, None, year, mark.saving)?;
     let latest = latest_of(mark.latest, &fired.as_slice()[before..]);
     if latest >= limit {
@@ -269,7 +270,7 @@ impl<'a> Kept<'a> {
 
     /// Nothing of the line is fired yet.
     fn begun(alloc: Global, line: &Line<'a>, years: u16) -> Kept<'a>
-        requires { years ≤ 300 }
+        requires { years ≤ most_years }
         ensures kept { IsKept result }
         ensures serves { IsFor line.now years result }
     {
@@ -340,7 +341,7 @@ fn take_for<'a>(
     line: &Line<'a>,
     years: u16,
 ) -> Result<(), AllocError>
-    requires years { years ≤ 300 }
+    requires years { years ≤ most_years }
     requires kept { AreAll IsKept kept.old }
     ensures kept { IfOk result (λ _. AreAll IsKept kept.new) }
     ensures serves { IfOk result (λ _. IsFor line.now years kept.new.current) }

@@ -22,3 +22,4 @@ pub use collapsing::collapse;
 pub use fault::SpanFault;
 pub use span::{FixedTimespan, FixedTimespanSet};
 pub use transitions::TableTransitions;
+pub use year::{EARLIEST_YEAR, MOST_YEARS};

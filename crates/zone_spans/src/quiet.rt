@@ -1,13 +1,15 @@
 //! The years before the first of a ruleset, in which nothing fires.
 ghost use Rattle.std.specs.Prelude.{ℕ, ◌+◌, ◌<◌, ◌≤◌, ◌<ℤ◌, ◌∷◌, [], pos};
 ghost use Rattle.zone_spans.specs.Quiet.{AppliesToNone};
+ghost use Rattle.zone_spans.specs.Years.{earliest_year, most_years};
 
+use crate::year::{EARLIEST_YEAR, MOST_YEARS};
 use zone_table::RuleInfo;
 use zone_values::Year;
 
-/// How many of the first years from 1800 on, up to a number of them, come before the first of each rule.
+/// How many of the first years from the earliest on, up to a number of them, come before the first of each rule.
 pub(crate) fn years_before_all(rules: &[RuleInfo], most: u16) -> u16
-    requires { most ≤ 300 }
+    requires { most ≤ most_years }
     ensures before { AppliesToNone rules.now result }
     ensures most { result ≤ most }
 {
@@ -18,9 +20,9 @@ pub(crate) fn years_before_all(rules: &[RuleInfo], most: u16) -> u16
     count
 }
 
-/// How many of the first years from 1800 on, up to a number of them, come before the rule's first.
+/// How many of the first years from the earliest on, up to a number of them, come before the rule's first.
 pub(crate) fn years_before(rule: &RuleInfo, most: u16) -> u16
-    requires { most ≤ 300 }
+    requires { most ≤ most_years }
     ensures before { AppliesToNone (rule.now ∷ []) result }
     ensures most { result ≤ most }
 {
@@ -30,17 +32,18 @@ pub(crate) fn years_before(rule: &RuleInfo, most: u16) -> u16
     }
 }
 
-/// How many of the first years from 1800 on, up to a number of them, come before that year.
+/// How many of the first years from the earliest on, up to a number of them, come before that year.
 fn years_until(year: i64, most: u16) -> u16
-    requires { most ≤ 300 }
-    ensures before { (i : ℕ) → i < result → pos (1800 + i) <ℤ year }
+    requires { most ≤ most_years }
+    ensures before { (i : ℕ) → i < result → pos (earliest_year + i) <ℤ year }
     ensures most { result ≤ most }
 {
-    if year <= 1_800 {
+    let earliest = i64::from(EARLIEST_YEAR);
+    if year <= earliest {
         return 0;
     }
-    if year >= 2_100 {
+    if year >= earliest + i64::from(MOST_YEARS) {
         return most;
     }
-    most.min((year - 1_800) as u16)
+    most.min((year - earliest) as u16)
 }

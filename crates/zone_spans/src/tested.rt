@@ -12,16 +12,17 @@ ghost use Rattle.zone_spans.specs.Faults.{ends_in_no_year, ends_outside, is_outs
 ghost use Rattle.zone_spans.specs.Several.{AreAll};
 ghost use Rattle.zone_spans.specs.Tested.{NoneLeaves};
 ghost use Rattle.zone_spans.specs.TestedFor.{HasRulesOf, IsTested};
+ghost use Rattle.zone_spans.specs.Years.{most_years};
 
 use crate::line::Line;
 use crate::quiet::years_before;
 use crate::several::{Serve, Several};
-use crate::year::years_expanded;
+use crate::year::{EARLIEST_YEAR, years_expanded};
 use std::alloc::AllocError;
 use zone_table::RuleInfo;
 use zone_values::ChangeTime;
 
-/// Rules, and how many of the first years from 1800 on are tested: in these no day of the rules lies in another year.
+/// Rules, and how many of the first years from the earliest on are tested: in these no day of the rules lies in another year.
 #[derive(Drop)]
 pub(crate) struct Tested<'a> {
     rules: &'a [RuleInfo],
@@ -37,11 +38,11 @@ impl<'a> Tested<'a> {
         Tested { rules, years: 0 }
     }
 
-    /// Whether the day of a rule lies in another year, in one of so many years from 1800 on.
+    /// Whether the day of a rule lies in another year, in one of so many years from the earliest on.
     fn leaves_year(&mut self, years: u16) -> bool
         requires bounded { IsTrue (list_all is_bounded_rule self.old.rules.now) }
         requires years { IsTrue (list_all has_years self.old.rules.now) }
-        requires most { years ≤ 300 }
+        requires most { years ≤ most_years }
         requires tested { IsTested self.old }
         ensures value { result ≡ list_any (λ rule. some_year (is_outside rule) years) self.old.rules.now }
         ensures tested { IsTested self.new }
@@ -122,14 +123,14 @@ fn ends_outside(end: Option<ChangeTime>) -> bool
     }
 }
 
-/// Whether some rule's day lies in another year, in one of the first years from 1800 on to which it applies. Of these the
+/// Whether some rule's day lies in another year, in one of the first years from the earliest on to which it applies. Of these the
 /// tested ones come first.
 fn any_outside(rules: &[RuleInfo], tested: u16, count: u16) -> bool
     requires bounded { IsTrue (list_all is_bounded_rule rules.now) }
     requires years { IsTrue (list_all has_years rules.now) }
     requires tested { NoneLeaves rules.now tested }
     requires more { tested ≤ count }
-    requires most { count ≤ 300 }
+    requires most { count ≤ most_years }
     ensures { result ≡ list_any (λ rule. some_year (is_outside rule) count) rules.now }
 {
     for rule in rules {
@@ -140,31 +141,31 @@ fn any_outside(rules: &[RuleInfo], tested: u16, count: u16) -> bool
     false
 }
 
-/// Whether the rule's day lies in another year, in one of the first years from 1800 on to which it applies. Of these the
+/// Whether the rule's day lies in another year, in one of the first years from the earliest on to which it applies. Of these the
 /// tested ones come first.
 fn is_outside_in_some_year(rule: &RuleInfo, tested: u16, count: u16) -> bool
     requires bounded { IsTrue (is_bounded_rule rule.now) }
     requires years { IsTrue (has_years rule.now) }
     requires tested { some_year (is_outside rule.now) tested ≡ false }
     requires more { tested ≤ count }
-    requires most { count ≤ 300 }
+    requires most { count ≤ most_years }
     ensures { result ≡ some_year (is_outside rule.now) count }
 {
     let first = first_untested(rule, tested, count);
     for i in first..count {
-        if is_outside(rule, i64::from(1_800 + i)) {
+        if is_outside(rule, i64::from(EARLIEST_YEAR + i)) {
             return true;
         }
     }
     false
 }
 
-/// The first year that is to be tested for a rule, counted from 1800 on: those before it are tested or come before the rule's
+/// The first year that is to be tested for a rule, counted from the earliest on: those before it are tested or come before the rule's
 /// own.
 fn first_untested(rule: &RuleInfo, tested: u16, count: u16) -> u16
     requires tested { some_year (is_outside rule.now) tested ≡ false }
     requires more { tested ≤ count }
-    requires most { count ≤ 300 }
+    requires most { count ≤ most_years }
     ensures tested { some_year (is_outside rule.now) result ≡ false }
     ensures most { result ≤ count }
 {

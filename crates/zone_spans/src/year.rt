@@ -8,6 +8,7 @@ ghost use Rattle.zone_spans.specs.Fires.{Fires, after};
 ghost use Rattle.zone_spans.specs.Firings.{fired, firings_of_years, is_earlier, is_over, year_firings, years_expanded};
 ghost use Rattle.zone_spans.specs.Fronts.{IsSmallPlaced, front_firings};
 ghost use Rattle.zone_spans.specs.Windows.{line_end};
+ghost use Rattle.zone_spans.specs.Years.{earliest_year, most_years};
 
 use crate::firing::Firing;
 use crate::front::{Applying, Placed, first_of, front_of, left_of};
@@ -15,6 +16,12 @@ use crate::line::Line;
 use std::alloc::{AllocError, Global};
 use zone_table::{RuleInfo, instant_of};
 use zone_values::{ChangeTime, TimeType};
+
+/// The first year that a line expands.
+pub const EARLIEST_YEAR: u16 = 1_800;
+
+/// How many years a line expands at most: one without an end expands so many, and 2099 is the last of them.
+pub const MOST_YEARS: u16 = 300;
 
 /// When a line ends, under an offset and a saving.
 #[tactic(auto, unfolding(crate::specs::Windows::line_end))]
@@ -42,31 +49,32 @@ fn is_over(end: Option<ChangeTime>, offset: i64, saving: i64, time: i64) -> bool
     }
 }
 
-/// How many years from 1800 on a line expands: to 2099, or to the year of its end.
+/// How many years from the earliest on a line expands: to the latest, 2099, or to the year of its end.
 #[tactic(auto, unfolding(crate::specs::Firings::years_expanded))]
 pub(crate) fn years_expanded(end: Option<ChangeTime>) -> u16
     requires { IsTrue (is_end end) }
     ensures value { result ≡ years_expanded end }
-    ensures most { result ≤ 300 }
+    ensures most { result ≤ most_years }
 {
     match end {
         Some(end) => years_to(end.year()),
-        None => 300,
+        None => MOST_YEARS,
     }
 }
 
-/// How many years there are from 1800 to that one, at most 300.
+/// How many years there are from the earliest to that one, at most as many as a line expands.
 fn years_to(year: i64) -> u16
     requires first { pos 1 ≤ℤ year }
     requires last { year ≤ℤ pos 9999 }
-    ensures value { result ≡ min 300 (nat_abs year - 1799) }
+    ensures value { result ≡ min most_years (nat_abs year - (earliest_year - 1)) }
 {
-    if year < 1_800 {
+    let earliest = i64::from(EARLIEST_YEAR);
+    if year < earliest {
         0
-    } else if year < 2_100 {
-        (year - 1_799) as u16
+    } else if year < earliest + i64::from(MOST_YEARS) {
+        (year - earliest + 1) as u16
     } else {
-        300
+        MOST_YEARS
     }
 }
 
@@ -223,7 +231,7 @@ pub(crate) fn fire_years<'a>(
     let mut last_saving = saving;
     let count = years_expanded(line.end);
     for i in first..count {
-        let year = i64::from(1_800 + i);
+        let year = i64::from(EARLIEST_YEAR + i);
         last_saving = fire_year(alloc, fired, left, line, line.end, year, last_saving)?;
     }
     Ok(last_saving)

@@ -6,9 +6,10 @@ use Rattle.zone_spans.specs.Bounds.{can_fire}
 use Rattle.zone_spans.specs.Firings.{Firing, year_firings}
 use Rattle.zone_spans.specs.Kept.{AreMarkedBelow, IsLastMark, Mark}
 use Rattle.zone_spans.proofs.EntryLemmas.{to_end}
-use Rattle.zone_spans.proofs.KeptLemmas.{last_is, most_years, not_at_most, sound_savings, unended_small, year_kept}
+use Rattle.zone_spans.proofs.KeptLemmas.{last_is, years_at_most, not_at_most, sound_savings, unended_small, year_kept}
 use Rattle.zone_spans.proofs.SoundLemmas.{sound_offset, sound_rules}
 use Rattle.zone_spans.proofs.kept.keep_year.Goals as goal
+use Rattle.zone_spans.specs.Years.{earliest_year}
 
 pub fire_year-requires-clause-rules : goal.fire_year-requires-clause-rules
 fire_year-requires-clause-rules c =
@@ -55,8 +56,8 @@ returns-clause-marked c =
     ∙ (λ i. drop (length (c.as_slice-before.ensures.value i)) (c.as_slice.ensures.value i)) in
     subst (λ (ms : List Mark). AreMarkedBelow c.args.limit line.info.offset line.rules quiet more ms) (sym c.in_ok-push.ensures.items)
     (year_kept c.args.limit line.info.offset line.rules quiet fired more marks mark year (to_z w64 (of_z w64 c.in_ok-saving.saving)) latest
-    (length c.as_slice-count.result.now) (omega (arith, c.requires.count, c.requires.years, most_years line.end))
-    (to_z-of_z w64 c.from-year.result f ∙ c.from-year.ensures ∙ ap (λ n. pos (1800 + n)) c.requires.count) last c.requires.marked
+    (length c.as_slice-count.result.now) (omega (arith, c.requires.count, c.requires.years, years_at_most line.end))
+    (to_z-of_z w64 c.from-year.result f ∙ c.from-year.ensures ∙ ap (λ n. pos (earliest_year + n)) c.requires.count) last c.requires.marked
     (record {
       firings = here.firings ∙ (λ i. fired ++ (year_firings year line.info.offset None (saving_is i) line.rules).0);
       saving = to_z-of_z w64 c.in_ok-saving.saving h ∙ here.saving ∙ (λ i. (year_firings year line.info.offset None (saving_is i) line.rules).1);
