@@ -1,5 +1,5 @@
 -- The entries of a line, and one line more.
-use Rattle.std.proofs.Common.{◌≡◌, ℕ, ◌+◌, ◌-◌, ◌<◌, Bool, true, false, ◌&&◌, cond, List, [], ◌∷◌, ◌++◌, length, get_or, map, filter, find, take, drop, reverse, Option, Some, None, option_map, ℤ, pos, int_lt, int_eq, int_cmp, is_lt, Less, Greater, Equal, IsTrue, IfSome, refl, sym, ap, ◌∙◌, arith}
+use Rattle.std.proofs.Common.{◌≡◌, ℕ, ◌+◌, ◌-◌, ◌<◌, Bool, true, false, ◌&&◌, cond, if◌then◌else◌, List, [], ◌∷◌, ◌++◌, length, get_or, map, filter, find, take, drop, reverse, Option, Some, None, option_map, ℤ, pos, int_lt, int_eq, int_cmp, is_lt, Less, Greater, Equal, IsTrue, IfSome, refl, sym, ap, ◌∙◌, arith}
 use Rattle.std.proofs.lemmas.Grind.{common_steps}
 use Rattle.std.proofs.lemmas.List.{append_assoc, append-nil, drop_all, length-drop, map-append, reverse-append, take_all}
 use Rattle.std.proofs.lemmas.List.Elements.{All-drop, All-filter, All-take}
@@ -14,6 +14,7 @@ use Rattle.zone_spans.specs.Entries.{Entry, at_start, entries_from, entries_of, 
 use Rattle.zone_spans.specs.Firings.{Firing, firings}
 use Rattle.zone_spans.specs.Lines.{Line, fixed_saving, is_ruled}
 use Rattle.zone_spans.specs.Listing.{is_at, listed, listed_from, start_firing}
+use Rattle.zone_spans.specs.Stands.{StandsFor}
 use Rattle.zone_spans.proofs.BoundLemmas.{both, first, second}
 use Rattle.zone_spans.proofs.FoundLemmas.{from_here}
 use Rattle.zone_spans.proofs.SoundLemmas.{sound_offset, sound_saving}
@@ -123,22 +124,39 @@ bounded_fixed_entry line None sound small = refl
 bounded_fixed_entry line (Some start) sound small =
     both (is_bounded_entry (start, fixed_span line)) _ (both (is_small start) _ small (bounded_fixed line sound)) refl
 
--- the entries of a sound line with bounded firings are bounded
-pub bounded_entries_of : (line : Line) (start : Option ℤ) → IsSound line → IsTrue (is_start start)
-    → IsTrue (list_all is_bounded_firing (firings line))
+-- the entries of a ruled line, by what stands for its firings
+pub ruled_entries : (line : Line) (start : Option ℤ) (fs : List Firing) → is_ruled line.info.saving ≡ true → StandsFor start fs (firings line)
+    → map (entry_of line) (listed start fs) ++ start_entry line start fs ≡ entries_of line start
+unfolding entries_of
+ruled_entries line start fs ruled stands =
+    let due = firings line in
+    let lists : listed start fs ≡ listed start due =
+    ap (listed start) (sym (append-nil fs)) ∙ stands.lists [] ∙ ap (listed start) (append-nil due) in
+    let starts : start_entry line start fs ≡ start_entry line start due =
+    ap (start_entry line start) (sym (append-nil fs)) ∙ stands.starts line [] ∙ ap (start_entry line start) (append-nil due) in
+    (λ i. map (entry_of line) (lists i) ++ starts i)
+    ∙ sym (ap (λ b. if b then map (entry_of line) (listed start due) ++ start_entry line start due else at_start start (Some (fixed_span line))) ruled)
+
+-- the entries of a sound line are bounded, where what stands for its firings is
+pub bounded_ruled : (line : Line) (start : Option ℤ) (fs : List Firing) → IsSound line → is_ruled line.info.saving ≡ true
+    → StandsFor start fs (firings line) → IsTrue (is_start start) → IsTrue (list_all is_bounded_firing fs)
+    → IsTrue (list_all is_bounded_entry (entries_of line start))
+bounded_ruled line start fs sound ruled stands small bounded =
+    let offset = sound_offset line sound in
+    ap (list_all is_bounded_entry) (sym (ruled_entries line start fs ruled stands))
+    ∙ list_all-append is_bounded_entry (map (entry_of line) (listed start fs)) (start_entry line start fs)
+    ∙ both (list_all is_bounded_entry (map (entry_of line) (listed start fs))) _
+    (bounded_map line (listed start fs) offset (bounded_listed start fs bounded))
+    (bounded_start_entry line start fs offset small bounded)
+
+pub bounded_unruled : (line : Line) (start : Option ℤ) → IsSound line → is_ruled line.info.saving ≡ false → IsTrue (is_start start)
     → IsTrue (list_all is_bounded_entry (entries_of line start))
 unfolding entries_of
-bounded_entries_of line start sound small bounded =
-    let fs = firings line in
-    let offset = sound_offset line sound in
-    let ruled = map (entry_of line) (listed start fs) ++ start_entry line start fs in
-    elim (is_ruled line.info.saving) as (λ b. IsTrue (list_all is_bounded_entry (cond b ruled (at_start start (Some (fixed_span line)))))) [
-      | true ↦ list_all-append is_bounded_entry (map (entry_of line) (listed start fs)) (start_entry line start fs)
-          ∙ both (list_all is_bounded_entry (map (entry_of line) (listed start fs))) _
-          (bounded_map line (listed start fs) offset (bounded_listed start fs bounded))
-          (bounded_start_entry line start fs offset small bounded)
-      | false ↦ bounded_fixed_entry line start sound small
-    ]
+bounded_unruled line start sound unruled small =
+    ap (λ b. list_all is_bounded_entry
+    (if b then map (entry_of line) (listed start (firings line)) ++ start_entry line start (firings line)
+    else at_start start (Some (fixed_span line)))) unruled
+    ∙ bounded_fixed_entry line start sound small
 
 -- one line more
 pub entries_more : (es es' : List Entry) (start start' : Option ℤ) (lines : List Line) (i : ℕ) (line : Line) (all : List Entry)

@@ -18,6 +18,7 @@ use Rattle.zone_table.specs.declared.rule.RuleInfo.{RuleInfo}
 use Rattle.zone_spans.specs.Firings.{Firing, earliest, fired, firings_of_years, year_firings, years_expanded}
 use Rattle.zone_spans.specs.Listing.{listed_from, start_firing}
 use Rattle.zone_spans.specs.Windows.{line_end}
+use Rattle.zone_spans.specs.Years.{latest_year}
 
 -- a rule for good from 2007 on
 abbrev pub yearly : Month → DaySpec → ℤ → ℤ → List ℕ → RuleInfo
@@ -106,6 +107,9 @@ years : map years_expanded (None ∷ Some (UntilYear (Number (pos 1799))) ∷ So
     ≡ 300 ∷ 0 ∷ 1 ∷ 147 ∷ 300 ∷ 300 ∷ []
 unfolding years_expanded
 years = refl
+
+last_of_them : latest_year ≡ 2099
+last_of_them = refl
 
 -- 2000-01-01 00:00 by each clock, an hour ahead and a saving of an hour; a day alone is the wall's
 ends : map (λ end. line_end end (pos 3600) (pos 3600))

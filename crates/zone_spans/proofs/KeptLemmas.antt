@@ -1,11 +1,12 @@
--- Firings that no end cuts are those of a line up to its end.
-use Rattle.std.proofs.Common.{◌≡◌, ℕ, zero, suc, ◌+◌, ◌<◌, ◌≤◌, ◌≤ℤ◌, inl, inr, Bool, true, false, ◌&&◌, cond, if◌then◌else◌, List, [], ◌∷◌, ◌++◌, length, take, drop, filter, Option, Some, None, ℤ, pos, int_le, int_lt, get_or, IsTrue, refl, sym, ap, ◌∙◌, subst, arith, append-nil, append_assoc}
+-- Firings that no end cuts are those of a line up to its end, and marks stand for them.
+use Rattle.std.proofs.Common.{◌≡◌, ℕ, zero, suc, ◌+◌, ◌<◌, ◌≤◌, ◌≤ℤ◌, inl, inr, Bool, true, false, ◌&&◌, cond, if◌then◌else◌, List, [], ◌∷◌, ◌++◌, length, take, filter, Option, Some, None, ℤ, pos, int_le, int_lt, get_or, IsTrue, refl, sym, ap, ◌∙◌, subst, arith}
 use Rattle.std.proofs.Math.Nat.{eq-or-lt_of_le}
-use Rattle.std.proofs.Math.Seq.{drop-append_seam, get_or-append_seam, take-append_seam}
+use Rattle.std.proofs.Math.Seq.{get_or-append_seam}
 use Rattle.std.proofs.lemmas.Int.{ints}
-use Rattle.std.proofs.lemmas.List.{get_or-take, get_or_append_left, length-append, length-take-le, take-append-drop}
+use Rattle.std.proofs.lemmas.List.{get_or-take, get_or_append_left, length-append, length-take-le, take_more}
 use Rattle.std.proofs.lemmas.List.Folds.{list_all-append, list_all_more}
-use Rattle.std.specs.List.{AllByRecursion, list_all}
+use Rattle.std.specs.List.{AllByRecursion, last_or, list_all}
+use Rattle.std.specs.Option.{option_to_list}
 use Rattle.zone_values.specs.Bounds.{are_small_seconds}
 use Rattle.zone_values.specs.Ends.{time_type, wall}
 use Rattle.zone_values.specs.declared.change.ChangeTime.{ChangeTime}
@@ -16,12 +17,15 @@ use Rattle.zone_table.specs.Moments.{applies_to_year, instant_of, moment}
 use Rattle.zone_table.specs.declared.rule.RuleInfo.{RuleInfo}
 use Rattle.zone_spans.specs.Bounds.{IsSound, is_bounded_firing}
 use Rattle.zone_spans.specs.Fires.{Fires, after}
-use Rattle.zone_spans.specs.Firings.{Fired, Firing, earliest, fired, firings, firings_of_years, is_earlier, is_over, line_firings, year_firings, years_expanded}
-use Rattle.zone_spans.specs.Kept.{AreBelow, AreMarkedBelow, AreMarks, BeginWithMarked, IsLastMark, IsLimit, IsMark, Mark, marked, unended}
-use Rattle.zone_spans.specs.Lines.{Line, fixed_saving, is_ruled}
+use Rattle.zone_spans.specs.Firings.{Fired, Firing, earliest, fired, firings_of_years, is_earlier, is_over, year_firings, years_expanded}
+use Rattle.zone_spans.specs.Kept.{AreBelow, AreMarks, IsLastMark, IsLimit, IsMark, marked, unended}
+use Rattle.zone_spans.specs.Lines.{Line}
 use Rattle.zone_spans.specs.Quiet.{AppliesToNone}
+use Rattle.zone_spans.specs.Stands.{StandsFor}
 use Rattle.zone_spans.specs.Windows.{line_end}
+use Rattle.zone_spans.specs.declared.kept.Mark.{Mark}
 use Rattle.zone_spans.proofs.BoundLemmas.{both, first, second}
+use Rattle.zone_spans.proofs.ListingLemmas.{last_stands, stands_same}
 use Rattle.zone_spans.proofs.Picks.{all_filter}
 use Rattle.zone_spans.proofs.QuietLemmas.{quiet_years}
 use Rattle.zone_spans.proofs.SoundLemmas.{bounded_rules}
@@ -112,28 +116,6 @@ unended_below offset end limit rules (suc n) ends all below =
     (λ i. ((so_far i).0 ++ (fired (length rs) year offset end (so_far i).1 rs).0, (fired (length rs) year offset end (so_far i).1 rs).1))
     ∙ ap (λ (l : Fired). (before.0 ++ l.0, l.1)) here
 
--- the firings of more years begin with those of fewer
-more_years : (offset : ℤ) (end : Option ChangeTime) (rules : List RuleInfo) (k n : ℕ) → k ≤ n
-    → (zs : List Firing) × ((firings_of_years offset end rules n).0 ≡ (firings_of_years offset end rules k).0 ++ zs)
-unfolding firings_of_years
-more_years offset end rules k zero le =
-    let none : k ≡ zero = omega (arith, le) in
-    ([], ap (λ m. (firings_of_years offset end rules m).0) (sym none) ∙ sym (append-nil (firings_of_years offset end rules k).0))
-more_years offset end rules k (suc n) le =
-    elim (eq-or-lt_of_le {n = k} {m = suc n} le) [
-      | inl same ↦ ([], ap (λ m. (firings_of_years offset end rules m).0) (sym same) ∙ sym (append-nil (firings_of_years offset end rules k).0))
-      | inr less ↦
-          let before = more_years offset end rules k n (omega (arith, less)) in
-          let here = (year_firings (pos (earliest_year + n)) offset end (firings_of_years offset end rules n).1 rules).0 in
-          (before.0 ++ here, ap (λ xs. xs ++ here) before.1 ∙ append_assoc (firings_of_years offset end rules k).0 before.0 here)
-    ]
-
-pub begin_with : (offset : ℤ) (end : Option ChangeTime) (rules : List RuleInfo) (k n : ℕ) → k ≤ n
-    → take (length (firings_of_years offset end rules k).0) (firings_of_years offset end rules n).0 ≡ (firings_of_years offset end rules k).0
-begin_with offset end rules k n le =
-    let more = more_years offset end rules k n le in
-    ap (take (length (firings_of_years offset end rules k).0)) more.1 ∙ take-append_seam (firings_of_years offset end rules k).0 more.0
-
 -- an end under the greatest saving is the first
 first_end : (mark : TimeType) (local offset saving : ℤ) → IsTrue (are_small_seconds saving)
     → instant_of mark local offset (pos 1000000) ≤ℤ instant_of mark local offset saving
@@ -171,9 +153,6 @@ most_of early later le (f ∷ fs) all =
     both (int_le f.time later) _ (at_most_more f.time early later (first (int_le f.time early) _ all) le)
     (most_of early later le fs (second (int_le f.time early) _ all))
 
-pub not_at_most : (a b : ℤ) → int_le a b ≡ false → int_lt b a ≡ true
-not_at_most a b h = grind (arith, ints)
-
 pub le_chain : (a b c : ℤ) → a ≤ℤ b → b ≤ℤ c → a ≤ℤ c
 le_chain a b c h k = omega (arith, ints, h, k)
 
@@ -191,6 +170,13 @@ latest_more fired i f early later l is before here le =
     list_all_more test fired i f l
     ∙ both (list_all test (take i fired)) _ (most_of early later le (take i fired) before) (subst (λ g. IsTrue (test g)) is here)
 
+-- nothing fires in the first years
+pub nothing_fires : (offset : ℤ) (end : Option ChangeTime) (rules : List RuleInfo) (quiet : ℕ) (marks : List Mark)
+    → AppliesToNone rules quiet → length marks ≡ 0 → firings_of_years offset end rules (quiet + length marks) ≡ ([], pos 0)
+nothing_fires offset end rules quiet marks quiet_ones none =
+    let years : quiet + length marks ≡ quiet = omega (arith, none) in
+    ap (firings_of_years offset end rules) years ∙ quiet_years offset end rules quiet quiet_ones
+
 -- the last mark is that of all years that have one
 pub last_is : (offset : ℤ) (rules : List RuleInfo) (quiet : ℕ) (marks : List Mark) (mark : Mark) → AreMarks offset rules quiet marks
     → IsLastMark marks mark → IsMark (marked offset rules quiet marks) mark
@@ -198,12 +184,13 @@ last_is offset rules quiet marks mark are last = at (length marks) refl
   where
     at : (n : ℕ) → length marks ≡ n → IsMark (marked offset rules quiet marks) mark
     at zero none =
-        let years : quiet + length marks ≡ quiet = omega (arith, none) in
-        let is : marked offset rules quiet marks ≡ ([], pos 0) = ap (unended offset rules) years ∙ are.nothing in
+        let is : marked offset rules quiet marks ≡ ([], pos 0) = nothing_fires offset None rules quiet marks are.none none in
+        let no_last = (last.none none).1 in
         record {
-          count = (last.none none).0 ∙ sym (ap (λ (l : Fired). length l.0) is);
-          saving = (last.none none).1 ∙ sym (ap (λ (l : Fired). l.1) is);
+          saving = (last.none none).0 ∙ sym (ap (λ (l : Fired). l.1) is);
           latest = ap (λ (l : Fired). list_all (λ f. int_le f.time mark.latest) l.0) is;
+          last = no_last ∙ sym (ap (λ (l : Fired). last_or None l.0) is);
+          bounded = ap (λ (o : Option Firing). list_all is_bounded_firing (option_to_list o)) no_last;
         }
     at (suc j) some =
         let here : IsMark (unended offset rules (quiet + suc j)) (get_or marks j mark) = are.each j mark (omega (arith, some)) in
@@ -218,8 +205,7 @@ last_below limit offset rules quiet marks mark are below = at (length marks) ref
   where
     at : (n : ℕ) → length marks ≡ n → IsTrue (list_all (λ f. int_lt f.time limit) (marked offset rules quiet marks).0)
     at zero none =
-        let years : quiet + length marks ≡ quiet = omega (arith, none) in
-        ap (λ (l : Fired). list_all (λ f. int_lt f.time limit) l.0) (ap (unended offset rules) years ∙ are.nothing)
+        ap (λ (l : Fired). list_all (λ f. int_lt f.time limit) l.0) (nothing_fires offset None rules quiet marks are.none none)
     at (suc j) some =
         let here : IsMark (unended offset rules (quiet + suc j)) (get_or marks j mark) = are.each j mark (omega (arith, some)) in
         let years : quiet + suc j ≡ quiet + length marks = omega (arith, some) in
@@ -231,57 +217,11 @@ fewer_marks : (offset : ℤ) (rules : List RuleInfo) (quiet : ℕ) (marks : List
 fewer_marks offset rules quiet marks count le are =
     let len : length (take count marks) ≡ count = length-take-le count marks le in
     record {
-      nothing = are.nothing;
+      none = are.none;
       most = omega (arith, are.most, le, len);
       each = λ i d l. subst (λ m. IsMark (unended offset rules (quiet + suc i)) m)
           (sym (get_or-take count marks i d (omega (arith, l, len)))) (are.each i d (omega (arith, l, len, le)));
     }
-
-pub passes_take : {X : Type 0} (p : X → Bool) (n : ℕ) (xs : List X) → IsTrue (list_all p xs) → IsTrue (list_all p (take n xs))
-passes_take p n xs all =
-    first (list_all p (take n xs)) _ (sym (list_all-append p (take n xs) (drop n xs)) ∙ ap (list_all p) (take-append-drop n xs) ∙ all)
-
--- cut back to marks whose firings are before the limit
-pub cut_marks : (limit offset : ℤ) (rules : List RuleInfo) (quiet : ℕ) (fired : List Firing) (marks : List Mark) (count : ℕ) (mark : Mark)
-    → count ≤ length marks → AreBelow limit count marks → IsLastMark (take count marks) mark
-    → BeginWithMarked offset rules quiet fired marks
-    → AreMarkedBelow limit offset rules quiet (take mark.count fired) (take count marks)
-cut_marks limit offset rules quiet fired marks count mark le below last begun =
-    let len : length (take count marks) ≡ count = length-take-le count marks le in
-    let fewer = fewer_marks offset rules quiet marks count le begun.are in
-    let all = (marked offset rules quiet marks).0 in
-    let left = (marked offset rules quiet (take count marks)).0 in
-    let more = more_years offset None rules (quiet + length (take count marks)) (quiet + length marks) (omega (arith, le, len)) in
-    let rest = drop (length all) fired in
-    let is : fired ≡ left ++ (more.0 ++ rest) = sym (take-append-drop (length all) fired)
-    ∙ ap (λ xs. xs ++ rest) (begun.firings ∙ more.1) ∙ append_assoc left more.0 rest in
-    let last_here = last_is offset rules quiet (take count marks) mark fewer last in
-    record {
-      are = fewer;
-      firings = (λ i. take (last_here.count i) (is i)) ∙ take-append_seam left (more.0 ++ rest);
-      below = last_below limit offset rules quiet (take count marks) mark fewer
-          (λ i d l. subst (λ (m : Mark). IsTrue (int_lt m.latest limit)) (sym (get_or-take count marks i d (omega (arith, l, len))))
-          (below i d (omega (arith, l, len))));
-      bounded = passes_take is_bounded_firing mark.count fired begun.bounded;
-    }
-
--- the firings that a mark counts, where it is below a second
-pub before_second : (offset : ℤ) (rules : List RuleInfo) (quiet : ℕ) (fired : List Firing) (marks : List Mark) (i : ℕ) (mark : Mark)
-    (second : ℤ) → i < length marks → mark ≡ get_or marks i mark → IsTrue (int_lt mark.latest second)
-    → BeginWithMarked offset rules quiet fired marks
-    → IsTrue (list_all (λ f. int_lt f.time second) (take mark.count fired)) × (mark.count ≤ length fired)
-before_second offset rules quiet fired marks i mark second l is less begun =
-    let here : IsMark (unended offset rules (quiet + suc i)) mark =
-    subst (λ (m : Mark). IsMark (unended offset rules (quiet + suc i)) m) (sym is) (begun.are.each i mark l) in
-    let all = (marked offset rules quiet marks).0 in
-    let due = (unended offset rules (quiet + suc i)).0 in
-    let more = more_years offset None rules (quiet + suc i) (quiet + length marks) (omega (arith, l)) in
-    let rest = drop (length all) fired in
-    let fired_is : fired ≡ due ++ (more.0 ++ rest) = sym (take-append-drop (length all) fired)
-    ∙ ap (λ xs. xs ++ rest) (begun.firings ∙ more.1) ∙ append_assoc due more.0 rest in
-    let len : length fired ≡ length due + length (more.0 ++ rest) = ap length fired_is ∙ length-append due (more.0 ++ rest) in
-    let are : take mark.count fired ≡ due = (λ k. take (here.count k) (fired_is k)) ∙ take-append_seam due (more.0 ++ rest) in
-    (ap (list_all (λ f. int_lt f.time second)) are ∙ below_of mark.latest second less due here.latest, omega (arith, len, here.count))
 
 -- the mark of one year more
 one_mark_more : (offset : ℤ) (rules : List RuleInfo) (quiet : ℕ) (marks : List Mark) (mark : Mark) → quiet + length marks < most_years
@@ -290,7 +230,7 @@ one_mark_more : (offset : ℤ) (rules : List RuleInfo) (quiet : ℕ) (marks : Li
 one_mark_more offset rules quiet marks mark most are here =
     let len : length (marks ++ mark ∷ []) ≡ length marks + 1 = length-append marks (mark ∷ []) in
     record {
-      nothing = are.nothing;
+      none = are.none;
       most = omega (arith, most, len);
       each = λ i d l. at i d (omega (arith, l, len));
     }
@@ -307,100 +247,107 @@ one_mark_more offset rules quiet marks mark most are here =
               (are.each i d less)
         ]
 
--- one year more, whose firings are before the limit
-pub year_kept : (limit offset : ℤ) (rules : List RuleInfo) (quiet : ℕ) (fired fired' : List Firing) (marks : List Mark) (mark : Mark)
-    (year saving latest : ℤ) (count : ℕ) → quiet + length marks < most_years → year ≡ pos (earliest_year + (quiet + length marks)) → IsLastMark marks mark
-    → AreMarkedBelow limit offset rules quiet fired marks
-    → Fires fired' saving (after fired (year_firings year offset None mark.saving rules))
-    → IsTrue (list_all (λ f. int_le f.time latest) (drop (length fired) fired')) → mark.latest ≤ℤ latest → IsTrue (int_lt latest limit)
-    → IsTrue (list_all is_bounded_firing fired') → count ≡ length fired'
-    → AreMarkedBelow limit offset rules quiet fired' (marks ++ record { count = count; saving = saving; latest = latest } ∷ [])
-year_kept limit offset rules quiet fired fired' marks mark year saving latest count most year_is last kept fires here later below bounded counted =
+last_after : {X : Type 0} (o : Option X) (xs ys : List X) → last_or o (xs ++ ys) ≡ last_or (last_or o xs) ys
+last_after o [] ys = refl
+last_after o (x ∷ xs) ys = last_after (Some x) xs ys
+
+-- what passes at each passes at the last
+last_passes : {X : Type 0} (p : X → Bool) (o : Option X) (xs : List X) → IsTrue (list_all p (option_to_list o)) → IsTrue (list_all p xs)
+    → IsTrue (list_all p (option_to_list (last_or o xs)))
+last_passes p o [] h all = h
+last_passes p o (x ∷ xs) h all = last_passes p (Some x) xs (both (p x) _ (first (p x) _ all) refl) (second (p x) _ all)
+
+-- one year more
+pub year_marked : (offset : ℤ) (rules : List RuleInfo) (quiet : ℕ) (fired : List Firing) (marks : List Mark) (mark : Mark)
+    (year saving latest : ℤ) (last : Option Firing) → quiet + length marks < most_years → year ≡ pos (earliest_year + (quiet + length marks))
+    → IsLastMark marks mark → AreMarks offset rules quiet marks
+    → Fires fired saving (after [] (year_firings year offset None mark.saving rules))
+    → IsTrue (list_all (λ f. int_le f.time latest) fired) → mark.latest ≤ℤ latest → last ≡ last_or mark.last fired
+    → IsTrue (list_all is_bounded_firing fired)
+    → AreMarks offset rules quiet (marks ++ record { saving = saving; latest = latest; last = last } ∷ [])
+year_marked offset rules quiet fired marks mark year saving latest last most year_is is_last are fires here later last_here bounded =
     let n = quiet + length marks in
-    let before = last_is offset rules quiet marks mark kept.are last in
-    let due : Fires fired' saving (unended offset rules (n + 1)) =
-    fires_more offset None rules n fired fired' year mark.saving saving year_is
-    (record { firings = kept.firings; saving = before.saving }) fires in
+    let so_far = (unended offset rules n).0 in
+    let before = last_is offset rules quiet marks mark are is_last in
     let test : Firing → Bool = λ f. int_le f.time latest in
-    let more = (year_firings year offset None mark.saving rules).0 in
-    let behind : drop (length fired) fired' ≡ more = ap (drop (length fired)) fires.firings ∙ drop-append_seam fired more in
-    let so_far : IsTrue (list_all test fired) =
-    most_of mark.latest latest later fired (ap (list_all (λ f. int_le f.time mark.latest)) kept.firings ∙ before.latest) in
-    let all : IsTrue (list_all test fired') =
-    ap (list_all test) fires.firings ∙ list_all-append test fired more
-    ∙ both (list_all test fired) _ so_far (ap (list_all test) (sym behind) ∙ here) in
-    let all_due : IsTrue (list_all test (unended offset rules (n + 1)).0) = ap (list_all test) (sym due.firings) ∙ all in
-    let new : Mark = record { count = count; saving = saving; latest = latest } in
-    let len : length (marks ++ new ∷ []) ≡ length marks + 1 = length-append marks (new ∷ []) in
-    let years : n + 1 ≡ quiet + length (marks ++ new ∷ []) = omega (arith, len) in
-    record {
-      are = one_mark_more offset rules quiet marks new most kept.are (record {
-        count = counted ∙ ap length due.firings;
-        saving = due.saving;
-        latest = all_due;
-      });
-      firings = due.firings ∙ ap (λ k. (unended offset rules k).0) years;
-      below = subst (λ k. IsTrue (list_all (λ f. int_lt f.time limit) (unended offset rules k).0)) years
-          (below_of latest limit below (unended offset rules (n + 1)).0 all_due);
-      bounded = bounded;
-    }
+    let due : Fires (so_far ++ fired) saving (unended offset rules (n + 1)) =
+    fires_more offset None rules n so_far (so_far ++ fired) year mark.saving saving year_is
+    (record { firings = refl; saving = before.saving })
+    (record { firings = ap (λ xs. so_far ++ xs) fires.firings; saving = fires.saving }) in
+    one_mark_more offset rules quiet marks _ most are (record {
+      saving = due.saving;
+      latest = ap (list_all test) (sym due.firings) ∙ list_all-append test so_far fired
+          ∙ both (list_all test so_far) _ (most_of mark.latest latest later so_far before.latest) here;
+      last = last_here ∙ ap (λ (o : Option Firing). last_or o fired) before.last ∙ sym (last_after None so_far fired)
+          ∙ ap (last_or None) due.firings;
+      bounded = subst (λ (o : Option Firing). IsTrue (list_all is_bounded_firing (option_to_list o))) (sym last_here)
+          (last_passes is_bounded_firing mark.last fired before.bounded bounded);
+    })
 
--- a year that is let go
-pub year_left : (limit offset : ℤ) (rules : List RuleInfo) (quiet : ℕ) (fired fired' : List Firing) (marks : List Mark) (due : Fired)
-    (saving : ℤ) → AreMarkedBelow limit offset rules quiet fired marks → Fires fired' saving (after fired due)
-    → AreMarkedBelow limit offset rules quiet (take (length fired) fired') marks
-year_left limit offset rules quiet fired fired' marks due saving kept fires =
-    let is : take (length fired) fired' ≡ fired = ap (take (length fired)) fires.firings ∙ take-append_seam fired due.0 in
-    subst (λ fs. AreMarkedBelow limit offset rules quiet fs marks) (sym is) kept
+-- one firing more
+pub last_more : {X : Type 0} (o : Option X) (xs : List X) (i : ℕ) (x : X) (last : Option X) → i < length xs → x ≡ get_or xs i x
+    → last ≡ last_or o (take i xs) → Some x ≡ last_or o (take (i + 1) xs)
+last_more o xs i x last l is before =
+    sym (ap (last_or o) (take_more xs i x l ∙ ap (λ y. take i xs ++ y ∷ []) (sym is)) ∙ last_after o (take i xs) (x ∷ []))
 
--- what a line fires begins with what is kept
-pub begun_by : (limit offset : ℤ) (end : Option ChangeTime) (rules : List RuleInfo) (quiet : ℕ) (fired fired' : List Firing)
-    (marks : List Mark) (saving : ℤ) (years : ℕ) → IsLimit end offset limit → AllByRecursion HasSmallSaving rules
-    → quiet + length marks ≤ years → AreMarkedBelow limit offset rules quiet fired marks
-    → Fires fired' saving (firings_of_years offset end rules years) → IsTrue (list_all is_bounded_firing fired')
-    → BeginWithMarked offset rules quiet fired' marks
-begun_by limit offset end rules quiet fired fired' marks saving years ends small le kept fires bounded =
-    let n = quiet + length marks in
-    let same : firings_of_years offset end rules n ≡ unended offset rules n = unended_below offset end limit rules n ends small kept.below in
-    record {
-      are = kept.are;
-      firings = (λ i. take (length (sym same i).0) (fires.firings i)) ∙ begin_with offset end rules n years le ∙ ap (λ (l : Fired). l.0) same;
-      bounded = bounded;
-    }
+sooner_below : (time second limit : ℤ) → int_lt time second ≡ true → second ≤ℤ limit → int_lt time limit ≡ true
+sooner_below time second limit h le = grind (arith, ints)
 
--- and what is kept is what the line fires in as many years
-pub fires_kept : (limit offset : ℤ) (end : Option ChangeTime) (rules : List RuleInfo) (quiet : ℕ) (fired : List Firing) (marks : List Mark)
-    (mark : Mark) → IsLimit end offset limit → AllByRecursion HasSmallSaving rules
-    → AreMarkedBelow limit offset rules quiet fired marks → IsLastMark marks mark
-    → Fires fired mark.saving (firings_of_years offset end rules (quiet + length marks))
-fires_kept limit offset end rules quiet fired marks mark ends small kept last =
-    let n = quiet + length marks in
-    let same : unended offset rules n ≡ firings_of_years offset end rules n = sym (unended_below offset end limit rules n ends small kept.below) in
-    record {
-      firings = kept.firings ∙ ap (λ (l : Fired). l.0) same;
-      saving = (last_is offset rules quiet marks mark kept.are last).saving ∙ ap (λ (l : Fired). l.1) same;
-    }
+-- a sooner second is a limit too
+pub sooner_limit : (end : Option ChangeTime) (offset limit second : ℤ) → IsLimit end offset limit → second ≤ℤ limit → IsLimit end offset second
+sooner_limit end offset limit second ends le saving time small below = ends saving time small (sooner_below time second limit below le)
 
--- nothing is kept
+all_sooner : (sooner start : ℤ) → sooner ≤ℤ start → (fs : List Firing) → IsTrue (list_all (λ f. int_lt f.time sooner) fs)
+    → IsTrue (list_all (λ f. int_lt f.time start) fs)
+all_sooner sooner start le [] all = refl
+all_sooner sooner start le (f ∷ fs) all =
+    both (int_lt f.time start) _ (sooner_below f.time sooner start (first (int_lt f.time sooner) _ all) le)
+    (all_sooner sooner start le fs (second (int_lt f.time sooner) _ all))
+
+-- what a mark has of the first n years of a line with that start
+pub record Serves (start offset : ℤ) (end : Option ChangeTime) (rules : List RuleInfo) (n : ℕ) (mark : Mark) : Type 0 where
+  pub stands : StandsFor (Some start) (option_to_list mark.last) (firings_of_years offset end rules n).0
+  pub saving : mark.saving ≡ (firings_of_years offset end rules n).1
+  pub small : IsTrue (are_small_seconds mark.saving)
+  pub bounded : IsTrue (list_all is_bounded_firing (option_to_list mark.last))
+
+-- the last of marks that are before the start and the limit serves a line with that start
+pub mark_serves : (second start offset : ℤ) (end : Option ChangeTime) (rules : List RuleInfo) (quiet : ℕ) (marks : List Mark) (count : ℕ)
+    (mark : Mark) → IsLimit end offset second → second ≤ℤ start → AllByRecursion HasSmallSaving rules → AreMarks offset rules quiet marks
+    → count ≤ length marks → AreBelow second count marks → IsLastMark (take count marks) mark
+    → Serves start offset end rules (quiet + count) mark
+mark_serves second start offset end rules quiet marks count mark ends sooner small are le below last =
+    let len : length (take count marks) ≡ count = length-take-le count marks le in
+    let ones = take count marks in
+    let fewer = fewer_marks offset rules quiet marks count le are in
+    let here = last_is offset rules quiet ones mark fewer last in
+    let all = last_below second offset rules quiet ones mark fewer
+    (λ i d l. subst (λ (m : Mark). IsTrue (int_lt m.latest second)) (sym (get_or-take count marks i d (omega (arith, l, len))))
+    (below i d (omega (arith, l, len)))) in
+    let n = quiet + length ones in
+    let same : unended offset rules n ≡ firings_of_years offset end rules n = sym (unended_below offset end second rules n ends small all) in
+    let due = (unended offset rules n).0 in
+    let stands : StandsFor (Some start) (option_to_list mark.last) due =
+    subst (λ (o : Option Firing). StandsFor (Some start) (option_to_list o) due) (sym here.last)
+    (last_stands start None due refl (all_sooner second start sooner due all)) in
+    subst (λ k. Serves start offset end rules (quiet + k) mark) len (record {
+      stands = subst (λ (l : Fired). StandsFor (Some start) (option_to_list mark.last) l.0) same stands;
+      saving = here.saving ∙ ap (λ (l : Fired). l.1) same;
+      small = subst (λ s. IsTrue (are_small_seconds s)) (sym here.saving) (unended_small offset rules n small);
+      bounded = here.bounded;
+    })
+
+-- nothing is marked
 pub begun_quiet : (offset : ℤ) (rules : List RuleInfo) (quiet : ℕ) → AppliesToNone rules quiet → quiet ≤ most_years
-    → BeginWithMarked offset rules quiet [] []
-begun_quiet offset rules quiet none le =
-    let is : unended offset rules quiet ≡ ([], pos 0) = quiet_years offset None rules quiet none in
-    let years : quiet + 0 ≡ quiet = omega arith in
-    let all_is : unended offset rules (quiet + 0) ≡ ([], pos 0) = ap (unended offset rules) years ∙ is in
-    record {
-      are = record {
-        nothing = is;
-        most = omega (arith, le);
-        each = λ i d l. absurd (omega (arith, l));
-      };
-      firings = (λ i. take (length (all_is i).0) []) ∙ ap (λ (l : Fired). l.0) (sym all_is);
-      bounded = refl;
-    }
+    → AreMarks offset rules quiet []
+begun_quiet offset rules quiet none le = record {
+  none = none;
+  most = omega (arith, le);
+  each = λ i d l. absurd (omega (arith, l));
+}
 
--- a line that is not ruled fires nothing
-pub unruled_fires_none : (line : Line) → is_ruled line.info.saving ≡ false → IsTrue (list_all is_bounded_firing (firings line))
-unfolding line_firings
-unruled_fires_none line none =
-    ap (λ b. list_all is_bounded_firing
-    (if b then firings_of_years line.info.offset line.end line.rules (years_expanded line.end) else ([], fixed_saving line.info.saving)).0) none
+-- no firing stands for those of the first years
+pub quiet_stands : (start : Option ℤ) (offset : ℤ) (end : Option ChangeTime) (rules : List RuleInfo) (quiet : ℕ) → AppliesToNone rules quiet
+    → StandsFor start [] (firings_of_years offset end rules quiet).0
+quiet_stands start offset end rules quiet none =
+    subst (λ (l : Fired). StandsFor start [] l.0) (sym (quiet_years offset end rules quiet none)) (stands_same start [])

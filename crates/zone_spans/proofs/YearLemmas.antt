@@ -1,5 +1,5 @@
 -- One year more.
-use Rattle.std.proofs.Common.{◌≡◌, ℕ, suc, ◌+◌, ◌&&◌, List, [], ◌∷◌, ◌++◌, Option, ℤ, pos, IsTrue, refl, sym, ap, ◌∙◌, add-one}
+use Rattle.std.proofs.Common.{◌≡◌, ℕ, suc, ◌+◌, ◌&&◌, List, [], ◌∷◌, ◌++◌, Option, ℤ, pos, IsTrue, refl, sym, ap, ◌∙◌, subst, add-one}
 use Rattle.std.proofs.lemmas.List.Folds.{list_all-append}
 use Rattle.std.specs.List.{list_all}
 use Rattle.zone_values.specs.Bounds.{are_small_seconds}
@@ -9,6 +9,8 @@ use Rattle.zone_table.specs.declared.rule.RuleInfo.{RuleInfo}
 use Rattle.zone_spans.specs.Bounds.{has_moment, is_bounded_firing}
 use Rattle.zone_spans.specs.Fires.{Fires, after}
 use Rattle.zone_spans.specs.Firings.{Firing, year_firings, firings_of_years}
+use Rattle.zone_spans.specs.Stands.{StandsFor}
+use Rattle.zone_spans.proofs.ListingLemmas.{stands_more}
 use Rattle.zone_spans.proofs.BoundLemmas.{both, first, second}
 use Rattle.zone_spans.specs.Years.{earliest_year}
 
@@ -26,6 +28,32 @@ fires_more offset end rules n fired fired' year saving saving' is f g =
       saving = g.saving ∙ (λ i. (year_firings (is i) offset end (f.saving i) rules).1)
           ∙ ap (λ k. (firings_of_years offset end rules k).1) (sym at);
     }
+
+-- what stood for the firings of n years stands for those of one year more
+pub stands_year : (offset : ℤ) (end : Option ChangeTime) (rules : List RuleInfo) (n : ℕ) (start : Option ℤ) (fired fired' : List Firing)
+    (year saving saving' : ℤ)
+    → year ≡ pos (earliest_year + n) → saving ≡ (firings_of_years offset end rules n).1
+    → Fires fired' saving' (after fired (year_firings year offset end saving rules))
+    → StandsFor start fired (firings_of_years offset end rules n).0
+    → StandsFor start fired' (firings_of_years offset end rules (n + 1)).0
+stands_year offset end rules n start fired fired' year saving saving' is in_force here stands =
+    let so_far = (firings_of_years offset end rules n).0 in
+    let more = (year_firings year offset end saving rules).0 in
+    let due = fires_more offset end rules n so_far (so_far ++ more) year saving saving' is (record { firings = refl; saving = in_force })
+    (record { firings = refl; saving = here.saving }) in
+    subst (λ xs. StandsFor start xs (firings_of_years offset end rules (n + 1)).0) (sym here.firings)
+    (subst (λ xs. StandsFor start (fired ++ more) xs) due.firings (stands_more start fired so_far more stands))
+
+pub saving_year : (offset : ℤ) (end : Option ChangeTime) (rules : List RuleInfo) (n : ℕ) (fired fired' : List Firing)
+    (year saving saving' : ℤ)
+    → year ≡ pos (earliest_year + n) → saving ≡ (firings_of_years offset end rules n).1
+    → Fires fired' saving' (after fired (year_firings year offset end saving rules))
+    → saving' ≡ (firings_of_years offset end rules (n + 1)).1
+saving_year offset end rules n fired fired' year saving saving' is in_force here =
+    let so_far = (firings_of_years offset end rules n).0 in
+    let more = (year_firings year offset end saving rules).0 in
+    (fires_more offset end rules n so_far (so_far ++ more) year saving saving' is (record { firings = refl; saving = in_force })
+    (record { firings = refl; saving = here.saving })).saving
 
 pub one_more : (fired : List Firing) (f : Firing) → IsTrue (list_all is_bounded_firing fired) → IsTrue (is_bounded_firing f)
     → IsTrue (list_all is_bounded_firing (fired ++ f ∷ []))

@@ -17,6 +17,7 @@ pub mod ScheduleLaws
 pub mod Fires
 pub mod Fronts
 pub mod Quiet
+pub mod Stands
 pub mod Kept
 pub mod Several
 pub mod KeptFor

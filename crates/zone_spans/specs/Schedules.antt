@@ -3,7 +3,7 @@ use Rattle.std.specs.Prelude.{ℕ, zero, suc, Bool, ◌&&◌, List, [], ◌∷�
 use Rattle.std.specs.List.{list_all}
 use Rattle.std.specs.Ordering.{int_eq}
 use Rattle.civil_base.specs.Instants.{instant_at}
-use Rattle.civil_base.specs.Ranges.{is_offset}
+use Rattle.civil_base.specs.Ranges.{greatest_offset, is_offset}
 use Rattle.zone_table.specs.declared.zone.ZoneInfo.{ZoneInfo}
 use Rattle.zone_spans.specs.Compiled.{compiled}
 use Rattle.zone_spans.specs.Entries.{total}
@@ -49,13 +49,13 @@ abbrev pub down_from : ℤ → ℕ → List ℤ
 down_from o zero = []
 down_from o (suc n) = o ∷ down_from (o -ℤ pos 1) n
 
--- how many there are from -93,599 to 93,599
+-- how many there are: the greatest offset twice, and 0
 unfoldable pub offset_count : ℕ
 offset_count = 187199
 
--- the offsets, from 93,599 down to -93,599
+-- the offsets, from the greatest down to the least
 unfoldable pub offsets : List ℤ
-offsets = down_from (pos 93599) offset_count
+offsets = down_from (pos greatest_offset) offset_count
 
 -- the instants that are read as a local time where this total is in force at each: by time, those that some offset gives
 unfoldable pub instants : (ℤ → ℤ) → ℤ → List ℤ

@@ -112,25 +112,21 @@ fn push_above(
     Ok(())
 }
 
-/// Adds an entry for each of the firings that a line with that start lists. The first of those at the start has that place,
-/// and so many of the first ones are below the start.
+/// Adds an entry for each of the firings that a line with that start lists. The first of those at the start has that place.
 #[tactic(auto, unfolding(crate::specs::Listing::listed_from))]
 fn push_listed(
     entries: &mut Entries,
     alloc: Global,
     line: &Line<'_>,
     start: i64,
-    below: usize,
     place: usize,
     fired: &[Firing<'_>],
 ) -> Result<(), AllocError>
-    requires below { IsTrue (list_all (λ f. int_lt f.time start) (take below fired.now)) }
-    requires least { below ≤ place }
     requires most { place ≤ length fired.now }
     requires place { place ≡ position_or_len (is_at start) fired.now }
     ensures { IfOk result (λ _. entries.new ≡ entries.old ++ map (entry_of line.now) (listed_from start fired.now)) }
 {
-    push_above(entries, alloc, line, start, &fired[below..place])?;
+    push_above(entries, alloc, line, start, &fired[..place])?;
     push_all(entries, alloc, line, &fired[place..])?;
     Ok(())
 }
@@ -153,43 +149,36 @@ fn push_start(
     Ok(())
 }
 
-/// Adds the entries of a ruled line with that start and these firings, of which so many of the first ones are below the start.
+/// Adds the entries of a ruled line with that start and these firings.
 fn push_from(
     entries: &mut Entries,
     alloc: Global,
     line: &Line<'_>,
     start: i64,
-    below: usize,
     fired: &[Firing<'_>],
 ) -> Result<(), AllocError>
-    requires len { below ≤ length fired.now }
-    requires below { IsTrue (list_all (λ f. int_lt f.time start) (take below fired.now)) }
     ensures { IfOk result (λ _. entries.new ≡ entries.old
         ++ (map (entry_of line.now) (listed_from start fired.now) ++ start_entry line.now (Some start) fired.now)) }
 {
-    let place = place_at(start, below, fired);
-    push_listed(entries, alloc, line, start, below, place, fired)?;
+    let place = place_at(start, fired);
+    push_listed(entries, alloc, line, start, place, fired)?;
     push_start(entries, alloc, line, start, place, fired)
 }
 
-/// Adds the entries of a ruled line with that start, whose firings are kept.
+/// Adds the entries of a ruled line with these firings, and with that start where it is not the first.
 fn push_ruled(
     entries: &mut Entries,
     alloc: Global,
     line: &Line<'_>,
     start: Option<i64>,
-    kept: &Kept<'_>,
+    fired: &[Firing<'_>],
 ) -> Result<(), AllocError>
-    requires { IsKept kept.now }
     ensures { IfOk result (λ _. entries.new ≡ entries.old
-        ++ (map (entry_of line.now) (listed start kept.now.fired.items) ++ start_entry line.now start kept.now.fired.items)) }
+        ++ (map (entry_of line.now) (listed start fired.now) ++ start_entry line.now start fired.now)) }
 {
     match start {
-        Some(start) => {
-            let below = kept.firings_below(start);
-            push_from(entries, alloc, line, start, below, &kept.fired)
-        }
-        None => push_all(entries, alloc, line, &kept.fired),
+        Some(start) => push_from(entries, alloc, line, start, fired),
+        None => push_all(entries, alloc, line, fired),
     }
 }
 
@@ -208,12 +197,13 @@ fn push_fixed(
     Ok(())
 }
 
-/// Adds the entries of a line with that start, and gives the start of the next line.
+/// Adds the entries of a line with that start, and gives the start of the next line. What it fires goes into `fired`.
 #[tactic(auto, unfolding(crate::specs::Entries::entries_of, crate::specs::Entries::next_start, crate::specs::Firings::line_firings))]
 fn push_line<'a>(
     entries: &mut Entries,
     alloc: Global,
     kept: &mut Several<Kept<'a>>,
+    fired: &mut Vec<Firing<'a>>,
     line: &Line<'a>,
     start: Option<i64>,
 ) -> Result<Option<i64>, AllocError>
@@ -225,8 +215,8 @@ fn push_line<'a>(
     ensures kept { IfOk result (λ _. AreAll IsKept kept.new) }
 {
     if line.is_ruled() {
-        let last_saving = fire_line(kept, alloc, line)?;
-        push_ruled(entries, alloc, line, start, &kept.current)?;
+        let last_saving = fire_line(kept, fired, alloc, line, start)?;
+        push_ruled(entries, alloc, line, start, fired)?;
         return Ok(next_start(line, last_saving));
     }
     push_fixed(entries, alloc, line, start)?;
@@ -254,9 +244,10 @@ fn raw_entries<'a>(alloc: Global, lines: &[Line<'a>]) -> Result<Entries, AllocEr
 {
     let mut entries = Items::new(alloc);
     let mut kept = Several::new(alloc, Kept::new(alloc));
+    let mut fired = Vec::new(alloc);
     let mut start = None;
     for line in lines {
-        start = push_line(&mut entries, alloc, &mut kept, line, start)?;
+        start = push_line(&mut entries, alloc, &mut kept, &mut fired, line, start)?;
     }
     Ok(entries)
 }

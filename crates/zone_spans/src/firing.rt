@@ -22,6 +22,16 @@ impl<'a> Model for Firing<'a> {
 }
 
 impl<'a> Firing<'a> {
+    /// The same firing.
+    pub(crate) fn copied(&self) -> Firing<'a>
+        ensures { result ≡ self.now }
+    {
+        Firing {
+            time: self.time,
+            rule: self.rule,
+        }
+    }
+
     pub(crate) fn is_at(&self, start: i64) -> bool
         ensures { result ≡ is_at start self.now }
     {

@@ -1,16 +1,17 @@
-//! Firings that are kept from line to line: what a ruleset fires under an offset is the same for each line of them, up to
-//! the line's end.
-ghost use Rattle.std.specs.Prelude.{◌≡◌, ◌+◌, ◌<◌, ◌≤◌, ◌≤ℤ◌, if◌then◌else◌, List, ℕ, ℤ, true, IfOk, IsTrue, length, int_le, int_lt, take};
-ghost use Rattle.std.specs.List.{list_all};
+//! What the first years of a ruleset fire under an offset, cut by no end: it is the same for each line of them. Of the firings
+//! before a line's start only the last one matters, so a mark of each year takes their place.
+ghost use Rattle.std.specs.Prelude.{◌≡◌, ◌+◌, ◌<◌, ◌≤◌, ◌≤ℤ◌, Option, None, ℤ, true, IfOk, IsTrue, Some, length, int_le, pos};
+ghost use Rattle.std.specs.List.{last_or, list_all};
+ghost use Rattle.std.specs.Option.{option_to_list};
 ghost use Rattle.zone_values.specs.Bounds.{are_small_seconds};
-ghost use Rattle.zone_table.specs.declared.rule.RuleInfo.{RuleInfo};
-ghost use Rattle.zone_spans.specs.Bounds.{IsSound, can_fire, is_bounded_firing, is_end};
-ghost use Rattle.zone_spans.specs.Fires.{Fires};
-ghost use Rattle.zone_spans.specs.Firings.{Firing, firings_of_years, line_firings, years_expanded};
-ghost use Rattle.zone_spans.specs.Kept.{AreBelow, AreMarkedBelow, BeginWithMarked, IsLastMark, IsLimit};
+ghost use Rattle.zone_spans.specs.Bounds.{IsSound, is_bounded_firing, is_end};
+ghost use Rattle.zone_spans.specs.Firings.{Firing, firings, firings_of_years, last_saving, years_expanded};
+ghost use Rattle.zone_spans.specs.Kept.{AreBelow, AreMarks, IsLastMark, IsLimit};
 ghost use Rattle.zone_spans.specs.KeptFor.{IsFor, IsKept};
 ghost use Rattle.zone_spans.specs.Lines.{is_ruled};
+ghost use Rattle.zone_spans.specs.Quiet.{AppliesToNone};
 ghost use Rattle.zone_spans.specs.Several.{AreAll};
+ghost use Rattle.zone_spans.specs.Stands.{StandsFor};
 ghost use Rattle.zone_spans.specs.Years.{most_years};
 
 use crate::firing::Firing;
@@ -20,30 +21,33 @@ use crate::quiet::years_before_all;
 use crate::several::{Serve, Several};
 use crate::year::{EARLIEST_YEAR, fire_year, fire_years, line_end, years_expanded};
 use std::alloc::{AllocError, Global};
-use std::marker::Model;
 use zone_table::RuleInfo;
 use zone_values::ChangeTime;
 
-/// For how many firings there may be room in what is kept while lines of other rules or offsets are expanded: 16 MB, and so
-/// some 120 MB for all that is.
-const MOST_FIRINGS: usize = 1_048_576;
-
-/// What a number of years fire: how many firings, the saving after them, and a second that none of them is after.
-#[derive(Clone, Copy)]
-pub(crate) struct Mark {
-    count: usize,
+/// What the years up to one fire, cut by no end: the saving after them, a second that none of their firings is after, and the
+/// last of their firings.
+#[derive(Drop)]
+pub(crate) struct Mark<'a> {
     saving: i64,
     latest: i64,
+    last: Option<Firing<'a>>,
 }
 
-impl Model for Mark {
-    ghost use Rattle.zone_spans.specs.Kept.{Mark};
-
-    ghost Value = { Mark };
-
-    ghost view = { λ m. record { count = m.count; saving = m.saving; latest = m.latest } };
-
-    ghost inverse = { λ m. record { count = m.count; saving = m.saving; latest = m.latest } };
+impl<'a> Mark<'a> {
+    /// The same mark.
+    fn copied(&self) -> Mark<'a>
+        ensures { result ≡ self.now }
+    {
+        let last = match &self.last {
+            Some(firing) => Some(firing.copied()),
+            None => None,
+        };
+        Mark {
+            saving: self.saving,
+            latest: self.latest,
+            last,
+        }
+    }
 }
 
 /// A second before which nothing is at or after the end, whatever the saving.
@@ -82,176 +86,216 @@ fn later_of(second: i64, firing: &Firing<'_>) -> i64
     }
 }
 
+/// The sooner of two seconds.
+fn sooner_of(one: i64, other: i64) -> i64
+    ensures one { result ≤ℤ one }
+    ensures other { result ≤ℤ other }
+{
+    if one < other { one } else { other }
+}
+
+/// The last of the firings, or else that one.
+fn last_of<'a>(before: Option<Firing<'a>>, fired: &[Firing<'a>]) -> Option<Firing<'a>>
+    ensures { result ≡ last_or before.entry fired.now }
+{
+    let mut last = before;
+    for firing in fired {
+        last = Some(firing.copied());
+    }
+    last
+}
+
 /// The last of the marks, or the mark of no firings where there is none.
-fn last_mark(marks: &[Mark]) -> Mark
+fn last_mark<'a>(marks: &[Mark<'a>]) -> Mark<'a>
     ensures { IsLastMark marks.now result }
 {
     if marks.is_empty() {
         Mark {
-            count: 0,
             saving: 0,
             latest: i64::MIN,
+            last: None,
         }
     } else {
-        marks[marks.len() - 1]
+        marks[marks.len() - 1].copied()
     }
 }
 
-/// How many of the first marks have their firings before the limit, so many at most.
-fn marks_below(marks: &[Mark], limit: i64, most: usize) -> usize
+/// How many of the first marks have their firings before the second, so many at most.
+fn marks_below(marks: &[Mark<'_>], second: i64, most: usize) -> usize
     ensures len { result ≤ length marks.now }
     ensures most { result ≤ most }
-    ensures below { AreBelow limit result marks.now }
+    ensures below { AreBelow second result marks.now }
 {
     let count = most.min(marks.len());
     for i in 0..count {
         let mark = &marks[i];
-        if mark.latest >= limit {
+        if mark.latest >= second {
             return i;
         }
     }
     count
 }
 
-/// How many of the first firings a mark says to be before that second. The last of such marks is taken.
-fn firings_below(marks: &[Mark], second: i64) -> usize
-    ensures len { (offset : ℤ) (rules : List RuleInfo) (quiet : ℕ) (fired : List Firing) → BeginWithMarked offset rules quiet fired marks.now
-        → result ≤ length fired }
-    ensures below { (offset : ℤ) (rules : List RuleInfo) (quiet : ℕ) (fired : List Firing) → BeginWithMarked offset rules quiet fired marks.now
-        → IsTrue (list_all (λ f. int_lt f.time second) (take result fired)) }
-{
-    for i in 0..marks.len() {
-        let mark = &marks[marks.len() - 1 - i];
-        if mark.latest < second {
-            return mark.count;
-        }
-    }
-    0
-}
-
-/// Leaves the firings and marks of so many years at most, with their firings before the limit.
-fn cut_back<'a>(fired: &mut Vec<Firing<'a>>, marks: &mut Vec<Mark>, limit: i64, most: usize)
-    ensures cut { (offset : ℤ) (rules : List RuleInfo) (quiet : ℕ) → BeginWithMarked offset rules quiet fired.old.items marks.old.items
-        → AreMarkedBelow limit offset rules quiet fired.new.items marks.new.items }
-    ensures most { length marks.new.items ≤ most }
-{
-    let count = marks_below(marks, limit, most);
-    marks.truncate(count);
-    fired.truncate(last_mark(marks).count);
-}
-
-/// Adds the firings of one year more and their mark, where they are before the limit; otherwise all stays as it is. Gives
-/// whether they are.
+/// Adds the mark of one year more.
 fn keep_year<'a>(
     alloc: Global,
+    marks: &mut Vec<Mark<'a>>,
     fired: &mut Vec<Firing<'a>>,
-    marks: &mut Vec<Mark>,
     left: &mut Vec<Applying<'a>>,
     line: &Line<'a>,
-    limit: i64,
     quiet: u16,
     count: u16,
-) -> Result<bool, AllocError>
+) -> Result<(), AllocError>
     requires line { IsSound line.now }
     requires count { count ≡ quiet + length marks.old.items }
     requires years { count < years_expanded line.now.end }
-    requires marked { AreMarkedBelow limit line.now.info.offset line.now.rules quiet fired.old.items marks.old.items }
-    ensures marked { IfOk result (λ _. AreMarkedBelow limit line.now.info.offset line.now.rules quiet fired.new.items marks.new.items) }
-    ensures more { IfOk result (λ kept. length marks.new.items ≡ length marks.old.items + (if kept then 1 else 0)) }
+    requires marks { AreMarks line.now.info.offset line.now.rules quiet marks.old.items }
+    ensures marks { IfOk result (λ _. AreMarks line.now.info.offset line.now.rules quiet marks.new.items) }
+    ensures more { IfOk result (λ _. length marks.new.items ≡ length marks.old.items + 1) }
 {
     let mark = last_mark(marks);
-    let before = fired.as_slice().len();
     let year = i64::from(EARLIEST_YEAR + count);
+    fired.clear();
     let saving = fire_year(alloc, fired, left, line, None, year, mark.saving)?;
-    let latest = latest_of(mark.latest, &fired.as_slice()[before..]);
-    if latest >= limit {
-        fired.truncate(before);
-        return Ok(false);
-    }
-    let count = fired.as_slice().len();
+    let latest = latest_of(mark.latest, fired);
+    let last = last_of(mark.last, fired);
     marks.push(Mark {
-        count,
         saving,
         latest,
+        last,
     })?;
-    Ok(true)
+    Ok(())
 }
 
-/// Adds the firings of further years and their marks, up to so many years, as long as they are before the limit.
+/// Adds marks of further years, up to so many years, or to one that has a firing at or after the second.
 fn keep_years<'a>(
     alloc: Global,
+    marks: &mut Vec<Mark<'a>>,
     fired: &mut Vec<Firing<'a>>,
-    marks: &mut Vec<Mark>,
     left: &mut Vec<Applying<'a>>,
     line: &Line<'a>,
-    limit: i64,
     quiet: u16,
-    most: u16,
+    years: u16,
+    second: i64,
 ) -> Result<(), AllocError>
     requires line { IsSound line.now }
-    requires most { most ≤ years_expanded line.now.end }
-    requires years { quiet + length marks.old.items ≤ years_expanded line.now.end }
-    requires marked { AreMarkedBelow limit line.now.info.offset line.now.rules quiet fired.old.items marks.old.items }
-    ensures marked { IfOk result (λ _. AreMarkedBelow limit line.now.info.offset line.now.rules quiet fired.new.items marks.new.items) }
-    ensures years { IfOk result (λ _. quiet + length marks.new.items ≤ years_expanded line.now.end) }
+    requires years { years ≡ years_expanded line.now.end }
+    requires marks { AreMarks line.now.info.offset line.now.rules quiet marks.old.items }
+    ensures { IfOk result (λ _. AreMarks line.now.info.offset line.now.rules quiet marks.new.items) }
 {
     let first = quiet + marks.as_slice().len() as u16;
-    for i in first..most {
-        if !keep_year(alloc, fired, marks, left, line, limit, quiet, i)? {
+    for count in first..years {
+        if last_mark(marks).latest >= second {
             break;
         }
+        keep_year(alloc, marks, fired, left, line, quiet, count)?;
     }
     Ok(())
 }
 
-/// How many years may be kept: those before the year of the end, and none more where there is no end, since no line follows.
-fn years_to_keep(end: Option<ChangeTime>, years: u16) -> u16
-    ensures { result ≤ years }
+/// Puts into `fired` a firing that stands for those of the first years of a line, where there is one, and what the line fires
+/// after these years, which end with that saving. Gives the saving after all.
+fn fire_after<'a>(
+    alloc: Global,
+    fired: &mut Vec<Firing<'a>>,
+    left: &mut Vec<Applying<'a>>,
+    line: &Line<'a>,
+    first: u16,
+    last: Option<Firing<'a>>,
+    saving: i64,
+) -> Result<i64, AllocError>
+    requires line { IsSound line.now }
+    requires first { first ≤ years_expanded line.now.end }
+    requires saving { saving ≡ (firings_of_years line.now.info.offset line.now.end line.now.rules first).1 }
+    requires small { IsTrue (are_small_seconds saving) }
+    requires bounded { IsTrue (list_all is_bounded_firing (option_to_list last)) }
+    ensures stands { IfOk result (λ _. (start : Option ℤ)
+        → StandsFor start (option_to_list last.entry) (firings_of_years line.now.info.offset line.now.end line.now.rules first).0
+        → StandsFor start fired.new.items (firings_of_years line.now.info.offset line.now.end line.now.rules (years_expanded line.now.end)).0) }
+    ensures saving { IfOk result (λ after. after
+        ≡ (firings_of_years line.now.info.offset line.now.end line.now.rules (years_expanded line.now.end)).1) }
+    ensures small { IfOk result (λ after. IsTrue (are_small_seconds after)) }
+    ensures bounded { IfOk result (λ _. IsTrue (list_all is_bounded_firing fired.new.items)) }
 {
-    if end.is_some() {
-        years.saturating_sub(1)
-    } else {
-        0
-    }
+    put_only(fired, last)?;
+    let after = fire_years(alloc, fired, left, line, first, saving)?;
+    Ok(after)
 }
 
-/// Makes of the firings that are kept those of a line, and gives the saving after them.
+/// Leaves that firing alone, or none.
+fn put_only<'a>(fired: &mut Vec<Firing<'a>>, only: Option<Firing<'a>>) -> Result<(), AllocError>
+    ensures { IfOk result (λ _. fired.new.items ≡ option_to_list only.entry) }
+{
+    fired.clear();
+    if let Some(firing) = only {
+        fired.push(firing)?;
+    }
+    Ok(())
+}
+
+/// Puts what a line fires into `fired`, from the first year on in which a rule applies, and gives the saving after it.
+fn fire_all<'a>(
+    alloc: Global,
+    fired: &mut Vec<Firing<'a>>,
+    line: &Line<'a>,
+    quiet: u16,
+) -> Result<i64, AllocError>
+    requires line { IsSound line.now }
+    requires most { quiet ≤ years_expanded line.now.end }
+    requires quiet { AppliesToNone line.now.rules quiet }
+    ensures stands { IfOk result (λ _. (start : Option ℤ) → StandsFor start fired.new.items
+        (firings_of_years line.now.info.offset line.now.end line.now.rules (years_expanded line.now.end)).0) }
+    ensures saving { IfOk result (λ after. after
+        ≡ (firings_of_years line.now.info.offset line.now.end line.now.rules (years_expanded line.now.end)).1) }
+    ensures small { IfOk result (λ after. IsTrue (are_small_seconds after)) }
+    ensures bounded { IfOk result (λ _. IsTrue (list_all is_bounded_firing fired.new.items)) }
+{
+    let mut left = Vec::new(alloc);
+    let after = fire_after(alloc, fired, &mut left, line, quiet, None, 0)?;
+    Ok(after)
+}
+
+/// Puts into `fired` what stands for the firings of a line with that start: the last of the first years, as far as these are
+/// marked and all before the start, and those of the years after them. Gives the saving after all.
 fn fire_from_marks<'a>(
     alloc: Global,
     fired: &mut Vec<Firing<'a>>,
-    marks: &mut Vec<Mark>,
+    marks: &mut Vec<Mark<'a>>,
     line: &Line<'a>,
     quiet: u16,
     years: u16,
+    start: i64,
 ) -> Result<i64, AllocError>
     requires line { IsSound line.now }
     requires years { years ≡ years_expanded line.now.end }
     requires quiet { quiet ≤ years }
-    requires begun { BeginWithMarked line.now.info.offset line.now.rules quiet fired.old.items marks.old.items }
-    ensures begun { IfOk result (λ _. BeginWithMarked line.now.info.offset line.now.rules quiet fired.new.items marks.new.items) }
-    ensures fired { IfOk result (λ last. Fires fired.new.items last
-        (firings_of_years line.now.info.offset line.now.end line.now.rules years)) }
-    ensures small { IfOk result (λ last. IsTrue (are_small_seconds last)) }
+    requires marks { AreMarks line.now.info.offset line.now.rules quiet marks.old.items }
+    ensures marks { IfOk result (λ _. AreMarks line.now.info.offset line.now.rules quiet marks.new.items) }
+    ensures stands { IfOk result (λ _. StandsFor (Some start) fired.new.items
+        (firings_of_years line.now.info.offset line.now.end line.now.rules (years_expanded line.now.end)).0) }
+    ensures saving { IfOk result (λ after. after
+        ≡ (firings_of_years line.now.info.offset line.now.end line.now.rules (years_expanded line.now.end)).1) }
+    ensures small { IfOk result (λ after. IsTrue (are_small_seconds after)) }
+    ensures bounded { IfOk result (λ _. IsTrue (list_all is_bounded_firing fired.new.items)) }
 {
     let mut left = Vec::new(alloc);
-    let limit = limit_of(line.end, line.info.offset);
-    cut_back(fired, marks, limit, usize::from(years - quiet));
-    let most = years_to_keep(line.end, years);
-    keep_years(alloc, fired, marks, &mut left, line, limit, quiet, most)?;
-    let first = quiet + marks.as_slice().len() as u16;
-    let saving = last_mark(marks).saving;
-    let last = fire_years(alloc, fired, &mut left, line, first, saving)?;
-    Ok(last)
+    let second = sooner_of(start, limit_of(line.end, line.info.offset));
+    keep_years(alloc, marks, fired, &mut left, line, quiet, years, second)?;
+    let marks = marks.as_slice();
+    let count = marks_below(marks, second, usize::from(years - quiet));
+    let mark = last_mark(&marks[..count]);
+    let first = quiet + count as u16;
+    let after = fire_after(alloc, fired, &mut left, line, first, mark.last, mark.saving)?;
+    Ok(after)
 }
 
-/// The firings of the last ruled line of a ruleset under an offset, begun by those that any line of them has up to its end.
+/// What a ruleset has fired under an offset after each year, as far as a line of them asked for it.
 #[derive(Drop)]
 pub(crate) struct Kept<'a> {
     rules: &'a [RuleInfo],
     offset: i64,
     quiet: u16,
-    pub(crate) fired: Vec<Firing<'a>>,
-    marks: Vec<Mark>,
+    marks: Vec<Mark<'a>>,
 }
 
 impl<'a> Kept<'a> {
@@ -263,7 +307,6 @@ impl<'a> Kept<'a> {
             rules: &[],
             offset: 0,
             quiet: 0,
-            fired: Vec::new(alloc),
             marks: Vec::new(alloc),
         }
     }
@@ -278,42 +321,50 @@ impl<'a> Kept<'a> {
             rules: line.rules,
             offset: line.info.offset,
             quiet: years_before_all(line.rules, years),
-            fired: Vec::new(alloc),
             marks: Vec::new(alloc),
         }
     }
 
-    /// How many of the first firings are before that second, as far as the marks say.
-    pub(crate) fn firings_below(&self, second: i64) -> usize
-        requires { IsKept self.now }
-        ensures len { result ≤ length self.now.fired.items }
-        ensures below { IsTrue (list_all (λ f. int_lt f.time second) (take result self.now.fired.items)) }
-    {
-        firings_below(&self.marks, second)
-    }
-
-    /// Puts the firings of a ruled line, for which this is, into `fired`, and gives the saving after them.
+    /// Puts into `fired` what stands for the firings of a ruled line with that start, for which this is, and gives the saving
+    /// after them.
     #[tactic(auto, unfolding(crate::specs::Firings::line_firings))]
-    fn fire(&mut self, alloc: Global, line: &Line<'a>, years: u16) -> Result<i64, AllocError>
+    fn fire(
+        &mut self,
+        alloc: Global,
+        fired: &mut Vec<Firing<'a>>,
+        line: &Line<'a>,
+        start: Option<i64>,
+        years: u16,
+    ) -> Result<i64, AllocError>
         requires line { IsSound line.now }
         requires ruled { is_ruled line.now.info.saving ≡ true }
         requires years { years ≡ years_expanded line.now.end }
         requires serves { IsFor line.now years self.old }
         requires kept { IsKept self.old }
         ensures kept { IfOk result (λ _. IsKept self.new) }
-        ensures fired { IfOk result (λ last. Fires self.new.fired.items last (line_firings line.now)) }
-        ensures small { IfOk result (λ last. IsTrue (are_small_seconds last)) }
-        ensures bounded { IfOk result (λ _. IsTrue (list_all is_bounded_firing self.new.fired.items)) }
+        ensures stands { IfOk result (λ _. StandsFor start fired.new.items (firings line.now)) }
+        ensures saving { IfOk result (λ after. after ≡ last_saving line.now) }
+        ensures small { IfOk result (λ after. IsTrue (are_small_seconds after)) }
+        ensures bounded { IfOk result (λ _. IsTrue (list_all is_bounded_firing fired.new.items)) }
     {
-        let last = fire_from_marks(
-            alloc,
-            &mut self.fired,
-            &mut self.marks,
-            line,
-            self.quiet,
-            years,
-        )?;
-        Ok(last)
+        match start {
+            Some(start) => {
+                let after = fire_from_marks(
+                    alloc,
+                    fired,
+                    &mut self.marks,
+                    line,
+                    self.quiet,
+                    years,
+                    start,
+                )?;
+                Ok(after)
+            }
+            None => {
+                let after = fire_all(alloc, fired, line, self.quiet)?;
+                Ok(after)
+            }
+        }
     }
 }
 
@@ -327,10 +378,6 @@ impl<'a> Serve for Kept<'a> {
             return false;
         }
         self.rules == line.rules
-    }
-
-    fn is_small(&self) -> bool {
-        self.fired.capacity() <= MOST_FIRINGS
     }
 }
 
@@ -353,22 +400,25 @@ fn take_for<'a>(
     Ok(())
 }
 
-/// Takes the firings of a ruled line into use, and gives the saving after them.
+/// Puts into `fired` what stands for the firings of a ruled line with that start, and gives the saving after them.
 pub(crate) fn fire_line<'a>(
     kept: &mut Several<Kept<'a>>,
+    fired: &mut Vec<Firing<'a>>,
     alloc: Global,
     line: &Line<'a>,
+    start: Option<i64>,
 ) -> Result<i64, AllocError>
     requires line { IsSound line.now }
     requires ruled { is_ruled line.now.info.saving ≡ true }
     requires kept { AreAll IsKept kept.old }
     ensures kept { IfOk result (λ _. AreAll IsKept kept.new) }
-    ensures fired { IfOk result (λ last. Fires kept.new.current.fired.items last (line_firings line.now)) }
-    ensures small { IfOk result (λ last. IsTrue (are_small_seconds last)) }
-    ensures bounded { IfOk result (λ _. IsTrue (list_all is_bounded_firing kept.new.current.fired.items)) }
+    ensures stands { IfOk result (λ _. StandsFor start fired.new.items (firings line.now)) }
+    ensures saving { IfOk result (λ after. after ≡ last_saving line.now) }
+    ensures small { IfOk result (λ after. IsTrue (are_small_seconds after)) }
+    ensures bounded { IfOk result (λ _. IsTrue (list_all is_bounded_firing fired.new.items)) }
 {
     let years = years_expanded(line.end);
     take_for(kept, alloc, line, years)?;
-    let last = kept.current.fire(alloc, line, years)?;
-    Ok(last)
+    let after = kept.current.fire(alloc, fired, line, start, years)?;
+    Ok(after)
 }

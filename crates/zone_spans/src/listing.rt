@@ -7,15 +7,12 @@ ghost use Rattle.zone_spans.specs.Listing.{is_at, start_firing};
 
 use crate::firing::Firing;
 
-/// The place of the first firing at the start, or how many firings there are. So many of the first ones are below the start.
-pub(crate) fn place_at(start: i64, below: usize, fired: &[Firing<'_>]) -> usize
-    requires len { below ≤ length fired.now }
-    requires below { IsTrue (list_all (λ f. int_lt f.time start) (take below fired.now)) }
+/// The place of the first firing at the start, or how many firings there are.
+pub(crate) fn place_at(start: i64, fired: &[Firing<'_>]) -> usize
     ensures place { result ≡ position_or_len (is_at start) fired.now }
-    ensures least { below ≤ result }
     ensures most { result ≤ length fired.now }
 {
-    for i in below..fired.len() {
+    for i in 0..fired.len() {
         if fired[i].is_at(start) {
             return i;
         }

@@ -7,8 +7,9 @@ use crate::line::Line;
 use std::alloc::{AllocError, Global};
 use std::mem;
 
-/// How many values are kept besides the one in use. Each line looks at all of them.
-const MOST_OTHERS: usize = 7;
+/// How many values are kept besides the one in use: 17 MB of marks at most. A line looks at the offset of each of them, and
+/// at the rules only where the offset is its own.
+const MOST_OTHERS: usize = 1_023;
 
 /// What is found for one line, and serves others.
 pub(crate) trait Serve: Drop {
@@ -21,9 +22,6 @@ pub(crate) trait Serve: Drop {
     /// Whether it is for the line, which expands so many years.
     fn serves(&self, line: &Line<'_>, years: u16) -> bool
         ensures { IsTrue result → Suits line.now years self.now };
-
-    /// Whether it is worth its memory while another is in use.
-    fn is_small(&self) -> bool;
 }
 
 /// A value that is in use, and others that were. The one that was in use last stands last.
@@ -79,7 +77,7 @@ impl<T: Serve> Several<T> {
         Ok(())
     }
 
-    /// Takes a value into use. The one that was goes behind the others, where it is small.
+    /// Takes a value into use. The one that was goes behind the others.
     fn put_in_use(&mut self, next: T) -> Result<(), AllocError>
         requires kept { AreAll T.Holds self.old }
         requires next { T.Holds next }
@@ -87,9 +85,7 @@ impl<T: Serve> Several<T> {
         ensures current { IfOk result (λ _. self.new.current ≡ next) }
     {
         let used = mem::replace(&mut self.current, next);
-        if used.is_small() {
-            self.others.push(used)?;
-        }
+        self.others.push(used)?;
         Ok(())
     }
 }

@@ -66,10 +66,6 @@ impl<'a> Serve for Tested<'a> {
     fn serves(&self, line: &Line<'_>, _years: u16) -> bool {
         self.rules == line.rules
     }
-
-    fn is_small(&self) -> bool {
-        true
-    }
 }
 
 /// Takes into use what is tested of the line's rules, or begins it.

@@ -1,5 +1,5 @@
 //! The firings of a line, year by year.
-ghost use Rattle.std.specs.Prelude.{◌≡◌, ◌<◌, ◌≤◌, ◌-◌, ◌≤ℤ◌, ◌++◌, pos, neg_ℤ, min, nat_abs, All, IfOk, IsTrue, Some, None, filter, length};
+ghost use Rattle.std.specs.Prelude.{◌≡◌, ◌<◌, ◌≤◌, ◌-◌, ◌≤ℤ◌, ◌++◌, pos, neg_ℤ, min, nat_abs, ℤ, All, IfOk, IsTrue, Option, Some, None, filter, length};
 ghost use Rattle.std.specs.List.{AllByRecursion, list_all};
 ghost use Rattle.zone_values.specs.Bounds.{are_small_seconds};
 ghost use Rattle.zone_table.specs.Moments.{applies_to_year, has_years, moment};
@@ -7,6 +7,7 @@ ghost use Rattle.zone_spans.specs.Bounds.{IsSound, can_fire, has_moment, is_boun
 ghost use Rattle.zone_spans.specs.Fires.{Fires, after};
 ghost use Rattle.zone_spans.specs.Firings.{fired, firings_of_years, is_earlier, is_over, year_firings, years_expanded};
 ghost use Rattle.zone_spans.specs.Fronts.{IsSmallPlaced, front_firings};
+ghost use Rattle.zone_spans.specs.Stands.{StandsFor};
 ghost use Rattle.zone_spans.specs.Windows.{line_end};
 ghost use Rattle.zone_spans.specs.Years.{earliest_year, most_years};
 
@@ -208,7 +209,7 @@ pub(crate) fn fire_year<'a>(
 }
 
 /// Adds the firings of the years that a line expands, those after the first ones, which end with that saving, and gives the
-/// saving after them.
+/// saving after them. What stood for the firings of the first years then stands for those of all.
 pub(crate) fn fire_years<'a>(
     alloc: Global,
     fired: &mut Vec<Firing<'a>>,
@@ -219,12 +220,14 @@ pub(crate) fn fire_years<'a>(
 ) -> Result<i64, AllocError>
     requires line { IsSound line.now }
     requires first { first ≤ years_expanded line.now.end }
-    requires fired { Fires fired.old.items saving
-        (firings_of_years line.now.info.offset line.now.end line.now.rules first) }
+    requires saving { saving ≡ (firings_of_years line.now.info.offset line.now.end line.now.rules first).1 }
     requires small { IsTrue (are_small_seconds saving) }
     requires bounded { IsTrue (list_all is_bounded_firing fired.old.items) }
-    ensures fired { IfOk result (λ last. Fires fired.new.items last
-        (firings_of_years line.now.info.offset line.now.end line.now.rules (years_expanded line.now.end))) }
+    ensures stands { IfOk result (λ _. (start : Option ℤ)
+        → StandsFor start fired.old.items (firings_of_years line.now.info.offset line.now.end line.now.rules first).0
+        → StandsFor start fired.new.items (firings_of_years line.now.info.offset line.now.end line.now.rules (years_expanded line.now.end)).0) }
+    ensures saving { IfOk result (λ last. last
+        ≡ (firings_of_years line.now.info.offset line.now.end line.now.rules (years_expanded line.now.end)).1) }
     ensures small { IfOk result (λ last. IsTrue (are_small_seconds last)) }
     ensures bounded { IfOk result (λ _. IsTrue (list_all is_bounded_firing fired.new.items)) }
 {

@@ -1,19 +1,30 @@
-use Rattle.std.proofs.Common.{List, IsTrue, sym, ◌∙◌, subst, rules, w64, SFits}
+use Rattle.std.proofs.Common.{◌++◌, List, map, IsTrue, sym, ap, ◌∙◌, subst, rules, w64, SFits}
 use Rattle.std.proofs.lemmas.Int.{to_z-of_z}
-use Rattle.std.specs.List.{list_all}
 use Rattle.zone_values.specs.Bounds.{are_small_seconds}
-use Rattle.zone_spans.specs.Bounds.{is_bounded_firing}
+use Rattle.zone_spans.specs.Entries.{entry_of, start_entry}
 use Rattle.zone_spans.specs.Firings.{Firing}
-use Rattle.zone_spans.proofs.EntryLemmas.{bounded_entries_of}
-use Rattle.zone_spans.proofs.KeptLemmas.{unruled_fires_none}
+use Rattle.zone_spans.specs.Listing.{listed}
+use Rattle.zone_spans.proofs.EntryLemmas.{bounded_ruled, bounded_unruled, ruled_entries}
 use Rattle.zone_spans.proofs.SoundLemmas.{sound_saving}
 use Rattle.zone_spans.proofs.entries.push_line.Goals as goal
 
+pub returns-then-is_ruled-clause-entries : goal.returns-then-is_ruled-clause-entries
+returns-then-is_ruled-clause-entries c =
+    let line = c.args.line.now in
+    let start = c.args.start in
+    let es = c.args.entries.now in
+    let ruled = sym c.is_ruled.ensures ∙ c.if-is_ruled.true in
+    c.in_ok-push_ruled.ensures
+    ∙ ap (λ (fs : List Firing). es ++ (map (entry_of line) (listed start fs) ++ start_entry line start fs)) c.deref.ensures.value
+    ∙ ap (λ xs. es ++ xs) (ruled_entries line start c.fire_line.new.fired.items ruled c.in_ok-last_saving.ensures.stands)
+
 pub returns-then-is_ruled-clause-bounded : goal.returns-then-is_ruled-clause-bounded
 returns-then-is_ruled-clause-bounded c small =
-    let fired = subst (λ (fs : List Firing). IsTrue (list_all is_bounded_firing fs)) c.in_ok-last_saving.ensures.fired.firings
-    c.in_ok-last_saving.ensures.bounded in
-    (c.next_start.ensures.bounded, bounded_entries_of c.args.line.now c.args.start c.requires.line small fired)
+    let fired = c.in_ok-last_saving.ensures in (
+      c.next_start.ensures.bounded,
+      bounded_ruled c.args.line.now c.args.start c.fire_line.new.fired.items c.requires.line
+          (sym c.is_ruled.ensures ∙ c.if-is_ruled.true) fired.stands small fired.bounded,
+    )
 
 pub next_start-requires-2-clause-saving : goal.next_start-requires-2-clause-saving
 next_start-requires-2-clause-saving c =
@@ -22,6 +33,8 @@ next_start-requires-2-clause-saving c =
     (sound_saving c.args.line.now c.requires.line)
 
 pub returns-clause-bounded : goal.returns-clause-bounded
-returns-clause-bounded c small =
-    let fired = unruled_fires_none c.args.line.now (sym c.is_ruled.ensures ∙ c.if-is_ruled.false) in
-    (c.next_start-2.ensures.bounded, bounded_entries_of c.args.line.now c.args.start c.requires.line small fired)
+returns-clause-bounded c small = (
+  c.next_start-2.ensures.bounded,
+  bounded_unruled c.args.line.now c.args.start c.requires.line
+      (sym c.is_ruled.ensures ∙ c.if-is_ruled.false) small,
+)

@@ -1,72 +1,82 @@
-use Rattle.std.proofs.Common.{◌≡◌, ◌+◌, List, Option, ℤ, IsTrue, sym, ap, ◌∙◌, subst, length, rules, to_z, of_z, w64, SFits}
+use Rattle.std.proofs.Common.{◌≡◌, ℕ, ◌+◌, ◌≤◌, ◌≤ℤ◌, List, Option, Some, ℤ, IsTrue, sym, ap, ◌∙◌, subst, length, take, rules, w64, SFits}
 use Rattle.std.proofs.lemmas.Int.{to_z-of_z}
 use Rattle.zone_values.specs.Bounds.{are_small_seconds}
 use Rattle.zone_values.specs.declared.change.ChangeTime.{ChangeTime}
-use Rattle.zone_spans.specs.Bounds.{is_end}
-use Rattle.zone_spans.specs.Fires.{Fires}
-use Rattle.zone_spans.specs.Firings.{firings_of_years}
-use Rattle.zone_spans.specs.Kept.{IsLastMark, IsLimit, Mark}
+use Rattle.zone_spans.specs.Bounds.{IsSound, is_end}
+use Rattle.zone_spans.specs.Kept.{AreBelow, AreMarks, IsLastMark, IsLimit}
 use Rattle.zone_spans.specs.Lines.{Line}
-use Rattle.zone_spans.proofs.KeptLemmas.{begun_by, fires_kept, last_is, sound_savings, unended_small}
+use Rattle.zone_spans.specs.declared.kept.Mark.{Mark}
+use Rattle.zone_spans.proofs.KeptLemmas.{Serves, mark_serves, sooner_limit, sound_savings}
 use Rattle.zone_spans.proofs.SoundLemmas.{sound_end, sound_offset}
 use Rattle.zone_spans.proofs.kept.fire_from_marks.Goals as goal
 
-pub limit_of-limit-requires-clause-end : goal.limit_of-limit-requires-clause-end
-limit_of-limit-requires-clause-end c =
+pub limit_of-requires-clause-end : goal.limit_of-requires-clause-end
+limit_of-requires-clause-end c =
     subst (λ (e : Option ChangeTime). IsTrue (is_end e)) (ap (λ (l : Line). l.end) (sym c.line.view_is))
     (sound_end c.args.line.now c.requires.line)
 
-pub limit_of-limit-requires-clause-offset : goal.limit_of-limit-requires-clause-offset
-limit_of-limit-requires-clause-offset c =
+pub limit_of-requires-clause-offset : goal.limit_of-requires-clause-offset
+limit_of-requires-clause-offset c =
     let fits : SFits w64 c.line.inside.info.now.offset = search rules in
     subst (λ s. IsTrue (are_small_seconds s)) (ap (λ (l : Line). l.info.offset) (sym c.line.view_is)
     ∙ sym (to_z-of_z w64 c.line.inside.info.now.offset fits))
     (sound_offset c.args.line.now c.requires.line)
 
--- the limit, by the line as it was passed
-limit_is : (line inside : Line) (given limit : ℤ) → inside ≡ line → given ≡ inside.info.offset → IsLimit inside.end given limit
-    → IsLimit line.end line.info.offset limit
-limit_is line inside given limit same offset ends =
-    subst (λ (l : Line). IsLimit l.end l.info.offset limit) same (subst (λ o. IsLimit inside.end o limit) offset ends)
+-- the mark that is taken serves the line as it was passed
+taken : (line inside : Line) (given limit limit' second second' start start' : ℤ) (quiet : ℕ) (marks ones : List Mark) (count : ℕ) (mark : Mark)
+    → IsSound line → inside ≡ line → given ≡ inside.info.offset → IsLimit inside.end given limit → limit' ≡ limit → second' ≡ second
+    → start' ≡ start → second ≤ℤ start' → second ≤ℤ limit' → AreMarks line.info.offset line.rules quiet marks → ones ≡ marks
+    → count ≤ length ones → AreBelow second' count ones → IsLastMark (take count ones) mark
+    → Serves start line.info.offset line.end line.rules (quiet + count) mark
+taken line inside given limit limit' second second' start start' quiet marks ones count mark sound same offset ends limit_is second_is start_is
+    before below are ones_are le all last =
+    let its : IsLimit line.end line.info.offset limit =
+    subst (λ (l : Line). IsLimit l.end l.info.offset limit) same (subst (λ o. IsLimit inside.end o limit) offset ends) in
+    mark_serves second start line.info.offset line.end line.rules quiet marks count mark
+    (sooner_limit line.end line.info.offset limit second its (subst (λ l. second ≤ℤ l) limit_is below))
+    (subst (λ s. second ≤ℤ s) start_is before) (sound_savings line sound) are
+    (subst (λ (ms : List Mark). count ≤ length ms) ones_are le)
+    (subst (λ s. AreBelow s count marks) second_is (subst (λ (ms : List Mark). AreBelow second' count ms) ones_are all))
+    (subst (λ (ms : List Mark). IsLastMark (take count ms) mark) ones_are last)
 
-pub fire_years-requires-clause-fired : goal.fire_years-requires-clause-fired
-fire_years-requires-clause-fired c =
-    let line = c.args.line.now in
-    let mark : Mark = c.last_mark.result in
-    let marks = c.keep_years.new.marks.items in
+serves : (c : goal.After-left-2-1)
+    → Serves c.args.start c.args.line.now.info.offset c.args.line.now.end c.args.line.now.rules (c.args.quiet + c.marks_below-count.result)
+    c.last_mark-mark.result
+serves c =
     let f : SFits w64 c.line.inside.info.now.offset = search rules in
-    let g : SFits w64 c.limit_of-limit.result = search rules in
-    let h : SFits w64 c.saving.inside.saving = search rules in
-    let saving_is = to_z-of_z w64 c.saving.inside.saving h ∙ ap (λ (m : Mark). m.saving) c.saving.view_is in
-    let ends = limit_is line _ _ c.limit_of-limit.result c.line.view_is (to_z-of_z w64 c.line.inside.info.now.offset f) c.limit_of-limit.ensures in
-    let last = subst (λ (ms : List Mark). IsLastMark ms mark) (c.deref.ensures.value) c.last_mark.ensures in
-    let due = fires_kept _ line.info.offset line.end line.rules c.args.quiet c.keep_years.new.fired.items marks mark
-    (subst (IsLimit line.end line.info.offset) (sym (to_z-of_z w64 c.limit_of-limit.result g)) ends)
-    (sound_savings line c.requires.line) c.in_ok-keep_years.ensures.marked last in
-    subst (λ n. Fires c.keep_years.new.fired.items (to_z w64 (of_z w64 c.saving.inside.saving)) (firings_of_years line.info.offset line.end line.rules (c.args.quiet + n)))
-    (sym (ap length c.as_slice.ensures.value))
-    (record { firings = due.firings; saving = saving_is ∙ due.saving })
+    let g : SFits w64 c.limit_of.result = search rules in
+    let h : SFits w64 c.sooner_of-second.result = search rules in
+    taken c.args.line.now _ _ c.limit_of.result _ c.sooner_of-second.result _ c.args.start _ c.args.quiet c.keep_years.new.marks.items
+    c.as_slice-marks.result.now c.marks_below-count.result c.last_mark-mark.result c.requires.line c.line.view_is
+    (to_z-of_z w64 c.line.inside.info.now.offset f) c.limit_of.ensures (to_z-of_z w64 c.limit_of.result g)
+    (to_z-of_z w64 c.sooner_of-second.result h) (to_z-of_z w64 c.args.start c.ranges.start)
+    c.sooner_of-second.ensures.one c.sooner_of-second.ensures.other c.in_ok-keep_years.ensures c.as_slice-marks.ensures.value
+    c.marks_below-count.ensures.len c.marks_below-count.ensures.below c.last_mark-mark.ensures
 
-pub fire_years-requires-clause-small : goal.fire_years-requires-clause-small
-fire_years-requires-clause-small c =
-    let line = c.args.line.now in
-    let mark : Mark = c.last_mark.result in
-    let marks = c.keep_years.new.marks.items in
-    let h : SFits w64 c.saving.inside.saving = search rules in
-    let saving_is = to_z-of_z w64 c.saving.inside.saving h ∙ ap (λ (m : Mark). m.saving) c.saving.view_is in
-    let last = subst (λ (ms : List Mark). IsLastMark ms mark) (c.deref.ensures.value) c.last_mark.ensures in
-    let due = last_is line.info.offset line.rules c.args.quiet marks mark c.in_ok-keep_years.ensures.marked.are last in
-    subst (λ s. IsTrue (are_small_seconds s)) (sym (saving_is ∙ due.saving))
-    (unended_small line.info.offset line.rules (c.args.quiet + length marks) (sound_savings line c.requires.line))
+pub fire_after-requires-clause-saving : goal.fire_after-requires-clause-saving
+fire_after-requires-clause-saving c =
+    let f : SFits w64 c.last_mark-mark.result.saving = search rules in
+    to_z-of_z w64 c.last_mark-mark.result.saving f ∙ (serves c).saving
 
-pub returns-clause-begun : goal.returns-clause-begun
-returns-clause-begun c =
-    let line = c.args.line.now in
+pub fire_after-requires-clause-small : goal.fire_after-requires-clause-small
+fire_after-requires-clause-small c =
+    let f : SFits w64 c.last_mark-mark.result.saving = search rules in
+    subst (λ s. IsTrue (are_small_seconds s)) (sym (to_z-of_z w64 c.last_mark-mark.result.saving f)) (serves c).small
+
+pub fire_after-requires-clause-bounded : goal.fire_after-requires-clause-bounded
+fire_after-requires-clause-bounded c = (serves c).bounded
+
+pub returns-clause-stands : goal.returns-clause-stands
+returns-clause-stands c =
     let f : SFits w64 c.line.inside.info.now.offset = search rules in
-    let g : SFits w64 c.limit_of-limit.result = search rules in
-    let ends = limit_is line _ _ c.limit_of-limit.result c.line.view_is (to_z-of_z w64 c.line.inside.info.now.offset f) c.limit_of-limit.ensures in
-    begun_by _ line.info.offset line.end line.rules c.args.quiet c.keep_years.new.fired.items c.fire_years.new.fired.items
-    c.keep_years.new.marks.items c.in_ok-last.last _
-    (subst (IsLimit line.end line.info.offset) (sym (to_z-of_z w64 c.limit_of-limit.result g)) ends)
-    (sound_savings line c.requires.line) c.in_ok-keep_years.ensures.years c.in_ok-keep_years.ensures.marked
-    c.in_ok-last.ensures.fired c.in_ok-last.ensures.bounded
+    let g : SFits w64 c.limit_of.result = search rules in
+    let h : SFits w64 c.sooner_of-second.result = search rules in
+    let serving : Serves c.args.start c.args.line.now.info.offset c.args.line.now.end c.args.line.now.rules
+    (c.args.quiet + c.marks_below-count.result) c.last_mark-mark.result =
+    taken c.args.line.now _ _ c.limit_of.result _ c.sooner_of-second.result _ c.args.start _ c.args.quiet c.keep_years.new.marks.items
+    c.as_slice-marks.result.now c.marks_below-count.result c.last_mark-mark.result c.requires.line c.line.view_is
+    (to_z-of_z w64 c.line.inside.info.now.offset f) c.limit_of.ensures (to_z-of_z w64 c.limit_of.result g)
+    (to_z-of_z w64 c.sooner_of-second.result h) (to_z-of_z w64 c.args.start c.ranges.start)
+    c.sooner_of-second.ensures.one c.sooner_of-second.ensures.other c.in_ok-keep_years.ensures c.as_slice-marks.ensures.value
+    c.marks_below-count.ensures.len c.marks_below-count.ensures.below c.last_mark-mark.ensures in
+    c.in_ok-after.ensures.stands (Some c.args.start) serving.stands

@@ -4,14 +4,7 @@ use Rattle.std.proofs.lemmas.Int.{to_z-of_z}
 use Rattle.zone_spans.specs.Firings.{Firing}
 use Rattle.zone_spans.specs.Listing.{is_at}
 use Rattle.zone_spans.proofs.FiringLemmas.{some_rule}
-use Rattle.zone_spans.proofs.ListingLemmas.{below_not_at}
 use Rattle.zone_spans.proofs.listing.place_at.Goals as goal
-
-pub loop-i-init : goal.loop-i-init
-loop-i-init c k d l =
-    let fs = c.args.fired.now in
-    let at : to_z w64 (of_z w64 c.args.start) ≡ c.args.start = to_z-of_z w64 c.args.start c.ranges.start in
-    subst (λ s. is_at s (get_or fs k d) ≡ false) (sym at) (below_not_at c.args.start fs c.args.below k d c.requires.len c.requires.below l)
 
 pub returns-then-is_at-clause-place : goal.returns-then-is_at-clause-place
 returns-then-is_at-clause-place c =

@@ -4,10 +4,11 @@ use Rattle.std.proofs.lemmas.Int.{to_z-of_z}
 use Rattle.zone_values.specs.Bounds.{are_small_seconds}
 use Rattle.zone_values.specs.declared.change.ChangeTime.{ChangeTime}
 use Rattle.zone_spans.specs.Bounds.{can_fire, is_end}
+use Rattle.zone_spans.specs.Fires.{Fires, after}
 use Rattle.zone_spans.specs.Firings.{year_firings, years_expanded}
 use Rattle.zone_spans.specs.Lines.{Line}
 use Rattle.zone_spans.proofs.SoundLemmas.{sound_end, sound_offset, sound_rules}
-use Rattle.zone_spans.proofs.YearLemmas.{fires_more}
+use Rattle.zone_spans.proofs.YearLemmas.{saving_year, stands_year}
 use Rattle.zone_spans.proofs.year.fire_years.Goals as goal
 
 pub years_expanded-count-requires : goal.years_expanded-count-requires
@@ -39,16 +40,21 @@ loop-i-preserved c =
     let last_is = to_z-of_z w64 c.in_ok-last_saving.last_saving f in
     let year_is = to_z-of_z w64 c.from-year.result g ∙ c.from-year.ensures in
     let ends = ap (λ (l : Line). l.end) c.line.view_is in
-    let here = λ (e : Option ChangeTime). year_firings (to_z w64 (of_z w64 c.from-year.result)) line.info.offset e (to_z w64 c.loop-i.last_saving-bits) line.rules in
+    let year = to_z w64 (of_z w64 c.from-year.result) in
+    let before = to_z w64 c.loop-i.last_saving-bits in
+    let saving = to_z w64 (of_z w64 c.in_ok-last_saving.last_saving) in
+    let at = λ (e : Option ChangeTime). year_firings year line.info.offset e before line.rules in
     let fired = c.in_ok-last_saving.ensures.fired in
+    let here : Fires c.fire_year.new.fired.items saving (after c.loop-i.fired.items (year_firings year line.info.offset line.end before line.rules)) =
     record {
-      fired = fires_more line.info.offset line.end line.rules c.loop-i.i c.loop-i.fired.items c.fire_year.new.fired.items
-          (to_z w64 (of_z w64 c.from-year.result)) (to_z w64 c.loop-i.last_saving-bits)
-          (to_z w64 (of_z w64 c.in_ok-last_saving.last_saving))
-          year_is c.loop-i.invariant.fired (record {
-            firings = fired.firings ∙ (λ i. c.loop-i.fired.items ++ (here (ends i)).0);
-            saving = last_is ∙ fired.saving ∙ (λ i. (here (ends i)).1);
-          });
+      firings = fired.firings ∙ (λ i. c.loop-i.fired.items ++ (at (ends i)).0);
+      saving = last_is ∙ fired.saving ∙ (λ i. (at (ends i)).1);
+    } in
+    record {
+      stands = λ start stood. stands_year line.info.offset line.end line.rules c.loop-i.i start c.loop-i.fired.items c.fire_year.new.fired.items
+          year before saving year_is c.loop-i.invariant.saving here (c.loop-i.invariant.stands start stood);
+      saving = saving_year line.info.offset line.end line.rules c.loop-i.i c.loop-i.fired.items c.fire_year.new.fired.items
+          year before saving year_is c.loop-i.invariant.saving here;
       small = subst (λ s. IsTrue (are_small_seconds s)) (sym last_is) c.in_ok-last_saving.ensures.small;
       bounded = c.in_ok-last_saving.ensures.bounded;
     }
