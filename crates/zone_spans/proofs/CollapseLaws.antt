@@ -4,7 +4,7 @@ use Rattle.std.proofs.lemmas.Int.{ints}
 use Rattle.std.proofs.lemmas.List.{reverse-append, append-nil}
 use Rattle.zone_spans.specs.declared.span.FixedTimespan.{FixedTimespan}
 use Rattle.zone_spans.specs.Entries.{Entry, total}
-use Rattle.zone_spans.specs.Collapse.{is_same_span, is_no_later, kept_with, kept_of, without_first, collapsed, LocalEndsRise, TimesRise}
+use Rattle.zone_spans.specs.Collapse.{is_same_span, is_no_later, kept_with, kept_of, without_first, collapsed, LocalEndsRise, EntryTimesDontFall}
 
 int_le_false : (a b : ℤ) → int_le a b ≡ false → b <ℤ a
 int_le_false a b h = grind (arith, ints)
@@ -101,11 +101,11 @@ abbrev pub FallFrom : ℤ → List Entry → Type 0
 FallFrom t [] = Unit {0}
 FallFrom t (e ∷ es) = (e.0 ≤ℤ t) × FallFrom e.0 es
 
-rise_from : (e : Entry) (es : List Entry) → TimesRise (e ∷ es) → RiseFrom e.0 es
+rise_from : (e : Entry) (es : List Entry) → EntryTimesDontFall (e ∷ es) → RiseFrom e.0 es
 rise_from e [] r = tt
 rise_from e (a ∷ es) r = (r.0, rise_from a es r.1)
 
-times_rise : (t : ℤ) (es : List Entry) → RiseFrom t es → TimesRise es
+times_rise : (t : ℤ) (es : List Entry) → RiseFrom t es → EntryTimesDontFall es
 times_rise t [] r = tt
 times_rise t (e ∷ []) r = tt
 times_rise t (e ∷ a ∷ es) r = (r.1.0, times_rise e.0 (a ∷ es) r.1)
@@ -155,26 +155,26 @@ rise_lower : (s t : ℤ) (es : List Entry) → s ≤ℤ t → RiseFrom t es → 
 rise_lower s t [] h r = tt
 rise_lower s t (e ∷ es) h r = (le_chain s t e.0 h r.0, r.1)
 
-times_onto : (t : ℤ) (ks acc : List Entry) → FallFrom t ks → RiseFrom t acc → TimesRise (onto ks acc)
+times_onto : (t : ℤ) (ks acc : List Entry) → FallFrom t ks → RiseFrom t acc → EntryTimesDontFall (onto ks acc)
 times_onto t [] acc f r = times_rise t acc r
 times_onto t (k ∷ ks) acc f r = times_onto k.0 ks (k ∷ acc) f.1 (le_self k.0, rise_lower k.0 t acc f.0 r)
 
-pub times_of_reversed : (t : ℤ) (ks : List Entry) → FallFrom t ks → TimesRise (reverse ks)
-times_of_reversed t ks f = subst TimesRise (reversed ks) (times_onto t ks [] f tt)
+pub times_of_reversed : (t : ℤ) (ks : List Entry) → FallFrom t ks → EntryTimesDontFall (reverse ks)
+times_of_reversed t ks f = subst EntryTimesDontFall (reversed ks) (times_onto t ks [] f tt)
 
-times_without : (first : FixedTimespan) (es : List Entry) → TimesRise es → TimesRise (without_first first es)
+times_without : (first : FixedTimespan) (es : List Entry) → EntryTimesDontFall es → EntryTimesDontFall (without_first first es)
 unfolding without_first
 times_without first [] r = tt
-times_without first (e ∷ []) r = elim (is_same_span e.1 first) as (λ b. TimesRise (cond b [] (e ∷ []))) [ true ↦ tt | false ↦ tt ]
+times_without first (e ∷ []) r = elim (is_same_span e.1 first) as (λ b. EntryTimesDontFall (cond b [] (e ∷ []))) [ true ↦ tt | false ↦ tt ]
 times_without first (e ∷ a ∷ es) r = elim (is_same_span e.1 first) as
-    (λ b. TimesRise (cond b (a ∷ es) (e ∷ a ∷ es))) [ true ↦ r.1 | false ↦ r ]
+    (λ b. EntryTimesDontFall (cond b (a ∷ es) (e ∷ a ∷ es))) [ true ↦ r.1 | false ↦ r ]
 
 -- times that don't fall before don't fall after
-pub times_still_rise : (first : FixedTimespan) (entries : List Entry) → TimesRise entries → TimesRise (collapsed first entries)
+pub times_still_rise : (first : FixedTimespan) (entries : List Entry) → EntryTimesDontFall entries → EntryTimesDontFall (collapsed first entries)
 unfolding collapsed kept_of without_first
 times_still_rise first [] r = tt
 times_still_rise first (e ∷ es) r =
     let kept = kept_of [] (e ∷ es) in
     let fall : Fall kept = fall_of e.0 (e ∷ es) [] (le_self e.0, rise_from e es r) tt in
-    let rises : TimesRise (reverse kept) = subst TimesRise (reversed kept) (times_onto fall.0 kept [] fall.1 tt) in
+    let rises : EntryTimesDontFall (reverse kept) = subst EntryTimesDontFall (reversed kept) (times_onto fall.0 kept [] fall.1 tt) in
     times_without first (reverse kept) rises

@@ -6,13 +6,14 @@ use Rattle.std.specs.Cmp.{IsStrictWeakOrder}
 use Rattle.std.specs.List.{list_all, list_any}
 use Rattle.owned.specs.Sorted.{put_in, stable_sort}
 use Rattle.owned.specs.SortedLaws.{Rises, Rises-stable_sort}
+use Rattle.owned.specs.InOrderLaws.{or_turned}
 use Rattle.zone_table.specs.declared.zone.ZoneInfo.{ZoneInfo}
 use Rattle.zone_spans.specs.declared.fault.SpanFault.{SpanFault}
 use Rattle.zone_spans.specs.declared.fault.SpanFault.TheVariants.{UnknownRuleset, MissingUntil, YearRange, RuleYears, DayRange, NoStandardSpan, NoMemory}
 use Rattle.zone_spans.specs.declared.span.FixedTimespanSet.{FixedTimespanSet}
 use Rattle.zone_spans.specs.Bounds.{IsSound, is_bounded_line}
 use Rattle.zone_spans.specs.Causes.{IsDue, IsUnknown}
-use Rattle.zone_spans.specs.Collapse.{TimesRise}
+use Rattle.zone_spans.specs.Collapse.{EntryTimesDontFall}
 use Rattle.zone_spans.specs.Compiled.{compiled, set_of, set_of_lines, unless}
 use Rattle.zone_spans.specs.Entries.{Entry, first_span, fixed_span, is_sooner, is_standard, raw_entries, sorted_entries}
 use Rattle.zone_spans.specs.Faults.{begins_ruled, entry_test, first_met, is_unknown, line_fault, line_tests, schedule_fault}
@@ -95,12 +96,6 @@ fault_due rulesets infos lines fault same known is =
     (ap (λ f. unless f (set_of_lines (zone_lines rulesets infos)))
     (known_fault rulesets infos known fault (ap (line_fault infos) (sym same) ∙ is)))
 
-or_turned : (a b c : Bool) → (a || (b || c)) ≡ (b || (a || c))
-or_turned true true c = refl
-or_turned true false c = refl
-or_turned false true c = refl
-or_turned false false c = refl
-
 any_put : {X : Type 0} (lt : X → X → Bool) (p : X → Bool) (x : X) (ys : List X) → list_any p (put_in lt x ys) ≡ (p x || list_any p ys)
 any_put lt p x [] = refl
 any_put lt p x (y ∷ ys) =
@@ -177,14 +172,14 @@ sooner_ranks = record {
   chain = λ x y z h k. int_lt_chain x.0 y.0 z.0 h k;
 }
 
-times_of : (es : List Entry) → Rises is_sooner es → TimesRise es
+times_of : (es : List Entry) → Rises is_sooner es → EntryTimesDontFall es
 times_of [] r = tt
 times_of (a ∷ []) r = tt
 times_of (a ∷ b ∷ es) r = (not_before a.0 b.0 r.0.0, times_of (b ∷ es) r.1)
 
 -- the times of sorted entries don't fall
-pub times_sorted : (lines : List Line) (es : List Entry) → es ≡ sorted_entries lines → TimesRise es
+pub times_sorted : (lines : List Line) (es : List Entry) → es ≡ sorted_entries lines → EntryTimesDontFall es
 unfolding sorted_entries
 times_sorted lines es is =
-    subst TimesRise (sym is) (times_of (stable_sort is_sooner (raw_entries lines))
+    subst EntryTimesDontFall (sym is) (times_of (stable_sort is_sooner (raw_entries lines))
     (Rises-stable_sort is_sooner sooner_ranks (raw_entries lines)))

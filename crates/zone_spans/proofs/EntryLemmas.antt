@@ -13,7 +13,7 @@ use Rattle.zone_spans.specs.Bounds.{IsSound, is_bounded_entry, is_bounded_firing
 use Rattle.zone_spans.specs.Entries.{Entry, at_start, entries_from, entries_of, entry_of, fixed_span, is_sooner, next_start, span_of, start_entry}
 use Rattle.zone_spans.specs.Firings.{Firing, firings}
 use Rattle.zone_spans.specs.Lines.{Line, fixed_saving, is_ruled}
-use Rattle.zone_spans.specs.Listing.{is_at, listed, listed_from, start_firing}
+use Rattle.zone_spans.specs.Listing.{is_at, listed_firings, listed_from, start_firing}
 use Rattle.zone_spans.specs.Stands.{StandsFor}
 use Rattle.zone_spans.proofs.BoundLemmas.{both, first, second}
 use Rattle.zone_spans.proofs.FoundLemmas.{from_here}
@@ -51,7 +51,7 @@ bounded_map line (f ∷ fs) offset bounded =
     (bounded_map line fs offset (second (is_bounded_firing f) _ bounded))
 
 bounded_listed : (start : Option ℤ) (fs : List Firing) → IsTrue (list_all is_bounded_firing fs)
-    → IsTrue (list_all is_bounded_firing (listed start fs))
+    → IsTrue (list_all is_bounded_firing (listed_firings start fs))
 unfolding listed_from
 bounded_listed None fs bounded = bounded
 bounded_listed (Some start) fs bounded =
@@ -126,16 +126,16 @@ bounded_fixed_entry line (Some start) sound small =
 
 -- the entries of a ruled line, by what stands for its firings
 pub ruled_entries : (line : Line) (start : Option ℤ) (fs : List Firing) → is_ruled line.info.saving ≡ true → StandsFor start fs (firings line)
-    → map (entry_of line) (listed start fs) ++ start_entry line start fs ≡ entries_of line start
+    → map (entry_of line) (listed_firings start fs) ++ start_entry line start fs ≡ entries_of line start
 unfolding entries_of
 ruled_entries line start fs ruled stands =
     let due = firings line in
-    let lists : listed start fs ≡ listed start due =
-    ap (listed start) (sym (append-nil fs)) ∙ stands.lists [] ∙ ap (listed start) (append-nil due) in
+    let lists : listed_firings start fs ≡ listed_firings start due =
+    ap (listed_firings start) (sym (append-nil fs)) ∙ stands.lists [] ∙ ap (listed_firings start) (append-nil due) in
     let starts : start_entry line start fs ≡ start_entry line start due =
     ap (start_entry line start) (sym (append-nil fs)) ∙ stands.starts line [] ∙ ap (start_entry line start) (append-nil due) in
     (λ i. map (entry_of line) (lists i) ++ starts i)
-    ∙ sym (ap (λ b. if b then map (entry_of line) (listed start due) ++ start_entry line start due else at_start start (Some (fixed_span line))) ruled)
+    ∙ sym (ap (λ b. if b then map (entry_of line) (listed_firings start due) ++ start_entry line start due else at_start start (Some (fixed_span line))) ruled)
 
 -- the entries of a sound line are bounded, where what stands for its firings is
 pub bounded_ruled : (line : Line) (start : Option ℤ) (fs : List Firing) → IsSound line → is_ruled line.info.saving ≡ true
@@ -144,9 +144,9 @@ pub bounded_ruled : (line : Line) (start : Option ℤ) (fs : List Firing) → Is
 bounded_ruled line start fs sound ruled stands small bounded =
     let offset = sound_offset line sound in
     ap (list_all is_bounded_entry) (sym (ruled_entries line start fs ruled stands))
-    ∙ list_all-append is_bounded_entry (map (entry_of line) (listed start fs)) (start_entry line start fs)
-    ∙ both (list_all is_bounded_entry (map (entry_of line) (listed start fs))) _
-    (bounded_map line (listed start fs) offset (bounded_listed start fs bounded))
+    ∙ list_all-append is_bounded_entry (map (entry_of line) (listed_firings start fs)) (start_entry line start fs)
+    ∙ both (list_all is_bounded_entry (map (entry_of line) (listed_firings start fs))) _
+    (bounded_map line (listed_firings start fs) offset (bounded_listed start fs bounded))
     (bounded_start_entry line start fs offset small bounded)
 
 pub bounded_unruled : (line : Line) (start : Option ℤ) → IsSound line → is_ruled line.info.saving ≡ false → IsTrue (is_start start)
@@ -154,7 +154,7 @@ pub bounded_unruled : (line : Line) (start : Option ℤ) → IsSound line → is
 unfolding entries_of
 bounded_unruled line start sound unruled small =
     ap (λ b. list_all is_bounded_entry
-    (if b then map (entry_of line) (listed start (firings line)) ++ start_entry line start (firings line)
+    (if b then map (entry_of line) (listed_firings start (firings line)) ++ start_entry line start (firings line)
     else at_start start (Some (fixed_span line)))) unruled
     ∙ bounded_fixed_entry line start sound small
 

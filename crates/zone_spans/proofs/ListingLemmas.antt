@@ -8,7 +8,7 @@ use Rattle.std.specs.List.{last_or, list_all, position_or_len}
 use Rattle.std.specs.Option.{option_or, option_to_list}
 use Rattle.zone_spans.specs.Entries.{at_start, span_of, start_entry}
 use Rattle.zone_spans.specs.Firings.{Firing}
-use Rattle.zone_spans.specs.Listing.{is_at, listed, listed_from, start_firing}
+use Rattle.zone_spans.specs.Listing.{is_at, listed_firings, listed_from, start_firing}
 use Rattle.zone_spans.specs.Stands.{StandsFor}
 use Rattle.zone_spans.proofs.BoundLemmas.{both, first, second}
 use Rattle.zone_spans.proofs.FiringLemmas.{int_lt_one_way}
@@ -22,7 +22,7 @@ later_place : (start : ℤ) (f : Firing) (fs : List Firing) → IsTrue (int_lt f
 later_place start f fs below =
     ap (λ b. cond (not b) (1 + position_or_len (is_at start) fs) 0) (not_equal f.time start below) ∙ omega arith
 
--- so it is not listed
+-- so it is not listed_firings
 listed_behind : (start : ℤ) (f : Firing) (fs : List Firing) → IsTrue (int_lt f.time start)
     → listed_from start (f ∷ fs) ≡ listed_from start fs
 unfolding listed_from
@@ -77,8 +77,8 @@ stands_same start fs = record {
 -- the same firings behind both
 pub stands_more : (start : Option ℤ) (fired due more : List Firing) → StandsFor start fired due → StandsFor start (fired ++ more) (due ++ more)
 stands_more start fired due more stands = record {
-  lists = λ later. ap (listed start) (append_assoc fired more later) ∙ stands.lists (more ++ later)
-      ∙ ap (listed start) (sym (append_assoc due more later));
+  lists = λ later. ap (listed_firings start) (append_assoc fired more later) ∙ stands.lists (more ++ later)
+      ∙ ap (listed_firings start) (sym (append_assoc due more later));
   starts = λ line later. ap (start_entry line start) (append_assoc fired more later) ∙ stands.starts line (more ++ later)
       ∙ ap (start_entry line start) (sym (append_assoc due more later));
 }

@@ -1,11 +1,10 @@
 -- Rulesets that are found to be the same.
-use Rattle.std.proofs.Common.{◌≡◌, ℕ, List, [], ◌∷◌, true, false, Option, Some, None, ℤ, refl, ap, rules, bytes_eq}
+use Rattle.std.proofs.Common.{◌≡◌, ℕ, List, [], ◌∷◌, true, Option, Some, None, ℤ, refl, ap, rules, bytes_eq}
 use Rattle.std.specs.Ordering.{int_eq}
 use Rattle.std.proofs.lemmas.Bool.{and_parts}
 use lib.Pointwise.{pointwise}
-use Rattle.zone_values.specs.declared.day.DaySpec.{DaySpec}
-use Rattle.zone_values.specs.declared.month.Month.{Month}
-use Rattle.zone_values.specs.declared.time.TimeType.{TimeType}
+use Rattle.calendar.specs.LogicLaws.{no_case}
+use Rattle.zone_values.specs.SameLaws.{clock_is, year_is, month_is, day_is, text_is}
 use Rattle.zone_values.specs.declared.year.Year.{Year}
 use Rattle.std.specs.contracts.prelude.OptionPartialEq.TheImpl as of_option
 use Rattle.owned.specs.contracts.text.Text as text_type
@@ -18,26 +17,8 @@ use Rattle.zone_values.specs.contracts.year.YearPartialEq.TheImpl as of_year
 use Rattle.zone_table.specs.contracts.rule.RuleInfoPartialEq.TheImpl as of_rule
 use Rattle.zone_table.specs.declared.rule.RuleInfo.{RuleInfo}
 
-clock_is : (a b : TimeType) → of_clock.ghosts.eq a b ≡ true → a ≡ b
-clock_is a b h = search rules
-
-year_is : (a b : Year) → of_year.ghosts.eq a b ≡ true → a ≡ b
-year_is a b h = search rules
-
-month_is : (a b : Month) → of_month.ghosts.eq a b ≡ true → a ≡ b
-month_is a b h = search rules
-
-day_is : (a b : DaySpec) → of_day.ghosts.eq a b ≡ true → a ≡ b
-day_is a b h = search rules
-
-text_is : (a b : List ℕ) → bytes_eq a b ≡ true → a ≡ b
-text_is a b h = search rules
-
 number_is : (a b : ℤ) → int_eq a b ≡ true → a ≡ b
 number_is a b h = search rules
-
-no_case : {A : Type 0} → false ≡ true → A
-no_case h = search rules
 
 last_is : (a b : Option Year) → (of_option.ghosts year_type.the_row of_year.ghosts of_year.dict).eq a b ≡ true → a ≡ b
 last_is None None h = refl

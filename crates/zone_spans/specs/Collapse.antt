@@ -42,7 +42,7 @@ LocalEndsRise (a ∷ b ∷ []) = Unit {0}
 LocalEndsRise (a ∷ b ∷ c ∷ es) = ((b.0 +ℤ total a.1) <ℤ (c.0 +ℤ total b.1)) × LocalEndsRise (b ∷ c ∷ es)
 
 -- the times don't fall
-abbrev pub TimesRise : List Entry → Type 0
-TimesRise [] = Unit {0}
-TimesRise (a ∷ []) = Unit {0}
-TimesRise (a ∷ b ∷ es) = (a.0 ≤ℤ b.0) × TimesRise (b ∷ es)
+abbrev pub EntryTimesDontFall : List Entry → Type 0
+EntryTimesDontFall [] = Unit {0}
+EntryTimesDontFall (a ∷ []) = Unit {0}
+EntryTimesDontFall (a ∷ b ∷ es) = (a.0 ≤ℤ b.0) × EntryTimesDontFall (b ∷ es)

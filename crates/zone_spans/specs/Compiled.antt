@@ -26,8 +26,8 @@ unfoldable pub compiled : Rulesets → List ZoneInfo → Result FixedTimespanSet
 compiled rulesets infos = unless (schedule_fault rulesets infos) (set_of_lines (zone_lines rulesets infos))
 
 -- a call's answer beside what is due, which is none where there is no zone; want of memory may come in place of any
-abbrev pub Tells : Result (Option FixedTimespanSet) SpanFault → Option (Result FixedTimespanSet SpanFault) → Type 0
-Tells (Err NoMemory) due = Unit {0}
-Tells (Err fault) due = due ≡ Some (Err fault)
-Tells (Ok None) due = due ≡ None
-Tells (Ok (Some set)) due = due ≡ Some (Ok set)
+abbrev pub TellsCompiled : Result (Option FixedTimespanSet) SpanFault → Option (Result FixedTimespanSet SpanFault) → Type 0
+TellsCompiled (Err NoMemory) due = Unit {0}
+TellsCompiled (Err fault) due = due ≡ Some (Err fault)
+TellsCompiled (Ok None) due = due ≡ None
+TellsCompiled (Ok (Some set)) due = due ≡ Some (Ok set)

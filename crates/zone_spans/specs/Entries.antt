@@ -6,7 +6,7 @@ use Rattle.owned.specs.Sorted.{stable_sort}
 use Rattle.zone_spans.specs.Windows.{line_end}
 use Rattle.zone_spans.specs.Lines.{Line, is_ruled, fixed_saving}
 use Rattle.zone_spans.specs.Firings.{Firing, firings, last_saving}
-use Rattle.zone_spans.specs.Listing.{listed, start_firing}
+use Rattle.zone_spans.specs.Listing.{listed_firings, start_firing}
 use Rattle.zone_spans.specs.declared.span.FixedTimespan.{FixedTimespan}
 
 -- a second from 1970 on, and what is in force from then on
@@ -48,7 +48,7 @@ start_entry line (Some start) fs = at_start (Some start) (option_map (span_of li
 unfoldable pub entries_of : Line → Option ℤ → List Entry
 entries_of line start =
     if is_ruled line.info.saving
-    then map (entry_of line) (listed start (firings line)) ++ start_entry line start (firings line)
+    then map (entry_of line) (listed_firings start (firings line)) ++ start_entry line start (firings line)
     else at_start start (Some (fixed_span line))
 
 -- where the next line starts

@@ -15,9 +15,9 @@ listed_from start fs =
     filter (λ f. int_lt start f.time) (take place fs) ++ drop place fs
 
 -- the firings that a line lists, by its start: all where it is the first, which has none
-abbrev pub listed : Option ℤ → List Firing → List Firing
-listed None fs = fs
-listed (Some start) fs = listed_from start fs
+abbrev pub listed_firings : Option ℤ → List Firing → List Firing
+listed_firings None fs = fs
+listed_firings (Some start) fs = listed_from start fs
 
 -- the last firing below the start, else the first that ends a saving; none where a firing is at the start
 unfoldable pub start_firing : ℤ → List Firing → Option Firing

@@ -24,13 +24,13 @@ fixed total = record { first = total; shifts = [] }
 unfoldable pub totals_of : FixedTimespanSet → Schedule
 totals_of set = record { first = total set.first; shifts = map (λ e. (e.0, total e.1)) set.rest }
 
-abbrev pub shown_by : Result FixedTimespanSet SpanFault → Schedule
-shown_by (Ok set) = totals_of set
-shown_by (Err fault) = fixed (pos 0)
+abbrev pub totals_told : Result FixedTimespanSet SpanFault → Schedule
+totals_told (Ok set) = totals_of set
+totals_told (Err fault) = fixed (pos 0)
 
 -- the schedule of a zone with these lines; no offset where there is a fault
-unfoldable pub schedule_of : Rulesets → List ZoneInfo → Schedule
-schedule_of rulesets lines = shown_by (compiled rulesets lines)
+unfoldable pub schedule_of_lines : Rulesets → List ZoneInfo → Schedule
+schedule_of_lines rulesets lines = totals_told (compiled rulesets lines)
 
 abbrev pub last_total : ℤ → List (ℤ × ℤ) → ℤ
 last_total total [] = total

@@ -3,9 +3,9 @@ use Rattle.std.specs.Prelude.{◌≡◌, List, ◌++◌, Option, ℤ}
 use Rattle.zone_spans.specs.Entries.{start_entry}
 use Rattle.zone_spans.specs.Firings.{Firing}
 use Rattle.zone_spans.specs.Lines.{Line}
-use Rattle.zone_spans.specs.Listing.{listed}
+use Rattle.zone_spans.specs.Listing.{listed_firings}
 
 -- whatever follows, a line with that start lists the same, and has the same entry at its start
 pub record StandsFor (start : Option ℤ) (fired due : List Firing) : Type 0 where
-  pub lists : (more : List Firing) → listed start (fired ++ more) ≡ listed start (due ++ more)
+  pub lists : (more : List Firing) → listed_firings start (fired ++ more) ≡ listed_firings start (due ++ more)
   pub starts : (line : Line) (more : List Firing) → start_entry line start (fired ++ more) ≡ start_entry line start (due ++ more)

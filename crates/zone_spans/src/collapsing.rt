@@ -2,7 +2,7 @@
 ghost use Rattle.std.specs.Prelude.{◌≡◌, ◌<◌, ◌≤◌, ◌+◌, ◌+ℤ◌, length, All, IsTrue, reverse, []};
 ghost use Rattle.std.specs.List.{list_all};
 ghost use Rattle.zone_spans.specs.Bounds.{IsSmallEntry, is_bounded, is_bounded_entry};
-ghost use Rattle.zone_spans.specs.Collapse.{is_same_span, is_no_later, kept_of, without_first, collapsed, LocalEndsRise, TimesRise};
+ghost use Rattle.zone_spans.specs.Collapse.{is_same_span, is_no_later, kept_of, without_first, collapsed, LocalEndsRise, EntryTimesDontFall};
 ghost use Rattle.zone_spans.specs.Entries.{Entry, total};
 ghost use Rattle.zone_spans.specs.Places.{IsRespanned, IsMoved, IsStep};
 
@@ -121,7 +121,7 @@ pub fn collapse(set: &mut FixedTimespanSet)
     ensures rest { set.new.rest ≡ collapsed set.old.first set.old.rest }
     ensures bounded { IsTrue (is_bounded set.new) }
     ensures law { LocalEndsRise set.new.rest }
-    ensures times { TimesRise set.old.rest → TimesRise set.new.rest }
+    ensures times { EntryTimesDontFall set.old.rest → EntryTimesDontFall set.new.rest }
 {
     keep_kept(&mut set.rest);
     drop_repeat(&mut set.rest, &set.first);

@@ -26,7 +26,7 @@ ghost use Rattle.zone_spans.specs.Firings.{firings};
 ghost use Rattle.zone_spans.specs.KeptFor.{IsKept};
 ghost use Rattle.zone_spans.specs.Several.{AreAll};
 ghost use Rattle.zone_spans.specs.Windows.{line_end};
-ghost use Rattle.zone_spans.specs.Listing.{is_at, listed, listed_from, start_firing};
+ghost use Rattle.zone_spans.specs.Listing.{is_at, listed_firings, listed_from, start_firing};
 
 use crate::firing::Firing;
 use crate::kept::{Kept, fire_line};
@@ -174,7 +174,7 @@ fn push_ruled(
     fired: &[Firing<'_>],
 ) -> Result<(), AllocError>
     ensures { IfOk result (λ _. entries.new ≡ entries.old
-        ++ (map (entry_of line.now) (listed start fired.now) ++ start_entry line.now start fired.now)) }
+        ++ (map (entry_of line.now) (listed_firings start fired.now) ++ start_entry line.now start fired.now)) }
 {
     match start {
         Some(start) => push_from(entries, alloc, line, start, fired),

@@ -8,8 +8,8 @@ ghost use Rattle.zone_table.specs.Resolved.{resolved_in};
 ghost use Rattle.zone_table.specs.declared.zone.ZoneInfo.{ZoneInfo};
 ghost use Rattle.zone_spans.specs.Bounds.{IsSound, is_bounded, is_bounded_entry, is_bounded_span};
 ghost use Rattle.zone_spans.specs.Causes.{IsDue};
-ghost use Rattle.zone_spans.specs.Collapse.{LocalEndsRise, TimesRise};
-ghost use Rattle.zone_spans.specs.Compiled.{Tells, compiled, set_of_lines};
+ghost use Rattle.zone_spans.specs.Collapse.{LocalEndsRise, EntryTimesDontFall};
+ghost use Rattle.zone_spans.specs.Compiled.{TellsCompiled, compiled, set_of_lines};
 ghost use Rattle.zone_spans.specs.Entries.{first_span, is_standard};
 ghost use Rattle.zone_spans.specs.Lines.{Rulesets};
 
@@ -53,9 +53,9 @@ pub trait TableTransitions {
         zone_name: &str,
     ) -> Result<Option<FixedTimespanSet>, SpanFault>
         requires { IsBounded self.now }
-        ensures told { Tells result (option_map (compiled (rulesets self.now)) (zones self.now zone_name.now)) }
+        ensures told { TellsCompiled result (option_map (compiled (rulesets self.now)) (zones self.now zone_name.now)) }
         ensures bounded { IfOk result (λ found. IfSome found (λ set. IsTrue (is_bounded set))) }
-        ensures times { IfOk result (λ found. IfSome found (λ set. TimesRise set.rest)) }
+        ensures times { IfOk result (λ found. IfSome found (λ set. EntryTimesDontFall set.rest)) }
         ensures law { IfOk result (λ found. IfSome found (λ set. LocalEndsRise set.rest)) };
 }
 
@@ -89,7 +89,7 @@ fn compile(alloc: Global, table: &Table, infos: &[ZoneInfo]) -> Result<FixedTime
     ensures ok { IfOk result (λ set. compiled (get table.now.rulesets) infos.now ≡ Ok set) }
     ensures err { IfErr result (λ fault. IsDue fault (compiled (get table.now.rulesets) infos.now)) }
     ensures bounded { IfOk result (λ set. IsTrue (is_bounded set)) }
-    ensures times { IfOk result (λ set. TimesRise set.rest) }
+    ensures times { IfOk result (λ set. EntryTimesDontFall set.rest) }
     ensures law { IfOk result (λ set. LocalEndsRise set.rest) }
 {
     match zone_lines(alloc, table, infos) {
@@ -109,7 +109,7 @@ fn expand(alloc: Global, lines: &[Line<'_>]) -> Result<FixedTimespanSet, SpanFau
     ensures ok { IfOk result (λ set. set_of_lines lines.now ≡ Ok set) }
     ensures err { IfErr result (λ fault. IsDue fault (set_of_lines lines.now)) }
     ensures bounded { IfOk result (λ set. IsTrue (is_bounded set)) }
-    ensures times { IfOk result (λ set. TimesRise set.rest) }
+    ensures times { IfOk result (λ set. EntryTimesDontFall set.rest) }
     ensures law { IfOk result (λ set. LocalEndsRise set.rest) }
 {
     let entries = sorted_entries(alloc, lines)?;

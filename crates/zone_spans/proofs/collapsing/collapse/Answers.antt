@@ -1,5 +1,5 @@
 use Rattle.std.proofs.Common.{sym, ap, ◌∙◌, subst}
-use Rattle.zone_spans.specs.Collapse.{without_first, collapsed, LocalEndsRise, TimesRise}
+use Rattle.zone_spans.specs.Collapse.{without_first, collapsed, LocalEndsRise, EntryTimesDontFall}
 use Rattle.zone_spans.proofs.CollapseLaws.{local_ends_rise, times_still_rise}
 use Rattle.zone_spans.proofs.collapsing.collapse.Goals as goal
 
@@ -13,4 +13,4 @@ pub returns-clause-times : goal.returns-clause-times
 unfolding collapsed
 returns-clause-times c rise =
     let is = c.drop_repeat.ensures.dropped ∙ ap (without_first c.args.set.now.first) c.keep_kept.ensures.kept in
-    subst TimesRise (sym is) (times_still_rise c.args.set.now.first c.args.set.now.rest rise)
+    subst EntryTimesDontFall (sym is) (times_still_rise c.args.set.now.first c.args.set.now.rest rise)

@@ -3,7 +3,7 @@ use Rattle.std.proofs.lemmas.Int.{to_z-of_z}
 use Rattle.zone_values.specs.Bounds.{are_small_seconds}
 use Rattle.zone_spans.specs.Entries.{entry_of, start_entry}
 use Rattle.zone_spans.specs.Firings.{Firing}
-use Rattle.zone_spans.specs.Listing.{listed}
+use Rattle.zone_spans.specs.Listing.{listed_firings}
 use Rattle.zone_spans.proofs.EntryLemmas.{bounded_ruled, bounded_unruled, ruled_entries}
 use Rattle.zone_spans.proofs.SoundLemmas.{sound_saving}
 use Rattle.zone_spans.proofs.entries.push_line.Goals as goal
@@ -15,7 +15,7 @@ returns-then-is_ruled-clause-entries c =
     let es = c.args.entries.now in
     let ruled = sym c.is_ruled.ensures ∙ c.if-is_ruled.true in
     c.in_ok-push_ruled.ensures
-    ∙ ap (λ (fs : List Firing). es ++ (map (entry_of line) (listed start fs) ++ start_entry line start fs)) c.deref.ensures.value
+    ∙ ap (λ (fs : List Firing). es ++ (map (entry_of line) (listed_firings start fs) ++ start_entry line start fs)) c.deref.ensures.value
     ∙ ap (λ xs. es ++ xs) (ruled_entries line start c.fire_line.new.fired.items ruled c.in_ok-last_saving.ensures.stands)
 
 pub returns-then-is_ruled-clause-bounded : goal.returns-then-is_ruled-clause-bounded
