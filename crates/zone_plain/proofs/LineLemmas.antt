@@ -47,19 +47,19 @@ pub told_meant : (is_open : Bool) (line text : List ℕ) (r : Result Line Refuse
 told_meant is_open line text r good utf8 same h = subst (λ m. IsToldBy line_value r m) (sym (meant_is is_open line text good utf8 same)) h
 
 -- the cause that was told of a line
-pub told_refused : (depth : ℕ) (is_open : Bool) (line : List ℕ) (r : Refused) → IsToldBy {A = Line} line_value (Err r) (line_meaning is_open line)
-    → IsRefusedLine depth is_open line r
-told_refused depth is_open line (Cause c) h = ap (λ m. ◌>>=◌ m (named depth)) h
-told_refused depth is_open line NoMemory h = tt
+pub told_refused : (mark : List ℕ) (is_open : Bool) (line : List ℕ) (r : Refused) → IsToldBy {A = Line} line_value (Err r) (line_meaning is_open line)
+    → IsRefusedLine mark is_open line r
+told_refused mark is_open line (Cause c) h = ap (λ m. ◌>>=◌ m (named mark)) h
+told_refused mark is_open line NoMemory h = tt
 
-pub unsaid : (depth : ℕ) (is_open : Bool) (line : List ℕ) (v w : LineValue) → line_meaning is_open line ≡ Ok v → w ≡ renamed depth v
-    → is_said w ≡ false → added_line depth is_open line ≡ Err cause.Unsayable
-unsaid depth is_open line v w meant same unread =
-    ap (λ m. ◌>>=◌ m (named depth)) meant ∙ ap if_said (sym same) ∙ ap (λ b. cond b (Ok w) (Err cause.Unsayable)) unread
+pub unsaid : (mark : List ℕ) (is_open : Bool) (line : List ℕ) (v w : LineValue) → line_meaning is_open line ≡ Ok v → w ≡ renamed mark v
+    → is_said w ≡ false → added_line mark is_open line ≡ Err cause.Unsayable
+unsaid mark is_open line v w meant same unread =
+    ap (λ m. ◌>>=◌ m (named mark)) meant ∙ ap if_said (sym same) ∙ ap (λ b. cond b (Ok w) (Err cause.Unsayable)) unread
 
 pub read_and_added : (old new : List (List ℕ)) (text plain : List ℕ) → new ≡ old ++ text ∷ [] → text ≡ plain → new ≡ old ++ plain ∷ []
 read_and_added old new text plain added same = added ∙ ap (λ t. old ++ t ∷ []) same
 
 -- the name that was written gives the line that is meant
-pub under_is : (depth : ℕ) (v w : LineValue) (name : List ℕ) → name ≡ said_name depth (ruleset_of v) → w ≡ under v name → w ≡ renamed depth v
-under_is depth v w name named is = is ∙ ap (under v) named
+pub under_is : (mark : List ℕ) (v w : LineValue) (name : List ℕ) → name ≡ said_name mark (ruleset_of v) → w ≡ under v name → w ≡ renamed mark v
+under_is mark v w name named is = is ∙ ap (under v) named

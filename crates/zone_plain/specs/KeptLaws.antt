@@ -21,7 +21,7 @@ use Rattle.zone_plain_offsets.specs.Made.{changed_by, changed, is_changed_said, 
 use Rattle.zone_plain_offsets.specs.Pairs.{Pair, joined_by, pairs_from}
 use Rattle.zone_plain_offsets.specs.WrittenOut.{unsaid_from, written_unless, written_out}
 use Rattle.zone_plain.specs.Kept.{HasNoOffsets}
-use Rattle.zone_plain.specs.LineValues.{line_meaning, is_open_after, values_from, meant_in, depth_of, named, values_in}
+use Rattle.zone_plain.specs.LineValues.{line_meaning, is_open_after, values_from, meant_in, mark_in, named, values_in}
 use Rattle.zone_plain.specs.Named.{IsSaidAsMeant}
 use Rattle.zone_plain.specs.Plain.{plain_of}
 use Rattle.zone_plain.specs.Written.{written}
@@ -53,48 +53,48 @@ out_stays values none =
     ap (written_unless values) (all_said values 1 values none)
     ∙ ap Ok ((λ i. all_stay (name_in values) values none i ++ none_made values none i) ∙ append-nil values)
 
-saving_stays : (depth : ℕ) (saving : SavingValue) → is_ruleset_name (saved_by saving) ≡ true → saving_by saving (said_name depth (saved_by saving)) ≡ saving
-saving_stays depth no_saving said = refl
-saving_stays depth (one_off amount) said = refl
-saving_stays depth (multiple name) said = ap multiple (stays_so depth name said)
+saving_stays : (mark : List ℕ) (saving : SavingValue) → is_ruleset_name (saved_by saving) ≡ true → saving_by saving (said_name mark (saved_by saving)) ≡ saving
+saving_stays mark no_saving said = refl
+saving_stays mark (one_off amount) said = refl
+saving_stays mark (multiple name) said = ap multiple (stays_so mark name said)
 
 -- a line whose ruleset has a name that can be said stays
-name_stays : (depth : ℕ) (v : LineValue) → is_ruleset_name (ruleset_of v) ≡ true → renamed depth v ≡ v
-name_stays depth space said = refl
-name_stays depth (zone name info) said =
-    ap (λ s. zone name (record { utc_offset = info.utc_offset; saving = s; format = info.format; time = info.time })) (saving_stays depth info.saving said)
-name_stays depth (continuation info) said =
-    ap (λ s. continuation (record { utc_offset = info.utc_offset; saving = s; format = info.format; time = info.time })) (saving_stays depth info.saving said)
-name_stays depth (rule r) said = ap (under (rule r)) (stays_so depth r.name said)
-name_stays depth (link existing new) said = refl
+name_stays : (mark : List ℕ) (v : LineValue) → is_ruleset_name (ruleset_of v) ≡ true → renamed mark v ≡ v
+name_stays mark space said = refl
+name_stays mark (zone name info) said =
+    ap (λ s. zone name (record { utc_offset = info.utc_offset; saving = s; format = info.format; time = info.time })) (saving_stays mark info.saving said)
+name_stays mark (continuation info) said =
+    ap (λ s. continuation (record { utc_offset = info.utc_offset; saving = s; format = info.format; time = info.time })) (saving_stays mark info.saving said)
+name_stays mark (rule r) said = ap (under (rule r)) (stays_so mark r.name said)
+name_stays mark (link existing new) said = refl
 
-named_stays : (depth : ℕ) (v : LineValue) → IsSaidAsMeant v → named depth v ≡ Ok v
-named_stays depth v said = ap if_said (name_stays depth v said.name) ∙ ap (λ b. cond b (Ok v) (Err cause.Unsayable)) said.said
+named_stays : (mark : List ℕ) (v : LineValue) → IsSaidAsMeant v → named mark v ≡ Ok v
+named_stays mark v said = ap if_said (name_stays mark v said.name) ∙ ap (λ b. cond b (Ok v) (Err cause.Unsayable)) said.said
 
-all_named : (depth : ℕ) (is_open : Bool) (n : ℕ) (lines : List (List ℕ))
-    → IfOk (values_from Ok is_open n lines) (λ meant. All IsSaidAsMeant meant → values_from (named depth) is_open n lines ≡ Ok meant)
+all_named : (mark : List ℕ) (is_open : Bool) (n : ℕ) (lines : List (List ℕ))
+    → IfOk (values_from Ok is_open n lines) (λ meant. All IsSaidAsMeant meant → values_from (named mark) is_open n lines ≡ Ok meant)
 unfolding values_from
-all_named depth true n [] = tt
-all_named depth false n [] = λ said. refl
-all_named depth is_open n (line ∷ lines) =
-    by (line_meaning is_open line) (λ v. all_named depth (is_open_after is_open v) (suc n) lines)
+all_named mark true n [] = tt
+all_named mark false n [] = λ said. refl
+all_named mark is_open n (line ∷ lines) =
+    by (line_meaning is_open line) (λ v. all_named mark (is_open_after is_open v) (suc n) lines)
   where
     rest : (v : LineValue) (r : Result (List LineValue) LineFault)
-        → IfOk r (λ meant. All IsSaidAsMeant meant → values_from (named depth) (is_open_after is_open v) (suc n) lines ≡ Ok meant)
+        → IfOk r (λ meant. All IsSaidAsMeant meant → values_from (named mark) (is_open_after is_open v) (suc n) lines ≡ Ok meant)
         → IfOk (onto v r) (λ meant. All IsSaidAsMeant meant
-        → ◌>>=◌ (numbered n (named depth v)) (λ w. onto w (values_from (named depth) (is_open_after is_open v) (suc n) lines)) ≡ Ok meant)
+        → ◌>>=◌ (numbered n (named mark v)) (λ w. onto w (values_from (named mark) (is_open_after is_open v) (suc n) lines)) ≡ Ok meant)
     rest v (Err e) more = tt
     rest v (Ok meant) more = λ said.
-        ap (λ r. ◌>>=◌ (numbered n r) (λ w. onto w (values_from (named depth) (is_open_after is_open v) (suc n) lines)))
-        (named_stays depth v (All-head IsSaidAsMeant v meant said))
+        ap (λ r. ◌>>=◌ (numbered n r) (λ w. onto w (values_from (named mark) (is_open_after is_open v) (suc n) lines)))
+        (named_stays mark v (All-head IsSaidAsMeant v meant said))
         ∙ ap (onto v) (more (All-tail IsSaidAsMeant v meant said))
 
     by : (r : Result LineValue PlainCause)
         → ((v : LineValue) → IfOk (values_from Ok (is_open_after is_open v) (suc n) lines)
-        (λ meant. All IsSaidAsMeant meant → values_from (named depth) (is_open_after is_open v) (suc n) lines ≡ Ok meant))
+        (λ meant. All IsSaidAsMeant meant → values_from (named mark) (is_open_after is_open v) (suc n) lines ≡ Ok meant))
         → IfOk (◌>>=◌ (numbered n r) (λ v. ◌>>=◌ (numbered n (Ok v)) (λ w. onto w (values_from Ok (is_open_after is_open v) (suc n) lines))))
-        (λ meant. All IsSaidAsMeant meant → ◌>>=◌ (numbered n r) (λ v. ◌>>=◌ (numbered n (named depth v))
-        (λ w. onto w (values_from (named depth) (is_open_after is_open v) (suc n) lines))) ≡ Ok meant)
+        (λ meant. All IsSaidAsMeant meant → ◌>>=◌ (numbered n r) (λ v. ◌>>=◌ (numbered n (named mark v))
+        (λ w. onto w (values_from (named mark) (is_open_after is_open v) (suc n) lines))) ≡ Ok meant)
     by (Err e) more = tt
     by (Ok v) more = rest v (values_from Ok (is_open_after is_open v) (suc n) lines) (more v)
 
@@ -102,7 +102,7 @@ all_named depth is_open n (line ∷ lines) =
 names_stay : (source : List ℕ) (meant : List LineValue) → meant_in source ≡ Ok meant → All IsSaidAsMeant meant → values_in source ≡ Ok meant
 unfolding values_in meant_in
 names_stay source meant means said =
-    subst (λ r. IfOk r (λ meant. All IsSaidAsMeant meant → values_in source ≡ Ok meant)) means (all_named (depth_of source) false 1 (lines_of source)) said
+    subst (λ r. IfOk r (λ meant. All IsSaidAsMeant meant → values_in source ≡ Ok meant)) means (all_named (mark_in source) false 1 (lines_of source)) said
 
 -- each rule, each zone with its continuations and each link is written, in order and with the source's names
 pub kept : (source : List ℕ) (meant : List LineValue) → meant_in source ≡ Ok meant → All IsSaidAsMeant meant → IsPlain meant → HasNoOffsets meant

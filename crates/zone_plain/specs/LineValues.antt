@@ -10,7 +10,7 @@ use Rattle.zone_plain_lines.specs.declared.cause.PlainCause.TheVariants as cause
 use Rattle.zone_source.specs.Lines.{lines_of}
 use Rattle.zone_plain_base.specs.LineFaults.{LineFault, at, numbered, onto}
 use Rattle.zone_plain_base.specs.Said.{if_said}
-use Rattle.zone_plain_names.specs.Renamed.{deepest, renamed}
+use Rattle.zone_plain_names.specs.Renamed.{mark_of, renamed}
 
 -- the same of a line whose fields stand in its text; the text of a line without its comment and its quotes is text too
 abbrev pub meant_by : Bool → List ℕ → List (List ℕ) → Result LineValue PlainCause
@@ -42,18 +42,19 @@ values_from taken is_open n (line ∷ lines) = do
 unfoldable pub meant_in : List ℕ → Result (List LineValue) LineFault
 meant_in source = values_from Ok false 1 (lines_of source)
 
-abbrev pub depth_by : Result (List LineValue) LineFault → ℕ
-depth_by (Ok values) = deepest values
-depth_by (Err fault) = 0
+-- these values, or none where one is refused
+abbrev pub known : Result (List LineValue) LineFault → List LineValue
+known (Ok values) = values
+known (Err fault) = []
 
--- the most `_` with which the name of a ruleset begins; of a source that is refused nothing is written
-abbrev pub depth_of : List ℕ → ℕ
-depth_of source = depth_by (meant_in source)
+-- the mark of a source, with which no name of a ruleset begins; of one that is refused nothing is written
+abbrev pub mark_in : List ℕ → List ℕ
+mark_in source = mark_of (known (meant_in source))
 
--- a line with its ruleset by its name in the plain form, if that can say it
-abbrev pub named : ℕ → LineValue → Result LineValue PlainCause
-named depth v = if_said (renamed depth v)
+-- a line with its ruleset by its name in the plain form, in a source of that mark, if that form can say it
+abbrev pub named : List ℕ → LineValue → Result LineValue PlainCause
+named mark v = if_said (renamed mark v)
 
 -- the values of a source's lines, in order, with their rulesets by their names in the plain form
 unfoldable pub values_in : List ℕ → Result (List LineValue) LineFault
-values_in source = values_from (named (depth_of source)) false 1 (lines_of source)
+values_in source = values_from (named (mark_in source)) false 1 (lines_of source)

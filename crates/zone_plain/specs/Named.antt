@@ -3,7 +3,7 @@ use Rattle.std.specs.Prelude.{◌≡◌, ℕ, List, map, All, true, Ok}
 use Rattle.zone_line.specs.Fields.{is_ruleset_name}
 use Rattle.zone_values.specs.Values.{LineValue}
 use Rattle.zone_plain_base.specs.Said.{is_said}
-use Rattle.zone_plain_names.specs.Renamed.{ruleset_of, deepest, renamed}
+use Rattle.zone_plain_names.specs.Renamed.{ruleset_of, mark_of, renamed}
 use Rattle.zone_plain.specs.LineValues.{meant_in}
 
 -- the plain form can say it
@@ -12,7 +12,7 @@ IsSaid v = is_said v ≡ true
 
 -- the lines of a source with their rulesets by their names in the plain form
 abbrev pub named_lines : List LineValue → List LineValue
-named_lines meant = map (renamed (deepest meant)) meant
+named_lines meant = map (renamed (mark_of meant)) meant
 
 -- the values are what a source means, with its rulesets by their names in the plain form, and each can be said
 pub record IsNamed (source : List ℕ) (values : List LineValue) : Type 0 where

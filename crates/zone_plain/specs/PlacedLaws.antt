@@ -24,7 +24,7 @@ use Rattle.zone_plain_links.specs.Settled.{lacks_rules, link_to, link_after, set
 use Rattle.zone_plain_offsets.specs.Made.{changed_by, changed, made_rule, name_in, rules_named, rules_for, made}
 use Rattle.zone_plain_offsets.specs.Pairs.{Pair, Asked, nothing, total, under, asked, pairs_of}
 use Rattle.zone_plain_offsets.specs.WrittenOut.{unsaid_from, written_unless, written_out}
-use Rattle.zone_plain.specs.LineValues.{meant_by, line_meaning, is_open_after, values_from, depth_of, named, values_in}
+use Rattle.zone_plain.specs.LineValues.{meant_by, line_meaning, is_open_after, values_from, mark_in, named, values_in}
 use Rattle.zone_plain.specs.Placed.{are_placed}
 
 placed_more : (b : Bool) (values : List LineValue) → are_placed false values ≡ true → are_placed b values ≡ true
@@ -92,22 +92,22 @@ first_meant line = by (is_utf8 line) (fields line)
     by true (Err e) = tt
     by true (Ok found) = laid (is_utf8 (laid_out line)) found
 
-placed_on : (depth : ℕ) (is_open : Bool) (v : LineValue) (values : List LineValue) → (is_open ≡ false → IsFirst v)
-    → are_placed (is_open_after is_open v) values ≡ true → are_placed is_open (renamed depth v ∷ values) ≡ true
-placed_on depth is_open space values first h = h
-placed_on depth is_open (zone name info) values first h = placed_behind (is_some info.time) values h
-placed_on depth true (continuation info) values first h = placed_behind (is_some info.time) values h
-placed_on depth false (continuation info) values first h = absurd (first refl)
-placed_on depth is_open (rule r) values first h = h
-placed_on depth is_open (link existing new) values first h = h
+placed_on : (mark : List ℕ) (is_open : Bool) (v : LineValue) (values : List LineValue) → (is_open ≡ false → IsFirst v)
+    → are_placed (is_open_after is_open v) values ≡ true → are_placed is_open (renamed mark v ∷ values) ≡ true
+placed_on mark is_open space values first h = h
+placed_on mark is_open (zone name info) values first h = placed_behind (is_some info.time) values h
+placed_on mark true (continuation info) values first h = placed_behind (is_some info.time) values h
+placed_on mark false (continuation info) values first h = absurd (first refl)
+placed_on mark is_open (rule r) values first h = h
+placed_on mark is_open (link existing new) values first h = h
 
-placed_from : (depth : ℕ) (is_open : Bool) (n : ℕ) (lines : List (List ℕ))
-    → IfOk (values_from (named depth) is_open n lines) (λ values. are_placed is_open values ≡ true)
+placed_from : (mark : List ℕ) (is_open : Bool) (n : ℕ) (lines : List (List ℕ))
+    → IfOk (values_from (named mark) is_open n lines) (λ values. are_placed is_open values ≡ true)
 unfolding values_from
-placed_from depth true n [] = tt
-placed_from depth false n [] = refl
-placed_from depth is_open n (line ∷ lines) =
-    by (line_meaning is_open line) (first is_open) (λ v. placed_from depth (is_open_after is_open v) (suc n) lines)
+placed_from mark true n [] = tt
+placed_from mark false n [] = refl
+placed_from mark is_open n (line ∷ lines) =
+    by (line_meaning is_open line) (first is_open) (λ v. placed_from mark (is_open_after is_open v) (suc n) lines)
   where
     first : (o : Bool) → o ≡ false → IfOk (line_meaning o line) IsFirst
     first true e = absurd (both_ways true e refl)
@@ -115,28 +115,28 @@ placed_from depth is_open n (line ∷ lines) =
 
     rest : (v : LineValue) (r : Result (List LineValue) LineFault) → (is_open ≡ false → IsFirst v)
         → IfOk r (λ values. are_placed (is_open_after is_open v) values ≡ true)
-        → IfOk (onto (renamed depth v) r) (λ values. are_placed is_open values ≡ true)
+        → IfOk (onto (renamed mark v) r) (λ values. are_placed is_open values ≡ true)
     rest v (Err e) kind more = tt
-    rest v (Ok values) kind more = placed_on depth is_open v values kind more
+    rest v (Ok values) kind more = placed_on mark is_open v values kind more
 
     test : (v : LineValue) (b : Bool) → (is_open ≡ false → IsFirst v)
-        → IfOk (values_from (named depth) (is_open_after is_open v) (suc n) lines) (λ values. are_placed (is_open_after is_open v) values ≡ true)
-        → IfOk (◌>>=◌ (numbered n (cond b (Ok (renamed depth v)) (Err cause.Unsayable)))
-        (λ w. onto w (values_from (named depth) (is_open_after is_open v) (suc n) lines))) (λ values. are_placed is_open values ≡ true)
+        → IfOk (values_from (named mark) (is_open_after is_open v) (suc n) lines) (λ values. are_placed (is_open_after is_open v) values ≡ true)
+        → IfOk (◌>>=◌ (numbered n (cond b (Ok (renamed mark v)) (Err cause.Unsayable)))
+        (λ w. onto w (values_from (named mark) (is_open_after is_open v) (suc n) lines))) (λ values. are_placed is_open values ≡ true)
     test v false kind more = tt
-    test v true kind more = rest v (values_from (named depth) (is_open_after is_open v) (suc n) lines) kind more
+    test v true kind more = rest v (values_from (named mark) (is_open_after is_open v) (suc n) lines) kind more
 
     by : (r : Result LineValue PlainCause) → (is_open ≡ false → IfOk r IsFirst)
-        → ((v : LineValue) → IfOk (values_from (named depth) (is_open_after is_open v) (suc n) lines) (λ values. are_placed (is_open_after is_open v) values ≡ true))
-        → IfOk (◌>>=◌ (numbered n r) (λ v. ◌>>=◌ (numbered n (named depth v)) (λ w. onto w (values_from (named depth) (is_open_after is_open v) (suc n) lines))))
+        → ((v : LineValue) → IfOk (values_from (named mark) (is_open_after is_open v) (suc n) lines) (λ values. are_placed (is_open_after is_open v) values ≡ true))
+        → IfOk (◌>>=◌ (numbered n r) (λ v. ◌>>=◌ (numbered n (named mark v)) (λ w. onto w (values_from (named mark) (is_open_after is_open v) (suc n) lines))))
         (λ values. are_placed is_open values ≡ true)
     by (Err e) kind more = tt
-    by (Ok v) kind more = test v (is_said (renamed depth v)) kind (more v)
+    by (Ok v) kind more = test v (is_said (renamed mark v)) kind (more v)
 
 -- in a source each line of a zone has its place
 pub source_placed : (source : List ℕ) → IfOk (values_in source) (λ values. are_placed false values ≡ true)
 unfolding values_in
-source_placed source = placed_from (depth_of source) false 1 (lines_of source)
+source_placed source = placed_from (mark_in source) false 1 (lines_of source)
 
 -- ---- what becomes of it
 

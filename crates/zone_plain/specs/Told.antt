@@ -13,24 +13,24 @@ use Rattle.zone_plain_lines.specs.declared.cause.PlainCause.{PlainCause}
 use Rattle.zone_plain_names.specs.Renamed.{renamed}
 use Rattle.zone_plain.specs.LineValues.{line_meaning, is_open_after, named}
 
--- what is added of a line of a source of that depth, if it can be said
-abbrev pub added_line : ℕ → Bool → List ℕ → Result LineValue PlainCause
-added_line depth is_open line = do
+-- what is added of a line of a source of that mark, if it can be said
+abbrev pub added_line : List ℕ → Bool → List ℕ → Result LineValue PlainCause
+added_line mark is_open line = do
   meant ← line_meaning is_open line
-  named depth meant
+  named mark meant
 
 -- a line was read and added, after which a line of the zone has to follow or not
-pub record IsReadLine (old new : List (List ℕ)) (depth : ℕ) (is_open : Bool) (line : List ℕ) (is_open_now : Bool) : Type 0 where
+pub record IsReadLine (old new : List (List ℕ)) (mark : List ℕ) (is_open : Bool) (line : List ℕ) (is_open_now : Bool) : Type 0 where
   pub value : LineValue
   pub meant : line_meaning is_open line ≡ Ok value
-  pub said : is_said (renamed depth value) ≡ true
-  pub added : new ≡ old ++ plain_text (renamed depth value) ∷ []
+  pub said : is_said (renamed mark value) ≡ true
+  pub added : new ≡ old ++ plain_text (renamed mark value) ∷ []
   pub open_now : is_open_now ≡ is_open_after is_open value
 
 -- why a line isn't read
-abbrev pub IsRefusedLine : ℕ → Bool → List ℕ → Refused → Type 0
-IsRefusedLine depth is_open line (Cause c) = added_line depth is_open line ≡ Err c
-IsRefusedLine depth is_open line NoMemory = Unit {0}
+abbrev pub IsRefusedLine : List ℕ → Bool → List ℕ → Refused → Type 0
+IsRefusedLine mark is_open line (Cause c) = added_line mark is_open line ≡ Err c
+IsRefusedLine mark is_open line NoMemory = Unit {0}
 
 -- the error tells the line's fault, or memory ran out
 abbrev pub IsLineFault : {A : Type 0} → Result A LineFault → PlainFault → Type 0

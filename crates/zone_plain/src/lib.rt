@@ -3,6 +3,7 @@
 
 mod laws;
 mod line;
+mod mark;
 mod output;
 mod reading;
 mod respond;

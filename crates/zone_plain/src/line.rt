@@ -71,26 +71,26 @@ pub(crate) fn line_meant<'t>(
     parsed(alloc, is_open, text)
 }
 
-/// Reads a line in its place, and adds its plain text to the lines, with its ruleset by its name in the plain form of a source of which no
-/// name of a ruleset begins with more than `depth` times `_`. Answers whether a line of the zone has to follow.
+/// Reads a line in its place, and adds its plain text to the lines, with its ruleset by its name in the plain form of a source of that
+/// mark. Answers whether a line of the zone has to follow.
 pub(crate) fn read_line(
     alloc: Global,
     reader: &mut LineReader<'_>,
-    depth: usize,
+    mark: &str,
     is_open: bool,
     line: &[u8],
     laid: &mut Vec<u8>,
     plain: &mut Vec<u8>,
     lines: &mut LineList,
 ) -> Result<bool, Refused>
-    ensures ok { IfOk result (IsReadLine lines.old lines.new depth is_open line.now) }
-    ensures err { IfErr result (IsRefusedLine depth is_open line.now) }
+    ensures ok { IfOk result (IsReadLine lines.old lines.new mark.now is_open line.now) }
+    ensures err { IfErr result (IsRefusedLine mark.now is_open line.now) }
 {
     let meant = match line_meant(alloc, is_open, line, laid) {
         Ok(meant) => meant,
         Err(refused) => return Err(refused),
     };
-    let name = said_name_of(alloc, depth, &meant)?;
+    let name = said_name_of(alloc, mark, &meant)?;
     if !write_said(alloc, reader, &under(&meant, name.as_str()), plain)? {
         return Err(Refused::Cause(PlainCause::Unsayable));
     }

@@ -1,40 +1,16 @@
 //! The lines of a source, read in order.
 ghost use Rattle.std.specs.Prelude.{◌≡◌, ◌≤◌, Ok, map, length, IfOk, IfErr};
 ghost use Rattle.zone_source.specs.Zones.{source_value};
-ghost use Rattle.zone_plain.specs.LineValues.{depth_of, values_in};
+ghost use Rattle.zone_plain.specs.LineValues.{mark_in, values_in};
 ghost use Rattle.zone_plain.specs.Told.{IsLineFault};
 
-use crate::line::{is_open_after, line_meant, read_line};
-use std::alloc::{AllocError, Global};
+use crate::line::read_line;
+use crate::mark::mark_in;
+use std::alloc::Global;
 use zone_line::LineParser;
-use zone_plain_base::{PlainFault, Refused, fault_at};
+use zone_plain_base::{PlainFault, fault_at};
 use zone_plain_lines::PlainCause;
-use zone_plain_names::deeper;
 use zone_source::{LIMIT, LineList, Lines};
-
-/// The most `_` with which the name of a ruleset begins, of a source's lines; 0 where one of them is refused.
-fn depth_of(alloc: Global, source: &[u8]) -> Result<usize, AllocError>
-    requires { length source.now ≤ LIMIT }
-    ensures { IfOk result (λ depth. depth ≡ depth_of source.now) }
-{
-    let mut laid = Vec::new(alloc);
-    let mut is_open = false;
-    let mut depth = 0;
-    for line in Lines::new(source) {
-        match line_meant(alloc, is_open, line, &mut laid) {
-            Ok(meant) => {
-                depth = deeper(depth, &meant);
-                is_open = is_open_after(is_open, &meant);
-            }
-            Err(Refused::NoMemory) => return Err(AllocError),
-            Err(Refused::Cause(_)) => return Ok(0),
-        }
-    }
-    if is_open {
-        return Ok(0);
-    }
-    Ok(depth)
-}
 
 /// The plain texts of a source's lines, each as it stands, or the first line that is refused.
 pub(crate) fn read_lines(
@@ -46,19 +22,19 @@ pub(crate) fn read_lines(
     ensures ok { IfOk result (λ lines. values_in source.now ≡ Ok (map source_value lines)) }
     ensures err { IfErr result (IsLineFault (values_in source.now)) }
 {
-    let depth = depth_of(alloc, source)?;
-    read_named(alloc, parser, source, depth)
+    let mark = mark_in(alloc, source)?;
+    read_named(alloc, parser, source, mark.as_str())
 }
 
-/// The same, where no name of a ruleset begins with more than `depth` times `_`.
+/// The same of a source of that mark.
 fn read_named(
     alloc: Global,
     parser: &LineParser,
     source: &[u8],
-    depth: usize,
+    mark: &str,
 ) -> Result<LineList, PlainFault>
     requires length { length source.now ≤ LIMIT }
-    requires depth { depth ≡ depth_of source.now }
+    requires mark { mark.now ≡ mark_in source.now }
     ensures ok { IfOk result (λ lines. values_in source.now ≡ Ok (map source_value lines)) }
     ensures err { IfErr result (IsLineFault (values_in source.now)) }
 {
@@ -72,7 +48,7 @@ fn read_named(
         match read_line(
             alloc,
             &mut reader,
-            depth,
+            mark,
             is_open,
             line,
             &mut laid,

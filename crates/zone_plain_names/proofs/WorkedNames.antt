@@ -9,26 +9,27 @@ use Rattle.zone_values.specs.declared.time.TimeSpec.TheVariants.{Hours}
 use Rattle.zone_values.specs.declared.time.TimeType.TheVariants.{Wall}
 use Rattle.zone_values.specs.declared.year.Year.TheVariants.{Minimum}
 use Rattle.zone_plain_names.specs.Names.{said_name}
-use Rattle.zone_plain_names.specs.Renamed.{has_name, deepest, renamed}
+use Rattle.zone_plain_names.specs.Marks.{ending_within}
+use Rattle.zone_plain_names.specs.Renamed.{has_name, mark_of, renamed}
 
 -- a digit, a space, a slash; the first byte and the last of a letter's four bits
-other_bytes : map (said_name 0) (codes "b2" ∷ codes "a b" ∷ codes "A/Z" ∷ (15 ∷ 240 ∷ []) ∷ [])
+other_bytes : map (said_name (codes "_")) (codes "b2" ∷ codes "a b" ∷ codes "A/Z" ∷ (15 ∷ 240 ∷ []) ∷ [])
     ≡ codes "_-b-dc" ∷ codes "_-a-cab" ∷ codes "_-A-cpZ" ∷ codes "_--ap-pa" ∷ []
 unfolding said_name
 other_bytes = refl
 
 -- é in UTF-8
-beyond_ascii : said_name 0 (195 ∷ 169 ∷ []) ≡ codes "_--md-kj"
+beyond_ascii : said_name (codes "_") (195 ∷ 169 ∷ []) ≡ codes "_--md-kj"
 unfolding said_name
 beyond_ascii = refl
 
--- behind the names of a source that begin with one `_` or three
-longer_marks : said_name 1 (codes "b2") ∷ said_name 3 (codes "_2") ∷ [] ≡ codes "__-b-dc" ∷ codes "____-_-dc" ∷ []
+-- behind other marks
+longer_marks : said_name (codes "__") (codes "b2") ∷ said_name (codes "_a") (codes "_2") ∷ [] ≡ codes "__-b-dc" ∷ codes "_a-_-dc" ∷ []
 unfolding said_name
 longer_marks = refl
 
 -- those that RULES can say, and nothing, whatever they begin with
-these_stay : map (said_name 2) (codes "EU" ∷ codes "a-b_c" ∷ codes "_a" ∷ codes "_" ∷ codes "__-a" ∷ codes "_-b-dc" ∷ codes "_-" ∷ codes "___-b" ∷ codes "" ∷ [])
+these_stay : map (said_name (codes "__")) (codes "EU" ∷ codes "a-b_c" ∷ codes "_a" ∷ codes "_" ∷ codes "__-a" ∷ codes "_-b-dc" ∷ codes "_-" ∷ codes "___-b" ∷ codes "" ∷ [])
     ≡ codes "EU" ∷ codes "a-b_c" ∷ codes "_a" ∷ codes "_" ∷ codes "__-a" ∷ codes "_-b-dc" ∷ codes "_-" ∷ codes "___-b" ∷ codes "" ∷ []
 unfolding said_name
 these_stay = refl
@@ -50,12 +51,12 @@ a_rule name = rule (record {
 abbrev a_stretch : List ℕ → InfoValue
 a_stretch name = record { utc_offset = Hours (pos 1); saving = multiple name; format = codes "b2"; time = None }
 
--- the rulesets of a source, in rules and in RULES: the most `_` in front are those of `__b2`
-depths : map deepest ([] ∷ (a_rule (codes "_a") ∷ []) ∷ (zone (codes "____") (a_stretch (codes "__b2")) ∷ a_rule (codes "_a") ∷ link (codes "____") (codes "____") ∷ [])
-    ∷ (a_rule (codes "a__") ∷ continuation (a_stretch (codes "_-")) ∷ space ∷ []) ∷ [])
-    ≡ 0 ∷ 1 ∷ 2 ∷ 1 ∷ []
-unfolding deepest
-depths = refl
+-- the rulesets of a source count, in rules and in RULES, and no other names: beside `__b2` alone `_a`, beside `__b2` and `_a` `___`
+marks : map mark_of ([] ∷ (a_rule (codes "__b2") ∷ []) ∷ (zone (codes "_a") (a_stretch (codes "__b2")) ∷ link (codes "_a") (codes "_a") ∷ [])
+    ∷ (continuation (a_stretch (codes "__b2")) ∷ a_rule (codes "_a") ∷ space ∷ []) ∷ (a_rule (codes "a__") ∷ []) ∷ [])
+    ≡ codes "_" ∷ codes "_a" ∷ codes "_a" ∷ codes "___" ∷ codes "_" ∷ []
+unfolding mark_of ending_within
+marks = refl
 
 -- the names that a source has
 named : map (has_name (zone (codes "A") (a_stretch (codes "b2")) ∷ a_rule (codes "_a") ∷ link (codes "B") (codes "C") ∷ []))
@@ -64,13 +65,13 @@ named : map (has_name (zone (codes "A") (a_stretch (codes "b2")) ∷ a_rule (cod
 named = refl
 
 -- the ruleset's name alone becomes another, in rules and in RULES
-rulesets : map (renamed 0) (a_rule (codes "b2") ∷ zone (codes "b2") (a_stretch (codes "b2")) ∷ continuation (a_stretch (codes "b2")) ∷ a_rule (codes "EU") ∷ [])
+rulesets : map (renamed (codes "_")) (a_rule (codes "b2") ∷ zone (codes "b2") (a_stretch (codes "b2")) ∷ continuation (a_stretch (codes "b2")) ∷ a_rule (codes "EU") ∷ [])
     ≡ a_rule (codes "_-b-dc") ∷ zone (codes "b2") (a_stretch (codes "_-b-dc")) ∷ continuation (a_stretch (codes "_-b-dc")) ∷ a_rule (codes "EU") ∷ []
 unfolding said_name
 rulesets = refl
 
 -- other lines stay
-others : map (renamed 0) (space ∷ link (codes "b2") (codes "c3")
+others : map (renamed (codes "_")) (space ∷ link (codes "b2") (codes "c3")
     ∷ continuation (record { utc_offset = Hours (pos 1); saving = no_saving; format = codes "b2"; time = None })
     ∷ continuation (record { utc_offset = Hours (pos 1); saving = one_off (Hours (pos 2)); format = codes "b2"; time = None }) ∷ [])
     ≡ space ∷ link (codes "b2") (codes "c3")

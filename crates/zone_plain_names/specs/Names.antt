@@ -1,7 +1,6 @@
 -- The names of rulesets in the plain form, whose RULES column says letters, hyphens and underscores alone.
-use Rattle.std.specs.Prelude.{ℕ, ◌+◌, ◌/◌, ◌%◌, ◌==◌, Bool, ◌||◌, List, [], ◌∷◌, ◌++◌, flat_map, replicate, codes, if◌then◌else◌}
+use Rattle.std.specs.Prelude.{ℕ, ◌+◌, ◌/◌, ◌%◌, ◌==◌, Bool, ◌||◌, List, [], ◌∷◌, ◌++◌, flat_map, if◌then◌else◌}
 use Rattle.std.specs.Char.{is_ascii_alphabetic}
-use Rattle.std.specs.List.{prefix_len}
 use Rattle.zone_line.specs.Fields.{is_ruleset_name}
 
 -- an ASCII letter or `_`
@@ -16,14 +15,6 @@ letter bits = 97 + bits
 abbrev pub byte_text : ℕ → List ℕ
 byte_text byte = if is_letter byte then byte ∷ [] else 45 ∷ letter (byte / 16) ∷ letter (byte % 16) ∷ []
 
--- how many `_` a name begins with
-abbrev pub leading : List ℕ → ℕ
-leading name = prefix_len (λ byte. byte == 95) name
-
--- so many `_`, one more and a hyphen: no name begins so that begins with no more `_` than so many
-abbrev pub mark : ℕ → List ℕ
-mark depth = replicate depth 95 ++ codes "_-"
-
--- a name that RULES can say, or a mark and what stands for its bytes
-unfoldable pub said_name : ℕ → List ℕ → List ℕ
-said_name depth name = if is_ruleset_name name then name else mark depth ++ flat_map byte_text name
+-- a name that RULES can say, or a mark, a hyphen and what stands for its bytes
+unfoldable pub said_name : List ℕ → List ℕ → List ℕ
+said_name mark name = if is_ruleset_name name then name else mark ++ 45 ∷ flat_map byte_text name

@@ -1,8 +1,9 @@
 -- Lines with their rulesets by the names of the plain form.
-use Rattle.std.specs.Prelude.{ℕ, List, [], ◌∷◌, Bool, bytes_eq, max}
+use Rattle.std.specs.Prelude.{ℕ, List, [], Bool, bytes_eq, map}
 use Rattle.std.specs.List.{list_any}
 use Rattle.zone_values.specs.Values.{SavingValue, no_saving, one_off, multiple, InfoValue, LineValue, space, zone, continuation, rule, link}
-use Rattle.zone_plain_names.specs.Names.{leading, said_name}
+use Rattle.zone_plain_names.specs.Marks.{mark}
+use Rattle.zone_plain_names.specs.Names.{said_name}
 
 -- the ruleset in RULES, or nothing
 abbrev pub saved_by : SavingValue → List ℕ
@@ -22,10 +23,9 @@ ruleset_of (link existing new) = []
 abbrev pub has_name : List LineValue → List ℕ → Bool
 has_name values name = list_any (λ v. bytes_eq (ruleset_of v) name) values
 
--- the most `_` with which the name of a source's ruleset begins
-unfoldable pub deepest : List LineValue → ℕ
-deepest [] = 0
-deepest (v ∷ values) = max (leading (ruleset_of v)) (deepest values)
+-- the mark of a source: no name of a ruleset begins with it, in a rule or in RULES
+unfoldable pub mark_of : List LineValue → List ℕ
+mark_of values = mark (map ruleset_of values)
 
 -- another name for a ruleset in RULES
 abbrev pub saving_by : SavingValue → List ℕ → SavingValue
@@ -53,6 +53,6 @@ under (rule r) name = rule (record {
 })
 under (link existing new) name = link existing new
 
--- the line with its ruleset by the name of the plain form, where no name of a ruleset begins with more `_` than so many
-abbrev pub renamed : ℕ → LineValue → LineValue
-renamed depth v = under v (said_name depth (ruleset_of v))
+-- the line with its ruleset by the name of the plain form, in a source of that mark
+abbrev pub renamed : List ℕ → LineValue → LineValue
+renamed mark v = under v (said_name mark (ruleset_of v))

@@ -3,8 +3,10 @@
 
 mod laws;
 mod line;
+mod mark;
 mod name;
 
 pub use laws::said_names;
-pub use line::{deeper, said_name_of, under};
-pub use name::{larger, leading, put_run, said_name};
+pub use line::{behind_underscore, mark_of, said_name_of, under};
+pub use mark::mark_behind;
+pub use name::said_name;

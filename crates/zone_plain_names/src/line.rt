@@ -1,10 +1,12 @@
 //! Lines with the rulesets that they name.
-ghost use Rattle.std.specs.Prelude.{◌≡◌, string_bytes, max, IfOk};
+ghost use Rattle.std.specs.Prelude.{◌≡◌, map, option_map, option_to_list, string_bytes, IfOk};
 ghost use Rattle.zone_values.specs.Values.{line_value, info_value, saving_value};
-ghost use Rattle.zone_plain_names.specs.Names.{leading, said_name};
-ghost use Rattle.zone_plain_names.specs.Renamed.{saved_by, info_by, ruleset_of, under};
+ghost use Rattle.zone_plain_names.specs.Marks.{behind};
+ghost use Rattle.zone_plain_names.specs.Names.{said_name};
+ghost use Rattle.zone_plain_names.specs.Renamed.{saved_by, info_by, mark_of, ruleset_of, under};
 
-use crate::name::{larger, leading, said_name};
+use crate::mark::{add, behind, mark_behind};
+use crate::name::said_name;
 use std::alloc::{AllocError, Global};
 use zone_values::{Line, Rule, Saving, Zone, ZoneInfo};
 
@@ -60,21 +62,37 @@ pub fn under<'a>(line: &Line<'a>, name: &'a str) -> Line<'a>
     }
 }
 
-/// The most `_` with which the name of a ruleset begins, where it was `depth` before this line.
-pub fn deeper(depth: usize, line: &Line<'_>) -> usize
-    ensures { result ≡ max depth (leading (ruleset_of (line_value line.now))) }
+/// What stands behind the `_` in the name of the ruleset that a line is of or names, if it begins with one.
+pub fn behind_underscore<'t>(line: &Line<'t>) -> Option<&'t [u8]>
+    ensures { option_to_list (option_map (λ rest. rest.now) result) ≡ behind 95 (ruleset_of (line_value line.now)) }
 {
-    larger(depth, leading(ruleset_of(line).as_bytes()))
+    behind(b'_', ruleset_of(line).as_bytes())
 }
 
-/// The name in the plain form of the ruleset that a line is of or names, or nothing where it names none, in a source of which no name of
-/// a ruleset begins with more than `depth` times `_`.
+/// The mark of a source of these lines, with which the name of no ruleset begins, in a rule or in RULES: `_`, and then, as long as a name
+/// begins with what stands so far, `_` or `a`, whichever fewer of these names go on with.
 ///
 /// # Errors
 ///
 /// Want of memory alone.
-pub fn said_name_of(alloc: Global, depth: usize, line: &Line<'_>) -> Result<String, AllocError>
-    ensures { IfOk result (λ name. string_bytes name ≡ said_name depth (ruleset_of (line_value line.now))) }
+pub fn mark_of(alloc: Global, lines: &[Line<'_>]) -> Result<String, AllocError>
+    ensures { IfOk result (λ mark. string_bytes mark ≡ mark_of (map line_value lines.now)) }
 {
-    said_name(alloc, depth, ruleset_of(line))
+    let mut names = Vec::new(alloc);
+    for line in lines {
+        add(&mut names, behind_underscore(line))?;
+    }
+    let mark = mark_behind(alloc, names)?;
+    Ok(mark)
+}
+
+/// The name in the plain form of the ruleset that a line is of or names, or nothing where it names none, in a source of that mark.
+///
+/// # Errors
+///
+/// Want of memory alone.
+pub fn said_name_of(alloc: Global, mark: &str, line: &Line<'_>) -> Result<String, AllocError>
+    ensures { IfOk result (λ name. string_bytes name ≡ said_name mark.now (ruleset_of (line_value line.now))) }
+{
+    said_name(alloc, mark, ruleset_of(line))
 }

@@ -1,7 +1,7 @@
 //! The name of a ruleset in the plain form.
-ghost use Rattle.std.specs.Prelude.{◌≡◌, ◌<◌, ◌++◌, flat_map, max, replicate, string_bytes, OnOk, IfOk};
+ghost use Rattle.std.specs.Prelude.{◌≡◌, ◌<◌, ◌++◌, flat_map, string_bytes, OnOk, IfOk};
 ghost use Rattle.zone_line.specs.Fields.{is_ruleset_name};
-ghost use Rattle.zone_plain_names.specs.Names.{is_letter, letter, byte_text, leading, said_name};
+ghost use Rattle.zone_plain_names.specs.Names.{is_letter, letter, byte_text, said_name};
 
 use std::alloc::{AllocError, Global};
 
@@ -17,13 +17,6 @@ fn is_ruleset_name(name: &str) -> bool
     ensures { result ≡ is_ruleset_name name.now }
 {
     name.bytes().all(|byte| byte == b'-' || byte == b'_' || byte.is_ascii_alphabetic())
-}
-
-/// How many `_` a name begins with.
-pub fn leading(name: &[u8]) -> usize
-    ensures { result ≡ leading name.now }
-{
-    name.iter().take_while(|byte| **byte == b'_').count()
 }
 
 /// A letter from `a` to `p`.
@@ -57,46 +50,24 @@ fn put_bytes(text: &mut String, name: &[u8]) -> Result<(), AllocError>
     Ok(())
 }
 
-/// The larger of two numbers.
-pub fn larger(one: usize, other: usize) -> usize
-    ensures { result ≡ max one other }
-{
-    if one < other { other } else { one }
-}
-
-/// Writes so many `_`.
-///
-/// # Errors
-///
-/// Want of memory alone.
-pub fn put_run(text: &mut String, count: usize) -> Result<(), AllocError>
-    ensures { OnOk result (string_bytes text.new ≡ string_bytes text.old ++ replicate count 95) }
-{
-    for _ in 0..count {
-        text.push('_')?;
-    }
-    Ok(())
-}
-
-/// The name of a ruleset in the plain form of a source, of which no name of a ruleset begins with more than `depth` times `_`. One that
-/// its RULES column can say stays. For any other stand a mark, `depth` times `_` and then `_-`, with which no name of the source begins,
-/// and the bytes of the name, a letter or `_` as it is and any other byte as `-` and two letters from `a` to `p`, one for each four of
-/// its bits: where no name begins with `_`, `b2` becomes `_-b-dc`.
+/// The name of a ruleset in the plain form of a source of that mark. One that its RULES column can say stays. For any other stand the mark,
+/// with which no name of the source begins, a hyphen and the bytes of the name, a letter or `_` as it is and any other byte as `-` and two
+/// letters from `a` to `p`, one for each four of its bits: where no name begins with `_`, `b2` becomes `_-b-dc`.
 ///
 /// # Errors
 ///
 /// Want of memory alone.
 #[tactic(auto, unfolding(crate::specs::Names::said_name), using(std::proofs::Common::append_assoc))]
-pub fn said_name(alloc: Global, depth: usize, name: &str) -> Result<String, AllocError>
-    ensures { IfOk result (λ said. string_bytes said ≡ said_name depth name.now) }
+pub fn said_name(alloc: Global, mark: &str, name: &str) -> Result<String, AllocError>
+    ensures { IfOk result (λ said. string_bytes said ≡ said_name mark.now name.now) }
 {
     let mut said = String::new(alloc);
     if is_ruleset_name(name) {
         said.push_str(name)?;
         return Ok(said);
     }
-    put_run(&mut said, depth)?;
-    said.push_str("_-")?;
+    said.push_str(mark)?;
+    said.push('-')?;
     put_bytes(&mut said, name.as_bytes())?;
     Ok(said)
 }

@@ -59,24 +59,24 @@ total_added old new v parts format t said has is added = record {
 }
 
 -- a pair that was asked for before has its rules already
-pub known_rules : (values : List LineValue) (run : ℕ) (pairs : List Pair) (pair : Pair) (old : List (List ℕ)) (is_new : Bool)
-    → is_new ≡ not (is_among pair pairs) → is_new ≡ false → AreAdded old old (new_rules values run pairs pair) (are_new_said values run pairs pair) true
-known_rules values run pairs pair old is_new e is_no = by_test (is_among pair pairs) (sym e ∙ is_no)
+pub known_rules : (values : List LineValue) (mark : List ℕ) (pairs : List Pair) (pair : Pair) (old : List (List ℕ)) (is_new : Bool)
+    → is_new ≡ not (is_among pair pairs) → is_new ≡ false → AreAdded old old (new_rules values mark pairs pair) (are_new_said values mark pairs pair) true
+known_rules values mark pairs pair old is_new e is_no = by_test (is_among pair pairs) (sym e ∙ is_no)
   where
     by_test : (b : Bool) → not b ≡ false
-        → AreAdded old old (cond b [] (rules_for values (named_in run (with_pair pairs pair) pair) pair))
-        (cond b true (are_rules_said values (named_in run (with_pair pairs pair) pair) pair)) true
+        → AreAdded old old (cond b [] (rules_for values (named_in mark (with_pair pairs pair) pair) pair))
+        (cond b true (are_rules_said values (named_in mark (with_pair pairs pair) pair) pair)) true
     by_test true e = record { told = refl; added = λ is_yes. sym (append-nil (map source_value old)) }
     by_test false e = absurd (cc)
 
-pub new_added : (values : List LineValue) (run : ℕ) (pairs : List Pair) (pair : Pair) (name : List ℕ) (old new : List (List ℕ)) (is_new said : Bool)
-    → is_new ≡ not (is_among pair pairs) → is_new ≡ true → name ≡ named_in run (with_pair pairs pair) pair
+pub new_added : (values : List LineValue) (mark : List ℕ) (pairs : List Pair) (pair : Pair) (name : List ℕ) (old new : List (List ℕ)) (is_new said : Bool)
+    → is_new ≡ not (is_among pair pairs) → is_new ≡ true → name ≡ named_in mark (with_pair pairs pair) pair
     → AreAdded old new (rules_for values name pair) (are_rules_said values name pair) said
-    → AreAdded old new (new_rules values run pairs pair) (are_new_said values run pairs pair) said
-new_added values run pairs pair name old new is_new said e is_yes is added = by_test (is_among pair pairs) (sym e ∙ is_yes)
+    → AreAdded old new (new_rules values mark pairs pair) (are_new_said values mark pairs pair) said
+new_added values mark pairs pair name old new is_new said e is_yes is added = by_test (is_among pair pairs) (sym e ∙ is_yes)
   where
     by_test : (b : Bool) → not b ≡ true
-        → AreAdded old new (cond b [] (rules_for values (named_in run (with_pair pairs pair) pair) pair))
-        (cond b true (are_rules_said values (named_in run (with_pair pairs pair) pair) pair)) said
+        → AreAdded old new (cond b [] (rules_for values (named_in mark (with_pair pairs pair) pair) pair))
+        (cond b true (are_rules_said values (named_in mark (with_pair pairs pair) pair) pair)) said
     by_test true e = absurd (cc)
     by_test false e = subst (λ n. AreAdded old new (rules_for values n pair) (are_rules_said values n pair) said) is added

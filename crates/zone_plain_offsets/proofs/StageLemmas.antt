@@ -7,7 +7,8 @@ use Rattle.zone_values.specs.Values.{LineValue, space}
 use Rattle.zone_plain_lines.specs.declared.cause.PlainCause.TheVariants as cause
 use Rattle.zone_plain_base.specs.LineFaults.{at, by_line, bad_line}
 use Rattle.zone_plain_base.specs.Said.{is_said}
-use Rattle.zone_plain_offsets.specs.Names.{front, made_name}
+use Rattle.zone_plain_names.specs.Renamed.{mark_of}
+use Rattle.zone_plain_offsets.specs.Names.{made_name}
 use Rattle.zone_plain_offsets.specs.Pairs.{Pair, Asked, nothing, total, under, asked, is_same, with_pair, number_of, joined_by, pairs_from, pairs_of}
 use Rattle.zone_plain_offsets.specs.Made.{rules_for, are_rules_said, changed_by, changed, is_changed_said, named_in, name_in, made}
 use Rattle.zone_plain_offsets.specs.WrittenOut.{unsaid_from, written_unless, written_out}
@@ -30,49 +31,49 @@ pub nothing_written : (values : List LineValue) → HasWritten values [] [] [] 1
 nothing_written values = record { pairs_go = refl; said = λ pair e. absurd (cc); made_is = refl; out_goes = refl; goes_on = refl }
 
 -- a pair that was just asked for has the name that it has in the whole source
-name_is : (values left : List LineValue) (run : ℕ) (pairs : List Pair) (pair : Pair) → run ≡ front values
-    → pairs_from (with_pair pairs pair) left ≡ pairs_of values → named_in run (with_pair pairs pair) pair ≡ name_in values pair
-name_is values left run pairs pair run_is go =
+name_is : (values left : List LineValue) (mark : List ℕ) (pairs : List Pair) (pair : Pair) → mark ≡ mark_of values
+    → pairs_from (with_pair pairs pair) left ≡ pairs_of values → named_in mark (with_pair pairs pair) pair ≡ name_in values pair
+name_is values left mark pairs pair mark_is go =
     let number = sym (number_kept left (with_pair pairs pair) pair (among_with pairs pair)) ∙ ap (λ ps. number_of ps pair) go in
-    λ i. made_name (run_is i) (number i)
+    λ i. made_name (mark_is i) (number i)
 
-test_is : (values left : List LineValue) (run : ℕ) (pairs : List Pair) (a : Asked) (v : LineValue) → run ≡ front values
+test_is : (values left : List LineValue) (mark : List ℕ) (pairs : List Pair) (a : Asked) (v : LineValue) → mark ≡ mark_of values
     → pairs_from (joined_by a pairs) left ≡ pairs_of values
     → ((pair : Pair) → is_among pair pairs ≡ true → are_rules_said values (name_in values pair) pair ≡ true)
-    → is_asked_said values run pairs a v ≡ is_changed_said values (name_in values) a v
-test_is values left run pairs nothing v run_is go said = refl
-test_is values left run pairs (total parts t) v run_is go said = refl
-test_is values left run pairs (under parts pair) v run_is go said =
+    → is_asked_said values mark pairs a v ≡ is_changed_said values (name_in values) a v
+test_is values left mark pairs nothing v mark_is go said = refl
+test_is values left mark pairs (total parts t) v mark_is go said = refl
+test_is values left mark pairs (under parts pair) v mark_is go said =
     ap (λ name. cond (is_among pair pairs) true (are_rules_said values name pair) && is_said (changed_by (λ p. name) (under parts pair) v)) name
     ∙ ap (λ b. b && is_said (changed_by (name_in values) (under parts pair) v)) (by_test (is_among pair pairs) refl)
   where
-    name : named_in run (with_pair pairs pair) pair ≡ name_in values pair
-    name = name_is values left run pairs pair run_is go
+    name : named_in mark (with_pair pairs pair) pair ≡ name_in values pair
+    name = name_is values left mark pairs pair mark_is go
 
     by_test : (b : Bool) → is_among pair pairs ≡ b
         → cond b true (are_rules_said values (name_in values pair) pair) ≡ are_rules_said values (name_in values pair) pair
     by_test true e = sym (said pair e)
     by_test false e = refl
 
-changed_is : (values left : List LineValue) (run : ℕ) (pairs : List Pair) (a : Asked) (v : LineValue) → run ≡ front values
-    → pairs_from (joined_by a pairs) left ≡ pairs_of values → changed_by (named_in run (joined_by a pairs)) a v ≡ changed_by (name_in values) a v
-changed_is values left run pairs nothing v run_is go = refl
-changed_is values left run pairs (total parts t) v run_is go = refl
-changed_is values left run pairs (under parts pair) v run_is go =
-    ap (λ name. changed_by (λ p. name) (under parts pair) v) (name_is values left run pairs pair run_is go)
+changed_is : (values left : List LineValue) (mark : List ℕ) (pairs : List Pair) (a : Asked) (v : LineValue) → mark ≡ mark_of values
+    → pairs_from (joined_by a pairs) left ≡ pairs_of values → changed_by (named_in mark (joined_by a pairs)) a v ≡ changed_by (name_in values) a v
+changed_is values left mark pairs nothing v mark_is go = refl
+changed_is values left mark pairs (total parts t) v mark_is go = refl
+changed_is values left mark pairs (under parts pair) v mark_is go =
+    ap (λ name. changed_by (λ p. name) (under parts pair) v) (name_is values left mark pairs pair mark_is go)
 
 flat_more : (f : Pair → List LineValue) (pairs : List Pair) (pair : Pair) → flat_map f (pairs ++ pair ∷ []) ≡ flat_map f pairs ++ f pair
 flat_more f [] pair = append-nil (f pair)
 flat_more f (p ∷ pairs) pair = ap (λ vs. f p ++ vs) (flat_more f pairs pair) ∙ sym (append_assoc (f p) (flat_map f pairs) (f pair))
 
-rules_more : (values left : List LineValue) (run : ℕ) (pairs : List Pair) (a : Asked) → run ≡ front values
+rules_more : (values left : List LineValue) (mark : List ℕ) (pairs : List Pair) (a : Asked) → mark ≡ mark_of values
     → pairs_from (joined_by a pairs) left ≡ pairs_of values
-    → flat_map (rules_of values) pairs ++ asked_rules values run pairs a ≡ flat_map (rules_of values) (joined_by a pairs)
-rules_more values left run pairs nothing run_is go = append-nil _
-rules_more values left run pairs (total parts t) run_is go = append-nil _
-rules_more values left run pairs (under parts pair) run_is go =
+    → flat_map (rules_of values) pairs ++ asked_rules values mark pairs a ≡ flat_map (rules_of values) (joined_by a pairs)
+rules_more values left mark pairs nothing mark_is go = append-nil _
+rules_more values left mark pairs (total parts t) mark_is go = append-nil _
+rules_more values left mark pairs (under parts pair) mark_is go =
     ap (λ name. flat_map (rules_of values) pairs ++ cond (is_among pair pairs) [] (rules_for values name pair))
-    (name_is values left run pairs pair run_is go)
+    (name_is values left mark pairs pair mark_is go)
     ∙ by_test (is_among pair pairs)
   where
     by_test : (b : Bool) → flat_map (rules_of values) pairs ++ cond b [] (rules_of values pair) ≡ flat_map (rules_of values) (cond b pairs (pairs ++ pair ∷ []))
@@ -132,34 +133,34 @@ joined_go : (values left : List LineValue) (pairs : List Pair) (v : LineValue) �
 unfolding pairs_from
 joined_go values left pairs v go = go
 
-pub one_written : (values left : List LineValue) (run : ℕ) (old_pairs pairs : List Pair) (old_made made_lines old out : List (List ℕ)) (n : ℕ) (v : LineValue) (said : Bool)
-    → run ≡ front values → HasWritten values old_pairs old_made old n (v ∷ left)
-    → IsWrittenOut values run old_pairs pairs old_made made_lines old out v said → said ≡ true
+pub one_written : (values left : List LineValue) (mark : List ℕ) (old_pairs pairs : List Pair) (old_made made_lines old out : List (List ℕ)) (n : ℕ) (v : LineValue) (said : Bool)
+    → mark ≡ mark_of values → HasWritten values old_pairs old_made old n (v ∷ left)
+    → IsWrittenOut values mark old_pairs pairs old_made made_lines old out v said → said ≡ true
     → HasWritten values pairs made_lines out (suc n) left
-one_written values left run old_pairs pairs old_made made_lines old out n v said run_is so_far now is_yes =
+one_written values left mark old_pairs pairs old_made made_lines old out n v said mark_is so_far now is_yes =
     let go = joined_go values left old_pairs v so_far.pairs_go in
-    let test = sym (test_is values left run old_pairs (asked v) v run_is go so_far.said) ∙ sym now.told ∙ is_yes in
+    let test = sym (test_is values left mark old_pairs (asked v) v mark_is go so_far.said) ∙ sym now.told ∙ is_yes in
     record {
       pairs_go = ap (λ ps. pairs_from ps left) now.pairs ∙ go;
       said = λ pair e. said_more values old_pairs (asked v) v so_far.said test pair (ap (is_among pair) (sym now.pairs) ∙ e);
-      made_is = now.made is_yes ∙ ap (λ vs. vs ++ asked_rules values run old_pairs (asked v)) so_far.made_is
-          ∙ rules_more values left run old_pairs (asked v) run_is go ∙ ap (flat_map (rules_of values)) (sym now.pairs);
+      made_is = now.made is_yes ∙ ap (λ vs. vs ++ asked_rules values mark old_pairs (asked v)) so_far.made_is
+          ∙ rules_more values left mark old_pairs (asked v) mark_is go ∙ ap (flat_map (rules_of values)) (sym now.pairs);
       out_goes = ap (λ vs. vs ++ map (changed (name_in values)) left) (now.added is_yes)
-          ∙ append_assoc (map source_value old) (changed_by (named_in run pairs) (asked v) v ∷ []) (map (changed (name_in values)) left)
+          ∙ append_assoc (map source_value old) (changed_by (named_in mark pairs) (asked v) v ∷ []) (map (changed (name_in values)) left)
           ∙ ap (λ w. map source_value old ++ w ∷ map (changed (name_in values)) left)
-          (ap (λ ps. changed_by (named_in run ps) (asked v) v) now.pairs ∙ changed_is values left run old_pairs (asked v) v run_is go)
+          (ap (λ ps. changed_by (named_in mark ps) (asked v) v) now.pairs ∙ changed_is values left mark old_pairs (asked v) v mark_is go)
           ∙ so_far.out_goes;
       goes_on = sym (next_line values left n v true test) ∙ so_far.goes_on;
     }
 
-pub refused_here : (values left : List LineValue) (run : ℕ) (old_pairs pairs : List Pair) (old_made made_lines old out : List (List ℕ)) (n : ℕ) (v : LineValue) (said : Bool)
-    → run ≡ front values → HasWritten values old_pairs old_made old n (v ∷ left)
-    → IsWrittenOut values run old_pairs pairs old_made made_lines old out v said → said ≡ false
+pub refused_here : (values left : List LineValue) (mark : List ℕ) (old_pairs pairs : List Pair) (old_made made_lines old out : List (List ℕ)) (n : ℕ) (v : LineValue) (said : Bool)
+    → mark ≡ mark_of values → HasWritten values old_pairs old_made old n (v ∷ left)
+    → IsWrittenOut values mark old_pairs pairs old_made made_lines old out v said → said ≡ false
     → written_out values ≡ Err (at n cause.Unsayable)
 unfolding written_out
-refused_here values left run old_pairs pairs old_made made_lines old out n v said run_is so_far now is_no =
+refused_here values left mark old_pairs pairs old_made made_lines old out n v said mark_is so_far now is_no =
     let go = joined_go values left old_pairs v so_far.pairs_go in
-    let test = sym (test_is values left run old_pairs (asked v) v run_is go so_far.said) ∙ sym now.told ∙ is_no in
+    let test = sym (test_is values left mark old_pairs (asked v) v mark_is go so_far.said) ∙ sym now.told ∙ is_no in
     ap (written_unless values) (sym so_far.goes_on ∙ next_line values left n v false test)
 
 pub all_written : (values : List LineValue) (pairs : List Pair) (made_lines old out : List (List ℕ)) (n : ℕ) → HasWritten values pairs made_lines old n []
@@ -185,27 +186,27 @@ here : (values : List LineValue) (pairs : List Pair) (made_lines out : List (Lis
     → HasWritten values pairs made_lines out (i + 1) (get_or values i space ∷ drop (i + 1) values)
 here values pairs made_lines out i inside so_far = subst (HasWritten values pairs made_lines out (i + 1)) (step values i inside) so_far.written
 
-pub one_reached : (values : List LineValue) (run : ℕ) (old_pairs pairs : List Pair) (old_made made_lines old out : List (List ℕ)) (i : ℕ) (v : LineValue) (said : Bool)
-    → run ≡ front values → i < length values → v ≡ get_or values i space → HasReached values old_pairs old_made old i
-    → IsWrittenOut values run old_pairs pairs old_made made_lines old out v said → said ≡ true
+pub one_reached : (values : List LineValue) (mark : List ℕ) (old_pairs pairs : List Pair) (old_made made_lines old out : List (List ℕ)) (i : ℕ) (v : LineValue) (said : Bool)
+    → mark ≡ mark_of values → i < length values → v ≡ get_or values i space → HasReached values old_pairs old_made old i
+    → IsWrittenOut values mark old_pairs pairs old_made made_lines old out v said → said ≡ true
     → HasReached values pairs made_lines out (i + 1)
-one_reached values run old_pairs pairs old_made made_lines old out i v said run_is inside is so_far now is_yes =
+one_reached values mark old_pairs pairs old_made made_lines old out i v said mark_is inside is so_far now is_yes =
     let next : suc (i + 1) ≡ i + 1 + 1 = omega arith in
     record {
       written = subst (λ n. HasWritten values pairs made_lines out n (drop (i + 1) values)) next
-          (one_written values (drop (i + 1) values) run old_pairs pairs old_made made_lines old out (i + 1) (get_or values i space) said run_is
+          (one_written values (drop (i + 1) values) mark old_pairs pairs old_made made_lines old out (i + 1) (get_or values i space) said mark_is
           (here values old_pairs old_made old i inside so_far)
-          (subst (λ w. IsWrittenOut values run old_pairs pairs old_made made_lines old out w said) is now) is_yes);
+          (subst (λ w. IsWrittenOut values mark old_pairs pairs old_made made_lines old out w said) is now) is_yes);
     }
 
-pub refused_at : (values : List LineValue) (run : ℕ) (old_pairs pairs : List Pair) (old_made made_lines old out : List (List ℕ)) (i : ℕ) (v : LineValue) (said : Bool)
-    → run ≡ front values → i < length values → v ≡ get_or values i space → HasReached values old_pairs old_made old i
-    → IsWrittenOut values run old_pairs pairs old_made made_lines old out v said → said ≡ false
+pub refused_at : (values : List LineValue) (mark : List ℕ) (old_pairs pairs : List Pair) (old_made made_lines old out : List (List ℕ)) (i : ℕ) (v : LineValue) (said : Bool)
+    → mark ≡ mark_of values → i < length values → v ≡ get_or values i space → HasReached values old_pairs old_made old i
+    → IsWrittenOut values mark old_pairs pairs old_made made_lines old out v said → said ≡ false
     → by_line (written_out values) ≡ Err (bad_line (at (i + 1) cause.Unsayable))
-refused_at values run old_pairs pairs old_made made_lines old out i v said run_is inside is so_far now is_no =
-    ap by_line (refused_here values (drop (i + 1) values) run old_pairs pairs old_made made_lines old out (i + 1) (get_or values i space) said run_is
+refused_at values mark old_pairs pairs old_made made_lines old out i v said mark_is inside is so_far now is_no =
+    ap by_line (refused_here values (drop (i + 1) values) mark old_pairs pairs old_made made_lines old out (i + 1) (get_or values i space) said mark_is
     (here values old_pairs old_made old i inside so_far)
-    (subst (λ w. IsWrittenOut values run old_pairs pairs old_made made_lines old out w said) is now) is_no)
+    (subst (λ w. IsWrittenOut values mark old_pairs pairs old_made made_lines old out w said) is now) is_no)
 
 pub all_reached : (values : List LineValue) (pairs : List Pair) (made_lines old out : List (List ℕ)) (i : ℕ) → length values ≤ i → HasReached values pairs made_lines old i
     → map source_value out ≡ map source_value old ++ map source_value made_lines → written_out values ≡ Ok (map source_value out)

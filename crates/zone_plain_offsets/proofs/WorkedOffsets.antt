@@ -3,7 +3,6 @@ use Rattle.std.proofs.Common.{◌≡◌, pos, neg_ℤ, true, false, refl}
 use Rattle.std.specs.Prelude.{codes, Some, None}
 use Rattle.std.specs.Fmt.{digits}
 use Rattle.zone_plain_offsets.specs.OffsetTexts.{offset_text, has_text}
-use Rattle.zone_plain_names.specs.Names.{leading}
 use Rattle.zone_plain_offsets.specs.Names.{made_name}
 use Rattle.zone_plain_offsets.specs.Formats.{around, around_mark}
 
@@ -37,18 +36,15 @@ largest = refl
 too_large : has_text (pos 360000) ≡ false
 too_large = refl
 
-two_deep : leading (codes "__a_") ≡ 2
-two_deep = refl
-
-first_name : made_name 1 0 ≡ codes "_a"
+first_name : made_name (codes "_") 0 ≡ codes "_a"
 unfolding made_name digits
 first_name = refl
 
-tenth_name : made_name 1 9 ≡ codes "_j"
+tenth_name : made_name (codes "_") 9 ≡ codes "_j"
 unfolding made_name digits
 tenth_name = refl
 
-eleventh_name : made_name 2 10 ≡ codes "__ba"
+eleventh_name : made_name (codes "_a_") 10 ≡ codes "_a_ba"
 unfolding made_name digits
 eleventh_name = refl
 

@@ -12,9 +12,11 @@ use Rattle.zone_values.specs.declared.time.TimeType.TheVariants.{Wall}
 use Rattle.zone_values.specs.declared.year.Year.TheVariants.{Minimum}
 use Rattle.zone_plain_lines.specs.declared.cause.PlainCause.TheVariants as cause
 use Rattle.zone_plain_base.specs.LineFaults.{at}
+use Rattle.zone_plain_names.specs.Marks.{ending_within}
+use Rattle.zone_plain_names.specs.Renamed.{mark_of}
 use Rattle.zone_plain_offsets.specs.Formats.{around_mark}
 use Rattle.zone_plain_offsets.specs.Made.{rules_named, made}
-use Rattle.zone_plain_offsets.specs.Names.{deepest, made_name}
+use Rattle.zone_plain_offsets.specs.Names.{made_name}
 use Rattle.zone_plain_offsets.specs.OffsetTexts.{offset_text}
 use Rattle.zone_plain_offsets.specs.Pairs.{asked_by, pairs_from}
 use Rattle.zone_plain_offsets.specs.WrittenOut.{unsaid_from, written_unless, written_out}
@@ -70,7 +72,7 @@ written_lines : written_unless source None ≡ Ok (
     ∷ a_rule (codes "__b") (Hours (pos 0)) (Some (codes "+0530"))
     ∷ a_rule (codes "__c") (Hours (pos 0)) (Some (codes "+02"))
     ∷ [])
-unfolding asked_by around_mark pairs_from made rules_named deepest made_name digits offset_text
+unfolding asked_by around_mark pairs_from made rules_named mark_of ending_within made_name digits offset_text
 written_lines = refl
 
 -- a total of 100 hours, of a line or of a rule that it asks for, is told of that line

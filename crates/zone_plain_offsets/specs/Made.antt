@@ -6,7 +6,8 @@ use Rattle.zone_values.specs.Values.{multiple, RuleValue, LineValue, space, zone
 use Rattle.zone_table.specs.declared.rule.RuleInfo.{RuleInfo}
 use Rattle.zone_plain_base.specs.Said.{is_said}
 use Rattle.zone_plain_offsets.specs.Formats.{Around}
-use Rattle.zone_plain_offsets.specs.Names.{front, made_name}
+use Rattle.zone_plain_names.specs.Renamed.{mark_of}
+use Rattle.zone_plain_offsets.specs.Names.{made_name}
 use Rattle.zone_plain_offsets.specs.OffsetTexts.{offset_text, has_text}
 use Rattle.zone_plain_offsets.specs.Pairs.{Pair, Asked, nothing, total, under, asked, number_of, pairs_of}
 
@@ -104,13 +105,13 @@ is_changed_said values name_of (total parts t) v = has_text t && is_said (change
 is_changed_said values name_of (under parts pair) v =
     are_rules_said values (name_of pair) pair && is_said (changed_by name_of (under parts pair) v)
 
--- the name of the ruleset that is made for a pair of these
-abbrev pub named_in : ℕ → List Pair → Pair → List ℕ
-named_in run pairs pair = made_name run (number_of pairs pair)
+-- the name of the ruleset that is made for a pair of these, behind a mark
+abbrev pub named_in : List ℕ → List Pair → Pair → List ℕ
+named_in mark pairs pair = made_name mark (number_of pairs pair)
 
 -- the name of the ruleset that a source gets for a pair
 abbrev pub name_in : List LineValue → Pair → List ℕ
-name_in values = named_in (front values) (pairs_of values)
+name_in values = named_in (mark_of values) (pairs_of values)
 
 -- the rules that are made, a ruleset after the other
 unfoldable pub made : List LineValue → List LineValue

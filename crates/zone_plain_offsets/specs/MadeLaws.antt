@@ -4,7 +4,7 @@ use Rattle.std.specs.Prelude.{◌&&◌, ◌||◌, flat_map, bytes_eq}
 use Rattle.std.specs.List.{list_any}
 use Rattle.std.proofs.lemmas.Slice.Eq.{bytes_eq-Decides}
 use Rattle.zone_values.specs.Values.{RuleValue, LineValue, space, zone, continuation, rule, link}
-use Rattle.zone_plain_offsets.specs.Names.{front}
+use Rattle.zone_plain_names.specs.Renamed.{mark_of}
 use Rattle.zone_plain_offsets.specs.NameLaws.{name_is_new, one_name}
 use Rattle.zone_plain_offsets.specs.Pairs.{Pair, Asked, nothing, total, under, asked, asked_by, is_same, with_pair, joined_by, number_of, pairs_from, pairs_of}
 use Rattle.zone_plain_offsets.specs.Made.{rules_named, made_rule, rules_for, changed_by, changed, name_in, made}
@@ -199,7 +199,7 @@ names_tell values pair other few p q = by_test (is_same pair other) refl
   where
     same_name : name_in values other ≡ name_in values pair → is_same pair other ≡ true
     same_name e =
-        let numbers = one_name (front values) (number_of (pairs_of values) other) (number_of (pairs_of values) pair)
+        let numbers = one_name (mark_of values) (number_of (pairs_of values) other) (number_of (pairs_of values) pair)
         (let within = number_within (pairs_of values) other in omega (arith, within, few))
         (let within = number_within (pairs_of values) pair in omega (arith, within, few)) e in
         ap (is_same pair) (one_pair (pairs_of values) other pair q p numbers) ∙ pair_itself pair

@@ -8,7 +8,8 @@ use Rattle.zone_table.specs.Owned.{owned_rule}
 use Rattle.zone_plain_offsets.specs.Made.{rules_named, made_rule, made_info, name_in}
 use Rattle.zone_plain_offsets.specs.MadeLaws.{is_among, made_rules}
 use Rattle.zone_plain_offsets.specs.NameLaws.{name_is_new}
-use Rattle.zone_plain_offsets.specs.Names.{front, made_name}
+use Rattle.zone_plain_names.specs.Renamed.{mark_of}
+use Rattle.zone_plain_offsets.specs.Names.{made_name}
 use Rattle.zone_plain_offsets.specs.Pairs.{Pair, pairs_of}
 use Rattle.zone_plain_offsets.specs.WrittenOut.{written_out}
 
@@ -57,6 +58,6 @@ made_ruleset values out pair e among few =
     ∙ ap (map (made_info pair.offset)) (sym (table_has values pair.rules))
 
 -- a table of the source has none under a name that is made
-pub new_name : (values : List LineValue) (number : ℕ) → rules_of (reverse values) (made_name (front values) number) ≡ []
+pub new_name : (values : List LineValue) (number : ℕ) → rules_of (reverse values) (made_name (mark_of values) number) ≡ []
 new_name values number =
-    table_has values (made_name (front values) number) ∙ ap (map owned_rule) (name_is_new values number)
+    table_has values (made_name (mark_of values) number) ∙ ap (map owned_rule) (name_is_new values number)

@@ -67,31 +67,31 @@ is_made_said name offset (continuation info) = true
 is_made_said name offset (link existing new) = true
 
 -- the ruleset that is made for a pair, the first time that a line asks for it
-abbrev pub new_rules : List LineValue → ℕ → List Pair → Pair → List LineValue
-new_rules values run pairs pair =
-    if list_any (is_same pair) pairs then [] else rules_for values (named_in run (with_pair pairs pair) pair) pair
+abbrev pub new_rules : List LineValue → List ℕ → List Pair → Pair → List LineValue
+new_rules values mark pairs pair =
+    if list_any (is_same pair) pairs then [] else rules_for values (named_in mark (with_pair pairs pair) pair) pair
 
-abbrev pub are_new_said : List LineValue → ℕ → List Pair → Pair → Bool
-are_new_said values run pairs pair =
-    if list_any (is_same pair) pairs then true else are_rules_said values (named_in run (with_pair pairs pair) pair) pair
+abbrev pub are_new_said : List LineValue → List ℕ → List Pair → Pair → Bool
+are_new_said values mark pairs pair =
+    if list_any (is_same pair) pairs then true else are_rules_said values (named_in mark (with_pair pairs pair) pair) pair
 
 -- the same of what a line asks for
-abbrev pub asked_rules : List LineValue → ℕ → List Pair → Asked → List LineValue
-asked_rules values run pairs nothing = []
-asked_rules values run pairs (total parts t) = []
-asked_rules values run pairs (under parts pair) = new_rules values run pairs pair
+abbrev pub asked_rules : List LineValue → List ℕ → List Pair → Asked → List LineValue
+asked_rules values mark pairs nothing = []
+asked_rules values mark pairs (total parts t) = []
+asked_rules values mark pairs (under parts pair) = new_rules values mark pairs pair
 
-abbrev pub is_asked_said : List LineValue → ℕ → List Pair → Asked → LineValue → Bool
-is_asked_said values run pairs nothing v = true
-is_asked_said values run pairs (total parts t) v = has_text t && is_said (with_format v (filled parts (offset_text t)))
-is_asked_said values run pairs (under parts pair) v =
-    are_new_said values run pairs pair
-    && is_said (with_ruleset (with_format v (filled parts (codes "%s"))) (named_in run (with_pair pairs pair) pair))
+abbrev pub is_asked_said : List LineValue → List ℕ → List Pair → Asked → LineValue → Bool
+is_asked_said values mark pairs nothing v = true
+is_asked_said values mark pairs (total parts t) v = has_text t && is_said (with_format v (filled parts (offset_text t)))
+is_asked_said values mark pairs (under parts pair) v =
+    are_new_said values mark pairs pair
+    && is_said (with_ruleset (with_format v (filled parts (codes "%s"))) (named_in mark (with_pair pairs pair) pair))
 
 -- a line was written out, and the ruleset was made that it asks for, if none was yet
-pub record IsWrittenOut (values : List LineValue) (run : ℕ) (old_pairs new_pairs : List Pair) (old_made new_made old new : List (List ℕ)) (v : LineValue) (said : Bool)
+pub record IsWrittenOut (values : List LineValue) (mark : List ℕ) (old_pairs new_pairs : List Pair) (old_made new_made old new : List (List ℕ)) (v : LineValue) (said : Bool)
     : Type 0 where
-  pub told : said ≡ is_asked_said values run old_pairs (asked v) v
+  pub told : said ≡ is_asked_said values mark old_pairs (asked v) v
   pub pairs : new_pairs ≡ joined_by (asked v) old_pairs
-  pub made : said ≡ true → map source_value new_made ≡ map source_value old_made ++ asked_rules values run old_pairs (asked v)
-  pub added : said ≡ true → map source_value new ≡ map source_value old ++ changed_by (named_in run new_pairs) (asked v) v ∷ []
+  pub made : said ≡ true → map source_value new_made ≡ map source_value old_made ++ asked_rules values mark old_pairs (asked v)
+  pub added : said ≡ true → map source_value new ≡ map source_value old ++ changed_by (named_in mark new_pairs) (asked v) v ∷ []

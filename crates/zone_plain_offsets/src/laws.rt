@@ -8,7 +8,8 @@ ghost use Rattle.zone_plain_offsets.specs.Abbreviations.{IsNamedUnder, info_in, 
 ghost use Rattle.zone_plain_offsets.specs.Formats.{around, around_mark};
 ghost use Rattle.zone_plain_offsets.specs.Made.{made_info, name_in};
 ghost use Rattle.zone_plain_offsets.specs.MadeLaws.{is_among};
-ghost use Rattle.zone_plain_offsets.specs.Names.{front, made_name};
+ghost use Rattle.zone_plain_names.specs.Renamed.{mark_of};
+ghost use Rattle.zone_plain_offsets.specs.Names.{made_name};
 ghost use Rattle.zone_plain_offsets.specs.OffsetTexts.{offset_text};
 ghost use Rattle.zone_plain_offsets.specs.Pairs.{Pair, pairs_of};
 ghost use Rattle.zone_plain_offsets.specs.WrittenOut.{written_out};
@@ -24,8 +25,8 @@ pub fn made_rulesets()
 
 /// No table of a source has a ruleset of a name that is made for it, and two numbers give two names.
 pub fn made_names()
-    ensures new { (values : List LineValue) (number : ℕ) → rules_of (reverse values) (made_name (front values) number) ≡ [] }
-    ensures one { (run m n : ℕ) → m < 2 ^ 64 → n < 2 ^ 64 → made_name run m ≡ made_name run n → m ≡ n }
+    ensures new { (values : List LineValue) (number : ℕ) → rules_of (reverse values) (made_name (mark_of values) number) ≡ [] }
+    ensures one { (mark : List ℕ) (m n : ℕ) → m < 2 ^ 64 → n < 2 ^ 64 → made_name mark m ≡ made_name mark n → m ≡ n }
 {}
 
 /// Where a source's lines are written out, an abbreviation of a line with `%z` is FORMAT with the text of its own total in place of

@@ -7,7 +7,7 @@ ghost use Rattle.zone_plain_base.specs.LinesAt.{value_at};
 ghost use Rattle.zone_plain_base.specs.Said.{is_said};
 ghost use Rattle.zone_plain_offsets.specs.Made.{with_format, with_ruleset, filled, named_in, rules_for, are_rules_said};
 ghost use Rattle.zone_plain_offsets.specs.Pairs.{with_pair};
-ghost use Rattle.zone_plain_offsets.specs.Names.{front};
+ghost use Rattle.zone_plain_names.specs.Renamed.{mark_of};
 ghost use Rattle.zone_plain_offsets.specs.OffsetTexts.{offset_text, has_text};
 ghost use Rattle.zone_plain_offsets.specs.Shown.{parts_shown, pair_shown};
 ghost use Rattle.zone_plain_offsets.specs.Told.{IsGrouped, IsAdded, AreAdded, IsWrittenOut, new_rules, are_new_said};
@@ -17,7 +17,7 @@ use crate::asked::{Asked, asked_of, with_format, with_ruleset};
 use crate::format::{Around, filled};
 use crate::group::{line_in, places_by_name, places_of};
 use crate::made::{add_rules, add_said};
-use crate::name::{front, made_name};
+use crate::name::made_name;
 use crate::offset::{has_text, offset_text};
 use crate::pairs::{Pair, Pairs, offset_of};
 use owned::{Items, TextMap};
@@ -25,6 +25,7 @@ use std::alloc::{AllocError, Global};
 use zone_line::{Line, LineParser, LineReader};
 use zone_plain_base::{PlainFault, lines_read};
 use zone_plain_lines::PlainCause;
+use zone_plain_names::mark_of;
 use zone_source::LineList;
 
 /// Adds a line with another format. Answers whether it can be said.
@@ -119,19 +120,19 @@ fn name_pair<'t>(
     reader: &mut LineReader<'_>,
     lines: &[Line<'_>],
     groups: &TextMap<Items<usize>>,
-    run: usize,
+    mark: &str,
     pair: Pair<'t>,
     pairs: &mut Pairs<'t>,
     made: &mut LineList,
 ) -> Result<(String, bool), AllocError>
     requires { IsGrouped (map line_value lines.now) groups.now }
     ensures pairs { OnOk result (pairs.new ≡ with_pair pairs.old (pair_shown pair.entry)) }
-    ensures name { IfOk result (λ named. string_bytes named.0 ≡ named_in run (with_pair pairs.old (pair_shown pair.entry)) (pair_shown pair.entry)) }
-    ensures rules { IfOk result (λ named. AreAdded made.old made.new (new_rules (map line_value lines.now) run pairs.old (pair_shown pair.entry))
-        (are_new_said (map line_value lines.now) run pairs.old (pair_shown pair.entry)) named.1) }
+    ensures name { IfOk result (λ named. string_bytes named.0 ≡ named_in mark.now (with_pair pairs.old (pair_shown pair.entry)) (pair_shown pair.entry)) }
+    ensures rules { IfOk result (λ named. AreAdded made.old made.new (new_rules (map line_value lines.now) mark.now pairs.old (pair_shown pair.entry))
+        (are_new_said (map line_value lines.now) mark.now pairs.old (pair_shown pair.entry)) named.1) }
 {
     let (number, is_new) = pairs.number(pair)?;
-    let name = made_name(alloc, run, number)?;
+    let name = made_name(alloc, mark, number)?;
     if !is_new {
         return Ok((name, true));
     }
@@ -159,7 +160,7 @@ fn write_line<'t>(
     texts: &LineList,
     lines: &[Line<'t>],
     groups: &TextMap<Items<usize>>,
-    run: usize,
+    mark: &str,
     place: usize,
     pairs: &mut Pairs<'t>,
     made: &mut LineList,
@@ -168,7 +169,7 @@ fn write_line<'t>(
     requires read { map line_value lines.now ≡ map source_value texts.now }
     requires grouped { IsGrouped (map line_value lines.now) groups.now }
     requires place { place < length texts.now }
-    ensures { IfOk result (IsWrittenOut (map line_value lines.now) run pairs.old pairs.new made.old made.new out.old out.new (value_at texts.now place)) }
+    ensures { IfOk result (IsWrittenOut (map line_value lines.now) mark.now pairs.old pairs.new made.old made.new out.old out.new (value_at texts.now place)) }
 {
     let line = line_in(lines, place);
     match asked_of(&line) {
@@ -181,7 +182,7 @@ fn write_line<'t>(
             Ok(is_said)
         }
         Asked::Under(parts, pair) => {
-            let (name, are_said) = name_pair(alloc, reader, lines, groups, run, pair, pairs, made)?;
+            let (name, are_said) = name_pair(alloc, reader, lines, groups, mark, pair, pairs, made)?;
             if !are_said {
                 return Ok(false);
             }
@@ -208,11 +209,11 @@ fn write_lines(
     texts: &LineList,
     lines: &[Line<'_>],
     groups: &TextMap<Items<usize>>,
-    run: usize,
+    mark: &str,
 ) -> Result<LineList, PlainFault>
     requires read { map line_value lines.now ≡ map source_value texts.now }
     requires grouped { IsGrouped (map line_value lines.now) groups.now }
-    requires run { run ≡ front (map line_value lines.now) }
+    requires mark { mark.now ≡ mark_of (map line_value lines.now) }
     ensures ok { IfOk result (λ out. written_out (map source_value texts.now) ≡ Ok (map source_value out)) }
     ensures err { IfErr result (IsFaultOf (by_line (written_out (map source_value texts.now)))) }
 {
@@ -221,7 +222,7 @@ fn write_lines(
     let mut out = LineList::new(alloc);
     for place in 0..texts.len() {
         if !write_line(
-            alloc, reader, texts, lines, groups, run, place, &mut pairs, &mut made, &mut out,
+            alloc, reader, texts, lines, groups, mark, place, &mut pairs, &mut made, &mut out,
         )? {
             return Err(PlainFault::Line(place + 1, PlainCause::Unsayable));
         }
@@ -247,6 +248,6 @@ pub fn write_out(
     let read = lines_read(alloc, &mut reader, lines)?;
     let read = read.as_slice();
     let groups = places_by_name(alloc, read)?;
-    let run = front(read)?;
-    write_lines(alloc, &mut reader, lines, read, &groups, run)
+    let mark = mark_of(alloc, read)?;
+    write_lines(alloc, &mut reader, lines, read, &groups, mark.as_str())
 }

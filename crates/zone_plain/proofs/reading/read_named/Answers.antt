@@ -6,7 +6,7 @@ use Rattle.zone_plain.proofs.reading.read_named.Goals as goal
 pub loop-line-init : goal.loop-line-init
 loop-line-init c =
     let lines = ap lines_left c.into_iter-line-iterator.ensures.into_iter_gives ∙ c.new-line-items.ensures.lines in
-    rw (lines, c.new-lines.ensures) (nothing_read c.args.source.now c.args.depth c.requires.depth)
+    rw (lines, c.new-lines.ensures) (nothing_read c.args.source.now c.args.mark.now c.requires.mark)
 
 pub overflow_add-number : goal.overflow_add-number
 overflow_add-number c = omega (arith, c.new-line-items.ensures.few, c.loop-line.invariant.number, ap length c.in-Some.ensures.steps)

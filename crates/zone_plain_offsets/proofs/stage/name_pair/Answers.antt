@@ -8,17 +8,17 @@ use Rattle.zone_plain_offsets.proofs.stage.name_pair.Goals as goal
 
 pub returns-then-not-is_new-clause-name : goal.returns-then-not-is_new-clause-name
 returns-then-not-is_new-clause-name c =
-    c.in_ok-name.ensures ∙ ap (made_name c.args.run) (c.in_ok-number.ensures.number ∙ sym (number_with c.args.pairs.now (pair_shown c.args.pair)))
+    c.in_ok-name.ensures ∙ ap (made_name c.args.mark.now) (c.in_ok-number.ensures.number ∙ sym (number_with c.args.pairs.now (pair_shown c.args.pair)))
 
 pub returns-then-not-is_new-clause-rules : goal.returns-then-not-is_new-clause-rules
-returns-then-not-is_new-clause-rules c = known_rules (map line_value c.args.lines.now) c.args.run c.args.pairs.now (pair_shown c.args.pair) c.args.made.now _ c.in_ok-number.ensures.added c.if-not-is_new.true
+returns-then-not-is_new-clause-rules c = known_rules (map line_value c.args.lines.now) c.args.mark.now c.args.pairs.now (pair_shown c.args.pair) c.args.made.now _ c.in_ok-number.ensures.added c.if-not-is_new.true
 
 pub returns-clause-name : goal.returns-clause-name
 returns-clause-name c =
-    c.in_ok-name.ensures ∙ ap (made_name c.args.run) (c.in_ok-number.ensures.number ∙ sym (number_with c.args.pairs.now (pair_shown c.args.pair)))
+    c.in_ok-name.ensures ∙ ap (made_name c.args.mark.now) (c.in_ok-number.ensures.number ∙ sym (number_with c.args.pairs.now (pair_shown c.args.pair)))
 
 pub returns-clause-rules : goal.returns-clause-rules
 returns-clause-rules c =
-    new_added (map line_value c.args.lines.now) c.args.run c.args.pairs.now (pair_shown c.args.pair) _ c.args.made.now _ _ _ c.in_ok-number.ensures.added c.if-not-is_new.false
-    (c.as_str.ensures.value ∙ c.in_ok-name.ensures ∙ ap (made_name c.args.run) (c.in_ok-number.ensures.number ∙ sym (number_with c.args.pairs.now (pair_shown c.args.pair))))
+    new_added (map line_value c.args.lines.now) c.args.mark.now c.args.pairs.now (pair_shown c.args.pair) _ c.args.made.now _ _ _ c.in_ok-number.ensures.added c.if-not-is_new.false
+    (c.as_str.ensures.value ∙ c.in_ok-name.ensures ∙ ap (made_name c.args.mark.now) (c.in_ok-number.ensures.number ∙ sym (number_with c.args.pairs.now (pair_shown c.args.pair))))
     c.in_ok-is_said.ensures

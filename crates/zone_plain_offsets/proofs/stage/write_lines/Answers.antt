@@ -14,7 +14,7 @@ pub loop-place-preserved : goal.loop-place-preserved
 loop-place-preserved c =
     let inside : c.loop-place.place < length (map line_value c.args.lines.now) =
     omega (arith, ap length c.requires.read, length_values c.args.texts.now, c.loop-place-test.true, c.len-place-end.ensures) in
-    one_reached _ _ _ _ _ _ _ _ _ _ _ c.requires.run inside (ap (λ vs. value_in vs c.loop-place.place) (sym c.requires.read))
+    one_reached _ _ _ _ _ _ _ _ _ _ _ c.requires.mark inside (ap (λ vs. value_in vs c.loop-place.place) (sym c.requires.read))
     c.loop-place.invariant c.in_ok-write_line.ensures c.if-not-branch.false
 
 pub returns-then-not-branch-clause-err : goal.returns-then-not-branch-clause-err
@@ -22,7 +22,7 @@ returns-then-not-branch-clause-err c =
     let inside : c.loop-place.place < length (map line_value c.args.lines.now) =
     omega (arith, ap length c.requires.read, length_values c.args.texts.now, c.loop-place-test.true, c.len-place-end.ensures) in
     ap (λ vs. by_line (written_out vs)) (sym c.requires.read)
-    ∙ refused_at _ _ _ _ _ _ _ _ _ _ _ c.requires.run inside (ap (λ vs. value_in vs c.loop-place.place) (sym c.requires.read))
+    ∙ refused_at _ _ _ _ _ _ _ _ _ _ _ c.requires.mark inside (ap (λ vs. value_in vs c.loop-place.place) (sym c.requires.read))
     c.loop-place.invariant c.in_ok-write_line.ensures c.if-not-branch.true
 
 pub returns-clause-ok : goal.returns-clause-ok
