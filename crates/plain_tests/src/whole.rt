@@ -10,7 +10,8 @@ const LIMIT: usize = 16_777_216;
 
 /// Sources, and what is written of each, with `~` between them and `;` for each line feed: an old rule; `%z` with an amount and under a
 /// ruleset; a chain of links; a line of a zone that begins with a rule's word; quotes and a comment; a link that stands twice; a ruleset whose name
-/// RULES can't say, alone and beside one of the name that it had there; words and days.
+/// RULES can't say, alone, beside one of the name that it had there, beside one that begins with `__`, and beside two of which more lines name
+/// the second; `%z` under a ruleset that begins with `_`; words and days.
 const SOURCES: &str = "\
 R d 1916 o - Jun 14 23s 1 S~Rule d 1916 only - Jun 14 23:00s 1:00 S;
 R b 1990 o - O 1 0 1 -;R b 1991 o - F 1 0 0 -;Z A -3 b %z 1999 O 3;-4 - %z~Rule b 1990 only - Oct 1 0:00 1:00 -;Rule b 1991 only - Feb 1 0:00 0 -;Rule _a 1990 only - Oct 1 0:00 1:00 -02;Rule _a 1991 only - Feb 1 0:00 0 -03;Zone A -3:00 _a %s 1999 Oct 3; -4:00 - -04;
@@ -20,6 +21,9 @@ Z \"A\" 1 - \"X\" # \"~Zone A 1:00 - X;
 Z A 0 - X;L A B;L A B~Zone A 0 - X;Link A B;
 R b2 1990 o - O 1 0 1 -;Z A 0 b2 X~Rule _-b-dc 1990 only - Oct 1 0:00 1:00 -;Zone A 0 _-b-dc X;
 R b2 1990 o - O 1 0 1 -;R _-b-dc 1991 o - O 1 0 1 -;Z A 0 b2 X 1999;0 _-b-dc X~Rule __-b-dc 1990 only - Oct 1 0:00 1:00 -;Rule _-b-dc 1991 only - Oct 1 0:00 1:00 -;Zone A 0 __-b-dc X 1999; 0 _-b-dc X;
+R b2 1990 o - O 1 0 1 -;R __x 1991 o - O 1 0 1 -;Z A 0 b2 X 1999;0 __x X~Rule _a-b-dc 1990 only - Oct 1 0:00 1:00 -;Rule __x 1991 only - Oct 1 0:00 1:00 -;Zone A 0 _a-b-dc X 1999; 0 __x X;
+R b2 1990 o - O 1 0 1 -;R _a 1991 o - O 1 0 1 -;R __ 1992 o - O 1 0 1 -;Z A 0 b2 X 1999;0 __ X~Rule _a_-b-dc 1990 only - Oct 1 0:00 1:00 -;Rule _a 1991 only - Oct 1 0:00 1:00 -;Rule __ 1992 only - Oct 1 0:00 1:00 -;Zone A 0 _a_-b-dc X 1999; 0 __ X;
+R _b 1990 o - O 1 0 1 -;Z A -3 _b %z~Rule _b 1990 only - Oct 1 0:00 1:00 -;Rule __a 1990 only - Oct 1 0:00 1:00 -02;Zone A -3:00 __a %s;
 R a mi ma - O Su<=25 2u 0 A;R a 1990 1991 - ap lastf 24 -0:30 -~Rule a min max - Oct Sun<=25 2:00u 0 A;Rule a 1990 1991 - Apr lastFri 24:00 -0:30 -;
 ";
 

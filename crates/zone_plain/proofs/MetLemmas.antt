@@ -1,8 +1,9 @@
 -- The names of the lines that were met, and the lines that are left.
-use Rattle.std.proofs.Common.{◌≡◌, ℕ, suc, ◌+◌, ◌<◌, ◌≤◌, List, [], ◌∷◌, ◌++◌, map, length, take, Bool, true, false, Result, Ok, Err, refl, sym, ap, ◌∙◌, append-nil, arith}
-use Rattle.std.specs.Prelude.{flat_map}
-use Rattle.std.proofs.lemmas.Grind.{flat_map-append}
+use Rattle.std.proofs.Common.{◌≡◌, ℕ, suc, ◌+◌, List, [], ◌∷◌, ◌++◌, map, take, Some, Bool, true, false, Result, Ok, Err, refl, sym, ap, ◌∙◌, append-nil}
+use Rattle.std.proofs.lemmas.Grind.{flat_map-append, take_at_read}
 use Rattle.std.proofs.lemmas.List.{map-append}
+use Rattle.std.proofs.lemmas.Option.{get_or_from_slice_get, slice_get_within}
+use Rattle.std.specs.List.{slice_get}
 use Rattle.zone_source.specs.Lines.{lines_of}
 use Rattle.zone_values.specs.Values.{LineValue}
 use Rattle.zone_plain_lines.specs.declared.cause.PlainCause.{PlainCause}
@@ -77,6 +78,12 @@ all_met source names is_open so_far e =
   where
     step : (n : ℕ) → is_open ≡ false → values_from Ok is_open n [] ≡ Ok []
     step n e = rw e refl
+
+-- one line more
+pub one_slice : (lines : List (List ℕ)) (i : ℕ) (line : List ℕ) → Some line ≡ slice_get lines i → take (i + 1) lines ≡ take i lines ++ line ∷ []
+one_slice lines i line e =
+    (take_at_read lines i [] (slice_get_within lines i line (sym e))).1
+    ∙ ap (λ l. take i lines ++ l ∷ []) (get_or_from_slice_get lines i line [] (sym e))
 
 -- the mark by the names
 pub mark_is : (source : List ℕ) (names slices : List (List ℕ)) (mark : List ℕ) → names ≡ names_of (known (meant_in source)) → slices ≡ names

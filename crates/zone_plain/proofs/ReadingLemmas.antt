@@ -22,11 +22,11 @@ abbrev pub before : List LineValue → Result (List LineValue) LineFault → Res
 before vs (Ok ws) = Ok (vs ++ ws)
 before vs (Err e) = Err e
 
-before_none : (r : Result (List LineValue) LineFault) → before [] r ≡ r
+pub before_none : (r : Result (List LineValue) LineFault) → before [] r ≡ r
 before_none (Ok ws) = refl
 before_none (Err e) = refl
 
-before_one : (vs : List LineValue) (v : LineValue) (r : Result (List LineValue) LineFault) → before vs (onto v r) ≡ before (vs ++ v ∷ []) r
+pub before_one : (vs : List LineValue) (v : LineValue) (r : Result (List LineValue) LineFault) → before vs (onto v r) ≡ before (vs ++ v ∷ []) r
 before_one vs v (Ok ws) = ap Ok (sym (append_assoc vs (v ∷ []) ws))
 before_one vs v (Err e) = refl
 

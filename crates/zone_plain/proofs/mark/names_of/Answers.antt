@@ -10,13 +10,15 @@ loop-line-init c =
 
 pub loop-line-preserved : goal.loop-line-preserved
 loop-line-preserved c =
-    one_met _ _ _ _ _ _ _ _ (rw c.in-Some.ensures.steps at c.loop-line.invariant) c.in-Ok.ensures c.in_ok-add_name.ensures c.is_open_after-is_open.ensures
+    one_met _ _ _ _ _ _ _ _ (rw c.in-Some.ensures.steps at c.loop-line.invariant) c.in-Ok.ensures c.in_ok-add_name-in-Ok.ensures c.is_open_after-is_open.ensures
 
 pub returns-in-Err-Cause : goal.returns-in-Err-Cause
-returns-in-Err-Cause c = none_met _ _ _ _ _ _ (rw c.in-Some.ensures.steps at c.loop-line.invariant) (rw c.in-Err-Cause.field-0-is at c.in-Err-Cause.ensures)
+returns-in-Err-Cause c =
+    c.new.ensures
+    ∙ none_met _ _ _ _ _ _ (rw c.in-Some.ensures.steps at c.loop-line.invariant) (rw c.in-Err-Cause.field-0-is at c.in-Err-Cause.ensures)
 
 pub returns-then-is_open : goal.returns-then-is_open
-returns-then-is_open c = open_met _ _ _ (rw c.in-None.ensures.steps.0 at c.loop-line.invariant) c.if-is_open.true
+returns-then-is_open c = c.new-then-is_open.ensures ∙ open_met _ _ _ (rw c.in-None.ensures.steps.0 at c.loop-line.invariant) c.if-is_open.true
 
 pub returns : goal.returns
 returns c = all_met _ _ _ (rw c.in-None.ensures.steps.0 at c.loop-line.invariant) c.if-is_open.false
