@@ -182,7 +182,9 @@ fn write_line<'t>(
             Ok(is_said)
         }
         Asked::Under(parts, pair) => {
-            let (name, are_said) = name_pair(alloc, reader, lines, groups, mark, pair, pairs, made)?;
+            let (name, are_said) = name_pair(
+                alloc, reader, lines, groups, mark, pair, pairs, made,
+            )?;
             if !are_said {
                 return Ok(false);
             }
