@@ -19,6 +19,10 @@ impl Opened {
     ghost use Rattle.sefunjaro_handles.specs.Held.{IsSource, IsZone};
 
     /// A source, on the heap.
+    ///
+    /// # Errors
+    ///
+    /// Want of memory alone.
     pub fn source(alloc: Global, source: OpenSource) -> Result<Box<Opened>, AllocError>
         ensures { IfOk result (λ opened. IsSource (λ held. held ≡ source) opened.value) }
     {
@@ -26,6 +30,10 @@ impl Opened {
     }
 
     /// A zone, on the heap.
+    ///
+    /// # Errors
+    ///
+    /// Want of memory alone.
     pub fn zone(alloc: Global, zone: AnyZone) -> Result<Box<Opened>, AllocError>
         ensures { IfOk result (λ opened. IsZone (λ held. held ≡ zone) opened.value) }
     {
@@ -36,6 +44,10 @@ impl Opened {
     }
 
     /// The same zone, for one owner more.
+    ///
+    /// # Errors
+    ///
+    /// Want of memory alone.
     pub fn shared(alloc: Global, zone: &Arc<AnyZone>) -> Result<Box<Opened>, AllocError>
         ensures { IfOk result (λ opened. IsZone (λ held. held ≡ arc_value zone.now) opened.value) }
     {

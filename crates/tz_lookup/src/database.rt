@@ -122,6 +122,10 @@ impl Database {
     }
 
     /// The zones whose name has that part, in byte order of their names.
+    ///
+    /// # Errors
+    ///
+    /// Want of memory alone.
     pub fn find_by_name(&self, alloc: Global, name: &str) -> Result<Vec<Tz<'_>>, AllocError>
         ensures { IfOk result (λ found. each set_of found.items ≡ filter (λ set. has_part name.now set.name) self.now) }
     {
@@ -186,6 +190,10 @@ impl<'a> Iterator for DatabaseIter<'a> {
 }
 
 /// Every name of a table that finds a zone, in byte order, each once.
+///
+/// # Errors
+///
+/// Want of memory alone.
 pub fn names_in_order(alloc: Global, table: &Table) -> Result<BTreeSet<&str>, AllocError>
     ensures { IfOk result (λ names. each name_shown names.keys ≡ names_of table.now) }
 {

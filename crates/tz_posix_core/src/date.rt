@@ -25,6 +25,8 @@ impl Date {
     /// The date in a year of -9999 to 9999. J is from 1 to 365, N at most 365, m from 1 to 12, n from 1 to 5 and d at
     /// most 6.
     ///
+    /// # Errors
+    ///
     /// `ComponentRange` comes exactly for `N(365)` in a year of 365 days, and `DateTooLarge` exactly with n = 5 in
     /// December 9999 where the first such weekday plus 28 days is past the 31st.
     pub fn to_date(self, year: i32) -> Result<civil_base::Date, Error>

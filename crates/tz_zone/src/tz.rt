@@ -51,8 +51,11 @@ impl<'a> Tz<'a> {
     ghost use Rattle.tz_zone.specs.Sets.{schedule_of, IsAccepted, IsOrderlyZone, span_in, total_of_span};
     ghost use Rattle.tz_zone.specs.Zones.{set_of, span_shown, total_shown, IsGivenFor};
 
-    /// The zone of a set. `OffsetRange`, `Falling` and `Bound` come in this order, each exactly where it says, and whether
-    /// the set is orderly is tested once, here.
+    /// The zone of a set. Whether the set is orderly is tested once, here.
+    ///
+    /// # Errors
+    ///
+    /// `OffsetRange`, `Falling` and `Bound`, in this order, each exactly where it says.
     pub fn new(set: &'a FixedTimespanSet) -> Result<Tz<'a>, TzFault>
         ensures { MatchResult result
             (λ zone. IsAccepted (schedule_of set.now) × (set_of zone ≡ set.now))

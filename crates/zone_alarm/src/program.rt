@@ -14,10 +14,12 @@ use crate::ring::AlarmFault;
 use crate::words::{days_in, start_in};
 use civil_base::PlainDateTime;
 use std::alloc::Global;
+use std::process::ExitCode;
 use tz_lookup::{FixedTimespanSet, Tz};
 use zone_line::LineParser;
 use zone_run::{
-    Refusal, Shelf, Sink, Status, SureShelf, SureSink, ZoneProgram, run_program, run_program_surely,
+    Refusal, Shelf, Sink, Status, SureShelf, SureSink, ZoneProgram, run_program,
+    run_program_surely, start_program,
 };
 use zone_source::LIMIT;
 
@@ -112,4 +114,10 @@ pub fn run_alarm_surely(
     ensures past_limit { IfSome (task_of form words.now) (λ task. LIMIT < length shelf.old.bytes → IsPastLimit result) }
 {
     run_program_surely::<Daily>(alloc, parser, words, shelf, output)
+}
+
+/// The whole program `zone_alarm`: `run_alarm` over its words, the files and standard output. The exit status is that of the run;
+/// before it come 7, where the words can't be taken, and 8, where the parser can't be built.
+pub fn start_alarm(rt: HostRuntime) -> ExitCode {
+    start_program::<Daily>(rt)
 }

@@ -1,33 +1,9 @@
 //! `zone_alarm FILE NAME START TIME DAYS`: when a daily alarm rings in the zone NAME of the file, a line for each day.
 #![tactic(auto)]
 
-use std::alloc::Global;
 use std::process::ExitCode;
-use std::{env, io};
-use zone_alarm::{FileShelf, StdSink, run_alarm};
-use zone_line::LineParser;
-
-/// The words after the program's own name couldn't be taken.
-const NO_WORDS: u8 = 7;
-
-/// The parser couldn't be built.
-const NOT_BUILT: u8 = 8;
+use zone_alarm::start_alarm;
 
 fn main(rt: HostRuntime) -> ExitCode {
-    let alloc = rt.alloc();
-    let Ok(words) = words(&rt, alloc) else {
-        return ExitCode::from(NO_WORDS);
-    };
-    let Ok(parser) = LineParser::new(alloc) else {
-        return ExitCode::from(NOT_BUILT);
-    };
-    let mut output = StdSink::new(rt);
-    let mut shelf = FileShelf::new(rt);
-    let status = run_alarm(alloc, &parser, &words, &mut shelf, &mut output);
-    ExitCode::from(status.code())
-}
-
-/// The words after the program's own name.
-fn words(rt: &HostRuntime, alloc: Global) -> io::Result<Vec<String>> {
-    Ok(env::args(rt)?.skip(1).collect(alloc)?)
+    start_alarm(rt)
 }

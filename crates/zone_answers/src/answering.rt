@@ -21,8 +21,12 @@ use zone_line::LineParser;
 use zone_source::{LIMIT, LineList, Lines, text_of};
 use zone_table::Table;
 
-/// The table that the lines of a source join to, or the first fault of the source. Lines end at an LF, a CR before it is
-/// dropped, and they are numbered from 1. The source is at most 16,777,216 bytes long.
+/// The table that the lines of a source join to. Lines end at an LF, a CR before it is dropped, and they are numbered from
+/// 1. The source is at most 16,777,216 bytes long.
+///
+/// # Errors
+///
+/// The first fault of the source, with its line, or want of memory.
 pub fn read_table(alloc: Global, parser: &LineParser, source: &[u8]) -> Result<Table, AnswerError>
     requires { length source.now ≤ LIMIT }
     ensures ok { OnOk result (source_fault source.now ≡ None) }
@@ -33,9 +37,12 @@ pub fn read_table(alloc: Global, parser: &LineParser, source: &[u8]) -> Result<T
     Ok(zone_source::read_table(alloc, parser, source)?)
 }
 
-/// Answers each request over the source, in order, or tells the first fault: that of the source, else that of the
-/// requests. Lines end at an LF, a CR before it is dropped, and they are numbered from 1. A zone is compiled once for all
-/// its requests, and one that no request names never.
+/// Answers each request over the source, in order. Lines end at an LF, a CR before it is dropped, and they are numbered from
+/// 1. A zone is compiled once for all its requests, and one that no request names never.
+///
+/// # Errors
+///
+/// The first fault, with its line: that of the source, else that of the requests; or want of memory.
 pub fn answers(
     alloc: Global,
     parser: &LineParser,

@@ -9,6 +9,7 @@ mod request;
 mod respond;
 mod running;
 mod showing;
+mod starting;
 mod summary;
 mod words;
 mod zones;
@@ -19,6 +20,7 @@ pub use fault::write_fault;
 pub use request::nanoseconds;
 pub use running::{run, run_surely};
 pub use showing::{add_bytes, add_text};
+pub use starting::start;
 pub use tz_lookup::ZoneFault;
 /// One line per request, in order. Contracts see the list of the lines' bytes.
 pub use zone_source::{

@@ -114,6 +114,10 @@ fn show_each(
 }
 
 /// Adds the zoned text of a date-time.
+///
+/// # Errors
+///
+/// Want of memory alone.
 pub fn add_text(shown: &OffsetDateTime, text: &mut Vec<u8>) -> Result<(), AllocError>
     ensures { OnOk result (text.new.items ≡ text.old.items ++ text_shown (shown_of shown.now)) }
 {
@@ -122,6 +126,11 @@ pub fn add_text(shown: &OffsetDateTime, text: &mut Vec<u8>) -> Result<(), AllocE
     add_bytes(&zoned[..end], text)
 }
 
+/// Adds some bytes.
+///
+/// # Errors
+///
+/// Want of memory alone.
 pub fn add_bytes(bytes: &[u8], text: &mut Vec<u8>) -> Result<(), AllocError>
     ensures { OnOk result (text.new.items ≡ text.old.items ++ bytes.now) }
 {

@@ -15,8 +15,12 @@ use tz_tzif::{TzifFault, TzifTz};
 use zone_source::{LIMIT, LineList, Lines, text_of};
 use zone_tzif_core::{ReadFault, one_reading, read_any};
 
-/// Answers each request over the zone of a file, in order, or tells the first fault: that of the file, else that of the
-/// requests. Lines end at an LF, a CR before it is dropped, and they are numbered from 1.
+/// Answers each request over the zone of a file, in order. Lines end at an LF, a CR before it is dropped, and they are
+/// numbered from 1.
+///
+/// # Errors
+///
+/// The first fault: that of the file, else that of the requests, with its line; or want of memory.
 pub fn answers(alloc: Global, file: &[u8], requests: &[u8]) -> Result<LineList, FileFault>
     requires { length requests.now ≤ LIMIT }
     ensures { MatchResult result (AnswersFile file.now requests.now) (FaultOfFile file.now requests.now) }

@@ -7,10 +7,12 @@ mod request;
 mod respond;
 mod running;
 mod showing;
+mod starting;
 
 pub use answering::answers;
 pub use fault::FileFault;
 pub use running::run;
+pub use starting::start;
 pub use zone_source::{
     FileShelf, LineList, MemShelf, MemSink, MemSource, Shelf, Sink, Source, Status, StdSink,
     StdSource,

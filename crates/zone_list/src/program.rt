@@ -8,11 +8,12 @@ ghost use Rattle.zone_run.specs.Tasks.{task_of};
 
 use crate::listing::{ListFault, list_lines};
 use std::alloc::Global;
+use std::process::ExitCode;
 use tz_lookup::FixedTimespanSet;
 use zone_line::LineParser;
 use zone_run::{
     Refusal, Shelf, Sink, Status, SureShelf, SureSink, ZoneProgram, number_in, run_program,
-    run_program_surely,
+    run_program_surely, start_program,
 };
 use zone_source::LIMIT;
 
@@ -92,4 +93,10 @@ pub fn run_list_surely(
     ensures past_limit { IfSome (task_of form words.now) (λ task. LIMIT < length shelf.old.bytes → IsPastLimit result) }
 {
     run_program_surely::<Window>(alloc, parser, words, shelf, output)
+}
+
+/// The whole program `zone_list`: `run_list` over its words, the files and standard output. The exit status is that of the run;
+/// before it come 7, where the words can't be taken, and 8, where the parser can't be built.
+pub fn start_list(rt: HostRuntime) -> ExitCode {
+    start_program::<Window>(rt)
 }

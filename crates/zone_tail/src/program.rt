@@ -8,10 +8,12 @@ ghost use Rattle.zone_tail.specs.Asks.{asks, form};
 
 use crate::line::line_of;
 use std::alloc::Global;
+use std::process::ExitCode;
 use tz_lookup::FixedTimespanSet;
 use zone_line::LineParser;
 use zone_run::{
-    Refusal, Shelf, Sink, Status, SureShelf, SureSink, ZoneProgram, run_program, run_program_surely,
+    Refusal, Shelf, Sink, Status, SureShelf, SureSink, ZoneProgram, run_program,
+    run_program_surely, start_program,
 };
 use zone_source::LIMIT;
 use zone_tail_core::laws::one_tail;
@@ -83,4 +85,10 @@ pub fn run_tail_surely(
     ensures past_limit { IfSome (task_of form words.now) (λ task. LIMIT < length shelf.old.bytes → IsPastLimit result) }
 {
     run_program_surely::<Carried>(alloc, parser, words, shelf, output)
+}
+
+/// The whole program `zone_tail`: `run_tail` over its words, the files and standard output. The exit status is that of the run;
+/// before it come 7, where the words can't be taken, and 8, where the parser can't be built.
+pub fn start_tail(rt: HostRuntime) -> ExitCode {
+    start_program::<Carried>(rt)
 }

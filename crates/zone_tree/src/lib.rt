@@ -8,11 +8,13 @@ mod names;
 mod refusal;
 mod respond;
 mod running;
+mod starting;
 mod whole;
 
 pub use laws::names_and_links;
 pub use refusal::{TreeFault, Why};
 pub use running::{run_tree, run_tree_surely};
+pub use starting::start_tree;
 pub use whole::tree;
 pub use zone_source::{
     Failed, FileShelf, MemShelf, MemSink, Shelf, Sink, Source, Status, StdSink, SureShelf, SureSink,

@@ -7,10 +7,12 @@ ghost use Rattle.zone_run.specs.Tasks.{task_of};
 ghost use Rattle.zone_tzif.specs.Asks.{asks, form};
 
 use std::alloc::Global;
+use std::process::ExitCode;
 use tz_lookup::FixedTimespanSet;
 use zone_line::LineParser;
 use zone_run::{
-    Refusal, Shelf, Sink, Status, SureShelf, SureSink, ZoneProgram, run_program, run_program_surely,
+    Refusal, Shelf, Sink, Status, SureShelf, SureSink, ZoneProgram, run_program,
+    run_program_surely, start_program,
 };
 use zone_source::LIMIT;
 use zone_tzif_set::{FileFault, tzif_of};
@@ -80,4 +82,10 @@ pub fn run_tzif_surely(
     ensures past_limit { IfSome (task_of form words.now) (λ task. LIMIT < length shelf.old.bytes → IsPastLimit result) }
 {
     run_program_surely::<Compiled>(alloc, parser, words, shelf, output)
+}
+
+/// The whole program `zone_tzif`: `run_tzif` over its words, the files and standard output. The exit status is that of the run;
+/// before it come 7, where the words can't be taken, and 8, where the parser can't be built.
+pub fn start_tzif(rt: HostRuntime) -> ExitCode {
+    start_program::<Compiled>(rt)
 }

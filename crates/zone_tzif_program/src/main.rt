@@ -1,33 +1,9 @@
 //! `zone_tzif FILE NAME`: writes the zone as a TZif file to standard output.
 #![tactic(auto)]
 
-use std::alloc::Global;
 use std::process::ExitCode;
-use std::{env, io};
-use zone_line::LineParser;
-use zone_tzif::{FileShelf, StdSink, run_tzif};
-
-/// The words after the program's own name couldn't be taken.
-const NO_WORDS: u8 = 7;
-
-/// The parser couldn't be built.
-const NOT_BUILT: u8 = 8;
+use zone_tzif::start_tzif;
 
 fn main(rt: HostRuntime) -> ExitCode {
-    let alloc = rt.alloc();
-    let Ok(words) = words(&rt, alloc) else {
-        return ExitCode::from(NO_WORDS);
-    };
-    let Ok(parser) = LineParser::new(alloc) else {
-        return ExitCode::from(NOT_BUILT);
-    };
-    let mut output = StdSink::new(rt);
-    let mut shelf = FileShelf::new(rt);
-    let status = run_tzif(alloc, &parser, &words, &mut shelf, &mut output);
-    ExitCode::from(status.code())
-}
-
-/// The words after the program's own name.
-fn words(rt: &HostRuntime, alloc: Global) -> io::Result<Vec<String>> {
-    Ok(env::args(rt)?.skip(1).collect(alloc)?)
+    start_tzif(rt)
 }

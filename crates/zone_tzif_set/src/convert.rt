@@ -54,6 +54,10 @@ fn changes_of(
 /// The zone that a set is in a file, with that footer. The set is one that a `Tz` can be made of: each span's offset and
 /// saving together are less than 26 hours in size. At each instant the zone's offset is the set's. Of what `write_tzif` writes
 /// for it, both readers read that zone again.
+///
+/// # Errors
+///
+/// Want of memory alone.
 pub fn from_set(alloc: Global, set: &FixedTimespanSet, footer: &str) -> Result<TzifZone, AllocError>
     requires { IsAccepted (schedule_of set.now) }
     ensures value { IfOk result (λ zone. zone_shown zone ≡ value_of set.now footer.now) }
