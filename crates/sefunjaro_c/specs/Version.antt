@@ -1,6 +1,6 @@
 -- The version of the calls, and the years of the rules.
-use Rattle.std.specs.Prelude.{ℕ, pos, ◌+◌, List, codes, None}
-use Rattle.zone_spans.specs.Firings.{years_expanded}
+use Rattle.std.specs.Prelude.{ℕ, pos, List, codes}
+use Rattle.zone_spans.specs.Years.{earliest_year, latest_year}
 use Rattle.sefunjaro_c.specs.declared.version.Years.{Years}
 
 abbrev pub version : List ℕ
@@ -8,4 +8,4 @@ version = codes "1.2.0"
 
 -- the first and the last year in which the rules of a line without an end fire
 abbrev pub rule_years : Years
-rule_years = record { first = pos 1800; last = pos (1799 + years_expanded None) }
+rule_years = record { first = pos earliest_year; last = pos latest_year }

@@ -4,6 +4,7 @@ ghost use Rattle.sefunjaro_c.specs.Version.{rule_years, version};
 ghost use Rattle.zone_open.specs.Rooms.{filled};
 
 use zone_open::fill;
+use zone_spans::{EARLIEST_YEAR, MOST_YEARS};
 
 /// The years in which the rules of a source fire. Before the first and after the last nothing changes in a zone.
 #[derive(Clone, Copy, Debug, PartialEq, Eq)]
@@ -24,7 +25,7 @@ pub extern "C" fn sefunjaro_version(text: &mut [u8], whole: &mut usize, years: &
 {
     *whole = fill(b"1.2.0", text);
     *years = Years {
-        first: 1800,
-        last: 2099,
+        first: i32::from(EARLIEST_YEAR),
+        last: i32::from(EARLIEST_YEAR + MOST_YEARS - 1),
     };
 }

@@ -104,7 +104,7 @@ within_year t d y low high first last year =
     }
 
 -- so many years have begun then
-pub within_begun : (c : ℕ) (y second : ℤ) → pos c ≡ y -ℤ pos 1799 → IsWithinYear y second → HaveBegun c second
+pub within_begun : (c : ℕ) (y second : ℤ) → pos c ≡ y -ℤ pos 1800 +ℤ pos 1 → IsWithinYear y second → HaveBegun c second
 unfolding year_second
 within_begun zero y second e h = absurd (omega (arith, signed, h.first, e))
 within_begun (suc c) y second e h =

@@ -22,6 +22,7 @@ pub mod Databases
 pub mod Kinds
 pub mod KindShown
 pub mod Years
+pub mod YearSeconds
 pub mod YearCounts
 pub mod Compact
 pub mod CompactShown

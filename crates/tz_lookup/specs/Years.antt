@@ -1,11 +1,16 @@
 -- The years from 1800 to 2100 in UTC.
 use Rattle.std.specs.Prelude.{ℕ, zero, suc, ◌+◌, ◌<◌, ◌≤◌, ℤ, pos, ◌+ℤ◌, ◌*ℤ◌, ◌≤ℤ◌, ◌<ℤ◌, int_le, length, filter, nat_eq, if◌then◌else◌}
 use Rattle.calendar.specs.Days.{day}
+use Rattle.zone_spans.specs.Years.{earliest_year, latest_year, most_years}
 use Rattle.tz_zone.specs.declared.set.FixedTimespanSet.{FixedTimespanSet}
+
+-- the years that are counted: those in which rules fire, and the one after them
+abbrev pub counted_years : ℕ
+counted_years = suc most_years
 
 -- the second at which the year 1800 + i begins
 unfoldable pub year_second : ℕ → ℤ
-year_second i = pos 86400 *ℤ day (pos (1800 + i)) 1 1
+year_second i = pos 86400 *ℤ day (pos (earliest_year + i)) 1 1
 
 -- of the n years from the year 1800 + i on, how many have begun at a second
 unfoldable pub begun_from : ℤ → ℕ → ℕ → ℕ
@@ -14,13 +19,13 @@ begun_from second i (suc n) = if int_le (year_second i) second then suc (begun_f
 
 -- how many of the years from 1800 to 2100 have begun at a second: none before 1800, and all from 2100 on
 unfoldable pub years_begun : ℤ → ℕ
-years_begun second = begun_from second 0 301
+years_begun second = begun_from second 0 counted_years
 
 -- c of them have begun at a second
 pub record HaveBegun (c : ℕ) (second : ℤ) : Type 0 where
-  pub within : c ≤ 301
+  pub within : c ≤ counted_years
   pub begun : (j : ℕ) → j < c → year_second j ≤ℤ second
-  pub ahead : c < 301 → second <ℤ year_second c
+  pub ahead : c < counted_years → second <ℤ year_second c
 
 -- how many entries lie in the year of a second; all years before 1800 are one, and so are all from 2100 on
 unfoldable pub changes_in_year : FixedTimespanSet → ℤ → ℕ
@@ -28,7 +33,7 @@ changes_in_year set second = length (filter (λ entry. nat_eq (years_begun entry
 
 -- the second lies in the year, which is one from 1800 to 2099
 pub record IsWithinYear (y second : ℤ) : Type 0 where
-  pub first : pos 1800 ≤ℤ y
-  pub last : y ≤ℤ pos 2099
+  pub first : pos earliest_year ≤ℤ y
+  pub last : y ≤ℤ pos latest_year
   pub begun : (pos 86400 *ℤ day y 1 1) ≤ℤ second
   pub next : second <ℤ (pos 86400 *ℤ day (y +ℤ pos 1) 1 1)

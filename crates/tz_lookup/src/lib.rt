@@ -20,3 +20,4 @@ pub use tz_zone::{
     OffsetResult, PrimitiveDateTimeExt, Probe, SpanFault, SpanTable, Steps, TimeZone, Tz, TzFault,
     TzOffset, ZoneFault, binary_search, compile_zone, is_orderly, local_spans, local_spans_counted,
 };
+pub use years::{LAST_YEAR_BEGIN, RULES_BEGIN, RULES_END};

@@ -15,6 +15,7 @@ use Rattle.zone_table.specs.declared.rule.RuleInfo.{RuleInfo}
 use Rattle.zone_table.specs.declared.zone.Saving.TheVariants.{Multiple}
 use Rattle.zone_table.specs.declared.zone.ZoneInfo.{ZoneInfo}
 use Rattle.zone_spans.specs.Lines.{Rulesets}
+use Rattle.zone_spans.specs.Years.{earliest_year, latest_year}
 use Rattle.tz_posix.specs.TwoRules.{AreBoth}
 use Rattle.tz_posix_core.specs.InForce.{YearlyTime, posix_total, yearly_time}
 use Rattle.tz_posix_core.specs.Seconds.{IsWritten, east_of}
@@ -64,11 +65,11 @@ pub record IsTimeOfDay (seconds : ℤ) : Type 0 where
 
 -- of the years that a line expands, 1800 to 2099, the first in which rules from a year on apply
 abbrev pub first_year : ℤ → ℤ
-first_year from = int_max from (pos 1800)
+first_year from = int_max from (pos earliest_year)
 
 pub record IsRuleYear (from y : ℤ) : Type 0 where
   pub first : first_year from ≤ℤ y
-  pub last : y ≤ℤ pos 2099
+  pub last : y ≤ℤ pos latest_year
 
 -- a second of the years from one to another, each from its 1 January on by clocks of standard time
 pub record IsInYears (offset from to second : ℤ) : Type 0 where
@@ -115,7 +116,7 @@ pub record SaysTheSame (rulesets : Rulesets) (zone : TwoRuleZone) (q : RuledValu
   -- both run from the same year, 2099 at most, to max
   pub start_from : zone.start.from_year ≡ Number zone.from
   pub end_from : zone.end.from_year ≡ Number zone.from
-  pub from_at_most : zone.from ≤ℤ pos 2099
+  pub from_at_most : zone.from ≤ℤ pos latest_year
   pub start_to_max : zone.start.to_year ≡ Some Maximum
   pub end_to_max : zone.end.to_year ≡ Some Maximum
   -- one has a saving above 0, and the other the saving 0
@@ -145,10 +146,10 @@ pub record SaysTheSame (rulesets : Rulesets) (zone : TwoRuleZone) (q : RuledValu
 -- a second from the first start on, up to the end of the year 2099
 pub record IsFromFirstStart (zone : TwoRuleZone) (second : ℤ) : Type 0 where
   pub begun : start_in zone (first_year zone.from) ≤ℤ second
-  pub not_over : (second +ℤ zone.line.offset) <ℤ (pos 86400 *ℤ day (pos 2099 +ℤ pos 1) 1 1)
+  pub not_over : (second +ℤ zone.line.offset) <ℤ (pos 86400 *ℤ day (pos latest_year +ℤ pos 1) 1 1)
 
 -- a second at which the zone and the value are shown to agree
 abbrev pub IsCovered : TwoRuleZone → ℤ → Type 0
 IsCovered zone second =
-    (IsNorthern zone × IsInYears zone.line.offset (first_year zone.from) (pos 2099) second)
+    (IsNorthern zone × IsInYears zone.line.offset (first_year zone.from) (pos latest_year) second)
     ⊎ (IsSouthern zone × IsFromFirstStart zone second)

@@ -10,6 +10,7 @@ use Rattle.zone_table.specs.declared.zone.ZoneInfo.{ZoneInfo}
 use Rattle.zone_spans.specs.Compiled.{compiled}
 use Rattle.zone_spans.specs.Firings.{Firing}
 use Rattle.zone_spans.specs.Lines.{Line, Rulesets, is_ruled}
+use Rattle.zone_spans.specs.Years.{earliest_year, most_years}
 use Rattle.zone_spans.specs.declared.span.FixedTimespanSet.{FixedTimespanSet}
 
 -- the two rules, listed in either order
@@ -22,7 +23,7 @@ written rule year = pos 86400 *ℤ named_day rule.day year rule.month +ℤ rule.
 
 -- the years from 1800 + m on
 abbrev pub year_from : ℕ → ℕ → ℤ
-year_from m i = pos (1800 + (m + i))
+year_from m i = pos (earliest_year + (m + i))
 
 module _ (offset : ℤ) (f g : RuleInfo) (m : ℕ) where
   -- a line begins with no saving, and each later year with that of g
@@ -54,11 +55,11 @@ pub record HasTwoRules (line : Line) (f g : RuleInfo) (m n : ℕ) : Type 0 where
   pub ruled : is_ruled line.info.saving ≡ true
   pub no_end : line.end ≡ None
   pub both : AreBoth f g line.rules
-  pub years : m + n ≡ 300
+  pub years : m + n ≡ most_years
   pub f_wall : f.time_type ≡ Wall
   pub g_wall : g.time_type ≡ Wall
-  pub f_not_before : (i : ℕ) → i < m → applies_to_year f (pos (1800 + i)) ≡ false
-  pub g_not_before : (i : ℕ) → i < m → applies_to_year g (pos (1800 + i)) ≡ false
+  pub f_not_before : (i : ℕ) → i < m → applies_to_year f (pos (earliest_year + i)) ≡ false
+  pub g_not_before : (i : ℕ) → i < m → applies_to_year g (pos (earliest_year + i)) ≡ false
   pub f_applies : (i : ℕ) → i < n → applies_to_year f (year_from m i) ≡ true
   pub g_applies : (i : ℕ) → i < n → applies_to_year g (year_from m i) ≡ true
 

@@ -5,6 +5,7 @@ ghost use Rattle.civil_base.specs.Instants.{seconds_of};
 ghost use Rattle.zone_table.specs.declared.zone.ZoneInfo.{ZoneInfo};
 ghost use Rattle.zone_spans.specs.Compiled.{compiled};
 ghost use Rattle.zone_spans.specs.Lines.{Rulesets};
+ghost use Rattle.zone_spans.specs.Years.{latest_year};
 ghost use Rattle.zone_spans.specs.Schedules.{schedule_of, total_at};
 ghost use Rattle.tz_posix.specs.TwoRules.{IsCompiled};
 ghost use Rattle.tz_lookup.specs.Compiles.{spans_of};
@@ -68,7 +69,7 @@ pub fn two_yearly_rules_agree()
     ensures compiled { (rulesets : Rulesets) (zone : TwoRuleZone) (q : RuledValue) → SaysTheSame rulesets zone q
         → IsCompiled rulesets (zone.line ∷ []) }
     ensures northern { (rulesets : Rulesets) (zone : TwoRuleZone) (q : RuledValue) → SaysTheSame rulesets zone q
-        → IsNorthern zone → (t : ℤ) → IsInYears zone.line.offset (first_year zone.from) (pos 2099) (seconds_of t)
+        → IsNorthern zone → (t : ℤ) → IsInYears zone.line.offset (first_year zone.from) (pos latest_year) (seconds_of t)
         → total_at (schedule_of rulesets (zone.line ∷ [])) t ≡ value_total q (seconds_of t) }
     ensures southern { (rulesets : Rulesets) (zone : TwoRuleZone) (q : RuledValue) → SaysTheSame rulesets zone q
         → IsSouthern zone → (t : ℤ) → IsFromFirstStart zone (seconds_of t)

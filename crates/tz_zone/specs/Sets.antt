@@ -2,6 +2,7 @@
 use Rattle.std.specs.Prelude.{ℕ, zero, suc, slice_index_or, ◌+◌, ◌<◌, ◌≤◌, ◌<ℤ◌, Bool, ◌&&◌, nat_lt, List, length, map, All, IsTrue, ℤ, pos, neg_ℤ, ◌≤ℤ◌, int_le, int_lt, if◌then◌else◌}
 use Rattle.std.specs.declared.cmp.Ordering.{Ordering}
 use Rattle.std.specs.declared.cmp.Ordering.TheVariants.{Less, Equal, Greater}
+use Rattle.zone_spans.specs.Bounds.{greatest_second}
 use Rattle.zone_spans.specs.Entries.{Entry, total}
 use Rattle.zone_spans.specs.Schedules.{Schedule, is_in_offset_range}
 use Rattle.zone_spans.specs.declared.span.FixedTimespan.{FixedTimespan}
@@ -29,7 +30,7 @@ span_in set (suc i) = (slice_index_or set.others i (pos 0, set.first)).1
 
 -- at most 2^40 in size
 abbrev pub IsSpanTime : ℤ → Type 0
-IsSpanTime second = (neg_ℤ (pos 1099511627776) ≤ℤ second) × (second ≤ℤ pos 1099511627776)
+IsSpanTime second = (neg_ℤ (pos greatest_second) ≤ℤ second) × (second ≤ℤ pos greatest_second)
 
 abbrev pub AreSpanTimes : List Shift → Type 0
 AreSpanTimes shifts = All (λ s. IsSpanTime s.0) shifts

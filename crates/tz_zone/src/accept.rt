@@ -17,10 +17,8 @@ const LEAST_OFFSET: i64 = -93_599;
 
 const GREATEST_OFFSET: i64 = 93_599;
 
-/// The earliest and the latest time of an entry in seconds: 2^40 before 1970 and after.
-const EARLIEST: i64 = -(1 << 40);
-
-const LATEST: i64 = 1 << 40;
+/// The furthest time of an entry, in seconds before 1970 and after: 2^40.
+const GREATEST_SECOND: i64 = 1 << 40;
 
 /// Why a set can't be looked up.
 #[derive(Clone, Copy, Debug, PartialEq, Eq)]
@@ -97,5 +95,5 @@ fn has_span_times(entries: &[(i64, FixedTimespan)]) -> bool
 fn is_span_time(second: i64) -> bool
     ensures { IsTrue result ↔ IsSpanTime second }
 {
-    EARLIEST <= second && second <= LATEST
+    -GREATEST_SECOND <= second && second <= GREATEST_SECOND
 }

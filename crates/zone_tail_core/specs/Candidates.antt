@@ -1,8 +1,9 @@
 -- What may stand for the tail of a zone: one total, or a rule of each year.
-use Rattle.std.specs.Prelude.{ℕ, zero, suc, ◌<◌, length, ℤ, pos, neg_ℤ, ◌≤ℤ◌}
+use Rattle.std.specs.Prelude.{ℕ, zero, suc, ◌<◌, length, ℤ, pos, ◌≤ℤ◌}
 use Rattle.civil_base.specs.Instants.{seconds_of}
 use Rattle.zone_spans.specs.Schedules.{Schedule}
 use Rattle.tz_zone.specs.Spans.{shift_at}
+use Rattle.tz_lookup.specs.YearSeconds.{rules_begin}
 use Rattle.zone_tail_core.specs.Rules.{IsSound, rule_total}
 use Rattle.zone_tail_core.specs.declared.candidate.Candidate.{Candidate}
 use Rattle.zone_tail_core.specs.declared.candidate.Candidate.TheVariants.{Fixed, Ruled}
@@ -22,7 +23,7 @@ IsFixed (Ruled rule) = ⊥
 
 -- the beginning of 1800 in UTC
 abbrev pub year_1800 : ℤ
-year_1800 = neg_ℤ (pos 5364662400)
+year_1800 = rules_begin
 
 -- a rule says nothing of the time before 1800
 abbrev pub ReachesTo : Candidate → ℤ → Type 0

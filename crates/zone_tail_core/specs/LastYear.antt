@@ -4,13 +4,14 @@ use Rattle.std.specs.Ordering.{int_eq}
 use Rattle.zone_spans.specs.Entries.{Entry, total}
 use Rattle.zone_spans.specs.declared.span.FixedTimespan.{FixedTimespan}
 use Rattle.tz_zone.specs.declared.set.FixedTimespanSet.{FixedTimespanSet}
+use Rattle.tz_lookup.specs.YearSeconds.{last_year_begin, rules_end}
 
 -- 2099-01-01 00:00:00 and 2100-01-01 00:00:00, as seconds from 1970-01-01 00:00:00
 abbrev pub year_begin : ℤ
-year_begin = pos 4070908800
+year_begin = last_year_begin
 
 abbrev pub year_end : ℤ
-year_end = pos 4102444800
+year_end = rules_end
 
 -- the span of the last entry, else the first
 abbrev pub last_span : FixedTimespan → List Entry → FixedTimespan

@@ -11,12 +11,12 @@ use crate::candidate::Candidate;
 use crate::candidates::candidates_of;
 use crate::choice::choose;
 use crate::faults::fault_in;
-use crate::last_year::{Form, YEAR_END, form_of, standard_of};
+use crate::last_year::{Form, form_of, standard_of};
 use crate::outcome::{Tail, TailFault};
 use crate::spans::entry;
 use crate::text::candidate_text;
 use std::alloc::{AllocError, Global};
-use tz_lookup::{FixedTimespanSet, SpanTable};
+use tz_lookup::{FixedTimespanSet, RULES_END, SpanTable};
 
 /// Later than any entry.
 const FAR: i64 = 1 << 41;
@@ -123,7 +123,7 @@ fn last_second(set: &FixedTimespanSet, form: &Form, offset: i64) -> i64
                 FAR
             }
         }
-        Form::Yearly { .. } => YEAR_END - offset,
+        Form::Yearly { .. } => RULES_END - offset,
         Form::Other => unreachable!(),
     }
 }

@@ -4,9 +4,7 @@ ghost use Rattle.zone_tail_core.specs.Candidates.{IsFixed, IsLast, IsSoundCandid
 
 use crate::constant::is_constant;
 use crate::rule::YearlyRule;
-
-/// The beginning of 1800 in UTC.
-const YEAR_1800: i64 = -5_364_662_400;
+use tz_lookup::RULES_BEGIN;
 
 /// The totals of a POSIX TZ string: one, or those of a rule.
 #[derive(Clone, Copy, Debug, PartialEq, Eq)]
@@ -32,7 +30,7 @@ impl Candidate {
     {
         match self {
             Candidate::Fixed(_) => true,
-            Candidate::Ruled(_) => second >= YEAR_1800,
+            Candidate::Ruled(_) => second >= RULES_BEGIN,
         }
     }
 

@@ -8,12 +8,7 @@ ghost use Rattle.zone_tail_core.specs.Totals.{IsCount};
 ghost use Rattle.zone_tail_core.specs.declared.last_year.Shape.TheVariants.{Pair};
 
 use crate::spans::{entry, total_of};
-use tz_lookup::{FixedTimespan, FixedTimespanSet, SpanTable};
-
-/// 2099-01-01 00:00:00 and 2100-01-01 00:00:00, in seconds from 1970-01-01 00:00:00.
-const YEAR_BEGIN: i64 = 4_070_908_800;
-
-pub(crate) const YEAR_END: i64 = 4_102_444_800;
+use tz_lookup::{FixedTimespan, FixedTimespanSet, LAST_YEAR_BEGIN, RULES_END, SpanTable};
 
 /// Further than any entry, 2^41 seconds.
 const FAR: i64 = 1 << 41;
@@ -74,7 +69,7 @@ pub(crate) fn standard_of(set: &FixedTimespanSet) -> i64
     requires accepted { IsAccepted (schedule_of set.now) }
     ensures { result ≡ standard_of set.now }
 {
-    set.span_at(entries_before(set, YEAR_END + 1, 0)).utc_offset
+    set.span_at(entries_before(set, RULES_END + 1, 0)).utc_offset
 }
 
 /// What the entries of the last year are, by its standard offset.
@@ -82,8 +77,8 @@ fn shape_of(set: &FixedTimespanSet, offset: i64) -> Shape
     requires accepted { IsAccepted (schedule_of set.now) }
     ensures { IsShape set.now (year_begin -ℤ offset) (year_end -ℤ offset) result }
 {
-    let begin = entries_before(set, YEAR_BEGIN, offset);
-    let end = entries_before(set, YEAR_END, offset);
+    let begin = entries_before(set, LAST_YEAR_BEGIN, offset);
+    let end = entries_before(set, RULES_END, offset);
     if begin >= end {
         Shape::Steady(begin)
     } else if end - begin == 2 && set.time(begin) < set.time(begin + 1) {
@@ -113,7 +108,7 @@ fn ends_in_year(set: &FixedTimespanSet, start: usize, end: usize) -> bool
     requires bound { start < 18446744073709551615 }
     ensures { result ≡ int_lt ((entry_in set.now end).0 +ℤ total (entry_in set.now start).1) year_end }
 {
-    set.time(end) + total_of(set, start + 1) < YEAR_END
+    set.time(end) + total_of(set, start + 1) < RULES_END
 }
 
 /// Whether daylight saving time starts with one entry and ends with another.
