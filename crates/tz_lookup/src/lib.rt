@@ -1,6 +1,6 @@
-//! Look-up of offsets: what is in force at an instant, and which instants a zone reads as a local time.
+//! Zones by their names: databases, and compact sets, in which what is in force is looked up by year and takes less memory.
 //!
-//! The names are those of the crate `time-tz`.
+//! The names are those of the crate `time-tz`; what looks up in any set of spans stands in `tz_zone` and is passed on.
 #![tactic(auto)]
 
 mod compact_instants;

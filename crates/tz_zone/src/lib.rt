@@ -1,17 +1,17 @@
-//! Look-up of offsets: what is in force at an instant, and which instants a zone reads as a local time.
+//! A set of spans as a time zone: what is in force at an instant, and which instants the zone reads as a local time.
 //!
-//! The names are those of the crate `time-tz`.
+//! The names are those of the crate `time-tz`. Sets that take less memory, and databases of zones, stand in `tz_lookup`.
 #![tactic(auto)]
 
 mod accept;
 mod compile;
-mod counted;
 mod extensions;
 mod fixed;
 mod instants;
 mod local;
+mod local_span;
+mod lookups;
 mod offsets;
-mod ordering;
 mod orderly;
 mod result;
 mod scan;
@@ -25,10 +25,10 @@ mod utc;
 
 pub use accept::TzFault;
 pub use compile::{ZoneFault, compile_zone};
-pub use counted::{local_spans, local_spans_counted};
 pub use extensions::{OffsetDateTimeExt, PrimitiveDateTimeExt};
 pub use fixed::{Fixed, FixedOffset};
 pub use instants::{InstantsLocal, local_second};
+pub use lookups::{local_spans, local_spans_counted};
 pub use offsets::offset_of;
 pub use orderly::is_orderly;
 pub use result::OffsetResult;

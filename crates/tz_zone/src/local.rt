@@ -7,7 +7,7 @@ ghost use Rattle.tz_zone.specs.Answers.{listed, AreAdjacent, EachOf, IsUpTo};
 ghost use Rattle.tz_zone.specs.InForce.{totals_at};
 ghost use Rattle.tz_zone.specs.Sets.{schedule_of, IsAccepted, IsOrderlyZone, total_of_span, order_of};
 
-use crate::ordering::{contains, order, span_count};
+use crate::local_span::{contains, order, span_count};
 use crate::result::OffsetResult;
 use crate::search::{Probe, binary_search};
 use crate::steps::Steps;
@@ -35,7 +35,7 @@ impl<'a, T: SpanTable> Probe for LocalProbe<'a, T> {
 }
 
 /// The spans that contain a local second: those at the instants that are read as any local time of that second.
-pub(crate) fn spans_at<T: SpanTable, L: Ledger>(
+pub(crate) fn local_spans_at<T: SpanTable, L: Ledger>(
     set: &T,
     second: i64,
     steps: &mut Steps<L>,

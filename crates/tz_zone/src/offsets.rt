@@ -2,7 +2,7 @@
 ghost use Rattle.std.specs.Prelude.{◌≡◌, ◌≤◌, length};
 ghost use Rattle.tz_zone.specs.Sets.{schedule_of, IsAccepted, total_of_span};
 
-use crate::ordering::total;
+use crate::local_span::total;
 use crate::table::SpanTable;
 use civil_base::UtcOffset;
 

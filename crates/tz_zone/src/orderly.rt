@@ -2,7 +2,7 @@
 ghost use Rattle.std.specs.Prelude.{◌↔◌, IsTrue, ◌≤ℤ◌};
 ghost use Rattle.tz_zone.specs.Sets.{schedule_of, IsAccepted, IsOrderlyZone};
 
-use crate::ordering::{end_of, start_of};
+use crate::local_span::{end_of, start_of};
 use crate::set::FixedTimespanSet;
 use crate::table::SpanTable;
 

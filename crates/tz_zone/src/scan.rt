@@ -5,12 +5,12 @@ ghost use Rattle.tz_zone.specs.Scans.{spans_from};
 ghost use Rattle.tz_zone.specs.Sets.{schedule_of, IsAccepted, order_of};
 ghost use Rattle.std.specs.declared.cmp.Ordering.TheVariants.{Equal};
 
-use crate::ordering::{contains, span_count};
+use crate::local_span::{contains, span_count};
 use crate::result::OffsetResult;
 use crate::table::SpanTable;
 
 /// The first two spans that contain a local second, or the only one.
-pub(crate) fn first_spans_at<T: SpanTable>(set: &T, second: i64) -> OffsetResult<usize>
+pub(crate) fn first_local_spans_at<T: SpanTable>(set: &T, second: i64) -> OffsetResult<usize>
     requires accepted { IsAccepted (schedule_of (T.seen set.now)) }
     ensures within { IsUpTo (length (T.seen set.now).others) result }
     ensures lies { EachOf (λ k. order_of (schedule_of (T.seen set.now)) k second ≡ Equal) result }

@@ -8,8 +8,8 @@ ghost use Rattle.tz_zone.specs.InForce.{GivesAt};
 ghost use Rattle.tz_zone.specs.Sets.{schedule_of, IsAccepted, IsOrderlyZone};
 
 use crate::accept::{TzFault, accept};
-use crate::counted::{local_spans, local_spans_counted, span_at};
 use crate::instants::InstantsLocal;
+use crate::lookups::{local_spans, local_spans_counted, span_in_force};
 use crate::offsets::offset_of;
 use crate::orderly::is_orderly;
 use crate::result::OffsetResult;
@@ -177,7 +177,7 @@ impl<'a> TimeZone for Tz<'a> {
     ghost begins = { λ zone name saving. (name ≡ zone.set.now.first.name) × (saving ≡ int_lt (pos 0) zone.set.now.first.dst_offset) };
 
     fn get_offset_utc(&self, date_time: &OffsetDateTime) -> TzOffset<'a> {
-        self.offset_of(span_at(self.set, date_time))
+        self.offset_of(span_in_force(self.set, date_time))
     }
 
     fn get_offset_local(&self, date_time: &OffsetDateTime) -> OffsetResult<TzOffset<'a>> {

@@ -30,7 +30,7 @@ pub(crate) fn saving_at(set: &CompactSet, second: i64) -> i64
     requires { IsAccepted (schedule_of (seen set.now)) }
     ensures { result ≡ saving_at (seen set.now) second }
 {
-    set.span(span_at(set, second)).dst_offset
+    set.span(span_in_force_at(set, second)).dst_offset
 }
 
 /// The first change after a second, if there is one.
@@ -38,7 +38,7 @@ pub(crate) fn next_change(set: &CompactSet, second: i64) -> Option<Change>
     requires { IsAccepted (schedule_of (seen set.now)) }
     ensures { result ≡ next_after (seen set.now) second }
 {
-    for place in span_at(set, second)..set.entry_count() {
+    for place in span_in_force_at(set, second)..set.entry_count() {
         match change_at(set, place) {
             Some(change) => return Some(change),
             None => {}
@@ -146,7 +146,7 @@ fn is_before(set: &CompactSet, place: usize, second: i64) -> bool
 }
 
 /// The number of the span in force at a second, which is how many entries lie at or before it.
-fn span_at(set: &CompactSet, second: i64) -> usize
+fn span_in_force_at(set: &CompactSet, second: i64) -> usize
     requires { IsAccepted (schedule_of (seen set.now)) }
     ensures { IsCut (shifts_of (seen set.now)) result second }
 {

@@ -69,7 +69,8 @@ pub(crate) fn standard_of(set: &FixedTimespanSet) -> i64
     requires accepted { IsAccepted (schedule_of set.now) }
     ensures { result ≡ standard_of set.now }
 {
-    set.span_at(entries_before(set, RULES_END + 1, 0)).utc_offset
+    set.span_at(entries_before(set, RULES_END + 1, 0))
+        .utc_offset
 }
 
 /// What the entries of the last year are, by its standard offset.

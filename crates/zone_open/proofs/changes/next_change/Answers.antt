@@ -7,9 +7,9 @@ use Rattle.zone_open.proofs.changes.next_change.Goals as goal
 
 pub loop-place-init : goal.loop-place-init
 loop-place-init c =
-    let set = seen c.args.set.now in let first = c.span_at-place.result in let second = to_z w64 (of_z w64 c.args.second) in record {
-      later = later_from set.others first second c.span_at-place.ensures;
-      left = left_after set.others first second c.span_at-place.ensures;
+    let set = seen c.args.set.now in let first = c.span_in_force_at-place.result in let second = to_z w64 (of_z w64 c.args.second) in record {
+      later = later_from set.others first second c.span_in_force_at-place.ensures;
+      left = left_after set.others first second c.span_in_force_at-place.ensures;
     }
 
 pub returns-in-Some : goal.returns-in-Some

@@ -10,5 +10,5 @@ returns c =
     let set = seen c.args.set.now in
     let same : to_z w64 (of_z w64 c.args.second) ≡ c.args.second = to_z-of_z c.ranges.second in
     let saving : FitsSigned w64 c.span.result.now.dst_offset = search rules in
-    let cut = subst (λ s. IsCut (shifts_of set) c.span_at.result s) same c.span_at.ensures in
-    to_z-of_z saving ∙ ap (λ span. span.dst_offset) c.span.ensures ∙ sym (saving_is set c.args.second c.span_at.result cut)
+    let cut = subst (λ s. IsCut (shifts_of set) c.span_in_force_at.result s) same c.span_in_force_at.ensures in
+    to_z-of_z saving ∙ ap (λ span. span.dst_offset) c.span.ensures ∙ sym (saving_is set c.args.second c.span_in_force_at.result cut)

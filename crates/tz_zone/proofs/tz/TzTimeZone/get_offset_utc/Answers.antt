@@ -3,8 +3,8 @@ use Rattle.tz_zone.proofs.tz.TzTimeZone.get_offset_utc.Goals as goal
 
 pub returns-clause-name : goal.returns-clause-name
 returns-clause-name c = record {
-  span = c.span_at.result;
-  in_force = c.span_at.ensures.in_force;
+  span = c.span_in_force.result;
+  in_force = c.span_in_force.ensures.in_force;
   named = ap (λ span. span.name) c.offset_of.ensures.span;
   saves = ap (λ span. int_lt (pos 0) span.dst_offset) c.offset_of.ensures.span;
 }

@@ -1,7 +1,7 @@
 use Rattle.std.proofs.Common.{w32, w64, SFits, rules, ◌∙◌, ◌-◌, arith}
 use Rattle.std.proofs.lemmas.Int.{to_z-of_z}
 use Rattle.tz_zone.proofs.SetLemmas.{span_offset, time_bound, added_fits, sum_is, start_is}
-use Rattle.tz_zone.proofs.ordering.start_of.Goals as goal
+use Rattle.tz_zone.proofs.local_span.start_of.Goals as goal
 
 pub overflow_add-result : goal.overflow_add-result
 overflow_add-result g c =

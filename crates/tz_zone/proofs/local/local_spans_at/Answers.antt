@@ -3,7 +3,7 @@ use Rattle.tz_zone.proofs.SetLemmas.{count_same}
 use Rattle.std.proofs.lemmas.Int.{to_z-of_z}
 use Rattle.tz_zone.specs.Sets.{schedule_of}
 use Rattle.tz_zone.proofs.OrderLemmas.{goes_up, none_lies}
-use Rattle.tz_zone.proofs.local.spans_at.Goals as goal
+use Rattle.tz_zone.proofs.local.local_spans_at.Goals as goal
 
 pub binary_search-requires-clause-sorted : goal.binary_search-requires-clause-sorted
 binary_search-requires-clause-sorted g c =

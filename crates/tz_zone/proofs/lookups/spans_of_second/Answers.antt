@@ -8,20 +8,20 @@ use Rattle.tz_zone.specs.Sets.{schedule_of}
 use Rattle.tz_zone.proofs.GivenLemmas.{each_at}
 use Rattle.tz_zone.proofs.Halves.{no_step}
 use Rattle.tz_zone.proofs.ScanLemmas.{first_totals}
-use Rattle.tz_zone.proofs.counted.spans_of_second.Goals as goal
+use Rattle.tz_zone.proofs.lookups.spans_of_second.Goals as goal
 
 pub returns-else-orderly-clause-exact : goal.returns-else-orderly-clause-exact
 returns-else-orderly-clause-exact g c = λ x at.
     let zone = schedule_of (g.T.SpanTable.seen c.args.set.now) in
     let s : ℤ = to_z w64 (of_z w64 c.args.second) in
     let same : s ≡ c.args.second = to_z-of_z w64 c.args.second c.ranges.second in
-    first_totals zone x s (listed c.first_spans_at.result) (at ∙ sym same) c.requires.accepted
-    (c.first_spans_at.ensures.exact ∙ ap (λ (n : ℕ). take 2 (spans_from zone s 0 (n + 1))) (sym (count_same (g.T.SpanTable.seen c.args.set.now))))
+    first_totals zone x s (listed c.first_local_spans_at.result) (at ∙ sym same) c.requires.accepted
+    (c.first_local_spans_at.ensures.exact ∙ ap (λ (n : ℕ). take 2 (spans_from zone s 0 (n + 1))) (sym (count_same (g.T.SpanTable.seen c.args.set.now))))
 
 pub returns-else-orderly-clause-lies : goal.returns-else-orderly-clause-lies
 returns-else-orderly-clause-lies g c =
-    each_at (g.T.SpanTable.seen c.args.set.now) (to_z-of_z w64 c.args.second c.ranges.second) c.first_spans_at.result
-    c.first_spans_at.ensures.lies
+    each_at (g.T.SpanTable.seen c.args.set.now) (to_z-of_z w64 c.args.second c.ranges.second) c.first_local_spans_at.result
+    c.first_local_spans_at.ensures.lies
 
 pub returns-else-orderly-clause-cost : goal.returns-else-orderly-clause-cost
 returns-else-orderly-clause-cost g c = no_step c.args.steps.now (length (g.T.SpanTable.seen c.args.set.now).others + 1)

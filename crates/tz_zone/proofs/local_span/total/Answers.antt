@@ -3,7 +3,7 @@ use Rattle.std.proofs.lemmas.Int.{to_z-of_z}
 use Rattle.zone_spans.specs.Entries.{total}
 use Rattle.civil_base.specs.Ranges.{is_offset}
 use Rattle.tz_zone.proofs.SetLemmas.{span_total, span_offset}
-use Rattle.tz_zone.proofs.ordering.total.Goals as goal
+use Rattle.tz_zone.proofs.local_span.total.Goals as goal
 
 pub total_of-requires : goal.total_of-requires
 total_of-requires g c =

@@ -1,7 +1,7 @@
 use Rattle.std.proofs.Common.{w64, SFits, rules}
 use Rattle.std.proofs.lemmas.Int.{to_z-of_z}
 use Rattle.tz_zone.proofs.OffsetLemmas.{kept_sum_fits, sum_cast_fits, sum_cast}
-use Rattle.tz_zone.proofs.ordering.total_of.Goals as goal
+use Rattle.tz_zone.proofs.local_span.total_of.Goals as goal
 
 pub overflow_add-result : goal.overflow_add-result
 overflow_add-result c =

@@ -1,4 +1,4 @@
-//! Whether a span lies before, at or after a local second.
+//! Where a span lies in local time: its start, its end, and whether it lies before, at or after a local second.
 ghost use Rattle.std.specs.Prelude.{◌≡◌, ◌+◌, ◌<◌, ◌≤◌, ◌↔◌, length, IsTrue};
 ghost use Rattle.std.specs.declared.cmp.Ordering.TheVariants.{Equal};
 ghost use Rattle.zone_spans.specs.Entries.{total as total_in};

@@ -1,4 +1,4 @@
-//! The look-ups of a date-time, and those for a caller that counts no steps.
+//! The look-ups of a date-time in a set of spans, with a step for each comparison or with none.
 ghost use Rattle.std.specs.Prelude.{◌≡◌, ℕ, ℤ, ◌+◌, ◌-◌, ◌*◌, ◌^◌, ◌<◌, ◌≤◌, ◌↔◌, length, map, take, IsTrue, pos};
 ghost use Rattle.civil_base.specs.DateTimes.{instant, local_of, offset_of};
 ghost use Rattle.civil_base.specs.Instants.{seconds_of};
@@ -9,9 +9,9 @@ ghost use Rattle.tz_zone.specs.Sets.{schedule_of, shifts_of, IsAccepted, IsOrder
 ghost use Rattle.tz_zone.specs.Spans.{IsCut};
 ghost use Rattle.std.specs.declared.cmp.Ordering.TheVariants.{Equal};
 
-use crate::local::spans_at;
+use crate::local::local_spans_at;
 use crate::result::OffsetResult;
-use crate::scan::first_spans_at;
+use crate::scan::first_local_spans_at;
 use crate::steps::Steps;
 use crate::table::SpanTable;
 use crate::utc::span_between;
@@ -99,9 +99,9 @@ fn spans_of_second<T: SpanTable, L: Ledger>(
     ensures later { steps.old ≤ steps.new }
 {
     if orderly {
-        spans_at(set, second, steps)
+        local_spans_at(set, second, steps)
     } else {
-        first_spans_at(set, second)
+        first_local_spans_at(set, second)
     }
 }
 
@@ -119,7 +119,7 @@ fn span_under<T: SpanTable, L: Ledger>(set: &T, second: i64, blank: Blank) -> us
 }
 
 /// The span in force at a second.
-pub(crate) fn span_at_second<T: SpanTable>(set: &T, second: i64) -> usize
+pub(crate) fn span_in_force_at<T: SpanTable>(set: &T, second: i64) -> usize
     requires accepted { IsAccepted (schedule_of (T.seen set.now)) }
     ensures cut { IsCut (shifts_of (T.seen set.now)) result second }
     ensures total { (t : ℤ) → seconds_of t ≡ second →
@@ -129,10 +129,10 @@ pub(crate) fn span_at_second<T: SpanTable>(set: &T, second: i64) -> usize
 }
 
 /// The span in force at an instant.
-pub(crate) fn span_at<T: SpanTable>(set: &T, date_time: &OffsetDateTime) -> usize
+pub(crate) fn span_in_force<T: SpanTable>(set: &T, date_time: &OffsetDateTime) -> usize
     requires accepted { IsAccepted (schedule_of (T.seen set.now)) }
     ensures in_force { IsInForce (T.seen set.now) result (instant date_time.now) }
     ensures total { total_of_span (T.seen set.now) result ≡ total_at (schedule_of (T.seen set.now)) (instant date_time.now) }
 {
-    span_at_second(set, date_time.unix_timestamp())
+    span_in_force_at(set, date_time.unix_timestamp())
 }

@@ -3,7 +3,7 @@ use Rattle.std.proofs.lemmas.Int.{to_z-of_z}
 use Rattle.civil_base.specs.DateTimes.{local_of}
 use Rattle.tz_zone.proofs.GivenLemmas.{each_read}
 use Rattle.tz_zone.proofs.UtcLemmas.{second_at_utc}
-use Rattle.tz_zone.proofs.counted.local_spans_counted.Goals as goal
+use Rattle.tz_zone.proofs.lookups.local_spans_counted.Goals as goal
 
 pub returns-clause-totals : goal.returns-clause-totals
 returns-clause-totals g c =

@@ -4,7 +4,7 @@ use Rattle.std.proofs.lemmas.Bool.Decides.{nat_tests}
 use Rattle.std.proofs.lemmas.Int.{to_z-of_z}
 use Rattle.tz_zone.specs.Sets.{shifts_of}
 use Rattle.tz_zone.proofs.SetLemmas.{count_same}
-use Rattle.tz_zone.proofs.ordering.has_ended.Goals as goal
+use Rattle.tz_zone.proofs.local_span.has_ended.Goals as goal
 
 inside : (i n : ℕ) (b : Bool) → i < n → b ≡ (ltb i n && b)
 inside i n b h = grind (arith, nat_tests)

@@ -7,8 +7,8 @@ use Rattle.tz_zone.specs.declared.result.OffsetResult.TheVariants.{Some, Ambiguo
 use Rattle.tz_zone.proofs.GivenLemmas.{each_at}
 use Rattle.tz_zone.proofs.OrderLemmas.{if_false}
 use Rattle.tz_zone.proofs.ScanLemmas.{step_takes, step_skips, first_two}
-use Rattle.tz_zone.proofs.scan.first_spans_at.Goals as goal
-use Rattle.tz_zone.proofs.scan.first_spans_at.Goals.{then-contains+in-None, else-contains}
+use Rattle.tz_zone.proofs.scan.first_local_spans_at.Goals as goal
+use Rattle.tz_zone.proofs.scan.first_local_spans_at.Goals.{then-contains+in-None, else-contains}
 
 pub returns-in-Some-clause-exact : goal.returns-in-Some-clause-exact
 returns-in-Some-clause-exact g c =

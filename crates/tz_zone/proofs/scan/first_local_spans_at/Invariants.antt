@@ -3,7 +3,7 @@ use Rattle.std.specs.Option.{ForSome}
 use Rattle.std.specs.declared.cmp.Ordering.TheVariants.{Equal}
 use Rattle.tz_zone.specs.Sets.{schedule_of, order_of}
 use Rattle.tz_zone.specs.Scans.{spans_from, so_far}
-use Rattle.tz_zone.proofs.scan.first_spans_at.Given as goal
+use Rattle.tz_zone.proofs.scan.first_local_spans_at.Given as goal
 
 -- what was found and what is left to look at make the whole
 abbrev pub invariant-loop-i : goal.invariant-loop-i
