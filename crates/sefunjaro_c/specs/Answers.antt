@@ -5,7 +5,7 @@ use Rattle.civil_base.specs.declared.offset_date_time.OffsetDateTime.{OffsetDate
 use Rattle.civil_base.specs.Instants.{local_at}
 use Rattle.civil_base.specs.Layout.{day_part, time_part, zoned_text}
 use Rattle.civil_base.specs.Ranges.{is_in_years}
-use Rattle.zone_open.specs.Clocks.{clock_at, shown_by, IsClock}
+use Rattle.zone_open.specs.Clocks.{clock_at, clock_shown, IsClock}
 use Rattle.zone_open.specs.Rooms.{filled}
 use Rattle.zone_open.specs.declared.clock.Clock.{Clock}
 use Rattle.sefunjaro_handles.specs.Statuses.{done, out_of_range}
@@ -42,4 +42,4 @@ pub record IsClockIn (total : ℤ → ℤ) (t : ℤ) (shown : Clock) (told : ℤ
 
 -- parts that are a local time are answered for; others are out of range
 abbrev pub OfClock : Clock → ℕ → Type 0 → (ℤ → Type 0) → Type 0
-OfClock clock status kept P = ((status ≡ done) × (IsClock clock × P (shown_by clock))) ⊎ ((status ≡ out_of_range) × ((IsClock clock → ⊥) × kept))
+OfClock clock status kept P = ((status ≡ done) × (IsClock clock × P (clock_shown clock))) ⊎ ((status ≡ out_of_range) × ((IsClock clock → ⊥) × kept))

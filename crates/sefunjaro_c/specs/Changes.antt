@@ -3,7 +3,7 @@ use Rattle.std.specs.Prelude.{◌≡◌, ◌⊎◌, ℕ, ℤ, List, Option, Some
 use Rattle.zone_open.specs.Answered.{first_of}
 use Rattle.zone_open.specs.Any.{Seen}
 use Rattle.zone_open.specs.Changes.{window}
-use Rattle.zone_open.specs.Clocks.{shown_by, IsClock}
+use Rattle.zone_open.specs.Clocks.{clock_shown, IsClock}
 use Rattle.zone_open.specs.Rooms.{filled}
 use Rattle.zone_open.specs.Zones.{set_in}
 use Rattle.zone_open.specs.declared.any.AnyZone.{AnyZone}
@@ -26,5 +26,5 @@ AreChanges zone from to status old new count =
 -- parts that are a local time have that ring, or none; others are out of range
 abbrev pub IsRing : AnyZone → Clock → ℕ → Reading → Reading → Type 0
 IsRing zone clock status old new =
-    (IsClock clock × Seen zone (λ total _. IsFound (first_of total (shown_by clock)) status old new))
+    (IsClock clock × Seen zone (λ total _. IsFound (first_of total (clock_shown clock)) status old new))
     ⊎ ((IsClock clock → ⊥) × ((status ≡ out_of_range) × (new ≡ old)))

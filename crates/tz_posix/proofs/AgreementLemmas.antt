@@ -17,7 +17,7 @@ use Rattle.tz_posix.proofs.TwoRuleSetLemmas.{IsExpandable}
 use Rattle.tz_posix.proofs.TwoRuleFiringLemmas.{wall_moment}
 use Rattle.zone_spans.specs.declared.fault.SpanFault.{SpanFault}
 use Rattle.zone_spans.specs.declared.span.FixedTimespanSet.{FixedTimespanSet}
-use Rattle.tz_posix.specs.Agreement.{IsChange, IsInYears, IsRuleYear, IsSameTime, RuledValue, SaysTheSame, TwoRuleZone}
+use Rattle.tz_posix.specs.Agreement.{IsChange, IsInRuleYears, IsRuleYear, IsSameTime, RuledValue, SaysTheSame, TwoRuleZone}
 use Rattle.tz_posix.specs.Agreement.{end_in, first_year, start_in, value_total}
 use Rattle.tz_posix_core.specs.InForce.{YearlyTime, instant_in, is_saving, is_within, posix_total, year_at, yearly_time}
 use Rattle.tz_posix.proofs.HemisphereLemmas.{savings_differ}
@@ -111,7 +111,7 @@ module _ (rulesets : Rulesets) (zone : TwoRuleZone) (q : RuledValue) (c : SaysTh
   year_of_place i l = rule_year zone.from m n at i l
 
   -- the years begin in order
-  pub in_order : (i j : ℕ) (s t : ℤ) → i < j → j < n → IsInYears off (y i) (y i) s → IsInYears off (y j) (y j) t → s <ℤ t
+  pub in_order : (i j : ℕ) (s t : ℤ) → i < j → j < n → IsInRuleYears off (y i) (y i) s → IsInRuleYears off (y j) (y j) t → s <ℤ t
   in_order i j s t l k a b =
       let before : i < n = omega arith in
       earlier_year off (y i) (y j) s t (near (y i) (year_of_place i before)) (near (y j) (year_of_place j k)) (omega (arith, signed)) a b
@@ -189,11 +189,11 @@ module _ (rulesets : Rulesets) (zone : TwoRuleZone) (q : RuledValue) (c : SaysTh
   pub record IsPlaced (s : ℤ) : Type 0 where
     pub place : ℕ
     pub below : place < n
-    pub inside : IsInYears off (y place) (y place) s
+    pub inside : IsInRuleYears off (y place) (y place) s
     pub year : year_at off s ≡ y place
     pub in_range : IsRuleYear zone.from (y place)
 
-  pub found_place : (s : ℤ) → IsInYears off (first_year zone.from) (pos 2099) s → IsPlaced s
+  pub found_place : (s : ℤ) → IsInRuleYears off (first_year zone.from) (pos 2099) s → IsPlaced s
   found_place s covered =
       let first = near (first_year zone.from) first_rule_year in
       let last : IsNear (pos 2099) = record { first = omega (arith, signed); last = omega (arith, signed) } in
@@ -204,7 +204,7 @@ module _ (rulesets : Rulesets) (zone : TwoRuleZone) (q : RuledValue) (c : SaysTh
       record {
         place = i;
         below = place.1;
-        inside = subst (λ z. IsInYears off z z s) place.0 found.inside;
+        inside = subst (λ z. IsInRuleYears off z z s) place.0 found.inside;
         year = place.0;
         in_range = year_of_place i place.1;
       }

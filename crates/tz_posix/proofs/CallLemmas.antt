@@ -14,7 +14,7 @@ use Rattle.zone_spans.specs.Schedules.{schedule_of, shown_by, total_at, totals_o
 use Rattle.tz_lookup.specs.Compiles.{spans_of}
 use Rattle.tz_lookup.specs.Sets.{schedule_of as schedule_in}
 use Rattle.tz_zone.specs.declared.set.FixedTimespanSet.{FixedTimespanSet}
-use Rattle.tz_posix.specs.Agreement.{IsCovered, IsInYears, IsSameDay, RuledValue, SaysTheSame, TwoRuleZone}
+use Rattle.tz_posix.specs.Agreement.{IsCovered, IsInRuleYears, IsSameDay, RuledValue, SaysTheSame, TwoRuleZone}
 use Rattle.tz_posix.specs.Agreement.{from_first, from_eighth, from_fifteenth, from_twenty_second, last_of_month, first_year, value_of, value_total}
 use Rattle.tz_posix_core.specs.Days.{day_refusal}
 use Rattle.tz_posix_core.specs.InForce.{is_year, rule_refusal, year_at, yearly_time}
@@ -53,7 +53,7 @@ module _ (rulesets : Rulesets) (zone : TwoRuleZone) (q : RuledValue) (c : SaysTh
       (λ side. southern_agrees rulesets zone q c side.0 t side.1)
       covered
 
-  covered_years : (s : ℤ) → IsCovered zone s → IsInYears zone.line.offset (first_year zone.from) (pos 2099) s
+  covered_years : (s : ℤ) → IsCovered zone s → IsInRuleYears zone.line.offset (first_year zone.from) (pos 2099) s
   covered_years s covered = ⊎_elim (λ side. side.1) (λ side. southern_covered rulesets zone q c side.0 s side.1) covered
 
   -- what the zone gives is what the value gives

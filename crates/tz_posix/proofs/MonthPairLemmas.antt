@@ -13,7 +13,7 @@ use Rattle.zone_values.specs.declared.weekday.Weekday.{Weekday}
 use Rattle.zone_table.specs.declared.rule.RuleInfo.{RuleInfo}
 use Rattle.tz_posix.specs.TwoRules.{written}
 use Rattle.tz_posix.proofs.TwoRuleFiringLemmas.{wall_moment}
-use Rattle.tz_posix.specs.Agreement.{IsChange, IsInYears, IsNorthern, IsRuleYear, IsSameDay, IsSouthern, IsTimeOfDay, TwoRuleZone, end_in, start_in}
+use Rattle.tz_posix.specs.Agreement.{IsChange, IsInRuleYears, IsNorthern, IsRuleYear, IsSameDay, IsSouthern, IsTimeOfDay, TwoRuleZone, end_in, start_in}
 use Rattle.tz_posix_core.specs.declared.date.Date.{Date}
 use Rattle.tz_posix.proofs.NamedDayLemmas.{is_named}
 use Rattle.tz_posix.proofs.StandardYearLemmas.{IsNear, near-counted, near_year, year_starts-rise}
@@ -101,7 +101,7 @@ room : (y : ℤ) (k : ℕ) (t s o v : ℤ) → s ≡ pos 86400 *ℤ (day y 1 1 +
 room y k t s o v is some few early late least greatest =
     record { low = omega (arith, signed); high = omega (arith, signed) }
 
-room_inside : (o y s : ℤ) → IsCountedYear y → HasRoom o y s → IsInYears o y y s
+room_inside : (o y s : ℤ) → IsCountedYear y → HasRoom o y s → IsInRuleYears o y y s
 room_inside o y s years r =
     let next = next_year y years in
     let length = days_in_year-bounds y in
@@ -196,10 +196,10 @@ module _ (zone : TwoRuleZone) (c : AreInnerRules zone) where
       room y (end_into y year).0 zone.end.time _ o p (end-placed y year) days.0 days.1 c.end_time.least c.end_time.greatest
       (omega (arith, signed, c.saving)) c.saving_small
 
-  pub start_inside : (y : ℤ) → IsRuleYear zone.from y → IsInYears o y y (start_in zone y)
+  pub start_inside : (y : ℤ) → IsRuleYear zone.from y → IsInRuleYears o y y (start_in zone y)
   start_inside y year = room_inside o y _ (near-counted y (near y year)) (start_room y year)
 
-  pub end_inside : (y : ℤ) → IsRuleYear zone.from y → IsInYears o y y (end_in zone y)
+  pub end_inside : (y : ℤ) → IsRuleYear zone.from y → IsInRuleYears o y y (end_in zone y)
   end_inside y year = room_inside o y _ (near-counted y (near y year)) (end_room y year)
 
   change_room : (s : ℤ) → (change : IsChange zone s) → HasRoom o change.year s

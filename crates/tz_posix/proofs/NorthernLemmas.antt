@@ -10,7 +10,7 @@ use Rattle.tz_posix.specs.TwoRules.{AreInTurn, IsCompiled, IsInYear, first_at, s
 use Rattle.tz_posix.proofs.TwoRuleSetLemmas.{two_rules_compile}
 use Rattle.tz_posix.proofs.TwoRuleTotalLemmas.{two_rules_total}
 use Rattle.zone_spans.specs.declared.span.FixedTimespanSet.{FixedTimespanSet}
-use Rattle.tz_posix.specs.Agreement.{IsInYears, IsNorthern, RuledValue, SaysTheSame, TwoRuleZone}
+use Rattle.tz_posix.specs.Agreement.{IsInRuleYears, IsNorthern, RuledValue, SaysTheSame, TwoRuleZone}
 use Rattle.tz_posix.specs.Agreement.{end_in, first_year, start_in, value_total}
 use Rattle.tz_posix_core.specs.InForce.{is_within}
 use Rattle.tz_posix.proofs.HemisphereLemmas.{northern_total, start_before_end, end_before_start, up_le, lt_le, le_same, lt_same}
@@ -62,7 +62,7 @@ module _ (rulesets : Rulesets) (zone : TwoRuleZone) (q : RuledValue) (c : SaysTh
     rise_next = λ i l. le_same _ _ _ _ refl (first_is (suc i)) (up_le (stop i) (start (suc i)) zone.start.time_to_add c.saving (to_next i l));
   }
 
-  inside : (i : ℕ) (s : ℤ) → i < n → IsInYears o (year_from m i) (year_from m i) s → IsInYear o zone.start zone.end m n i s
+  inside : (i : ℕ) (s : ℤ) → i < n → IsInRuleYears o (year_from m i) (year_from m i) s → IsInYear o zone.start zone.end m n i s
   inside i s l here = record {
     past = λ j e. let next : j < i = omega arith in
         lt_le _ _ (in_order rulesets zone q c j i _ _ next l (c.end_inside _ (year_of_place rulesets zone q c j (omega arith))) here);
@@ -71,7 +71,7 @@ module _ (rulesets : Rulesets) (zone : TwoRuleZone) (q : RuledValue) (c : SaysTh
   }
 
   at_place : (set : FixedTimespanSet) → compiled rulesets (zone.line ∷ []) ≡ Ok set → (t : ℤ) (i : ℕ) → i < n
-      → IsInYears o (year_from m i) (year_from m i) (seconds_of t)
+      → IsInRuleYears o (year_from m i) (year_from m i) (seconds_of t)
       → total_at (totals_of set) t ≡ cond (is_within (start i) (stop i) (seconds_of t)) (o +ℤ zone.start.time_to_add) o
   at_place set is t i l here =
       two_rules_total (line_of rulesets zone.line) zone.start zone.end m n (start_first rulesets zone q c) in_turn set
@@ -84,7 +84,7 @@ module _ (rulesets : Rulesets) (zone : TwoRuleZone) (q : RuledValue) (c : SaysTh
       two_rules_compile rulesets zone.line zone.start zone.end m n (start_first rulesets zone q c) in_turn (at rulesets zone q c).some
       (inr c.no_saving) (known rulesets zone q c) (start_expandable rulesets zone q c) (end_expandable rulesets zone q c)
 
-  pub northern_agrees : (t : ℤ) → IsInYears o (first_year zone.from) (pos 2099) (seconds_of t)
+  pub northern_agrees : (t : ℤ) → IsInRuleYears o (first_year zone.from) (pos 2099) (seconds_of t)
       → total_at (schedule_of rulesets (zone.line ∷ [])) t ≡ value_total q (seconds_of t)
   northern_agrees t covered =
       let found = found_place rulesets zone q c (seconds_of t) covered in

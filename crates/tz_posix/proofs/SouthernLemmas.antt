@@ -12,7 +12,7 @@ use Rattle.tz_posix.proofs.TwoRuleSetLemmas.{two_rules_compile}
 use Rattle.tz_posix.proofs.TwoRuleFiringLemmas.{wall_moment}
 use Rattle.tz_posix.proofs.TwoRuleTotalLemmas.{two_rules_total}
 use Rattle.zone_spans.specs.declared.span.FixedTimespanSet.{FixedTimespanSet}
-use Rattle.tz_posix.specs.Agreement.{IsFromFirstStart, IsInYears, IsSouthern, RuledValue, SaysTheSame, TwoRuleZone}
+use Rattle.tz_posix.specs.Agreement.{IsFromFirstStart, IsInRuleYears, IsSouthern, RuledValue, SaysTheSame, TwoRuleZone}
 use Rattle.tz_posix.specs.Agreement.{end_in, first_year, start_in, value_total}
 use Rattle.tz_posix_core.specs.InForce.{is_within}
 use Rattle.tz_posix.proofs.HemisphereLemmas.{southern_total, start_before_end, end_before_start, up_le, up_lt, lt_le, le_same, later_end}
@@ -77,13 +77,13 @@ module _ (rulesets : Rulesets) (zone : TwoRuleZone) (q : RuledValue) (c : SaysTh
     rise_next = λ i l. le_same _ _ _ _ (start_at i) refl (up_le (start i) (stop (suc i)) p c.saving (to_next i l));
   }
 
-  to_come : (i : ℕ) (s : ℤ) → i < n → IsInYears o (year_from m i) (year_from m i) s → (j : ℕ) → i < j → j < n
+  to_come : (i : ℕ) (s : ℤ) → i < n → IsInRuleYears o (year_from m i) (year_from m i) s → (j : ℕ) → i < j → j < n
       → s <ℤ (first_at o zone.end zone.start m j).time
   to_come i s l here zero d k = absurd (omega arith)
   to_come i s l here (suc j) d k =
       in_order rulesets zone q c i (suc j) _ _ d k here (c.end_inside _ (year_of_place rulesets zone q c (suc j) k))
 
-  inside : (i : ℕ) (s : ℤ) → i < n → IsInYears o (year_from m i) (year_from m i) s → IsInYear o zone.end zone.start m n i s
+  inside : (i : ℕ) (s : ℤ) → i < n → IsInRuleYears o (year_from m i) (year_from m i) s → IsInYear o zone.end zone.start m n i s
   inside i s l here = record {
     past = λ j e. let next : j < i = omega arith in
         le_same _ _ _ _ (start_at j) refl
@@ -106,14 +106,14 @@ module _ (rulesets : Rulesets) (zone : TwoRuleZone) (q : RuledValue) (c : SaysTh
       ∙ southern_total o p p (start (suc i)) (stop (suc i)) s (south _ (year_of_place rulesets zone q c (suc i) l)) (λ _. refl)
 
   at_place : (set : FixedTimespanSet) → compiled rulesets (zone.line ∷ []) ≡ Ok set → (t : ℤ) (i : ℕ) → i < n
-      → IsInYears o (year_from m i) (year_from m i) (seconds_of t) → start 0 ≤ℤ seconds_of t
+      → IsInRuleYears o (year_from m i) (year_from m i) (seconds_of t) → start 0 ≤ℤ seconds_of t
       → total_at (totals_of set) t ≡ cond (is_within (start i) (stop i) (seconds_of t)) (o +ℤ p) o
   at_place set is t i l here begun =
       two_rules_total (line_of rulesets zone.line) zone.end zone.start m n (end_first rulesets zone q c) in_turn set
       (compiled_line rulesets zone.line set is) t i l (inside i (seconds_of t) l here)
       ∙ by_year i (seconds_of t) l begun
 
-  pub southern_covered : (s : ℤ) → IsFromFirstStart zone s → IsInYears o (first_year zone.from) (pos 2099) s
+  pub southern_covered : (s : ℤ) → IsFromFirstStart zone s → IsInRuleYears o (first_year zone.from) (pos 2099) s
   southern_covered s from =
       let first = c.start_inside (first_year zone.from) (first_rule_year rulesets zone q c) in
       record { begun = omega (arith, signed, first.begun, from.begun); not_over = from.not_over }

@@ -11,7 +11,7 @@ use Rattle.zone_values.specs.declared.year.Year.TheVariants.{Maximum, Number}
 use Rattle.zone_table.specs.Moments.{applies_to_year, last_year, is_at_most, is_at_least}
 use Rattle.zone_table.specs.declared.rule.RuleInfo.{RuleInfo}
 use Rattle.tz_posix.specs.TwoRules.{year_from}
-use Rattle.tz_posix.specs.Agreement.{first_year, IsInYears, IsRuleYear}
+use Rattle.tz_posix.specs.Agreement.{first_year, IsInRuleYears, IsRuleYear}
 use Rattle.tz_posix_core.specs.InForce.{year_at}
 use Rattle.tz_posix_core.specs.DayLaws.{new_year}
 
@@ -32,7 +32,7 @@ next-counted : (y : ℤ) → IsNear y → IsCountedYear (y +ℤ pos 1)
 next-counted y h = record { first = omega (arith, signed, h.first, h.last); last = omega (arith, signed, h.first, h.last) }
 
 -- a second of an earlier year is earlier
-pub earlier_year : (o y z s t : ℤ) → IsNear y → IsNear z → y <ℤ z → IsInYears o y y s → IsInYears o z z t → s <ℤ t
+pub earlier_year : (o y z s t : ℤ) → IsNear y → IsNear z → y <ℤ z → IsInRuleYears o y y s → IsInRuleYears o z z t → s <ℤ t
 earlier_year o y z s t near later h a b =
     let rise = year_starts-rise (y +ℤ pos 1) z (next-counted y near) (near-counted z later) (omega (arith, signed)) in
     omega (arith, signed, rise, a.not_over, b.begun)
@@ -43,9 +43,9 @@ earlier_year o y z s t near later h a b =
 pub record IsYearIn (o from to y s : ℤ) : Type 0 where
   pub first : from ≤ℤ y
   pub last : y ≤ℤ to
-  pub inside : IsInYears o y y s
+  pub inside : IsInRuleYears o y y s
 
-pub year_at-is : (o from to s : ℤ) → IsNear from → IsNear to → IsInYears o from to s → IsYearIn o from to (year_at o s) s
+pub year_at-is : (o from to s : ℤ) → IsNear from → IsNear to → IsInRuleYears o from to s → IsYearIn o from to (year_at o s) s
 unfolding year_at
 year_at-is o from to s a b inside =
     let k = int_div_euclid (s +ℤ o) (pos 86400) in

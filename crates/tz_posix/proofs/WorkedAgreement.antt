@@ -12,7 +12,7 @@ use Rattle.zone_table.specs.Moments.{instant_of, moment}
 use Rattle.zone_table.specs.declared.format.Format.{Format}
 use Rattle.zone_table.specs.declared.zone.Saving.TheVariants.{Multiple}
 use Rattle.zone_table.specs.declared.zone.ZoneInfo.{ZoneInfo}
-use Rattle.tz_posix.specs.Agreement.{IsInYears, IsRuleYear, IsSameDay, IsTimeOfDay, end_in, first_year, start_in}
+use Rattle.tz_posix.specs.Agreement.{IsInRuleYears, IsRuleYear, IsSameDay, IsTimeOfDay, end_in, first_year, start_in}
 use Rattle.tz_posix.specs.Agreement.{from_first, from_eighth, from_fifteenth, from_twenty_second, last_of_month}
 use Rattle.tz_posix.specs.RealPairs.{lord_howe_rules, moldova_rules, us_rules}
 use Rattle.tz_posix_core.specs.declared.date.Date.TheVariants.{M}
@@ -58,16 +58,16 @@ unfolding is_leap days_in_year days_in_month days_after_zero year_start days_thr
 day_2025 = refl
 
 -- at -5:00 the year 2024 begins at 2024-01-01 05:00 UTC and ends before 2025-01-01 05:00
-worked_first : IsInYears (negsuc 17999) (pos 2024) (pos 2024) (pos 1704085200)
+worked_first : IsInRuleYears (negsuc 17999) (pos 2024) (pos 2024) (pos 1704085200)
 worked_first = record { begun = omega (arith, signed, day_2024); not_over = omega (arith, signed, day_2025) }
 
-worked_last : IsInYears (negsuc 17999) (pos 2024) (pos 2024) (pos 1735707599)
+worked_last : IsInRuleYears (negsuc 17999) (pos 2024) (pos 2024) (pos 1735707599)
 worked_last = record { begun = omega (arith, signed, day_2024); not_over = omega (arith, signed, day_2025) }
 
-worked_before : IsInYears (negsuc 17999) (pos 2024) (pos 2024) (pos 1704085199) → ⊥
+worked_before : IsInRuleYears (negsuc 17999) (pos 2024) (pos 2024) (pos 1704085199) → ⊥
 worked_before h = absurd (omega (arith, signed, day_2024, h.begun))
 
-worked_after : IsInYears (negsuc 17999) (pos 2024) (pos 2024) (pos 1735707600) → ⊥
+worked_after : IsInRuleYears (negsuc 17999) (pos 2024) (pos 2024) (pos 1735707600) → ⊥
 worked_after h = absurd (omega (arith, signed, day_2025, h.not_over))
 
 -- midnight and the second before the next are times of day, and no others beside them

@@ -72,7 +72,7 @@ pub record IsRuleYear (from y : ℤ) : Type 0 where
   pub last : y ≤ℤ pos latest_year
 
 -- a second of the years from one to another, each from its 1 January on by clocks of standard time
-pub record IsInYears (offset from to second : ℤ) : Type 0 where
+pub record IsInRuleYears (offset from to second : ℤ) : Type 0 where
   pub begun : (pos 86400 *ℤ day from 1 1) ≤ℤ (second +ℤ offset)
   pub not_over : (second +ℤ offset) <ℤ (pos 86400 *ℤ day (to +ℤ pos 1) 1 1)
 
@@ -131,8 +131,8 @@ pub record SaysTheSame (rulesets : Rulesets) (zone : TwoRuleZone) (q : RuledValu
   pub start_time : IsTimeOfDay zone.start.time
   pub end_time : IsTimeOfDay zone.end.time
   -- each start and each end lies in its year
-  pub start_inside : (y : ℤ) → IsRuleYear zone.from y → IsInYears zone.line.offset y y (start_in zone y)
-  pub end_inside : (y : ℤ) → IsRuleYear zone.from y → IsInYears zone.line.offset y y (end_in zone y)
+  pub start_inside : (y : ℤ) → IsRuleYear zone.from y → IsInRuleYears zone.line.offset y y (start_in zone y)
+  pub end_inside : (y : ℤ) → IsRuleYear zone.from y → IsInRuleYears zone.line.offset y y (end_in zone y)
   -- the start comes first in all of these years, or the end does in all
   pub order : IsNorthern zone ⊎ IsSouthern zone
   -- all starts and ends, put in order, are more than the saving apart from one to the next
@@ -151,5 +151,5 @@ pub record IsFromFirstStart (zone : TwoRuleZone) (second : ℤ) : Type 0 where
 -- a second at which the zone and the value are shown to agree
 abbrev pub IsCovered : TwoRuleZone → ℤ → Type 0
 IsCovered zone second =
-    (IsNorthern zone × IsInYears zone.line.offset (first_year zone.from) (pos latest_year) second)
+    (IsNorthern zone × IsInRuleYears zone.line.offset (first_year zone.from) (pos latest_year) second)
     ⊎ (IsSouthern zone × IsFromFirstStart zone second)

@@ -15,7 +15,7 @@ ghost use Rattle.tz_zone.specs.declared.set.FixedTimespanSet.{FixedTimespanSet};
 ghost use Rattle.tz_posix.specs.Agreement.{
   IsCovered,
   IsFromFirstStart,
-  IsInYears,
+  IsInRuleYears,
   IsNorthern,
   IsSouthern,
   RuledValue,
@@ -69,7 +69,7 @@ pub fn two_yearly_rules_agree()
     ensures compiled { (rulesets : Rulesets) (zone : TwoRuleZone) (q : RuledValue) → SaysTheSame rulesets zone q
         → IsCompiled rulesets (zone.line ∷ []) }
     ensures northern { (rulesets : Rulesets) (zone : TwoRuleZone) (q : RuledValue) → SaysTheSame rulesets zone q
-        → IsNorthern zone → (t : ℤ) → IsInYears zone.line.offset (first_year zone.from) (pos latest_year) (seconds_of t)
+        → IsNorthern zone → (t : ℤ) → IsInRuleYears zone.line.offset (first_year zone.from) (pos latest_year) (seconds_of t)
         → total_at (schedule_of rulesets (zone.line ∷ [])) t ≡ value_total q (seconds_of t) }
     ensures southern { (rulesets : Rulesets) (zone : TwoRuleZone) (q : RuledValue) → SaysTheSame rulesets zone q
         → IsSouthern zone → (t : ℤ) → IsFromFirstStart zone (seconds_of t)

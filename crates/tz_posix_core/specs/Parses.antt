@@ -25,11 +25,11 @@ IsParsed text zones (Err (Range miss)) = (value : TzValue) × Spells text value 
 IsParsed text zones (Err (UnknownName name)) = (value : TzValue) × IsInRange text value × (resolved zones value ≡ Err name.now)
 
 -- the zone that this is, or the name that is unknown
-abbrev pub Tells : Result PosixZone (List ℕ) → Result PosixTz ParseError → Type 0
-Tells told (Ok tz) = told ≡ Ok (posix_of tz)
-Tells told (Err (UnknownName name)) = told ≡ Err name.now
-Tells told (Err other) = ⊥
+abbrev pub TellsZone : Result PosixZone (List ℕ) → Result PosixTz ParseError → Type 0
+TellsZone told (Ok tz) = told ≡ Ok (posix_of tz)
+TellsZone told (Err (UnknownName name)) = told ≡ Err name.now
+TellsZone told (Err other) = ⊥
 
 -- of a value in its ranges
 abbrev pub IsResolved : List FixedTimespanSet → TzValue → Result PosixTz ParseError → Type 0
-IsResolved zones value result = Tells (resolved zones value) result
+IsResolved zones value result = TellsZone (resolved zones value) result

@@ -1,7 +1,7 @@
 //! Texts over a database.
 ghost use Rattle.std.specs.Prelude.{◌≡◌, None, option_and_then};
 ghost use Rattle.tz_posix_core.specs.NamedShown.{named_of};
-ghost use Rattle.tz_posix_core.specs.Parses.{IsParsed, IsResolved, Tells};
+ghost use Rattle.tz_posix_core.specs.Parses.{IsParsed, IsResolved, TellsZone};
 ghost use Rattle.tz_posix_core.specs.Ranges.{posix_range, rule_range};
 ghost use Rattle.tz_posix_core.specs.Resolved.{by_rule};
 ghost use Rattle.tz_posix_core.specs.Shown.{tz_shown};
@@ -86,7 +86,7 @@ fn with_saving<'a>(
     database: &'a Database,
 ) -> Result<PosixTz<'a>, ParseError<'a>>
     requires { option_and_then rule_range rule.now ≡ None }
-    ensures { Tells (by_rule database.now (named_of standard.now) (named_of saving.now) rule.now) result }
+    ensures { TellsZone (by_rule database.now (named_of standard.now) (named_of saving.now) rule.now) result }
 {
     match rule {
         Some(rule) => Ok(PosixTz {

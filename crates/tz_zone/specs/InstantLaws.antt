@@ -5,7 +5,7 @@ use Rattle.std.specs.Ordering.{int_eq}
 use Rattle.std.specs.List.{filter}
 use Rattle.std.proofs.lemmas.Bool.{cases_Bool}
 use Rattle.std.proofs.lemmas.Int.{ints}
-use Rattle.civil_base.specs.Ranges.{IsOffset}
+use Rattle.civil_base.specs.Ranges.{IsOffset, greatest_offset}
 use Rattle.civil_base.specs.RangeLaws.{offset_least, offset_greatest}
 use Rattle.zone_spans.specs.Schedules.{down_from, offset_count, offsets, instants}
 use Rattle.civil_base.specs.Instants.{instant_at}
@@ -124,7 +124,7 @@ kept_all total x o (suc n) t r h k =
     false_true : false ≡ true → ⊥
     false_true e = cc
 
-in_count : (o : ℤ) → IsOffset o → pos 93599 <ℤ (o +ℤ pos offset_count)
+in_count : (o : ℤ) → IsOffset o → pos greatest_offset <ℤ (o +ℤ pos offset_count)
 unfolding offset_count
 in_count o h = omega (arith, ints, offset_least o h)
 
@@ -132,10 +132,10 @@ in_count o h = omega (arith, ints, offset_least o h)
 pub instants_are : (total : ℤ → ℤ) (x : ℤ) → ((t : ℤ) → IsOffset (total t)) → AreInstants total x (instants total x)
 unfolding instants offsets
 instants_are total x h = record {
-  rising = kept_rises total x (pos 93599) offset_count;
+  rising = kept_rises total x (pos greatest_offset) offset_count;
   exact = λ t. (
-    kept_reads total x (pos 93599) offset_count t,
-    λ r. kept_all total x (pos 93599) offset_count t r (offset_greatest (total t) (h t)) (in_count _ (h t)),
+    kept_reads total x (pos greatest_offset) offset_count t,
+    λ r. kept_all total x (pos greatest_offset) offset_count t r (offset_greatest (total t) (h t)) (in_count _ (h t)),
   );
 }
 

@@ -10,12 +10,13 @@ ghost use Rattle.tz_zone.specs.Spans.{TimesDontFall};
 
 use crate::set::FixedTimespanSet;
 use crate::table::SpanTable;
+use civil_base::GREATEST_OFFSET;
 use zone_spans::FixedTimespan;
 
 /// The least and the greatest offset in seconds: a second less than 26 hours, west and east.
-const LEAST_OFFSET: i64 = -93_599;
+const LEAST_OFFSET: i64 = -MOST_EAST;
 
-const GREATEST_OFFSET: i64 = 93_599;
+const MOST_EAST: i64 = GREATEST_OFFSET as i64;
 
 /// The furthest time of an entry, in seconds before 1970 and after: 2^40.
 const GREATEST_SECOND: i64 = 1 << 40;
@@ -72,7 +73,7 @@ fn has_offset(span: &FixedTimespan) -> bool
 fn is_offset(total: i64) -> bool
     ensures { result ≡ is_offset total }
 {
-    LEAST_OFFSET <= total && total <= GREATEST_OFFSET
+    LEAST_OFFSET <= total && total <= MOST_EAST
 }
 
 fn times_do_not_fall(set: &FixedTimespanSet) -> bool

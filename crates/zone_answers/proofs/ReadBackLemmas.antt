@@ -21,7 +21,7 @@ use Rattle.tz_lookup.specs.InForce.{in_force, all_in_force}
 use Rattle.zone_answers.specs.Requests.{Request, at, local, name_of, is_space, nanoseconds_in, request_of}
 use Rattle.zone_answers.specs.Found.{Found, schedule_found, found_in}
 use Rattle.zone_answers.specs.Faults.{Fault, request_not_text, bad_request, offset_range, range, has_dates, schedule_refusal, found_refusal, request_refusal, first_refused, source_refusal, fault, IsValid}
-use Rattle.zone_answers.specs.Due.{shown_at, shown_by, shown}
+use Rattle.zone_answers.specs.Due.{shown_at, shown_for, shown}
 use Rattle.zone_answers.specs.ReadBack.{IsReadBack}
 
 -- the local time of a request lies in the years
@@ -126,8 +126,8 @@ at_schedule n request schedule years accepted = by_range request (is_in_offset_r
     by_range request false is years refused = absurd (none-some _ (sym refused))
     by_range request true is years accepted_is = by_dates request (has_dates schedule request) is refl years accepted_is
 
-line_back : (names : List ℕ → Found) (n : ℕ) (line : List ℕ) → request_refusal names n line ≡ None → All IsReadBack (shown_by names line)
-unfolding request_refusal shown_by
+line_back : (names : List ℕ → Found) (n : ℕ) (line : List ℕ) → request_refusal names n line ≡ None → All IsReadBack (shown_for names line)
+unfolding request_refusal shown_for
 line_back names n line accepted = by_text (is_utf8 line) accepted
   where
     by_found : (request : Request) (found : Found) → HasYears (Some request) → found_refusal n request found ≡ None →
@@ -154,11 +154,11 @@ both_none None p h = (refl, h)
 both_none (Some x) p h = absurd (none-some _ (sym h))
 
 all_back : (names : List ℕ → Found) (n : ℕ) (lines : List (List ℕ)) → first_refused names n lines ≡ None
-    → All IsReadBack (flat_map (shown_by names) lines)
+    → All IsReadBack (flat_map (shown_for names) lines)
 all_back names n [] h = none_back
 all_back names n (line ∷ lines) h =
     let both = both_none (request_refusal names n line) _ h in
-    All-append IsReadBack (shown_by names line) (flat_map (shown_by names) lines) (line_back names n line both.0)
+    All-append IsReadBack (shown_for names line) (flat_map (shown_for names) lines) (line_back names n line both.0)
     (all_back names (suc n) lines both.1)
 
 -- all that is shown over valid input

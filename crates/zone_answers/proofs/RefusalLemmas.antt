@@ -12,7 +12,7 @@ use Rattle.tz_zone.specs.declared.compile.ZoneFault.{ZoneFault}
 use Rattle.tz_zone.specs.declared.compile.ZoneFault.TheVariants as zone
 use Rattle.tz_zone.specs.declared.set.FixedTimespanSet.{FixedTimespanSet}
 use Rattle.zone_answers.specs.Asked.{asked}
-use Rattle.zone_answers.specs.Due.{answer_line, line_shown, shown_at, shown_by}
+use Rattle.zone_answers.specs.Due.{answer_line, answer_text, shown_at, shown_for}
 use Rattle.zone_answers.specs.Faults.{bad_request, offset_range, range, request_not_text, has_dates, found_refusal, request_refusal}
 use Rattle.zone_answers.specs.Found.{Found, schedule_found}
 use Rattle.zone_answers.specs.Requests.{Request, name_of, request_of}
@@ -55,10 +55,10 @@ pub refusal_is : (names : List ℕ → Found) (n : ℕ) (line : List ℕ) (reque
 refusal_is names n line request is = refusal_read names n line (Some request) is.text is.reads
 
 pub line_is : (names : List ℕ → Found) (line : List ℕ) (request : Request) → Asks line request →
-    answer_line names line ≡ line_shown (shown_at (schedule_found (names (name_of request))) request)
-unfolding shown_by
+    answer_line names line ≡ answer_text (shown_at (schedule_found (names (name_of request))) request)
+unfolding shown_for
 line_is names line request is =
-    ap (λ o. line_shown (option_map_or (λ request. shown_at (schedule_found (names (name_of request))) request) o [])) is.reads
+    ap (λ o. answer_text (option_map_or (λ request. shown_at (schedule_found (names (name_of request))) request) o [])) is.reads
 
 span_is_told : (fault : SpanFault) → fault ≢ span.NoMemory → span_told fault ≡ Some fault
 span_is_told span.UnknownRuleset other = refl

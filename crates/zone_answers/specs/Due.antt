@@ -31,19 +31,19 @@ abbrev pub text_shown : ℤ × ℤ → List ℕ
 text_shown shown = zoned_text shown.0 shown.1
 
 -- what is shown by a request line that is not refused, where names find this
-unfoldable pub shown_by : (List ℕ → Found) → List ℕ → List (ℤ × ℤ)
-shown_by names line = option_map_or (λ request. shown_at (schedule_found (names (name_of request))) request) (request_of line) []
+unfoldable pub shown_for : (List ℕ → Found) → List ℕ → List (ℤ × ℤ)
+shown_for names line = option_map_or (λ request. shown_at (schedule_found (names (name_of request))) request) (request_of line) []
 
-abbrev pub line_shown : List (ℤ × ℤ) → List ℕ
-line_shown shown = with_bars (map text_shown shown)
+abbrev pub answer_text : List (ℤ × ℤ) → List ℕ
+answer_text shown = with_bars (map text_shown shown)
 
 -- all that is shown, in order
 unfoldable pub shown : List ℕ → List ℕ → List (ℤ × ℤ)
-shown source requests = flat_map (shown_by (found_in source)) (lines_of requests)
+shown source requests = flat_map (shown_for (found_in source)) (lines_of requests)
 
 -- the line of a request line that is not refused
 abbrev pub answer_line : (List ℕ → Found) → List ℕ → List ℕ
-answer_line names line = line_shown (shown_by names line)
+answer_line names line = answer_text (shown_for names line)
 
 -- one line for each request, in order
 unfoldable pub answer_lines : List ℕ → List ℕ → List (List ℕ)

@@ -8,7 +8,7 @@ ghost use Rattle.tz_lookup.specs.CompactZones.{compact_of};
 ghost use Rattle.tz_lookup.specs.Sets.{schedule_of};
 ghost use Rattle.zone_spans.specs.Schedules.{total_at};
 ghost use Rattle.zone_answers.specs.Asked.{asked};
-ghost use Rattle.zone_answers.specs.Due.{line_shown, shown_at, text_shown};
+ghost use Rattle.zone_answers.specs.Due.{answer_text, shown_at, text_shown};
 ghost use Rattle.zone_answers.specs.Faults.{are_in_years, has_dates};
 
 use crate::request::Request;
@@ -26,7 +26,7 @@ pub(crate) fn show(
 ) -> Result<bool, AllocError>
     requires { text.old.items ≡ [] }
     ensures dates { IfOk result (λ has. has ≡ has_dates (schedule_of (compact_of zone.now)) (asked request.now)) }
-    ensures line { IfOk result (λ has. IsTrue has → text.new.items ≡ line_shown (shown_at (schedule_of (compact_of zone.now)) (asked request.now))) }
+    ensures line { IfOk result (λ has. IsTrue has → text.new.items ≡ answer_text (shown_at (schedule_of (compact_of zone.now)) (asked request.now))) }
 {
     match request {
         Request::At(_, nanoseconds) => match date_time_at(zone, *nanoseconds) {
@@ -65,7 +65,7 @@ fn show_local(
     text: &mut Vec<u8>,
 ) -> Result<(), AllocError>
     requires { text.old.items ≡ [] }
-    ensures { OnOk result (text.new.items ≡ line_shown (all_in_force (total_at (schedule_of (compact_of zone.now))) local.now)) }
+    ensures { OnOk result (text.new.items ≡ answer_text (all_in_force (total_at (schedule_of (compact_of zone.now))) local.now)) }
 {
     if zone.is_orderly() {
         show_result(local.assume_timezone(zone), text)
@@ -77,7 +77,7 @@ fn show_local(
 /// Adds the texts of at most two instants.
 fn show_result(dates: OffsetResult<OffsetDateTime>, text: &mut Vec<u8>) -> Result<(), AllocError>
     requires { text.old.items ≡ [] }
-    ensures { OnOk result (text.new.items ≡ line_shown (map shown_of (listed dates))) }
+    ensures { OnOk result (text.new.items ≡ answer_text (map shown_of (listed dates))) }
 {
     match dates {
         OffsetResult::None => add_bytes(b"none", text),
@@ -97,7 +97,7 @@ fn show_each(
     text: &mut Vec<u8>,
 ) -> Result<(), AllocError>
     requires { text.old.items ≡ [] }
-    ensures { OnOk result (text.new.items ≡ line_shown (all_in_force (total_at (schedule_of (compact_of zone.now))) local.now)) }
+    ensures { OnOk result (text.new.items ≡ answer_text (all_in_force (total_at (schedule_of (compact_of zone.now))) local.now)) }
 {
     let mut is_first = true;
     for date in zone.instants_local(local) {

@@ -2,7 +2,7 @@
 use Rattle.std.proofs.Common.{◌≡◌, ℕ, ℤ, List, [], true, false, cond, Option, Some, None, sym, ap, ◌∙◌}
 use Rattle.std.specs.Option.{option_map_or}
 use Rattle.std.specs.Str.{is_utf8}
-use Rattle.zone_answers.specs.Due.{line_shown}
+use Rattle.zone_answers.specs.Due.{answer_text}
 use Rattle.zone_file_answers.specs.Asked.{asked}
 use Rattle.zone_file_answers.specs.Due.{answer_line, shown_at}
 use Rattle.zone_file_answers.specs.Faults.{bad_request, not_text, dates_refusal, request_refusal}
@@ -39,6 +39,6 @@ pub refusal_is : (total : ℤ → ℤ) (n : ℕ) (line : List ℕ) (request : Re
 refusal_is total n line request is = refusal_read total n line (Some request) is.text is.reads
 
 pub line_is : (total : ℤ → ℤ) (line : List ℕ) (request : Request) → Asks line request
-    → answer_line total line ≡ line_shown (shown_at total request)
+    → answer_line total line ≡ answer_text (shown_at total request)
 unfolding answer_line
-line_is total line request is = ap (λ r. line_shown (option_map_or (shown_at total) r [])) is.reads
+line_is total line request is = ap (λ r. answer_text (option_map_or (shown_at total) r [])) is.reads

@@ -2,7 +2,7 @@
 use Rattle.std.specs.Prelude.{◌≡◌, ℕ, ℤ, List, [], ◌∷◌, ◌++◌, map, Some, None}
 use Rattle.std.specs.Option.{option_map_or}
 use Rattle.tz_zone.specs.InForce.{in_force, all_in_force}
-use Rattle.zone_answers.specs.Due.{line_shown}
+use Rattle.zone_answers.specs.Due.{answer_text}
 use Rattle.zone_source.specs.LineLists.{ended}
 use Rattle.zone_source.specs.Lines.{lines_of}
 use Rattle.zone_file_answers.specs.Faults.{Fault, file, fault_line, first_refused}
@@ -16,7 +16,7 @@ shown_at total (local time) = all_in_force total time
 
 -- the line of a request that is not refused
 unfoldable pub answer_line : (ℤ → ℤ) → List ℕ → List ℕ
-answer_line total line = line_shown (option_map_or (shown_at total) (request_of line) [])
+answer_line total line = answer_text (option_map_or (shown_at total) (request_of line) [])
 
 -- no request is refused, and these are the lines
 pub record AreAnswers (source requests : List ℕ) (bytes : List ℕ) : Type 0 where

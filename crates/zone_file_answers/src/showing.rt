@@ -3,7 +3,7 @@ ghost use Rattle.std.specs.Prelude.{◌≡◌, [], true, false, IfOk, IfNone, If
 ghost use Rattle.tz_zone.specs.InForce.{all_in_force, in_force, shown_of};
 ghost use Rattle.tz_tzif.specs.InForce.{total_at};
 ghost use Rattle.tz_tzif.specs.Zones.{value_of, says_of};
-ghost use Rattle.zone_answers.specs.Due.{line_shown};
+ghost use Rattle.zone_answers.specs.Due.{answer_text};
 ghost use Rattle.zone_answers.specs.Faults.{are_in_years};
 ghost use Rattle.zone_file_answers.specs.Asked.{asked};
 ghost use Rattle.zone_file_answers.specs.Due.{shown_at};
@@ -26,7 +26,7 @@ pub(crate) fn show(
 ) -> Result<bool, AllocError>
     requires { text.old.items ≡ [] }
     ensures dates { IfOk result (λ has. has ≡ has_dates (total_at (value_of zone.now) (says_of zone.now)) (asked request.now)) }
-    ensures line { IfOk result (λ has. IsTrue has → text.new.items ≡ line_shown (shown_at (total_at (value_of zone.now) (says_of zone.now)) (asked request.now))) }
+    ensures line { IfOk result (λ has. IsTrue has → text.new.items ≡ answer_text (shown_at (total_at (value_of zone.now) (says_of zone.now)) (asked request.now))) }
 {
     match request {
         Request::At(nanoseconds) => match date_time_at(zone, *nanoseconds) {
@@ -61,7 +61,7 @@ fn date_time_at(zone: &TzifTz<'_>, nanoseconds: i128) -> Option<OffsetDateTime>
 /// Adds the texts of the instants that the zone reads as a local time.
 fn show_each(zone: &TzifTz<'_>, local: &PlainDateTime, text: &mut Vec<u8>) -> Result<(), AllocError>
     requires { text.old.items ≡ [] }
-    ensures { OnOk result (text.new.items ≡ line_shown (all_in_force (total_at (value_of zone.now) (says_of zone.now)) local.now)) }
+    ensures { OnOk result (text.new.items ≡ answer_text (all_in_force (total_at (value_of zone.now) (says_of zone.now)) local.now)) }
 {
     let mut is_first = true;
     for date in zone.instants_local(local) {

@@ -25,6 +25,6 @@ pub record IsClock (clock : Clock) : Type 0 where
   pub time : IsClockTime clock.hour clock.minute clock.second clock.nanosecond
 
 -- the local time that is shown so
-abbrev pub shown_by : Clock → ℤ
-shown_by clock =
+abbrev pub clock_shown : Clock → ℤ
+clock_shown clock =
     day clock.year clock.month clock.day *ℤ pos nanos_per_day +ℤ pos (time_at clock.hour clock.minute clock.second clock.nanosecond)

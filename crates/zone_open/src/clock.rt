@@ -23,7 +23,7 @@ pub struct Clock {
 
 impl Clock {
     ghost use Rattle.std.specs.Prelude.{◌≡◌, IfNone, IfSome};
-    ghost use Rattle.zone_open.specs.Clocks.{clock_at, shown_by, IsClock};
+    ghost use Rattle.zone_open.specs.Clocks.{clock_at, clock_shown, IsClock};
 
     /// What is shown on a date at a time of day.
     pub fn at(date: Date, time: Time) -> Clock
@@ -44,7 +44,7 @@ impl Clock {
 
     /// The local time that is shown so, or none where no calendar and no clock shows these parts.
     pub fn local(self) -> Option<PlainDateTime>
-        ensures some { IfSome result (λ local. IsClock self × (local ≡ shown_by self)) }
+        ensures some { IfSome result (λ local. IsClock self × (local ≡ clock_shown self)) }
         ensures none { IfNone result (IsClock self → ⊥) }
     {
         let date = self.date()?;

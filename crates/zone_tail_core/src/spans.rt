@@ -1,5 +1,6 @@
 //! The spans of a set, by number.
 ghost use Rattle.std.specs.Prelude.{◌≡◌, ◌<◌, ◌≤◌, length, pos, neg_ℤ, ◌≤ℤ◌};
+ghost use Rattle.civil_base.specs.Ranges.{greatest_offset};
 ghost use Rattle.zone_tail_core.specs.Shapes.{entry_in};
 ghost use Rattle.tz_zone.specs.Sets.{IsAccepted, schedule_of, total_of_span};
 
@@ -11,8 +12,8 @@ pub(crate) fn total_of(set: &FixedTimespanSet, span: usize) -> i64
     requires accepted { IsAccepted (schedule_of set.now) }
     requires within { span ≤ length set.now.others }
     ensures total { result ≡ total_of_span set.now span }
-    ensures least { neg_ℤ (pos 93_599) ≤ℤ result }
-    ensures greatest { result ≤ℤ pos 93_599 }
+    ensures least { neg_ℤ (pos greatest_offset) ≤ℤ result }
+    ensures greatest { result ≤ℤ pos greatest_offset }
 {
     i64::from(offset_of(set, span).whole_seconds())
 }

@@ -3,7 +3,7 @@ use Rattle.std.specs.Prelude.{Option, Some, None}
 use Rattle.std.specs.Arc.{arc_value}
 use Rattle.zone_open.specs.Answered.{first_of}
 use Rattle.zone_open.specs.Any.{Seen}
-use Rattle.zone_open.specs.Clocks.{shown_by}
+use Rattle.zone_open.specs.Clocks.{clock_shown}
 use Rattle.zone_open.specs.declared.asking.Reading.{Reading}
 use Rattle.sefunjaro_handles.specs.declared.opened.Opened.TheVariants.{Zone}
 use Rattle.sefunjaro_c.specs.Changes.{IsFound, IsRing}
@@ -20,7 +20,7 @@ returns-in-Some-ring c =
     let answer : IsRing zone clock 0 old first =
     inl (
       known.0,
-      seen_map zone (λ total _. Some first ≡ first_of total c.in-Some.local) (λ total _. IsFound (first_of total (shown_by clock)) 0 old first)
+      seen_map zone (λ total _. Some first ≡ first_of total c.in-Some.local) (λ total _. IsFound (first_of total (clock_shown clock)) 0 old first)
           (λ total gives h. subst (λ (ring : Option Reading). IsFound ring 0 old first) (h ∙ ap (first_of total) known.1) (refl, refl)) found,
     ) in
     of_zone c.args.opened.now (Zone c.in-Zone.zone) 0 (first ≡ old) (λ held. IsRing held clock 0 old first) c.in-Zone.is answer
@@ -33,7 +33,7 @@ returns-in-None-ring c =
     let answer : IsRing zone clock 11 old old =
     inl (
       known.0,
-      seen_map zone (λ total _. None ≡ first_of total c.in-Some.local) (λ total _. IsFound (first_of total (shown_by clock)) 11 old old)
+      seen_map zone (λ total _. None ≡ first_of total c.in-Some.local) (λ total _. IsFound (first_of total (clock_shown clock)) 11 old old)
           (λ total gives h. subst (λ (ring : Option Reading). IsFound ring 11 old old) (h ∙ ap (first_of total) known.1) (refl, refl)) found,
     ) in
     of_zone c.args.opened.now (Zone c.in-Zone.zone) 11 (old ≡ old) (λ held. IsRing held clock 11 old old) c.in-Zone.is answer

@@ -1,7 +1,7 @@
 use Rattle.std.proofs.Common.{cond, None, Some, sym, ap, ◌∙◌}
 use Rattle.tz_lookup.specs.CompactZones.{compact_of}
 use Rattle.zone_answers.specs.Asked.{asked}
-use Rattle.zone_answers.specs.Due.{line_shown, shown_at}
+use Rattle.zone_answers.specs.Due.{answer_text, shown_at}
 use Rattle.zone_answers.specs.Faults.{range}
 use Rattle.zone_answers.specs.Found.{found_in_table}
 use Rattle.zone_answers.specs.Opened.{table_of}
@@ -45,7 +45,7 @@ returns-in-Ok-true-clause-text c =
     let zone = c.find-zone.result in
     let found = rw (c.in_default-open.ensures.same, c.name-2.ensures) at c.find-zone.ensures in
     c.in-Ok-true.ensures.line c.in-Ok-true.field-0-test
-    ∙ ap (λ schedule. line_shown (shown_at schedule (asked request))) (sym (schedule_is _ (compact_of zone) found))
+    ∙ ap (λ schedule. answer_text (shown_at schedule (asked request))) (sym (schedule_is _ (compact_of zone) found))
     ∙ sym (line_is (found_in_table (table_of c.args.zones.now)) c.args.line.now (asked request) reads)
 
 pub returns-in-Ok-false-clause-err : goal.returns-in-Ok-false-clause-err

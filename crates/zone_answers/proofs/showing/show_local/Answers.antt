@@ -5,7 +5,7 @@ use Rattle.zone_spans.specs.Schedules.{total_at, instants}
 use Rattle.tz_lookup.specs.InForce.{all_in_force, in_force}
 use Rattle.tz_lookup.specs.Sets.{schedule_of}
 use Rattle.tz_lookup.specs.CompactZones.{compact_of}
-use Rattle.zone_answers.specs.Due.{line_shown}
+use Rattle.zone_answers.specs.Due.{answer_text}
 use Rattle.zone_answers.proofs.showing.show_local.Goals as goal
 
 pub returns-then-is_orderly : goal.returns-then-is_orderly
@@ -17,5 +17,5 @@ returns-then-is_orderly c =
     let few : length (all_in_force total c.args.local.now) ≤ 2 =
     omega (arith, two, length-map (instants total c.args.local.now) (in_force total)) in
     on_ok_weaker c.show_result.result
-    (λ shown. shown ∙ ap line_shown (c.assume_timezone.ensures.shown ∙ take_all 2 (all_in_force total c.args.local.now) few))
+    (λ shown. shown ∙ ap answer_text (c.assume_timezone.ensures.shown ∙ take_all 2 (all_in_force total c.args.local.now) few))
     c.show_result.ensures
