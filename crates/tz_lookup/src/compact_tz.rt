@@ -8,13 +8,10 @@ ghost use Rattle.tz_lookup.specs.CompactShown.{seen};
 
 use crate::compact_instants::CompactInstants;
 use crate::compact_set::CompactSet;
-use civil_base::{OffsetDateTime, PlainDateTime, UtcOffset};
+use civil_base::{OffsetDateTime, PlainDateTime};
 use std::marker::Brand;
 use std::sync::ledger::{Blank, Ledger};
-use tz_zone::{
-    FixedTimespan, Offset, OffsetResult, SpanTable, Steps, TimeZone, local_spans,
-    local_spans_counted, offset_of,
-};
+use tz_zone::{OffsetResult, Steps, TimeZone, TzOffset, local_spans, local_spans_counted};
 
 /// The zone of a compact set, which it borrows.
 #[derive(Clone, Copy, Debug, Drop)]
@@ -23,24 +20,20 @@ pub struct CompactTz<'a> {
 }
 
 /// The offset of a span of a compact set.
-#[derive(Clone, Copy, Debug, Drop, PartialEq, Eq)]
-pub struct CompactOffset<'a> {
-    kind: &'a FixedTimespan,
-    offset: UtcOffset,
-    ghost total_is: { offset ≡ total kind.now },
-}
+pub type CompactOffset<'a> = TzOffset<'a>;
 
 impl<'a> CompactTz<'a> {
     ghost use Rattle.std.specs.Prelude.{◌≡◌, ◌↔◌, ◌+◌, ◌-◌, ◌*◌, ◌^◌, ◌<◌, ◌≤◌, ℤ, IsTrue, length, map, take, pos};
     ghost use Rattle.civil_base.specs.DateTimes.{instant, local_of, offset_of};
     ghost use Rattle.civil_base.specs.Instants.{instant_at, seconds_of};
     ghost use Rattle.zone_spans.specs.Schedules.{total_at};
-    ghost use Rattle.tz_zone.specs.Answers.{listed, EachOf, IsUpTo};
-    ghost use Rattle.tz_zone.specs.InForce.{all_in_force, shown_of, totals_at, AreInstants, AreRead, GivesAt, IsInForce};
-    ghost use Rattle.tz_zone.specs.Sets.{schedule_of, IsOrderlyZone, span_in, total_of_span};
+    ghost use Rattle.tz_zone.specs.Answers.{listed, EachOf};
+    ghost use Rattle.tz_zone.specs.InForce.{all_in_force, shown_of, totals_at, AreInstants, GivesAt};
+    ghost use Rattle.tz_zone.specs.Sets.{schedule_of, IsOrderlyZone};
     ghost use Rattle.tz_lookup.specs.CompactLeft.{compact_left};
     ghost use Rattle.tz_lookup.specs.CompactShown.{seen};
-    ghost use Rattle.tz_lookup.specs.CompactZones.{compact_of, kind_of, total_of, IsCompactFor};
+    ghost use Rattle.tz_lookup.specs.CompactZones.{compact_of};
+    ghost use Rattle.tz_zone.specs.Zones.{span_shown, total_shown, IsGivenFor};
     ghost use Rattle.tz_lookup.specs.Years.{changes_in_year};
 
     /// The zone of a compact set.
@@ -66,12 +59,15 @@ impl<'a> CompactTz<'a> {
         date_time: &OffsetDateTime,
         steps: &mut Steps<L>,
     ) -> CompactOffset<'a>
-        ensures total { total_of result ≡ total_at (schedule_of (compact_of self.now)) (instant date_time.now) }
-        ensures name { GivesAt (compact_of self.now) (instant date_time.now) (kind_of result).name (int_lt (pos 0) (kind_of result).dst_offset) }
+        ensures total { total_shown result ≡ total_at (schedule_of (compact_of self.now)) (instant date_time.now) }
+        ensures name { GivesAt (compact_of self.now) (instant date_time.now) (span_shown result).name (int_lt (pos 0) (span_shown result).dst_offset) }
         ensures cost { 2 ^ (steps.new - steps.old) ≤ 2 * changes_in_year (compact_of self.now) (seconds_of (instant date_time.now)) + 1 }
         ensures later { steps.old ≤ steps.new }
     {
-        self.offset_of(self.set.span_in_year(date_time.unix_timestamp(), steps))
+        TzOffset::of_span(
+            self.set,
+            self.set.span_in_year(date_time.unix_timestamp(), steps),
+        )
     }
 
     /// As `get_offset_local`, with a step for each comparison of the search: s steps with 2^s <= 2n + 1 for n spans of an
@@ -82,14 +78,17 @@ impl<'a> CompactTz<'a> {
         steps: &mut Steps<L>,
     ) -> OffsetResult<CompactOffset<'a>>
         requires { offset_of date_time.now ≡ pos 0 }
-        ensures totals { map total_of (listed result) ≡ take 2 (totals_at (total_at (schedule_of (compact_of self.now))) (local_of date_time.now)) }
-        ensures names { EachOf (IsCompactFor (compact_of self.now) (local_of date_time.now)) result }
+        ensures totals { map total_shown (listed result) ≡ take 2 (totals_at (total_at (schedule_of (compact_of self.now))) (local_of date_time.now)) }
+        ensures names { EachOf (IsGivenFor (compact_of self.now) (local_of date_time.now)) result }
         ensures exact { IsOrderlyZone (schedule_of (compact_of self.now)) → AreInstants (total_at (schedule_of (compact_of self.now))) (local_of date_time.now)
-            (map (instant_at (local_of date_time.now)) (map total_of (listed result))) }
+            (map (instant_at (local_of date_time.now)) (map total_shown (listed result))) }
         ensures cost { 2 ^ (steps.new - steps.old) ≤ 2 * (length (compact_of self.now).others + 1) + 1 }
         ensures later { steps.old ≤ steps.new }
     {
-        self.offsets(local_spans_counted(self.set, self.set.is_orderly(), date_time, steps))
+        TzOffset::of_spans(
+            self.set,
+            local_spans_counted(self.set, self.set.is_orderly(), date_time, steps),
+        )
     }
 
     /// The date-times that the zone reads as that local time: each once, by time, at most one for each span. It takes no
@@ -106,59 +105,11 @@ impl<'a> CompactTz<'a> {
         requires name { blank.name ≡ L.name }
         requires parts { blank.parts ≡ L.parts }
         requires some { 0 < L.parts }
-        ensures total { total_of result ≡ total_at (schedule_of (compact_of self.now)) (instant date_time.now) }
-        ensures name { GivesAt (compact_of self.now) (instant date_time.now) (kind_of result).name (int_lt (pos 0) (kind_of result).dst_offset) }
+        ensures total { total_shown result ≡ total_at (schedule_of (compact_of self.now)) (instant date_time.now) }
+        ensures name { GivesAt (compact_of self.now) (instant date_time.now) (span_shown result).name (int_lt (pos 0) (span_shown result).dst_offset) }
     {
         let mut steps: Steps<L> = Steps::new(blank);
         self.get_offset_utc_counted(date_time, &mut steps)
-    }
-
-    /// The offsets of some spans.
-    fn offsets(&self, spans: OffsetResult<usize>) -> OffsetResult<CompactOffset<'a>>
-        requires { IsUpTo (length (compact_of self.now).others) spans }
-        ensures totals { map total_of (listed result) ≡ map (total_of_span (compact_of self.now)) (listed spans) }
-        ensures names { (x : ℤ) → AreRead (compact_of self.now) x spans → EachOf (IsCompactFor (compact_of self.now) x) result }
-    {
-        match spans {
-            OffsetResult::None => OffsetResult::None,
-            OffsetResult::Some(only) => OffsetResult::Some(self.offset_of(only)),
-            OffsetResult::Ambiguous(first, second) => {
-                OffsetResult::Ambiguous(self.offset_of(first), self.offset_of(second))
-            }
-        }
-    }
-
-    /// The offset of a span.
-    fn offset_of(&self, index: usize) -> CompactOffset<'a>
-        requires { index ≤ length (compact_of self.now).others }
-        ensures total { total_of result ≡ total_of_span (compact_of self.now) index }
-        ensures kind { kind_of result ≡ span_in (compact_of self.now) index }
-        ensures given { (x : ℤ) → IsInForce (compact_of self.now) index (instant_at x (total_of_span (compact_of self.now) index)) → IsCompactFor (compact_of self.now) x result }
-    {
-        CompactOffset {
-            kind: self.set.span(index),
-            offset: offset_of(self.set, index),
-        }
-    }
-}
-
-impl<'a> Offset for CompactOffset<'a> {
-    ghost total = { λ offset. offset.offset };
-
-    ghost called = { λ offset. offset.kind.now.name };
-
-    ghost is_saving = { λ offset. int_lt (pos 0) offset.kind.now.dst_offset };
-
-    fn to_utc(&self) -> UtcOffset {
-        self.offset
-    }
-
-    fn name(&self) -> &str {
-        self.kind.name.as_str()
-    }
-
-    fn is_dst(&self) -> bool {
-        self.kind.dst_offset > 0
     }
 }
 
@@ -182,11 +133,14 @@ impl<'a> TimeZone for CompactTz<'a> {
     }
 
     fn get_offset_local(&self, date_time: &OffsetDateTime) -> OffsetResult<CompactOffset<'a>> {
-        self.offsets(local_spans(self.set, self.set.is_orderly(), date_time))
+        TzOffset::of_spans(
+            self.set,
+            local_spans(self.set, self.set.is_orderly(), date_time),
+        )
     }
 
     fn get_offset_primary(&self) -> CompactOffset<'a> {
-        self.offset_of(0)
+        TzOffset::of_span(self.set, 0)
     }
 
     fn name(&self) -> &str {

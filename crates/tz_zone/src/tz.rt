@@ -15,6 +15,7 @@ use crate::orderly::is_orderly;
 use crate::result::OffsetResult;
 use crate::set::FixedTimespanSet;
 use crate::steps::Steps;
+use crate::table::SpanTable;
 use crate::time_zone::{Offset, TimeZone};
 use civil_base::{OffsetDateTime, PlainDateTime, UtcOffset};
 use std::sync::ledger::Ledger;
@@ -39,17 +40,60 @@ pub struct TzOffset<'a> {
     ghost total_is: { offset ≡ total span.now },
 }
 
+impl<'a> TzOffset<'a> {
+    ghost use Rattle.std.specs.Prelude.{◌≡◌, ◌≤◌, ℤ, length, map};
+    ghost use Rattle.civil_base.specs.Instants.{instant_at};
+    ghost use Rattle.tz_zone.specs.Answers.{listed, EachOf, IsUpTo};
+    ghost use Rattle.tz_zone.specs.InForce.{AreRead, IsInForce};
+    ghost use Rattle.tz_zone.specs.Sets.{schedule_of, IsAccepted, span_in, total_of_span};
+    ghost use Rattle.tz_zone.specs.Zones.{span_shown, total_shown, IsGivenFor};
+
+    /// The offset of a span of a set that can be looked up.
+    pub fn of_span<T: SpanTable>(set: &'a T, index: usize) -> TzOffset<'a>
+        requires accepted { IsAccepted (schedule_of (T.seen set.now)) }
+        requires within { index ≤ length (T.seen set.now).others }
+        ensures total { total_shown result ≡ total_of_span (T.seen set.now) index }
+        ensures span { span_shown result ≡ span_in (T.seen set.now) index }
+        ensures given { (x : ℤ) → IsInForce (T.seen set.now) index (instant_at x (total_of_span (T.seen set.now) index)) → IsGivenFor (T.seen set.now) x result }
+    {
+        TzOffset {
+            span: set.span(index),
+            offset: offset_of(set, index),
+        }
+    }
+
+    /// The offsets of some spans.
+    pub fn of_spans<T: SpanTable>(
+        set: &'a T,
+        spans: OffsetResult<usize>,
+    ) -> OffsetResult<TzOffset<'a>>
+        requires accepted { IsAccepted (schedule_of (T.seen set.now)) }
+        requires within { IsUpTo (length (T.seen set.now).others) spans }
+        ensures totals { map total_shown (listed result) ≡ map (total_of_span (T.seen set.now)) (listed spans) }
+        ensures names { (x : ℤ) → AreRead (T.seen set.now) x spans → EachOf (IsGivenFor (T.seen set.now) x) result }
+    {
+        match spans {
+            OffsetResult::None => OffsetResult::None,
+            OffsetResult::Some(only) => OffsetResult::Some(TzOffset::of_span(set, only)),
+            OffsetResult::Ambiguous(first, second) => OffsetResult::Ambiguous(
+                TzOffset::of_span(set, first),
+                TzOffset::of_span(set, second),
+            ),
+        }
+    }
+}
+
 impl<'a> Tz<'a> {
-    ghost use Rattle.std.specs.Prelude.{◌≡◌, ◌↔◌, ◌+◌, ◌-◌, ◌*◌, ◌^◌, ◌≤◌, ℤ, IsTrue, MatchResult, length, map, take, pos};
+    ghost use Rattle.std.specs.Prelude.{◌≡◌, ◌↔◌, ◌+◌, ◌-◌, ◌*◌, ◌^◌, ◌≤◌, IsTrue, MatchResult, length, map, take, pos};
     ghost use Rattle.civil_base.specs.Instants.{instant_at};
     ghost use Rattle.civil_base.specs.DateTimes.{instant, local_of, offset_of};
     ghost use Rattle.zone_spans.specs.Schedules.{total_at};
-    ghost use Rattle.tz_zone.specs.Answers.{listed, EachOf, IsUpTo};
+    ghost use Rattle.tz_zone.specs.Answers.{listed, EachOf};
     ghost use Rattle.tz_zone.specs.Faults.{IsFault};
-    ghost use Rattle.tz_zone.specs.InForce.{all_in_force, shown_of, totals_at, AreInstants, AreRead, IsInForce};
+    ghost use Rattle.tz_zone.specs.InForce.{all_in_force, shown_of, totals_at, AreInstants};
     ghost use Rattle.tz_zone.specs.InstantsLeft.{dates_left};
-    ghost use Rattle.tz_zone.specs.Sets.{schedule_of, IsAccepted, IsOrderlyZone, span_in, total_of_span};
-    ghost use Rattle.tz_zone.specs.Zones.{set_of, span_shown, total_shown, IsGivenFor};
+    ghost use Rattle.tz_zone.specs.Sets.{schedule_of, IsAccepted, IsOrderlyZone};
+    ghost use Rattle.tz_zone.specs.Zones.{set_of, total_shown, IsGivenFor};
 
     /// The zone of a set. Whether the set is orderly is tested once, here.
     ///
@@ -99,7 +143,10 @@ impl<'a> Tz<'a> {
         ensures cost { 2 ^ (steps.new - steps.old) ≤ 2 * (length (set_of self.now).others + 1) + 1 }
         ensures later { steps.old ≤ steps.new }
     {
-        self.offsets(local_spans_counted(self.set, self.orderly, date_time, steps))
+        TzOffset::of_spans(
+            self.set,
+            local_spans_counted(self.set, self.orderly, date_time, steps),
+        )
     }
 
     /// The date-times that the zone reads as that local time: each once, by time, at most one for each span. It takes no
@@ -110,34 +157,6 @@ impl<'a> Tz<'a> {
         ensures exact { AreInstants (total_at (schedule_of (set_of self.now))) date_time.now (map instant (dates_left result)) }
     {
         InstantsLocal::new(self.set, date_time)
-    }
-
-    /// The offsets of some spans.
-    fn offsets(&self, spans: OffsetResult<usize>) -> OffsetResult<TzOffset<'a>>
-        requires { IsUpTo (length (set_of self.now).others) spans }
-        ensures totals { map total_shown (listed result) ≡ map (total_of_span (set_of self.now)) (listed spans) }
-        ensures names { (x : ℤ) → AreRead (set_of self.now) x spans → EachOf (IsGivenFor (set_of self.now) x) result }
-    {
-        match spans {
-            OffsetResult::None => OffsetResult::None,
-            OffsetResult::Some(only) => OffsetResult::Some(self.offset_of(only)),
-            OffsetResult::Ambiguous(first, second) => {
-                OffsetResult::Ambiguous(self.offset_of(first), self.offset_of(second))
-            }
-        }
-    }
-
-    /// The offset of a span.
-    fn offset_of(&self, index: usize) -> TzOffset<'a>
-        requires { index ≤ length (set_of self.now).others }
-        ensures total { total_shown result ≡ total_of_span (set_of self.now) index }
-        ensures span { span_shown result ≡ span_in (set_of self.now) index }
-        ensures given { (x : ℤ) → IsInForce (set_of self.now) index (instant_at x (total_of_span (set_of self.now) index)) → IsGivenFor (set_of self.now) x result }
-    {
-        TzOffset {
-            span: self.set.span_at(index),
-            offset: offset_of(self.set, index),
-        }
     }
 }
 
@@ -177,15 +196,15 @@ impl<'a> TimeZone for Tz<'a> {
     ghost begins = { λ zone name saving. (name ≡ zone.set.now.first.name) × (saving ≡ int_lt (pos 0) zone.set.now.first.dst_offset) };
 
     fn get_offset_utc(&self, date_time: &OffsetDateTime) -> TzOffset<'a> {
-        self.offset_of(span_in_force(self.set, date_time))
+        TzOffset::of_span(self.set, span_in_force(self.set, date_time))
     }
 
     fn get_offset_local(&self, date_time: &OffsetDateTime) -> OffsetResult<TzOffset<'a>> {
-        self.offsets(local_spans(self.set, self.orderly, date_time))
+        TzOffset::of_spans(self.set, local_spans(self.set, self.orderly, date_time))
     }
 
     fn get_offset_primary(&self) -> TzOffset<'a> {
-        self.offset_of(0)
+        TzOffset::of_span(self.set, 0)
     }
 
     fn name(&self) -> &str {

@@ -6,5 +6,5 @@ use Rattle.tz_lookup.proofs.compact_tz.CompactTz.get_offset_utc_counted.Goals as
 pub returns-clause-total : goal.returns-clause-total
 returns-clause-total g c =
     let fs : SFits w64 c.unix_timestamp.result = search rules in
-    c.offset_of.ensures.total
+    c.of_span.ensures.total
     ∙ c.span_in_year.ensures.total (instant c.args.date_time.now) (sym (to_z-of_z w64 _ fs ∙ c.unix_timestamp.ensures.value))

@@ -3,9 +3,9 @@ use Rattle.tz_zone.specs.AnswerLaws.{instants_of_offsets}
 use Rattle.tz_zone.proofs.tz.TzTimeZone.get_offset_local.Goals as goal
 
 pub returns-clause-names : goal.returns-clause-names
-returns-clause-names c = c.offsets.ensures.names _ c.local_spans.ensures.read
+returns-clause-names c = c.of_spans.ensures.names _ c.local_spans.ensures.read
 
 pub returns-clause-exact : goal.returns-clause-exact
 returns-clause-exact c = λ orderly.
     instants_of_offsets _ _ _ c.args.self.now.range (c.args.self.now.two orderly _)
-    (c.offsets.ensures.totals ∙ c.local_spans.ensures.totals)
+    (c.of_spans.ensures.totals ∙ c.local_spans.ensures.totals)

@@ -5,6 +5,6 @@ pub returns-clause-name : goal.returns-clause-name
 returns-clause-name c = record {
   span = c.span_in_force.result;
   in_force = c.span_in_force.ensures.in_force;
-  named = ap (λ span. span.name) c.offset_of.ensures.span;
-  saves = ap (λ span. int_lt (pos 0) span.dst_offset) c.offset_of.ensures.span;
+  named = ap (λ span. span.name) c.of_span.ensures.span;
+  saves = ap (λ span. int_lt (pos 0) span.dst_offset) c.of_span.ensures.span;
 }
