@@ -11,7 +11,7 @@ use Rattle.zone_table.specs.declared.zone.ZoneInfo.{ZoneInfo}
 use Rattle.zone_spans.specs.Compiled.{compiled, set_of_lines, unless}
 use Rattle.zone_spans.specs.Faults.{schedule_fault}
 use Rattle.zone_spans.specs.Lines.{Line, Rulesets, is_known, is_ruled, rules_named, zone_lines}
-use Rattle.zone_spans.specs.Schedules.{schedule_of, shown_by, total_at, totals_of}
+use Rattle.zone_spans.specs.Schedules.{schedule_of_lines, totals_told, total_at, totals_of}
 use Rattle.tz_posix.specs.TwoRules.{AreBoth, HasTwoRules, written, year_from}
 use Rattle.tz_posix.proofs.TwoRuleSetLemmas.{IsExpandable}
 use Rattle.tz_posix.proofs.TwoRuleFiringLemmas.{wall_moment}
@@ -40,9 +40,9 @@ unfolding compiled zone_lines
 compiled_line rulesets info set h = same_set (schedule_fault rulesets (info ∷ [])) _ set h
 
 pub schedule-is : (rulesets : Rulesets) (infos : List ZoneInfo) (set : FixedTimespanSet) → compiled rulesets infos ≡ Ok set → (t : ℤ)
-    → total_at (schedule_of rulesets infos) t ≡ total_at (totals_of set) t
-unfolding schedule_of
-schedule-is rulesets infos set is t = ap (λ result. total_at (shown_by result) t) is
+    → total_at (schedule_of_lines rulesets infos) t ≡ total_at (totals_of set) t
+unfolding schedule_of_lines
+schedule-is rulesets infos set is t = ap (λ result. total_at (totals_told result) t) is
 
 -- ---- the two moments of a year
 

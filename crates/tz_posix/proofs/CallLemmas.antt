@@ -10,9 +10,9 @@ use Rattle.zone_values.specs.declared.month.Month.{Month}
 use Rattle.zone_values.specs.declared.weekday.Weekday.{Weekday}
 use Rattle.zone_spans.specs.Compiled.{compiled}
 use Rattle.zone_spans.specs.Lines.{Rulesets}
-use Rattle.zone_spans.specs.Schedules.{schedule_of, shown_by, total_at, totals_of}
+use Rattle.zone_spans.specs.Schedules.{schedule_of_lines, totals_told, total_at, totals_of}
 use Rattle.tz_lookup.specs.Compiles.{spans_of}
-use Rattle.tz_lookup.specs.Sets.{schedule_of as schedule_in}
+use Rattle.tz_lookup.specs.Sets.{schedule_of_lines as schedule_in}
 use Rattle.tz_zone.specs.declared.set.FixedTimespanSet.{FixedTimespanSet}
 use Rattle.tz_posix.specs.Agreement.{IsCovered, IsInRuleYears, IsSameDay, RuledValue, SaysTheSame, TwoRuleZone}
 use Rattle.tz_posix.specs.Agreement.{from_first, from_eighth, from_fifteenth, from_twenty_second, last_of_month, first_year, value_of, value_total}
@@ -47,7 +47,7 @@ not_last : (y : ℤ) → IsNear y → int_eq y (pos 9999) ≡ false
 not_last y h = let last = h.last in grind (arith, ints)
 
 module _ (rulesets : Rulesets) (zone : TwoRuleZone) (q : RuledValue) (c : SaysTheSame rulesets zone q) where
-  agrees : (t : ℤ) → IsCovered zone (seconds_of t) → total_at (schedule_of rulesets (zone.line ∷ [])) t ≡ value_total q (seconds_of t)
+  agrees : (t : ℤ) → IsCovered zone (seconds_of t) → total_at (schedule_of_lines rulesets (zone.line ∷ [])) t ≡ value_total q (seconds_of t)
   agrees t covered = ⊎_elim
       (λ side. northern_agrees rulesets zone q c side.0 t side.1)
       (λ side. southern_agrees rulesets zone q c side.0 t side.1)
@@ -59,8 +59,8 @@ module _ (rulesets : Rulesets) (zone : TwoRuleZone) (q : RuledValue) (c : SaysTh
   -- what the zone gives is what the value gives
   pub zone_total : (set : FixedTimespanSet) → compiled rulesets (zone.line ∷ []) ≡ Ok (spans_of set) → (t : ℤ)
       → IsCovered zone (seconds_of t) → total_at (schedule_in set) t ≡ value_total q (seconds_of t)
-  unfolding schedule_of totals_of
-  zone_total set is t covered = sym (ap (λ result. total_at (shown_by result) t) is) ∙ agrees t covered
+  unfolding schedule_of_lines totals_of
+  zone_total set is t covered = sym (ap (λ result. total_at (totals_told result) t) is) ∙ agrees t covered
 
   abbrev as_zone : PosixZone
   as_zone =

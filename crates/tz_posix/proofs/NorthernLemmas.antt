@@ -5,7 +5,7 @@ use Rattle.civil_base.specs.Instants.{seconds_of}
 use Rattle.zone_table.specs.Moments.{moment}
 use Rattle.zone_spans.specs.Compiled.{compiled}
 use Rattle.zone_spans.specs.Lines.{Rulesets}
-use Rattle.zone_spans.specs.Schedules.{schedule_of, total_at, totals_of}
+use Rattle.zone_spans.specs.Schedules.{schedule_of_lines, total_at, totals_of}
 use Rattle.tz_posix.specs.TwoRules.{AreInTurn, IsCompiled, IsInYear, first_at, saving_before, year_from}
 use Rattle.tz_posix.proofs.TwoRuleSetLemmas.{two_rules_compile}
 use Rattle.tz_posix.proofs.TwoRuleTotalLemmas.{two_rules_total}
@@ -85,7 +85,7 @@ module _ (rulesets : Rulesets) (zone : TwoRuleZone) (q : RuledValue) (c : SaysTh
       (inr c.no_saving) (known rulesets zone q c) (start_expandable rulesets zone q c) (end_expandable rulesets zone q c)
 
   pub northern_agrees : (t : ℤ) → IsInRuleYears o (first_year zone.from) (pos 2099) (seconds_of t)
-      → total_at (schedule_of rulesets (zone.line ∷ [])) t ≡ value_total q (seconds_of t)
+      → total_at (schedule_of_lines rulesets (zone.line ∷ [])) t ≡ value_total q (seconds_of t)
   northern_agrees t covered =
       let found = found_place rulesets zone q c (seconds_of t) covered in
       schedule-is rulesets (zone.line ∷ []) northern_compiled.set northern_compiled.is t

@@ -11,7 +11,7 @@ use Rattle.zone_values.specs.declared.month.Month.TheVariants.{October}
 use Rattle.zone_values.specs.declared.weekday.Weekday.TheVariants.{Sunday}
 use Rattle.zone_table.specs.declared.zone.ZoneInfo.{ZoneInfo}
 use Rattle.zone_spans.specs.Lines.{Rulesets}
-use Rattle.zone_spans.specs.Schedules.{schedule_of, total_at}
+use Rattle.zone_spans.specs.Schedules.{schedule_of_lines, total_at}
 use Rattle.tz_posix.proofs.TwoRuleFiringLemmas.{wall_moment}
 use Rattle.tz_posix.specs.Agreement.{IsNorthern, IsSouthern, SaysTheSame, start_in, value_of, value_total}
 use Rattle.tz_posix.specs.Agreement.{from_first, from_eighth, last_of_month}
@@ -121,7 +121,7 @@ module _ (rulesets : Rulesets) (line : ZoneInfo) (d s : Option (List ℕ)) (is :
       }
 
   pub new_york_agrees : (t : ℤ) → pos 1167627600 ≤ℤ seconds_of t → seconds_of t <ℤ pos 4102462800
-      → total_at (schedule_of rulesets (line ∷ [])) t ≡ value_total new_york_value (seconds_of t)
+      → total_at (schedule_of_lines rulesets (line ∷ [])) t ≡ value_total new_york_value (seconds_of t)
   new_york_agrees t low high =
       let offset = is.offset_is in
       northern_agrees rulesets (us_rules line d s) new_york_value new_york_same new_york_north t
@@ -193,7 +193,7 @@ module _ (rulesets : Rulesets) (line : ZoneInfo) (d s : Option (List ℕ)) (is :
       ∙ ap (λ o. pos 86400 *ℤ pos 14157 +ℤ pos 7200 -ℤ (o +ℤ pos 0)) offset
 
   pub lord_howe_agrees : (t : ℤ) → pos 1223134200 ≤ℤ seconds_of t → seconds_of t <ℤ pos 4102407000
-      → total_at (schedule_of rulesets (line ∷ [])) t ≡ value_total lord_howe_value (seconds_of t)
+      → total_at (schedule_of_lines rulesets (line ∷ [])) t ≡ value_total lord_howe_value (seconds_of t)
   lord_howe_agrees t low high =
       let offset = is.offset_is in
       southern_agrees rulesets (lord_howe_rules line d s) lord_howe_value lord_howe_same lord_howe_south t
@@ -258,7 +258,7 @@ module _ (rulesets : Rulesets) (line : ZoneInfo) (d s : Option (List ℕ)) (is :
       }
 
   pub moldova_agrees : (t : ℤ) → pos 852069600 ≤ℤ seconds_of t → seconds_of t <ℤ pos 4102437600
-      → total_at (schedule_of rulesets (line ∷ [])) t ≡ value_total moldova_value (seconds_of t)
+      → total_at (schedule_of_lines rulesets (line ∷ [])) t ≡ value_total moldova_value (seconds_of t)
   moldova_agrees t low high =
       let offset = is.offset_is in
       northern_agrees rulesets (moldova_rules line d s) moldova_value moldova_same moldova_north t

@@ -6,7 +6,7 @@ use Rattle.civil_base.specs.Instants.{seconds_of}
 use Rattle.zone_table.specs.Moments.{moment}
 use Rattle.zone_spans.specs.Compiled.{compiled}
 use Rattle.zone_spans.specs.Lines.{Rulesets}
-use Rattle.zone_spans.specs.Schedules.{schedule_of, total_at, totals_of}
+use Rattle.zone_spans.specs.Schedules.{schedule_of_lines, total_at, totals_of}
 use Rattle.tz_posix.specs.TwoRules.{AreInTurn, IsCompiled, IsInYear, first_at, saving_in, second_at, written, year_from}
 use Rattle.tz_posix.proofs.TwoRuleSetLemmas.{two_rules_compile}
 use Rattle.tz_posix.proofs.TwoRuleFiringLemmas.{wall_moment}
@@ -124,7 +124,7 @@ module _ (rulesets : Rulesets) (zone : TwoRuleZone) (q : RuledValue) (c : SaysTh
       (inl c.no_saving) (known rulesets zone q c) (end_expandable rulesets zone q c) (start_expandable rulesets zone q c)
 
   pub southern_agrees : (t : ℤ) → IsFromFirstStart zone (seconds_of t)
-      → total_at (schedule_of rulesets (zone.line ∷ [])) t ≡ value_total q (seconds_of t)
+      → total_at (schedule_of_lines rulesets (zone.line ∷ [])) t ≡ value_total q (seconds_of t)
   southern_agrees t from =
       let found = found_place rulesets zone q c (seconds_of t) (southern_covered (seconds_of t) from) in
       let first : start_in zone (first_year zone.from) ≡ start 0 = ap (start_in zone) (first_place rulesets zone q c) in

@@ -4,11 +4,11 @@ use Rattle.std.proofs.lemmas.Int.{ints}
 use Rattle.std.proofs.lemmas.List.{reverse-append, map-append}
 use Rattle.owned.specs.Sorted.{put_in, stable_sort}
 use Rattle.zone_table.specs.declared.rule.RuleInfo.{RuleInfo}
-use Rattle.zone_spans.specs.Collapse.{is_same_span, is_no_later, kept_with, kept_of, TimesRise}
+use Rattle.zone_spans.specs.Collapse.{is_same_span, is_no_later, kept_with, kept_of, EntryTimesDontFall}
 use Rattle.zone_spans.specs.Entries.{Entry, entry_of, entries_of, entries_from, fixed_span, at_start, is_sooner, raw_entries, sorted_entries, start_entry}
 use Rattle.zone_spans.specs.Firings.{Firing, firings}
 use Rattle.zone_spans.specs.Lines.{Line}
-use Rattle.zone_spans.specs.Listing.{listed}
+use Rattle.zone_spans.specs.Listing.{listed_firings}
 use Rattle.tz_posix.specs.TwoRules.{HasTwoRules, AreInTurn, first_at, second_at, year_from, written}
 use Rattle.tz_posix.proofs.TwoRuleFiringLemmas.{latest, two_rules_fire, wall_moment}
 
@@ -26,7 +26,7 @@ not_sooner : (a b : ℤ) → a ≤ℤ b → int_lt b a ≡ false
 not_sooner a b h = grind (arith, ints)
 
 -- entries whose times don't fall stay as they are
-sorted_stays : (es : List Entry) → TimesRise es → stable_sort is_sooner es ≡ es
+sorted_stays : (es : List Entry) → EntryTimesDontFall es → stable_sort is_sooner es ≡ es
 sorted_stays [] r = refl
 sorted_stays (e ∷ []) r = refl
 sorted_stays (e ∷ a ∷ es) r =
@@ -39,20 +39,20 @@ TimesFall [] = Unit {0}
 TimesFall (b ∷ []) = Unit {0}
 TimesFall (b ∷ a ∷ es) = (a.0 ≤ℤ b.0) × TimesFall (a ∷ es)
 
-one_later : (es : List Entry) (a b : Entry) → TimesRise (es ++ a ∷ []) → a.0 ≤ℤ b.0 → TimesRise ((es ++ a ∷ []) ++ b ∷ [])
+one_later : (es : List Entry) (a b : Entry) → EntryTimesDontFall (es ++ a ∷ []) → a.0 ≤ℤ b.0 → EntryTimesDontFall ((es ++ a ∷ []) ++ b ∷ [])
 one_later [] a b r h = (h, tt)
 one_later (x ∷ []) a b r h = (r.0, (h, tt))
 one_later (x ∷ y ∷ es) a b r h = (r.0, one_later (y ∷ es) a b r.1 h)
 
-rise_reversed : (es : List Entry) → TimesFall es → TimesRise (reverse es)
+rise_reversed : (es : List Entry) → TimesFall es → EntryTimesDontFall (reverse es)
 rise_reversed [] f = tt
 rise_reversed (b ∷ []) f = tt
 rise_reversed (b ∷ a ∷ es) f =
     let before : reverse (a ∷ es) ≡ reverse es ++ a ∷ [] = reverse-append (a ∷ []) es in
-    let rises = subst TimesRise before (rise_reversed (a ∷ es) f.1) in
+    let rises = subst EntryTimesDontFall before (rise_reversed (a ∷ es) f.1) in
     let all : reverse (b ∷ a ∷ es) ≡ (reverse es ++ a ∷ []) ++ b ∷ [] =
     reverse-append (b ∷ []) (a ∷ es) ∙ ap (λ (xs : List Entry). xs ++ b ∷ []) before in
-    subst TimesRise (sym all) (one_later (reverse es) a b rises f.0)
+    subst EntryTimesDontFall (sym all) (one_later (reverse es) a b rises f.0)
 
 -- ---- the collapse
 
@@ -136,7 +136,7 @@ module _ (line : Line) (f g : RuleInfo) (m n : ℕ) (has : HasTwoRules line f g 
   unfolding entries_from entries_of
   raw_is =
       append-nil (entries_of line None)
-      ∙ ap (λ b. cond b (map (entry_of line) (listed None (firings line)) ++ start_entry line None (firings line)) (at_start None (Some (fixed_span line)))) has.ruled
+      ∙ ap (λ b. cond b (map (entry_of line) (listed_firings None (firings line)) ++ start_entry line None (firings line)) (at_start None (Some (fixed_span line)))) has.ruled
       ∙ append-nil (map (entry_of line) (firings line))
       ∙ ap (map (entry_of line)) (two_rules_fire line f g m n has turns)
 

@@ -6,10 +6,10 @@ ghost use Rattle.zone_table.specs.declared.zone.ZoneInfo.{ZoneInfo};
 ghost use Rattle.zone_spans.specs.Compiled.{compiled};
 ghost use Rattle.zone_spans.specs.Lines.{Rulesets};
 ghost use Rattle.zone_spans.specs.Years.{latest_year};
-ghost use Rattle.zone_spans.specs.Schedules.{schedule_of, total_at};
+ghost use Rattle.zone_spans.specs.Schedules.{schedule_of_lines, total_at};
 ghost use Rattle.tz_posix.specs.TwoRules.{IsCompiled};
 ghost use Rattle.tz_lookup.specs.Compiles.{spans_of};
-ghost use Rattle.tz_lookup.specs.Sets.{schedule_of as schedule_in};
+ghost use Rattle.tz_lookup.specs.Sets.{schedule_of_lines as schedule_in};
 ghost use Rattle.tz_lookup.specs.Zones.{set_of};
 ghost use Rattle.tz_zone.specs.declared.set.FixedTimespanSet.{FixedTimespanSet};
 ghost use Rattle.tz_posix.specs.Agreement.{
@@ -70,10 +70,10 @@ pub fn two_yearly_rules_agree()
         → IsCompiled rulesets (zone.line ∷ []) }
     ensures northern { (rulesets : Rulesets) (zone : TwoRuleZone) (q : RuledValue) → SaysTheSame rulesets zone q
         → IsNorthern zone → (t : ℤ) → IsInRuleYears zone.line.offset (first_year zone.from) (pos latest_year) (seconds_of t)
-        → total_at (schedule_of rulesets (zone.line ∷ [])) t ≡ value_total q (seconds_of t) }
+        → total_at (schedule_of_lines rulesets (zone.line ∷ [])) t ≡ value_total q (seconds_of t) }
     ensures southern { (rulesets : Rulesets) (zone : TwoRuleZone) (q : RuledValue) → SaysTheSame rulesets zone q
         → IsSouthern zone → (t : ℤ) → IsFromFirstStart zone (seconds_of t)
-        → total_at (schedule_of rulesets (zone.line ∷ [])) t ≡ value_total q (seconds_of t) }
+        → total_at (schedule_of_lines rulesets (zone.line ∷ [])) t ≡ value_total q (seconds_of t) }
 {}
 
 /// Three real pairs of rules meet each condition of [`two_yearly_rules_agree`], as rulesets of exactly these two: that of the
@@ -91,7 +91,7 @@ pub fn real_pairs_agree()
     ensures new_york { (rulesets : Rulesets) (line : ZoneInfo) (d s : Option (List ℕ))
         → IsRuledBy rulesets (neg_ℤ (pos 18_000)) (us_rules line d s)
         → (t : ℤ) → pos 1_167_627_600 ≤ℤ seconds_of t → seconds_of t <ℤ pos 4_102_462_800
-        → total_at (schedule_of rulesets (line ∷ [])) t ≡ value_total new_york_value (seconds_of t) }
+        → total_at (schedule_of_lines rulesets (line ∷ [])) t ≡ value_total new_york_value (seconds_of t) }
     ensures lord_howe_text { Spells lord_howe_text (value_of lord_howe_value) }
     ensures lord_howe_conditions { (rulesets : Rulesets) (line : ZoneInfo) (d s : Option (List ℕ))
         → IsRuledBy rulesets (pos 37_800) (lord_howe_rules line d s)
@@ -99,7 +99,7 @@ pub fn real_pairs_agree()
     ensures lord_howe { (rulesets : Rulesets) (line : ZoneInfo) (d s : Option (List ℕ))
         → IsRuledBy rulesets (pos 37_800) (lord_howe_rules line d s)
         → (t : ℤ) → pos 1_223_134_200 ≤ℤ seconds_of t → seconds_of t <ℤ pos 4_102_407_000
-        → total_at (schedule_of rulesets (line ∷ [])) t ≡ value_total lord_howe_value (seconds_of t) }
+        → total_at (schedule_of_lines rulesets (line ∷ [])) t ≡ value_total lord_howe_value (seconds_of t) }
     ensures moldova_text { Spells moldova_text (value_of moldova_value) }
     ensures moldova_conditions { (rulesets : Rulesets) (line : ZoneInfo) (d s : Option (List ℕ))
         → IsRuledBy rulesets (pos 7_200) (moldova_rules line d s)
@@ -107,7 +107,7 @@ pub fn real_pairs_agree()
     ensures moldova { (rulesets : Rulesets) (line : ZoneInfo) (d s : Option (List ℕ))
         → IsRuledBy rulesets (pos 7_200) (moldova_rules line d s)
         → (t : ℤ) → pos 852_069_600 ≤ℤ seconds_of t → seconds_of t <ℤ pos 4_102_437_600
-        → total_at (schedule_of rulesets (line ∷ [])) t ≡ value_total moldova_value (seconds_of t) }
+        → total_at (schedule_of_lines rulesets (line ∷ [])) t ≡ value_total moldova_value (seconds_of t) }
 {}
 
 /// The offset that a zone and a POSIX TZ string both give a date-time; none where they give two, or the string is refused.

@@ -6,7 +6,7 @@ use Rattle.std.proofs.lemmas.Bool.{and_parts}
 use Rattle.std.proofs.lemmas.Int.{ints}
 use Rattle.calendar.specs.Orders.{le_from_pass}
 use Rattle.zone_spans.specs.Bounds.{is_small, is_bounded_span, is_bounded_entry, is_bounded}
-use Rattle.zone_spans.specs.Collapse.{TimesRise}
+use Rattle.zone_spans.specs.Collapse.{EntryTimesDontFall}
 use Rattle.zone_spans.specs.Entries.{Entry}
 use Rattle.zone_spans.specs.Schedules.{is_in_offset_range}
 use Rattle.zone_spans.specs.declared.span.FixedTimespanSet as spans
@@ -25,17 +25,17 @@ le_le : (a b c : ℤ) → a ≤ℤ b → b ≤ℤ c → a ≤ℤ c
 le_le a b c h k = omega (arith, ints)
 
 -- the first is at or before each
-first_least : (e : Entry) (es : List Entry) → TimesRise (e ∷ es) → (j : ℕ) → j < length (map shift_of (e ∷ es))
+first_least : (e : Entry) (es : List Entry) → EntryTimesDontFall (e ∷ es) → (j : ℕ) → j < length (map shift_of (e ∷ es))
     → e.0 ≤ℤ (shift_at (map shift_of (e ∷ es)) j).0
 first_least e es h zero l = le_itself e.0
 first_least e [] h (suc j) l = absurd (omega arith)
 first_least e (f ∷ fs) h (suc j) l = le_le _ _ _ h.0 (first_least f fs h.1 j (omega arith))
 
-rise_tail : (e : Entry) (es : List Entry) → TimesRise (e ∷ es) → TimesRise es
+rise_tail : (e : Entry) (es : List Entry) → EntryTimesDontFall (e ∷ es) → EntryTimesDontFall es
 rise_tail e [] h = tt
 rise_tail e (f ∷ fs) h = h.1
 
-pub times_from_rise : (es : List Entry) → TimesRise es → TimesDontFall (map shift_of es)
+pub times_from_rise : (es : List Entry) → EntryTimesDontFall es → TimesDontFall (map shift_of es)
 times_from_rise [] h i j le l = absurd (omega arith)
 times_from_rise (e ∷ es) h zero j le l = first_least e es h j l
 times_from_rise (e ∷ es) h (suc i) zero le l = absurd (omega arith)
@@ -49,7 +49,7 @@ times_bounded [] h k d l = absurd (omega arith)
 times_bounded (e ∷ es) h zero d l = span_time e.0 (and_parts (is_small e.0) _ (and_parts (is_bounded_entry e) _ h).0).0
 times_bounded (e ∷ es) h (suc k) d l = times_bounded es (and_parts (is_bounded_entry e) _ h).1 k d (omega arith)
 
-accepted : (set : FixedTimespanSet) → is_bounded (spans_of set) ≡ true → TimesRise set.others
+accepted : (set : FixedTimespanSet) → is_bounded (spans_of set) ≡ true → EntryTimesDontFall set.others
     → is_in_offset_range (schedule_of set) ≡ true → IsAccepted (schedule_of set)
 accepted set bounded rise range = record {
   range = range;
@@ -62,9 +62,9 @@ accepted set bounded rise range = record {
 -- of a set with these spans
 pub accepted_spans : (set : FixedTimespanSet) (compiled : spans.FixedTimespanSet) → set.first ≡ compiled.first
     → set.others ≡ compiled.rest
-    → is_bounded compiled ≡ true → TimesRise compiled.rest → is_in_offset_range (schedule_of set) ≡ true → IsAccepted (schedule_of set)
+    → is_bounded compiled ≡ true → EntryTimesDontFall compiled.rest → is_in_offset_range (schedule_of set) ≡ true → IsAccepted (schedule_of set)
 accepted_spans set compiled first others bounded rise range =
-    accepted set (ap is_bounded (same set compiled first others) ∙ bounded) (subst TimesRise (sym others) rise) range
+    accepted set (ap is_bounded (same set compiled first others) ∙ bounded) (subst EntryTimesDontFall (sym others) rise) range
   where
     same : (set : FixedTimespanSet) (compiled : spans.FixedTimespanSet) → set.first ≡ compiled.first → set.others ≡ compiled.rest
         → spans_of set ≡ compiled
