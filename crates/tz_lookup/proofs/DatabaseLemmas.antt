@@ -21,7 +21,7 @@ use Rattle.std.proofs.lemmas.List.Folds.{list_any-append}
 use Rattle.std.proofs.lemmas.List.Sorted.{list_any-IsPermutation}
 use Rattle.std.proofs.lemmas.Map.Text.{is_eq-slice_cmp}
 use Rattle.owned.specs.InOrder.{in_order}
-use Rattle.owned.specs.InOrderLaws.{same_in_order, any-in_order, sorted_in_order, rises_from_sorted, tagged, RisesStrictly}
+use Rattle.owned.specs.InOrderLaws.{same_in_order, any-in_order, tagged, RisesStrictly, less}
 use Rattle.owned.specs.Keyed.{text_cmp}
 use Rattle.zone_spans.specs.declared.fault.SpanFault.{SpanFault}
 use Rattle.zone_table.specs.declared.table.Table.{Table}
@@ -147,10 +147,6 @@ pub names_resolve : (table : Table) → list_all (resolves table) (names_of tabl
 unfolding names_of
 names_resolve table = all_in_order (resolves table) (keys table.zonesets ++ keys table.links)
 
-pub names_rise : (table : Table) → RisesStrictly text_cmp (names_of table)
-unfolding names_of
-names_rise table = rises_from_sorted text_cmp _ (sorted_in_order nat_list_cmp_total (filter (resolves table) (keys table.zonesets ++ keys table.links)))
-
 -- ---- zones beside what their names find
 
 -- a zone that is known has no refusal
@@ -182,11 +178,6 @@ names_found table sets names is = sym (first_found sets) ∙ ap (map (λ (found 
     first_asked (name ∷ more) = ap (λ names. name ∷ names) (first_asked more)
 
 -- ---- a name among names that rise
-
-less : (r : Ordering) → is_lt r ≡ true → r ≡ Less
-less Less e = refl
-less Equal e = cc
-less Greater e = cc
 
 turned : (a b : List ℕ) (r : Ordering) → text_cmp a b ≡ r → text_cmp b a ≡ ordering_reverse r
 turned a b r e = nat_list_cmp_total.antisymm b a ∙ ap ordering_reverse e

@@ -4,6 +4,7 @@ use Rattle.std.proofs.lemmas.Bool.{cases_lt}
 use Rattle.std.proofs.lemmas.Bool.Decides.{nat_tests}
 use Rattle.std.proofs.lemmas.Int.{ints}
 use Rattle.std.proofs.lemmas.List.{length-map}
+use Rattle.calendar.specs.Orders.{le_le}
 use Rattle.zone_spans.specs.Entries.{Entry}
 use Rattle.tz_zone.specs.declared.set.FixedTimespanSet.{FixedTimespanSet}
 use Rattle.tz_zone.specs.Sets.{shift_of, shifts_of, IsBetween}
@@ -38,9 +39,6 @@ at_place n a b l = ap (λ t. cond t a b) (passes n 301 l)
 
 past : (a b : ℕ) → cond (nat_lt 301 301) a b ≡ b
 past a b = refl
-
-le_le : (a b c : ℤ) → a ≤ℤ b → b ≤ℤ c → a ≤ℤ c
-le_le a b c h k = omega (arith, ints, h, k)
 
 up_to : (a s : ℤ) → a <ℤ s → a ≤ℤ (s -ℤ pos 1)
 up_to a s h = omega (arith, ints, h)

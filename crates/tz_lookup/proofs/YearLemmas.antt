@@ -7,7 +7,7 @@ use Rattle.calendar.specs.Cycles.{cycle_days}
 use Rattle.calendar.specs.DateLaws.{IsYearOf, place_of}
 use Rattle.calendar.specs.Days.{day}
 use Rattle.calendar.specs.MonthLaws.{days_through-two}
-use Rattle.calendar.specs.Orders.{le_pass, le_fail}
+use Rattle.calendar.specs.Orders.{le_pass, le_fail, le_le}
 use Rattle.calendar.specs.Signs.{signed}
 use Rattle.calendar.specs.YearLaws.{cycle_days-rise, day-cycle}
 use Rattle.tz_lookup.specs.Years.{year_second, begun_from, years_begun, HaveBegun, IsWithinYear}
@@ -45,9 +45,6 @@ begun_is second i (suc n) (suc c) e is l begun ahead =
 pub years_are : (c : ℕ) (second : ℤ) → HaveBegun c second → years_begun second ≡ c
 unfolding years_begun
 years_are c second h = begun_is second 0 301 c c (omega arith) h.within (λ j _ l. h.begun j l) h.ahead
-
-le_le : (a b c : ℤ) → a ≤ℤ b → b ≤ℤ c → a ≤ℤ c
-le_le a b c h k = omega (arith, ints)
 
 -- where one year has begun all before it have
 pub begun_up_to : (c : ℕ) (second : ℤ) → suc c ≤ 301 → year_second c ≤ℤ second → (suc c < 301 → second <ℤ year_second (suc c))

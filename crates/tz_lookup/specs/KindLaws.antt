@@ -1,34 +1,28 @@
 -- The kinds of a set are those that its spans have, and no two of them are the same.
-use Rattle.std.specs.Prelude.{◌≡◌, Bool, true, false, cond, ◌&&◌, ◌||◌, not, List, [], ◌∷◌, ◌++◌, map, bytes_eq, ℤ}
+use Rattle.std.specs.Prelude.{◌≡◌, Bool, true, false, cond, ◌&&◌, ◌||◌, not, List, [], ◌∷◌, ◌++◌, map, bytes_eq}
 use Rattle.std.specs.List.{list_any}
 use Rattle.std.specs.Ordering.{int_eq}
-use Rattle.std.proofs.Common.{refl, sym, ap, ◌∙◌, arith}
-use Rattle.std.proofs.lemmas.Bool.{and_parts}
-use Rattle.std.proofs.lemmas.Int.{ints}
+use Rattle.std.proofs.Common.{refl, sym, ap, ◌∙◌}
+use Rattle.std.proofs.lemmas.Bool.{and_parts, or_parts}
 use Rattle.std.proofs.lemmas.Slice.Eq.{bytes_eq-Decides}
+use Rattle.calendar.specs.Orders.{eq_from_pass, eq_itself}
 use Rattle.zone_spans.specs.declared.span.FixedTimespan.{FixedTimespan}
 use Rattle.tz_zone.specs.declared.set.FixedTimespanSet.{FixedTimespanSet}
 use Rattle.tz_lookup.specs.Kinds.{is_same_kind, with_kind, with_kinds, kinds_of}
-
-same_number : (a b : ℤ) → int_eq a b ≡ true → a ≡ b
-same_number a b h = grind (arith, ints)
 
 -- two kinds that are the same are one
 pub same_kind : (a b : FixedTimespan) → is_same_kind a b ≡ true → a ≡ b
 same_kind a b h =
     let first = and_parts (int_eq a.utc_offset b.utc_offset) (int_eq a.dst_offset b.dst_offset && bytes_eq a.name b.name) h in
     let both = and_parts (int_eq a.dst_offset b.dst_offset) (bytes_eq a.name b.name) first.1 in
-    let utc = same_number a.utc_offset b.utc_offset first.0 in
-    let dst = same_number a.dst_offset b.dst_offset both.0 in
+    let utc = eq_from_pass a.utc_offset b.utc_offset first.0 in
+    let dst = eq_from_pass a.dst_offset b.dst_offset both.0 in
     let name = (bytes_eq-Decides a.name b.name).0 both.1 in
     (λ i. record { utc_offset = utc i; dst_offset = dst i; name = name i })
 
-number_itself : (a : ℤ) → int_eq a a ≡ true
-number_itself a = grind (arith, ints)
-
 kind_itself : (a : FixedTimespan) → is_same_kind a a ≡ true
 kind_itself a =
-    (λ i. number_itself a.utc_offset i && (number_itself a.dst_offset i && (bytes_eq-Decides a.name a.name).1 refl i))
+    (λ i. eq_itself a.utc_offset i && (eq_itself a.dst_offset i && (bytes_eq-Decides a.name a.name).1 refl i))
 
 -- the kind is one of some kinds
 abbrev pub is_among : FixedTimespan → List FixedTimespan → Bool
@@ -88,17 +82,13 @@ turned a b e = by_test (is_same_kind a b) refl
         let is = same_kind a b f in
         let yes : is_same_kind b a ≡ true = ap (λ k. is_same_kind b k) is ∙ kind_itself b in cc
 
-neither : (a b : Bool) → (a || b) ≡ false → (a ≡ false) × (b ≡ false)
-neither true b e = absurd (cc)
-neither false b e = (refl, e)
-
 distinct_more : (kinds : List FixedTimespan) (more : FixedTimespan) → is_among more kinds ≡ false → are_distinct kinds ≡ true
     → are_distinct (kinds ++ more ∷ []) ≡ true
 unfolding are_distinct
 distinct_more [] more apart distinct = refl
 distinct_more (k ∷ kinds) more apart distinct =
     let parts = and_parts (not (is_among k kinds)) (are_distinct kinds) distinct in
-    let both = neither (is_same_kind more k) (is_among more kinds) apart in
+    let both = or_parts (is_same_kind more k) (is_among more kinds) apart in
     let here : is_among k (kinds ++ more ∷ []) ≡ is_among k kinds =
     among_more k more kinds ∙ ap (λ b. is_among k kinds || b) (turned k more both.0) ∙ or_false (is_among k kinds) in
     (λ i. not (here i) && distinct_more kinds more both.1 parts.1 i) ∙ ap (λ b. b && true) parts.0

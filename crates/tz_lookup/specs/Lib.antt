@@ -5,6 +5,7 @@ pub use Rattle.tz_zone.specs.Search
 pub use Rattle.tz_zone.specs.Faults
 pub use Rattle.tz_zone.specs.InForce
 pub use Rattle.tz_zone.specs.InForceLaws
+pub use Rattle.tz_zone.specs.SecondLaws
 pub use Rattle.tz_zone.specs.RisingLaws
 pub use Rattle.tz_zone.specs.InstantLaws
 pub use Rattle.tz_zone.specs.AnswerLaws
@@ -31,4 +32,5 @@ pub mod CompactZones
 pub mod CompactLeft
 -- Laws: what a caller may use.
 pub mod PartLaws
+pub mod DatabaseLaws
 pub mod KindLaws

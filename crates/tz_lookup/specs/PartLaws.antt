@@ -5,15 +5,12 @@ use Rattle.std.specs.List.{starts_with}
 use Rattle.std.specs.Str.Iter.{HasSubslice}
 use Rattle.std.proofs.lemmas.Bool.Decides.{Decides-eqb}
 use Rattle.std.proofs.lemmas.Slice.Eq.{starts_is}
+use Rattle.std.proofs.lemmas.Bool.{or_right}
 use Rattle.tz_lookup.specs.Databases.{has_part}
 
 at_front : (text part : List ℕ) → (starts_with nat_eq text part ≡ true → text ≡ part ++ drop (length part) text)
     × ((rest : List ℕ) → text ≡ part ++ rest → starts_with nat_eq text part ≡ true)
 at_front text part = starts_is Decides-eqb text part (starts_with nat_eq text part) refl
-
-or_right : (a b : Bool) → b ≡ true → (a || b) ≡ true
-or_right true b h = refl
-or_right false b h = h
 
 either : {P : Type 0} (a b : Bool) → (a || b) ≡ true → (a ≡ true → P) → (b ≡ true → P) → P
 either true b h first second = first refl

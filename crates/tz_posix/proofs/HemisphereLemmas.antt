@@ -1,6 +1,7 @@
 -- The total that two firings in a year leave is that of a start and an end, whichever of them comes first.
 use Rattle.std.proofs.Common.{◌≡◌, Bool, true, false, cond, not, ◌&&◌, ◌||◌, refl, sym, ap, ◌∙◌, arith, ℤ, pos, ◌+ℤ◌, ◌-ℤ◌, ◌<ℤ◌, ◌≤ℤ◌, int_lt, int_le, int_eq}
 use Rattle.std.proofs.lemmas.Int.{ints}
+use Rattle.calendar.specs.Orders.{le_from_lt, lt_pass}
 use Rattle.tz_posix_core.specs.InForce.{is_within}
 
 lt_is : (t b : ℤ) → int_lt t b ≡ not (int_le b t)
@@ -8,9 +9,6 @@ lt_is t b = grind (arith, ints)
 
 lt_false : (a b : ℤ) → a <ℤ b → int_lt b a ≡ false
 lt_false a b h = grind (arith, ints)
-
-lt_true : (a b : ℤ) → a <ℤ b → int_lt a b ≡ true
-lt_true a b h = grind (arith, ints)
 
 no_more : (o : ℤ) → o +ℤ pos 0 ≡ o
 no_more o = omega (arith, ints)
@@ -41,7 +39,7 @@ pub southern_total : (o p s a b t : ℤ) → b <ℤ a → (int_le a t ≡ false 
     → o +ℤ cond (int_le a t) p (cond (int_le b t) (pos 0) s) ≡ cond (is_within a b t) (o +ℤ p) o
 southern_total o p s a b t h before =
     south_cases o p s (int_le a t) (int_le b t) before
-    ∙ sym (λ i. cond ((int_le a t && lt_is t b i) || (lt_true b a h i && (lt_is t b i || int_le a t))) (o +ℤ p) o)
+    ∙ sym (λ i. cond ((int_le a t && lt_is t b i) || (lt_pass b a h i && (lt_is t b i || int_le a t))) (o +ℤ p) o)
 
 -- ---- what is written, by when it comes: a start is written the offset later, an end the offset and the saving
 
@@ -56,9 +54,6 @@ up_le a b p q h = omega (arith, ints)
 
 pub up_lt : (a b p : ℤ) → pos 0 <ℤ p → (a +ℤ p) <ℤ b → a <ℤ b
 up_lt a b p q h = omega (arith, ints)
-
-pub lt_le : (a b : ℤ) → a <ℤ b → a ≤ℤ b
-lt_le a b h = omega (arith, ints)
 
 pub le_same : (x y a b : ℤ) → x ≡ a → y ≡ b → a ≤ℤ b → x ≤ℤ y
 le_same x y a b e f h = omega (arith, ints)

@@ -11,6 +11,7 @@ use Rattle.zone_values.specs.Months.{month_number}
 use Rattle.zone_values.specs.declared.time.TimeType.TheVariants.{Wall}
 use Rattle.zone_values.specs.declared.weekday.Weekday.{Weekday}
 use Rattle.zone_table.specs.declared.rule.RuleInfo.{RuleInfo}
+use Rattle.tz_posix_core.specs.DayLaws.{days_into_year-is}
 use Rattle.tz_posix.specs.TwoRules.{written}
 use Rattle.tz_posix.proofs.TwoRuleFiringLemmas.{wall_moment}
 use Rattle.tz_posix.specs.Agreement.{IsChange, IsInRuleYears, IsNorthern, IsRuleYear, IsSameDay, IsSouthern, IsTimeOfDay, TwoRuleZone, end_in, start_in}
@@ -26,17 +27,13 @@ record IsInto (rule : RuleInfo) (y : ℤ) (k : ℕ) : Type 0 where
   from : days_through y (month_number rule.month - 1) ≤ k
   before : k < days_through y (month_number rule.month)
 
-days_into-is : (y : ℤ) (m d : ℕ) → days_into_year y m d ≡ days_through y (m - 1) + (d - 1)
-unfolding days_into_year
-days_into-is y m d = refl
-
 days_into : (rule : RuleInfo) (w : Weekday) (date : Date) (y : ℤ) → IsCountedYear y → IsSameDay rule.month w rule.day date
     → (k : ℕ) × IsInto rule y k
 days_into rule w date y years same =
     let m = month_number rule.month in
     let here = is_named rule.month w rule.day date y years same in
     let month = here.in_month in
-    let place = days_into-is y m here.place in
+    let place = days_into_year-is y m here.place in
     let step = days_through-step y m month.first_month in (
       days_into_year y m here.place,
       record {

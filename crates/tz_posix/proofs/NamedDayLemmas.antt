@@ -2,6 +2,7 @@
 use Rattle.std.proofs.Common.{◌≡◌, ℕ, suc, ◌+◌, ◌-◌, ◌%◌, ◌<◌, ◌≤◌, refl, ap, ◌∙◌, arith, eq-eqb, nat_eq, ℤ, pos, ◌+ℤ◌, ◌-ℤ◌, ◌<ℤ◌, sym, unsigned_abs, Bool, true, false, not, ◌&&◌}
 use Rattle.std.proofs.lemmas.Bool.{and_from}
 use Rattle.std.proofs.lemmas.Bool.Decides.{nat_tests}
+use Rattle.std.proofs.Math.Bool.{and-false}
 use Rattle.calendar.specs.Dates.{last_with}
 use Rattle.calendar.specs.DateLaws.{day-between, day-last_of_year, last_with-is, place_of}
 use Rattle.calendar.specs.Days.{day, days_in_month, IsCountedYear, IsDate}
@@ -12,6 +13,7 @@ use Rattle.calendar.specs.Weekdays.{weekday_of}
 use Rattle.calendar.specs.YearLaws.{cycle_days-suc, day-cycle}
 use Rattle.zone_values.specs.Days.{first_from, is_in_year, named_day}
 use Rattle.zone_values.specs.Months.{month_number}
+use Rattle.zone_values.specs.WeekdayLaws.{weekday_number-small}
 use Rattle.zone_values.specs.Weekdays.{weekday_number}
 use Rattle.zone_values.specs.declared.day.DaySpec.{DaySpec}
 use Rattle.zone_values.specs.declared.month.Month.{Month}
@@ -25,15 +27,6 @@ use Rattle.tz_posix.specs.Agreement.{IsSameDay, from_first, from_eighth, from_fi
 use Rattle.tz_posix_core.specs.Days.{nth_weekday, rule_day}
 use Rattle.tz_posix_core.specs.declared.date.Date.{Date}
 use Rattle.tz_posix_core.specs.WeekdayLaws.{day-from_first, last_with_weekday, weekday_of-later, weekday_of-small, weekday_in_month}
-
-pub weekday_number-small : (w : Weekday) → weekday_number w < 7
-weekday_number-small Sunday = omega arith
-weekday_number-small Monday = omega arith
-weekday_number-small Tuesday = omega arith
-weekday_number-small Wednesday = omega arith
-weekday_number-small Thursday = omega arith
-weekday_number-small Friday = omega arith
-weekday_number-small Saturday = omega arith
 
 -- how far on the weekday comes
 first_from-is : (w : ℕ) (k : ℤ) → w < 7 → first_from w k ≡ k +ℤ pos ((w + 7 - weekday_of k) % 7)
@@ -168,10 +161,6 @@ date-in_year y m d years date =
     ) in
     and_from _ _ (le_pass (day y 1 1) (day y m d) within.0) (lt_pass (day y m d) (day (y +ℤ pos 1) 1 1) next)
 
-never : (b : Bool) → (b && false) ≡ false
-never true = refl
-never false = refl
-
 -- no such day lies in another year
 pub never_outside : (rule : RuleInfo) (w : Weekday) (date : Date) (y : ℤ) → IsCountedYear y → IsSameDay rule.month w rule.day date
     → is_outside rule y ≡ false
@@ -179,4 +168,4 @@ unfolding is_outside
 never_outside rule w date y years same =
     let here = is_named rule.month w rule.day date y years same in
     let inside = ap (λ k. is_in_year k y) here.named ∙ date-in_year y _ _ years here.in_month in
-    ap (λ b. applies_to_year rule y && not b) inside ∙ never (applies_to_year rule y)
+    ap (λ b. applies_to_year rule y && not b) inside ∙ and-false (applies_to_year rule y)

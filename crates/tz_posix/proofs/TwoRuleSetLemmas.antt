@@ -4,6 +4,7 @@ use Rattle.std.specs.List.{list_any, list_all}
 use Rattle.std.specs.Option.{option_map}
 use Rattle.std.proofs.lemmas.List.{reverse-append}
 use Rattle.std.proofs.lemmas.List.Folds.{list_any-append}
+use Rattle.std.proofs.lemmas.Bool.{or_right}
 use Rattle.zone_table.specs.Moments.{has_years}
 use Rattle.zone_table.specs.declared.rule.RuleInfo.{RuleInfo}
 use Rattle.zone_table.specs.declared.zone.ZoneInfo.{ZoneInfo}
@@ -30,10 +31,6 @@ no_year test (suc n) none =
     let before = no_year test n (λ i l. none i (omega (arith, l))) in
     (λ k. before k || test (pos (1800 + n))) ∙ none n (omega arith)
 
-or_true : (a b : Bool) → b ≡ true → (a || b) ≡ true
-or_true true b h = refl
-or_true false b h = h
-
 -- where some entry passes, one is found
 pub record IsFound (test : Entry → Bool) (es : List Entry) : Type 0 where
   pub entry : Entry
@@ -54,7 +51,7 @@ module _ (line : Line) (f g : RuleInfo) (m n : ℕ) (has : HasTwoRules line f g 
   one_standard : (k : ℕ) → list_any is_standard (first_entry line f g m k ∷ second_entry line f g m k ∷ []) ≡ true
   one_standard k = ⊎_elim
       (λ h. ap (λ s. int_eq s (pos 0) || (int_eq g.time_to_add (pos 0) || false)) h)
-      (λ h. ap (λ s. int_eq f.time_to_add (pos 0) || (int_eq s (pos 0) || false)) h ∙ or_true (int_eq f.time_to_add (pos 0)) true refl)
+      (λ h. ap (λ s. int_eq f.time_to_add (pos 0) || (int_eq s (pos 0) || false)) h ∙ or_right (int_eq f.time_to_add (pos 0)) true refl)
       standard
 
   some_standard : (k : ℕ) → 0 < k → list_any is_standard (reverse (entries line f g m k)) ≡ true
@@ -62,7 +59,7 @@ module _ (line : Line) (f g : RuleInfo) (m n : ℕ) (has : HasTwoRules line f g 
   some_standard (suc k) l =
       ap (list_any is_standard) (reverse-append (second_entry line f g m k ∷ first_entry line f g m k ∷ []) (entries line f g m k))
       ∙ list_any-append is_standard (reverse (entries line f g m k)) (first_entry line f g m k ∷ second_entry line f g m k ∷ [])
-      ∙ or_true (list_any is_standard (reverse (entries line f g m k))) _ (one_standard k)
+      ∙ or_right (list_any is_standard (reverse (entries line f g m k))) _ (one_standard k)
 
   raw_standard : list_any is_standard (raw_entries (line ∷ [])) ≡ true
   raw_standard = ap (list_any is_standard) (raw_is_entries line f g m n has turns) ∙ some_standard n some

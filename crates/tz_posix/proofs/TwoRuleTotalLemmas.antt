@@ -6,7 +6,7 @@ use Rattle.std.proofs.lemmas.Bool.{and_parts, cases_lt}
 use Rattle.std.proofs.lemmas.Bool.Decides.{Decides-int_eq}
 use Rattle.std.proofs.lemmas.List.{reverse-append}
 use Rattle.owned.specs.Bytes.{are_same_bytes}
-use Rattle.calendar.specs.Orders.{le_pass, le_fail, le_from_pass, le_from_fail}
+use Rattle.calendar.specs.Orders.{le_pass, le_fail, le_from_pass, le_from_fail, lt_le}
 use Rattle.calendar.specs.Signs.{signed, floored}
 use Rattle.civil_base.specs.Instants.{seconds_of}
 use Rattle.zone_table.specs.declared.rule.RuleInfo.{RuleInfo}
@@ -21,23 +21,9 @@ use Rattle.tz_posix.proofs.TwoRuleEntryLemmas.{all_kept, entries, map-reverse, s
 use Rattle.tz_posix.proofs.TwoRuleFiringLemmas.{latest}
 use Rattle.zone_spans.specs.declared.span.FixedTimespan.{FixedTimespan}
 use Rattle.zone_spans.specs.declared.span.FixedTimespanSet.{FixedTimespanSet}
+use Rattle.tz_zone.specs.SecondLaws.{same_test}
 
 -- ---- totals by the second
-
-begun : (a t : ℤ) → a ≤ℤ seconds_of t → (a *ℤ pos 1000000000) ≤ℤ t
-unfolding seconds_of
-begun a t h = omega (arith, signed, floored t 1000000000)
-
-not_begun : (a t : ℤ) → seconds_of t <ℤ a → t <ℤ (a *ℤ pos 1000000000)
-unfolding seconds_of
-not_begun a t h = omega (arith, signed, floored t 1000000000)
-
-same_test : (a t : ℤ) → int_le (a *ℤ pos 1000000000) t ≡ int_le a (seconds_of t)
-same_test a t = by_test (int_le a (seconds_of t)) refl
-  where
-    by_test : (b : Bool) → int_le a (seconds_of t) ≡ b → int_le (a *ℤ pos 1000000000) t ≡ b
-    by_test true e = le_pass _ _ (begun a t (le_from_pass _ _ e))
-    by_test false e = le_fail _ _ (not_begun a t (le_from_fail _ _ e))
 
 -- the total of the last of these entries that is not later than a second, else the one before them
 abbrev total_after : ℤ → List Entry → ℤ → ℤ
@@ -105,9 +91,6 @@ is_past a second h = grind (arith, ints)
 
 is_to_come : (a second : ℤ) → second <ℤ a → int_le a second ≡ false
 is_to_come a second h = grind (arith, ints)
-
-lt_le : (a b c : ℤ) → a <ℤ b → b ≤ℤ c → a <ℤ c
-lt_le a b c p q = omega (arith, ints)
 
 -- of totals at one offset, the saving of the one that is chosen
 chosen : (b c : Bool) (o p q x r : ℤ) → x ≡ o +ℤ r → cond b (o +ℤ p) (cond c (o +ℤ q) x) ≡ o +ℤ cond b p (cond c q r)

@@ -1,10 +1,10 @@
 -- Runs at the front of a text.
 use Rattle.std.proofs.Common.{◌≡◌, ℕ, suc, ◌<◌, ◌^◌, Bool, true, false, cond, ◌&&◌, List, [], ◌∷◌, length, Option, Some, None}
-use Rattle.std.proofs.Common.{option_map, Result, Ok, Err, Bor, refl, sym, ap, arith, rules, add-one, nat_lt, nat_eq, take_while}
+use Rattle.std.proofs.Common.{option_map, Result, Ok, Err, Bor, refl, sym, ap, arith, rules, add-one, nat_lt, nat_eq}
 use Rattle.std.proofs.Common.{zero, lt-ltb, ltb-true}
 use Rattle.std.proofs.lemmas.Bool.{false_from_ne_true, and_parts, cond-false}
 use Rattle.std.proofs.lemmas.Bool.Decides.{nat_tests}
-use Rattle.std.proofs.lemmas.List.Sums.{prefix_len-le-length, prefix_len_passes, prefix_len_stops, take_while-cons}
+use Rattle.std.proofs.lemmas.List.Sums.{prefix_len-le-length, prefix_len_passes, prefix_len_stops}
 use Rattle.std.proofs.lemmas.Str.{IsCharBoundary-after_ascii, IsCharBoundary-start, IsCharBoundary-before_ascii}
 use Rattle.std.proofs.lemmas.Str.Parse.{IsNumeralModel, numerals_by_value, parse_digits}
 use Rattle.std.specs.Char.{is_ascii_digit, is_ascii_alphabetic}

@@ -10,7 +10,7 @@ use Rattle.calendar.specs.Orders.{le_pass, le_fail}
 use Rattle.calendar.specs.Signs.{signed}
 use Rattle.civil_base.specs.Ranges.{first_day, last_day, IsDay, IsYear}
 use Rattle.tz_posix_core.specs.InForce.{is_year}
-use Rattle.tz_posix_core.specs.DayLaws.{day-first, day-last, counted, new_year}
+use Rattle.civil_base.specs.DayRangeLaws.{day-first, day-last, counted, new_year}
 
 first_year : IsYear (neg_ℤ (pos 9999))
 first_year = record { first = omega (arith, signed); last = omega (arith, signed) }

@@ -1,48 +1,18 @@
 -- The days of a year's dates lie in the years, and the days of a year without February 29.
-use Rattle.std.proofs.Common.{◌≡◌, ℕ, ◌+◌, ◌-◌, ◌<◌, ◌≤◌, cond, true, false, ◌&&◌, nat_le, inl, inr, refl, arith, ℤ, pos, neg_ℤ, ◌+ℤ◌, ap}
+use Rattle.std.proofs.Common.{◌≡◌, ℕ, ◌+◌, ◌-◌, ◌<◌, ◌≤◌, cond, true, false, ◌&&◌, nat_le, inl, inr, refl, arith, ℤ, pos, ◌+ℤ◌, ap}
 use Rattle.std.proofs.lemmas.Bool.{cases_lt, cases_Bool}
 use Rattle.std.proofs.lemmas.Bool.Decides.{nat_tests}
 use Rattle.calendar.specs.Dates.{year_of, month_of, day_of}
-use Rattle.calendar.specs.DateLaws.{day_parts, day-between, day-into_year, day-last_of_year, year-between}
-use Rattle.calendar.specs.Days.{is_leap, days_in_year, days_in_month, days_after_zero, days_before_zero, year_start, days_through}
+use Rattle.calendar.specs.DateLaws.{day_parts, day-into_year, day-last_of_year, year-between}
+use Rattle.calendar.specs.Days.{is_leap, days_in_year, days_in_month, days_after_zero, year_start, days_through}
 use Rattle.calendar.specs.Days.{days_into_year, day, IsCountedYear, IsDate}
 use Rattle.calendar.specs.MonthLaws.{days_in_month-january, days_in_month-december, days_in_month-february}
 use Rattle.calendar.specs.MonthLaws.{days_through-late, days_through-two}
 use Rattle.calendar.specs.Signs.{signed}
 use Rattle.calendar.specs.YearLaws.{days_in_year-cases}
-use Rattle.civil_base.specs.Ranges.{first_day, last_day, IsDay, IsYear}
+use Rattle.civil_base.specs.DayRangeLaws.{counted, date-inside, new_year}
+use Rattle.civil_base.specs.Ranges.{IsDay, IsYear}
 use Rattle.tz_posix_core.specs.Days.{julian_day}
-
-pub day-first : day (neg_ℤ (pos 9999)) 1 1 ≡ first_day
-unfolding is_leap days_in_year days_in_month days_after_zero days_before_zero year_start days_through days_into_year day
-day-first = refl
-
-pub day-last : day (pos 9999) 12 31 ≡ last_day
-unfolding is_leap days_in_year days_in_month days_after_zero days_before_zero year_start days_through days_into_year day
-day-last = refl
-
-pub counted : (y : ℤ) → IsYear y → IsCountedYear y
-counted y h = record { first = omega (arith, signed); last = omega (arith, signed) }
-
--- the dates of those years have the days of those years
-pub day-inside : (y : ℤ) (m d : ℕ) → IsYear y → IsDate y m d → IsDay (day y m d)
-day-inside y m d year date =
-    let first : IsYear (neg_ℤ (pos 9999)) = record { first = omega (arith, signed); last = omega (arith, signed) } in
-    let last : IsYear (pos 9999) = record { first = omega (arith, signed); last = omega (arith, signed) } in
-    let inside = day-between y m d (neg_ℤ (pos 9999)) (pos 9999) (counted _ first) (counted _ last) year.first year.last date in
-    record { first = omega (arith, signed, inside.0, day-first); last = omega (arith, signed, inside.1, day-last) }
-
-pub new_year : (y : ℤ) → IsDate y 1 1
-new_year y =
-    record {
-      first_month = omega arith;
-      last_month = omega arith;
-      first_day = omega arith;
-      last_day = omega (
-        arith,
-        days_in_month-january y,
-      );
-    }
 
 last_date : (y : ℤ) → IsDate y 12 31
 last_date y =
@@ -59,8 +29,8 @@ last_date y =
 -- and so have the days counted on from the first of January, as many as the year has
 pub counted_day-inside : (y : ℤ) (n : ℕ) → IsYear y → n < days_in_year y → IsDay (day y 1 1 +ℤ pos n)
 counted_day-inside y n year few =
-    let first = day-inside y 1 1 year (new_year y) in
-    let last = day-inside y 12 31 year (last_date y) in
+    let first = date-inside y 1 1 year (new_year y) in
+    let last = date-inside y 12 31 year (last_date y) in
     record { first = omega (arith, signed); last = omega (arith, signed, day-last_of_year y (counted y year)) }
 
 -- ---- 1970 has no February 29, and begins on day 0
@@ -122,7 +92,7 @@ common-date y m d date =
       last_day = omega (arith, common-month y m, date.last_day);
     }
 
-days_into_year-is : (y : ℤ) (m d : ℕ) → days_into_year y m d ≡ days_through y (m - 1) + (d - 1)
+pub days_into_year-is : (y : ℤ) (m d : ℕ) → days_into_year y m d ≡ days_through y (m - 1) + (d - 1)
 unfolding days_into_year
 days_into_year-is y m d = refl
 
@@ -183,4 +153,4 @@ julian_day-is y n year some few =
 pub julian_day-inside : (y : ℤ) (n : ℕ) → IsYear y → 1 ≤ n → n ≤ 365 → IsDay (julian_day y n)
 unfolding julian_day
 julian_day-inside y n year some few =
-    day-inside y _ _ year (common-date y _ _ (in_common (n - 1) (omega arith)).date)
+    date-inside y _ _ year (common-date y _ _ (in_common (n - 1) (omega arith)).date)

@@ -1,6 +1,6 @@
 -- What is read is spelled.
 use Rattle.std.proofs.Common.{◌≡◌, ℕ, ◌<◌, ◌≤◌, Bool, true, false, cond, ◌⊎◌, inl, inr, List, [], ◌∷◌, ◌++◌, length, Option, Some}
-use Rattle.std.proofs.Common.{None, option_map, option_and_then, refl, sym, ap, subst, ◌∙◌, arith, nat_lt, nat_eq, nat_le}
+use Rattle.std.proofs.Common.{None, refl, sym, ap, subst, ◌∙◌, arith, nat_lt, nat_eq, nat_le}
 use Rattle.std.proofs.Common.{take_while, ltb-true, append_assoc, append-nil}
 use Rattle.std.proofs.lemmas.Bool.{and_parts}
 use Rattle.std.proofs.lemmas.Bool.Decides.{nat_tests}
@@ -11,6 +11,7 @@ use Rattle.std.specs.Char.{is_ascii_digit, is_ascii_alphabetic}
 use Rattle.std.specs.List.{prefix_len, list_all}
 use Rattle.std.specs.Option.{option_map_or}
 use Rattle.std.specs.Str.Parse.{digits_value}
+use Rattle.calendar.specs.LogicLaws.{map_some, bind_some}
 use Rattle.tz_posix_core.specs.Marks.{colon, plus_sign, comma, minus_sign, dot, slash, less, greater, letter_J, letter_M}
 use Rattle.tz_posix_core.specs.Reading.{after_mark, after_run, value_in, number_at, part_at, seconds_at, time_at, offset_at, sign_at}
 use Rattle.tz_posix_core.specs.Reading.{letters_at, enclosed_at, name_at, day_at, weekday_at, date_at, date_time_at, moment_at, rule_in}
@@ -44,15 +45,6 @@ pub data Takes {V : Type 0} (Is : List ℕ → V → Type 0) : List ℕ → V �
 pub takes_as : {V : Type 0} {Is : List ℕ → V → Type 0} {text : List ℕ} {x y : V × List ℕ} → Some x ≡ Some y → Takes Is text x.0 x.1
     → Takes Is text y.0 y.1
 takes_as {V} {Is} {text} {x} {y} e t = subst (λ (p : V × List ℕ). Takes Is text p.0 p.1) (same_Some x y e) t
-
-pub bind_some : {A B : Type 0} (f : A → Option B) (o : Option A) (y : B) → option_and_then f o ≡ Some y
-    → (x : A) × (o ≡ Some x) × (f x ≡ Some y)
-bind_some f (Some x) y e = (x, refl, e)
-bind_some f None y e = absurd cc
-
-pub map_some : {A B : Type 0} (f : A → B) (o : Option A) (y : B) → option_map f o ≡ Some y → (x : A) × (o ≡ Some x) × (f x ≡ y)
-map_some f (Some x) y e = (x, refl, same_Some _ _ e)
-map_some f None y e = absurd cc
 
 pub chosen : {A : Type 0} (b : Bool) (x y z : A) → cond b x y ≡ z → ((b ≡ true) × (x ≡ z)) ⊎ ((b ≡ false) × (y ≡ z))
 chosen true x y z e = inl (refl, e)

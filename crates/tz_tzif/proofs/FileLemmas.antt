@@ -2,19 +2,11 @@
 use Rattle.std.proofs.Common.{◌≡◌, ℤ, pos, negsuc, ◌+ℤ◌, ◌*ℤ◌, ◌≤ℤ◌, ◌<ℤ◌, int_le, Bool, true, false, cond, Some, None, filter, sym, ap, ◌∙◌, arith}
 use Rattle.std.proofs.lemmas.Int.{ints}
 use Rattle.civil_base.specs.Instants.{seconds_of}
+use Rattle.tz_zone.specs.SecondLaws.{IsSecond, second_is}
 use Rattle.tz_footer.specs.InForce.{FooterZone, held_at}
 use Rattle.zone_tzif_core.specs.Totals.{last_kind, total_at as file_total_at}
 use Rattle.zone_tzif_core.specs.Zones.{KindValue, ZoneValue}
 use Rattle.tz_tzif.specs.InForce.{are_over, changed_kind, kind_in, kind_at, total_at}
-
-record IsSecond (t s : ℤ) : Type 0 where
-  low : (pos 1000000000 *ℤ s) ≤ℤ t
-  high : t <ℤ ((pos 1000000000 *ℤ s) +ℤ pos 1000000000)
-
-second_is : (t : ℤ) → IsSecond t (seconds_of t)
-unfolding seconds_of
-second_is (pos n) = record { low = omega (arith, ints); high = omega (arith, ints) }
-second_is (negsuc n) = record { low = omega (arith, ints); high = omega (arith, ints) }
 
 test_same : (a t s : ℤ) → IsSecond t s → int_le (a *ℤ pos 1000000000) t ≡ int_le a s
 test_same a t s h = grind (arith, ints, h.low, h.high)

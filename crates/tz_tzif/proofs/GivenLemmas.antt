@@ -5,17 +5,12 @@ use Rattle.std.specs.Ordering.{int_eq}
 use Rattle.std.specs.List.{filter}
 use Rattle.std.proofs.lemmas.Bool.{cases_Bool}
 use Rattle.std.proofs.lemmas.Int.{ints}
+use Rattle.calendar.specs.Orders.{eq_from_pass, eq_pass}
 use Rattle.civil_base.specs.Instants.{instant_at}
 use Rattle.tz_zone.specs.InForce.{AreInstants}
-use Rattle.tz_zone.specs.InstantLaws.{from_reading}
+use Rattle.tz_zone.specs.InstantLaws.{from_reading, reads_back}
 use Rattle.tz_zone.specs.RisingLaws.{Rises, pairs_more, contains_head, contains_more, cases_more}
 use Rattle.tz_tzif.specs.Instants.{Falls, FallsFrom}
-
-pub eq_from_test : (a b : ℤ) → int_eq a b ≡ true → a ≡ b
-eq_from_test a b h = grind (arith, ints)
-
-pub test_from_eq : (a b : ℤ) → a ≡ b → int_eq a b ≡ true
-test_from_eq a b h = grind (arith, ints)
 
 -- whether an offset is in force at the instant at which clocks at it show a local time
 abbrev pub reads : (ℤ → ℤ) → ℤ → ℤ → Bool
@@ -41,9 +36,6 @@ later_by_less x o bound h = omega (arith, ints)
 
 lt_lt : (a b c : ℤ) → a <ℤ b → b <ℤ c → a <ℤ c
 lt_lt a b c h k = omega (arith, ints)
-
-reads_back : (x o total t : ℤ) → total ≡ o → instant_at x o ≡ t → (t +ℤ pos 1000000000 *ℤ total) ≡ x
-reads_back x o total t e f = omega (arith, ints, e, f)
 
 given_later : (total : ℤ → ℤ) (x bound : ℤ) (os : List ℤ) → FallsFrom bound os → (t : ℤ) → Contains (given total x os) t
     → instant_at x bound <ℤ t
@@ -80,7 +72,7 @@ given_reads total x [] t c = absurd (omega (arith, c.1))
 given_reads total x (o ∷ os) t c =
     ⊎_elim {C = Reads total x t}
     (λ is. cases_more (instant_at x o) (given total x os) t (subst (λ l. Contains l t) (given_takes total x o os is) c)
-    (λ e. reads_back x o (total t) t (ap total (sym e) ∙ eq_from_test _ _ is) e)
+    (λ e. reads_back x o (total t) t (ap total (sym e) ∙ eq_from_pass _ _ is) e)
     (given_reads total x os t))
     (λ is. given_reads total x os t (subst (λ l. Contains l t) (given_skips total x o os is) c))
     (cases_Bool (reads total x o))
@@ -92,7 +84,7 @@ given_all total x (o ∷ os) t r c =
     let back : t ≡ instant_at x (total t) = from_reading x t (total t) r in
     cases_more o os (total t) c
     (λ e. let here : instant_at x o ≡ t = ap (instant_at x) e ∙ sym back in
-    let passes : reads total x o ≡ true = test_from_eq _ _ (ap total here ∙ sym e) in
+    let passes : reads total x o ≡ true = eq_pass _ _ (ap total here ∙ sym e) in
     subst (λ l. Contains l t) (sym (given_takes total x o os passes))
     (subst (λ s. Contains (s ∷ given total x os) t) (sym here) (contains_head t (given total x os))))
     (λ there. let rest = given_all total x os t r there in
@@ -114,7 +106,7 @@ totals_given total x [] = refl
 totals_given total x (o ∷ os) =
     let rest = filter (reads total x) os in
     ⊎_elim {C = map total (given total x (o ∷ os)) ≡ filter (reads total x) (o ∷ os)}
-    (λ is. ap (map total) (given_takes total x o os is) ∙ (λ i. eq_from_test (total (instant_at x o)) o is i ∷ totals_given total x os i)
+    (λ is. ap (map total) (given_takes total x o os is) ∙ (λ i. eq_from_pass (total (instant_at x o)) o is i ∷ totals_given total x os i)
     ∙ sym (ap (λ b. cond b (o ∷ rest) rest) is))
     (λ is. ap (map total) (given_skips total x o os is) ∙ totals_given total x os ∙ sym (ap (λ b. cond b (o ∷ rest) rest) is))
     (cases_Bool (reads total x o))

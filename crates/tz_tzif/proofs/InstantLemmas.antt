@@ -5,13 +5,16 @@ use Rattle.std.specs.List.{filter}
 use Rattle.std.specs.Ordering.{int_eq}
 use Rattle.std.proofs.lemmas.Bool.{cases_Bool}
 use Rattle.std.proofs.lemmas.Int.{ints}
+use Rattle.calendar.specs.Orders.{eq_from_pass}
 use Rattle.civil_base.specs.DateTimes.{at_offset, instant-at_offset, offset_of-at_offset}
 use Rattle.civil_base.specs.Instants.{instant_at, seconds_of}
 use Rattle.civil_base.specs.Ranges.{IsOffset}
 use Rattle.tz_footer.specs.InForce.{FooterZone}
 use Rattle.zone_spans.specs.Schedules.{instants}
 use Rattle.tz_zone.specs.InForce.{in_force, all_in_force, shown_of, totals_at}
+use Rattle.tz_zone.specs.InForceLaws.{shown_at_offset}
 use Rattle.tz_zone.specs.InstantLaws.{instants_one}
+use Rattle.tz_zone.specs.SecondLaws.{seconds_of-instant_at}
 use Rattle.zone_tzif_core.specs.Zones.{KindValue, ZoneValue}
 use Rattle.tz_footer.specs.FooterShown.{held_shown}
 use Rattle.tz_footer.specs.declared.held.Held.{Held}
@@ -20,34 +23,15 @@ use Rattle.tz_tzif.specs.Next.{IsHeldFor}
 use Rattle.tz_tzif.specs.Zones.{IsOfKind}
 use Rattle.tz_tzif.specs.Instants.{Falls, is_read, read_at}
 use Rattle.tz_tzif.specs.Offsets.{offsets_of}
-use Rattle.tz_tzif.proofs.GivenLemmas.{reads, given, given_are, given_takes, given_skips, totals_given, eq_from_test}
+use Rattle.tz_tzif.proofs.GivenLemmas.{reads, given, given_are, given_takes, given_skips, totals_given}
 use Rattle.tz_tzif.proofs.OffsetLemmas.{offsets_fall, each_there}
-
-record IsSecond (t s : ℤ) : Type 0 where
-  low : (pos 1000000000 *ℤ s) ≤ℤ t
-  high : t <ℤ ((pos 1000000000 *ℤ s) +ℤ pos 1000000000)
-
-second_is : (t : ℤ) → IsSecond t (seconds_of t)
-unfolding seconds_of
-second_is (pos n) = record { low = omega (arith, ints); high = omega (arith, ints) }
-second_is (negsuc n) = record { low = omega (arith, ints); high = omega (arith, ints) }
-
-one_second : (t s u : ℤ) → IsSecond t s → IsSecond t u → s ≡ u
-one_second t s u h k = omega (arith, ints, h.low, h.high, k.low, k.high)
-
-moved_second : (x s o : ℤ) → IsSecond x s → IsSecond (instant_at x o) (s -ℤ o)
-moved_second x s o h = record { low = omega (arith, ints, h.low); high = omega (arith, ints, h.high) }
-
--- an offset moves the second of a local time to that of an instant
-pub second_moved : (x o : ℤ) → seconds_of (instant_at x o) ≡ seconds_of x -ℤ o
-second_moved x o = one_second _ _ _ (second_is (instant_at x o)) (moved_second x (seconds_of x) o (second_is x))
 
 -- the total at an instant, by its second
 abbrev by_second : (ℤ → ℤ) → ℤ → ℤ
 by_second total t = total (seconds_of t)
 
 same_read : (total : ℤ → ℤ) (x o : ℤ) → reads (by_second total) x o ≡ is_read total (seconds_of x) o
-same_read total x o = ap (λ s. int_eq (total s) o) (second_moved x o)
+same_read total x o = ap (λ s. int_eq (total s) o) (seconds_of-instant_at x o)
 
 same_filter : (total : ℤ → ℤ) (x : ℤ) (os : List ℤ) → filter (reads (by_second total) x) os ≡ read_at total (seconds_of x) os
 same_filter total x os = ap (λ (p : ℤ → Bool). filter p os) (λ i o. same_read total x o i)
@@ -61,10 +45,6 @@ module _ (total : ℤ → ℤ) (x : ℤ) (os : List ℤ) (falls : Falls os) (eac
   unfolding totals_at
   totals_read = ap (map (by_second total)) all_given ∙ totals_given (by_second total) x os ∙ same_filter total x os
 
-shown_at : (x o : ℤ) → shown_of (at_offset x o) ≡ (instant_at x o, o)
-unfolding shown_of
-shown_at x o = (λ i. (instant-at_offset x o i, offset_of-at_offset x o i))
-
 shown_given : (total : ℤ → ℤ) (x : ℤ) (os : List ℤ)
     → map shown_of (map (at_offset x) (filter (reads total x) os)) ≡ map (in_force total) (given total x os)
 shown_given total x [] = refl
@@ -72,7 +52,7 @@ shown_given total x (o ∷ os) =
     let rest = filter (reads total x) os in
     ⊎_elim {C = map shown_of (map (at_offset x) (filter (reads total x) (o ∷ os))) ≡ map (in_force total) (given total x (o ∷ os))}
     (λ is. ap (λ b. map shown_of (map (at_offset x) (cond b (o ∷ rest) rest))) is
-    ∙ (λ i. (shown_at x o ∙ (λ j. (instant_at x o, sym (eq_from_test (total (instant_at x o)) o is) j))) i ∷ shown_given total x os i)
+    ∙ (λ i. (shown_at_offset x o ∙ (λ j. (instant_at x o, sym (eq_from_pass (total (instant_at x o)) o is) j))) i ∷ shown_given total x os i)
     ∙ sym (ap (map (in_force total)) (given_takes total x o os is)))
     (λ is. ap (λ b. map shown_of (map (at_offset x) (cond b (o ∷ rest) rest))) is ∙ shown_given total x os
     ∙ sym (ap (map (in_force total)) (given_skips total x o os is)))
@@ -102,7 +82,7 @@ unfolding kind_at
 kind_held zone footer x s held same h =
     let o = (held_shown held).utoff in
     let is : held_shown held ≡ kind_in zone footer (seconds_of (instant_at x o)) =
-    h.is ∙ ap (λ t. kind_in zone footer (t -ℤ o)) same ∙ ap (kind_in zone footer) (sym (second_moved x o)) in
+    h.is ∙ ap (λ t. kind_in zone footer (t -ℤ o)) same ∙ ap (kind_in zone footer) (sym (seconds_of-instant_at x o)) in
     record { named = ap (λ (kind : KindValue). kind.name) is; saves = ap (λ (kind : KindValue). kind.is_dst) is }
 
 -- the same of the offsets that a zone keeps, at the second that its code has

@@ -5,6 +5,7 @@ use Rattle.std.specs.List.{filter}
 use Rattle.std.specs.Ordering.{int_eq}
 use Rattle.std.proofs.lemmas.Bool.{cases_Bool}
 use Rattle.std.proofs.lemmas.Int.{ints}
+use Rattle.calendar.specs.Orders.{eq_from_pass, lt_from_pass}
 use Rattle.tz_footer.specs.InForce.{FooterZone, fixed, yearly, held_at, is_saving, standard_total, saving_total}
 use Rattle.tz_zone.specs.RisingLaws.{contains_head, contains_more, cases_more}
 use Rattle.zone_tzif_core.specs.Totals.{last_kind}
@@ -12,10 +13,6 @@ use Rattle.zone_tzif_core.specs.Zones.{KindValue, ZoneValue}
 use Rattle.tz_tzif.specs.InForce.{are_over, kind_in, total_in}
 use Rattle.tz_tzif.specs.Instants.{Falls, FallsFrom}
 use Rattle.tz_tzif.specs.Offsets.{offsets_of, put, put_all, put_footer}
-use Rattle.tz_tzif.proofs.GivenLemmas.{eq_from_test}
-
-lt_from_test : (a b : ℤ) → int_lt a b ≡ true → a <ℤ b
-lt_from_test a b h = grind (arith, ints)
 
 lt_from_tests : (a b : ℤ) → int_lt a b ≡ false → int_eq b a ≡ false → b <ℤ a
 lt_from_tests a b h k = grind (arith, ints)
@@ -25,10 +22,10 @@ by_place : (C : List ℤ → Type 0) (o p : ℤ) (ps : List ℤ) → (o <ℤ p �
     → (p <ℤ o → C (o ∷ p ∷ ps)) → C (put o (p ∷ ps))
 by_place C o p ps before there after =
     ⊎_elim {C = C (put o (p ∷ ps))}
-    (λ is. subst C (sym (ap (λ b. cond b (p ∷ put o ps) (cond (int_eq p o) (p ∷ ps) (o ∷ p ∷ ps))) is)) (before (lt_from_test o p is)))
+    (λ is. subst C (sym (ap (λ b. cond b (p ∷ put o ps) (cond (int_eq p o) (p ∷ ps) (o ∷ p ∷ ps))) is)) (before (lt_from_pass o p is)))
     (λ not. subst C (sym (ap (λ b. cond b (p ∷ put o ps) (cond (int_eq p o) (p ∷ ps) (o ∷ p ∷ ps))) not))
     (⊎_elim {C = C (cond (int_eq p o) (p ∷ ps) (o ∷ p ∷ ps))}
-    (λ same. subst C (sym (ap (λ b. cond b (p ∷ ps) (o ∷ p ∷ ps)) same)) (there (eq_from_test p o same)))
+    (λ same. subst C (sym (ap (λ b. cond b (p ∷ ps) (o ∷ p ∷ ps)) same)) (there (eq_from_pass p o same)))
     (λ other. subst C (sym (ap (λ b. cond b (p ∷ ps) (o ∷ p ∷ ps)) other)) (after (lt_from_tests o p not other)))
     (cases_Bool (int_eq p o))))
     (cases_Bool (int_lt o p))

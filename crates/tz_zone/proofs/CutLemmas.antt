@@ -5,6 +5,7 @@ use Rattle.std.specs.declared.cmp.Ordering.TheVariants.{Less, Equal, Greater}
 use Rattle.std.proofs.lemmas.Int.{ints}
 use Rattle.std.proofs.lemmas.Bool.{cases_lt}
 use Rattle.std.proofs.lemmas.Bool.Decides.{nat_tests}
+use Rattle.calendar.specs.Orders.{le_le, lt_le, opposed}
 use Rattle.tz_zone.specs.Spans.{Shift, shift_at, TimesDontFall, IsCut}
 use Rattle.tz_zone.specs.Search.{GoesUp}
 use Rattle.tz_zone.specs.Sets.{order_at, IsBetween}
@@ -57,15 +58,6 @@ true_next i n a x l h = grind (arith, nat_tests, ints)
 
 false_next : (i n : ℕ) (a x : ℤ) → (i < n → x <ℤ a) → ltb i n && int_le a x ≡ false
 false_next i n a x h = grind (arith, nat_tests, ints)
-
-le_le : (a b c : ℤ) → a ≤ℤ b → b ≤ℤ c → a ≤ℤ c
-le_le a b c h k = omega (arith, ints)
-
-lt_le : (a b c : ℤ) → a <ℤ b → b ≤ℤ c → a <ℤ c
-lt_le a b c h k = omega (arith, ints)
-
-opposed : (a b : ℤ) → a <ℤ b → b ≤ℤ a → ⊥
-opposed a b h k = omega (arith, ints)
 
 module _ (shifts : List Shift) (x : ℤ) where
   pub cut_goes_up : (low high : ℕ) → high ≤ length shifts → TimesDontFall shifts → GoesUp (λ k. order_at shifts k x) low high

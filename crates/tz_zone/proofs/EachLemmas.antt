@@ -12,7 +12,8 @@ use Rattle.tz_zone.specs.Sets.{schedule_of, total_of_span, IsAccepted}
 use Rattle.zone_spans.specs.ScheduleLaws.{total_is_offset}
 use Rattle.tz_zone.proofs.ScanLemmas.{few_spans, scan_totals}
 use Rattle.tz_zone.proofs.SetLemmas.{count_same}
-use Rattle.tz_zone.proofs.TimeZoneLemmas.{shown_at_offset, in_force_from_totals}
+use Rattle.tz_zone.proofs.TimeZoneLemmas.{in_force_from_totals}
+use Rattle.tz_zone.specs.InForceLaws.{shown_at_offset}
 
 dates_at : (x : ℤ) (total : ℕ → ℤ) (ks : List ℕ)
     → map shown_of (map (λ k. at_offset x (total k)) ks) ≡ map (λ o. (instant_at x o, o)) (map total ks)

@@ -10,9 +10,9 @@ use Rattle.tz_zone.specs.declared.result.OffsetResult.{OffsetResult}
 use Rattle.tz_zone.specs.declared.result.OffsetResult.TheVariants.{Some, Ambiguous, None}
 use Rattle.tz_zone.specs.declared.set.FixedTimespanSet.{FixedTimespanSet}
 use Rattle.tz_zone.proofs.OrderLemmas.{in_order}
-use Rattle.tz_zone.proofs.Seconds.{seconds_of-instant_at}
 use Rattle.tz_zone.proofs.SetLemmas.{count_same}
 use Rattle.tz_zone.proofs.SpanLemmas.{cut_in}
+use Rattle.tz_zone.specs.SecondLaws.{seconds_of-instant_at}
 
 in_force_there : (set : FixedTimespanSet) (k : ℕ) (x s : ℤ) → IsAccepted (schedule_of set) → s ≡ seconds_of x → k ≤ length set.others
     → order_of (schedule_of set) k s ≡ Equal → IsInForce set k (instant_at x (total_of_span set k))

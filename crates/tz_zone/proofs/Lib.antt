@@ -1,5 +1,3 @@
-pub mod Seconds
-pub mod Totals
 pub mod Halves
 pub mod SpanLemmas
 pub mod AnswerLemmas

@@ -5,6 +5,7 @@ use Rattle.std.specs.declared.cmp.Ordering.{Ordering}
 use Rattle.std.specs.declared.cmp.Ordering.TheVariants.{Less, Equal, Greater}
 use Rattle.std.proofs.lemmas.Int.{ints}
 use Rattle.std.proofs.lemmas.Bool.Decides.{nat_tests}
+use Rattle.calendar.specs.Orders.{le_le, lt_le}
 use Rattle.civil_base.specs.Instants.{seconds_of}
 use Rattle.zone_spans.specs.Schedules.{Schedule, total_at}
 use Rattle.tz_zone.specs.InForce.{totals_at}
@@ -63,12 +64,6 @@ not_ahead i s x h = grind (arith, nat_tests, ints)
 
 is_before : (i : ℕ) (s x : ℤ) → 0 < i → x <ℤ s → ltb 0 i && int_lt x s ≡ true
 is_before i s x h k = grind (arith, nat_tests, ints)
-
-le_le : (a b c : ℤ) → a ≤ℤ b → b ≤ℤ c → a ≤ℤ c
-le_le a b c h k = omega (arith, ints)
-
-lt_le : (a b c : ℤ) → a <ℤ b → b ≤ℤ c → a <ℤ c
-lt_le a b c h k = omega (arith, ints)
 
 -- a span lies at a local second exactly where it contains it
 pub in_order : (zone : Schedule) (i : ℕ) (x : ℤ) → i ≤ length zone.shifts → order_of zone i x ≡ Equal → IsIn zone.first zone.shifts i x

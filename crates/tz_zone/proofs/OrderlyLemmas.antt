@@ -2,22 +2,11 @@
 use Rattle.std.proofs.Common.{◌≡◌, ℕ, ◌+◌, ◌<◌, ◌≤◌, List, length, ℤ, ◌≤ℤ◌, ◌<ℤ◌, refl, sym, ap, subst, ⊎_elim, arith}
 use Rattle.std.proofs.lemmas.Int.{ints, by_lt_z}
 use Rattle.std.proofs.lemmas.Bool.{cases_lt}
+use Rattle.calendar.specs.Orders.{le_le, lt_le, le_from_eq}
 use Rattle.tz_zone.specs.Spans.{Shift, local_start, local_end, IsOrderly}
-
-le_le : (a b c : ℤ) → a ≤ℤ b → b ≤ℤ c → a ≤ℤ c
-le_le a b c h k = omega (arith, ints)
-
-lt_le : (a b c : ℤ) → a <ℤ b → b ≤ℤ c → a <ℤ c
-lt_le a b c h k = omega (arith, ints)
-
-le_itself : (a b : ℤ) → a ≡ b → a ≤ℤ b
-le_itself a b e = omega (arith, ints)
 
 never : (a b c : ℤ) → a <ℤ b → b ≤ℤ c → c ≤ℤ a → ⊥
 never a b c h k l = omega (arith, ints)
-
-opposed : (a b : ℤ) → a <ℤ b → b ≤ℤ a → ⊥
-opposed a b h k = omega (arith, ints)
 
 -- spans up to i are in order
 pub record IsOrderlyUpTo (first : ℤ) (shifts : List Shift) (i : ℕ) : Type 0 where
@@ -27,10 +16,10 @@ pub record IsOrderlyUpTo (first : ℤ) (shifts : List Shift) (i : ℕ) : Type 0 
 
 module _ (first : ℤ) (shifts : List Shift) where
   same_starts : (a b : ℕ) → a ≡ b → local_start shifts a ≤ℤ local_start shifts b
-  same_starts a b e = le_itself _ _ (ap (local_start shifts) e)
+  same_starts a b e = le_from_eq _ _ (ap (local_start shifts) e)
 
   same_ends : (a b : ℕ) → a ≡ b → local_end first shifts a ≤ℤ local_end first shifts b
-  same_ends a b e = le_itself _ _ (ap (local_end first shifts) e)
+  same_ends a b e = le_from_eq _ _ (ap (local_end first shifts) e)
 
   -- the first two spans are always in order
   pub one_orderly : IsOrderlyUpTo first shifts 1

@@ -10,6 +10,7 @@ use Rattle.civil_base.specs.Ranges.{is_offset}
 use Rattle.tz_zone.specs.declared.set.FixedTimespanSet.{FixedTimespanSet}
 use Rattle.std.proofs.Common.{w64, to_z, of_z, SFits}
 use Rattle.std.proofs.lemmas.Int.{to_z-of_z}
+use Rattle.calendar.specs.Orders.{le_le, le_from_eq}
 use Rattle.civil_base.specs.Ranges.{IsOffset}
 use Rattle.civil_base.specs.RangeLaws.{offset_least, offset_greatest}
 use Rattle.tz_zone.specs.Spans.{Shift, shift_at, local_start}
@@ -59,12 +60,6 @@ pub tests_of_shifts : (es : List Entry)
 tests_of_shifts [] = refl
 tests_of_shifts (e ∷ es) = ap (λ b. is_offset (total e.1) && b) (tests_of_shifts es)
 
-le_itself : (a b : ℤ) → a ≡ b → a ≤ℤ b
-le_itself a b e = omega (arith, ints)
-
-le_le : (a b c : ℤ) → a ≤ℤ b → b ≤ℤ c → a ≤ℤ c
-le_le a b c h k = omega (arith, ints)
-
 pub no_fall_more : (shifts : List Shift) (h i : ℕ) → h + 1 ≡ i
     → ((a b : ℕ) → a ≤ b → b < i → b < length shifts → (shift_at shifts a).0 ≤ℤ (shift_at shifts b).0)
     → (shift_at shifts h).0 ≤ℤ (shift_at shifts i).0
@@ -77,7 +72,7 @@ no_fall_more shifts h i e so_far step a b l m n =
     ⊎_elim {C = (shift_at shifts a).0 ≤ℤ (shift_at shifts b).0}
     (λ less. le_le _ _ _ (so_far a h (omega arith) (omega arith) (omega arith))
     (subst (λ k. (shift_at shifts h).0 ≤ℤ (shift_at shifts k).0) here step))
-    (λ same. let is : a ≡ b = omega arith in le_itself _ _ (ap (λ k. (shift_at shifts k).0) is))
+    (λ same. let is : a ≡ b = omega arith in le_from_eq _ _ (ap (λ k. (shift_at shifts k).0) is))
     (cases_lt a b))
     (cases_lt b i)
 

@@ -1,17 +1,12 @@
 -- Totals by spans.
-use Rattle.std.proofs.Common.{◌≡◌, ℕ, zero, suc, ◌+◌, ◌<◌, ◌≤◌, true, false, cond, List, [], ◌∷◌, length, ℤ, ◌+ℤ◌, ◌-ℤ◌, ◌≤ℤ◌, ◌<ℤ◌, int_le, refl, sym, ap, ◌∙◌, ⊎_elim, arith}
+use Rattle.std.proofs.Common.{◌≡◌, ℕ, zero, suc, ◌+◌, ◌<◌, ◌≤◌, cond, List, [], ◌∷◌, length, ℤ, ◌+ℤ◌, ◌-ℤ◌, ◌≤ℤ◌, ◌<ℤ◌, int_le, refl, sym, ap, ◌∙◌, ⊎_elim, arith}
 use Rattle.std.proofs.lemmas.Int.{ints, by_lt_z}
 use Rattle.std.proofs.lemmas.Bool.{cases_lt}
 use Rattle.std.specs.List.{filter}
+use Rattle.calendar.specs.Orders.{le_pass, le_fail, lt_le, le_le}
 use Rattle.zone_spans.specs.Schedules.{last_total}
+use Rattle.tz_zone.specs.SecondLaws.{total_from}
 use Rattle.tz_zone.specs.Spans.{Shift, shift_at, total_of, IsIn, TimesDontFall, IsOrderly, IsCut}
-use Rattle.tz_zone.proofs.Totals.{total_from}
-
-passes : (a b : ℤ) → a ≤ℤ b → int_le a b ≡ true
-passes a b h = grind (arith, ints)
-
-refused : (a b : ℤ) → b <ℤ a → int_le a b ≡ false
-refused a b h = grind (arith, ints)
 
 -- the total after a cut is that of the span that begins there
 pub total_from_cut : (first : ℤ) (shifts : List Shift) (k : ℕ) (t : ℤ) → IsCut shifts k t
@@ -25,7 +20,7 @@ total_from_cut first (s ∷ ss) zero t h =
       after = λ j l m. h.after (suc j) (omega arith) (omega (arith, m));
     } in
     ap (λ b. last_total first (cond b (s ∷ filter (λ (r : Shift). int_le r.0 t) ss) (filter (λ (r : Shift). int_le r.0 t) ss)))
-    (refused s.0 t (h.after 0 (omega arith) (omega arith)))
+    (le_fail s.0 t (h.after 0 (omega arith) (omega arith)))
     ∙ total_from_cut first ss zero t none
 total_from_cut first (s ∷ ss) (suc k) t h =
     let fewer : IsCut ss k t = record {
@@ -34,7 +29,7 @@ total_from_cut first (s ∷ ss) (suc k) t h =
       after = λ j l m. h.after (suc j) (omega arith) (omega (arith, m));
     } in
     ap (λ b. last_total first (cond b (s ∷ filter (λ (r : Shift). int_le r.0 t) ss) (filter (λ (r : Shift). int_le r.0 t) ss)))
-    (passes s.0 t (h.before 0 (omega arith)))
+    (le_pass s.0 t (h.before 0 (omega arith)))
     ∙ total_from_cut s.1 ss k t fewer ∙ total_of_tail first s ss k
   where
     total_of_tail : (first : ℤ) (s : Shift) (ss : List Shift) (k : ℕ) → total_of s.1 ss k ≡ total_of first (s ∷ ss) (suc k)
@@ -53,12 +48,6 @@ after_more : (s : Shift) (ss : List Shift) (k : ℕ) (t : ℤ) → ((j : ℕ) �
     → suc k ≤ j → j < length (s ∷ ss) → t <ℤ (shift_at (s ∷ ss) j).0
 after_more s ss k t rest zero l m = absurd (omega arith)
 after_more s ss k t rest (suc j) l m = rest j (omega arith) (omega arith)
-
-lt_le : (a b c : ℤ) → a <ℤ b → b ≤ℤ c → a <ℤ c
-lt_le a b c h k = omega (arith, ints)
-
-le_le : (a b c : ℤ) → a ≤ℤ b → b ≤ℤ c → a ≤ℤ c
-le_le a b c h k = omega (arith, ints)
 
 -- every second cuts times that don't fall
 pub cut_of : (shifts : List Shift) (t : ℤ) → TimesDontFall shifts → (k : ℕ) × IsCut shifts k t

@@ -4,10 +4,9 @@ use Rattle.std.specs.Prelude.{Contains}
 use Rattle.std.proofs.lemmas.List.{take-map}
 use Rattle.std.proofs.lemmas.Int.{ints}
 use Rattle.civil_base.specs.Ranges.{IsOffset}
-use Rattle.civil_base.specs.DateTimes.{at_offset, instant-at_offset, offset_of-at_offset}
 use Rattle.zone_spans.specs.Schedules.{instants}
 use Rattle.civil_base.specs.Instants.{instant_at}
-use Rattle.tz_zone.specs.InForce.{in_force, all_in_force, shown_of, totals_at}
+use Rattle.tz_zone.specs.InForce.{in_force, all_in_force, totals_at}
 use Rattle.tz_zone.specs.RisingLaws.{contains_head, contains_more}
 use Rattle.tz_zone.specs.InstantLaws.{from_reading, instants_are, instants_one}
 
@@ -35,11 +34,6 @@ fixed_totals o x h = sym (ap (λ ts. take 2 (map (λ (t : ℤ). o) ts)) (fixed_i
 
 pub fixed_two : (o x : ℤ) → IsOffset o → length (instants (λ _. o) x) ≤ 2
 fixed_two o x h = let e = ap length (fixed_instants o x h) in omega (arith, e)
-
--- a local time at an offset, seen as an instant and an offset
-pub shown_at_offset : (x o : ℤ) → shown_of (at_offset x o) ≡ (instant_at x o, o)
-unfolding shown_of
-shown_at_offset x o = λ i. (instant-at_offset x o i, offset_of-at_offset x o i)
 
 pairs_of : (total : ℤ → ℤ) (x : ℤ) (ts : List ℤ) → ((t : ℤ) → Contains ts t → t ≡ instant_at x (total t)) →
     map (λ o. (instant_at x o, o)) (map total ts) ≡ map (in_force total) ts

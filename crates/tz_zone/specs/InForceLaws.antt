@@ -1,8 +1,10 @@
--- What a span that is in force gives.
+-- What a span that is in force gives, and a local time at an offset.
 use Rattle.std.specs.Prelude.{◌≡◌, ℕ, ℤ, pos, int_lt}
 use Rattle.std.proofs.Common.{ap}
+use Rattle.civil_base.specs.DateTimes.{at_offset, instant-at_offset, offset_of-at_offset}
+use Rattle.civil_base.specs.Instants.{instant_at}
 use Rattle.zone_spans.specs.declared.span.FixedTimespan.{FixedTimespan}
-use Rattle.tz_zone.specs.InForce.{GivesAt, IsInForce}
+use Rattle.tz_zone.specs.InForce.{GivesAt, IsInForce, shown_of}
 use Rattle.tz_zone.specs.Sets.{span_in}
 use Rattle.tz_zone.specs.declared.set.FixedTimespanSet.{FixedTimespanSet}
 
@@ -15,3 +17,8 @@ gives_at set k t span in_force is = record {
   named = ap (λ (s : FixedTimespan). s.name) is;
   saves = ap (λ (s : FixedTimespan). int_lt (pos 0) s.dst_offset) is;
 }
+
+-- a local time at an offset, seen as an instant and an offset
+pub shown_at_offset : (x o : ℤ) → shown_of (at_offset x o) ≡ (instant_at x o, o)
+unfolding shown_of
+shown_at_offset x o = λ i. (instant-at_offset x o i, offset_of-at_offset x o i)

@@ -5,18 +5,13 @@ use Rattle.std.specs.Ordering.{int_eq}
 use Rattle.std.specs.List.{filter}
 use Rattle.std.proofs.lemmas.Bool.{cases_Bool}
 use Rattle.std.proofs.lemmas.Int.{ints}
+use Rattle.calendar.specs.Orders.{eq_from_pass, eq_pass, lt_le, le_from_eq}
 use Rattle.civil_base.specs.Ranges.{IsOffset, greatest_offset}
 use Rattle.civil_base.specs.RangeLaws.{offset_least, offset_greatest}
 use Rattle.zone_spans.specs.Schedules.{down_from, offset_count, offsets, instants}
 use Rattle.civil_base.specs.Instants.{instant_at}
 use Rattle.tz_zone.specs.InForce.{AreInstants}
 use Rattle.tz_zone.specs.RisingLaws.{Rises, same_rising, pairs_more, contains_head, contains_more, cases_more}
-
-eq_from_test : (a b : ℤ) → int_eq a b ≡ true → a ≡ b
-eq_from_test a b h = grind (arith, ints)
-
-test_from_eq : (a b : ℤ) → a ≡ b → int_eq a b ≡ true
-test_from_eq a b h = grind (arith, ints)
 
 abbrev reads : (ℤ → ℤ) → ℤ → ℤ → Bool
 reads total x o = int_eq (total (instant_at x o)) o
@@ -39,7 +34,8 @@ kept_skips total x o n h =
 back_by_one : (x o : ℤ) → instant_at x o <ℤ instant_at x (o -ℤ pos 1)
 back_by_one x o = omega (arith, ints)
 
-reads_back : (x o total t : ℤ) → total ≡ o → instant_at x o ≡ t → (t +ℤ pos 1000000000 *ℤ total) ≡ x
+-- what an instant is read as, by the offset and by the total in force
+pub reads_back : (x o total t : ℤ) → total ≡ o → instant_at x o ≡ t → (t +ℤ pos 1000000000 *ℤ total) ≡ x
 reads_back x o total t e f = omega (arith, ints, e, f)
 
 -- what is read as x at an offset is x less that offset
@@ -49,12 +45,6 @@ from_reading x t o e = omega (arith, ints, e)
 le_lt : (a b c : ℤ) → a <ℤ b → b ≤ℤ c → a ≤ℤ c
 le_lt a b c h k = omega (arith, ints)
 
-lt_le : (a b c : ℤ) → a <ℤ b → b ≤ℤ c → a <ℤ c
-lt_le a b c h k = omega (arith, ints)
-
-le_same : (a b : ℤ) → a ≡ b → a ≤ℤ b
-le_same a b h = omega (arith, ints)
-
 kept_least : (total : ℤ → ℤ) (x o : ℤ) (n : ℕ) (t : ℤ) → Contains (kept total x o n) t → instant_at x o ≤ℤ t
 kept_least total x o zero t c = absurd (omega (arith, c.1))
 kept_least total x o (suc n) t c =
@@ -62,7 +52,7 @@ kept_least total x o (suc n) t c =
     λ d. le_lt _ _ _ (back_by_one x o) (kept_least total x (o -ℤ pos 1) n t d) in
     ⊎_elim {C = instant_at x o ≤ℤ t}
     (λ h. cases_more (instant_at x o) (kept total x (o -ℤ pos 1) n) t (subst (λ l. Contains l t) (kept_takes total x o n h) c)
-    (λ e. le_same _ _ e) rest)
+    (λ e. le_from_eq _ _ e) rest)
     (λ h. rest (subst (λ l. Contains l t) (kept_skips total x o n h) c))
     (cases_Bool (reads total x o))
 
@@ -85,7 +75,7 @@ kept_reads total x o zero t c = absurd (omega (arith, c.1))
 kept_reads total x o (suc n) t c =
     ⊎_elim {C = Reads total x t}
     (λ h. cases_more (instant_at x o) (kept total x (o -ℤ pos 1) n) t (subst (λ l. Contains l t) (kept_takes total x o n h) c)
-    (λ e. reads_back x o (total t) t (ap total (sym e) ∙ eq_from_test _ _ h) e)
+    (λ e. reads_back x o (total t) t (ap total (sym e) ∙ eq_from_pass _ _ h) e)
     (kept_reads total x (o -ℤ pos 1) n t))
     (λ h. kept_reads total x (o -ℤ pos 1) n t (subst (λ l. Contains l t) (kept_skips total x o n h) c))
     (cases_Bool (reads total x o))
@@ -106,14 +96,14 @@ kept_all total x o zero t r h k = absurd (none_left _ _ h k)
 kept_all total x o (suc n) t r h k =
     let back : t ≡ instant_at x (total t) = from_reading x t (total t) r in
     ⊎_elim {C = Contains (kept total x o (suc n)) t}
-    (λ is. let e = eq_from_test (total t) o is in
+    (λ is. let e = eq_from_pass (total t) o is in
     let here : instant_at x o ≡ t = ap (instant_at x) (sym e) ∙ sym back in
-    let passes : reads total x o ≡ true = test_from_eq _ _ (ap total here ∙ e) in
+    let passes : reads total x o ≡ true = eq_pass _ _ (ap total here ∙ e) in
     subst (λ l. Contains l t) (sym (kept_takes total x o n passes))
     (subst (λ s. Contains (s ∷ kept total x (o -ℤ pos 1) n) t) (sym here) (contains_head t (kept total x (o -ℤ pos 1) n))))
     (λ other.
     let rest =
-    kept_all total x (o -ℤ pos 1) n t r (lower _ _ n h (λ e. false_true (sym other ∙ test_from_eq _ _ e))) (one_less _ _ n k) in
+    kept_all total x (o -ℤ pos 1) n t r (lower _ _ n h (λ e. false_true (sym other ∙ eq_pass _ _ e))) (one_less _ _ n k) in
     ⊎_elim {C = Contains (kept total x o (suc n)) t}
     (λ is. subst (λ l. Contains l t) (sym (kept_takes total x o n is))
     (contains_more (instant_at x o) (kept total x (o -ℤ pos 1) n) t rest))

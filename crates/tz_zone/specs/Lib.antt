@@ -14,6 +14,7 @@ pub mod Zones
 pub mod Compiles
 -- Laws: what a caller may use.
 pub mod InForceLaws
+pub mod SecondLaws
 pub mod RisingLaws
 pub mod InstantLaws
 pub mod AnswerLaws

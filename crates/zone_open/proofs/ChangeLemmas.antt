@@ -5,7 +5,7 @@ use Rattle.std.specs.List.{slice_get, slice_index_or}
 use Rattle.std.specs.Ordering.{int_eq}
 use Rattle.std.proofs.lemmas.Int.{ints}
 use Rattle.std.proofs.lemmas.List.{length-map}
-use Rattle.calendar.specs.Orders.{le_pass, le_fail, lt_pass, lt_fail, lt_from_pass, lt_from_fail}
+use Rattle.calendar.specs.Orders.{le_pass, le_fail, lt_pass, lt_fail, lt_from_pass, lt_from_fail, eq_pass}
 use Rattle.zone_spans.specs.Entries.{Entry}
 use Rattle.zone_spans.specs.declared.span.FixedTimespan.{FixedTimespan}
 use Rattle.tz_zone.specs.Sets.{shift_of, shifts_of, span_in, total_of_span}
@@ -68,9 +68,6 @@ pub saving_is : (set : FixedTimespanSet) (second : ℤ) (k : ℕ) → IsCut (shi
 unfolding saving_at
 saving_is set second k cut =
     saving_after second set.first (pos 0, set.first) set.others k cut ∙ ap (λ span. span.dst_offset) (span_is set (pos 0, set.first) k refl)
-
-eq_pass : (a b : ℤ) → a ≡ b → int_eq a b ≡ true
-eq_pass a b h = grind (arith, ints, h)
 
 eq_fail : (a b : ℤ) → (a ≡ b → ⊥) → int_eq a b ≡ false
 eq_fail a b h = grind (arith, ints, h)

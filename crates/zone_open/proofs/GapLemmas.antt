@@ -10,6 +10,7 @@ use Rattle.tz_tzif.specs.InForce.{kind_at, kind_in, total_at as file_total_at}
 use Rattle.zone_spans.specs.Schedules.{Schedule, instants, last_total, total_at}
 use Rattle.tz_zone.specs.InForce.{all_in_force, in_force}
 use Rattle.tz_zone.specs.InstantLaws.{instants_are}
+use Rattle.tz_zone.specs.SecondLaws.{IsSecond, second_is, one_second}
 use Rattle.zone_tzif_core.specs.Zones.{ZoneValue}
 use Rattle.zone_open.specs.Gaps.{nth_offset, HoldsSeconds, IsNeverRead, IsSkippedBy}
 
@@ -33,18 +34,6 @@ below o h = omega (arith, ints, offset_greatest o h)
 
 next_place : (place p : ℕ) → place ≡ p + 1 → nth_offset place ≡ nth_offset p +ℤ pos 1
 next_place place p e = omega (arith, ints, e)
-
-record IsSecond (t s : ℤ) : Type 0 where
-  low : nanos_of s ≤ℤ t
-  high : t <ℤ (nanos_of s +ℤ pos 1000000000)
-
-second_is : (t : ℤ) → IsSecond t (seconds_of t)
-unfolding seconds_of
-second_is (pos n) = record { low = omega (arith, ints); high = omega (arith, ints) }
-second_is (negsuc n) = record { low = omega (arith, ints); high = omega (arith, ints) }
-
-one_second : (t s u : ℤ) → IsSecond t s → IsSecond t u → s ≡ u
-one_second t s u h k = omega (arith, ints, h.low, h.high, k.low, k.high)
 
 -- an instant of a second, and one just before it
 same_second : (total : ℤ → ℤ) (t s : ℤ) → HoldsSeconds total → IsSecond t s → total t ≡ total (nanos_of s)

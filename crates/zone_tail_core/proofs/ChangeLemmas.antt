@@ -14,20 +14,13 @@ use Rattle.calendar.specs.YearLaws.{day-cycle}
 use Rattle.tz_posix_core.specs.Days.{nth_weekday, rule_day}
 use Rattle.tz_posix_core.specs.InForce.{instant_in}
 use Rattle.tz_posix_core.specs.Ranges.{is_rule_date}
+use Rattle.tz_posix_core.specs.WeekdayLaws.{weekday_of-small, weekday_of-later}
 use Rattle.tz_posix_core.specs.declared.date.Date.TheVariants.{M}
 use Rattle.zone_tail_core.specs.Changes.{change_with, changes_at, weeks}
 use Rattle.zone_tail_core.specs.LastYear.{year_begin, year_end}
 use Rattle.zone_tail_core.specs.Rules.{IsChange, time_of}
 use Rattle.zone_tail_core.specs.declared.rule.Change.{Change}
 use Rattle.zone_tail_core.proofs.TotalLemmas.{day-2099}
-
-weekday_of-small : (k : ℤ) → weekday_of k < 7
-unfolding weekday_of
-weekday_of-small k = omega (arith, signed, floored (k +ℤ pos 4) 7)
-
-weekday_of-later : (k : ℤ) (n : ℕ) → weekday_of (k +ℤ pos n) ≡ (weekday_of k + n) % 7
-unfolding weekday_of
-weekday_of-later k n = omega (arith, signed, floored (k +ℤ pos 4) 7, floored (k +ℤ pos n +ℤ pos 4) 7)
 
 day_after : (y : ℤ) (m i j : ℕ) → IsCountedYear y → 1 ≤ i → i ≤ j → day y m j ≡ day y m i +ℤ pos (j - i)
 day_after y m i j years some later =

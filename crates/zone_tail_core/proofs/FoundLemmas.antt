@@ -4,7 +4,7 @@ use Rattle.std.specs.Int.{int_max}
 use Rattle.std.proofs.lemmas.Bool.{and_from, and_parts, cases_lt}
 use Rattle.std.proofs.lemmas.Bool.Decides.{nat_tests}
 use Rattle.std.proofs.lemmas.Int.{ints, by_lt_z}
-use Rattle.calendar.specs.Orders.{le_from_pass, le_pass, lt_from_fail, lt_from_pass}
+use Rattle.calendar.specs.Orders.{le_from_pass, le_pass, lt_from_fail, lt_from_pass, eq_from_pass, eq_pass}
 use Rattle.calendar.specs.Signs.{natural, signed}
 use Rattle.zone_spans.specs.Schedules.{Schedule}
 use Rattle.tz_zone.specs.Sets.{IsAccepted, schedule_of, shifts_of}
@@ -50,12 +50,6 @@ passes_each test low (suc n) h =
     and_from (test low) (each_second test (low +ℤ pos 1) n) (h low (omega (arith, ints)) (omega (arith, ints)))
     (passes_each test (low +ℤ pos 1) n (λ s l m. h s (omega (arith, ints)) (omega (arith, ints))))
 
-same_int : (a b : ℤ) → int_eq a b ≡ true → a ≡ b
-same_int a b h = grind (arith, ints)
-
-int_same : (a b : ℤ) → a ≡ b → int_eq a b ≡ true
-int_same a b h = grind (arith, ints)
-
 -- as many seconds as lie between
 count_high : (low last s : ℤ) → low ≤ℤ s → s <ℤ last → s <ℤ (low +ℤ pos (unsigned_abs (int_max (last -ℤ low) (pos 0))))
 count_high low last s l m = by_test (int_lt (pos 0) (last -ℤ low)) refl
@@ -79,12 +73,12 @@ module _ (c : Candidate) (zone : Schedule) (last : ℤ) where
   totals_given : (low : ℤ) → gives_totals c zone low last ≡ true → (s : ℤ) → low ≤ℤ s → s <ℤ last → total_by c s ≡ total_from zone.first zone.shifts s
   unfolding gives_totals
   totals_given low h s l m =
-      same_int _ _ (each_passes (λ s. int_eq (total_by c s) (total_from zone.first zone.shifts s)) low _ h s l (count_high low last s l m))
+      eq_from_pass _ _ (each_passes (λ s. int_eq (total_by c s) (total_from zone.first zone.shifts s)) low _ h s l (count_high low last s l m))
 
   given_totals : (low : ℤ) → ((s : ℤ) → low ≤ℤ s → s <ℤ last → total_by c s ≡ total_from zone.first zone.shifts s) → gives_totals c zone low last ≡ true
   unfolding gives_totals
   given_totals low h = passes_each (λ s. int_eq (total_by c s) (total_from zone.first zone.shifts s)) low _
-      (λ s l m. int_same _ _ (h s l (count_low low last s l m)))
+      (λ s l m. eq_pass _ _ (h s l (count_low low last s l m)))
 
 -- ---- the tests of candidates
 
@@ -116,7 +110,7 @@ module _ (zone : Schedule) (times : TimesDontFall zone.shifts) (last : ℤ) wher
         tt,
         record {
           alike = λ s b m. by_lt_z {P = total ≡ total_from zone.first zone.shifts s} s (shift_at zone.shifts 0).0
-              (λ lt. same_int total zone.first parts.0 ∙ sym (early s lt))
+              (λ lt. eq_from_pass total zone.first parts.0 ∙ sym (early s lt))
               (λ le. totals_given (Fixed total) zone last (shift_at zone.shifts 0).0 parts.1 s le m);
         },
       )
@@ -137,7 +131,7 @@ module _ (zone : Schedule) (times : TimesDontFall zone.shifts) (last : ℤ) wher
   passes (Fixed total) zero allowed from =
       let e = least (shift_at zone.shifts 0).0 last in
       and_from (int_eq total zone.first) (gives_totals (Fixed total) zone (shift_at zone.shifts 0).0 last)
-      (int_same total zone.first (from.alike e.0 tt e.2 ∙ early e.0 e.1))
+      (eq_pass total zone.first (from.alike e.0 tt e.2 ∙ early e.0 e.1))
       (given_totals (Fixed total) zone last (shift_at zone.shifts 0).0 (λ s l m. from.alike s tt m))
   passes (Ruled rule) zero allowed from = absurd allowed
   passes (Fixed total) (suc i) allowed from =

@@ -5,7 +5,7 @@ use Rattle.std.proofs.lemmas.Int.{ints}
 use Rattle.std.proofs.lemmas.Bool.{and_parts}
 use Rattle.std.proofs.lemmas.List.{length-append, length-map}
 use Rattle.std.proofs.lemmas.List.Elements.{All-append, All-cons, All-get_or, All-map, All-nil, All-tail, All-weaker}
-use Rattle.calendar.specs.Orders.{lt_from_pass}
+use Rattle.calendar.specs.Orders.{lt_from_pass, lt_le, eq_from_pass}
 use Rattle.civil_base.specs.Ranges.{is_offset}
 use Rattle.civil_base.specs.RangeLaws.{offset_greatest, offset_least}
 use Rattle.zone_spans.specs.Entries.{Entry, total}
@@ -33,12 +33,6 @@ use Rattle.zone_tail_core.proofs.ChangeLemmas.{Comes, all_come, changes_some}
 use Rattle.zone_tail_core.proofs.ShapeLemmas.{shift_is}
 use Rattle.zone_tail_core.proofs.SpanLemmas.{length-shifts}
 use Rattle.zone_tail_core.proofs.TotalLemmas.{Gives, IsCandidate, candidate_agrees, same_choice, steady_agrees}
-
-lt_le : (a b c : ℤ) → a <ℤ b → b ≤ℤ c → a <ℤ c
-lt_le a b c h k = omega (arith, ints)
-
-same_int : (a b : ℤ) → int_eq a b ≡ true → a ≡ b
-same_int a b h = grind (arith, ints)
 
 shift_offset : (shifts : List Shift) (i : ℕ) → list_all (λ (s : Shift). is_offset s.1) shifts ≡ true → i < length shifts → is_offset (shift_at shifts i).1 ≡ true
 shift_offset [] i h l = absurd (omega arith)
@@ -196,10 +190,10 @@ module _ (set : FixedTimespanSet) (accepted : IsAccepted (schedule_of set)) (sta
   stops = and_parts (int_eq b.1.utc_offset off) (int_eq b.1.dst_offset (pos 0)) kinds.1
 
   ahead : off <ℤ total a.1
-  ahead = omega (arith, ints, same_int a.1.utc_offset off starts.0, lt_from_pass (pos 0) a.1.dst_offset starts.1)
+  ahead = omega (arith, ints, eq_from_pass a.1.utc_offset off starts.0, lt_from_pass (pos 0) a.1.dst_offset starts.1)
 
   standard_is : total b.1 ≡ off
-  standard_is = omega (arith, ints, same_int b.1.utc_offset off stops.0, same_int b.1.dst_offset (pos 0) stops.1)
+  standard_is = omega (arith, ints, eq_from_pass b.1.utc_offset off stops.0, eq_from_pass b.1.dst_offset (pos 0) stops.1)
 
   saving_small : IsSmall (total a.1)
   saving_small = record {

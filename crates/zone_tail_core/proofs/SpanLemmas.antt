@@ -1,7 +1,7 @@
 -- Totals by spans.
 use Rattle.std.proofs.Common.{◌≡◌, ℕ, zero, suc, ◌<◌, ◌≤◌, cond, List, [], ◌∷◌, length, map, filter, ℤ, ◌≤ℤ◌, ◌<ℤ◌, int_le, refl, ap, ◌∙◌, arith}
 use Rattle.std.proofs.lemmas.Int.{ints}
-use Rattle.calendar.specs.Orders.{le_pass, le_fail}
+use Rattle.calendar.specs.Orders.{le_pass, le_fail, le_le, lt_le}
 use Rattle.zone_spans.specs.Entries.{Entry}
 use Rattle.zone_spans.specs.Schedules.{last_total}
 use Rattle.tz_zone.specs.Sets.{shift_of}
@@ -36,12 +36,6 @@ total_from_cut first (e ∷ es) (suc k) s h =
     } in
     ap (λ b. last_total first (cond b (e ∷ filter (λ (r : Shift). int_le r.0 s) es) (filter (λ (r : Shift). int_le r.0 s) es))) (le_pass e.0 s (h.before 0 (omega arith)))
     ∙ total_from_cut e.1 es k s fewer ∙ total_of_tail first e es k
-
-le_le : (a b c : ℤ) → a ≤ℤ b → b ≤ℤ c → a ≤ℤ c
-le_le a b c h k = omega (arith, ints)
-
-lt_le : (a b c : ℤ) → a <ℤ b → b ≤ℤ c → a <ℤ c
-lt_le a b c h k = omega (arith, ints)
 
 module _ (shifts : List Shift) (times : TimesDontFall shifts) where
   begun_before : (k : ℕ) (s : ℤ) → k ≤ length shifts → HasBegun shifts k s → (j : ℕ) → j < k → (shift_at shifts j).0 ≤ℤ s

@@ -2,19 +2,18 @@
 use Rattle.std.proofs.Common.{◌≡◌, ◌↔◌, ℕ, zero, suc, ◌+◌, ◌-◌, ◌<◌, ◌≤◌, length, ℤ, pos, ◌-ℤ◌, ◌*ℤ◌, ◌≤ℤ◌, ◌<ℤ◌, refl, sym, ap, ◌∙◌, subst, ⊎_elim, arith}
 use Rattle.std.proofs.lemmas.Int.{ints, by_lt_z}
 use Rattle.std.proofs.lemmas.Bool.{cases_lt}
+use Rattle.calendar.specs.Orders.{le_le}
 use Rattle.civil_base.specs.Instants.{seconds_of}
 use Rattle.zone_spans.specs.Schedules.{Schedule}
+use Rattle.tz_zone.specs.SecondLaws.{total_is}
 use Rattle.tz_zone.specs.Spans.{TimesDontFall, shift_at, total_of}
 use Rattle.zone_tail_core.specs.Agreement.{Agrees, AgreesIn, AgreesFrom, IsWalked}
 use Rattle.zone_tail_core.specs.Candidates.{candidate_total, total_by, IsAllowed, ReachesTo, IsFixed}
 use Rattle.zone_tail_core.specs.Totals.{total_from, HasBegun, Lasts}
 use Rattle.zone_tail_core.specs.declared.candidate.Candidate.{Candidate}
 use Rattle.zone_tail_core.specs.declared.candidate.Candidate.TheVariants.{Fixed, Ruled}
-use Rattle.zone_tail_core.proofs.SecondLemmas.{seconds_of-whole, total_at-second}
+use Rattle.zone_tail_core.proofs.SecondLemmas.{seconds_of-whole}
 use Rattle.zone_tail_core.proofs.SpanLemmas.{total_in_span, begun_down}
-
-le_le : (a b c : ℤ) → a ≤ℤ b → b ≤ℤ c → a ≤ℤ c
-le_le a b c h k = omega (arith, ints)
 
 module _ (candidate : Candidate) (zone : Schedule) (last : ℤ) (times : TimesDontFall zone.shifts) where
   -- one more span in front
@@ -104,7 +103,7 @@ module _ (candidate : Candidate) (zone : Schedule) (last : ℤ) (k : ℕ) (low h
 module _ (candidate : Candidate) (zone : Schedule) (last : ℤ) where
   pub by_instants : (k : ℕ) → AgreesFrom candidate zone last k → Agrees candidate zone last k
   unfolding candidate_total
-  by_instants k from = record { alike = λ t h m. from.alike (seconds_of t) h m ∙ sym (total_at-second zone t) }
+  by_instants k from = record { alike = λ t h m. from.alike (seconds_of t) h m ∙ sym (total_is zone t) }
 
   pub by_seconds : (k : ℕ) → Agrees candidate zone last k → AgreesFrom candidate zone last k
   unfolding candidate_total
@@ -113,7 +112,7 @@ module _ (candidate : Candidate) (zone : Schedule) (last : ℤ) where
         let at = seconds_of-whole s in
         ap (total_by candidate) (sym at)
         ∙ all.alike (pos 1000000000 *ℤ s) (subst (HasBegun zone.shifts k) (sym at) h) (subst (λ x. x <ℤ last) (sym at) m)
-        ∙ total_at-second zone (pos 1000000000 *ℤ s)
+        ∙ total_is zone (pos 1000000000 *ℤ s)
         ∙ ap (total_from zone.first zone.shifts) at;
   }
 

@@ -3,6 +3,7 @@ use Rattle.std.proofs.Common.{◌≡◌, ℕ, zero, suc, ◌<◌, ◌≤◌, ◌
 use Rattle.std.proofs.lemmas.Int.{ints, by_lt_z}
 use Rattle.std.proofs.lemmas.Bool.{cases_lt}
 use Rattle.calendar.specs.Days.{day, is_leap, days_in_year, days_in_month, days_after_zero, year_start, days_through, days_into_year}
+use Rattle.calendar.specs.Orders.{le_le, lt_le}
 use Rattle.calendar.specs.Signs.{signed}
 use Rattle.zone_spans.specs.Schedules.{Schedule}
 use Rattle.tz_zone.specs.Spans.{IsCut, Shift, TimesDontFall, shift_at, total_of}
@@ -32,12 +33,6 @@ end_before a b s h k = grind (arith, ints)
 
 start_after : (a b s : ℤ) → b <ℤ a → a ≤ℤ s → is_within a b s ≡ true
 start_after a b s h k = grind (arith, ints)
-
-le_le : (a b c : ℤ) → a ≤ℤ b → b ≤ℤ c → a ≤ℤ c
-le_le a b c h k = omega (arith, ints)
-
-lt_le : (a b c : ℤ) → a <ℤ b → b ≤ℤ c → a <ℤ c
-lt_le a b c h k = omega (arith, ints)
 
 pub day-2099 : day (pos 2099) 1 1 ≡ pos 47117
 unfolding is_leap days_in_year days_in_month days_after_zero year_start days_through days_into_year day

@@ -13,7 +13,7 @@ use Rattle.std.proofs.lemmas.Cmp.{nat_list_cmp_total}
 use Rattle.std.proofs.lemmas.Bool.{and_parts}
 use Rattle.std.proofs.lemmas.Bool.Decides.{Decides-eqb}
 use Rattle.std.proofs.lemmas.Slice.Eq.{starts_is}
-use Rattle.owned.specs.InOrderLaws.{RisesStrictly, tagged}
+use Rattle.owned.specs.InOrderLaws.{RisesStrictly, tagged, less}
 use Rattle.owned.specs.Keyed.{text_cmp}
 use Rattle.std.specs.FinMap.{nat_cmp-IsAntisymmetric}
 
@@ -69,11 +69,6 @@ past_not front name other low other_front high =
     is_false (begins front other) (λ b.
     let e = front_of other front b in
     let yes = between front (drop (length front) other) name low (ap (text_cmp name) (sym e) ∙ high) in absurd (cc))
-
-less : (r : Ordering) → is_lt r ≡ true → r ≡ Less
-less Less e = refl
-less Equal e = absurd (cc)
-less Greater e = absurd (cc)
 
 none_past : (front name : List ℕ) (names : List (List ℕ)) → is_lt (text_cmp name front) ≡ false → begins front name ≡ false
     → below_all text_cmp name (tagged names) ≡ true → list_any (begins front) names ≡ false

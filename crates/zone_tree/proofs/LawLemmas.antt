@@ -5,7 +5,7 @@ use Rattle.std.specs.Bool.{beq}
 use Rattle.std.specs.List.{AllByRecursion, list_any, flat_map}
 use Rattle.std.specs.Option.{option_or}
 use Rattle.std.specs.Ordering.{eq_by_cmp}
-use Rattle.std.proofs.lemmas.Bool.{and_from}
+use Rattle.std.proofs.lemmas.Bool.{and_from, or_left, or_right}
 use Rattle.std.proofs.lemmas.List.Elements.{All-nil, All-cons}
 use Rattle.std.proofs.lemmas.List.Folds.{list_any-append}
 use Rattle.std.proofs.lemmas.Map.Text.{is_eq-slice_cmp}
@@ -31,7 +31,7 @@ use Rattle.zone_tree.specs.declared.refusal.Why.{Why}
 use Rattle.zone_tree.specs.declared.refusal.Why.TheVariants.{OffsetRange, Name}
 use Rattle.zone_tzif_core.specs.declared.values.WriteFault.{WriteFault}
 use Rattle.zone_tzif_set.specs.Files.{file_fault}
-use Rattle.zone_tree.proofs.NameLemmas.{text_same, or_left, or_right, is_itself, kept_any, kept_is, among_names}
+use Rattle.zone_tree.proofs.NameLemmas.{text_same, is_itself, kept_any, kept_is, among_names}
 
 -- what is Ok, and else another value
 abbrev given : {A E : Type 0} → A → Result A E → A

@@ -9,6 +9,7 @@ use Rattle.std.proofs.lemmas.Cmp.{nat_list_cmp_total}
 use Rattle.std.proofs.lemmas.List.Folds.{list_any-append}
 use Rattle.std.proofs.lemmas.Map.Text.{is_eq-slice_cmp}
 use Rattle.std.proofs.lemmas.Slice.Eq.{bytes_eq-Decides}
+use Rattle.std.proofs.lemmas.Bool.{or_right, or_left}
 use Rattle.owned.specs.InOrder.{in_order}
 use Rattle.owned.specs.InOrderLaws.{RisesStrictly, same_rising, any-in_order, sorted_in_order, rises_from_sorted}
 use Rattle.owned.specs.Keyed.{text_cmp}
@@ -28,14 +29,6 @@ use Rattle.zone_tree.specs.Names.{names_by, names_in, finds_in, finds_in_table}
 
 pub text_same : IsAntisymmetric text_cmp
 text_same = slice_cmp-IsAntisymmetric nat_cmp-IsAntisymmetric
-
-pub or_right : (a b : Bool) → b ≡ true → (a || b) ≡ true
-or_right true b h = refl
-or_right false b h = h
-
-pub or_left : (a b : Bool) → a ≡ true → (a || b) ≡ true
-or_left true b h = refl
-or_left false b h = absurd (cc)
 
 -- ---- what is kept of some names
 
@@ -101,10 +94,6 @@ one_list p xs ys in_xs in_ys =
     (rises_from_sorted text_cmp _ (sorted_in_order nat_list_cmp_total (filter p ys)))
     (λ q. any-in_order text_same (eq_by_cmp text_cmp q) (filter p xs) ∙ kept_is p q xs (in_xs q)
     ∙ sym (kept_is p q ys (in_ys q)) ∙ sym (any-in_order text_same (eq_by_cmp text_cmp q) (filter p ys)))
-
-pub names_rise : (table : Table) → RisesStrictly text_cmp (names_of table)
-unfolding names_of
-names_rise table = rises_from_sorted text_cmp _ (sorted_in_order nat_list_cmp_total (filter (resolves table) (keys table.zonesets ++ keys table.links)))
 
 -- ---- a name that finds a zone is among the keys of the table
 

@@ -3,11 +3,12 @@ use Rattle.std.proofs.Common.{◌≡◌, Bool, true, false, cond, List, [], ◌�
 use Rattle.std.specs.Prelude.{Contains, int_lt}
 use Rattle.std.proofs.lemmas.Bool.{cases_Bool}
 use Rattle.std.proofs.lemmas.Int.{ints}
+use Rattle.calendar.specs.Orders.{lt_from_pass, lt_from_fail}
 use Rattle.civil_base.specs.Instants.{instant_at}
 use Rattle.civil_base.specs.Ranges.{IsOffset}
 use Rattle.zone_spans.specs.Schedules.{instants}
 use Rattle.tz_zone.specs.InForce.{AreInstants, totals_at}
-use Rattle.tz_zone.specs.InstantLaws.{from_reading, instants_one}
+use Rattle.tz_zone.specs.InstantLaws.{from_reading, instants_one, reads_back}
 use Rattle.tz_zone.specs.RisingLaws.{Rises, pairs_more, contains_head, contains_more, cases_more}
 
 -- the total before a change, and from it on
@@ -21,17 +22,8 @@ around_list true false a b = a ∷ b ∷ []
 around_list false true a b = []
 around_list false false a b = b ∷ []
 
-below : (s t : ℤ) → int_lt s t ≡ true → s <ℤ t
-below s t h = grind (arith, ints)
-
-not_below : (s t : ℤ) → int_lt s t ≡ false → t ≤ℤ s
-not_below s t h = grind (arith, ints)
-
 later : (s c t : ℤ) → s <ℤ c → c ≤ℤ t → s <ℤ t
 later s c t h k = omega (arith, ints)
-
-reads_back : (x o total t : ℤ) → total ≡ o → instant_at x o ≡ t → (t +ℤ pos 1000000000 *ℤ total) ≡ x
-reads_back x o total t e f = omega (arith, ints, e, f)
 
 total_early : (change a b t : ℤ) → int_lt t change ≡ true → total_around change a b t ≡ a
 total_early change a b t h = ap (λ test. cond test a b) h
@@ -84,7 +76,7 @@ not_both b h k = absurd cc
 pub are_two : (change a b x : ℤ) → int_lt (instant_at x a) change ≡ true → int_lt (instant_at x b) change ≡ false
     → AreInstants (total_around change a b) x (instant_at x a ∷ instant_at x b ∷ [])
 are_two change a b x h k = record {
-  rising = two_rise _ _ (later _ _ _ (below _ _ h) (not_below _ _ k));
+  rising = two_rise _ _ (later _ _ _ (lt_from_pass _ _ h) (lt_from_fail _ _ k));
   exact = λ t. (
     λ c. cases_more (instant_at x a) (instant_at x b ∷ []) t c (reads_early change a b x t h)
         (λ d. cases_more (instant_at x b) [] t d (reads_late change a b x t k) (λ n. in_nothing t n)),

@@ -3,7 +3,7 @@ use Rattle.calendar.specs.Days.{day}
 use Rattle.calendar.specs.MonthLaws.{days_in_month-bounds}
 use Rattle.calendar.specs.Signs.{signed_casts}
 use Rattle.tz_posix_core.specs.Days.{rule_day}
-use Rattle.tz_posix_core.specs.DayLaws.{counted, day-inside}
+use Rattle.civil_base.specs.DayRangeLaws.{counted, date-inside}
 use Rattle.tz_posix_core.specs.WeekdayLaws.{IsFound, found}
 use Rattle.tz_posix_core.proofs.date.weekday_day.Goals as goal
 
@@ -34,4 +34,4 @@ unfolding rule_day
 returns-clause-value c = value_is c ∙ ap (day c.args.year c.args.m) (sym (is_found c).nth)
 
 pub returns-clause-inside : goal.returns-clause-inside
-returns-clause-inside c = rw (value_is c) (day-inside c.args.year c.args.m c.nth_weekday.result c.requires.year (is_found c).date)
+returns-clause-inside c = rw (value_is c) (date-inside c.args.year c.args.m c.nth_weekday.result c.requires.year (is_found c).date)

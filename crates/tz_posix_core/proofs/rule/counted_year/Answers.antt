@@ -1,4 +1,4 @@
-use Rattle.std.proofs.Common.{arith, ◌≡◌, ◌≤ℤ◌, ◌<ℤ◌, ℤ, pos, neg_ℤ, sym, to_z-of_z}
+use Rattle.std.proofs.Common.{arith, ◌≤ℤ◌, ◌<ℤ◌, ℤ, pos, neg_ℤ, sym, to_z-of_z}
 use Rattle.std.specs.Int.{int_div_euclid}
 use Rattle.calendar.specs.Orders.{le_from_pass, lt_from_pass}
 use Rattle.calendar.specs.Signs.{signed, floored}

@@ -4,8 +4,9 @@ use Rattle.civil_base.specs.Instants.{instant_at}
 use Rattle.tz_zone.specs.InForce.{shown_of, totals_at}
 use Rattle.std.specs.Prelude.{take}
 use Rattle.tz_zone.specs.AnswerLaws.{instants_of_two}
-use Rattle.tz_zone.proofs.TimeZoneLemmas.{shown_assumed, shown_at_offset}
+use Rattle.tz_zone.proofs.TimeZoneLemmas.{shown_assumed}
 use Rattle.tz_zone.proofs.extensions.PlainDateTimePrimitiveDateTimeExt.assume_timezone.Goals as goal
+use Rattle.tz_zone.specs.InForceLaws.{shown_at_offset}
 
 shown_is : (x o p : ℤ) (v : _) → v ≡ at_offset x o → o ≡ p → shown_of v ≡ (instant_at x p, p)
 shown_is x o p v e f = ap shown_of e ∙ shown_at_offset x o ∙ (λ i. (instant_at x (f i), f i))
