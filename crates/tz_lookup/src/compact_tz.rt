@@ -6,12 +6,13 @@ ghost use Rattle.tz_zone.specs.InForce.{GivesAt};
 ghost use Rattle.tz_zone.specs.Sets.{schedule_of, IsOrderlyZone};
 ghost use Rattle.tz_lookup.specs.CompactShown.{seen};
 
-use crate::compact_instants::CompactInstants;
 use crate::compact_set::CompactSet;
 use civil_base::{OffsetDateTime, PlainDateTime};
 use std::marker::Brand;
 use std::sync::ledger::{Blank, Ledger};
-use tz_zone::{OffsetResult, Steps, TimeZone, TzOffset, local_spans, local_spans_counted};
+use tz_zone::{
+    InstantsIn, OffsetResult, Steps, TimeZone, TzOffset, local_spans, local_spans_counted,
+};
 
 /// The zone of a compact set, which it borrows.
 #[derive(Clone, Copy, Debug, Drop)]
@@ -21,6 +22,9 @@ pub struct CompactTz<'a> {
 
 /// The offset of a span of a compact set.
 pub type CompactOffset<'a> = TzOffset<'a>;
+
+/// The date-times that a compact set reads as one local time.
+pub type CompactInstants<'a> = InstantsIn<'a, CompactSet>;
 
 impl<'a> CompactTz<'a> {
     ghost use Rattle.std.specs.Prelude.{◌≡◌, ◌↔◌, ◌+◌, ◌-◌, ◌*◌, ◌^◌, ◌<◌, ◌≤◌, ℤ, IsTrue, length, map, take, pos};
@@ -98,7 +102,7 @@ impl<'a> CompactTz<'a> {
         ensures few { length (compact_left result) ≤ length (compact_of self.now).others + 1 }
         ensures exact { AreInstants (total_at (schedule_of (compact_of self.now))) date_time.now (map instant (compact_left result)) }
     {
-        CompactInstants::new(self.set, date_time)
+        InstantsIn::new(self.set, date_time)
     }
 
     fn offset_under<L: Ledger>(&self, date_time: &OffsetDateTime, blank: Blank) -> CompactOffset<'a>

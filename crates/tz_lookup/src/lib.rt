@@ -3,7 +3,6 @@
 //! The names are those of the crate `time-tz`; what looks up in any set of spans stands in `tz_zone` and is passed on.
 #![tactic(auto)]
 
-mod compact_instants;
 mod compact_set;
 mod compact_tz;
 mod database;
@@ -11,9 +10,8 @@ mod kinds;
 mod numbers;
 mod years;
 
-pub use compact_instants::CompactInstants;
 pub use compact_set::{CompactFault, CompactSet};
-pub use compact_tz::{CompactOffset, CompactTz};
+pub use compact_tz::{CompactInstants, CompactOffset, CompactTz};
 pub use database::{Database, DatabaseFault, DatabaseIter, names_in_order};
 pub use tz_zone::{
     Fixed, FixedOffset, FixedTimespan, FixedTimespanSet, InstantsLocal, Offset, OffsetDateTimeExt,

@@ -10,6 +10,7 @@ ghost use Rattle.tz_zone.specs.declared.set.FixedTimespanSet.{FixedTimespanSet a
 use crate::offsets::offset_of;
 use crate::scan::next_span;
 use crate::set::FixedTimespanSet;
+use crate::table::SpanTable;
 use civil_base::{OffsetDateTime, PlainDateTime};
 
 /// The second of a local time, rounded down. In every set that can be looked up the spans that contain it are those at whose
@@ -26,16 +27,19 @@ pub fn local_second(local: &PlainDateTime) -> i64
 /// The date-times that a zone reads as one local time, the earliest first, each once: at most one for each span. It takes
 /// no memory.
 #[derive(Drop)]
-pub struct InstantsLocal<'a> {
-    set: &'a FixedTimespanSet,
+pub struct InstantsIn<'a, S: SpanTable> {
+    set: &'a S,
     local: PlainDateTime,
     second: i64,
     next: usize,
-    ghost accepted: { IsAccepted (schedule_of set.now) },
-    ghost within: { next ≤ length set.now.others + 1 },
+    ghost accepted: { IsAccepted (schedule_of (S.seen set.now)) },
+    ghost within: { next ≤ length (S.seen set.now).others + 1 },
 }
 
-impl<'a> InstantsLocal<'a> {
+/// Those of a set of spans.
+pub type InstantsLocal<'a> = InstantsIn<'a, FixedTimespanSet>;
+
+impl<'a, S: SpanTable> InstantsIn<'a, S> {
     ghost use Rattle.std.specs.Prelude.{◌≡◌, ◌≤◌, ◌+◌, map, length};
     ghost use Rattle.zone_spans.specs.Schedules.{total_at};
     ghost use Rattle.civil_base.specs.DateTimes.{instant};
@@ -44,13 +48,13 @@ impl<'a> InstantsLocal<'a> {
     ghost use Rattle.tz_zone.specs.Sets.{schedule_of, IsAccepted};
 
     /// The instants that the set reads as that local time.
-    pub(crate) fn new(set: &'a FixedTimespanSet, local: &PlainDateTime) -> InstantsLocal<'a>
-        requires accepted { IsAccepted (schedule_of set.now) }
-        ensures all { map shown_of (dates_left result) ≡ all_in_force (total_at (schedule_of set.now)) local.now }
-        ensures few { length (dates_left result) ≤ length set.now.others + 1 }
-        ensures exact { AreInstants (total_at (schedule_of set.now)) local.now (map instant (dates_left result)) }
+    pub fn new(set: &'a S, local: &PlainDateTime) -> InstantsIn<'a, S>
+        requires accepted { IsAccepted (schedule_of (S.seen set.now)) }
+        ensures all { map shown_of (dates_left result) ≡ all_in_force (total_at (schedule_of (S.seen set.now))) local.now }
+        ensures few { length (dates_left result) ≤ length (S.seen set.now).others + 1 }
+        ensures exact { AreInstants (total_at (schedule_of (S.seen set.now))) local.now (map instant (dates_left result)) }
     {
-        InstantsLocal {
+        InstantsIn {
             set,
             local: *local,
             second: local_second(local),
@@ -59,7 +63,7 @@ impl<'a> InstantsLocal<'a> {
     }
 }
 
-impl<'a> Iterator for InstantsLocal<'a> {
+impl<'a, S: SpanTable> Iterator for InstantsIn<'a, S> {
     type Item = OffsetDateTime;
 
     ghost use Rattle.std.specs.Iterator.{YieldsFirst, item_count};

@@ -27,7 +27,7 @@ pub use accept::TzFault;
 pub use compile::{ZoneFault, compile_zone};
 pub use extensions::{OffsetDateTimeExt, PrimitiveDateTimeExt};
 pub use fixed::{Fixed, FixedOffset};
-pub use instants::{InstantsLocal, local_second};
+pub use instants::{InstantsIn, InstantsLocal, local_second};
 pub use lookups::{local_spans, local_spans_counted};
 pub use offsets::offset_of;
 pub use orderly::is_orderly;

@@ -8,7 +8,7 @@ ghost use Rattle.tz_zone.specs.InForce.{GivesAt};
 ghost use Rattle.tz_zone.specs.Sets.{schedule_of, IsAccepted, IsOrderlyZone};
 
 use crate::accept::{TzFault, accept};
-use crate::instants::InstantsLocal;
+use crate::instants::{InstantsIn, InstantsLocal};
 use crate::lookups::{local_spans, local_spans_counted, span_in_force};
 use crate::offsets::offset_of;
 use crate::orderly::is_orderly;
@@ -156,7 +156,7 @@ impl<'a> Tz<'a> {
         ensures few { length (dates_left result) ≤ length (set_of self.now).others + 1 }
         ensures exact { AreInstants (total_at (schedule_of (set_of self.now))) date_time.now (map instant (dates_left result)) }
     {
-        InstantsLocal::new(self.set, date_time)
+        InstantsIn::new(self.set, date_time)
     }
 }
 
