@@ -3,12 +3,18 @@ use Rattle.std.proofs.Common.{◌≡◌, zero, suc, ◌≤◌, List, [], ◌∷�
 use Rattle.std.specs.Prelude.{Contains}
 use Rattle.std.proofs.lemmas.List.{take-map}
 use Rattle.std.proofs.lemmas.Int.{ints}
+use Rattle.civil_base.specs.DateTimes.{at_offset}
 use Rattle.civil_base.specs.Ranges.{IsOffset}
 use Rattle.zone_spans.specs.Schedules.{instants}
 use Rattle.civil_base.specs.Instants.{instant_at}
-use Rattle.tz_zone.specs.InForce.{in_force, all_in_force, totals_at}
+use Rattle.civil_base.specs.declared.offset_date_time.OffsetDateTime.{OffsetDateTime}
+use Rattle.tz_zone.specs.Answers.{AreMapped, listed}
+use Rattle.tz_zone.specs.InForce.{in_force, all_in_force, totals_at, shown_of}
+use Rattle.tz_zone.specs.InForceLaws.{shown_at_offset}
 use Rattle.tz_zone.specs.RisingLaws.{contains_head, contains_more}
 use Rattle.tz_zone.specs.InstantLaws.{from_reading, instants_are, instants_one}
+use Rattle.tz_zone.specs.declared.result.OffsetResult.TheVariants.{Some, Ambiguous, None}
+use Rattle.tz_zone.specs.declared.result.OffsetResult.{OffsetResult}
 
 -- one total at all times
 reads_fixed : (x t o : ℤ) → instant_at x o ≡ t → (t +ℤ pos 1000000000 *ℤ o) ≡ x
@@ -55,3 +61,18 @@ pub shown_assumed : (total : ℤ → ℤ) (x : ℤ) (os : List ℤ) → ((t : �
 shown_assumed total x os range e =
     ap (map (λ o. (instant_at x o, o))) e ∙ sym (take-map (λ o. (instant_at x o, o)) 2 (totals_at total x))
     ∙ ap (take 2) (in_force_from_totals total x range)
+
+-- date-times of a local time at each of the offsets show it at their totals
+pub shown_mapped : {O : Type 0} (total_of : O → ℤ) (x : ℤ) (P : O → OffsetDateTime → Type 0) (offsets : OffsetResult O)
+    (dates : OffsetResult OffsetDateTime) → AreMapped P offsets dates → ((o : O) (date : OffsetDateTime) → P o date → date ≡ at_offset x (total_of o))
+    → map shown_of (listed dates) ≡ map (λ o. (instant_at x o, o)) (map total_of (listed offsets))
+shown_mapped total_of x P (Some o) (Some d) h each = λ i. (ap shown_of (each o d h) ∙ shown_at_offset x (total_of o)) i ∷ []
+shown_mapped total_of x P (Ambiguous o p) (Ambiguous d e) h each =
+    λ i. (ap shown_of (each o d h.0) ∙ shown_at_offset x (total_of o)) i ∷ (ap shown_of (each p e h.1) ∙ shown_at_offset x (total_of p)) i ∷ []
+shown_mapped total_of x P None None h each = refl
+shown_mapped total_of x P (Some o) (Ambiguous d e) h each = absurd h
+shown_mapped total_of x P (Some o) None h each = absurd h
+shown_mapped total_of x P (Ambiguous o p) (Some d) h each = absurd h
+shown_mapped total_of x P (Ambiguous o p) None h each = absurd h
+shown_mapped total_of x P None (Some d) h each = absurd h
+shown_mapped total_of x P None (Ambiguous d e) h each = absurd h

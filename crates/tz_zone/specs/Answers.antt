@@ -14,6 +14,13 @@ EachOf P (Some a) = P a
 EachOf P (Ambiguous a b) = P a × P b
 EachOf P None = Unit {0}
 
+-- there is a value for each, in the same order, of which P holds beside it
+abbrev pub AreMapped : {T U : Type 0} → (T → U → Type 0) → OffsetResult T → OffsetResult U → Type 0
+AreMapped P (Some a) (Some b) = P a b
+AreMapped P (Ambiguous a b) (Ambiguous c d) = P a c × P b d
+AreMapped P None None = Unit {0}
+AreMapped P _ _ = ⊥
+
 -- where there are two, the second comes right after the first
 abbrev pub AreAdjacent : OffsetResult ℕ → Type 0
 AreAdjacent (Some a) = Unit {0}

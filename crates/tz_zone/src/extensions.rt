@@ -51,14 +51,8 @@ impl PrimitiveDateTimeExt for PlainDateTime {
     ghost number = { λ time. time };
 
     fn assume_timezone<T: TimeZone>(&self, tz: &T) -> OffsetResult<OffsetDateTime> {
-        match tz.get_offset_local(&self.assume_utc()) {
-            OffsetResult::None => OffsetResult::None,
-            OffsetResult::Some(only) => OffsetResult::Some(self.assume_offset(only.to_utc())),
-            OffsetResult::Ambiguous(first, second) => OffsetResult::Ambiguous(
-                self.assume_offset(first.to_utc()),
-                self.assume_offset(second.to_utc()),
-            ),
-        }
+        tz.get_offset_local(&self.assume_utc())
+            .map(|offset| self.assume_offset(offset.to_utc()))
     }
 
     fn assume_timezone_utc<T: TimeZone>(&self, tz: &T) -> OffsetDateTime {

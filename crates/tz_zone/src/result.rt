@@ -12,8 +12,24 @@ pub enum OffsetResult<T> {
 }
 
 impl<T: Drop> OffsetResult<T> {
+    ghost use Rattle.tz_zone.specs.Answers.{AreMapped, EachOf};
     ghost use Rattle.tz_zone.specs.Results.{has_one, first_in, second_in, only_in, is_none_in, is_ambiguous_in};
     ghost use Rattle.std.specs.Prelude.{◌≡◌, IsTrue, false, Some};
+
+    /// What a function makes of each value, in the same order.
+    pub fn map<U: Drop, F: Fn(T) -> U + Drop>(self, f: F) -> OffsetResult<U>
+        requires { EachOf (F.pre f) self }
+        ensures { AreMapped (F.post f) self result }
+    {
+        match self {
+            OffsetResult::Some(only) => OffsetResult::Some(f(only)),
+            OffsetResult::Ambiguous(first, second) => {
+                let mapped = f(first);
+                OffsetResult::Ambiguous(mapped, f(second))
+            }
+            OffsetResult::None => OffsetResult::None,
+        }
+    }
 
     /// The only value, which has to be there.
     pub fn unwrap(self) -> T

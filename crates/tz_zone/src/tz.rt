@@ -72,14 +72,7 @@ impl<'a> TzOffset<'a> {
         ensures totals { map total_shown (listed result) ≡ map (total_of_span (T.seen set.now)) (listed spans) }
         ensures names { (x : ℤ) → AreRead (T.seen set.now) x spans → EachOf (IsGivenFor (T.seen set.now) x) result }
     {
-        match spans {
-            OffsetResult::None => OffsetResult::None,
-            OffsetResult::Some(only) => OffsetResult::Some(TzOffset::of_span(set, only)),
-            OffsetResult::Ambiguous(first, second) => OffsetResult::Ambiguous(
-                TzOffset::of_span(set, first),
-                TzOffset::of_span(set, second),
-            ),
-        }
+        spans.map(|span| TzOffset::of_span(set, span))
     }
 }
 
