@@ -1,5 +1,5 @@
 -- Years, kinds and compact entries, at worked rows.
-use Rattle.std.proofs.Common.{◌≡◌, ℕ, List, [], ◌∷◌, ℤ, pos, negsuc, ◌<ℤ◌, ◌≤ℤ◌, refl, arith}
+use Rattle.std.proofs.Common.{◌≡◌, ◌-◌, ℕ, List, [], ◌∷◌, ℤ, pos, negsuc, ◌<ℤ◌, ◌≤ℤ◌, refl, sym, arith}
 use Rattle.std.specs.Prelude.{codes}
 use Rattle.std.proofs.lemmas.Int.{ints}
 use Rattle.calendar.specs.Signs.{signed}
@@ -7,7 +7,9 @@ use Rattle.zone_spans.specs.declared.span.FixedTimespan.{FixedTimespan}
 use Rattle.tz_zone.specs.declared.set.FixedTimespanSet.{FixedTimespanSet}
 use Rattle.tz_lookup.specs.Compact.{entries_seen}
 use Rattle.tz_lookup.specs.Kinds.{with_kinds, kinds_of}
+use Rattle.zone_spans.specs.Years.{most_years}
 use Rattle.tz_lookup.specs.Years.{year_second, years_begun, changes_in_year}
+use Rattle.tz_lookup.specs.YearSeconds.{rules_begin, last_year_begin, rules_end}
 use Rattle.tz_lookup.proofs.YearLemmas.{day_at, first_second, last_second, years_are, begun_up_to, before_all, after_all}
 
 -- ---- the seconds at which years begin
@@ -37,6 +39,16 @@ year_2099 = omega (arith, signed, day_at 299)
 
 year_2100 : year_second 300 ≡ pos 4102444800
 year_2100 = last_second
+
+-- the rules' years begin and end with these seconds
+begin : rules_begin ≡ year_second 0
+begin = sym year_1800
+
+last_begin : last_year_begin ≡ year_second (most_years - 1)
+last_begin = sym year_2099
+
+end : rules_end ≡ year_second most_years
+end = sym year_2100
 
 -- ---- years that have begun
 
