@@ -1,5 +1,6 @@
 -- Where the start comes first in each year, the zone and the value agree.
 use Rattle.std.proofs.Common.{◌≡◌, ℕ, zero, suc, ◌-◌, ◌<◌, inr, cond, [], ◌∷◌, Ok, refl, sym, ap, ◌∙◌, arith, ℤ, pos, ◌+ℤ◌, ◌<ℤ◌, int_le}
+use Rattle.calendar.specs.Orders.{le_from_lt}
 use Rattle.calendar.specs.Signs.{signed}
 use Rattle.civil_base.specs.Instants.{seconds_of}
 use Rattle.zone_table.specs.Moments.{moment}
@@ -13,7 +14,7 @@ use Rattle.zone_spans.specs.declared.span.FixedTimespanSet.{FixedTimespanSet}
 use Rattle.tz_posix.specs.Agreement.{IsInRuleYears, IsNorthern, RuledValue, SaysTheSame, TwoRuleZone}
 use Rattle.tz_posix.specs.Agreement.{end_in, first_year, start_in, value_total}
 use Rattle.tz_posix_core.specs.InForce.{is_within}
-use Rattle.tz_posix.proofs.HemisphereLemmas.{northern_total, start_before_end, end_before_start, up_le, lt_le, le_same, lt_same}
+use Rattle.tz_posix.proofs.HemisphereLemmas.{northern_total, start_before_end, end_before_start, up_le, le_same, lt_same}
 use Rattle.tz_posix.proofs.StandardYearLemmas.{years_before}
 use Rattle.tz_posix.proofs.AgreementLemmas.{a_start, an_end, at, compiled_line, differ, end-written, end_expandable, found_place, in_order, known, line_of, schedule-is, start-written, start_expandable, start_first, value_total-is, year_of_place}
 
@@ -58,14 +59,14 @@ module _ (rulesets : Rulesets) (zone : TwoRuleZone) (q : RuledValue) (c : SaysTh
         c.saving (north _ (year_of_place rulesets zone q c i l));
     next = λ i l. end_before_start _ _ o zone.start.time_to_add (start (suc i)) (stop i) (start-written rulesets zone q c _) (end-written rulesets zone q c _)
         (to_next i l);
-    rise = λ i l. le_same _ _ _ _ (first_is i) refl (lt_le _ _ (north _ (year_of_place rulesets zone q c i l)));
+    rise = λ i l. le_same _ _ _ _ (first_is i) refl (le_from_lt _ _ (north _ (year_of_place rulesets zone q c i l)));
     rise_next = λ i l. le_same _ _ _ _ refl (first_is (suc i)) (up_le (stop i) (start (suc i)) zone.start.time_to_add c.saving (to_next i l));
   }
 
   inside : (i : ℕ) (s : ℤ) → i < n → IsInRuleYears o (year_from m i) (year_from m i) s → IsInYear o zone.start zone.end m n i s
   inside i s l here = record {
     past = λ j e. let next : j < i = omega arith in
-        lt_le _ _ (in_order rulesets zone q c j i _ _ next l (c.end_inside _ (year_of_place rulesets zone q c j (omega arith))) here);
+        le_from_lt _ _ (in_order rulesets zone q c j i _ _ next l (c.end_inside _ (year_of_place rulesets zone q c j (omega arith))) here);
     to_come = λ j d k. lt_same _ _ _ _ refl (first_is j)
         (in_order rulesets zone q c i j _ _ d k here (c.start_inside _ (year_of_place rulesets zone q c j k)));
   }

@@ -1,6 +1,6 @@
 -- Where the end comes first in each year, the zone and the value agree from the first start on.
 use Rattle.std.proofs.Common.{◌≡◌, ℕ, zero, suc, ◌-◌, ◌<◌, inl, true, cond, [], ◌∷◌, Ok, refl, sym, ap, ◌∙◌, arith, ℤ, pos, ◌+ℤ◌, ◌≤ℤ◌, ◌<ℤ◌, int_le}
-use Rattle.calendar.specs.Orders.{le_pass}
+use Rattle.calendar.specs.Orders.{le_pass, le_from_lt}
 use Rattle.calendar.specs.Signs.{signed}
 use Rattle.civil_base.specs.Instants.{seconds_of}
 use Rattle.zone_table.specs.Moments.{moment}
@@ -15,7 +15,7 @@ use Rattle.zone_spans.specs.declared.span.FixedTimespanSet.{FixedTimespanSet}
 use Rattle.tz_posix.specs.Agreement.{IsFromFirstStart, IsInRuleYears, IsSouthern, RuledValue, SaysTheSame, TwoRuleZone}
 use Rattle.tz_posix.specs.Agreement.{end_in, first_year, start_in, value_total}
 use Rattle.tz_posix_core.specs.InForce.{is_within}
-use Rattle.tz_posix.proofs.HemisphereLemmas.{southern_total, start_before_end, end_before_start, up_le, up_lt, lt_le, le_same, later_end}
+use Rattle.tz_posix.proofs.HemisphereLemmas.{southern_total, start_before_end, end_before_start, up_le, up_lt, le_same, later_end}
 use Rattle.tz_posix.proofs.StandardYearLemmas.{years_before}
 use Rattle.tz_posix.proofs.AgreementLemmas.{a_start, an_end, at, compiled_line, differ, end-written, end_expandable, end_first, first_place, first_rule_year, found_place, in_order, known, line_of, schedule-is, start-written, start_expandable, value_total-is, year_of_place}
 
@@ -63,7 +63,7 @@ module _ (rulesets : Rulesets) (zone : TwoRuleZone) (q : RuledValue) (c : SaysTh
       omega (arith, signed, gap)
 
   rise : (i : ℕ) → i < n → (first_at o zone.end zone.start m i).time ≤ℤ (second_at o zone.end zone.start m i).time
-  rise zero l = le_same _ _ _ _ first_end (start_at 0) (lt_le _ _ (in_year 0 l))
+  rise zero l = le_same _ _ _ _ first_end (start_at 0) (le_from_lt _ _ (in_year 0 l))
   rise (suc i) l = le_same _ _ _ _ refl (start_at (suc i)) (up_le (stop (suc i)) (start (suc i)) p c.saving (in_year (suc i) l))
 
   in_turn : AreInTurn o zone.end zone.start m n
@@ -87,7 +87,7 @@ module _ (rulesets : Rulesets) (zone : TwoRuleZone) (q : RuledValue) (c : SaysTh
   inside i s l here = record {
     past = λ j e. let next : j < i = omega arith in
         le_same _ _ _ _ (start_at j) refl
-        (lt_le _ _ (in_order rulesets zone q c j i _ _ next l (c.start_inside _ (year_of_place rulesets zone q c j (omega arith))) here));
+        (le_from_lt _ _ (in_order rulesets zone q c j i _ _ next l (c.start_inside _ (year_of_place rulesets zone q c j (omega arith))) here));
     to_come = to_come i s l here;
   }
 

@@ -1,6 +1,5 @@
 -- Totals by spans.
-use Rattle.std.proofs.Common.{◌≡◌, ℕ, zero, suc, ◌<◌, ◌≤◌, cond, List, [], ◌∷◌, length, map, filter, ℤ, ◌≤ℤ◌, ◌<ℤ◌, int_le, refl, ap, ◌∙◌, arith}
-use Rattle.std.proofs.lemmas.Int.{ints}
+use Rattle.std.proofs.Common.{◌≡◌, ℕ, zero, suc, ◌<◌, ◌≤◌, cond, List, [], ◌∷◌, length, map, filter, ℤ, ◌≤ℤ◌, int_le, refl, ap, ◌∙◌, arith}
 use Rattle.calendar.specs.Orders.{le_pass, le_fail, le_le, lt_le}
 use Rattle.zone_spans.specs.Entries.{Entry}
 use Rattle.zone_spans.specs.Schedules.{last_total}
