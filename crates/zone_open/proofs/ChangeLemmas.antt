@@ -11,7 +11,8 @@ use Rattle.zone_spans.specs.declared.span.FixedTimespan.{FixedTimespan}
 use Rattle.tz_zone.specs.Sets.{shift_of, shifts_of, span_in, total_of_span}
 use Rattle.tz_zone.specs.Spans.{shift_at, IsCut, TimesDontFall}
 use Rattle.tz_zone.specs.declared.set.FixedTimespanSet.{FixedTimespanSet}
-use Rattle.zone_open.specs.Changes.{change_of, changes_of, how_many, is_within, last_saving, next_after, saving_at, settled, with_change, AreParted, HasPut, IsChangeAt}
+use Rattle.zone_open.specs.Changes.{change_of, changes_of, is_within, last_saving, next_after, saving_at, settled}
+use Rattle.zone_open.specs.ChangeSteps.{how_many, with_change, AreParted, HasPut, IsChangeAt}
 use Rattle.zone_open.specs.Rooms.{filled, filled_at}
 use Rattle.zone_open.specs.declared.changes.Change.{Change}
 use Rattle.zone_open.proofs.AskLemmas.{all_taken, dropped}

@@ -12,7 +12,8 @@ use Rattle.tz_zone.specs.InForce.{all_in_force, in_force}
 use Rattle.tz_zone.specs.InstantLaws.{instants_are}
 use Rattle.tz_zone.specs.SecondLaws.{IsSecond, second_is, one_second}
 use Rattle.zone_tzif_core.specs.Zones.{ZoneValue}
-use Rattle.zone_open.specs.Gaps.{nth_offset, HoldsSeconds, IsNeverRead, IsSkippedBy}
+use Rattle.zone_open.specs.Gaps.{IsSkippedBy}
+use Rattle.zone_open.specs.GapPlaces.{nth_offset, HoldsSeconds, IsNeverRead}
 
 reads : (x k total : ℤ) → total ≡ k → (instant_at x k +ℤ pos 1000000000 *ℤ total) ≡ x
 reads x k total e = omega (arith, ints, e)

@@ -1,3 +1,4 @@
+-- Definitions: what public clauses say.
 pub mod AnySources
 pub mod Answered
 pub mod Any
@@ -11,3 +12,6 @@ pub mod Posix
 pub mod Rooms
 pub mod Sources
 pub mod Zones
+-- Words of private clauses.
+pub mod ChangeSteps
+pub mod GapPlaces

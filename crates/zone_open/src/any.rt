@@ -1,5 +1,5 @@
 //! Zones of every kind.
-ghost use Rattle.std.specs.Prelude.{◌≡◌};
+ghost use Rattle.std.specs.Prelude.{◌≡◌, ◌<◌};
 ghost use Rattle.zone_open.specs.Answered.{AreReadings};
 ghost use Rattle.zone_open.specs.Zones.{total_in};
 
@@ -56,7 +56,8 @@ impl AnyZone {
     /// All instants at which clocks show a local time, by time, as far as they fit in the room, and how many there are. Where
     /// there is none, the change that skips the local time is told.
     pub fn readings(&self, local: &PlainDateTime, room: &mut [Reading], gap: &mut Gap) -> usize
-        ensures { Seen self.now (λ total _. AreReadings total local.now room.old room.new result gap.new) }
+        ensures answer { Seen self.now (λ total _. AreReadings total local.now room.old room.new result gap.new) }
+        ensures gap { 0 < result → gap.new ≡ gap.old }
     {
         match self {
             AnyZone::Source(zone) => source_readings(zone, local, room, gap),
@@ -83,7 +84,8 @@ fn source_readings(
     room: &mut [Reading],
     gap: &mut Gap,
 ) -> usize
-    ensures { AreReadings (total_in zone.now) local.now room.old room.new result gap.new }
+    ensures answer { AreReadings (total_in zone.now) local.now room.old room.new result gap.new }
+    ensures gap { 0 < result → gap.new ≡ gap.old }
 {
     let count = zone.readings(local, room);
     if count == 0 {

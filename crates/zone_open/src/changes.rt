@@ -4,7 +4,8 @@ ghost use Rattle.std.specs.List.{slice_get};
 ghost use Rattle.tz_zone.specs.Sets.{schedule_of, shifts_of, IsAccepted};
 ghost use Rattle.tz_zone.specs.Spans.{shift_at, IsCut};
 ghost use Rattle.tz_lookup.specs.CompactShown.{seen};
-ghost use Rattle.zone_open.specs.Changes.{change_of, next_after, saving_at, window, AreParted, HasPut, IsChangeAt};
+ghost use Rattle.zone_open.specs.Changes.{change_of, next_after, saving_at, window};
+ghost use Rattle.zone_open.specs.ChangeSteps.{AreParted, HasPut, IsChangeAt};
 ghost use Rattle.zone_open.specs.Rooms.{filled};
 
 use crate::room::put;

@@ -1,5 +1,5 @@
 //! Zones of compiled files, and of POSIX strings.
-ghost use Rattle.std.specs.Prelude.{◌≡◌, MatchResult, IfErr, IfOk, false, true};
+ghost use Rattle.std.specs.Prelude.{◌≡◌, ◌<◌, MatchResult, IfErr, IfOk, false, true};
 ghost use Rattle.zone_tzif_core.specs.Shown.{kind_shown, zone_shown};
 ghost use Rattle.zone_tzif_core.specs.Zones.{is_small};
 ghost use Rattle.zone_open.specs.Posix.{IsPosixFault, IsStandardOf};
@@ -149,7 +149,8 @@ impl FileZone {
     /// All instants at which clocks show a local time, by time, as far as they fit in the room, and how many there are. Where
     /// there is none, the change that skips the local time is told.
     pub fn readings(&self, local: &PlainDateTime, room: &mut [Reading], gap: &mut Gap) -> usize
-        ensures { SaysOf self.now (λ footer. AreReadings (total_at (file_value self.now) footer) local.now room.old room.new result gap.new) }
+        ensures answer { SaysOf self.now (λ footer. AreReadings (total_at (file_value self.now) footer) local.now room.old room.new result gap.new) }
+        ensures gap { 0 < result → gap.new ≡ gap.old }
     {
         lent_readings(&self.zone(), local, room, gap)
     }

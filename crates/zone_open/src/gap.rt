@@ -2,7 +2,8 @@
 ghost use Rattle.std.specs.Prelude.{◌≡◌, ◌-◌, ◌<◌, ◌<ℤ◌, int_lt};
 ghost use Rattle.civil_base.specs.DateTimes.{instant};
 ghost use Rattle.civil_base.specs.Instants.{instant_at};
-ghost use Rattle.zone_open.specs.Gaps.{nth_offset, HoldsSeconds, IsNeverRead, IsSkippedBy};
+ghost use Rattle.zone_open.specs.Gaps.{IsSkippedBy};
+ghost use Rattle.zone_open.specs.GapPlaces.{nth_offset, HoldsSeconds, IsNeverRead};
 
 use civil_base::{OffsetDateTime, PlainDateTime, UtcOffset};
 use tz_lookup::{Offset, TimeZone};

@@ -21,7 +21,8 @@ pub(crate) fn lent_readings(
     room: &mut [Reading],
     gap: &mut Gap,
 ) -> usize
-    ensures { AreReadings (total_at (value_of zone.now) (says_of zone.now)) local.now room.old room.new result gap.new }
+    ensures answer { AreReadings (total_at (value_of zone.now) (says_of zone.now)) local.now room.old room.new result gap.new }
+    ensures gap { 0 < result → gap.new ≡ gap.old }
 {
     let count = each_lent(zone, local, zone.offset_count(), room);
     if count == 0 {

@@ -1,7 +1,7 @@
 use Rattle.std.proofs.Common.{◌≡◌, ◌+◌, ◌-◌, ◌/◌, ◌<◌, length, to_z, of_z, to_z-of_z, w64, subst, arith}
 use Rattle.tz_zone.specs.Sets.{shifts_of}
 use Rattle.tz_lookup.specs.CompactShown.{seen}
-use Rattle.zone_open.specs.Changes.{AreParted}
+use Rattle.zone_open.specs.ChangeSteps.{AreParted}
 use Rattle.zone_open.proofs.ChangeLemmas.{after_more, before_more, parted_at}
 use Rattle.zone_open.proofs.changes.entries_before.Goals as goal
 

@@ -1,5 +1,5 @@
 use Rattle.std.proofs.Common.{◌+◌, ◌-◌, ◌/◌, arith}
-use Rattle.zone_open.specs.Gaps.{nth_offset}
+use Rattle.zone_open.specs.GapPlaces.{nth_offset}
 use Rattle.zone_open.proofs.GapLemmas.{falls_short}
 use Rattle.zone_open.proofs.gap.skipped.Goals as goal
 

@@ -1,6 +1,6 @@
 use Rattle.std.proofs.Common.{◌-◌, ◌<◌, ◌≤◌, ◌<ℤ◌}
 use Rattle.civil_base.specs.Instants.{instant_at}
-use Rattle.zone_open.specs.Gaps.{nth_offset}
+use Rattle.zone_open.specs.GapPlaces.{nth_offset}
 use Rattle.zone_open.proofs.gap.skipped.Given as goal
 
 -- more is in force at the instant read at the lower offset, and less at that read at the higher

@@ -3,8 +3,8 @@ use Rattle.zone_open.specs.Answered.{AreReadings}
 use Rattle.zone_open.proofs.FileLemmas.{lent}
 use Rattle.zone_open.proofs.file.FileZone.readings.Goals as goal
 
-pub returns : goal.returns
-returns c =
+pub returns-clause-answer : goal.returns-clause-answer
+returns-clause-answer c =
     lent c.args.self.now c.zone.result c.zone.ensures
     (λ value footer. AreReadings (total_at value footer) c.args.local.now c.args.room.now c.lent_readings.new.room c.lent_readings.result c.lent_readings.new.gap)
-    c.lent_readings.ensures
+    c.lent_readings.ensures.answer

@@ -1,7 +1,7 @@
 use Rattle.std.proofs.Common.{sym, subst}
 use Rattle.zone_spans.specs.Schedules.{total_at}
 use Rattle.tz_zone.specs.Sets.{schedule_of}
-use Rattle.zone_open.specs.Gaps.{IsNeverRead}
+use Rattle.zone_open.specs.GapPlaces.{IsNeverRead}
 use Rattle.zone_open.specs.Zones.{total_in}
 use Rattle.zone_open.proofs.GapLemmas.{never_read, schedule_holds}
 use Rattle.zone_open.proofs.zone.OpenZone.gap.Goals as goal
