@@ -1,11 +1,10 @@
 -- What is refused of a source in any form, and what is opened.
-use Rattle.std.proofs.Common.{◌≡◌, ◌<◌, ◌≤◌, ℕ, true, false, cond, List, length, nat_lt, inl, inr, refl, ap, ◌∙◌, arith}
+use Rattle.std.proofs.Common.{◌≡◌, ◌≤◌, ℕ, cond, List, length, inl, inr, refl, ap, ◌∙◌, arith}
 use Rattle.std.specs.Prelude.{Option, Some, None, Result, Ok, Err, option_map}
 use Rattle.zone_plain_base.specs.LineFaults.{Refusal, at, bad_line}
 use Rattle.zone_plain_base.specs.LineFaults as refused
 use Rattle.zone_plain.specs.Plain.{plain_of}
 use Rattle.zone_source.specs.Faults.{SourceFault, source_fault}
-use Rattle.zone_source.specs.Faults as source
 use Rattle.zone_source.specs.Told.{told_by_source}
 use Rattle.zone_open.specs.AnySources.{IsAnyFault, IsAnySource}
 use Rattle.zone_open.specs.declared.any_source.AnySourceFault.{AnySourceFault}
@@ -14,17 +13,7 @@ use Rattle.zone_open.specs.declared.source.OpenSource.{OpenSource}
 use Rattle.sefunjaro_handles.specs.Statuses.{too_long}
 use Rattle.sefunjaro_c.specs.AnySources.{any_due, any_told, form_due, refusal_told, IsAnySourceOf}
 use Rattle.sefunjaro_c.specs.Faults.{fault_told, plain, told_or_memory, IsRefused}
-
-less : (a b : ℕ) → a < b → nat_lt a b ≡ true
-less a b h = grind arith
-
-not_less : (a b : ℕ) → b ≤ a → nat_lt a b ≡ false
-not_less a b h = grind arith
-
-told_positive : (fault : SourceFault) → 0 < (fault_told fault).status
-told_positive (source.not_text n) = omega arith
-told_positive (source.bad_line n fault) = omega arith
-told_positive (source.bad_join n kind) = omega arith
+use Rattle.sefunjaro_c.proofs.FaultLemmas.{less, not_less, told_positive}
 
 -- of a text that isn't too long what its plain form is due
 form_is : (text : List ℕ) (found : Result (List ℕ) Refusal) → length text ≤ 16777216 → plain_of text ≡ found → any_due text ≡ form_due found

@@ -20,13 +20,13 @@ use Rattle.sefunjaro_handles.specs.declared.opened.Opened.{Opened}
 use Rattle.sefunjaro_handles.specs.declared.opened.Opened.TheVariants.{Source, Zone}
 use Rattle.sefunjaro_c.specs.Faults.{fault_told, told_or_memory, opening_told, zone_told, plain, source_due, zone_due, IsRefused}
 
-less : (a b : ℕ) → a < b → nat_lt a b ≡ true
+pub less : (a b : ℕ) → a < b → nat_lt a b ≡ true
 less a b h = grind arith
 
-not_less : (a b : ℕ) → b ≤ a → nat_lt a b ≡ false
+pub not_less : (a b : ℕ) → b ≤ a → nat_lt a b ≡ false
 not_less a b h = grind arith
 
-told_positive : (fault : SourceFault) → 0 < (fault_told fault).status
+pub told_positive : (fault : SourceFault) → 0 < (fault_told fault).status
 told_positive (source.not_text n) = omega arith
 told_positive (source.bad_line n fault) = omega arith
 told_positive (source.bad_join n kind) = omega arith
