@@ -1,5 +1,5 @@
 -- Worked examples: numbers of causes, faults as they are told, and what may be answered. The numbers are those of the header.
-use Rattle.std.proofs.Common.{◌≡◌, true, false, refl, [], ◌∷◌, map}
+use Rattle.std.proofs.Common.{◌≡◌, ℕ, suc, true, false, refl, [], ◌∷◌, map, arith}
 use Rattle.std.specs.Prelude.{None}
 use Rattle.zone_source.specs.Faults as source
 use Rattle.zone_source.specs.declared.error.BuildKind.TheVariants as join
@@ -8,7 +8,7 @@ use Rattle.tz_zone.specs.declared.compile.ZoneFault.TheVariants as zone
 use Rattle.zone_values.specs.declared.fault.FaultKind.TheVariants as line
 use Rattle.zone_open.specs.declared.file.FileFault.TheVariants as file
 use Rattle.zone_open.specs.declared.file.PosixFault.TheVariants as posix
-use Rattle.sefunjaro_handles.specs.Statuses.{not_kept}
+use Rattle.sefunjaro_handles.specs.Statuses.{not_kept, IfRefused}
 use Rattle.sefunjaro_c.specs.Answers.{Where}
 use Rattle.sefunjaro_c.specs.Files.{file_told, posix_told}
 use Rattle.sefunjaro_c.specs.Faults.{fault_told, join_number, kind_number, plain, schedule_number, told_or_memory, zone_told}
@@ -68,3 +68,10 @@ unread_strings = refl
 
 nothing_kept : not_kept ≡ 13
 nothing_kept = refl
+
+-- any refusal keeps what is to be kept, and an answer keeps nothing
+kept_by_refusal : (P : Type 0) (n : ℕ) → IfRefused (suc n) P → P
+kept_by_refusal P n h = h (omega arith)
+
+free_by_answer : (P : Type 0) → IfRefused 0 P
+free_by_answer P h = absurd (omega (arith, h))

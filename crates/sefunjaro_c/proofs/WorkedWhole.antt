@@ -3,7 +3,7 @@ use Rattle.std.proofs.Common.{◌≡◌, refl, [], ◌∷◌, map}
 use Rattle.zone_tail_core.specs.declared.outcome.TailFault.TheVariants as tail
 use Rattle.zone_tzif_core.specs.declared.values.WriteFault.TheVariants as write
 use Rattle.zone_tzif_set.specs.declared.file.FileFault.TheVariants as file
-use Rattle.sefunjaro_c.specs.Whole.{file_number, file_told, tail_number, tail_told}
+use Rattle.sefunjaro_c.specs.Whole.{file_number, tzif_told, tail_number, tail_told}
 
 tail_causes : map tail_number (tail.Shape ∷ tail.OffsetRange ∷ tail.Name ∷ []) ≡ 1 ∷ 2 ∷ 3 ∷ []
 tail_causes = refl
@@ -18,8 +18,8 @@ no_shape = refl
 no_memory_for_a_string : tail_told tail.NoMemory ≡ record { status = 2; cause = 0; line = 0 }
 no_memory_for_a_string = refl
 
-many_types : file_told file.Types ≡ record { status = 11; cause = 2; line = 0 }
+many_types : tzif_told file.Types ≡ record { status = 11; cause = 2; line = 0 }
 many_types = refl
 
-no_memory_for_a_file : file_told file.NoMemory ≡ record { status = 2; cause = 0; line = 0 }
+no_memory_for_a_file : tzif_told file.NoMemory ≡ record { status = 2; cause = 0; line = 0 }
 no_memory_for_a_file = refl

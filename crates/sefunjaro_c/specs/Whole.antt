@@ -68,11 +68,11 @@ file_number write.Offset = 0
 file_number write.Footer = 0
 file_number write.NoMemory = 0
 
-abbrev pub file_told : FileFault → Fault
-file_told file.Times = none_for (file_number write.Times)
-file_told file.Types = none_for (file_number write.Types)
-file_told file.Names = none_for (file_number write.Names)
-file_told file.NoMemory = plain out_of_memory
+abbrev pub tzif_told : FileFault → Fault
+tzif_told file.Times = none_for (file_number write.Times)
+tzif_told file.Types = none_for (file_number write.Types)
+tzif_told file.Names = none_for (file_number write.Names)
+tzif_told file.NoMemory = plain out_of_memory
 
 -- why a zone has no file, if so
 abbrev pub file_due : OpenZone → Option Fault

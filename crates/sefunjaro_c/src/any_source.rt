@@ -1,8 +1,9 @@
 //! Sources in any form that `zic` reads.
-ghost use Rattle.std.specs.Prelude.{◌≡◌, IfErr, IfOk, MatchOption, is_some, nat_eq};
+ghost use Rattle.std.specs.Prelude.{◌≡◌, IfErr, IfOk, IfSome, MatchOption, is_some, nat_eq};
 ghost use Rattle.sefunjaro_c.specs.AnySources.{any_due, any_told, plain_number, IsAnySourceOf};
-ghost use Rattle.sefunjaro_c.specs.Faults.{IsRefused};
+ghost use Rattle.sefunjaro_c.specs.Faults.{plain, IsRefused};
 ghost use Rattle.sefunjaro_handles.specs.Held.{IsSource};
+ghost use Rattle.sefunjaro_handles.specs.Statuses.{done};
 
 use crate::fault::{Fault, plain_fault, source_fault};
 use crate::status::{DONE, NO_MEMORY, NO_PLAIN_FORM, TOO_LONG};
@@ -24,6 +25,7 @@ pub extern "C" fn sefunjaro_source_open_any(
 ) -> u32
     ensures status { result ≡ fault.new.status }
     ensures opened { is_some source.new.held.opened ≡ nat_eq result 0 }
+    ensures done { IfSome source.new.held.opened (λ _. fault.new ≡ plain done) }
     ensures answer { MatchOption source.new.held.opened (IsRefused (any_due text.now) fault.new) (IsSource (IsAnySourceOf text.now)) }
 {
     drop(source.take(alloc));

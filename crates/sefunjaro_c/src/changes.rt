@@ -4,6 +4,7 @@ ghost use Rattle.sefunjaro_c.specs.Answers.{Where};
 ghost use Rattle.sefunjaro_c.specs.Changes.{AreChanges, IsFound, IsRing};
 ghost use Rattle.sefunjaro_c.specs.Times.{is_instant};
 ghost use Rattle.sefunjaro_handles.specs.Held.{OfKept, OfZone, OnZone};
+ghost use Rattle.sefunjaro_handles.specs.Statuses.{IfRefused};
 ghost use Rattle.zone_open.specs.Changes.{next_after, saving_at};
 ghost use Rattle.zone_open.specs.Zones.{set_in};
 
@@ -26,6 +27,7 @@ pub extern "C" fn sefunjaro_saving_at(
     ensures answer { OnZone zone.old.held.opened result (saving.new ≡ saving.old)
         (λ held. OfKept held result (saving.new ≡ saving.old)
         (λ zone. Where (is_instant second nanosecond) result (saving.new ≡ saving.old) (saving.new ≡ saving_at (set_in zone) second))) }
+    ensures kept { IfRefused result (saving.new ≡ saving.old) }
 {
     let Some(opened) = zone.take(alloc) else {
         return NOT_OPEN;
@@ -36,9 +38,10 @@ pub extern "C" fn sefunjaro_saving_at(
 }
 
 fn saving_at(opened: &Opened, second: i64, nanosecond: u32, saving: &mut i64) -> u32
-    ensures { OfZone opened.now result (saving.new ≡ saving.old)
+    ensures answer { OfZone opened.now result (saving.new ≡ saving.old)
         (λ held. OfKept held result (saving.new ≡ saving.old)
         (λ zone. Where (is_instant second nanosecond) result (saving.new ≡ saving.old) (saving.new ≡ saving_at (set_in zone) second))) }
+    ensures kept { IfRefused result (saving.new ≡ saving.old) }
 {
     let Opened::Zone(zone) = opened else {
         return NOT_OPEN;
@@ -66,6 +69,7 @@ pub extern "C" fn sefunjaro_next_change(
     ensures same { zone.new.held.opened ≡ zone.old.held.opened }
     ensures answer { OnZone zone.old.held.opened result (change.new ≡ change.old)
         (λ held. OfKept held result (change.new ≡ change.old) (λ zone. IsFound (next_after (set_in zone) second) result change.old change.new)) }
+    ensures kept { IfRefused result (change.new ≡ change.old) }
 {
     let Some(opened) = zone.take(alloc) else {
         return NOT_OPEN;
@@ -76,8 +80,9 @@ pub extern "C" fn sefunjaro_next_change(
 }
 
 fn next_change(opened: &Opened, second: i64, change: &mut Change) -> u32
-    ensures { OfZone opened.now result (change.new ≡ change.old)
+    ensures answer { OfZone opened.now result (change.new ≡ change.old)
         (λ held. OfKept held result (change.new ≡ change.old) (λ zone. IsFound (next_after (set_in zone) second) result change.old change.new)) }
+    ensures kept { IfRefused result (change.new ≡ change.old) }
 {
     let Opened::Zone(zone) = opened else {
         return NOT_OPEN;
@@ -107,6 +112,7 @@ pub extern "C" fn sefunjaro_changes(
     ensures same { zone.new.held.opened ≡ zone.old.held.opened }
     ensures answer { OnZone zone.old.held.opened result (changes.new ≡ changes.old)
         (λ held. OfKept held result (changes.new ≡ changes.old) (λ zone. AreChanges zone from to result changes.old changes.new count.new)) }
+    ensures kept { IfRefused result ((changes.new ≡ changes.old) × (count.new ≡ count.old)) }
 {
     let Some(opened) = zone.take(alloc) else {
         return NOT_OPEN;
@@ -123,8 +129,9 @@ fn all_changes(
     changes: &mut [Change],
     count: &mut usize,
 ) -> u32
-    ensures { OfZone opened.now result (changes.new ≡ changes.old)
+    ensures answer { OfZone opened.now result (changes.new ≡ changes.old)
         (λ held. OfKept held result (changes.new ≡ changes.old) (λ zone. AreChanges zone from to result changes.old changes.new count.new)) }
+    ensures kept { IfRefused result ((changes.new ≡ changes.old) × (count.new ≡ count.old)) }
 {
     let Opened::Zone(zone) = opened else {
         return NOT_OPEN;
@@ -148,6 +155,7 @@ pub extern "C" fn sefunjaro_ring(
     ensures same { zone.new.held.opened ≡ zone.old.held.opened }
     ensures answer { OnZone zone.old.held.opened result (ring.new ≡ ring.old)
         (λ held. IsRing held local.now result ring.old ring.new) }
+    ensures kept { IfRefused result (ring.new ≡ ring.old) }
 {
     let Some(opened) = zone.take(alloc) else {
         return NOT_OPEN;
@@ -158,7 +166,8 @@ pub extern "C" fn sefunjaro_ring(
 }
 
 fn ring_of(opened: &Opened, clock: &Clock, ring: &mut Reading) -> u32
-    ensures { OfZone opened.now result (ring.new ≡ ring.old) (λ held. IsRing held clock.now result ring.old ring.new) }
+    ensures answer { OfZone opened.now result (ring.new ≡ ring.old) (λ held. IsRing held clock.now result ring.old ring.new) }
+    ensures kept { IfRefused result (ring.new ≡ ring.old) }
 {
     let Opened::Zone(zone) = opened else {
         return NOT_OPEN;

@@ -1,7 +1,9 @@
 //! Zones that are opened from the bytes of a compiled file, or from a POSIX string.
-ghost use Rattle.std.specs.Prelude.{◌≡◌, IfErr, IfOk, MatchOption, is_some, nat_eq};
+ghost use Rattle.std.specs.Prelude.{◌≡◌, IfErr, IfOk, IfSome, MatchOption, is_some, nat_eq};
+ghost use Rattle.sefunjaro_c.specs.Faults.{plain};
 ghost use Rattle.sefunjaro_c.specs.Files.{file_told, posix_told, IsFileRefused, IsPosixRefused, IsTextOf};
 ghost use Rattle.sefunjaro_handles.specs.Held.{IsZone};
+ghost use Rattle.sefunjaro_handles.specs.Statuses.{done};
 ghost use Rattle.zone_open.specs.Any.{IsOfFile};
 ghost use Rattle.zone_open.specs.Files.{IsFileOf};
 
@@ -22,6 +24,7 @@ pub extern "C" fn sefunjaro_file_open(
 ) -> u32
     ensures status { result ≡ fault.new.status }
     ensures opened { is_some zone.new.held.opened ≡ nat_eq result 0 }
+    ensures done { IfSome zone.new.held.opened (λ _. fault.new ≡ plain done) }
     ensures answer { MatchOption zone.new.held.opened (IsFileRefused bytes.now fault.new) (IsZone (IsOfFile (IsFileOf bytes.now))) }
 {
     drop(zone.take(alloc));
@@ -84,6 +87,7 @@ pub extern "C" fn sefunjaro_posix_open(
 ) -> u32
     ensures status { result ≡ fault.new.status }
     ensures opened { is_some zone.new.held.opened ≡ nat_eq result 0 }
+    ensures done { IfSome zone.new.held.opened (λ _. fault.new ≡ plain done) }
     ensures answer { MatchOption zone.new.held.opened (IsPosixRefused text.now fault.new) (IsZone (IsOfFile (IsTextOf text.now))) }
 {
     drop(zone.take(alloc));

@@ -1,11 +1,12 @@
 //! Sources, and the zones that are opened from them.
 ghost use Rattle.std.specs.Prelude.{◌≡◌, ◌<◌, IfErr, IfOk, IfSome, MatchOption, None, is_some, length, nat_eq};
-ghost use Rattle.sefunjaro_c.specs.Faults.{source_due, zone_due, IsRefused};
+ghost use Rattle.sefunjaro_c.specs.Faults.{plain, source_due, zone_due, IsRefused};
 ghost use Rattle.sefunjaro_c.specs.Names.{IsNameAt};
 ghost use Rattle.sefunjaro_c.specs.Opened.{IsSourceOf, IsZoneOf};
 ghost use Rattle.std.specs.List.{slice_get};
 ghost use Rattle.tz_lookup.specs.Databases.{names_of};
 ghost use Rattle.sefunjaro_handles.specs.Held.{OfSource, OnSource, IsSource, IsZone};
+ghost use Rattle.sefunjaro_handles.specs.Statuses.{done, not_open, IfRefused};
 ghost use Rattle.zone_open.specs.Any.{IsOfSource};
 ghost use Rattle.zone_open.specs.Sources.{table_in};
 
@@ -26,6 +27,7 @@ pub extern "C" fn sefunjaro_source_open(
 ) -> u32
     ensures status { result ≡ fault.new.status }
     ensures opened { is_some source.new.held.opened ≡ nat_eq result 0 }
+    ensures done { IfSome source.new.held.opened (λ _. fault.new ≡ plain done) }
     ensures answer { MatchOption source.new.held.opened (IsRefused (source_due text.now) fault.new) (IsSource (IsSourceOf text.now)) }
 {
     drop(source.take(alloc));
@@ -76,7 +78,8 @@ pub extern "C" fn sefunjaro_zone_open(
     ensures same { source.new.held.opened ≡ source.old.held.opened }
     ensures status { result ≡ fault.new.status }
     ensures opened { is_some zone.new.held.opened ≡ nat_eq result 0 }
-    ensures answer { OnSource source.old.held.opened result (zone.new.held.opened ≡ None)
+    ensures done { IfSome zone.new.held.opened (λ _. fault.new ≡ plain done) }
+    ensures answer { OnSource source.old.held.opened result ((zone.new.held.opened ≡ None) × (fault.new ≡ plain not_open))
         (λ from. MatchOption zone.new.held.opened (IsRefused (zone_due (table_in from) name.now) fault.new) (IsZone (IsOfSource (IsZoneOf (table_in from) name.now)))) }
 {
     drop(zone.take(alloc));
@@ -102,7 +105,7 @@ pub extern "C" fn sefunjaro_zone_open(
 /// The zone of a name, on the heap.
 fn open_zone(alloc: Global, from: &Opened, name: &[u8]) -> Result<Box<Opened>, Fault>
     ensures ok { IfOk result (λ opened. IsSource (λ source. IsZone (IsOfSource (IsZoneOf (table_in source) name.now)) opened.value) from.now) }
-    ensures err { IfErr result (λ fault. OfSource from.now fault.status (Unit {0}) (λ source. IsRefused (zone_due (table_in source) name.now) fault)) }
+    ensures err { IfErr result (λ fault. OfSource from.now fault.status (fault ≡ plain not_open) (λ source. IsRefused (zone_due (table_in source) name.now) fault)) }
     ensures refused { IfErr result (λ fault. 0 < fault.status) }
 {
     match from {
@@ -134,6 +137,7 @@ pub extern "C" fn sefunjaro_name_count(alloc: Global, source: &mut Handle, count
     ensures same { source.new.held.opened ≡ source.old.held.opened }
     ensures answer { OnSource source.old.held.opened result (count.new ≡ count.old)
         (λ from. (result ≡ 0) × (count.new ≡ length (names_of (table_in from)))) }
+    ensures kept { IfRefused result (count.new ≡ count.old) }
 {
     let Some(from) = source.take(alloc) else {
         return NOT_OPEN;
@@ -144,7 +148,8 @@ pub extern "C" fn sefunjaro_name_count(alloc: Global, source: &mut Handle, count
 }
 
 fn name_count(from: &Opened, count: &mut usize) -> u32
-    ensures { OfSource from.now result (count.new ≡ count.old) (λ source. (result ≡ 0) × (count.new ≡ length (names_of (table_in source)))) }
+    ensures answer { OfSource from.now result (count.new ≡ count.old) (λ source. (result ≡ 0) × (count.new ≡ length (names_of (table_in source)))) }
+    ensures kept { IfRefused result (count.new ≡ count.old) }
 {
     let Opened::Source(source) = from else {
         return NOT_OPEN;
@@ -166,6 +171,7 @@ pub extern "C" fn sefunjaro_name(
     ensures same { source.new.held.opened ≡ source.old.held.opened }
     ensures answer { OnSource source.old.held.opened result (name.new ≡ name.old)
         (λ from. IsNameAt (slice_get (names_of (table_in from)) place) result name.old name.new whole.new) }
+    ensures kept { IfRefused result ((name.new ≡ name.old) × (whole.new ≡ whole.old)) }
 {
     let Some(from) = source.take(alloc) else {
         return NOT_OPEN;
@@ -176,8 +182,9 @@ pub extern "C" fn sefunjaro_name(
 }
 
 fn name_at(from: &Opened, place: usize, name: &mut [u8], whole: &mut usize) -> u32
-    ensures { OfSource from.now result (name.new ≡ name.old)
+    ensures answer { OfSource from.now result (name.new ≡ name.old)
         (λ source. IsNameAt (slice_get (names_of (table_in source)) place) result name.old name.new whole.new) }
+    ensures kept { IfRefused result ((name.new ≡ name.old) × (whole.new ≡ whole.old)) }
 {
     let Opened::Source(source) = from else {
         return NOT_OPEN;

@@ -3,6 +3,7 @@ ghost use Rattle.std.specs.Prelude.{◌≡◌, ◌<◌, IfNone, IfSome, MatchOpt
 ghost use Rattle.civil_base.specs.DateTimes.{instant, offset_of};
 ghost use Rattle.sefunjaro_c.specs.Read.{local_in, IsInstantOf, IsLocalRead, IsNoZonedText, IsZonedRead};
 ghost use Rattle.sefunjaro_c.specs.Times.{is_instant, nanos_at};
+ghost use Rattle.sefunjaro_handles.specs.Statuses.{IfRefused};
 
 use crate::status::{DONE, NOT_READ};
 use civil_base::{OffsetDateTime, PlainDateTime, read_local, read_zoned};
@@ -36,7 +37,8 @@ pub(crate) fn instant_of(second: i64, nanosecond: u32) -> Option<OffsetDateTime>
 /// The local time that a text `YYYY-MM-DD hh:mm:ss.nnnnnnnnn` names, by its parts. A year below 0 has a `-` before it.
 #[unsafe(no_mangle)]
 pub extern "C" fn sefunjaro_read_local(text: &[u8], clock: &mut Clock) -> u32
-    ensures { IsLocalRead (local_in text.now) result clock.old clock.new }
+    ensures answer { IsLocalRead (local_in text.now) result clock.old clock.new }
+    ensures kept { IfRefused result (clock.new ≡ clock.old) }
 {
     match local_in(text) {
         Some(local) => {
@@ -60,7 +62,8 @@ fn local_in(text: &[u8]) -> Option<PlainDateTime>
 /// The instant and the offset that a text `YYYY-MM-DD hh:mm:ss.nnnnnnnnn +hh:mm:ss` names. A year below 0 has a `-` before it.
 #[unsafe(no_mangle)]
 pub extern "C" fn sefunjaro_read_zoned(text: &[u8], instant: &mut Instant) -> u32
-    ensures { IsZonedRead text.now result instant.old instant.new }
+    ensures answer { IsZonedRead text.now result instant.old instant.new }
+    ensures kept { IfRefused result (instant.new ≡ instant.old) }
 {
     match zoned_in(text) {
         Some(read) => {

@@ -1,7 +1,9 @@
 //! A zone as a whole: the string that carries it on, and its file.
 ghost use Rattle.std.specs.Prelude.{◌≡◌};
-ghost use Rattle.sefunjaro_c.specs.Whole.{file_told, none_for, tail_told, IsFileTold, IsTailTold};
+ghost use Rattle.sefunjaro_c.specs.Faults.{plain};
+ghost use Rattle.sefunjaro_c.specs.Whole.{tzif_told, none_for, tail_told, IsFileTold, IsTailTold};
 ghost use Rattle.sefunjaro_handles.specs.Held.{OfKept, OfZone, OnZone};
+ghost use Rattle.sefunjaro_handles.specs.Statuses.{not_kept, not_open, IfRefused};
 
 use crate::fault::{Fault, plain_fault};
 use crate::status::{DONE, NO_MEMORY, NONE_THERE, NOT_KEPT, NOT_OPEN};
@@ -22,8 +24,9 @@ pub extern "C" fn sefunjaro_tail(
 ) -> u32
     ensures same { zone.new.held.opened ≡ zone.old.held.opened }
     ensures status { result ≡ fault.new.status }
-    ensures answer { OnZone zone.old.held.opened result (text.new ≡ text.old)
-        (λ held. OfKept held result (text.new ≡ text.old) (λ zone. IsTailTold zone text.old text.new whole.new fault.new)) }
+    ensures answer { OnZone zone.old.held.opened result ((text.new ≡ text.old) × (fault.new ≡ plain not_open))
+        (λ held. OfKept held result ((text.new ≡ text.old) × (fault.new ≡ plain not_kept)) (λ zone. IsTailTold zone text.old text.new whole.new fault.new)) }
+    ensures kept { IfRefused result ((text.new ≡ text.old) × (whole.new ≡ whole.old)) }
 {
     let Some(opened) = zone.take(alloc) else {
         *fault = plain_fault(NOT_OPEN);
@@ -36,8 +39,9 @@ pub extern "C" fn sefunjaro_tail(
 }
 
 fn tail_in(alloc: Global, opened: &Opened, text: &mut [u8], whole: &mut usize) -> Fault
-    ensures { OfZone opened.now result.status (text.new ≡ text.old)
-        (λ held. OfKept held result.status (text.new ≡ text.old) (λ zone. IsTailTold zone text.old text.new whole.new result)) }
+    ensures answer { OfZone opened.now result.status ((text.new ≡ text.old) × (result ≡ plain not_open))
+        (λ held. OfKept held result.status ((text.new ≡ text.old) × (result ≡ plain not_kept)) (λ zone. IsTailTold zone text.old text.new whole.new result)) }
+    ensures kept { IfRefused result.status ((text.new ≡ text.old) × (whole.new ≡ whole.old)) }
 {
     let Opened::Zone(zone) = opened else {
         return plain_fault(NOT_OPEN);
@@ -49,7 +53,8 @@ fn tail_in(alloc: Global, opened: &Opened, text: &mut [u8], whole: &mut usize) -
 }
 
 fn tail_of(alloc: Global, zone: &OpenZone, text: &mut [u8], whole: &mut usize) -> Fault
-    ensures { IsTailTold zone.now text.old text.new whole.new result }
+    ensures answer { IsTailTold zone.now text.old text.new whole.new result }
+    ensures kept { IfRefused result.status ((text.new ≡ text.old) × (whole.new ≡ whole.old)) }
 {
     match zone.tail(alloc) {
         Ok(tail) => {
@@ -83,8 +88,9 @@ pub extern "C" fn sefunjaro_tzif(
 ) -> u32
     ensures same { zone.new.held.opened ≡ zone.old.held.opened }
     ensures status { result ≡ fault.new.status }
-    ensures answer { OnZone zone.old.held.opened result (file.new ≡ file.old)
-        (λ held. OfKept held result (file.new ≡ file.old) (λ zone. IsFileTold zone file.old file.new whole.new fault.new)) }
+    ensures answer { OnZone zone.old.held.opened result ((file.new ≡ file.old) × (fault.new ≡ plain not_open))
+        (λ held. OfKept held result ((file.new ≡ file.old) × (fault.new ≡ plain not_kept)) (λ zone. IsFileTold zone file.old file.new whole.new fault.new)) }
+    ensures kept { IfRefused result ((file.new ≡ file.old) × (whole.new ≡ whole.old)) }
 {
     let Some(opened) = zone.take(alloc) else {
         *fault = plain_fault(NOT_OPEN);
@@ -97,8 +103,9 @@ pub extern "C" fn sefunjaro_tzif(
 }
 
 fn file_in(alloc: Global, opened: &Opened, file: &mut [u8], whole: &mut usize) -> Fault
-    ensures { OfZone opened.now result.status (file.new ≡ file.old)
-        (λ held. OfKept held result.status (file.new ≡ file.old) (λ zone. IsFileTold zone file.old file.new whole.new result)) }
+    ensures answer { OfZone opened.now result.status ((file.new ≡ file.old) × (result ≡ plain not_open))
+        (λ held. OfKept held result.status ((file.new ≡ file.old) × (result ≡ plain not_kept)) (λ zone. IsFileTold zone file.old file.new whole.new result)) }
+    ensures kept { IfRefused result.status ((file.new ≡ file.old) × (whole.new ≡ whole.old)) }
 {
     let Opened::Zone(zone) = opened else {
         return plain_fault(NOT_OPEN);
@@ -110,7 +117,8 @@ fn file_in(alloc: Global, opened: &Opened, file: &mut [u8], whole: &mut usize) -
 }
 
 fn file_of(alloc: Global, zone: &OpenZone, file: &mut [u8], whole: &mut usize) -> Fault
-    ensures { IsFileTold zone.now file.old file.new whole.new result }
+    ensures answer { IsFileTold zone.now file.old file.new whole.new result }
+    ensures kept { IfRefused result.status ((file.new ≡ file.old) × (whole.new ≡ whole.old)) }
 {
     match zone.tzif(alloc) {
         Ok(written) => {
@@ -123,7 +131,7 @@ fn file_of(alloc: Global, zone: &OpenZone, file: &mut [u8], whole: &mut usize) -
 
 /// Why a zone has no file.
 fn file_fault(fault: FileFault) -> Fault
-    ensures { result ≡ file_told fault }
+    ensures { result ≡ tzif_told fault }
 {
     match fault {
         FileFault::Times => none_for(1),

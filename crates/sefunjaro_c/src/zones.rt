@@ -1,11 +1,11 @@
 //! What a zone is asked.
-ghost use Rattle.std.specs.Prelude.{◌≡◌, IfErr, IfOk, MatchOption, is_some, length, nat_eq};
+ghost use Rattle.std.specs.Prelude.{◌≡◌, ◌<◌, IfErr, IfOk, MatchOption, is_some, length, nat_eq};
 ghost use Rattle.civil_base.specs.DateTimes.{instant, local_of, offset_of};
 ghost use Rattle.civil_base.specs.Layout.{day_part, time_part, zoned_text};
 ghost use Rattle.sefunjaro_c.specs.Answers.{is_shown, IsClockIn, IsTextIn, OfClock, Within, Where};
 ghost use Rattle.sefunjaro_c.specs.Times.{is_instant, nanos_at};
 ghost use Rattle.sefunjaro_handles.specs.Held.{OfZone, OnZone, IsZone};
-ghost use Rattle.sefunjaro_handles.specs.Statuses.{out_of_memory};
+ghost use Rattle.sefunjaro_handles.specs.Statuses.{out_of_memory, IfRefused};
 ghost use Rattle.zone_open.specs.Answered.{AreReadings, IsInForce};
 ghost use Rattle.zone_open.specs.Any.{Seen};
 ghost use Rattle.zone_open.specs.Clocks.{clock_at};
@@ -67,6 +67,7 @@ pub extern "C" fn sefunjaro_offset_at(
     ensures same { zone.new.held.opened ≡ zone.old.held.opened }
     ensures answer { OnZone zone.old.held.opened result (offset.new ≡ offset.old)
         (λ held. Where (is_instant second nanosecond) result (offset.new ≡ offset.old) (Seen held (λ total _. offset.new ≡ total (nanos_at second nanosecond)))) }
+    ensures kept { IfRefused result (offset.new ≡ offset.old) }
 {
     let Some(opened) = zone.take(alloc) else {
         return NOT_OPEN;
@@ -77,8 +78,9 @@ pub extern "C" fn sefunjaro_offset_at(
 }
 
 fn offset_at(opened: &Opened, second: i64, nanosecond: u32, offset: &mut i32) -> u32
-    ensures { OfZone opened.now result (offset.new ≡ offset.old)
+    ensures answer { OfZone opened.now result (offset.new ≡ offset.old)
         (λ held. Where (is_instant second nanosecond) result (offset.new ≡ offset.old) (Seen held (λ total _. offset.new ≡ total (nanos_at second nanosecond)))) }
+    ensures kept { IfRefused result (offset.new ≡ offset.old) }
 {
     let Opened::Zone(zone) = opened else {
         return NOT_OPEN;
@@ -106,6 +108,7 @@ pub extern "C" fn sefunjaro_in_force(
     ensures answer { OnZone zone.old.held.opened result (name.new ≡ name.old)
         (λ held. Where (is_instant second nanosecond) result (name.new ≡ name.old)
         (Seen held (λ total gives. IsInForce total gives (nanos_at second nanosecond) found.new name.old name.new))) }
+    ensures kept { IfRefused result ((found.new ≡ found.old) × (name.new ≡ name.old)) }
 {
     let Some(opened) = zone.take(alloc) else {
         return NOT_OPEN;
@@ -122,9 +125,10 @@ fn in_force(
     found: &mut InForce,
     name: &mut [u8],
 ) -> u32
-    ensures { OfZone opened.now result (name.new ≡ name.old)
+    ensures answer { OfZone opened.now result (name.new ≡ name.old)
         (λ held. Where (is_instant second nanosecond) result (name.new ≡ name.old)
         (Seen held (λ total gives. IsInForce total gives (nanos_at second nanosecond) found.new name.old name.new))) }
+    ensures kept { IfRefused result ((found.new ≡ found.old) × (name.new ≡ name.old)) }
 {
     let Opened::Zone(zone) = opened else {
         return NOT_OPEN;
@@ -152,6 +156,7 @@ pub extern "C" fn sefunjaro_clock_at(
     ensures answer { OnZone zone.old.held.opened result (clock.new ≡ clock.old)
         (λ held. Within (is_instant second nanosecond) result (clock.new ≡ clock.old) (Seen held (λ total _.
         Where (is_shown total (nanos_at second nanosecond)) result (clock.new ≡ clock.old) (IsClockIn total (nanos_at second nanosecond) clock.new offset.new)))) }
+    ensures kept { IfRefused result ((clock.new ≡ clock.old) × (offset.new ≡ offset.old)) }
 {
     let Some(opened) = zone.take(alloc) else {
         return NOT_OPEN;
@@ -168,9 +173,10 @@ fn clock_at(
     clock: &mut Clock,
     offset: &mut i32,
 ) -> u32
-    ensures { OfZone opened.now result (clock.new ≡ clock.old)
+    ensures answer { OfZone opened.now result (clock.new ≡ clock.old)
         (λ held. Within (is_instant second nanosecond) result (clock.new ≡ clock.old) (Seen held (λ total _.
         Where (is_shown total (nanos_at second nanosecond)) result (clock.new ≡ clock.old) (IsClockIn total (nanos_at second nanosecond) clock.new offset.new)))) }
+    ensures kept { IfRefused result ((clock.new ≡ clock.old) × (offset.new ≡ offset.old)) }
 {
     let Opened::Zone(zone) = opened else {
         return NOT_OPEN;
@@ -182,7 +188,8 @@ fn clock_at(
 }
 
 fn clock_in(zone: &AnyZone, at: &OffsetDateTime, clock: &mut Clock, offset: &mut i32) -> u32
-    ensures { Seen zone.now (λ total _. Where (is_shown total (instant at.now)) result (clock.new ≡ clock.old) (IsClockIn total (instant at.now) clock.new offset.new)) }
+    ensures answer { Seen zone.now (λ total _. Where (is_shown total (instant at.now)) result (clock.new ≡ clock.old) (IsClockIn total (instant at.now) clock.new offset.new)) }
+    ensures kept { IfRefused result ((clock.new ≡ clock.old) × (offset.new ≡ offset.old)) }
 {
     match zone.shown_at(at) {
         Some(shown) => {
@@ -208,6 +215,7 @@ pub extern "C" fn sefunjaro_text_at(
     ensures answer { OnZone zone.old.held.opened result (text.new ≡ text.old)
         (λ held. Within (is_instant second nanosecond) result (text.new ≡ text.old) (Seen held (λ total _.
         Where (is_shown total (nanos_at second nanosecond)) result (text.new ≡ text.old) (IsTextIn total (nanos_at second nanosecond) text.old text.new whole.new)))) }
+    ensures kept { IfRefused result ((text.new ≡ text.old) × (whole.new ≡ whole.old)) }
 {
     let Some(opened) = zone.take(alloc) else {
         return NOT_OPEN;
@@ -218,9 +226,10 @@ pub extern "C" fn sefunjaro_text_at(
 }
 
 fn text_at(opened: &Opened, second: i64, nanosecond: u32, text: &mut [u8], whole: &mut usize) -> u32
-    ensures { OfZone opened.now result (text.new ≡ text.old)
+    ensures answer { OfZone opened.now result (text.new ≡ text.old)
         (λ held. Within (is_instant second nanosecond) result (text.new ≡ text.old) (Seen held (λ total _.
         Where (is_shown total (nanos_at second nanosecond)) result (text.new ≡ text.old) (IsTextIn total (nanos_at second nanosecond) text.old text.new whole.new)))) }
+    ensures kept { IfRefused result ((text.new ≡ text.old) × (whole.new ≡ whole.old)) }
 {
     let Opened::Zone(zone) = opened else {
         return NOT_OPEN;
@@ -232,7 +241,8 @@ fn text_at(opened: &Opened, second: i64, nanosecond: u32, text: &mut [u8], whole
 }
 
 fn text_in(zone: &AnyZone, at: &OffsetDateTime, text: &mut [u8], whole: &mut usize) -> u32
-    ensures { Seen zone.now (λ total _. Where (is_shown total (instant at.now)) result (text.new ≡ text.old) (IsTextIn total (instant at.now) text.old text.new whole.new)) }
+    ensures answer { Seen zone.now (λ total _. Where (is_shown total (instant at.now)) result (text.new ≡ text.old) (IsTextIn total (instant at.now) text.old text.new whole.new)) }
+    ensures kept { IfRefused result ((text.new ≡ text.old) × (whole.new ≡ whole.old)) }
 {
     match zone.shown_at(at) {
         Some(shown) => {
@@ -280,6 +290,8 @@ pub extern "C" fn sefunjaro_readings(
     ensures same { zone.new.held.opened ≡ zone.old.held.opened }
     ensures answer { OnZone zone.old.held.opened result (readings.new ≡ readings.old)
         (λ held. OfClock local.now result (readings.new ≡ readings.old) (λ x. Seen held (λ total _. AreReadings total x readings.old readings.new count.new gap.new))) }
+    ensures kept { IfRefused result ((readings.new ≡ readings.old) × ((count.new ≡ count.old) × (gap.new ≡ gap.old))) }
+    ensures gap { 0 < count.new → gap.new ≡ gap.old }
 {
     let Some(opened) = zone.take(alloc) else {
         return NOT_OPEN;
@@ -296,8 +308,10 @@ fn all_readings(
     count: &mut usize,
     gap: &mut Gap,
 ) -> u32
-    ensures { OfZone opened.now result (readings.new ≡ readings.old)
+    ensures answer { OfZone opened.now result (readings.new ≡ readings.old)
         (λ held. OfClock clock.now result (readings.new ≡ readings.old) (λ x. Seen held (λ total _. AreReadings total x readings.old readings.new count.new gap.new))) }
+    ensures kept { IfRefused result ((readings.new ≡ readings.old) × ((count.new ≡ count.old) × (gap.new ≡ gap.old))) }
+    ensures gap { 0 < count.new → gap.new ≡ gap.old }
 {
     let Opened::Zone(zone) = opened else {
         return NOT_OPEN;

@@ -1,5 +1,5 @@
 -- The statuses of calls, as the header numbers them.
-use Rattle.std.specs.Prelude.{ℕ}
+use Rattle.std.specs.Prelude.{ℕ, ◌<◌}
 
 abbrev pub done : ℕ
 done = 0
@@ -50,3 +50,7 @@ not_kept = 13
 -- a source in any form has no plain form
 abbrev pub no_plain_form : ℕ
 no_plain_form = 14
+
+-- this holds where a call answers another status than that it did what it says
+abbrev pub IfRefused : ℕ → Type 0 → Type 0
+IfRefused status P = done < status → P

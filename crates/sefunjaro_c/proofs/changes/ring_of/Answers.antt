@@ -11,8 +11,8 @@ use Rattle.sefunjaro_c.proofs.AskedLemmas.{of_zone}
 use Rattle.sefunjaro_c.proofs.ShownLemmas.{seen_map}
 use Rattle.sefunjaro_c.proofs.changes.ring_of.Goals as goal
 
-pub returns-in-Some-ring : goal.returns-in-Some-ring
-returns-in-Some-ring c =
+pub returns-in-Some-ring-clause-answer : goal.returns-in-Some-ring-clause-answer
+returns-in-Some-ring-clause-answer c =
     let zone = arc_value c.in-Zone.zone in let known = c.in-Some.ensures.some in let clock = c.args.clock.now in
     let first = c.in-Some-ring.first in let old = c.args.ring.now in
     let found : Seen zone (λ total _. Some first ≡ first_of total c.in-Some.local) =
@@ -25,8 +25,8 @@ returns-in-Some-ring c =
     ) in
     of_zone c.args.opened.now (Zone c.in-Zone.zone) 0 (first ≡ old) (λ held. IsRing held clock 0 old first) c.in-Zone.is answer
 
-pub returns-in-None-ring : goal.returns-in-None-ring
-returns-in-None-ring c =
+pub returns-in-None-ring-clause-answer : goal.returns-in-None-ring-clause-answer
+returns-in-None-ring-clause-answer c =
     let zone = arc_value c.in-Zone.zone in let known = c.in-Some.ensures.some in let clock = c.args.clock.now in let old = c.args.ring.now in
     let found : Seen zone (λ total _. None ≡ first_of total c.in-Some.local) =
     subst (λ z. Seen z (λ total _. None ≡ first_of total c.in-Some.local)) c.deref.ensures c.in-None-ring.ensures in

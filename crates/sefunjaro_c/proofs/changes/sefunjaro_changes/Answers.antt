@@ -12,4 +12,4 @@ returns-clause-answer c =
     AreChanges of_name from c.args.to told.result old new told.new.count))) (to_z-of_z c.ranges.from)
     (subst (λ to. OnZone zone told.result kept (λ held. OfKept held told.result kept (λ of_name.
     AreChanges of_name (to_z w64 (of_z w64 c.args.from)) to told.result old new told.new.count))) (to_z-of_z c.ranges.to)
-    (handed c.in-Some.opened (λ b. b.value) zone c.deref.result.now told.result kept _ c.in-Some.ensures.opened c.deref.ensures told.ensures))
+    (handed c.in-Some.opened (λ b. b.value) zone c.deref.result.now told.result kept _ c.in-Some.ensures.opened c.deref.ensures told.ensures.answer))

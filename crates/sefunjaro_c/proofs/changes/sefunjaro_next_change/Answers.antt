@@ -12,4 +12,4 @@ returns-clause-answer c =
     let zone = c.args.zone.now.held.opened in
     subst (λ s. OnZone zone told.result kept (λ held. OfKept held told.result kept (λ of_name. IsFound (next_after (set_in of_name) s) told.result old new)))
     (to_z-of_z c.ranges.second)
-    (handed c.in-Some.opened (λ b. b.value) zone c.deref.result.now told.result kept _ c.in-Some.ensures.opened c.deref.ensures told.ensures)
+    (handed c.in-Some.opened (λ b. b.value) zone c.deref.result.now told.result kept _ c.in-Some.ensures.opened c.deref.ensures told.ensures.answer)

@@ -13,4 +13,4 @@ returns-clause-answer c =
     subst (λ s. OnZone zone told.result kept (λ held. OfKept held told.result kept (λ of_name.
     Where (is_instant s c.args.nanosecond) told.result kept (saving ≡ saving_at (set_in of_name) s))))
     (to_z-of_z c.ranges.second)
-    (handed c.in-Some.opened (λ b. b.value) zone c.deref.result.now told.result kept _ c.in-Some.ensures.opened c.deref.ensures told.ensures)
+    (handed c.in-Some.opened (λ b. b.value) zone c.deref.result.now told.result kept _ c.in-Some.ensures.opened c.deref.ensures told.ensures.answer)

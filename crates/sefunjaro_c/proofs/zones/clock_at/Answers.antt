@@ -9,8 +9,8 @@ use Rattle.sefunjaro_c.specs.Times.{is_instant, nanos_at}
 use Rattle.sefunjaro_c.proofs.AskedLemmas.{of_zone, within_true}
 use Rattle.sefunjaro_c.proofs.zones.clock_at.Goals as goal
 
-pub returns-in-Some : goal.returns-in-Some
-returns-in-Some c =
+pub returns-in-Some-clause-answer : goal.returns-in-Some-clause-answer
+returns-in-Some-clause-answer c =
     let s = c.args.second in let n = c.args.nanosecond in let zone = arc_value c.in-Zone.zone in
     let same = to_z-of_z c.ranges.second in let known = c.in-Some.ensures.some in let told = c.clock_in in
     let kept = told.new.clock ≡ c.args.clock.now in
@@ -20,4 +20,4 @@ returns-in-Some c =
     (λ held. Within (is_instant s n) told.result kept (shown held (nanos_at s n))) c.in-Zone.is
     (within_true (is_instant s n) told.result kept (shown zone (nanos_at s n)) (subst (λ u. is_instant u n ≡ true) same known.0)
     (subst (shown zone) (known.1 ∙ ap (λ u. nanos_at u n) same)
-    (subst (λ z. shown z (instant c.in-Some.at)) c.deref.ensures told.ensures)))
+    (subst (λ z. shown z (instant c.in-Some.at)) c.deref.ensures told.ensures.answer)))

@@ -9,8 +9,8 @@ use Rattle.sefunjaro_c.proofs.AskedLemmas.{of_zone, where_true}
 use Rattle.sefunjaro_c.proofs.ShownLemmas.{seen_map}
 use Rattle.sefunjaro_c.proofs.zones.offset_at.Goals as goal
 
-pub returns-in-Some : goal.returns-in-Some
-returns-in-Some c =
+pub returns-in-Some-clause-answer : goal.returns-in-Some-clause-answer
+returns-in-Some-clause-answer c =
     let s = c.args.second in let n = c.args.nanosecond in let t = instant c.in-Some.at in let zone = arc_value c.in-Zone.zone in
     let same = to_z-of_z c.ranges.second in let known = c.in-Some.ensures.some in let found = c.offset_at.result in
     let fits : FitsSigned w32 found = search rules in

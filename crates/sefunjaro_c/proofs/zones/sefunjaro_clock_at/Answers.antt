@@ -12,4 +12,4 @@ returns-clause-answer c =
     subst (λ s. OnZone zone told.result kept (λ held. Within (is_instant s c.args.nanosecond) told.result kept (Seen held (λ total _.
     Where (is_shown total (nanos_at s c.args.nanosecond)) told.result kept (IsClockIn total (nanos_at s c.args.nanosecond) clock told.new.offset)))))
     (to_z-of_z c.ranges.second)
-    (handed c.in-Some.opened (λ b. b.value) zone c.deref.result.now told.result kept _ c.in-Some.ensures.opened c.deref.ensures told.ensures)
+    (handed c.in-Some.opened (λ b. b.value) zone c.deref.result.now told.result kept _ c.in-Some.ensures.opened c.deref.ensures told.ensures.answer)

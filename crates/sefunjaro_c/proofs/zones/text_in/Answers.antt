@@ -7,8 +7,8 @@ use Rattle.zone_open.specs.Rooms.{filled}
 use Rattle.sefunjaro_c.proofs.ShownLemmas.{seen_map, where_none, where_shown}
 use Rattle.sefunjaro_c.proofs.zones.text_in.Goals as goal
 
-pub returns-in-Some : goal.returns-in-Some
-returns-in-Some c =
+pub returns-in-Some-clause-answer : goal.returns-in-Some-clause-answer
+returns-in-Some-clause-answer c =
     let t = instant c.args.at.now in
     seen_map c.args.zone.now (λ total _. IsShown total t (Some c.in-Some.shown)) _
     (λ total gives h. where_shown total t c.in-Some.shown _ _ h (λ is. record {
@@ -17,7 +17,7 @@ returns-in-Some c =
     }))
     c.in-Some.ensures
 
-pub returns-in-None : goal.returns-in-None
-returns-in-None c =
+pub returns-in-None-clause-answer : goal.returns-in-None-clause-answer
+returns-in-None-clause-answer c =
     let t = instant c.args.at.now in
     seen_map c.args.zone.now (λ total _. IsShown total t None) _ (λ total gives h. where_none total t _ _ h refl) c.in-None.ensures
