@@ -11,7 +11,7 @@ use Rattle.zone_open.specs.declared.any_source.AnySourceFault.{AnySourceFault}
 use Rattle.zone_open.specs.declared.any_source.AnySourceFault.TheVariants as opening
 use Rattle.zone_open.specs.declared.source.OpenSource.{OpenSource}
 use Rattle.sefunjaro_handles.specs.Statuses.{too_long}
-use Rattle.sefunjaro_c.specs.AnySources.{any_due, any_told, form_due, refusal_told, IsAnySourceOf}
+use Rattle.sefunjaro_c.specs.AnySources.{any_due, any_told, form_due, IsAnySourceOf}
 use Rattle.sefunjaro_c.specs.Faults.{fault_told, plain, told_or_memory, IsRefused}
 use Rattle.sefunjaro_c.proofs.FaultLemmas.{less, not_less, told_positive}
 

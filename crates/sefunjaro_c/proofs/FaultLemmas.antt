@@ -1,5 +1,5 @@
 -- What is refused, and what is opened.
-use Rattle.std.proofs.Common.{◌≡◌, ◌<◌, ◌≤◌, ℕ, Bool, true, false, cond, List, length, nat_lt, inl, inr, refl, sym, ap, ◌∙◌, subst, arith}
+use Rattle.std.proofs.Common.{◌≡◌, ◌<◌, ◌≤◌, ℕ, true, false, cond, List, length, nat_lt, inl, inr, refl, sym, ap, ◌∙◌, subst, arith}
 use Rattle.std.specs.Prelude.{Option, Some, None, option_map}
 use Rattle.std.specs.Str.{is_utf8}
 use Rattle.zone_source.specs.Faults.{SourceFault, source_fault}
@@ -15,7 +15,7 @@ use Rattle.zone_open.specs.declared.source.OpenFault.{OpenFault}
 use Rattle.zone_open.specs.declared.source.OpenFault.TheVariants as opening
 use Rattle.zone_open.specs.declared.source.OpenSource.{OpenSource}
 use Rattle.sefunjaro_handles.specs.Held.{IsSource}
-use Rattle.sefunjaro_handles.specs.Statuses.{not_text, offset_range, too_long}
+use Rattle.sefunjaro_handles.specs.Statuses.{not_text, too_long}
 use Rattle.sefunjaro_handles.specs.declared.opened.Opened.{Opened}
 use Rattle.sefunjaro_handles.specs.declared.opened.Opened.TheVariants.{Source, Zone}
 use Rattle.sefunjaro_c.specs.Faults.{fault_told, told_or_memory, opening_told, zone_told, plain, source_due, zone_due, IsRefused}

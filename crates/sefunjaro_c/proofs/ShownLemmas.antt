@@ -1,5 +1,5 @@
 -- What is seen of zones of any kind, and instants at the offset in force.
-use Rattle.std.proofs.Common.{◌≡◌, ℕ, Bool, true, false, List, ℤ, pos, ◌+ℤ◌, ◌*ℤ◌, refl, ap, subst, arith}
+use Rattle.std.proofs.Common.{◌≡◌, ℕ, Bool, List, ℤ, refl, ap, subst, arith}
 use Rattle.std.specs.Prelude.{Some, None}
 use Rattle.std.proofs.lemmas.Int.{ints}
 use Rattle.civil_base.specs.DateTimes.{instant, local_of, offset_of}

@@ -1,8 +1,6 @@
 -- Why a source or a zone isn't opened, in numbers.
 use Rattle.std.specs.Prelude.{◌≡◌, ◌<◌, ◌⊎◌, ℕ, List, length, nat_lt, Option, Some, None, option_map, if◌then◌else◌}
 use Rattle.std.specs.Str.{is_utf8}
-use Rattle.zone_values.specs.Faults.{fault_of}
-use Rattle.zone_values.specs.declared.error.Error.{Error}
 use Rattle.zone_values.specs.declared.fault.FaultKind.{FaultKind}
 use Rattle.zone_values.specs.declared.fault.FaultKind.TheVariants.{
   FailedYearParse,
@@ -15,7 +13,6 @@ use Rattle.zone_values.specs.declared.fault.FaultKind.TheVariants.{
   InvalidTimeSpecAndType,
   NonWallClockInTimeSpec,
 }
-use Rattle.zone_values.specs.Faults as line
 use Rattle.zone_source.specs.Faults.{SourceFault, source_fault}
 use Rattle.zone_source.specs.Faults as source
 use Rattle.zone_source.specs.Told.{told_by_source}

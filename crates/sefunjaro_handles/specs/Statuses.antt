@@ -51,6 +51,6 @@ not_kept = 13
 abbrev pub no_plain_form : ℕ
 no_plain_form = 14
 
--- this holds where a call answers another status than that it did what it says
+-- this holds where a call is refused, that is where its status is not 0
 abbrev pub IfRefused : ℕ → Type 0 → Type 0
 IfRefused status P = done < status → P

@@ -1,4 +1,4 @@
-use Rattle.std.proofs.Common.{◌∙◌, refl, length, ap}
+use Rattle.std.proofs.Common.{◌∙◌, refl, length}
 use Rattle.std.specs.Prelude.{Some, None}
 use Rattle.civil_base.specs.DateTimes.{instant}
 use Rattle.civil_base.specs.Layout.{zoned_text}
