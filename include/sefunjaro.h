@@ -18,11 +18,11 @@
    A handle that holds nothing, was closed, or holds a source where a zone is asked, answers SEFUNJARO_NOT_OPEN; closing it again does
    nothing. A handle that was never set to SEFUNJARO_CLOSED has no meaning, and no function can tell.
 
-   Every answer is a status. Where it is SEFUNJARO_DONE, text and lists go out as far as there is room, and their whole length is told.
-   Where it is another, every place that a pointer leads to stays as it was, but for a fault, which tells the status, the cause and the
-   line in either case, and the handle that a call was to open, which is closed. Text is UTF-8 and ends without a zero byte. Seconds are
-   counted from 1970-01-01 00:00:00 UTC, offsets in seconds east of UTC (at most 93,599 to either side), and the years of dates are
-   -9999 to 9999. */
+   Every answer is a status. Where it is SEFUNJARO_DONE, what goes out through pointers is written: text and lists as far as there is
+   room, and their whole length is told. Where it is another, every place that a pointer leads to stays as it was, but for a fault, which
+   tells the status, the cause and the line in either case, and the handle that a call was to open, which is closed. Text is UTF-8 and
+   ends without a zero byte. Seconds are counted from 1970-01-01 00:00:00 UTC, offsets in seconds east of UTC (at most 93,599 to either
+   side), and the years of dates are -9999 to 9999. */
 #ifndef SEFUNJARO_H
 #define SEFUNJARO_H
 
