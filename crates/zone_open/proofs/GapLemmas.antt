@@ -1,5 +1,5 @@
 -- Local times that clocks skip.
-use Rattle.std.proofs.Common.{length, ◌≡◌, ◌+◌, ℕ, Bool, false, filter, Option, ℤ, pos, negsuc, ◌+ℤ◌, ◌-ℤ◌, ◌*ℤ◌, ◌≤ℤ◌, ◌<ℤ◌, int_le, int_lt, sym, ap, ◌∙◌, subst, arith}
+use Rattle.std.proofs.Common.{length, ◌≡◌, ◌+◌, ℕ, Bool, false, filter, Option, ℤ, pos, ◌+ℤ◌, ◌-ℤ◌, ◌*ℤ◌, ◌≤ℤ◌, ◌<ℤ◌, int_le, int_lt, sym, ap, ◌∙◌, subst, arith}
 use Rattle.std.proofs.lemmas.Int.{ints}
 use Rattle.std.proofs.lemmas.List.{length-map}
 use Rattle.civil_base.specs.Instants.{instant_at, local_at, nanos_of, seconds_of}

@@ -1,5 +1,5 @@
 -- Worked examples: which change skips a local time. At 1970-01-01 00:00:00 UTC clocks are set ahead from offset 0 to one hour.
-use Rattle.std.proofs.Common.{◌≡◌, cond, ℤ, pos, negsuc, ◌≤ℤ◌, ◌<ℤ◌, refl, arith}
+use Rattle.std.proofs.Common.{◌≡◌, cond, ℤ, pos, negsuc, refl, arith}
 use Rattle.std.specs.Prelude.{int_lt}
 use Rattle.std.proofs.lemmas.Int.{ints}
 use Rattle.zone_open.specs.Gaps.{IsSkippedBy}

@@ -1,8 +1,7 @@
 -- Worked examples: the standard time of POSIX strings.
-use Rattle.std.proofs.Common.{◌≡◌, ℕ, Bool, true, false, pos, negsuc, [], ◌∷◌, refl}
+use Rattle.std.proofs.Common.{◌≡◌, true, false, pos, negsuc, refl}
 use Rattle.std.specs.Prelude.{Some, None, codes}
 use Rattle.tz_posix_core.specs.Seconds.{offset_seconds, time_seconds}
-use Rattle.tz_posix_core.specs.declared.time.Offset.{Offset}
 use Rattle.tz_footer.specs.Values.{FooterValue}
 use Rattle.zone_open.specs.Posix.{standard_kind}
 

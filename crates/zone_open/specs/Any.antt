@@ -1,5 +1,5 @@
 -- What is seen of a zone of any kind.
-use Rattle.std.specs.Prelude.{◌≡◌, ℕ, ℤ, Bool, List}
+use Rattle.std.specs.Prelude.{ℕ, ℤ, Bool, List}
 use Rattle.tz_tzif.specs.InForce.{total_at}
 use Rattle.zone_open.specs.Files.{file_value, given_at, SaysOf}
 use Rattle.zone_open.specs.Zones.{given_in, total_in}

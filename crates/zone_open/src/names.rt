@@ -1,6 +1,6 @@
 //! The names of a table, kept in order.
 ghost use Rattle.std.specs.Prelude.{◌≡◌, IfOk};
-ghost use Rattle.tz_lookup.specs.Databases.{name_shown, names_of};
+ghost use Rattle.tz_lookup.specs.Databases.{names_of};
 
 use owned::{Items, Text};
 use std::alloc::{AllocError, Global};

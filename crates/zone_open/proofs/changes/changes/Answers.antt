@@ -1,4 +1,4 @@
-use Rattle.std.proofs.Common.{◌≡◌, ◌<◌, ◌≤◌, length, to_z, of_z, to_z-of_z, w64, subst, arith}
+use Rattle.std.proofs.Common.{◌≡◌, ◌<◌, length, to_z, of_z, to_z-of_z, w64, subst, arith}
 use Rattle.std.proofs.lemmas.List.{length-map}
 use Rattle.tz_zone.specs.Sets.{shift_of}
 use Rattle.tz_lookup.specs.CompactShown.{seen}
