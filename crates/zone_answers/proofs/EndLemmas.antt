@@ -7,6 +7,7 @@ use Rattle.zone_outside.specs.declared.whole.ReadEnd.TheVariants as read
 use Rattle.zone_outside.specs.declared.whole.TheConstants.{LIMIT}
 use Rattle.zone_source.specs.Statuses.{status_of}
 use Rattle.zone_source.specs.declared.status.Status.TheVariants as status
+use Rattle.zone_answers.specs.Due.{due_bytes}
 use Rattle.zone_answers.specs.Ends.{Ends, EndsBy, IsSilent}
 use Rattle.zone_answers.specs.Faults.{Fault, fault}
 use Rattle.zone_answers.specs.Responses.{Responds}
@@ -86,7 +87,7 @@ not_written (inr e) = absurd (cc)
 
 -- every line was written
 pub done_ends : (name : List ℕ) (before now : Seen) (source requests : List ℕ) → BothRead name before now source requests →
-    Responds source requests before.output now.output answered.Done → Ends (Some (answer_over name)) before now status.Done
+    Responds (due_bytes source requests) source requests before.output now.output answered.Done → Ends (Some (answer_over name)) before now status.Done
 done_ends name before now source requests both (valid, back, grew) = record {
   words = (λ e. absurd (cc), λ e. absurd (cc));
   untouched = λ e. absurd (cc);
@@ -112,7 +113,7 @@ done_ends name before now source requests both (valid, back, grew) = record {
 
 -- the line of the fault was written
 pub fault_ends : (name : List ℕ) (before now : Seen) (source requests : List ℕ) → BothRead name before now source requests →
-    Responds source requests before.output now.output answered.Fault → Ends (Some (answer_over name)) before now status.Fault
+    Responds (due_bytes source requests) source requests before.output now.output answered.Fault → Ends (Some (answer_over name)) before now status.Fault
 fault_ends name before now source requests both (refused, grew) = record {
   words = (λ e. absurd (cc), λ e. absurd (cc));
   untouched = λ e. absurd (cc);
@@ -137,7 +138,7 @@ fault_ends name before now source requests both (refused, grew) = record {
 
 -- the output failed
 pub failed_ends : (name : List ℕ) (before now : Seen) (source requests : List ℕ) → BothRead name before now source requests →
-    Responds source requests before.output now.output answered.Failed → Ends (Some (answer_over name)) before now status.Write
+    Responds (due_bytes source requests) source requests before.output now.output answered.Failed → Ends (Some (answer_over name)) before now status.Write
 failed_ends name before now source requests both (rose, grew) = record {
   words = (λ e. absurd (cc), λ e. absurd (cc));
   untouched = λ e. absurd (cc);

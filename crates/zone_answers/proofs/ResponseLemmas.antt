@@ -9,56 +9,63 @@ use Rattle.zone_answers.specs.Faults as faults
 use Rattle.zone_answers.specs.FaultLines.{fault_line}
 use Rattle.zone_answers.specs.Told.{fault_told, TellsOf}
 use Rattle.zone_outside.specs.Seen.{OutputSeen, Grew, GrewBySome}
-use Rattle.zone_answers.specs.Responses.{Responds, RespondsError}
+use Rattle.zone_answers.specs.Responses.{Responds, RespondsError, due_in, lines_in}
+use Rattle.zone_answers.specs.Summary.{summary, due_summary}
 use Rattle.zone_answers.specs.declared.error.AnswerError.{AnswerError}
 use Rattle.zone_answers.specs.declared.error.AnswerError.TheVariants as errors
 use Rattle.zone_answers.specs.declared.respond.Answered.{Answered}
 use Rattle.zone_answers.specs.declared.respond.Answered.TheVariants.{Done, Fault, Failed, NoMemory}
+use Rattle.zone_answers.specs.declared.respond.Form.{Form}
+use Rattle.zone_answers.specs.declared.respond.Form.TheVariants as forms
 
 -- without a fault the lines are due
-pub due_valid : (source requests : List ℕ) (lines : List (List ℕ)) → IsValid source requests → lines ≡ answer_lines source requests
-    → ended lines ≡ due_bytes source requests
-unfolding due_bytes
-due_valid source requests lines valid is =
+pub due_valid : (form : Form) (source requests : List ℕ) (lines : List (List ℕ)) → IsValid source requests
+    → lines ≡ answer_lines source requests → lines_in form lines ≡ due_in form source requests
+unfolding due_bytes due_summary
+due_valid forms.Lines source requests lines valid is =
     ap ended is ∙ ap (λ o. option_map_or (λ f. fault_line f ++ 10 ∷ []) o (ended (answer_lines source requests))) (sym valid)
+due_valid forms.Summary source requests lines valid is =
+    ap (λ l. summary l ++ 10 ∷ []) is
+    ∙ ap (λ o. option_map_or fault_line o (summary (answer_lines source requests)) ++ 10 ∷ []) (sym valid)
 
 -- with one, its line is
-due_fault : (source requests : List ℕ) (f : faults.Fault) → fault source requests ≡ Some f
-    → fault_line f ++ 10 ∷ [] ≡ due_bytes source requests
-unfolding due_bytes
-due_fault source requests f is = ap (λ o. option_map_or (λ f. fault_line f ++ 10 ∷ []) o (ended (answer_lines source requests))) (sym is)
+due_fault : (form : Form) (source requests : List ℕ) (f : faults.Fault) → fault source requests ≡ Some f
+    → fault_line f ++ 10 ∷ [] ≡ due_in form source requests
+unfolding due_bytes due_summary
+due_fault forms.Lines source requests f is =
+    ap (λ o. option_map_or (λ f. fault_line f ++ 10 ∷ []) o (ended (answer_lines source requests))) (sym is)
+due_fault forms.Summary source requests f is =
+    ap (λ o. option_map_or fault_line o (summary (answer_lines source requests)) ++ 10 ∷ []) (sym is)
 
-pub grew_told : (taken now : Option (List ℕ)) (bytes due : List ℕ) → bytes ≡ due → IfSome taken (λ had. now ≡ Some (had ++ bytes))
+grew_told : (taken now : Option (List ℕ)) (bytes due : List ℕ) → bytes ≡ due → IfSome taken (λ had. now ≡ Some (had ++ bytes))
     → IfSome taken (λ had. now ≡ Some (had ++ due))
 grew_told None now bytes due is h = tt
 grew_told (Some had) now bytes due is h = h ∙ ap (λ b. Some (had ++ b)) is
 
-pub grew_some_told : (taken now : Option (List ℕ)) (bytes due : List ℕ) → bytes ≡ due → IfSome taken (λ had. GrewByPrefix had now bytes)
+grew_some_told : (taken now : Option (List ℕ)) (bytes due : List ℕ) → bytes ≡ due → IfSome taken (λ had. GrewByPrefix had now bytes)
     → IfSome taken (λ had. GrewByPrefix had now due)
 grew_some_told None now bytes due is h = tt
 grew_some_told (Some had) now bytes due is h = rw (← is) h
 
-pub wrote : (source requests bytes : List ℕ) (before now : OutputSeen) → bytes ≡ due_bytes source requests → Grew before now bytes
-    → Grew before now (due_bytes source requests)
-wrote source requests bytes before now is h = grew_told before.taken now.taken bytes (due_bytes source requests) is h
+pub wrote : (bytes due : List ℕ) (before now : OutputSeen) → bytes ≡ due → Grew before now bytes → Grew before now due
+wrote bytes due before now is h = grew_told before.taken now.taken bytes due is h
 
-pub wrote_some : (source requests bytes : List ℕ) (before now : OutputSeen) → bytes ≡ due_bytes source requests
-    → GrewBySome before now bytes → GrewBySome before now (due_bytes source requests)
-wrote_some source requests bytes before now is h = grew_some_told before.taken now.taken bytes (due_bytes source requests) is h
+pub wrote_some : (bytes due : List ℕ) (before now : OutputSeen) → bytes ≡ due → GrewBySome before now bytes → GrewBySome before now due
+wrote_some bytes due before now is h = grew_some_told before.taken now.taken bytes due is h
 
 -- an error's answer is an answer
-pub error_response : (source requests : List ℕ) (error : AnswerError) (before now : OutputSeen) (result : Answered) →
+pub error_response : (form : Form) (source requests : List ℕ) (error : AnswerError) (before now : OutputSeen) (result : Answered) →
     TellsOf (fault source requests) error → RespondsError (fault_told error) before now result
-    → Responds source requests before now result
-error_response source requests error before now result tells h = by_told (fault_told error) result tells h
+    → Responds (due_in form source requests) source requests before now result
+error_response form source requests error before now result tells h = by_told (fault_told error) result tells h
   where
     by_told : (told : Option faults.Fault) (result : Answered)
         → MatchOption told (error ≡ errors.NoMemory) (λ f. fault source requests ≡ Some f) →
-        RespondsError told before now result → Responds source requests before now result
+        RespondsError told before now result → Responds (due_in form source requests) source requests before now result
     by_told told Done is h = absurd h
     by_told None Fault is h = absurd h
     by_told (Some f) Fault is h =
-        (λ none. let no = sym is ∙ none in absurd (cc), wrote source requests _ before now (due_fault source requests f is) h)
+        (λ none. let no = sym is ∙ none in absurd (cc), wrote _ _ before now (due_fault form source requests f is) h)
     by_told None Failed is h = absurd h.1
-    by_told (Some f) Failed is h = (h.0, wrote_some source requests _ before now (due_fault source requests f is) h.1)
+    by_told (Some f) Failed is h = (h.0, wrote_some _ _ before now (due_fault form source requests f is) h.1)
     by_told told NoMemory is h = h

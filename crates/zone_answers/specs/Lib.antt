@@ -17,5 +17,4 @@ pub mod Generated
 -- Words of private clauses.
 pub mod Tasks
 pub mod Responses
-pub mod Summarised
 pub mod Opened

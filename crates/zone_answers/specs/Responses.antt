@@ -1,21 +1,35 @@
 -- What was written of the due bytes.
 use Rattle.std.specs.Prelude.{◌≡◌, ◌≢◌, ℕ, List, ◌++◌, Option, None, IsSomeAnd, All, [], ◌∷◌}
+use Rattle.zone_source.specs.LineLists.{ended}
 use Rattle.zone_answers.specs.Due.{shown, due_bytes}
 use Rattle.zone_answers.specs.Faults.{IsValid, fault}
 use Rattle.zone_answers.specs.Faults as faults
 use Rattle.zone_answers.specs.FaultLines.{fault_line}
 use Rattle.zone_answers.specs.ReadBack.{IsReadBack}
+use Rattle.zone_answers.specs.Summary.{summary, due_summary}
 use Rattle.zone_outside.specs.Seen.{OutputSeen, Grew, GrewBySome}
 use Rattle.zone_outside.specs.Outside.{Rose}
 use Rattle.zone_answers.specs.declared.respond.Answered.{Answered}
 use Rattle.zone_answers.specs.declared.respond.Answered.TheVariants.{Done, Fault, Failed, NoMemory}
+use Rattle.zone_answers.specs.declared.respond.Form.{Form}
+use Rattle.zone_answers.specs.declared.respond.Form.TheVariants as form
 
-abbrev pub Responds : List ℕ → List ℕ → OutputSeen → OutputSeen → Answered → Type 0
-Responds source requests before now Done = IsValid source requests × All IsReadBack (shown source requests)
-    × Grew before now (due_bytes source requests)
-Responds source requests before now Fault = (fault source requests ≢ None) × Grew before now (due_bytes source requests)
-Responds source requests before now Failed = Rose before.faults now.faults × GrewBySome before now (due_bytes source requests)
-Responds source requests before now NoMemory = now ≡ before
+-- the bytes of the answers' lines in this form
+abbrev pub lines_in : Form → List (List ℕ) → List ℕ
+lines_in form.Lines lines = ended lines
+lines_in form.Summary lines = summary lines ++ 10 ∷ []
+
+-- the bytes that are due in this form
+abbrev pub due_in : Form → List ℕ → List ℕ → List ℕ
+due_in form.Lines source requests = due_bytes source requests
+due_in form.Summary source requests = due_summary source requests
+
+-- of these due bytes
+abbrev pub Responds : List ℕ → List ℕ → List ℕ → OutputSeen → OutputSeen → Answered → Type 0
+Responds due source requests before now Done = IsValid source requests × All IsReadBack (shown source requests) × Grew before now due
+Responds due source requests before now Fault = (fault source requests ≢ None) × Grew before now due
+Responds due source requests before now Failed = Rose before.faults now.faults × GrewBySome before now due
+Responds due source requests before now NoMemory = now ≡ before
 
 -- the same of an error, which tells a fault or want of memory
 abbrev pub RespondsError : Option faults.Fault → OutputSeen → OutputSeen → Answered → Type 0

@@ -1,15 +1,17 @@
 //! The answers to two texts, written to an output.
-ghost use Rattle.std.specs.Prelude.{◌≤◌, length};
-ghost use Rattle.zone_answers.specs.Responses.{Responds, RespondsError};
-ghost use Rattle.zone_outside.specs.Seen.{output_seen};
+ghost use Rattle.std.specs.Prelude.{◌≤◌, length, OnErr, OnOk};
+ghost use Rattle.zone_answers.specs.Responses.{Responds, RespondsError, due_in, lines_in};
+ghost use Rattle.zone_outside.specs.Outside.{Rose};
+ghost use Rattle.zone_outside.specs.Seen.{Grew, GrewBySome, output_seen};
 ghost use Rattle.zone_answers.specs.Told.{fault_told};
 
 use crate::answering::answers;
 use crate::error::AnswerError;
 use crate::fault::write_fault;
+use crate::summary::summary_line;
 use std::alloc::Global;
 use zone_line::LineParser;
-use zone_source::{LIMIT, Sink, write_all};
+use zone_source::{Failed, LIMIT, LineList, Sink, write_all};
 
 /// What was written.
 #[derive(Clone, Copy, Debug, PartialEq, Eq)]
@@ -24,20 +26,30 @@ pub(crate) enum Answered {
     NoMemory,
 }
 
-/// Answers the requests over the source, and writes the lines or the first fault.
+/// What is written of the answers.
+#[derive(Clone, Copy, Debug, PartialEq, Eq)]
+pub(crate) enum Form {
+    /// Their lines.
+    Lines,
+    /// A summary of them.
+    Summary,
+}
+
+/// Answers the requests over the source, and writes the answers in the form, or the first fault.
 pub(crate) fn respond<O: Sink>(
     alloc: Global,
     parser: &LineParser,
     source: &[u8],
     requests: &[u8],
+    form: Form,
     output: &mut O,
 ) -> Answered
     requires source { length source.now ≤ LIMIT }
     requires requests { length requests.now ≤ LIMIT }
-    ensures { Responds source.now requests.now (output_seen O.Sink output.old) (output_seen O.Sink output.new) result }
+    ensures { Responds (due_in form source.now requests.now) source.now requests.now (output_seen O.Sink output.old) (output_seen O.Sink output.new) result }
 {
     match answers(alloc, parser, source, requests) {
-        Ok(lines) => match write_all(output, lines.as_bytes()) {
+        Ok(lines) => match write_lines(output, &lines, form) {
             Ok(()) => Answered::Done,
             Err(_) => Answered::Failed,
         },
@@ -45,8 +57,20 @@ pub(crate) fn respond<O: Sink>(
     }
 }
 
+/// Writes the lines in the form.
+fn write_lines<O: Sink>(output: &mut O, lines: &LineList, form: Form) -> Result<(), Failed>
+    ensures ok { OnOk result (Grew (output_seen O.Sink output.old) (output_seen O.Sink output.new) (lines_in form lines.now)) }
+    ensures failed { OnErr result (Rose (O.faults output.old) (O.faults output.new)) }
+    ensures prefix { OnErr result (GrewBySome (output_seen O.Sink output.old) (output_seen O.Sink output.new) (lines_in form lines.now)) }
+{
+    match form {
+        Form::Lines => write_all(output, lines.as_bytes()),
+        Form::Summary => write_all(output, summary_line(lines).as_bytes()),
+    }
+}
+
 /// Writes the line of the fault, if the error tells one.
-pub(crate) fn write_error<O: Sink>(output: &mut O, error: &AnswerError) -> Answered
+fn write_error<O: Sink>(output: &mut O, error: &AnswerError) -> Answered
     ensures { RespondsError (fault_told error.now) (output_seen O.Sink output.old) (output_seen O.Sink output.new) result }
 {
     if !error.is_fault() {

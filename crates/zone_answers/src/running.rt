@@ -8,8 +8,7 @@ ghost use Rattle.zone_answers.specs.Seen.{seen};
 ghost use Rattle.zone_answers.specs.Words.{answer_over, count_of, file_of, task_of};
 
 use crate::made::{made_requests, made_source};
-use crate::respond::{Answered, respond};
-use crate::summary::summarise;
+use crate::respond::{Answered, Form, respond};
 use crate::words::Task;
 use std::alloc::Global;
 use zone_line::LineParser;
@@ -69,7 +68,7 @@ fn run_over<H: Shelf, I: Source, O: Sink>(
         Ok(requests) => requests,
         Err(end) => return Status::from(end),
     };
-    match respond(alloc, parser, &source, &requests, output) {
+    match respond(alloc, parser, &source, &requests, Form::Lines, output) {
         Answered::Done => Status::Done,
         Answered::Fault => Status::Fault,
         Answered::Failed => Status::Write,
@@ -88,7 +87,7 @@ fn run_made<O: Sink>(alloc: Global, parser: &LineParser, count: u64, output: &mu
     let Ok(requests) = made_requests(alloc, count) else {
         return Status::NoMemory;
     };
-    match summarise(alloc, parser, &source, &requests, output) {
+    match respond(alloc, parser, &source, &requests, Form::Summary, output) {
         Answered::Done => Status::Done,
         Answered::Fault => Status::Fault,
         Answered::Failed => Status::Write,

@@ -1,42 +1,15 @@
 //! A summary of the answers, in place of the answers themselves.
-ghost use Rattle.std.specs.Prelude.{◌≡◌, ◌≤◌, [], ◌∷◌, ◌++◌, length, sum};
+ghost use Rattle.std.specs.Prelude.{◌≡◌, [], ◌∷◌, ◌++◌, length, sum};
 ghost use Rattle.std.specs.List.{concat};
-ghost use Rattle.zone_outside.specs.Seen.{output_seen};
-ghost use Rattle.zone_answers.specs.Summarised.{Summarises};
 ghost use Rattle.zone_answers.specs.Summary.{summary};
 
-use crate::answering::answers;
-use crate::respond::{Answered, write_error};
 use arrayvec::ArrayString;
 use itoa::Buffer;
-use std::alloc::Global;
-use zone_line::LineParser;
-use zone_source::{LIMIT, LineList, Sink, write_all};
-
-/// Answers the requests over the source, and writes the summary of the answers, or the first fault.
-pub(crate) fn summarise<O: Sink>(
-    alloc: Global,
-    parser: &LineParser,
-    source: &[u8],
-    requests: &[u8],
-    output: &mut O,
-) -> Answered
-    requires source { length source.now ≤ LIMIT }
-    requires requests { length requests.now ≤ LIMIT }
-    ensures { Summarises source.now requests.now (output_seen O.Sink output.old) (output_seen O.Sink output.new) result }
-{
-    match answers(alloc, parser, source, requests) {
-        Ok(lines) => match write_all(output, summary_line(&lines).as_bytes()) {
-            Ok(()) => Answered::Done,
-            Err(_) => Answered::Failed,
-        },
-        Err(error) => write_error(output, &error),
-    }
-}
+use zone_source::LineList;
 
 /// The line `lines L bytes B sum S`, with its LF: how many lines there are, how many bytes in them, and the sum of these.
 #[tactic(auto, unfolding(crate::specs::Summary::summary))]
-fn summary_line(lines: &LineList) -> ArrayString<160>
+pub(crate) fn summary_line(lines: &LineList) -> ArrayString<160>
     ensures { result.bytes ≡ summary lines.now ++ 10 ∷ [] }
 {
     let mut digits = Buffer::new();
