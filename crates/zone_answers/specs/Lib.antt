@@ -14,6 +14,8 @@ pub mod Ends
 pub mod Made
 pub mod Summary
 pub mod Generated
+-- Laws: what a caller may use.
+pub mod EndLaws
 -- Words of private clauses.
 pub mod Tasks
 pub mod Responses
