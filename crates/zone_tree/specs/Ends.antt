@@ -2,47 +2,21 @@
 use Rattle.std.specs.Prelude.{◌≡◌, ◌⊎◌, ◌↔◌, ℕ, ◌+◌, ◌<◌, ◌≤◌, List, [], length, Option, Some, None, IfSome, IsSome, IsNone}
 use Rattle.zone_outside.specs.Limit.{text_limit}
 use Rattle.zone_outside.specs.Outside.{Rose, TooMuch}
-use Rattle.zone_outside.specs.Seen.{ShelfSeen, OutputSeen, shelf_seen, output_seen, Grew, GrewBySome}
-use Rattle.zone_outside.specs.declared.outside.Source.{Ghosts as SourceOf}
-use Rattle.zone_outside.specs.declared.outside.Sink.{Ghosts as SinkOf}
+use Rattle.zone_outside.specs.Seen.{Grew, GrewBySome}
 use Rattle.zone_source.specs.declared.status.Status.{Status}
 use Rattle.zone_source.specs.declared.status.Status.TheVariants as status
+use Rattle.zone_run.specs.Ends.{Seen, NoneFailed, IsPastLimit, IsSilent, IsWritten}
 use Rattle.zone_tree.specs.Causes.{cause, due_bytes}
 use Rattle.zone_tree.specs.Trees.{Cause}
-
--- what is seen of the outside of a run
-pub record Seen : Type 0 where
-  pub shelf : ShelfSeen
-  pub output : OutputSeen
-
-abbrev pub seen : {H O : Type 0} → SourceOf H → SinkOf O → H → O → Seen
-seen of_shelf of_output shelf output = record { shelf = shelf_seen of_shelf shelf; output = output_seen of_output output }
 
 -- where there is one word and the shelf tells the text of the file
 abbrev pub IfTold : Option (List ℕ) → Seen → (List ℕ → Type 0) → Type 0
 IfTold file outside P = IfSome file (λ name. IfSome (outside.shelf.told name) P)
 
--- no count of faults rose
-pub record NoneFailed (before now : Seen) : Type 0 where
-  pub shelf : ¬ (Rose before.shelf.faults now.shelf.faults)
-  pub output : ¬ (Rose before.output.faults now.output.faults)
-
 -- without a cause the answer was written, with one its line; or memory ran out
 abbrev pub EndsBy : Option Cause → Status → Type 0
 EndsBy None end = (end ≡ status.Done) ⊎ (end ≡ status.NoMemory)
 EndsBy (Some c) end = (end ≡ status.Fault) ⊎ (end ≡ status.NoMemory)
-
--- the text was too long, or memory ran out
-abbrev pub IsPastLimit : Status → Type 0
-IsPastLimit end = (end ≡ status.TooLong) ⊎ (end ≡ status.NoMemory)
-
--- something may be written by this status
-abbrev pub IsWritten : Status → Type 0
-IsWritten end = (end ≡ status.Done) ⊎ ((end ≡ status.Fault) ⊎ (end ≡ status.Write))
-
--- nothing is written by this status
-abbrev pub IsSilent : Status → Type 0
-IsSilent end = (end ≡ status.Words) ⊎ ((end ≡ status.Read) ⊎ ((end ≡ status.NoMemory) ⊎ (end ≡ status.TooLong)))
 
 -- how a run ended whose words name this file
 pub record Ends (file : Option (List ℕ)) (before now : Seen) (end : Status) : Type 0 where

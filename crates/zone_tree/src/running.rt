@@ -2,7 +2,8 @@
 ghost use Rattle.std.specs.Prelude.{◌≡◌, ◌≢◌, ◌↔◌, ◌<◌, ◌≤◌, length, option_map, IfSome, IsNone};
 ghost use Rattle.std.specs.Option.{ForSome};
 ghost use Rattle.zone_tree.specs.Causes.{cause};
-ghost use Rattle.zone_tree.specs.Ends.{Ends, EndsBy, IsPastLimit, seen};
+ghost use Rattle.zone_run.specs.Ends.{IsPastLimit, seen};
+ghost use Rattle.zone_tree.specs.Ends.{Ends, EndsBy};
 ghost use Rattle.zone_tree.specs.Files.{file_of};
 
 use crate::respond::{Response, respond};
