@@ -12,7 +12,7 @@ use Rattle.zone_spans.specs.Compiled.{compiled}
 use Rattle.zone_spans.specs.Lines.{Rulesets}
 use Rattle.zone_spans.specs.Schedules.{schedule_of_lines, totals_told, total_at, totals_of}
 use Rattle.tz_lookup.specs.Compiles.{spans_of}
-use Rattle.tz_lookup.specs.Sets.{schedule_of_lines as schedule_in}
+use Rattle.tz_lookup.specs.Sets.{schedule_of as schedule_in}
 use Rattle.tz_zone.specs.declared.set.FixedTimespanSet.{FixedTimespanSet}
 use Rattle.tz_posix.specs.Agreement.{IsCovered, IsInRuleYears, IsSameDay, RuledValue, SaysTheSame, TwoRuleZone}
 use Rattle.tz_posix.specs.Agreement.{from_first, from_eighth, from_fifteenth, from_twenty_second, last_of_month, first_year, value_of, value_total}

@@ -9,7 +9,7 @@ ghost use Rattle.zone_spans.specs.Years.{latest_year};
 ghost use Rattle.zone_spans.specs.Schedules.{schedule_of_lines, total_at};
 ghost use Rattle.tz_posix.specs.TwoRules.{IsCompiled};
 ghost use Rattle.tz_lookup.specs.Compiles.{spans_of};
-ghost use Rattle.tz_lookup.specs.Sets.{schedule_of_lines as schedule_in};
+ghost use Rattle.tz_lookup.specs.Sets.{schedule_of as schedule_in};
 ghost use Rattle.tz_lookup.specs.Zones.{set_of};
 ghost use Rattle.tz_zone.specs.declared.set.FixedTimespanSet.{FixedTimespanSet};
 ghost use Rattle.tz_posix.specs.Agreement.{
