@@ -7,7 +7,7 @@ SMALL = LIMIT // 10
 MANY_LINES = (13_000, 42_000, 132_000)
 
 # Among how many rulesets, and under how many offsets, the lines go round.
-PAIRS = ((1, 1), (1, 2), (2, 1), (4, 2), (8, 1), (3, 3), (1, 12), (1, 1440))
+PAIRS = ((1, 1), (1, 2), (2, 1), (4, 2), (8, 1), (3, 3), (1, 12), (1, 40), (10, 10), (1, 1440))
 
 
 def measured(runner, program, text):
