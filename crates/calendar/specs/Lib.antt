@@ -9,4 +9,5 @@ pub mod LogicLaws
 pub mod MonthLaws
 pub mod Orders
 pub mod Signs
+pub mod WeekdayLaws
 pub mod YearLaws

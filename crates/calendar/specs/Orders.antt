@@ -3,6 +3,7 @@ use Rattle.std.specs.Prelude.{◌≡◌, true, false, ℤ, ◌≤ℤ◌, ◌<ℤ
 use Rattle.std.specs.Ordering.{int_eq}
 use Rattle.std.proofs.Common.{arith}
 use Rattle.std.proofs.lemmas.Int.{ints}
+pub use Rattle.std.specs.Int.Signed.{≤ℤ_refl as le_itself}
 
 pub le_pass : (a b : ℤ) → a ≤ℤ b → int_le a b ≡ true
 le_pass a b h = grind (arith, ints)
@@ -54,3 +55,10 @@ le_lt a b c h k = omega (arith, ints)
 
 pub opposed : (a b : ℤ) → a <ℤ b → b ≤ℤ a → ⊥
 opposed a b h k = omega (arith, ints)
+
+-- an order of two numbers is that of two others that they equal
+pub le_same : (x y a b : ℤ) → x ≡ a → y ≡ b → a ≤ℤ b → x ≤ℤ y
+le_same x y a b e f h = omega (arith, ints)
+
+pub lt_same : (x y a b : ℤ) → x ≡ a → y ≡ b → a <ℤ b → x <ℤ y
+lt_same x y a b e f h = omega (arith, ints)
