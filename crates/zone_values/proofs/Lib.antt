@@ -1,5 +1,4 @@
-mod DayLaws
-pub mod WeekdayLemmas
+mod DayLemmas
 mod WorkedBounds
 mod WorkedDays
 mod WorkedFaults

@@ -1,5 +1,6 @@
 -- Definitions: what public clauses say.
 pub mod Numbers
+pub mod Marks
 pub mod Names
 pub mod Faults
 pub mod Years
@@ -13,6 +14,7 @@ pub mod Bounds
 pub mod Results
 -- Laws: what a caller may use.
 pub use Rattle.calendar.specs.LogicLaws
+pub mod MarkLaws
 pub mod NumberLaws
 pub mod SameLaws
 pub mod WeekdayLaws

@@ -2,7 +2,7 @@ use Rattle.std.proofs.Common.{◌≡◌, ◌<◌, arith, w32}
 use Rattle.std.proofs.lemmas.Int.{ints}
 use Rattle.calendar.specs.Weekdays.{weekday_of}
 use Rattle.zone_values.specs.Weekdays.{weekday_number}
-use Rattle.zone_values.proofs.WeekdayLemmas.{first_from-is}
+use Rattle.zone_values.specs.WeekdayLaws.{first_from-is}
 use mir.Val.{of_z, to_z}
 use Rattle.zone_values.proofs.day.first_from.Goals as goal
 
@@ -12,4 +12,4 @@ returns-clause-value c =
     let start : c.weekday.result ≡ weekday_of c.args.day = rw same at c.weekday.ensures.value in
     let small : weekday_number c.args.weekday < 7 = omega arith in
     let within : weekday_of c.args.day < 7 = omega arith in
-    rw (first_from-is (weekday_number c.args.weekday) c.args.day small within) (omega (arith, ints))
+    rw (first_from-is (weekday_number c.args.weekday) c.args.day small) (omega (arith, ints))

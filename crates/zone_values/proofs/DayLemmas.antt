@@ -1,24 +1,53 @@
 -- What the day with a weekday is: on its side of the day that it is counted from, with that weekday, and the nearest such
 -- day; the last one of a month lies in the month.
-use Rattle.std.proofs.Common.{◌≡◌, ℕ, ◌<◌, ℤ, pos, ◌+ℤ◌, ◌-ℤ◌, ◌≤ℤ◌, arith}
+use Rattle.std.proofs.Common.{◌≡◌, ℕ, ◌+◌, ◌-◌, ◌%◌, ◌<◌, ℤ, pos, ◌+ℤ◌, ◌-ℤ◌, ◌≤ℤ◌, inl, inr, arith}
+use Rattle.std.proofs.lemmas.Bool.{cases_lt}
 use Rattle.std.proofs.lemmas.Int.{ints}
 use Rattle.calendar.specs.Days.{days_in_month, days_into_year, day}
 use Rattle.calendar.specs.MonthLaws.{days_in_month-bounds}
+use Rattle.calendar.specs.WeekdayLaws.{weekday_of-later, weekday_of-small}
 use Rattle.calendar.specs.Weekdays.{weekday_of}
 use Rattle.zone_values.specs.Days.{first_from, last_up_to, named_day}
 use Rattle.zone_values.specs.Months.{month_number}
-use Rattle.zone_values.specs.WeekdayLaws.{weekday_number-small}
+use Rattle.zone_values.specs.WeekdayLaws.{first_from-is, weekday_number-small}
 use Rattle.zone_values.specs.Weekdays.{weekday_number}
 use Rattle.zone_values.specs.declared.day.DaySpec.TheVariants.{Last}
 use Rattle.zone_values.specs.declared.month.Month.{Month}
 use Rattle.zone_values.specs.declared.weekday.Weekday.{Weekday}
-use Rattle.zone_values.proofs.WeekdayLemmas.{first_from-is, weekday_of-small, weekday_of-first_from}
+
+-- `first_from` gives a day with the weekday
+pub weekday_of-first_from : (weekday : ℕ) (k : ℤ) → weekday < 7 → weekday_of (first_from weekday k) ≡ weekday
+weekday_of-first_from weekday k small =
+    let start = weekday_of-small k in
+    rw (first_from-is weekday k small, weekday_of-later) (omega arith)
+
+-- and the least from k on
+pub first_from-least : (weekday : ℕ) (k : ℤ) (n : ℕ) → weekday < 7 → weekday_of (k +ℤ pos n) ≡ weekday →
+    first_from weekday k ≤ℤ (k +ℤ pos n)
+first_from-least weekday k n small same =
+    let start = weekday_of-small k in
+    let there : (weekday_of k + n) % 7 ≡ weekday = rw (weekday_of-later k n) at same in
+    rw (first_from-is weekday k small) (omega (arith, ints))
+
+-- `last_up_to` gives the greatest day up to k with the weekday
+pub last_up_to-greatest : (weekday : ℕ) (k : ℤ) (n : ℕ) → weekday < 7 → weekday_of (k -ℤ pos n) ≡ weekday →
+    (k -ℤ pos n) ≤ℤ last_up_to weekday k
+last_up_to-greatest weekday k n small same =
+    let week = k -ℤ pos 6 in
+    let start = weekday_of-small week in
+    rw (first_from-is weekday week small) (elim (cases_lt 6 n) [
+      | inl far ↦ omega (arith, ints)
+      | inr near ↦
+          let step : k -ℤ pos n ≡ week +ℤ pos (6 - n) = omega (arith, ints) in
+          let there : (weekday_of week + (6 - n)) % 7 ≡ weekday = rw (step, weekday_of-later week (6 - n)) at same in
+          omega (arith, ints)
+    ])
 
 pub first_from-after : (weekday : ℕ) (k : ℤ) → weekday < 7 → k ≤ℤ first_from weekday k
-first_from-after weekday k small = rw (first_from-is weekday k small (weekday_of-small k)) (omega (arith, ints))
+first_from-after weekday k small = rw (first_from-is weekday k small) (omega (arith, ints))
 
 pub first_from-within : (weekday : ℕ) (k : ℤ) → weekday < 7 → first_from weekday k ≤ℤ (k +ℤ pos 6)
-first_from-within weekday k small = rw (first_from-is weekday k small (weekday_of-small k)) (omega (arith, ints))
+first_from-within weekday k small = rw (first_from-is weekday k small) (omega (arith, ints))
 
 pub last_up_to-before : (weekday : ℕ) (k : ℤ) → weekday < 7 → last_up_to weekday k ≤ℤ k
 last_up_to-before weekday k small = let week = first_from-within weekday (k -ℤ pos 6) small in omega (arith, ints)
