@@ -4,20 +4,16 @@ use Rattle.std.proofs.Common.{refl, sym, ap, ◌∙◌, arith}
 use Rattle.std.specs.Cmp.{IsStrictWeakOrder}
 use Rattle.std.specs.List.Sorted.{IsSortedBy, IsStableBy, ties}
 use Rattle.std.proofs.lemmas.List.Sorted.{sorted_far}
-use Rattle.std.proofs.lemmas.Bool.{false≢true, and_parts}
+use Rattle.std.proofs.lemmas.Bool.{false≢true, and_parts, not-true}
 use Rattle.owned.specs.Sorted.{put_in, stable_sort}
 use Rattle.owned.specs.SortedLaws.{NoneBelow, Rises, Rises-stable_sort}
 
-not_true : (b : Bool) → not b ≡ true → b ≡ false
-not_true true h = absurd (false≢true h)
-not_true false h = refl
-
 module _ {X : Type 0} (below : X → X → Bool) where
   ties_first : (x y : X) → ties below x y ≡ true → below x y ≡ false
-  ties_first x y h = not_true (below x y) (and_parts (not (below x y)) (not (below y x)) h).0
+  ties_first x y h = not-true (below x y) (and_parts (not (below x y)) (not (below y x)) h).0
 
   ties_second : (x y : X) → ties below x y ≡ true → below y x ≡ false
-  ties_second x y h = not_true (below y x) (and_parts (not (below x y)) (not (below y x)) h).1
+  ties_second x y h = not-true (below y x) (and_parts (not (below x y)) (not (below y x)) h).1
 
   ties_both : (x y : X) → below x y ≡ false → below y x ≡ false → ties below x y ≡ true
   ties_both x y h k = λ i. not (h i) && not (k i)

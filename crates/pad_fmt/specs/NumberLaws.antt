@@ -1,10 +1,11 @@
 -- The width law of whole numbers: what is due has as many bytes as its padded width says.
 use Rattle.std.specs.Prelude.{◌≡◌, ℕ, ℤ, ◌+◌, ◌<◌, Bool, true, false, List, [], ◌++◌, length, ◌||◌}
-use Rattle.std.specs.Prelude.{unsigned_abs, if◌then◌else◌, codes, not, refl}
+use Rattle.std.specs.Prelude.{unsigned_abs, if◌then◌else◌, codes}
 use Rattle.std.specs.List.{repeat}
 use Rattle.std.specs.Int.{is_negative}
 use Rattle.std.specs.Fmt.{decimal}
 use Rattle.std.proofs.Common.{arith, ap, sym, ◌∙◌, length-append}
+use Rattle.std.proofs.lemmas.Bool.{not-true}
 use Rattle.pad_fmt.specs.Options.{Options}
 use Rattle.pad_fmt.specs.Exact.{is_exact_unsigned, is_exact_signed}
 use Rattle.pad_fmt.specs.Padding.{padded_width, HasPaddedWidth, shortfall, padded}
@@ -34,17 +35,12 @@ number_law sign magnitude f ascii = by_zeros f.sign_aware_zero_pad
     by_zeros false = omega
         (arith, length-padded Right f width (sign ++ digits) ascii, length-append sign digits)
 
--- what the test says
-not_set : (flag : Bool) → not flag ≡ true → flag ≡ false
-not_set true is = cc
-not_set false is = refl
-
 pub unsigned_law : (n : ℕ) (f : Options) → is_exact_unsigned n f ≡ true → f.fill < 128
     → HasPaddedWidth (shown_unsigned n f) (unsigned_width n f) f
 unsigned_law n f exact ascii = by_plus f.sign_plus
   where
     no_minus : f.sign_minus ≡ false
-    no_minus = not_set f.sign_minus exact
+    no_minus = not-true f.sign_minus exact
 
     by_plus : (plus : Bool)
         → HasPaddedWidth (shown_number (if plus then codes "+" else []) n f)
