@@ -1,6 +1,5 @@
 -- The way from the tests of a zone's lines to its spans.
-use Rattle.std.proofs.Common.{◌≡◌, Bool, true, false, not, ◌&&◌, ◌||◌, cond, List, [], ◌∷◌, ◌++◌, find, Option, Some, None, option_map, Result, Err, ℤ, ◌≤ℤ◌, int_lt, All, IsTrue, refl, sym, ap, ◌∙◌, subst, arith}
-use Rattle.std.proofs.lemmas.Int.{ints}
+use Rattle.std.proofs.Common.{◌≡◌, Bool, true, false, not, ◌&&◌, ◌||◌, cond, List, [], ◌∷◌, ◌++◌, find, Option, Some, None, option_map, Result, Err, All, IsTrue, refl, sym, ap, ◌∙◌, subst}
 use Rattle.std.proofs.lemmas.List.Sums.{AllPass-from_list_all}
 use Rattle.std.specs.Cmp.{IsStrictWeakOrder}
 use Rattle.std.specs.List.{list_all, list_any}
@@ -19,6 +18,7 @@ use Rattle.zone_spans.specs.Entries.{Entry, first_span, fixed_span, is_sooner, i
 use Rattle.zone_spans.specs.Faults.{begins_ruled, entry_test, first_met, is_unknown, line_fault, line_tests, schedule_fault}
 use Rattle.zone_spans.specs.Lines.{Line, Rulesets, is_ruled, zone_lines}
 use Rattle.zone_spans.proofs.BoundLemmas.{first, second}
+use Rattle.calendar.specs.Orders.{lt_from_fail}
 use Rattle.zone_spans.proofs.FiringLemmas.{int_lt_chain, int_lt_one_way}
 use Rattle.zone_spans.proofs.SoundLemmas.{none_at}
 
@@ -163,9 +163,6 @@ all_sound infos lines bounded is k d l =
       days = none_at _ lines days.0 k d l;
     }
 
-not_before : (a b : ℤ) → int_lt b a ≡ false → a ≤ℤ b
-not_before a b h = grind (arith, ints)
-
 sooner_ranks : IsStrictWeakOrder is_sooner
 sooner_ranks = record {
   one_way = λ x y h. int_lt_one_way x.0 y.0 h;
@@ -175,7 +172,7 @@ sooner_ranks = record {
 times_of : (es : List Entry) → Rises is_sooner es → EntryTimesDontFall es
 times_of [] r = tt
 times_of (a ∷ []) r = tt
-times_of (a ∷ b ∷ es) r = (not_before a.0 b.0 r.0.0, times_of (b ∷ es) r.1)
+times_of (a ∷ b ∷ es) r = (lt_from_fail b.0 a.0 r.0.0, times_of (b ∷ es) r.1)
 
 -- the times of sorted entries don't fall
 pub times_sorted : (lines : List Line) (es : List Entry) → es ≡ sorted_entries lines → EntryTimesDontFall es

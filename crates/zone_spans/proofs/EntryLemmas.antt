@@ -1,5 +1,5 @@
 -- The entries of a line, and one line more.
-use Rattle.std.proofs.Common.{◌≡◌, ℕ, ◌+◌, ◌-◌, ◌<◌, Bool, true, false, ◌&&◌, cond, if◌then◌else◌, List, [], ◌∷◌, ◌++◌, length, get_or, map, filter, find, take, drop, reverse, Option, Some, None, option_map, ℤ, pos, int_lt, int_eq, int_cmp, is_lt, Less, Greater, Equal, IsTrue, IfSome, refl, sym, ap, ◌∙◌, arith}
+use Rattle.std.proofs.Common.{◌≡◌, ℕ, ◌+◌, ◌-◌, ◌<◌, Bool, true, false, ◌&&◌, cond, if◌then◌else◌, List, [], ◌∷◌, ◌++◌, length, get_or, map, filter, find, take, drop, reverse, Option, Some, None, option_map, ℤ, pos, int_lt, int_eq, int_cmp, is_lt, IsTrue, IfSome, refl, sym, ap, ◌∙◌, arith}
 use Rattle.std.proofs.lemmas.Grind.{common_steps}
 use Rattle.std.proofs.lemmas.List.{append_assoc, append-nil, drop_all, length-drop, map-append, reverse-append, take_all}
 use Rattle.std.proofs.lemmas.List.Elements.{All-drop, All-filter, All-take}
@@ -16,6 +16,7 @@ use Rattle.zone_spans.specs.Lines.{Line, fixed_saving, is_ruled}
 use Rattle.zone_spans.specs.Listing.{is_at, listed_firings, listed_from, start_firing}
 use Rattle.zone_spans.specs.Stands.{StandsFor}
 use Rattle.zone_spans.proofs.BoundLemmas.{both, first, second}
+use Rattle.zone_spans.proofs.FiringLemmas.{less_is}
 use Rattle.zone_spans.proofs.FoundLemmas.{from_here}
 use Rattle.zone_spans.proofs.SoundLemmas.{sound_offset, sound_saving}
 
@@ -178,14 +179,9 @@ entries_done es start lines all before =
     let done : drop (length lines) lines ≡ [] = drop_all (length lines) lines (omega arith) in
     sym (append-nil es) ∙ ap (λ ls. es ++ entries_from start ls) (sym done) ∙ before
 
-either : (b c : Bool) → is_lt (cond b Less (cond c Greater Equal)) ≡ b
-either true c = refl
-either false true = refl
-either false false = refl
-
 -- std's order by a key is the order of times
 pub sooner_is : (a b : Entry) → is_lt (int_cmp a.0 b.0) ≡ is_sooner a b
-sooner_is a b = either (int_lt a.0 b.0) (int_lt b.0 a.0)
+sooner_is a b = less_is a.0 b.0
 
 and_turned : (a b c : Bool) → (a && (b && c)) ≡ (b && (a && c))
 and_turned true true c = refl

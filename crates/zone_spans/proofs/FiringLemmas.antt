@@ -1,5 +1,5 @@
 -- The order of numbers, and any rule.
-use Rattle.std.proofs.Common.{◌≡◌, true, false, None, ℤ, arith, int_lt, pos}
+use Rattle.std.proofs.Common.{◌≡◌, Bool, true, false, cond, None, ℤ, arith, int_lt, int_cmp, is_lt, Less, Equal, Greater, pos, refl}
 use Rattle.std.proofs.lemmas.Int.{ints}
 use Rattle.zone_values.specs.declared.day.DaySpec.TheVariants.{Ordinal}
 use Rattle.zone_values.specs.declared.month.Month.TheVariants.{January}
@@ -12,6 +12,15 @@ int_lt_one_way a b h = grind (arith, ints)
 
 pub int_lt_chain : (a b c : ℤ) → int_lt a b ≡ false → int_lt b c ≡ false → int_lt a c ≡ false
 int_lt_chain a b c h k = grind (arith, ints)
+
+-- std's comparison begins with the test of order
+pub less_is : (a b : ℤ) → is_lt (int_cmp a b) ≡ int_lt a b
+less_is a b = by_tests (int_lt a b) (int_lt b a)
+  where
+    by_tests : (p q : Bool) → is_lt (cond p Less (cond q Greater Equal)) ≡ p
+    by_tests true q = refl
+    by_tests false true = refl
+    by_tests false false = refl
 
 -- any rule
 abbrev pub some_rule : RuleInfo

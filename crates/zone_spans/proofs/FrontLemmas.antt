@@ -11,7 +11,7 @@ use Rattle.zone_values.specs.declared.change.ChangeTime.{ChangeTime}
 use Rattle.zone_table.specs.Moments.{instant_of, moment}
 use Rattle.zone_spans.specs.Fires.{Fires}
 use Rattle.zone_spans.specs.Firings.{Fired, Firing, earliest, fired, is_earlier, is_over}
-use Rattle.zone_spans.specs.Fronts.{Placed, time_of, front, first_of, front_firings, has_mark, head_of, is_below, is_sooner, left_of, placed_from, same_mark, sooner, tail_of}
+use Rattle.zone_spans.specs.Fronts.{Placed, time_of, front, first_of, front_firings, has_mark, head_of, is_below, fires_sooner, left_of, placed_from, same_mark, sooner, tail_of}
 use Rattle.zone_spans.proofs.FiringLemmas.{int_lt_chain, int_lt_one_way}
 use Rattle.zone_spans.proofs.Picks.{all_filter, all_map, all_sorted, pick, pick_least, pick_others, pick_sorted}
 
@@ -111,7 +111,7 @@ rises_others offset saving r (q ∷ qs) up =
       | false ↦ up.1
     ]
 
-less_sooner : (offset saving : ℤ) (x r : Placed) → is_less offset saving x r ≡ true → is_sooner offset saving x r ≡ true
+less_sooner : (offset saving : ℤ) (x r : Placed) → is_less offset saving x r ≡ true → fires_sooner offset saving x r ≡ true
 less_sooner offset saving x r h =
     ap (λ t. t || (not (is_less offset saving r x) && nat_lt x.place r.place)) h
 
@@ -119,21 +119,21 @@ tie_sooner : (s t : ℤ) (i j : ℕ) → int_lt t s ≡ false → i < j → (int
 tie_sooner s t i j h k = grind (arith, nat_tests)
 
 ties_sooner : (offset saving : ℤ) (r : Placed) (xs : List Placed) → AllByRecursion (λ z. is_less offset saving z r ≡ false) xs
-    → AllByRecursion (λ z. r.place < z.place) xs → AllByRecursion (λ z. is_sooner offset saving r z ≡ true) xs
+    → AllByRecursion (λ z. r.place < z.place) xs → AllByRecursion (λ z. fires_sooner offset saving r z ≡ true) xs
 ties_sooner offset saving r [] h k = tt
 ties_sooner offset saving r (x ∷ xs) h k =
     (tie_sooner (time_of offset saving r) (time_of offset saving x) r.place x.place h.0 k.0, ties_sooner offset saving r xs h.1 k.1)
 
 -- the earliest is sooner than each of the others
 pub pick_soonest : (offset saving : ℤ) (r : Placed) (rs : List Placed) → Rises (r ∷ rs)
-    → AllByRecursion (λ z. is_sooner offset saving (pick (is_less offset saving) r rs).0 z ≡ true) (pick (is_less offset saving) r rs).1
+    → AllByRecursion (λ z. fires_sooner offset saving (pick (is_less offset saving) r rs).0 z ≡ true) (pick (is_less offset saving) r rs).1
 pick_soonest offset saving r [] up = tt
 pick_soonest offset saving r (q ∷ qs) up =
     let less = is_less offset saving in
     let later = pick less q qs in
     let least = pick_least less (less_ranks offset saving) q qs in
     elim (less later.0 r) as (λ b. less later.0 r ≡ b
-    → AllByRecursion (λ z. is_sooner offset saving (cond {A = Placed × List Placed} b (later.0, r ∷ later.1) (r, q ∷ qs)).0 z ≡ true)
+    → AllByRecursion (λ z. fires_sooner offset saving (cond {A = Placed × List Placed} b (later.0, r ∷ later.1) (r, q ∷ qs)).0 z ≡ true)
     (cond {A = Placed × List Placed} b (later.0, r ∷ later.1) (r, q ∷ qs)).1) [
       | true ↦ λ h. (less_sooner offset saving later.0 r h, pick_soonest offset saving q qs up.1)
       | false ↦ λ h. ties_sooner offset saving r (q ∷ qs)
@@ -163,14 +163,14 @@ one_way : (s t : ℤ) (i j : ℕ) → (int_lt s t || (not (int_lt t s) && nat_lt
     → (int_lt t s || (not (int_lt s t) && nat_lt j i)) ≡ false
 one_way s t i j h = grind (arith, ints, nat_tests)
 
-keeps : (offset saving : ℤ) (x : Placed) (a : Option Placed) → IfSome a (λ z. is_sooner offset saving x z ≡ true)
+keeps : (offset saving : ℤ) (x : Placed) (a : Option Placed) → IfSome a (λ z. fires_sooner offset saving x z ≡ true)
     → sooner offset saving (Some x) a ≡ Some x
 keeps offset saving x None h = refl
 keeps offset saving x (Some z) h =
     ap (λ b. cond b (Some z) (Some x))
     (one_way (time_of offset saving x) (time_of offset saving z) x.place z.place h)
 
-takes : (offset saving : ℤ) (x : Placed) (a : Option Placed) → IfSome a (λ z. is_sooner offset saving x z ≡ true)
+takes : (offset saving : ℤ) (x : Placed) (a : Option Placed) → IfSome a (λ z. fires_sooner offset saving x z ≡ true)
     → sooner offset saving a (Some x) ≡ Some x
 takes offset saving x None h = refl
 takes offset saving x (Some z) h = ap (λ b. cond b (Some x) (Some z)) h
@@ -180,7 +180,7 @@ either_way : (offset saving : ℤ) (P : Placed → Type 0) (a b : Option Placed)
 either_way offset saving P a None h k = h
 either_way offset saving P None (Some y) h k = k
 either_way offset saving P (Some x) (Some y) h k =
-    elim (is_sooner offset saving y x) as (λ b. IfSome (cond b (Some y) (Some x)) P) [ true ↦ k | false ↦ h ]
+    elim (fires_sooner offset saving y x) as (λ b. IfSome (cond b (Some y) (Some x)) P) [ true ↦ k | false ↦ h ]
 
 head_all : (P : Placed → Type 0) (xs : List Placed) → AllByRecursion P xs → IfSome (head_of xs) P
 head_all P [] h = tt
@@ -191,20 +191,20 @@ unfolding front
 front_all P mark xs h = head_all P _ (all_sorted P is_below (filter (has_mark mark) xs) (all_filter P (has_mark mark) xs h))
 
 three : (mark : TimeType) (offset saving : ℤ) (x : Placed) (rest : List Placed)
-    → AllByRecursion (λ z. is_sooner offset saving x z ≡ true) rest
+    → AllByRecursion (λ z. fires_sooner offset saving x z ≡ true) rest
     → first_of offset saving
     (cond (same_mark Wall mark) (x ∷ front Wall rest) (front Wall rest))
     (cond (same_mark Standard mark) (x ∷ front Standard rest) (front Standard rest))
     (cond (same_mark UTC mark) (x ∷ front UTC rest) (front UTC rest)) ≡ Some x
 three Wall offset saving x rest h =
-    let P : Placed → Type 0 = λ z. is_sooner offset saving x z ≡ true in
+    let P : Placed → Type 0 = λ z. fires_sooner offset saving x z ≡ true in
     keeps offset saving x _ (either_way offset saving P _ _ (front_all P Standard rest h) (front_all P UTC rest h))
 three Standard offset saving x rest h =
-    let P : Placed → Type 0 = λ z. is_sooner offset saving x z ≡ true in
+    let P : Placed → Type 0 = λ z. fires_sooner offset saving x z ≡ true in
     ap (sooner offset saving (head_of (front Wall rest))) (keeps offset saving x _ (front_all P UTC rest h))
     ∙ takes offset saving x _ (front_all P Wall rest h)
 three UTC offset saving x rest h =
-    let P : Placed → Type 0 = λ z. is_sooner offset saving x z ≡ true in
+    let P : Placed → Type 0 = λ z. fires_sooner offset saving x z ≡ true in
     ap (sooner offset saving (head_of (front Wall rest))) (takes offset saving x _ (front_all P Standard rest h))
     ∙ takes offset saving x _ (front_all P Wall rest h)
 

@@ -153,9 +153,6 @@ most_of early later le (f ∷ fs) all =
     both (int_le f.time later) _ (at_most_more f.time early later (first (int_le f.time early) _ all) le)
     (most_of early later le fs (second (int_le f.time early) _ all))
 
-pub le_chain : (a b c : ℤ) → a ≤ℤ b → b ≤ℤ c → a ≤ℤ c
-le_chain a b c h k = omega (arith, ints, h, k)
-
 pub years_at_most : (end : Option ChangeTime) → years_expanded end ≤ most_years
 unfolding years_expanded
 years_at_most None = omega arith

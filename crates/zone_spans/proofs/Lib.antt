@@ -1,7 +1,7 @@
 pub mod BoundLemmas
 pub mod StepLemmas
 pub mod PutLemmas
-pub mod CollapseLaws
+pub mod CollapseLemmas
 pub mod FiringLemmas
 pub mod SoundLemmas
 pub mod YearLemmas

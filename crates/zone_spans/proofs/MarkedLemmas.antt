@@ -1,5 +1,5 @@
 -- The rules of a mark, by places.
-use Rattle.std.proofs.Common.{◌+◌, ◌<◌, ◌++◌, length, get_or, drop, drop-cons, add-one, append_assoc, sym, ap, ◌∙◌, subst, ◌≡◌, ℕ, suc, ℤ, pos, neg_ℤ, Bool, true, false, cond, List, [], ◌∷◌, filter, int_lt, int_cmp, is_lt, Less, Equal, Greater, refl, All, IsTrue}
+use Rattle.std.proofs.Common.{◌+◌, ◌<◌, ◌++◌, length, get_or, drop, drop-cons, add-one, append_assoc, sym, ap, ◌∙◌, subst, ◌≡◌, ℕ, suc, ℤ, pos, neg_ℤ, true, false, cond, List, [], ◌∷◌, filter, int_cmp, is_lt, All, IsTrue}
 use Rattle.std.specs.Prelude.{◌≤ℤ◌}
 use Rattle.std.proofs.lemmas.List.Elements.{All-push, recursion_from_All}
 use Rattle.std.specs.List.{AllByRecursion}
@@ -8,6 +8,7 @@ use Rattle.zone_table.specs.declared.rule.RuleInfo.{RuleInfo}
 use Rattle.owned.specs.Sorted.{stable_sort}
 use Rattle.zone_table.specs.Moments.{moment}
 use Rattle.zone_spans.specs.Bounds.{has_moment}
+use Rattle.zone_spans.proofs.FiringLemmas.{less_is}
 use Rattle.zone_spans.proofs.YearLemmas.{saving_small}
 use Rattle.zone_spans.specs.Fronts.{same_mark, IsSmallPlaced, Placed, has_mark, is_below, placed_from}
 use Rattle.zone_spans.proofs.Picks.{all_sorted}
@@ -16,13 +17,8 @@ use Rattle.zone_spans.proofs.Picks.{all_sorted}
 abbrev pub marked_from : TimeType → ℤ → ℕ → List RuleInfo → List Placed
 marked_from mark year n rs = filter (has_mark mark) (placed_from year n rs)
 
-either : (a b : Bool) → is_lt (cond a Less (cond b Greater Equal)) ≡ a
-either true b = refl
-either false true = refl
-either false false = refl
-
 pub below_is : (a b : Placed) → is_lt (int_cmp a.local b.local) ≡ is_below a b
-below_is a b = either (int_lt a.local b.local) (int_lt b.local a.local)
+below_is a b = less_is a.local b.local
 
 pub sorted_small : (ps : List Placed) → All IsSmallPlaced ps → AllByRecursion IsSmallPlaced (stable_sort is_below ps)
 sorted_small ps h = all_sorted IsSmallPlaced is_below ps (recursion_from_All IsSmallPlaced ps h)

@@ -1,9 +1,9 @@
 -- Nothing fires before the first year of a ruleset.
-use Rattle.std.proofs.Common.{◌≡◌, ℕ, zero, suc, ◌+◌, ◌<◌, Bool, true, false, not, ◌&&◌, ◌||◌, cond, List, [], ◌∷◌, ◌++◌, length, get_or, take, filter, Option, ℤ, pos, ◌<ℤ◌, int_le, refl, sym, ap, ◌∙◌, arith}
-use Rattle.std.proofs.lemmas.Int.{ints}
+use Rattle.std.proofs.Common.{◌≡◌, ℕ, zero, suc, ◌+◌, ◌<◌, Bool, true, false, not, ◌&&◌, ◌||◌, cond, List, [], ◌∷◌, ◌++◌, length, get_or, take, filter, Option, ℤ, pos, ◌<ℤ◌, refl, sym, ap, ◌∙◌, arith}
 use Rattle.std.proofs.lemmas.List.{take_more}
 use Rattle.std.proofs.lemmas.List.Folds.{list_any-append}
 use Rattle.std.specs.List.{list_any}
+use Rattle.calendar.specs.Orders.{le_fail}
 use Rattle.zone_values.specs.Days.{is_in_year, named_day}
 use Rattle.zone_values.specs.declared.change.ChangeTime.{ChangeTime}
 use Rattle.zone_values.specs.declared.year.Year.TheVariants.{Number}
@@ -15,16 +15,13 @@ use Rattle.zone_spans.specs.Quiet.{AppliesToNone}
 use Rattle.zone_spans.proofs.SoundLemmas.{neither_left}
 use Rattle.zone_spans.specs.Years.{earliest_year}
 
-not_reached : (n year : ℤ) → year <ℤ n → int_le n year ≡ false
-not_reached n year before = grind (arith, ints)
-
 -- a rule does not apply before its first year
 pub too_early : (rule : RuleInfo) (first year : ℤ) → rule.from_year ≡ Number first → year <ℤ first
     → (applies_to_year rule year || false) ≡ false
 unfolding applies_to_year
 too_early rule first year is before =
     ap (λ y. (is_at_most y year && is_at_least (last_year rule) year) || false) is
-    ∙ ap (λ b. (b && is_at_least (last_year rule) year) || false) (not_reached first year before)
+    ∙ ap (λ b. (b && is_at_least (last_year rule) year) || false) (le_fail first year before)
 
 -- one rule more
 pub one_rule_more : (rules : List RuleInfo) (k : ℕ) (rule : RuleInfo) (n m : ℕ) → k < length rules → rule ≡ get_or rules k rule

@@ -1,9 +1,9 @@
 -- Rulesets that are found to be the same.
-use Rattle.std.proofs.Common.{◌≡◌, ℕ, List, [], ◌∷◌, true, Option, Some, None, ℤ, refl, ap, rules, bytes_eq}
-use Rattle.std.specs.Ordering.{int_eq}
+use Rattle.std.proofs.Common.{◌≡◌, ℕ, List, [], ◌∷◌, true, Option, Some, None, refl, ap, rules}
 use Rattle.std.proofs.lemmas.Bool.{and_parts}
 use lib.Pointwise.{pointwise}
 use Rattle.calendar.specs.LogicLaws.{no_case}
+use Rattle.calendar.specs.Orders.{eq_from_pass}
 use Rattle.zone_values.specs.SameLaws.{clock_is, year_is, month_is, day_is, text_is}
 use Rattle.zone_values.specs.declared.year.Year.{Year}
 use Rattle.std.specs.contracts.prelude.OptionPartialEq.TheImpl as of_option
@@ -16,9 +16,6 @@ use Rattle.zone_values.specs.contracts.time.TimeTypePartialEq.TheImpl as of_cloc
 use Rattle.zone_values.specs.contracts.year.YearPartialEq.TheImpl as of_year
 use Rattle.zone_table.specs.contracts.rule.RuleInfoPartialEq.TheImpl as of_rule
 use Rattle.zone_table.specs.declared.rule.RuleInfo.{RuleInfo}
-
-number_is : (a b : ℤ) → int_eq a b ≡ true → a ≡ b
-number_is a b h = search rules
 
 last_is : (a b : Option Year) → (of_option.ghosts year_type.the_row of_year.ghosts of_year.dict).eq a b ≡ true → a ≡ b
 last_is None None h = refl
@@ -47,9 +44,9 @@ rule_is a b h =
       to_year = last_is a.to_year b.to_year to.0 i;
       month = month_is a.month b.month month.0 i;
       day = day_is a.day b.day day.0 i;
-      time = number_is a.time b.time time.0 i;
+      time = eq_from_pass a.time b.time time.0 i;
       time_type = clock_is a.time_type b.time_type clock.0 i;
-      time_to_add = number_is a.time_to_add b.time_to_add saving.0 i;
+      time_to_add = eq_from_pass a.time_to_add b.time_to_add saving.0 i;
       letters = letters_is a.letters b.letters saving.1 i;
     }
 

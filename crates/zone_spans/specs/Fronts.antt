@@ -39,8 +39,8 @@ unfoldable pub front : TimeType → List Placed → List Placed
 front mark ps = stable_sort is_below (filter (has_mark mark) ps)
 
 -- in order of moment, and where two fire at once of place
-abbrev pub is_sooner : ℤ → ℤ → Placed → Placed → Bool
-is_sooner offset saving a b =
+abbrev pub fires_sooner : ℤ → ℤ → Placed → Placed → Bool
+fires_sooner offset saving a b =
     let s = time_of offset saving a in
     let t = time_of offset saving b in
     int_lt s t || (not (int_lt t s) && nat_lt a.place b.place)
@@ -48,7 +48,7 @@ is_sooner offset saving a b =
 abbrev pub sooner : ℤ → ℤ → Option Placed → Option Placed → Option Placed
 sooner offset saving a None = a
 sooner offset saving None (Some b) = Some b
-sooner offset saving (Some a) (Some b) = cond (is_sooner offset saving b a) (Some b) (Some a)
+sooner offset saving (Some a) (Some b) = cond (fires_sooner offset saving b a) (Some b) (Some a)
 
 abbrev pub head_of : List Placed → Option Placed
 head_of [] = None

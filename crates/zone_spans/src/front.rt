@@ -5,7 +5,7 @@ ghost use Rattle.owned.specs.Sorted.{stable_sort};
 ghost use Rattle.zone_values.specs.Bounds.{are_small_seconds};
 ghost use Rattle.zone_table.specs.Moments.{moment};
 ghost use Rattle.zone_spans.specs.Bounds.{has_moment, is_small};
-ghost use Rattle.zone_spans.specs.Fronts.{IsSmallPlaced, first_of, front, has_mark, head_of, is_below, is_sooner, left_of, placed_from, same_mark, sooner, tail_of, time_of};
+ghost use Rattle.zone_spans.specs.Fronts.{IsSmallPlaced, first_of, front, has_mark, head_of, is_below, fires_sooner, left_of, placed_from, same_mark, sooner, tail_of, time_of};
 ghost use Rattle.std.specs.Option.{option_copied};
 
 use owned::Items;
@@ -164,12 +164,12 @@ pub(crate) fn left_of<'b, 'a>(
 }
 
 /// Whether a rule fires before another.
-fn is_sooner(one: &Placed<'_>, other: &Placed<'_>, offset: i64, saving: i64) -> bool
+fn fires_sooner(one: &Placed<'_>, other: &Placed<'_>, offset: i64, saving: i64) -> bool
     requires one { IsSmallPlaced one.now }
     requires other { IsSmallPlaced other.now }
     requires offset { IsTrue (are_small_seconds offset) }
     requires saving { IsTrue (are_small_seconds saving) }
-    ensures { result ≡ is_sooner offset saving one.now other.now }
+    ensures { result ≡ fires_sooner offset saving one.now other.now }
 {
     let time = one.time(offset, saving);
     let other_time = other.time(offset, saving);
@@ -195,7 +195,7 @@ fn sooner<'b, 'a>(
         Some(b) => match one {
             None => Some(b),
             Some(a) => {
-                if is_sooner(b, a, offset, saving) {
+                if fires_sooner(b, a, offset, saving) {
                     Some(b)
                 } else {
                     Some(a)

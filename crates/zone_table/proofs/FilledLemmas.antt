@@ -3,13 +3,10 @@ use Rattle.std.proofs.Common.{◌≡◌, ℕ, zero, suc, ◌<◌, ◌≤◌, Boo
 use Rattle.std.proofs.Common.{◌++◌, length, take, drop, refl, sym, ap, ◌∙◌, codes, arith, inl, inr, Some, None, take-append-drop, Bor}
 use Rattle.std.specs.Str.Pattern.{FindsText, LacksTextAt}
 use Rattle.std.specs.Str.Replace.{ReplacesMatches}
+use Rattle.std.proofs.Math.Bool.{and-false}
 use Rattle.std.proofs.lemmas.Bool.{cases_Bool}
 use Rattle.std.proofs.lemmas.Grind.{common_steps}
 use Rattle.zone_table.specs.Formats.{is_placeholder, filled}
-
-and-false : (b : Bool) → (b && false) ≡ false
-and-false true = refl
-and-false false = refl
 
 -- two bytes that begin a text without `%s` at its front are not `%s`
 apart : (x y : ℕ) (rest : List ℕ) → LacksTextAt (codes "%s") (x ∷ y ∷ rest) 0 → is_placeholder x y ≡ false

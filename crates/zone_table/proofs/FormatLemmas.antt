@@ -1,12 +1,9 @@
 -- What a search for `%s` and for a slash says of a text.
 use Rattle.std.proofs.Common.{◌≡◌, ℕ, Bool, true, false, ◌||◌, List}
 use Rattle.std.proofs.Common.{[], ◌∷◌, ◌++◌, refl, sym, ap, ◌∙◌, codes, arith, true≢false}
+use Rattle.std.proofs.Math.Bool.{or-true}
 use Rattle.std.specs.Str.Iter.{HasSubslice}
 use Rattle.zone_table.specs.Formats.{is_placeholder, has_placeholder}
-
-or-true : (b : Bool) → (b || true) ≡ true
-or-true true = refl
-or-true false = refl
 
 pub has_placeholder-within : (before after : List ℕ) → has_placeholder (before ++ (codes "%s" ++ after)) ≡ true
 unfolding has_placeholder

@@ -1,6 +1,6 @@
 use Rattle.std.proofs.Common.{sym, ap, ◌∙◌, subst}
 use Rattle.zone_spans.specs.Collapse.{without_first, collapsed, LocalEndsRise, EntryTimesDontFall}
-use Rattle.zone_spans.proofs.CollapseLaws.{local_ends_rise, times_still_rise}
+use Rattle.zone_spans.proofs.CollapseLemmas.{local_ends_rise, times_still_rise}
 use Rattle.zone_spans.proofs.collapsing.collapse.Goals as goal
 
 pub returns-clause-law : goal.returns-clause-law

@@ -1,13 +1,10 @@
--- The law of the collapse, for every list of entries.
-use Rattle.std.proofs.Common.{◌≡◌, true, false, cond, List, [], ◌∷◌, ◌++◌, reverse, ℤ, ◌+ℤ◌, ◌<ℤ◌, ◌≤ℤ◌, int_le, refl, sym, ap, ◌∙◌, subst, arith, append_assoc}
-use Rattle.std.proofs.lemmas.Int.{ints}
+-- What the collapse keeps, for every list of entries.
+use Rattle.std.proofs.Common.{◌≡◌, true, false, cond, List, [], ◌∷◌, ◌++◌, reverse, ℤ, ◌+ℤ◌, ◌<ℤ◌, ◌≤ℤ◌, refl, sym, ap, ◌∙◌, subst, append_assoc}
 use Rattle.std.proofs.lemmas.List.{reverse-append, append-nil}
+use Rattle.calendar.specs.Orders.{le_from_fail, le_itself, le_le}
 use Rattle.zone_spans.specs.declared.span.FixedTimespan.{FixedTimespan}
 use Rattle.zone_spans.specs.Entries.{Entry, total}
 use Rattle.zone_spans.specs.Collapse.{is_same_span, is_no_later, kept_with, kept_of, without_first, collapsed, LocalEndsRise, EntryTimesDontFall}
-
-int_le_false : (a b : ℤ) → int_le a b ≡ false → b <ℤ a
-int_le_false a b h = grind (arith, ints)
 
 -- the same, of a list with its latest entry first
 abbrev Falls : List Entry → Type 0
@@ -18,7 +15,7 @@ Falls (c ∷ b ∷ a ∷ es) = ((b.0 +ℤ total a.1) <ℤ (c.0 +ℤ total b.1)) 
 
 -- an entry more, above two
 pushed : (e k j : Entry) (ks : List Entry) → is_no_later e k j ≡ false → Falls (k ∷ j ∷ ks) → Falls (e ∷ k ∷ j ∷ ks)
-pushed e k j ks h f = (int_le_false _ _ h, f)
+pushed e k j ks h f = (le_from_fail _ _ h, f)
 
 -- the latest entry takes a span
 respanned_falls : (e k j : Entry) (ks : List Entry) → Falls (k ∷ j ∷ ks) → Falls ((k.0, e.1) ∷ j ∷ ks)
@@ -110,35 +107,29 @@ times_rise t [] r = tt
 times_rise t (e ∷ []) r = tt
 times_rise t (e ∷ a ∷ es) r = (r.1.0, times_rise e.0 (a ∷ es) r.1)
 
-le_chain : (a b c : ℤ) → a ≤ℤ b → b ≤ℤ c → a ≤ℤ c
-le_chain a b c h k = omega (arith, ints)
-
-le_self : (a : ℤ) → a ≤ℤ a
-le_self a = omega (arith, ints)
-
 fall_higher : (s t : ℤ) (ks : List Entry) → s ≤ℤ t → FallFrom s ks → FallFrom t ks
 fall_higher s t [] h f = tt
-fall_higher s t (k ∷ ks) h f = (le_chain k.0 s t f.0 h, f.1)
+fall_higher s t (k ∷ ks) h f = (le_le k.0 s t f.0 h, f.1)
 
 fall_with : (t : ℤ) (ks : List Entry) (e : Entry) → t ≤ℤ e.0 → FallFrom t ks → FallFrom e.0 (kept_with ks e)
 unfolding kept_with
-fall_with t [] e h f = (le_self e.0, tt)
+fall_with t [] e h f = (le_itself e.0, tt)
 fall_with t (k ∷ []) e h f =
-    let far = le_chain k.0 t e.0 f.0 h in
+    let far = le_le k.0 t e.0 f.0 h in
     elim (is_same_span e.1 k.1) as (λ b. FallFrom e.0 (cond b (k ∷ []) (e ∷ k ∷ []))) [
       | true ↦ (far, tt)
       | false ↦
-          (le_self e.0, (far, tt))
+          (le_itself e.0, (far, tt))
     ]
 fall_with t (k ∷ j ∷ ks) e h f =
-    let far = le_chain k.0 t e.0 f.0 h in
+    let far = le_le k.0 t e.0 f.0 h in
     elim (is_no_later e k j) as (λ b. FallFrom e.0 (cond b ((k.0, e.1) ∷ j ∷ ks)
     (cond (is_same_span e.1 k.1) (k ∷ j ∷ ks) (e ∷ k ∷ j ∷ ks)))) [
       | true ↦ (far, f.1)
       | false ↦ elim (is_same_span e.1 k.1) as (λ b. FallFrom e.0 (cond b (k ∷ j ∷ ks) (e ∷ k ∷ j ∷ ks))) [
         | true ↦
             (far, f.1)
-        | false ↦ (le_self e.0, (far, f.1))
+        | false ↦ (le_itself e.0, (far, f.1))
       ]
     ]
 
@@ -153,11 +144,11 @@ fall_of t (e ∷ es) ks r f = fall_of e.0 es (kept_with ks e) r.1 (fall_with t k
 
 rise_lower : (s t : ℤ) (es : List Entry) → s ≤ℤ t → RiseFrom t es → RiseFrom s es
 rise_lower s t [] h r = tt
-rise_lower s t (e ∷ es) h r = (le_chain s t e.0 h r.0, r.1)
+rise_lower s t (e ∷ es) h r = (le_le s t e.0 h r.0, r.1)
 
 times_onto : (t : ℤ) (ks acc : List Entry) → FallFrom t ks → RiseFrom t acc → EntryTimesDontFall (onto ks acc)
 times_onto t [] acc f r = times_rise t acc r
-times_onto t (k ∷ ks) acc f r = times_onto k.0 ks (k ∷ acc) f.1 (le_self k.0, rise_lower k.0 t acc f.0 r)
+times_onto t (k ∷ ks) acc f r = times_onto k.0 ks (k ∷ acc) f.1 (le_itself k.0, rise_lower k.0 t acc f.0 r)
 
 pub times_of_reversed : (t : ℤ) (ks : List Entry) → FallFrom t ks → EntryTimesDontFall (reverse ks)
 times_of_reversed t ks f = subst EntryTimesDontFall (reversed ks) (times_onto t ks [] f tt)
@@ -175,6 +166,6 @@ unfolding collapsed kept_of without_first
 times_still_rise first [] r = tt
 times_still_rise first (e ∷ es) r =
     let kept = kept_of [] (e ∷ es) in
-    let fall : Fall kept = fall_of e.0 (e ∷ es) [] (le_self e.0, rise_from e es r) tt in
+    let fall : Fall kept = fall_of e.0 (e ∷ es) [] (le_itself e.0, rise_from e es r) tt in
     let rises : EntryTimesDontFall (reverse kept) = subst EntryTimesDontFall (reversed kept) (times_onto fall.0 kept [] fall.1 tt) in
     times_without first (reverse kept) rises
