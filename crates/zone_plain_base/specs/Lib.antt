@@ -1,5 +1,7 @@
-pub mod Said
-pub mod SaidLaws
+-- Definitions: what public clauses say.
 pub mod LineFaults
-pub mod LinesAt
 pub mod Told
+pub mod Said
+pub mod LinesAt
+-- Laws: what a caller may use.
+pub mod SaidLaws

@@ -1,8 +1,7 @@
 -- What is said is read back.
 use Rattle.std.proofs.Common.{◌≡◌, ℕ, ◌-◌, List, [], ◌∷◌, All, length, take, Bool, true, false, cond, not, Result, Ok, Err, refl, ap, rules}
-use Rattle.std.proofs.lemmas.Bool.{and_parts, not-true, both_ways}
+use Rattle.std.proofs.lemmas.Bool.{and_parts, or_parts, not-true}
 use Rattle.std.proofs.lemmas.List.Elements.{All-nil, All-cons}
-use Rattle.std.specs.Prelude.{◌||◌}
 use Rattle.std.specs.List.{list_any}
 use Rattle.std.specs.Str.{is_utf8}
 use Rattle.std.specs.Str.Lines.{strip_carriage_return}
@@ -37,10 +36,6 @@ none_feeds [] h = All-nil (λ byte. is_line_feed byte ≡ false)
 none_feeds (byte ∷ text) h =
     let both = or_parts (is_line_feed byte) (list_any is_line_feed text) h in
     All-cons (λ byte. is_line_feed byte ≡ false) byte text both.0 (none_feeds text both.1)
-  where
-    or_parts : (a b : Bool) → (a || b) ≡ false → (a ≡ false) × (b ≡ false)
-    or_parts true b h = absurd (both_ways true h refl)
-    or_parts false b h = (refl, h)
 
 -- it has no line feed in it, and loses none at its end
 pub one_line : (meant : LineValue) → is_said meant ≡ true

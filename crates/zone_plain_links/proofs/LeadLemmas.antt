@@ -4,6 +4,7 @@ use Rattle.std.specs.Prelude.{bytes_eq, is_some}
 use Rattle.std.specs.Option.{option_or}
 use Rattle.std.specs.FinMap.{FinMap, get, insert}
 use Rattle.std.specs.Cmp.Lexicographic.{bytes_decides}
+use Rattle.std.proofs.lemmas.Option.{none-some, same_Some}
 use Rattle.owned.specs.Keyed.{text_cmp}
 use Rattle.owned.specs.KeyedLaws.{get-inserted}
 use Rattle.zone_values.specs.Values.{LineValue}
@@ -23,12 +24,6 @@ no_steps values name k = ap (λ n. leads_to values n name) (plus_none k)
     plus_none : (k : ℕ) → k + 0 ≡ k
     plus_none k = omega arith
 
-no_some : {A B : Type 0} {x : B} → None ≡ Some x → A
-no_some h = search rules
-
-same_place : {a b : ℕ} → Some a ≡ Some b → a ≡ b
-same_place e = search rules
-
 -- what was found of a name
 abbrev pub place_in : Declared → FinMap text_cmp ℕ → List ℕ → Option ℕ
 place_in d known name = option_or (get d.zones name) (get known name)
@@ -40,9 +35,9 @@ met d values known name place declared known_is e =
   where
     by : (a b : Option ℕ) → IsPlaced d.names name (has_zone values name) a → IsKept d.names values name b → option_or a b ≡ Some place
         → LeadsTo d.names values name place
-    by None None placed kept e = no_some e
-    by None (Some p) placed kept e = subst (LeadsTo d.names values name) (same_place e) kept
-    by (Some p) b placed kept e = subst (LeadsTo d.names values name) (same_place e) (record {
+    by None None placed kept e = absurd (none-some place e)
+    by None (Some p) placed kept e = subst (LeadsTo d.names values name) (same_Some p place e) kept
+    by (Some p) b placed kept e = subst (LeadsTo d.names values name) (same_Some p place e) (record {
       zone = name;
       here = placed.1;
       behind = behind_itself values name placed.0;
@@ -54,7 +49,7 @@ unmet d values known name declared e = by (get d.zones name) (get known name) (d
   where
     by : (a b : Option ℕ) → IsPlaced d.names name (has_zone values name) a → option_or a b ≡ None → has_zone values name ≡ false
     by None b placed e = placed
-    by (Some p) b placed e = no_some (sym e)
+    by (Some p) b placed e = absurd (none-some p (sym e))
 
 pub found : (names : List (List ℕ)) (values : List LineValue) (name at : List ℕ) (i place : ℕ) → AreSteps values name at i
     → LeadsTo names values at place → LeadsTo names values name place
@@ -73,7 +68,8 @@ lost values name at i k steps far none = by (leads_to values (length values) nam
   where
     by : (o : Option (List ℕ)) → leads_to values (length values) name ≡ o → leads_to values (length values) name ≡ None
     by None e = e
-    by (Some z) e = no_some (sym none ∙ sym (steps k) ∙ rises (has_zone values) (target_of values) (length values) (k + i) name z far e)
+    by (Some z) e =
+        absurd (none-some z (sym none ∙ sym (steps k) ∙ rises (has_zone values) (target_of values) (length values) (k + i) name z far e))
 
 pub at_end : (values : List LineValue) (name at : List ℕ) (i : ℕ) → AreSteps values name at i → has_zone values at ≡ false
     → target_of values at ≡ None → zone_behind values name ≡ None

@@ -2,6 +2,7 @@
 use Rattle.std.proofs.Common.{◌≡◌, ℕ, List, [], ◌∷◌, ◌++◌, Bool, true, false, not, Option, Some, None, Ok, Err, refl, sym, ap, ◌∙◌, subst, rules}
 use Rattle.std.specs.Prelude.{bytes_eq, is_some, option_map, unwrap_or, ◌||◌, if◌then◌else◌}
 use Rattle.std.specs.FinMap.{get, insert, contains_key}
+use Rattle.std.proofs.lemmas.Option.{same_Some}
 use Rattle.zone_values.specs.Values.{LineValue, InfoValue, RuleValue, multiple, space, zone, continuation, rule, link}
 use Rattle.zone_plain_lines.specs.declared.cause.PlainCause.TheVariants as cause
 use Rattle.zone_plain_text.specs.PlainTexts.{plain_text}
@@ -129,13 +130,10 @@ same_before d s limit values before existing new e here =
       link_seen d s s limit values before existing new refl (link_known s.targets existing new found.0) here.seen.known here,
     )
   where
-    same : (b : Bool) → Some b ≡ Some true → b ≡ true
-    same b e = search rules
-
     by : (o : Option (List ℕ)) → option_map (λ earlier. bytes_eq earlier existing) o ≡ Some true
         → (is_some o ≡ true) × (link_after values o existing new ≡ Ok space)
     by None e = search rules
-    by (Some x) e = (refl, ap (λ b. if b then Ok space else Err cause.DuplicateLink) (same (bytes_eq x existing) e))
+    by (Some x) e = (refl, ap (λ b. if b then Ok space else Err cause.DuplicateLink) (same_Some (bytes_eq x existing) true e))
 
 pub link_is_zone : (values before : List LineValue) (existing new : List ℕ) → has_zone values new ≡ true
     → settled_link values before existing new ≡ Err cause.LinkIsZone

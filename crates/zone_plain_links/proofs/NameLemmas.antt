@@ -4,14 +4,13 @@ use Rattle.std.specs.Prelude.{bytes_eq, is_some, slice_get, ◌||◌, take, get_
 use Rattle.std.specs.Option.{option_or}
 use Rattle.std.specs.FinMap.{FinMap, get, insert, empty, get-empty, contains_key}
 use Rattle.std.specs.Cmp.Lexicographic.{bytes_decides}
-use Rattle.std.proofs.Math.Bool.{or-false}
-use Rattle.std.proofs.Math.Seq.{take-suc}
+use Rattle.std.proofs.Math.Bool.{or-false, or-true, or_assoc}
 use Rattle.owned.specs.Keyed.{text_cmp}
 use Rattle.owned.specs.KeyedLaws.{get-inserted}
 use Rattle.zone_values.specs.Values.{LineValue, InfoValue, RuleValue, line_value, space, zone, rule, link}
 use Rattle.zone_values.specs.declared.line.Line.{Line}
 use Rattle.zone_values.specs.declared.line.Line.TheVariants.{Space}
-use Rattle.std.proofs.lemmas.List.{get_or-map, length-map}
+use Rattle.std.proofs.lemmas.List.{get_or-map, length-map, take_more}
 use Rattle.zone_plain_links.specs.Named.{zone_name, ruleset_name, is_that, declares, has_zone, target_by, target_of}
 use Rattle.zone_plain_links.specs.NamedLaws.{target-more, or_none, target-other}
 use Rattle.zone_plain_links.specs.Stands.{IsPlaced, IsDeclared, AddsTarget}
@@ -22,11 +21,7 @@ pub declares-more : (name_of : LineValue → Option (List ℕ)) (vs : List LineV
 declares-more name_of [] v name = or-false (is_that (name_of v) name)
 declares-more name_of (w ∷ vs) v name =
     ap (λ b. is_that (name_of w) name || b) (declares-more name_of vs v name)
-    ∙ or_more (is_that (name_of w) name) (declares name_of vs name) (is_that (name_of v) name)
-  where
-    or_more : (a b c : Bool) → (a || (b || c)) ≡ ((a || b) || c)
-    or_more true b c = refl
-    or_more false b c = refl
+    ∙ sym (or_assoc (is_that (name_of w) name) (declares name_of vs name) (is_that (name_of v) name))
 
 pub declares-other : (name_of : LineValue → Option (List ℕ)) (vs : List LineValue) (v : LineValue) → name_of v ≡ None → (name : List ℕ)
     → declares name_of (vs ++ v ∷ []) name ≡ declares name_of vs name
@@ -91,11 +86,7 @@ more_names names y name b (Some place) h = (h.0, slice_get-more names y place na
 placed_here : (names : List (List ℕ)) (y name : List ℕ) (b same : Bool) (o : Option ℕ) → bytes_eq y name ≡ same → IsPlaced names name b o
     → IsPlaced (names ++ y ∷ []) name (b || same) (cond same (Some (length names)) o)
 placed_here names y name b false o e h = subst (λ c. IsPlaced (names ++ y ∷ []) name c o) (sym (or-false b)) (more_names names y name b o h)
-placed_here names y name b true o e h = (or_true b, slice_get-last names y ∙ ap Some ((bytes_decides y name).0 e))
-  where
-    or_true : (b : Bool) → (b || true) ≡ true
-    or_true true = refl
-    or_true false = refl
+placed_here names y name b true o e h = (or-true b, slice_get-last names y ∙ ap Some ((bytes_decides y name).0 e))
 
 pub no_names : (d : Declared) → d.names ≡ [] → d.zones ≡ empty → d.targets ≡ empty → d.rulesets ≡ empty → IsDeclared d []
 no_names d names zones targets rulesets = record {
@@ -157,16 +148,9 @@ link_more d new values existing name names zones targets rulesets h = record {
   rulesets = λ q. ap (λ m. contains_key m q) rulesets ∙ h.rulesets q ∙ sym (declares-other ruleset_name values (link existing name) refl q);
 }
 
--- the first lines, and one more
-pub one_more : {A : Type 0} (vs : List A) (i : ℕ) (d : A) → i < length vs → take (i + 1) vs ≡ take i vs ++ get_or vs i d ∷ []
-one_more vs i d inside = ap (λ n. take n vs) (plus_one i) ∙ take-suc vs i d inside
-  where
-    plus_one : (i : ℕ) → i + 1 ≡ suc i
-    plus_one i = omega arith
-
--- of lines that were read
+-- the first lines that were read, and one more
 pub one_line_more : (lines : List Line) (i : ℕ) → i < length lines
     → take (i + 1) (map line_value lines) ≡ take i (map line_value lines) ++ line_value (get_or lines i Space) ∷ []
 one_line_more lines i inside =
-    one_more (map line_value lines) i space (omega (arith, inside, length-map lines line_value))
+    take_more (map line_value lines) i space (omega (arith, inside, length-map lines line_value))
     ∙ ap (λ v. take i (map line_value lines) ++ v ∷ []) (get_or-map line_value lines i Space space inside)

@@ -1,8 +1,8 @@
 -- The lines that were settled, and those that are left.
-use Rattle.std.proofs.Common.{◌≡◌, ℕ, zero, suc, ◌+◌, ◌-◌, ◌≤◌, ◌<◌, List, [], ◌∷◌, ◌++◌, map, length, take, drop, drop-cons, get_or, true, false, nat_lt, Some, Result, Ok, Err, refl, sym, ap, ◌∙◌, subst, arith, append_assoc, append-nil, rules, slice_get, unwrap_or}
+use Rattle.std.proofs.Common.{◌≡◌, ℕ, zero, suc, ◌+◌, ◌-◌, ◌≤◌, ◌<◌, List, [], ◌∷◌, ◌++◌, map, length, take, drop, get_or, true, false, nat_lt, Some, Result, Ok, Err, refl, sym, ap, ◌∙◌, subst, arith, append_assoc, append-nil, rules, slice_get, unwrap_or}
 use Rattle.std.specs.Prelude.{is_some}
 use Rattle.std.specs.FinMap.{get, empty, get-empty}
-use Rattle.std.proofs.lemmas.List.{drop_all, get_or-map, length-map}
+use Rattle.std.proofs.lemmas.List.{drop_all, drop_more, get_or-map, length-map, map-append, take_more}
 use Rattle.std.proofs.lemmas.Bool.{ltb-false, le-ltb, lt-ltb}
 use Rattle.owned.specs.Keyed.{text_cmp}
 use Rattle.zone_outside.specs.Limit.{text_limit}
@@ -21,7 +21,6 @@ use Rattle.zone_plain_base.specs.declared.error.PlainFault.{PlainFault}
 use Rattle.zone_plain_base.specs.declared.error.PlainFault.TheVariants as fault
 use Rattle.zone_plain_base.specs.declared.error.Refused.{Refused}
 use Rattle.zone_plain_base.specs.declared.error.Refused.TheVariants.{Cause, NoMemory}
-use Rattle.zone_plain_links.proofs.NameLemmas.{one_more}
 use Rattle.zone_plain_links.specs.Settled.{link_size, settled_line, settled_from, settled}
 use Rattle.zone_plain_links.specs.Stands.{IsDeclared, IsKept, IsAt, IsWritten, IsRefused, Adds, Overflows, IsPast}
 use Rattle.zone_plain_links.specs.declared.names.Declared.{Declared}
@@ -39,14 +38,10 @@ first_at d s values limit zones targets known declared few = record {
   };
 }
 
-map_more : (lines : List (List ℕ)) (line : List ℕ) → map source_value (lines ++ line ∷ []) ≡ map source_value lines ++ source_value line ∷ []
-map_more [] line = refl
-map_more (l ∷ lines) line = ap (λ vs. source_value l ∷ vs) (map_more lines line)
-
 pub line_kept : (old new lines : List (List ℕ)) (place : ℕ) (line : List ℕ) → Some line ≡ slice_get lines place → new ≡ old ++ line ∷ []
     → map source_value new ≡ map source_value old ++ value_at lines place ∷ []
 line_kept old new lines place line found added =
-    ap (map source_value) added ∙ map_more old line ∙ ap (λ v. map source_value old ++ v ∷ []) (here lines place found)
+    ap (map source_value) added ∙ map-append source_value old (line ∷ []) ∙ ap (λ v. map source_value old ++ v ∷ []) (here lines place found)
   where
     here : (ls : List (List ℕ)) (n : ℕ) → Some line ≡ slice_get ls n → source_value line ≡ value_at ls n
     here [] n e = search rules
@@ -56,7 +51,7 @@ line_kept old new lines place line found added =
 pub line_written : (old new : List (List ℕ)) (text : List ℕ) (v : LineValue) → new ≡ old ++ text ∷ [] → text ≡ plain_text v → is_said v ≡ true
     → map source_value new ≡ map source_value old ++ v ∷ []
 line_written old new text v added plain said =
-    ap (map source_value) added ∙ map_more old text
+    ap (map source_value) added ∙ map-append source_value old (text ∷ [])
     ∙ ap (λ w. map source_value old ++ w ∷ []) (ap source_value plain ∙ source_value_is v said)
 
 -- these values come before those that are found
@@ -82,9 +77,6 @@ pub nothing_settled : (d : Declared) (s : Seen) (limit : ℕ) (values : List Lin
 unfolding settled
 nothing_settled d s limit values here = record { here = here; goes_on = prepend_none _; small = refl }
 
-next : (values : List LineValue) (i : ℕ) → i < length values → drop i values ≡ get_or values i space ∷ drop (i + 1) values
-next values i inside = grind (arith, drop-cons)
-
 goes : (values before : List LineValue) (n size : ℕ) (v w : LineValue) (vs : List LineValue) → settled_line values before v ≡ Ok w
     → nat_lt text_limit (size + link_size w) ≡ false
     → settled_from values before n size (v ∷ vs) ≡ onto w (settled_from values (before ++ v ∷ []) (suc n) (size + link_size w) vs)
@@ -97,10 +89,10 @@ pub one_settled : (d : Declared) (s new : Seen) (limit : ℕ) (values ws : List 
     → nat_lt text_limit size_now ≡ false → IsAt d new limit values (take place values ++ get_or values place space ∷ [])
     → Settling d new limit values (ws ++ w ∷ []) (place + 1) size_now
 one_settled d s new limit values ws place size size_now w inside so_far is sized small here =
-    let taken = one_more values place space inside in
+    let taken = take_more values place space inside in
     let on : settled_from values (take place values) (place + 1) size (drop place values)
     ≡ onto w (settled_from values (take (place + 1) values) (suc (place + 1)) size_now (drop (place + 1) values)) =
-    ap (settled_from values (take place values) (place + 1) size) (next values place inside)
+    ap (settled_from values (take place values) (place + 1) size) (drop_more values place space inside)
     ∙ goes values (take place values) (place + 1) size (get_or values place space) w (drop (place + 1) values) is
     (ap (nat_lt text_limit) (sym sized) ∙ small)
     ∙ (λ i. onto w (settled_from values (sym taken i) (suc (place + 1)) (sym sized i) (drop (place + 1) values))) in
@@ -125,7 +117,7 @@ pub refused_here : (d : Declared) (s : Seen) (limit : ℕ) (values ws : List Lin
     → IsFaultOf (settled values) (fault_at (place + 1) r)
 refused_here d s limit values ws place size (Cause c) inside so_far is =
     sym so_far.goes_on
-    ∙ ap (prepend ws) (ap (settled_from values (take place values) (place + 1) size) (next values place inside)
+    ∙ ap (prepend ws) (ap (settled_from values (take place values) (place + 1) size) (drop_more values place space inside)
     ∙ stops values (take place values) (place + 1) size (get_or values place space) (drop (place + 1) values) c is)
 refused_here d s limit values ws place size NoMemory inside so_far is = tt
 
@@ -139,7 +131,7 @@ pub too_long_here : (d : Declared) (s : Seen) (limit : ℕ) (values ws : List Li
     → nat_lt text_limit (size + link_size w) ≡ true → settled values ≡ Err too_long
 too_long_here d s limit values ws place size w inside so_far is large =
     sym so_far.goes_on
-    ∙ ap (prepend ws) (ap (settled_from values (take place values) (place + 1) size) (next values place inside)
+    ∙ ap (prepend ws) (ap (settled_from values (take place values) (place + 1) size) (drop_more values place space inside)
     ∙ overflows values (take place values) (place + 1) size (get_or values place space) w (drop (place + 1) values) is large)
 
 pub all_settled : (d : Declared) (s : Seen) (limit : ℕ) (values ws : List LineValue) (place size : ℕ) → length values ≤ place
@@ -177,9 +169,6 @@ adds_written found old new text size added few room is put = record {
     not_less : (n m : ℕ) → n ≤ 16777216 → m ≤ 16777216 - n → nat_lt 16777216 (n + m) ≡ false
     not_less n m few room = le-ltb 16777216 (n + m) (omega (arith, few, room))
 
-passes : (m n : ℕ) → m < n → nat_lt m n ≡ true
-passes m n less = lt-ltb m n less
-
 pub overflows_written : (found : Result LineValue PlainCause) (text : List ℕ) (size added : ℕ) → size ≤ 16777216
     → 16777216 - size < added → IsWritten found text added → Overflows found size
 overflows_written found text size added few room is = record {
@@ -189,7 +178,7 @@ overflows_written found text size added few room is = record {
 }
   where
     more : (n m : ℕ) → n ≤ 16777216 → 16777216 - n < m → nat_lt 16777216 (n + m) ≡ true
-    more n m few room = passes 16777216 (n + m) (omega (arith, few, room))
+    more n m few room = lt-ltb 16777216 (n + m) (omega (arith, few, room))
 
 pub size_is_small : (d : Declared) (s : Seen) (limit : ℕ) (values ws : List LineValue) (place size : ℕ)
     → Settling d s limit values ws place size → size ≤ 16777216

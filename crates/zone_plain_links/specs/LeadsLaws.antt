@@ -3,18 +3,14 @@ use Rattle.std.proofs.Common.{◌≡◌, ℕ, zero, suc, ◌≤◌, ◌<◌, Lis
 use Rattle.std.specs.Prelude.{bytes_eq, option_and_then, ◌||◌}
 use Rattle.std.specs.Option.{option_or}
 use Rattle.std.specs.Cmp.Lexicographic.{bytes_decides}
+use Rattle.std.proofs.lemmas.Option.{same_Some}
+use Rattle.zone_values.specs.LogicLaws.{no_case}
 use Rattle.zone_values.specs.Values.{LineValue, space, zone, continuation, rule, link}
 use Rattle.zone_plain_links.specs.Named.{has_zone, target_of}
 use Rattle.zone_plain_links.specs.Leads.{leads, leads_to, zone_behind}
 
 no_some : {A : Type 0} {x : List ℕ} → None ≡ Some x → A
 no_some h = search rules
-
-some_is : {a b : List ℕ} → Some a ≡ Some b → a ≡ b
-some_is {a} e = ap (λ o. unwrap_or o a) e
-
-no_true : {A : Type 0} → false ≡ true → A
-no_true h = search rules
 
 -- some text of the list is that one
 abbrev is_in : List (List ℕ) → List ℕ → Bool
@@ -51,7 +47,7 @@ length-others x (y ∷ ys) =
     ]
 
 fewer-others : (x : List ℕ) (ys : List (List ℕ)) → is_in ys x ≡ true → length (others x ys) < length ys
-fewer-others x [] h = no_true h
+fewer-others x [] h = no_case h
 fewer-others x (y ∷ ys) h =
     let fewer = length-others x ys in
     elim (bytes_eq x y) as (λ b. bytes_eq x y ≡ b → length (cond b (others x ys) (y ∷ others x ys)) < suc (length ys)) [
@@ -60,7 +56,7 @@ fewer-others x (y ∷ ys) h =
     ] refl
   where
     turned : bytes_eq x y ≡ false → bytes_eq y x ≡ true → ⊥
-    turned apart same = no_true (sym apart ∙ (bytes_decides x y).1 (sym ((bytes_decides y x).0 same)))
+    turned apart same = no_case (sym apart ∙ (bytes_decides x y).1 (sym ((bytes_decides y x).0 same)))
 
     on : bytes_eq x y ≡ false → (is_in ys x ≡ true → length (others x ys) < length ys) → length (y ∷ others x ys) < suc (length ys)
     on apart less =
@@ -225,7 +221,7 @@ module _ (is_zone : List ℕ → Bool) where
       ] refl
     where
       by : (names : List (List ℕ)) → length names ≤ 0 → Covers names target → Once target name z → leads is_zone target (length names) name ≡ Some z
-      by [] few covers way = no_true (covers name way.next way.points)
+      by [] few covers way = no_case (covers name way.next way.points)
       by (x ∷ names) few covers way = absurd (omega (arith, few))
   enough_by (suc bound) names target few covers n name z h =
       elim (is_zone name) as (λ b. is_zone name ≡ b → leads is_zone target (length names) name ≡ Some z) [
@@ -252,25 +248,22 @@ module _ (is_zone : List ℕ → Bool) where
       → (n : ℕ) (name z : List ℕ) → leads is_zone target n name ≡ Some z → leads is_zone target (length names) name ≡ Some z
   enough names target covers = enough_by (length names) names target (omega arith) covers
 
+  same_zone : (a b : List ℕ) → is_zone a ≡ true → Some a ≡ Some b → is_zone b ≡ true
+  same_zone a b is e = ap is_zone (sym (same_Some a b e)) ∙ is
+
   -- where a name leads is a zone
   at_last : (target : List ℕ → Option (List ℕ)) (n : ℕ) (name z : List ℕ) → leads is_zone target n name ≡ Some z → is_zone z ≡ true
   at_last target zero name z h =
       elim (is_zone name) as (λ b. is_zone name ≡ b → is_zone z ≡ true) [
-        | true ↦ λ is. same name z is (sym (at_zone target 0 name is) ∙ h)
+        | true ↦ λ is. same_zone name z is (sym (at_zone target 0 name is) ∙ h)
         | false ↦ λ is. no_some (sym (stuck target name is) ∙ h)
       ] refl
-    where
-      same : (a b : List ℕ) → is_zone a ≡ true → Some a ≡ Some b → is_zone b ≡ true
-      same a b is e = ap is_zone (sym (some_is e)) ∙ is
   at_last target (suc n) name z h =
       elim (is_zone name) as (λ b. is_zone name ≡ b → is_zone z ≡ true) [
-        | true ↦ λ is. same name z is (sym (at_zone target (suc n) name is) ∙ h)
+        | true ↦ λ is. same_zone name z is (sym (at_zone target (suc n) name is) ∙ h)
         | false ↦ λ is. by (way target (suc n) name z is h) (λ t. at_last target n t z)
       ] refl
     where
-      same : (a b : List ℕ) → is_zone a ≡ true → Some a ≡ Some b → is_zone b ≡ true
-      same a b is e = ap is_zone (sym (some_is e)) ∙ is
-
       by : Goes target (suc n) name z → ((t : List ℕ) → leads is_zone target n t ≡ Some z → is_zone z ≡ true) → is_zone z ≡ true
       by goes more =
           let n_is : n ≡ goes.steps = omega (arith, goes.one_less) in

@@ -1,9 +1,12 @@
+-- Definitions: what public clauses say.
 pub mod Named
-pub mod NamedLaws
 pub mod Leads
 pub mod Settled
-pub mod LeadsLaws
 pub mod Needs
+-- Laws: what a caller may use.
+pub mod NamedLaws
+pub mod LeadsLaws
 pub mod SettledLaws
 pub mod SaidLaws
+-- Words of private clauses.
 pub mod Stands

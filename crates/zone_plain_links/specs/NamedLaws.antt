@@ -4,23 +4,21 @@ use Rattle.std.specs.Option.{option_or}
 use Rattle.zone_values.specs.Values.{LineValue}
 use Rattle.zone_plain_links.specs.Named.{target_by, target_of}
 
-pub target-more : (vs : List LineValue) (v : LineValue) (name : List ℕ)
-    → target_of (vs ++ v ∷ []) name ≡ option_or (target_of vs name) (target_by v name)
-target-more [] v name = with_none (target_by v name)
-  where
-    with_none : (o : Option (List ℕ)) → option_or o None ≡ option_or None o
-    with_none None = refl
-    with_none (Some x) = refl
-target-more (w ∷ vs) v name =
-    ap (option_or (target_by w name)) (target-more vs v name) ∙ or_more (target_by w name) (target_of vs name) (target_by v name)
-  where
-    or_more : (a b c : Option (List ℕ)) → option_or a (option_or b c) ≡ option_or (option_or a b) c
-    or_more None b c = refl
-    or_more (Some x) b c = refl
-
 pub or_none : (o : Option (List ℕ)) → option_or o None ≡ o
 or_none None = refl
 or_none (Some x) = refl
+
+-- the first of three that is there
+pub or_assoc : (a b c : Option (List ℕ)) → option_or a (option_or b c) ≡ option_or (option_or a b) c
+or_assoc None b c = refl
+or_assoc (Some x) b c = refl
+
+-- a line more
+pub target-more : (vs : List LineValue) (v : LineValue) (name : List ℕ)
+    → target_of (vs ++ v ∷ []) name ≡ option_or (target_of vs name) (target_by v name)
+target-more [] v name = or_none (target_by v name)
+target-more (w ∷ vs) v name =
+    ap (option_or (target_by w name)) (target-more vs v name) ∙ or_assoc (target_by w name) (target_of vs name) (target_by v name)
 
 -- a line that is no link
 pub target-other : (vs : List LineValue) (v : LineValue) → ((name : List ℕ) → target_by v name ≡ None) → (name : List ℕ)
