@@ -1,3 +1,3 @@
-pub mod NumberLemmas
+pub mod MarkLemmas
 pub mod QuoteLemmas
 pub mod WorkedLines

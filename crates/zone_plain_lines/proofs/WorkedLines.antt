@@ -2,7 +2,7 @@
 use Rattle.std.proofs.Common.{◌≡◌, [], ◌∷◌, map, true, false, Some, None, Ok, Err, refl, pos, negsuc}
 use Rattle.std.specs.Prelude.{codes}
 use Rattle.calendar.specs.Days.{days_in_month, is_leap}
-use Rattle.zone_values.specs.Numbers.{signed_in}
+use Rattle.zone_values.specs.Numbers.{signed_in, value_in}
 use Rattle.zone_values.specs.Seconds.{with_type}
 use Rattle.zone_values.specs.Values.{no_saving, one_off, multiple, space, zone, continuation, rule, link}
 use Rattle.zone_values.specs.declared.change.ChangeTime.TheVariants.{UntilYear, UntilTime}
@@ -16,7 +16,7 @@ use Rattle.zone_plain_lines.specs.Clocks.{amount, clock_spec, amount_spec, round
 use Rattle.zone_plain_lines.specs.Columns.{year_of, to_of, years_of, ruleset_name, saving_of, is_format}
 use Rattle.zone_plain_lines.specs.Days.{day_number, side_of, sided, day_of}
 use Rattle.zone_plain_lines.specs.Meanings.{offset_of, save_of, moment_of, rule_of, end_at, end_of, info_of, first_line_of, meaning}
-use Rattle.zone_plain_lines.specs.Numbers.{value_in, number_between}
+use Rattle.zone_plain_lines.specs.Numbers.{number_between}
 use Rattle.zone_plain_lines.specs.Quotes.{fields, laid_out, pieces, has_bad_quotes}
 use Rattle.zone_plain_lines.specs.Words.{line_word, month_of, weekday_of, last_weekday_of, from_word}
 use Rattle.zone_plain_lines.specs.declared.cause.PlainCause.TheVariants as cause

@@ -1,13 +1,7 @@
 -- Whole numbers, and texts cut at a byte.
-use Rattle.std.specs.Prelude.{ℕ, ◌^◌, ◌&&◌, ◌==◌, List, [], ◌∷◌, length, Option, Some, None, option_map, option_and_then, nat_lt, nat_le, if◌then◌else◌}
+use Rattle.std.specs.Prelude.{ℕ, ◌&&◌, ◌==◌, List, [], ◌∷◌, length, Option, Some, None, option_map, option_and_then, nat_lt, nat_le, if◌then◌else◌}
 use Rattle.std.specs.List.{before_first, after_first, position_or_len}
-use Rattle.std.specs.Str.Parse.{digits_value}
-use Rattle.zone_values.specs.Numbers.{is_numeral}
-
--- the number that digits write, below a power of two
-unfoldable pub value_in : ℕ → List ℕ → Option ℕ
-value_in bits digits =
-    if nat_lt 0 (length digits) && nat_lt (digits_value 10 digits) (2 ^ bits) then Some (digits_value 10 digits) else None
+use Rattle.zone_values.specs.Numbers.{is_numeral, value_in}
 
 abbrev pub if_between : ℕ → ℕ → ℕ → Option ℕ
 if_between first last number = if nat_le first number && nat_le number last then Some number else None
@@ -22,11 +16,6 @@ cut mark text =
     if nat_lt (position_or_len (λ c. c == mark) text) (length text)
     then Some (before_first (λ c. c == mark) text, after_first (λ c. c == mark) text)
     else None
-
--- what follows the byte, where the text begins with it
-abbrev pub after_mark : ℕ → List ℕ → Option (List ℕ)
-after_mark mark [] = None
-after_mark mark (c ∷ text) = if c == mark then Some text else None
 
 -- what stands before the byte, where the text ends with it
 abbrev pub before_mark : ℕ → List ℕ → Option (List ℕ)

@@ -1,9 +1,10 @@
 //! Whole numbers, and texts cut at a byte.
 ghost use Rattle.std.specs.Prelude.{◌≡◌, ◌<◌, ◌≤◌, ◌^◌, true, IfSome, option_map};
-ghost use Rattle.zone_values.specs.Numbers.{signed_in, is_numeral};
+ghost use Rattle.zone_values.specs.Marks.{after_mark};
+ghost use Rattle.zone_values.specs.Numbers.{signed_in, is_numeral, value_in};
 ghost use Rattle.std.specs.Char.{is_ascii_digit};
 ghost use Rattle.std.specs.List.{list_all};
-ghost use Rattle.zone_plain_lines.specs.Numbers.{number_between, value_in, cut, after_mark, before_mark};
+ghost use Rattle.zone_plain_lines.specs.Numbers.{number_between, cut, before_mark};
 
 /// The number that ASCII digits write, where it is from the first to the last of two numbers.
 #[tactic(auto, unfolding(crate::specs::Numbers::number_between))]

@@ -1,5 +1,5 @@
 use Rattle.std.proofs.lemmas.Str.Pattern.{strip_prefix_char}
-use Rattle.zone_plain_lines.proofs.NumberLemmas.{stripped}
+use Rattle.zone_values.specs.MarkLaws.{stripped}
 use Rattle.zone_plain_lines.proofs.number.after_mark.Goals as goal
 
 pub returns : goal.returns

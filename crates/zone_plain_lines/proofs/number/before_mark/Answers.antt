@@ -1,5 +1,5 @@
 use Rattle.std.proofs.lemmas.Str.Pattern.{strip_suffix_char}
-use Rattle.zone_plain_lines.proofs.NumberLemmas.{suffixed}
+use Rattle.zone_plain_lines.proofs.MarkLemmas.{suffixed}
 use Rattle.zone_plain_lines.proofs.number.before_mark.Goals as goal
 
 pub returns : goal.returns
