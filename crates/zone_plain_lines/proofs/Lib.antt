@@ -1,3 +1,4 @@
 pub mod MarkLemmas
 pub mod QuoteLemmas
-pub mod WorkedLines
+pub mod WordLemmas
+mod WorkedLines

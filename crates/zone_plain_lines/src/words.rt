@@ -1,7 +1,7 @@
 //! Words, in any case and shortened.
-ghost use Rattle.std.specs.Prelude.{◌≡◌, ◌≤◌, length, take, bytes_eq, codes};
+ghost use Rattle.std.specs.Prelude.{◌≡◌, ◌≤◌, length, map, take, bytes_eq, codes};
 ghost use Rattle.zone_values.specs.Names.{lower};
-ghost use Rattle.zone_plain_lines.specs.Words.{shortens, line_word, month_of, weekday_of, last_weekday_of, from_word};
+ghost use Rattle.zone_plain_lines.specs.Words.{shortens, shown, shortened, line_word, month_of, weekday_of, last_weekday_of, from_word};
 
 use crate::cause::PlainCause;
 use zone_values::{Month, Weekday, Year};
@@ -17,30 +17,34 @@ pub enum LineWord {
     Link,
 }
 
-/// Whether the text is a beginning of the word, which is in lower case, of that many letters at least.
+/// Whether the text is a beginning of the word, in any case, of that many letters at least.
 fn shortens(text: &str, least: usize, word: &str) -> bool
-    requires { lower word.now ≡ word.now }
     ensures { result ≡ shortens text.now least word.now }
 {
     let count = text.len();
     least <= count && count <= word.len() && is_front(text.as_bytes(), word.as_bytes())
 }
 
-/// Whether the text is the front of the word, which is in lower case and no shorter.
+/// Whether the text is the front of the word, in any case, which is no shorter.
 fn is_front(text: &[u8], word: &[u8]) -> bool
-    requires word { lower word.now ≡ word.now }
-    requires fits { length text.now ≤ length word.now }
-    ensures { result ≡ bytes_eq (lower text.now) (take (length text.now) word.now) }
+    requires { length text.now ≤ length word.now }
+    ensures { result ≡ bytes_eq (lower text.now) (lower (take (length text.now) word.now)) }
 {
-    is_word(text, &word[..text.len()])
+    text.eq_ignore_ascii_case(&word[..text.len()])
 }
 
-/// Whether the text is the word, which is in lower case.
-fn is_word(text: &[u8], word: &[u8]) -> bool
-    requires { lower word.now ≡ word.now }
-    ensures { result ≡ bytes_eq (lower text.now) word.now }
+/// What the first word that the text shortens stands for. Beside each word is how many of its letters are enough: no other
+/// word of its place begins with them.
+fn shortened<T: Copy>(text: &str, words: &[(&str, usize, T)]) -> Option<T>
+    ensures { result ≡ shortened (map shown words.now) text.now }
 {
-    text.eq_ignore_ascii_case(word)
+    for entry in words {
+        let (word, least, meaning) = entry;
+        if shortens(text, *least, word) {
+            return Some(*meaning);
+        }
+    }
+    None
 }
 
 /// What a line is by its first word.
@@ -52,15 +56,12 @@ fn is_word(text: &[u8], word: &[u8]) -> bool
 pub fn line_word(text: &str) -> Result<LineWord, PlainCause>
     ensures { result ≡ line_word text.now }
 {
-    if shortens(text, 1, "rule") {
-        Ok(LineWord::Rule)
-    } else if shortens(text, 1, "zone") {
-        Ok(LineWord::Zone)
-    } else if shortens(text, 1, "link") {
-        Ok(LineWord::Link)
-    } else {
-        Err(PlainCause::LineType)
-    }
+    let words = [
+        ("rule", 1, LineWord::Rule),
+        ("zone", 1, LineWord::Zone),
+        ("link", 1, LineWord::Link),
+    ];
+    shortened(text, &words).ok_or(PlainCause::LineType)
 }
 
 /// The month of the word.
@@ -68,33 +69,21 @@ pub fn line_word(text: &str) -> Result<LineWord, PlainCause>
 pub(crate) fn month_of(text: &str) -> Result<Month, PlainCause>
     ensures { result ≡ month_of text.now }
 {
-    Ok(if shortens(text, 2, "january") {
-        Month::January
-    } else if shortens(text, 1, "february") {
-        Month::February
-    } else if shortens(text, 3, "march") {
-        Month::March
-    } else if shortens(text, 2, "april") {
-        Month::April
-    } else if shortens(text, 3, "may") {
-        Month::May
-    } else if shortens(text, 3, "june") {
-        Month::June
-    } else if shortens(text, 3, "july") {
-        Month::July
-    } else if shortens(text, 2, "august") {
-        Month::August
-    } else if shortens(text, 1, "september") {
-        Month::September
-    } else if shortens(text, 1, "october") {
-        Month::October
-    } else if shortens(text, 1, "november") {
-        Month::November
-    } else if shortens(text, 1, "december") {
-        Month::December
-    } else {
-        return Err(PlainCause::Month);
-    })
+    let words = [
+        ("january", 2, Month::January),
+        ("february", 1, Month::February),
+        ("march", 3, Month::March),
+        ("april", 2, Month::April),
+        ("may", 3, Month::May),
+        ("june", 3, Month::June),
+        ("july", 3, Month::July),
+        ("august", 2, Month::August),
+        ("september", 1, Month::September),
+        ("october", 1, Month::October),
+        ("november", 1, Month::November),
+        ("december", 1, Month::December),
+    ];
+    shortened(text, &words).ok_or(PlainCause::Month)
 }
 
 /// The weekday of the word.
@@ -102,23 +91,16 @@ pub(crate) fn month_of(text: &str) -> Result<Month, PlainCause>
 pub(crate) fn weekday_of(text: &str) -> Option<Weekday>
     ensures { result ≡ weekday_of text.now }
 {
-    Some(if shortens(text, 2, "sunday") {
-        Weekday::Sunday
-    } else if shortens(text, 1, "monday") {
-        Weekday::Monday
-    } else if shortens(text, 2, "tuesday") {
-        Weekday::Tuesday
-    } else if shortens(text, 1, "wednesday") {
-        Weekday::Wednesday
-    } else if shortens(text, 2, "thursday") {
-        Weekday::Thursday
-    } else if shortens(text, 1, "friday") {
-        Weekday::Friday
-    } else if shortens(text, 2, "saturday") {
-        Weekday::Saturday
-    } else {
-        return None;
-    })
+    let words = [
+        ("sunday", 2, Weekday::Sunday),
+        ("monday", 1, Weekday::Monday),
+        ("tuesday", 2, Weekday::Tuesday),
+        ("wednesday", 1, Weekday::Wednesday),
+        ("thursday", 2, Weekday::Thursday),
+        ("friday", 1, Weekday::Friday),
+        ("saturday", 2, Weekday::Saturday),
+    ];
+    shortened(text, &words)
 }
 
 /// The weekday of a word that follows `last`.
@@ -126,23 +108,16 @@ pub(crate) fn weekday_of(text: &str) -> Option<Weekday>
 pub(crate) fn last_weekday_of(text: &str) -> Option<Weekday>
     ensures { result ≡ last_weekday_of text.now }
 {
-    Some(if shortens(text, 6, "lastsunday") {
-        Weekday::Sunday
-    } else if shortens(text, 5, "lastmonday") {
-        Weekday::Monday
-    } else if shortens(text, 6, "lasttuesday") {
-        Weekday::Tuesday
-    } else if shortens(text, 5, "lastwednesday") {
-        Weekday::Wednesday
-    } else if shortens(text, 6, "lastthursday") {
-        Weekday::Thursday
-    } else if shortens(text, 5, "lastfriday") {
-        Weekday::Friday
-    } else if shortens(text, 6, "lastsaturday") {
-        Weekday::Saturday
-    } else {
-        return None;
-    })
+    let words = [
+        ("lastsunday", 6, Weekday::Sunday),
+        ("lastmonday", 5, Weekday::Monday),
+        ("lasttuesday", 6, Weekday::Tuesday),
+        ("lastwednesday", 5, Weekday::Wednesday),
+        ("lastthursday", 6, Weekday::Thursday),
+        ("lastfriday", 5, Weekday::Friday),
+        ("lastsaturday", 6, Weekday::Saturday),
+    ];
+    shortened(text, &words)
 }
 
 /// The first or the last of all years, by its word.
@@ -150,13 +125,8 @@ pub(crate) fn last_weekday_of(text: &str) -> Option<Weekday>
 pub(crate) fn from_word(text: &str) -> Option<Year>
     ensures { result ≡ from_word text.now }
 {
-    if shortens(text, 2, "minimum") {
-        Some(Year::Minimum)
-    } else if shortens(text, 2, "maximum") {
-        Some(Year::Maximum)
-    } else {
-        None
-    }
+    let words = [("minimum", 2, Year::Minimum), ("maximum", 2, Year::Maximum)];
+    shortened(text, &words)
 }
 
 /// Whether the text is the word `only`.
