@@ -1,7 +1,7 @@
--- definitions
+-- Definitions: what public clauses say.
 pub mod Names
 pub mod Marks
 pub mod Renamed
--- laws
+-- Laws: what a caller may use.
 pub mod MarkLaws
 pub mod NameLaws

@@ -1,7 +1,7 @@
 -- No name of a source begins with its mark, and the mark is short.
 use Rattle.std.proofs.Common.{◌≡◌, ℕ, zero, suc, ◌+◌, ◌*◌, ◌^◌, ◌≤◌, Bool, true, false, cond, List, [], ◌∷◌, ◌++◌, length, map, nat_lt, refl, sym, ap, ◌∙◌, arith}
 use Rattle.std.proofs.Math.Nat.{pow-succ'}
-use Rattle.std.proofs.lemmas.Bool.{and_parts, both_ways, ltb-true, ltb-false}
+use Rattle.std.proofs.lemmas.Bool.{and_parts, or_right, both_ways, ltb-true, ltb-false}
 use Rattle.std.proofs.lemmas.Bool.Decides.{nat_tests}
 use Rattle.std.proofs.lemmas.List.{length-map}
 use Rattle.std.specs.Prelude.{◌==◌, ◌||◌, bytes_eq, max}
@@ -14,10 +14,6 @@ use Rattle.zone_plain_names.specs.Renamed.{ruleset_of, has_name, mark_of}
 abbrev is_among : List (List ℕ) → List ℕ → Bool
 is_among names name = list_any (λ n. bytes_eq n name) names
 
-or_true : (a b : Bool) → b ≡ true → (a || b) ≡ true
-or_true true b e = refl
-or_true false b e = e
-
 -- what stands behind a byte in one of the names is one of the tails
 among_tails : (byte : ℕ) (names : List (List ℕ)) (rest : List ℕ) → is_among names (byte ∷ rest) ≡ true → is_among (tails byte names) rest ≡ true
 among_tails byte [] rest among = absurd (both_ways false refl among)
@@ -25,7 +21,7 @@ among_tails byte ([] ∷ names) rest among = among_tails byte names rest among
 among_tails byte ((x ∷ xs) ∷ names) rest among = by_test (bytes_eq (x ∷ xs) (byte ∷ rest)) refl among (among_tails byte names rest)
   where
     one_more : (b : Bool) → is_among (tails byte names) rest ≡ true → is_among (cond b (xs ∷ []) [] ++ tails byte names) rest ≡ true
-    one_more true e = or_true (bytes_eq xs rest) _ e
+    one_more true e = or_right (bytes_eq xs rest) _ e
     one_more false e = e
 
     by_test : (b : Bool) → bytes_eq (x ∷ xs) (byte ∷ rest) ≡ b → (b || is_among names (byte ∷ rest)) ≡ true

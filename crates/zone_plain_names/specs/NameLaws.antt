@@ -1,7 +1,9 @@
 -- The names of rulesets in the plain form: those of a source stay where RULES can say them, no two become one, and RULES can say all.
 use Rattle.std.proofs.Common.{◌≡◌, ℕ, zero, suc, ◌+◌, ◌/◌, ◌%◌, ◌<◌, Bool, true, false, cond, List, [], ◌∷◌, ◌++◌, length, map, nat_lt, get_or, drop, Ok, All, refl, sym, ap, ◌∙◌, arith}
-use Rattle.std.proofs.lemmas.Bool.{and_parts, and_from, both_ways}
+use Rattle.std.proofs.Math.Bool.{or_assoc}
+use Rattle.std.proofs.lemmas.Bool.{and_parts, and_from, or_right, both_ways}
 use Rattle.std.proofs.lemmas.Bool.Decides.{nat_tests}
+use Rattle.std.proofs.lemmas.List.{append_cancel_left}
 use Rattle.std.specs.Prelude.{◌||◌, flat_map, nat_eq}
 use Rattle.std.specs.Char.{is_ascii_alphabetic}
 use Rattle.zone_line.specs.Fields.{is_ruleset_name}
@@ -58,11 +60,6 @@ bytes_same (x ∷ xs) (y ∷ ys) e = by_tests (is_letter x) (is_letter y) refl r
         let others = rest (ap (drop 3) e) in
         (λ i. first i ∷ others i)
 
--- what stands behind a text is told by the whole
-unmarked : (mark xs ys : List ℕ) → mark ++ xs ≡ mark ++ ys → xs ≡ ys
-unmarked [] xs ys e = e
-unmarked (x ∷ mark) xs ys e = unmarked mark xs ys (ap (drop 1) e)
-
 marked_new : (values : List LineValue) (name other : List ℕ) → has_name values other ≡ true → marked (mark_of values) name ≡ other → ⊥
 marked_new values name other among e = no_mark values (45 ∷ flat_map byte_text name) (ap (has_name values) e ∙ among)
 
@@ -83,23 +80,14 @@ one_name values a b p q e = by_tests (is_ruleset_name a) (is_ruleset_name b) e
     by_tests true true e = e
     by_tests true false e = absurd (marked_new values b a p (sym e))
     by_tests false true e = absurd (marked_new values a b q e)
-    by_tests false false e = bytes_same a b (ap (drop 1) (unmarked (mark_of values) (45 ∷ flat_map byte_text a) (45 ∷ flat_map byte_text b) e))
-
-either : (a b c : Bool) → (b || c) ≡ true → ((a || b) || c) ≡ true
-either true b c e = refl
-either false b c e = e
+    by_tests false false e = bytes_same a b (ap (drop 1) (append_cancel_left (mark_of values) (45 ∷ flat_map byte_text a) (45 ∷ flat_map byte_text b) e))
 
 few_bits : (x : ℕ) → x < 16 → is_ascii_alphabetic (97 + x) ≡ true
 few_bits x few = grind (arith, nat_tests)
 
 -- a letter from a to p is one of those that RULES says
 bits_said : (x : ℕ) → x < 16 → is_ruleset_name (letter x ∷ []) ≡ true
-bits_said x few = and_from _ true (last (nat_eq (97 + x) 45) (nat_eq (97 + x) 95) (is_ascii_alphabetic (97 + x)) (few_bits x few)) refl
-  where
-    last : (a b c : Bool) → c ≡ true → ((a || b) || c) ≡ true
-    last true b c e = refl
-    last false true c e = refl
-    last false false c e = e
+bits_said x few = and_from _ true (or_right (nat_eq (97 + x) 45 || nat_eq (97 + x) 95) (is_ascii_alphabetic (97 + x)) (few_bits x few)) refl
 
 -- RULES can say what stands for bytes
 bytes_said : (name : List ℕ) → All (λ byte. byte < 256) name → is_ruleset_name (flat_map byte_text name) ≡ true
@@ -109,8 +97,11 @@ bytes_said (x ∷ xs) bytes = by_test (is_letter x) refl (bytes_said xs (λ k d 
     first : x < 256
     first = bytes zero 0 (omega arith)
 
+    hyphen_or : (a b c : Bool) → (b || c) ≡ true → ((a || b) || c) ≡ true
+    hyphen_or a b c p = or_assoc a b c ∙ or_right a (b || c) p
+
     by_test : (b : Bool) → is_letter x ≡ b → is_ruleset_name (flat_map byte_text xs) ≡ true → is_ruleset_name (text_by b x ++ flat_map byte_text xs) ≡ true
-    by_test true p rest = and_from _ _ (either (nat_eq x 45) (nat_eq x 95) (is_ascii_alphabetic x) p) rest
+    by_test true p rest = and_from _ _ (hyphen_or (nat_eq x 45) (nat_eq x 95) (is_ascii_alphabetic x) p) rest
     by_test false p rest =
         let high = (and_parts _ true (bits_said (x / 16) (omega (arith, first)))).0 in
         let low = (and_parts _ true (bits_said (x % 16) (omega arith))).0 in
