@@ -11,7 +11,7 @@ use Rattle.zone_spans.specs.Schedules.{instants}
 use Rattle.tz_lookup.specs.InForce.{in_force, all_in_force, AreInstants}
 use Rattle.tz_lookup.specs.InstantLaws.{instants_are}
 use Rattle.tz_lookup.specs.RisingLaws.{Rises, cases_more, contains_head, head_below}
-use Rattle.zone_alarm.specs.Laws.{IsRead, IsFirst, RingsOnce, AreApart}
+use Rattle.zone_alarm.specs.RingsOnce.{IsRead, IsFirst, RingsOnce, AreApart}
 use Rattle.zone_alarm.specs.Rings.{time_on, day_ring, ring_on, rings}
 
 not_later : (s t : ℤ) → s ≡ t → s ≤ℤ t

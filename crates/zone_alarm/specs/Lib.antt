@@ -1,8 +1,7 @@
 -- Definitions: what public clauses say.
 pub mod Rings
+pub mod RingsOnce
 pub mod Shown
 pub mod Words
 pub mod RingLines
 pub mod Asks
--- Laws: what a caller may use.
-pub mod Laws

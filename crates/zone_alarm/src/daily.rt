@@ -2,7 +2,7 @@
 ghost use Rattle.std.specs.Prelude.{◌≡◌, ◌↔◌, [], ◌∷◌, ◌++◌, ℤ, pos, ◌+ℤ◌, All, AllPairs, IfOk, IfSome, IsErrOf, IsSome, OnOk, map, true, false};
 ghost use Rattle.civil_base.specs.Julian.{day_of_julian};
 ghost use Rattle.civil_base.specs.Ranges.{IsDay};
-ghost use Rattle.zone_alarm.specs.Laws.{AreApart, RingsOnce};
+ghost use Rattle.zone_alarm.specs.RingsOnce.{AreApart, RingsOnce};
 ghost use Rattle.zone_alarm.specs.Rings.{day_ring, ends_in_years, rings};
 ghost use Rattle.zone_alarm.specs.Shown.{ring_shown};
 

@@ -5,7 +5,9 @@ ghost use Rattle.tz_lookup.specs.Sets.{schedule_of, IsAccepted};
 ghost use Rattle.tz_lookup.specs.Zones.{set_of};
 ghost use Rattle.zone_alarm.specs.Asks.{asks, form};
 ghost use Rattle.zone_run.specs.Causes.{cause};
-ghost use Rattle.zone_run.specs.Ends.{Ends, EndsBy, IsPastLimit, seen};
+ghost use Rattle.zone_run.specs.Ends.{Ends};
+ghost use Rattle.zone_source.specs.Runs.{seen};
+ghost use Rattle.zone_source.specs.Statuses.{EndsBy, IsPastLimit};
 ghost use Rattle.zone_run.specs.Tasks.{task_of};
 
 use crate::daily::alarms;

@@ -1,6 +1,6 @@
 -- Which statuses write nothing.
 use Rattle.std.proofs.Common.{◌≢◌, refl, inl, inr}
-use Rattle.zone_answers.specs.Ends.{IsSilent}
+use Rattle.zone_source.specs.Statuses.{IsSilent}
 use Rattle.zone_source.specs.declared.status.Status.{Status}
 use Rattle.zone_source.specs.declared.status.Status.TheVariants as status
 

@@ -11,23 +11,13 @@ use Rattle.tz_lookup.specs.Sets.{schedule_of}
 use Rattle.tz_zone.specs.declared.compile.ZoneFault.{ZoneFault}
 use Rattle.tz_zone.specs.declared.compile.ZoneFault.TheVariants as zone
 use Rattle.tz_zone.specs.declared.set.FixedTimespanSet.{FixedTimespanSet}
-use Rattle.zone_answers.specs.Asked.{asked}
+use Rattle.zone_answers.specs.AskedLaws.{Asks}
 use Rattle.zone_answers.specs.Due.{answer_line, answer_text, shown_at, shown_for}
 use Rattle.zone_answers.specs.Faults.{bad_request, offset_range, range, request_not_text, has_dates, found_refusal, request_refusal}
 use Rattle.zone_answers.specs.Found.{Found, schedule_found}
 use Rattle.zone_answers.specs.Requests.{Request, name_of, request_of}
 use Rattle.zone_answers.specs.Told.{span_told, RefusesZone, TellsOf}
 use Rattle.zone_answers.specs.declared.error.AnswerError.{AnswerError}
-use Rattle.zone_answers.specs.declared.request.Request as code
-
--- the line is a text that asks this
-pub record Asks (line : List ℕ) (request : Request) : Type 0 where
-  pub text : is_utf8 line ≡ true
-  pub reads : request_of line ≡ Some request
-
-pub asks : (line text : List ℕ) (request : code.Request) → is_utf8 line ≡ true → text ≡ line → Some (asked request) ≡ request_of text
-    → Asks line (asked request)
-asks line text request is same reads = record { text = is; reads = ap request_of (sym same) ∙ sym reads }
 
 pub not_text_refused : (names : List ℕ → Found) (n : ℕ) (line : List ℕ) → is_utf8 line ≡ false
     → request_refusal names n line ≡ Some (request_not_text n)
@@ -50,11 +40,11 @@ pub bad_request_refused : (names : List ℕ → Found) (n : ℕ) (line text : Li
     request_refusal names n line ≡ Some (bad_request n)
 bad_request_refused names n line text is same reads = refusal_read names n line None is (ap request_of (sym same) ∙ sym reads)
 
-pub refusal_is : (names : List ℕ → Found) (n : ℕ) (line : List ℕ) (request : Request) → Asks line request →
+pub refusal_is : (names : List ℕ → Found) (n : ℕ) (line : List ℕ) (request : Request) → Asks request_of line request →
     request_refusal names n line ≡ found_refusal n request (names (name_of request))
 refusal_is names n line request is = refusal_read names n line (Some request) is.text is.reads
 
-pub line_is : (names : List ℕ → Found) (line : List ℕ) (request : Request) → Asks line request →
+pub line_is : (names : List ℕ → Found) (line : List ℕ) (request : Request) → Asks request_of line request →
     answer_line names line ≡ answer_text (shown_at (schedule_found (names (name_of request))) request)
 unfolding shown_for
 line_is names line request is =

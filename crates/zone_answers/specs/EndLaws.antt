@@ -1,12 +1,12 @@
 -- What holds of a run after both of its texts were read, or the first of them, whatever the program.
-use Rattle.std.proofs.Common.{◌≡◌, ◌⊎◌, ℕ, ◌+◌, ◌<◌, ◌≤◌, List, [], Option, Some, None, IfSome, length, subst, inl, inr, arith}
+use Rattle.std.proofs.Common.{◌≡◌, ◌⊎◌, ℕ, ◌+◌, ◌<◌, ◌≤◌, List, [], Option, Some, None, IfSome, length, refl, subst, inl, inr, arith}
 use Rattle.zone_outside.specs.Outside.{Counted, Rose, TooMuch}
 use Rattle.zone_outside.specs.Seen.{InputSeen}
 use Rattle.zone_outside.specs.declared.whole.ReadEnd.{ReadEnd}
 use Rattle.zone_outside.specs.declared.whole.ReadEnd.TheVariants as read
 use Rattle.zone_outside.specs.declared.whole.TheConstants.{LIMIT}
 use Rattle.zone_source.specs.declared.status.Status.TheVariants as status
-use Rattle.zone_answers.specs.Ends.{IsSilent}
+use Rattle.zone_source.specs.Statuses.{IsSilent}
 use Rattle.zone_answers.specs.Seen.{Seen}
 
 -- a text was read to its end
@@ -69,3 +69,35 @@ silent_not_write (inr (inr (inr e))) = absurd (cc)
 pub not_written : (status.Write ≡ status.Done) ⊎ (status.Write ≡ status.Fault) → ⊥
 not_written (inl e) = absurd (cc)
 not_written (inr e) = absurd (cc)
+
+-- where both texts are told, what holds of each text that is left to read
+pub if_told : (o p : Option (List ℕ)) (P : List ℕ → List ℕ → Type 0) → ((s r : List ℕ) → p ≡ Some r → P s r) → IfSome o (λ s. IfSome p (P s))
+if_told None p P h = tt
+if_told (Some s) None P h = tt
+if_told (Some s) (Some r) P h = h s r refl
+
+-- a text that was too long is not a short one
+pub too_short : {before now : InputSeen} → NotRead before now read.TooLong → (text : List ℕ) → before.left ≡ Some text → length text ≤ LIMIT → ⊥
+too_short second text there short =
+    let long : IfSome (Some text) (λ left. LIMIT < length left) =
+    subst (λ o. IfSome o (λ left. LIMIT < length left)) there (second.long_text refl) in omega (arith, long, short)
+
+-- where the input failed, neither text gave too much
+pub no_more_failed : {name : List ℕ} {before now : Seen} {source : List ℕ}
+    → Read (before.shelf.told name) now.shelf.left before.shelf.given now.shelf.given source → NotRead before.input now.input read.Failed
+    → (before.shelf.given + LIMIT < now.shelf.given) ⊎ (before.input.given + LIMIT < now.input.given) → ⊥
+no_more_failed {before} {now} {source} first second (inl more) =
+    not_more before.shelf.given now.shelf.given (length source) first.given first.within more
+no_more_failed first second (inr more) = omega (arith, second.failed_given refl, more)
+
+pub read_not_ended : (status.Read ≡ status.Done) ⊎ (status.Read ≡ status.Fault) → ⊥
+read_not_ended (inl e) = absurd (cc)
+read_not_ended (inr e) = absurd (cc)
+
+pub too_long_not_ended : (status.TooLong ≡ status.Done) ⊎ (status.TooLong ≡ status.Fault) → ⊥
+too_long_not_ended (inl e) = absurd (cc)
+too_long_not_ended (inr e) = absurd (cc)
+
+pub no_memory_not_ended : (status.NoMemory ≡ status.Done) ⊎ (status.NoMemory ≡ status.Fault) → ⊥
+no_memory_not_ended (inl e) = absurd (cc)
+no_memory_not_ended (inr e) = absurd (cc)

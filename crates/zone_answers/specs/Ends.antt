@@ -1,28 +1,16 @@
 -- How a run ends.
-use Rattle.std.specs.Prelude.{◌≡◌, ◌≢◌, ◌⊎◌, ◌↔◌, ◌+◌, ◌<◌, ◌≤◌, [], length, Option, None, Some, IsNone, All}
+use Rattle.std.specs.Prelude.{◌≡◌, ◌≢◌, ◌⊎◌, ◌↔◌, ◌+◌, ◌<◌, ◌≤◌, [], length, Option, Some, IsNone, All}
 use Rattle.zone_outside.specs.Outside.{Rose, TooMuch}
 use Rattle.zone_outside.specs.Limit.{text_limit}
 use Rattle.zone_answers.specs.Due.{shown, due_bytes}
-use Rattle.zone_answers.specs.Faults.{Fault, fault, IsValid}
+use Rattle.zone_answers.specs.Faults.{fault, IsValid}
 use Rattle.zone_answers.specs.ReadBack.{IsReadBack}
 use Rattle.zone_outside.specs.Seen.{Grew, GrewBySome}
 use Rattle.zone_answers.specs.Seen.{Seen, IfFile, IfSource, IfRequests, IfTold, NoneFailed}
 use Rattle.zone_answers.specs.Words.{Task}
+use Rattle.zone_source.specs.Statuses.{EndsBy, IsPastLimit, IsSilent}
 use Rattle.zone_source.specs.declared.status.Status.{Status}
 use Rattle.zone_source.specs.declared.status.Status.TheVariants as status
-
--- without a fault the lines were written, with one its line; or memory ran out
-abbrev pub EndsBy : Option Fault → Status → Type 0
-EndsBy None end = (end ≡ status.Done) ⊎ (end ≡ status.NoMemory)
-EndsBy (Some f) end = (end ≡ status.Fault) ⊎ (end ≡ status.NoMemory)
-
--- a text was too long, or memory ran out
-abbrev pub IsPastLimit : Status → Type 0
-IsPastLimit end = (end ≡ status.TooLong) ⊎ (end ≡ status.NoMemory)
-
--- nothing is written by this status
-abbrev pub IsSilent : Status → Type 0
-IsSilent end = (end ≡ status.Words) ⊎ ((end ≡ status.Read) ⊎ ((end ≡ status.NoMemory) ⊎ (end ≡ status.TooLong)))
 
 -- how a run ended whose words ask this
 pub record Ends (task : Option Task) (before now : Seen) (end : Status) : Type 0 where

@@ -1,7 +1,7 @@
 -- How a run over made texts ends.
 use Rattle.std.specs.Prelude.{◌≡◌, ◌≢◌, ◌⊎◌, ℕ, List, Option, None}
 use Rattle.zone_outside.specs.Outside.{Rose}
-use Rattle.zone_answers.specs.Ends.{EndsBy}
+use Rattle.zone_source.specs.Statuses.{EndsBy}
 use Rattle.zone_answers.specs.Faults.{Fault, fault}
 use Rattle.zone_answers.specs.Made.{made_source, made_requests}
 use Rattle.zone_outside.specs.Seen.{OutputSeen, Grew, GrewBySome}

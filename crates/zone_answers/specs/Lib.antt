@@ -15,6 +15,7 @@ pub mod Made
 pub mod Summary
 pub mod Generated
 -- Laws: what a caller may use.
+pub mod AskedLaws
 pub mod EndLaws
 -- Words of private clauses.
 pub mod Tasks

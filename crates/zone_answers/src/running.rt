@@ -1,6 +1,7 @@
 //! The top call.
 ghost use Rattle.std.specs.Prelude.{◌≡◌, ◌≢◌, ◌⊎◌, ◌↔◌, ◌<◌, ◌≤◌, ℕ, List, length, IfSome, IsNone, IsSome, Some};
-ghost use Rattle.zone_answers.specs.Ends.{Ends, EndsBy, IsPastLimit};
+ghost use Rattle.zone_answers.specs.Ends.{Ends};
+ghost use Rattle.zone_source.specs.Statuses.{EndsBy, IsPastLimit};
 ghost use Rattle.zone_answers.specs.Faults.{fault};
 ghost use Rattle.zone_answers.specs.Generated.{Generated, WritesMade, made_fault};
 ghost use Rattle.zone_outside.specs.Seen.{output_seen};

@@ -6,7 +6,7 @@ use Rattle.zone_outside.specs.declared.whole.ReadEnd.TheVariants as read
 use Rattle.zone_outside.specs.declared.whole.TheConstants.{LIMIT}
 use Rattle.zone_source.specs.Statuses.{status_of}
 use Rattle.zone_source.specs.declared.status.Status.TheVariants as status
-use Rattle.zone_answers.specs.EndLaws.{Read, BothRead, NotRead, where_told, not_more, neither_more, neither_long, silent_not_done, silent_not_fault, silent_not_write, not_written}
+use Rattle.zone_answers.specs.EndLaws.{Read, BothRead, NotRead, where_told, not_more, neither_more, neither_long, silent_not_done, silent_not_fault, silent_not_write, not_written, if_told, too_short, no_more_failed, read_not_ended, too_long_not_ended, no_memory_not_ended}
 use Rattle.zone_file_answers.specs.Ends.{Ends}
 use Rattle.zone_file_answers.specs.Responses.{Responds}
 use Rattle.zone_answers.specs.Seen.{Seen}
@@ -83,12 +83,6 @@ failed_ends name before now source requests both (rose, grew) = record {
   past_limit = λ none. absurd (none.output rose);
 }
 
--- where a text is longer than the limit, a run for which it was too long ended so
-if_told : (o p : Option (List ℕ)) (P : List ℕ → List ℕ → Type 0) → ((s r : List ℕ) → p ≡ Some r → P s r) → IfSome o (λ s. IfSome p (P s))
-if_told None p P h = tt
-if_told (Some s) None P h = tt
-if_told (Some s) (Some r) P h = h s r refl
-
 -- the input was not read to its end
 pub input_ends : (name : List ℕ) (before now : Seen) (source : List ℕ) (end : ReadEnd) →
     Read (before.shelf.told name) now.shelf.left before.shelf.given now.shelf.given source → NotRead before.input now.input end
@@ -99,32 +93,24 @@ input_ends name before now source read.Failed first second same = record {
   untouched = λ e. absurd (cc);
   order = inr (IfSome_then (before.shelf.told name) first.text (λ _ h. h.1));
   file_ended = λ _. IfSome_then (before.shelf.told name) first.text (λ _ h. h.1);
-  input_ended = λ e. absurd (no_end_read e);
+  input_ended = λ e. absurd (read_not_ended e);
   done = λ e. absurd (cc);
   refused = λ e. absurd (cc);
   read = λ _. inr (second.failed refl);
   write = λ e. absurd (cc);
   prefix = λ e. absurd (cc);
   too_long = λ e. absurd (cc);
-  too_much = λ more. absurd (more_read more);
+  too_much = λ more. absurd (no_more_failed first second more);
   silent = λ _. same;
   complete = λ none. absurd (none.input (second.failed refl));
   past_limit = λ none. absurd (none.input (second.failed refl));
 }
-  where
-    no_end_read : (status.Read ≡ status.Done) ⊎ (status.Read ≡ status.Fault) → ⊥
-    no_end_read (inl e) = absurd (cc)
-    no_end_read (inr e) = absurd (cc)
-
-    more_read : (before.shelf.given + LIMIT < now.shelf.given) ⊎ (before.input.given + LIMIT < now.input.given) → ⊥
-    more_read (inl more) = not_more before.shelf.given now.shelf.given (length source) first.given first.within more
-    more_read (inr more) = omega (arith, second.failed_given refl, more)
 input_ends name before now source read.TooLong first second same = record {
   words = (λ e. absurd (cc), λ e. absurd (cc));
   untouched = λ e. absurd (cc);
   order = inr (IfSome_then (before.shelf.told name) first.text (λ _ h. h.1));
   file_ended = λ _. IfSome_then (before.shelf.told name) first.text (λ _ h. h.1);
-  input_ended = λ e. absurd (no_end_long e);
+  input_ended = λ e. absurd (too_long_not_ended e);
   done = λ e. absurd (cc);
   refused = λ e. absurd (cc);
   read = λ e. absurd (cc);
@@ -133,24 +119,15 @@ input_ends name before now source read.TooLong first second same = record {
   too_long = λ _. inr (second.long refl);
   too_much = λ _. inl refl;
   silent = λ _. same;
-  complete = λ _. if_told (before.shelf.told name) before.input.left _ (λ _ r there _ short. absurd (too_short r there short));
+  complete = λ _. if_told (before.shelf.told name) before.input.left _ (λ _ r there _ short. absurd (too_short second r there short));
   past_limit = λ _. if_told (before.shelf.told name) before.input.left _ (λ _ _ _ _. inl refl);
 }
-  where
-    no_end_long : (status.TooLong ≡ status.Done) ⊎ (status.TooLong ≡ status.Fault) → ⊥
-    no_end_long (inl e) = absurd (cc)
-    no_end_long (inr e) = absurd (cc)
-
-    too_short : (r : List ℕ) → before.input.left ≡ Some r → length r ≤ LIMIT → ⊥
-    too_short r there short =
-        let long : IfSome (Some r) (λ left. LIMIT < length left) =
-        subst (λ o. IfSome o (λ left. LIMIT < length left)) there (second.long_text refl) in omega (arith, long, short)
 input_ends name before now source read.NoMemory first second same = record {
   words = (λ e. absurd (cc), λ e. absurd (cc));
   untouched = λ e. absurd (cc);
   order = inr (IfSome_then (before.shelf.told name) first.text (λ _ h. h.1));
   file_ended = λ _. IfSome_then (before.shelf.told name) first.text (λ _ h. h.1);
-  input_ended = λ e. absurd (no_end_memory e);
+  input_ended = λ e. absurd (no_memory_not_ended e);
   done = λ e. absurd (cc);
   refused = λ e. absurd (cc);
   read = λ e. absurd (cc);
@@ -162,7 +139,3 @@ input_ends name before now source read.NoMemory first second same = record {
   complete = λ _. if_told (before.shelf.told name) before.input.left _ (λ s r _ _ _. inr (inr refl));
   past_limit = λ _. if_told (before.shelf.told name) before.input.left _ (λ _ _ _ _. inr refl);
 }
-  where
-    no_end_memory : (status.NoMemory ≡ status.Done) ⊎ (status.NoMemory ≡ status.Fault) → ⊥
-    no_end_memory (inl e) = absurd (cc)
-    no_end_memory (inr e) = absurd (cc)

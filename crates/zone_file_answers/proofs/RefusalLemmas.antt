@@ -2,21 +2,11 @@
 use Rattle.std.proofs.Common.{◌≡◌, ℕ, ℤ, List, [], true, false, cond, Option, Some, None, sym, ap, ◌∙◌}
 use Rattle.std.specs.Option.{option_map_or}
 use Rattle.std.specs.Str.{is_utf8}
+use Rattle.zone_answers.specs.AskedLaws.{Asks}
 use Rattle.zone_answers.specs.Due.{answer_text}
-use Rattle.zone_file_answers.specs.Asked.{asked}
 use Rattle.zone_file_answers.specs.Due.{answer_line, shown_at}
 use Rattle.zone_file_answers.specs.Faults.{bad_request, not_text, dates_refusal, request_refusal}
 use Rattle.zone_file_answers.specs.Requests.{Request, request_of}
-use Rattle.zone_file_answers.specs.declared.request.Request as code
-
--- the line is a text that asks this
-pub record Asks (line : List ℕ) (request : Request) : Type 0 where
-  pub text : is_utf8 line ≡ true
-  pub reads : request_of line ≡ Some request
-
-pub asks : (line text : List ℕ) (request : code.Request) → is_utf8 line ≡ true → text ≡ line → Some (asked request) ≡ request_of text
-    → Asks line (asked request)
-asks line text request is same reads = record { text = is; reads = ap request_of (sym same) ∙ sym reads }
 
 pub not_text_refused : (total : ℤ → ℤ) (n : ℕ) (line : List ℕ) → is_utf8 line ≡ false → request_refusal total n line ≡ Some (not_text n)
 unfolding request_refusal
@@ -34,11 +24,11 @@ pub bad_request_refused : (total : ℤ → ℤ) (n : ℕ) (line text : List ℕ)
     → None ≡ request_of text → request_refusal total n line ≡ Some (bad_request n)
 bad_request_refused total n line text is same reads = refusal_read total n line None is (ap request_of (sym same) ∙ sym reads)
 
-pub refusal_is : (total : ℤ → ℤ) (n : ℕ) (line : List ℕ) (request : Request) → Asks line request
+pub refusal_is : (total : ℤ → ℤ) (n : ℕ) (line : List ℕ) (request : Request) → Asks request_of line request
     → request_refusal total n line ≡ dates_refusal total n request
 refusal_is total n line request is = refusal_read total n line (Some request) is.text is.reads
 
-pub line_is : (total : ℤ → ℤ) (line : List ℕ) (request : Request) → Asks line request
+pub line_is : (total : ℤ → ℤ) (line : List ℕ) (request : Request) → Asks request_of line request
     → answer_line total line ≡ answer_text (shown_at total request)
 unfolding answer_line
 line_is total line request is = ap (λ r. answer_text (option_map_or (shown_at total) r [])) is.reads

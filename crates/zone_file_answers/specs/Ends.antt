@@ -1,6 +1,6 @@
 -- How a run ends.
 use Rattle.std.specs.Prelude.{◌≡◌, ◌⊎◌, ◌↔◌, ◌+◌, ◌<◌, ◌≤◌, ℕ, List, [], length, Option, Some, IsNone, IfSome}
-use Rattle.zone_answers.specs.Ends.{IsPastLimit, IsSilent}
+use Rattle.zone_source.specs.Statuses.{IsPastLimit, IsSilent}
 use Rattle.zone_answers.specs.Seen.{Seen, NoneFailed}
 use Rattle.zone_outside.specs.Limit.{text_limit}
 use Rattle.zone_outside.specs.Outside.{Rose, TooMuch}

@@ -7,4 +7,3 @@ pub mod Files
 pub mod Requests
 pub mod Responses
 pub mod Told
-pub mod Words

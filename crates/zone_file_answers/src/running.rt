@@ -2,7 +2,7 @@
 ghost use Rattle.std.specs.Prelude.{◌≡◌, ℕ, List, Some};
 ghost use Rattle.zone_answers.specs.Seen.{seen};
 ghost use Rattle.zone_file_answers.specs.Ends.{Ends};
-ghost use Rattle.zone_file_answers.specs.Words.{file_of};
+ghost use Rattle.zone_source.specs.FileWords.{file_of};
 
 use crate::respond::{Answered, respond};
 use std::alloc::Global;

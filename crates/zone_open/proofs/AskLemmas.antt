@@ -2,38 +2,24 @@
 use Rattle.std.proofs.Common.{◌≡◌, ◌+◌, ◌≤◌, ℕ, suc, zero, List, [], ◌∷◌, ◌++◌, length, map, take, drop, refl, sym, ap, ◌∙◌, arith}
 use Rattle.std.proofs.lemmas.List.{length-map}
 use Rattle.zone_open.specs.Rooms.{filled, filled_at}
+use Rattle.zone_open.proofs.CaseLemmas.{no_zero, next}
 use Rattle.zone_open.proofs.RoomLemmas.{filled_more}
 
 take_one : {A : Type 0} → (all : List A) (n : ℕ) (x : A) (rest : List A) → drop n all ≡ x ∷ rest → take (suc n) all ≡ take n all ++ x ∷ []
-take_one [] zero x rest e = absurd (no (ap length e))
-  where
-    no : {n : ℕ} → zero ≡ suc n → ⊥
-    no e = cc
-take_one [] (suc n) x rest e = absurd (no (ap length e))
-  where
-    no : {n : ℕ} → zero ≡ suc n → ⊥
-    no e = cc
+take_one [] zero x rest e = absurd (no_zero (ap length e))
+take_one [] (suc n) x rest e = absurd (no_zero (ap length e))
 take_one (y ∷ all) zero x rest e = ap (λ l. take 1 l) e
 take_one (y ∷ all) (suc n) x rest e = ap (λ l. y ∷ l) (take_one all n x rest e)
 
 drop_one : {A : Type 0} → (all : List A) (n : ℕ) (x : A) (rest : List A) → drop n all ≡ x ∷ rest → drop (suc n) all ≡ rest
-drop_one [] zero x rest e = absurd (no (ap length e))
-  where
-    no : {n : ℕ} → zero ≡ suc n → ⊥
-    no e = cc
-drop_one [] (suc n) x rest e = absurd (no (ap length e))
-  where
-    no : {n : ℕ} → zero ≡ suc n → ⊥
-    no e = cc
+drop_one [] zero x rest e = absurd (no_zero (ap length e))
+drop_one [] (suc n) x rest e = absurd (no_zero (ap length e))
 drop_one (y ∷ all) zero x rest e = ap (λ l. drop 1 l) e
 drop_one (y ∷ all) (suc n) x rest e = drop_one all n x rest e
 
 length_taken : {A : Type 0} → (all : List A) (n : ℕ) (x : A) (rest : List A) → drop n all ≡ x ∷ rest → length (take n all) ≡ n
 length_taken [] zero x rest e = refl
-length_taken [] (suc n) x rest e = absurd (no (ap length e))
-  where
-    no : {n : ℕ} → zero ≡ suc n → ⊥
-    no e = cc
+length_taken [] (suc n) x rest e = absurd (no_zero (ap length e))
 length_taken (y ∷ all) zero x rest e = refl
 length_taken (y ∷ all) (suc n) x rest e = ap suc (length_taken all n x rest e)
 
@@ -43,9 +29,6 @@ map_more f (y ∷ xs) x = ap (λ l. f y ∷ l) (map_more f xs x)
 
 pub dropped : {A : Type 0} → (all : List A) (n : ℕ) (x : A) (rest : List A) → drop n all ≡ x ∷ rest → rest ≡ drop (n + 1) all
 dropped all n x rest e = sym (drop_one all n x rest e) ∙ ap (λ k. drop k all) (next n)
-  where
-    next : (n : ℕ) → suc n ≡ n + 1
-    next n = omega arith
 
 -- one item more stands in the room
 pub one_more : {A B : Type 0} → (f : A → B) (all : List A) (n : ℕ) (x : A) (rest : List A) (room : List B) → drop n all ≡ x ∷ rest
@@ -56,9 +39,6 @@ one_more f all n x rest room e =
     ∙ filled_more (map f (take n all)) (f x) room
     ∙ ap (λ l. filled l room) (sym (map_more f (take n all) x) ∙ ap (map f) (sym (take_one all n x rest e)))
     ∙ ap (λ k. filled (map f (take k all)) room) (next n)
-  where
-    next : (n : ℕ) → suc n ≡ n + 1
-    next n = omega arith
 
 -- as many as the list has
 pub all_taken : {A : Type 0} → (all : List A) (n : ℕ) → length all ≤ n → take n all ≡ all

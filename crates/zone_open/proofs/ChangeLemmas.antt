@@ -5,17 +5,19 @@ use Rattle.std.specs.List.{slice_get, slice_index_or}
 use Rattle.std.specs.Ordering.{int_eq}
 use Rattle.std.proofs.lemmas.Int.{ints}
 use Rattle.std.proofs.lemmas.List.{length-map}
+use Rattle.std.proofs.lemmas.Option.{same_Some, none-some}
 use Rattle.calendar.specs.Orders.{le_pass, le_fail, lt_pass, lt_fail, lt_from_pass, lt_from_fail, eq_pass}
 use Rattle.zone_spans.specs.Entries.{Entry}
 use Rattle.zone_spans.specs.declared.span.FixedTimespan.{FixedTimespan}
 use Rattle.tz_zone.specs.Sets.{shift_of, shifts_of, span_in, total_of_span}
 use Rattle.tz_zone.specs.Spans.{shift_at, IsCut, TimesDontFall}
 use Rattle.tz_zone.specs.declared.set.FixedTimespanSet.{FixedTimespanSet}
-use Rattle.zone_open.specs.Changes.{change_of, changes_of, is_within, last_saving, next_after, saving_at, settled}
+use Rattle.zone_open.specs.Changes.{change_of, changes_of, is_within, last_saving, next_after, saving_at, settled_changes}
 use Rattle.zone_open.specs.ChangeSteps.{how_many, with_change, AreParted, HasPut, IsChangeAt}
 use Rattle.zone_open.specs.Rooms.{filled, filled_at}
 use Rattle.zone_open.specs.declared.changes.Change.{Change}
 use Rattle.zone_open.proofs.AskLemmas.{all_taken, dropped}
+use Rattle.zone_open.proofs.CaseLemmas.{no_zero, next}
 
 -- where the first entry lies before, or after, the others are cut at the place before, or at the same
 cut_later : (e : Entry) (es : List Entry) (k : ℕ) (second : ℤ) → IsCut (map shift_of (e ∷ es)) (suc k) second → IsCut (map shift_of es) k second
@@ -73,103 +75,74 @@ saving_is set second k cut =
 eq_fail : (a b : ℤ) → (a ≡ b → ⊥) → int_eq a b ≡ false
 eq_fail a b h = grind (arith, ints, h)
 
--- where another entry stands behind one at its second, what is settled is settled behind it
+-- where another entry stands behind one at its second, what is settled_changes is settled_changes behind it
 pub passed_over : (entries : List Entry) (k : ℕ) → suc k < length entries → (shift_at (map shift_of entries) k).0 ≡ (shift_at (map shift_of entries) (suc k)).0
-    → settled (drop k (map change_of entries)) ≡ settled (drop (suc k) (map change_of entries))
-unfolding settled
+    → settled_changes (drop k (map change_of entries)) ≡ settled_changes (drop (suc k) (map change_of entries))
+unfolding settled_changes
 passed_over [] k l e = absurd (omega (arith, l))
 passed_over (a ∷ []) k l e = absurd (omega (arith, l))
 passed_over (a ∷ b ∷ es) zero l e =
-    ap (λ t. cond t (settled (map change_of (b ∷ es))) (change_of a ∷ settled (map change_of (b ∷ es)))) (eq_pass a.0 b.0 e)
+    ap (λ t. cond t (settled_changes (map change_of (b ∷ es))) (change_of a ∷ settled_changes (map change_of (b ∷ es)))) (eq_pass a.0 b.0 e)
 passed_over (a ∷ b ∷ es) (suc k) l e = passed_over (b ∷ es) k (omega (arith, l)) e
 
--- else the entry is settled
+-- else the entry is settled_changes
 pub is_settled : (entries : List Entry) (k : ℕ) (change : Change) → slice_get (map change_of entries) k ≡ Some change
     → (suc k < length entries → (shift_at (map shift_of entries) k).0 ≡ (shift_at (map shift_of entries) (suc k)).0 → ⊥)
-    → settled (drop k (map change_of entries)) ≡ change ∷ settled (drop (suc k) (map change_of entries))
-unfolding settled
-is_settled [] k change found apart = absurd (no found)
-  where
-    no : {A : Type 0} → {x : A} → None ≡ Some x → ⊥
-    no e = cc
-is_settled (a ∷ []) zero change found apart = ap (λ c. c ∷ []) (same found)
-  where
-    same : {A : Type 0} → {x y : A} → Some x ≡ Some y → x ≡ y
-    same e = cc
-is_settled (a ∷ []) (suc k) change found apart = absurd (no found)
-  where
-    no : {A : Type 0} → {x : A} → None ≡ Some x → ⊥
-    no e = cc
+    → settled_changes (drop k (map change_of entries)) ≡ change ∷ settled_changes (drop (suc k) (map change_of entries))
+unfolding settled_changes
+is_settled [] k change found apart = absurd (none-some _ found)
+is_settled (a ∷ []) zero change found apart = ap (λ c. c ∷ []) (same_Some _ _ found)
+is_settled (a ∷ []) (suc k) change found apart = absurd (none-some _ found)
 is_settled (a ∷ b ∷ es) zero change found apart =
-    ap (λ t. cond t (settled (map change_of (b ∷ es))) (change_of a ∷ settled (map change_of (b ∷ es)))) (eq_fail a.0 b.0 (apart (omega arith)))
-    ∙ ap (λ c. c ∷ settled (map change_of (b ∷ es))) (same found)
-  where
-    same : {A : Type 0} → {x y : A} → Some x ≡ Some y → x ≡ y
-    same e = cc
+    ap (λ t. cond t (settled_changes (map change_of (b ∷ es))) (change_of a ∷ settled_changes (map change_of (b ∷ es)))) (eq_fail a.0 b.0 (apart (omega arith)))
+    ∙ ap (λ c. c ∷ settled_changes (map change_of (b ∷ es))) (same_Some _ _ found)
 is_settled (a ∷ b ∷ es) (suc k) change found apart =
     is_settled (b ∷ es) k change found (λ l e. apart (omega (arith, l)) e)
 
 -- the second of the change at a place
 pub second_is : (entries : List Entry) (k : ℕ) (change : Change) → slice_get (map change_of entries) k ≡ Some change
     → change.second ≡ (shift_at (map shift_of entries) k).0
-second_is [] k change found = absurd (no found)
-  where
-    no : {A : Type 0} → {x : A} → None ≡ Some x → ⊥
-    no e = cc
-second_is (a ∷ es) zero change found = ap (λ c. c.second) (sym (same found))
-  where
-    same : {A : Type 0} → {x y : A} → Some x ≡ Some y → x ≡ y
-    same e = cc
+second_is [] k change found = absurd (none-some _ found)
+second_is (a ∷ es) zero change found = ap (λ c. c.second) (sym (same_Some _ _ found))
 second_is (a ∷ es) (suc k) change found = second_is es k change found
 
--- where a test passes none of the first k entries, it passes of the settled changes what it passes of those from k on
+-- an entry that a test doesn't pass makes no difference, whether it is settled_changes or not
+over : (test : ℤ → Bool) (a : Entry) (rest : List Change) (t : Bool) → test a.0 ≡ false
+    → filter (λ change. test change.second) (cond t rest (change_of a ∷ rest)) ≡ filter (λ change. test change.second) rest
+over test a rest true h = refl
+over test a rest false h = ap (λ t. cond t (change_of a ∷ filter (λ change. test change.second) rest) (filter (λ change. test change.second) rest)) h
+
+-- where a test passes none of the first k entries, it passes of the settled_changes changes what it passes of those from k on
 pub passes_from : (test : ℤ → Bool) (entries : List Entry) (k : ℕ) → k ≤ length entries
     → ((j : ℕ) → j < k → test (shift_at (map shift_of entries) j).0 ≡ false)
-    → filter (λ change. test change.second) (settled (map change_of entries)) ≡ filter (λ change. test change.second) (settled (drop k (map change_of entries)))
-unfolding settled
+    → filter (λ change. test change.second) (settled_changes (map change_of entries)) ≡ filter (λ change. test change.second) (settled_changes (drop k (map change_of entries)))
+unfolding settled_changes
 passes_from test entries zero l none = refl
 passes_from test [] (suc k) l none = absurd (omega (arith, l))
 passes_from test (a ∷ []) (suc k) l none =
     ap (λ t. cond t (change_of a ∷ []) []) (none 0 (omega arith)) ∙ nothing k
   where
-    nothing : (k : ℕ) → [] ≡ filter (λ change. test change.second) (settled (drop k (map change_of [])))
+    nothing : (k : ℕ) → [] ≡ filter (λ change. test change.second) (settled_changes (drop k (map change_of [])))
     nothing zero = refl
     nothing (suc k) = refl
 passes_from test (a ∷ b ∷ es) (suc k) l none =
-    over (int_eq a.0 b.0) ∙ passes_from test (b ∷ es) k (omega (arith, l)) (λ j m. none (suc j) (omega (arith, m)))
-  where
-    rest : List Change
-    rest = settled (map change_of (b ∷ es))
+    over test a (settled_changes (map change_of (b ∷ es))) (int_eq a.0 b.0) (none 0 (omega arith)) ∙ passes_from test (b ∷ es) k (omega (arith, l)) (λ j m. none (suc j) (omega (arith, m)))
 
-    over : (t : Bool) → filter (λ change. test change.second) (cond t rest (change_of a ∷ rest)) ≡ filter (λ change. test change.second) rest
-    over true = refl
-    over false = ap (λ t. cond t (change_of a ∷ filter (λ change. test change.second) rest) (filter (λ change. test change.second) rest)) (none 0 (omega arith))
-
--- where a test passes none of some entries, it passes none of their settled changes
+-- where a test passes none of some entries, it passes none of their settled_changes changes
 none_pass : (test : ℤ → Bool) (entries : List Entry) → ((j : ℕ) → j < length entries → test (shift_at (map shift_of entries) j).0 ≡ false)
-    → filter (λ change. test change.second) (settled (map change_of entries)) ≡ []
-unfolding settled
+    → filter (λ change. test change.second) (settled_changes (map change_of entries)) ≡ []
+unfolding settled_changes
 none_pass test [] none = refl
 none_pass test (a ∷ []) none = ap (λ t. cond t (change_of a ∷ []) []) (none 0 (omega arith))
-none_pass test (a ∷ b ∷ es) none = over (int_eq a.0 b.0) ∙ none_pass test (b ∷ es) (λ j m. none (suc j) (omega (arith, m)))
-  where
-    rest : List Change
-    rest = settled (map change_of (b ∷ es))
-
-    over : (t : Bool) → filter (λ change. test change.second) (cond t rest (change_of a ∷ rest)) ≡ filter (λ change. test change.second) rest
-    over true = refl
-    over false = ap (λ t. cond t (change_of a ∷ filter (λ change. test change.second) rest) (filter (λ change. test change.second) rest)) (none 0 (omega arith))
+none_pass test (a ∷ b ∷ es) none = over test a (settled_changes (map change_of (b ∷ es))) (int_eq a.0 b.0) (none 0 (omega arith)) ∙ none_pass test (b ∷ es) (λ j m. none (suc j) (omega (arith, m)))
 
 -- the same of those from k on
 pub passes_none : (test : ℤ → Bool) (entries : List Entry) (k : ℕ)
     → ((j : ℕ) → k ≤ j → j < length entries → test (shift_at (map shift_of entries) j).0 ≡ false)
-    → filter (λ change. test change.second) (settled (drop k (map change_of entries))) ≡ []
+    → filter (λ change. test change.second) (settled_changes (drop k (map change_of entries))) ≡ []
 passes_none test entries zero none = none_pass test entries (λ j m. none j (omega arith) m)
 passes_none test [] (suc k) none = none_pass test [] (λ j m. absurd (omega (arith, m)))
 passes_none test (a ∷ es) (suc k) none = passes_none test es k (λ j l m. none (suc j) (omega (arith, l)) (omega (arith, m)))
-
-next : (k : ℕ) → suc k ≡ k + 1
-next k = omega arith
 
 equal_from : (a b : ℤ) → false ≡ int_lt a b → a ≤ℤ b → a ≡ b
 equal_from a b h l = omega (arith, ints, lt_from_fail a b (sym h), l)
@@ -180,27 +153,27 @@ apart_from a b h e = omega (arith, ints, lt_from_pass a b (sym h), e)
 -- where an entry and the next lie at one second
 pub at_once : (entries : List Entry) (k : ℕ) → TimesDontFall (map shift_of entries) → k + 1 < length entries
     → false ≡ int_lt (shift_at (map shift_of entries) k).0 (shift_at (map shift_of entries) (k + 1)).0
-    → settled (drop k (map change_of entries)) ≡ settled (drop (k + 1) (map change_of entries))
+    → settled_changes (drop k (map change_of entries)) ≡ settled_changes (drop (k + 1) (map change_of entries))
 at_once entries k times l h =
     passed_over entries k (omega (arith, l))
     (equal_from _ _ h (times k (k + 1) (omega arith) (omega (arith, l, length-map entries shift_of)))
     ∙ ap (λ n. (shift_at (map shift_of entries) n).0) (sym (next k)))
-    ∙ ap (λ n. settled (drop n (map change_of entries))) (next k)
+    ∙ ap (λ n. settled_changes (drop n (map change_of entries))) (next k)
 
 -- where they don't
 pub not_at_once : (entries : List Entry) (k : ℕ) (change : Change) → slice_get (map change_of entries) k ≡ Some change
     → true ≡ int_lt (shift_at (map shift_of entries) k).0 (shift_at (map shift_of entries) (k + 1)).0
-    → settled (drop k (map change_of entries)) ≡ change ∷ settled (drop (k + 1) (map change_of entries))
+    → settled_changes (drop k (map change_of entries)) ≡ change ∷ settled_changes (drop (k + 1) (map change_of entries))
 not_at_once entries k change found h =
     is_settled entries k change found (λ l e. apart_from _ _ h (e ∙ ap (λ n. (shift_at (map shift_of entries) n).0) (next k)))
-    ∙ ap (λ n. change ∷ settled (drop n (map change_of entries))) (next k)
+    ∙ ap (λ n. change ∷ settled_changes (drop n (map change_of entries))) (next k)
 
 -- and where there is no next
 pub last_of_all : (entries : List Entry) (k : ℕ) (change : Change) → slice_get (map change_of entries) k ≡ Some change → length entries ≤ k + 1
-    → settled (drop k (map change_of entries)) ≡ change ∷ settled (drop (k + 1) (map change_of entries))
+    → settled_changes (drop k (map change_of entries)) ≡ change ∷ settled_changes (drop (k + 1) (map change_of entries))
 last_of_all entries k change found h =
     is_settled entries k change found (λ l e. absurd (omega (arith, l, h)))
-    ∙ ap (λ n. change ∷ settled (drop n (map change_of entries))) (next k)
+    ∙ ap (λ n. change ∷ settled_changes (drop n (map change_of entries))) (next k)
 
 by_place : (entries : List Entry) (k : ℕ) (default : Entry) → k < length entries
     → (slice_get (map change_of entries) k ≡ Some (change_of (slice_index_or entries k default)))
@@ -224,7 +197,7 @@ entry_is set k second offset saving span l at total is saves =
 
 -- the changes of a window that entries from a place on have
 abbrev pub left_from : ℤ → ℤ → List Entry → ℕ → List Change
-left_from from to entries place = filter (is_within from to) (settled (drop place (map change_of entries)))
+left_from from to entries place = filter (is_within from to) (settled_changes (drop place (map change_of entries)))
 
 -- from a place of the entries on: how many changes of a window were met before it, and what stands in the room
 pub record AreMet (from to : ℤ) (entries : List Entry) (start : List Change) (place count : ℕ) (room : List Change) : Type 0 where
@@ -266,14 +239,8 @@ met_none from to entries first room parted =
 put_next : {A : Type 0} → (all : List A) (n : ℕ) (x : A) (rest room : List A) → drop n all ≡ x ∷ rest
     → filled_at n x (filled (take n all) room) ≡ filled (take (suc n) all) room
 unfolding filled filled_at
-put_next [] zero x rest room e = absurd (none (ap length e))
-  where
-    none : {n : ℕ} → zero ≡ suc n → ⊥
-    none e = cc
-put_next [] (suc n) x rest room e = absurd (none (ap length e))
-  where
-    none : {n : ℕ} → zero ≡ suc n → ⊥
-    none e = cc
+put_next [] zero x rest room e = absurd (no_zero (ap length e))
+put_next [] (suc n) x rest room e = absurd (no_zero (ap length e))
 put_next (y ∷ all) zero x rest [] e = refl
 put_next (y ∷ all) zero x rest (r ∷ room) e = ap (λ z. z ∷ room) (sym (ap (λ l. slice_index_or l 0 y) e))
 put_next (y ∷ all) (suc n) x rest [] e = refl
@@ -281,7 +248,7 @@ put_next (y ∷ all) (suc n) x rest (r ∷ room) e = ap (λ l. y ∷ l) (put_nex
 
 -- one entry more, which has no change of its own
 step_over : (from to : ℤ) (entries : List Entry) (start room new : List Change) (place n m : ℕ) → AreMet from to entries start place n room
-    → settled (drop place (map change_of entries)) ≡ settled (drop (place + 1) (map change_of entries)) → m ≡ n + 0 → new ≡ room
+    → settled_changes (drop place (map change_of entries)) ≡ settled_changes (drop (place + 1) (map change_of entries)) → m ≡ n + 0 → new ≡ room
     → AreMet from to entries start (place + 1) m new
 step_over from to entries start room new place n m met same e put =
     let left : left_from from to entries place ≡ left_from from to entries (place + 1) = ap (λ cs. filter (is_within from to) cs) same in
@@ -294,7 +261,7 @@ step_over from to entries start room new place n m met same e put =
 
 -- one that has
 step_on : (from to : ℤ) (entries : List Entry) (start room new : List Change) (place n m : ℕ) (change : Change) → AreMet from to entries start place n room
-    → settled (drop place (map change_of entries)) ≡ change ∷ settled (drop (place + 1) (map change_of entries))
+    → settled_changes (drop place (map change_of entries)) ≡ change ∷ settled_changes (drop (place + 1) (map change_of entries))
     → is_within from to change ≡ true → m ≡ n + 1 → new ≡ filled_at n change room
     → AreMet from to entries start (place + 1) m new
 step_on from to entries start room new place n m change met found inside e put =
@@ -363,16 +330,16 @@ pub later_from : (entries : List Entry) (k : ℕ) (second : ℤ) → IsCut (map 
 later_from entries k second cut j l m = cut.after j l (omega (arith, m, length-map entries shift_of))
 
 pub left_after : (entries : List Entry) (k : ℕ) (second : ℤ) → IsCut (map shift_of entries) k second
-    → filter (λ change. int_lt second change.second) (settled (map change_of entries))
-    ≡ filter (λ change. int_lt second change.second) (settled (drop k (map change_of entries)))
+    → filter (λ change. int_lt second change.second) (settled_changes (map change_of entries))
+    ≡ filter (λ change. int_lt second change.second) (settled_changes (drop k (map change_of entries)))
 left_after entries k second cut =
     passes_from (λ s. int_lt second s) entries k (omega (arith, cut.within, length-map entries shift_of)) (λ j l. lt_fail second _ (cut.before j l))
 
 -- the first of them, and that there is none
 pub next_found : (set : FixedTimespanSet) (second : ℤ) (place : ℕ) (change : Change) (rest : List Change)
     → filter (λ change. int_lt second change.second) (changes_of set)
-    ≡ filter (λ change. int_lt second change.second) (settled (drop place (map change_of set.others)))
-    → slice_get (map change_of set.others) place ≡ Some change → settled (drop place (map change_of set.others)) ≡ change ∷ rest
+    ≡ filter (λ change. int_lt second change.second) (settled_changes (drop place (map change_of set.others)))
+    → slice_get (map change_of set.others) place ≡ Some change → settled_changes (drop place (map change_of set.others)) ≡ change ∷ rest
     → second <ℤ (shift_at (shifts_of set) place).0 → Some change ≡ next_after set second
 unfolding next_after
 next_found set second place change rest left found is later =
@@ -382,7 +349,7 @@ next_found set second place change rest left found is later =
 
 pub none_next : (set : FixedTimespanSet) (second : ℤ) (place : ℕ)
     → filter (λ change. int_lt second change.second) (changes_of set)
-    ≡ filter (λ change. int_lt second change.second) (settled (drop place (map change_of set.others)))
+    ≡ filter (λ change. int_lt second change.second) (settled_changes (drop place (map change_of set.others)))
     → length set.others ≤ place → None ≡ next_after set second
 unfolding next_after
 none_next set second place left h =

@@ -3,7 +3,7 @@ use Rattle.std.proofs.Common.{◌≡◌, ℤ, pos, negsuc, [], ◌∷◌, refl}
 use Rattle.std.specs.Prelude.{Some, None}
 use Rattle.zone_spans.specs.declared.span.FixedTimespan.{FixedTimespan}
 use Rattle.tz_zone.specs.declared.set.FixedTimespanSet.{FixedTimespanSet}
-use Rattle.zone_open.specs.Changes.{changes_of, next_after, saving_at, settled, window}
+use Rattle.zone_open.specs.Changes.{changes_of, next_after, saving_at, settled_changes, window}
 use Rattle.zone_open.specs.declared.changes.Change.{Change}
 
 -- a standard offset and a saving
@@ -23,33 +23,33 @@ change second offset saving = record { second = second; offset = offset; saving 
 
 -- of the two entries at one second the later one is in force
 all_changes : changes_of zone ≡ change (pos 10) (pos 5400) (pos 1800) ∷ change (pos 20) (pos 7200) (pos 0) ∷ change (pos 30) (pos 7260) (pos 60) ∷ []
-unfolding settled
+unfolding settled_changes
 all_changes = refl
 
 -- a window has its first second, and not the one at its end
 from_ten_to_thirty : window zone (pos 10) (pos 30) ≡ change (pos 10) (pos 5400) (pos 1800) ∷ change (pos 20) (pos 7200) (pos 0) ∷ []
-unfolding settled window
+unfolding settled_changes window
 from_ten_to_thirty = refl
 
 after_ten : window zone (pos 11) (pos 31) ≡ change (pos 20) (pos 7200) (pos 0) ∷ change (pos 30) (pos 7260) (pos 60) ∷ []
-unfolding settled window
+unfolding settled_changes window
 after_ten = refl
 
 backwards : window zone (pos 30) (pos 10) ≡ []
-unfolding settled window
+unfolding settled_changes window
 backwards = refl
 
 -- the next change lies after the second, and not at it
 next_after_nine : next_after zone (pos 9) ≡ Some (change (pos 10) (pos 5400) (pos 1800))
-unfolding settled next_after
+unfolding settled_changes next_after
 next_after_nine = refl
 
 next_after_ten : next_after zone (pos 10) ≡ Some (change (pos 20) (pos 7200) (pos 0))
-unfolding settled next_after
+unfolding settled_changes next_after
 next_after_ten = refl
 
 none_after_thirty : next_after zone (pos 30) ≡ None
-unfolding settled next_after
+unfolding settled_changes next_after
 none_after_thirty = refl
 
 -- the saving from its second on, and below 0 before all changes

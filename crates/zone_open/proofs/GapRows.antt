@@ -1,5 +1,5 @@
 -- Worked examples: which change skips a local time. At 1970-01-01 00:00:00 UTC clocks are set ahead from offset 0 to one hour.
-use Rattle.std.proofs.Common.{◌≡◌, cond, ℤ, pos, negsuc, refl, arith}
+use Rattle.std.proofs.Common.{◌≡◌, cond, ℤ, pos, negsuc, refl, sym, arith}
 use Rattle.std.specs.Prelude.{int_lt}
 use Rattle.std.proofs.lemmas.Int.{ints}
 use Rattle.zone_open.specs.Gaps.{IsSkippedBy}
@@ -32,22 +32,16 @@ before_midnight skipped = absurd (omega (arith, ints, skipped.behind))
 one_o_clock : Skips (pos 3600000000000) → ⊥
 one_o_clock skipped = absurd (omega (arith, ints, skipped.ahead))
 
+no_hour : pos 0 ≡ pos 3600 → ⊥
+no_hour e = cc
+
 -- the seconds beside it are not its second: by them one offset is in force before and after
 a_second_later : IsSkippedBy jump (pos 1800000000000) (gap (pos 1) (pos 0) (pos 3600)) → ⊥
-a_second_later skipped = apart skipped.before
-  where
-    apart : pos 0 ≡ pos 3600 → ⊥
-    apart e = cc
+a_second_later skipped = no_hour skipped.before
 
 a_second_earlier : IsSkippedBy jump (pos 1800000000000) (gap (negsuc 0) (pos 0) (pos 3600)) → ⊥
-a_second_earlier skipped = apart skipped.after
-  where
-    apart : pos 3600 ≡ pos 0 → ⊥
-    apart e = cc
+a_second_earlier skipped = no_hour (sym skipped.after)
 
 -- nor are its offsets to be told the other way round
 the_other_way : IsSkippedBy jump (pos 1800000000000) (gap (pos 0) (pos 3600) (pos 0)) → ⊥
-the_other_way skipped = apart skipped.after
-  where
-    apart : pos 0 ≡ pos 3600 → ⊥
-    apart e = cc
+the_other_way skipped = no_hour skipped.after

@@ -1,5 +1,6 @@
 mod AnySourceLemmas
 mod AskLemmas
+mod CaseLemmas
 mod ChangeLemmas
 pub mod ChangeRows
 mod FileLemmas

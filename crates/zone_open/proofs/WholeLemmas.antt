@@ -2,6 +2,8 @@
 use Rattle.std.proofs.Common.{◌≡◌, ◌+◌, ◌<◌, ℕ, zero, suc, ℤ, pos, List, [], ◌∷◌, ◌++◌, length, map, drop, refl, sym, ap, ◌∙◌, append_assoc, arith}
 use Rattle.std.specs.Prelude.{Option, Some, None}
 use Rattle.std.specs.List.{slice_get, slice_index_or}
+use Rattle.std.proofs.lemmas.Option.{none-some}
+use Rattle.zone_open.proofs.CaseLemmas.{next}
 use Rattle.zone_spans.specs.Entries.{Entry}
 use Rattle.zone_spans.specs.declared.span.FixedTimespan.{FixedTimespan}
 use Rattle.tz_zone.specs.Sets.{shift_of, shifts_of, span_in}
@@ -13,9 +15,6 @@ by_place : (entries : List Entry) (k : ℕ) (default : Entry) → k < length ent
 by_place [] k default l = absurd (omega (arith, l))
 by_place (e ∷ es) zero default l = (refl, refl)
 by_place (e ∷ es) (suc k) default l = by_place es k default (omega (arith, l))
-
-next : (k : ℕ) → suc k ≡ k + 1
-next k = omega arith
 
 -- what stands at a place is its time with its span
 pub entry_is : (set : FixedTimespanSet) (k : ℕ) (time : ℤ) (span : FixedTimespan) → k < length set.others → time ≡ (shift_at (shifts_of set) k).0
@@ -31,10 +30,7 @@ inside x (Some y) = y
 inside x None = x
 
 left_at : {A : Type 0} → (all : List A) (place : ℕ) (x : A) → slice_get all place ≡ Some x → drop place all ≡ x ∷ drop (suc place) all
-left_at [] place x e = absurd (none e)
-  where
-    none : {A : Type 0} → {x : A} → None ≡ Some x → ⊥
-    none e = cc
+left_at [] place x e = absurd (none-some _ e)
 left_at (y ∷ ys) zero x e = ap (λ a. a ∷ ys) (ap (inside x) e)
 left_at (y ∷ ys) (suc place) x e = left_at ys place x e
 

@@ -2,15 +2,15 @@
 use Rattle.std.specs.Prelude.{◌≡◌, ℕ, ℤ, ◌+◌, ◌<◌, ◌≤◌, ◌≤ℤ◌, ◌<ℤ◌, List, ◌∷◌, length, drop, Option, Some, None}
 use Rattle.std.specs.List.{slice_get}
 use Rattle.tz_zone.specs.Spans.{Shift, shift_at}
-use Rattle.zone_open.specs.Changes.{settled}
+use Rattle.zone_open.specs.Changes.{settled_changes}
 use Rattle.zone_open.specs.Rooms.{filled_at}
 use Rattle.zone_open.specs.declared.changes.Change.{Change}
 
--- the change at a place is found, and is settled; or it isn't, and what is settled is settled behind it
+-- the change at a place is found, and is settled_changes; or it isn't, and what is settled_changes is settled_changes behind it
 abbrev pub IsChangeAt : List Change → ℕ → Option Change → Type 0
 IsChangeAt changes place (Some change) =
-    (slice_get changes place ≡ Some change) × (settled (drop place changes) ≡ change ∷ settled (drop (place + 1) changes))
-IsChangeAt changes place None = settled (drop place changes) ≡ settled (drop (place + 1) changes)
+    (slice_get changes place ≡ Some change) × (settled_changes (drop place changes) ≡ change ∷ settled_changes (drop (place + 1) changes))
+IsChangeAt changes place None = settled_changes (drop place changes) ≡ settled_changes (drop (place + 1) changes)
 
 abbrev pub how_many : Option Change → ℕ
 how_many (Some change) = 1

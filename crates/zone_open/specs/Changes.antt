@@ -11,14 +11,14 @@ abbrev pub change_of : Entry → Change
 change_of entry = record { second = entry.0; offset = total entry.1; saving = entry.1.dst_offset }
 
 -- of changes in the order of time, those behind which no other stands at the same second
-unfoldable pub settled : List Change → List Change
-settled [] = []
-settled (c ∷ []) = c ∷ []
-settled (c ∷ d ∷ cs) = if int_eq c.second d.second then settled (d ∷ cs) else c ∷ settled (d ∷ cs)
+unfoldable pub settled_changes : List Change → List Change
+settled_changes [] = []
+settled_changes (c ∷ []) = c ∷ []
+settled_changes (c ∷ d ∷ cs) = if int_eq c.second d.second then settled_changes (d ∷ cs) else c ∷ settled_changes (d ∷ cs)
 
 -- the changes of a set, in the order of time
 abbrev pub changes_of : FixedTimespanSet → List Change
-changes_of set = settled (map change_of set.others)
+changes_of set = settled_changes (map change_of set.others)
 
 -- from the first second on, and before the other
 abbrev pub is_within : ℤ → ℤ → Change → Bool

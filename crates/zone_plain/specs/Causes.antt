@@ -8,8 +8,6 @@ use Rattle.zone_plain_base.specs.LineFaults.{Refusal, bad_line, too_long}
 use Rattle.zone_plain.specs.Plain.{plain_of}
 use Rattle.zone_plain_base.specs.declared.error.PlainFault.{PlainFault}
 use Rattle.zone_plain_base.specs.declared.error.PlainFault.TheVariants as fault
-use Rattle.zone_plain.specs.declared.respond.Response.{Response}
-use Rattle.zone_plain.specs.declared.respond.Response.TheVariants.{Answer, Fault}
 
 -- what stands before the name of a cause
 abbrev pub group_of : PlainCause → List ℕ
@@ -45,9 +43,3 @@ abbrev pub IsFaultLine : PlainFault → List ℕ → Type 0
 IsFaultLine (fault.Line n c) bytes = bytes ≡ line_text n c ++ 10 ∷ []
 IsFaultLine fault.TooLong bytes = bytes ≡ codes "plain: too long" ++ 10 ∷ []
 IsFaultLine fault.NoMemory bytes = ⊥
-
--- what is due was found; or memory ran out
-abbrev pub IsResponse : {E : Type 0} → List ℕ → Result Response E → Type 0
-IsResponse source (Ok (Answer bytes)) = (cause source ≡ None) × (bytes.items ≡ due_bytes source)
-IsResponse source (Ok (Fault bytes)) = IsSome (cause source) × (bytes.items ≡ due_bytes source)
-IsResponse source (Err e) = Unit {0}

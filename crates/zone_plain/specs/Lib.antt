@@ -7,7 +7,6 @@ pub mod ReadBack
 pub mod WrittenLines
 pub mod Rebuilt
 pub mod Kept
-pub mod Files
 pub mod Causes
 pub mod Ends
 -- Laws: what a caller may use.

@@ -1,24 +1,14 @@
 //! The bytes that a run over a source is to write.
 ghost use Rattle.std.specs.Prelude.{◌≡◌, ◌≤◌, ◌++◌, ◌∷◌, [], length, IfOk};
-ghost use Rattle.zone_plain.specs.Causes.{IsResponse, IsFaultLine};
-ghost use Rattle.zone_plain.specs.Causes.{group_of, line_text};
-ghost use Rattle.zone_source.specs.FaultLines.{line_shown, IsShort};
+ghost use Rattle.zone_plain.specs.Causes.{IsFaultLine, cause, due_bytes, group_of, line_text};
+ghost use Rattle.zone_source.specs.Responses.{IsResponse};
 
 use crate::whole::plain;
 use std::alloc::{AllocError, Global};
 use zone_line::LineParser;
 use zone_plain_base::PlainFault;
 use zone_plain_lines::PlainCause;
-use zone_source::{FaultText, LIMIT, write_fault_line};
-
-/// What a run is to write.
-#[derive(Drop)]
-pub(crate) enum Response {
-    /// The plain form.
-    Answer(Vec<u8>),
-    /// The line of the first cause, with its LF.
-    Fault(Vec<u8>),
-}
+use zone_source::{FaultText, LIMIT, Response, fault_bytes};
 
 /// What is due for a source.
 pub(crate) fn respond(
@@ -27,7 +17,7 @@ pub(crate) fn respond(
     source: &[u8],
 ) -> Result<Response, AllocError>
     requires { length source.now ≤ LIMIT }
-    ensures { IsResponse source.now result }
+    ensures { IsResponse (cause source.now) (due_bytes source.now) result }
 {
     match plain(alloc, parser, source) {
         Ok(bytes) => Ok(Response::Answer(bytes)),
@@ -74,17 +64,5 @@ fn cause_line(alloc: Global, number: usize, cause: PlainCause) -> Result<Vec<u8>
         group: group_of(cause),
         cause: cause.name(),
     };
-    source_line(alloc, &text)
-}
-
-/// A line that tells a fault of a source, with its LF.
-fn source_line(alloc: Global, text: &FaultText) -> Result<Vec<u8>, AllocError>
-    requires { IsShort text.now }
-    ensures { IfOk result (λ line. line.items ≡ line_shown text.now ++ 10 ∷ []) }
-{
-    let mut shown = [0; 64];
-    let end = write_fault_line(text, &mut shown);
-    let mut line = Vec::new(alloc);
-    line.extend_from_slice(&shown[..end])?;
-    Ok(line)
+    fault_bytes(alloc, &text)
 }

@@ -1,14 +1,18 @@
 //! The run of the program.
-ghost use Rattle.std.specs.Prelude.{◌≡◌, ◌≢◌, ◌↔◌, ◌<◌, ◌≤◌, length, option_map, IfSome, IsNone};
+ghost use Rattle.std.specs.Prelude.{◌≡◌, ◌≢◌, ◌↔◌, ◌<◌, ◌≤◌, length, IfSome, IsNone};
 ghost use Rattle.std.specs.Option.{ForSome};
+ghost use Rattle.zone_source.specs.FileWords.{file_of};
+ghost use Rattle.zone_source.specs.Runs.{seen};
+ghost use Rattle.zone_source.specs.Statuses.{EndsBy, IsPastLimit};
 ghost use Rattle.zone_plain.specs.Causes.{cause};
-ghost use Rattle.zone_plain.specs.Ends.{Ends, EndsBy, IsPastLimit, seen};
-ghost use Rattle.zone_plain.specs.Files.{file_of};
+ghost use Rattle.zone_plain.specs.Ends.{Ends};
 
-use crate::respond::{Response, respond};
+use crate::respond::respond;
 use std::alloc::Global;
 use zone_line::LineParser;
-use zone_source::{LIMIT, Shelf, Sink, Status, SureShelf, SureSink, fetch_all, write_all};
+use zone_source::{
+    LIMIT, Response, Shelf, Sink, Status, SureShelf, SureSink, fetch_all, file_named, write_all,
+};
 
 /// Writes the plain form of the named source, or the line of the first cause.
 ///
@@ -25,7 +29,7 @@ pub fn run_plain<H: Shelf, O: Sink>(
     ensures { Ends (file_of words.now)
         (seen H.Source O.Sink shelf.old output.old) (seen H.Source O.Sink shelf.new output.new) result }
 {
-    let Some(file) = read_file(words) else {
+    let Some(file) = file_named(words) else {
         return Status::Words;
     };
     let source = match fetch_all(alloc, shelf, file) {
@@ -42,16 +46,6 @@ pub fn run_plain<H: Shelf, O: Sink>(
             Err(_) => Status::Write,
         },
         Err(_) => Status::NoMemory,
-    }
-}
-
-/// The name of the file, which is the one word.
-fn read_file(words: &[String]) -> Option<&str>
-    ensures { option_map (λ file. file.now) result ≡ file_of words.now }
-{
-    match words {
-        [file] => Some(file.as_str()),
-        _ => None,
     }
 }
 

@@ -1,16 +1,14 @@
 -- What is due, by what reading the source, compiling the zone and asking the program found.
-use Rattle.std.proofs.Common.{◌≡◌, ℕ, List, [], ◌∷◌, ◌++◌, cond, Option, Some, None, refl, sym, ap, subst, ◌∙◌, reverse, option_map, MatchOption, IsSome}
+use Rattle.std.proofs.Common.{◌≡◌, ℕ, List, [], ◌∷◌, ◌++◌, cond, Option, Some, None, refl, sym, ap, subst, ◌∙◌, option_map, MatchOption, IsSome}
 use Rattle.std.specs.Option.{option_map_or, option_or}
 use Rattle.std.specs.Prelude.{IsTrue}
 use Rattle.zone_source.specs.FaultLines.{source_line}
 use Rattle.zone_source.specs.Faults.{SourceFault, source_fault}
 use Rattle.zone_source.specs.Told.{told_by_source, TellsOfSource}
-use Rattle.zone_source.specs.Zones.{values_of, zone_in, rules_in}
+use Rattle.zone_source.specs.Zones.{values_of}
 use Rattle.zone_source.specs.declared.error.SourceError.{SourceError}
 use Rattle.zone_source.specs.declared.error.SourceError.TheVariants as source_error
-use Rattle.zone_spans.specs.Compiled.{compiled}
 use Rattle.zone_spans.specs.Schedules.{totals_of, is_in_offset_range}
-use Rattle.zone_table.specs.Resolved.{resolved_in-IsTableOf}
 use Rattle.zone_table.specs.Tables.{IsTableOf}
 use Rattle.zone_table.specs.declared.table.Table.{Table}
 use Rattle.tz_zone.specs.Compiles.{compiled_in, spans_of, IsCompiledAs, IsZoneFault}
@@ -19,8 +17,10 @@ use Rattle.tz_zone.specs.declared.compile.ZoneFault.{ZoneFault}
 use Rattle.tz_zone.specs.declared.compile.ZoneFault.TheVariants as zone
 use Rattle.tz_zone.specs.declared.set.FixedTimespanSet.{FixedTimespanSet}
 use Rattle.zone_run.specs.Causes.{Cause, of_source, of_program, offset_range, found_in, zone_cause, named, cause}
+use Rattle.zone_run.specs.FoundLaws.{found_is}
 use Rattle.zone_run.specs.Due.{answer, cause_line, due_bytes}
-use Rattle.zone_run.specs.Responses.{IsLineOf, cause_told}
+use Rattle.zone_run.specs.Responses.{cause_told}
+use Rattle.zone_source.specs.Responses.{IsLineOf}
 use Rattle.zone_run.specs.Tasks.{Task}
 
 -- the line of the cause is due
@@ -50,11 +50,6 @@ source_refuses label task source bytes error tells line = by_told (told_by_sourc
 pub record Read (source : List ℕ) (table : Table) : Type 0 where
   pub sound : source_fault source ≡ None
   pub joined : IsTableOf table (values_of source)
-
-found_is : (table : Table) (source name : List ℕ) → IsTableOf table (values_of source) → compiled_in table name ≡ found_in source name
-unfolding found_in zone_in rules_in
-found_is table source name is = λ i.
-    option_map (compiled (λ rules. is.rulesets rules i)) (resolved_in-IsTableOf table (reverse (values_of source)) is name i)
 
 -- the cause is then that of what the name finds
 cause_is : (task : Task) (source : List ℕ) (table : Table) → Read source table → cause task source ≡ zone_cause task (compiled_in table task.zone)

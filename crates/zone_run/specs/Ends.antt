@@ -1,69 +1,15 @@
--- How a run ends.
-use Rattle.std.specs.Prelude.{◌≡◌, ◌⊎◌, ◌↔◌, ℕ, ◌+◌, ◌<◌, ◌≤◌, List, [], length, Option, Some, None, IfSome, IsSome, IsNone}
-use Rattle.zone_outside.specs.Limit.{text_limit}
-use Rattle.zone_outside.specs.Outside.{Rose, TooMuch}
-use Rattle.zone_outside.specs.Seen.{ShelfSeen, OutputSeen, shelf_seen, output_seen, Grew, GrewBySome}
-use Rattle.zone_outside.specs.declared.outside.Source.{Ghosts as SourceOf}
-use Rattle.zone_outside.specs.declared.outside.Sink.{Ghosts as SinkOf}
+-- How a run ends of a program over one zone.
+use Rattle.std.specs.Prelude.{ℕ, List, Option}
+use Rattle.zone_source.specs.Runs.{Seen, Work, EndsOf}
 use Rattle.zone_source.specs.declared.status.Status.{Status}
-use Rattle.zone_source.specs.declared.status.Status.TheVariants as status
 use Rattle.zone_run.specs.Causes.{Cause, cause}
 use Rattle.zone_run.specs.Due.{due_bytes}
 use Rattle.zone_run.specs.Tasks.{Task}
 
--- what is seen of the outside of a run
-pub record Seen : Type 0 where
-  pub shelf : ShelfSeen
-  pub output : OutputSeen
-
-abbrev pub seen : {H O : Type 0} → SourceOf H → SinkOf O → H → O → Seen
-seen of_shelf of_output shelf output = record { shelf = shelf_seen of_shelf shelf; output = output_seen of_output output }
-
--- where the words are in the form and the shelf tells the text of the file
-abbrev pub IfTold : Option Task → Seen → (Task → List ℕ → Type 0) → Type 0
-IfTold task outside P = IfSome task (λ t. IfSome (outside.shelf.told t.file) (P t))
-
--- no count of faults rose
-pub record NoneFailed (before now : Seen) : Type 0 where
-  pub shelf : ¬ (Rose before.shelf.faults now.shelf.faults)
-  pub output : ¬ (Rose before.output.faults now.output.faults)
-
--- without a cause the answer was written, with one its line; or memory ran out
-abbrev pub EndsBy : Option Cause → Status → Type 0
-EndsBy None end = (end ≡ status.Done) ⊎ (end ≡ status.NoMemory)
-EndsBy (Some c) end = (end ≡ status.Fault) ⊎ (end ≡ status.NoMemory)
-
--- the text was too long, or memory ran out
-abbrev pub IsPastLimit : Status → Type 0
-IsPastLimit end = (end ≡ status.TooLong) ⊎ (end ≡ status.NoMemory)
-
--- something may be written by this status
-abbrev pub IsWritten : Status → Type 0
-IsWritten end = (end ≡ status.Done) ⊎ ((end ≡ status.Fault) ⊎ (end ≡ status.Write))
-
--- nothing is written by this status
-abbrev pub IsSilent : Status → Type 0
-IsSilent end = (end ≡ status.Words) ⊎ ((end ≡ status.Read) ⊎ ((end ≡ status.NoMemory) ⊎ (end ≡ status.TooLong)))
+-- what the program of this label does with a task
+abbrev pub work : List ℕ → Work Task Cause
+work label = record { file = λ task. task.file; cause = cause; due = due_bytes label }
 
 -- how a run of the program of this label ended, whose words ask this
-pub record Ends (label : List ℕ) (task : Option Task) (before now : Seen) (end : Status) : Type 0 where
-  -- 1 exactly where the words are in no form, and nothing is read or written
-  pub words : (end ≡ status.Words) ↔ IsNone task
-  pub untouched : end ≡ status.Words → now ≡ before
-  -- 0, 2 and 4: the text was read to its end before anything was written
-  pub ended : IsWritten end → IfTold task before (λ t source. now.shelf.left ≡ Some [])
-  -- 0: there is no cause, and the answer was written; 2: there is one, and its line was written
-  pub done : end ≡ status.Done → IfTold task before (λ t source. (cause t source ≡ None) × Grew before.output now.output (due_bytes label t source))
-  pub fault : end ≡ status.Fault → IfTold task before (λ t source. IsSome (cause t source) × Grew before.output now.output (due_bytes label t source))
-  -- 3 and 4: a call failed; 4 after a first part of what is due
-  pub read : end ≡ status.Read → Rose before.shelf.faults now.shelf.faults
-  pub write : end ≡ status.Write → Rose before.output.faults now.output.faults
-  pub prefix : end ≡ status.Write → IfTold task before (λ t source. GrewBySome before.output now.output (due_bytes label t source))
-  -- 6: too much was given; then nothing but 6 or want of memory is answered
-  pub too_long : end ≡ status.TooLong → TooMuch text_limit before.shelf.given now.shelf.given
-  pub too_much : before.shelf.given + text_limit < now.shelf.given → IsPastLimit end
-  -- nothing is written but by 0, 2 and 4
-  pub silent : IsSilent end → now.output ≡ before.output
-  -- where the text is told and no call fails, the status is by the cause or by the length, or memory ran out
-  pub complete : NoneFailed before now → IfTold task before (λ t source. length source ≤ text_limit → EndsBy (cause t source) end)
-  pub past_limit : NoneFailed before now → IfTold task before (λ t source. text_limit < length source → IsPastLimit end)
+abbrev pub Ends : List ℕ → Option Task → Seen → Seen → Status → Type 0
+Ends label task before now end = EndsOf (work label) task before now end

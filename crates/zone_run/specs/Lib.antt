@@ -5,5 +5,7 @@ pub mod Tasks
 pub mod Causes
 pub mod Due
 pub mod Ends
+-- Laws: what a caller may use.
+pub mod FoundLaws
 -- Words of private clauses.
 pub mod Responses

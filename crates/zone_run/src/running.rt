@@ -2,15 +2,19 @@
 ghost use Rattle.std.specs.Prelude.{◌≡◌, ◌≢◌, ◌⊎◌, ◌↔◌, ◌<◌, ◌≤◌, length, IfSome, IsNone};
 ghost use Rattle.std.specs.Option.{ForSome};
 ghost use Rattle.zone_run.specs.Causes.{cause};
-ghost use Rattle.zone_run.specs.Ends.{Ends, EndsBy, IsPastLimit, seen};
+ghost use Rattle.zone_run.specs.Ends.{Ends};
 ghost use Rattle.zone_run.specs.Tasks.{task_of};
+ghost use Rattle.zone_source.specs.Runs.{seen};
+ghost use Rattle.zone_source.specs.Statuses.{EndsBy, IsPastLimit};
 
 use crate::program::ZoneProgram;
-use crate::respond::{Response, respond};
+use crate::respond::respond;
 use crate::task::read_task;
 use std::alloc::Global;
 use zone_line::LineParser;
-use zone_source::{LIMIT, Shelf, Sink, Status, SureShelf, SureSink, fetch_all, write_all};
+use zone_source::{
+    LIMIT, Response, Shelf, Sink, Status, SureShelf, SureSink, fetch_all, write_all,
+};
 
 /// Writes what the program has to say of the named zone of the named source, or the line of the first cause.
 ///

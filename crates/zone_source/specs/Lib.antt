@@ -7,6 +7,9 @@ pub mod Faults
 pub mod FaultLines
 pub mod Told
 pub mod Statuses
+pub mod Responses
+pub mod FileWords
+pub mod Runs
 -- Laws: what a caller may use.
 pub mod LineLaws
 -- Words of private clauses.

@@ -1,5 +1,5 @@
--- The exit status of a program.
-use Rattle.std.specs.Prelude.{ℕ}
+-- The exit status of a program, and what it says.
+use Rattle.std.specs.Prelude.{◌≡◌, ◌⊎◌, ℕ, Option, Some, None}
 use Rattle.zone_outside.specs.declared.whole.ReadEnd.{ReadEnd}
 use Rattle.zone_outside.specs.declared.whole.ReadEnd.TheVariants as end
 use Rattle.zone_source.specs.declared.status.Status.{Status}
@@ -19,3 +19,20 @@ abbrev pub status_of : ReadEnd → Status
 status_of end.Failed = Read
 status_of end.TooLong = TooLong
 status_of end.NoMemory = NoMemory
+
+-- without a cause the answer was written, with one its line; or memory ran out
+abbrev pub EndsBy : {C : Type 0} → Option C → Status → Type 0
+EndsBy None end = (end ≡ Done) ⊎ (end ≡ NoMemory)
+EndsBy (Some c) end = (end ≡ Fault) ⊎ (end ≡ NoMemory)
+
+-- a text was too long, or memory ran out
+abbrev pub IsPastLimit : Status → Type 0
+IsPastLimit end = (end ≡ TooLong) ⊎ (end ≡ NoMemory)
+
+-- something may be written by this status
+abbrev pub IsWritten : Status → Type 0
+IsWritten end = (end ≡ Done) ⊎ ((end ≡ Fault) ⊎ (end ≡ Write))
+
+-- nothing is written by this status
+abbrev pub IsSilent : Status → Type 0
+IsSilent end = (end ≡ Words) ⊎ ((end ≡ Read) ⊎ ((end ≡ NoMemory) ⊎ (end ≡ TooLong)))

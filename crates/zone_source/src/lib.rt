@@ -1,26 +1,30 @@
 //! The source text of zones, read as a whole: its lines, the table that they join to, and the first fault of it.
 //!
-//! Programs over a source file stand on this crate: it also has the statuses that they end with and the lines that tell a
-//! fault, and it gives the outside on.
+//! Programs over a source file stand on this crate: it also has the statuses that they end with, how a run over one
+//! file ends, and the lines that tell a fault, and it gives the outside on.
 #![tactic(auto)]
 
 mod error;
 mod fault_line;
 mod line_list;
 pub mod lines;
+mod response;
 mod starting;
 mod status;
 mod table;
 mod text;
+mod words;
 
 pub use error::{BuildKind, SourceError};
 pub use fault_line::{FaultText, write_fault_line};
 pub use line_list::LineList;
 pub use lines::Lines;
+pub use response::{Response, fault_bytes, source_fault_bytes};
 pub use starting::{program_parser, program_words};
 pub use status::Status;
 pub use table::read_table;
 pub use text::text_of;
+pub use words::file_named;
 pub use zone_outside::{
     Failed, FileShelf, LIMIT, MemShelf, MemSink, MemSource, ReadEnd, Shelf, Sink, Source, StdSink,
     StdSource, SureShelf, SureSink, SureSource, fetch_all, read_all, write_all,

@@ -24,7 +24,7 @@ use Rattle.zone_source.specs.Zones.{values_of, zone_in}
 use Rattle.zone_spans.specs.Schedules.{totals_of, is_in_offset_range}
 use Rattle.zone_table.specs.Joined.{zone_of}
 use Rattle.zone_tree.specs.Entries.{file_or, zone_content, link_content, content_of, is_folder, said, entry_with, entry_by, entry_of}
-use Rattle.zone_tree.specs.Laws.{are_behind, IsTree}
+use Rattle.zone_tree.specs.TreeShape.{are_behind, IsTree}
 use Rattle.zone_tree.specs.Names.{Finds, finds_in, names_in, names_by, kept, archive_names}
 use Rattle.zone_tree.specs.Trees.{Refused, onto, entries_of, archive_of, tree_by, or_cause, after_source, tree_of}
 use Rattle.zone_tree.specs.declared.refusal.Why.{Why}

@@ -1,5 +1,5 @@
 -- The names of a table are those of its source, and find the same.
-use Rattle.std.proofs.Common.{◌≡◌, ℕ, Bool, true, false, List, [], ◌∷◌, ◌++◌, filter, reverse, cond, Option, Some, None, option_map, refl, sym, ap, ◌∙◌, append-nil}
+use Rattle.std.proofs.Common.{◌≡◌, ℕ, Bool, true, false, List, [], ◌∷◌, ◌++◌, filter, reverse, cond, Option, Some, None, refl, sym, ap, ◌∙◌, append-nil}
 use Rattle.std.specs.Prelude.{◌&&◌, ◌||◌, is_some, bytes_eq, option_and_then}
 use Rattle.std.specs.FinMap.{FinMap, get, keys, contains_key-keys, IsAntisymmetric, slice_cmp-IsAntisymmetric, nat_cmp-IsAntisymmetric}
 use Rattle.std.specs.List.{list_any, flat_map}
@@ -15,10 +15,8 @@ use Rattle.owned.specs.InOrderLaws.{RisesStrictly, same_rising, any-in_order, so
 use Rattle.owned.specs.Keyed.{text_cmp}
 use Rattle.owned.specs.Listed.{listed}
 use Rattle.tz_lookup.specs.Databases.{names_of, resolves}
-use Rattle.tz_zone.specs.Compiles.{compiled_in}
-use Rattle.zone_run.specs.Causes.{found_in}
-use Rattle.zone_source.specs.Zones.{values_of, zone_in, rules_in}
-use Rattle.zone_spans.specs.Compiled.{compiled}
+use Rattle.zone_run.specs.FoundLaws.{found_is}
+use Rattle.zone_source.specs.Zones.{values_of, zone_in}
 use Rattle.zone_table.specs.Joined.{zone_of, link_of, is_owner}
 use Rattle.zone_table.specs.Resolved.{resolved, resolved_in-IsTableOf}
 use Rattle.zone_table.specs.Tables.{IsTableOf}
@@ -206,15 +204,10 @@ names_same table source is =
     (flat_map names_by (reverse (values_of source)))
     (λ q h. among_keys table q (ap (λ test. test q) (one_test table source is) ∙ h)) (λ q h. among_names (reverse (values_of source)) q h)
 
-found_same : (table : Table) (source name : List ℕ) → IsTableOf table (values_of source) → compiled_in table name ≡ found_in source name
-unfolding found_in zone_in rules_in
-found_same table source name is =
-    λ i. option_map (compiled (λ rules. is.rulesets rules i)) (resolved_in-IsTableOf table (reverse (values_of source)) is name i)
-
 pub finds_same : (table : Table) (source : List ℕ) → IsTableOf table (values_of source) → finds_in_table table ≡ finds_in source
 finds_same table source is = λ i. record {
   names = names_same table source is i;
   is_zone = λ name. is_some (is.zonesets name i);
-  found = λ name. found_same table source name is i;
+  found = λ name. found_is table source name is i;
   target = λ name. is.links name i;
 }

@@ -1,6 +1,6 @@
 -- What is due, by what was found.
 use Rattle.std.proofs.Common.{◌≡◌, ℕ, List, [], ◌∷◌, ◌++◌, Option, Some, None, Ok, Err, IsSome, MatchOption, refl, sym, ap, ◌∙◌, subst}
-use Rattle.zone_run.specs.Responses.{IsLineOf}
+use Rattle.zone_source.specs.Responses.{IsLineOf}
 use Rattle.zone_source.specs.FaultLines.{source_line}
 use Rattle.zone_source.specs.Faults.{SourceFault}
 use Rattle.zone_source.specs.Told.{told_by_source}

@@ -11,7 +11,7 @@ use Rattle.zone_spans.specs.Schedules.{totals_of}
 use Rattle.zone_spans.specs.declared.fault.SpanFault.TheVariants as span
 use Rattle.zone_spans.specs.declared.span.FixedTimespanSet as spans
 use Rattle.zone_tree.specs.Entries.{file_or, zone_content, link_content, is_folder, said, entry_by, entry_of}
-use Rattle.zone_tree.specs.Laws.{are_behind}
+use Rattle.zone_tree.specs.TreeShape.{are_behind}
 use Rattle.zone_tree.specs.Names.{Finds, archive_names}
 use Rattle.zone_tree.specs.Trees.{entries_of, refused, tree_by}
 use Rattle.zone_tree.specs.declared.refusal.Why.TheVariants.{Schedule, OffsetRange, File, Name, Size}

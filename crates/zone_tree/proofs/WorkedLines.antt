@@ -2,9 +2,9 @@
 use Rattle.std.proofs.Common.{◌≡◌, [], ◌∷◌, ◌++◌, map, replicate, codes, Some, None, Ok, Err, refl}
 use Rattle.std.specs.Fmt.{digits}
 use Rattle.zone_source.specs.Faults.{not_text}
+use Rattle.zone_source.specs.FileWords.{file_in}
 use Rattle.zone_spans.specs.declared.fault.SpanFault.TheVariants as span
 use Rattle.zone_tree.specs.Causes.{name_line, cause_line, cause_in, bytes_for}
-use Rattle.zone_tree.specs.Files.{file_in}
 use Rattle.zone_tree.specs.Trees.{of_source, of_name, refused, after_source}
 use Rattle.zone_tree.specs.declared.refusal.Why.TheVariants.{Schedule, OffsetRange, File, Name, Size}
 use Rattle.zone_tzif_core.specs.declared.values.WriteFault.TheVariants as write

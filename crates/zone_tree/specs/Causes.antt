@@ -5,8 +5,6 @@ use Rattle.zone_source.specs.FaultLines.{source_line}
 use Rattle.zone_tree.specs.Refusals.{group_of, word_of}
 use Rattle.zone_tree.specs.Trees.{Cause, of_source, of_name, tree_of}
 use Rattle.zone_tree.specs.declared.refusal.Why.{Why}
-use Rattle.zone_tree.specs.declared.respond.Response.{Response}
-use Rattle.zone_tree.specs.declared.respond.Response.TheVariants.{Answer, Fault}
 
 -- `tree Europe/Paris: schedule MissingUntil`: the name's first 255 bytes, and why it has no entry
 abbrev pub name_line : List ℕ → Why → List ℕ
@@ -31,9 +29,3 @@ bytes_for (Err c) = cause_line c ++ 10 ∷ []
 -- the archive, or the line of the cause and a line feed
 unfoldable pub due_bytes : List ℕ → List ℕ
 due_bytes source = bytes_for (tree_of source)
-
--- what is due was found; or memory ran out
-abbrev pub IsResponse : {E : Type 0} → List ℕ → Result Response E → Type 0
-IsResponse source (Ok (Answer bytes)) = (cause source ≡ None) × (bytes.items ≡ due_bytes source)
-IsResponse source (Ok (Fault bytes)) = IsSome (cause source) × (bytes.items ≡ due_bytes source)
-IsResponse source (Err e) = Unit {0}

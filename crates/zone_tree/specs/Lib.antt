@@ -1,9 +1,9 @@
+-- Definitions: what public clauses say.
 pub mod Names
 pub mod Refusals
 pub mod Entries
 pub mod Trees
-pub mod Laws
+pub mod TreeShape
 pub mod Told
-pub mod Files
 pub mod Causes
 pub mod Ends

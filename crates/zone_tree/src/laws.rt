@@ -1,6 +1,6 @@
 //! Laws of the archives of sources.
 ghost use Rattle.std.specs.Prelude.{◌≡◌, ℕ, List, Ok};
-ghost use Rattle.zone_tree.specs.Laws.{IsTree};
+ghost use Rattle.zone_tree.specs.TreeShape.{IsTree};
 ghost use Rattle.zone_tree.specs.Trees.{tree_of};
 
 /// In the archive of a source a name has an entry exactly where it finds a zone, so no zone is left out and no link to one, and a

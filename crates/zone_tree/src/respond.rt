@@ -1,24 +1,13 @@
 //! The bytes that a run over a source is to write.
 ghost use Rattle.std.specs.Prelude.{◌≡◌, ◌≤◌, ◌++◌, ◌∷◌, [], length, take, IfOk};
-ghost use Rattle.zone_run.specs.Responses.{IsLineOf};
-ghost use Rattle.zone_source.specs.FaultLines.{source_line as source_text, line_shown, IsShort};
-ghost use Rattle.zone_source.specs.Told.{told_by_source};
-ghost use Rattle.zone_tree.specs.Causes.{IsResponse, name_line};
+ghost use Rattle.zone_source.specs.Responses.{IsResponse};
+ghost use Rattle.zone_tree.specs.Causes.{cause, due_bytes, name_line};
 
 use crate::refusal::{TreeFault, Why};
 use crate::whole::tree;
 use std::alloc::{AllocError, Global};
 use zone_line::LineParser;
-use zone_source::{FaultText, LIMIT, SourceError, write_fault_line};
-
-/// What a run is to write.
-#[derive(Drop)]
-pub(crate) enum Response {
-    /// The archive.
-    Answer(Vec<u8>),
-    /// The line of the first cause, with its LF.
-    Fault(Vec<u8>),
-}
+use zone_source::{LIMIT, Response, source_fault_bytes};
 
 /// What is due for a source.
 pub(crate) fn respond(
@@ -27,38 +16,16 @@ pub(crate) fn respond(
     source: &[u8],
 ) -> Result<Response, AllocError>
     requires { length source.now ≤ LIMIT }
-    ensures { IsResponse source.now result }
+    ensures { IsResponse (cause source.now) (due_bytes source.now) result }
 {
     match tree(alloc, parser, source) {
         Ok(bytes) => Ok(Response::Answer(bytes)),
-        Err(TreeFault::Source(error)) => Ok(Response::Fault(source_fault(alloc, &error)?)),
+        Err(TreeFault::Source(error)) => Ok(Response::Fault(source_fault_bytes(alloc, &error)?)),
         Err(TreeFault::Refused(name, why)) => {
             Ok(Response::Fault(name_fault(alloc, name.as_str(), why)?))
         }
         Err(TreeFault::NoMemory) => Err(AllocError),
     }
-}
-
-/// The line of a source's fault, with its LF.
-fn source_fault(alloc: Global, error: &SourceError) -> Result<Vec<u8>, AllocError>
-    ensures { IfOk result (λ line. IsLineOf source_text (told_by_source error.now) line.items) }
-{
-    match FaultText::of_source(error) {
-        Some(text) => source_line(alloc, &text),
-        None => Err(AllocError),
-    }
-}
-
-/// A line that tells a fault of a source, with its LF.
-fn source_line(alloc: Global, text: &FaultText) -> Result<Vec<u8>, AllocError>
-    requires { IsShort text.now }
-    ensures { IfOk result (λ line. line.items ≡ line_shown text.now ++ 10 ∷ []) }
-{
-    let mut shown = [0; 64];
-    let end = write_fault_line(text, &mut shown);
-    let mut line = Vec::new(alloc);
-    line.extend_from_slice(&shown[..end])?;
-    Ok(line)
 }
 
 /// The first 255 bytes of a name.

@@ -2,7 +2,9 @@
 ghost use Rattle.std.specs.Prelude.{◌≡◌, ◌≢◌, ◌↔◌, ◌<◌, ◌≤◌, length, codes, IfSome, IsNone};
 ghost use Rattle.std.specs.Option.{ForSome};
 ghost use Rattle.zone_run.specs.Causes.{cause};
-ghost use Rattle.zone_run.specs.Ends.{Ends, EndsBy, IsPastLimit, seen};
+ghost use Rattle.zone_run.specs.Ends.{Ends};
+ghost use Rattle.zone_source.specs.Runs.{seen};
+ghost use Rattle.zone_source.specs.Statuses.{EndsBy, IsPastLimit};
 ghost use Rattle.zone_run.specs.Tasks.{task_of};
 ghost use Rattle.zone_tzif.specs.Asks.{asks, form};
 

@@ -1,3 +1,4 @@
+-- Definitions: what public clauses say.
 pub mod Answers
 pub mod Causes
 pub mod Moves

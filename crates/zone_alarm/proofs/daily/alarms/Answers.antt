@@ -1,7 +1,7 @@
 use Rattle.std.proofs.Common.{[], ◌∷◌, ◌++◌, map, ap, ◌∙◌, sym, subst}
 use Rattle.std.specs.Prelude.{All, AllPairs}
 use Rattle.std.proofs.lemmas.List.{map-append}
-use Rattle.zone_alarm.specs.Laws.{AreApart, RingsOnce}
+use Rattle.zone_alarm.specs.RingsOnce.{AreApart, RingsOnce}
 use Rattle.zone_alarm.specs.Rings.{day_ring, rings}
 use Rattle.zone_alarm.specs.Shown.{ring_shown}
 use Rattle.zone_alarm.proofs.OnceLemmas.{all_once, all_apart}

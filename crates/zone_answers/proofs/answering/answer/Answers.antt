@@ -5,7 +5,9 @@ use Rattle.zone_answers.specs.Due.{answer_text, shown_at}
 use Rattle.zone_answers.specs.Faults.{range}
 use Rattle.zone_answers.specs.Found.{found_in_table}
 use Rattle.zone_answers.specs.Opened.{table_of}
-use Rattle.zone_answers.proofs.RefusalLemmas.{asks, not_text_refused, bad_request_refused, refusal_is, line_is, zone_refusal, dates_refusal, schedule_is}
+use Rattle.zone_answers.specs.AskedLaws.{asks}
+use Rattle.zone_answers.specs.Requests.{request_of}
+use Rattle.zone_answers.proofs.RefusalLemmas.{not_text_refused, bad_request_refused, refusal_is, line_is, zone_refusal, dates_refusal, schedule_is}
 use Rattle.zone_answers.proofs.answering.answer.Goals as goal
 
 pub returns-in_default-clause-err : goal.returns-in_default-clause-err
@@ -21,7 +23,7 @@ pub returns-in-Err-clause-err : goal.returns-in-Err-clause-err
 returns-in-Err-clause-err c =
     let text = c.in-Some.ensures.text in
     let request = c.in-Some-read.request in
-    let reads = asks c.args.line.now c.in-Some.asked.now request text.1 text.0 c.in-Some-read.ensures in
+    let reads = asks request_of c.args.line.now c.in-Some.asked.now (asked request) text.1 text.0 c.in-Some-read.ensures in
     rw (refusal_is (found_in_table (table_of c.args.zones.now)) c.args.number c.args.line.now (asked request) reads, ← c.name.ensures)
     (zone_refusal _ c.args.number (asked request) c.in-Err.fault _ c.in-Err.ensures.err c.of_zone.ensures)
 
@@ -29,7 +31,7 @@ pub returns-in-Ok-true-clause-accepted : goal.returns-in-Ok-true-clause-accepted
 returns-in-Ok-true-clause-accepted c =
     let text = c.in-Some.ensures.text in
     let request = c.in-Some-read.request in
-    let reads = asks c.args.line.now c.in-Some.asked.now request text.1 text.0 c.in-Some-read.ensures in
+    let reads = asks request_of c.args.line.now c.in-Some.asked.now (asked request) text.1 text.0 c.in-Some-read.ensures in
     let zone = c.find-zone.result in
     let found = rw (c.in_default-open.ensures.same, c.name-2.ensures) at c.find-zone.ensures in
     refusal_is (found_in_table (table_of c.args.zones.now)) c.args.number c.args.line.now (asked request) reads
@@ -41,7 +43,7 @@ pub returns-in-Ok-true-clause-text : goal.returns-in-Ok-true-clause-text
 returns-in-Ok-true-clause-text c =
     let text = c.in-Some.ensures.text in
     let request = c.in-Some-read.request in
-    let reads = asks c.args.line.now c.in-Some.asked.now request text.1 text.0 c.in-Some-read.ensures in
+    let reads = asks request_of c.args.line.now c.in-Some.asked.now (asked request) text.1 text.0 c.in-Some-read.ensures in
     let zone = c.find-zone.result in
     let found = rw (c.in_default-open.ensures.same, c.name-2.ensures) at c.find-zone.ensures in
     c.in-Ok-true.ensures.line c.in-Ok-true.field-0-test
@@ -52,7 +54,7 @@ pub returns-in-Ok-false-clause-err : goal.returns-in-Ok-false-clause-err
 returns-in-Ok-false-clause-err c =
     let text = c.in-Some.ensures.text in
     let request = c.in-Some-read.request in
-    let reads = asks c.args.line.now c.in-Some.asked.now request text.1 text.0 c.in-Some-read.ensures in
+    let reads = asks request_of c.args.line.now c.in-Some.asked.now (asked request) text.1 text.0 c.in-Some-read.ensures in
     let zone = c.find-zone.result in
     let found = rw (c.in_default-open.ensures.same, c.name-2.ensures) at c.find-zone.ensures in
     refusal_is (found_in_table (table_of c.args.zones.now)) c.args.number c.args.line.now (asked request) reads

@@ -3,7 +3,9 @@ use Rattle.tz_tzif.specs.InForce.{total_at}
 use Rattle.tz_tzif.specs.Zones.{value_of, says_of}
 use Rattle.zone_file_answers.specs.Asked.{asked}
 use Rattle.zone_file_answers.specs.Faults.{range}
-use Rattle.zone_file_answers.proofs.RefusalLemmas.{asks, not_text_refused, bad_request_refused, refusal_is, line_is}
+use Rattle.zone_answers.specs.AskedLaws.{asks}
+use Rattle.zone_file_answers.specs.Requests.{request_of}
+use Rattle.zone_file_answers.proofs.RefusalLemmas.{not_text_refused, bad_request_refused, refusal_is, line_is}
 use Rattle.zone_file_answers.proofs.answering.answer.Goals as goal
 
 pub returns-in_default-clause-err : goal.returns-in_default-clause-err
@@ -18,7 +20,7 @@ pub returns-in-Ok-true-clause-accepted : goal.returns-in-Ok-true-clause-accepted
 returns-in-Ok-true-clause-accepted c =
     let text = c.in-Some.ensures.text in
     let request = c.in-Some-read.request in
-    let reads = asks c.args.line.now c.in-Some.asked.now request text.1 text.0 c.in-Some-read.ensures in
+    let reads = asks request_of c.args.line.now c.in-Some.asked.now (asked request) text.1 text.0 c.in-Some-read.ensures in
     refusal_is (total_at (value_of c.args.zone.now) (says_of c.args.zone.now)) c.args.number c.args.line.now (asked request) reads
     ∙ ap (λ b. cond b None (Some (range c.args.number))) (sym c.in-Ok-true.ensures.dates ∙ c.in-Ok-true.field-0-test)
 
@@ -26,7 +28,7 @@ pub returns-in-Ok-true-clause-text : goal.returns-in-Ok-true-clause-text
 returns-in-Ok-true-clause-text c =
     let text = c.in-Some.ensures.text in
     let request = c.in-Some-read.request in
-    let reads = asks c.args.line.now c.in-Some.asked.now request text.1 text.0 c.in-Some-read.ensures in
+    let reads = asks request_of c.args.line.now c.in-Some.asked.now (asked request) text.1 text.0 c.in-Some-read.ensures in
     c.in-Ok-true.ensures.line c.in-Ok-true.field-0-test
     ∙ sym (line_is (total_at (value_of c.args.zone.now) (says_of c.args.zone.now)) c.args.line.now (asked request) reads)
 
@@ -34,6 +36,6 @@ pub returns-in-Ok-false-clause-err : goal.returns-in-Ok-false-clause-err
 returns-in-Ok-false-clause-err c =
     let text = c.in-Some.ensures.text in
     let request = c.in-Some-read.request in
-    let reads = asks c.args.line.now c.in-Some.asked.now request text.1 text.0 c.in-Some-read.ensures in
+    let reads = asks request_of c.args.line.now c.in-Some.asked.now (asked request) text.1 text.0 c.in-Some-read.ensures in
     refusal_is (total_at (value_of c.args.zone.now) (says_of c.args.zone.now)) c.args.number c.args.line.now (asked request) reads
     ∙ ap (λ b. cond b None (Some (range c.args.number))) (sym c.in-Ok-false.ensures.dates ∙ c.in-Ok-false.field-0-test)

@@ -1,4 +1,4 @@
--- What the words of a run ask.
+-- What the words of a run over one file ask.
 use Rattle.std.specs.Prelude.{ℕ, List, [], ◌∷◌, map, String, string_bytes, Option, Some, None}
 use Rattle.std.specs.declared.alloc.Global.{Global}
 

@@ -1,0 +1,14 @@
+-- What was found to be due of a text.
+use Rattle.std.specs.Prelude.{◌≡◌, ℕ, List, [], ◌∷◌, ◌++◌, Option, None, Result, Ok, Err, IsSome, IsSomeAnd}
+use Rattle.zone_source.specs.declared.response.Response.{Response}
+use Rattle.zone_source.specs.declared.response.Response.TheVariants.{Answer, Fault}
+
+-- something is told, and the bytes are its line and a line feed
+abbrev pub IsLineOf : {C : Type 0} → (C → List ℕ) → Option C → List ℕ → Type 0
+IsLineOf line told bytes = IsSomeAnd told (λ c. bytes ≡ line c ++ 10 ∷ [])
+
+-- what is due was found: the answer where there is no cause, and the line of the cause where there is one; or memory ran out
+abbrev pub IsResponse : {C E : Type 0} → Option C → List ℕ → Result Response E → Type 0
+IsResponse cause due (Ok (Answer bytes)) = (cause ≡ None) × (bytes.items ≡ due)
+IsResponse cause due (Ok (Fault bytes)) = IsSome cause × (bytes.items ≡ due)
+IsResponse cause due (Err e) = Unit {0}
