@@ -2,7 +2,7 @@ use Rattle.zone_run.proofs.RespondLemmas.{source_refuses, zone_refuses, program_
 use Rattle.zone_run.proofs.respond.respond.Goals as goal
 
 pub returns-in-Err : goal.returns-in-Err
-returns-in-Err g c = source_refuses _ _ c.args.source.now _ c.in-Err.error c.in-Err.ensures.err c.in_ok-source_fault-in-Err.ensures
+returns-in-Err g c = source_refuses _ _ c.args.source.now _ c.in-Err.error c.in-Err.ensures.err c.in_ok-source_fault_bytes-in-Err.ensures
 
 pub returns-in-Err-compile_zone : goal.returns-in-Err-compile_zone
 returns-in-Err-compile_zone g c =

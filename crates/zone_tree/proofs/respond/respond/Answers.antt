@@ -7,11 +7,11 @@ use Rattle.zone_tree.proofs.respond.respond.Goals as goal
 pub returns-in-Ok : goal.returns-in-Ok
 returns-in-Ok c = answered _ _ c.in-Ok.ensures.ok
 
-pub returns-in_ok-source_fault-in-Err-Source : goal.returns-in_ok-source_fault-in-Err-Source
-returns-in_ok-source_fault-in-Err-Source c =
+pub returns-in_ok-source_fault_bytes-in-Err-Source : goal.returns-in_ok-source_fault_bytes-in-Err-Source
+returns-in_ok-source_fault_bytes-in-Err-Source c =
     source_refused c.args.source.now _ c.in-Err-Source.error
     (subst (IsFaultOf (tree_of c.args.source.now)) c.in-Err-Source.field-0-is c.in-Err-Source.ensures.err)
-    c.in_ok-source_fault-in-Err-Source.ensures
+    c.in_ok-source_fault_bytes-in-Err-Source.ensures
 
 pub returns-in_ok-name_fault-in-Err-Refused : goal.returns-in_ok-name_fault-in-Err-Refused
 returns-in_ok-name_fault-in-Err-Refused c =
