@@ -1,5 +1,5 @@
 -- The entries of a hashed map and those of its finite map are the same, in another order.
-use Rattle.std.proofs.Common.{◌≡◌, Bool, true, false, not, List, [], ◌∷◌, map, Option}
+use Rattle.std.proofs.Common.{◌≡◌, Bool, false, not, List, [], ◌∷◌, map, Option}
 use Rattle.std.proofs.Common.{Some, None, cond, refl, sym, ap, ◌∙◌, subst, string_bytes, length, arith}
 use Rattle.std.specs.declared.cmp.Ordering.{Ordering}
 use Rattle.std.specs.declared.cmp.Ordering.TheVariants.{Less, Equal, Greater}
@@ -7,8 +7,7 @@ use Rattle.std.specs.declared.string.String.{String}
 use Rattle.std.specs.Cmp.Lexicographic.{nat_list_cmp_total}
 use Rattle.std.specs.FinMap.{empty, entries, entries-insert, get-entries, get-from_entries, len-entries, len-empty, find, put}
 use Rattle.std.specs.FinMap.Entries.{by_order}
-use Rattle.std.specs.Prelude.{◌||◌, ◌&&◌}
-use Rattle.std.specs.List.{AllByRecursion, IsDistinct, list_all, list_any}
+use Rattle.std.specs.List.{AllByRecursion, IsDistinct, list_all}
 use Rattle.std.specs.List.Sorted.{IsPermutation}
 use Rattle.std.specs.Map.{keys_of}
 use Rattle.std.specs.Ordering.{is_eq}
@@ -18,6 +17,7 @@ use Rattle.std.proofs.lemmas.List.Sorted.{IsPermutation-cons, IsPermutation-midd
 use Rattle.std.proofs.lemmas.Map.Keys.{IsDistinct-head, IsDistinct-tail}
 use Rattle.std.proofs.lemmas.Map.Text.{is_eq-slice_cmp}
 use Rattle.owned.specs.Keyed.{text_cmp, keyed, by_bytes}
+use Rattle.owned.specs.TestLaws.{all_by_any}
 
 nothing : {A : Type 0} (xs : List A) → length xs ≡ 0 → [] ≡ xs
 nothing [] e = refl
@@ -66,12 +66,6 @@ pub values-by_bytes : {Y X : Type 0} (es : List (String Y × X)) → map (λ e. 
 values-by_bytes [] = refl
 values-by_bytes (e ∷ es) = ap (λ vs. e.1 ∷ vs) (values-by_bytes es)
 
-negated : {X : Type 0} (test : X → Bool) (xs : List X) → list_all test xs ≡ not (list_any (λ x. not (test x)) xs)
-negated test [] = refl
-negated test (x ∷ xs) =
-    elim (test x) as (λ b. (b && list_all test xs)
-    ≡ not (not b || list_any (λ x. not (test x)) xs)) [ true ↦ negated test xs | false ↦ refl ]
-
 -- a test passes at each item whatever their order
 pub list_all-permuted : {X : Type 0} (test : X → Bool) (xs ys : List X) → IsPermutation xs ys → list_all test xs ≡ list_all test ys
-list_all-permuted test xs ys h = negated test xs ∙ ap not (list_any-IsPermutation (λ x. not (test x)) xs ys h) ∙ sym (negated test ys)
+list_all-permuted test xs ys h = all_by_any test xs ∙ ap not (list_any-IsPermutation (λ x. not (test x)) xs ys h) ∙ sym (all_by_any test ys)

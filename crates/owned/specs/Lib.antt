@@ -8,3 +8,4 @@ pub mod Sorted
 pub mod InOrderLaws
 pub mod KeyedLaws
 pub mod SortedLaws
+pub mod TestLaws

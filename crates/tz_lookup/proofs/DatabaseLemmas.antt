@@ -23,6 +23,7 @@ use Rattle.std.proofs.lemmas.Map.Text.{is_eq-slice_cmp}
 use Rattle.owned.specs.InOrder.{in_order}
 use Rattle.owned.specs.InOrderLaws.{same_in_order, any-in_order, tagged, RisesStrictly, less}
 use Rattle.owned.specs.Keyed.{text_cmp}
+use Rattle.owned.specs.TestLaws.{all_by_any}
 use Rattle.zone_spans.specs.declared.fault.SpanFault.{SpanFault}
 use Rattle.zone_table.specs.declared.table.Table.{Table}
 use Rattle.zone_spans.specs.Schedules.{is_in_offset_range}
@@ -119,15 +120,6 @@ bad_offset table name text named refused =
     ∙ (λ i. Some (sym named i, zone_fault.OffsetRange))
 
 -- ---- names that all find a zone
-
--- all pass where none fails
-all_by_any : {K : Type 0} (p : K → Bool) (xs : List K) → list_all p xs ≡ not (list_any (λ x. not (p x)) xs)
-all_by_any p [] = refl
-all_by_any p (x ∷ xs) =
-    elim (p x) as (λ b. (b && list_all p xs) ≡ not (not b || list_any (λ y. not (p y)) xs)) [
-      | true ↦ all_by_any p xs
-      | false ↦ refl
-    ]
 
 none_fails : (a : Bool) → (a && not a) ≡ false
 none_fails true = refl

@@ -7,6 +7,7 @@ use Rattle.std.specs.List.{list_any}
 use Rattle.std.specs.Option.{option_or}
 use Rattle.std.specs.Ordering.{eq_by_cmp, is_eq}
 use Rattle.std.specs.Str.{bytes_eq}
+use Rattle.std.proofs.Math.Bool.{and-false, and-or_distrib_left, and-true}
 use Rattle.std.proofs.lemmas.List.Folds.{list_any-append}
 use Rattle.owned.specs.InOrderLaws.{any-in_order}
 use Rattle.owned.specs.Keyed.{text_cmp}
@@ -71,39 +72,23 @@ module _ (table : Table) (name existing : List ℕ) where
 same_test : (p : List ℕ → Bool) (name x : List ℕ) → (p x && eq_by_cmp text_cmp name x) ≡ (p name && eq_by_cmp text_cmp name x)
 same_test p name x =
     elim (text_cmp name x) as (λ r. text_cmp name x ≡ r → (p x && is_eq r) ≡ (p name && is_eq r)) [
-      | Less ↦ λ e. nothing_more (p x) ∙ sym (nothing_more (p name))
+      | Less ↦ λ e. and-false (p x) ∙ sym (and-false (p name))
       | Equal ↦ λ e. ap (λ n. p n && true) (sym (text_same name x e))
-      | Greater ↦ λ e. nothing_more (p x) ∙ sym (nothing_more (p name))
+      | Greater ↦ λ e. and-false (p x) ∙ sym (and-false (p name))
     ] refl
-  where
-    nothing_more : (b : Bool) → (b && false) ≡ false
-    nothing_more true = refl
-    nothing_more false = refl
 
 any-same : (p : List ℕ → Bool) (name : List ℕ) (xs : List (List ℕ))
     → list_any (λ x. p x && eq_by_cmp text_cmp name x) xs ≡ (p name && list_any (eq_by_cmp text_cmp name) xs)
-any-same p name [] = no_more (p name)
-  where
-    no_more : (b : Bool) → false ≡ (b && false)
-    no_more true = refl
-    no_more false = refl
+any-same p name [] = sym (and-false (p name))
 any-same p name (x ∷ xs) =
-    (λ i. same_test p name x i || any-same p name xs i) ∙ both (p name) (eq_by_cmp text_cmp name x) (list_any (eq_by_cmp text_cmp name) xs)
-  where
-    both : (a b c : Bool) → ((a && b) || (a && c)) ≡ (a && (b || c))
-    both true b c = refl
-    both false b c = refl
+    (λ i. same_test p name x i || any-same p name xs i) ∙ sym (and-or_distrib_left (p name) (eq_by_cmp text_cmp name x) (list_any (eq_by_cmp text_cmp name) xs))
 
 -- what is found is found under a zone's name or a link's
 only_keys : {Z : Type 0} (zone : Option Z) (link : Option (List ℕ)) (find : List ℕ → Option Z)
     → (is_some (option_or zone (option_and_then find link)) && (is_some zone || is_some link)) ≡ is_some (option_or zone (option_and_then find link))
 only_keys (Some zone) link find = refl
 only_keys None None find = refl
-only_keys None (Some existing) find = and_true (is_some (find existing))
-  where
-    and_true : (b : Bool) → (b && true) ≡ b
-    and_true true = refl
-    and_true false = refl
+only_keys None (Some existing) find = and-true (is_some (find existing))
 
 -- a name is among a table's names exactly where it finds a zone
 each_that_resolves : (table : Table) (name : List ℕ) → list_any (eq_by_cmp text_cmp name) (names_of table) ≡ resolves table name

@@ -1,6 +1,6 @@
 -- The entries of a year lie between the counts of two years.
 use Rattle.std.proofs.Common.{◌≡◌, ℕ, zero, suc, ◌+◌, ◌-◌, ◌*◌, ◌<◌, ◌≤◌, Bool, true, false, cond, List, [], ◌∷◌, ◌++◌, length, map, get_or, nat_eq, nat_lt, filter, ℤ, pos, ◌-ℤ◌, ◌≤ℤ◌, ◌<ℤ◌, refl, sym, ap, ◌∙◌, subst, ⊎_elim, arith}
-use Rattle.std.proofs.lemmas.Bool.{cases_lt}
+use Rattle.std.proofs.lemmas.Bool.{cases_lt, lt-ltb}
 use Rattle.std.proofs.lemmas.Bool.Decides.{nat_tests}
 use Rattle.std.proofs.lemmas.Int.{ints}
 use Rattle.std.proofs.lemmas.List.{length-map}
@@ -32,10 +32,7 @@ opposed : (a b c : ℤ) → a ≤ℤ b → b ≤ℤ c → c <ℤ a → ⊥
 opposed a b c h k l = omega (arith, ints, h, k, l)
 
 at_place : (n : ℕ) (a b : ℕ) → n < 301 → cond (nat_lt n 301) a b ≡ a
-at_place n a b l = ap (λ t. cond t a b) (passes n 301 l)
-  where
-    passes : (m n : ℕ) → m < n → nat_lt m n ≡ true
-    passes m n l = grind (arith, nat_tests)
+at_place n a b l = ap (λ t. cond t a b) (lt-ltb n 301 l)
 
 past : (a b : ℕ) → cond (nat_lt 301 301) a b ≡ b
 past a b = refl

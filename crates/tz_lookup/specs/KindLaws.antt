@@ -3,6 +3,7 @@ use Rattle.std.specs.Prelude.{◌≡◌, Bool, true, false, cond, ◌&&◌, ◌|
 use Rattle.std.specs.List.{list_any}
 use Rattle.std.specs.Ordering.{int_eq}
 use Rattle.std.proofs.Common.{refl, sym, ap, ◌∙◌}
+use Rattle.std.proofs.Math.Bool.{or-false, or_assoc}
 use Rattle.std.proofs.lemmas.Bool.{and_parts, or_parts}
 use Rattle.std.proofs.lemmas.Slice.Eq.{bytes_eq-Decides}
 use Rattle.calendar.specs.Orders.{eq_from_pass, eq_itself}
@@ -28,26 +29,18 @@ kind_itself a =
 abbrev pub is_among : FixedTimespan → List FixedTimespan → Bool
 is_among kind kinds = list_any (is_same_kind kind) kinds
 
-or_false : (a : Bool) → (a || false) ≡ a
-or_false true = refl
-or_false false = refl
-
-or_or : (a b c : Bool) → ((a || b) || c) ≡ (a || (b || c))
-or_or true b c = refl
-or_or false b c = refl
-
 among_more : (kind more : FixedTimespan) (kinds : List FixedTimespan) → is_among kind (kinds ++ more ∷ []) ≡ (is_among kind kinds || is_same_kind kind more)
-among_more kind more [] = or_false (is_same_kind kind more)
+among_more kind more [] = or-false (is_same_kind kind more)
 among_more kind more (k ∷ kinds) =
     ap (λ b. is_same_kind kind k || b) (among_more kind more kinds)
-    ∙ sym (or_or (is_same_kind kind k) (is_among kind kinds) (is_same_kind kind more))
+    ∙ sym (or_assoc (is_same_kind kind k) (is_among kind kinds) (is_same_kind kind more))
 
 -- where one of them is added, they and that one are there
 among_with : (kind more : FixedTimespan) (kinds : List FixedTimespan) → is_among kind (with_kind kinds more) ≡ (is_among kind kinds || is_same_kind kind more)
 among_with kind more kinds = by_test (is_among more kinds) refl
   where
     there : (b : Bool) → is_same_kind kind more ≡ b → is_among more kinds ≡ true → is_among kind kinds ≡ (is_among kind kinds || b)
-    there false e among = sym (or_false (is_among kind kinds))
+    there false e among = sym (or-false (is_among kind kinds))
     there true e among =
         let all : is_among kind kinds ≡ true = ap (λ k. is_among k kinds) (same_kind kind more e) ∙ among in
         all ∙ sym (ap (λ b. b || true) all)
@@ -59,10 +52,10 @@ among_with kind more kinds = by_test (is_among more kinds) refl
 
 among_all : (kind : FixedTimespan) (kinds spans : List FixedTimespan) → is_among kind (with_kinds kinds spans) ≡ (is_among kind kinds || is_among kind spans)
 unfolding with_kinds
-among_all kind kinds [] = sym (or_false (is_among kind kinds))
+among_all kind kinds [] = sym (or-false (is_among kind kinds))
 among_all kind kinds (span ∷ spans) =
     among_all kind (with_kind kinds span) spans ∙ ap (λ b. b || is_among kind spans) (among_with kind span kinds)
-    ∙ or_or (is_among kind kinds) (is_same_kind kind span) (is_among kind spans)
+    ∙ or_assoc (is_among kind kinds) (is_same_kind kind span) (is_among kind spans)
 
 -- a kind is among them exactly where a span has it
 pub kinds_are : (set : FixedTimespanSet) (kind : FixedTimespan) → is_among kind (kinds_of set) ≡ is_among kind (set.first ∷ map (λ entry. entry.1) set.others)
@@ -90,7 +83,7 @@ distinct_more (k ∷ kinds) more apart distinct =
     let parts = and_parts (not (is_among k kinds)) (are_distinct kinds) distinct in
     let both = or_parts (is_same_kind more k) (is_among more kinds) apart in
     let here : is_among k (kinds ++ more ∷ []) ≡ is_among k kinds =
-    among_more k more kinds ∙ ap (λ b. is_among k kinds || b) (turned k more both.0) ∙ or_false (is_among k kinds) in
+    among_more k more kinds ∙ ap (λ b. is_among k kinds || b) (turned k more both.0) ∙ or-false (is_among k kinds) in
     (λ i. not (here i) && distinct_more kinds more both.1 parts.1 i) ∙ ap (λ b. b && true) parts.0
 
 distinct_with : (kinds : List FixedTimespan) (more : FixedTimespan) → are_distinct kinds ≡ true → are_distinct (with_kind kinds more) ≡ true

@@ -3,8 +3,7 @@ use Rattle.std.proofs.Common.{◌≡◌, ℕ, zero, suc, ◌<◌, true, false, L
 use Rattle.std.specs.Prelude.{All, Option, Some, Result, Ok}
 use Rattle.std.specs.List.{list_all}
 use Rattle.std.proofs.lemmas.Bool.{and_parts}
-use Rattle.std.proofs.lemmas.Int.{ints}
-use Rattle.calendar.specs.Orders.{le_from_pass, le_le}
+use Rattle.calendar.specs.Orders.{le_from_pass, le_itself, le_le}
 use Rattle.zone_spans.specs.Bounds.{is_small, is_bounded_span, is_bounded_entry, is_bounded}
 use Rattle.zone_spans.specs.Collapse.{EntryTimesDontFall}
 use Rattle.zone_spans.specs.Entries.{Entry}
@@ -17,9 +16,6 @@ use Rattle.tz_zone.specs.CompileLaws.{totals_same}
 use Rattle.tz_zone.specs.Sets.{shift_of, schedule_of, IsAccepted, IsSpanTime}
 use Rattle.tz_zone.specs.Spans.{shift_at, TimesDontFall}
 use Rattle.tz_zone.proofs.SetLemmas.{all_shifts}
-
-le_itself : (a : ℤ) → a ≤ℤ a
-le_itself a = omega (arith, ints)
 
 -- the first is at or before each
 first_least : (e : Entry) (es : List Entry) → EntryTimesDontFall (e ∷ es) → (j : ℕ) → j < length (map shift_of (e ∷ es))

@@ -1,15 +1,14 @@
 -- A search among entries for the last one at or before a second.
-use Rattle.std.proofs.Common.{◌≡◌, ℕ, zero, suc, ◌+◌, ◌<◌, ◌≤◌, Bool, true, false, cond, List, length, ℤ, ◌≤ℤ◌, ◌<ℤ◌, int_le, int_lt, ltb, refl, ap, ◌∙◌, subst, ⊎_elim, arith}
+use Rattle.std.proofs.Common.{◌≡◌, ℕ, zero, suc, ◌+◌, ◌<◌, ◌≤◌, Bool, true, false, cond, List, length, ℤ, int_le, int_lt, ltb, refl, ap, ◌∙◌, subst, ⊎_elim, arith}
 use Rattle.std.specs.Prelude.{◌&&◌}
 use Rattle.std.specs.declared.cmp.Ordering.TheVariants.{Less, Equal, Greater}
-use Rattle.std.proofs.lemmas.Int.{ints}
 use Rattle.std.proofs.lemmas.Bool.{cases_lt}
-use Rattle.std.proofs.lemmas.Bool.Decides.{nat_tests}
-use Rattle.calendar.specs.Orders.{le_le, lt_le, opposed}
+use Rattle.calendar.specs.Orders.{le_le, lt_fail, lt_from_fail, lt_from_pass, lt_le, lt_pass, opposed}
 use Rattle.tz_zone.specs.Spans.{Shift, shift_at, TimesDontFall, IsCut}
 use Rattle.tz_zone.specs.Search.{GoesUp}
 use Rattle.tz_zone.specs.Sets.{order_at, IsBetween}
 use Rattle.tz_zone.proofs.SpanLemmas.{cut_of}
+use Rattle.tz_zone.proofs.PlaceLemmas.{ended_false, ended_true, is_ended, not_ended}
 
 is_greater : (a b : Bool) → cond a Greater (cond b Less Equal) ≡ Greater → a ≡ true
 is_greater true b e = refl
@@ -35,45 +34,21 @@ less a b e f = ap (λ t. cond t Greater (cond b Less Equal)) e ∙ ap (λ t. con
 equal : (a b : Bool) → a ≡ false → b ≡ false → cond a Greater (cond b Less Equal) ≡ Equal
 equal a b e f = ap (λ t. cond t Greater (cond b Less Equal)) e ∙ ap (λ t. cond t Less Equal) f
 
-int_true : (x a : ℤ) → int_lt x a ≡ true → x <ℤ a
-int_true x a h = grind (arith, ints)
-
-int_false : (x a : ℤ) → int_lt x a ≡ false → a ≤ℤ x
-int_false x a h = grind (arith, ints)
-
-true_int : (x a : ℤ) → x <ℤ a → int_lt x a ≡ true
-true_int x a h = grind (arith, ints)
-
-false_int : (x a : ℤ) → a ≤ℤ x → int_lt x a ≡ false
-false_int x a h = grind (arith, ints)
-
-next_true : (i n : ℕ) (a x : ℤ) → ltb i n && int_le a x ≡ true → (i < n) × (a ≤ℤ x)
-next_true i n a x h = (grind (arith, nat_tests, ints), grind (arith, nat_tests, ints))
-
-next_false : (i n : ℕ) (a x : ℤ) → ltb i n && int_le a x ≡ false → i < n → x <ℤ a
-next_false i n a x h l = grind (arith, nat_tests, ints)
-
-true_next : (i n : ℕ) (a x : ℤ) → i < n → a ≤ℤ x → ltb i n && int_le a x ≡ true
-true_next i n a x l h = grind (arith, nat_tests, ints)
-
-false_next : (i n : ℕ) (a x : ℤ) → (i < n → x <ℤ a) → ltb i n && int_le a x ≡ false
-false_next i n a x h = grind (arith, nat_tests, ints)
-
 module _ (shifts : List Shift) (x : ℤ) where
   pub cut_goes_up : (low high : ℕ) → high ≤ length shifts → TimesDontFall shifts → GoesUp (λ k. order_at shifts k x) low high
   cut_goes_up low high size times = record {
     before = λ i j _ l m e.
         let is = is_less (int_lt x (shift_at shifts j).0) (ltb (j + 1) (length shifts) && int_le (shift_at shifts (j + 1)).0 x) e in
-        let next = next_true (j + 1) (length shifts) (shift_at shifts (j + 1)).0 x is.1 in
+        let next = ended_true (j + 1) (length shifts) (shift_at shifts (j + 1)).0 x is.1 in
         less (int_lt x (shift_at shifts i).0) (ltb (i + 1) (length shifts) && int_le (shift_at shifts (i + 1)).0 x)
-        (false_int _ _ (le_le _ _ _ (times i j l (omega (arith, next.0))) (int_false _ _ is.0)))
-        (true_next (i + 1) (length shifts) _ x (omega (arith, next.0)) (le_le _ _ _ (times (i + 1) (j + 1) (omega arith) next.0) next.1));
+        (lt_fail _ _ (le_le _ _ _ (times i j l (omega (arith, next.0))) (lt_from_fail _ _ is.0)))
+        (is_ended (i + 1) (length shifts) _ x (omega (arith, next.0)) (le_le _ _ _ (times (i + 1) (j + 1) (omega arith) next.0) next.1));
     after = λ i j _ l m e.
         let is =
-        int_true _ _ (is_greater (int_lt x (shift_at shifts i).0)
+        lt_from_pass _ _ (is_greater (int_lt x (shift_at shifts i).0)
         (ltb (i + 1) (length shifts) && int_le (shift_at shifts (i + 1)).0 x) e) in
         greater (int_lt x (shift_at shifts j).0) (ltb (j + 1) (length shifts) && int_le (shift_at shifts (j + 1)).0 x)
-        (true_int _ _ (lt_le _ _ _ is (times i j l (omega (arith, m, size)))));
+        (lt_pass _ _ (lt_le _ _ _ is (times i j l (omega (arith, m, size)))));
   }
 
   pub cut_found : (k : ℕ) → k < length shifts → TimesDontFall shifts → order_at shifts k x ≡ Equal → IsCut shifts (k + 1) x
@@ -81,15 +56,15 @@ module _ (shifts : List Shift) (x : ℤ) where
       let is = is_equal (int_lt x (shift_at shifts k).0) (ltb (k + 1) (length shifts) && int_le (shift_at shifts (k + 1)).0 x) e in
       record {
         within = omega arith;
-        before = λ j m. le_le _ _ _ (times j k (omega arith) l) (int_false _ _ is.0);
-        after = λ j m n. lt_le _ _ _ (next_false (k + 1) (length shifts) _ x is.1 (omega arith)) (times (k + 1) j m n);
+        before = λ j m. le_le _ _ _ (times j k (omega arith) l) (lt_from_fail _ _ is.0);
+        after = λ j m n. lt_le _ _ _ (ended_false (k + 1) (length shifts) _ x is.1 (omega arith)) (times (k + 1) j m n);
       }
 
   lies : (k : ℕ) → IsCut shifts (suc k) x → order_at shifts k x ≡ Equal
   lies k cut =
       equal (int_lt x (shift_at shifts k).0) (ltb (k + 1) (length shifts) && int_le (shift_at shifts (k + 1)).0 x)
-      (false_int _ _ (cut.before k (omega arith)))
-      (false_next (k + 1) (length shifts) _ x (λ l. cut.after (k + 1) (omega arith) l))
+      (lt_fail _ _ (cut.before k (omega arith)))
+      (not_ended (k + 1) (length shifts) _ x (λ l. cut.after (k + 1) (omega arith) l))
 
   -- where no entry between low and high is the last, none of them is at or before x
   pub cut_lowest : (low high : ℕ) → TimesDontFall shifts → IsBetween shifts low high x

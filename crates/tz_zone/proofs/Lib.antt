@@ -1,6 +1,7 @@
 pub mod Halves
 pub mod SpanLemmas
 pub mod AnswerLemmas
+pub mod PlaceLemmas
 pub mod OrderLemmas
 pub mod OrderlyLemmas
 pub mod CutLemmas
@@ -9,7 +10,6 @@ pub mod SetLemmas
 pub mod TimeZoneLemmas
 pub mod EachLemmas
 pub mod OffsetLemmas
-pub mod UtcLemmas
 pub mod CompileLemmas
 pub mod FoundLemmas
 pub mod LookupRows

@@ -1,10 +1,7 @@
 -- The order of spans about a local second, and what the span that is found says of its instants.
-use Rattle.std.proofs.Common.{◌≡◌, ℕ, suc, ◌+◌, ◌<◌, ◌≤◌, Bool, true, false, cond, [], ◌∷◌, length, ℤ, ◌≤ℤ◌, ◌<ℤ◌, int_le, int_lt, ltb, refl, sym, ap, ◌∙◌, subst, arith}
-use Rattle.std.specs.Prelude.{◌&&◌}
+use Rattle.std.proofs.Common.{◌≡◌, ℕ, suc, ◌+◌, ◌<◌, ◌≤◌, Bool, true, false, cond, [], ◌∷◌, length, ℤ, ◌<ℤ◌, refl, sym, ap, ◌∙◌, subst, arith}
 use Rattle.std.specs.declared.cmp.Ordering.{Ordering}
 use Rattle.std.specs.declared.cmp.Ordering.TheVariants.{Less, Equal, Greater}
-use Rattle.std.proofs.lemmas.Int.{ints}
-use Rattle.std.proofs.lemmas.Bool.Decides.{nat_tests}
 use Rattle.calendar.specs.Orders.{le_le, lt_le}
 use Rattle.civil_base.specs.Instants.{seconds_of}
 use Rattle.zone_spans.specs.Schedules.{Schedule, total_at}
@@ -12,6 +9,7 @@ use Rattle.tz_zone.specs.InForce.{totals_at}
 use Rattle.tz_zone.specs.Spans.{local_start, local_end, IsIn, IsOrderly}
 use Rattle.tz_zone.specs.Search.{GoesUp}
 use Rattle.tz_zone.specs.Sets.{IsAccepted, has_ended, is_ahead, order_of}
+use Rattle.tz_zone.proofs.PlaceLemmas.{ended_false, ended_true, not_ended, is_ended, ahead_false, ahead_true, not_ahead, is_before}
 use Rattle.tz_zone.proofs.AnswerLemmas.{Holds, total, none_holds, before_holds, alone_holds}
 
 choice : Bool → Bool → Ordering
@@ -40,30 +38,6 @@ at_second a b e f = ap (λ t. cond t Less (cond b Greater Equal)) e ∙ ap (λ t
 
 at_neither : (a b : Bool) → a ≡ false → b ≡ false → cond a Less (cond b Greater Equal) ≡ Equal
 at_neither a b e f = ap (λ t. cond t Less (cond b Greater Equal)) e ∙ ap (λ t. cond t Greater Equal) f
-
-ended_false : (i n : ℕ) (e x : ℤ) → ltb i n && int_le e x ≡ false → i < n → x <ℤ e
-ended_false i n e x h l = grind (arith, nat_tests, ints)
-
-ended_true : (i n : ℕ) (e x : ℤ) → ltb i n && int_le e x ≡ true → (i < n) × (e ≤ℤ x)
-ended_true i n e x h = (grind (arith, nat_tests, ints), grind (arith, nat_tests, ints))
-
-not_ended : (i n : ℕ) (e x : ℤ) → (i < n → x <ℤ e) → ltb i n && int_le e x ≡ false
-not_ended i n e x h = grind (arith, nat_tests, ints)
-
-is_ended : (i n : ℕ) (e x : ℤ) → i < n → e ≤ℤ x → ltb i n && int_le e x ≡ true
-is_ended i n e x h k = grind (arith, nat_tests, ints)
-
-ahead_false : (i : ℕ) (s x : ℤ) → ltb 0 i && int_lt x s ≡ false → 0 < i → s ≤ℤ x
-ahead_false i s x h l = grind (arith, nat_tests, ints)
-
-ahead_true : (i : ℕ) (s x : ℤ) → ltb 0 i && int_lt x s ≡ true → (0 < i) × (x <ℤ s)
-ahead_true i s x h = (grind (arith, nat_tests, ints), grind (arith, nat_tests, ints))
-
-not_ahead : (i : ℕ) (s x : ℤ) → (0 < i → s ≤ℤ x) → ltb 0 i && int_lt x s ≡ false
-not_ahead i s x h = grind (arith, nat_tests, ints)
-
-is_before : (i : ℕ) (s x : ℤ) → 0 < i → x <ℤ s → ltb 0 i && int_lt x s ≡ true
-is_before i s x h k = grind (arith, nat_tests, ints)
 
 -- a span lies at a local second exactly where it contains it
 pub in_order : (zone : Schedule) (i : ℕ) (x : ℤ) → i ≤ length zone.shifts → order_of zone i x ≡ Equal → IsIn zone.first zone.shifts i x

@@ -1,40 +1,10 @@
 -- Totals by spans.
-use Rattle.std.proofs.Common.{◌≡◌, ℕ, zero, suc, ◌+◌, ◌<◌, ◌≤◌, cond, List, [], ◌∷◌, length, ℤ, ◌+ℤ◌, ◌-ℤ◌, ◌≤ℤ◌, ◌<ℤ◌, int_le, refl, sym, ap, ◌∙◌, ⊎_elim, arith}
+use Rattle.std.proofs.Common.{◌≡◌, ℕ, zero, suc, ◌+◌, ◌<◌, ◌≤◌, List, [], ◌∷◌, length, ℤ, ◌+ℤ◌, ◌-ℤ◌, ◌≤ℤ◌, ◌<ℤ◌, sym, ap, ◌∙◌, ⊎_elim, arith}
 use Rattle.std.proofs.lemmas.Int.{ints, by_lt_z}
 use Rattle.std.proofs.lemmas.Bool.{cases_lt}
-use Rattle.std.specs.List.{filter}
-use Rattle.calendar.specs.Orders.{le_pass, le_fail, lt_le, le_le}
-use Rattle.zone_spans.specs.Schedules.{last_total}
-use Rattle.tz_zone.specs.SecondLaws.{total_from}
-use Rattle.tz_zone.specs.Spans.{Shift, shift_at, total_of, IsIn, TimesDontFall, IsOrderly, IsCut}
-
--- the total after a cut is that of the span that begins there
-pub total_from_cut : (first : ℤ) (shifts : List Shift) (k : ℕ) (t : ℤ) → IsCut shifts k t
-    → total_from first shifts t ≡ total_of first shifts k
-total_from_cut first [] zero t h = refl
-total_from_cut first [] (suc k) t h = absurd (omega (arith, h.within))
-total_from_cut first (s ∷ ss) zero t h =
-    let none : IsCut ss zero t = record {
-      within = omega arith;
-      before = λ j l. absurd (omega arith);
-      after = λ j l m. h.after (suc j) (omega arith) (omega (arith, m));
-    } in
-    ap (λ b. last_total first (cond b (s ∷ filter (λ (r : Shift). int_le r.0 t) ss) (filter (λ (r : Shift). int_le r.0 t) ss)))
-    (le_fail s.0 t (h.after 0 (omega arith) (omega arith)))
-    ∙ total_from_cut first ss zero t none
-total_from_cut first (s ∷ ss) (suc k) t h =
-    let fewer : IsCut ss k t = record {
-      within = omega (arith, h.within);
-      before = λ j l. h.before (suc j) (omega arith);
-      after = λ j l m. h.after (suc j) (omega arith) (omega (arith, m));
-    } in
-    ap (λ b. last_total first (cond b (s ∷ filter (λ (r : Shift). int_le r.0 t) ss) (filter (λ (r : Shift). int_le r.0 t) ss)))
-    (le_pass s.0 t (h.before 0 (omega arith)))
-    ∙ total_from_cut s.1 ss k t fewer ∙ total_of_tail first s ss k
-  where
-    total_of_tail : (first : ℤ) (s : Shift) (ss : List Shift) (k : ℕ) → total_of s.1 ss k ≡ total_of first (s ∷ ss) (suc k)
-    total_of_tail first s ss zero = refl
-    total_of_tail first s ss (suc k) = refl
+use Rattle.calendar.specs.Orders.{lt_le, le_le}
+use Rattle.tz_zone.specs.SpanLaws.{total_from_cut}
+use Rattle.tz_zone.specs.Spans.{total_from, Shift, shift_at, total_of, IsIn, TimesDontFall, IsOrderly, IsCut}
 
 pub times_tail : (s : Shift) (ss : List Shift) → TimesDontFall (s ∷ ss) → TimesDontFall ss
 times_tail s ss h i j le l = h (suc i) (suc j) (omega arith) (omega arith)

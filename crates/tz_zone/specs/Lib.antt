@@ -15,6 +15,8 @@ pub mod Compiles
 -- Laws: what a caller may use.
 pub mod InForceLaws
 pub mod SecondLaws
+pub mod SpanLaws
+pub mod UtcLaws
 pub mod RisingLaws
 pub mod InstantLaws
 pub mod AnswerLaws

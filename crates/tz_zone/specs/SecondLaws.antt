@@ -1,10 +1,10 @@
 -- The whole second of an instant, and the total in force at an instant as that at its second.
-use Rattle.std.proofs.Common.{◌≡◌, Bool, true, false, List, filter, ℤ, pos, negsuc, ◌+ℤ◌, ◌-ℤ◌, ◌*ℤ◌, ◌≤ℤ◌, ◌<ℤ◌, int_le, refl, arith}
+use Rattle.std.proofs.Common.{◌≡◌, Bool, true, false, filter, ℤ, pos, negsuc, ◌+ℤ◌, ◌-ℤ◌, ◌*ℤ◌, ◌≤ℤ◌, ◌<ℤ◌, int_le, refl, arith}
 use Rattle.std.proofs.lemmas.Int.{ints}
 use Rattle.calendar.specs.Orders.{le_pass, le_fail, le_from_pass, le_from_fail}
 use Rattle.civil_base.specs.Instants.{instant_at, seconds_of}
 use Rattle.zone_spans.specs.Schedules.{Schedule, last_total, total_at}
-use Rattle.tz_zone.specs.Spans.{Shift}
+use Rattle.tz_zone.specs.Spans.{total_from}
 
 pub record IsSecond (t s : ℤ) : Type 0 where
   pub low : (pos 1000000000 *ℤ s) ≤ℤ t
@@ -23,10 +23,6 @@ moved_second x s o h = record { low = omega (arith, ints, h.low); high = omega (
 
 pub seconds_of-instant_at : (x o : ℤ) → seconds_of (instant_at x o) ≡ seconds_of x -ℤ o
 seconds_of-instant_at x o = one_second _ _ _ (second_is (instant_at x o)) (moved_second x (seconds_of x) o (second_is x))
-
--- the total of the last shift at or before a second, else the first total
-abbrev pub total_from : ℤ → List Shift → ℤ → ℤ
-total_from first shifts second = last_total first (filter (λ s. int_le s.0 second) shifts)
 
 begun : (a t s : ℤ) → IsSecond t s → a ≤ℤ s → (a *ℤ pos 1000000000) ≤ℤ t
 begun a t s h l = omega (arith, ints, h.low, h.high)

@@ -1,5 +1,6 @@
 -- The spans of a schedule, by number: span 0 holds before the first shift, and shift i begins span i + 1.
-use Rattle.std.specs.Prelude.{ℕ, zero, suc, ◌+◌, ◌<◌, ◌≤◌, List, length, slice_index_or, ℤ, pos, ◌+ℤ◌, ◌≤ℤ◌, ◌<ℤ◌}
+use Rattle.std.specs.Prelude.{ℕ, zero, suc, ◌+◌, ◌<◌, ◌≤◌, List, length, filter, slice_index_or, ℤ, pos, ◌+ℤ◌, ◌≤ℤ◌, ◌<ℤ◌, int_le}
+use Rattle.zone_spans.specs.Schedules.{last_total}
 
 -- a second, and the total from then on
 abbrev pub Shift : Type 0
@@ -12,6 +13,10 @@ shift_at shifts i = slice_index_or shifts i (pos 0, pos 0)
 abbrev pub total_of : ℤ → List Shift → ℕ → ℤ
 total_of first shifts zero = first
 total_of first shifts (suc i) = (shift_at shifts i).1
+
+-- the total of the last shift at or before a second, else the first total
+abbrev pub total_from : ℤ → List Shift → ℤ → ℤ
+total_from first shifts second = last_total first (filter (λ (shift : Shift). int_le shift.0 second) shifts)
 
 -- the local start of span i, for every span but the first: its time plus its own total
 abbrev pub local_start : List Shift → ℕ → ℤ

@@ -2,7 +2,7 @@ use Rattle.std.proofs.Common.{w64, SFits, rules, sym, ◌∙◌, refl}
 use Rattle.std.proofs.lemmas.Int.{to_z-of_z}
 use Rattle.civil_base.specs.DateTimes.{local_of}
 use Rattle.tz_zone.proofs.GivenLemmas.{each_read}
-use Rattle.tz_zone.proofs.UtcLemmas.{second_at_utc}
+use Rattle.tz_zone.specs.UtcLaws.{second_at_utc}
 use Rattle.tz_zone.proofs.lookups.local_spans_counted.Goals as goal
 
 pub returns-clause-totals : goal.returns-clause-totals

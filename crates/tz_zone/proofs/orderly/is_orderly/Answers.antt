@@ -1,13 +1,11 @@
-use Rattle.std.proofs.Common.{◌≡◌, ℤ, ◌-◌, ◌≤ℤ◌, w64, SFits, arith, rules, sym, ◌∙◌}
+use Rattle.std.proofs.Common.{◌-◌, w64, SFits, arith, rules, sym, ◌∙◌}
+use Rattle.calendar.specs.Orders.{le_same}
 use Rattle.tz_zone.proofs.SetLemmas.{count_same}
 use Rattle.std.proofs.lemmas.Int.{to_z-of_z}
 use Rattle.tz_zone.specs.Sets.{schedule_of}
 use Rattle.tz_zone.proofs.OrderLemmas.{if_false}
 use Rattle.tz_zone.proofs.OrderlyLemmas.{orderly_more, neighbours_go}
 use Rattle.tz_zone.proofs.orderly.is_orderly.Goals as goal
-
-same_le : (a b p q : ℤ) → a ≡ p → b ≡ q → p ≤ℤ q → a ≤ℤ b
-same_le a b p q e f h = rw (e, f) h
 
 pub returns-then-not-are_in_order : goal.returns-then-not-are_in_order
 returns-then-not-are_in_order c =
@@ -27,7 +25,7 @@ returns-then-not-are_in_order c =
           neighbours_go zone.first zone.shifts (i - 1) i (omega arith)
           (omega (arith, count_same c.args.set.now, c.entry_count-i-end.ensures)) orderly in
           absurd (if_false c.are_in_order.result c.are_in_order.ensures.1 c.if-not-are_in_order.true
-          (same_le _ _ _ _ a b go.0, same_le _ _ _ _ p q go.1, same_le _ _ _ _ p b go.2))),
+          (le_same _ _ _ _ a b go.0, le_same _ _ _ _ p q go.1, le_same _ _ _ _ p b go.2))),
     )
 
 pub loop-i-preserved : goal.loop-i-preserved
@@ -44,4 +42,4 @@ loop-i-preserved c =
     let q = to_z-of_z w64 _ fd ∙ c.end_of-end.ensures in
     let go = c.are_in_order.ensures.0 c.if-not-are_in_order.false in
     orderly_more zone.first zone.shifts (i - 1) i (omega arith) c.loop-i.invariant
-    (same_le _ _ _ _ (sym a) (sym b) go.0) (same_le _ _ _ _ (sym p) (sym q) go.1) (same_le _ _ _ _ (sym p) (sym b) go.2)
+    (le_same _ _ _ _ (sym a) (sym b) go.0) (le_same _ _ _ _ (sym p) (sym q) go.1) (le_same _ _ _ _ (sym p) (sym b) go.2)

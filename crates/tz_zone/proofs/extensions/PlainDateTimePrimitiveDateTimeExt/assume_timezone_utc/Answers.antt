@@ -1,5 +1,5 @@
 use Rattle.std.proofs.Common.{ap, ◌∙◌}
-use Rattle.tz_zone.proofs.UtcLemmas.{at_utc}
+use Rattle.tz_zone.specs.UtcLaws.{at_utc}
 use Rattle.tz_zone.proofs.extensions.PlainDateTimePrimitiveDateTimeExt.assume_timezone_utc.Goals as goal
 
 pub returns-clause-offset : goal.returns-clause-offset

@@ -1,4 +1,4 @@
--- Date-times at UTC.
+-- Date-times at UTC: the instant and its second are those of the local time.
 use Rattle.std.proofs.Common.{◌≡◌, ℤ, pos, ◌-ℤ◌, ◌*ℤ◌, ap, ◌∙◌, arith}
 use Rattle.std.proofs.lemmas.Int.{ints}
 use Rattle.civil_base.specs.DateTimes.{instant, local_of, offset_of}
