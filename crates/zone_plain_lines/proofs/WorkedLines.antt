@@ -1,5 +1,5 @@
 -- Fields, words, times, days and whole lines at worked rows.
-use Rattle.std.proofs.Common.{◌≡◌, [], ◌∷◌, map, true, false, Some, None, Ok, Err, refl, pos, negsuc}
+use Rattle.std.proofs.Common.{◌≡◌, ℕ, [], ◌∷◌, map, true, false, Some, None, Ok, Err, refl, pos, negsuc}
 use Rattle.std.specs.Prelude.{codes}
 use Rattle.calendar.specs.Days.{days_in_month, is_leap}
 use Rattle.zone_values.specs.Numbers.{signed_in, value_in}
@@ -18,7 +18,7 @@ use Rattle.zone_plain_lines.specs.Days.{day_number, side_of, sided, day_of}
 use Rattle.zone_plain_lines.specs.Meanings.{offset_of, save_of, moment_of, rule_of, end_at, end_of, info_of, first_line_of, meaning}
 use Rattle.zone_plain_lines.specs.Numbers.{number_between}
 use Rattle.zone_plain_lines.specs.Quotes.{fields, laid_out, pieces, has_bad_quotes}
-use Rattle.zone_plain_lines.specs.Words.{line_word, month_of, weekday_of, last_weekday_of, from_word}
+use Rattle.zone_plain_lines.specs.Words.{shortened, line_word, month_of, weekday_of, last_weekday_of, from_word}
 use Rattle.zone_plain_lines.specs.declared.cause.PlainCause.TheVariants as cause
 use Rattle.zone_plain_lines.specs.declared.words.LineWord.TheVariants as word
 
@@ -42,6 +42,11 @@ first_words : map line_word (codes "R" ∷ codes "ruLE" ∷ codes "z" ∷ codes 
     ≡ Ok word.Rule ∷ Ok word.Rule ∷ Ok word.Zone ∷ Ok word.Link ∷ Ok word.Link ∷ Err cause.LineType ∷ Err cause.LineType ∷ Err cause.LineType ∷ Err cause.LineType ∷ []
 unfolding line_word
 first_words = refl
+
+-- the first of the words that the text shortens with enough letters, in any case on both sides
+of_two : map (shortened {A = ℕ} ((codes "ab", 2, 1) ∷ (codes "ABC", 1, 2) ∷ [])) (codes "a" ∷ codes "aB" ∷ codes "abc" ∷ codes "b" ∷ [])
+    ≡ Some 2 ∷ Some 1 ∷ Some 2 ∷ None ∷ []
+of_two = refl
 
 -- the shortest beginnings, in any case
 short_months : map month_of (codes "ja" ∷ codes "F" ∷ codes "mar" ∷ codes "AP" ∷ codes "may" ∷ codes "jun" ∷ codes "jul" ∷ codes "au" ∷ codes "s"
