@@ -44,7 +44,7 @@ unfolding plain_of
 plain_short text form e =
     after (by_line (values_in text)) _ form (λ values.
     after (settled values) _ form (λ linked.
-    after (by_line (written_out linked)) _ form (λ out. is_short (written out) form))) e
+    after (written_out linked) _ form (λ out. is_short (written out) form))) e
 
 -- a fault of the plain form is one of the text's
 pub form_refused : (text form : List ℕ) (result : Result OpenSource AnySourceFault) → length text ≤ 16777216 → plain_of text ≡ Ok form

@@ -1,6 +1,5 @@
 -- A source that needs nothing is written line by line.
-use Rattle.std.proofs.Common.{◌≡◌, ℕ, suc, List, [], ◌∷◌, ◌++◌, ◌≤◌, All, Bool, true, false, cond, length, map, None, Some, Result, Ok, Err, IfOk, refl, ap, ◌∙◌, append-nil, subst}
-use Rattle.std.specs.Prelude.{flat_map}
+use Rattle.std.proofs.Common.{◌≡◌, ℕ, suc, List, [], ◌∷◌, ◌++◌, ◌≤◌, All, Bool, true, false, cond, not, nat_lt, length, map, None, Some, Result, Ok, Err, IfOk, refl, ap, ◌∙◌, append-nil, subst}
 use Rattle.std.proofs.lemmas.Bool.{le-ltb}
 use Rattle.std.proofs.lemmas.List.Elements.{All-head, All-tail}
 use Rattle.zone_line.specs.Fields.{is_ruleset_name}
@@ -10,16 +9,16 @@ use Rattle.zone_values.specs.Values.{SavingValue, no_saving, one_off, multiple, 
 use Rattle.zone_values.specs.Results.{◌>>=◌}
 use Rattle.zone_plain_lines.specs.declared.cause.PlainCause.{PlainCause}
 use Rattle.zone_plain_lines.specs.declared.cause.PlainCause.TheVariants as cause
-use Rattle.zone_plain_base.specs.LineFaults.{LineFault, numbered, onto}
+use Rattle.zone_plain_base.specs.LineFaults.{LineFault, at, bad_line, too_long, numbered, onto}
 use Rattle.zone_plain_base.specs.Said.{if_said}
 use Rattle.zone_plain_names.specs.Names.{said_name}
 use Rattle.zone_plain_names.specs.NameLaws.{stays_so}
 use Rattle.zone_plain_names.specs.Renamed.{saved_by, ruleset_of, saving_by, under, renamed}
 use Rattle.zone_plain_links.specs.Needs.{IsPlain}
 use Rattle.zone_plain_links.specs.SettledLaws.{plain_stays}
-use Rattle.zone_plain_offsets.specs.Made.{changed_by, changed, is_changed_said, name_in, rules_for, made}
+use Rattle.zone_plain_offsets.specs.Made.{changed_by, changed, is_changed_said, name_in, made_for, made}
 use Rattle.zone_plain_offsets.specs.Pairs.{Pair, joined_by, pairs_from}
-use Rattle.zone_plain_offsets.specs.WrittenOut.{unsaid_from, written_unless, written_out}
+use Rattle.zone_plain_offsets.specs.WrittenOut.{made_size, refused_from, written_unless, written_out}
 use Rattle.zone_plain.specs.Kept.{HasNoOffsets}
 use Rattle.zone_plain.specs.LineValues.{line_meaning, is_open_after, values_from, meant_in, mark_in, named, values_in}
 use Rattle.zone_plain.specs.Named.{IsSaidAsMeant}
@@ -36,21 +35,23 @@ all_stay name_of [] none = refl
 all_stay name_of (v ∷ values) none =
     ap (λ a. changed_by name_of a v ∷ map (changed name_of) values) none.0 ∙ ap (λ vs. v ∷ vs) (all_stay name_of values none.1)
 
-all_said : (all : List LineValue) (n : ℕ) (values : List LineValue) → HasNoOffsets values → unsaid_from all n values ≡ None
-unfolding unsaid_from
-all_said all n [] none = refl
-all_said all n (v ∷ values) none =
-    ap (λ a. cond (is_changed_said all (name_in all) a v) (unsaid_from all (suc n) values) (Some n)) none.0 ∙ all_said all (suc n) values none.1
+none_refused : (all : List LineValue) (n : ℕ) (values : List LineValue) → HasNoOffsets values → refused_from text_limit all n [] values ≡ None
+unfolding refused_from
+none_refused all n [] none = refl
+none_refused all n (v ∷ values) none =
+    ap (λ a. cond (not (is_changed_said all (name_in all) a v)) (Some (bad_line (at n cause.Unsayable)))
+    (cond (nat_lt text_limit (made_size all (joined_by a []))) (Some too_long) (refused_from text_limit all (suc n) (joined_by a []) values))) none.0
+    ∙ none_refused all (suc n) values none.1
 
 none_made : (values : List LineValue) → HasNoOffsets values → made values ≡ []
 unfolding made
-none_made values none = ap (flat_map (λ pair. rules_for values (name_in values pair) pair)) (no_pairs [] values none)
+none_made values none = ap (made_for values) (no_pairs [] values none)
 
 -- lines without `%z` stay as they are
 out_stays : (values : List LineValue) → HasNoOffsets values → written_out values ≡ Ok values
 unfolding written_out
 out_stays values none =
-    ap (written_unless values) (all_said values 1 values none)
+    ap (written_unless values) (none_refused values 1 values none)
     ∙ ap Ok ((λ i. all_stay (name_in values) values none i ++ none_made values none i) ∙ append-nil values)
 
 saving_stays : (mark : List ℕ) (saving : SavingValue) → is_ruleset_name (saved_by saving) ≡ true → saving_by saving (said_name mark (saved_by saving)) ≡ saving
@@ -105,8 +106,8 @@ names_stay source meant means said =
     subst (λ r. IfOk r (λ meant. All IsSaidAsMeant meant → values_in source ≡ Ok meant)) means (all_named (mark_in source) false 1 (lines_of source)) said
 
 -- each rule, each zone with its continuations and each link is written, in order and with the source's names
-pub kept : (source : List ℕ) (meant : List LineValue) → meant_in source ≡ Ok meant → All IsSaidAsMeant meant → IsPlain meant → HasNoOffsets meant
+pub plain_is_kept : (source : List ℕ) (meant : List LineValue) → meant_in source ≡ Ok meant → All IsSaidAsMeant meant → IsPlain meant → HasNoOffsets meant
     → length (written meant) ≤ text_limit → plain_of source ≡ Ok (written meant)
 unfolding plain_of
-kept source meant means said plain none short =
+plain_is_kept source meant means said plain none short =
     rw (names_stay source meant means said, plain_stays meant plain, out_stays meant none, le-ltb text_limit (length (written meant)) short) refl

@@ -1,6 +1,6 @@
 -- The lines of zones that are written stand in their places.
 use Rattle.std.proofs.Common.{◌≡◌, ℕ, suc, ◌+◌, List, [], ◌∷◌, ◌++◌, map, length, Bool, true, false, cond, Option, Some, None, Result, Ok, Err, IfOk, refl, nat_lt}
-use Rattle.std.specs.Prelude.{◌==◌, flat_map, is_some}
+use Rattle.std.specs.Prelude.{◌==◌, is_some}
 use Rattle.std.specs.Str.{is_utf8}
 use Rattle.std.proofs.lemmas.Bool.{both_ways}
 use Rattle.zone_outside.specs.Limit.{text_limit}
@@ -21,9 +21,9 @@ use Rattle.zone_plain_names.specs.Renamed.{renamed}
 use Rattle.zone_plain_links.specs.Named.{has_zone, target_of}
 use Rattle.zone_plain_links.specs.Leads.{zone_behind}
 use Rattle.zone_plain_links.specs.Settled.{lacks_rules, link_to, link_after, settled_link, settled_line, link_size, settled_from, settled}
-use Rattle.zone_plain_offsets.specs.Made.{changed_by, changed, made_rule, name_in, rules_named, rules_for, made}
+use Rattle.zone_plain_offsets.specs.Made.{changed_by, changed, made_rule, name_in, rules_named, made_for, made}
 use Rattle.zone_plain_offsets.specs.Pairs.{Pair, Asked, nothing, total, under, asked, pairs_of}
-use Rattle.zone_plain_offsets.specs.WrittenOut.{unsaid_from, written_unless, written_out}
+use Rattle.zone_plain_offsets.specs.WrittenOut.{refused_from, written_unless, written_out}
 use Rattle.zone_plain.specs.LineValues.{meant_by, line_meaning, is_open_after, values_from, mark_in, named, values_in}
 use Rattle.zone_plain.specs.Placed.{are_placed}
 
@@ -260,16 +260,16 @@ rules_placed : (name : List ℕ) (pair : Pair) (rules : List RuleValue) (more : 
 rules_placed name pair [] more placed = placed
 rules_placed name pair (r ∷ rules) more placed = λ b. rules_placed name pair rules more placed false
 
-made_placed : (all : List LineValue) (pairs : List Pair) → ArePlaced (flat_map (λ pair. rules_for all (name_in all pair) pair) pairs)
+made_placed : (all : List LineValue) (pairs : List Pair) → ArePlaced (made_for all pairs)
 made_placed all [] = λ b. refl
 made_placed all (pair ∷ pairs) =
-    rules_placed (name_in all pair) pair (rules_named all pair.rules) (flat_map (λ pair. rules_for all (name_in all pair) pair) pairs) (made_placed all pairs)
+    rules_placed (name_in all pair) pair (rules_named all pair.rules) (made_for all pairs) (made_placed all pairs)
 
 -- and so do lines with `%z` written out
 pub out_placed : (values : List LineValue) → IfOk (written_out values) (StaysPlaced values)
 unfolding written_out made
-out_placed values = by (unsaid_from values 1 values)
+out_placed values = by (refused_from text_limit values 1 [] values)
   where
-    by : (o : Option ℕ) → IfOk (written_unless values o) (StaysPlaced values)
-    by (Some n) = tt
-    by None = changed_placed (name_in values) values (flat_map (λ pair. rules_for values (name_in values pair) pair) (pairs_of values)) (made_placed values (pairs_of values))
+    by : (o : Option Refusal) → IfOk (written_unless values o) (StaysPlaced values)
+    by (Some refusal) = tt
+    by None = changed_placed (name_in values) values (made_for values (pairs_of values)) (made_placed values (pairs_of values))

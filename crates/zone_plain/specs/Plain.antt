@@ -16,5 +16,5 @@ unfoldable pub plain_of : List ℕ → Result (List ℕ) Refusal
 plain_of source = do
   values ← by_line (values_in source)
   linked ← settled values
-  out ← by_line (written_out linked)
+  out ← written_out linked
   if_short (written out)

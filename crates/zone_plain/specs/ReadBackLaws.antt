@@ -63,8 +63,8 @@ read_of : (source : List ℕ) → IfOk (plain_of source) (IsPlaced source)
 unfolding plain_of
 read_of source = by (values_in source) refl
   where
-    by_out : (values linked : List LineValue) (r : Result (List LineValue) LineFault) → values_in source ≡ Ok values → settled values ≡ Ok linked
-        → written_out linked ≡ r → IfOk (◌>>=◌ (by_line r) (λ out. if_short (written out))) (IsPlaced source)
+    by_out : (values linked : List LineValue) (r : Result (List LineValue) Refusal) → values_in source ≡ Ok values → settled values ≡ Ok linked
+        → written_out linked ≡ r → IfOk (◌>>=◌ r (λ out. if_short (written out))) (IsPlaced source)
     by_out values linked (Err e) meant led spelled = tt
     by_out values linked (Ok out) meant led spelled = short (nat_lt text_limit (length (written out)))
       where
@@ -73,12 +73,12 @@ read_of source = by (values_in source) refl
         short false = back_of source values linked out (record { meant = meant; led = led; spelled = spelled })
 
     by_linked : (values : List LineValue) (r : Result (List LineValue) Refusal) → values_in source ≡ Ok values → settled values ≡ r
-        → IfOk (◌>>=◌ r (λ linked. ◌>>=◌ (by_line (written_out linked)) (λ out. if_short (written out)))) (IsPlaced source)
+        → IfOk (◌>>=◌ r (λ linked. ◌>>=◌ (written_out linked) (λ out. if_short (written out)))) (IsPlaced source)
     by_linked values (Err e) meant led = tt
     by_linked values (Ok linked) meant led = by_out values linked (written_out linked) meant led refl
 
     by : (r : Result (List LineValue) LineFault) → values_in source ≡ r
-        → IfOk (◌>>=◌ (by_line r) (λ values. ◌>>=◌ (settled values) (λ linked. ◌>>=◌ (by_line (written_out linked)) (λ out. if_short (written out)))))
+        → IfOk (◌>>=◌ (by_line r) (λ values. ◌>>=◌ (settled values) (λ linked. ◌>>=◌ (written_out linked) (λ out. if_short (written out)))))
         (IsPlaced source)
     by (Err e) meant = tt
     by (Ok values) meant = by_linked values (settled values) meant refl

@@ -23,7 +23,8 @@ use zone_source::{LIMIT, LineList};
 ///
 /// # Errors
 ///
-/// `Line` tells the first line that is refused, and why; `TooLong` comes where more than 16,777,216 bytes would be written.
+/// `Line` tells the first line that is refused, and why. `TooLong` comes where more than 16,777,216 bytes would be written: of links
+/// and of what `%z` asks for at the first line with which they alone take more, before what a later line is refused for.
 pub fn plain(alloc: Global, parser: &LineParser, source: &[u8]) -> Result<Vec<u8>, PlainFault>
     requires { length source.now ≤ LIMIT }
     ensures ok { IfOk result (λ bytes. plain_of source.now ≡ Ok bytes.items) }

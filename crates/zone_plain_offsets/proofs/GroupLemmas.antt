@@ -1,7 +1,7 @@
 -- Rules by their names, so far and in all.
-use Rattle.std.proofs.Common.{◌≡◌, ℕ, suc, ◌+◌, ◌<◌, ◌≤◌, List, [], ◌∷◌, ◌++◌, length, get_or, drop, drop-cons, refl, sym, ap, ◌∙◌, append_assoc, append-nil, arith, cond}
+use Rattle.std.proofs.Common.{◌≡◌, ℕ, suc, ◌+◌, ◌<◌, ◌≤◌, List, [], ◌∷◌, ◌++◌, length, get_or, drop, refl, sym, ap, ◌∙◌, append_assoc, append-nil, arith, cond}
 use Rattle.std.specs.FinMap.{FinMap, get, empty, get-empty}
-use Rattle.std.proofs.lemmas.List.{drop_all}
+use Rattle.std.proofs.lemmas.List.{drop_all, drop_more}
 use Rattle.owned.specs.Keyed.{text_cmp}
 use Rattle.owned.specs.KeyedLaws.{appended}
 use Rattle.owned.specs.Listed.{listed}
@@ -25,9 +25,6 @@ placed groups (zone z info) at so_far each name = each name ∙ ap listed (sym (
 placed groups (continuation info) at so_far each name = each name ∙ ap listed (sym (append-nil (so_far name)))
 placed groups (link x y) at so_far each name = each name ∙ ap listed (sym (append-nil (so_far name)))
 
-step : (values : List LineValue) (i : ℕ) → i < length values → drop i values ≡ get_or values i space ∷ drop (i + 1) values
-step values i inside = grind (arith, drop-cons)
-
 pub one_grouped : (values : List LineValue) (groups : FinMap text_cmp (List ℕ)) (i : ℕ) → i < length values → HasGrouped values groups i
     → HasGrouped values (with_place groups (get_or values i space) i) (i + 1)
 unfolding places_from
@@ -36,7 +33,7 @@ one_grouped values groups i inside so_far = record {
   each = placed groups (get_or values i space) i so_far.so_far so_far.each;
   goes_on = λ name.
       append_assoc (so_far.so_far name) (cond (is_named name (get_or values i space)) (i ∷ []) []) (places_from (i + 1) (drop (i + 1) values) name)
-      ∙ ap (λ places. so_far.so_far name ++ places) (sym (ap (λ vs. places_from i vs name) (step values i inside) ∙ next name))
+      ∙ ap (λ places. so_far.so_far name ++ places) (sym (ap (λ vs. places_from i vs name) (drop_more values i space inside) ∙ next name))
       ∙ so_far.goes_on name;
 }
   where

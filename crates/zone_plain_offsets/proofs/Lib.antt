@@ -7,5 +7,6 @@ pub mod MadeLemmas
 pub mod RuleLemmas
 pub mod OutLemmas
 pub mod StageLemmas
+pub mod SizeLemmas
 mod WorkedOffsets
 mod WorkedSources

@@ -1,12 +1,12 @@
 -- The rules at the places of a ruleset are its rules.
-use Rattle.std.proofs.Common.{◌≡◌, ℕ, zero, suc, ◌+◌, ℤ, Bool, true, false, cond, List, [], ◌∷◌, ◌++◌, length, map, get_or, drop, drop-cons, unwrap_or, ◌<◌, ◌≤◌, refl, sym, ap, ◌∙◌, append_assoc, append-nil, subst, arith}
-use Rattle.std.proofs.lemmas.List.{drop_all, length-map}
+use Rattle.std.proofs.Common.{◌≡◌, ℕ, zero, suc, ◌+◌, ℤ, Bool, true, false, cond, List, [], ◌∷◌, ◌++◌, length, map, get_or, drop, unwrap_or, ◌<◌, ◌≤◌, refl, sym, ap, ◌∙◌, append_assoc, append-nil, subst, arith}
+use Rattle.std.proofs.lemmas.List.{drop_all, drop_more, length-map, map-append}
 use Rattle.std.specs.Prelude.{◌&&◌, flat_map, bytes_eq}
 use Rattle.std.specs.List.{list_all}
 use Rattle.std.specs.FinMap.{FinMap, get}
 use Rattle.owned.specs.Keyed.{text_cmp}
 use Rattle.owned.specs.Listed.{listed}
-use Rattle.zone_source.specs.Zones.{source_value}
+use Rattle.zone_plain_text.specs.PlainTexts.{plain_text}
 use Rattle.zone_values.specs.Values.{RuleValue, LineValue, space, zone, continuation, rule, link}
 use Rattle.zone_plain_offsets.specs.Pairs.{Pair}
 use Rattle.zone_plain_offsets.specs.Made.{rules_named, made_rule, is_rule_said, rules_for, are_rules_said}
@@ -64,7 +64,7 @@ ruleset_added values old new name pair places said e added =
     record {
       told = added.told ∙ ap (list_all (is_made_said name pair.offset)) found ∙ said_of_rules rules name pair.offset;
       added = λ is_yes. added.added is_yes
-          ∙ ap (λ vs. map source_value old ++ vs) (ap (flat_map (made_lines name pair.offset)) found ∙ made_of_rules rules name pair.offset);
+          ∙ ap (λ vs. old ++ map plain_text vs) (ap (flat_map (made_lines name pair.offset)) found ∙ made_of_rules rules name pair.offset);
     }
 
 unlisted : (xs : List ℕ) → unwrap_or (listed xs) [] ≡ xs
@@ -77,14 +77,11 @@ places_are values groups name places grouped e = e ∙ ap (λ o. unwrap_or o [])
 
 -- what was made of the first rules, and what is to come
 pub record HasMade (name : List ℕ) (offset : ℤ) (values : List LineValue) (old now : List (List ℕ)) (i : ℕ) : Type 0 where
-  pub goes_on : map source_value now ++ flat_map (made_lines name offset) (drop i values) ≡ map source_value old ++ flat_map (made_lines name offset) values
+  pub goes_on : now ++ map plain_text (flat_map (made_lines name offset) (drop i values)) ≡ old ++ map plain_text (flat_map (made_lines name offset) values)
   pub said : list_all (is_made_said name offset) (drop i values) ≡ list_all (is_made_said name offset) values
 
 pub nothing_made : (name : List ℕ) (offset : ℤ) (values : List LineValue) (old : List (List ℕ)) → HasMade name offset values old old 0
 nothing_made name offset values old = record { goes_on = refl; said = refl }
-
-step : (values : List LineValue) (i : ℕ) → i < length values → drop i values ≡ get_or values i space ∷ drop (i + 1) values
-step values i inside = grind (arith, drop-cons)
 
 value_read : (values : List LineValue) (places : List ℕ) (i : ℕ) → i < length places
     → value_in values (get_or places i 0) ≡ get_or (map (value_in values) places) i space
@@ -100,12 +97,13 @@ one_made name offset values places old before now i v said inside is so_far adde
     let found = map (value_in values) places in
     let here = is ∙ value_read values places i inside in
     let left : drop i found ≡ v ∷ drop (i + 1) found =
-    step found i (omega (arith, inside, length-map places (value_in values))) ∙ ap (λ w. w ∷ drop (i + 1) found) (sym here) in
+    drop_more found i space (omega (arith, inside, length-map places (value_in values))) ∙ ap (λ w. w ∷ drop (i + 1) found) (sym here) in
     let fits = sym added.told ∙ is_yes in
     record {
-      goes_on = ap (λ vs. vs ++ flat_map (made_lines name offset) (drop (i + 1) found)) (added.added is_yes)
-          ∙ append_assoc (map source_value before) (made_lines name offset v) _
-          ∙ ap (λ vs. map source_value before ++ flat_map (made_lines name offset) vs) (sym left) ∙ so_far.goes_on;
+      goes_on = ap (λ ts. ts ++ map plain_text (flat_map (made_lines name offset) (drop (i + 1) found))) (added.added is_yes)
+          ∙ append_assoc before (map plain_text (made_lines name offset v)) (map plain_text (flat_map (made_lines name offset) (drop (i + 1) found)))
+          ∙ ap (λ ts. before ++ ts) (sym (map-append plain_text (made_lines name offset v) (flat_map (made_lines name offset) (drop (i + 1) found))))
+          ∙ ap (λ vs. before ++ map plain_text (flat_map (made_lines name offset) vs)) (sym left) ∙ so_far.goes_on;
       said = ap (λ b. b && list_all (is_made_said name offset) (drop (i + 1) found)) (sym fits)
           ∙ ap (list_all (is_made_said name offset)) (sym left) ∙ so_far.said;
     }
@@ -118,7 +116,7 @@ one_unsaid name offset values places old before now i v said inside is so_far ad
     let found = map (value_in values) places in
     let here = is ∙ value_read values places i inside in
     let left : drop i found ≡ v ∷ drop (i + 1) found =
-    step found i (omega (arith, inside, length-map places (value_in values))) ∙ ap (λ w. w ∷ drop (i + 1) found) (sym here) in
+    drop_more found i space (omega (arith, inside, length-map places (value_in values))) ∙ ap (λ w. w ∷ drop (i + 1) found) (sym here) in
     record {
       told = ap (λ b. b && list_all (is_made_said name offset) (drop (i + 1) found)) (sym is_no ∙ added.told)
           ∙ ap (list_all (is_made_said name offset)) (sym left) ∙ so_far.said;
@@ -133,7 +131,7 @@ all_made name offset values places old now i past so_far =
     let none = drop_all i found (omega (arith, past, length-map places (value_in values))) in
     record {
       told = ap (list_all (is_made_said name offset)) (sym none) ∙ so_far.said;
-      added = λ is_yes. sym (append-nil (map source_value now)) ∙ ap (λ vs. map source_value now ++ flat_map (made_lines name offset) vs) (sym none) ∙ so_far.goes_on;
+      added = λ is_yes. sym (append-nil now) ∙ ap (λ vs. now ++ map plain_text (flat_map (made_lines name offset) vs)) (sym none) ∙ so_far.goes_on;
     }
 
 pub ruleset_named : (values : List LineValue) (old new : List (List ℕ)) (text name : List ℕ) (pair : Pair) (offset : ℤ) (places : List ℕ) (said : Bool) → text ≡ name

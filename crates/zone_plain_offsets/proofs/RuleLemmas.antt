@@ -1,13 +1,13 @@
 -- What was added of a rule, of a ruleset and of a line.
 use Rattle.std.proofs.Common.{◌≡◌, ℕ, ℤ, Bool, true, false, not, cond, List, [], ◌∷◌, ◌++◌, map, Some, None, refl, sym, ap, ◌∙◌, subst, append-nil}
 use Rattle.std.specs.Prelude.{◌&&◌, if◌then◌else◌}
-use Rattle.zone_source.specs.Zones.{source_value}
+use Rattle.zone_plain_text.specs.PlainTexts.{plain_text}
 use Rattle.zone_values.specs.Values.{RuleValue, LineValue, rule}
 use Rattle.zone_plain_base.specs.Said.{is_said}
 use Rattle.zone_plain_offsets.specs.Formats.{Around}
 use Rattle.zone_plain_offsets.specs.OffsetTexts.{offset_text, has_text}
 use Rattle.zone_plain_offsets.specs.Pairs.{Pair, with_pair}
-use Rattle.zone_plain_offsets.specs.Made.{total_of, renamed, made_rule, is_rule_said, rules_for, are_rules_said, with_format, filled, named_in}
+use Rattle.zone_plain_offsets.specs.Made.{total_of, renamed, made_rule, is_rule_said, rules_for, are_rules_said, with_format, around_text, named_in}
 use Rattle.zone_plain_offsets.specs.Told.{IsAdded, AreAdded, new_rules, are_new_said}
 use Rattle.zone_plain_offsets.proofs.PairLemmas.{is_among}
 
@@ -44,18 +44,18 @@ rule_added old new name offset r found letters v said e text is added =
     let made_is : v ≡ rule (made_rule name offset r) = is ∙ ap (λ l. rule (renamed r name l)) (text ∙ ap offset_text both.1) in
     record {
       told = added.told ∙ ap is_said made_is ∙ ap (λ b. b && is_said (rule (made_rule name offset r))) (sym both.0);
-      added = λ is_yes. added.added is_yes ∙ ap (λ w. map source_value old ++ w ∷ []) made_is;
+      added = λ is_yes. added.added is_yes ∙ ap (λ w. old ++ plain_text w ∷ []) made_is;
     }
 
 pub total_unsaid : (old : List (List ℕ)) (v : LineValue) (t : ℤ) → has_text t ≡ false → AreAdded old old (v ∷ []) (has_text t && is_said v) false
 total_unsaid old v t is_no = record { told = ap (λ b. b && is_said v) (sym is_no); added = λ is_yes. absurd (cc) }
 
 pub total_added : (old new : List (List ℕ)) (v : LineValue) (parts : Around) (format : List ℕ) (t : ℤ) (said : Bool) → has_text t ≡ true
-    → format ≡ filled parts (offset_text t) → IsAdded old new (with_format v format) said
-    → AreAdded old new (with_format v (filled parts (offset_text t)) ∷ []) (has_text t && is_said (with_format v (filled parts (offset_text t)))) said
+    → format ≡ around_text parts (offset_text t) → IsAdded old new (with_format v format) said
+    → AreAdded old new (with_format v (around_text parts (offset_text t)) ∷ []) (has_text t && is_said (with_format v (around_text parts (offset_text t)))) said
 total_added old new v parts format t said has is added = record {
-  told = added.told ∙ ap (λ f. is_said (with_format v f)) is ∙ ap (λ b. b && is_said (with_format v (filled parts (offset_text t)))) (sym has);
-  added = λ is_yes. added.added is_yes ∙ ap (λ f. map source_value old ++ with_format v f ∷ []) is;
+  told = added.told ∙ ap (λ f. is_said (with_format v f)) is ∙ ap (λ b. b && is_said (with_format v (around_text parts (offset_text t)))) (sym has);
+  added = λ is_yes. added.added is_yes ∙ ap (λ f. old ++ plain_text (with_format v f) ∷ []) is;
 }
 
 -- a pair that was asked for before has its rules already
@@ -66,7 +66,7 @@ known_rules values mark pairs pair old is_new e is_no = by_test (is_among pair p
     by_test : (b : Bool) → not b ≡ false
         → AreAdded old old (cond b [] (rules_for values (named_in mark (with_pair pairs pair) pair) pair))
         (cond b true (are_rules_said values (named_in mark (with_pair pairs pair) pair) pair)) true
-    by_test true e = record { told = refl; added = λ is_yes. sym (append-nil (map source_value old)) }
+    by_test true e = record { told = refl; added = λ is_yes. sym (append-nil old) }
     by_test false e = absurd (cc)
 
 pub new_added : (values : List LineValue) (mark : List ℕ) (pairs : List Pair) (pair : Pair) (name : List ℕ) (old new : List (List ℕ)) (is_new said : Bool)

@@ -1,5 +1,5 @@
 -- Worked rows: the lines of a source with `%z` written out.
-use Rattle.std.proofs.Common.{◌≡◌, ℕ, List, [], ◌∷◌, pos, Option, Some, None, Ok, Err, refl}
+use Rattle.std.proofs.Common.{◌≡◌, ℕ, suc, List, [], ◌∷◌, map, pos, Option, Some, None, Ok, Err, true, cond, not, nat_lt, refl, ap, ◌∙◌}
 use Rattle.std.specs.Prelude.{codes}
 use Rattle.std.specs.Fmt.{digits}
 use Rattle.zone_values.specs.Seconds.{with_type}
@@ -11,15 +11,16 @@ use Rattle.zone_values.specs.declared.time.TimeSpec.TheVariants.{Hours, HoursMin
 use Rattle.zone_values.specs.declared.time.TimeType.TheVariants.{Wall}
 use Rattle.zone_values.specs.declared.year.Year.TheVariants.{Minimum}
 use Rattle.zone_plain_lines.specs.declared.cause.PlainCause.TheVariants as cause
-use Rattle.zone_plain_base.specs.LineFaults.{at}
+use Rattle.zone_plain_text.specs.PlainTexts.{plain_text, rule_text, years_text, year_text, to_text, moment_text, day_text, time_text}
+use Rattle.zone_plain_base.specs.LineFaults.{at, bad_line, too_long}
 use Rattle.zone_plain_names.specs.Marks.{ending_within}
 use Rattle.zone_plain_names.specs.Renamed.{mark_of}
 use Rattle.zone_plain_offsets.specs.Formats.{around_mark}
-use Rattle.zone_plain_offsets.specs.Made.{rules_named, made}
+use Rattle.zone_plain_offsets.specs.Made.{is_changed_said, name_in, rules_named, made_for, made}
 use Rattle.zone_plain_offsets.specs.Names.{made_name}
 use Rattle.zone_plain_offsets.specs.OffsetTexts.{offset_text}
-use Rattle.zone_plain_offsets.specs.Pairs.{asked_by, pairs_from}
-use Rattle.zone_plain_offsets.specs.WrittenOut.{unsaid_from, written_unless, written_out}
+use Rattle.zone_plain_offsets.specs.Pairs.{Pair, asked, asked_by, joined_by, pairs_from, pairs_of}
+use Rattle.zone_plain_offsets.specs.WrittenOut.{made_size, refused_from, written_unless, written_out}
 
 -- a rule by its ruleset, its saving and its letters
 abbrev a_rule : List ℕ → TimeSpec → Option (List ℕ) → LineValue
@@ -76,11 +77,92 @@ unfolding asked_by around_mark pairs_from made rules_named mark_of ending_within
 written_lines = refl
 
 -- a total of 100 hours, of a line or of a rule that it asks for, is told of that line
-too_far : written_out (space ∷ a_line (Hours (pos 99)) (one_off (Hours (pos 1))) (codes "%z") ∷ []) ≡ Err (at 2 cause.Unsayable)
-unfolding written_out unsaid_from asked_by around_mark
+too_far : written_out (space ∷ a_line (Hours (pos 99)) (one_off (Hours (pos 1))) (codes "%z") ∷ []) ≡ Err (bad_line (at 2 cause.Unsayable))
+unfolding written_out refused_from asked_by around_mark
 too_far = refl
 
-rule_too_far : written_out (a_rule (codes "d") (Hours (pos 1)) None ∷ a_line (Hours (pos 99)) (multiple (codes "d")) (codes "%z") ∷ [])
-    ≡ Err (at 2 cause.Unsayable)
-unfolding written_out unsaid_from asked_by around_mark rules_named
+abbrev too_far_under : List LineValue
+too_far_under = a_rule (codes "d") (Hours (pos 1)) None ∷ a_line (Hours (pos 99)) (multiple (codes "d")) (codes "%z") ∷ []
+
+rule_too_far : written_out too_far_under ≡ Err (bad_line (at 2 cause.Unsayable))
+unfolding written_out refused_from asked_by around_mark rules_named
 rule_too_far = refl
+
+-- what is told of a line comes before the length of what it asks for
+line_before_length : refused_from 0 too_far_under 1 [] too_far_under ≡ Some (bad_line (at 2 cause.Unsayable))
+unfolding refused_from asked_by around_mark rules_named
+line_before_length = refl
+
+-- a ruleset for the first offset takes 34 bytes, and so does one for the second
+abbrev ruled : TimeSpec → LineValue
+ruled offset = a_line offset (multiple (codes "d")) (codes "%z")
+
+abbrev first : LineValue
+first = ruled (Hours (pos 2))
+
+abbrev second : LineValue
+second = ruled (Hours (pos 3))
+
+abbrev under_one : List LineValue → List LineValue
+under_one lines = a_rule (codes "d") (Hours (pos 1)) None ∷ lines
+
+abbrev two : List LineValue
+two = under_one (first ∷ second ∷ [])
+
+made_texts : map plain_text (made_for two (pairs_of two))
+    ≡ codes "Rule _a min only - Jun 14 0 1 +03" ∷ codes "Rule _b min only - Jun 14 0 1 +04" ∷ []
+unfolding asked_by around_mark pairs_from rules_named mark_of ending_within made_name offset_text plain_text rule_text years_text year_text to_text moment_text day_text time_text digits
+made_texts = refl
+
+two_sizes : made_size two (pairs_of two) ≡ 68
+unfolding asked_by around_mark pairs_from rules_named mark_of ending_within made_name offset_text plain_text rule_text years_text year_text to_text moment_text day_text time_text digits
+two_sizes = refl
+
+-- where the line can be said, its length decides
+by_length : (limit : ℕ) (all : List LineValue) (n : ℕ) (pairs : List Pair) (v : LineValue) (values : List LineValue)
+    → is_changed_said all (name_in all) (asked v) v ≡ true
+    → refused_from limit all n pairs (v ∷ values)
+    ≡ cond (nat_lt limit (made_size all (joined_by (asked v) pairs))) (Some too_long) (refused_from limit all (suc n) (joined_by (asked v) pairs) values)
+unfolding refused_from
+by_length limit all n pairs v values said =
+    ap (λ b. cond (not b) (Some (bad_line (at n cause.Unsayable)))
+    (cond (nat_lt limit (made_size all (joined_by (asked v) pairs))) (Some too_long) (refused_from limit all (suc n) (joined_by (asked v) pairs) values))) said
+
+-- the same pair again is counted once
+abbrev again : List LineValue
+again = under_one (first ∷ first ∷ [])
+
+again_at_limit : is_changed_said again (name_in again) (asked first) first ≡ true → refused_from 34 again 1 [] again ≡ None
+unfolding refused_from asked_by around_mark pairs_from rules_named mark_of ending_within made_name offset_text plain_text rule_text years_text year_text to_text moment_text day_text time_text digits
+again_at_limit said =
+    by_length 34 again 2 [] first (first ∷ []) said ∙ by_length 34 again 3 (joined_by (asked first) []) first [] said
+
+again_past : is_changed_said again (name_in again) (asked first) first ≡ true → refused_from 33 again 1 [] again ≡ Some too_long
+unfolding refused_from asked_by around_mark pairs_from rules_named mark_of ending_within made_name offset_text plain_text rule_text years_text year_text to_text moment_text day_text time_text digits
+again_past said = by_length 33 again 2 [] first (first ∷ []) said
+
+-- and another one with it
+two_at_limit : is_changed_said two (name_in two) (asked first) first ≡ true → is_changed_said two (name_in two) (asked second) second ≡ true
+    → refused_from 68 two 1 [] two ≡ None
+unfolding refused_from asked_by around_mark pairs_from rules_named mark_of ending_within made_name offset_text plain_text rule_text years_text year_text to_text moment_text day_text time_text digits
+two_at_limit said then_said =
+    by_length 68 two 2 [] first (second ∷ []) said ∙ by_length 68 two 3 (joined_by (asked first) []) second [] then_said
+
+two_past : is_changed_said two (name_in two) (asked first) first ≡ true → is_changed_said two (name_in two) (asked second) second ≡ true
+    → refused_from 67 two 1 [] two ≡ Some too_long
+unfolding refused_from asked_by around_mark pairs_from rules_named mark_of ending_within made_name offset_text plain_text rule_text years_text year_text to_text moment_text day_text time_text digits
+two_past said then_said =
+    by_length 67 two 2 [] first (second ∷ []) said ∙ by_length 67 two 3 (joined_by (asked first) []) second [] then_said
+
+-- a line with which the rulesets are too long is told before a later one that can't be said
+abbrev then_far : List LineValue
+then_far = under_one (first ∷ a_line (Hours (pos 99)) (one_off (Hours (pos 1))) (codes "%z") ∷ [])
+
+length_before_later : is_changed_said then_far (name_in then_far) (asked first) first ≡ true → refused_from 33 then_far 1 [] then_far ≡ Some too_long
+unfolding refused_from asked_by around_mark pairs_from rules_named mark_of ending_within made_name offset_text plain_text rule_text years_text year_text to_text moment_text day_text time_text digits
+length_before_later said = by_length 33 then_far 2 [] first (a_line (Hours (pos 99)) (one_off (Hours (pos 1))) (codes "%z") ∷ []) said
+
+later_at_limit : is_changed_said then_far (name_in then_far) (asked first) first ≡ true
+    → refused_from 34 then_far 1 [] then_far ≡ Some (bad_line (at 3 cause.Unsayable))
+unfolding refused_from asked_by around_mark pairs_from rules_named mark_of ending_within made_name offset_text plain_text rule_text years_text year_text to_text moment_text day_text time_text digits
+later_at_limit said = by_length 34 then_far 2 [] first (a_line (Hours (pos 99)) (one_off (Hours (pos 1))) (codes "%z") ∷ []) said

@@ -85,15 +85,15 @@ with_ruleset space other = space
 with_ruleset (rule r) other = rule r
 with_ruleset (link existing new) other = link existing new
 
--- the parts of a format with a text between
-abbrev pub filled : Around → List ℕ → List ℕ
-filled parts text = (parts.before ++ text) ++ parts.after
+-- the parts of a format around a text
+abbrev pub around_text : Around → List ℕ → List ℕ
+around_text parts text = (parts.before ++ text) ++ parts.after
 
 -- what becomes of a line, by the names of the rulesets that are made
 abbrev pub changed_by : (Pair → List ℕ) → Asked → LineValue → LineValue
 changed_by name_of nothing v = v
-changed_by name_of (total parts t) v = with_format v (filled parts (offset_text t))
-changed_by name_of (under parts pair) v = with_ruleset (with_format v (filled parts (codes "%s"))) (name_of pair)
+changed_by name_of (total parts t) v = with_format v (around_text parts (offset_text t))
+changed_by name_of (under parts pair) v = with_ruleset (with_format v (around_text parts (codes "%s"))) (name_of pair)
 
 abbrev pub changed : (Pair → List ℕ) → LineValue → LineValue
 changed name_of v = changed_by name_of (asked v) v
@@ -113,6 +113,10 @@ named_in mark pairs pair = made_name mark (number_of pairs pair)
 abbrev pub name_in : List LineValue → Pair → List ℕ
 name_in values = named_in (mark_of values) (pairs_of values)
 
--- the rules that are made, a ruleset after the other
+-- the rules that are made for pairs, a ruleset after the other
+abbrev pub made_for : List LineValue → List Pair → List LineValue
+made_for values pairs = flat_map (λ pair. rules_for values (name_in values pair) pair) pairs
+
+-- the rules that are made
 unfoldable pub made : List LineValue → List LineValue
-made values = flat_map (λ pair. rules_for values (name_in values pair) pair) (pairs_of values)
+made values = made_for values (pairs_of values)

@@ -3,6 +3,7 @@ use Rattle.std.proofs.Common.{◌≡◌, ℕ, suc, ◌+◌, ◌<◌, ◌^◌, Bo
 use Rattle.std.specs.Prelude.{◌&&◌, ◌||◌, flat_map, bytes_eq}
 use Rattle.std.specs.List.{list_any}
 use Rattle.std.proofs.lemmas.Slice.Eq.{bytes_eq-Decides}
+use Rattle.zone_outside.specs.Limit.{text_limit}
 use Rattle.zone_values.specs.Values.{RuleValue, LineValue, space, zone, continuation, rule, link}
 use Rattle.zone_plain_names.specs.Renamed.{mark_of}
 use Rattle.zone_plain_offsets.specs.NameLaws.{name_is_new, one_name}
@@ -11,7 +12,7 @@ use Rattle.zone_plain_offsets.specs.Made.{rules_named, made_rule, rules_for, cha
 use Rattle.std.specs.Ordering.{int_eq}
 use Rattle.std.proofs.lemmas.Bool.{and_parts}
 use Rattle.std.proofs.lemmas.Int.{ints}
-use Rattle.zone_plain_offsets.specs.WrittenOut.{unsaid_from, written_unless, written_out}
+use Rattle.zone_plain_offsets.specs.WrittenOut.{refused_from, written_unless, written_out}
 
 rules_append : (xs ys : List LineValue) (name : List ℕ) → rules_named (xs ++ ys) name ≡ rules_named xs name ++ rules_named ys name
 unfolding rules_named
@@ -228,11 +229,11 @@ made_named values pair few among =
 
 pub written_is : (values out : List LineValue) → written_out values ≡ Ok out → out ≡ map (changed (name_in values)) values ++ made values
 unfolding written_out
-written_is values out e = by_place (unsaid_from values 1 values) e
+written_is values out e = by_place (refused_from text_limit values 1 [] values) e
   where
     by_place : (o : _) → written_unless values o ≡ Ok out → out ≡ map (changed (name_in values)) values ++ made values
     by_place None e = cc
-    by_place (Some n) e = absurd (cc)
+    by_place (Some refusal) e = absurd (cc)
 
 -- where a source's lines are written out, the ruleset that is made for a pair has the rules of its ruleset in their order, each at the same
 -- time with the same saving, and as letters the text of the pair's offset with that saving

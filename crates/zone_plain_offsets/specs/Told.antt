@@ -1,5 +1,5 @@
 -- What the code's answers tell.
-use Rattle.std.specs.Prelude.{◌≡◌, ℕ, suc, ℤ, List, [], ◌∷◌, ◌++◌, Bool, true, false, ◌&&◌, codes, map, slice_index_or, unwrap_or, bytes_eq, if◌then◌else◌}
+use Rattle.std.specs.Prelude.{◌≡◌, ℕ, suc, ℤ, List, [], ◌∷◌, ◌++◌, Bool, true, false, ◌&&◌, nat_lt, Option, Some, None, codes, map, slice_index_or, unwrap_or, bytes_eq, if◌then◌else◌}
 use Rattle.std.specs.FinMap.{FinMap, get, insert}
 use Rattle.std.specs.List.{list_any}
 use Rattle.owned.specs.Keyed.{text_cmp}
@@ -7,8 +7,9 @@ use Rattle.owned.specs.Listed.{listed}
 use Rattle.zone_source.specs.Zones.{source_value}
 use Rattle.zone_values.specs.Values.{LineValue, space, zone, continuation, rule, link}
 use Rattle.zone_plain_offsets.specs.Pairs.{Pair, Asked, nothing, total, under, is_same, with_pair, joined_by, asked}
+use Rattle.zone_plain_text.specs.PlainTexts.{plain_text}
 use Rattle.zone_plain_base.specs.Said.{is_said}
-use Rattle.zone_plain_offsets.specs.Made.{named_in, rules_for, are_rules_said, made_rule, is_rule_said, with_format, with_ruleset, filled, changed_by}
+use Rattle.zone_plain_offsets.specs.Made.{named_in, rules_for, are_rules_said, made_rule, is_rule_said, with_format, with_ruleset, around_text, changed_by}
 use Rattle.zone_plain_offsets.specs.OffsetTexts.{offset_text, has_text}
 
 -- the value at a place, from 0 on
@@ -43,12 +44,12 @@ with_place groups (link existing new) place = groups
 -- a line was added where it can be said
 pub record IsAdded (old new : List (List ℕ)) (v : LineValue) (said : Bool) : Type 0 where
   pub told : said ≡ is_said v
-  pub added : said ≡ true → map source_value new ≡ map source_value old ++ v ∷ []
+  pub added : said ≡ true → new ≡ old ++ plain_text v ∷ []
 
 -- lines were added where each can be said
 pub record AreAdded (old new : List (List ℕ)) (values : List LineValue) (are_said said : Bool) : Type 0 where
   pub told : said ≡ are_said
-  pub added : said ≡ true → map source_value new ≡ map source_value old ++ values
+  pub added : said ≡ true → new ≡ old ++ map plain_text values
 
 -- what is made of a line, if it is a rule
 abbrev pub made_lines : List ℕ → ℤ → LineValue → List LineValue
@@ -83,15 +84,19 @@ asked_rules values mark pairs (under parts pair) = new_rules values mark pairs p
 
 abbrev pub is_asked_said : List LineValue → List ℕ → List Pair → Asked → LineValue → Bool
 is_asked_said values mark pairs nothing v = true
-is_asked_said values mark pairs (total parts t) v = has_text t && is_said (with_format v (filled parts (offset_text t)))
+is_asked_said values mark pairs (total parts t) v = has_text t && is_said (with_format v (around_text parts (offset_text t)))
 is_asked_said values mark pairs (under parts pair) v =
     are_new_said values mark pairs pair
-    && is_said (with_ruleset (with_format v (filled parts (codes "%s"))) (named_in mark (with_pair pairs pair) pair))
+    && is_said (with_ruleset (with_format v (around_text parts (codes "%s"))) (named_in mark (with_pair pairs pair) pair))
 
 -- a line was written out, and the ruleset was made that it asks for, if none was yet
 pub record IsWrittenOut (values : List LineValue) (mark : List ℕ) (old_pairs new_pairs : List Pair) (old_made new_made old new : List (List ℕ)) (v : LineValue) (said : Bool)
     : Type 0 where
   pub told : said ≡ is_asked_said values mark old_pairs (asked v) v
   pub pairs : new_pairs ≡ joined_by (asked v) old_pairs
-  pub made : said ≡ true → map source_value new_made ≡ map source_value old_made ++ asked_rules values mark old_pairs (asked v)
+  pub made : said ≡ true → new_made ≡ old_made ++ map plain_text (asked_rules values mark old_pairs (asked v))
   pub added : said ≡ true → map source_value new ≡ map source_value old ++ changed_by (named_in mark new_pairs) (asked v) v ∷ []
+
+-- a size, where it isn't past a limit
+abbrev pub within : ℕ → ℕ → Option ℕ
+within limit size = if nat_lt limit size then None else Some size

@@ -2,7 +2,7 @@
 ghost use Rattle.std.specs.Prelude.{◌≡◌, option_map, string_bytes, IfOk};
 ghost use Rattle.zone_plain_lines.specs.Numbers.{cut};
 ghost use Rattle.zone_plain_offsets.specs.Formats.{after_z, around_mark};
-ghost use Rattle.zone_plain_offsets.specs.Made.{filled};
+ghost use Rattle.zone_plain_offsets.specs.Made.{around_text};
 ghost use Rattle.zone_plain_offsets.specs.Shown.{parts_shown};
 
 use std::alloc::{AllocError, Global};
@@ -40,10 +40,10 @@ pub(crate) fn around_mark(format: &str) -> Option<Around<'_>>
     Some(Around { before, after })
 }
 
-/// The parts of a format with a text between.
+/// The parts of a format around a text.
 #[tactic(auto, using(std::proofs::Common::append_assoc))]
-pub(crate) fn filled(alloc: Global, parts: &Around<'_>, text: &str) -> Result<String, AllocError>
-    ensures { IfOk result (λ format. string_bytes format ≡ filled (parts_shown parts.now) text.now) }
+pub(crate) fn around_text(alloc: Global, parts: &Around<'_>, text: &str) -> Result<String, AllocError>
+    ensures { IfOk result (λ format. string_bytes format ≡ around_text (parts_shown parts.now) text.now) }
 {
     let mut format = String::new(alloc);
     format.push_str(parts.before)?;

@@ -9,6 +9,7 @@ mod made;
 mod name;
 mod offset;
 mod pairs;
+mod size;
 mod stage;
 
 pub use laws::{abbreviations, made_names, made_rulesets, one_total};

@@ -2,10 +2,10 @@
 ghost use Rattle.std.specs.Prelude.{◌≡◌, ◌<◌, [], ◌∷◌, ◌++◌, ◌&&◌, Ok, length, map, codes, string_bytes, IfOk, IfErr, OnOk};
 ghost use Rattle.zone_source.specs.Zones.{source_value};
 ghost use Rattle.zone_values.specs.Values.{line_value};
-ghost use Rattle.zone_plain_base.specs.LineFaults.{IsFaultOf, by_line};
+ghost use Rattle.zone_plain_base.specs.LineFaults.{IsFaultOf};
 ghost use Rattle.zone_plain_base.specs.LinesAt.{value_at};
 ghost use Rattle.zone_plain_base.specs.Said.{is_said};
-ghost use Rattle.zone_plain_offsets.specs.Made.{with_format, with_ruleset, filled, named_in, rules_for, are_rules_said};
+ghost use Rattle.zone_plain_offsets.specs.Made.{with_format, with_ruleset, around_text, named_in, rules_for, are_rules_said};
 ghost use Rattle.zone_plain_offsets.specs.Pairs.{with_pair};
 ghost use Rattle.zone_plain_names.specs.Renamed.{mark_of};
 ghost use Rattle.zone_plain_offsets.specs.OffsetTexts.{offset_text, has_text};
@@ -14,12 +14,13 @@ ghost use Rattle.zone_plain_offsets.specs.Told.{IsGrouped, IsAdded, AreAdded, Is
 ghost use Rattle.zone_plain_offsets.specs.WrittenOut.{written_out};
 
 use crate::asked::{Asked, asked_of, with_format, with_ruleset};
-use crate::format::{Around, filled};
+use crate::format::{Around, around_text};
 use crate::group::{line_in, places_by_name, places_of};
 use crate::made::{add_rules, add_said};
 use crate::name::made_name;
 use crate::offset::{has_text, offset_text};
 use crate::pairs::{Pair, Pairs, offset_of};
+use crate::size::size_from;
 use owned::{Items, TextMap};
 use std::alloc::{AllocError, Global};
 use zone_line::{Line, LineParser, LineReader};
@@ -65,14 +66,14 @@ fn add_with_total(
     total: i64,
     out: &mut LineList,
 ) -> Result<bool, AllocError>
-    ensures { IfOk result (AreAdded out.old out.new (with_format (line_value line.now) (filled (parts_shown parts.now) (offset_text total)) ∷ [])
-        (has_text total && is_said (with_format (line_value line.now) (filled (parts_shown parts.now) (offset_text total))))) }
+    ensures { IfOk result (AreAdded out.old out.new (with_format (line_value line.now) (around_text (parts_shown parts.now) (offset_text total)) ∷ [])
+        (has_text total && is_said (with_format (line_value line.now) (around_text (parts_shown parts.now) (offset_text total))))) }
 {
     if !has_text(total) {
         return Ok(false);
     }
     let text = offset_text(alloc, total)?;
-    let format = filled(alloc, parts, text.as_str())?;
+    let format = around_text(alloc, parts, text.as_str())?;
     let line = *line;
     let is_said = add_with_format(alloc, reader, &line, format.as_str(), out)?;
     Ok(is_said)
@@ -87,9 +88,9 @@ fn add_under(
     name: &str,
     out: &mut LineList,
 ) -> Result<bool, AllocError>
-    ensures { IfOk result (IsAdded out.old out.new (with_ruleset (with_format (line_value line.now) (filled (parts_shown parts.now) (codes "%s"))) name.now)) }
+    ensures { IfOk result (IsAdded out.old out.new (with_ruleset (with_format (line_value line.now) (around_text (parts_shown parts.now) (codes "%s"))) name.now)) }
 {
-    let format = filled(alloc, parts, "%s")?;
+    let format = around_text(alloc, parts, "%s")?;
     let line = *line;
     add_with_ruleset(alloc, reader, &line, format.as_str(), name, out)
 }
@@ -204,7 +205,8 @@ fn add_all(lines: &LineList, out: &mut LineList) -> Result<(), AllocError>
     Ok(())
 }
 
-/// The lines with `%z` written out, and behind them the rules that are made; or the first that can't be said.
+/// The lines with `%z` written out, and behind them the rules that are made; or why they are refused. The rules that a line asks for
+/// are counted as soon as they are made, since a few lines can ask for many times their own size.
 fn write_lines(
     alloc: Global,
     reader: &mut LineReader<'_>,
@@ -217,17 +219,23 @@ fn write_lines(
     requires grouped { IsGrouped (map line_value lines.now) groups.now }
     requires mark { mark.now ≡ mark_of (map line_value lines.now) }
     ensures ok { IfOk result (λ out. written_out (map source_value texts.now) ≡ Ok (map source_value out)) }
-    ensures err { IfErr result (IsFaultOf (by_line (written_out (map source_value texts.now)))) }
+    ensures err { IfErr result (IsFaultOf (written_out (map source_value texts.now))) }
 {
     let mut pairs = Pairs::new(alloc);
     let mut made = LineList::new(alloc);
     let mut out = LineList::new(alloc);
+    let mut size = 0;
     for place in 0..texts.len() {
+        let count = made.len();
         if !write_line(
             alloc, reader, texts, lines, groups, mark, place, &mut pairs, &mut made, &mut out,
         )? {
             return Err(PlainFault::Line(place + 1, PlainCause::Unsayable));
         }
+        size = match size_from(&made, count, size) {
+            Some(size) => size,
+            None => return Err(PlainFault::TooLong),
+        };
     }
     add_all(&made, &mut out)?;
     Ok(out)
@@ -237,14 +245,16 @@ fn write_lines(
 ///
 /// # Errors
 ///
-/// `Line` tells the first line for which something can't be said: a total of 100 hours or more, or what isn't read as it is meant.
+/// `Line` tells the first line for which something can't be said (`Unsayable`): a total of 100 hours or more, or what isn't read as it
+/// is meant. `TooLong` comes at the first line with which the rules that are made take more than 16,777,216 bytes, each with its line
+/// feed; the lines after it aren't looked at.
 pub fn write_out(
     alloc: Global,
     parser: &LineParser,
     lines: &LineList,
 ) -> Result<LineList, PlainFault>
     ensures ok { IfOk result (λ out. written_out (map source_value lines.now) ≡ Ok (map source_value out)) }
-    ensures err { IfErr result (IsFaultOf (by_line (written_out (map source_value lines.now)))) }
+    ensures err { IfErr result (IsFaultOf (written_out (map source_value lines.now))) }
 {
     let mut reader = parser.reader(alloc)?;
     let read = lines_read(alloc, &mut reader, lines)?;

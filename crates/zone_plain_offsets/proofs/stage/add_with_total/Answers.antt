@@ -1,6 +1,6 @@
 use Rattle.std.proofs.Common.{◌∙◌, sym, ap, to_z-of_z}
 use Rattle.zone_plain_offsets.specs.OffsetTexts.{offset_text, has_text}
-use Rattle.zone_plain_offsets.specs.Made.{filled}
+use Rattle.zone_plain_offsets.specs.Made.{around_text}
 use Rattle.zone_plain_offsets.specs.Shown.{parts_shown}
 use Rattle.zone_plain_offsets.proofs.RuleLemmas.{total_unsaid, total_added}
 use Rattle.zone_plain_offsets.proofs.stage.add_with_total.Goals as goal
@@ -15,5 +15,5 @@ returns c =
     let total = to_z-of_z c.ranges.total in
     total_added _ _ _ (parts_shown c.args.parts.now) _ c.args.total _ (ap has_text (sym total) ∙ sym c.has_text.ensures ∙ c.if-not-has_text.false)
     (c.as_str-2.ensures.value ∙ c.in_ok-format.ensures
-    ∙ ap (filled (parts_shown c.args.parts.now)) (c.as_str.ensures.value ∙ c.in_ok-text.ensures ∙ ap offset_text total))
+    ∙ ap (around_text (parts_shown c.args.parts.now)) (c.as_str.ensures.value ∙ c.in_ok-text.ensures ∙ ap offset_text total))
     c.in_ok-is_said.ensures
