@@ -83,12 +83,11 @@ too_short second text there short =
     subst (λ o. IfSome o (λ left. LIMIT < length left)) there (second.long_text refl) in omega (arith, long, short)
 
 -- where the input failed, neither text gave too much
-pub no_more_failed : {name : List ℕ} {before now : Seen} {source : List ℕ}
-    → Read (before.shelf.told name) now.shelf.left before.shelf.given now.shelf.given source → NotRead before.input now.input read.Failed
+pub no_more_failed : (name : List ℕ) (before now : Seen) (source : List ℕ) → Read (before.shelf.told name) now.shelf.left before.shelf.given now.shelf.given source → NotRead before.input now.input read.Failed
     → (before.shelf.given + LIMIT < now.shelf.given) ⊎ (before.input.given + LIMIT < now.input.given) → ⊥
-no_more_failed {before} {now} {source} first second (inl more) =
+no_more_failed name before now source first second (inl more) =
     not_more before.shelf.given now.shelf.given (length source) first.given first.within more
-no_more_failed first second (inr more) = omega (arith, second.failed_given refl, more)
+no_more_failed name before now source first second (inr more) = omega (arith, second.failed_given refl, more)
 
 pub read_not_ended : (status.Read ≡ status.Done) ⊎ (status.Read ≡ status.Fault) → ⊥
 read_not_ended (inl e) = absurd (cc)

@@ -1,5 +1,5 @@
 -- How a run ends.
-use Rattle.std.specs.Prelude.{◌≡◌, ◌≢◌, ◌⊎◌, ◌↔◌, ◌+◌, ◌<◌, ◌≤◌, [], length, Option, Some, IsNone, All}
+use Rattle.std.specs.Prelude.{◌≡◌, ◌≢◌, ◌⊎◌, ◌↔◌, ◌+◌, ◌<◌, ◌≤◌, [], length, Option, None, Some, IsNone, All}
 use Rattle.zone_outside.specs.Outside.{Rose, TooMuch}
 use Rattle.zone_outside.specs.Limit.{text_limit}
 use Rattle.zone_answers.specs.Due.{shown, due_bytes}

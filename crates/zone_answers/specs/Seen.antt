@@ -11,8 +11,8 @@ pub record Seen : Type 0 where
   pub input : InputSeen
   pub output : OutputSeen
 
-abbrev pub seen : {H I O : Type 0} → SourceOf H → SourceOf I → SinkOf O → H → I → O → Seen
-seen of_shelf of_input of_output shelf input output = record {
+abbrev pub run_seen : {H I O : Type 0} → SourceOf H → SourceOf I → SinkOf O → H → I → O → Seen
+run_seen of_shelf of_input of_output shelf input output = record {
   shelf = shelf_seen of_shelf shelf;
   input = input_seen of_input input;
   output = output_seen of_output output;

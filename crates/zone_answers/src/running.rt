@@ -5,7 +5,7 @@ ghost use Rattle.zone_source.specs.Statuses.{EndsBy, IsPastLimit};
 ghost use Rattle.zone_answers.specs.Faults.{fault};
 ghost use Rattle.zone_answers.specs.Generated.{Generated, WritesMade, made_fault};
 ghost use Rattle.zone_outside.specs.Seen.{output_seen};
-ghost use Rattle.zone_answers.specs.Seen.{seen};
+ghost use Rattle.zone_answers.specs.Seen.{run_seen};
 ghost use Rattle.zone_answers.specs.Words.{answer_over, count_of, file_of, task_of};
 
 use crate::made::{made_requests, made_source};
@@ -34,11 +34,11 @@ pub fn run<H: Shelf, I: Source, O: Sink>(
 ) -> Status
     requires { (name : List ℕ) → file_of (task_of words.now) ≡ Some name → H.open_to shelf.old name }
     ensures ends { Ends (task_of words.now)
-        (seen H.Source I.Source O.Sink shelf.old input.old output.old)
-        (seen H.Source I.Source O.Sink shelf.new input.new output.new) result }
+        (run_seen H.Source I.Source O.Sink shelf.old input.old output.old)
+        (run_seen H.Source I.Source O.Sink shelf.new input.new output.new) result }
     ensures generated { IfSome (count_of (task_of words.now)) (λ count. Generated count
-        (seen H.Source I.Source O.Sink shelf.old input.old output.old)
-        (seen H.Source I.Source O.Sink shelf.new input.new output.new) result) }
+        (run_seen H.Source I.Source O.Sink shelf.old input.old output.old)
+        (run_seen H.Source I.Source O.Sink shelf.new input.new output.new) result) }
 {
     match Task::read(words) {
         Some(Task::AnswerOver(name)) => run_over(alloc, parser, name, shelf, input, output),
@@ -58,8 +58,8 @@ fn run_over<H: Shelf, I: Source, O: Sink>(
 ) -> Status
     requires { H.open_to shelf.old name.now }
     ensures { Ends (Some (answer_over name.now))
-        (seen H.Source I.Source O.Sink shelf.old input.old output.old)
-        (seen H.Source I.Source O.Sink shelf.new input.new output.new) result }
+        (run_seen H.Source I.Source O.Sink shelf.old input.old output.old)
+        (run_seen H.Source I.Source O.Sink shelf.new input.new output.new) result }
 {
     let source = match fetch_all(alloc, shelf, name) {
         Ok(source) => source,

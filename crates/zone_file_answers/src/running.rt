@@ -1,6 +1,6 @@
 //! The top call.
 ghost use Rattle.std.specs.Prelude.{◌≡◌, ℕ, List, Some};
-ghost use Rattle.zone_answers.specs.Seen.{seen};
+ghost use Rattle.zone_answers.specs.Seen.{run_seen};
 ghost use Rattle.zone_file_answers.specs.Ends.{Ends};
 ghost use Rattle.zone_source.specs.FileWords.{file_of};
 
@@ -23,8 +23,8 @@ pub fn run<H: Shelf, I: Source, O: Sink>(
 ) -> Status
     requires { (name : List ℕ) → file_of words.now ≡ Some name → H.open_to shelf.old name }
     ensures { Ends (file_of words.now)
-        (seen H.Source I.Source O.Sink shelf.old input.old output.old)
-        (seen H.Source I.Source O.Sink shelf.new input.new output.new) result }
+        (run_seen H.Source I.Source O.Sink shelf.old input.old output.old)
+        (run_seen H.Source I.Source O.Sink shelf.new input.new output.new) result }
 {
     match words {
         [name] => run_over(alloc, name.as_str(), shelf, input, output),
@@ -42,8 +42,8 @@ fn run_over<H: Shelf, I: Source, O: Sink>(
 ) -> Status
     requires { H.open_to shelf.old name.now }
     ensures { Ends (Some name.now)
-        (seen H.Source I.Source O.Sink shelf.old input.old output.old)
-        (seen H.Source I.Source O.Sink shelf.new input.new output.new) result }
+        (run_seen H.Source I.Source O.Sink shelf.old input.old output.old)
+        (run_seen H.Source I.Source O.Sink shelf.new input.new output.new) result }
 {
     let file = match fetch_all(alloc, shelf, name) {
         Ok(file) => file,
