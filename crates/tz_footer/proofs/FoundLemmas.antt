@@ -1,9 +1,9 @@
 -- What is read is spelled.
-use Rattle.std.proofs.Common.{◌≡◌, ℕ, inl, inr, List, [], ◌∷◌, length, Option, Some, None, subst, nat_eq, append_assoc, append-nil}
+use Rattle.std.proofs.Common.{◌≡◌, ℕ, inl, inr, List, [], ◌∷◌, length, Option, Some, None, subst, eqb-true, nat_eq, append_assoc, append-nil}
 use Rattle.std.proofs.lemmas.List.{nil_from_length}
 use Rattle.std.proofs.lemmas.Option.{cond_some, same_Some}
 use Rattle.calendar.specs.LogicLaws.{bind_some, map_some}
-use Rattle.tz_posix_core.specs.FoundLaws.{nat_eq-true, Takes, takes, takes_as, chosen, mark_found, marked}
+use Rattle.tz_posix_core.specs.FoundLaws.{Takes, takes, takes_as, chosen, mark_found, marked}
 use Rattle.tz_posix_core.specs.FoundLaws.{offset_found, name_found, date_found, own_offset_found}
 use Rattle.tz_posix_core.specs.Marks.{comma, slash}
 use Rattle.tz_posix_core.specs.Reading.{after_mark, date_at, name_at, offset_at, own_offset_at}
@@ -47,7 +47,7 @@ rule_found text y e =
     let second = bind_some _ (after_mark comma s.0.1) y s.2 in
     let t = bind_some _ (moment_at second.0) y second.2 in
     let last = cond_some (nat_eq (length t.0.1) 0) _ y t.2 in
-    let empty = nil_from_length t.0.1 (nat_eq-true _ 0 last.0) in
+    let empty = nil_from_length t.0.1 (eqb-true _ 0 last.0) in
     subst (IsRule text) last.1
     (rule_built (mark_found comma text first.0 first.1) (moment_found first.0 s.0 s.1) (mark_found comma s.0.1 second.0 second.1)
     (moment_found second.0 t.0 t.1) empty)
@@ -59,7 +59,7 @@ saving_built (takes {front = a} name) (takes {front = b} {rest = q} o) r = rw (�
 saving_found : (text : List ℕ) (y : Option SavingValue) → saving_in text ≡ Some y → Optional IsSaving text y
 unfolding saving_in
 saving_found text y e = elim (chosen (nat_eq (length text) 0) _ _ (Some y) e) [
-  | inl empty ↦ rw (nil_from_length text (nat_eq-true _ 0 empty.0)) (subst (Optional IsSaving []) (same_Some _ y empty.1) absent)
+  | inl empty ↦ rw (nil_from_length text (eqb-true _ 0 empty.0)) (subst (Optional IsSaving []) (same_Some _ y empty.1) absent)
   | inr more ↦
       let name = bind_some _ (name_at text) y more.1 in
       let o = bind_some _ (own_offset_at name.0.1) y name.2 in

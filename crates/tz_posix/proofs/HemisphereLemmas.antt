@@ -1,14 +1,11 @@
 -- The total that two firings in a year leave is that of a start and an end, whichever of them comes first.
 use Rattle.std.proofs.Common.{◌≡◌, Bool, true, false, cond, not, ◌&&◌, ◌||◌, refl, sym, ap, ◌∙◌, arith, ℤ, pos, ◌+ℤ◌, ◌-ℤ◌, ◌<ℤ◌, ◌≤ℤ◌, int_lt, int_le, int_eq}
 use Rattle.std.proofs.lemmas.Int.{ints}
-use Rattle.calendar.specs.Orders.{lt_pass}
+use Rattle.calendar.specs.Orders.{le_from_lt, lt_fail, lt_pass}
 use Rattle.tz_posix_core.specs.InForce.{is_within}
 
 lt_is : (t b : ℤ) → int_lt t b ≡ not (int_le b t)
 lt_is t b = grind (arith, ints)
-
-lt_false : (a b : ℤ) → a <ℤ b → int_lt b a ≡ false
-lt_false a b h = grind (arith, ints)
 
 no_more : (o : ℤ) → o +ℤ pos 0 ≡ o
 no_more o = omega (arith, ints)
@@ -25,7 +22,7 @@ pub northern_total : (o p a b t : ℤ) → a <ℤ b
     → o +ℤ cond (int_le b t) (pos 0) (cond (int_le a t) p (pos 0)) ≡ cond (is_within a b t) (o +ℤ p) o
 northern_total o p a b t h =
     north_cases o p (int_le b t) (int_le a t)
-    ∙ sym (λ i. cond ((int_le a t && lt_is t b i) || (lt_false a b h i && (lt_is t b i || int_le a t))) (o +ℤ p) o)
+    ∙ sym (λ i. cond ((int_le a t && lt_is t b i) || (lt_fail b a (le_from_lt a b h) i && (lt_is t b i || int_le a t))) (o +ℤ p) o)
 
 south_cases : (o p s : ℤ) (late early : Bool) → (late ≡ false → s ≡ p) → o +ℤ cond late p (cond early (pos 0) s)
     ≡ cond ((late && not early) || (true && (not early || late))) (o +ℤ p) o
@@ -54,12 +51,6 @@ up_le a b p q h = omega (arith, ints)
 
 pub up_lt : (a b p : ℤ) → pos 0 <ℤ p → (a +ℤ p) <ℤ b → a <ℤ b
 up_lt a b p q h = omega (arith, ints)
-
-pub le_same : (x y a b : ℤ) → x ≡ a → y ≡ b → a ≤ℤ b → x ≤ℤ y
-le_same x y a b e f h = omega (arith, ints)
-
-pub lt_same : (x y a b : ℤ) → x ≡ a → y ≡ b → a <ℤ b → x <ℤ y
-lt_same x y a b e f h = omega (arith, ints)
 
 pub savings_differ : (p z : ℤ) → pos 0 <ℤ p → z ≡ pos 0 → (int_eq p z ≡ false) × (int_eq z p ≡ false)
 savings_differ p z h e = (grind (arith, ints), grind (arith, ints))

@@ -1,19 +1,19 @@
 -- The days that yearly rules name are those of dates by the weekday.
-use Rattle.std.proofs.Common.{◌≡◌, ℕ, suc, ◌+◌, ◌-◌, ◌%◌, ◌<◌, ◌≤◌, refl, ap, ◌∙◌, arith, eq-eqb, nat_eq, ℤ, pos, ◌+ℤ◌, ◌-ℤ◌, ◌<ℤ◌, sym, unsigned_abs, true, false, not, ◌&&◌}
+use Rattle.std.proofs.Common.{◌≡◌, ℕ, suc, ◌+◌, ◌-◌, ◌%◌, ◌<◌, ◌≤◌, refl, ap, ◌∙◌, arith, nat_eq, ℤ, pos, ◌+ℤ◌, ◌-ℤ◌, ◌<ℤ◌, sym, unsigned_abs, true, false, not, ◌&&◌}
 use Rattle.std.proofs.lemmas.Bool.{and_from}
-use Rattle.std.proofs.lemmas.Bool.Decides.{nat_tests}
 use Rattle.std.proofs.Math.Bool.{and-false}
 use Rattle.calendar.specs.Dates.{last_with}
-use Rattle.calendar.specs.DateLaws.{day-between, day-last_of_year, last_with-is, place_of}
+use Rattle.calendar.specs.DateLaws.{day-between, day-last_of_year, place_of}
 use Rattle.calendar.specs.Days.{day, days_in_month, IsCountedYear, IsDate}
 use Rattle.calendar.specs.MonthLaws.{days_in_month-bounds, days_through-two}
 use Rattle.calendar.specs.Orders.{le_pass, lt_pass}
 use Rattle.calendar.specs.Signs.{signed}
+use Rattle.calendar.specs.WeekdayLaws.{day-from_first, last_with_weekday, weekday_of-small, weekday_in_month}
 use Rattle.calendar.specs.Weekdays.{weekday_of}
 use Rattle.calendar.specs.YearLaws.{cycle_days-suc, day-cycle}
 use Rattle.zone_values.specs.Days.{first_from, is_in_year, named_day}
 use Rattle.zone_values.specs.Months.{month_number}
-use Rattle.zone_values.specs.WeekdayLaws.{weekday_number-small}
+use Rattle.zone_values.specs.WeekdayLaws.{first_from-is, weekday_number-small}
 use Rattle.zone_values.specs.Weekdays.{weekday_number}
 use Rattle.zone_values.specs.declared.day.DaySpec.{DaySpec}
 use Rattle.zone_values.specs.declared.month.Month.{Month}
@@ -25,16 +25,6 @@ use Rattle.zone_spans.specs.Faults.{is_outside}
 use Rattle.tz_posix.specs.Agreement.{IsSameDay, from_first, from_eighth, from_fifteenth, from_twenty_second, last_of_month}
 use Rattle.tz_posix_core.specs.Days.{nth_weekday, rule_day}
 use Rattle.tz_posix_core.specs.declared.date.Date.{Date}
-use Rattle.tz_posix_core.specs.WeekdayLaws.{day-from_first, last_with_weekday, weekday_of-later, weekday_of-small, weekday_in_month}
-
--- how far on the weekday comes
-first_from-is : (w : ℕ) (k : ℤ) → w < 7 → first_from w k ≡ k +ℤ pos ((w + 7 - weekday_of k) % 7)
-unfolding first_from
-first_from-is w k small =
-    let start = weekday_of-small k in
-    ap (λ n. k +ℤ pos n) (last_with-is (λ n. nat_eq (weekday_of (k +ℤ pos n)) w) 6 ((w + 7 - weekday_of k) % 7) (omega arith)
-    (λ _. rw weekday_of-later (eq-eqb _ _ (omega arith)))
-    (λ j above high. rw weekday_of-later (grind (arith, nat_tests))))
 
 -- the day of the month that the first such weekday from its day s on is, which is the last up to its day l
 record IsPlace (y : ℤ) (m w s l : ℕ) : Type 0 where

@@ -1,6 +1,6 @@
 -- Where the start comes first in each year, the zone and the value agree.
 use Rattle.std.proofs.Common.{◌≡◌, ℕ, zero, suc, ◌-◌, ◌<◌, inr, cond, [], ◌∷◌, Ok, refl, sym, ap, ◌∙◌, arith, ℤ, pos, ◌+ℤ◌, ◌<ℤ◌, int_le}
-use Rattle.calendar.specs.Orders.{le_from_lt}
+use Rattle.calendar.specs.Orders.{le_from_lt, le_same, lt_same}
 use Rattle.calendar.specs.Signs.{signed}
 use Rattle.civil_base.specs.Instants.{seconds_of}
 use Rattle.zone_table.specs.Moments.{moment}
@@ -14,7 +14,7 @@ use Rattle.zone_spans.specs.declared.span.FixedTimespanSet.{FixedTimespanSet}
 use Rattle.tz_posix.specs.Agreement.{IsInRuleYears, IsNorthern, RuledValue, SaysTheSame, TwoRuleZone}
 use Rattle.tz_posix.specs.Agreement.{end_in, first_year, start_in, value_total}
 use Rattle.tz_posix_core.specs.InForce.{is_within}
-use Rattle.tz_posix.proofs.HemisphereLemmas.{northern_total, start_before_end, end_before_start, up_le, le_same, lt_same}
+use Rattle.tz_posix.proofs.HemisphereLemmas.{northern_total, start_before_end, end_before_start, up_le}
 use Rattle.tz_posix.proofs.StandardYearLemmas.{years_before}
 use Rattle.tz_posix.proofs.AgreementLemmas.{a_start, an_end, at, compiled_line, differ, end-written, end_expandable, found_place, in_order, known, line_of, schedule-is, start-written, start_expandable, start_first, value_total-is, year_of_place}
 

@@ -1,6 +1,6 @@
 -- Where the end comes first in each year, the zone and the value agree from the first start on.
 use Rattle.std.proofs.Common.{◌≡◌, ℕ, zero, suc, ◌-◌, ◌<◌, inl, true, cond, [], ◌∷◌, Ok, refl, sym, ap, ◌∙◌, arith, ℤ, pos, ◌+ℤ◌, ◌≤ℤ◌, ◌<ℤ◌, int_le}
-use Rattle.calendar.specs.Orders.{le_pass, le_from_lt}
+use Rattle.calendar.specs.Orders.{le_from_lt, le_pass, le_same}
 use Rattle.calendar.specs.Signs.{signed}
 use Rattle.civil_base.specs.Instants.{seconds_of}
 use Rattle.zone_table.specs.Moments.{moment}
@@ -15,7 +15,7 @@ use Rattle.zone_spans.specs.declared.span.FixedTimespanSet.{FixedTimespanSet}
 use Rattle.tz_posix.specs.Agreement.{IsFromFirstStart, IsInRuleYears, IsSouthern, RuledValue, SaysTheSame, TwoRuleZone}
 use Rattle.tz_posix.specs.Agreement.{end_in, first_year, start_in, value_total}
 use Rattle.tz_posix_core.specs.InForce.{is_within}
-use Rattle.tz_posix.proofs.HemisphereLemmas.{southern_total, start_before_end, end_before_start, up_le, up_lt, le_same, later_end}
+use Rattle.tz_posix.proofs.HemisphereLemmas.{southern_total, start_before_end, end_before_start, up_le, up_lt, later_end}
 use Rattle.tz_posix.proofs.StandardYearLemmas.{years_before}
 use Rattle.tz_posix.proofs.AgreementLemmas.{a_start, an_end, at, compiled_line, differ, end-written, end_expandable, end_first, first_place, first_rule_year, found_place, in_order, known, line_of, schedule-is, start-written, start_expandable, value_total-is, year_of_place}
 

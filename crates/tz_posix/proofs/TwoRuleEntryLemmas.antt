@@ -1,7 +1,8 @@
 -- The entries of a line of two yearly rules: each firing has one, and neither sorting nor the collapse changes them.
-use Rattle.std.proofs.Common.{◌≡◌, ℕ, zero, suc, ◌<◌, ◌≤◌, Bool, true, false, cond, ◌&&◌, List, [], ◌∷◌, ◌++◌, map, reverse, Some, None, ℤ, ◌+ℤ◌, ◌-ℤ◌, ◌<ℤ◌, ◌≤ℤ◌, int_le, int_lt, refl, sym, ap, ◌∙◌, subst, arith, append-nil}
+use Rattle.std.proofs.Common.{◌≡◌, ℕ, zero, suc, ◌<◌, ◌≤◌, Bool, true, false, cond, ◌&&◌, List, [], ◌∷◌, ◌++◌, map, reverse, Some, None, ℤ, ◌+ℤ◌, ◌-ℤ◌, ◌<ℤ◌, ◌≤ℤ◌, int_le, refl, sym, ap, ◌∙◌, subst, arith, append-nil}
 use Rattle.std.proofs.lemmas.Int.{ints}
 use Rattle.std.proofs.lemmas.List.{reverse-append, map-append}
+use Rattle.calendar.specs.Orders.{lt_fail}
 use Rattle.owned.specs.Sorted.{put_in, stable_sort}
 use Rattle.zone_table.specs.declared.rule.RuleInfo.{RuleInfo}
 use Rattle.zone_spans.specs.Collapse.{is_same_span, is_no_later, kept_with, kept_of, EntryTimesDontFall}
@@ -22,16 +23,13 @@ map-reverse line (x ∷ fs) =
 
 -- ---- sorting
 
-not_sooner : (a b : ℤ) → a ≤ℤ b → int_lt b a ≡ false
-not_sooner a b h = grind (arith, ints)
-
 -- entries whose times don't fall stay as they are
 sorted_stays : (es : List Entry) → EntryTimesDontFall es → stable_sort is_sooner es ≡ es
 sorted_stays [] r = refl
 sorted_stays (e ∷ []) r = refl
 sorted_stays (e ∷ a ∷ es) r =
     ap (put_in is_sooner e) (sorted_stays (a ∷ es) r.1)
-    ∙ ap (λ b. cond b (a ∷ put_in is_sooner e es) (e ∷ a ∷ es)) (not_sooner e.0 a.0 r.0)
+    ∙ ap (λ b. cond b (a ∷ put_in is_sooner e es) (e ∷ a ∷ es)) (lt_fail a.0 e.0 r.0)
 
 -- the same of entries with the latest first
 abbrev TimesFall : List Entry → Type 0

@@ -1,12 +1,11 @@
 -- The total in force by a line of two yearly rules: in each year it goes by the two firings of that year.
 use Rattle.std.proofs.Common.{◌≡◌, ℕ, zero, suc, ◌<◌, ◌≤◌, Bool, true, false, cond, ◌&&◌, List, [], ◌∷◌, ◌++◌, map, filter, reverse, find, Some, None, Option, Ok, ℤ, pos, ◌+ℤ◌, ◌*ℤ◌, ◌<ℤ◌, ◌≤ℤ◌, int_le, int_eq, refl, sym, ap, ◌∙◌, subst, arith, ⊎_elim}
 use Rattle.std.specs.Option.{option_map}
-use Rattle.std.proofs.lemmas.Int.{ints}
 use Rattle.std.proofs.lemmas.Bool.{and_parts, cases_lt}
 use Rattle.std.proofs.lemmas.Bool.Decides.{Decides-int_eq}
 use Rattle.std.proofs.lemmas.List.{reverse-append}
 use Rattle.owned.specs.Bytes.{are_same_bytes}
-use Rattle.calendar.specs.Orders.{lt_le}
+use Rattle.calendar.specs.Orders.{le_fail, le_pass, lt_le}
 use Rattle.civil_base.specs.Instants.{seconds_of}
 use Rattle.zone_table.specs.declared.rule.RuleInfo.{RuleInfo}
 use Rattle.zone_spans.specs.Collapse.{is_same_span, collapsed, kept_of, without_first}
@@ -85,12 +84,6 @@ total_without_first first (e ∷ es) second = by_test (is_same_span e.1 first) r
 
 -- ---- the years
 
-is_past : (a second : ℤ) → a ≤ℤ second → int_le a second ≡ true
-is_past a second h = grind (arith, ints)
-
-is_to_come : (a second : ℤ) → second <ℤ a → int_le a second ≡ false
-is_to_come a second h = grind (arith, ints)
-
 -- of totals at one offset, the saving of the one that is chosen
 chosen : (b c : Bool) (o p q x r : ℤ) → x ≡ o +ℤ r → cond b (o +ℤ p) (cond c (o +ℤ q) x) ≡ o +ℤ cond b p (cond c q r)
 chosen true c o p q x r h = refl
@@ -124,7 +117,7 @@ module _ (line : Line) (f g : RuleInfo) (m n : ℕ) (turns : AreInTurn line.info
   before_year (suc j) past =
       one_year j
       ∙ ap (λ b. cond b (offset +ℤ g.time_to_add) (cond (int_le (first_time j) second) (offset +ℤ f.time_to_add) (now j)))
-      (is_past _ second (past j refl))
+      (le_pass _ second (past j refl))
 
   year_done : (i : ℕ) → ((j : ℕ) → suc j ≡ i → second_time j ≤ℤ second) → now (suc i) ≡ offset +ℤ saving_in offset f g m i second
   year_done i past =
@@ -134,8 +127,8 @@ module _ (line : Line) (f g : RuleInfo) (m n : ℕ) (turns : AreInTurn line.info
   year_skipped : (k : ℕ) → k < n → second <ℤ first_time k → now (suc k) ≡ now k
   year_skipped k l b =
       one_year k
-      ∙ (λ i. cond (is_to_come _ second (lt_le _ _ _ b (turns.rise k l)) i) (offset +ℤ g.time_to_add)
-      (cond (is_to_come _ second b i) (offset +ℤ f.time_to_add) (now k)))
+      ∙ (λ i. cond (le_fail _ second (lt_le _ _ _ b (turns.rise k l)) i) (offset +ℤ g.time_to_add)
+      (cond (le_fail _ second b i) (offset +ℤ f.time_to_add) (now k)))
 
   total_in_year : (i k : ℕ) → i < k → k ≤ n → IsInYear offset f g m n i second → now k ≡ offset +ℤ saving_in offset f g m i second
   total_in_year i zero l b y = absurd (omega arith)

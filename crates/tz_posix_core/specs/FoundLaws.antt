@@ -1,7 +1,7 @@
 -- What is read is spelled.
 use Rattle.std.proofs.Common.{◌≡◌, ℕ, ◌<◌, ◌≤◌, Bool, true, false, cond, ◌⊎◌, inl, inr, List, [], ◌∷◌, ◌++◌, length, Option, Some}
 use Rattle.std.proofs.Common.{None, refl, sym, ap, subst, ◌∙◌, arith, nat_lt, nat_eq, nat_le}
-use Rattle.std.proofs.Common.{take_while, ltb-true, append_assoc, append-nil}
+use Rattle.std.proofs.Common.{take_while, eqb-true, ltb-true, append_assoc, append-nil}
 use Rattle.std.proofs.lemmas.Bool.{and_parts}
 use Rattle.std.proofs.lemmas.Bool.Decides.{nat_tests}
 use Rattle.std.proofs.lemmas.List.{take-append-drop, nil_from_length}
@@ -35,9 +35,6 @@ run_passes p (b ∷ text) = rw take_while-cons (by_test (p b) refl (run_passes p
     by_test true e more = rw e more
     by_test false e more = refl
 
-pub nat_eq-true : (b c : ℕ) → nat_eq b c ≡ true → b ≡ c
-nat_eq-true b c e = grind (arith, nat_tests)
-
 -- a text of the value stands at the front, before the rest
 pub data Takes {V : Type 0} (Is : List ℕ → V → Type 0) : List ℕ → V → List ℕ → Type 0 where
   takes : {front rest : List ℕ} {value : V} → Is front value → Takes Is (front ++ rest) value rest
@@ -54,7 +51,7 @@ pub mark_found : (mark : ℕ) (text rest : List ℕ) → after_mark mark text �
 mark_found mark [] rest e = absurd cc
 mark_found mark (c ∷ text) rest e =
     let both = cond_some (nat_eq c mark) text rest e in
-    let same = nat_eq-true c mark both.0 in
+    let same = eqb-true c mark both.0 in
     cc
 
 -- a text with a mark at its front, or another
@@ -260,7 +257,7 @@ rule_found text y e =
     let second = bind_some _ (after_mark comma s.0.1) y s.2 in
     let t = bind_some _ (moment_at second.0) y second.2 in
     let last = cond_some (nat_eq (length t.0.1) 0) _ y t.2 in
-    let empty = nil_from_length t.0.1 (nat_eq-true _ 0 last.0) in
+    let empty = nil_from_length t.0.1 (eqb-true _ 0 last.0) in
     subst (IsRule text) last.1
     (rule_built (mark_found comma text first.0 first.1) (moment_found first.0 s.0 s.1) (mark_found comma s.0.1 second.0 second.1)
     (moment_found second.0 t.0 t.1) empty)
@@ -280,7 +277,7 @@ own_offset_found text y e = elim (chosen (is_over text) _ _ (Some y) e) [
 own_rule_found : (text : List ℕ) (y : Option Rule) → own_rule_in text ≡ Some y → Optional IsRule text y
 unfolding own_rule_in
 own_rule_found text y e = elim (chosen (nat_eq (length text) 0) _ _ (Some y) e) [
-  | inl empty ↦ rw (nil_from_length text (nat_eq-true _ 0 empty.0)) (subst (Optional IsRule []) (same_Some _ y empty.1) absent)
+  | inl empty ↦ rw (nil_from_length text (eqb-true _ 0 empty.0)) (subst (Optional IsRule []) (same_Some _ y empty.1) absent)
   | inr more ↦
       let r = map_some _ (rule_in text) y more.1 in
       subst (Optional IsRule text) r.2 (present (rule_found text r.0 r.1))
@@ -293,7 +290,7 @@ dst_built (takes {front = a} name) (takes {front = b} {rest = q} o) r = rw (← 
 dst_found : (text : List ℕ) (y : Option DstPart) → dst_in text ≡ Some y → Optional IsDst text y
 unfolding dst_in
 dst_found text y e = elim (chosen (nat_eq (length text) 0) _ _ (Some y) e) [
-  | inl empty ↦ rw (nil_from_length text (nat_eq-true _ 0 empty.0)) (subst (Optional IsDst []) (same_Some _ y empty.1) absent)
+  | inl empty ↦ rw (nil_from_length text (eqb-true _ 0 empty.0)) (subst (Optional IsDst []) (same_Some _ y empty.1) absent)
   | inr more ↦
       let name = bind_some _ (name_at text) y more.1 in
       let o = bind_some _ (own_offset_at name.0.1) y name.2 in
@@ -310,7 +307,7 @@ unfolding short_in
 short_found text name e =
     let found = bind_some _ (name_at text) name e in
     let last = cond_some (nat_eq (length found.0.1) 0) found.0.0 name found.2 in
-    subst (IsName text) last.1 (short_built (name_found text found.0 found.1) (nil_from_length found.0.1 (nat_eq-true _ 0 last.0)))
+    subst (IsName text) last.1 (short_built (name_found text found.0 found.1) (nil_from_length found.0.1 (eqb-true _ 0 last.0)))
 
 full_built : {text p q name : List ℕ} {o : Offset} {d : Option DstPart} → Takes IsName text name p → Takes IsOffset p o q
     → Optional IsDst q d → Spells text (expanded (record { name = name; offset = o }) d)

@@ -9,12 +9,12 @@ use Rattle.calendar.specs.DateLaws.{last_with-is, place_of, day_parts, year-betw
 use Rattle.calendar.specs.Days.{day, days_in_month, is_leap, days_in_year, days_after_zero, year_start, days_through, days_into_year, IsCountedYear, IsDate}
 use Rattle.calendar.specs.MonthLaws.{days_in_month-bounds}
 use Rattle.calendar.specs.Signs.{signed, floored}
+use Rattle.calendar.specs.WeekdayLaws.{last_with_weekday, weekday_in_month, weekday_of-small}
 use Rattle.calendar.specs.Weekdays.{weekday_of}
 use Rattle.calendar.specs.YearLaws.{day-cycle}
 use Rattle.tz_posix_core.specs.Days.{nth_weekday, rule_day}
 use Rattle.tz_posix_core.specs.InForce.{instant_in}
 use Rattle.tz_posix_core.specs.Ranges.{is_rule_date}
-use Rattle.tz_posix_core.specs.WeekdayLaws.{weekday_of-small, weekday_of-later}
 use Rattle.tz_posix_core.specs.declared.date.Date.TheVariants.{M}
 use Rattle.zone_tail_core.specs.Changes.{change_with, changes_at, weeks}
 use Rattle.zone_tail_core.specs.LastYear.{year_begin, year_end}
@@ -22,27 +22,11 @@ use Rattle.zone_tail_core.specs.Rules.{IsChange, time_of}
 use Rattle.zone_tail_core.specs.declared.rule.Change.{Change}
 use Rattle.zone_tail_core.proofs.TotalLemmas.{day-2099}
 
-day_after : (y : ℤ) (m i j : ℕ) → IsCountedYear y → 1 ≤ i → i ≤ j → day y m j ≡ day y m i +ℤ pos (j - i)
-day_after y m i j years some later =
-    let n = unsigned_abs (y +ℤ pos 11999) in
-    let here = place_of y years in
-    omega (arith, signed, day-cycle y m i n here, day-cycle y m j n here)
-
--- none of the six days after a day has its weekday
-other_weekday : (y : ℤ) (m i j : ℕ) → IsCountedYear y → 1 ≤ i → i < j → j < i + 7 → nat_eq (weekday_of (day y m j)) (weekday_of (day y m i)) ≡ false
-other_weekday y m i j years some above near =
-    let small = weekday_of-small (day y m i) in
-    let is : weekday_of (day y m j) ≡ (weekday_of (day y m i) + (j - i)) % 7 =
-    ap weekday_of (day_after y m i j years some (omega arith)) ∙ weekday_of-later (day y m i) (j - i) in
-    rw is (grind (arith, nat_tests, small))
-
--- so it is the last one with its weekday up to six days later
-last_with_weekday : (y : ℤ) (m l i : ℕ) → IsCountedYear y → 1 ≤ i → i ≤ l → l < i + 7
+-- a day is the last one with its weekday up to six days later
+last_like_it : (y : ℤ) (m l i : ℕ) → IsCountedYear y → 1 ≤ i → i ≤ l → l < i + 7
     → last_with (λ d. nat_eq (weekday_of (day y m d)) (weekday_of (day y m i))) l ≡ i
-last_with_weekday y m l i years some high near =
-    last_with-is (λ d. nat_eq (weekday_of (day y m d)) (weekday_of (day y m i))) l i high
-    (λ _. eq-eqb _ _ refl)
-    (λ j above last. other_weekday y m i j years some above (omega arith))
+last_like_it y m l i years some high near =
+    last_with_weekday y m (weekday_of (day y m i)) l i years (weekday_of-small (day y m i)) some high near (sym (weekday_in_month y m i years some))
 
 -- the week n names the day d
 record Names (y : ℤ) (m d n : ℕ) : Type 0 where
@@ -53,7 +37,7 @@ record Names (y : ℤ) (m d n : ℕ) : Type 0 where
 fifth : (y : ℤ) (m d : ℕ) → IsCountedYear y → IsDate y m d → days_in_month y m < d + 7 → Names y m d 5
 unfolding nth_weekday
 fifth y m d years date short = record {
-  nth = last_with_weekday y m (days_in_month y m) d years date.first_day date.last_day short;
+  nth = last_like_it y m (days_in_month y m) d years date.first_day date.last_day short;
   first = omega arith;
   last = omega arith;
 }
@@ -64,7 +48,7 @@ counted_week y m d n years date is few =
     let some = date.first_day in
     let plain : nat_eq n 5 ≡ false = grind (arith, nat_tests) in
     record {
-      nth = rw plain (last_with_weekday y m (7 * n) d years some (omega arith) (omega arith));
+      nth = rw plain (last_like_it y m (7 * n) d years some (omega arith) (omega arith));
       first = omega arith;
       last = omega arith;
     }
