@@ -1,17 +1,16 @@
 -- The changes that come at a local second of the last year come there.
-use Rattle.std.proofs.Common.{◌≡◌, ℕ, ◌+◌, ◌-◌, ◌*◌, ◌/◌, ◌%◌, ◌<◌, ◌≤◌, Bool, true, false, cond, ◌++◌, [], ◌∷◌, length, map, nat_eq, nat_le, nat_lt, eq-eqb, All, ℤ, pos, ◌+ℤ◌, ◌-ℤ◌, ◌*ℤ◌, ◌≤ℤ◌, ◌<ℤ◌, unsigned_abs, refl, sym, ap, ◌∙◌, subst, arith}
+use Rattle.std.proofs.Common.{◌≡◌, ℕ, ◌+◌, ◌*◌, ◌/◌, ◌<◌, ◌≤◌, Bool, true, false, cond, ◌++◌, [], ◌∷◌, length, map, nat_eq, nat_le, nat_lt, All, ℤ, pos, ◌+ℤ◌, ◌-ℤ◌, ◌*ℤ◌, ◌≤ℤ◌, ◌<ℤ◌, unsigned_abs, refl, sym, ap, ◌∙◌, subst, arith}
 use Rattle.std.specs.Int.{int_div_euclid, int_rem_euclid}
 use Rattle.std.proofs.lemmas.Bool.Decides.{nat_tests}
 use Rattle.std.proofs.lemmas.List.{length-map}
 use Rattle.std.proofs.lemmas.List.Elements.{All-append, All-cons, All-map, All-nil, All-weaker}
 use Rattle.calendar.specs.Dates.{last_with, year_of, month_of, day_of}
-use Rattle.calendar.specs.DateLaws.{last_with-is, place_of, day_parts, year-between}
+use Rattle.calendar.specs.DateLaws.{day_parts, year-between}
 use Rattle.calendar.specs.Days.{day, days_in_month, is_leap, days_in_year, days_after_zero, year_start, days_through, days_into_year, IsCountedYear, IsDate}
 use Rattle.calendar.specs.MonthLaws.{days_in_month-bounds}
 use Rattle.calendar.specs.Signs.{signed, floored}
 use Rattle.calendar.specs.WeekdayLaws.{last_with_weekday, weekday_in_month, weekday_of-small}
 use Rattle.calendar.specs.Weekdays.{weekday_of}
-use Rattle.calendar.specs.YearLaws.{day-cycle}
 use Rattle.tz_posix_core.specs.Days.{nth_weekday, rule_day}
 use Rattle.tz_posix_core.specs.InForce.{instant_in}
 use Rattle.tz_posix_core.specs.Ranges.{is_rule_date}
