@@ -1,5 +1,5 @@
 -- For each type, under which options its width is exact: `exact` holds, and so its bytes are as many as its padded width says.
-use Rattle.std.specs.Prelude.{◌≡◌, ℕ, suc, ℤ, ◌<◌, Bool, true, false, not, IsTrue, List, [], ◌∷◌, Option, None, refl, string_bytes}
+use Rattle.std.specs.Prelude.{◌≡◌, ℕ, suc, ℤ, ◌<◌, Bool, true, false, IsTrue, List, [], ◌∷◌, Option, None, refl, string_bytes}
 use denote.Bor.{Bor}
 use denote.RattleType.{RattleType}
 use mir.Syntax.{Dict}
@@ -16,7 +16,7 @@ use Rattle.std.specs.Char.{is_ascii}
 use Rattle.std.specs.Option.{is_none}
 use Rattle.std.specs.Str.{IsAscii}
 use Rattle.std.proofs.Common.{arith, ap}
-use Rattle.std.proofs.lemmas.Bool.{and_from}
+use Rattle.std.proofs.lemmas.Bool.{and_from, not_from_false}
 use Rattle.std.proofs.lemmas.Bool.Decides.{nat_tests}
 use Rattle.pad_fmt.specs.Exact.{is_ascii_text}
 use Rattle.pad_fmt.specs.Options.{Options}
@@ -75,9 +75,6 @@ pub record IsExactAt {T M : Type 0} (shows : Ghosts T M) (value : T) (f : Option
 uncut : (precision : Option ℕ) → precision ≡ None → is_none precision ≡ true
 uncut precision none = ap is_none none
 
-flag_off : (flag : Bool) → flag ≡ false → not flag ≡ true
-flag_off flag off = ap not off
-
 ascii_char : (c : ℕ) → c < 128 → is_ascii c ≡ true
 ascii_char c small = grind (arith, nat_tests)
 
@@ -119,22 +116,22 @@ buffer_width size text f ascii none fill =
     record { exact = exact; width = buffer_law text f exact fill }
 
 pub u8_width : (n : ℕ) (f : Options) → f.sign_minus ≡ false → f.fill < 128 → IsExactAt of_u8.ghosts n f
-u8_width n f none fill = record { exact = flag_off f.sign_minus none; width = laws_u8.width_law-law n f (flag_off f.sign_minus none) fill }
+u8_width n f none fill = record { exact = not_from_false f.sign_minus none; width = laws_u8.width_law-law n f (not_from_false f.sign_minus none) fill }
 
 pub u16_width : (n : ℕ) (f : Options) → f.sign_minus ≡ false → f.fill < 128 → IsExactAt of_u16.ghosts n f
-u16_width n f none fill = record { exact = flag_off f.sign_minus none; width = laws_u16.width_law-law n f (flag_off f.sign_minus none) fill }
+u16_width n f none fill = record { exact = not_from_false f.sign_minus none; width = laws_u16.width_law-law n f (not_from_false f.sign_minus none) fill }
 
 pub u32_width : (n : ℕ) (f : Options) → f.sign_minus ≡ false → f.fill < 128 → IsExactAt of_u32.ghosts n f
-u32_width n f none fill = record { exact = flag_off f.sign_minus none; width = laws_u32.width_law-law n f (flag_off f.sign_minus none) fill }
+u32_width n f none fill = record { exact = not_from_false f.sign_minus none; width = laws_u32.width_law-law n f (not_from_false f.sign_minus none) fill }
 
 pub u64_width : (n : ℕ) (f : Options) → f.sign_minus ≡ false → f.fill < 128 → IsExactAt of_u64.ghosts n f
-u64_width n f none fill = record { exact = flag_off f.sign_minus none; width = laws_u64.width_law-law n f (flag_off f.sign_minus none) fill }
+u64_width n f none fill = record { exact = not_from_false f.sign_minus none; width = laws_u64.width_law-law n f (not_from_false f.sign_minus none) fill }
 
 pub u128_width : (n : ℕ) (f : Options) → f.sign_minus ≡ false → f.fill < 128 → IsExactAt of_u128.ghosts n f
-u128_width n f none fill = record { exact = flag_off f.sign_minus none; width = laws_u128.width_law-law n f (flag_off f.sign_minus none) fill }
+u128_width n f none fill = record { exact = not_from_false f.sign_minus none; width = laws_u128.width_law-law n f (not_from_false f.sign_minus none) fill }
 
 pub usize_width : (n : ℕ) (f : Options) → f.sign_minus ≡ false → f.fill < 128 → IsExactAt of_usize.ghosts n f
-usize_width n f none fill = record { exact = flag_off f.sign_minus none; width = laws_usize.width_law-law n f (flag_off f.sign_minus none) fill }
+usize_width n f none fill = record { exact = not_from_false f.sign_minus none; width = laws_usize.width_law-law n f (not_from_false f.sign_minus none) fill }
 
 pub i8_width : (z : ℤ) (f : Options) → f.fill < 128 → IsExactAt of_i8.ghosts z f
 i8_width z f fill = record { exact = refl; width = laws_i8.width_law-law z f refl fill }
