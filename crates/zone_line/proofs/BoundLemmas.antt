@@ -1,49 +1,11 @@
 -- The values of lines are bounded.
-use Rattle.std.proofs.Common.{
-  ◌≡◌,
-  ℕ,
-  ◌+◌,
-  ◌-◌,
-  ◌*◌,
-  ◌^◌,
-  ◌<◌,
-  ℤ,
-  pos,
-  negsuc,
-  neg_ℤ,
-  ◌≤ℤ◌,
-  Bool,
-  true,
-  false,
-  ◌&&◌,
-  nat_lt,
-  List,
-  [],
-  ◌∷◌,
-  Option,
-  Some,
-  None,
-  Result,
-  Ok,
-  Err,
-  IfOk,
-  IfSome,
-  IsTrue,
-  refl,
-  sym,
-  subst,
-  arith,
-  codes,
-  bytes_eq,
-  ltb-true,
-  true≢false,
-}
+use Rattle.std.proofs.Common.{◌≡◌, ℕ, ◌+◌, ◌-◌, ◌*◌, ◌^◌, ◌<◌, ℤ, pos, negsuc, neg_ℤ, ◌≤ℤ◌, Bool, true, false, ◌&&◌, nat_lt, List, [], ◌∷◌, Option, Some, None, Result, Ok, Err, IfOk, IfSome, IsTrue, refl, subst, arith, codes, bytes_eq, ltb-true}
 use Rattle.std.specs.Prelude.{option_map, option_and_then, if◌then◌else◌}
 use Rattle.std.specs.Char.{is_ascii_digit}
 use Rattle.std.specs.Option.{option_map_or, ok_or}
 use Rattle.std.specs.Str.Parse.{without_leading_sign, signed_digits_value}
 use Rattle.std.proofs.lemmas.Int.{ints}
-use Rattle.std.proofs.lemmas.Bool.{and_from}
+use Rattle.std.proofs.lemmas.Bool.{and_from, and_parts}
 use Rattle.std.proofs.lemmas.Grind.{common_steps}
 use lib.Signed.{mag}
 use Rattle.zone_values.specs.Bounds.{
@@ -164,16 +126,12 @@ mag_within : (z : ℤ) → mag z < 128 → Within 128 z
 mag_within (pos n) small = (omega (arith, ints), omega (arith, ints))
 mag_within (negsuc n) small = (omega (arith, ints), omega (arith, ints))
 
-and_right : (a b : Bool) → (a && b) ≡ true → b ≡ true
-and_right true b passed = passed
-and_right false b passed = absurd (true≢false (sym passed))
-
 signed_in-within : (text : List ℕ) → IfSome (signed_in 128 text) (Within 128)
 unfolding signed_in
 signed_in-within text = some_where (Within 128)
     (is_numeral (without_leading_sign text) && nat_lt (mag (signed_digits_value 10 text)) 128)
     (Some (signed_digits_value 10 text))
-    (λ passed. mag_within (signed_digits_value 10 text) (ltb-true _ _ (and_right (is_numeral (without_leading_sign text)) _ passed)))
+    (λ passed. mag_within (signed_digits_value 10 text) (ltb-true _ _ (and_parts (is_numeral (without_leading_sign text)) _ passed).1))
 
 digit_of-small : (c : ℕ) → IfSome (digit_of c) (λ n. n < 10)
 digit_of-small c = some_where (λ n. n < 10) (is_ascii_digit c) (Some (c - 48)) (λ passed. grind (arith, common_steps, passed))

@@ -1,5 +1,5 @@
 pub mod BoundLemmas
-mod OrderLaws
+mod OrderLemmas
 pub mod PatternLemmas
 mod WorkedColumns
 mod WorkedFields
