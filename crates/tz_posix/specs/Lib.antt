@@ -1,4 +1,4 @@
--- Definitions: what the laws say.
+-- Definitions: what public clauses say.
 pub mod Agreement
 pub mod RealPairs
 pub mod TwoRules

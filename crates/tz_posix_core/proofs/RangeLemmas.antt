@@ -1,17 +1,14 @@
 -- Where nothing misses its range, no part does.
-use Rattle.std.proofs.Common.{◌≡◌, refl, List, [], ◌∷◌, Option, Some, None}
+use Rattle.std.proofs.Common.{◌≡◌, [], ◌∷◌, Option, Some, None}
 use Rattle.std.specs.Prelude.{option_and_then, option_map}
-use Rattle.tz_posix_core.specs.Ranges.{first_some, offset_miss, posix_range, rule_range}
+use Rattle.tz_posix_core.specs.RangeLaws.{none_first}
+use Rattle.tz_posix_core.specs.Ranges.{offset_miss, posix_range, rule_range}
 use Rattle.tz_posix_core.specs.Shown.{dst_shown, std_shown, tz_shown}
 use Rattle.tz_posix_core.specs.Values.{StdPart, DstPart, expanded}
 use Rattle.tz_posix_core.specs.declared.values.Dst.{Dst}
 use Rattle.tz_posix_core.specs.declared.values.Std.{Std}
 use Rattle.tz_posix_core.specs.declared.values.Tz.{Tz}
 use Rattle.tz_posix_core.specs.declared.values.Tz.TheVariants.{Expanded}
-
-none_first : {A : Type 0} (x : Option A) (rest : List (Option A)) → first_some (x ∷ rest) ≡ None → (x ≡ None) × (first_some rest ≡ None)
-none_first None rest e = (refl, e)
-none_first (Some x) rest e = absurd cc
 
 standard_fits : (std : StdPart) (dst : Option DstPart) → posix_range (expanded std dst) ≡ None → offset_miss std.offset ≡ None
 unfolding posix_range

@@ -17,6 +17,7 @@ pub mod Values
 pub mod AgainLaws
 pub mod DayLaws
 pub mod FoundLaws
+pub mod RangeLaws
 pub mod WeekdayLaws
 -- Words of private clauses.
 pub mod NamedShown

@@ -5,6 +5,7 @@ use Rattle.std.proofs.lemmas.Bool.{and_parts}
 use Rattle.std.proofs.lemmas.Bool.Decides.{nat_tests}
 use Rattle.std.proofs.lemmas.Int.{ints}
 use Rattle.std.proofs.lemmas.Simd.{map-map}
+use Rattle.calendar.specs.Orders.{le_itself}
 use Rattle.zone_tzif_core.specs.Shown.{shift_shown, shifts_shown}
 use Rattle.zone_tzif_core.specs.Zones.{KindValue, go_up, rises}
 use Rattle.zone_tzif_core.specs.declared.values.Kind.{Kind}
@@ -42,16 +43,13 @@ all_front f p (x ∷ xs) (suc i) l before after =
     let same : nat_eq (suc i) (length (x ∷ xs)) ≡ nat_eq i (length xs) = grind (arith, nat_tests) in
     rw (passes, same) more
 
-le_self : (a : ℤ) → a ≤ℤ a
-le_self a = omega (arith, ints)
-
 lt_le : (a b c : ℤ) → int_lt a b ≡ true → b ≤ℤ c → a ≤ℤ c
 lt_le a b c h k = grind (arith, ints)
 
 later : {X : Type 0} (f : X → ℤ) (xs : List X) → go_up (map f xs) ≡ true → (i j : ℕ) (d : X) → i ≤ j → j < length xs
     → f (get_or xs i d) ≤ℤ f (get_or xs j d)
 later f [] h i j d l m = absurd (omega (arith, m))
-later f (x ∷ xs) h zero zero d l m = le_self (f x)
+later f (x ∷ xs) h zero zero d l m = le_itself (f x)
 later f (x ∷ []) h zero (suc j) d l m = absurd (omega (arith, m))
 later f (x ∷ y ∷ xs) h zero (suc j) d l m =
     let both = and_parts (int_lt (f x) (f y)) _ h in

@@ -1,23 +1,16 @@
 -- The second of a local time, and how many date-times there are at most.
-use Rattle.std.proofs.Common.{◌≡◌, ◌≤◌, Bool, true, false, cond, List, [], ◌∷◌, length, map, ℤ, pos, ap, ◌∙◌, arith, w64, to_z, of_z, SFits}
+use Rattle.std.proofs.Common.{◌≡◌, ◌≤◌, Bool, true, false, cond, List, [], ◌∷◌, length, map, ℤ, pos, ◌∙◌, arith, w64, to_z, of_z, SFits}
 use Rattle.std.specs.List.{filter}
-use Rattle.std.proofs.lemmas.Int.{ints, to_z-of_z}
+use Rattle.std.proofs.lemmas.Int.{to_z-of_z}
 use Rattle.civil_base.specs.DateTimes.{instant, local_of, offset_of}
-use Rattle.civil_base.specs.Instants.{instant_at, seconds_of}
+use Rattle.civil_base.specs.Instants.{seconds_of}
 use Rattle.civil_base.specs.declared.offset_date_time.OffsetDateTime.{OffsetDateTime}
-
-at_zero : (x : ℤ) → instant_at x (pos 0) ≡ x
-at_zero x = omega (arith, ints)
-
--- the second of a date-time at UTC
-utc_second : (date : OffsetDateTime) (x : ℤ) → local_of date ≡ x → offset_of date ≡ pos 0 → seconds_of (instant date) ≡ seconds_of x
-unfolding instant
-utc_second date x local at_utc = (λ i. seconds_of (instant_at (local i) (at_utc i))) ∙ ap seconds_of (at_zero x)
+use Rattle.tz_zone.specs.UtcLaws.{second_at_utc}
 
 -- as the code has it
 pub utc_second_cast : (date : OffsetDateTime) (x r : ℤ) → SFits w64 r → r ≡ seconds_of (instant date) → local_of date ≡ x
     → offset_of date ≡ pos 0 → to_z w64 (of_z w64 r) ≡ seconds_of x
-utc_second_cast date x r fits is local at_utc = to_z-of_z w64 r fits ∙ is ∙ utc_second date x local at_utc
+utc_second_cast date x r fits is local at_utc = to_z-of_z w64 r fits ∙ is ∙ second_at_utc date x local at_utc
 
 pub few_pass : {X Y : Type 0} (f : X → Y) (p : X → Bool) (xs : List X) → length (map f (filter p xs)) ≤ length xs
 few_pass f p [] = omega arith

@@ -1,1 +1,2 @@
+-- Definitions: what public clauses say.
 pub mod Footers

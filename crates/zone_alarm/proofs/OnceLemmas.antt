@@ -10,18 +10,9 @@ use Rattle.civil_base.specs.Ranges.{IsOffset}
 use Rattle.zone_spans.specs.Schedules.{instants}
 use Rattle.tz_lookup.specs.InForce.{in_force, all_in_force, AreInstants}
 use Rattle.tz_lookup.specs.InstantLaws.{instants_are}
-use Rattle.tz_lookup.specs.RisingLaws.{Rises, cases_more, contains_head, head_below}
+use Rattle.tz_lookup.specs.RisingLaws.{contains_head, head_least}
 use Rattle.zone_alarm.specs.RingsOnce.{IsRead, IsFirst, RingsOnce, AreApart}
 use Rattle.zone_alarm.specs.Rings.{time_on, day_ring, ring_on, rings}
-
-not_later : (s t : ℤ) → s ≡ t → s ≤ℤ t
-not_later s t e = omega (arith, ints)
-
-not_after : (s t : ℤ) → s <ℤ t → s ≤ℤ t
-not_after s t h = omega (arith, ints)
-
-head_least : (s : ℤ) (ss : List ℤ) (t : ℤ) → Rises (s ∷ ss) → Contains (s ∷ ss) t → s ≤ℤ t
-head_least s ss t rising among = cases_more s ss t among (not_later s t) (λ later. not_after s t (head_below s ss t rising later))
 
 none_among : (t : ℤ) → Contains [] t → ⊥
 none_among t (k, within, e) = absurd (omega (arith, within))

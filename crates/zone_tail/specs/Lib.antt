@@ -1,3 +1,4 @@
+-- Definitions: what public clauses say.
 pub use Rattle.zone_tail_core.specs.Rules
 pub use Rattle.zone_tail_core.specs.Totals
 pub use Rattle.zone_tail_core.specs.Candidates

@@ -1,14 +1,14 @@
 -- What is chosen is what is found by trying.
 use Rattle.std.proofs.Common.{◌≡◌, ℕ, zero, suc, ◌+◌, ◌<◌, ◌≤◌, Bool, true, false, cond, ◌&&◌, nat_lt, List, length, Option, ℤ, pos, ◌+ℤ◌, ◌-ℤ◌, ◌≤ℤ◌, ◌<ℤ◌, int_eq, int_lt, unsigned_abs, refl, sym, ap, ◌∙◌, ⊎_elim, arith}
 use Rattle.std.specs.Int.{int_max}
-use Rattle.std.proofs.lemmas.Bool.{and_from, and_parts, cases_lt}
+use Rattle.std.proofs.lemmas.Bool.{and_from, and_parts, cases_lt, lt-ltb}
 use Rattle.std.proofs.lemmas.Bool.Decides.{nat_tests}
 use Rattle.std.proofs.lemmas.Int.{ints, by_lt_z}
 use Rattle.calendar.specs.Orders.{le_from_pass, le_pass, lt_from_fail, lt_from_pass, eq_from_pass, eq_pass}
 use Rattle.calendar.specs.Signs.{natural, signed}
 use Rattle.zone_spans.specs.Schedules.{Schedule}
 use Rattle.tz_zone.specs.Sets.{IsAccepted, schedule_of, shifts_of}
-use Rattle.tz_zone.specs.Spans.{TimesDontFall, shift_at}
+use Rattle.tz_zone.specs.Spans.{TimesDontFall, shift_at, total_from}
 use Rattle.tz_zone.specs.declared.set.FixedTimespanSet.{FixedTimespanSet}
 use Rattle.zone_tail_core.specs.Agreement.{Agrees, AgreesFrom}
 use Rattle.zone_tail_core.specs.Candidates.{total_by, IsAllowed, ReachesTo}
@@ -17,10 +17,10 @@ use Rattle.zone_tail_core.specs.Found.{agrees_from, each_second, first_with, fou
 use Rattle.zone_tail_core.specs.LastYear.{form}
 use Rattle.zone_tail_core.specs.Tails.{beginning, candidates, end_of_last_year, names_of, IsTail}
 use Rattle.zone_tail_core.specs.Texts.{text_of}
-use Rattle.zone_tail_core.specs.Totals.{total_from}
 use Rattle.zone_tail_core.specs.declared.candidate.Candidate.{Candidate}
 use Rattle.zone_tail_core.specs.declared.candidate.Candidate.TheVariants.{Fixed, Ruled}
-use Rattle.zone_tail_core.proofs.SpanLemmas.{total_from_cut}
+use Rattle.tz_zone.specs.SpanLaws.{total_from_cut}
+use Rattle.zone_tail_core.proofs.SecondLemmas.{before_both}
 use Rattle.zone_tail_core.proofs.StepLemmas.{by_instants, by_seconds}
 
 -- ---- numbers and seconds
@@ -99,11 +99,6 @@ module _ (zone : Schedule) (times : TimesDontFall zone.shifts) (last : ℤ) wher
     after = λ j m n. let a = times 0 j m n in omega (arith, ints, a);
   })
 
-  least : (a b : ℤ) → (s : ℤ) × (s <ℤ a) × (s <ℤ b)
-  least a b = by_lt_z {P = (s : ℤ) × (s <ℤ a) × (s <ℤ b)} a b
-      (λ lt. (a -ℤ pos 1, omega (arith, ints), omega (arith, ints)))
-      (λ le. (b -ℤ pos 1, omega (arith, ints), omega (arith, ints)))
-
   tested : (c : Candidate) (k : ℕ) → agrees_from c zone last k ≡ true → IsAllowed c zone k × AgreesFrom c zone last k
   tested (Fixed total) zero h =
       let parts = and_parts (int_eq total zone.first) (gives_totals (Fixed total) zone (shift_at zone.shifts 0).0 last) h in (
@@ -124,23 +119,20 @@ module _ (zone : Schedule) (times : TimesDontFall zone.shifts) (last : ℤ) wher
       let within = and_parts (nat_lt i (length zone.shifts)) (reaches (Ruled rule) (shift_at zone.shifts i).0) parts.0 in
       ((grind (arith, nat_tests, within.0), reaches_to (Ruled rule) (shift_at zone.shifts i).0 within.1), record { alike = totals_given (Ruled rule) zone last (shift_at zone.shifts i).0 parts.1 })
 
-  below : (i n : ℕ) → i < n → nat_lt i n ≡ true
-  below i n l = grind (arith, nat_tests)
-
   passes : (c : Candidate) (k : ℕ) → IsAllowed c zone k → AgreesFrom c zone last k → agrees_from c zone last k ≡ true
   passes (Fixed total) zero allowed from =
-      let e = least (shift_at zone.shifts 0).0 last in
+      let e = before_both (shift_at zone.shifts 0).0 last in
       and_from (int_eq total zone.first) (gives_totals (Fixed total) zone (shift_at zone.shifts 0).0 last)
       (eq_pass total zone.first (from.alike e.0 tt e.2 ∙ early e.0 e.1))
       (given_totals (Fixed total) zone last (shift_at zone.shifts 0).0 (λ s l m. from.alike s tt m))
   passes (Ruled rule) zero allowed from = absurd allowed
   passes (Fixed total) (suc i) allowed from =
       and_from (nat_lt i (length zone.shifts) && true) (gives_totals (Fixed total) zone (shift_at zone.shifts i).0 last)
-      (and_from (nat_lt i (length zone.shifts)) true (below i (length zone.shifts) allowed.0) refl)
+      (and_from (nat_lt i (length zone.shifts)) true (lt-ltb i (length zone.shifts) allowed.0) refl)
       (given_totals (Fixed total) zone last (shift_at zone.shifts i).0 from.alike)
   passes (Ruled rule) (suc i) allowed from =
       and_from (nat_lt i (length zone.shifts) && reaches (Ruled rule) (shift_at zone.shifts i).0) (gives_totals (Ruled rule) zone (shift_at zone.shifts i).0 last)
-      (and_from (nat_lt i (length zone.shifts)) (reaches (Ruled rule) (shift_at zone.shifts i).0) (below i (length zone.shifts) allowed.0) (to_reaches (Ruled rule) (shift_at zone.shifts i).0 allowed.1))
+      (and_from (nat_lt i (length zone.shifts)) (reaches (Ruled rule) (shift_at zone.shifts i).0) (lt-ltb i (length zone.shifts) allowed.0) (to_reaches (Ruled rule) (shift_at zone.shifts i).0 allowed.1))
       (given_totals (Ruled rule) zone last (shift_at zone.shifts i).0 from.alike)
 
   -- a test that can't pass fails
@@ -184,7 +176,7 @@ module _ (set : FixedTimespanSet) (accepted : IsAccepted (schedule_of set)) (i k
   pub span_is : found_span set ≡ k
   unfolding found_span
   span_is = first_with-is (λ m. nat_lt (index_from set m) (length (candidates set))) 0 (length (shifts_of set) + 1) k (omega arith) (omega (arith, span_within))
-      (λ l. rw index_is (below zone accepted.times last i (length (candidates set)) choice.within))
+      (λ l. rw index_is (lt-ltb i (length (candidates set)) choice.within))
       (λ m l n. rw (none_before m n) (not_below (length (candidates set))))
     where
       not_below : (n : ℕ) → nat_lt n n ≡ false

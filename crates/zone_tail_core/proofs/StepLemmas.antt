@@ -1,18 +1,18 @@
 -- Agreement from a span on, by the spans: each step of the walk.
-use Rattle.std.proofs.Common.{◌≡◌, ◌↔◌, ℕ, zero, suc, ◌+◌, ◌-◌, ◌<◌, ◌≤◌, length, ℤ, pos, ◌-ℤ◌, ◌*ℤ◌, ◌≤ℤ◌, ◌<ℤ◌, refl, sym, ap, ◌∙◌, subst, ⊎_elim, arith}
+use Rattle.std.proofs.Common.{◌≡◌, ◌↔◌, ℕ, zero, suc, ◌+◌, ◌-◌, ◌<◌, ◌≤◌, length, ℤ, pos, ◌*ℤ◌, ◌≤ℤ◌, ◌<ℤ◌, refl, sym, ap, ◌∙◌, subst, ⊎_elim, arith}
 use Rattle.std.proofs.lemmas.Int.{ints, by_lt_z}
 use Rattle.std.proofs.lemmas.Bool.{cases_lt}
 use Rattle.calendar.specs.Orders.{le_le}
 use Rattle.civil_base.specs.Instants.{seconds_of}
 use Rattle.zone_spans.specs.Schedules.{Schedule}
 use Rattle.tz_zone.specs.SecondLaws.{total_is}
-use Rattle.tz_zone.specs.Spans.{TimesDontFall, shift_at, total_of}
+use Rattle.tz_zone.specs.Spans.{TimesDontFall, shift_at, total_of, total_from}
 use Rattle.zone_tail_core.specs.Agreement.{Agrees, AgreesIn, AgreesFrom, IsWalked}
 use Rattle.zone_tail_core.specs.Candidates.{candidate_total, total_by, IsAllowed, ReachesTo, IsFixed}
-use Rattle.zone_tail_core.specs.Totals.{total_from, HasBegun, Lasts}
+use Rattle.zone_tail_core.specs.Totals.{HasBegun, Lasts}
 use Rattle.zone_tail_core.specs.declared.candidate.Candidate.{Candidate}
 use Rattle.zone_tail_core.specs.declared.candidate.Candidate.TheVariants.{Fixed, Ruled}
-use Rattle.zone_tail_core.proofs.SecondLemmas.{seconds_of-whole}
+use Rattle.zone_tail_core.proofs.SecondLemmas.{before_both, seconds_of-whole}
 use Rattle.zone_tail_core.proofs.SpanLemmas.{total_in_span, begun_down}
 
 module _ (candidate : Candidate) (zone : Schedule) (last : ℤ) (times : TimesDontFall zone.shifts) where
@@ -138,13 +138,8 @@ module _ (candidate : Candidate) (zone : Schedule) (last : ℤ) where
   pub first_in : IsFixed candidate → AgreesIn candidate zone last 0 → (s : ℤ) → total_by candidate s ≡ zone.first
   first_in fixed agrees = by_cases candidate fixed agrees
     where
-      early : (a b : ℤ) → (s : ℤ) × (s <ℤ a) × (s <ℤ b)
-      early a b = by_lt_z {P = (s : ℤ) × (s <ℤ a) × (s <ℤ b)} a b
-          (λ lt. (a -ℤ pos 1, omega (arith, ints), omega (arith, ints)))
-          (λ le. (b -ℤ pos 1, omega (arith, ints), omega (arith, ints)))
-
       by_cases : (v : Candidate) → IsFixed v → AgreesIn v zone last 0 → (s : ℤ) → total_by v s ≡ zone.first
       by_cases (Ruled rule) h k s = absurd h
       by_cases (Fixed total) h k s =
-          let e = early (shift_at zone.shifts 0).0 last in
+          let e = before_both (shift_at zone.shifts 0).0 last in
           k.alike e.0 tt (λ some. e.1) e.2

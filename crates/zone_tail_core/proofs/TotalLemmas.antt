@@ -6,19 +6,20 @@ use Rattle.calendar.specs.Days.{day, is_leap, days_in_year, days_in_month, days_
 use Rattle.calendar.specs.Orders.{le_le, lt_le}
 use Rattle.calendar.specs.Signs.{signed}
 use Rattle.zone_spans.specs.Schedules.{Schedule}
-use Rattle.tz_zone.specs.Spans.{IsCut, Shift, TimesDontFall, shift_at, total_of}
+use Rattle.tz_zone.specs.Spans.{IsCut, Shift, TimesDontFall, shift_at, total_of, total_from}
 use Rattle.tz_posix_core.specs.InForce.{instant_in, is_within, year_at}
 use Rattle.zone_tail_core.specs.Agreement.{Agrees, AgreesFrom}
 use Rattle.zone_tail_core.specs.Candidates.{IsAllowed}
 use Rattle.zone_tail_core.specs.Choices.{candidate_at, IsChoice}
 use Rattle.zone_tail_core.specs.LastYear.{year_begin, year_end}
 use Rattle.zone_tail_core.specs.Rules.{IsNearYear, rule_total, time_of}
-use Rattle.zone_tail_core.specs.Totals.{HasBegun, IsCount, total_from}
+use Rattle.zone_tail_core.specs.Totals.{HasBegun, IsCount}
 use Rattle.zone_tail_core.specs.declared.candidate.Candidate.{Candidate}
 use Rattle.zone_tail_core.specs.declared.candidate.Candidate.TheVariants.{Fixed, Ruled}
 use Rattle.zone_tail_core.specs.declared.rule.YearlyRule.{YearlyRule}
 use Rattle.zone_tail_core.proofs.PieceLemmas.{of_year}
-use Rattle.zone_tail_core.proofs.SpanLemmas.{total_from_cut, total_in_span}
+use Rattle.tz_zone.specs.SpanLaws.{total_from_cut}
+use Rattle.zone_tail_core.proofs.SpanLemmas.{total_in_span}
 use Rattle.zone_tail_core.proofs.StepLemmas.{by_instants, by_seconds}
 use Rattle.zone_tail_core.proofs.YearLemmas.{IsInYear, year_at-is}
 

@@ -2,9 +2,9 @@
 use Rattle.std.specs.Prelude.{◌≡◌, ℕ, suc, ◌+◌, ◌≤◌, length, ℤ, ◌<ℤ◌}
 use Rattle.civil_base.specs.Instants.{seconds_of}
 use Rattle.zone_spans.specs.Schedules.{Schedule, total_at}
-use Rattle.tz_zone.specs.Spans.{total_of}
+use Rattle.tz_zone.specs.Spans.{total_of, total_from}
 use Rattle.zone_tail_core.specs.Candidates.{candidate_total, total_by, IsAllowed}
-use Rattle.zone_tail_core.specs.Totals.{HasBegun, Lasts, total_from}
+use Rattle.zone_tail_core.specs.Totals.{HasBegun, Lasts}
 use Rattle.zone_tail_core.specs.declared.candidate.Candidate.{Candidate}
 
 -- last: the second at which the last year ends

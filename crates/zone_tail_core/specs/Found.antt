@@ -5,14 +5,13 @@ use Rattle.std.specs.Int.{int_max}
 use Rattle.std.specs.Ordering.{int_eq}
 use Rattle.zone_spans.specs.Schedules.{Schedule}
 use Rattle.tz_zone.specs.Sets.{schedule_of, shifts_of}
-use Rattle.tz_zone.specs.Spans.{shift_at}
+use Rattle.tz_zone.specs.Spans.{shift_at, total_from}
 use Rattle.tz_zone.specs.declared.set.FixedTimespanSet.{FixedTimespanSet}
 use Rattle.zone_tail_core.specs.Candidates.{total_by, year_1800}
 use Rattle.zone_tail_core.specs.Choices.{candidate_at}
 use Rattle.zone_tail_core.specs.LastYear.{form}
 use Rattle.zone_tail_core.specs.Tails.{beginning, candidates, end_of_last_year, names_of}
 use Rattle.zone_tail_core.specs.Texts.{text_of}
-use Rattle.zone_tail_core.specs.Totals.{total_from}
 use Rattle.zone_tail_core.specs.declared.candidate.Candidate.{Candidate}
 use Rattle.zone_tail_core.specs.declared.candidate.Candidate.TheVariants.{Fixed, Ruled}
 

@@ -1,11 +1,6 @@
--- The totals of a zone at seconds, and its spans. Span 0 holds before the first shift, and shift i begins span i + 1.
-use Rattle.std.specs.Prelude.{ℕ, zero, suc, ◌<◌, ◌≤◌, List, length, filter, ℤ, ◌≤ℤ◌, ◌<ℤ◌, int_le}
-use Rattle.zone_spans.specs.Schedules.{last_total}
+-- The spans of a zone at seconds, and how many of its shifts lie before one. Span 0 holds before the first shift, and shift i begins span i + 1.
+use Rattle.std.specs.Prelude.{ℕ, zero, suc, ◌<◌, ◌≤◌, List, length, ℤ, ◌≤ℤ◌, ◌<ℤ◌}
 use Rattle.tz_zone.specs.Spans.{Shift, shift_at}
-
--- the total of the last shift at or before a second, else the first
-abbrev pub total_from : ℤ → List Shift → ℤ → ℤ
-total_from first shifts second = last_total first (filter (λ (shift : Shift). int_le shift.0 second) shifts)
 
 -- span k has begun at a second
 abbrev pub HasBegun : List Shift → ℕ → ℤ → Type 0

@@ -1,3 +1,4 @@
+-- Definitions: what public clauses say.
 pub use Rattle.zone_tzif_core.specs.Zones
 pub use Rattle.zone_tzif_core.specs.Format
 pub use Rattle.zone_tzif_core.specs.Denotes

@@ -1,8 +1,8 @@
 use Rattle.std.proofs.Common.{arith, to_z-of_z, ap, sym, ◌≡◌, ◌∙◌, w32, to_z, of_z}
 use Rattle.calendar.specs.Days.{day}
 use Rattle.calendar.specs.MonthLaws.{days_in_month-bounds}
-use Rattle.calendar.specs.Signs.{signed_casts}
 use Rattle.tz_posix_core.specs.WeekdayLaws.{IsFound, found}
+use Rattle.tz_posix_core.proofs.DateLemmas.{value_is}
 use Rattle.tz_posix_core.proofs.date.nth_day.Goals as goal
 
 pub day_number-requires-clause-last_day : goal.day_number-requires-clause-last_day
@@ -22,10 +22,10 @@ is_found c =
     c.requires.year c.requires.date (rw year at first.value) first.first first.last
     (rw year at c.nth_weekday.ensures.nth)
 
-value_is : (c : goal.After-day_number) → to_z w32 (of_z w32 c.day_number.result) ≡ day c.args.year c.args.m c.nth_weekday.result
-value_is c =
+number_is : (c : goal.After-day_number) → to_z w32 (of_z w32 c.day_number.result) ≡ day c.args.year c.args.m c.nth_weekday.result
+number_is c =
     let day_is = rw (to_z-of_z c.ranges.year) at c.day_number.ensures.value in
-    omega (arith, signed_casts, c.day_number.ensures.least, c.day_number.ensures.greatest, day_is)
+    value_is _ _ c.day_number.ensures.least c.day_number.ensures.greatest day_is
 
 pub returns-clause-value : goal.returns-clause-value
-returns-clause-value c = value_is c ∙ ap (day c.args.year c.args.m) (sym (is_found c).nth)
+returns-clause-value c = number_is c ∙ ap (day c.args.year c.args.m) (sym (is_found c).nth)
