@@ -6,7 +6,7 @@ use Rattle.zone_tail_core.specs.Tails.{tail_fault, IsTail}
 use Rattle.zone_tail_core.specs.declared.outcome.TailFault.{TailFault}
 use Rattle.zone_tail_core.specs.declared.outcome.TailFault.TheVariants as tail
 use Rattle.zone_tzif_core.specs.Denotes.{Denotes}
-use Rattle.zone_tzif_core.specs.Totals.{total_at}
+use Rattle.zone_tzif_core.specs.Totals.{file_total_at}
 use Rattle.zone_tzif_core.specs.Zones.{ZoneValue}
 use Rattle.zone_tzif_core.specs.declared.values.WriteFault.{WriteFault}
 use Rattle.zone_tzif_core.specs.declared.values.WriteFault.TheVariants as write
@@ -84,7 +84,7 @@ pub record IsFileIn (zone : OpenZone) (old new : List ℕ) (whole : ℕ) : Type 
   pub none : file_fault (set_in zone) ≡ None
   pub room : new ≡ filled (file_of (set_in zone)) old
   pub length : whole ≡ length (file_of (set_in zone))
-  pub totals : (value : ZoneValue) → Denotes (file_of (set_in zone)) value → (t : ℤ) → total_at value t ≡ total_in zone t
+  pub totals : (value : ZoneValue) → Denotes (file_of (set_in zone)) value → (t : ℤ) → file_total_at value t ≡ total_in zone t
   pub carried : tail_fault (set_in zone) ≡ None → CarriesOn (set_in zone) (found_from (set_in zone)) (footer_of (set_in zone))
 
 -- it is told, or why there is none

@@ -2,7 +2,7 @@
 use Rattle.std.proofs.Common.{◌≡◌, Bool, true, Option, Some, None, refl}
 use Rattle.std.proofs.lemmas.Bool.{and_parts}
 use Rattle.tz_posix_core.specs.Ranges.{offset_miss, is_time}
-use Rattle.tz_footer.specs.Ranges.{is_part, is_saving, is_in_range}
+use Rattle.tz_footer.specs.Ranges.{is_part, is_saving_part, is_in_range}
 use Rattle.tz_footer.specs.Values.{SavingValue, FooterValue}
 
 standard_in : (b : Bool) (s : Option SavingValue) → is_part b s ≡ true → b ≡ true
@@ -13,5 +13,5 @@ pub standard_offset : (value : FooterValue) → is_in_range value ≡ true → o
 unfolding is_in_range
 standard_offset value h = rw (standard_in (is_time 24 value.standard.offset.time) value.saving h) refl
 
-pub saving_part : (b : Bool) (s : SavingValue) → is_part b (Some s) ≡ true → is_saving s ≡ true
+pub saving_part : (b : Bool) (s : SavingValue) → is_part b (Some s) ≡ true → is_saving_part s ≡ true
 saving_part b s h = (and_parts b _ h).1

@@ -1,11 +1,11 @@
 -- Footers that spell a value and texts that spell none, what is in range, and what values stand for, by hand.
-use Rattle.std.proofs.Common.{◌≡◌, refl, sym, ◌∙◌, ℕ, ℤ, pos, neg_ℤ, Bool, true, false, List, [], ◌∷◌, map, Option, Some, None, codes}
+use Rattle.std.proofs.Common.{◌≡◌, refl, sym, ◌∙◌, ℕ, pos, neg_ℤ, Bool, true, false, List, [], ◌∷◌, map, Option, Some, None, codes}
 use Rattle.std.proofs.lemmas.Option.{none-some}
 use Rattle.calendar.specs.Dates.{last_with}
 use Rattle.calendar.specs.Days.{day, days_after_zero, days_in_month, days_in_year, days_into_year, days_through, is_leap, year_start}
 use Rattle.calendar.specs.Weekdays.{weekday_of}
 use Rattle.tz_posix_core.specs.Days.{nth_weekday, rule_day}
-use Rattle.tz_posix_core.specs.Reading.{value_in, number_at, part_at, time_at, sign_at, offset_at, letters_at, enclosed_at, name_at}
+use Rattle.tz_posix_core.specs.Reading.{value_in, number_at, part_at, clock_time_at, sign_at, offset_at, letters_at, enclosed_at, name_at}
 use Rattle.tz_posix_core.specs.Reading.{weekday_at, date_at, own_offset_at}
 use Rattle.tz_posix_core.specs.Seconds.{offset_seconds, time_seconds}
 use Rattle.tz_posix_core.specs.declared.date.Date.TheVariants.{J, M}
@@ -13,9 +13,9 @@ use Rattle.tz_posix_core.specs.declared.time.Offset.{Offset}
 use Rattle.tz_footer.specs.InForce.{fixed, yearly, second_in}
 use Rattle.tz_footer.specs.Ranges.{is_in_range, is_moment}
 use Rattle.tz_footer.specs.Reading.{moment_at, rule_in, saving_in, footer_in}
-use Rattle.tz_footer.specs.Spells.{IsFooter}
+use Rattle.tz_footer.specs.Spells.{SpellsFooter}
 use Rattle.tz_footer.specs.Standing.{stands_for}
-use Rattle.tz_footer.specs.Values.{FooterValue, SavingValue}
+use Rattle.tz_footer.specs.Values.{FooterValue}
 use Rattle.tz_footer.proofs.AgainLemmas.{footer_again}
 use Rattle.tz_footer.proofs.FoundLemmas.{footer_found}
 
@@ -34,9 +34,9 @@ nuuk = record {
 }
 
 -- an hour before midnight, and midnight
-worked_nuuk : IsFooter (codes "<-02>2<-01>,M3.5.0/-1,M10.5.0/0") nuuk
+worked_nuuk : SpellsFooter (codes "<-02>2<-01>,M3.5.0/-1,M10.5.0/0") nuuk
 unfolding
-    value_in number_at part_at time_at sign_at offset_at letters_at enclosed_at name_at weekday_at date_at own_offset_at
+    value_in number_at part_at clock_time_at sign_at offset_at letters_at enclosed_at name_at weekday_at date_at own_offset_at
     moment_at rule_in saving_in footer_in
 worked_nuuk = footer_found (codes "<-02>2<-01>,M3.5.0/-1,M10.5.0/0") _ refl
 
@@ -50,38 +50,38 @@ dublin = record {
   });
 }
 
-worked_dublin : IsFooter (codes "IST-1GMT0,J60,M3.5.0/24") dublin
+worked_dublin : SpellsFooter (codes "IST-1GMT0,J60,M3.5.0/24") dublin
 unfolding
-    value_in number_at part_at time_at sign_at offset_at letters_at enclosed_at name_at weekday_at date_at own_offset_at
+    value_in number_at part_at clock_time_at sign_at offset_at letters_at enclosed_at name_at weekday_at date_at own_offset_at
     moment_at rule_in saving_in footer_in
 worked_dublin = footer_found (codes "IST-1GMT0,J60,M3.5.0/24") _ refl
 
 -- what is read as nothing spells nothing
-spells_none : (text : List ℕ) → footer_in text ≡ None → (value : FooterValue) → IsFooter text value → ⊥
+spells_none : (text : List ℕ) → footer_in text ≡ None → (value : FooterValue) → SpellsFooter text value → ⊥
 spells_none text none value spelled = none-some value (sym none ∙ footer_again spelled)
 
 -- daylight saving time without a rule; a zone's name; text after the rule; nothing
-no_rule : (value : FooterValue) → IsFooter (codes "EST5EDT") value → ⊥
+no_rule : (value : FooterValue) → SpellsFooter (codes "EST5EDT") value → ⊥
 unfolding
-    value_in number_at part_at time_at sign_at offset_at letters_at enclosed_at name_at weekday_at date_at own_offset_at
+    value_in number_at part_at clock_time_at sign_at offset_at letters_at enclosed_at name_at weekday_at date_at own_offset_at
     moment_at rule_in saving_in footer_in
 no_rule = spells_none (codes "EST5EDT") refl
 
-no_zone : (value : FooterValue) → IsFooter (codes ":EST") value → ⊥
+no_zone : (value : FooterValue) → SpellsFooter (codes ":EST") value → ⊥
 unfolding
-    value_in number_at part_at time_at sign_at offset_at letters_at enclosed_at name_at weekday_at date_at own_offset_at
+    value_in number_at part_at clock_time_at sign_at offset_at letters_at enclosed_at name_at weekday_at date_at own_offset_at
     moment_at rule_in saving_in footer_in
 no_zone = spells_none (codes ":EST") refl
 
-text_after : (value : FooterValue) → IsFooter (codes "EST5EDT,J1,J2 ") value → ⊥
+text_after : (value : FooterValue) → SpellsFooter (codes "EST5EDT,J1,J2 ") value → ⊥
 unfolding
-    value_in number_at part_at time_at sign_at offset_at letters_at enclosed_at name_at weekday_at date_at own_offset_at
+    value_in number_at part_at clock_time_at sign_at offset_at letters_at enclosed_at name_at weekday_at date_at own_offset_at
     moment_at rule_in saving_in footer_in
 text_after = spells_none (codes "EST5EDT,J1,J2 ") refl
 
-nothing : (value : FooterValue) → IsFooter [] value → ⊥
+nothing : (value : FooterValue) → SpellsFooter [] value → ⊥
 unfolding
-    value_in number_at part_at time_at sign_at offset_at letters_at enclosed_at name_at weekday_at date_at own_offset_at
+    value_in number_at part_at clock_time_at sign_at offset_at letters_at enclosed_at name_at weekday_at date_at own_offset_at
     moment_at rule_in saving_in footer_in
 nothing = spells_none [] refl
 

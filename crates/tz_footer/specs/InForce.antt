@@ -14,8 +14,8 @@ unfoldable pub second_in : ℤ → ℤ → YearlyTime → ℤ
 second_in y offset time = pos 86400 *ℤ rule_day time.0 y +ℤ time.1 -ℤ offset
 
 -- the start is read at the standard offset, the end at that of daylight saving time, both in the year at the standard offset
-unfoldable pub is_saving : ℤ → ℤ → YearlyTime → YearlyTime → ℤ → Bool
-is_saving standard saving start end s =
+unfoldable pub is_footer_saving : ℤ → ℤ → YearlyTime → YearlyTime → ℤ → Bool
+is_footer_saving standard saving start end s =
     let y = year_at standard s in
     is_within (second_in y standard start) (second_in y saving end) s
 
@@ -27,7 +27,7 @@ pub data FooterZone : Type 0 where
 -- what holds at a second
 unfoldable pub held_at : FooterZone → ℤ → KindValue
 held_at (fixed kind) s = kind
-held_at (yearly standard saving start end) s = if is_saving standard.utoff saving.utoff start end s then saving else standard
+held_at (yearly standard saving start end) s = if is_footer_saving standard.utoff saving.utoff start end s then saving else standard
 
 -- the seconds east of UTC of standard time
 abbrev pub standard_total : FooterZone → ℤ

@@ -3,7 +3,7 @@ use Rattle.std.specs.Prelude.{◌≡◌, ℕ, Bool, true, ◌&&◌, List, Option
 use Rattle.tz_posix_core.specs.Ranges.{is_time, is_rule_date}
 use Rattle.tz_posix_core.specs.declared.date.Date.{Date}
 use Rattle.tz_posix_core.specs.declared.time.Offset.{Offset}
-use Rattle.tz_footer.specs.Spells.{IsFooter}
+use Rattle.tz_footer.specs.Spells.{SpellsFooter}
 use Rattle.tz_footer.specs.Values.{SavingValue, FooterValue}
 use Rattle.tz_footer.specs.declared.values.FooterRule.{FooterRule}
 
@@ -23,17 +23,17 @@ abbrev pub is_own_offset : Option Offset → Bool
 is_own_offset None = true
 is_own_offset (Some offset) = is_time 24 offset.time
 
-abbrev pub is_saving : SavingValue → Bool
-is_saving saving = is_own_offset saving.offset && is_rule saving.rule
+abbrev pub is_saving_part : SavingValue → Bool
+is_saving_part saving = is_own_offset saving.offset && is_rule saving.rule
 
 abbrev pub is_part : Bool → Option SavingValue → Bool
 is_part standard None = standard
-is_part standard (Some saving) = standard && is_saving saving
+is_part standard (Some saving) = standard && is_saving_part saving
 
 unfoldable pub is_in_range : FooterValue → Bool
 is_in_range value = is_part (is_time 24 value.standard.offset.time) value.saving
 
 -- the value of a footer that has all parts in their ranges
 pub record IsFooterOf (text : List ℕ) (value : FooterValue) : Type 0 where
-  pub spelled : IsFooter text value
+  pub spelled : SpellsFooter text value
   pub range : is_in_range value ≡ true

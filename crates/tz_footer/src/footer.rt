@@ -1,7 +1,7 @@
 //! Footers and what they put in force.
 ghost use Rattle.std.specs.Prelude.{◌≡◌, ◌≤◌, true, IsTrue, unsigned_abs, pos, ◌+ℤ◌};
 ghost use Rattle.std.specs.Option.{option_map_or};
-ghost use Rattle.tz_footer.specs.Ranges.{is_in_range, is_saving};
+ghost use Rattle.tz_footer.specs.Ranges.{is_in_range, is_saving_part};
 ghost use Rattle.tz_footer.specs.Shown.{saving_shown, text_shown};
 ghost use Rattle.tz_footer.specs.FooterShown.{held_shown};
 ghost use Rattle.tz_footer.specs.Standing.{saving_kind, moment_of};
@@ -111,7 +111,7 @@ impl<'a> Footer<'a> {
 impl<'a> Yearly<'a> {
     /// Daylight saving time of a value, beside standard time.
     fn of(saving: &Saving<'a>, standard: UtcOffset) -> Yearly<'a>
-        requires range { is_saving (saving_shown saving.now) ≡ true }
+        requires range { is_saving_part (saving_shown saving.now) ≡ true }
         requires standard { IsWritten standard }
         ensures held { held_shown result.held ≡ saving_kind (saving_shown saving.now) standard }
         ensures start { time_shown result.rule.start ≡ moment_of saving.now.rule.start }

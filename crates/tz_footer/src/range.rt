@@ -1,6 +1,6 @@
 //! The ranges of a footer's parts.
 ghost use Rattle.std.specs.Prelude.{◌≡◌};
-ghost use Rattle.tz_footer.specs.Ranges.{has_time, is_moment, is_rule, is_own_offset, is_saving, is_in_range};
+ghost use Rattle.tz_footer.specs.Ranges.{has_time, is_moment, is_rule, is_own_offset, is_saving_part, is_in_range};
 ghost use Rattle.tz_footer.specs.Shown.{saving_shown, text_shown};
 
 use crate::values::{FooterRule, FooterText, Saving};
@@ -18,7 +18,7 @@ pub(crate) fn is_in_range(footer: &FooterText<'_>) -> bool
 }
 
 fn is_saving(saving: &Saving<'_>) -> bool
-    ensures { result ≡ is_saving (saving_shown saving.now) }
+    ensures { result ≡ is_saving_part (saving_shown saving.now) }
 {
     is_own_offset(&saving.offset) && is_rule(&saving.rule)
 }

@@ -2,7 +2,7 @@
 ghost use Rattle.std.specs.Prelude.{◌≡◌, option_map, MatchOption};
 ghost use Rattle.tz_footer.specs.Reading.{moment_at, rule_in, saving_in, footer_in};
 ghost use Rattle.tz_footer.specs.Shown.{saving_shown, text_shown};
-ghost use Rattle.tz_footer.specs.Spells.{IsFooter};
+ghost use Rattle.tz_footer.specs.Spells.{SpellsFooter};
 ghost use Rattle.tz_footer.specs.Values.{FooterValue};
 ghost use Rattle.tz_posix_core.specs.Reading.{read_as};
 
@@ -72,8 +72,8 @@ fn whole(text: &str) -> Option<FooterText<'_>>
 /// A footer is a name, an offset, and maybe daylight saving time: a name, maybe an offset, and a rule. Names, offsets and
 /// dates are those of POSIX TZ strings; a time of a rule is written as an offset is, with a sign or without one.
 pub fn footer_text(text: &str) -> Option<FooterText<'_>>
-    ensures exact { MatchOption result ((value : FooterValue) → ¬ (IsFooter text.now value))
-        (λ footer. IsFooter text.now (text_shown footer)) }
+    ensures exact { MatchOption result ((value : FooterValue) → ¬ (SpellsFooter text.now value))
+        (λ footer. SpellsFooter text.now (text_shown footer)) }
 {
     whole(text)
 }

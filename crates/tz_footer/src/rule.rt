@@ -1,7 +1,7 @@
 //! Daylight saving time by a footer's rule: whether it is in force at a second.
 ghost use Rattle.std.specs.Prelude.{◌≡◌, ◌≤◌, IsTrue, unsigned_abs, pos, ◌+ℤ◌, ◌-ℤ◌, ◌*ℤ◌};
 ghost use Rattle.calendar.specs.Days.{IsCountedYear};
-ghost use Rattle.tz_footer.specs.InForce.{is_saving, second_in};
+ghost use Rattle.tz_footer.specs.InForce.{is_footer_saving, second_in};
 ghost use Rattle.tz_footer.specs.Ranges.{is_moment, is_rule};
 ghost use Rattle.tz_footer.specs.Standing.{moment_of};
 ghost use Rattle.tz_posix_core.specs.Ranges.{is_rule_date};
@@ -75,10 +75,10 @@ impl YearlyRule {
     }
 
     /// Whether daylight saving time is in force at a second, where it and standard time have these offsets.
-    #[tactic(auto, unfolding(crate::specs::InForce::is_saving))]
+    #[tactic(auto, unfolding(crate::specs::InForce::is_footer_saving))]
     pub(crate) fn is_saving(&self, standard: UtcOffset, saving: UtcOffset, second: i64) -> bool
         requires { unsigned_abs second ≤ 800_000_000_000 }
-        ensures { result ≡ is_saving standard saving (time_shown self.now.start) (time_shown self.now.end) second }
+        ensures { result ≡ is_footer_saving standard saving (time_shown self.now.start) (time_shown self.now.end) second }
     {
         let year = counted_year_at(standard, second);
         let start = self.start.in_year(year, standard);

@@ -15,7 +15,7 @@ use Rattle.zone_spans.specs.Schedules.{schedule_of_lines, total_at}
 use Rattle.tz_posix.proofs.TwoRuleFiringLemmas.{wall_moment}
 use Rattle.tz_posix.specs.Agreement.{IsNorthern, IsSouthern, SaysTheSame, start_in, value_of, value_total}
 use Rattle.tz_posix.specs.Agreement.{from_first, from_eighth, last_of_month}
-use Rattle.tz_posix_core.specs.Reading.{value_in, number_at, part_at, time_at, sign_at, offset_at, letters_at, enclosed_at, name_at}
+use Rattle.tz_posix_core.specs.Reading.{value_in, number_at, part_at, clock_time_at, sign_at, offset_at, letters_at, enclosed_at, name_at}
 use Rattle.tz_posix_core.specs.Reading.{weekday_at, date_at, moment_at, rule_in, own_offset_at, own_rule_in, dst_in, short_in}
 use Rattle.tz_posix_core.specs.Reading.{expanded_in, entry_in}
 use Rattle.tz_posix.specs.RealPairs.{IsRuledBy, lord_howe_rules, lord_howe_text, lord_howe_value}
@@ -29,19 +29,19 @@ use Rattle.tz_posix.proofs.MonthPairLemmas.{AreInnerRules, end_inside, northern_
 
 pub new_york_spelled : Spells new_york_text (value_of new_york_value)
 unfolding
-    value_in number_at part_at time_at sign_at offset_at letters_at enclosed_at name_at weekday_at date_at moment_at
+    value_in number_at part_at clock_time_at sign_at offset_at letters_at enclosed_at name_at weekday_at date_at moment_at
     rule_in own_offset_at own_rule_in dst_in short_in expanded_in entry_in
 new_york_spelled = entry_found new_york_text _ refl
 
 pub lord_howe_spelled : Spells lord_howe_text (value_of lord_howe_value)
 unfolding
-    value_in number_at part_at time_at sign_at offset_at letters_at enclosed_at name_at weekday_at date_at moment_at
+    value_in number_at part_at clock_time_at sign_at offset_at letters_at enclosed_at name_at weekday_at date_at moment_at
     rule_in own_offset_at own_rule_in dst_in short_in expanded_in entry_in
 lord_howe_spelled = entry_found lord_howe_text _ refl
 
 pub moldova_spelled : Spells moldova_text (value_of moldova_value)
 unfolding
-    value_in number_at part_at time_at sign_at offset_at letters_at enclosed_at name_at weekday_at date_at moment_at
+    value_in number_at part_at clock_time_at sign_at offset_at letters_at enclosed_at name_at weekday_at date_at moment_at
     rule_in own_offset_at own_rule_in dst_in short_in expanded_in entry_in
 moldova_spelled = entry_found moldova_text _ refl
 

@@ -1,7 +1,7 @@
 -- Texts that spell a value and texts that spell none, by hand.
 use Rattle.std.proofs.Common.{◌≡◌, refl, sym, ◌∙◌, ℕ, true, false, List, Some, None, codes}
 use Rattle.std.proofs.lemmas.Option.{none-some}
-use Rattle.tz_posix_core.specs.Reading.{value_in, number_at, part_at, time_at, sign_at, offset_at, letters_at, enclosed_at, name_at}
+use Rattle.tz_posix_core.specs.Reading.{value_in, number_at, part_at, clock_time_at, sign_at, offset_at, letters_at, enclosed_at, name_at}
 use Rattle.tz_posix_core.specs.Reading.{weekday_at, date_at, moment_at, rule_in, own_offset_at, own_rule_in, dst_in, short_in}
 use Rattle.tz_posix_core.specs.Reading.{expanded_in, entry_in}
 use Rattle.tz_posix_core.specs.Spells.{Spells}
@@ -16,13 +16,13 @@ worked_bracket : Spells (codes "<AB>0") (expanded (record {
   offset = record { positive = true; time = record { hh = 0; mm = None; ss = None } };
 }) None)
 unfolding
-    value_in number_at part_at time_at sign_at offset_at letters_at enclosed_at name_at weekday_at date_at moment_at
+    value_in number_at part_at clock_time_at sign_at offset_at letters_at enclosed_at name_at weekday_at date_at moment_at
     rule_in own_offset_at own_rule_in dst_in short_in expanded_in entry_in
 worked_bracket = entry_found (codes "<AB>0") _ refl
 
 worked_short : Spells (codes ":<A/B>") (short (codes "A/B"))
 unfolding
-    value_in number_at part_at time_at sign_at offset_at letters_at enclosed_at name_at weekday_at date_at moment_at
+    value_in number_at part_at clock_time_at sign_at offset_at letters_at enclosed_at name_at weekday_at date_at moment_at
     rule_in own_offset_at own_rule_in dst_in short_in expanded_in entry_in
 worked_short = entry_found (codes ":<A/B>") _ refl
 
@@ -39,7 +39,7 @@ worked_rule : Spells (codes "AAA-1:2BBB+1,J60/3,M12.5.6/1:2:3") (expanded (recor
   });
 })))
 unfolding
-    value_in number_at part_at time_at sign_at offset_at letters_at enclosed_at name_at weekday_at date_at moment_at
+    value_in number_at part_at clock_time_at sign_at offset_at letters_at enclosed_at name_at weekday_at date_at moment_at
     rule_in own_offset_at own_rule_in dst_in short_in expanded_in entry_in
 worked_rule = entry_found (codes "AAA-1:2BBB+1,J60/3,M12.5.6/1:2:3") _ refl
 
@@ -50,24 +50,24 @@ spells_none text none value spelled = none-some value (sym none ∙ entry_again 
 -- two letters; a slash without brackets; text after the rule; a number past 8 bits
 two_letters : (value : TzValue) → Spells (codes "AB0") value → ⊥
 unfolding
-    value_in number_at part_at time_at sign_at offset_at letters_at enclosed_at name_at weekday_at date_at moment_at
+    value_in number_at part_at clock_time_at sign_at offset_at letters_at enclosed_at name_at weekday_at date_at moment_at
     rule_in own_offset_at own_rule_in dst_in short_in expanded_in entry_in
 two_letters = spells_none (codes "AB0") refl
 
 no_brackets : (value : TzValue) → Spells (codes ":A/B") value → ⊥
 unfolding
-    value_in number_at part_at time_at sign_at offset_at letters_at enclosed_at name_at weekday_at date_at moment_at
+    value_in number_at part_at clock_time_at sign_at offset_at letters_at enclosed_at name_at weekday_at date_at moment_at
     rule_in own_offset_at own_rule_in dst_in short_in expanded_in entry_in
 no_brackets = spells_none (codes ":A/B") refl
 
 text_after : (value : TzValue) → Spells (codes "AAA0BBB,0,1 ") value → ⊥
 unfolding
-    value_in number_at part_at time_at sign_at offset_at letters_at enclosed_at name_at weekday_at date_at moment_at
+    value_in number_at part_at clock_time_at sign_at offset_at letters_at enclosed_at name_at weekday_at date_at moment_at
     rule_in own_offset_at own_rule_in dst_in short_in expanded_in entry_in
 text_after = spells_none (codes "AAA0BBB,0,1 ") refl
 
 past_a_byte : (value : TzValue) → Spells (codes "AAA256") value → ⊥
 unfolding
-    value_in number_at part_at time_at sign_at offset_at letters_at enclosed_at name_at weekday_at date_at moment_at
+    value_in number_at part_at clock_time_at sign_at offset_at letters_at enclosed_at name_at weekday_at date_at moment_at
     rule_in own_offset_at own_rule_in dst_in short_in expanded_in entry_in
 past_a_byte = spells_none (codes "AAA256") refl

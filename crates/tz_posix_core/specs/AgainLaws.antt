@@ -8,12 +8,12 @@ use Rattle.std.specs.Char.{is_ascii_digit, is_ascii_alphabetic}
 use Rattle.std.specs.List.{prefix_len, list_all}
 use Rattle.std.specs.Str.Parse.{digits_value}
 use Rattle.tz_posix_core.specs.Marks.{colon, plus_sign, comma, minus_sign, dot, slash, less, greater, letter_J, letter_M}
-use Rattle.tz_posix_core.specs.Reading.{after_mark, after_run, value_in, number_at, part_at, time_at, offset_at, sign_at, letters_at}
+use Rattle.tz_posix_core.specs.Reading.{after_mark, after_run, value_in, number_at, part_at, clock_time_at, offset_at, sign_at, letters_at}
 use Rattle.tz_posix_core.specs.Reading.{enclosed_at, name_at, weekday_at, date_at, moment_at, rule_in, is_over, own_offset_at}
 use Rattle.tz_posix_core.specs.Reading.{own_rule_in, dst_in, short_in, expanded_in, entry_in}
-use Rattle.tz_posix_core.specs.Spells.{Optional, absent, present, IsNumber, IsTime, hours, minutes, seconds, IsOffset, bare, plus, minus}
-use Rattle.tz_posix_core.specs.Spells.{is_enclosed, IsName, enclosed, letters, IsDate, julian, counted, weekday, IsMoment, date, timed}
-use Rattle.tz_posix_core.specs.Spells.{IsRule, rule, IsDst, dst, Spells, short_form, full_form, begins, RunsAreLongest}
+use Rattle.tz_posix_core.specs.Spells.{Optional, absent, present, SpellsNumber, SpellsTime, hours, minutes, seconds, SpellsOffset, bare, plus, minus}
+use Rattle.tz_posix_core.specs.Spells.{is_enclosed, SpellsName, enclosed, letters, SpellsDate, julian, counted, weekday, SpellsMoment, date, timed}
+use Rattle.tz_posix_core.specs.Spells.{SpellsRule, rule, SpellsDst, dst, Spells, short_form, full_form, begins, RunsAreLongest}
 use Rattle.tz_posix_core.specs.Values.{DstPart, TzValue}
 use Rattle.tz_posix_core.specs.declared.time.Time.{Time}
 use Rattle.tz_posix_core.specs.declared.time.Offset.{Offset}
@@ -44,7 +44,7 @@ run_again p xs rest passes stops =
     let long = run_len p xs rest passes stops in
     (rw long (take_at xs rest (length xs) refl), rw long (drop_at xs rest (length xs) refl))
 
-number_again : {bits : ℕ} {a : List ℕ} {n : ℕ} → IsNumber bits a n → (rest : List ℕ) → begins is_ascii_digit rest ≡ false
+number_again : {bits : ℕ} {a : List ℕ} {n : ℕ} → SpellsNumber bits a n → (rest : List ℕ) → begins is_ascii_digit rest ≡ false
     → number_at bits (a ++ rest) ≡ Some (n, rest)
 unfolding number_at value_in
 number_again {bits} {a} {n} is rest stops =
@@ -69,13 +69,13 @@ part_none : (rest : List ℕ) → begins goes_on rest ≡ false → part_at rest
 unfolding part_at
 part_none rest stops = rw (no_mark colon rest (stop_colon rest stops)) refl
 
-part_again : {b : List ℕ} {m : ℕ} → IsNumber 8 b m → (rest : List ℕ) → begins is_ascii_digit rest ≡ false
+part_again : {b : List ℕ} {m : ℕ} → SpellsNumber 8 b m → (rest : List ℕ) → begins is_ascii_digit rest ≡ false
     → part_at (colon ∷ b ++ rest) ≡ Some (Some m, rest)
 unfolding part_at
 part_again m rest stops = rw (number_again m rest stops) refl
 
-time_again : {a : List ℕ} {t : Time} → IsTime a t → (rest : List ℕ) → begins goes_on rest ≡ false → time_at (a ++ rest) ≡ Some (t, rest)
-unfolding time_at
+time_again : {a : List ℕ} {t : Time} → SpellsTime a t → (rest : List ℕ) → begins goes_on rest ≡ false → clock_time_at (a ++ rest) ≡ Some (t, rest)
+unfolding clock_time_at
 time_again (hours h) rest stops =
     rw (number_again h rest (stop_digit rest stops), part_none rest stops) refl
 time_again (minutes {a} {b} h m) rest stops =
@@ -97,23 +97,23 @@ run_first q test answer tells (c ∷ xs) rest some passes = tells c (xs ++ rest)
 
 module _ {B : Type 0} (test : List ℕ → B) (answer : B) (at_digit : (c : ℕ) (cs : List ℕ) → is_ascii_digit c ≡ true
     → test (c ∷ cs) ≡ answer) where
-  number_first : {bits : ℕ} {a : List ℕ} {n : ℕ} → IsNumber bits a n → (rest : List ℕ) → test (a ++ rest) ≡ answer
+  number_first : {bits : ℕ} {a : List ℕ} {n : ℕ} → SpellsNumber bits a n → (rest : List ℕ) → test (a ++ rest) ≡ answer
   number_first {bits} {a} {n} is rest = run_first is_ascii_digit test answer at_digit a rest is.some is.digits
 
-  time_first : {a : List ℕ} {t : Time} → IsTime a t → (rest : List ℕ) → test (a ++ rest) ≡ answer
+  time_first : {a : List ℕ} {t : Time} → SpellsTime a t → (rest : List ℕ) → test (a ++ rest) ≡ answer
   time_first (hours h) rest = number_first h rest
   time_first (minutes {a} {b} h m) rest = rw append_assoc (number_first h (colon ∷ (b ++ rest)))
   time_first (seconds {a} {b} {c} h m s) rest = rw (append_assoc, append_assoc) (number_first h (colon ∷ (b ++ (colon ∷ (c ++ rest)))))
 
   pub offset_first : ((cs : List ℕ) → test (plus_sign ∷ cs) ≡ answer) → ((cs : List ℕ) → test (minus_sign ∷ cs) ≡ answer)
-      → {a : List ℕ} {o : Offset} → IsOffset a o → (rest : List ℕ) → test (a ++ rest) ≡ answer
+      → {a : List ℕ} {o : Offset} → SpellsOffset a o → (rest : List ℕ) → test (a ++ rest) ≡ answer
   offset_first at_plus at_minus (bare t) rest = time_first t rest
   offset_first at_plus at_minus (plus {a} t) rest = at_plus (a ++ rest)
   offset_first at_plus at_minus (minus {a} t) rest = at_minus (a ++ rest)
 
 module _ {B : Type 0} (test : List ℕ → B) (answer : B) (at_letter : (c : ℕ) (cs : List ℕ) → is_ascii_alphabetic c ≡ true
     → test (c ∷ cs) ≡ answer) (at_bracket : (cs : List ℕ) → test (less ∷ cs) ≡ answer) where
-  pub name_first : {a name : List ℕ} → IsName a name → (rest : List ℕ) → test (a ++ rest) ≡ answer
+  pub name_first : {a name : List ℕ} → SpellsName a name → (rest : List ℕ) → test (a ++ rest) ≡ answer
   name_first (enclosed {name} some inside) rest = at_bracket (name ++ greater ∷ [] ++ rest)
   name_first (letters {name} three sixteen passes) rest = run_first is_ascii_alphabetic test answer at_letter name rest (omega arith) passes
 
@@ -128,7 +128,7 @@ no_letter_is mark other c cs letter =
     let differs : nat_eq c mark ≡ false = grind (arith, nat_tests) in
     rw differs refl
 
-pub offset_again : {a : List ℕ} {o : Offset} → IsOffset a o → (rest : List ℕ) → begins goes_on rest ≡ false
+pub offset_again : {a : List ℕ} {o : Offset} → SpellsOffset a o → (rest : List ℕ) → begins goes_on rest ≡ false
     → offset_at (a ++ rest) ≡ Some (o, rest)
 unfolding offset_at sign_at
 offset_again (bare {a} t) rest stops =
@@ -151,7 +151,7 @@ enclosed_again name rest some inside =
     let more : nat_eq (length name) 0 ≡ false = grind (arith, nat_tests) in
     rw (append_assoc, run.0, run.1, more) refl
 
-pub name_again : {a name : List ℕ} → IsName a name → (rest : List ℕ) → begins is_ascii_alphabetic rest ≡ false
+pub name_again : {a name : List ℕ} → SpellsName a name → (rest : List ℕ) → begins is_ascii_alphabetic rest ≡ false
     → name_at (a ++ rest) ≡ Some (name, rest)
 unfolding name_at letters_at
 name_again (enclosed {name} some inside) rest stops = enclosed_again name rest some inside
@@ -167,7 +167,7 @@ name_again (letters {name} three sixteen passes) rest stops =
       most,
     ) refl
 
-weekday_again : {a b c : List ℕ} {m n d : ℕ} → IsNumber 8 a m → IsNumber 8 b n → IsNumber 8 c d → (rest : List ℕ)
+weekday_again : {a b c : List ℕ} {m n d : ℕ} → SpellsNumber 8 a m → SpellsNumber 8 b n → SpellsNumber 8 c d → (rest : List ℕ)
     → begins is_ascii_digit rest ≡ false → weekday_at ((a ++ dot ∷ b ++ dot ∷ c) ++ rest) ≡ Some (M m n d, rest)
 unfolding weekday_at
 weekday_again {a} {b} {c} m n d rest stops =
@@ -179,7 +179,7 @@ weekday_again {a} {b} {c} m n d rest stops =
       number_again d rest stops,
     ) refl
 
-pub date_again : {a : List ℕ} {d : Date} → IsDate a d → (rest : List ℕ) → begins is_ascii_digit rest ≡ false
+pub date_again : {a : List ℕ} {d : Date} → SpellsDate a d → (rest : List ℕ) → begins is_ascii_digit rest ≡ false
     → date_at (a ++ rest) ≡ Some (d, rest)
 unfolding date_at
 date_again (julian n) rest stops = rw (number_again n rest stops) refl
@@ -191,19 +191,19 @@ date_again (counted n) rest stops =
     ) refl
 date_again (weekday m n d) rest stops = weekday_again m n d rest stops
 
-moment_again : {a : List ℕ} {v : Date × Option Time} → IsMoment a v → (rest : List ℕ) → begins goes_on rest ≡ false
+moment_again : {a : List ℕ} {v : Date × Option Time} → SpellsMoment a v → (rest : List ℕ) → begins goes_on rest ≡ false
     → moment_at (a ++ rest) ≡ Some (v, rest)
 unfolding moment_at
 moment_again (date d) rest stops = rw (date_again d rest (stop_digit rest stops), no_mark slash rest (stop_slash rest stops)) refl
 moment_again (timed {a} {b} d t) rest stops = rw (append_assoc, date_again d (slash ∷ (b ++ rest)) refl, time_again t rest stops) refl
 
-rule_again : {a : List ℕ} {r : Rule} → IsRule a r → rule_in a ≡ Some r
+rule_again : {a : List ℕ} {r : Rule} → SpellsRule a r → rule_in a ≡ Some r
 unfolding rule_in
 rule_again (rule {a} {b} s e) =
     let last = rw append-nil at (moment_again e [] refl) in
     rw (moment_again s (comma ∷ b) refl, last) refl
 
-rule_over : {a : List ℕ} {r : Option Rule} → Optional IsRule a r → is_over a ≡ true
+rule_over : {a : List ℕ} {r : Option Rule} → Optional SpellsRule a r → is_over a ≡ true
 rule_over absent = refl
 rule_over (present (rule s e)) = refl
 
@@ -217,24 +217,24 @@ digit_goes c cs h = grind (arith, nat_tests)
 pub digit_no_letter : (c : ℕ) (cs : List ℕ) → is_ascii_digit c ≡ true → begins is_ascii_alphabetic (c ∷ cs) ≡ false
 digit_no_letter c cs h = grind (arith, nat_tests)
 
-pub own_offset_again : {a : List ℕ} {o : Option Offset} → Optional IsOffset a o → (rest : List ℕ) → is_over rest ≡ true
+pub own_offset_again : {a : List ℕ} {o : Option Offset} → Optional SpellsOffset a o → (rest : List ℕ) → is_over rest ≡ true
     → own_offset_at (a ++ rest) ≡ Some (o, rest)
 unfolding own_offset_at
 own_offset_again absent rest over = rw over refl
 own_offset_again (present o) rest over =
     rw (offset_first is_over false digit_goes (λ cs. refl) (λ cs. refl) o rest, offset_again o rest (over_stops rest over).0) refl
 
-own_rule_again : {a : List ℕ} {r : Option Rule} → Optional IsRule a r → own_rule_in a ≡ Some r
+own_rule_again : {a : List ℕ} {r : Option Rule} → Optional SpellsRule a r → own_rule_in a ≡ Some r
 unfolding own_rule_in
 own_rule_again absent = refl
 own_rule_again (present (rule {a} {b} s e)) = rw (rule_again (rule s e), some_text comma (a ++ comma ∷ b)) refl
 
-pub after_name : {a : List ℕ} {o : Option Offset} → Optional IsOffset a o → (rest : List ℕ) → is_over rest ≡ true
+pub after_name : {a : List ℕ} {o : Option Offset} → Optional SpellsOffset a o → (rest : List ℕ) → is_over rest ≡ true
     → begins is_ascii_alphabetic (a ++ rest) ≡ false
 after_name absent rest over = (over_stops rest over).1
 after_name (present o) rest over = offset_first (begins is_ascii_alphabetic) false digit_no_letter (λ cs. refl) (λ cs. refl) o rest
 
-dst_again : {a : List ℕ} {d : Option DstPart} → Optional IsDst a d → dst_in a ≡ Some d
+dst_again : {a : List ℕ} {d : Option DstPart} → Optional SpellsDst a d → dst_in a ≡ Some d
 unfolding dst_in
 dst_again absent = refl
 dst_again (present (dst {a} {b} {c} name o r)) =
@@ -245,7 +245,7 @@ dst_again (present (dst {a} {b} {c} name o r)) =
 pub letter_stops : (c : ℕ) (cs : List ℕ) → is_ascii_alphabetic c ≡ true → begins goes_on (c ∷ cs) ≡ false
 letter_stops c cs h = grind (arith, nat_tests)
 
-dst_stops : {a : List ℕ} {d : Option DstPart} → Optional IsDst a d → begins goes_on a ≡ false
+dst_stops : {a : List ℕ} {d : Option DstPart} → Optional SpellsDst a d → begins goes_on a ≡ false
 dst_stops absent = refl
 dst_stops (present (dst {a} {b} {c} name o r)) = rw append_assoc (name_first (begins goes_on) false letter_stops (λ cs. refl) name (b ++ c))
 

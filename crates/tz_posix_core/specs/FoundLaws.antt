@@ -13,12 +13,12 @@ use Rattle.std.specs.Option.{option_map_or}
 use Rattle.std.specs.Str.Parse.{digits_value}
 use Rattle.calendar.specs.LogicLaws.{map_some, bind_some}
 use Rattle.tz_posix_core.specs.Marks.{colon, plus_sign, comma, minus_sign, dot, slash, less, greater, letter_J, letter_M}
-use Rattle.tz_posix_core.specs.Reading.{after_mark, after_run, value_in, number_at, part_at, seconds_at, time_at, offset_at, sign_at}
+use Rattle.tz_posix_core.specs.Reading.{after_mark, after_run, value_in, number_at, part_at, seconds_at, clock_time_at, offset_at, sign_at}
 use Rattle.tz_posix_core.specs.Reading.{letters_at, enclosed_at, name_at, day_at, weekday_at, date_at, date_time_at, moment_at, rule_in}
 use Rattle.tz_posix_core.specs.Reading.{is_over, own_offset_at, own_rule_in, dst_in, short_in, expanded_in, entry_in}
-use Rattle.tz_posix_core.specs.Spells.{Optional, absent, present, IsNumber, IsTime, hours, minutes, seconds, IsOffset, bare, plus, minus}
-use Rattle.tz_posix_core.specs.Spells.{is_enclosed, IsName, enclosed, letters, IsDate, julian, counted, weekday, IsMoment, date, timed}
-use Rattle.tz_posix_core.specs.Spells.{IsRule, rule, IsDst, dst, Spells, short_form, full_form}
+use Rattle.tz_posix_core.specs.Spells.{Optional, absent, present, SpellsNumber, SpellsTime, hours, minutes, seconds, SpellsOffset, bare, plus, minus}
+use Rattle.tz_posix_core.specs.Spells.{is_enclosed, SpellsName, enclosed, letters, SpellsDate, julian, counted, weekday, SpellsMoment, date, timed}
+use Rattle.tz_posix_core.specs.Spells.{SpellsRule, rule, SpellsDst, dst, Spells, short_form, full_form}
 use Rattle.tz_posix_core.specs.Values.{DstPart, TzValue, short, expanded}
 use Rattle.tz_posix_core.specs.declared.time.Time.{Time}
 use Rattle.tz_posix_core.specs.declared.time.Offset.{Offset}
@@ -64,28 +64,28 @@ marked f mark text d y e = by_mark (after_mark mark text) refl e
     by_mark (Some rest) is e = inl (rest, mark_found mark text rest is, e)
     by_mark None is e = inr e
 
-number_found : (bits : ℕ) (text : List ℕ) (y : ℕ × List ℕ) → number_at bits text ≡ Some y → Takes (IsNumber bits) text y.0 y.1
+number_found : (bits : ℕ) (text : List ℕ) (y : ℕ × List ℕ) → number_at bits text ≡ Some y → Takes (SpellsNumber bits) text y.0 y.1
 unfolding number_at value_in
 number_found bits text y e =
     let run = take_while is_ascii_digit text in
     let step = bind_some _ _ y e in
     let value = cond_some _ (digits_value 10 run) step.0 step.1 in
     let tests = and_parts (nat_lt 0 (length run)) _ value.0 in
-    let is : IsNumber bits run step.0 = record {
+    let is : SpellsNumber bits run step.0 = record {
       some = ltb-true _ _ tests.0;
       digits = run_passes is_ascii_digit text;
       value = value.1;
       fits = rw (← value.1) (ltb-true _ _ tests.1);
     } in
     takes_as step.2
-    (subst (λ t. Takes (IsNumber bits) t step.0 (after_run is_ascii_digit text))
+    (subst (λ t. Takes (SpellsNumber bits) t step.0 (after_run is_ascii_digit text))
     (take-append-drop (prefix_len is_ascii_digit text) text) (takes is))
 
 data IsPart : List ℕ → Option ℕ → List ℕ → Type 0 where
   no_part : {rest : List ℕ} → IsPart rest None rest
-  a_part : {b rest : List ℕ} {m : ℕ} → IsNumber 8 b m → IsPart (colon ∷ b ++ rest) (Some m) rest
+  a_part : {b rest : List ℕ} {m : ℕ} → SpellsNumber 8 b m → IsPart (colon ∷ b ++ rest) (Some m) rest
 
-some_part : {text rest : List ℕ} {m : ℕ} → Takes (IsNumber 8) text m rest → IsPart (colon ∷ text) (Some m) rest
+some_part : {text rest : List ℕ} {m : ℕ} → Takes (SpellsNumber 8) text m rest → IsPart (colon ∷ text) (Some m) rest
 some_part (takes m) = a_part m
 
 part_found : (text : List ℕ) (y : Option ℕ × List ℕ) → part_at text ≡ Some y → IsPart text y.0 y.1
@@ -97,21 +97,21 @@ part_found text y e = elim (marked _ colon text _ (Some y) e) [
   | inr other ↦ subst (λ p. IsPart text p.0 p.1) (same_Some _ y other) no_part
 ]
 
-time_after : {a b q rest : List ℕ} {h m : ℕ} {ss : Option ℕ} → IsNumber 8 a h → IsNumber 8 b m → IsPart q ss rest
-    → Takes IsTime (a ++ (colon ∷ (b ++ q))) (record { hh = h; mm = Some m; ss = ss }) rest
+time_after : {a b q rest : List ℕ} {h m : ℕ} {ss : Option ℕ} → SpellsNumber 8 a h → SpellsNumber 8 b m → IsPart q ss rest
+    → Takes SpellsTime (a ++ (colon ∷ (b ++ q))) (record { hh = h; mm = Some m; ss = ss }) rest
 time_after {a} {b} h m (no_part {rest}) = rw (← append_assoc a (colon ∷ b) rest) (takes (minutes h m))
 time_after {a} {b} h m (a_part {b = c} {rest} s) =
     rw (← append_assoc a (colon ∷ b) (colon ∷ (c ++ rest)), ← append_assoc (a ++ (colon ∷ b)) (colon ∷ c) rest) (takes (seconds h m s))
 
-time_built : {text r q : List ℕ} {h : ℕ} {mm : Option ℕ} → Takes (IsNumber 8) text h r → IsPart r mm q → (y : Option ℕ × List ℕ)
-    → seconds_at mm q ≡ Some y → Takes IsTime text (record { hh = h; mm = mm; ss = y.0 }) y.1
+time_built : {text r q : List ℕ} {h : ℕ} {mm : Option ℕ} → Takes (SpellsNumber 8) text h r → IsPart r mm q → (y : Option ℕ × List ℕ)
+    → seconds_at mm q ≡ Some y → Takes SpellsTime text (record { hh = h; mm = mm; ss = y.0 }) y.1
 time_built (takes {front} {value = n} h) (no_part {rest}) y e =
-    subst (λ (p : Option ℕ × List ℕ). Takes IsTime (front ++ rest) (record { hh = n; mm = None; ss = p.0 }) p.1) (same_Some _ y e)
+    subst (λ (p : Option ℕ × List ℕ). Takes SpellsTime (front ++ rest) (record { hh = n; mm = None; ss = p.0 }) p.1) (same_Some _ y e)
     (takes (hours h))
 time_built (takes h) (a_part {rest = rest} m) y e = time_after h m (part_found rest y e)
 
-time_found : (text : List ℕ) (y : Time × List ℕ) → time_at text ≡ Some y → Takes IsTime text y.0 y.1
-unfolding time_at
+time_found : (text : List ℕ) (y : Time × List ℕ) → clock_time_at text ≡ Some y → Takes SpellsTime text y.0 y.1
+unfolding clock_time_at
 time_found text y e =
     let h = bind_some _ (number_at 8 text) y e in
     let m = bind_some _ (part_at h.0.1) y h.2 in
@@ -134,23 +134,23 @@ sign_found text = elim (marked (λ rest. (false, rest)) minus_sign text _ (sign_
   ])
 ]
 
-offset_built : {text rest r : List ℕ} {positive : Bool} {t : Time} → IsSigned text positive rest → Takes IsTime rest t r
-    → Takes IsOffset text (record { positive = positive; time = t }) r
+offset_built : {text rest r : List ℕ} {positive : Bool} {t : Time} → IsSigned text positive rest → Takes SpellsTime rest t r
+    → Takes SpellsOffset text (record { positive = positive; time = t }) r
 offset_built unsigned (takes t) = takes (bare t)
 offset_built with_plus (takes t) = takes (plus t)
 offset_built with_minus (takes t) = takes (minus t)
 
-pub offset_found : (text : List ℕ) (y : Offset × List ℕ) → offset_at text ≡ Some y → Takes IsOffset text y.0 y.1
+pub offset_found : (text : List ℕ) (y : Offset × List ℕ) → offset_at text ≡ Some y → Takes SpellsOffset text y.0 y.1
 unfolding offset_at
 offset_found text y e =
-    let t = bind_some _ (time_at (sign_at text).1) y e in
+    let t = bind_some _ (clock_time_at (sign_at text).1) y e in
     takes_as t.2 (offset_built (sign_found text) (time_found (sign_at text).1 t.0 t.1))
 
 enclosed_built : (name rest : List ℕ) → 0 < length name → list_all is_enclosed name ≡ true
-    → Takes IsName (less ∷ (name ++ (greater ∷ rest))) name rest
+    → Takes SpellsName (less ∷ (name ++ (greater ∷ rest))) name rest
 enclosed_built name rest more inside = rw (← append_assoc name (greater ∷ []) rest) (takes (enclosed more inside))
 
-enclosed_found : (text : List ℕ) (y : List ℕ × List ℕ) → enclosed_at text ≡ Some y → Takes IsName (less ∷ text) y.0 y.1
+enclosed_found : (text : List ℕ) (y : List ℕ × List ℕ) → enclosed_at text ≡ Some y → Takes SpellsName (less ∷ text) y.0 y.1
 unfolding enclosed_at
 enclosed_found text y e =
     let name = take_while is_enclosed text in
@@ -161,11 +161,11 @@ enclosed_found text y e =
           let whole : name ++ (greater ∷ step.0) ≡ text = ap (λ t. name ++ t) (sym (mark_found greater _ step.0 step.1))
           ∙ take-append-drop (prefix_len is_enclosed text) text in
           let filled : 0 < length name = grind (arith, nat_tests, more.0) in
-          subst (λ (p : List ℕ × List ℕ). Takes IsName (less ∷ text) p.0 p.1) step.2
-          (subst (λ t. Takes IsName (less ∷ t) name step.0) whole (enclosed_built name step.0 filled (run_passes is_enclosed text)))
+          subst (λ (p : List ℕ × List ℕ). Takes SpellsName (less ∷ text) p.0 p.1) step.2
+          (subst (λ t. Takes SpellsName (less ∷ t) name step.0) whole (enclosed_built name step.0 filled (run_passes is_enclosed text)))
     ]
 
-letters_found : (text : List ℕ) (y : List ℕ × List ℕ) → letters_at text ≡ Some y → Takes IsName text y.0 y.1
+letters_found : (text : List ℕ) (y : List ℕ × List ℕ) → letters_at text ≡ Some y → Takes SpellsName text y.0 y.1
 unfolding letters_at
 letters_found text y e =
     let name = take_while is_ascii_alphabetic text in
@@ -173,28 +173,28 @@ letters_found text y e =
     let tests = and_parts (nat_le 3 (length name)) _ both.0 in
     let fewest : 3 ≤ length name = grind (arith, nat_tests, tests.0) in
     let most : length name ≤ 16 = grind (arith, nat_tests, tests.1) in
-    subst (λ (p : List ℕ × List ℕ). Takes IsName text p.0 p.1) both.1
-    (subst (λ t. Takes IsName t name (after_run is_ascii_alphabetic text))
+    subst (λ (p : List ℕ × List ℕ). Takes SpellsName text p.0 p.1) both.1
+    (subst (λ t. Takes SpellsName t name (after_run is_ascii_alphabetic text))
     (take-append-drop (prefix_len is_ascii_alphabetic text) text)
     (takes (letters fewest most (run_passes is_ascii_alphabetic text))))
 
-pub name_found : (text : List ℕ) (y : List ℕ × List ℕ) → name_at text ≡ Some y → Takes IsName text y.0 y.1
+pub name_found : (text : List ℕ) (y : List ℕ × List ℕ) → name_at text ≡ Some y → Takes SpellsName text y.0 y.1
 unfolding name_at
 name_found text y e = elim (marked enclosed_at less text (letters_at text) (Some y) e) [
   | inl found ↦ rw found.1 (enclosed_found found.0 y found.2)
   | inr other ↦ letters_found text y other
 ]
 
-two_marks : {a b c rest : List ℕ} {m n d : ℕ} → IsNumber 8 a m → IsNumber 8 b n → IsNumber 8 c d
-    → Takes IsDate (letter_M ∷ (a ++ (dot ∷ (b ++ (dot ∷ (c ++ rest)))))) (M m n d) rest
+two_marks : {a b c rest : List ℕ} {m n d : ℕ} → SpellsNumber 8 a m → SpellsNumber 8 b n → SpellsNumber 8 c d
+    → Takes SpellsDate (letter_M ∷ (a ++ (dot ∷ (b ++ (dot ∷ (c ++ rest)))))) (M m n d) rest
 two_marks {a} {b} {c} {rest} m n d =
     rw (← append_assoc a (dot ∷ b) (dot ∷ (c ++ rest)), ← append_assoc (a ++ (dot ∷ b)) (dot ∷ c) rest) (takes (weekday m n d))
 
-weekday_built : {text p q r s rest : List ℕ} {m n d : ℕ} → Takes (IsNumber 8) text m p → p ≡ dot ∷ q → Takes (IsNumber 8) q n r
-    → r ≡ dot ∷ s → Takes (IsNumber 8) s d rest → Takes IsDate (letter_M ∷ text) (M m n d) rest
+weekday_built : {text p q r s rest : List ℕ} {m n d : ℕ} → Takes (SpellsNumber 8) text m p → p ≡ dot ∷ q → Takes (SpellsNumber 8) q n r
+    → r ≡ dot ∷ s → Takes (SpellsNumber 8) s d rest → Takes SpellsDate (letter_M ∷ text) (M m n d) rest
 weekday_built (takes {front = a} m) e (takes {front = b} n) f (takes d) = rw (e, f) (two_marks m n d)
 
-weekday_found : (text : List ℕ) (y : Date × List ℕ) → weekday_at text ≡ Some y → Takes IsDate (letter_M ∷ text) y.0 y.1
+weekday_found : (text : List ℕ) (y : Date × List ℕ) → weekday_at text ≡ Some y → Takes SpellsDate (letter_M ∷ text) y.0 y.1
 unfolding weekday_at
 weekday_found text y e =
     let m = bind_some _ (number_at 8 text) y e in
@@ -205,51 +205,51 @@ weekday_found text y e =
     takes_as d.2 (weekday_built (number_found 8 text m.0 m.1) (mark_found dot m.0.1 p.0 p.1) (number_found 8 p.0 n.0 n.1)
     (mark_found dot n.0.1 q.0 q.1) (number_found 8 q.0 d.0 d.1))
 
-julian_built : {text rest : List ℕ} {n : ℕ} → Takes (IsNumber 16) text n rest → Takes IsDate (letter_J ∷ text) (J n) rest
+julian_built : {text rest : List ℕ} {n : ℕ} → Takes (SpellsNumber 16) text n rest → Takes SpellsDate (letter_J ∷ text) (J n) rest
 julian_built (takes n) = takes (julian n)
 
-counted_built : {text rest : List ℕ} {n : ℕ} → Takes (IsNumber 16) text n rest → Takes IsDate text (N n) rest
+counted_built : {text rest : List ℕ} {n : ℕ} → Takes (SpellsNumber 16) text n rest → Takes SpellsDate text (N n) rest
 counted_built (takes n) = takes (counted n)
 
-pub date_found : (text : List ℕ) (y : Date × List ℕ) → date_at text ≡ Some y → Takes IsDate text y.0 y.1
+pub date_found : (text : List ℕ) (y : Date × List ℕ) → date_at text ≡ Some y → Takes SpellsDate text y.0 y.1
 unfolding date_at
 date_found text y e = elim (marked (day_at J) letter_J text _ (Some y) e) [
   | inl found ↦
       let n = map_some _ (number_at 16 found.0) y found.2 in
-      subst (λ (p : Date × List ℕ). Takes IsDate text p.0 p.1) n.2 (rw found.1 (julian_built (number_found 16 found.0 n.0 n.1)))
+      subst (λ (p : Date × List ℕ). Takes SpellsDate text p.0 p.1) n.2 (rw found.1 (julian_built (number_found 16 found.0 n.0 n.1)))
   | inr other ↦ elim (marked weekday_at letter_M text (day_at N text) (Some y) other) [
     | inl found ↦ rw found.1 (weekday_found found.0 y found.2)
     | inr plain ↦
         let n = map_some _ (number_at 16 text) y plain in
-        subst (λ (p : Date × List ℕ). Takes IsDate text p.0 p.1) n.2 (counted_built (number_found 16 text n.0 n.1))
+        subst (λ (p : Date × List ℕ). Takes SpellsDate text p.0 p.1) n.2 (counted_built (number_found 16 text n.0 n.1))
   ]
 ]
 
-date_alone : {text rest : List ℕ} {d : Date} → Takes IsDate text d rest → Takes IsMoment text (d, None) rest
+date_alone : {text rest : List ℕ} {d : Date} → Takes SpellsDate text d rest → Takes SpellsMoment text (d, None) rest
 date_alone (takes d) = takes (date d)
 
-date_timed : {text r q rest : List ℕ} {d : Date} {t : Time} → Takes IsDate text d r → r ≡ slash ∷ q → Takes IsTime q t rest
-    → Takes IsMoment text (d, Some t) rest
+date_timed : {text r q rest : List ℕ} {d : Date} {t : Time} → Takes SpellsDate text d r → r ≡ slash ∷ q → Takes SpellsTime q t rest
+    → Takes SpellsMoment text (d, Some t) rest
 date_timed (takes {front = a} d) e (takes {front = b} {rest = rest} t) = rw (e, ← append_assoc a (slash ∷ b) rest) (takes (timed d t))
 
-moment_found : (text : List ℕ) (y : (Date × Option Time) × List ℕ) → moment_at text ≡ Some y → Takes IsMoment text y.0 y.1
+moment_found : (text : List ℕ) (y : (Date × Option Time) × List ℕ) → moment_at text ≡ Some y → Takes SpellsMoment text y.0 y.1
 unfolding moment_at
 moment_found text y e =
     let d = bind_some _ (date_at text) y e in
     let whole = date_found text d.0 d.1 in
     elim (marked (date_time_at d.0.0) slash d.0.1 _ (Some y) d.2) [
       | inl found ↦
-          let t = map_some _ (time_at found.0) y found.2 in
-          subst (λ (p : (Date × Option Time) × List ℕ). Takes IsMoment text p.0 p.1) t.2
+          let t = map_some _ (clock_time_at found.0) y found.2 in
+          subst (λ (p : (Date × Option Time) × List ℕ). Takes SpellsMoment text p.0 p.1) t.2
           (date_timed whole found.1 (time_found found.0 t.0 t.1))
       | inr other ↦ takes_as other (date_alone whole)
     ]
 
-rule_built : {whole text p q r : List ℕ} {s e : Date × Option Time} → whole ≡ comma ∷ text → Takes IsMoment text s p → p ≡ comma ∷ q
-    → Takes IsMoment q e r → r ≡ [] → IsRule whole (record { start = s; end = e })
+rule_built : {whole text p q r : List ℕ} {s e : Date × Option Time} → whole ≡ comma ∷ text → Takes SpellsMoment text s p → p ≡ comma ∷ q
+    → Takes SpellsMoment q e r → r ≡ [] → SpellsRule whole (record { start = s; end = e })
 rule_built start (takes s) first (takes {front = b} e) last = rw (start, first, last, append-nil b) (rule s e)
 
-rule_found : (text : List ℕ) (y : Rule) → rule_in text ≡ Some y → IsRule text y
+rule_found : (text : List ℕ) (y : Rule) → rule_in text ≡ Some y → SpellsRule text y
 unfolding rule_in
 rule_found text y e =
     let first = bind_some _ (after_mark comma text) y e in
@@ -258,59 +258,59 @@ rule_found text y e =
     let t = bind_some _ (moment_at second.0) y second.2 in
     let last = cond_some (nat_eq (length t.0.1) 0) _ y t.2 in
     let empty = nil_from_length t.0.1 (eqb-true _ 0 last.0) in
-    subst (IsRule text) last.1
+    subst (SpellsRule text) last.1
     (rule_built (mark_found comma text first.0 first.1) (moment_found first.0 s.0 s.1) (mark_found comma s.0.1 second.0 second.1)
     (moment_found second.0 t.0 t.1) empty)
 
-offset_there : {text rest : List ℕ} {o : Offset} → Takes IsOffset text o rest → Takes (Optional IsOffset) text (Some o) rest
+offset_there : {text rest : List ℕ} {o : Offset} → Takes SpellsOffset text o rest → Takes (Optional SpellsOffset) text (Some o) rest
 offset_there (takes o) = takes (present o)
 
-pub own_offset_found : (text : List ℕ) (y : Option Offset × List ℕ) → own_offset_at text ≡ Some y → Takes (Optional IsOffset) text y.0 y.1
+pub own_offset_found : (text : List ℕ) (y : Option Offset × List ℕ) → own_offset_at text ≡ Some y → Takes (Optional SpellsOffset) text y.0 y.1
 unfolding own_offset_at
 own_offset_found text y e = elim (chosen (is_over text) _ _ (Some y) e) [
   | inl over ↦ takes_as over.1 (takes absent)
   | inr more ↦
       let o = map_some _ (offset_at text) y more.1 in
-      subst (λ (p : Option Offset × List ℕ). Takes (Optional IsOffset) text p.0 p.1) o.2 (offset_there (offset_found text o.0 o.1))
+      subst (λ (p : Option Offset × List ℕ). Takes (Optional SpellsOffset) text p.0 p.1) o.2 (offset_there (offset_found text o.0 o.1))
 ]
 
-own_rule_found : (text : List ℕ) (y : Option Rule) → own_rule_in text ≡ Some y → Optional IsRule text y
+own_rule_found : (text : List ℕ) (y : Option Rule) → own_rule_in text ≡ Some y → Optional SpellsRule text y
 unfolding own_rule_in
 own_rule_found text y e = elim (chosen (nat_eq (length text) 0) _ _ (Some y) e) [
-  | inl empty ↦ rw (nil_from_length text (eqb-true _ 0 empty.0)) (subst (Optional IsRule []) (same_Some _ y empty.1) absent)
+  | inl empty ↦ rw (nil_from_length text (eqb-true _ 0 empty.0)) (subst (Optional SpellsRule []) (same_Some _ y empty.1) absent)
   | inr more ↦
       let r = map_some _ (rule_in text) y more.1 in
-      subst (Optional IsRule text) r.2 (present (rule_found text r.0 r.1))
+      subst (Optional SpellsRule text) r.2 (present (rule_found text r.0 r.1))
 ]
 
-dst_built : {text p q name : List ℕ} {o : Option Offset} {r : Option Rule} → Takes IsName text name p → Takes (Optional IsOffset) p o q
-    → Optional IsRule q r → IsDst text (record { name = name; offset = o; rule = r })
+dst_built : {text p q name : List ℕ} {o : Option Offset} {r : Option Rule} → Takes SpellsName text name p → Takes (Optional SpellsOffset) p o q
+    → Optional SpellsRule q r → SpellsDst text (record { name = name; offset = o; rule = r })
 dst_built (takes {front = a} name) (takes {front = b} {rest = q} o) r = rw (← append_assoc a b q) (dst name o r)
 
-dst_found : (text : List ℕ) (y : Option DstPart) → dst_in text ≡ Some y → Optional IsDst text y
+dst_found : (text : List ℕ) (y : Option DstPart) → dst_in text ≡ Some y → Optional SpellsDst text y
 unfolding dst_in
 dst_found text y e = elim (chosen (nat_eq (length text) 0) _ _ (Some y) e) [
-  | inl empty ↦ rw (nil_from_length text (eqb-true _ 0 empty.0)) (subst (Optional IsDst []) (same_Some _ y empty.1) absent)
+  | inl empty ↦ rw (nil_from_length text (eqb-true _ 0 empty.0)) (subst (Optional SpellsDst []) (same_Some _ y empty.1) absent)
   | inr more ↦
       let name = bind_some _ (name_at text) y more.1 in
       let o = bind_some _ (own_offset_at name.0.1) y name.2 in
       let r = bind_some _ (own_rule_in o.0.1) y o.2 in
-      subst (Optional IsDst text) (same_Some _ y r.2)
+      subst (Optional SpellsDst text) (same_Some _ y r.2)
       (present (dst_built (name_found text name.0 name.1) (own_offset_found name.0.1 o.0 o.1) (own_rule_found o.0.1 r.0 r.1)))
 ]
 
-short_built : {text name rest : List ℕ} → Takes IsName text name rest → rest ≡ [] → IsName text name
+short_built : {text name rest : List ℕ} → Takes SpellsName text name rest → rest ≡ [] → SpellsName text name
 short_built (takes {front = a} name) e = rw (e, append-nil a) name
 
-short_found : (text name : List ℕ) → short_in text ≡ Some name → IsName text name
+short_found : (text name : List ℕ) → short_in text ≡ Some name → SpellsName text name
 unfolding short_in
 short_found text name e =
     let found = bind_some _ (name_at text) name e in
     let last = cond_some (nat_eq (length found.0.1) 0) found.0.0 name found.2 in
-    subst (IsName text) last.1 (short_built (name_found text found.0 found.1) (nil_from_length found.0.1 (eqb-true _ 0 last.0)))
+    subst (SpellsName text) last.1 (short_built (name_found text found.0 found.1) (nil_from_length found.0.1 (eqb-true _ 0 last.0)))
 
-full_built : {text p q name : List ℕ} {o : Offset} {d : Option DstPart} → Takes IsName text name p → Takes IsOffset p o q
-    → Optional IsDst q d → Spells text (expanded (record { name = name; offset = o }) d)
+full_built : {text p q name : List ℕ} {o : Offset} {d : Option DstPart} → Takes SpellsName text name p → Takes SpellsOffset p o q
+    → Optional SpellsDst q d → Spells text (expanded (record { name = name; offset = o }) d)
 full_built (takes {front = a} name) (takes {front = b} {rest = q} o) d = rw (← append_assoc a b q) (full_form name o d)
 
 full_found : (text : List ℕ) (y : TzValue) → expanded_in text ≡ Some y → Spells text y

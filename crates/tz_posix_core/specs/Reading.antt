@@ -44,8 +44,8 @@ abbrev pub seconds_at : Option ℕ → List ℕ → Option (Option ℕ × List �
 seconds_at None text = Some (None, text)
 seconds_at (Some minutes) text = part_at text
 
-unfoldable pub time_at : List ℕ → Option (Time × List ℕ)
-time_at text = do
+unfoldable pub clock_time_at : List ℕ → Option (Time × List ℕ)
+clock_time_at text = do
   hours ← number_at 8 text
   minutes ← part_at hours.1
   seconds ← seconds_at minutes.0 minutes.1
@@ -59,7 +59,7 @@ sign_at text = option_map_or (λ rest. (false, rest)) (after_mark minus_sign tex
 
 unfoldable pub offset_at : List ℕ → Option (Offset × List ℕ)
 offset_at text = do
-  time ← time_at (sign_at text).1
+  time ← clock_time_at (sign_at text).1
   Some (record { positive = (sign_at text).0; time = time.0 }, time.1)
 
 unfoldable pub letters_at : List ℕ → Option (List ℕ × List ℕ)
@@ -92,7 +92,7 @@ unfoldable pub date_at : List ℕ → Option (Date × List ℕ)
 date_at text = option_map_or (day_at J) (after_mark letter_J text) (option_map_or weekday_at (after_mark letter_M text) (day_at N text))
 
 abbrev pub date_time_at : Date → List ℕ → Option ((Date × Option Time) × List ℕ)
-date_time_at date text = option_map (λ time. ((date, Some time.0), time.1)) (time_at text)
+date_time_at date text = option_map (λ time. ((date, Some time.0), time.1)) (clock_time_at text)
 
 unfoldable pub moment_at : List ℕ → Option ((Date × Option Time) × List ℕ)
 moment_at text = do

@@ -19,62 +19,62 @@ pub data Optional {V : Type 0} (Is : List ℕ → V → Type 0) : List ℕ → O
   present : {text : List ℕ} {value : V} → Is text value → Optional Is text (Some value)
 
 -- one ASCII digit or more, which write a number below the power of two
-pub record IsNumber (bits : ℕ) (text : List ℕ) (n : ℕ) : Type 0 where
+pub record SpellsNumber (bits : ℕ) (text : List ℕ) (n : ℕ) : Type 0 where
   pub some : 0 < length text
   pub digits : list_all is_ascii_digit text ≡ true
   pub value : digits_value 10 text ≡ n
   pub fits : n < 2 ^ bits
 
 -- `hh`, `hh:mm` or `hh:mm:ss`
-pub data IsTime : List ℕ → Time → Type 0 where
-  hours : {a : List ℕ} {h : ℕ} → IsNumber 8 a h → IsTime a (record { hh = h; mm = None; ss = None })
-  minutes : {a b : List ℕ} {h m : ℕ} → IsNumber 8 a h → IsNumber 8 b m →
-      IsTime (a ++ colon ∷ b) (record { hh = h; mm = Some m; ss = None })
-  seconds : {a b c : List ℕ} {h m s : ℕ} → IsNumber 8 a h → IsNumber 8 b m → IsNumber 8 c s →
-      IsTime (a ++ colon ∷ b ++ colon ∷ c) (record { hh = h; mm = Some m; ss = Some s })
+pub data SpellsTime : List ℕ → Time → Type 0 where
+  hours : {a : List ℕ} {h : ℕ} → SpellsNumber 8 a h → SpellsTime a (record { hh = h; mm = None; ss = None })
+  minutes : {a b : List ℕ} {h m : ℕ} → SpellsNumber 8 a h → SpellsNumber 8 b m →
+      SpellsTime (a ++ colon ∷ b) (record { hh = h; mm = Some m; ss = None })
+  seconds : {a b c : List ℕ} {h m s : ℕ} → SpellsNumber 8 a h → SpellsNumber 8 b m → SpellsNumber 8 c s →
+      SpellsTime (a ++ colon ∷ b ++ colon ∷ c) (record { hh = h; mm = Some m; ss = Some s })
 
 -- a time, after `+`, `-` or nothing
-pub data IsOffset : List ℕ → Offset → Type 0 where
-  bare : {a : List ℕ} {t : Time} → IsTime a t → IsOffset a (record { positive = true; time = t })
-  plus : {a : List ℕ} {t : Time} → IsTime a t → IsOffset (plus_sign ∷ a) (record { positive = true; time = t })
-  minus : {a : List ℕ} {t : Time} → IsTime a t → IsOffset (minus_sign ∷ a) (record { positive = false; time = t })
+pub data SpellsOffset : List ℕ → Offset → Type 0 where
+  bare : {a : List ℕ} {t : Time} → SpellsTime a t → SpellsOffset a (record { positive = true; time = t })
+  plus : {a : List ℕ} {t : Time} → SpellsTime a t → SpellsOffset (plus_sign ∷ a) (record { positive = true; time = t })
+  minus : {a : List ℕ} {t : Time} → SpellsTime a t → SpellsOffset (minus_sign ∷ a) (record { positive = false; time = t })
 
 -- a byte other than `<` and `>`
 abbrev pub is_enclosed : ℕ → Bool
 is_enclosed c = not (c == less) && not (c == greater)
 
 -- `<name>`, or 3 to 16 ASCII letters
-pub data IsName : List ℕ → List ℕ → Type 0 where
-  enclosed : {name : List ℕ} → 0 < length name → list_all is_enclosed name ≡ true → IsName (less ∷ name ++ greater ∷ []) name
-  letters : {name : List ℕ} → 3 ≤ length name → length name ≤ 16 → list_all is_ascii_alphabetic name ≡ true → IsName name name
+pub data SpellsName : List ℕ → List ℕ → Type 0 where
+  enclosed : {name : List ℕ} → 0 < length name → list_all is_enclosed name ≡ true → SpellsName (less ∷ name ++ greater ∷ []) name
+  letters : {name : List ℕ} → 3 ≤ length name → length name ≤ 16 → list_all is_ascii_alphabetic name ≡ true → SpellsName name name
 
 -- `Jn`, `n` or `Mm.n.d`
-pub data IsDate : List ℕ → Date → Type 0 where
-  julian : {a : List ℕ} {n : ℕ} → IsNumber 16 a n → IsDate (letter_J ∷ a) (J n)
-  counted : {a : List ℕ} {n : ℕ} → IsNumber 16 a n → IsDate a (N n)
-  weekday : {a b c : List ℕ} {m n d : ℕ} → IsNumber 8 a m → IsNumber 8 b n → IsNumber 8 c d →
-      IsDate (letter_M ∷ a ++ dot ∷ b ++ dot ∷ c) (M m n d)
+pub data SpellsDate : List ℕ → Date → Type 0 where
+  julian : {a : List ℕ} {n : ℕ} → SpellsNumber 16 a n → SpellsDate (letter_J ∷ a) (J n)
+  counted : {a : List ℕ} {n : ℕ} → SpellsNumber 16 a n → SpellsDate a (N n)
+  weekday : {a b c : List ℕ} {m n d : ℕ} → SpellsNumber 8 a m → SpellsNumber 8 b n → SpellsNumber 8 c d →
+      SpellsDate (letter_M ∷ a ++ dot ∷ b ++ dot ∷ c) (M m n d)
 
 -- a date, or a date, `/` and a time
-pub data IsMoment : List ℕ → (Date × Option Time) → Type 0 where
-  date : {a : List ℕ} {d : Date} → IsDate a d → IsMoment a (d, None)
-  timed : {a b : List ℕ} {d : Date} {t : Time} → IsDate a d → IsTime b t → IsMoment (a ++ slash ∷ b) (d, Some t)
+pub data SpellsMoment : List ℕ → (Date × Option Time) → Type 0 where
+  date : {a : List ℕ} {d : Date} → SpellsDate a d → SpellsMoment a (d, None)
+  timed : {a b : List ℕ} {d : Date} {t : Time} → SpellsDate a d → SpellsTime b t → SpellsMoment (a ++ slash ∷ b) (d, Some t)
 
 -- `,`, the start, `,` and the end
-pub data IsRule : List ℕ → Rule → Type 0 where
-  rule : {a b : List ℕ} {s e : Date × Option Time} → IsMoment a s → IsMoment b e →
-      IsRule (comma ∷ a ++ comma ∷ b) (record { start = s; end = e })
+pub data SpellsRule : List ℕ → Rule → Type 0 where
+  rule : {a b : List ℕ} {s e : Date × Option Time} → SpellsMoment a s → SpellsMoment b e →
+      SpellsRule (comma ∷ a ++ comma ∷ b) (record { start = s; end = e })
 
 -- a name, maybe an offset, maybe a rule
-pub data IsDst : List ℕ → DstPart → Type 0 where
-  dst : {a b c name : List ℕ} {o : Option Offset} {r : Option Rule} → IsName a name → Optional IsOffset b o →
-      Optional IsRule c r → IsDst (a ++ b ++ c) (record { name = name; offset = o; rule = r })
+pub data SpellsDst : List ℕ → DstPart → Type 0 where
+  dst : {a b c name : List ℕ} {o : Option Offset} {r : Option Rule} → SpellsName a name → Optional SpellsOffset b o →
+      Optional SpellsRule c r → SpellsDst (a ++ b ++ c) (record { name = name; offset = o; rule = r })
 
 -- `:` and a name, or a name, an offset and maybe daylight saving time
 pub data Spells : List ℕ → TzValue → Type 0 where
-  short_form : {a name : List ℕ} → IsName a name → Spells (colon ∷ a) (short name)
-  full_form : {a b c name : List ℕ} {o : Offset} {d : Option DstPart} → IsName a name → IsOffset b o →
-      Optional IsDst c d → Spells (a ++ b ++ c) (expanded (record { name = name; offset = o }) d)
+  short_form : {a name : List ℕ} → SpellsName a name → Spells (colon ∷ a) (short name)
+  full_form : {a b c name : List ℕ} {o : Offset} {d : Option DstPart} → SpellsName a name → SpellsOffset b o →
+      Optional SpellsDst c d → Spells (a ++ b ++ c) (expanded (record { name = name; offset = o }) d)
 
 -- whether the first byte of a text passes
 abbrev pub begins : (ℕ → Bool) → List ℕ → Bool
@@ -83,8 +83,8 @@ begins p (c ∷ rest) = p c
 
 -- what may follow a name or a number doesn't go on with its run
 pub record RunsAreLongest : Type 0 where
-  pub after_standard_name : {a : List ℕ} {o : Offset} → IsOffset a o → (rest : List ℕ) → begins is_ascii_alphabetic (a ++ rest) ≡ false
-  pub after_name : {a b : List ℕ} {o : Option Offset} {r : Option Rule} → Optional IsOffset a o → Optional IsRule b r →
+  pub after_standard_name : {a : List ℕ} {o : Offset} → SpellsOffset a o → (rest : List ℕ) → begins is_ascii_alphabetic (a ++ rest) ≡ false
+  pub after_name : {a b : List ℕ} {o : Option Offset} {r : Option Rule} → Optional SpellsOffset a o → Optional SpellsRule b r →
       begins is_ascii_alphabetic (a ++ b) ≡ false
-  pub after_standard_offset : {a : List ℕ} {d : Option DstPart} → Optional IsDst a d → begins is_ascii_digit a ≡ false
-  pub after_offset : {a : List ℕ} {r : Option Rule} → Optional IsRule a r → begins is_ascii_digit a ≡ false
+  pub after_standard_offset : {a : List ℕ} {d : Option DstPart} → Optional SpellsDst a d → begins is_ascii_digit a ≡ false
+  pub after_offset : {a : List ℕ} {r : Option Rule} → Optional SpellsRule a r → begins is_ascii_digit a ≡ false

@@ -1,12 +1,11 @@
 -- The offsets that are read at a local second give the instants of a local time.
-use Rattle.std.proofs.Common.{◌≡◌, Bool, cond, List, [], ◌∷◌, Option, map, ℤ, pos, negsuc, ◌+ℤ◌, ◌-ℤ◌, ◌*ℤ◌, ◌≤ℤ◌, ◌<ℤ◌, refl, sym, ap, ◌∙◌, ⊎_elim, arith}
+use Rattle.std.proofs.Common.{◌≡◌, Bool, cond, List, [], ◌∷◌, Option, map, ℤ, ◌-ℤ◌, refl, sym, ap, ◌∙◌, ⊎_elim}
 use Rattle.std.specs.Prelude.{Contains}
 use Rattle.std.specs.List.{filter}
 use Rattle.std.specs.Ordering.{int_eq}
 use Rattle.std.proofs.lemmas.Bool.{cases_Bool}
-use Rattle.std.proofs.lemmas.Int.{ints}
 use Rattle.calendar.specs.Orders.{eq_from_pass}
-use Rattle.civil_base.specs.DateTimes.{at_offset, instant-at_offset, offset_of-at_offset}
+use Rattle.civil_base.specs.DateTimes.{at_offset}
 use Rattle.civil_base.specs.Instants.{instant_at, seconds_of}
 use Rattle.civil_base.specs.Ranges.{IsOffset}
 use Rattle.tz_footer.specs.InForce.{FooterZone}
@@ -18,7 +17,7 @@ use Rattle.tz_zone.specs.SecondLaws.{seconds_of-instant_at}
 use Rattle.zone_tzif_core.specs.Zones.{KindValue, ZoneValue}
 use Rattle.tz_footer.specs.FooterShown.{held_shown}
 use Rattle.tz_footer.specs.declared.held.Held.{Held}
-use Rattle.tz_tzif.specs.InForce.{kind_at, kind_in, total_in, total_at}
+use Rattle.tz_tzif.specs.InForce.{kind_at, kind_in, total_in, told_total_at}
 use Rattle.tz_tzif.specs.Next.{IsHeldFor}
 use Rattle.tz_tzif.specs.Zones.{IsOfKind}
 use Rattle.tz_tzif.specs.Instants.{Falls, is_read, read_at}
@@ -59,14 +58,14 @@ shown_given total x (o ∷ os) =
     (cases_Bool (reads total x o))
 
 -- the totals at the instants of a local time are the offsets that are read
-pub totals_are : (zone : ZoneValue) (footer : Option FooterZone) (x : ℤ) → ((t : ℤ) → IsOffset (total_at zone footer t))
-    → totals_at (total_at zone footer) x ≡ read_at (total_in zone footer) (seconds_of x) (offsets_of zone footer)
+pub totals_are : (zone : ZoneValue) (footer : Option FooterZone) (x : ℤ) → ((t : ℤ) → IsOffset (told_total_at zone footer t))
+    → totals_at (told_total_at zone footer) x ≡ read_at (total_in zone footer) (seconds_of x) (offsets_of zone footer)
 unfolding kind_at
 totals_are zone footer x range = totals_read (total_in zone footer) x (offsets_of zone footer) (offsets_fall zone footer) (each_there zone footer) range
 
 -- and the local time at those offsets shows all its instants
-pub dates_are : (zone : ZoneValue) (footer : Option FooterZone) (x : ℤ) → ((t : ℤ) → IsOffset (total_at zone footer t))
-    → map shown_of (map (at_offset x) (read_at (total_in zone footer) (seconds_of x) (offsets_of zone footer))) ≡ all_in_force (total_at zone footer) x
+pub dates_are : (zone : ZoneValue) (footer : Option FooterZone) (x : ℤ) → ((t : ℤ) → IsOffset (told_total_at zone footer t))
+    → map shown_of (map (at_offset x) (read_at (total_in zone footer) (seconds_of x) (offsets_of zone footer))) ≡ all_in_force (told_total_at zone footer) x
 unfolding kind_at all_in_force
 dates_are zone footer x range =
     let total = total_in zone footer in
@@ -87,12 +86,12 @@ kind_held zone footer x s held same h =
 
 -- the same of the offsets that a zone keeps, at the second that its code has
 pub totals_kept : (zone : ZoneValue) (footer : Option FooterZone) (os : List ℤ) (x s : ℤ) → os ≡ offsets_of zone footer
-    → ((t : ℤ) → IsOffset (total_at zone footer t)) → s ≡ seconds_of x → read_at (total_in zone footer) s os ≡ totals_at (total_at zone footer) x
+    → ((t : ℤ) → IsOffset (told_total_at zone footer t)) → s ≡ seconds_of x → read_at (total_in zone footer) s os ≡ totals_at (told_total_at zone footer) x
 totals_kept zone footer os x s made range same =
     (λ i. read_at (total_in zone footer) (same i) (made i)) ∙ sym (totals_are zone footer x range)
 
 pub dates_kept : (zone : ZoneValue) (footer : Option FooterZone) (os : List ℤ) (x s : ℤ) → os ≡ offsets_of zone footer
-    → ((t : ℤ) → IsOffset (total_at zone footer t)) → s ≡ seconds_of x
-    → map shown_of (map (at_offset x) (read_at (total_in zone footer) s os)) ≡ all_in_force (total_at zone footer) x
+    → ((t : ℤ) → IsOffset (told_total_at zone footer t)) → s ≡ seconds_of x
+    → map shown_of (map (at_offset x) (read_at (total_in zone footer) s os)) ≡ all_in_force (told_total_at zone footer) x
 dates_kept zone footer os x s made range same =
     (λ i. map shown_of (map (at_offset x) (read_at (total_in zone footer) (same i) (made i)))) ∙ dates_are zone footer x range

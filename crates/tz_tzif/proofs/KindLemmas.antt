@@ -6,11 +6,11 @@ use Rattle.calendar.specs.Signs.{one_sided, signed}
 use Rattle.calendar.specs.Orders.{le_from_pass}
 use Rattle.civil_base.specs.Ranges.{IsOffset}
 use Rattle.civil_base.specs.RangeLaws.{offset_by_size}
-use Rattle.tz_footer.specs.InForce.{FooterZone, fixed, yearly, held_at, is_saving}
+use Rattle.tz_footer.specs.InForce.{FooterZone, fixed, yearly, held_at, is_footer_saving}
 use Rattle.zone_tzif_core.specs.Totals.{last_kind}
 use Rattle.zone_tzif_core.specs.Zones.{KindValue, ZoneValue, is_small}
 use Rattle.tz_tzif.specs.Faults.{are_small}
-use Rattle.tz_tzif.specs.InForce.{are_over, kind_in, kind_at, total_at}
+use Rattle.tz_tzif.specs.InForce.{are_over, kind_in, kind_at, told_total_at}
 use Rattle.tz_tzif.specs.Offsets.{AreOffsets}
 
 pub small_offset : (o : ℤ) → is_small o ≡ true → IsOffset o
@@ -36,14 +36,14 @@ by_test false x y h k = k
 held_offset : (footer : FooterZone) (s : ℤ) → AreOffsets (Some footer) → IsOffset (held_at footer s).utoff
 unfolding held_at
 held_offset (fixed kind) s h = h.0
-held_offset (yearly standard saving start end) s h = by_test (is_saving standard.utoff saving.utoff start end s) saving standard h.1 h.0
+held_offset (yearly standard saving start end) s h = by_test (is_footer_saving standard.utoff saving.utoff start end s) saving standard h.1 h.0
 
 changed_offset : (zone : ZoneValue) (p : ℤ × KindValue → Bool) → are_small zone ≡ true → IsOffset (last_kind zone.first (filter p zone.rest)).utoff
 changed_offset zone p h =
     let both = and_parts (is_small zone.first.utoff) (list_all (λ change. is_small change.1.utoff) zone.rest) h in
     small_offset (last_kind zone.first (filter p zone.rest)).utoff (last_small zone.first zone.rest p both.0 both.1)
 
-pub in_range : (zone : ZoneValue) (footer : Option FooterZone) (t : ℤ) → are_small zone ≡ true → AreOffsets footer → IsOffset (total_at zone footer t)
+pub in_range : (zone : ZoneValue) (footer : Option FooterZone) (t : ℤ) → are_small zone ≡ true → AreOffsets footer → IsOffset (told_total_at zone footer t)
 unfolding kind_at kind_in
 in_range zone None t h k = changed_offset zone _ h
 in_range zone (Some footer) t h k = by_test (are_over zone.rest _) (held_at footer _) _ (held_offset footer _ k) (changed_offset zone _ h)

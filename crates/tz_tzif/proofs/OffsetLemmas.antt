@@ -6,7 +6,7 @@ use Rattle.std.specs.Ordering.{int_eq}
 use Rattle.std.proofs.lemmas.Bool.{cases_Bool}
 use Rattle.std.proofs.lemmas.Int.{ints}
 use Rattle.calendar.specs.Orders.{eq_from_pass, lt_from_pass}
-use Rattle.tz_footer.specs.InForce.{FooterZone, fixed, yearly, held_at, is_saving, standard_total, saving_total}
+use Rattle.tz_footer.specs.InForce.{FooterZone, fixed, yearly, held_at, is_footer_saving, standard_total, saving_total}
 use Rattle.tz_zone.specs.RisingLaws.{contains_head, contains_more, cases_more}
 use Rattle.zone_tzif_core.specs.Totals.{last_kind}
 use Rattle.zone_tzif_core.specs.Zones.{KindValue, ZoneValue}
@@ -93,7 +93,7 @@ held_there : (os : List ℤ) (footer : FooterZone) (s : ℤ) → Contains (put_f
 unfolding held_at
 held_there os (fixed kind) s = put_there kind.utoff (put kind.utoff os)
 held_there os (yearly standard saving start end) s =
-    by_test (λ kind. Contains (put saving.utoff (put standard.utoff os)) kind.utoff) (is_saving standard.utoff saving.utoff start end s)
+    by_test (λ kind. Contains (put saving.utoff (put standard.utoff os)) kind.utoff) (is_footer_saving standard.utoff saving.utoff start end s)
     saving standard (put_there saving.utoff _) (put_keeps saving.utoff _ standard.utoff (put_there standard.utoff os))
 
 pub offsets_fall : (zone : ZoneValue) (footer : Option FooterZone) → Falls (offsets_of zone footer)

@@ -1,14 +1,14 @@
 -- What the footer of an owned value says is one thing.
-use Rattle.std.proofs.Common.{◌≡◌, ℕ, ◌<◌, List, [], ◌∷◌, ◌++◌, length, Option, Some, None, ℤ, refl, sym, ap, ◌∙◌, subst, arith}
+use Rattle.std.proofs.Common.{◌≡◌, ℕ, ◌<◌, List, [], ◌++◌, length, Option, Some, None, ℤ, refl, sym, ap, ◌∙◌, subst, arith}
 use Rattle.std.proofs.lemmas.List.{length-append}
 use Rattle.civil_base.specs.Ranges.{IsOffset}
 use Rattle.tz_footer.specs.InForce.{FooterZone}
-use Rattle.tz_footer.specs.Spells.{IsFooter, footer}
+use Rattle.tz_footer.specs.Spells.{SpellsFooter, footer}
 use Rattle.tz_footer.specs.Standing.{StandsFor, stands_for}
 use Rattle.tz_footer.specs.Values.{FooterValue}
-use Rattle.tz_posix_core.specs.Spells.{IsName, enclosed, letters}
+use Rattle.tz_posix_core.specs.Spells.{SpellsName, enclosed, letters}
 use Rattle.tz_tzif.specs.Faults.{SaysInFooter, IsNoFooter}
-use Rattle.tz_tzif.specs.InForce.{total_at}
+use Rattle.tz_tzif.specs.InForce.{told_total_at}
 use Rattle.tz_tzif.specs.Kept.{AreKept}
 use Rattle.tz_tzif.specs.Offsets.{offsets_of}
 use Rattle.tz_tzif.proofs.KindLemmas.{in_range}
@@ -16,13 +16,13 @@ use Rattle.zone_tzif_core.specs.Zones.{ZoneValue}
 
 -- a text is the footer of one value at most
 abbrev OneFooter : Type 0
-OneFooter = (text : List ℕ) (x y : FooterValue) → IsFooter text x → IsFooter text y → x ≡ y
+OneFooter = (text : List ℕ) (x y : FooterValue) → SpellsFooter text x → SpellsFooter text y → x ≡ y
 
-named : {text name : List ℕ} → IsName text name → 0 < length text
+named : {text name : List ℕ} → SpellsName text name → 0 < length text
 named (enclosed h k) = omega arith
 named (letters h k l) = omega (arith, h)
 
-some_text : {text : List ℕ} {value : FooterValue} → IsFooter text value → 0 < length text
+some_text : {text : List ℕ} {value : FooterValue} → SpellsFooter text value → 0 < length text
 some_text (footer {a} {b} {c} name offset saving) =
     omega (arith, named name, length-append (a ++ b) c, length-append a b)
 
@@ -41,9 +41,9 @@ pub made_of : OneFooter → (zone : ZoneValue) (offsets : List ℤ) → AreKept 
 made_of one zone offsets kept f h = kept.made ∙ ap (offsets_of zone) (one_says one zone.footer kept.footer f kept.accepted.says h)
 
 pub all_in_range : OneFooter → (zone : ZoneValue) (offsets : List ℤ) → AreKept zone offsets
-    → (f : Option FooterZone) → SaysInFooter zone.footer f → (t : ℤ) → IsOffset (total_at zone f t)
+    → (f : Option FooterZone) → SaysInFooter zone.footer f → (t : ℤ) → IsOffset (told_total_at zone f t)
 all_in_range one zone offsets kept f h t =
-    subst (λ g. IsOffset (total_at zone g t)) (one_says one zone.footer kept.footer f kept.accepted.says h)
+    subst (λ g. IsOffset (told_total_at zone g t)) (one_says one zone.footer kept.footer f kept.accepted.says h)
     (in_range zone kept.footer t kept.accepted.offsets kept.range)
 
 readable_by : (text : List ℕ) (f : Option FooterZone) → SaysInFooter text f → ¬ (IsNoFooter text)

@@ -24,7 +24,7 @@ abbrev pub are_small : ZoneValue → Bool
 are_small zone = is_small zone.first.utoff && list_all (λ change. is_small change.1.utoff) zone.rest
 
 -- what a zone that can be looked up has
-pub record IsAccepted (zone : ZoneValue) (footer : Option FooterZone) : Type 0 where
+pub record IsAcceptedFile (zone : ZoneValue) (footer : Option FooterZone) : Type 0 where
   pub times : rises zone.rest ≡ true
   pub offsets : are_small zone ≡ true
   pub says : SaysInFooter zone.footer footer
@@ -34,8 +34,8 @@ abbrev pub HasOffsets : ZoneValue → Type 0
 HasOffsets zone = (rises zone.rest ≡ true) × (are_small zone ≡ true)
 
 -- the first cause, in the order of the variants; for want of memory there is none
-abbrev pub IsFault : ZoneValue → TzifFault → Type 0
-IsFault zone Times = rises zone.rest ≡ false
-IsFault zone Offset = (rises zone.rest ≡ true) × (are_small zone ≡ false)
-IsFault zone Footer = HasOffsets zone × IsNoFooter zone.footer
-IsFault zone NoMemory = HasOffsets zone × (¬ (IsNoFooter zone.footer))
+abbrev pub IsTzifFault : ZoneValue → TzifFault → Type 0
+IsTzifFault zone Times = rises zone.rest ≡ false
+IsTzifFault zone Offset = (rises zone.rest ≡ true) × (are_small zone ≡ false)
+IsTzifFault zone Footer = HasOffsets zone × IsNoFooter zone.footer
+IsTzifFault zone NoMemory = HasOffsets zone × (¬ (IsNoFooter zone.footer))

@@ -28,5 +28,5 @@ kind_at zone footer t = kind_in zone footer (seconds_of t)
 abbrev pub total_in : ZoneValue → Option FooterZone → ℤ → ℤ
 total_in zone footer s = (kind_in zone footer s).utoff
 
-abbrev pub total_at : ZoneValue → Option FooterZone → ℤ → ℤ
-total_at zone footer t = (kind_at zone footer t).utoff
+abbrev pub told_total_at : ZoneValue → Option FooterZone → ℤ → ℤ
+told_total_at zone footer t = (kind_at zone footer t).utoff

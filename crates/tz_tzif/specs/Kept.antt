@@ -1,7 +1,7 @@
 -- The offsets that a zone remembers.
 use Rattle.std.specs.Prelude.{◌≡◌, ℤ, List, Option}
 use Rattle.tz_footer.specs.InForce.{FooterZone}
-use Rattle.tz_tzif.specs.Faults.{IsAccepted}
+use Rattle.tz_tzif.specs.Faults.{IsAcceptedFile}
 use Rattle.tz_tzif.specs.Offsets.{offsets_of, AreOffsets}
 use Rattle.tz_tzif.specs.declared.kept.KeptOffsets.{KeptOffsets}
 use Rattle.tz_tzif.specs.declared.kept.KeptOffsets.TheVariants.{Owned, Lent}
@@ -14,6 +14,6 @@ items_of (Lent offsets) = offsets.now
 -- they are those of a value that can be looked up, and less than 26 hours in size
 pub record AreKept (zone : ZoneValue) (offsets : List ℤ) : Type 0 where
   pub footer : Option FooterZone
-  pub accepted : IsAccepted zone footer
+  pub accepted : IsAcceptedFile zone footer
   pub made : offsets ≡ offsets_of zone footer
   pub range : AreOffsets footer

@@ -1,7 +1,7 @@
 -- What is seen of an owner of a compiled zone.
 use Rattle.std.specs.Prelude.{◌≡◌, Option}
 use Rattle.tz_footer.specs.InForce.{FooterZone}
-use Rattle.tz_tzif.specs.Faults.{IsAccepted}
+use Rattle.tz_tzif.specs.Faults.{IsAcceptedFile}
 use Rattle.tz_tzif.specs.declared.owner.TzifOwner.{TzifOwner}
 use Rattle.zone_tzif_core.specs.Shown.{zone_shown}
 use Rattle.zone_tzif_core.specs.Zones.{ZoneValue}
@@ -14,4 +14,4 @@ value_in owner = zone_shown owner.zone
 pub record IsOwnerOf (value : ZoneValue) (owner : TzifOwner) : Type 0 where
   pub is : value_in owner ≡ value
   pub footer : Option FooterZone
-  pub accepted : IsAccepted value footer
+  pub accepted : IsAcceptedFile value footer

@@ -4,7 +4,7 @@ use Rattle.tz_footer.specs.FooterShown.{footer_shown}
 use Rattle.tz_footer.specs.InForce.{FooterZone}
 use Rattle.zone_tzif_core.specs.Shown.{zone_shown}
 use Rattle.zone_tzif_core.specs.Zones.{KindValue, ZoneValue}
-use Rattle.tz_tzif.specs.Faults.{IsAccepted}
+use Rattle.tz_tzif.specs.Faults.{IsAcceptedFile}
 use Rattle.tz_tzif.specs.InForce.{kind_at}
 use Rattle.tz_tzif.specs.declared.zone.TzifTz.{TzifTz}
 
@@ -20,7 +20,7 @@ says_of tz = option_map footer_shown tz.footer
 pub record IsZoneOf (name : List ℕ) (value : ZoneValue) (tz : TzifTz) : Type 0 where
   pub named : tz.name.now ≡ name
   pub is : value_of tz ≡ value
-  pub accepted : IsAccepted value (says_of tz)
+  pub accepted : IsAcceptedFile value (says_of tz)
 
 -- this abbreviation, and whether it is daylight saving time, is of the kind
 pub record IsOfKind (kind : KindValue) (name : List ℕ) (saving : Bool) : Type 0 where

@@ -4,7 +4,7 @@ ghost use Rattle.std.specs.List.{list_all};
 ghost use Rattle.zone_tzif_core.specs.Shown.{shifts_shown, zone_shown};
 ghost use Rattle.zone_tzif_core.specs.Zones.{is_small, rises};
 ghost use Rattle.tz_footer.specs.FooterShown.{footer_shown};
-ghost use Rattle.tz_tzif.specs.Faults.{are_small, IsAccepted, IsFault, IsNoFooter, SaysInFooter};
+ghost use Rattle.tz_tzif.specs.Faults.{are_small, IsAcceptedFile, IsTzifFault, IsNoFooter, SaysInFooter};
 
 use crate::fault::TzifFault;
 use tz_footer::Footer;
@@ -12,7 +12,7 @@ use zone_tzif_core::{Kind, TzifZone, do_rise, is_small};
 
 /// What the footer of a zone that can be looked up says.
 pub(crate) fn accepted_footer(zone: &TzifZone) -> Result<Option<Footer<'_>>, TzifFault>
-    ensures { MatchResult result (λ footer. IsAccepted (zone_shown zone.now) (option_map footer_shown footer)) (IsFault (zone_shown zone.now)) }
+    ensures { MatchResult result (λ footer. IsAcceptedFile (zone_shown zone.now) (option_map footer_shown footer)) (IsTzifFault (zone_shown zone.now)) }
 {
     if !times_rise(zone.rest.as_slice()) {
         return Err(TzifFault::Times);

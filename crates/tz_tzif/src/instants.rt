@@ -61,15 +61,15 @@ impl<'t, 'a> TzifInstants<'t, 'a> {
     ghost use Rattle.std.specs.Prelude.{◌≡◌, ◌≤◌, map, length};
     ghost use Rattle.civil_base.specs.DateTimes.{instant};
     ghost use Rattle.tz_zone.specs.InForce.{all_in_force, shown_of, AreInstants};
-    ghost use Rattle.tz_tzif.specs.InForce.{total_at};
+    ghost use Rattle.tz_tzif.specs.InForce.{told_total_at};
     ghost use Rattle.tz_tzif.specs.InstantsLeft.{dates_left};
     ghost use Rattle.tz_tzif.specs.Offsets.{offsets_of};
 
     /// The instants that the zone reads as that local time.
     pub(crate) fn new(tz: &'t TzifTz<'a>, local: &PlainDateTime) -> TzifInstants<'t, 'a>
-        ensures all { map shown_of (dates_left result) ≡ all_in_force (total_at (value_of tz.now) (says_of tz.now)) local.now }
+        ensures all { map shown_of (dates_left result) ≡ all_in_force (told_total_at (value_of tz.now) (says_of tz.now)) local.now }
         ensures few { length (dates_left result) ≤ length (offsets_of (value_of tz.now) (says_of tz.now)) }
-        ensures exact { AreInstants (total_at (value_of tz.now) (says_of tz.now)) local.now (map instant (dates_left result)) }
+        ensures exact { AreInstants (told_total_at (value_of tz.now) (says_of tz.now)) local.now (map instant (dates_left result)) }
     {
         TzifInstants {
             tz,

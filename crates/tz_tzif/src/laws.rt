@@ -2,16 +2,16 @@
 ghost use Rattle.std.specs.Prelude.{◌≡◌, ℤ, true, false, Some, None};
 ghost use Rattle.civil_base.specs.Instants.{seconds_of};
 ghost use Rattle.tz_footer.specs.InForce.{FooterZone, held_at};
-ghost use Rattle.tz_tzif.specs.InForce.{are_over, total_at};
-ghost use Rattle.zone_tzif_core.specs.Totals.{total_at as file_total_at};
+ghost use Rattle.tz_tzif.specs.InForce.{are_over, told_total_at};
+ghost use Rattle.zone_tzif_core.specs.Totals.{file_total_at};
 ghost use Rattle.zone_tzif_core.specs.Zones.{ZoneValue};
 
 /// Where nothing is said in the footer, or some change lies after the instant, the total is that of the last change at or before it;
 /// from the last change on it is what the footer says.
 pub fn file_totals()
-    ensures alone { (zone : ZoneValue) (t : ℤ) → total_at zone None t ≡ file_total_at zone t }
+    ensures alone { (zone : ZoneValue) (t : ℤ) → told_total_at zone None t ≡ file_total_at zone t }
     ensures before { (zone : ZoneValue) (footer : FooterZone) (t : ℤ) → are_over zone.rest (seconds_of t) ≡ false
-        → total_at zone (Some footer) t ≡ file_total_at zone t }
+        → told_total_at zone (Some footer) t ≡ file_total_at zone t }
     ensures after { (zone : ZoneValue) (footer : FooterZone) (t : ℤ) → are_over zone.rest (seconds_of t) ≡ true
-        → total_at zone (Some footer) t ≡ (held_at footer (seconds_of t)).utoff }
+        → told_total_at zone (Some footer) t ≡ (held_at footer (seconds_of t)).utoff }
 {}

@@ -2,8 +2,8 @@
 ghost use Rattle.std.specs.Prelude.{◌≡◌, ℤ, MatchResult, Option, true};
 ghost use Rattle.civil_base.specs.Ranges.{IsOffset};
 ghost use Rattle.tz_footer.specs.InForce.{FooterZone};
-ghost use Rattle.tz_tzif.specs.Faults.{are_small, IsFault, IsNoFooter, SaysInFooter};
-ghost use Rattle.tz_tzif.specs.InForce.{total_at};
+ghost use Rattle.tz_tzif.specs.Faults.{are_small, IsTzifFault, IsNoFooter, SaysInFooter};
+ghost use Rattle.tz_tzif.specs.InForce.{told_total_at};
 ghost use Rattle.tz_tzif.specs.Kept.{AreKept};
 ghost use Rattle.tz_tzif.specs.Offsets.{offsets_of};
 ghost use Rattle.zone_tzif_core.specs.Shown.{zone_shown};
@@ -28,7 +28,7 @@ pub struct TzifOwner {
     ghost small: { are_small (zone_shown zone) ≡ true },
     ghost readable: { ¬ (IsNoFooter (zone_shown zone).footer) },
     ghost made: { (footer : Option FooterZone) → SaysInFooter (zone_shown zone).footer footer → offsets.items ≡ offsets_of (zone_shown zone) footer },
-    ghost range: { (footer : Option FooterZone) → SaysInFooter (zone_shown zone).footer footer → (t : ℤ) → IsOffset (total_at (zone_shown zone) footer t) },
+    ghost range: { (footer : Option FooterZone) → SaysInFooter (zone_shown zone).footer footer → (t : ℤ) → IsOffset (told_total_at (zone_shown zone) footer t) },
 }
 
 impl TzifOwner {
@@ -45,7 +45,7 @@ impl TzifOwner {
     /// past 93,599 seconds in size; `Footer` exactly where there is a footer and it is no footer in the ranges of its parts;
     /// `NoMemory`.
     pub fn new(alloc: Global, zone: TzifZone) -> Result<TzifOwner, TzifFault>
-        ensures { MatchResult result (IsOwnerOf (zone_shown zone)) (IsFault (zone_shown zone)) }
+        ensures { MatchResult result (IsOwnerOf (zone_shown zone)) (IsTzifFault (zone_shown zone)) }
     {
         one_footer();
         match kept_offsets(alloc, &zone) {
@@ -79,7 +79,7 @@ impl TzifOwner {
 
 /// The distinct offsets of a value that can be looked up.
 fn kept_offsets(alloc: Global, zone: &TzifZone) -> Result<Vec<i32>, TzifFault>
-    ensures { MatchResult result (λ offsets. AreKept (zone_shown zone.now) offsets.items) (IsFault (zone_shown zone.now)) }
+    ensures { MatchResult result (λ offsets. AreKept (zone_shown zone.now) offsets.items) (IsTzifFault (zone_shown zone.now)) }
 {
     match accepted_footer(zone) {
         Ok(footer) => match offsets_of(alloc, zone, &footer) {

@@ -6,7 +6,7 @@ ghost use Rattle.zone_tzif_core.specs.Shown.{zone_shown};
 ghost use Rattle.zone_tzif_core.specs.Zones.{rises};
 ghost use Rattle.tz_footer.specs.FooterShown.{footer_shown};
 ghost use Rattle.tz_tzif.specs.Faults.{are_small};
-ghost use Rattle.tz_tzif.specs.InForce.{total_at};
+ghost use Rattle.tz_tzif.specs.InForce.{told_total_at};
 ghost use Rattle.tz_tzif.specs.Kept.{items_of};
 ghost use Rattle.tz_tzif.specs.Offsets.{offsets_of};
 
@@ -33,7 +33,7 @@ pub struct TzifTz<'a> {
     ghost rising: { rises (zone_shown zone.now).rest ≡ true },
     ghost small: { are_small (zone_shown zone.now) ≡ true },
     ghost made: { items_of offsets ≡ offsets_of (zone_shown zone.now) (option_map footer_shown footer) },
-    ghost range: { (t : ℤ) → IsOffset (total_at (zone_shown zone.now) (option_map footer_shown footer) t) },
+    ghost range: { (t : ℤ) → IsOffset (told_total_at (zone_shown zone.now) (option_map footer_shown footer) t) },
 }
 
 impl<'a> TzifTz<'a> {
@@ -41,7 +41,7 @@ impl<'a> TzifTz<'a> {
     ghost use Rattle.civil_base.specs.DateTimes.{instant};
     ghost use Rattle.tz_zone.specs.InForce.{all_in_force, shown_of, AreInstants};
     ghost use Rattle.tz_footer.specs.FooterShown.{held_shown};
-    ghost use Rattle.tz_tzif.specs.Faults.{IsFault};
+    ghost use Rattle.tz_tzif.specs.Faults.{IsTzifFault};
     ghost use Rattle.tz_tzif.specs.InForce.{kind_in};
     ghost use Rattle.tz_tzif.specs.InstantsLeft.{dates_left};
     ghost use Rattle.tz_tzif.specs.Zones.{value_of, says_of, IsZoneOf};
@@ -53,7 +53,7 @@ impl<'a> TzifTz<'a> {
     /// In this order: `Times` exactly where the times don't strictly rise; `Offset` exactly where an offset is past 93,599
     /// seconds in size; `Footer` exactly where there is a footer and it is no footer in the ranges of its parts; `NoMemory`.
     pub fn new(alloc: Global, name: &'a str, zone: &'a TzifZone) -> Result<TzifTz<'a>, TzifFault>
-        ensures { MatchResult result (IsZoneOf name.now (zone_shown zone.now)) (IsFault (zone_shown zone.now)) }
+        ensures { MatchResult result (IsZoneOf name.now (zone_shown zone.now)) (IsTzifFault (zone_shown zone.now)) }
     {
         match accepted_footer(zone) {
             Ok(footer) => match offsets_of(alloc, zone, &footer) {
@@ -72,9 +72,9 @@ impl<'a> TzifTz<'a> {
     /// The date-times that the zone reads as that local time: each once, by time, at most one for each distinct offset. It
     /// takes no memory.
     pub fn instants_local(&self, date_time: &PlainDateTime) -> TzifInstants<'_, 'a>
-        ensures all { map shown_of (dates_left result) ≡ all_in_force (total_at (value_of self.now) (says_of self.now)) date_time.now }
+        ensures all { map shown_of (dates_left result) ≡ all_in_force (told_total_at (value_of self.now) (says_of self.now)) date_time.now }
         ensures few { length (dates_left result) ≤ length (offsets_of (value_of self.now) (says_of self.now)) }
-        ensures exact { AreInstants (total_at (value_of self.now) (says_of self.now)) date_time.now (map instant (dates_left result)) }
+        ensures exact { AreInstants (told_total_at (value_of self.now) (says_of self.now)) date_time.now (map instant (dates_left result)) }
     {
         TzifInstants::new(self, date_time)
     }
@@ -109,9 +109,9 @@ impl<'a> TimeZone for TzifTz<'a> {
 
     type Offset = Held<'a>;
 
-    ghost total_at = { λ tz. total_at (value_of tz) (says_of tz) };
+    ghost total_at = { λ tz. told_total_at (value_of tz) (says_of tz) };
 
-    ghost orderly = { λ tz. (time : ℤ) → length (instants (total_at (value_of tz) (says_of tz)) time) ≤ 2 };
+    ghost orderly = { λ tz. (time : ℤ) → length (instants (told_total_at (value_of tz) (says_of tz)) time) ≤ 2 };
 
     ghost gives = { GivesAt };
 

@@ -3,6 +3,7 @@ use Rattle.std.proofs.Common.{◌≡◌, ℕ, zero, suc, ◌<◌, Bool, true, fa
 use Rattle.std.specs.List.{list_all}
 use Rattle.std.proofs.lemmas.Bool.{and_parts}
 use Rattle.std.proofs.lemmas.Int.{ints}
+use Rattle.calendar.specs.Orders.{le_from_pass}
 use Rattle.civil_base.specs.Instants.{seconds_of}
 use Rattle.zone_spans.specs.Entries.{Entry}
 use Rattle.zone_spans.specs.Schedules.{total_at as set_total_at}
@@ -10,21 +11,18 @@ use Rattle.tz_zone.specs.Sets.{schedule_of, shift_of, shifts_of}
 use Rattle.tz_zone.specs.Spans.{shift_at}
 use Rattle.tz_zone.specs.declared.set.FixedTimespanSet.{FixedTimespanSet}
 use Rattle.tz_footer.specs.InForce.{FooterZone, held_at}
-use Rattle.tz_footer.specs.Spells.{IsFooter}
+use Rattle.tz_footer.specs.Spells.{SpellsFooter}
 use Rattle.tz_footer.specs.Standing.{StandsFor, stands_for}
 use Rattle.tz_footer.specs.Values.{FooterValue}
-use Rattle.tz_tzif.specs.InForce.{are_over, total_at}
+use Rattle.tz_tzif.specs.InForce.{are_over, told_total_at}
 use Rattle.zone_tail_core.specs.Candidates.{IsAllowed}
 use Rattle.zone_tail_core.specs.Carried.{CarriesOn, IsCovered, IsFrom}
 use Rattle.zone_tail_core.specs.Tails.{IsTail, beginning, end_of_last_year}
-use Rattle.zone_tzif_core.specs.Totals.{total_at as file_total_at}
+use Rattle.zone_tzif_core.specs.Totals.{file_total_at}
 use Rattle.zone_tzif_core.specs.Zones.{KindValue, ZoneValue}
 use Rattle.zone_tzif_set.specs.Values.{change_of, value_of}
 use Rattle.tz_tzif_set.proofs.FooterLemmas.{Both, both}
 use Rattle.tz_tzif_set.specs.Footers.{IsFooterText}
-
-le_from_pass : (a s : ℤ) → int_le a s ≡ true → a ≤ℤ s
-le_from_pass a s h = grind (arith, ints)
 
 all_begun : (entries : List Entry) (s : ℤ) → list_all (λ (change : ℤ × KindValue). int_le change.0 s) (map change_of entries) ≡ true → (i : ℕ)
     → i < length (map shift_of entries) → (shift_at (map shift_of entries) i).0 ≤ℤ s
@@ -52,7 +50,7 @@ module _ (set : FixedTimespanSet) (from : Option ℤ) (text : List ℕ) (carries
     stands = record { value = both_of.value; is = both_of.is; stands = refl };
   }
 
-  after_over : (tail : IsTail set from text) (footer : FooterZone) (t : ℤ) → ((x y : FooterValue) → IsFooter text x → IsFooter text y → x ≡ y)
+  after_over : (tail : IsTail set from text) (footer : FooterZone) (t : ℤ) → ((x y : FooterValue) → SpellsFooter text x → SpellsFooter text y → x ≡ y)
       → StandsFor text footer → seconds_of t <ℤ end_of_last_year set
       → list_all (λ (change : ℤ × KindValue). int_le change.0 (seconds_of t)) (map change_of set.others) ≡ true
       → (held_at footer (seconds_of t)).utoff ≡ set_total_at (schedule_of set) t
@@ -70,15 +68,15 @@ module _ (set : FixedTimespanSet) (from : Option ℤ) (text : List ℕ) (carries
   -- by the laws on the totals of files
   pub carried : ((z : FixedTimespanSet) (footer : List ℕ) (t : ℤ) → file_total_at (value_of z footer) t ≡ set_total_at (schedule_of z) t)
       → ((zone : ZoneValue) (footer : FooterZone) (t : ℤ) → are_over zone.rest (seconds_of t) ≡ false
-      → total_at zone (Some footer) t ≡ file_total_at zone t)
+      → told_total_at zone (Some footer) t ≡ file_total_at zone t)
       → ((zone : ZoneValue) (footer : FooterZone) (t : ℤ) → are_over zone.rest (seconds_of t) ≡ true
-      → total_at zone (Some footer) t ≡ (held_at footer (seconds_of t)).utoff)
-      → (tail : IsTail set from text) (footer : FooterZone) (t : ℤ) → ((x y : FooterValue) → IsFooter text x → IsFooter text y → x ≡ y)
+      → told_total_at zone (Some footer) t ≡ (held_at footer (seconds_of t)).utoff)
+      → (tail : IsTail set from text) (footer : FooterZone) (t : ℤ) → ((x y : FooterValue) → SpellsFooter text x → SpellsFooter text y → x ≡ y)
       → StandsFor text footer → seconds_of t <ℤ end_of_last_year set
-      → total_at (value_of set text) (Some footer) t ≡ set_total_at (schedule_of set) t
+      → told_total_at (value_of set text) (Some footer) t ≡ set_total_at (schedule_of set) t
   carried kept before after tail footer t one stands last = by_over (are_over (value_of set text).rest (seconds_of t)) refl
     where
       by_over : (b : Bool) → are_over (value_of set text).rest (seconds_of t) ≡ b
-          → total_at (value_of set text) (Some footer) t ≡ set_total_at (schedule_of set) t
+          → told_total_at (value_of set text) (Some footer) t ≡ set_total_at (schedule_of set) t
       by_over false over = before (value_of set text) footer t over ∙ kept set text t
       by_over true over = after (value_of set text) footer t over ∙ after_over tail footer t one stands last (over_of set text (seconds_of t) over)

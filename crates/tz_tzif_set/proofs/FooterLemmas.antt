@@ -5,10 +5,11 @@ use Rattle.std.proofs.lemmas.Bool.Decides.{nat_tests}
 use Rattle.civil_base.specs.Instants.{seconds_of}
 use Rattle.tz_posix_core.specs.InForce.{instant_in, is_saving, posix_total, year_at, is_within, yearly_time}
 use Rattle.tz_posix_core.specs.PosixZones.{PosixZone, fixed, ruled, GivesTotal, Named, either}
+use Rattle.tz_posix_core.specs.RangeLaws.{none_first}
 use Rattle.tz_posix_core.specs.Ranges.{posix_range, first_some, offset_miss, time_miss, rule_range, rule_time_miss, date_miss, is_time, is_rule_date}
 use Rattle.tz_posix_core.specs.Resolved.{resolved}
 use Rattle.tz_posix_core.specs.Seconds.{offset_seconds, east_of, part}
-use Rattle.tz_posix_core.specs.Spells.{Optional, absent, present, IsDst, dst, Spells, short_form, full_form}
+use Rattle.tz_posix_core.specs.Spells.{Optional, absent, present, SpellsDst, dst, Spells, short_form, full_form}
 use Rattle.tz_posix_core.specs.Spells as spells
 use Rattle.tz_posix_core.specs.Values.{TzValue}
 use Rattle.tz_posix_core.specs.declared.date.Date.{Date}
@@ -19,9 +20,9 @@ use Rattle.tz_posix_core.specs.declared.time.Offset.{Offset}
 use Rattle.tz_posix_core.specs.declared.time.Time.{Time}
 use Rattle.tz_posix_core.specs.declared.values.Rule.{Rule}
 use Rattle.tz_zone.specs.declared.set.FixedTimespanSet.{FixedTimespanSet}
-use Rattle.tz_footer.specs.InForce.{held_at, second_in, yearly, is_saving as footer_saving}
+use Rattle.tz_footer.specs.InForce.{held_at, second_in, yearly, is_footer_saving}
 use Rattle.tz_footer.specs.Ranges.{IsFooterOf, is_in_range, is_rule, is_own_offset, has_time}
-use Rattle.tz_footer.specs.Spells.{IsMoment, date, timed, IsRule, rule, saving, footer}
+use Rattle.tz_footer.specs.Spells.{SpellsFooterMoment, date, timed, SpellsFooterRule, rule, saving, footer}
 use Rattle.tz_footer.specs.Standing.{moment_of, stands_for}
 use Rattle.tz_footer.specs.Values.{FooterValue}
 use Rattle.tz_footer.specs.declared.values.FooterRule.{FooterRule}
@@ -36,18 +37,14 @@ lifted m = (m.0, option_map signed m.1)
 abbrev lifted_rule : Rule → FooterRule
 lifted_rule r = record { start = lifted r.start; end = lifted r.end }
 
-moment_lifted : {a : List ℕ} {v : Date × Option Time} → spells.IsMoment a v → IsMoment a (lifted v)
+moment_lifted : {a : List ℕ} {v : Date × Option Time} → spells.SpellsMoment a v → SpellsFooterMoment a (lifted v)
 moment_lifted (spells.date d) = date d
 moment_lifted (spells.timed d t) = timed d (spells.bare t)
 
-rule_lifted : {a : List ℕ} {r : Rule} → spells.IsRule a r → IsRule a (lifted_rule r)
+rule_lifted : {a : List ℕ} {r : Rule} → spells.SpellsRule a r → SpellsFooterRule a (lifted_rule r)
 rule_lifted (spells.rule s e) = rule (moment_lifted s) (moment_lifted e)
 
 -- ---- the ranges
-
-none_first : {A : Type 0} (o : Option A) (rest : List (Option A)) → first_some (o ∷ rest) ≡ None → (o ≡ None) × (first_some rest ≡ None)
-none_first None rest e = (refl, e)
-none_first (Some x) rest e = absurd cc
 
 miss_of : (b : Bool) (miss : RangeError) → cond b None (Some miss) ≡ None → b ≡ true
 miss_of true miss e = refl
@@ -104,7 +101,7 @@ pub record Both (text : List ℕ) (tz : PosixZone) : Type 0 where
   pub is : IsFooterOf text value
   pub gives : (t : ℤ) → GivesTotal tz t (held_at (stands_for value) (seconds_of t)).utoff
 
-alone : {a b name : List ℕ} {o : Offset} (tz : PosixZone) → spells.IsName a name → spells.IsOffset b o → offset_miss o ≡ None
+alone : {a b name : List ℕ} {o : Offset} (tz : PosixZone) → spells.SpellsName a name → spells.SpellsOffset b o → offset_miss o ≡ None
     → fixed (record { name = name; total = east_of o }) ≡ tz → Both (a ++ b ++ []) tz
 unfolding is_in_range stands_for held_at
 alone {a} {b} {name} {o} tz is_name is_offset fits same = record {
@@ -117,14 +114,14 @@ alone {a} {b} {name} {o} tz is_name is_offset fits same = record {
 totals_same : (standard saved : KindValue) (start end : Date × Option Time) (s : ℤ)
     → (held_at (yearly standard saved (moment_of (lifted start)) (moment_of (lifted end))) s).utoff
     ≡ posix_total standard.utoff saved.utoff (yearly_time start) (yearly_time end) s
-unfolding held_at footer_saving second_in posix_total is_saving instant_in
+unfolding held_at is_footer_saving second_in posix_total is_saving instant_in
 totals_same standard saved start end s =
     let y = year_at standard.utoff s in
     either_total _ saved standard
     ∙ (λ i. cond (is_within (second_in y standard.utoff (moment_same start i)) (second_in y saved.utoff (moment_same end i)) s) saved.utoff standard.utoff)
 
-changing : {a b c d e name other : List ℕ} {o : Offset} {p : Option Offset} {r : Rule} (tz : PosixZone) → spells.IsName a name
-    → spells.IsOffset b o → spells.IsName c other → Optional spells.IsOffset d p → spells.IsRule e r → offset_miss o ≡ None
+changing : {a b c d e name other : List ℕ} {o : Offset} {p : Option Offset} {r : Rule} (tz : PosixZone) → spells.SpellsName a name
+    → spells.SpellsOffset b o → spells.SpellsName c other → Optional spells.SpellsOffset d p → spells.SpellsRule e r → offset_miss o ≡ None
     → option_and_then offset_miss p ≡ None → rule_range r ≡ None
     → ruled (record { name = name; total = east_of o }) (record { name = other; total = option_map_or east_of p (east_of o +ℤ pos 3600) })
     (yearly_time r.start) (yearly_time r.end) ≡ tz

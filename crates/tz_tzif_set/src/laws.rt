@@ -6,7 +6,7 @@ ghost use Rattle.tz_zone.specs.Sets.{schedule_of};
 ghost use Rattle.tz_zone.specs.declared.set.FixedTimespanSet.{FixedTimespanSet};
 ghost use Rattle.tz_footer.specs.InForce.{FooterZone};
 ghost use Rattle.tz_footer.specs.Standing.{StandsFor};
-ghost use Rattle.tz_tzif.specs.InForce.{total_at};
+ghost use Rattle.tz_tzif.specs.InForce.{told_total_at};
 ghost use Rattle.zone_tail_core.specs.Carried.{CarriesOn};
 ghost use Rattle.zone_tail_core.specs.Tails.{IsTail, end_of_last_year};
 ghost use Rattle.zone_tzif_set.specs.Values.{value_of};
@@ -22,7 +22,7 @@ pub fn carried_on()
     ensures footer { (set : FixedTimespanSet) (from : Option ℤ) (text : List ℕ) → CarriesOn set from text → IsFooterText text }
     ensures totals { (set : FixedTimespanSet) (from : Option ℤ) (text : List ℕ) (footer : FooterZone) (t : ℤ) → IsTail set from text
         → CarriesOn set from text → StandsFor text footer → seconds_of t <ℤ end_of_last_year set
-        → total_at (value_of set text) (Some footer) t ≡ set_total_at (schedule_of set) t }
+        → told_total_at (value_of set text) (Some footer) t ≡ set_total_at (schedule_of set) t }
 {
     one_footer();
     file_totals();

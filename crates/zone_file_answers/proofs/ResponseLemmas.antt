@@ -2,7 +2,7 @@
 use Rattle.std.proofs.Common.{◌≡◌, ℕ, ℤ, List, [], ◌∷◌, ◌++◌, map, Option, Some, None, Result, Ok, Err, IfOk, IfErr, OnOk, MatchResult, IfSome, true, is_some, inr, refl, sym, ◌∙◌, subst}
 use Rattle.std.specs.Prelude.{IsSomeAnd}
 use Rattle.tz_footer.specs.InForce.{FooterZone}
-use Rattle.tz_tzif.specs.Faults.{IsAccepted, IsFault}
+use Rattle.tz_tzif.specs.Faults.{IsAcceptedFile, IsTzifFault}
 use Rattle.tz_tzif.specs.declared.fault.TzifFault.{TzifFault}
 use Rattle.tz_tzif.specs.declared.fault.TzifFault.TheVariants as tzif
 use Rattle.zone_outside.specs.Seen.{OutputSeen}
@@ -20,8 +20,8 @@ use Rattle.zone_file_answers.specs.declared.respond.Answered.{Answered}
 use Rattle.zone_file_answers.specs.declared.respond.Answered.TheVariants.{Done, Fault as Wrong, Failed, NoMemory}
 
 -- a fault of the value other than want of memory leaves nothing that can be looked up
-refused_value : (value : ZoneValue) (footer : Option FooterZone) (fault : TzifFault) → IsFault value fault → (fault ≡ tzif.NoMemory → ⊥)
-    → IsAccepted value footer → ⊥
+refused_value : (value : ZoneValue) (footer : Option FooterZone) (fault : TzifFault) → IsTzifFault value fault → (fault ≡ tzif.NoMemory → ⊥)
+    → IsAcceptedFile value footer → ⊥
 refused_value value footer tzif.Times is other accepted = let no = sym accepted.times ∙ is in absurd cc
 refused_value value footer tzif.Offset is other accepted = let no = sym accepted.offsets ∙ is.1 in absurd cc
 refused_value value None tzif.Footer is other accepted = is.1.some accepted.says
@@ -29,11 +29,11 @@ refused_value value (Some footer) tzif.Footer is other accepted = is.1.none acce
 refused_value value footer tzif.NoMemory is other accepted = other refl
 
 pub no_file : (file : List ℕ) (value : ZoneValue) (fault : TzifFault)
-    → ((x y : ZoneValue) → Denotes file x → Denotes file y → x ≡ y) → Denotes file value → IsFault value fault → (fault ≡ tzif.NoMemory → ⊥)
+    → ((x y : ZoneValue) → Denotes file x → Denotes file y → x ≡ y) → Denotes file value → IsTzifFault value fault → (fault ≡ tzif.NoMemory → ⊥)
     → IsNoFile file
 no_file file value fault one denotes is other total found =
     refused_value value found.footer fault is other
-    (subst (λ v. IsAccepted v found.footer) (one found.value value found.denotes denotes) found.accepted)
+    (subst (λ v. IsAcceptedFile v found.footer) (one found.value value found.denotes denotes) found.accepted)
 
 -- what is found over a file that is a zone
 pub found_over : (file requests : List ℕ) (total : ℤ → ℤ) → IsFile file total → (result : Result (List (List ℕ)) FileFault)

@@ -1,8 +1,8 @@
 -- The zone that a file is.
 use Rattle.std.specs.Prelude.{◌≡◌, ℕ, ℤ, List, Option}
 use Rattle.tz_footer.specs.InForce.{FooterZone}
-use Rattle.tz_tzif.specs.Faults.{IsAccepted}
-use Rattle.tz_tzif.specs.InForce.{total_at}
+use Rattle.tz_tzif.specs.Faults.{IsAcceptedFile}
+use Rattle.tz_tzif.specs.InForce.{told_total_at}
 use Rattle.zone_tzif_core.specs.Denotes.{Denotes}
 use Rattle.zone_tzif_core.specs.Zones.{ZoneValue}
 
@@ -11,8 +11,8 @@ pub record IsFile (file : List ℕ) (total : ℤ → ℤ) : Type 0 where
   pub value : ZoneValue
   pub footer : Option FooterZone
   pub denotes : Denotes file value
-  pub accepted : IsAccepted value footer
-  pub is : total ≡ total_at value footer
+  pub accepted : IsAcceptedFile value footer
+  pub is : total ≡ told_total_at value footer
 
 -- a file of no such value
 abbrev pub IsNoFile : List ℕ → Type 0

@@ -1,6 +1,6 @@
 //! The answers to the requests over a file.
 ghost use Rattle.std.specs.Prelude.{◌≡◌, ◌≤◌, None, IfErr, IfOk, OnOk, MatchResult, length, map};
-ghost use Rattle.tz_tzif.specs.InForce.{total_at};
+ghost use Rattle.tz_tzif.specs.InForce.{told_total_at};
 ghost use Rattle.tz_tzif.specs.Zones.{value_of, says_of};
 ghost use Rattle.zone_source.specs.Lines.{lines_of};
 ghost use Rattle.zone_file_answers.specs.Due.{answer_line};
@@ -43,9 +43,9 @@ pub fn answers(alloc: Global, file: &[u8], requests: &[u8]) -> Result<LineList, 
 /// Answers each request at a zone.
 fn answer_all(alloc: Global, zone: &TzifTz<'_>, requests: &[u8]) -> Result<LineList, FileFault>
     requires { length requests.now ≤ LIMIT }
-    ensures valid { OnOk result (first_refused (total_at (value_of zone.now) (says_of zone.now)) 1 (lines_of requests.now) ≡ None) }
-    ensures lines { IfOk result (λ lines. lines ≡ map (answer_line (total_at (value_of zone.now) (says_of zone.now))) (lines_of requests.now)) }
-    ensures err { IfErr result (TellsOf (first_refused (total_at (value_of zone.now) (says_of zone.now)) 1 (lines_of requests.now))) }
+    ensures valid { OnOk result (first_refused (told_total_at (value_of zone.now) (says_of zone.now)) 1 (lines_of requests.now) ≡ None) }
+    ensures lines { IfOk result (λ lines. lines ≡ map (answer_line (told_total_at (value_of zone.now) (says_of zone.now))) (lines_of requests.now)) }
+    ensures err { IfErr result (TellsOf (first_refused (told_total_at (value_of zone.now) (says_of zone.now)) 1 (lines_of requests.now))) }
 {
     let mut answers = LineList::new(alloc);
     let mut text = Vec::new(alloc);
@@ -65,9 +65,9 @@ fn answer(
     line: &[u8],
     text: &mut Vec<u8>,
 ) -> Result<(), FileFault>
-    ensures accepted { OnOk result (request_refusal (total_at (value_of zone.now) (says_of zone.now)) number line.now ≡ None) }
-    ensures text { OnOk result (text.new.items ≡ answer_line (total_at (value_of zone.now) (says_of zone.now)) line.now) }
-    ensures err { IfErr result (TellsOf (request_refusal (total_at (value_of zone.now) (says_of zone.now)) number line.now)) }
+    ensures accepted { OnOk result (request_refusal (told_total_at (value_of zone.now) (says_of zone.now)) number line.now ≡ None) }
+    ensures text { OnOk result (text.new.items ≡ answer_line (told_total_at (value_of zone.now) (says_of zone.now)) line.now) }
+    ensures err { IfErr result (TellsOf (request_refusal (told_total_at (value_of zone.now) (says_of zone.now)) number line.now)) }
 {
     let Some(asked) = text_of(line) else {
         return Err(FileFault::NotText(number));

@@ -6,7 +6,7 @@ use Rattle.civil_base.specs.Instants.{instant_at, local_at, nanos_of, seconds_of
 use Rattle.civil_base.specs.Ranges.{IsOffset}
 use Rattle.civil_base.specs.RangeLaws.{offset_least, offset_greatest}
 use Rattle.tz_footer.specs.InForce.{FooterZone}
-use Rattle.tz_tzif.specs.InForce.{kind_at, kind_in, total_at as file_total_at}
+use Rattle.tz_tzif.specs.InForce.{kind_at, kind_in, told_total_at}
 use Rattle.zone_spans.specs.Schedules.{Schedule, instants, last_total, total_at}
 use Rattle.tz_zone.specs.InForce.{all_in_force, in_force}
 use Rattle.tz_zone.specs.InstantLaws.{instants_are}
@@ -81,7 +81,7 @@ whole_second : (s : ℤ) → seconds_of (nanos_of s) ≡ s
 whole_second s = one_second (nanos_of s) _ s (second_is (nanos_of s)) (record { low = omega (arith, ints); high = omega (arith, ints) })
 
 -- a file speaks of seconds alone
-pub file_holds : (value : ZoneValue) (footer : Option FooterZone) → HoldsSeconds (file_total_at value footer)
+pub file_holds : (value : ZoneValue) (footer : Option FooterZone) → HoldsSeconds (told_total_at value footer)
 unfolding HoldsSeconds kind_at
 file_holds value footer t = ap (λ s. (kind_in value footer s).utoff) (sym (whole_second (seconds_of t)))
 

@@ -1,6 +1,6 @@
 -- What is seen of a zone of any kind.
 use Rattle.std.specs.Prelude.{ℕ, ℤ, Bool, List}
-use Rattle.tz_tzif.specs.InForce.{total_at}
+use Rattle.tz_tzif.specs.InForce.{told_total_at}
 use Rattle.zone_open.specs.Files.{file_value, given_at, SaysOf}
 use Rattle.zone_open.specs.Zones.{given_in, total_in}
 use Rattle.zone_open.specs.declared.any.AnyZone.{AnyZone}
@@ -12,7 +12,7 @@ use Rattle.zone_open.specs.declared.zone.OpenZone.{OpenZone}
 -- abbreviations that are given then. A zone of a file has them by its value and what its footer says.
 abbrev pub Seen : AnyZone → ((ℤ → ℤ) → (ℤ → List ℕ → Bool → Type 0) → Type 0) → Type 0
 Seen (Source zone) P = P (total_in zone) (given_in zone)
-Seen (File zone) P = SaysOf zone (λ footer. P (total_at (file_value zone) footer) (given_at (file_value zone) footer))
+Seen (File zone) P = SaysOf zone (λ footer. P (told_total_at (file_value zone) footer) (given_at (file_value zone) footer))
 
 -- it is a zone of a source with this property
 abbrev pub IsOfSource : (OpenZone → Type 0) → AnyZone → Type 0

@@ -3,7 +3,7 @@ use Rattle.std.specs.Prelude.{◌≡◌, ℕ, ℤ, Bool, List, [], Option}
 use Rattle.tz_footer.specs.InForce.{FooterZone}
 use Rattle.tz_footer.specs.Ranges.{IsFooterOf}
 use Rattle.tz_footer.specs.Values.{FooterValue}
-use Rattle.tz_tzif.specs.Faults.{IsAccepted, IsNoFooter, SaysInFooter}
+use Rattle.tz_tzif.specs.Faults.{IsAcceptedFile, IsNoFooter, SaysInFooter}
 use Rattle.tz_tzif.specs.InForce.{kind_at}
 use Rattle.tz_tzif.specs.Owners.{value_in}
 use Rattle.tz_tzif.specs.Zones.{IsOfKind}
@@ -31,7 +31,7 @@ given_at value footer t = IsOfKind (kind_at value footer t)
 -- the file denotes the value, which can be looked up
 pub record IsFileOf (bytes : List ℕ) (zone : FileZone) : Type 0 where
   pub denotes : Denotes bytes (file_value zone)
-  pub accepted : SaysOf zone (IsAccepted (file_value zone))
+  pub accepted : SaysOf zone (IsAcceptedFile (file_value zone))
 
 -- the file denotes a value whose footer can't be read
 pub record HasNoFooter (bytes : List ℕ) : Type 0 where

@@ -46,8 +46,8 @@ pub enum PosixFault {
 impl FileZone {
     ghost use Rattle.std.specs.Prelude.{[]};
     ghost use Rattle.civil_base.specs.DateTimes.{instant};
-    ghost use Rattle.tz_tzif.specs.Faults.{HasOffsets, IsAccepted};
-    ghost use Rattle.tz_tzif.specs.InForce.{total_at};
+    ghost use Rattle.tz_tzif.specs.Faults.{HasOffsets, IsAcceptedFile};
+    ghost use Rattle.tz_tzif.specs.InForce.{told_total_at};
     ghost use Rattle.tz_tzif.specs.Zones.{IsZoneOf};
     ghost use Rattle.zone_open.specs.Answered.{first_of, AreReadings, IsInForce, IsShown};
     ghost use Rattle.zone_open.specs.Files.{file_value, given_at, IsFileFault, IsFileOf, IsPosixOf, IsValueFault, SaysOf};
@@ -108,7 +108,7 @@ impl FileZone {
     /// The zone of a value whose times rise, and whose offsets are small.
     fn of_value(alloc: Global, zone: TzifZone) -> Result<FileZone, FileFault>
         requires { HasOffsets (zone_shown zone) }
-        ensures { MatchResult result (λ found. (file_value found ≡ zone_shown zone) × SaysOf found (IsAccepted (file_value found))) (IsValueFault (zone_shown zone)) }
+        ensures { MatchResult result (λ found. (file_value found ≡ zone_shown zone) × SaysOf found (IsAcceptedFile (file_value found))) (IsValueFault (zone_shown zone)) }
     {
         match TzifOwner::new(alloc, zone) {
             Ok(owner) => Ok(FileZone { owner }),
@@ -127,21 +127,21 @@ impl FileZone {
 
     /// The seconds east of UTC that are in force at an instant.
     pub fn offset_at(&self, at: &OffsetDateTime) -> i32
-        ensures { SaysOf self.now (λ footer. result ≡ total_at (file_value self.now) footer (instant at.now)) }
+        ensures { SaysOf self.now (λ footer. result ≡ told_total_at (file_value self.now) footer (instant at.now)) }
     {
         offset_at(&self.zone(), at)
     }
 
     /// What is in force at an instant. The abbreviation goes into the room, as far as it fits.
     pub fn in_force(&self, at: &OffsetDateTime, room: &mut [u8]) -> InForce
-        ensures { SaysOf self.now (λ footer. IsInForce (total_at (file_value self.now) footer) (given_at (file_value self.now) footer) (instant at.now) result room.old room.new) }
+        ensures { SaysOf self.now (λ footer. IsInForce (told_total_at (file_value self.now) footer) (given_at (file_value self.now) footer) (instant at.now) result room.old room.new) }
     {
         in_force(&self.zone(), at, room)
     }
 
     /// The instant at the offset in force. There is none exactly where the local date lies outside the years -9999 to 9999.
     pub fn shown_at(&self, at: &OffsetDateTime) -> Option<OffsetDateTime>
-        ensures { SaysOf self.now (λ footer. IsShown (total_at (file_value self.now) footer) (instant at.now) result) }
+        ensures { SaysOf self.now (λ footer. IsShown (told_total_at (file_value self.now) footer) (instant at.now) result) }
     {
         at.to_timezone(&self.zone())
     }
@@ -149,7 +149,7 @@ impl FileZone {
     /// All instants at which clocks show a local time, by time, as far as they fit in the room, and how many there are. Where
     /// there is none, the change that skips the local time is told.
     pub fn readings(&self, local: &PlainDateTime, room: &mut [Reading], gap: &mut Gap) -> usize
-        ensures answer { SaysOf self.now (λ footer. AreReadings (total_at (file_value self.now) footer) local.now room.old room.new result gap.new) }
+        ensures answer { SaysOf self.now (λ footer. AreReadings (told_total_at (file_value self.now) footer) local.now room.old room.new result gap.new) }
         ensures gap { 0 < result → gap.new ≡ gap.old }
     {
         lent_readings(&self.zone(), local, room, gap)
@@ -158,7 +158,7 @@ impl FileZone {
     /// The ring of a daily alarm on the day and at the time of day of a local time: the first of the instants at which clocks
     /// show it, or none where they skip it.
     pub fn ring(&self, local: &PlainDateTime) -> Option<Reading>
-        ensures { SaysOf self.now (λ footer. result ≡ first_of (total_at (file_value self.now) footer) local.now) }
+        ensures { SaysOf self.now (λ footer. result ≡ first_of (told_total_at (file_value self.now) footer) local.now) }
     {
         match first_reading(&self.zone(), local) {
             Some(first) => Some(reading_of(&first)),

@@ -19,7 +19,7 @@ impl OpenZone {
     ghost use Rattle.zone_tail_core.specs.Found.{found_from};
     ghost use Rattle.zone_tail_core.specs.Tails.{IsFaultOf, IsTail, tail_fault};
     ghost use Rattle.zone_tzif_core.specs.Denotes.{Denotes};
-    ghost use Rattle.zone_tzif_core.specs.Totals.{total_at};
+    ghost use Rattle.zone_tzif_core.specs.Totals.{file_total_at};
     ghost use Rattle.zone_tzif_core.specs.Tzif.{IsTzif};
     ghost use Rattle.zone_tzif_core.specs.Zones.{ZoneValue};
     ghost use Rattle.zone_tzif_set.specs.Files.{footer_of, zone_of, Makes};
@@ -51,7 +51,7 @@ impl OpenZone {
     pub fn tzif(&self, alloc: Global) -> Result<Vec<u8>, FileFault>
         ensures told { Makes (λ file. file.items) (set_in self.now) result }
         ensures file { IfOk result (λ file. IsTzif file.items (zone_of (set_in self.now))) }
-        ensures totals { IfOk result (λ file. (zone : ZoneValue) → Denotes file.items zone → (t : ℤ) → total_at zone t ≡ set_total_at (schedule_of (set_in self.now)) t) }
+        ensures totals { IfOk result (λ file. (zone : ZoneValue) → Denotes file.items zone → (t : ℤ) → file_total_at zone t ≡ set_total_at (schedule_of (set_in self.now)) t) }
         ensures carried { IfOk result (λ file. tail_fault (set_in self.now) ≡ None → CarriesOn (set_in self.now) (found_from (set_in self.now)) (footer_of (set_in self.now))) }
     {
         let set = spans_of(alloc, self.compact())?;

@@ -23,7 +23,7 @@ use Rattle.tz_posix_core.specs.PosixZones.{fixed, ruled}
 use Rattle.tz_posix_core.specs.Ranges.{date_miss, first_some, is_time, offset_miss, posix_range, rule_range, rule_time_miss}
 use Rattle.tz_posix_core.specs.Resolved.{resolved}
 use Rattle.tz_posix_core.specs.Seconds.{east_of, offset_seconds, part, time_seconds}
-use Rattle.tz_posix_core.specs.Spells.{absent, date, dst, enclosed, full_form, hours, is_enclosed, letters, minus, minutes, bare, present, rule, seconds, timed, weekday, IsDate, IsMoment, IsName, IsNumber, IsOffset, IsRule, IsTime, Optional, Spells}
+use Rattle.tz_posix_core.specs.Spells.{absent, date, dst, enclosed, full_form, hours, is_enclosed, letters, minus, minutes, bare, present, rule, seconds, timed, weekday, SpellsDate, SpellsMoment, SpellsName, SpellsNumber, SpellsOffset, SpellsRule, SpellsTime, Optional, Spells}
 use Rattle.tz_posix_core.specs.declared.error.RangeError.TheVariants as miss
 use Rattle.zone_tail_core.specs.Candidates.{IsSoundCandidate}
 use Rattle.zone_tail_core.specs.Ready.{CanBeWritten, IsNamedBy}
@@ -41,14 +41,14 @@ use Rattle.zone_tail_core.specs.declared.rule.YearlyRule.{YearlyRule}
 digits : IsNumeralModel (λ ds. list_all is_ascii_digit ds ≡ true) (digits_value 10)
 digits = numerals_by_value _ (search rules)
 
-number : (n : ℕ) → n < 256 → IsNumber 8 (decimal n) n
+number : (n : ℕ) → n < 256 → SpellsNumber 8 (decimal n) n
 number n few =
     let small : n < 2 ^ 64 = omega arith in
     let is = decimal_is_IsNumeral n small in
     record { some = is.0.0; digits = digits_decimal digits n small; value = is.1; fits = omega arith }
 
 -- after a zero
-zero_led : (n : ℕ) → n < 256 → IsNumber 8 (codes "0" ++ decimal n) n
+zero_led : (n : ℕ) → n < 256 → SpellsNumber 8 (codes "0" ++ decimal n) n
 zero_led n few =
     let is = number n few in
     record {
@@ -58,29 +58,29 @@ zero_led n few =
       fits = omega arith;
     }
 
-two : (n : ℕ) → n < 256 → IsNumber 8 (two_digits n) n
+two : (n : ℕ) → n < 256 → SpellsNumber 8 (two_digits n) n
 two n few = by_test (nat_lt n 10)
   where
-    by_test : (b : Bool) → IsNumber 8 (cond b (codes "0") [] ++ decimal n) n
+    by_test : (b : Bool) → SpellsNumber 8 (cond b (codes "0") [] ++ decimal n) n
     by_test true = zero_led n few
     by_test false = number n few
 
 -- ---- times
 
 time_by : (h m s : ℕ) → h < 256 → m < 256 → s < 256 → (b c : Bool) → (m == 0 && s == 0) ≡ b → (s == 0) ≡ c
-    → IsTime (decimal h ++ cond b [] (codes ":" ++ two_digits m ++ cond c [] (codes ":" ++ two_digits s)))
+    → SpellsTime (decimal h ++ cond b [] (codes ":" ++ two_digits m ++ cond c [] (codes ":" ++ two_digits s)))
     (record { hh = h; mm = cond b None (Some m); ss = cond c None (Some s) })
 time_by h m s few_h few_m few_s true true e f =
-    subst (λ t. IsTime t (record { hh = h; mm = None; ss = None })) (sym (append-nil (decimal h))) (hours (number h few_h))
+    subst (λ t. SpellsTime t (record { hh = h; mm = None; ss = None })) (sym (append-nil (decimal h))) (hours (number h few_h))
 time_by h m s few_h few_m few_s true false e f = let parts = and_parts (m == 0) (s == 0) e in cc
 time_by h m s few_h few_m few_s false true e f =
-    subst (λ t. IsTime (decimal h ++ t) (record { hh = h; mm = Some m; ss = None })) (sym (append-nil (colon ∷ two_digits m)))
+    subst (λ t. SpellsTime (decimal h ++ t) (record { hh = h; mm = Some m; ss = None })) (sym (append-nil (colon ∷ two_digits m)))
     (minutes (number h few_h) (two m few_m))
 time_by h m s few_h few_m few_s false false e f =
-    subst (λ t. IsTime t (record { hh = h; mm = Some m; ss = Some s })) (append_assoc (decimal h) (colon ∷ two_digits m) (colon ∷ two_digits s))
+    subst (λ t. SpellsTime t (record { hh = h; mm = Some m; ss = Some s })) (append_assoc (decimal h) (colon ∷ two_digits m) (colon ∷ two_digits s))
     (seconds (number h few_h) (two m few_m) (two s few_s))
 
-time_spelled : (n : ℕ) → n < 90000 → IsTime (time_text n) (time_value n)
+time_spelled : (n : ℕ) → n < 90000 → SpellsTime (time_text n) (time_value n)
 unfolding time_text
 time_spelled n few =
     time_by (n / 3600) (n / 60 % 60) (n % 60) (omega arith) (omega arith) (omega arith) (n / 60 % 60 == 0 && n % 60 == 0) (n % 60 == 0) refl refl
@@ -117,11 +117,11 @@ in_clock most n few =
 size_few : (east : ℤ) → IsTrue (can_be_written east) → unsigned_abs east < 90000
 size_few east h = omega (arith, leb-true _ _ h)
 
-offset_spelled : (east : ℤ) → IsTrue (can_be_written east) → IsOffset (offset_text east) (offset_value east)
+offset_spelled : (east : ℤ) → IsTrue (can_be_written east) → SpellsOffset (offset_text east) (offset_value east)
 unfolding offset_text
 offset_spelled east h = by_test (int_lt (pos 0) east)
   where
-    by_test : (b : Bool) → IsOffset (cond b (codes "-") [] ++ time_text (unsigned_abs east)) (record { positive = not b; time = time_value (unsigned_abs east) })
+    by_test : (b : Bool) → SpellsOffset (cond b (codes "-") [] ++ time_text (unsigned_abs east)) (record { positive = not b; time = time_value (unsigned_abs east) })
     by_test true = minus (time_spelled (unsigned_abs east) (size_few east h))
     by_test false = bare (time_spelled (unsigned_abs east) (size_few east h))
 
@@ -147,11 +147,11 @@ enclosed_bytes (c ∷ cs) h =
     let second = and_parts (not (c == less) && not (c == greater)) (not (c == 10)) first.0 in
     and_from (is_enclosed c) (list_all is_enclosed cs) second.0 (enclosed_bytes cs parts.1)
 
-name_spelled : (name : List ℕ) → is_name name ≡ true → IsName (name_text name) name
+name_spelled : (name : List ℕ) → is_name name ≡ true → SpellsName (name_text name) name
 unfolding name_text
 name_spelled name h = by_test (is_plain name) refl
   where
-    by_test : (b : Bool) → is_plain name ≡ b → IsName (cond b name (codes "<" ++ name ++ codes ">")) name
+    by_test : (b : Bool) → is_plain name ≡ b → SpellsName (cond b name (codes "<" ++ name ++ codes ">")) name
     by_test true e =
         let parts = and_parts (nat_le 3 (length name) && nat_le (length name) 16) (list_all is_ascii_alphabetic name) e in
         let sizes = and_parts (nat_le 3 (length name)) (nat_le (length name) 16) parts.0 in
@@ -177,28 +177,28 @@ date_text_is m w d =
     ∙ sym (append_assoc (codes "M" ++ m ++ codes "." ++ w) (dot ∷ []) d)
 
 date_spelled : (change : Change) → IsChange change
-    → IsDate (codes "M" ++ decimal change.month ++ codes "." ++ decimal change.week ++ codes "." ++ decimal change.weekday) (date_of change)
+    → SpellsDate (codes "M" ++ decimal change.month ++ codes "." ++ decimal change.week ++ codes "." ++ decimal change.weekday) (date_of change)
 date_spelled change sound =
     let few = date_few change sound in
-    subst (λ t. IsDate t (date_of change)) (date_text_is (decimal change.month) (decimal change.week) (decimal change.weekday))
+    subst (λ t. SpellsDate t (date_of change)) (date_text_is (decimal change.month) (decimal change.week) (decimal change.weekday))
     (weekday (number change.month few.0) (number change.week few.1) (number change.weekday few.2))
 
-moment_spelled : (change : Change) → IsChange change → IsMoment (change_text change) (moment_value change)
+moment_spelled : (change : Change) → IsChange change → SpellsMoment (change_text change) (moment_value change)
 unfolding change_text
 moment_spelled change sound = by_test (change.second == 7200)
   where
     by_test : (b : Bool)
-        → IsMoment (codes "M" ++ decimal change.month ++ codes "." ++ decimal change.week ++ codes "." ++ decimal change.weekday ++ cond b [] (codes "/" ++ time_text change.second))
+        → SpellsMoment (codes "M" ++ decimal change.month ++ codes "." ++ decimal change.week ++ codes "." ++ decimal change.weekday ++ cond b [] (codes "/" ++ time_text change.second))
         (date_of change, cond b None (Some (time_value change.second)))
     by_test true =
-        subst (λ t. IsMoment t (date_of change, None)) (sym (append-nil (codes "M" ++ decimal change.month ++ codes "." ++ decimal change.week ++ codes "." ++ decimal change.weekday)))
+        subst (λ t. SpellsMoment t (date_of change, None)) (sym (append-nil (codes "M" ++ decimal change.month ++ codes "." ++ decimal change.week ++ codes "." ++ decimal change.weekday)))
         (date (date_spelled change sound))
     by_test false = timed (date_spelled change sound) (time_spelled change.second (omega (arith, sound.second)))
 
-rule_spelled : (q : YearlyRule) → IsChange q.start → IsChange q.end → IsRule (rule_text q) (rule_value q)
+rule_spelled : (q : YearlyRule) → IsChange q.start → IsChange q.end → SpellsRule (rule_text q) (rule_value q)
 unfolding rule_text
 rule_spelled q start end =
-    subst (λ t. IsRule t (rule_value q)) (sym (append_assoc (comma ∷ change_text q.start) (comma ∷ []) (change_text q.end)))
+    subst (λ t. SpellsRule t (rule_value q)) (sym (append_assoc (comma ∷ change_text q.start) (comma ∷ []) (change_text q.end)))
     (rule (moment_spelled q.start start) (moment_spelled q.end end))
 
 date_in_range : (change : Change) → IsChange change → date_miss (date_of change) ≡ None
@@ -224,11 +224,11 @@ time_is change = ap (λ n. (date_of change, n)) (by_test (change.second == 7200)
 
 -- ---- daylight saving time's own offset
 
-saving_spelled : (standard saving : ℤ) → IsTrue (can_be_written saving) → Optional IsOffset (saving_text standard saving) (saving_value standard saving)
+saving_spelled : (standard saving : ℤ) → IsTrue (can_be_written saving) → Optional SpellsOffset (saving_text standard saving) (saving_value standard saving)
 unfolding saving_text
 saving_spelled standard saving h = by_test (int_eq saving (standard +ℤ pos 3600))
   where
-    by_test : (b : Bool) → Optional IsOffset (cond b [] (offset_text saving)) (cond b None (Some (offset_value saving)))
+    by_test : (b : Bool) → Optional SpellsOffset (cond b [] (offset_text saving)) (cond b None (Some (offset_value saving)))
     by_test true = absent
     by_test false = present (offset_spelled saving h)
 

@@ -3,7 +3,7 @@ use Rattle.std.proofs.Common.{◌≡◌, ℕ, List, Result, Ok, Err, sym, ◌∙
 use Rattle.std.proofs.lemmas.Option.{same_Some, none-some}
 use Rattle.zone_tzif_core.specs.Denotes.{Denotes}
 use Rattle.zone_tzif_core.specs.Reading.{zone_in}
-use Rattle.zone_tzif_core.specs.Shown.{zone_shown, Tells, Reads}
+use Rattle.zone_tzif_core.specs.Shown.{zone_shown, TellsFound, Reads}
 use Rattle.zone_tzif_core.specs.Zones.{ZoneValue}
 use Rattle.zone_tzif_core.specs.declared.values.TzifZone.{TzifZone}
 use Rattle.zone_tzif_core.specs.declared.values.ReadFault.{ReadFault}
@@ -11,7 +11,7 @@ use Rattle.zone_tzif_core.specs.declared.values.ReadFault.TheVariants.{Refused, 
 use Rattle.zone_tzif_core.proofs.AgainLemmas.{denoted_again}
 use Rattle.zone_tzif_core.proofs.FoundLemmas.{denoted_found}
 
-pub exact : (bytes : List ℕ) (result : Result TzifZone ReadFault) → Tells zone_shown result (zone_in bytes) → Reads (Denotes bytes) result
+pub exact : (bytes : List ℕ) (result : Result TzifZone ReadFault) → TellsFound zone_shown result (zone_in bytes) → Reads (Denotes bytes) result
 exact bytes (Ok zone) told = denoted_found bytes (zone_shown zone) (sym told)
 exact bytes (Err Refused) told = λ zone denoted. none-some zone (told ∙ denoted_again bytes zone denoted)
 exact bytes (Err NoMemory) told = tt

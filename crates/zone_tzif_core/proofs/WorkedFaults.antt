@@ -1,7 +1,7 @@
 -- Why a value is not written, and the offset in force.
 use Rattle.std.proofs.Common.{◌≡◌, ℕ, zero, suc, ◌+◌, ℤ, pos, negsuc, true, false, List, [], ◌∷◌, map, replicate, Some, None, refl}
 use Rattle.std.specs.Prelude.{codes}
-use Rattle.zone_tzif_core.specs.Totals.{total_at}
+use Rattle.zone_tzif_core.specs.Totals.{file_total_at}
 use Rattle.zone_tzif_core.specs.Tzif.{kinds_of, names_of, name_bytes, are_times, are_names, first_fault, write_fault}
 use Rattle.zone_tzif_core.specs.Zones.{KindValue, ZoneValue}
 use Rattle.zone_tzif_core.specs.declared.values.WriteFault.TheVariants.{Times, Types, Names, Offset, Footer}
@@ -43,8 +43,8 @@ unfolding write_fault are_times are_names kinds_of names_of name_bytes
 kinds = refl
 
 -- before the first change, a nanosecond before it and at it, a nanosecond before the second one, at the second, the third and the last
-totals : map (total_at changing)
+totals : map (file_total_at changing)
     (negsuc 9999999999999999999 ∷ negsuc 2717650800000000000 ∷ negsuc 2717650799999999999 ∷ pos 4999999999 ∷ pos 5000000000 ∷ pos 6000000000 ∷ pos 4294967301000000000 ∷ [])
     ≡ negsuc 17761 ∷ negsuc 17761 ∷ negsuc 17999 ∷ negsuc 17999 ∷ negsuc 14399 ∷ negsuc 17999 ∷ pos 3600 ∷ []
-unfolding total_at
+unfolding file_total_at
 totals = refl

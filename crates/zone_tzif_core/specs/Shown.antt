@@ -42,9 +42,9 @@ Faults Refused answer = None ≡ answer
 Faults NoMemory answer = Unit {0}
 
 -- a reader tells what it found, or that there is nothing, or that it had no memory
-abbrev pub Tells : {V W : Type 0} → (V → W) → Result V ReadFault → Option W → Type 0
-Tells shown (Ok value) answer = Some (shown value) ≡ answer
-Tells shown (Err fault) answer = Faults fault answer
+abbrev pub TellsFound : {V W : Type 0} → (V → W) → Result V ReadFault → Option W → Type 0
+TellsFound shown (Ok value) answer = Some (shown value) ≡ answer
+TellsFound shown (Err fault) answer = Faults fault answer
 
 -- the value of the result is what the bytes are, and no value is where they are refused
 abbrev pub Reads : (ZoneValue → Type 0) → Result TzifZone ReadFault → Type 0

@@ -3,7 +3,7 @@ ghost use Rattle.std.specs.Prelude.{◌≡◌, ◌*◌, ◌≤◌, length, optio
 ghost use Rattle.zone_tzif_core.specs.Zones.{is_small};
 ghost use Rattle.zone_tzif_core.specs.Names.{AreNames};
 ghost use Rattle.zone_tzif_core.specs.Reading.{kind_in, kinds_in};
-ghost use Rattle.zone_tzif_core.specs.Shown.{kind_shown, record_shown, records_shown, Tells};
+ghost use Rattle.zone_tzif_core.specs.Shown.{kind_shown, record_shown, records_shown, TellsFound};
 
 use crate::names::name_at;
 use crate::numbers::signed_four;
@@ -67,7 +67,7 @@ fn kind<'a>(
 ) -> Result<Record<'a>, ReadFault>
     requires six { 6 ≤ length bytes.now }
     requires names { AreNames names.now table.now }
-    ensures { Tells record_shown result (kind_in names.now bytes.now) }
+    ensures { TellsFound record_shown result (kind_in names.now bytes.now) }
 {
     match read_record(names, table, bytes) {
         Some(record) => Ok(record),
@@ -86,7 +86,7 @@ pub(crate) fn read_kinds<'a>(
 ) -> Result<Vec<Record<'a>>, ReadFault>
     requires records { length records.now ≡ 6 * count }
     requires names { AreNames names.now table.now }
-    ensures { Tells (λ kinds. records_shown kinds.items) result (kinds_in names.now count records.now) }
+    ensures { TellsFound (λ kinds. records_shown kinds.items) result (kinds_in names.now count records.now) }
 {
     let mut kinds = Vec::new(alloc);
     for i in 0..count as usize {

@@ -2,7 +2,7 @@
 ghost use Rattle.std.specs.Prelude.{◌≡◌, ◌*◌, length, IfOk, string_bytes};
 ghost use Rattle.zone_tzif_core.specs.Denotes.{Denotes};
 ghost use Rattle.zone_tzif_core.specs.Reading.{zone_in, joined_in, parts_shown};
-ghost use Rattle.zone_tzif_core.specs.Shown.{record_shown, all_found, zone_shown, Tells, Reads};
+ghost use Rattle.zone_tzif_core.specs.Shown.{record_shown, all_found, zone_shown, TellsFound, Reads};
 
 use crate::kinds::{Record, owned, read_kinds};
 use crate::names::name_table;
@@ -32,7 +32,7 @@ fn owned_zone(
 fn joined(alloc: Global, parts: &Parts) -> Result<TzifZone, ReadFault>
     requires records { length parts.now.records.now ≡ 6 * parts.now.kinds }
     requires times { length parts.now.times.now ≡ 8 * length parts.now.numbers.now }
-    ensures { Tells zone_shown result (joined_in (parts_shown parts.now)) }
+    ensures { TellsFound zone_shown result (joined_in (parts_shown parts.now)) }
 {
     let table = name_table(alloc, parts.names)?;
     let kinds = read_kinds(
@@ -54,7 +54,7 @@ fn joined(alloc: Global, parts: &Parts) -> Result<TzifZone, ReadFault>
 /// The zone that a file is read as.
 #[tactic(auto, unfolding(crate::specs::Reading::zone_in))]
 fn read_file(alloc: Global, bytes: &[u8]) -> Result<TzifZone, ReadFault>
-    ensures { Tells zone_shown result (zone_in bytes.now) }
+    ensures { TellsFound zone_shown result (zone_in bytes.now) }
 {
     match cut_parts(bytes) {
         Some(parts) => joined(alloc, &parts),

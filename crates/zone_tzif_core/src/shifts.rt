@@ -2,7 +2,7 @@
 ghost use Rattle.std.specs.Prelude.{◌≡◌, ◌*◌, length, map, slice_get, int_lt, IfOk};
 ghost use Rattle.zone_tzif_core.specs.Zones.{go_up, rises};
 ghost use Rattle.zone_tzif_core.specs.Reading.{shifts_in};
-ghost use Rattle.zone_tzif_core.specs.Shown.{record_shown, records_shown, found_shown, all_found, shift_shown, shifts_shown, Tells};
+ghost use Rattle.zone_tzif_core.specs.Shown.{record_shown, records_shown, found_shown, all_found, shift_shown, shifts_shown, TellsFound};
 
 use crate::kinds::{Record, owned};
 use crate::numbers::signed_eight;
@@ -11,7 +11,7 @@ use std::alloc::{AllocError, Global};
 
 /// The kind with that number.
 pub(crate) fn numbered<'a>(kinds: &[Record<'a>], number: u8) -> Result<Record<'a>, ReadFault>
-    ensures { Tells record_shown result (slice_get (records_shown kinds.now) number) }
+    ensures { TellsFound record_shown result (slice_get (records_shown kinds.now) number) }
 {
     match kinds.get(number as usize) {
         Some(kind) => Ok(*kind),
@@ -27,7 +27,7 @@ pub(crate) fn read_shifts<'a>(
     numbers: &[u8],
 ) -> Result<Vec<(i64, Record<'a>)>, ReadFault>
     requires { length times.now ≡ 8 * length numbers.now }
-    ensures { Tells (λ shifts. all_found shifts.items) result (shifts_in (records_shown kinds.now) times.now numbers.now) }
+    ensures { TellsFound (λ shifts. all_found shifts.items) result (shifts_in (records_shown kinds.now) times.now numbers.now) }
 {
     let mut shifts = Vec::new(alloc);
     for (i, number) in numbers.iter().enumerate() {

@@ -8,7 +8,7 @@ use Rattle.zone_spans.specs.Schedules.{total_at as set_total_at, last_total}
 use Rattle.zone_spans.specs.declared.span.FixedTimespan.{FixedTimespan}
 use Rattle.tz_zone.specs.Sets.{schedule_of, shift_of}
 use Rattle.tz_zone.specs.declared.set.FixedTimespanSet.{FixedTimespanSet}
-use Rattle.zone_tzif_core.specs.Totals.{total_at, last_kind}
+use Rattle.zone_tzif_core.specs.Totals.{file_total_at, last_kind}
 use Rattle.zone_tzif_core.specs.Zones.{KindValue, ZoneValue}
 use Rattle.zone_tzif_set.specs.Values.{kind_of, change_of, value_of}
 
@@ -29,8 +29,8 @@ same_last t first (entry ∷ entries) = by_test (int_le (entry.0 *ℤ pos 100000
     by_test true before from = from
     by_test false before from = before
 
-pub totals_kept : (set : FixedTimespanSet) (footer : List ℕ) (t : ℤ) → total_at (value_of set footer) t ≡ set_total_at (schedule_of set) t
-unfolding total_at set_total_at value_of
+pub totals_kept : (set : FixedTimespanSet) (footer : List ℕ) (t : ℤ) → file_total_at (value_of set footer) t ≡ set_total_at (schedule_of set) t
+unfolding file_total_at set_total_at value_of
 totals_kept set footer t = same_last t set.first set.others
 
 -- the offsets of an accepted set

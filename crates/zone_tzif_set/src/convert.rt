@@ -6,7 +6,7 @@ ghost use Rattle.zone_spans.specs.Entries.{total};
 ghost use Rattle.zone_spans.specs.Schedules.{total_at as set_total_at};
 ghost use Rattle.tz_zone.specs.Sets.{schedule_of, IsAccepted};
 ghost use Rattle.zone_tzif_core.specs.Shown.{kind_shown, shift_shown, shifts_shown, zone_shown};
-ghost use Rattle.zone_tzif_core.specs.Totals.{total_at};
+ghost use Rattle.zone_tzif_core.specs.Totals.{file_total_at};
 ghost use Rattle.zone_tzif_core.specs.Tzif.{IsValue};
 ghost use Rattle.zone_tzif_set.specs.Values.{kind_of, change_of, value_of};
 
@@ -62,7 +62,7 @@ pub fn from_set(alloc: Global, set: &FixedTimespanSet, footer: &str) -> Result<T
     requires { IsAccepted (schedule_of set.now) }
     ensures value { IfOk result (λ zone. zone_shown zone ≡ value_of set.now footer.now) }
     ensures typed { IfOk result (λ zone. IsValue (zone_shown zone)) }
-    ensures totals { IfOk result (λ zone. (t : ℤ) → total_at (zone_shown zone) t ≡ set_total_at (schedule_of set.now) t) }
+    ensures totals { IfOk result (λ zone. (t : ℤ) → file_total_at (zone_shown zone) t ≡ set_total_at (schedule_of set.now) t) }
 {
     Ok(TzifZone {
         first: kind_of(alloc, &set.first)?,

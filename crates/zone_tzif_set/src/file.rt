@@ -7,7 +7,7 @@ ghost use Rattle.zone_tail_core.specs.Found.{found_from};
 ghost use Rattle.zone_tail_core.specs.Tails.{tail_fault};
 ghost use Rattle.zone_tzif_core.specs.Denotes.{Denotes};
 ghost use Rattle.zone_tzif_core.specs.Shown.{zone_shown};
-ghost use Rattle.zone_tzif_core.specs.Totals.{total_at};
+ghost use Rattle.zone_tzif_core.specs.Totals.{file_total_at};
 ghost use Rattle.zone_tzif_core.specs.Tzif.{IsTzif};
 ghost use Rattle.zone_tzif_core.specs.Zones.{ZoneValue};
 ghost use Rattle.zone_tzif_set.specs.Files.{footer_of, zone_of, file_fault, Makes};
@@ -81,7 +81,7 @@ pub fn tzif_of(alloc: Global, set: &FixedTimespanSet) -> Result<Vec<u8>, FileFau
     requires { IsAccepted (schedule_of set.now) }
     ensures told { Makes (λ file. file.items) set.now result }
     ensures file { IfOk result (λ file. IsTzif file.items (zone_of set.now)) }
-    ensures totals { IfOk result (λ file. (zone : ZoneValue) → Denotes file.items zone → (t : ℤ) → total_at zone t ≡ set_total_at (schedule_of set.now) t) }
+    ensures totals { IfOk result (λ file. (zone : ZoneValue) → Denotes file.items zone → (t : ℤ) → file_total_at zone t ≡ set_total_at (schedule_of set.now) t) }
     ensures carried { IfOk result (λ file. tail_fault set.now ≡ None → CarriesOn set.now (found_from set.now) (footer_of set.now)) }
 {
     few_causes();

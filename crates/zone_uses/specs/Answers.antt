@@ -5,7 +5,7 @@ use Rattle.tz_posix_core.specs.PosixShown.{posix_of}
 use Rattle.tz_posix_core.specs.PosixZones.{GivesTotal}
 use Rattle.tz_posix_core.specs.declared.posix.PosixTz.{PosixTz}
 use Rattle.tz_zone.specs.declared.set.FixedTimespanSet.{FixedTimespanSet}
-use Rattle.tz_tzif.specs.InForce.{total_at}
+use Rattle.tz_tzif.specs.InForce.{told_total_at}
 use Rattle.tz_tzif.specs.Zones.{value_of, says_of}
 use Rattle.tz_tzif.specs.declared.zone.TzifTz.{TzifTz}
 use Rattle.zone_tzif_core.specs.Denotes.{Denotes}
@@ -28,4 +28,4 @@ pub record IsGivenByFile (bytes : List ℕ) (t total : ℤ) : Type 0 where
   pub zone : TzifTz
   pub is_file : Denotes bytes value
   pub is_zone : value_of zone ≡ value
-  pub is : total ≡ total_at (value_of zone) (says_of zone) t
+  pub is : total ≡ told_total_at (value_of zone) (says_of zone) t

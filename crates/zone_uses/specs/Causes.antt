@@ -9,7 +9,7 @@ use Rattle.tz_posix_core.specs.PosixZones.{posix_refusal}
 use Rattle.tz_posix_core.specs.declared.error.Error as range
 use Rattle.tz_posix_core.specs.declared.error.ParseError.{ParseError}
 use Rattle.tz_posix_core.specs.declared.posix.PosixTz.{PosixTz}
-use Rattle.tz_tzif.specs.Faults.{IsFault}
+use Rattle.tz_tzif.specs.Faults.{IsTzifFault}
 use Rattle.tz_tzif.specs.declared.fault.TzifFault.{TzifFault}
 use Rattle.tz_zone.specs.Compiles.{compiled_in, IsZoneFault}
 use Rattle.tz_zone.specs.declared.compile.ZoneFault.{ZoneFault}
@@ -52,7 +52,7 @@ IsAlarmCause first days _ = ⊥
 pub record IsNoFileZone (bytes : List ℕ) (fault : TzifFault) : Type 0 where
   pub value : ZoneValue
   pub is_file : Denotes bytes value
-  pub cause : IsFault value fault
+  pub cause : IsTzifFault value fault
 
 -- why bytes have no zone: they are no file, or its zone can't be asked; or memory ran out
 abbrev pub IsFileCause : List ℕ → Error → Type 0

@@ -1,6 +1,6 @@
 //! Times and offsets at the front of a text.
 ghost use Rattle.std.specs.Prelude.{◌≡◌};
-ghost use Rattle.tz_posix_core.specs.Reading.{read_as, part_at, time_at, sign_at, offset_at};
+ghost use Rattle.tz_posix_core.specs.Reading.{read_as, part_at, clock_time_at, sign_at, offset_at};
 
 use crate::read::numbers::{after_mark, small_number};
 use crate::time::{Offset, Time};
@@ -20,9 +20,9 @@ fn part(text: &str) -> Option<(Option<u8>, &str)>
 }
 
 /// A time at the front, and the rest.
-#[tactic(auto, unfolding(crate::specs::Reading::time_at))]
+#[tactic(auto, unfolding(crate::specs::Reading::clock_time_at))]
 pub(crate) fn time(text: &str) -> Option<(Time, &str)>
-    ensures { read_as (λ t. t) result ≡ time_at text.now }
+    ensures { read_as (λ t. t) result ≡ clock_time_at text.now }
 {
     let (hh, rest) = small_number(text)?;
     let (mm, rest) = part(rest)?;

@@ -1,5 +1,5 @@
 use Rattle.std.proofs.Common.{cond, None, Some, sym, ap, ◌∙◌}
-use Rattle.tz_tzif.specs.InForce.{total_at}
+use Rattle.tz_tzif.specs.InForce.{told_total_at}
 use Rattle.tz_tzif.specs.Zones.{value_of, says_of}
 use Rattle.zone_file_answers.specs.Asked.{asked}
 use Rattle.zone_file_answers.specs.Faults.{range}
@@ -21,7 +21,7 @@ returns-in-Ok-true-clause-accepted c =
     let text = c.in-Some.ensures.text in
     let request = c.in-Some-read.request in
     let reads = asks request_of c.args.line.now c.in-Some.asked.now (asked request) text.1 text.0 c.in-Some-read.ensures in
-    refusal_is (total_at (value_of c.args.zone.now) (says_of c.args.zone.now)) c.args.number c.args.line.now (asked request) reads
+    refusal_is (told_total_at (value_of c.args.zone.now) (says_of c.args.zone.now)) c.args.number c.args.line.now (asked request) reads
     ∙ ap (λ b. cond b None (Some (range c.args.number))) (sym c.in-Ok-true.ensures.dates ∙ c.in-Ok-true.field-0-test)
 
 pub returns-in-Ok-true-clause-text : goal.returns-in-Ok-true-clause-text
@@ -30,12 +30,12 @@ returns-in-Ok-true-clause-text c =
     let request = c.in-Some-read.request in
     let reads = asks request_of c.args.line.now c.in-Some.asked.now (asked request) text.1 text.0 c.in-Some-read.ensures in
     c.in-Ok-true.ensures.line c.in-Ok-true.field-0-test
-    ∙ sym (line_is (total_at (value_of c.args.zone.now) (says_of c.args.zone.now)) c.args.line.now (asked request) reads)
+    ∙ sym (line_is (told_total_at (value_of c.args.zone.now) (says_of c.args.zone.now)) c.args.line.now (asked request) reads)
 
 pub returns-in-Ok-false-clause-err : goal.returns-in-Ok-false-clause-err
 returns-in-Ok-false-clause-err c =
     let text = c.in-Some.ensures.text in
     let request = c.in-Some-read.request in
     let reads = asks request_of c.args.line.now c.in-Some.asked.now (asked request) text.1 text.0 c.in-Some-read.ensures in
-    refusal_is (total_at (value_of c.args.zone.now) (says_of c.args.zone.now)) c.args.number c.args.line.now (asked request) reads
+    refusal_is (told_total_at (value_of c.args.zone.now) (says_of c.args.zone.now)) c.args.number c.args.line.now (asked request) reads
     ∙ ap (λ b. cond b None (Some (range c.args.number))) (sym c.in-Ok-false.ensures.dates ∙ c.in-Ok-false.field-0-test)

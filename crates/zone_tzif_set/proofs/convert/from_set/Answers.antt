@@ -3,7 +3,7 @@ use Rattle.std.proofs.lemmas.Bool.{and_parts}
 use Rattle.std.specs.List.{list_all}
 use Rattle.civil_base.specs.Ranges.{is_offset}
 use Rattle.zone_spans.specs.Entries.{Entry, total}
-use Rattle.zone_tzif_core.specs.Totals.{total_at}
+use Rattle.zone_tzif_core.specs.Totals.{file_total_at}
 use Rattle.zone_tzif_set.specs.Values.{change_of}
 use Rattle.zone_tzif_set.proofs.TotalLemmas.{entries_small, parts_are, totals_kept}
 use Rattle.zone_tzif_set.proofs.ValueLemmas.{value_is}
@@ -25,4 +25,4 @@ returns-clause-typed c =
 pub returns-clause-totals : goal.returns-clause-totals
 returns-clause-totals c =
     let value = parts_are c.args.set.now c.args.footer.now _ _ _ c.in_ok-kind_of.ensures (c.in_ok-changes_of.ensures ∙ ap (map change_of) c.as_slice.ensures) c.in_ok-from_str.ensures.ok in
-    λ t. ap (λ z. total_at z t) value ∙ totals_kept c.args.set.now c.args.footer.now t
+    λ t. ap (λ z. file_total_at z t) value ∙ totals_kept c.args.set.now c.args.footer.now t

@@ -1,5 +1,5 @@
 use Rattle.civil_base.specs.DateTimes.{instant}
-use Rattle.tz_tzif.specs.InForce.{total_at}
+use Rattle.tz_tzif.specs.InForce.{told_total_at}
 use Rattle.zone_open.specs.Answered.{IsInForce}
 use Rattle.zone_open.specs.Files.{given_at}
 use Rattle.zone_open.proofs.FileLemmas.{lent}
@@ -8,5 +8,5 @@ use Rattle.zone_open.proofs.file.FileZone.in_force.Goals as goal
 pub returns : goal.returns
 returns c =
     lent c.args.self.now c.zone.result c.zone.ensures
-    (λ value footer. IsInForce (total_at value footer) (given_at value footer) (instant c.args.at.now) c.in_force.result c.args.room.now c.in_force.new.room)
+    (λ value footer. IsInForce (told_total_at value footer) (given_at value footer) (instant c.args.at.now) c.in_force.result c.args.room.now c.in_force.new.room)
     (record { offset = c.in_force.ensures.offset; named = c.in_force.ensures.name })

@@ -1,4 +1,4 @@
-use Rattle.tz_tzif.specs.InForce.{total_at}
+use Rattle.tz_tzif.specs.InForce.{told_total_at}
 use Rattle.zone_open.specs.Answered.{AreReadings}
 use Rattle.zone_open.proofs.FileLemmas.{lent}
 use Rattle.zone_open.proofs.file.FileZone.readings.Goals as goal
@@ -6,5 +6,5 @@ use Rattle.zone_open.proofs.file.FileZone.readings.Goals as goal
 pub returns-clause-answer : goal.returns-clause-answer
 returns-clause-answer c =
     lent c.args.self.now c.zone.result c.zone.ensures
-    (λ value footer. AreReadings (total_at value footer) c.args.local.now c.args.room.now c.lent_readings.new.room c.lent_readings.result c.lent_readings.new.gap)
+    (λ value footer. AreReadings (told_total_at value footer) c.args.local.now c.args.room.now c.lent_readings.new.room c.lent_readings.result c.lent_readings.new.gap)
     c.lent_readings.ensures.answer

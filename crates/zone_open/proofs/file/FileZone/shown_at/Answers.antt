@@ -1,10 +1,10 @@
 use Rattle.civil_base.specs.DateTimes.{instant}
-use Rattle.tz_tzif.specs.InForce.{total_at}
+use Rattle.tz_tzif.specs.InForce.{told_total_at}
 use Rattle.zone_open.specs.Answered.{IsShown}
 use Rattle.zone_open.proofs.FileLemmas.{lent}
 use Rattle.zone_open.proofs.file.FileZone.shown_at.Goals as goal
 
 pub returns : goal.returns
 returns c =
-    lent c.args.self.now c.zone.result c.zone.ensures (λ value footer. IsShown (total_at value footer) (instant c.args.at.now) c.to_timezone.result)
+    lent c.args.self.now c.zone.result c.zone.ensures (λ value footer. IsShown (told_total_at value footer) (instant c.args.at.now) c.to_timezone.result)
     (record { shown = c.to_timezone.ensures.shown; years = c.to_timezone.ensures.years })
