@@ -13,13 +13,14 @@ use Rattle.zone_open.specs.declared.source.OpenSource.{OpenSource}
 use Rattle.sefunjaro_handles.specs.Statuses.{too_long}
 use Rattle.sefunjaro_c.specs.AnySources.{any_due, any_told, form_due, IsAnySourceOf}
 use Rattle.sefunjaro_c.specs.Faults.{fault_told, plain, told_or_memory, IsRefused}
-use Rattle.sefunjaro_c.proofs.FaultLemmas.{less, not_less, told_positive}
+use Rattle.std.proofs.lemmas.Bool.{lt-ltb, le-ltb}
+use Rattle.sefunjaro_c.proofs.FaultLemmas.{told_positive}
 
 -- of a text that isn't too long what its plain form is due
 form_is : (text : List ℕ) (found : Result (List ℕ) Refusal) → length text ≤ 16777216 → plain_of text ≡ found → any_due text ≡ form_due found
 unfolding any_due
 form_is text found h e =
-    ap (λ b. cond b (Some (plain too_long)) (form_due (plain_of text))) (not_less 16777216 (length text) h) ∙ ap form_due e
+    ap (λ b. cond b (Some (plain too_long)) (form_due (plain_of text))) (le-ltb 16777216 (length text) h) ∙ ap form_due e
 
 told_refused : (text form : List ℕ) (found : Option SourceFault) → length text ≤ 16777216 → plain_of text ≡ Ok form → source_fault form ≡ found
     → IsRefused (any_due text) (told_or_memory found)
@@ -30,7 +31,7 @@ told_refused text form (Some fault) h e f =
 pub any_refused : (text : List ℕ) (fault : AnySourceFault) → IsAnyFault text fault → IsRefused (any_due text) (any_told fault)
 unfolding any_due
 any_refused text opening.TooLong h = record {
-  told = inr (ap (λ b. cond b (Some (plain too_long)) (form_due (plain_of text))) (less 16777216 (length text) h));
+  told = inr (ap (λ b. cond b (Some (plain too_long)) (form_due (plain_of text))) (lt-ltb 16777216 (length text) h));
   refused = omega arith;
 }
 any_refused text (opening.Line n c) h = record { told = inr (form_is text (Err (bad_line (at n c))) h.0 h.1); refused = omega arith }

@@ -1,5 +1,6 @@
 -- What is refused, and what is opened.
-use Rattle.std.proofs.Common.{◌≡◌, ◌<◌, ◌≤◌, ℕ, true, false, cond, List, length, nat_lt, inl, inr, refl, sym, ap, ◌∙◌, subst, arith}
+use Rattle.std.proofs.Common.{◌≡◌, ◌<◌, ◌≤◌, ℕ, true, false, cond, List, length, inl, inr, refl, sym, ap, ◌∙◌, subst, arith}
+use Rattle.std.proofs.lemmas.Bool.{lt-ltb, le-ltb}
 use Rattle.std.specs.Prelude.{Option, Some, None, option_map}
 use Rattle.std.specs.Str.{is_utf8}
 use Rattle.zone_source.specs.Faults.{SourceFault, source_fault}
@@ -20,12 +21,6 @@ use Rattle.sefunjaro_handles.specs.declared.opened.Opened.{Opened}
 use Rattle.sefunjaro_handles.specs.declared.opened.Opened.TheVariants.{Source, Zone}
 use Rattle.sefunjaro_c.specs.Faults.{fault_told, told_or_memory, opening_told, zone_told, plain, source_due, zone_due, IsRefused}
 
-pub less : (a b : ℕ) → a < b → nat_lt a b ≡ true
-less a b h = grind arith
-
-pub not_less : (a b : ℕ) → b ≤ a → nat_lt a b ≡ false
-not_less a b h = grind arith
-
 pub told_positive : (fault : SourceFault) → 0 < (fault_told fault).status
 told_positive (source.not_text n) = omega arith
 told_positive (source.bad_line n fault) = omega arith
@@ -36,7 +31,7 @@ short_due : (text : List ℕ) (found : Option SourceFault) → length text ≤ 1
     → source_due text ≡ option_map fault_told found
 unfolding source_due
 short_due text found h e =
-    ap (λ b. cond b (Some (plain too_long)) (option_map fault_told (source_fault text))) (not_less 16777216 (length text) h)
+    ap (λ b. cond b (Some (plain too_long)) (option_map fault_told (source_fault text))) (le-ltb 16777216 (length text) h)
     ∙ ap (option_map fault_told) e
 
 pub none_due : (text : List ℕ) → length text ≤ 16777216 → source_fault text ≡ None → source_due text ≡ None
@@ -50,7 +45,7 @@ told_refused text (Some fault) h e = record { told = inr (short_due text (Some f
 pub source_refused : (text : List ℕ) (fault : OpenFault) → IsOpenFault text fault → IsRefused (source_due text) (opening_told fault)
 unfolding source_due
 source_refused text opening.TooLong h = record {
-  told = inr (ap (λ b. cond b (Some (plain too_long)) (option_map fault_told (source_fault text))) (less 16777216 (length text) h));
+  told = inr (ap (λ b. cond b (Some (plain too_long)) (option_map fault_told (source_fault text))) (lt-ltb 16777216 (length text) h));
   refused = omega arith;
 }
 source_refused text (opening.Source error) h = told_refused text (told_by_source error) h.0 h.1.first

@@ -10,7 +10,8 @@ use Rattle.std.specs.declared.cmp.Ordering.{Ordering}
 use Rattle.std.specs.declared.cmp.Ordering.TheVariants.{Less, Equal, Greater}
 use Rattle.std.specs.Cmp.{nat_cmp_is}
 use Rattle.std.proofs.lemmas.Cmp.{nat_list_cmp_total}
-use Rattle.std.proofs.lemmas.Bool.{and_parts}
+use Rattle.std.proofs.Math.Bool.{or-false}
+use Rattle.std.proofs.lemmas.Bool.{and_parts, false_from_ne_true}
 use Rattle.std.proofs.lemmas.Bool.Decides.{Decides-eqb}
 use Rattle.std.proofs.lemmas.Slice.Eq.{starts_is}
 use Rattle.owned.specs.InOrderLaws.{RisesStrictly, tagged, less}
@@ -51,14 +52,10 @@ between (c ∷ front) rest (d ∷ name) low high = by_byte (nat_cmp d c) refl (b
         (ap (λ o. ordering_then o (text_cmp name (front ++ rest))) (sym e) ∙ high) in
         has_front (d ∷ name) (c ∷ front) (drop (length front) name) (λ i. nat_cmp-IsAntisymmetric d c e i ∷ front_of name front begun i)
 
-is_false : (b : Bool) → (b ≡ true → ⊥) → b ≡ false
-is_false true h = elim (h refl) [ ]
-is_false false h = refl
-
 -- what is less than a front doesn't begin with it
 less_not : (name front : List ℕ) → is_lt (text_cmp name front) ≡ true → begins front name ≡ false
 less_not name front low =
-    is_false (begins front name) (λ b.
+    false_from_ne_true (begins front name) (λ b.
     let e = front_of name front b in
     let n = ap (λ x. is_lt (text_cmp x front)) e ∙ no_less front (drop (length front) name) in absurd (cc))
 
@@ -66,7 +63,7 @@ less_not name front low =
 past_not : (front name other : List ℕ) → is_lt (text_cmp name front) ≡ false → begins front name ≡ false → text_cmp name other ≡ Less
     → begins front other ≡ false
 past_not front name other low other_front high =
-    is_false (begins front other) (λ b.
+    false_from_ne_true (begins front other) (λ b.
     let e = front_of other front b in
     let yes = between front (drop (length front) other) name low (ap (text_cmp name) (sym e) ∙ high) in absurd (cc))
 
@@ -79,10 +76,6 @@ none_past front name (other ∷ names) low differs above =
 
 abbrev pub is_below : List ℕ → List ℕ → Bool
 is_below front name = is_lt (text_cmp name front)
-
-or_false : (b : Bool) → (b || false) ≡ b
-or_false true = refl
-or_false false = refl
 
 -- the name at a later place is greater
 below_at : {X : Type 0} (f : X → List ℕ) (x : X) (xs : List X) (j : ℕ) (d : X) → below_all text_cmp (f x) (tagged (map f xs)) ≡ true
@@ -113,7 +106,7 @@ first_decides f front (x ∷ xs) zero up at = by_first (begins front (f x)) refl
     by_first : (b : Bool) → begins front (f x) ≡ b → begins front (f x) ≡ (begins front (f x) || list_any (begins front) (map f xs))
     by_first true e = e ∙ ap (λ b. b || list_any (begins front) (map f xs)) (sym e)
     by_first false e =
-        sym (or_false (begins front (f x)))
+        sym (or-false (begins front (f x)))
         ∙ ap (λ b. begins front (f x) || b)
         (sym (none_past front (f x) (map f xs) (at.1 0 x (omega arith) (omega arith)) e
         (and_parts (below_all text_cmp (f x) (tagged (map f xs))) _ up).0))

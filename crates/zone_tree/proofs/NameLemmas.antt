@@ -9,6 +9,7 @@ use Rattle.std.proofs.lemmas.Cmp.{nat_list_cmp_total}
 use Rattle.std.proofs.lemmas.List.Folds.{list_any-append}
 use Rattle.std.proofs.lemmas.Map.Text.{is_eq-slice_cmp}
 use Rattle.std.proofs.lemmas.Slice.Eq.{bytes_eq-Decides}
+use Rattle.std.proofs.Math.Bool.{and-false}
 use Rattle.std.proofs.lemmas.Bool.{or_right, or_left}
 use Rattle.owned.specs.InOrder.{in_order}
 use Rattle.owned.specs.InOrderLaws.{RisesStrictly, same_rising, any-in_order, sorted_in_order, rises_from_sorted}
@@ -66,11 +67,7 @@ one_kept p q x xs more = step (eq_by_cmp text_cmp q x) refl
 
 pub kept_any : (p : List ℕ → Bool) (q : List ℕ) (xs : List (List ℕ))
     → list_any (eq_by_cmp text_cmp q) (filter p xs) ≡ (p q && list_any (eq_by_cmp text_cmp q) xs)
-kept_any p q [] = by_front (p q)
-  where
-    by_front : (b : Bool) → false ≡ (b && false)
-    by_front true = refl
-    by_front false = refl
+kept_any p q [] = sym (and-false (p q))
 kept_any p q (x ∷ xs) = one_kept p q x xs (kept_any p q xs)
 
 -- where what passes is among the names, what is kept holds exactly what passes

@@ -1,5 +1,5 @@
 use Rattle.std.proofs.lemmas.Str.Pattern.{strip_prefix_char}
-use Rattle.zone_values.specs.MarkLaws.{stripped}
+use Rattle.tz_posix_core.proofs.RunLemmas.{stripped}
 use Rattle.tz_posix_core.proofs.read.numbers.after_mark.Goals as goal
 
 pub returns : goal.returns
