@@ -1,35 +1,15 @@
 -- Pairs, each once, and their numbers.
-use Rattle.std.proofs.Common.{◌≡◌, ◌+◌, ℤ, Bool, true, false, cond, not, List, [], ◌∷◌, ◌++◌, map, refl, ap, ◌∙◌, arith}
-use Rattle.std.specs.Prelude.{◌||◌, ◌&&◌, bytes_eq}
+use Rattle.std.proofs.Common.{◌≡◌, ◌+◌, Bool, true, false, cond, not, List, [], ◌∷◌, ◌++◌, map, refl, ap, ◌∙◌}
+use Rattle.std.specs.Prelude.{◌||◌}
 use Rattle.std.specs.List.{list_any, position_or_len}
-use Rattle.std.specs.Ordering.{int_eq}
-use Rattle.std.proofs.lemmas.Bool.{and_parts}
-use Rattle.std.proofs.lemmas.Int.{ints}
 use Rattle.std.proofs.lemmas.List.{map-append}
-use Rattle.std.proofs.lemmas.Slice.Eq.{bytes_eq-Decides}
 use Rattle.indexmap.specs.IndexSet.{insert_key}
 use Rattle.zone_values.specs.Values.{LineValue}
-use Rattle.zone_plain_offsets.specs.Pairs.{Pair, Asked, nothing, total, under, asked, is_same, with_pair, number_of, joined_by, pairs_from}
+use Rattle.zone_plain_offsets.specs.PairLaws.{pair_itself, among_joined}
+use Rattle.zone_plain_offsets.specs.Pairs.{Pair, Asked, nothing, total, under, asked, is_same, is_among, with_pair, number_of, joined_by, pairs_from}
 use Rattle.zone_plain_offsets.specs.Shown.{pair_shown}
 use Rattle.zone_plain_offsets.specs.declared.pairs.Pair as code
 use Rattle.zone_plain_offsets.specs.contracts.pairs.PairPartialEq.TheImpl as same
-
-same_number : (a b : ℤ) → int_eq a b ≡ true → a ≡ b
-same_number a b h = grind (arith, ints)
-
-number_itself : (a : ℤ) → int_eq a a ≡ true
-number_itself a = grind (arith, ints)
-
--- two pairs that are the same are one
-pub same_pair : (a b : Pair) → is_same a b ≡ true → a ≡ b
-same_pair a b h =
-    let both = and_parts (int_eq a.offset b.offset) (bytes_eq a.rules b.rules) h in
-    let offset = same_number a.offset b.offset both.0 in
-    let rules = (bytes_eq-Decides a.rules b.rules).0 both.1 in
-    (λ i. record { rules = rules i; offset = offset i })
-
-pair_itself : (a : Pair) → is_same a a ≡ true
-pair_itself a = (λ i. number_itself a.offset i && (bytes_eq-Decides a.rules a.rules).1 refl i)
 
 same_shown : (a b : code.Pair) → same.ghosts.eq a b ≡ is_same (pair_shown a) (pair_shown b)
 same_shown a b = refl
@@ -52,10 +32,6 @@ shown_insert pairs pair =
     by_test true = refl
     by_test false = map-append pair_shown pairs (pair ∷ [])
 
--- the pair is one of these
-abbrev pub is_among : Pair → List Pair → Bool
-is_among pair pairs = list_any (is_same pair) pairs
-
 -- one that is among them keeps its number
 stays : (pairs more : List Pair) (pair : Pair) → is_among pair pairs ≡ true → number_of (pairs ++ more) pair ≡ number_of pairs pair
 stays [] more pair e = absurd (cc)
@@ -65,24 +41,6 @@ stays (p ∷ pairs) more pair e = here (is_same pair p) e (λ in_rest. stays pai
         → cond (not b) (1 + number_of (pairs ++ more) pair) 0 ≡ cond (not b) (1 + number_of pairs pair) 0
     here true e rest = refl
     here false e rest = ap (λ n. 1 + n) (rest e)
-
--- and is among more
-among_more : (pairs more : List Pair) (pair : Pair) → is_among pair pairs ≡ true → is_among pair (pairs ++ more) ≡ true
-among_more [] more pair e = absurd (cc)
-among_more (p ∷ pairs) more pair e = here (is_same pair p) e (λ in_rest. among_more pairs more pair in_rest)
-  where
-    here : (b : Bool) → (b || is_among pair pairs) ≡ true → (is_among pair pairs ≡ true → is_among pair (pairs ++ more) ≡ true)
-        → (b || is_among pair (pairs ++ more)) ≡ true
-    here true e rest = refl
-    here false e rest = rest e
-
-added : (pairs : List Pair) (pair : Pair) → is_among pair (pairs ++ pair ∷ []) ≡ true
-added [] pair = ap (λ b. b || false) (pair_itself pair)
-added (p ∷ pairs) pair = here (is_same pair p) (added pairs pair)
-  where
-    here : (b : Bool) → is_among pair (pairs ++ pair ∷ []) ≡ true → (b || is_among pair (pairs ++ pair ∷ [])) ≡ true
-    here true rest = refl
-    here false rest = rest
 
 -- the number of one that is added is that of the place past the last
 last_number : (pairs : List Pair) (pair : Pair) → is_among pair pairs ≡ false → number_of (pairs ++ pair ∷ []) pair ≡ number_of pairs pair
@@ -101,26 +59,17 @@ number_with pairs pair = by_test (is_among pair pairs) refl
     by_test true e = refl
     by_test false e = last_number pairs pair e
 
-pub among_with : (pairs : List Pair) (pair : Pair) → is_among pair (with_pair pairs pair) ≡ true
-among_with pairs pair = by_test (is_among pair pairs) refl
+number_with_more : (pairs : List Pair) (more pair : Pair) → is_among pair pairs ≡ true → number_of (with_pair pairs more) pair ≡ number_of pairs pair
+number_with_more pairs more pair e = by_test (is_among more pairs)
   where
-    by_test : (b : Bool) → is_among pair pairs ≡ b → is_among pair (cond b pairs (pairs ++ pair ∷ [])) ≡ true
-    by_test true e = e
-    by_test false e = added pairs pair
+    by_test : (b : Bool) → number_of (cond b pairs (pairs ++ more ∷ [])) pair ≡ number_of pairs pair
+    by_test true = refl
+    by_test false = stays pairs (more ∷ []) pair e
 
-kept_with : (pairs : List Pair) (more pair : Pair) → is_among pair pairs ≡ true
-    → (is_among pair (with_pair pairs more) ≡ true) × (number_of (with_pair pairs more) pair ≡ number_of pairs pair)
-kept_with pairs more pair e = by_test (is_among more pairs)
-  where
-    by_test : (b : Bool) → (is_among pair (cond b pairs (pairs ++ more ∷ [])) ≡ true) × (number_of (cond b pairs (pairs ++ more ∷ [])) pair ≡ number_of pairs pair)
-    by_test true = (e, refl)
-    by_test false = (among_more pairs (more ∷ []) pair e, stays pairs (more ∷ []) pair e)
-
-kept : (a : Asked) (pairs : List Pair) (pair : Pair) → is_among pair pairs ≡ true
-    → (is_among pair (joined_by a pairs) ≡ true) × (number_of (joined_by a pairs) pair ≡ number_of pairs pair)
-kept nothing pairs pair e = (e, refl)
-kept (total parts t) pairs pair e = (e, refl)
-kept (under parts more) pairs pair e = kept_with pairs more pair e
+number_joined : (a : Asked) (pairs : List Pair) (pair : Pair) → is_among pair pairs ≡ true → number_of (joined_by a pairs) pair ≡ number_of pairs pair
+number_joined nothing pairs pair e = refl
+number_joined (total parts t) pairs pair e = refl
+number_joined (under parts more) pairs pair e = number_with_more pairs more pair e
 
 -- a pair that is among them has its number for good
 pub number_kept : (values : List LineValue) (pairs : List Pair) (pair : Pair) → is_among pair pairs ≡ true
@@ -128,5 +77,4 @@ pub number_kept : (values : List LineValue) (pairs : List Pair) (pair : Pair) �
 unfolding pairs_from
 number_kept [] pairs pair e = refl
 number_kept (v ∷ values) pairs pair e =
-    let now = kept (asked v) pairs pair e in
-    number_kept values (joined_by (asked v) pairs) pair now.0 ∙ now.1
+    number_kept values (joined_by (asked v) pairs) pair (among_joined pair (asked v) pairs e) ∙ number_joined (asked v) pairs pair e

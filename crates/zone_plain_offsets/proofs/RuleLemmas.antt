@@ -1,15 +1,14 @@
 -- What was added of a rule, of a ruleset and of a line.
-use Rattle.std.proofs.Common.{◌≡◌, ℕ, ℤ, Bool, true, false, not, cond, List, [], ◌∷◌, ◌++◌, map, Some, None, refl, sym, ap, ◌∙◌, subst, append-nil}
+use Rattle.std.proofs.Common.{◌≡◌, ℕ, ℤ, Bool, true, false, not, cond, List, [], ◌∷◌, ◌++◌, Some, None, refl, sym, ap, ◌∙◌, subst, append-nil}
 use Rattle.std.specs.Prelude.{◌&&◌, if◌then◌else◌}
 use Rattle.zone_plain_text.specs.PlainTexts.{plain_text}
 use Rattle.zone_values.specs.Values.{RuleValue, LineValue, rule}
 use Rattle.zone_plain_base.specs.Said.{is_said}
 use Rattle.zone_plain_offsets.specs.Formats.{Around}
 use Rattle.zone_plain_offsets.specs.OffsetTexts.{offset_text, has_text}
-use Rattle.zone_plain_offsets.specs.Pairs.{Pair, with_pair}
+use Rattle.zone_plain_offsets.specs.Pairs.{Pair, is_among, with_pair}
 use Rattle.zone_plain_offsets.specs.Made.{total_of, renamed, made_rule, is_rule_said, rules_for, are_rules_said, with_format, around_text, named_in}
 use Rattle.zone_plain_offsets.specs.Told.{IsAdded, AreAdded, new_rules, are_new_said}
-use Rattle.zone_plain_offsets.proofs.PairLemmas.{is_among}
 
 -- a total that has no text, and one that has one
 pub no_total : (t : ℤ) → None ≡ (if has_text t then Some t else None) → has_text t ≡ false

@@ -1,10 +1,11 @@
 -- The lines so far, and those that are left.
 use Rattle.std.proofs.Common.{◌≡◌, ℕ, suc, ◌+◌, Bool, true, false, cond, not, nat_lt, List, [], ◌∷◌, ◌++◌, length, map, inl, inr, Some, None, Ok, Err, get_or, drop, ◌<◌, ◌≤◌, subst, refl, sym, ap, ◌∙◌, append_assoc, append-nil, arith}
-use Rattle.std.specs.Prelude.{◌||◌, ◌&&◌, ◌⊎◌, flat_map}
+use Rattle.std.specs.Prelude.{◌&&◌, ◌⊎◌, flat_map}
 use Rattle.zone_source.specs.Zones.{source_value}
 use Rattle.std.specs.List.{sum_by}
 use Rattle.std.proofs.Math.Seq.{drop-append_seam}
-use Rattle.std.proofs.lemmas.Bool.{ltb-false}
+use Rattle.std.proofs.lemmas.Bool.{and_parts, ltb-false, or_cases}
+use Rattle.std.proofs.lemmas.Grind.{flat_map-append}
 use Rattle.std.proofs.lemmas.List.{drop_all, drop_more, map-append}
 use Rattle.std.proofs.lemmas.List.Sums.{sum_by-append}
 use Rattle.zone_outside.specs.Limit.{text_limit}
@@ -15,13 +16,14 @@ use Rattle.zone_plain_text.specs.PlainTexts.{plain_text}
 use Rattle.zone_plain_base.specs.Said.{is_said}
 use Rattle.zone_plain_names.specs.Renamed.{mark_of}
 use Rattle.zone_plain_offsets.specs.Names.{made_name}
-use Rattle.zone_plain_offsets.specs.Pairs.{Pair, Asked, nothing, total, under, asked, is_same, with_pair, number_of, joined_by, pairs_from, pairs_of}
+use Rattle.zone_plain_offsets.specs.Pairs.{Pair, Asked, nothing, total, under, asked, is_same, is_among, with_pair, number_of, joined_by, pairs_from, pairs_of}
 use Rattle.zone_plain_offsets.specs.Made.{rules_for, are_rules_said, changed_by, changed, is_changed_said, named_in, name_in, made}
 use Rattle.zone_plain_offsets.specs.WrittenOut.{line_size, made_size, refused_from, written_unless, written_out}
 use Rattle.zone_plain_offsets.specs.SaidLaws.{made_said}
 use Rattle.zone_plain_offsets.specs.Told.{asked_rules, is_asked_said, within, IsWrittenOut}
 use Rattle.zone_plain_offsets.proofs.CopyLemmas.{values_of_texts}
-use Rattle.zone_plain_offsets.proofs.PairLemmas.{is_among, same_pair, among_with, number_kept}
+use Rattle.zone_plain_offsets.specs.PairLaws.{same_pair, among_with, among_more}
+use Rattle.zone_plain_offsets.proofs.PairLemmas.{number_kept}
 
 -- the lines of the ruleset that a source gets for a pair
 abbrev pub rules_of : List LineValue → Pair → List LineValue
@@ -70,10 +72,6 @@ changed_is values left mark pairs (total parts t) v mark_is go = refl
 changed_is values left mark pairs (under parts pair) v mark_is go =
     ap (λ name. changed_by (λ p. name) (under parts pair) v) (name_is values left mark pairs pair mark_is go)
 
-flat_more : (f : Pair → List LineValue) (pairs : List Pair) (pair : Pair) → flat_map f (pairs ++ pair ∷ []) ≡ flat_map f pairs ++ f pair
-flat_more f [] pair = append-nil (f pair)
-flat_more f (p ∷ pairs) pair = ap (λ vs. f p ++ vs) (flat_more f pairs pair) ∙ sym (append_assoc (f p) (flat_map f pairs) (f pair))
-
 rules_more : (values left : List LineValue) (mark : List ℕ) (pairs : List Pair) (a : Asked) → mark ≡ mark_of values
     → pairs_from (joined_by a pairs) left ≡ pairs_of values
     → flat_map (rules_of values) pairs ++ asked_rules values mark pairs a ≡ flat_map (rules_of values) (joined_by a pairs)
@@ -86,30 +84,8 @@ rules_more values left mark pairs (under parts pair) mark_is go =
   where
     by_test : (b : Bool) → flat_map (rules_of values) pairs ++ cond b [] (rules_of values pair) ≡ flat_map (rules_of values) (cond b pairs (pairs ++ pair ∷ []))
     by_test true = append-nil _
-    by_test false = sym (flat_more (rules_of values) pairs pair)
-
-either : (a b c : Bool) → (a || (b || c)) ≡ true → ((a || b) ≡ true) ⊎ (c ≡ true)
-either true b c e = inl refl
-either false true c e = inl refl
-either false false c e = inr e
-
-among_parts : (pair more : Pair) (pairs : List Pair) → is_among pair (pairs ++ more ∷ []) ≡ true → (is_among pair pairs ≡ true) ⊎ (is_same pair more ≡ true)
-among_parts pair more [] e = inr (or_false (is_same pair more) e)
-  where
-    or_false : (b : Bool) → (b || false) ≡ true → b ≡ true
-    or_false true e = refl
-    or_false false e = e
-among_parts pair more (p ∷ pairs) e = here (is_same pair p) e (λ rest. among_parts pair more pairs rest)
-  where
-    here : (b : Bool) → (b || is_among pair (pairs ++ more ∷ [])) ≡ true
-        → (is_among pair (pairs ++ more ∷ []) ≡ true → (is_among pair pairs ≡ true) ⊎ (is_same pair more ≡ true))
-        → ((b || is_among pair pairs) ≡ true) ⊎ (is_same pair more ≡ true)
-    here true e rest = inl refl
-    here false e rest = rest e
-
-and_first : (a b : Bool) → (a && b) ≡ true → a ≡ true
-and_first true b e = refl
-and_first false b e = e
+    by_test false = sym (flat_map-append (rules_of values) pairs (pair ∷ [])
+        ∙ ap (λ vs. flat_map (rules_of values) pairs ++ vs) (append-nil (rules_of values pair)))
 
 -- the rules of all pairs so far can be said
 said_more : (values : List LineValue) (pairs : List Pair) (a : Asked) (v : LineValue)
@@ -121,7 +97,7 @@ said_more values pairs (total parts t) v said is_yes pair e = said pair e
 said_more values pairs (under parts more) v said is_yes pair e = by_test (is_among more pairs) e
   where
     here : are_rules_said values (name_in values more) more ≡ true
-    here = and_first (are_rules_said values (name_in values more) more) _ is_yes
+    here = (and_parts (are_rules_said values (name_in values more) more) _ is_yes).0
 
     by_case : (is_among pair pairs ≡ true) ⊎ (is_same pair more ≡ true) → are_rules_said values (name_in values pair) pair ≡ true
     by_case (inl e) = said pair e
@@ -129,7 +105,7 @@ said_more values pairs (under parts more) v said is_yes pair e = by_test (is_amo
 
     by_test : (b : Bool) → is_among pair (cond b pairs (pairs ++ more ∷ [])) ≡ true → are_rules_said values (name_in values pair) pair ≡ true
     by_test true e = said pair e
-    by_test false e = by_case (among_parts pair more pairs e)
+    by_test false e = by_case (or_cases (is_among pair pairs) (is_same pair more) (sym (among_more pair more pairs) ∙ e))
 
 next_line : (limit : ℕ) (values left : List LineValue) (n : ℕ) (pairs : List Pair) (v : LineValue) (said long : Bool)
     → is_changed_said values (name_in values) (asked v) v ≡ said → nat_lt limit (made_size values (joined_by (asked v) pairs)) ≡ long

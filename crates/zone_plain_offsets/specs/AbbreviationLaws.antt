@@ -3,7 +3,8 @@ use Rattle.std.proofs.Common.{◌≡◌, ℕ, zero, suc, ◌+◌, ◌<◌, ◌^�
 use Rattle.std.specs.Prelude.{◌==◌, ◌&&◌, ◌||◌, ◌+ℤ◌, ◌/◌, ◌%◌, codes, bytes_eq, int_lt, unsigned_abs, slice_index_or}
 use Rattle.std.specs.List.{list_any, position_or_len, before_first, after_first}
 use Rattle.std.specs.Option.{option_map_or, option_and_then}
-use Rattle.std.proofs.lemmas.Bool.{and_parts, not-true}
+use Rattle.std.proofs.Math.Bool.{or-true}
+use Rattle.std.proofs.lemmas.Bool.{and_parts, not-true, or_parts}
 use Rattle.std.proofs.lemmas.Bool.Decides.{nat_tests}
 use Rattle.std.proofs.lemmas.Int.{ints}
 use Rattle.std.proofs.lemmas.List.{get_or_append_left, get_or-map, length-map}
@@ -22,19 +23,12 @@ use Rattle.zone_plain_lines.specs.Numbers.{cut}
 use Rattle.zone_plain_offsets.specs.Abbreviations.{info_in, ruleset_in, own_saving, abbreviation_under, own_abbreviation, named_total, IsNamedUnder}
 use Rattle.zone_plain_offsets.specs.Formats.{Around, around, around_z, around_mark}
 use Rattle.zone_plain_offsets.specs.Made.{made_info, with_format, with_ruleset, changed_by, changed, name_in, made}
-use Rattle.zone_plain_offsets.specs.MadeLaws.{is_among, among_more, pair_itself, written_is}
+use Rattle.zone_plain_offsets.specs.MadeLaws.{written_is}
+use Rattle.zone_plain_offsets.specs.PairLaws.{among_with, among_joined}
 use Rattle.zone_plain_offsets.specs.TableLaws.{made_ruleset}
 use Rattle.zone_plain_offsets.specs.WrittenOut.{written_out}
 use Rattle.zone_plain_offsets.specs.OffsetTexts.{seconds_text, minutes_text, sign, offset_text}
-use Rattle.zone_plain_offsets.specs.Pairs.{Pair, pair_of, Asked, nothing, total, under, asked_under, asked_by, asked, is_same, with_pair, joined_by, pairs_from, pairs_of}
-
-neither : (a b : Bool) → (a || b) ≡ false → (a ≡ false) × (b ≡ false)
-neither true b e = absurd (cc)
-neither false b e = (refl, e)
-
-or_true : (a : Bool) → (a || true) ≡ true
-or_true true = refl
-or_true false = refl
+use Rattle.zone_plain_offsets.specs.Pairs.{Pair, pair_of, nothing, total, under, asked_under, asked_by, asked, is_among, joined_by, pairs_from, pairs_of}
 
 -- letters in place of `%s`
 
@@ -47,7 +41,7 @@ filled_clean : (letters text : List ℕ) → has_byte 37 text ≡ false → fill
 unfolding filled
 filled_clean letters [] e = refl
 filled_clean letters (c ∷ text) e =
-    let both = neither (c == 37) (has_byte 37 text) e in
+    let both = or_parts (c == 37) (has_byte 37 text) e in
     filled_on letters c text both.0 ∙ ap (λ t. c ∷ t) (filled_clean letters text both.1)
 
 filled_at : (letters before after : List ℕ) → has_byte 37 before ≡ false → has_byte 37 after ≡ false
@@ -55,13 +49,13 @@ filled_at : (letters before after : List ℕ) → has_byte 37 before ≡ false �
 unfolding filled
 filled_at letters [] after p q = ap (λ t. letters ++ t) (filled_clean letters after q)
 filled_at letters (c ∷ before) after p q =
-    let both = neither (c == 37) (has_byte 37 before) p in
+    let both = or_parts (c == 37) (has_byte 37 before) p in
     filled_on letters c (before ++ codes "%s" ++ after) both.0 ∙ ap (λ t. c ∷ t) (filled_at letters before after both.1 q)
 
 placed_on : (c : ℕ) (rest : List ℕ) → has_placeholder rest ≡ true → has_placeholder (c ∷ rest) ≡ true
 unfolding has_placeholder
 placed_on c [] e = absurd (cc)
-placed_on c (d ∷ rest) e = ap (λ b. is_placeholder c d || b) e ∙ or_true (is_placeholder c d)
+placed_on c (d ∷ rest) e = ap (λ b. is_placeholder c d || b) e ∙ or-true (is_placeholder c d)
 
 placed : (before after : List ℕ) → has_placeholder (before ++ codes "%s" ++ after) ≡ true
 unfolding has_placeholder
@@ -73,7 +67,7 @@ unfolding has_placeholder
 not_placed [] e = refl
 not_placed (c ∷ []) e = refl
 not_placed (c ∷ d ∷ text) e =
-    let both = neither (c == 37) (has_byte 37 (d ∷ text)) e in
+    let both = or_parts (c == 37) (has_byte 37 (d ∷ text)) e in
     (λ i. (both.0 i && (d == 115)) || not_placed (d ∷ text) both.1 i)
 
 -- a text without such a byte, and one more behind it
@@ -153,13 +147,12 @@ none_before : (p : ℕ → Bool) (text : List ℕ) → list_any p (before_first 
 none_before p [] = refl
 none_before p (c ∷ text) = by_test (p c) refl (none_before p text)
   where
-    one_more : (n : ℕ) → 1 + n ≡ suc n
-    one_more n = omega arith
-
     by_test : (b : Bool) → p c ≡ b → list_any p (before_first p text) ≡ false
         → list_any p (take (cond (not b) (1 + position_or_len p text) 0) (c ∷ text)) ≡ false
     by_test true e rest = refl
-    by_test false e rest = ap (λ n. list_any p (take n (c ∷ text))) (one_more (position_or_len p text)) ∙ (λ i. e i || rest i)
+    by_test false e rest =
+        let next : 1 + position_or_len p text ≡ suc (position_or_len p text) = omega arith in
+        ap (λ n. list_any p (take n (c ∷ text))) next ∙ (λ i. e i || rest i)
 
 parted : (ruled : Bool) (x y before after : List ℕ) → is_filled ruled x y ≡ true → has_byte 37 x ≡ false
     → around_z (x, y) ≡ Some (around before after) → AreClean before after
@@ -174,8 +167,8 @@ parted ruled x (c ∷ y) before after e none mark = by_test (c == 122) mark
         record {
           before_marks = none;
           before_slashes = not-true (has_byte 47 x) fronts.1;
-          after_marks = (neither (c == 37) (has_byte 37 y) (not-true (has_byte 37 (c ∷ y)) marks.1)).1;
-          after_slashes = (neither (c == 47) (has_byte 47 y) (not-true (has_byte 47 (c ∷ y)) slashes.1)).1;
+          after_marks = (or_parts (c == 37) (has_byte 37 y) (not-true (has_byte 37 (c ∷ y)) marks.1)).1;
+          after_slashes = (or_parts (c == 47) (has_byte 47 y) (not-true (has_byte 47 (c ∷ y)) slashes.1)).1;
         }
 
     by_test : (b : Bool) → option_map (around x) (cond b (Some y) None) ≡ Some (around before after) → AreClean before after
@@ -291,23 +284,6 @@ by_name (rule q) info format name is = absurd (cc)
 by_name (link x y) info format name is = absurd (cc)
 
 -- a pair for which a line asks is one of the pairs
-
-among_joined : (pair : Pair) (a : Asked) (pairs : List Pair) → is_among pair pairs ≡ true → is_among pair (joined_by a pairs) ≡ true
-among_joined pair nothing pairs e = e
-among_joined pair (total parts t) pairs e = e
-among_joined pair (under parts more) pairs e = by_test (is_among more pairs)
-  where
-    by_test : (b : Bool) → is_among pair (cond b pairs (pairs ++ more ∷ [])) ≡ true
-    by_test true = e
-    by_test false = among_more pair more pairs ∙ ap (λ b. b || is_same pair more) e
-
-among_last : (pair : Pair) (pairs : List Pair) → is_among pair (with_pair pairs pair) ≡ true
-among_last pair pairs = by_test (is_among pair pairs) refl
-  where
-    by_test : (b : Bool) → is_among pair pairs ≡ b → is_among pair (cond b pairs (pairs ++ pair ∷ [])) ≡ true
-    by_test true e = e
-    by_test false e = among_more pair pair pairs ∙ ap (λ b. is_among pair pairs || b) (pair_itself pair) ∙ or_true (is_among pair pairs)
-
 among_stays : (pair : Pair) (values : List LineValue) (pairs : List Pair) → is_among pair pairs ≡ true → is_among pair (pairs_from pairs values) ≡ true
 unfolding pairs_from
 among_stays pair [] pairs e = e
@@ -318,7 +294,7 @@ among_asked : (values : List LineValue) (pairs : List Pair) (k : ℕ) (parts : A
 unfolding pairs_from
 among_asked [] pairs k parts pair inside e = absurd (omega (arith, inside))
 among_asked (v ∷ values) pairs zero parts pair inside e =
-    among_stays pair values (joined_by (asked v) pairs) (ap (λ a. is_among pair (joined_by a pairs)) e ∙ among_last pair pairs)
+    among_stays pair values (joined_by (asked v) pairs) (ap (λ a. is_among pair (joined_by a pairs)) e ∙ among_with pairs pair)
 among_asked (v ∷ values) pairs (suc k) parts pair inside e = among_asked values (joined_by (asked v) pairs) k parts pair (omega (arith, inside)) e
 
 -- what becomes of a line stands in its place

@@ -1,15 +1,19 @@
+-- Definitions: what public clauses say.
 pub mod OffsetTexts
 pub mod Names
 pub mod Formats
 pub mod Pairs
 pub mod Made
 pub mod WrittenOut
-pub mod Shown
-pub mod Told
+pub mod Abbreviations
+-- Laws: what a caller may use.
 pub mod OffsetTextLaws
 pub mod NameLaws
+pub mod PairLaws
 pub mod SaidLaws
 pub mod MadeLaws
 pub mod TableLaws
-pub mod Abbreviations
 pub mod AbbreviationLaws
+-- Words of private clauses.
+pub mod Shown
+pub mod Told

@@ -1,17 +1,17 @@
 -- Under `%z` a ruleset that is made has the rules of its ruleset, with the texts of their totals as letters.
-use Rattle.std.proofs.Common.{◌≡◌, ℕ, suc, ◌+◌, ◌<◌, ◌^◌, Bool, true, false, cond, not, List, [], ◌∷◌, ◌++◌, length, map, Ok, Some, None, refl, sym, ap, ◌∙◌, append_assoc, append-nil, arith}
-use Rattle.std.specs.Prelude.{◌&&◌, ◌||◌, flat_map, bytes_eq}
-use Rattle.std.specs.List.{list_any}
+use Rattle.std.proofs.Common.{◌≡◌, ℕ, suc, ◌+◌, ◌<◌, ◌^◌, Bool, true, false, cond, not, List, [], ◌∷◌, ◌++◌, length, map, Ok, Some, None, refl, sym, ap, ◌∙◌, append-nil, arith}
+use Rattle.std.specs.Prelude.{◌||◌, flat_map, bytes_eq}
+use Rattle.std.proofs.Math.Bool.{or-false}
+use Rattle.std.proofs.lemmas.Bool.{or_right}
+use Rattle.std.proofs.lemmas.Grind.{flat_map-append}
 use Rattle.std.proofs.lemmas.Slice.Eq.{bytes_eq-Decides}
 use Rattle.zone_outside.specs.Limit.{text_limit}
 use Rattle.zone_values.specs.Values.{RuleValue, LineValue, space, zone, continuation, rule, link}
 use Rattle.zone_plain_names.specs.Renamed.{mark_of}
 use Rattle.zone_plain_offsets.specs.NameLaws.{name_is_new, one_name}
-use Rattle.zone_plain_offsets.specs.Pairs.{Pair, Asked, nothing, total, under, asked, asked_by, is_same, with_pair, joined_by, number_of, pairs_from, pairs_of}
+use Rattle.zone_plain_offsets.specs.PairLaws.{same_pair, pair_itself, among_more}
+use Rattle.zone_plain_offsets.specs.Pairs.{Pair, Asked, nothing, total, under, asked, asked_by, is_same, is_among, with_pair, joined_by, number_of, pairs_from, pairs_of}
 use Rattle.zone_plain_offsets.specs.Made.{rules_named, made_rule, rules_for, changed_by, changed, name_in, made}
-use Rattle.std.specs.Ordering.{int_eq}
-use Rattle.std.proofs.lemmas.Bool.{and_parts}
-use Rattle.std.proofs.lemmas.Int.{ints}
 use Rattle.zone_plain_offsets.specs.WrittenOut.{refused_from, written_unless, written_out}
 
 rules_append : (xs ys : List LineValue) (name : List ℕ) → rules_named (xs ++ ys) name ≡ rules_named xs name ++ rules_named ys name
@@ -73,26 +73,6 @@ made_under (r ∷ rules) given name offset = by_test (bytes_eq given name) (made
     by_test true e = ap (λ rs. made_rule given offset r ∷ rs) e
     by_test false e = e
 
-same_number : (a b : _) → int_eq a b ≡ true → a ≡ b
-same_number a b h = grind (arith, ints)
-
-number_itself : (a : _) → int_eq a a ≡ true
-number_itself a = grind (arith, ints)
-
-same_pair : (a b : Pair) → is_same a b ≡ true → a ≡ b
-same_pair a b h =
-    let both = and_parts (int_eq a.offset b.offset) (bytes_eq a.rules b.rules) h in
-    let offset = same_number a.offset b.offset both.0 in
-    let rules = (bytes_eq-Decides a.rules b.rules).0 both.1 in
-    (λ i. record { rules = rules i; offset = offset i })
-
-pub pair_itself : (a : Pair) → is_same a a ≡ true
-pair_itself a = (λ i. number_itself a.offset i && (bytes_eq-Decides a.rules a.rules).1 refl i)
-
--- the pair is one of these
-abbrev pub is_among : Pair → List Pair → Bool
-is_among pair pairs = list_any (is_same pair) pairs
-
 number_within : (pairs : List Pair) (pair : Pair) → number_of pairs pair < suc (length pairs)
 number_within [] pair = omega arith
 number_within (p ∷ pairs) pair = by_test (is_same pair p) (number_within pairs pair)
@@ -114,26 +94,9 @@ one_pair (x ∷ pairs) a b p q e = by_test (is_same a x) (is_same b x) refl refl
     by_test false true s t p q e rest = absurd (omega (arith, e))
     by_test false false s t p q e rest = rest p q (omega (arith, e))
 
-pub among_more : (pair more : Pair) (pairs : List Pair) → is_among pair (pairs ++ more ∷ []) ≡ (is_among pair pairs || is_same pair more)
-among_more pair more [] = or_false (is_same pair more)
-  where
-    or_false : (b : Bool) → (b || false) ≡ b
-    or_false true = refl
-    or_false false = refl
-among_more pair more (p ∷ pairs) = by_test (is_same pair p) (among_more pair more pairs)
-  where
-    by_test : (b : Bool) → is_among pair (pairs ++ more ∷ []) ≡ (is_among pair pairs || is_same pair more)
-        → (b || is_among pair (pairs ++ more ∷ [])) ≡ ((b || is_among pair pairs) || is_same pair more)
-    by_test true e = refl
-    by_test false e = e
-
 -- what a pair gives, of one pair alone
 pick : {A : Type 0} → (Pair → List A) → Pair → Pair → List A
 pick of pair other = cond (is_same pair other) (of other) []
-
-flat_more : {A : Type 0} (f : Pair → List A) (pairs : List Pair) (pair : Pair) → flat_map f (pairs ++ pair ∷ []) ≡ flat_map f pairs ++ f pair
-flat_more f [] pair = append-nil (f pair)
-flat_more f (p ∷ pairs) pair = ap (λ vs. f p ++ vs) (flat_more f pairs pair) ∙ sym (append_assoc (f p) (flat_map f pairs) (f pair))
 
 -- it is picked once
 picked_more : {A : Type 0} (of : Pair → List A) (pair more : Pair) (pairs : List Pair)
@@ -142,23 +105,19 @@ picked_more : {A : Type 0} (of : Pair → List A) (pair more : Pair) (pairs : Li
 unfolding pick
 picked_more of pair more pairs e = by_test (is_among more pairs) refl
   where
-    or_false : (b : Bool) → b ≡ (b || false)
-    or_false true = refl
-    or_false false = refl
-
     apart : (b : Bool) → is_same pair more ≡ b → is_among more pairs ≡ false
         → flat_map (pick of pair) pairs ++ cond b (of more) [] ≡ cond (is_among pair pairs || b) (of pair) []
     apart true same is_no =
         let is = same_pair pair more same in
         let none : is_among pair pairs ≡ false = ap (λ p. is_among p pairs) is ∙ is_no in
         ap (λ xs. xs ++ of more) (e ∙ ap (λ b. cond b (of pair) []) none) ∙ ap of (sym is) ∙ ap (λ b. cond (b || true) (of pair) []) (sym none)
-    apart false same is_no = append-nil _ ∙ e ∙ ap (λ b. cond b (of pair) []) (or_false (is_among pair pairs))
+    apart false same is_no = append-nil _ ∙ e ∙ ap (λ b. cond b (of pair) []) (sym (or-false (is_among pair pairs)))
 
     by_test : (b : Bool) → is_among more pairs ≡ b
         → flat_map (pick of pair) (cond b pairs (pairs ++ more ∷ [])) ≡ cond (is_among pair (cond b pairs (pairs ++ more ∷ []))) (of pair) []
     by_test true k = e
     by_test false k =
-        flat_more (pick of pair) pairs more ∙ apart (is_same pair more) refl k
+        flat_map-append (pick of pair) pairs (more ∷ []) ∙ ap (λ xs. flat_map (pick of pair) pairs ++ xs) (append-nil (pick of pair more)) ∙ apart (is_same pair more) refl k
         ∙ ap (λ b. cond b (of pair) []) (sym (among_more pair more pairs))
 
 picked_joined : {A : Type 0} (of : Pair → List A) (pair : Pair) (a : Asked) (pairs : List Pair)
@@ -185,13 +144,9 @@ flat_same : {A : Type 0} (f g : Pair → List A) (pairs : List Pair) → ((pair 
     → flat_map f pairs ≡ flat_map g pairs
 flat_same f g [] e = refl
 flat_same f g (p ∷ pairs) e =
-    let rest = flat_same f g pairs (λ pair h. e pair (or_true (is_same pair p) (is_among pair pairs) h)) in
+    let rest = flat_same f g pairs (λ pair h. e pair (or_right (is_same pair p) (is_among pair pairs) h)) in
     let first = e p (ap (λ b. b || is_among p pairs) (pair_itself p)) in
     (λ i. first i ++ rest i)
-  where
-    or_true : (a b : Bool) → b ≡ true → (a || b) ≡ true
-    or_true true b h = refl
-    or_true false b h = h
 
 -- two pairs have one name only where they are one
 names_tell : (values : List LineValue) (pair other : Pair) → length (pairs_of values) < 2 ^ 64 → is_among pair (pairs_of values) ≡ true

@@ -1,6 +1,8 @@
 -- The names of the rulesets that are made are no names of the source, and no two are one.
-use Rattle.std.proofs.Common.{◌≡◌, ℕ, zero, suc, ◌+◌, ◌<◌, ◌≤◌, ◌^◌, ◌%◌, Bool, true, false, cond, List, [], ◌∷◌, ◌++◌, map, get_or, drop, nat_lt, ◌-◌, refl, ap, ◌∙◌, arith}
+use Rattle.std.proofs.Common.{◌≡◌, ℕ, ◌+◌, ◌<◌, ◌≤◌, ◌^◌, ◌%◌, Bool, true, false, cond, List, [], ◌∷◌, ◌++◌, map, get_or, drop, nat_lt, ◌-◌, refl, ap, arith}
+use Rattle.std.proofs.lemmas.Bool.{or_right}
 use Rattle.std.proofs.lemmas.Bool.Decides.{nat_tests}
+use Rattle.std.proofs.lemmas.List.{append_cancel_left}
 use Rattle.std.specs.Prelude.{◌||◌, decimal, bytes_eq}
 use Rattle.std.specs.Char.{digit_value}
 use Rattle.std.specs.Str.Parse.{AllDigits}
@@ -10,10 +12,6 @@ use Rattle.zone_plain_names.specs.MarkLaws.{no_mark}
 use Rattle.zone_plain_names.specs.Renamed.{has_name, mark_of}
 use Rattle.zone_plain_offsets.specs.Names.{letter, made_name}
 use Rattle.zone_plain_offsets.specs.Made.{rules_named}
-
-or_true : (a b : Bool) → b ≡ true → (a || b) ≡ true
-or_true true b e = refl
-or_true false b e = e
 
 -- no rule of the source has a name that isn't one of the source
 none_named : (values : List LineValue) (name : List ℕ) → (has_name values name ≡ true → ⊥) → rules_named values name ≡ []
@@ -25,19 +23,15 @@ none_named (rule r ∷ values) name new = by_test (bytes_eq r.name name) new (λ
         → cond b (r ∷ rules_named values name) (rules_named values name) ≡ []
     by_test true new rest = absurd (new refl)
     by_test false new rest = rest new
-none_named (space ∷ values) name new = none_named values name (λ h. new (or_true _ _ h))
-none_named (zone z info ∷ values) name new = none_named values name (λ h. new (or_true _ _ h))
-none_named (continuation info ∷ values) name new = none_named values name (λ h. new (or_true _ _ h))
-none_named (link x y ∷ values) name new = none_named values name (λ h. new (or_true _ _ h))
+none_named (space ∷ values) name new = none_named values name (λ h. new (or_right _ _ h))
+none_named (zone z info ∷ values) name new = none_named values name (λ h. new (or_right _ _ h))
+none_named (continuation info ∷ values) name new = none_named values name (λ h. new (or_right _ _ h))
+none_named (link x y ∷ values) name new = none_named values name (λ h. new (or_right _ _ h))
 
 -- no rule of the source has the name of a ruleset that is made
 pub name_is_new : (values : List LineValue) (number : ℕ) → rules_named values (made_name (mark_of values) number) ≡ []
 unfolding made_name
 name_is_new values number = none_named values (mark_of values ++ map letter (decimal number)) (no_mark values (map letter (decimal number)))
-
-stripped : (mark xs ys : List ℕ) → mark ++ xs ≡ mark ++ ys → xs ≡ ys
-stripped [] xs ys e = e
-stripped (x ∷ mark) xs ys e = stripped mark xs ys (ap (drop 1) e)
 
 digit_is : (c d : ℕ) → digit_value c < 10 → digit_value d < 10 → 97 + c % 16 ≡ 97 + d % 16 → c ≡ d
 digit_is c d p q e =
@@ -68,6 +62,6 @@ letters_same (x ∷ xs) (y ∷ ys) p q e =
 pub one_name : (mark : List ℕ) (m n : ℕ) → m < 2 ^ 64 → n < 2 ^ 64 → made_name mark m ≡ made_name mark n → m ≡ n
 unfolding made_name
 one_name mark m n p q e =
-    let letters = stripped mark (map letter (decimal m)) (map letter (decimal n)) e in
+    let letters = append_cancel_left mark (map letter (decimal m)) (map letter (decimal n)) e in
     decimal_injective m n p q
     (letters_same (decimal m) (decimal n) (decimal_is_IsNumeral m p).0.1 (decimal_is_IsNumeral n q).0.1 letters)

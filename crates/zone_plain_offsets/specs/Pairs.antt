@@ -41,9 +41,13 @@ asked (link existing new) = nothing
 abbrev pub is_same : Pair → Pair → Bool
 is_same a b = int_eq a.offset b.offset && bytes_eq a.rules b.rules
 
+-- the pair is one of these
+abbrev pub is_among : Pair → List Pair → Bool
+is_among pair pairs = list_any (is_same pair) pairs
+
 -- these pairs, with one more behind them where it isn't among them
 abbrev pub with_pair : List Pair → Pair → List Pair
-with_pair pairs pair = if list_any (is_same pair) pairs then pairs else pairs ++ pair ∷ []
+with_pair pairs pair = if is_among pair pairs then pairs else pairs ++ pair ∷ []
 
 -- the number of a pair, from 0 on
 abbrev pub number_of : List Pair → Pair → ℕ

@@ -1,12 +1,11 @@
 -- What the code's answers tell.
 use Rattle.std.specs.Prelude.{◌≡◌, ℕ, suc, ℤ, List, [], ◌∷◌, ◌++◌, Bool, true, false, ◌&&◌, nat_lt, Option, Some, None, codes, map, slice_index_or, unwrap_or, bytes_eq, if◌then◌else◌}
 use Rattle.std.specs.FinMap.{FinMap, get, insert}
-use Rattle.std.specs.List.{list_any}
 use Rattle.owned.specs.Keyed.{text_cmp}
 use Rattle.owned.specs.Listed.{listed}
 use Rattle.zone_source.specs.Zones.{source_value}
 use Rattle.zone_values.specs.Values.{LineValue, space, zone, continuation, rule, link}
-use Rattle.zone_plain_offsets.specs.Pairs.{Pair, Asked, nothing, total, under, is_same, with_pair, joined_by, asked}
+use Rattle.zone_plain_offsets.specs.Pairs.{Pair, Asked, nothing, total, under, is_among, with_pair, joined_by, asked}
 use Rattle.zone_plain_text.specs.PlainTexts.{plain_text}
 use Rattle.zone_plain_base.specs.Said.{is_said}
 use Rattle.zone_plain_offsets.specs.Made.{named_in, rules_for, are_rules_said, made_rule, is_rule_said, with_format, with_ruleset, around_text, changed_by}
@@ -70,11 +69,11 @@ is_made_said name offset (link existing new) = true
 -- the ruleset that is made for a pair, the first time that a line asks for it
 abbrev pub new_rules : List LineValue → List ℕ → List Pair → Pair → List LineValue
 new_rules values mark pairs pair =
-    if list_any (is_same pair) pairs then [] else rules_for values (named_in mark (with_pair pairs pair) pair) pair
+    if is_among pair pairs then [] else rules_for values (named_in mark (with_pair pairs pair) pair) pair
 
 abbrev pub are_new_said : List LineValue → List ℕ → List Pair → Pair → Bool
 are_new_said values mark pairs pair =
-    if list_any (is_same pair) pairs then true else are_rules_said values (named_in mark (with_pair pairs pair) pair) pair
+    if is_among pair pairs then true else are_rules_said values (named_in mark (with_pair pairs pair) pair) pair
 
 -- the same of what a line asks for
 abbrev pub asked_rules : List LineValue → List ℕ → List Pair → Asked → List LineValue

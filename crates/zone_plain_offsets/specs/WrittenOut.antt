@@ -22,9 +22,9 @@ made_size all pairs = sum_by line_size (map plain_text (made_for all pairs))
 unfoldable pub refused_from : ℕ → List LineValue → ℕ → List Pair → List LineValue → Option Refusal
 refused_from limit all n pairs [] = None
 refused_from limit all n pairs (v ∷ values) =
-  if not (is_changed_said all (name_in all) (asked v) v) then Some (bad_line (at n cause.Unsayable))
-  else if nat_lt limit (made_size all (joined_by (asked v) pairs)) then Some too_long
-  else refused_from limit all (suc n) (joined_by (asked v) pairs) values
+    if not (is_changed_said all (name_in all) (asked v) v) then Some (bad_line (at n cause.Unsayable))
+    else if nat_lt limit (made_size all (joined_by (asked v) pairs)) then Some too_long
+    else refused_from limit all (suc n) (joined_by (asked v) pairs) values
 
 abbrev pub written_unless : List LineValue → Option Refusal → Result (List LineValue) Refusal
 written_unless values (Some refusal) = Err refusal

@@ -42,7 +42,11 @@ pub(crate) fn around_mark(format: &str) -> Option<Around<'_>>
 
 /// The parts of a format around a text.
 #[tactic(auto, using(std::proofs::Common::append_assoc))]
-pub(crate) fn around_text(alloc: Global, parts: &Around<'_>, text: &str) -> Result<String, AllocError>
+pub(crate) fn around_text(
+    alloc: Global,
+    parts: &Around<'_>,
+    text: &str,
+) -> Result<String, AllocError>
     ensures { IfOk result (λ format. string_bytes format ≡ around_text (parts_shown parts.now) text.now) }
 {
     let mut format = String::new(alloc);
