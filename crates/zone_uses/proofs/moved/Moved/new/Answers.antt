@@ -1,5 +1,5 @@
 use Rattle.std.proofs.Common.{rules}
-use Rattle.zone_uses.specs.Moves.{around_in_range, two_around}
+use Rattle.zone_uses.specs.MoveLaws.{around_in_range, two_around}
 use Rattle.zone_uses.proofs.moved.Moved.new.Goals as goal
 
 pub invariant_of-result-clause-in_range : goal.invariant_of-result-clause-in_range
