@@ -1,5 +1,5 @@
 -- Why a run over a source has no answer, and the bytes that it is to write.
-use Rattle.std.specs.Prelude.{◌≡◌, ℕ, List, [], ◌∷◌, ◌++◌, Option, Some, None, Result, Ok, Err, IsSome, codes}
+use Rattle.std.specs.Prelude.{◌≡◌, ℕ, List, [], ◌∷◌, ◌++◌, Option, Some, None, Result, Ok, Err, codes}
 use Rattle.zone_source.specs.FaultLines.{line_with}
 use Rattle.zone_plain_lines.specs.Causes.{cause_name}
 use Rattle.zone_plain_lines.specs.declared.cause.PlainCause.{PlainCause}
