@@ -6,7 +6,7 @@ use Rattle.civil_base.specs.Instants.{seconds_of}
 use Rattle.tz_posix_core.specs.InForce.{instant_in, is_saving, posix_total, year_at, is_within, yearly_time}
 use Rattle.tz_posix_core.specs.PosixZones.{PosixZone, fixed, ruled, GivesTotal, Named, either}
 use Rattle.tz_posix_core.specs.RangeLaws.{none_first}
-use Rattle.tz_posix_core.specs.Ranges.{posix_range, first_some, offset_miss, time_miss, rule_range, rule_time_miss, date_miss, is_time, is_rule_date}
+use Rattle.tz_posix_core.specs.Ranges.{posix_range, offset_miss, time_miss, rule_range, rule_time_miss, date_miss, is_time, is_rule_date}
 use Rattle.tz_posix_core.specs.Resolved.{resolved}
 use Rattle.tz_posix_core.specs.Seconds.{offset_seconds, east_of, part}
 use Rattle.tz_posix_core.specs.Spells.{Optional, absent, present, SpellsDst, dst, Spells, short_form, full_form}
