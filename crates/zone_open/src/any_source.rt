@@ -31,9 +31,10 @@ impl OpenSource {
     ///
     /// # Errors
     ///
-    /// `TooLong` exactly where the text is longer than 16,777,216 bytes; then `Line` with the first line that has no plain form,
-    /// and `PlainTooLong` exactly where that form would be longer than 16,777,216 bytes; then `Plain` with the first fault of the
-    /// plain form, which is never want of memory; `NoMemory`.
+    /// `TooLong` exactly where the text is longer than 16,777,216 bytes; then `Line` with the first line that has no plain form, or
+    /// `PlainTooLong` where that form would be longer than 16,777,216 bytes, which is told at the first line with which its links, or
+    /// the rules that are made for `%z`, alone are; then `Plain` with the first fault of the plain form, which is never want of
+    /// memory; `NoMemory`.
     pub fn open_any(alloc: Global, text: &[u8]) -> Result<OpenSource, AnySourceFault>
         ensures ok { IfOk result (IsAnySource text.now) }
         ensures err { IfErr result (IsAnyFault text.now) }

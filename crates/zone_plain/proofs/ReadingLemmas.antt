@@ -1,5 +1,6 @@
 -- Lines that were read, and those that are left.
 use Rattle.std.proofs.Common.{◌≡◌, ℕ, suc, ◌+◌, List, [], ◌∷◌, ◌++◌, map, length, Bool, true, false, Result, Ok, Err, refl, sym, ap, ◌∙◌, append_assoc, append-nil, arith}
+use Rattle.std.proofs.lemmas.List.{map_push}
 use Rattle.zone_source.specs.Lines.{lines_of}
 use Rattle.zone_source.specs.Zones.{source_value}
 use Rattle.zone_values.specs.Values.{LineValue}
@@ -46,10 +47,6 @@ nothing_read source mark is = record {
   goes_on = before_none _ ∙ ap (λ d. values_from (named d) false 1 (lines_of source)) is;
 }
 
-map_more : (lines : List (List ℕ)) (line : List ℕ) → map source_value (lines ++ line ∷ []) ≡ map source_value lines ++ source_value line ∷ []
-map_more [] line = refl
-map_more (l ∷ lines) line = ap (λ vs. source_value l ∷ vs) (map_more lines line)
-
 pub one_more : (source : List ℕ) (old new : List (List ℕ)) (mark : List ℕ) (is_open is_open_now : Bool) (n : ℕ) (line : List ℕ) (left : List (List ℕ))
     → HasRead source old mark is_open n (line ∷ left) → IsReadLine old new mark is_open line is_open_now
     → HasRead source new mark is_open_now (suc n) left
@@ -59,7 +56,7 @@ one_more source old new mark is_open is_open_now n line left so_far line_read =
     let w = renamed mark v in record {
       values = so_far.values ++ w ∷ [];
       number = omega (arith, so_far.number);
-      texts = ap (map source_value) line_read.added ∙ map_more old (plain_text w) ∙ (λ i. so_far.texts i ++ source_value_is w line_read.said i ∷ []);
+      texts = ap (map source_value) line_read.added ∙ map_push source_value old (plain_text w) ∙ (λ i. so_far.texts i ++ source_value_is w line_read.said i ∷ []);
       goes_on = ap (λ o. before (so_far.values ++ w ∷ []) (values_from (named mark) o (suc n) left)) line_read.open_now
           ∙ sym (before_one so_far.values w (values_from (named mark) (is_open_after is_open v) (suc n) left))
           ∙ ap (before so_far.values) (sym (step line_read.meant line_read.said)) ∙ so_far.goes_on;

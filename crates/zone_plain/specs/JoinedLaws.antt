@@ -9,6 +9,7 @@ use Rattle.zone_table.specs.Joined.{rules_of, owner, is_owner, zone_of, link_of}
 use Rattle.zone_table.specs.Owned.{owned_rule, owned_info}
 use Rattle.zone_table.specs.declared.rule.RuleInfo.{RuleInfo}
 use Rattle.zone_table.specs.declared.zone.ZoneInfo.{ZoneInfo}
+use Rattle.zone_plain_links.specs.NamedLaws.{or_assoc}
 use Rattle.zone_plain.specs.Placed.{are_placed}
 use Rattle.zone_plain.specs.Written.{Rules, Zones, Links, is_in}
 use Rattle.zone_plain.specs.WrittenLines.{in_parts, JoinAlike}
@@ -170,10 +171,6 @@ link_in (space ∷ values) name = link_in values name
 link_in (zone z info ∷ values) name = link_in values name
 link_in (continuation info ∷ values) name = link_in values name
 link_in (rule r ∷ values) name = link_in values name
-
-or_assoc : (a b c : Option (List ℕ)) → option_or a (option_or b c) ≡ option_or (option_or a b) c
-or_assoc None b c = refl
-or_assoc (Some x) b c = refl
 
 by_link : (b : Bool) (existing : List ℕ) (o : Option (List ℕ)) → cond b (Some existing) o ≡ option_or (cond b (Some existing) None) o
 by_link true existing o = refl

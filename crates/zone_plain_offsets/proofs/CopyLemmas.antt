@@ -1,6 +1,6 @@
 -- Lines that are added to others.
 use Rattle.std.proofs.Common.{◌≡◌, All, ℕ, zero, suc, ◌+◌, ◌<◌, ◌≤◌, List, [], ◌∷◌, ◌++◌, length, map, get_or, drop, Some, slice_get, unwrap_or, true, false, refl, sym, ap, ◌∙◌, append_assoc, append-nil, rules}
-use Rattle.std.proofs.lemmas.List.{drop_all, drop_more, map-append}
+use Rattle.std.proofs.lemmas.List.{drop_all, drop_more, map_push}
 use Rattle.std.proofs.lemmas.List.Elements.{All-head, All-tail}
 use Rattle.zone_source.specs.Zones.{source_value}
 use Rattle.zone_values.specs.Values.{LineValue, space}
@@ -15,9 +15,6 @@ pub value_of_found : (lines : List (List ℕ)) (i : ℕ) (bytes : List ℕ) → 
 value_of_found [] i bytes e = search rules
 value_of_found (l ∷ lines) zero bytes e = ap (λ o. source_value (unwrap_or o [])) e
 value_of_found (l ∷ lines) (suc i) bytes e = value_of_found lines i bytes e
-
-pub values_more : (lines : List (List ℕ)) (line : List ℕ) → map source_value (lines ++ line ∷ []) ≡ map source_value lines ++ source_value line ∷ []
-values_more lines line = map-append source_value lines (line ∷ [])
 
 -- the values so far, and those that are left
 pub record HasCopied (values old now : List LineValue) (i : ℕ) : Type 0 where
@@ -45,7 +42,7 @@ said_and_added old new v text said same added = record { told = sym said; added 
 pub value_added : (old new : List (List ℕ)) (v : LineValue) → is_said v ≡ true → new ≡ old ++ plain_text v ∷ []
     → map source_value new ≡ map source_value old ++ v ∷ []
 value_added old new v said added =
-    ap (map source_value) added ∙ values_more old (plain_text v) ∙ ap (λ w. map source_value old ++ w ∷ []) (source_value_is v said)
+    ap (map source_value) added ∙ map_push source_value old (plain_text v) ∙ ap (λ w. map source_value old ++ w ∷ []) (source_value_is v said)
 
 -- so have the texts of lines that can be said
 pub values_of_texts : (values : List LineValue) → All (λ v. is_said v ≡ true) values → map source_value (map plain_text values) ≡ values
