@@ -1,12 +1,11 @@
 -- How a run ends after both of its texts were read, or the first of them.
-use Rattle.std.proofs.Common.{◌≡◌, ◌⊎◌, ℕ, ◌+◌, ◌<◌, ◌≤◌, List, Option, Some, None, IfSome, length, refl, subst, inl, inr, arith}
+use Rattle.std.proofs.Common.{◌≡◌, ℕ, List, Some, refl, inl, inr}
 use Rattle.std.proofs.lemmas.Option.{IfSome_then}
 use Rattle.zone_outside.specs.declared.whole.ReadEnd.{ReadEnd}
 use Rattle.zone_outside.specs.declared.whole.ReadEnd.TheVariants as read
-use Rattle.zone_outside.specs.declared.whole.TheConstants.{LIMIT}
 use Rattle.zone_source.specs.Statuses.{status_of}
 use Rattle.zone_source.specs.declared.status.Status.TheVariants as status
-use Rattle.zone_answers.specs.EndLaws.{Read, BothRead, NotRead, where_told, not_more, neither_more, neither_long, silent_not_done, silent_not_fault, silent_not_write, not_written, if_told, too_short, no_more_failed, read_not_ended, too_long_not_ended, no_memory_not_ended}
+use Rattle.zone_answers.specs.EndLaws.{Read, BothRead, NotRead, where_told, neither_more, neither_long, silent_not_done, silent_not_fault, silent_not_write, not_written, if_told, too_short, no_more_failed, read_not_ended, too_long_not_ended, no_memory_not_ended}
 use Rattle.zone_file_answers.specs.Ends.{Ends}
 use Rattle.zone_file_answers.specs.Responses.{Responds}
 use Rattle.zone_answers.specs.Seen.{Seen}

@@ -12,7 +12,7 @@ use Rattle.std.proofs.lemmas.Slice.Eq.{bytes_eq-Decides}
 use Rattle.std.proofs.Math.Bool.{and-false}
 use Rattle.std.proofs.lemmas.Bool.{or_right, or_left}
 use Rattle.owned.specs.InOrder.{in_order}
-use Rattle.owned.specs.InOrderLaws.{RisesStrictly, same_rising, any-in_order, sorted_in_order, rises_from_sorted}
+use Rattle.owned.specs.InOrderLaws.{same_rising, any-in_order, sorted_in_order, rises_from_sorted}
 use Rattle.owned.specs.Keyed.{text_cmp}
 use Rattle.owned.specs.Listed.{listed}
 use Rattle.tz_lookup.specs.Databases.{names_of, resolves}

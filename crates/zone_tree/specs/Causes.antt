@@ -1,5 +1,5 @@
 -- Why a run over a source has no archive, and the bytes that it is to write.
-use Rattle.std.specs.Prelude.{◌≡◌, ℕ, List, [], ◌∷◌, ◌++◌, take, Option, Some, None, Result, Ok, Err, IsSome, codes}
+use Rattle.std.specs.Prelude.{ℕ, List, [], ◌∷◌, ◌++◌, take, Option, Some, None, Result, Ok, Err, codes}
 use Rattle.zone_run.specs.Due.{labelled}
 use Rattle.zone_source.specs.FaultLines.{source_line}
 use Rattle.zone_tree.specs.Refusals.{group_of, word_of}
