@@ -18,6 +18,8 @@ class Text:
     name: str
     text: bytes
     due: object
+    # The fault line that is due of `zone_plain`, where it has one of its own.
+    due_of_plain: object = None
 
 
 def repeated(piece, size):
@@ -103,6 +105,16 @@ def rules_and_lines(size, rulesets=1, offsets=1):
             + numbered(ruled, size - half - 40) + b" 0:00 - CCC\n")
 
 
+def rules_and_offsets(count):
+    """A ruleset of so many rules, and as many lines under it, each with an offset of its own and `%z`."""
+    def ruled(number):
+        minutes, seconds = divmod(number, 60)
+        return b" 0:%02d:%02d R %%z %s\n" % (minutes, seconds, hour_of(number))
+
+    rules = b"".join(b"Rule R %d only - Jan 1 0:00 0 -\n" % (1800 + number % 300) for number in range(count))
+    return rules + b"Zone A 0:00 - AAA 1\n" + b"".join(map(ruled, range(count))) + b" 0:00 - CCC\n"
+
+
 def small_texts():
     yield Text("nothing", b"", UNKNOWN)
     for value in range(256):
@@ -133,6 +145,7 @@ def large_texts():
     yield Text("100,000 continuations", b"Zone A 0:00 - AAA 1\n" + b"".join(b" 1:00 - BBB %s\n" % day_of(n) for n in range(99_999)) + b" 0:00 - CCC\n", ANSWERS)
     yield Text("10,000 rules of all years", b"".join(map(all_years, range(10_000))) + b"Zone A 0:00 R AAA\n", ANSWERS)
     yield Text("rules from min on", b"".join(map(rule, range(1000))) + b"Zone A 0:00 R AAA\n", "schedule RuleYears")
+    yield Text("2,000 rules under 2,000 offsets of %z", rules_and_offsets(2_000), ANSWERS, "plain: too long")
     megabyte = b"M" * 1_000_000
     yield Text("a zone's name of a megabyte", ZONE + b"Zone " + megabyte + b" 0:00 - AAA\n", ANSWERS)
     yield Text("a ruleset's name of a megabyte", TWO_RULES.replace(b" R ", b" " + megabyte + b" ") + b"Zone A 0:00 " + megabyte + b" AAA\n", ANSWERS)
@@ -184,13 +197,16 @@ def is_due(program, run, due):
         return answers or program.is_own_fault(run.output)
     if due == MAY_RUN_OUT:
         return answers or program.is_own_fault(run.output) or (run.status, run.output) == (5, b"")
-    if due.startswith(("source", "request", "file")):
+    if due.startswith(("source", "request", "file", "plain")):
         return fault and run.output == due.encode() + b"\n"
     return fault and re.fullmatch(rf"{program.label}: {due}\n".encode(), run.output) is not None
 
 
-def due_of(program, due):
+def due_of(program, text):
     """What is due of a program that reads the text as another kind of file, or that looks for no zone A in it."""
+    due = text.due
+    if program.name == "zone_plain" and text.due_of_plain is not None:
+        return text.due_of_plain
     if program.has_all_zones():
         if due in (ANSWERS, MAY_RUN_OUT):
             return MAY_RUN_OUT
@@ -212,7 +228,7 @@ def try_all(pool, runner, tally, programs, compiled):
     def as_file(text):
         path = runner.keep(text.text)
         for program in programs:
-            hold(program, text, path, b"at A 0\n" if program.has_input else b"", due_of(program, text.due))
+            hold(program, text, path, b"at A 0\n" if program.has_input else b"", due_of(program, text))
         runner.drop(path)
 
     def as_compiled(text):

@@ -83,95 +83,95 @@ ascii_text [] ascii = refl
 ascii_text (b ∷ text) ascii =
     and_from (is_ascii b) (is_ascii_text text) (ascii_char b (ascii 0)) (ascii_text text (λ i. ascii (suc i)))
 
-pub bool_width : (truth : Bool) (f : Options) → f.precision ≡ None → f.fill < 128 → IsExactAt of_bool.ghosts truth f
-bool_width truth f none fill =
+pub bool_is_exact : (truth : Bool) (f : Options) → f.precision ≡ None → f.fill < 128 → IsExactAt of_bool.ghosts truth f
+bool_is_exact truth f none fill =
     let exact = uncut f.precision none in
     record { exact = exact; width = laws_bool.width_law-law truth f exact fill }
 
-pub char_width : (c : ℕ) (f : Options) → c < 128 → f.precision ≡ None → f.fill < 128 → IsExactAt of_char.ghosts c f
-char_width c f small none fill =
+pub char_is_exact : (c : ℕ) (f : Options) → c < 128 → f.precision ≡ None → f.fill < 128 → IsExactAt of_char.ghosts c f
+char_is_exact c f small none fill =
     let exact = and_from (is_ascii c) (is_none f.precision) (ascii_char c small) (uncut f.precision none) in
     record { exact = exact; width = laws_char.width_law-law c f exact fill }
 
-pub text_width : (text : Text) (f : Options) → IsAscii text.0.now → f.fill < 128 → IsExactAt of_text.ghosts text f
-text_width text f ascii fill =
+pub text_is_exact : (text : Text) (f : Options) → IsAscii text.0.now → f.fill < 128 → IsExactAt of_text.ghosts text f
+text_is_exact text f ascii fill =
     let exact = ascii_text text.0.now ascii in
     record { exact = exact; width = laws_text.width_law-law text f exact fill }
 
-pub string_width : (text : String Global) (f : Options) → IsAscii (string_bytes text) → f.fill < 128 → IsExactAt of_string.ghosts text f
-string_width text f ascii fill =
+pub string_is_exact : (text : String Global) (f : Options) → IsAscii (string_bytes text) → f.fill < 128 → IsExactAt of_string.ghosts text f
+string_is_exact text f ascii fill =
     let exact = ascii_text (string_bytes text) ascii in
     record { exact = exact; width = laws_string.width_law-law text f exact fill }
 
-pub cow_width : (text : CowStr Global) (f : Options) → IsAscii (cow_str_bytes text) → f.fill < 128 → IsExactAt of_cow.ghosts text f
-cow_width text f ascii fill =
+pub cow_is_exact : (text : CowStr Global) (f : Options) → IsAscii (cow_str_bytes text) → f.fill < 128 → IsExactAt of_cow.ghosts text f
+cow_is_exact text f ascii fill =
     let exact = ascii_text (cow_str_bytes text) ascii in
     record { exact = exact; width = laws_cow.width_law-law text f exact fill }
 
 -- a buffer of any size
-pub buffer_width : (size : RattleType) (text : List ℕ) (f : Options) → IsAscii text → f.precision ≡ None → f.fill < 128
+pub buffer_is_exact : (size : RattleType) (text : List ℕ) (f : Options) → IsAscii text → f.precision ≡ None → f.fill < 128
     → IsExactAt (of_buffer.ghosts size) text f
-buffer_width size text f ascii none fill =
+buffer_is_exact size text f ascii none fill =
     let exact = and_from (is_ascii_text text) (is_none f.precision) (ascii_text text ascii) (uncut f.precision none) in
     record { exact = exact; width = buffer_law text f exact fill }
 
-pub u8_width : (n : ℕ) (f : Options) → f.sign_minus ≡ false → f.fill < 128 → IsExactAt of_u8.ghosts n f
-u8_width n f none fill = record { exact = not_from_false f.sign_minus none; width = laws_u8.width_law-law n f (not_from_false f.sign_minus none) fill }
+pub u8_is_exact : (n : ℕ) (f : Options) → f.sign_minus ≡ false → f.fill < 128 → IsExactAt of_u8.ghosts n f
+u8_is_exact n f none fill = record { exact = not_from_false f.sign_minus none; width = laws_u8.width_law-law n f (not_from_false f.sign_minus none) fill }
 
-pub u16_width : (n : ℕ) (f : Options) → f.sign_minus ≡ false → f.fill < 128 → IsExactAt of_u16.ghosts n f
-u16_width n f none fill = record { exact = not_from_false f.sign_minus none; width = laws_u16.width_law-law n f (not_from_false f.sign_minus none) fill }
+pub u16_is_exact : (n : ℕ) (f : Options) → f.sign_minus ≡ false → f.fill < 128 → IsExactAt of_u16.ghosts n f
+u16_is_exact n f none fill = record { exact = not_from_false f.sign_minus none; width = laws_u16.width_law-law n f (not_from_false f.sign_minus none) fill }
 
-pub u32_width : (n : ℕ) (f : Options) → f.sign_minus ≡ false → f.fill < 128 → IsExactAt of_u32.ghosts n f
-u32_width n f none fill = record { exact = not_from_false f.sign_minus none; width = laws_u32.width_law-law n f (not_from_false f.sign_minus none) fill }
+pub u32_is_exact : (n : ℕ) (f : Options) → f.sign_minus ≡ false → f.fill < 128 → IsExactAt of_u32.ghosts n f
+u32_is_exact n f none fill = record { exact = not_from_false f.sign_minus none; width = laws_u32.width_law-law n f (not_from_false f.sign_minus none) fill }
 
-pub u64_width : (n : ℕ) (f : Options) → f.sign_minus ≡ false → f.fill < 128 → IsExactAt of_u64.ghosts n f
-u64_width n f none fill = record { exact = not_from_false f.sign_minus none; width = laws_u64.width_law-law n f (not_from_false f.sign_minus none) fill }
+pub u64_is_exact : (n : ℕ) (f : Options) → f.sign_minus ≡ false → f.fill < 128 → IsExactAt of_u64.ghosts n f
+u64_is_exact n f none fill = record { exact = not_from_false f.sign_minus none; width = laws_u64.width_law-law n f (not_from_false f.sign_minus none) fill }
 
-pub u128_width : (n : ℕ) (f : Options) → f.sign_minus ≡ false → f.fill < 128 → IsExactAt of_u128.ghosts n f
-u128_width n f none fill = record { exact = not_from_false f.sign_minus none; width = laws_u128.width_law-law n f (not_from_false f.sign_minus none) fill }
+pub u128_is_exact : (n : ℕ) (f : Options) → f.sign_minus ≡ false → f.fill < 128 → IsExactAt of_u128.ghosts n f
+u128_is_exact n f none fill = record { exact = not_from_false f.sign_minus none; width = laws_u128.width_law-law n f (not_from_false f.sign_minus none) fill }
 
-pub usize_width : (n : ℕ) (f : Options) → f.sign_minus ≡ false → f.fill < 128 → IsExactAt of_usize.ghosts n f
-usize_width n f none fill = record { exact = not_from_false f.sign_minus none; width = laws_usize.width_law-law n f (not_from_false f.sign_minus none) fill }
+pub usize_is_exact : (n : ℕ) (f : Options) → f.sign_minus ≡ false → f.fill < 128 → IsExactAt of_usize.ghosts n f
+usize_is_exact n f none fill = record { exact = not_from_false f.sign_minus none; width = laws_usize.width_law-law n f (not_from_false f.sign_minus none) fill }
 
-pub i8_width : (z : ℤ) (f : Options) → f.fill < 128 → IsExactAt of_i8.ghosts z f
-i8_width z f fill = record { exact = refl; width = laws_i8.width_law-law z f refl fill }
+pub i8_is_exact : (z : ℤ) (f : Options) → f.fill < 128 → IsExactAt of_i8.ghosts z f
+i8_is_exact z f fill = record { exact = refl; width = laws_i8.width_law-law z f refl fill }
 
-pub i16_width : (z : ℤ) (f : Options) → f.fill < 128 → IsExactAt of_i16.ghosts z f
-i16_width z f fill = record { exact = refl; width = laws_i16.width_law-law z f refl fill }
+pub i16_is_exact : (z : ℤ) (f : Options) → f.fill < 128 → IsExactAt of_i16.ghosts z f
+i16_is_exact z f fill = record { exact = refl; width = laws_i16.width_law-law z f refl fill }
 
-pub i32_width : (z : ℤ) (f : Options) → f.fill < 128 → IsExactAt of_i32.ghosts z f
-i32_width z f fill = record { exact = refl; width = laws_i32.width_law-law z f refl fill }
+pub i32_is_exact : (z : ℤ) (f : Options) → f.fill < 128 → IsExactAt of_i32.ghosts z f
+i32_is_exact z f fill = record { exact = refl; width = laws_i32.width_law-law z f refl fill }
 
-pub i64_width : (z : ℤ) (f : Options) → f.fill < 128 → IsExactAt of_i64.ghosts z f
-i64_width z f fill = record { exact = refl; width = laws_i64.width_law-law z f refl fill }
+pub i64_is_exact : (z : ℤ) (f : Options) → f.fill < 128 → IsExactAt of_i64.ghosts z f
+i64_is_exact z f fill = record { exact = refl; width = laws_i64.width_law-law z f refl fill }
 
-pub i128_width : (z : ℤ) (f : Options) → f.fill < 128 → IsExactAt of_i128.ghosts z f
-i128_width z f fill = record { exact = refl; width = laws_i128.width_law-law z f refl fill }
+pub i128_is_exact : (z : ℤ) (f : Options) → f.fill < 128 → IsExactAt of_i128.ghosts z f
+i128_is_exact z f fill = record { exact = refl; width = laws_i128.width_law-law z f refl fill }
 
-pub isize_width : (z : ℤ) (f : Options) → f.fill < 128 → IsExactAt of_isize.ghosts z f
-isize_width z f fill = record { exact = refl; width = laws_isize.width_law-law z f refl fill }
+pub isize_is_exact : (z : ℤ) (f : Options) → f.fill < 128 → IsExactAt of_isize.ghosts z f
+isize_is_exact z f fill = record { exact = refl; width = laws_isize.width_law-law z f refl fill }
 
 -- what leads to a value or holds it: where the width of the value is exact
 module _ (T M : RattleType) (shows : Ghosts T.Denot M.Denot) (shows_table ends_table : Dict) where
-  pub ref_width : (value : Bor T.Denot) (f : Options) → IsExactAt shows value.now f
+  pub ref_is_exact : (value : Bor T.Denot) (f : Options) → IsExactAt shows value.now f
       → IsExactAt (of_ref.ghosts T M shows shows_table ends_table) value f
-  ref_width value f inside = record { exact = inside.exact; width = inside.width }
+  ref_is_exact value f inside = record { exact = inside.exact; width = inside.width }
 
-  pub mut_width : (value : MutBor T.Denot) (f : Options) → IsExactAt shows value.now f
+  pub mut_is_exact : (value : MutBor T.Denot) (f : Options) → IsExactAt shows value.now f
       → IsExactAt (of_mut.ghosts T M shows shows_table ends_table) value f
-  mut_width value f inside = record { exact = inside.exact; width = inside.width }
+  mut_is_exact value f inside = record { exact = inside.exact; width = inside.width }
 
-  pub wrapping_width : (value : Wrapping T.Denot) (f : Options) → IsExactAt shows value.0 f
+  pub wrapping_is_exact : (value : Wrapping T.Denot) (f : Options) → IsExactAt shows value.0 f
       → IsExactAt (of_wrapping.ghosts T M shows shows_table ends_table) value f
-  wrapping_width value f inside = record { exact = inside.exact; width = inside.width }
+  wrapping_is_exact value f inside = record { exact = inside.exact; width = inside.width }
 
-  pub rc_width : (value : Rc T.Denot Global) (f : Options) → IsExactAt shows value.value f
+  pub rc_is_exact : (value : Rc T.Denot Global) (f : Options) → IsExactAt shows value.value f
       → IsExactAt (of_rc.ghosts T M shows shows_table ends_table) value f
-  rc_width value f inside = record { exact = inside.exact; width = inside.width }
+  rc_is_exact value f inside = record { exact = inside.exact; width = inside.width }
 
-  pub arc_width : (value : Arc T.Denot Global) (f : Options) → IsExactAt shows (arc_value value) f
+  pub arc_is_exact : (value : Arc T.Denot Global) (f : Options) → IsExactAt shows (arc_value value) f
       → IsExactAt (of_arc.ghosts T M shows shows_table ends_table) value f
-  arc_width value f inside = record { exact = inside.exact; width = inside.width }
+  arc_is_exact value f inside = record { exact = inside.exact; width = inside.width }
 
   pub box_width : (value : Box T.Denot) (f : Options) → IsExactAt shows value.value f
       → IsExactAt (of_box.ghosts T M shows shows_table ends_table) value f
