@@ -173,6 +173,6 @@ module _ (T M : RattleType) (shows : Ghosts T.Denot M.Denot) (shows_table ends_t
       → IsExactAt (of_arc.ghosts T M shows shows_table ends_table) value f
   arc_is_exact value f inside = record { exact = inside.exact; width = inside.width }
 
-  pub box_width : (value : Box T.Denot) (f : Options) → IsExactAt shows value.value f
+  pub box_is_exact : (value : Box T.Denot) (f : Options) → IsExactAt shows value.value f
       → IsExactAt (of_box.ghosts T M shows shows_table ends_table) value f
-  box_width value f inside = record { exact = inside.exact; width = inside.width }
+  box_is_exact value f inside = record { exact = inside.exact; width = inside.width }
