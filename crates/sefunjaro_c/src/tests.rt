@@ -95,8 +95,21 @@ fn a_source_has_names_and_faults(rt: HostRuntime) {
     drop(source.value(alloc));
 }
 
+/// A clock that nothing was written to yet.
+fn no_clock() -> Clock {
+    Clock {
+        year: 0,
+        month: 0,
+        day: 0,
+        hour: 0,
+        minute: 0,
+        second: 0,
+        nanosecond: 0,
+    }
+}
+
 #[test]
-fn a_zone_is_asked_at_an_instant(rt: HostRuntime) {
+fn a_zone_is_asked_what_is_in_force(rt: HostRuntime) {
     let alloc = rt.alloc();
     let mut zone = zone_of(&rt, alloc, b"US/Eastern");
     let mut offset = 0;
@@ -117,43 +130,36 @@ fn a_zone_is_asked_at_an_instant(rt: HostRuntime) {
         &sefunjaro_in_force(alloc, &mut zone, 1_710_054_000, 0, &mut found, &mut name),
         &DONE,
     );
-    same(
-        &rt,
-        &found,
-        &InForce {
-            offset: -14_400,
-            is_saving: true,
-            name_length: 3,
-        },
-    );
-    same(&rt, &name, b"EDT");
-    let mut clock = Clock {
-        year: 0,
-        month: 0,
-        day: 0,
-        hour: 0,
-        minute: 0,
-        second: 0,
-        nanosecond: 0,
+    let daylight_saving = InForce {
+        offset: -14_400,
+        is_saving: true,
+        name_length: 3,
     };
+    same(&rt, &(&found, &name), &(&daylight_saving, b"EDT"));
+    drop(zone.value(alloc));
+}
+
+#[test]
+fn a_zone_is_asked_what_its_clocks_show(rt: HostRuntime) {
+    let alloc = rt.alloc();
+    let mut zone = zone_of(&rt, alloc, b"US/Eastern");
+    let mut offset = 0;
+    let mut clock = no_clock();
     same(
         &rt,
         &sefunjaro_clock_at(alloc, &mut zone, 1_710_054_000, 5, &mut clock, &mut offset),
         &DONE,
     );
-    same(
-        &rt,
-        &clock,
-        &Clock {
-            year: 2024,
-            month: 3,
-            day: 10,
-            hour: 3,
-            minute: 0,
-            second: 0,
-            nanosecond: 5,
-        },
-    );
+    let after_the_gap = Clock {
+        year: 2024,
+        month: 3,
+        day: 10,
+        hour: 3,
+        minute: 0,
+        second: 0,
+        nanosecond: 5,
+    };
+    same(&rt, &clock, &after_the_gap);
     let mut text = [0; 10];
     let mut whole = 0;
     same(
@@ -165,99 +171,68 @@ fn a_zone_is_asked_at_an_instant(rt: HostRuntime) {
     drop(zone.value(alloc));
 }
 
-#[test]
-fn a_zone_is_asked_at_a_local_time(rt: HostRuntime) {
-    let alloc = rt.alloc();
-    let mut first = zone_of(&rt, alloc, b"America/New_York");
+/// Asks a zone for the readings of a local time, and for the change that skips it.
+fn ask_local(
+    rt: &impl Abort,
+    alloc: Global,
+    text: &[u8],
+    readings: &mut [Reading],
+    gap: &mut Gap,
+) -> usize {
+    let mut first = zone_of(rt, alloc, b"America/New_York");
     let mut zone = Handle::closed();
-    same(&rt, &sefunjaro_share(alloc, &mut first, &mut zone), &DONE);
+    same(rt, &sefunjaro_share(alloc, &mut first, &mut zone), &DONE);
     sefunjaro_close(alloc, &mut first);
     drop(first.value(alloc));
-    let mut clock = Clock {
-        year: 0,
-        month: 0,
-        day: 0,
-        hour: 0,
-        minute: 0,
-        second: 0,
-        nanosecond: 0,
-    };
-    let mut readings = [
-        Reading {
-            second: 0,
-            offset: 0,
-        },
-        Reading {
-            second: 0,
-            offset: 0,
-        },
-    ];
+    let mut clock = no_clock();
+    same(rt, &sefunjaro_read_local(text, &mut clock), &DONE);
     let mut count = 0;
-    let mut gap = Gap {
+    same(
+        rt,
+        &sefunjaro_readings(alloc, &mut zone, &clock, readings, &mut count, gap),
+        &DONE,
+    );
+    drop(zone.value(alloc));
+    count
+}
+
+/// A gap that nothing was written to yet.
+fn no_gap() -> Gap {
+    Gap {
         second: 0,
         before: 0,
         after: 0,
+    }
+}
+
+#[test]
+fn a_fold_has_two_readings(rt: HostRuntime) {
+    let before = Reading {
+        second: 1_730_611_800,
+        offset: -14_400,
     };
-    same(
-        &rt,
-        &sefunjaro_read_local(b"2024-11-03 01:30:00.000000000", &mut clock),
-        &DONE,
-    );
-    same(
-        &rt,
-        &sefunjaro_readings(
-            alloc,
-            &mut zone,
-            &clock,
-            &mut readings,
-            &mut count,
-            &mut gap,
-        ),
-        &DONE,
-    );
-    same(&rt, &count, &2);
-    same(
-        &rt,
-        &readings,
-        &[
-            Reading {
-                second: 1_730_611_800,
-                offset: -14_400,
-            },
-            Reading {
-                second: 1_730_615_400,
-                offset: -18_000,
-            },
-        ],
-    );
-    same(
-        &rt,
-        &sefunjaro_read_local(b"2024-03-10 02:30:00.000000000", &mut clock),
-        &DONE,
-    );
-    same(
-        &rt,
-        &sefunjaro_readings(
-            alloc,
-            &mut zone,
-            &clock,
-            &mut readings,
-            &mut count,
-            &mut gap,
-        ),
-        &DONE,
-    );
-    same(&rt, &count, &0);
-    same(
-        &rt,
-        &gap,
-        &Gap {
-            second: 1_710_054_000,
-            before: -18_000,
-            after: -14_400,
-        },
-    );
-    drop(zone.value(alloc));
+    let after = Reading {
+        second: 1_730_615_400,
+        offset: -18_000,
+    };
+    let mut readings = [after, after];
+    let mut gap = no_gap();
+    let text = b"2024-11-03 01:30:00.000000000";
+    let count = ask_local(&rt, rt.alloc(), text, &mut readings, &mut gap);
+    same(&rt, &(count, &readings), &(2, &[before, after]));
+}
+
+#[test]
+fn a_gap_has_no_reading(rt: HostRuntime) {
+    let mut gap = no_gap();
+    let text = b"2024-03-10 02:30:00.000000000";
+    let count = ask_local(&rt, rt.alloc(), text, &mut [], &mut gap);
+    let skipped_by = Gap {
+        second: 1_710_054_000,
+        before: -18_000,
+        after: -14_400,
+    };
+    same(&rt, &(count, &gap), &(0, &skipped_by));
 }
 
 #[test]
