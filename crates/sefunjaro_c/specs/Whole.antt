@@ -10,7 +10,7 @@ use Rattle.zone_tzif_core.specs.Totals.{file_total_at}
 use Rattle.zone_tzif_core.specs.Zones.{ZoneValue}
 use Rattle.zone_tzif_core.specs.declared.values.WriteFault.{WriteFault}
 use Rattle.zone_tzif_core.specs.declared.values.WriteFault.TheVariants as write
-use Rattle.zone_tzif_set.specs.Files.{file_fault, file_of, footer_of}
+use Rattle.zone_tzif_set.specs.Files.{file_fault, file_of_set, footer_of}
 use Rattle.zone_tzif_set.specs.declared.file.FileFault.{FileFault}
 use Rattle.zone_tzif_set.specs.declared.file.FileFault.TheVariants as file
 use Rattle.zone_open.specs.Rooms.{filled}
@@ -82,9 +82,9 @@ file_due zone = option_map (λ fault. none_for (file_number fault)) (file_fault 
 -- at each instant, and its footer is the string that carries the zone on, if there is one.
 pub record IsFileIn (zone : OpenZone) (old new : List ℕ) (whole : ℕ) : Type 0 where
   pub none : file_fault (set_in zone) ≡ None
-  pub room : new ≡ filled (file_of (set_in zone)) old
-  pub length : whole ≡ length (file_of (set_in zone))
-  pub totals : (value : ZoneValue) → Denotes (file_of (set_in zone)) value → (t : ℤ) → file_total_at value t ≡ total_in zone t
+  pub room : new ≡ filled (file_of_set (set_in zone)) old
+  pub length : whole ≡ length (file_of_set (set_in zone))
+  pub totals : (value : ZoneValue) → Denotes (file_of_set (set_in zone)) value → (t : ℤ) → file_total_at value t ≡ total_in zone t
   pub carried : tail_fault (set_in zone) ≡ None → CarriesOn (set_in zone) (found_from (set_in zone)) (footer_of (set_in zone))
 
 -- it is told, or why there is none

@@ -8,6 +8,7 @@ use Rattle.zone_plain_offsets.specs.WrittenOut.{written_out}
 use Rattle.zone_plain.specs.LineValues.{values_in}
 use Rattle.zone_plain.specs.Plain.{if_short, plain_of}
 use Rattle.zone_plain.specs.Written.{written}
+use Rattle.zone_open.proofs.CaseLemmas.{not_ok}
 use Rattle.zone_open.specs.AnySources.{IsAnyFault, IsFormFault}
 use Rattle.zone_open.specs.declared.any_source.AnySourceFault.{AnySourceFault}
 use Rattle.zone_open.specs.declared.any_source.AnySourceFault.TheVariants.{TooLong, Line, PlainTooLong, Plain, NoMemory}
@@ -24,19 +25,13 @@ is_short : (bytes form : List ℕ) → if_short bytes ≡ Ok form → length for
 is_short bytes form e = either (nat_lt 16777216 (length bytes)) refl e
   where
     either : (long : Bool) → long ≡ nat_lt 16777216 (length bytes) → cond long (Err too_long) (Ok bytes) ≡ Ok form → length form ≤ 16777216
-    either true h e = absurd (apart e)
-      where
-        apart : {form : List ℕ} → {bytes : Refusal} → Err bytes ≡ Ok form → ⊥
-        apart e = cc
+    either true h e = absurd (not_ok e)
     either false h e = subst (λ l. length l ≤ 16777216) (ap (taken form) e) (not_more (length bytes) h)
 
 after : {A : Type 0} → (read : Result A Refusal) (next : A → Result (List ℕ) Refusal) (form : List ℕ)
     → ((a : A) → next a ≡ Ok form → length form ≤ 16777216) → ◌>>=◌ read next ≡ Ok form → length form ≤ 16777216
 after (Ok a) next form short e = short a e
-after (Err refusal) next form short e = absurd (apart e)
-  where
-    apart : {form : List ℕ} → {refusal : Refusal} → Err refusal ≡ Ok form → ⊥
-    apart e = cc
+after (Err refusal) next form short e = absurd (not_ok e)
 
 -- a plain form is no longer than a source may be
 pub plain_short : (text form : List ℕ) → plain_of text ≡ Ok form → length form ≤ 16777216

@@ -12,11 +12,11 @@ use Rattle.zone_tree.specs.Names.{Finds}
 use Rattle.zone_tree.specs.declared.refusal.Why.{Why}
 use Rattle.zone_tree.specs.declared.refusal.Why.TheVariants.{Schedule, OffsetRange, File, Name, Size}
 use Rattle.zone_tzif_core.specs.declared.values.WriteFault.{WriteFault}
-use Rattle.zone_tzif_set.specs.Files.{file_fault, file_of}
+use Rattle.zone_tzif_set.specs.Files.{file_fault, file_of_set}
 
 -- the file of a set, or why there is none
 abbrev pub file_or : Option WriteFault → FixedTimespanSet → Result Content Why
-file_or None set = Ok (of_file (file_of set))
+file_or None set = Ok (of_file (file_of_set set))
 file_or (Some fault) set = Err (File fault)
 
 -- the file of what the name of a zone finds; a name that finds nothing is none of the archive's

@@ -20,8 +20,8 @@ abbrev pub zone_of : FixedTimespanSet → ZoneValue
 zone_of set = value_of set (footer_of set)
 
 -- its file
-abbrev pub file_of : FixedTimespanSet → List ℕ
-file_of set = tzif (zone_of set)
+abbrev pub file_of_set : FixedTimespanSet → List ℕ
+file_of_set set = tzif (zone_of set)
 
 -- why there is none
 abbrev pub file_fault : FixedTimespanSet → Option WriteFault
@@ -36,5 +36,5 @@ IsFileFault Names fault = fault ≡ Some write.Names
 
 -- the file where there is no cause, or the cause
 abbrev pub Makes : {V : Type 0} → (V → List ℕ) → FixedTimespanSet → Result V FileFault → Type 0
-Makes bytes set (Ok file) = (file_fault set ≡ None) × (bytes file ≡ file_of set)
+Makes bytes set (Ok file) = (file_fault set ≡ None) × (bytes file ≡ file_of_set set)
 Makes bytes set (Err fault) = IsFileFault fault (file_fault set)
