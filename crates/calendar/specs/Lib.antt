@@ -4,10 +4,10 @@ pub mod Dates
 pub mod Days
 pub mod Weekdays
 -- Laws: what a caller may use.
+pub mod ComparisonLaws
 pub mod DateLaws
 pub mod LogicLaws
 pub mod MonthLaws
-pub mod Orders
-pub mod Signs
+pub mod SignedLaws
 pub mod WeekdayLaws
 pub mod YearLaws

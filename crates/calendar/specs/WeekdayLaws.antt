@@ -4,7 +4,7 @@ use Rattle.std.proofs.lemmas.Bool.Decides.{nat_tests}
 use Rattle.calendar.specs.Dates.{last_with}
 use Rattle.calendar.specs.DateLaws.{last_with-is, place_of}
 use Rattle.calendar.specs.Days.{day, IsCountedYear}
-use Rattle.calendar.specs.Signs.{signed, floored}
+use Rattle.calendar.specs.SignedLaws.{signed, floored}
 use Rattle.calendar.specs.Weekdays.{weekday_of}
 use Rattle.calendar.specs.YearLaws.{day-cycle}
 

@@ -3,7 +3,7 @@ use Rattle.std.proofs.Common.{◌≡◌, ℕ, zero, suc, ◌+◌, ◌-◌, ◌*�
 use Rattle.std.proofs.lemmas.Bool.Decides.{nat_tests}
 use Rattle.calendar.specs.Days.{is_leap, days_in_year, days_after_zero, days_before_zero, year_start, day, days_into_year, days_through}
 use Rattle.calendar.specs.Cycles.{cycle_days}
-use Rattle.calendar.specs.Signs.{signed}
+use Rattle.calendar.specs.SignedLaws.{signed}
 
 -- the day that a leap year has more
 abbrev leap_day_of : Bool → ℕ

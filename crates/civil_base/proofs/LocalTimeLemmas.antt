@@ -4,7 +4,7 @@ use Rattle.std.proofs.Common.{sym, ap, ◌∙◌, arith, ℤ, pos, ◌+ℤ◌, �
 use Rattle.std.proofs.lemmas.Bool.{and_from, and_parts, false_from_ne_true, cond-false}
 use Rattle.std.proofs.lemmas.Slice.Eq.{bytes_eq-Decides}
 use Rattle.std.specs.Int.Signed.{le_z_yes}
-use Rattle.calendar.specs.Signs.{signed, natural}
+use Rattle.calendar.specs.SignedLaws.{signed, natural}
 use Rattle.calendar.specs.DateLaws.{last_with-is}
 use Rattle.civil_base.specs.Layout.{local_text}
 use Rattle.civil_base.specs.LocalTimes.{is_text_of, nth_time, time_with, local_time_in}

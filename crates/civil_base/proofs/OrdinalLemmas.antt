@@ -4,7 +4,7 @@ use Rattle.calendar.specs.Days.{day, IsDate}
 use Rattle.calendar.specs.Dates.{year_of, month_of, day_of}
 use Rattle.calendar.specs.DateLaws.{day-into_year, day-last_of_year, days_into_year-bound}
 use Rattle.calendar.specs.MonthLaws.{days_in_year-bounds, days_in_month-december}
-use Rattle.calendar.specs.Signs.{signed, signed_casts}
+use Rattle.calendar.specs.SignedLaws.{signed, signed_casts}
 use Rattle.civil_base.specs.Ordinals.{IsOrdinal, ordinal_day, ordinal_of}
 use Rattle.civil_base.specs.Ranges.{IsYear, IsDay}
 use Rattle.civil_base.specs.DayLaws.{date_of-day}

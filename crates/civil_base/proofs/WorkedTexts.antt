@@ -5,7 +5,7 @@ use Rattle.std.specs.Prelude.{codes}
 use Rattle.calendar.specs.Days.{is_leap, days_in_year, days_in_month, days_after_zero, days_before_zero, year_start, days_through}
 use Rattle.calendar.specs.Days.{days_into_year, day, IsDate, IsCountedYear}
 use Rattle.calendar.specs.DateLaws.{year_of-day, month_of-day, day_of-day}
-use Rattle.calendar.specs.Signs.{signed}
+use Rattle.calendar.specs.SignedLaws.{signed}
 use Rattle.civil_base.specs.Clock.{nanos_per_day, hour_of, minute_of, second_of, nanosecond_of, time_at}
 use Rattle.civil_base.specs.Instants.{local_at, instant_at, seconds_of}
 use Rattle.civil_base.specs.Layout.{two_digits, four_digits, year_sign, date_digits, time_text, day_part, time_part, local_text}

@@ -5,7 +5,7 @@ use Rattle.calendar.specs.Days.{is_leap, days_in_year, days_in_month, days_after
 use Rattle.calendar.specs.Days.{days_into_year, day, IsCountedYear, IsDate}
 use Rattle.calendar.specs.DateLaws.{day-between}
 use Rattle.calendar.specs.MonthLaws.{days_in_month-january}
-use Rattle.calendar.specs.Signs.{signed}
+use Rattle.calendar.specs.SignedLaws.{signed}
 use Rattle.civil_base.specs.Clock.{nanos_per_day}
 use Rattle.civil_base.specs.Ranges.{first_day, last_day, IsDay, IsInYears, IsYear}
 use Rattle.civil_base.specs.RangeLaws.{years_begin, years_end, years_between}

@@ -7,8 +7,8 @@ use Rattle.calendar.specs.Cycles.{cycle_days}
 use Rattle.calendar.specs.DateLaws.{IsYearOf, place_of}
 use Rattle.calendar.specs.Days.{day}
 use Rattle.calendar.specs.MonthLaws.{days_through-two}
-use Rattle.calendar.specs.Orders.{le_pass, le_fail, le_le}
-use Rattle.calendar.specs.Signs.{signed}
+use Rattle.calendar.specs.ComparisonLaws.{le_pass, le_fail, le_le}
+use Rattle.calendar.specs.SignedLaws.{signed}
 use Rattle.calendar.specs.YearLaws.{cycle_days-rise, day-cycle}
 use Rattle.tz_lookup.specs.Years.{year_second, begun_from, years_begun, HaveBegun, IsWithinYear}
 

@@ -6,8 +6,8 @@ use Rattle.calendar.specs.Dates.{last_with}
 use Rattle.calendar.specs.DateLaws.{day-between, day-last_of_year, place_of}
 use Rattle.calendar.specs.Days.{day, days_in_month, IsCountedYear, IsDate}
 use Rattle.calendar.specs.MonthLaws.{days_in_month-bounds, days_through-two}
-use Rattle.calendar.specs.Orders.{le_pass, lt_pass}
-use Rattle.calendar.specs.Signs.{signed}
+use Rattle.calendar.specs.ComparisonLaws.{le_pass, lt_pass}
+use Rattle.calendar.specs.SignedLaws.{signed}
 use Rattle.calendar.specs.WeekdayLaws.{day-from_first, last_with_weekday, weekday_of-small, weekday_in_month}
 use Rattle.calendar.specs.Weekdays.{weekday_of}
 use Rattle.calendar.specs.YearLaws.{cycle_days-suc, day-cycle}

@@ -5,8 +5,8 @@ use Rattle.std.proofs.lemmas.Int.{by_lt_z}
 use Rattle.calendar.specs.Dates.{year_of}
 use Rattle.calendar.specs.DateLaws.{day-between, day-range, year_of-is}
 use Rattle.calendar.specs.Days.{day, IsCountedYear}
-use Rattle.calendar.specs.Orders.{le_pass, le_fail, lt_from_pass, lt_from_fail}
-use Rattle.calendar.specs.Signs.{signed, floored, natural}
+use Rattle.calendar.specs.ComparisonLaws.{le_pass, le_fail, lt_from_pass, lt_from_fail}
+use Rattle.calendar.specs.SignedLaws.{signed, floored, natural}
 use Rattle.zone_values.specs.declared.year.Year.TheVariants.{Maximum, Number}
 use Rattle.zone_table.specs.Moments.{applies_to_year, last_year, is_at_most, is_at_least}
 use Rattle.zone_table.specs.declared.rule.RuleInfo.{RuleInfo}

@@ -2,7 +2,7 @@
 use Rattle.std.proofs.Common.{◌≡◌, ℕ, zero, suc, ◌<◌, ◌≤◌, Bool, true, false, cond, ◌&&◌, List, [], ◌∷◌, ◌++◌, map, reverse, Some, None, ℤ, ◌+ℤ◌, ◌-ℤ◌, ◌<ℤ◌, ◌≤ℤ◌, int_le, refl, sym, ap, ◌∙◌, subst, arith, append-nil}
 use Rattle.std.proofs.lemmas.Int.{ints}
 use Rattle.std.proofs.lemmas.List.{reverse-append, map-append}
-use Rattle.calendar.specs.Orders.{lt_fail}
+use Rattle.calendar.specs.ComparisonLaws.{lt_fail}
 use Rattle.owned.specs.Sorted.{put_in, stable_sort}
 use Rattle.zone_table.specs.declared.rule.RuleInfo.{RuleInfo}
 use Rattle.zone_spans.specs.Collapse.{is_same_span, is_no_later, kept_with, kept_of, EntryTimesDontFall}

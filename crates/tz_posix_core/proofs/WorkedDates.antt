@@ -4,7 +4,7 @@ use Rattle.calendar.specs.Days.{is_leap, days_in_year, days_in_month, days_after
 use Rattle.calendar.specs.Days.{day, IsDate, IsCountedYear}
 use Rattle.calendar.specs.Dates.{last_with}
 use Rattle.calendar.specs.DateLaws.{month_of-day, day_of-day}
-use Rattle.calendar.specs.Signs.{signed}
+use Rattle.calendar.specs.SignedLaws.{signed}
 use Rattle.calendar.specs.Weekdays.{weekday_of}
 use Rattle.tz_posix_core.specs.Days.{julian_day, nth_weekday, rule_day, day_refusal}
 use Rattle.tz_posix_core.specs.declared.date.Date.TheVariants.{N, M}

@@ -8,7 +8,7 @@ use Rattle.calendar.specs.Days.{is_leap, days_in_year, days_in_month, days_after
 use Rattle.calendar.specs.Days.{days_into_year, day, IsCountedYear, IsDate}
 use Rattle.calendar.specs.MonthLaws.{days_in_month-january, days_in_month-december, days_in_month-february}
 use Rattle.calendar.specs.MonthLaws.{days_through-late, days_through-two}
-use Rattle.calendar.specs.Signs.{signed}
+use Rattle.calendar.specs.SignedLaws.{signed}
 use Rattle.calendar.specs.YearLaws.{days_in_year-cases}
 use Rattle.civil_base.specs.DayRangeLaws.{counted, date-inside, new_year}
 use Rattle.civil_base.specs.Ranges.{IsDay, IsYear}

@@ -2,8 +2,8 @@
 use Rattle.std.proofs.Common.{◌≡◌, Bool, true, false, cond, List, [], ◌∷◌, Option, Some, None, ℤ, pos, negsuc, int_le, sym, subst, ⊎_elim, arith}
 use Rattle.std.specs.List.{filter, list_all}
 use Rattle.std.proofs.lemmas.Bool.{and_parts, cases_Bool}
-use Rattle.calendar.specs.Signs.{one_sided, signed}
-use Rattle.calendar.specs.Orders.{le_from_pass}
+use Rattle.calendar.specs.SignedLaws.{one_sided, signed}
+use Rattle.calendar.specs.ComparisonLaws.{le_from_pass}
 use Rattle.civil_base.specs.Ranges.{IsOffset}
 use Rattle.civil_base.specs.RangeLaws.{offset_by_size}
 use Rattle.tz_footer.specs.InForce.{FooterZone, fixed, yearly, held_at, is_footer_saving}

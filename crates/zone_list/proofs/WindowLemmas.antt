@@ -2,7 +2,7 @@
 use Rattle.std.proofs.Common.{◌≡◌, ℕ, suc, ◌+◌, Bool, true, false, cond, List, [], ◌∷◌, take, drop, refl, sym, ap, ◌∙◌, arith, ℤ, ◌≤ℤ◌}
 use Rattle.std.specs.Prelude.{int_lt}
 use Rattle.std.specs.List.{prefix_len}
-use Rattle.calendar.specs.Orders.{lt_from_pass, lt_from_fail}
+use Rattle.calendar.specs.ComparisonLaws.{lt_from_pass, lt_from_fail}
 use Rattle.zone_spans.specs.Entries.{Entry}
 use Rattle.zone_list.specs.Windows.{within}
 use Rattle.zone_list.specs.WindowLaws.{AreFrom, Rise, from_earlier, lies_before, lies_within, one_more, no_more, none_within}

@@ -3,7 +3,7 @@ use Rattle.std.proofs.Common.{◌≡◌, ℕ, zero, suc, Bool, true, false, List
 use Rattle.std.specs.Prelude.{◌&&◌, IfErr, IfOk, IfSome, MatchResult, Result, Ok, Err, slice_get}
 use Rattle.std.specs.List.{list_all}
 use Rattle.std.proofs.lemmas.Int.{ints}
-use Rattle.calendar.specs.Orders.{le_pass}
+use Rattle.calendar.specs.ComparisonLaws.{le_pass}
 use Rattle.civil_base.specs.Ranges.{IsOffset}
 use Rattle.civil_base.specs.RangeLaws.{offset_least, offset_greatest}
 use Rattle.tz_footer.specs.InForce.{FooterZone, standard_total}

@@ -18,7 +18,7 @@ use Rattle.zone_spans.specs.Entries.{Entry, first_span, fixed_span, is_sooner, i
 use Rattle.zone_spans.specs.Faults.{begins_ruled, entry_test, first_met, is_unknown, line_fault, line_tests, schedule_fault}
 use Rattle.zone_spans.specs.Lines.{Line, Rulesets, is_ruled, zone_lines}
 use Rattle.zone_spans.proofs.BoundLemmas.{first, second}
-use Rattle.calendar.specs.Orders.{lt_from_fail}
+use Rattle.calendar.specs.ComparisonLaws.{lt_from_fail}
 use Rattle.zone_spans.proofs.FiringLemmas.{int_lt_chain, int_lt_one_way}
 use Rattle.zone_spans.proofs.SoundLemmas.{none_at}
 

@@ -3,7 +3,7 @@ use Rattle.std.proofs.Common.{◌≡◌, ℕ, List, [], ◌∷◌, true, Option,
 use Rattle.std.proofs.lemmas.Bool.{and_parts}
 use lib.Pointwise.{pointwise}
 use Rattle.calendar.specs.LogicLaws.{no_case}
-use Rattle.calendar.specs.Orders.{eq_from_pass}
+use Rattle.calendar.specs.ComparisonLaws.{eq_from_pass}
 use Rattle.zone_values.specs.SameLaws.{clock_is, year_is, month_is, day_is, text_is}
 use Rattle.zone_values.specs.declared.year.Year.{Year}
 use Rattle.std.specs.contracts.prelude.OptionPartialEq.TheImpl as of_option

@@ -2,7 +2,7 @@
 use Rattle.std.proofs.Common.{◌≡◌, ℕ, zero, suc, true, cond, List, [], ◌∷◌, Option, Some, None, ℤ, pos, neg_ℤ, ◌<ℤ◌, refl, sym, ◌∙◌, subst, arith}
 use Rattle.std.proofs.lemmas.Bool.{and_from}
 use Rattle.std.proofs.lemmas.Int.{ints}
-use Rattle.calendar.specs.Orders.{le_pass}
+use Rattle.calendar.specs.ComparisonLaws.{le_pass}
 use Rattle.civil_base.specs.Instants.{seconds_of}
 use Rattle.tz_zone.specs.Sets.{schedule_of, shifts_of}
 use Rattle.tz_zone.specs.Spans.{Shift}

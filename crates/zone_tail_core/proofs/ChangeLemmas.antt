@@ -8,7 +8,7 @@ use Rattle.calendar.specs.Dates.{last_with, year_of, month_of, day_of}
 use Rattle.calendar.specs.DateLaws.{day_parts, year-between}
 use Rattle.calendar.specs.Days.{day, days_in_month, is_leap, days_in_year, days_after_zero, year_start, days_through, days_into_year, IsCountedYear, IsDate}
 use Rattle.calendar.specs.MonthLaws.{days_in_month-bounds}
-use Rattle.calendar.specs.Signs.{signed, floored}
+use Rattle.calendar.specs.SignedLaws.{signed, floored}
 use Rattle.calendar.specs.WeekdayLaws.{last_with_weekday, weekday_in_month, weekday_of-small}
 use Rattle.calendar.specs.Weekdays.{weekday_of}
 use Rattle.tz_posix_core.specs.Days.{nth_weekday, rule_day}

@@ -13,8 +13,8 @@ use Rattle.std.proofs.lemmas.Int.{ints}
 use Rattle.std.proofs.lemmas.List.{append-nil, append_assoc}
 use Rattle.std.proofs.lemmas.List.Folds.{list_all-append}
 use Rattle.std.proofs.lemmas.Str.Parse.{IsNumeralModel, numerals_by_value}
-use Rattle.calendar.specs.Orders.{lt_from_fail, lt_from_pass}
-use Rattle.calendar.specs.Signs.{signed, one_sided}
+use Rattle.calendar.specs.ComparisonLaws.{lt_from_fail, lt_from_pass}
+use Rattle.calendar.specs.SignedLaws.{signed, one_sided}
 use Rattle.civil_base.specs.Offsets.{signed_by}
 use Rattle.tz_zone.specs.declared.set.FixedTimespanSet.{FixedTimespanSet}
 use Rattle.tz_posix_core.specs.InForce.{yearly_time}

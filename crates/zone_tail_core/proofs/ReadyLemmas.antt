@@ -5,7 +5,7 @@ use Rattle.std.proofs.lemmas.Int.{ints}
 use Rattle.std.proofs.lemmas.Bool.{and_parts}
 use Rattle.std.proofs.lemmas.List.{length-append, length-map}
 use Rattle.std.proofs.lemmas.List.Elements.{All-append, All-cons, All-get_or, All-map, All-nil, All-tail, All-weaker}
-use Rattle.calendar.specs.Orders.{lt_from_pass, lt_le, eq_from_pass}
+use Rattle.calendar.specs.ComparisonLaws.{lt_from_pass, lt_le, eq_from_pass}
 use Rattle.civil_base.specs.Ranges.{is_offset}
 use Rattle.civil_base.specs.RangeLaws.{offset_greatest, offset_least}
 use Rattle.zone_spans.specs.Entries.{Entry, total}

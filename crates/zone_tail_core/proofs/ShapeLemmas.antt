@@ -4,7 +4,7 @@ use Rattle.std.specs.Prelude.{◌&&◌, filter}
 use Rattle.std.proofs.lemmas.Int.{ints}
 use Rattle.std.proofs.lemmas.Bool.{cases_lt}
 use Rattle.std.proofs.lemmas.List.{length-drop}
-use Rattle.calendar.specs.Orders.{le_fail, le_pass}
+use Rattle.calendar.specs.ComparisonLaws.{le_fail, le_pass}
 use Rattle.zone_spans.specs.Entries.{Entry}
 use Rattle.zone_spans.specs.declared.span.FixedTimespan.{FixedTimespan}
 use Rattle.tz_zone.specs.Sets.{shift_of, shifts_of, span_in}

@@ -6,7 +6,7 @@ use Rattle.calendar.specs.Dates.{year_of}
 use Rattle.calendar.specs.DateLaws.{IsYearOf, day-range, place_of, year_of-is}
 use Rattle.calendar.specs.Days.{day, is_leap, days_in_year, days_in_month, days_after_zero, year_start, days_through, days_into_year, IsCountedYear}
 use Rattle.calendar.specs.MonthLaws.{days_through-two}
-use Rattle.calendar.specs.Signs.{signed, natural}
+use Rattle.calendar.specs.SignedLaws.{signed, natural}
 use Rattle.calendar.specs.YearLaws.{cycle_days-rise, day-cycle}
 use Rattle.tz_posix_core.specs.InForce.{year_at}
 use Rattle.zone_tail_core.specs.Rules.{IsNearYear, IsReach, IsSmall}

@@ -2,7 +2,7 @@ use Rattle.std.proofs.Common.{arith, ◌≡◌, ◌≤◌, ◌<◌, ℕ, ◌+◌
 use Rattle.calendar.specs.Days.{IsCountedYear}
 use Rattle.calendar.specs.Dates.{year_of, month_of, day_of}
 use Rattle.calendar.specs.Cycles.{cycle_days}
-use Rattle.calendar.specs.Signs.{signed, signed_casts, natural}
+use Rattle.calendar.specs.SignedLaws.{signed, signed_casts, natural}
 use Rattle.calendar.specs.YearLaws.{day-cycle, cycle_days-suc, cycle_days-rise}
 use Rattle.calendar.specs.DateLaws.{IsPlace, parts-of_day, year-between}
 use Rattle.calendar.proofs.dates.date_of.Goals as goal

@@ -1,6 +1,6 @@
 use Rattle.std.proofs.Common.{arith, ◌≡◌, ◌-◌, pos, neg_ℤ, ◌+ℤ◌, ◌≤ℤ◌, to_z-of_z, ap, ◌∙◌}
 use Rattle.calendar.specs.Days.{day as date_day, days_through, days_into_year}
-use Rattle.calendar.specs.Signs.{signed_casts}
+use Rattle.calendar.specs.SignedLaws.{signed_casts}
 use Rattle.calendar.specs.DateLaws.{day-into_year, day-range, day-between}
 use Rattle.calendar.proofs.days.day_number.Goals as goal
 

@@ -1,5 +1,5 @@
 use Rattle.std.proofs.Common.{arith, ◌≡◌, pos, ◌+ℤ◌, to_z, of_z, w32, unsigned_abs}
-use Rattle.calendar.specs.Signs.{signed_casts}
+use Rattle.calendar.specs.SignedLaws.{signed_casts}
 use Rattle.calendar.specs.YearLaws.{day-cycle}
 use Rattle.calendar.specs.MonthLaws.{days_through-two}
 use Rattle.calendar.proofs.days.first_day_of.Goals as goal

@@ -1,5 +1,5 @@
 use Rattle.std.proofs.Common.{arith}
-use Rattle.calendar.specs.Signs.{signed_casts}
+use Rattle.calendar.specs.SignedLaws.{signed_casts}
 use Rattle.civil_base.specs.Instants.{seconds_of}
 use Rattle.civil_base.proofs.instants.seconds_of.Goals as goal
 

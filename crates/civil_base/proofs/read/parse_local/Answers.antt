@@ -1,7 +1,7 @@
 use Rattle.std.proofs.Common.{◌≡◌, ℕ, ◌++◌, ◌∷◌, List, length, take, Bool, true, false, ℤ, pos, ◌+ℤ◌, ◌*ℤ◌, sym, ap, ◌∙◌}
 use Rattle.std.proofs.Common.{drop, get_or, Some, int_lt, ◌≢◌}
 use Rattle.std.proofs.lemmas.Int.{by_lt_z}
-use Rattle.calendar.specs.Orders.{lt_pass, lt_fail}
+use Rattle.calendar.specs.ComparisonLaws.{lt_pass, lt_fail}
 use Rattle.calendar.specs.Dates.{year_of}
 use Rattle.civil_base.specs.Clock.{nanos_per_day}
 use Rattle.civil_base.specs.Layout.{local_text, day_part, time_part}

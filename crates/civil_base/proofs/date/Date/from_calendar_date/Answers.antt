@@ -1,5 +1,5 @@
 use Rattle.std.proofs.Common.{arith, pos, neg_ℤ, to_z, of_z, to_z-of_z, w32, ap}
-use Rattle.calendar.specs.Signs.{signed_casts}
+use Rattle.calendar.specs.SignedLaws.{signed_casts}
 use Rattle.civil_base.specs.DayRangeLaws.{counted-first, counted-last, day-first, day-last}
 use Rattle.calendar.specs.Days.{IsDate, days_in_month}
 use Rattle.civil_base.proofs.date.Date.from_calendar_date.Goals as goal

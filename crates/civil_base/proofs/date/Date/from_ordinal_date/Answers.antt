@@ -1,5 +1,5 @@
 use Rattle.std.proofs.Common.{arith, ◌≡◌, ℕ, ◌-◌, ℤ, pos, ◌+ℤ◌, to_z, of_z, w32, to_z-of_z, ap, ◌∙◌}
-use Rattle.calendar.specs.Signs.{signed_casts}
+use Rattle.calendar.specs.SignedLaws.{signed_casts}
 use Rattle.calendar.specs.Days.{day, days_in_year}
 use Rattle.civil_base.specs.Ordinals.{IsOrdinal, ordinal_day}
 use Rattle.civil_base.specs.Ranges.{IsYear}

@@ -2,7 +2,7 @@ use Rattle.std.proofs.Common.{arith, ◌≡◌, ◌≤◌, true, ℤ, pos, ◌+�
 use Rattle.std.proofs.Common.{unsigned_abs, ◌∙◌, sym}
 use mir.Syntax.{w128}
 use Rattle.std.proofs.lemmas.Bool.{and_parts, leb-true}
-use Rattle.calendar.specs.Signs.{signed_casts, one_sided}
+use Rattle.calendar.specs.SignedLaws.{signed_casts, one_sided}
 use Rattle.civil_parts.specs.Durations.{IsDuration, are_parts}
 use Rattle.civil_parts.proofs.signed_duration.SignedDuration.from_parts.Goals as goal
 

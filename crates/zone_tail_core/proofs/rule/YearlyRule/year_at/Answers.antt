@@ -1,7 +1,7 @@
 use Rattle.std.proofs.Common.{◌≡◌, ℤ, pos, ◌+ℤ◌, w32, w64, to_z, of_z, ap, sym, ◌∙◌, subst, arith}
 use Rattle.std.specs.Int.{int_div_euclid}
 use Rattle.calendar.specs.Dates.{year_of}
-use Rattle.calendar.specs.Signs.{signed_casts}
+use Rattle.calendar.specs.SignedLaws.{signed_casts}
 use Rattle.tz_posix_core.specs.InForce.{year_at}
 use Rattle.zone_tail_core.specs.Rules.{IsNearYear, IsReach, IsSmall}
 use Rattle.zone_tail_core.proofs.YearLemmas.{day_near, year_near}
