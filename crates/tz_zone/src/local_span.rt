@@ -1,10 +1,10 @@
 //! Where a span lies in local time: its start, its end, and whether it lies before, at or after a local second.
-ghost use Rattle.std.specs.Prelude.{◌≡◌, ◌+◌, ◌<◌, ◌≤◌, ◌↔◌, length, IsTrue};
+ghost use Rattle.std.specs.Prelude.{◌≡◌, ◌+◌, ◌+ℤ◌, ◌<◌, ◌≤◌, ◌↔◌, length, IsTrue};
 ghost use Rattle.std.specs.declared.cmp.Ordering.TheVariants.{Equal};
 ghost use Rattle.zone_spans.specs.Entries.{total as total_in};
 ghost use Rattle.civil_base.specs.Ranges.{is_offset};
 ghost use Rattle.tz_zone.specs.Sets.{schedule_of, shifts_of, IsAccepted, has_ended, is_ahead, order_of, total_of_span};
-ghost use Rattle.tz_zone.specs.Spans.{local_start, local_end};
+ghost use Rattle.tz_zone.specs.Spans.{local_start, local_end, shift_at};
 
 use crate::table::SpanTable;
 use std::cmp::Ordering;
@@ -26,6 +26,17 @@ pub(crate) fn total<T: SpanTable>(set: &T, index: usize) -> i32
     total_of(set.span(index))
 }
 
+/// The second of an entry on a clock at the total of a span.
+fn local_second<T: SpanTable>(set: &T, entry: usize, index: usize) -> i64
+    requires accepted { IsAccepted (schedule_of (T.seen set.now)) }
+    requires entry { entry < length (T.seen set.now).others }
+    requires within { index ≤ length (T.seen set.now).others }
+    ensures { result ≡ (shift_at (shifts_of (T.seen set.now)) entry).0 +ℤ total_of_span (T.seen set.now) index }
+{
+    let total = total(set, index);
+    set.time(entry) + i64::from(total)
+}
+
 /// The local start of a span, for every span but the first.
 pub(crate) fn start_of<T: SpanTable>(set: &T, index: usize) -> i64
     requires accepted { IsAccepted (schedule_of (T.seen set.now)) }
@@ -33,8 +44,7 @@ pub(crate) fn start_of<T: SpanTable>(set: &T, index: usize) -> i64
     requires within { index ≤ length (T.seen set.now).others }
     ensures { result ≡ local_start (shifts_of (T.seen set.now)) index }
 {
-    let total = total(set, index);
-    set.time(index - 1) + i64::from(total)
+    local_second(set, index - 1, index)
 }
 
 /// The local end of a span, for every span but the last.
@@ -43,8 +53,7 @@ pub(crate) fn end_of<T: SpanTable>(set: &T, index: usize) -> i64
     requires within { index < length (T.seen set.now).others }
     ensures { result ≡ local_end (total_in (T.seen set.now).first) (shifts_of (T.seen set.now)) index }
 {
-    let total = total(set, index);
-    set.time(index) + i64::from(total)
+    local_second(set, index, index)
 }
 
 /// Whether a span lies before, at or after a local second.

@@ -1,13 +1,11 @@
 //! The program: its words, its answer, its run.
-ghost use Rattle.std.specs.Prelude.{◌≡◌, ◌≢◌, ◌↔◌, ◌<◌, ◌≤◌, length, codes, IfSome, IsNone};
+ghost use Rattle.std.specs.Prelude.{◌≡◌, ◌<◌, codes};
 ghost use Rattle.std.specs.Option.{ForSome};
 ghost use Rattle.tz_lookup.specs.Sets.{schedule_of, IsAccepted};
 ghost use Rattle.tz_lookup.specs.Zones.{set_of};
 ghost use Rattle.zone_alarm.specs.Asks.{asks, form};
-ghost use Rattle.zone_run.specs.Causes.{cause};
 ghost use Rattle.zone_run.specs.Ends.{Ends};
 ghost use Rattle.zone_source.specs.Runs.{seen};
-ghost use Rattle.zone_source.specs.Statuses.{EndsBy, IsPastLimit};
 ghost use Rattle.zone_run.specs.Tasks.{task_of};
 
 use crate::daily::alarms;
@@ -19,11 +17,7 @@ use std::alloc::Global;
 use std::process::ExitCode;
 use tz_lookup::{FixedTimespanSet, Tz};
 use zone_line::LineParser;
-use zone_run::{
-    Refusal, Shelf, Sink, Status, SureShelf, SureSink, ZoneProgram, run_program,
-    run_program_surely, start_program,
-};
-use zone_source::LIMIT;
+use zone_run::{Refusal, Shelf, Sink, Status, ZoneProgram, run_program, start_program};
 
 /// A daily alarm: the first day and the time of day, and how many days.
 #[derive(Clone, Copy, Debug, PartialEq, Eq)]
@@ -98,24 +92,6 @@ pub fn run_alarm<H: Shelf, O: Sink>(
         (seen H.Source O.Sink shelf.old output.old) (seen H.Source O.Sink shelf.new output.new) result }
 {
     run_program::<Daily, H, O>(alloc, parser, words, shelf, output)
-}
-
-/// A run over objects that never fail. It ends neither for a failed read nor for a failed write: by the words, the cause
-/// and the length alone, or for want of memory.
-pub fn run_alarm_surely(
-    alloc: Global,
-    parser: &LineParser,
-    words: &[String],
-    shelf: &mut SureShelf,
-    output: &mut SureSink,
-) -> Status
-    ensures read { result ≢ Status.Read }
-    ensures write { result ≢ Status.Write }
-    ensures words { (result ≡ Status.Words) ↔ IsNone (task_of form words.now) }
-    ensures complete { IfSome (task_of form words.now) (λ task. length shelf.old.bytes ≤ LIMIT → EndsBy (cause task shelf.old.bytes) result) }
-    ensures past_limit { IfSome (task_of form words.now) (λ task. LIMIT < length shelf.old.bytes → IsPastLimit result) }
-{
-    run_program_surely::<Daily>(alloc, parser, words, shelf, output)
 }
 
 /// The whole program `zone_alarm`: `run_alarm` over its words, the files and standard output. The exit status is that of the run;

@@ -1,39 +1,28 @@
 -- How a run ends after both of its texts were read, or the first of them.
-use Rattle.std.proofs.Common.{◌≡◌, ◌≢◌, ℕ, List, Option, Some, None, refl, sym, inl, inr}
-use Rattle.std.proofs.lemmas.Option.{IfSome_then, none-some}
+use Rattle.std.proofs.Common.{◌≡◌, ℕ, List, Some, IsNone, refl, inl, inr}
+use Rattle.std.proofs.lemmas.Option.{IfSome_then}
 use Rattle.zone_outside.specs.declared.whole.ReadEnd.{ReadEnd}
 use Rattle.zone_outside.specs.declared.whole.ReadEnd.TheVariants as read
-use Rattle.zone_source.specs.Statuses.{status_of, EndsBy}
+use Rattle.zone_source.specs.Statuses.{status_of}
 use Rattle.zone_source.specs.declared.status.Status.TheVariants as status
-use Rattle.zone_answers.specs.Due.{due_bytes}
-use Rattle.zone_answers.specs.EndLaws.{Read, BothRead, NotRead, where_told, neither_more, neither_long, silent_not_done, silent_not_fault, silent_not_write, not_written, if_told, too_short, no_more_failed, read_not_ended, too_long_not_ended, no_memory_not_ended}
-use Rattle.zone_answers.specs.Ends.{Ends}
-use Rattle.zone_answers.specs.Faults.{Fault, fault}
-use Rattle.zone_answers.specs.Responses.{Responds}
+use Rattle.zone_answers.proofs.TextReadLemmas.{Read, BothRead, NotRead, where_told, neither_more, neither_long, silent_not_done, silent_not_fault, silent_not_write, not_written, if_told, too_short, no_more_failed, read_not_ended, too_long_not_ended, no_memory_not_ended}
 use Rattle.zone_answers.specs.Seen.{Seen}
-use Rattle.zone_answers.specs.Words.{answer_over}
-use Rattle.zone_answers.specs.declared.respond.Answered.TheVariants as answered
-
-ends_valid : (found : Option Fault) → found ≡ None → EndsBy found status.Done
-ends_valid None is = inl refl
-ends_valid (Some f) is = absurd (none-some _ (sym is))
-
-ends_refused : (found : Option Fault) → found ≢ None → EndsBy found status.Fault
-ends_refused None other = absurd (other refl)
-ends_refused (Some f) other = inl refl
+use Rattle.zone_answers.specs.Ends.{Writes, EndsOver}
+use Rattle.zone_answers.specs.Responses.{EndsWell, Responds}
+use Rattle.zone_answers.specs.declared.text_run.Answered.TheVariants as answered
 
 -- every line was written
-pub done_ends : (name : List ℕ) (before now : Seen) (source requests : List ℕ) → BothRead name before now source requests →
-    Responds (due_bytes source requests) source requests before.output now.output answered.Done → Ends (Some (answer_over name)) before now status.Done
-done_ends name before now source requests both (valid, back, grew) = record {
+pub done_ends : (writes : Writes) → EndsWell writes → (name : List ℕ) (before now : Seen) (text requests : List ℕ) → BothRead name before now text requests →
+    Responds writes text requests before.output now.output answered.Done → EndsOver writes (IsNone (Some name)) (Some name) before now status.Done
+done_ends writes well name before now text requests both wrote = record {
   words = (λ e. absurd (cc), λ e. absurd (cc));
   untouched = λ e. absurd (cc);
   order = inr (IfSome_then (before.shelf.told name) both.shelf.text (λ _ h. h.1));
   shelf_ended = λ _. IfSome_then (before.shelf.told name) both.shelf.text (λ _ h. h.1);
   input_ended = λ _. IfSome_then before.input.left both.input.text (λ _ h. h.1);
   done =
-      λ _. where_told (before.shelf.told name) before.input.left _ _ source requests _ both.shelf.text both.input.text
-      (valid, back, grew);
+      λ _. where_told (before.shelf.told name) before.input.left _ _ text requests _ both.shelf.text both.input.text
+      wrote;
   refused = λ e. absurd (cc);
   read = λ e. absurd (cc);
   write = λ e. absurd (cc);
@@ -42,16 +31,16 @@ done_ends name before now source requests both (valid, back, grew) = record {
   too_much = λ more. absurd (neither_more both more);
   silent = λ silent. absurd (silent_not_done silent);
   complete =
-      λ _. where_told (before.shelf.told name) before.input.left _ _ source requests _ both.shelf.text both.input.text
-      (λ _ _. ends_valid (fault source requests) valid);
-  past_limit = λ _. where_told (before.shelf.told name) before.input.left _ _ source requests _ both.shelf.text both.input.text
-      (λ long. absurd (neither_long source requests both.shelf.within both.input.within long));
+      λ _. where_told (before.shelf.told name) before.input.left _ _ text requests _ both.shelf.text both.input.text
+      (λ _ _. well.lines text requests _ _ wrote);
+  past_limit = λ _. where_told (before.shelf.told name) before.input.left _ _ text requests _ both.shelf.text both.input.text
+      (λ long. absurd (neither_long text requests both.shelf.within both.input.within long));
 }
 
 -- the line of the fault was written
-pub fault_ends : (name : List ℕ) (before now : Seen) (source requests : List ℕ) → BothRead name before now source requests →
-    Responds (due_bytes source requests) source requests before.output now.output answered.Fault → Ends (Some (answer_over name)) before now status.Fault
-fault_ends name before now source requests both (refused, grew) = record {
+pub fault_ends : (writes : Writes) → EndsWell writes → (name : List ℕ) (before now : Seen) (text requests : List ℕ) → BothRead name before now text requests →
+    Responds writes text requests before.output now.output answered.Fault → EndsOver writes (IsNone (Some name)) (Some name) before now status.Fault
+fault_ends writes well name before now text requests both wrote = record {
   words = (λ e. absurd (cc), λ e. absurd (cc));
   untouched = λ e. absurd (cc);
   order = inr (IfSome_then (before.shelf.told name) both.shelf.text (λ _ h. h.1));
@@ -59,7 +48,7 @@ fault_ends name before now source requests both (refused, grew) = record {
   input_ended = λ _. IfSome_then before.input.left both.input.text (λ _ h. h.1);
   done = λ e. absurd (cc);
   refused =
-      λ _. where_told (before.shelf.told name) before.input.left _ _ source requests _ both.shelf.text both.input.text (refused, grew);
+      λ _. where_told (before.shelf.told name) before.input.left _ _ text requests _ both.shelf.text both.input.text wrote;
   read = λ e. absurd (cc);
   write = λ e. absurd (cc);
   prefix = λ e. absurd (cc);
@@ -67,16 +56,16 @@ fault_ends name before now source requests both (refused, grew) = record {
   too_much = λ more. absurd (neither_more both more);
   silent = λ silent. absurd (silent_not_fault silent);
   complete =
-      λ _. where_told (before.shelf.told name) before.input.left _ _ source requests _ both.shelf.text both.input.text
-      (λ _ _. ends_refused (fault source requests) refused);
-  past_limit = λ _. where_told (before.shelf.told name) before.input.left _ _ source requests _ both.shelf.text both.input.text
-      (λ long. absurd (neither_long source requests both.shelf.within both.input.within long));
+      λ _. where_told (before.shelf.told name) before.input.left _ _ text requests _ both.shelf.text both.input.text
+      (λ _ _. well.fault text requests _ _ wrote);
+  past_limit = λ _. where_told (before.shelf.told name) before.input.left _ _ text requests _ both.shelf.text both.input.text
+      (λ long. absurd (neither_long text requests both.shelf.within both.input.within long));
 }
 
 -- the output failed
-pub failed_ends : (name : List ℕ) (before now : Seen) (source requests : List ℕ) → BothRead name before now source requests →
-    Responds (due_bytes source requests) source requests before.output now.output answered.Failed → Ends (Some (answer_over name)) before now status.Write
-failed_ends name before now source requests both (rose, grew) = record {
+pub failed_ends : (writes : Writes) → EndsWell writes → (name : List ℕ) (before now : Seen) (text requests : List ℕ) → BothRead name before now text requests →
+    Responds writes text requests before.output now.output answered.Failed → EndsOver writes (IsNone (Some name)) (Some name) before now status.Write
+failed_ends writes well name before now text requests both (rose, some) = record {
   words = (λ e. absurd (cc), λ e. absurd (cc));
   untouched = λ e. absurd (cc);
   order = inr (IfSome_then (before.shelf.told name) both.shelf.text (λ _ h. h.1));
@@ -86,7 +75,7 @@ failed_ends name before now source requests both (rose, grew) = record {
   refused = λ e. absurd (cc);
   read = λ e. absurd (cc);
   write = λ _. rose;
-  prefix = λ _. where_told (before.shelf.told name) before.input.left _ _ source requests _ both.shelf.text both.input.text grew;
+  prefix = λ _. where_told (before.shelf.told name) before.input.left _ _ text requests _ both.shelf.text both.input.text some;
   too_long = λ e. absurd (cc);
   too_much = λ more. absurd (neither_more both more);
   silent = λ silent. absurd (silent_not_write silent);
@@ -95,11 +84,11 @@ failed_ends name before now source requests both (rose, grew) = record {
 }
 
 -- the input was not read to its end
-pub input_ends : (name : List ℕ) (before now : Seen) (source : List ℕ) (end : ReadEnd) →
-    Read (before.shelf.told name) now.shelf.left before.shelf.given now.shelf.given source → NotRead before.input now.input end
+pub input_ends : (writes : Writes) → EndsWell writes → (name : List ℕ) (before now : Seen) (text : List ℕ) (end : ReadEnd) →
+    Read (before.shelf.told name) now.shelf.left before.shelf.given now.shelf.given text → NotRead before.input now.input end
     → now.output ≡ before.output →
-    Ends (Some (answer_over name)) before now (status_of end)
-input_ends name before now source read.Failed first second same = record {
+    EndsOver writes (IsNone (Some name)) (Some name) before now (status_of end)
+input_ends writes well name before now text read.Failed first second same = record {
   words = (λ e. absurd (cc), λ e. absurd (cc));
   untouched = λ e. absurd (cc);
   order = inr (IfSome_then (before.shelf.told name) first.text (λ _ h. h.1));
@@ -111,12 +100,12 @@ input_ends name before now source read.Failed first second same = record {
   write = λ e. absurd (cc);
   prefix = λ e. absurd (cc);
   too_long = λ e. absurd (cc);
-  too_much = λ more. absurd (no_more_failed name before now source first second more);
+  too_much = λ more. absurd (no_more_failed name before now text first second more);
   silent = λ _. same;
   complete = λ none. absurd (none.input (second.failed refl));
   past_limit = λ none. absurd (none.input (second.failed refl));
 }
-input_ends name before now source read.TooLong first second same = record {
+input_ends writes well name before now text read.TooLong first second same = record {
   words = (λ e. absurd (cc), λ e. absurd (cc));
   untouched = λ e. absurd (cc);
   order = inr (IfSome_then (before.shelf.told name) first.text (λ _ h. h.1));
@@ -133,7 +122,7 @@ input_ends name before now source read.TooLong first second same = record {
   complete = λ _. if_told (before.shelf.told name) before.input.left _ (λ _ r there _ short. absurd (too_short second r there short));
   past_limit = λ _. if_told (before.shelf.told name) before.input.left _ (λ _ _ _ _. inl refl);
 }
-input_ends name before now source read.NoMemory first second same = record {
+input_ends writes well name before now text read.NoMemory first second same = record {
   words = (λ e. absurd (cc), λ e. absurd (cc));
   untouched = λ e. absurd (cc);
   order = inr (IfSome_then (before.shelf.told name) first.text (λ _ h. h.1));
@@ -147,10 +136,6 @@ input_ends name before now source read.NoMemory first second same = record {
   too_long = λ e. absurd (cc);
   too_much = λ _. inr refl;
   silent = λ _. same;
-  complete = λ _. if_told (before.shelf.told name) before.input.left _ (λ s r _ _ _. memory_ends (fault s r));
+  complete = λ _. if_told (before.shelf.told name) before.input.left _ (λ t r _ _ _. well.memory t r);
   past_limit = λ _. if_told (before.shelf.told name) before.input.left _ (λ _ _ _ _. inr refl);
 }
-  where
-    memory_ends : (found : Option Fault) → EndsBy found status.NoMemory
-    memory_ends None = inr refl
-    memory_ends (Some f) = inr refl

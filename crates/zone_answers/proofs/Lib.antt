@@ -5,6 +5,7 @@ pub mod ReadBackLemmas
 pub mod ShowingLemmas
 pub mod ZoneLemmas
 pub mod RefusalLemmas
+pub mod TextReadLemmas
 pub mod EndLemmas
 pub mod AnswerRows
 pub mod FaultRows

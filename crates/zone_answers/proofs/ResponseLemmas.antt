@@ -9,12 +9,13 @@ use Rattle.zone_answers.specs.Faults as faults
 use Rattle.zone_answers.specs.FaultLines.{fault_line}
 use Rattle.zone_answers.specs.Told.{fault_told, TellsOf}
 use Rattle.zone_outside.specs.Seen.{OutputSeen, Grew, GrewBySome}
+use Rattle.zone_answers.specs.Ends.{writes_of}
 use Rattle.zone_answers.specs.Responses.{Responds, RespondsError, due_in, lines_in}
 use Rattle.zone_answers.specs.Summary.{summary, due_summary}
 use Rattle.zone_answers.specs.declared.error.AnswerError.{AnswerError}
 use Rattle.zone_answers.specs.declared.error.AnswerError.TheVariants as errors
-use Rattle.zone_answers.specs.declared.respond.Answered.{Answered}
-use Rattle.zone_answers.specs.declared.respond.Answered.TheVariants.{Done, Fault, Failed, NoMemory}
+use Rattle.zone_answers.specs.declared.text_run.Answered.{Answered}
+use Rattle.zone_answers.specs.declared.text_run.Answered.TheVariants.{Done, Fault, Failed, NoMemory}
 use Rattle.zone_answers.specs.declared.respond.Form.{Form}
 use Rattle.zone_answers.specs.declared.respond.Form.TheVariants as forms
 
@@ -56,12 +57,12 @@ wrote_some bytes due before now is h = grew_some_told before.taken now.taken byt
 -- an error's answer is an answer
 pub error_response : (form : Form) (source requests : List ℕ) (error : AnswerError) (before now : OutputSeen) (result : Answered) →
     TellsOf (fault source requests) error → RespondsError (fault_told error) before now result
-    → Responds (due_in form source requests) source requests before now result
+    → Responds (writes_of (due_in form)) source requests before now result
 error_response form source requests error before now result tells h = by_told (fault_told error) result tells h
   where
     by_told : (told : Option faults.Fault) (result : Answered)
         → MatchOption told (error ≡ errors.NoMemory) (λ f. fault source requests ≡ Some f) →
-        RespondsError told before now result → Responds (due_in form source requests) source requests before now result
+        RespondsError told before now result → Responds (writes_of (due_in form)) source requests before now result
     by_told told Done is h = absurd h
     by_told None Fault is h = absurd h
     by_told (Some f) Fault is h =

@@ -1,102 +1,27 @@
--- What holds of a run after both of its texts were read, or the first of them, whatever the program.
-use Rattle.std.proofs.Common.{◌≡◌, ◌⊎◌, ℕ, ◌+◌, ◌<◌, ◌≤◌, List, [], Option, Some, None, IfSome, length, refl, subst, inl, inr, arith}
-use Rattle.zone_outside.specs.Outside.{Counted, Rose, TooMuch}
-use Rattle.zone_outside.specs.Seen.{InputSeen}
-use Rattle.zone_outside.specs.declared.whole.ReadEnd.{ReadEnd}
-use Rattle.zone_outside.specs.declared.whole.ReadEnd.TheVariants as read
-use Rattle.zone_outside.specs.declared.whole.TheConstants.{LIMIT}
+-- After the lines, after the line of a fault and for want of memory a run ends by the fault of its texts.
+use Rattle.std.proofs.Common.{◌≡◌, ◌≢◌, ℕ, List, Option, Some, None, refl, sym, inl, inr}
+use Rattle.std.proofs.lemmas.Option.{none-some}
+use Rattle.zone_answers.specs.Ends.{writes_of}
+use Rattle.zone_answers.specs.Faults.{Fault, fault}
+use Rattle.zone_answers.specs.Responses.{EndsWell}
+use Rattle.zone_source.specs.Statuses.{EndsBy}
 use Rattle.zone_source.specs.declared.status.Status.TheVariants as status
-use Rattle.zone_source.specs.Statuses.{IsSilent}
-use Rattle.zone_answers.specs.Seen.{Seen}
 
--- a text was read to its end
-pub record Read (told left_now : Option (List ℕ)) (had gave : ℕ) (bytes : List ℕ) : Type 0 where
-  pub text : IfSome told (λ text. (bytes ≡ text) × (left_now ≡ Some []))
-  pub within : length bytes ≤ LIMIT
-  pub given : Counted had gave (length bytes)
+ends_valid : (found : Option Fault) → found ≡ None → EndsBy found status.Done
+ends_valid None is = inl refl
+ends_valid (Some f) is = absurd (none-some _ (sym is))
 
-pub record BothRead (name : List ℕ) (before now : Seen) (source requests : List ℕ) : Type 0 where
-  pub shelf : Read (before.shelf.told name) now.shelf.left before.shelf.given now.shelf.given source
-  pub input : Read before.input.left now.input.left before.input.given now.input.given requests
+ends_refused : (found : Option Fault) → found ≢ None → EndsBy found status.Fault
+ends_refused None other = absurd (other refl)
+ends_refused (Some f) other = inl refl
 
--- a text was not read to its end
-pub record NotRead (before now : InputSeen) (end : ReadEnd) : Type 0 where
-  pub failed : end ≡ read.Failed → Rose before.faults now.faults
-  pub long : end ≡ read.TooLong → TooMuch LIMIT before.given now.given
-  pub long_text : end ≡ read.TooLong → IfSome before.left (λ left. LIMIT < length left)
-  pub failed_given : end ≡ read.Failed → now.given ≤ before.given + LIMIT
+ends_without : (found : Option Fault) → EndsBy found status.NoMemory
+ends_without None = inr refl
+ends_without (Some f) = inr refl
 
--- what holds of the texts that were read holds where they are told
-pub where_told : (o p : Option (List ℕ)) (A B : Type 0) (source requests : List ℕ) (P : List ℕ → List ℕ → Type 0) →
-    IfSome o (λ text. (source ≡ text) × A) → IfSome p (λ text. (requests ≡ text) × B) → P source requests → IfSome o (λ s. IfSome p (P s))
-where_told None p A B source requests P a b h = tt
-where_told (Some s) None A B source requests P a b h = tt
-where_told (Some s) (Some r) A B source requests P a b h = subst (λ s. P s r) a.0 (subst (P source) b.0 h)
-
-pub not_more : (given now n : ℕ) → Counted given now n → n ≤ LIMIT → given + LIMIT < now → ⊥
-not_more given now n counted few more = omega (arith, counted.most, few, more)
-
-pub neither_more : {name : List ℕ} {before now : Seen} {source requests : List ℕ} → BothRead name before now source requests →
-    (before.shelf.given + LIMIT < now.shelf.given) ⊎ (before.input.given + LIMIT < now.input.given) → ⊥
-neither_more {before} {now} {source} both (inl more) =
-    not_more before.shelf.given now.shelf.given (length source) both.shelf.given both.shelf.within more
-neither_more {before} {now} {requests} both (inr more) =
-    not_more before.input.given now.input.given (length requests) both.input.given both.input.within more
-
-pub neither_long : (source requests : List ℕ) → length source ≤ LIMIT → length requests ≤ LIMIT
-    → (LIMIT < length source) ⊎ (LIMIT < length requests) → ⊥
-neither_long source requests short few (inl long) = omega (arith, short, long)
-neither_long source requests short few (inr long) = omega (arith, few, long)
-
-pub silent_not_done : IsSilent status.Done → ⊥
-silent_not_done (inl e) = absurd (cc)
-silent_not_done (inr (inl e)) = absurd (cc)
-silent_not_done (inr (inr (inl e))) = absurd (cc)
-silent_not_done (inr (inr (inr e))) = absurd (cc)
-
-pub silent_not_fault : IsSilent status.Fault → ⊥
-silent_not_fault (inl e) = absurd (cc)
-silent_not_fault (inr (inl e)) = absurd (cc)
-silent_not_fault (inr (inr (inl e))) = absurd (cc)
-silent_not_fault (inr (inr (inr e))) = absurd (cc)
-
-pub silent_not_write : IsSilent status.Write → ⊥
-silent_not_write (inl e) = absurd (cc)
-silent_not_write (inr (inl e)) = absurd (cc)
-silent_not_write (inr (inr (inl e))) = absurd (cc)
-silent_not_write (inr (inr (inr e))) = absurd (cc)
-
-pub not_written : (status.Write ≡ status.Done) ⊎ (status.Write ≡ status.Fault) → ⊥
-not_written (inl e) = absurd (cc)
-not_written (inr e) = absurd (cc)
-
--- where both texts are told, what holds of each text that is left to read
-pub if_told : (o p : Option (List ℕ)) (P : List ℕ → List ℕ → Type 0) → ((s r : List ℕ) → p ≡ Some r → P s r) → IfSome o (λ s. IfSome p (P s))
-if_told None p P h = tt
-if_told (Some s) None P h = tt
-if_told (Some s) (Some r) P h = h s r refl
-
--- a text that was too long is not a short one
-pub too_short : {before now : InputSeen} → NotRead before now read.TooLong → (text : List ℕ) → before.left ≡ Some text → length text ≤ LIMIT → ⊥
-too_short second text there short =
-    let long : IfSome (Some text) (λ left. LIMIT < length left) =
-    subst (λ o. IfSome o (λ left. LIMIT < length left)) there (second.long_text refl) in omega (arith, long, short)
-
--- where the input failed, neither text gave too much
-pub no_more_failed : (name : List ℕ) (before now : Seen) (source : List ℕ) → Read (before.shelf.told name) now.shelf.left before.shelf.given now.shelf.given source → NotRead before.input now.input read.Failed
-    → (before.shelf.given + LIMIT < now.shelf.given) ⊎ (before.input.given + LIMIT < now.input.given) → ⊥
-no_more_failed name before now source first second (inl more) =
-    not_more before.shelf.given now.shelf.given (length source) first.given first.within more
-no_more_failed name before now source first second (inr more) = omega (arith, second.failed_given refl, more)
-
-pub read_not_ended : (status.Read ≡ status.Done) ⊎ (status.Read ≡ status.Fault) → ⊥
-read_not_ended (inl e) = absurd (cc)
-read_not_ended (inr e) = absurd (cc)
-
-pub too_long_not_ended : (status.TooLong ≡ status.Done) ⊎ (status.TooLong ≡ status.Fault) → ⊥
-too_long_not_ended (inl e) = absurd (cc)
-too_long_not_ended (inr e) = absurd (cc)
-
-pub no_memory_not_ended : (status.NoMemory ≡ status.Done) ⊎ (status.NoMemory ≡ status.Fault) → ⊥
-no_memory_not_ended (inl e) = absurd (cc)
-no_memory_not_ended (inr e) = absurd (cc)
+pub ends_well : (due : List ℕ → List ℕ → List ℕ) → EndsWell (writes_of due)
+ends_well due = record {
+  lines = λ source requests _ _ wrote. ends_valid (fault source requests) wrote.0;
+  fault = λ source requests _ _ wrote. ends_refused (fault source requests) wrote.0;
+  memory = λ source requests. ends_without (fault source requests);
+}

@@ -11,6 +11,7 @@ pub mod Words
 pub mod Seen
 pub mod ReadBack
 pub mod Ends
+pub mod Responses
 pub mod Made
 pub mod Summary
 pub mod Generated
@@ -19,5 +20,4 @@ pub mod AskedLaws
 pub mod EndLaws
 -- Words of private clauses.
 pub mod Tasks
-pub mod Responses
 pub mod Opened

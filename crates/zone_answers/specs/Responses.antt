@@ -9,10 +9,27 @@ use Rattle.zone_answers.specs.ReadBack.{IsReadBack}
 use Rattle.zone_answers.specs.Summary.{summary, due_summary}
 use Rattle.zone_outside.specs.Seen.{OutputSeen, Grew, GrewBySome}
 use Rattle.zone_outside.specs.Outside.{Rose}
-use Rattle.zone_answers.specs.declared.respond.Answered.{Answered}
-use Rattle.zone_answers.specs.declared.respond.Answered.TheVariants.{Done, Fault, Failed, NoMemory}
+use Rattle.zone_answers.specs.declared.text_run.Answered.{Answered}
+use Rattle.zone_answers.specs.declared.text_run.Answered.TheVariants.{Done, Fault, Failed, NoMemory}
+use Rattle.zone_answers.specs.Ends.{Writes}
+use Rattle.zone_source.specs.declared.status.Status.TheVariants as status
 use Rattle.zone_answers.specs.declared.respond.Form.{Form}
 use Rattle.zone_answers.specs.declared.respond.Form.TheVariants as form
+
+-- so it ends after the lines, after the line of a fault, and where memory runs out
+pub record EndsWell (writes : Writes) : Type 0 where
+  pub lines : (text requests : List ℕ) (before now : OutputSeen) → writes.lines text requests before now
+      → writes.ends text requests status.Done
+  pub fault : (text requests : List ℕ) (before now : OutputSeen) → writes.fault text requests before now
+      → writes.ends text requests status.Fault
+  pub memory : (text requests : List ℕ) → writes.ends text requests status.NoMemory
+
+-- what was written, by what is answered of it
+abbrev pub Responds : Writes → List ℕ → List ℕ → OutputSeen → OutputSeen → Answered → Type 0
+Responds writes text requests before now Done = writes.lines text requests before now
+Responds writes text requests before now Fault = writes.fault text requests before now
+Responds writes text requests before now Failed = Rose before.faults now.faults × writes.part text requests before now
+Responds writes text requests before now NoMemory = now ≡ before
 
 -- the bytes of the answers' lines in this form
 abbrev pub lines_in : Form → List (List ℕ) → List ℕ
@@ -24,14 +41,7 @@ abbrev pub due_in : Form → List ℕ → List ℕ → List ℕ
 due_in form.Lines source requests = due_bytes source requests
 due_in form.Summary source requests = due_summary source requests
 
--- of these due bytes
-abbrev pub Responds : List ℕ → List ℕ → List ℕ → OutputSeen → OutputSeen → Answered → Type 0
-Responds due source requests before now Done = IsValid source requests × All IsReadBack (shown source requests) × Grew before now due
-Responds due source requests before now Fault = (fault source requests ≢ None) × Grew before now due
-Responds due source requests before now Failed = Rose before.faults now.faults × GrewBySome before now due
-Responds due source requests before now NoMemory = now ≡ before
-
--- the same of an error, which tells a fault or want of memory
+-- what was written of an error, which tells a fault or want of memory
 abbrev pub RespondsError : Option faults.Fault → OutputSeen → OutputSeen → Answered → Type 0
 RespondsError told before now Done = ⊥
 RespondsError told before now Fault = IsSomeAnd told (λ f. Grew before now (fault_line f ++ 10 ∷ []))

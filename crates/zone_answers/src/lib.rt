@@ -11,6 +11,7 @@ mod running;
 mod showing;
 mod starting;
 mod summary;
+mod text_run;
 mod words;
 mod zones;
 
@@ -21,6 +22,7 @@ pub use request::nanoseconds;
 pub use running::{run, run_surely};
 pub use showing::{add_bytes, add_text};
 pub use starting::start;
+pub use text_run::{Answered, TextAnswers, run_over};
 pub use tz_lookup::ZoneFault;
 /// One line per request, in order. Contracts see the list of the lines' bytes.
 pub use zone_source::{

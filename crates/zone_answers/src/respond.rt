@@ -1,5 +1,6 @@
 //! The answers to two texts, written to an output.
 ghost use Rattle.std.specs.Prelude.{◌≤◌, length, OnErr, OnOk};
+ghost use Rattle.zone_answers.specs.Ends.{writes_of};
 ghost use Rattle.zone_answers.specs.Responses.{Responds, RespondsError, due_in, lines_in};
 ghost use Rattle.zone_outside.specs.Outside.{Rose};
 ghost use Rattle.zone_outside.specs.Seen.{Grew, GrewBySome, output_seen};
@@ -9,22 +10,10 @@ use crate::answering::answers;
 use crate::error::AnswerError;
 use crate::fault::write_fault;
 use crate::summary::summary_line;
+use crate::text_run::{Answered, TextAnswers};
 use std::alloc::Global;
 use zone_line::LineParser;
 use zone_source::{Failed, LIMIT, LineList, Sink, write_all};
-
-/// What was written.
-#[derive(Clone, Copy, Debug, PartialEq, Eq)]
-pub(crate) enum Answered {
-    /// The lines.
-    Done,
-    /// The line of a fault.
-    Fault,
-    /// Some of it: the output failed.
-    Failed,
-    /// Nothing: memory ran out.
-    NoMemory,
-}
 
 /// What is written of the answers.
 #[derive(Clone, Copy, Debug, PartialEq, Eq)]
@@ -33,6 +22,31 @@ pub(crate) enum Form {
     Lines,
     /// A summary of them.
     Summary,
+}
+
+/// The answers to requests over a source.
+pub(crate) struct SourceAnswers<'p> {
+    pub(crate) parser: &'p LineParser,
+}
+
+impl TextAnswers for SourceAnswers<'_> {
+    ghost use Rattle.zone_answers.specs.Due.{due_bytes};
+    ghost use Rattle.zone_answers.specs.EndLaws as laws;
+    ghost use Rattle.zone_answers.specs.Ends.{writes_of};
+
+    ghost writes = { writes_of due_bytes };
+
+    fn respond<O: Sink>(
+        &self,
+        alloc: Global,
+        source: &[u8],
+        requests: &[u8],
+        output: &mut O,
+    ) -> Answered {
+        respond(alloc, self.parser, source, requests, Form::Lines, output)
+    }
+
+    ghost ends_well = { laws.ends_well due_bytes };
 }
 
 /// Answers the requests over the source, and writes the answers in the form, or the first fault.
@@ -46,7 +60,7 @@ pub(crate) fn respond<O: Sink>(
 ) -> Answered
     requires source { length source.now ≤ LIMIT }
     requires requests { length requests.now ≤ LIMIT }
-    ensures { Responds (due_in form source.now requests.now) source.now requests.now (output_seen O.Sink output.old) (output_seen O.Sink output.new) result }
+    ensures { Responds (writes_of (due_in form)) source.now requests.now (output_seen O.Sink output.old) (output_seen O.Sink output.new) result }
 {
     match answers(alloc, parser, source, requests) {
         Ok(lines) => match write_lines(output, &lines, form) {

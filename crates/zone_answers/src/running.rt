@@ -9,13 +9,12 @@ ghost use Rattle.zone_answers.specs.Seen.{run_seen};
 ghost use Rattle.zone_answers.specs.Words.{answer_over, count_of, file_of, task_of};
 
 use crate::made::{made_requests, made_source};
-use crate::respond::{Answered, Form, respond};
+use crate::respond::{Form, SourceAnswers, respond};
+use crate::text_run::{Answered, run_over};
 use crate::words::Task;
 use std::alloc::Global;
 use zone_line::LineParser;
-use zone_source::{
-    LIMIT, Shelf, Sink, Source, Status, SureShelf, SureSink, SureSource, fetch_all, read_all,
-};
+use zone_source::{LIMIT, Shelf, Sink, Source, Status, SureShelf, SureSink, SureSource};
 
 /// Answers the requests of the input over the named text of the shelf, and writes the answers, or the first fault, to
 /// the output. With the words `--generate` and a number from 1 to 1000 it answers over texts made from the number, touches
@@ -41,39 +40,12 @@ pub fn run<H: Shelf, I: Source, O: Sink>(
         (run_seen H.Source I.Source O.Sink shelf.new input.new output.new) result) }
 {
     match Task::read(words) {
-        Some(Task::AnswerOver(name)) => run_over(alloc, parser, name, shelf, input, output),
+        Some(Task::AnswerOver(name)) => {
+            let answers = SourceAnswers { parser };
+            run_over(alloc, &answers, name, shelf, input, output)
+        }
         Some(Task::Generate(count)) => run_made(alloc, parser, count, output),
         None => Status::Words,
-    }
-}
-
-/// Answers the requests of the input over the named text of the shelf.
-fn run_over<H: Shelf, I: Source, O: Sink>(
-    alloc: Global,
-    parser: &LineParser,
-    name: &str,
-    shelf: &mut H,
-    input: &mut I,
-    output: &mut O,
-) -> Status
-    requires { H.open_to shelf.old name.now }
-    ensures { Ends (Some (answer_over name.now))
-        (run_seen H.Source I.Source O.Sink shelf.old input.old output.old)
-        (run_seen H.Source I.Source O.Sink shelf.new input.new output.new) result }
-{
-    let source = match fetch_all(alloc, shelf, name) {
-        Ok(source) => source,
-        Err(end) => return Status::from(end),
-    };
-    let requests = match read_all(alloc, input) {
-        Ok(requests) => requests,
-        Err(end) => return Status::from(end),
-    };
-    match respond(alloc, parser, &source, &requests, Form::Lines, output) {
-        Answered::Done => Status::Done,
-        Answered::Fault => Status::Fault,
-        Answered::Failed => Status::Write,
-        Answered::NoMemory => Status::NoMemory,
     }
 }
 

@@ -1,4 +1,3 @@
-mod EndLemmas
 mod ResponseLemmas
 mod RefusalLemmas
 mod ShowingLemmas

@@ -12,12 +12,13 @@ use Rattle.zone_tzif_core.specs.Zones.{ZoneValue}
 use Rattle.zone_file_answers.specs.Due.{answer_line, IsFaultLine}
 use Rattle.zone_file_answers.specs.Faults.{Fault, fault_line, first_refused}
 use Rattle.zone_file_answers.specs.Files.{IsFile, IsNoFile}
-use Rattle.zone_file_answers.specs.Responses.{Responds, RespondsFault}
+use Rattle.zone_answers.specs.Responses.{Responds}
+use Rattle.zone_file_answers.specs.Responses.{RespondsFault, writes}
 use Rattle.zone_file_answers.specs.Told.{AnswersFile, FaultOfFile, IsToldFault, TellsOf, fault_told}
 use Rattle.zone_file_answers.specs.declared.fault.FileFault.{FileFault}
 use Rattle.zone_file_answers.specs.declared.fault.FileFault.TheVariants as code
-use Rattle.zone_file_answers.specs.declared.respond.Answered.{Answered}
-use Rattle.zone_file_answers.specs.declared.respond.Answered.TheVariants.{Done, Fault as Wrong, Failed, NoMemory}
+use Rattle.zone_answers.specs.declared.text_run.Answered.{Answered}
+use Rattle.zone_answers.specs.declared.text_run.Answered.TheVariants.{Done, Fault as Wrong, Failed, NoMemory}
 
 -- a fault of the value other than want of memory leaves nothing that can be looked up
 refused_value : (value : ZoneValue) (footer : Option FooterZone) (fault : TzifFault) → IsTzifFault value fault → (fault ≡ tzif.NoMemory → ⊥)
@@ -53,7 +54,7 @@ line_due file requests None bytes h e = absurd e
 line_due file requests (Some f) bytes h e = record { fault = f; found = h; line = e }
 
 pub fault_response : (file requests : List ℕ) (fault : FileFault) (before now : OutputSeen) (result : Answered)
-    → FaultOfFile file requests fault → RespondsFault fault before now result → Responds file requests before now result
+    → FaultOfFile file requests fault → RespondsFault fault before now result → Responds writes file requests before now result
 fault_response file requests fault before now Done is h = absurd h
 fault_response file requests fault before now Wrong is h =
     record { bytes = h.bytes; due = line_due file requests (fault_told fault) h.bytes is h.due; grew = h.grew }

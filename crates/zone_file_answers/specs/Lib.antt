@@ -7,3 +7,5 @@ pub mod Files
 pub mod Requests
 pub mod Responses
 pub mod Told
+-- Laws: what a caller may use.
+pub mod EndLaws

@@ -6,8 +6,11 @@ use Rattle.zone_file_answers.specs.Due.{AreAnswers, IsFaultLine}
 use Rattle.zone_file_answers.specs.Faults.{fault_line}
 use Rattle.zone_file_answers.specs.Told.{fault_told}
 use Rattle.zone_file_answers.specs.declared.fault.FileFault.{FileFault}
-use Rattle.zone_file_answers.specs.declared.respond.Answered.{Answered}
-use Rattle.zone_file_answers.specs.declared.respond.Answered.TheVariants.{Done, Fault, Failed, NoMemory}
+use Rattle.zone_answers.specs.Ends.{Writes}
+use Rattle.zone_answers.specs.declared.text_run.Answered.{Answered}
+use Rattle.zone_answers.specs.declared.text_run.Answered.TheVariants.{Done, Fault, Failed, NoMemory}
+use Rattle.zone_source.specs.declared.status.Status.{Status}
+use Rattle.zone_source.specs.declared.status.Status.TheVariants as status
 
 -- all of some bytes were written that are due
 pub record Wrote (Is : List ℕ → Type 0) (before now : OutputSeen) : Type 0 where
@@ -25,16 +28,23 @@ pub record WroteSome (Is : List ℕ → Type 0) (before now : OutputSeen) : Type
 abbrev pub IsDue : List ℕ → List ℕ → List ℕ → Type 0
 IsDue source requests bytes = AreAnswers source requests bytes ⊎ IsFaultLine source requests bytes
 
-abbrev pub Responds : List ℕ → List ℕ → OutputSeen → OutputSeen → Answered → Type 0
-Responds source requests before now Done = Wrote (AreAnswers source requests) before now
-Responds source requests before now Fault = Wrote (IsFaultLine source requests) before now
-Responds source requests before now Failed = Rose before.faults now.faults × WroteSome (IsDue source requests) before now
-Responds source requests before now NoMemory = now ≡ before
+-- what was due was written: the lines, or the fault's line; or memory ran out
+abbrev pub IsByTexts : Status → Type 0
+IsByTexts end = (end ≡ status.Done) ⊎ ((end ≡ status.Fault) ⊎ (end ≡ status.NoMemory))
+
+-- what is written of a file and its requests
+abbrev pub writes : Writes
+writes = record {
+  lines = λ file requests. Wrote (AreAnswers file requests);
+  fault = λ file requests. Wrote (IsFaultLine file requests);
+  part = λ file requests. WroteSome (IsDue file requests);
+  ends = λ file requests. IsByTexts;
+}
 
 abbrev pub IsLineOf : FileFault → List ℕ → Type 0
 IsLineOf fault bytes = IsSomeAnd (fault_told fault) (λ f. bytes ≡ fault_line f ++ 10 ∷ [])
 
--- the same of a fault alone
+-- what was written of a fault
 abbrev pub RespondsFault : FileFault → OutputSeen → OutputSeen → Answered → Type 0
 RespondsFault fault before now Done = ⊥
 RespondsFault fault before now Fault = Wrote (IsLineOf fault) before now

@@ -1,35 +1,41 @@
 //! The answers to two texts, written to an output.
 ghost use Rattle.std.specs.Prelude.{◌≤◌, length};
 ghost use Rattle.zone_outside.specs.Seen.{output_seen};
-ghost use Rattle.zone_file_answers.specs.Responses.{Responds, RespondsFault};
+ghost use Rattle.zone_answers.specs.Responses.{Responds};
+ghost use Rattle.zone_file_answers.specs.Responses.{RespondsFault, writes};
 
 use crate::answering::answers;
 use crate::fault::{FileFault, line_of};
 use std::alloc::Global;
+use zone_answers::{Answered, TextAnswers};
 use zone_source::{LIMIT, Sink, write_all};
 
-/// What was written.
-#[derive(Clone, Copy, Debug, PartialEq, Eq)]
-pub(crate) enum Answered {
-    /// The lines.
-    Done,
-    /// The line of a fault.
-    Fault,
-    /// Some of it: the output failed.
-    Failed,
-    /// Nothing: memory ran out.
-    NoMemory,
+/// The answers to requests over a compiled file.
+pub(crate) struct FileAnswers;
+
+impl TextAnswers for FileAnswers {
+    ghost use Rattle.zone_file_answers.specs.EndLaws as laws;
+    ghost use Rattle.zone_file_answers.specs.Responses.{writes};
+
+    ghost writes = { writes };
+
+    fn respond<O: Sink>(
+        &self,
+        alloc: Global,
+        file: &[u8],
+        requests: &[u8],
+        output: &mut O,
+    ) -> Answered {
+        respond(alloc, file, requests, output)
+    }
+
+    ghost ends_well = { laws.ends_well };
 }
 
 /// Answers the requests over the file, and writes the lines or the first fault.
-pub(crate) fn respond<O: Sink>(
-    alloc: Global,
-    file: &[u8],
-    requests: &[u8],
-    output: &mut O,
-) -> Answered
+fn respond<O: Sink>(alloc: Global, file: &[u8], requests: &[u8], output: &mut O) -> Answered
     requires { length requests.now ≤ LIMIT }
-    ensures { Responds file.now requests.now (output_seen O.Sink output.old) (output_seen O.Sink output.new) result }
+    ensures { Responds writes file.now requests.now (output_seen O.Sink output.old) (output_seen O.Sink output.new) result }
 {
     match answers(alloc, file, requests) {
         Ok(lines) => match write_all(output, lines.as_bytes()) {

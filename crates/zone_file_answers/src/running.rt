@@ -4,9 +4,10 @@ ghost use Rattle.zone_answers.specs.Seen.{run_seen};
 ghost use Rattle.zone_file_answers.specs.Ends.{Ends};
 ghost use Rattle.zone_source.specs.FileWords.{file_of};
 
-use crate::respond::{Answered, respond};
+use crate::respond::FileAnswers;
 use std::alloc::Global;
-use zone_source::{Shelf, Sink, Source, Status, fetch_all, read_all};
+use zone_answers::run_over;
+use zone_source::{Shelf, Sink, Source, Status};
 
 /// Answers the requests of the input over the compiled zone file of the shelf that the words name, and writes the answers, or
 /// the first fault, to the output.
@@ -27,36 +28,7 @@ pub fn run<H: Shelf, I: Source, O: Sink>(
         (run_seen H.Source I.Source O.Sink shelf.new input.new output.new) result }
 {
     match words {
-        [name] => run_over(alloc, name.as_str(), shelf, input, output),
+        [name] => run_over(alloc, &FileAnswers, name.as_str(), shelf, input, output),
         _ => Status::Words,
-    }
-}
-
-/// Answers the requests of the input over the named file.
-fn run_over<H: Shelf, I: Source, O: Sink>(
-    alloc: Global,
-    name: &str,
-    shelf: &mut H,
-    input: &mut I,
-    output: &mut O,
-) -> Status
-    requires { H.open_to shelf.old name.now }
-    ensures { Ends (Some name.now)
-        (run_seen H.Source I.Source O.Sink shelf.old input.old output.old)
-        (run_seen H.Source I.Source O.Sink shelf.new input.new output.new) result }
-{
-    let file = match fetch_all(alloc, shelf, name) {
-        Ok(file) => file,
-        Err(end) => return Status::from(end),
-    };
-    let requests = match read_all(alloc, input) {
-        Ok(requests) => requests,
-        Err(end) => return Status::from(end),
-    };
-    match respond(alloc, &file, &requests, output) {
-        Answered::Done => Status::Done,
-        Answered::Fault => Status::Fault,
-        Answered::Failed => Status::Write,
-        Answered::NoMemory => Status::NoMemory,
     }
 }

@@ -9,7 +9,7 @@ mod widths;
 mod window;
 
 pub use listing::{ListFault, Listing, list_lines};
-pub use program::{run_list, run_list_surely, start_list};
+pub use program::{run_list, start_list};
 pub use zone_run::{
     Failed, FileShelf, MemShelf, MemSink, Shelf, Sink, Source, Status, StdSink, SureShelf, SureSink,
 };

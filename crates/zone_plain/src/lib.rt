@@ -12,7 +12,7 @@ mod starting;
 mod whole;
 
 pub use laws::{plain_is_kept, written_is_read};
-pub use running::{run_plain, run_plain_surely};
+pub use running::run_plain;
 pub use starting::start_plain;
 pub use whole::plain;
 pub use zone_plain_base::PlainFault;

@@ -1,5 +1,5 @@
 //! The plain form of a source.
-ghost use Rattle.std.specs.Prelude.{◌≡◌, ◌≤◌, Ok, length, IfOk, IfErr, OnOk};
+ghost use Rattle.std.specs.Prelude.{◌≡◌, ◌≤◌, Ok, length, IfOk, IfErr};
 ghost use Rattle.zone_source.specs.Zones.{source_value};
 ghost use Rattle.std.specs.Prelude.{map};
 ghost use Rattle.zone_plain_base.specs.LineFaults.{IsFaultOf};

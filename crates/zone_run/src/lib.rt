@@ -14,7 +14,7 @@ mod task;
 
 pub use number::number_in;
 pub use program::{Refusal, ZoneProgram};
-pub use running::{run_program, run_program_surely};
+pub use running::run_program;
 pub use starting::start_program;
 pub use zone_source::{
     Failed, FileShelf, MemShelf, MemSink, Shelf, Sink, Source, Status, StdSink, SureShelf, SureSink,

@@ -1,5 +1,5 @@
 //! The bytes that a run over a source is to write.
-ghost use Rattle.std.specs.Prelude.{◌≡◌, ◌≤◌, length, IfOk};
+ghost use Rattle.std.specs.Prelude.{◌≤◌, length, IfOk};
 ghost use Rattle.zone_run.specs.Causes.{cause};
 ghost use Rattle.zone_run.specs.Due.{cause_line as cause_text, due_bytes};
 ghost use Rattle.zone_run.specs.Responses.{cause_told};

@@ -1,5 +1,5 @@
 -- How a run over one file ends.
-use Rattle.std.specs.Prelude.{◌≡◌, ◌↔◌, ℕ, ◌+◌, ◌<◌, ◌≤◌, List, [], length, Option, Some, None, IfSome, IsSome, IsNone}
+use Rattle.std.specs.Prelude.{◌≡◌, ◌≢◌, ◌↔◌, ℕ, ◌+◌, ◌<◌, ◌≤◌, List, [], length, Option, Some, None, IfSome, IsSome, IsNone}
 use Rattle.zone_outside.specs.Limit.{text_limit}
 use Rattle.zone_outside.specs.Outside.{Rose, TooMuch}
 use Rattle.zone_outside.specs.Seen.{ShelfSeen, OutputSeen, shelf_seen, output_seen, Grew, GrewBySome}
@@ -55,3 +55,12 @@ pub record EndsOf {T C : Type 0} (work : Work T C) (task : Option T) (before now
   -- where the text is told and no call fails, the status is by the cause or by the length, or memory ran out
   pub complete : NoneFailed before now → IfTold work task before (λ t source. length source ≤ text_limit → EndsBy (work.cause t source) end)
   pub past_limit : NoneFailed before now → IfTold work task before (λ t source. text_limit < length source → IsPastLimit end)
+
+-- how a run ended over a text under every name and an output, which both never fail: not for a failed call, but by the words, the
+-- cause and the length alone, or for want of memory
+pub record EndsSurely {T C : Type 0} (work : Work T C) (task : Option T) (text : List ℕ) (end : Status) : Type 0 where
+  pub read : end ≢ status.Read
+  pub write : end ≢ status.Write
+  pub words : (end ≡ status.Words) ↔ IsNone task
+  pub complete : IfSome task (λ t. length text ≤ text_limit → EndsBy (work.cause t text) end)
+  pub past_limit : IfSome task (λ t. text_limit < length text → IsPastLimit end)

@@ -4,7 +4,7 @@
 mod line;
 mod program;
 
-pub use program::{run_tail, run_tail_surely, start_tail};
+pub use program::{run_tail, start_tail};
 pub use zone_run::{
     Failed, FileShelf, MemShelf, MemSink, Shelf, Sink, Source, Status, StdSink, SureShelf, SureSink,
 };

@@ -1,5 +1,5 @@
 //! The entry of a name.
-ghost use Rattle.std.specs.Prelude.{◌≡◌, map as each, true, Ok, IfOk, IfErr, OnOk, option_map};
+ghost use Rattle.std.specs.Prelude.{◌≡◌, map as each, Ok, IfOk, IfErr, OnOk};
 ghost use Rattle.std.specs.FinMap.{get};
 ghost use Rattle.owned.specs.InOrderLaws.{RisesStrictly};
 ghost use Rattle.owned.specs.Keyed.{text_cmp};

@@ -1,5 +1,5 @@
 //! Names that others stand in.
-ghost use Rattle.std.specs.Prelude.{◌≡◌, ◌++◌, ◌∷◌, [], nat_eq, slice_get, false, map as each, IfOk};
+ghost use Rattle.std.specs.Prelude.{◌≡◌, nat_eq, slice_get, false, map as each, IfOk};
 ghost use Rattle.std.specs.Option.{option_map_or};
 ghost use Rattle.std.specs.Ordering.{is_lt};
 ghost use Rattle.std.specs.List.{list_any, starts_with};

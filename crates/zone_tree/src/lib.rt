@@ -13,7 +13,7 @@ mod whole;
 
 pub use laws::names_and_links;
 pub use refusal::{TreeFault, Why};
-pub use running::{run_tree, run_tree_surely};
+pub use running::run_tree;
 pub use starting::start_tree;
 pub use whole::tree;
 pub use zone_source::{

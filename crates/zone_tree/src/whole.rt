@@ -1,6 +1,5 @@
 //! The archive of a source.
 ghost use Rattle.std.specs.Prelude.{◌≡◌, ◌≤◌, length, map as each, Ok, IfOk, IfErr, OnOk};
-ghost use Rattle.owned.specs.InOrderLaws.{RisesStrictly};
 ghost use Rattle.owned.specs.Keyed.{text_cmp};
 ghost use Rattle.tz_lookup.specs.Databases.{name_shown, names_of};
 ghost use Rattle.zone_table.specs.BoundedTables.{IsBoundedTable};

@@ -3,7 +3,7 @@
 
 mod program;
 
-pub use program::{run_tzif, run_tzif_surely, start_tzif};
+pub use program::{run_tzif, start_tzif};
 pub use zone_run::{
     Failed, FileShelf, MemShelf, MemSink, Shelf, Sink, Source, Status, StdSink, SureShelf, SureSink,
 };

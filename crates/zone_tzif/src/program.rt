@@ -1,10 +1,8 @@
 //! The program: its words, its answer, its run.
-ghost use Rattle.std.specs.Prelude.{◌≡◌, ◌≢◌, ◌↔◌, ◌<◌, ◌≤◌, length, codes, IfSome, IsNone};
+ghost use Rattle.std.specs.Prelude.{◌<◌, codes};
 ghost use Rattle.std.specs.Option.{ForSome};
-ghost use Rattle.zone_run.specs.Causes.{cause};
 ghost use Rattle.zone_run.specs.Ends.{Ends};
 ghost use Rattle.zone_source.specs.Runs.{seen};
-ghost use Rattle.zone_source.specs.Statuses.{EndsBy, IsPastLimit};
 ghost use Rattle.zone_run.specs.Tasks.{task_of};
 ghost use Rattle.zone_tzif.specs.Asks.{asks, form};
 
@@ -12,11 +10,7 @@ use std::alloc::Global;
 use std::process::ExitCode;
 use tz_lookup::FixedTimespanSet;
 use zone_line::LineParser;
-use zone_run::{
-    Refusal, Shelf, Sink, Status, SureShelf, SureSink, ZoneProgram, run_program,
-    run_program_surely, start_program,
-};
-use zone_source::LIMIT;
+use zone_run::{Refusal, Shelf, Sink, Status, ZoneProgram, run_program, start_program};
 use zone_tzif_set::{FileFault, tzif_of};
 
 /// The file of a zone. There is nothing more to ask.
@@ -66,24 +60,6 @@ pub fn run_tzif<H: Shelf, O: Sink>(
         (seen H.Source O.Sink shelf.old output.old) (seen H.Source O.Sink shelf.new output.new) result }
 {
     run_program::<Compiled, H, O>(alloc, parser, words, shelf, output)
-}
-
-/// A run over objects that never fail. It ends neither for a failed read nor for a failed write: by the words, the cause
-/// and the length alone, or for want of memory.
-pub fn run_tzif_surely(
-    alloc: Global,
-    parser: &LineParser,
-    words: &[String],
-    shelf: &mut SureShelf,
-    output: &mut SureSink,
-) -> Status
-    ensures read { result ≢ Status.Read }
-    ensures write { result ≢ Status.Write }
-    ensures words { (result ≡ Status.Words) ↔ IsNone (task_of form words.now) }
-    ensures complete { IfSome (task_of form words.now) (λ task. length shelf.old.bytes ≤ LIMIT → EndsBy (cause task shelf.old.bytes) result) }
-    ensures past_limit { IfSome (task_of form words.now) (λ task. LIMIT < length shelf.old.bytes → IsPastLimit result) }
-{
-    run_program_surely::<Compiled>(alloc, parser, words, shelf, output)
 }
 
 /// The whole program `zone_tzif`: `run_tzif` over its words, the files and standard output. The exit status is that of the run;

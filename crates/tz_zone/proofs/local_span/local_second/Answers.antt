@@ -1,7 +1,7 @@
-use Rattle.std.proofs.Common.{w32, w64, SFits, rules, ◌∙◌, arith}
+use Rattle.std.proofs.Common.{w32, w64, SFits, rules, ◌∙◌}
 use Rattle.std.proofs.lemmas.Int.{to_z-of_z}
 use Rattle.tz_zone.proofs.SetLemmas.{span_offset, time_bound, added_fits, sum_is}
-use Rattle.tz_zone.proofs.local_span.end_of.Goals as goal
+use Rattle.tz_zone.proofs.local_span.local_second.Goals as goal
 
 pub overflow_add-result : goal.overflow_add-result
 overflow_add-result g c =
@@ -11,8 +11,8 @@ overflow_add-result g c =
     let ft : SFits w64 c.time.result = search rules in
     added_fits _ _ _ _ (to_z-of_z w64 _ ft ∙ c.time.ensures)
     (to_z-of_z w64 _ ff ∙ c.from.ensures ∙ to_z-of_z w32 _ fo ∙ c.total-total.ensures)
-    (time_bound set c.args.index c.requires.accepted c.requires.within)
-    (span_offset set c.args.index c.requires.accepted (omega arith))
+    (time_bound set c.args.entry c.requires.accepted c.requires.entry)
+    (span_offset set c.args.index c.requires.accepted c.requires.within)
 
 pub returns : goal.returns
 returns g c =
@@ -22,5 +22,5 @@ returns g c =
     let ft : SFits w64 c.time.result = search rules in
     sum_is _ _ _ _ (to_z-of_z w64 _ ft ∙ c.time.ensures)
     (to_z-of_z w64 _ ff ∙ c.from.ensures ∙ to_z-of_z w32 _ fo ∙ c.total-total.ensures)
-    (time_bound set c.args.index c.requires.accepted c.requires.within)
-    (span_offset set c.args.index c.requires.accepted (omega arith))
+    (time_bound set c.args.entry c.requires.accepted c.requires.entry)
+    (span_offset set c.args.index c.requires.accepted c.requires.within)

@@ -1,5 +1,0 @@
-use Rattle.std.proofs.Common.{sym}
-use Rattle.zone_run.proofs.running.run_program.Goals as goal
-
-pub fetch_all-requires : goal.fetch_all-requires
-fetch_all-requires g c = c.requires _ (sym c.in-Some.ensures)
