@@ -355,7 +355,7 @@ day_parts k low high =
     (year.counted, day_in-is (year_of k) (month_of k) k year month)
 
 -- 31 December is a date of every year
-last_date : (y : ℤ) → IsDate y 12 31
+pub last_date : (y : ℤ) → IsDate y 12 31
 last_date y = record {
   first_month = omega arith;
   last_month = omega arith;

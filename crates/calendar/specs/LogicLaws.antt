@@ -1,5 +1,6 @@
--- What a step over an option gave, and a case that can't be.
-use Rattle.std.specs.Prelude.{◌≡◌, true, false, Option, Some, None}
+-- What a step over an option gave, a case that can't be, and what holds of every item.
+use Rattle.std.specs.Prelude.{◌≡◌, true, false, List, [], ◌∷◌, Option, Some, None}
+use Rattle.std.specs.List.{AllByRecursion}
 use Rattle.std.specs.Option.{option_map, option_and_then}
 use Rattle.std.proofs.Common.{refl}
 use Rattle.std.proofs.lemmas.Option.{same_Some}
@@ -15,3 +16,7 @@ bind_some f None y e = absurd cc
 
 pub no_case : {A : Type 0} → false ≡ true → A
 no_case h = absurd cc
+
+pub every_weaker : {X : Type 0} (P Q : X → Type 0) → ((x : X) → P x → Q x) → (xs : List X) → AllByRecursion P xs → AllByRecursion Q xs
+every_weaker P Q weaker [] h = tt
+every_weaker P Q weaker (x ∷ xs) h = (weaker x h.0, every_weaker P Q weaker xs h.1)

@@ -1,9 +1,9 @@
 -- Days of the year.
 use Rattle.std.proofs.Common.{◌≡◌, arith, ℕ, ℤ, pos, ◌+ℤ◌, ◌-ℤ◌, to_z, of_z, w32}
-use Rattle.calendar.specs.Days.{day, IsDate}
+use Rattle.calendar.specs.Days.{day}
 use Rattle.calendar.specs.Dates.{year_of, month_of, day_of}
-use Rattle.calendar.specs.DateLaws.{day-into_year, day-last_of_year, days_into_year-bound}
-use Rattle.calendar.specs.MonthLaws.{days_in_year-bounds, days_in_month-december}
+use Rattle.calendar.specs.DateLaws.{day-into_year, day-last_of_year, days_into_year-bound, last_date}
+use Rattle.calendar.specs.MonthLaws.{days_in_year-bounds}
 use Rattle.calendar.specs.SignedLaws.{signed, signed_casts}
 use Rattle.civil_base.specs.Ordinals.{IsOrdinal, ordinal_day, ordinal_of}
 use Rattle.civil_base.specs.Ranges.{IsYear, IsDay}
@@ -26,14 +26,6 @@ ordinal_of-inside k h =
 
 pub new_year-inside : (y : ℤ) → IsYear y → IsDay (day y 1 1)
 new_year-inside y year = date-inside y 1 1 year (new_year y)
-
-last_date : (y : ℤ) → IsDate y 12 31
-last_date y = record {
-  first_month = omega arith;
-  last_month = omega arith;
-  first_day = omega arith;
-  last_day = omega (arith, days_in_month-december y);
-}
 
 pub ordinal_day-inside : (y : ℤ) (n : ℕ) → IsYear y → IsOrdinal y n → IsDay (ordinal_day y n)
 unfolding ordinal_day

@@ -2,11 +2,12 @@
 use Rattle.std.proofs.Common.{◌≡◌, ℕ, inl, inr, List, [], ◌∷◌, length, Option, Some, None, subst, eqb-true, nat_eq, append_assoc, append-nil}
 use Rattle.std.proofs.lemmas.List.{nil_from_length}
 use Rattle.std.proofs.lemmas.Option.{cond_some, same_Some}
+use Rattle.text_parts.specs.Marks.{after_mark}
 use Rattle.calendar.specs.LogicLaws.{bind_some, map_some}
 use Rattle.tz_posix_core.specs.FoundLaws.{Takes, takes, takes_as, chosen, mark_found, marked}
 use Rattle.tz_posix_core.specs.FoundLaws.{offset_found, name_found, date_found, own_offset_found}
 use Rattle.tz_posix_core.specs.Marks.{comma, slash}
-use Rattle.tz_posix_core.specs.Reading.{after_mark, date_at, name_at, offset_at, own_offset_at}
+use Rattle.tz_posix_core.specs.Reading.{date_at, name_at, offset_at, own_offset_at}
 use Rattle.tz_posix_core.specs.Spells.{Optional, absent, present, SpellsName, SpellsOffset, SpellsDate}
 use Rattle.tz_posix_core.specs.declared.date.Date.{Date}
 use Rattle.tz_posix_core.specs.declared.time.Offset.{Offset}

@@ -1,11 +1,12 @@
 -- Footers that spell a value and texts that spell none, what is in range, and what values stand for, by hand.
 use Rattle.std.proofs.Common.{◌≡◌, refl, sym, ◌∙◌, ℕ, pos, neg_ℤ, Bool, true, false, List, [], ◌∷◌, map, Option, Some, None, codes}
 use Rattle.std.proofs.lemmas.Option.{none-some}
+use Rattle.text_parts.specs.Numbers.{value_in}
 use Rattle.calendar.specs.Dates.{last_with}
 use Rattle.calendar.specs.Days.{day, days_after_zero, days_in_month, days_in_year, days_into_year, days_through, is_leap, year_start}
 use Rattle.calendar.specs.Weekdays.{weekday_of}
 use Rattle.tz_posix_core.specs.Days.{nth_weekday, rule_day}
-use Rattle.tz_posix_core.specs.Reading.{value_in, number_at, part_at, clock_time_at, sign_at, offset_at, letters_at, enclosed_at, name_at}
+use Rattle.tz_posix_core.specs.Reading.{number_at, part_at, clock_time_at, sign_at, offset_at, letters_at, enclosed_at, name_at}
 use Rattle.tz_posix_core.specs.Reading.{weekday_at, date_at, own_offset_at}
 use Rattle.tz_posix_core.specs.Seconds.{offset_seconds, time_seconds}
 use Rattle.tz_posix_core.specs.declared.date.Date.TheVariants.{J, M}

@@ -1,8 +1,9 @@
 -- The parts at the front of a footer, each with the rest, as the code reads them.
 use Rattle.std.specs.Prelude.{ℕ, List, Option, Some, None, option_map, nat_eq, length, if◌then◌else◌}
 use Rattle.std.specs.Option.{option_map_or}
+use Rattle.text_parts.specs.Marks.{after_mark}
 use Rattle.tz_posix_core.specs.Marks.{comma, slash}
-use Rattle.tz_posix_core.specs.Reading.{◌>>=◌, after_mark, date_at, name_at, offset_at, own_offset_at}
+use Rattle.tz_posix_core.specs.Reading.{◌>>=◌, date_at, name_at, offset_at, own_offset_at}
 use Rattle.tz_posix_core.specs.declared.date.Date.{Date}
 use Rattle.tz_posix_core.specs.declared.time.Offset.{Offset}
 use Rattle.tz_footer.specs.Values.{SavingValue, FooterValue}

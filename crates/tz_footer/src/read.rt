@@ -7,7 +7,8 @@ ghost use Rattle.tz_footer.specs.Values.{FooterValue};
 ghost use Rattle.tz_posix_core.specs.Reading.{read_as};
 
 use crate::values::{FooterRule, FooterText, Saving};
-use tz_posix_core::parts::{after_mark, date, name, offset, own_offset};
+use text_parts::after_mark;
+use tz_posix_core::parts::{date, name, offset, own_offset};
 use tz_posix_core::{Date, Offset, Std};
 
 /// A date and maybe a time, and the rest.

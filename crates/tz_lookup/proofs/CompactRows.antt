@@ -14,9 +14,6 @@ use Rattle.tz_lookup.proofs.YearLemmas.{day_at, first_second, last_second, years
 
 -- ---- the seconds at which years begin
 
-year_1800 : year_second 0 ≡ negsuc 5364662399
-year_1800 = first_second
-
 year_1801 : year_second 1 ≡ negsuc 5333126399
 unfolding year_second
 year_1801 = omega (arith, signed, day_at 1)
@@ -37,18 +34,15 @@ year_2099 : year_second 299 ≡ pos 4070908800
 unfolding year_second
 year_2099 = omega (arith, signed, day_at 299)
 
-year_2100 : year_second 300 ≡ pos 4102444800
-year_2100 = last_second
-
 -- the rules' years begin and end with these seconds
 begin : rules_begin ≡ year_second 0
-begin = sym year_1800
+begin = sym first_second
 
 last_begin : last_year_begin ≡ year_second (most_years - 1)
 last_begin = sym year_2099
 
 end : rules_end ≡ year_second most_years
-end = sym year_2100
+end = sym last_second
 
 -- ---- years that have begun
 
@@ -76,7 +70,7 @@ begun_at_end : years_begun (pos 31535999) ≡ 171
 begun_at_end = in_1970 (pos 31535999) (omega (arith, ints)) (omega (arith, ints))
 
 begun_in_2099 : years_begun (pos 4102444799) ≡ 300
-begun_in_2099 = years_are 300 _ (begun_up_to 299 _ (omega arith) (omega (arith, ints, year_2099)) (λ _. omega (arith, ints, year_2100)))
+begun_in_2099 = years_are 300 _ (begun_up_to 299 _ (omega arith) (omega (arith, ints, year_2099)) (λ _. omega (arith, ints, last_second)))
 
 begun_from_2100 : years_begun (pos 4102444800) ≡ 301
 begun_from_2100 = years_are 301 _ (after_all _ (omega (arith, ints)))

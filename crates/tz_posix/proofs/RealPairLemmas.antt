@@ -1,5 +1,6 @@
 -- Three pairs of yearly rules of the tz database meet each condition.
 use Rattle.std.proofs.Common.{◌≡◌, ℕ, List, [], ◌∷◌, Option, inl, inr, refl, sym, ap, ◌∙◌, arith, ℤ, pos, neg_ℤ, ◌+ℤ◌, ◌-ℤ◌, ◌*ℤ◌, ◌≤ℤ◌, ◌<ℤ◌}
+use Rattle.text_parts.specs.Numbers.{value_in}
 use Rattle.calendar.specs.Dates.{last_with}
 use Rattle.calendar.specs.Days.{is_leap, days_in_year, days_in_month, days_after_zero, year_start, days_through, days_into_year, day}
 use Rattle.calendar.specs.SignedLaws.{signed}
@@ -15,7 +16,8 @@ use Rattle.zone_spans.specs.Schedules.{schedule_of_lines, total_at}
 use Rattle.tz_posix.proofs.TwoRuleFiringLemmas.{wall_moment}
 use Rattle.tz_posix.specs.Agreement.{IsNorthern, IsSouthern, SaysTheSame, start_in, value_of, value_total}
 use Rattle.tz_posix.specs.Agreement.{from_first, from_eighth, last_of_month}
-use Rattle.tz_posix_core.specs.Reading.{value_in, number_at, part_at, clock_time_at, sign_at, offset_at, letters_at, enclosed_at, name_at}
+use Rattle.tz_posix_core.specs.DayLaws.{day-2100}
+use Rattle.tz_posix_core.specs.Reading.{number_at, part_at, clock_time_at, sign_at, offset_at, letters_at, enclosed_at, name_at}
 use Rattle.tz_posix_core.specs.Reading.{weekday_at, date_at, moment_at, rule_in, own_offset_at, own_rule_in, dst_in, short_in}
 use Rattle.tz_posix_core.specs.Reading.{expanded_in, entry_in}
 use Rattle.tz_posix.specs.RealPairs.{IsRuledBy, lord_howe_rules, lord_howe_text, lord_howe_value}
@@ -45,11 +47,7 @@ unfolding
     rule_in own_offset_at own_rule_in dst_in short_in expanded_in entry_in
 moldova_spelled = entry_found moldova_text _ refl
 
--- 2100-01-01, 2007-01-01, 1997-01-01, and the first Sunday of October 2008
-day_2100 : day (pos 2100) 1 1 ≡ pos 47482
-unfolding is_leap days_in_year days_in_month days_after_zero year_start days_through days_into_year day
-day_2100 = refl
-
+-- 2007-01-01, 1997-01-01, and the first Sunday of October 2008
 day_2007 : day (pos 2007) 1 1 ≡ pos 13514
 unfolding is_leap days_in_year days_in_month days_after_zero year_start days_through days_into_year day
 day_2007 = refl
@@ -125,7 +123,7 @@ module _ (rulesets : Rulesets) (line : ZoneInfo) (d s : Option (List ℕ)) (is :
   new_york_agrees t low high =
       let offset = is.offset_is in
       northern_agrees rulesets (us_rules line d s) new_york_value new_york_same new_york_north t
-      (record { begun = omega (arith, signed, offset, day_2007); not_over = omega (arith, signed, offset, day_2100) })
+      (record { begun = omega (arith, signed, offset, day_2007); not_over = omega (arith, signed, offset, day-2100) })
 
 -- ---- Lord Howe Island, 10:30
 
@@ -197,7 +195,7 @@ module _ (rulesets : Rulesets) (line : ZoneInfo) (d s : Option (List ℕ)) (is :
   lord_howe_agrees t low high =
       let offset = is.offset_is in
       southern_agrees rulesets (lord_howe_rules line d s) lord_howe_value lord_howe_same lord_howe_south t
-      (record { begun = omega (arith, signed, first_start); not_over = omega (arith, signed, offset, day_2100) })
+      (record { begun = omega (arith, signed, first_start); not_over = omega (arith, signed, offset, day-2100) })
 
 -- ---- Moldova, 2:00
 
@@ -262,4 +260,4 @@ module _ (rulesets : Rulesets) (line : ZoneInfo) (d s : Option (List ℕ)) (is :
   moldova_agrees t low high =
       let offset = is.offset_is in
       northern_agrees rulesets (moldova_rules line d s) moldova_value moldova_same moldova_north t
-      (record { begun = omega (arith, signed, offset, day_1997); not_over = omega (arith, signed, offset, day_2100) })
+      (record { begun = omega (arith, signed, offset, day_1997); not_over = omega (arith, signed, offset, day-2100) })

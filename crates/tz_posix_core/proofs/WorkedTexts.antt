@@ -1,7 +1,8 @@
 -- Texts that spell a value and texts that spell none, by hand.
 use Rattle.std.proofs.Common.{◌≡◌, refl, sym, ◌∙◌, ℕ, true, false, List, Some, None, codes}
 use Rattle.std.proofs.lemmas.Option.{none-some}
-use Rattle.tz_posix_core.specs.Reading.{value_in, number_at, part_at, clock_time_at, sign_at, offset_at, letters_at, enclosed_at, name_at}
+use Rattle.text_parts.specs.Numbers.{value_in}
+use Rattle.tz_posix_core.specs.Reading.{number_at, part_at, clock_time_at, sign_at, offset_at, letters_at, enclosed_at, name_at}
 use Rattle.tz_posix_core.specs.Reading.{weekday_at, date_at, moment_at, rule_in, own_offset_at, own_rule_in, dst_in, short_in}
 use Rattle.tz_posix_core.specs.Reading.{expanded_in, entry_in}
 use Rattle.tz_posix_core.specs.Spells.{Spells}

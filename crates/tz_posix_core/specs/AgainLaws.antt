@@ -7,8 +7,10 @@ use Rattle.std.proofs.lemmas.List.{take_at, drop_at}
 use Rattle.std.specs.Char.{is_ascii_digit, is_ascii_alphabetic}
 use Rattle.std.specs.List.{prefix_len, list_all}
 use Rattle.std.specs.Str.Parse.{digits_value}
+use Rattle.text_parts.specs.Marks.{after_mark}
+use Rattle.text_parts.specs.Numbers.{value_in}
 use Rattle.tz_posix_core.specs.Marks.{colon, plus_sign, comma, minus_sign, dot, slash, less, greater, letter_J, letter_M}
-use Rattle.tz_posix_core.specs.Reading.{after_mark, after_run, value_in, number_at, part_at, clock_time_at, offset_at, sign_at, letters_at}
+use Rattle.tz_posix_core.specs.Reading.{after_run, number_at, part_at, clock_time_at, offset_at, sign_at, letters_at}
 use Rattle.tz_posix_core.specs.Reading.{enclosed_at, name_at, weekday_at, date_at, moment_at, rule_in, is_over, own_offset_at}
 use Rattle.tz_posix_core.specs.Reading.{own_rule_in, dst_in, short_in, expanded_in, entry_in}
 use Rattle.tz_posix_core.specs.Spells.{Optional, absent, present, SpellsNumber, SpellsTime, hours, minutes, seconds, SpellsOffset, bare, plus, minus}

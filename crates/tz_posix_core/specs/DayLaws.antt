@@ -3,10 +3,10 @@ use Rattle.std.proofs.Common.{◌≡◌, ℕ, ◌+◌, ◌-◌, ◌<◌, ◌≤�
 use Rattle.std.proofs.lemmas.Bool.{cases_lt, cases_Bool}
 use Rattle.std.proofs.lemmas.Bool.Decides.{nat_tests}
 use Rattle.calendar.specs.Dates.{year_of, month_of, day_of}
-use Rattle.calendar.specs.DateLaws.{day_parts, day-into_year, day-last_of_year, year-between}
+use Rattle.calendar.specs.DateLaws.{day_parts, day-into_year, day-last_of_year, last_date, year-between}
 use Rattle.calendar.specs.Days.{is_leap, days_in_year, days_in_month, days_after_zero, year_start, days_through}
 use Rattle.calendar.specs.Days.{days_into_year, day, IsCountedYear, IsDate}
-use Rattle.calendar.specs.MonthLaws.{days_in_month-january, days_in_month-december, days_in_month-february}
+use Rattle.calendar.specs.MonthLaws.{days_in_month-january, days_in_month-february}
 use Rattle.calendar.specs.MonthLaws.{days_through-late, days_through-two}
 use Rattle.calendar.specs.SignedLaws.{signed}
 use Rattle.calendar.specs.YearLaws.{days_in_year-cases}
@@ -14,24 +14,17 @@ use Rattle.civil_base.specs.DayRangeLaws.{counted, date-inside, new_year}
 use Rattle.civil_base.specs.Ranges.{IsDay, IsYear}
 use Rattle.tz_posix_core.specs.Days.{julian_day}
 
-last_date : (y : ℤ) → IsDate y 12 31
-last_date y =
-    record {
-      first_month = omega arith;
-      last_month = omega arith;
-      first_day = omega arith;
-      last_day = omega (
-        arith,
-        days_in_month-december y,
-      );
-    }
-
 -- and so have the days counted on from the first of January, as many as the year has
 pub counted_day-inside : (y : ℤ) (n : ℕ) → IsYear y → n < days_in_year y → IsDay (day y 1 1 +ℤ pos n)
 counted_day-inside y n year few =
     let first = date-inside y 1 1 year (new_year y) in
     let last = date-inside y 12 31 year (last_date y) in
     record { first = omega (arith, signed); last = omega (arith, signed, day-last_of_year y (counted y year)) }
+
+-- 2100-01-01
+pub day-2100 : day (pos 2100) 1 1 ≡ pos 47482
+unfolding is_leap days_in_year days_in_month days_after_zero year_start days_through days_into_year day
+day-2100 = refl
 
 -- ---- 1970 has no February 29, and begins on day 0
 common : is_leap (pos 1970) ≡ false

@@ -12,8 +12,10 @@ use Rattle.std.specs.List.{prefix_len, list_all}
 use Rattle.std.specs.Option.{option_map_or}
 use Rattle.std.specs.Str.Parse.{digits_value}
 use Rattle.calendar.specs.LogicLaws.{map_some, bind_some}
+use Rattle.text_parts.specs.Marks.{after_mark}
+use Rattle.text_parts.specs.Numbers.{value_in}
 use Rattle.tz_posix_core.specs.Marks.{colon, plus_sign, comma, minus_sign, dot, slash, less, greater, letter_J, letter_M}
-use Rattle.tz_posix_core.specs.Reading.{after_mark, after_run, value_in, number_at, part_at, seconds_at, clock_time_at, offset_at, sign_at}
+use Rattle.tz_posix_core.specs.Reading.{after_run, number_at, part_at, seconds_at, clock_time_at, offset_at, sign_at}
 use Rattle.tz_posix_core.specs.Reading.{letters_at, enclosed_at, name_at, day_at, weekday_at, date_at, date_time_at, moment_at, rule_in}
 use Rattle.tz_posix_core.specs.Reading.{is_over, own_offset_at, own_rule_in, dst_in, short_in, expanded_in, entry_in}
 use Rattle.tz_posix_core.specs.Spells.{Optional, absent, present, SpellsNumber, SpellsTime, hours, minutes, seconds, SpellsOffset, bare, plus, minus}

@@ -1,11 +1,12 @@
 -- The parts at the front of a text, each with the rest, as the code reads them.
-use Rattle.std.specs.Prelude.{ℕ, ◌^◌, Bool, true, false, ◌&&◌, List, [], ◌∷◌, length, take_while, drop, Option, Some, None}
-use Rattle.std.specs.Prelude.{option_map, option_and_then, nat_lt, nat_le, nat_eq, if◌then◌else◌, ◌==◌}
+use Rattle.std.specs.Prelude.{ℕ, Bool, true, false, ◌&&◌, List, [], ◌∷◌, length, take_while, drop, Option, Some, None}
+use Rattle.std.specs.Prelude.{option_map, option_and_then, nat_le, nat_eq, if◌then◌else◌, ◌==◌}
 use Rattle.std.specs.Char.{is_ascii_digit, is_ascii_alphabetic}
 use Rattle.std.specs.List.{prefix_len}
 use Rattle.std.specs.Option.{option_map_or}
-use Rattle.std.specs.Str.Parse.{digits_value}
 use Rattle.std.specs.Borrow.{Bor}
+use Rattle.text_parts.specs.Marks.{after_mark}
+use Rattle.text_parts.specs.Numbers.{value_in}
 use Rattle.tz_posix_core.specs.declared.time.Time.{Time}
 use Rattle.tz_posix_core.specs.declared.time.Offset.{Offset}
 use Rattle.tz_posix_core.specs.declared.date.Date.{Date}
@@ -23,19 +24,9 @@ o >>= f = option_and_then f o
 abbrev pub read_as : {V W : Type 0} → (V → W) → Option (V × Bor (List ℕ)) → Option (W × List ℕ)
 read_as view result = option_map (λ x. (view x.0, x.1.now)) result
 
--- what follows the mark, where the text begins with it
-abbrev pub after_mark : ℕ → List ℕ → Option (List ℕ)
-after_mark mark [] = None
-after_mark mark (c ∷ text) = if c == mark then Some text else None
-
 -- what follows the longest run of bytes that pass at the front
 abbrev pub after_run : (ℕ → Bool) → List ℕ → List ℕ
 after_run p text = drop (prefix_len p text) text
-
--- the number that digits write, below a power of two
-unfoldable pub value_in : ℕ → List ℕ → Option ℕ
-value_in bits digits =
-    if nat_lt 0 (length digits) && nat_lt (digits_value 10 digits) (2 ^ bits) then Some (digits_value 10 digits) else None
 
 unfoldable pub number_at : ℕ → List ℕ → Option (ℕ × List ℕ)
 number_at bits text = do

@@ -2,7 +2,6 @@
 
 pub use crate::read::dates::date;
 pub use crate::read::names::name;
-pub use crate::read::numbers::after_mark;
 pub use crate::read::own_offset;
 pub use crate::read::times::offset;
 pub use crate::rule::{counted_year_at, is_within};

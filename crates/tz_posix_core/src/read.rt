@@ -12,10 +12,10 @@ pub(crate) mod times;
 
 use crate::read::dates::rule;
 use crate::read::names::name;
-use crate::read::numbers::after_mark;
 use crate::read::times::offset;
 use crate::time::Offset;
 use crate::values::{Dst, Rule, Std, Tz};
+use text_parts::after_mark;
 
 /// Whether the text is at its end or at a rule.
 fn is_over(text: &str) -> bool

@@ -11,15 +11,12 @@ ghost use Rattle.tz_zone.specs.Spans.{TimesDontFall};
 use crate::set::FixedTimespanSet;
 use crate::table::SpanTable;
 use civil_base::GREATEST_OFFSET;
-use zone_spans::FixedTimespan;
+use zone_spans::{FixedTimespan, GREATEST_SECOND};
 
 /// The least and the greatest offset in seconds: a second less than 26 hours, west and east.
 const LEAST_OFFSET: i64 = -MOST_EAST;
 
 const MOST_EAST: i64 = GREATEST_OFFSET as i64;
-
-/// The furthest time of an entry, in seconds before 1970 and after: 2^40.
-const GREATEST_SECOND: i64 = 1 << 40;
 
 /// Why a set can't be looked up.
 #[derive(Clone, Copy, Debug, PartialEq, Eq)]

@@ -52,7 +52,7 @@ use Rattle.zone_line.specs.LineValues.{
   value_of_kind,
   value,
 }
-use Rattle.zone_values.specs.Numbers.{is_numeral, signed_in}
+use Rattle.text_parts.specs.Numbers.{is_numeral, signed_in}
 use Rattle.zone_line.specs.Digits.{two_digits, digit_of}
 use Rattle.zone_line.specs.Options.{first_some}
 use Rattle.zone_values.specs.Results as results

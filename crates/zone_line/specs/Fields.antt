@@ -36,7 +36,7 @@ use Rattle.zone_values.specs.declared.fault.FaultKind.TheVariants.{
   NonWallClockInTimeSpec,
 }
 use Rattle.zone_values.specs.Results.{◌>>=◌}
-use Rattle.zone_values.specs.Numbers.{is_numeral, signed_in}
+use Rattle.text_parts.specs.Numbers.{is_numeral, signed_in}
 use Rattle.zone_values.specs.Years.{year_field}
 use Rattle.zone_values.specs.Weekdays.{weekday_field}
 use Rattle.zone_line.specs.Times.{time_of, if_wall}

@@ -11,7 +11,7 @@ ghost use Rattle.zone_line.specs.Fields.{
   is_ruleset_name,
 };
 
-use crate::number::{is_numeral, small_number};
+use text_parts::{i8_in, is_numeral};
 use zone_values::{Fault, FaultKind, Year};
 
 /// The last year of a rule: `only` is none of its own.
@@ -68,7 +68,7 @@ pub(crate) fn day_of_month(text: &str) -> Option<i8>
 pub(crate) fn day_numbered(text: &str) -> Option<i8>
     ensures { result ≡ day_numbered text.now }
 {
-    let day = small_number(text)?;
+    let day = i8_in(text)?;
     if 1 <= day && day <= 31 {
         Some(day)
     } else {

@@ -4,7 +4,8 @@ ghost use Rattle.zone_line.specs.Times.{no_time, hours_alone, is_bare, signed, c
 ghost use Rattle.zone_line.specs.Shown.{clock_shown};
 
 use crate::columns::ClockColumns;
-use crate::number::{small_number, two_digits};
+use crate::number::two_digits;
+use text_parts::i8_in;
 use zone_values::{TimeSpec, TimeSpecAndType, TimeType};
 
 /// A hyphen, which is no time at all.
@@ -25,7 +26,7 @@ pub(crate) fn hours_alone(text: &str) -> Option<TimeSpecAndType>
     if !is_bare(text) {
         return None;
     }
-    let hours = small_number(text)?;
+    let hours = i8_in(text)?;
     Some(TimeSpec::Hours(hours).with_type(TimeType::Wall))
 }
 

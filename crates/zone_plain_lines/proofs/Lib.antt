@@ -1,4 +1,3 @@
-pub mod MarkLemmas
 pub mod QuoteLemmas
 pub mod WordLemmas
 mod WorkedLines

@@ -2,15 +2,15 @@
 use Rattle.std.specs.Prelude.{ℕ, ◌+◌, ◌*◌, ◌/◌, ◌%◌, ◌-◌, ℤ, pos, neg_ℤ, Bool, true, false, ◌&&◌, ◌||◌, not, ◌==◌, List, [], ◌∷◌, length, slice_index, Option, Some, None, option_map, Result, Ok, Err, ok_or, codes, bytes_eq, nat_lt, if◌then◌else◌}
 use Rattle.std.specs.List.{list_all}
 use Rattle.std.specs.Option.{option_map_or}
-use Rattle.zone_values.specs.Marks.{after_mark}
-use Rattle.zone_values.specs.Numbers.{is_numeral}
+use Rattle.text_parts.specs.Marks.{after_mark, before_mark, cut}
+use Rattle.text_parts.specs.Numbers.{is_numeral}
 use Rattle.zone_values.specs.Seconds.{with_type}
 use Rattle.zone_values.specs.declared.time.TimeSpec.{TimeSpec}
 use Rattle.zone_values.specs.declared.time.TimeSpec.TheVariants.{Hours, HoursMinutes, HoursMinutesSeconds}
 use Rattle.zone_values.specs.declared.time.TimeType.{TimeType}
 use Rattle.zone_values.specs.declared.time.TimeType.TheVariants.{Wall, Standard, UTC}
 use Rattle.zone_values.specs.declared.time.TimeSpecAndType.{TimeSpecAndType}
-use Rattle.zone_plain_lines.specs.Numbers.{number_between, cut, before_mark}
+use Rattle.zone_plain_lines.specs.Numbers.{number_between}
 use Rattle.zone_plain_lines.specs.Steps.{then_some}
 use Rattle.zone_values.specs.Results.{◌>>=◌}
 use Rattle.zone_plain_lines.specs.declared.cause.PlainCause.{PlainCause}

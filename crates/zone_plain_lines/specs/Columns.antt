@@ -4,12 +4,12 @@ use Rattle.std.specs.Borrow.{Bor}
 use Rattle.std.specs.Char.{is_ascii_digit}
 use Rattle.std.specs.List.{list_any}
 use Rattle.std.specs.Option.{option_map_or}
-use Rattle.zone_values.specs.Numbers.{signed_in}
+use Rattle.text_parts.specs.Marks.{cut}
+use Rattle.text_parts.specs.Numbers.{signed_in}
 use Rattle.zone_values.specs.Values.{SavingValue, no_saving, one_off, multiple}
 use Rattle.zone_values.specs.declared.year.Year.{Year}
 use Rattle.zone_values.specs.declared.year.Year.TheVariants.{Minimum, Maximum, Number}
 use Rattle.zone_plain_lines.specs.Clocks.{clock_spec, saved}
-use Rattle.zone_plain_lines.specs.Numbers.{cut}
 use Rattle.zone_values.specs.Results.{◌>>=◌}
 use Rattle.zone_plain_lines.specs.Words.{shortens, from_word}
 use Rattle.zone_plain_lines.specs.declared.cause.PlainCause.{PlainCause}

@@ -2,13 +2,13 @@
 use Rattle.std.specs.Prelude.{ℕ, ℤ, pos, List, Result, Ok, Err, ok_or}
 use Rattle.std.specs.Option.{option_map_or}
 use Rattle.calendar.specs.Days.{days_in_month}
-use Rattle.zone_values.specs.Marks.{after_mark}
+use Rattle.text_parts.specs.Marks.{after_mark, cut}
 use Rattle.zone_values.specs.Months.{month_number}
 use Rattle.zone_values.specs.declared.day.DaySpec.{DaySpec}
 use Rattle.zone_values.specs.declared.day.DaySpec.TheVariants.{Ordinal, Last, LastOnOrBefore, FirstOnOrAfter}
 use Rattle.zone_values.specs.declared.month.Month.{Month}
 use Rattle.zone_values.specs.declared.weekday.Weekday.{Weekday}
-use Rattle.zone_plain_lines.specs.Numbers.{number_between, cut}
+use Rattle.zone_plain_lines.specs.Numbers.{number_between}
 use Rattle.zone_values.specs.Results.{◌>>=◌}
 use Rattle.zone_plain_lines.specs.Words.{weekday_of, last_weekday_of}
 use Rattle.zone_plain_lines.specs.declared.cause.PlainCause.{PlainCause}

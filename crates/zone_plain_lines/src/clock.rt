@@ -23,7 +23,8 @@ ghost use Rattle.zone_plain_lines.specs.Clocks.{
 };
 
 use crate::cause::PlainCause;
-use crate::number::{after_mark, before_mark, cut, is_numeral, number_between};
+use crate::number::number_between;
+use text_parts::{after_mark, before_mark, cut, is_numeral};
 use zone_values::{TimeSpec, TimeSpecAndType, TimeType};
 
 /// A number of seconds with a sign.

@@ -3,9 +3,10 @@ ghost use Rattle.std.specs.Prelude.{◌≡◌, ◌≤◌};
 ghost use Rattle.zone_plain_lines.specs.Days.{longest, day_number, side_of, sided, on_or_before, on_or_after, day_of};
 
 use crate::cause::PlainCause;
-use crate::number::{after_mark, cut, number_between};
+use crate::number::number_between;
 use crate::words::{last_weekday_of, weekday_of};
 use calendar::month_length;
+use text_parts::{after_mark, cut};
 use zone_values::{DaySpec, Month, Weekday};
 
 /// The most days that a month has, in some year.

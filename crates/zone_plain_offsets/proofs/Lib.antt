@@ -1,4 +1,3 @@
-pub mod FormatLemmas
 pub mod PairLemmas
 pub mod NameLemmas
 pub mod GroupLemmas

@@ -1,11 +1,11 @@
 //! Formats with `%z`.
 ghost use Rattle.std.specs.Prelude.{◌≡◌, option_map, string_bytes, IfOk};
-ghost use Rattle.zone_plain_lines.specs.Numbers.{cut};
-ghost use Rattle.zone_plain_offsets.specs.Formats.{after_z, around_mark};
+ghost use Rattle.zone_plain_offsets.specs.Formats.{around_mark};
 ghost use Rattle.zone_plain_offsets.specs.Made.{around_text};
 ghost use Rattle.zone_plain_offsets.specs.Shown.{parts_shown};
 
 use std::alloc::{AllocError, Global};
+use text_parts::{after_mark, cut};
 
 /// What stands before `%z` and what stands after it.
 #[derive(Clone, Copy)]
@@ -16,27 +16,13 @@ pub(crate) struct Around<'t> {
     pub(crate) after: &'t str,
 }
 
-/// What follows a `z`, where the text begins with one.
-fn after_z(text: &str) -> Option<&str>
-    ensures { option_map (λ rest. rest.now) result ≡ after_z text.now }
-{
-    text.strip_prefix('z')
-}
-
-/// What stands before the first `%`, and what stands after it.
-fn cut(text: &str) -> Option<(&str, &str)>
-    ensures { option_map (λ parts. (parts.0.now, parts.1.now)) result ≡ cut 37 text.now }
-{
-    text.split_once('%')
-}
-
 /// The parts of a format with `%z`.
 #[tactic(auto, unfolding(crate::specs::Formats::around_mark))]
 pub(crate) fn around_mark(format: &str) -> Option<Around<'_>>
     ensures { option_map parts_shown result ≡ around_mark format.now }
 {
-    let (before, after) = cut(format)?;
-    let after = after_z(after)?;
+    let (before, after) = cut('%', format)?;
+    let after = after_mark('z', after)?;
     Some(Around { before, after })
 }
 

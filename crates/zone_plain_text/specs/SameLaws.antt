@@ -1,8 +1,9 @@
 -- Lines that are found to mean the same are one value.
 use Rattle.std.proofs.Common.{◌≡◌, Bool, true, ◌&&◌, Option, Some, None, refl, ap, bytes_eq}
 use Rattle.std.proofs.lemmas.Bool.{and_parts}
+use Rattle.std.proofs.lemmas.Slice.Eq.{bytes_eq-Decides}
 use Rattle.zone_values.specs.LogicLaws.{no_case}
-use Rattle.zone_values.specs.SameLaws.{text_is, time_is, marked_time_is, year_is, month_is, day_is, end_is}
+use Rattle.zone_values.specs.SameLaws.{time_is, marked_time_is, year_is, month_is, day_is, end_is}
 use Rattle.zone_values.specs.Values.{SavingValue, no_saving, one_off, multiple, InfoValue, RuleValue, LineValue, space, zone, continuation, rule, link}
 use Rattle.zone_values.specs.contracts.change.ChangeTimePartialEq.TheImpl as of_end
 use Rattle.zone_values.specs.contracts.day.DaySpecPartialEq.TheImpl as of_day
@@ -21,7 +22,7 @@ saving_is : (a b : SavingValue) → same_saving a b ≡ true → a ≡ b
 unfolding same_saving
 saving_is no_saving no_saving h = refl
 saving_is (one_off a) (one_off b) h = ap one_off (time_is a b h)
-saving_is (multiple a) (multiple b) h = ap multiple (text_is a b h)
+saving_is (multiple a) (multiple b) h = ap multiple ((bytes_eq-Decides a b).0 h)
 saving_is no_saving (one_off b) h = no_case h
 saving_is no_saving (multiple b) h = no_case h
 saving_is (one_off a) no_saving h = no_case h
@@ -38,7 +39,7 @@ info_is a b h =
     λ i. record {
       utc_offset = time_is a.utc_offset b.utc_offset one.0 i;
       saving = saving_is a.saving b.saving one.1 i;
-      format = text_is a.format b.format two.1 i;
+      format = (bytes_eq-Decides a.format b.format).0 two.1 i;
       time = option_is of_end.ghosts.eq end_is a.time b.time front.1 i;
     }
 
@@ -53,14 +54,14 @@ rule_is a b h =
     let at = and_parts (of_month.ghosts.eq a.month b.month && of_day.ghosts.eq a.day b.day) _ moment.1 in
     let on = and_parts (of_month.ghosts.eq a.month b.month) _ at.0 in
     λ i. record {
-      name = text_is a.name b.name years.0 i;
+      name = (bytes_eq-Decides a.name b.name).0 years.0 i;
       from_year = year_is a.from_year b.from_year from.0 i;
       to_year = option_is of_year.ghosts.eq year_is a.to_year b.to_year from.1 i;
       month = month_is a.month b.month on.0 i;
       day = day_is a.day b.day on.1 i;
       time = marked_time_is a.time b.time at.1 i;
       time_to_add = time_is a.time_to_add b.time_to_add save.1 i;
-      letters = option_is bytes_eq text_is a.letters b.letters letters.1 i;
+      letters = option_is bytes_eq (λ a b. (bytes_eq-Decides a b).0) a.letters b.letters letters.1 i;
     }
 
 -- lines that are found to mean the same are one value
@@ -69,12 +70,12 @@ unfolding same_line
 line_is space space h = refl
 line_is (zone a i) (zone b j) h =
     let both = and_parts (bytes_eq a b) _ h in
-    λ k. zone (text_is a b both.0 k) (info_is i j both.1 k)
+    λ k. zone ((bytes_eq-Decides a b).0 both.0 k) (info_is i j both.1 k)
 line_is (continuation i) (continuation j) h = ap continuation (info_is i j h)
 line_is (rule a) (rule b) h = ap rule (rule_is a b h)
 line_is (link a b) (link c d) h =
     let both = and_parts (bytes_eq a c) _ h in
-    λ k. link (text_is a c both.0 k) (text_is b d both.1 k)
+    λ k. link ((bytes_eq-Decides a c).0 both.0 k) ((bytes_eq-Decides b d).0 both.1 k)
 line_is space (zone c d) h = no_case h
 line_is space (continuation c) h = no_case h
 line_is space (rule c) h = no_case h

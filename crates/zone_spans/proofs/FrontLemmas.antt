@@ -13,7 +13,7 @@ use Rattle.zone_spans.specs.Fires.{Fires}
 use Rattle.zone_spans.specs.Firings.{Fired, Firing, earliest, fired, is_earlier, is_over}
 use Rattle.zone_spans.specs.Fronts.{Placed, time_of, front, first_of, front_firings, has_mark, head_of, is_below, fires_sooner, left_of, placed_from, same_mark, sooner, tail_of}
 use Rattle.zone_spans.proofs.FiringLemmas.{int_lt_chain, int_lt_one_way}
-use Rattle.zone_spans.proofs.Picks.{all_filter, all_map, all_sorted, pick, pick_least, pick_others, pick_sorted}
+use Rattle.zone_spans.proofs.Picks.{all_filter, all_sorted, pick, pick_least, pick_others, pick_sorted}
 
 abbrev pub is_less : ℤ → ℤ → Placed → Placed → Bool
 is_less offset saving a b = int_lt (time_of offset saving a) (time_of offset saving b)
@@ -137,7 +137,7 @@ pick_soonest offset saving r (q ∷ qs) up =
     (cond {A = Placed × List Placed} b (later.0, r ∷ later.1) (r, q ∷ qs)).1) [
       | true ↦ λ h. (less_sooner offset saving later.0 r h, pick_soonest offset saving q qs up.1)
       | false ↦ λ h. ties_sooner offset saving r (q ∷ qs)
-          (all_map (λ z. less z later.0 ≡ false) (λ z. less z r ≡ false)
+          (every_weaker (λ z. less z later.0 ≡ false) (λ z. less z r ≡ false)
           (λ z k. (less_ranks offset saving).chain z later.0 r k h) (q ∷ qs) least) up.0
     ] refl
 

@@ -1,10 +1,11 @@
 -- Rulesets that are found to be the same.
 use Rattle.std.proofs.Common.{◌≡◌, ℕ, List, [], ◌∷◌, true, Option, Some, None, refl, ap, rules}
 use Rattle.std.proofs.lemmas.Bool.{and_parts}
+use Rattle.std.proofs.lemmas.Slice.Eq.{bytes_eq-Decides}
 use lib.Pointwise.{pointwise}
 use Rattle.calendar.specs.LogicLaws.{no_case}
 use Rattle.calendar.specs.ComparisonLaws.{eq_from_pass}
-use Rattle.zone_values.specs.SameLaws.{clock_is, year_is, month_is, day_is, text_is}
+use Rattle.zone_values.specs.SameLaws.{clock_is, year_is, month_is, day_is}
 use Rattle.zone_values.specs.declared.year.Year.{Year}
 use Rattle.std.specs.contracts.prelude.OptionPartialEq.TheImpl as of_option
 use Rattle.owned.specs.contracts.text.Text as text_type
@@ -25,7 +26,7 @@ last_is (Some a) None h = no_case h
 
 letters_is : (a b : Option (List ℕ)) → (of_option.ghosts text_type.the_row of_text.ghosts of_text.dict).eq a b ≡ true → a ≡ b
 letters_is None None h = refl
-letters_is (Some a) (Some b) h = ap Some (text_is a b h)
+letters_is (Some a) (Some b) h = ap Some ((bytes_eq-Decides a b).0 h)
 letters_is None (Some b) h = no_case h
 letters_is (Some a) None h = no_case h
 

@@ -20,6 +20,6 @@ mod year;
 
 pub use collapsing::collapse;
 pub use fault::SpanFault;
-pub use span::{FixedTimespan, FixedTimespanSet};
+pub use span::{FixedTimespan, FixedTimespanSet, GREATEST_SECOND};
 pub use transitions::TableTransitions;
 pub use year::{EARLIEST_YEAR, MOST_YEARS};

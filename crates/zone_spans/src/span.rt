@@ -7,6 +7,10 @@ ghost use Rattle.zone_spans.specs.Entries.{total};
 use owned::{Items, Text};
 use std::alloc::{AllocError, Global};
 
+/// 2^40 seconds: the furthest time of an entry from 1970-01-01 00:00 UTC, before it and after, and the greatest size of an
+/// offset and of a saving.
+pub const GREATEST_SECOND: i64 = 1 << 40;
+
 /// What is in force for a time: an offset, a saving and a name.
 #[derive(Debug, Drop, PartialEq, Eq)]
 pub struct FixedTimespan {
@@ -79,5 +83,5 @@ fn is_bounded_entry(entry: &(i64, FixedTimespan)) -> bool
 fn is_small(number: i64) -> bool
     ensures { result ≡ is_small number }
 {
-    -1_099_511_627_776 <= number && number <= 1_099_511_627_776
+    -GREATEST_SECOND <= number && number <= GREATEST_SECOND
 }

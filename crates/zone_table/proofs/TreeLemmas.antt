@@ -21,6 +21,7 @@ use Rattle.std.proofs.lemmas.Map.Text.{is_eq-slice_cmp}
 use Rattle.std.proofs.Math.Bool.{or_assoc}
 use Rattle.std.proofs.Math.Numerals.{add-one}
 use Rattle.std.proofs.Math.Seq.{get_or-append_seam}
+use Rattle.calendar.specs.LogicLaws.{every_weaker}
 use Rattle.owned.specs.InOrder.{in_order}
 use Rattle.owned.specs.Keyed.{text_cmp}
 use Rattle.owned.specs.InOrderLaws.{in_order_is, same_in_order, sorted_in_order, any-in_order, below-in_order, or_twice}
@@ -186,10 +187,6 @@ apart a b h = sym (is_eq-slice_cmp a b) ∙ ap is_eq h
 
 apart_back : (a b : List ℕ) → text_cmp a b ≡ Less → bytes_eq b a ≡ false
 apart_back a b h = sym (is_eq-slice_cmp b a) ∙ ap is_eq (nat_list_cmp_total.antisymm b a ∙ ap ordering_reverse h)
-
-every_weaker : {X : Type 0} (P Q : X → Type 0) → ((x : X) → P x → Q x) → (xs : List X) → AllByRecursion P xs → AllByRecursion Q xs
-every_weaker P Q weaker [] h = tt
-every_weaker P Q weaker (x ∷ xs) h = (weaker x h.0, every_weaker P Q weaker xs h.1)
 
 every_map : {X Y : Type 0} (P : Y → Type 0) (f : X → Y) (xs : List X) → AllByRecursion (λ x. P (f x)) xs → AllByRecursion P (map f xs)
 every_map P f [] h = tt

@@ -1,18 +1,17 @@
 -- A candidate's text spells its value, whose parts are in their ranges, and which stands for its zone.
-use Rattle.std.proofs.Common.{◌≡◌, ℕ, ◌/◌, ◌%◌, ◌^◌, ◌<◌, ◌≤◌, Bool, true, false, not, cond, ◌&&◌, ◌==◌, List, [], ◌∷◌, ◌++◌, length, Some, None, option_and_then, Ok, nat_le, nat_lt, eqb-true, IsTrue, ℤ, pos, neg_ℤ, ◌+ℤ◌, int_lt, int_eq, unsigned_abs, refl, sym, ap, ◌∙◌, subst, arith, rules}
+use Rattle.std.proofs.Common.{◌≡◌, ℕ, ◌/◌, ◌%◌, ◌^◌, ◌<◌, ◌≤◌, Bool, true, false, not, cond, ◌&&◌, ◌==◌, List, [], ◌∷◌, ◌++◌, length, Some, None, option_and_then, Ok, nat_le, nat_lt, eqb-true, IsTrue, ℤ, pos, neg_ℤ, ◌+ℤ◌, int_lt, int_eq, unsigned_abs, refl, sym, ap, ◌∙◌, subst, arith}
 use Rattle.std.specs.Prelude.{codes}
 use Rattle.std.specs.Char.{is_ascii_alphabetic, is_ascii_digit}
 use Rattle.std.specs.Fmt.{decimal}
 use Rattle.std.specs.List.{list_all}
 use Rattle.std.specs.Option.{option_map_or}
-use Rattle.std.specs.Str.Parse.{digits_value}
 use Rattle.std.proofs.lemmas.Bool.{and_from, and_parts, leb-true}
 use Rattle.std.proofs.lemmas.Bool.Decides.{nat_tests}
 use Rattle.std.proofs.lemmas.Fmt.{decimal_is_IsNumeral, digits_decimal}
 use Rattle.std.proofs.lemmas.Int.{ints}
 use Rattle.std.proofs.lemmas.List.{append-nil, append_assoc}
 use Rattle.std.proofs.lemmas.List.Folds.{list_all-append}
-use Rattle.std.proofs.lemmas.Str.Parse.{IsNumeralModel, numerals_by_value}
+use Rattle.text_parts.specs.NumberLaws.{digits}
 use Rattle.calendar.specs.ComparisonLaws.{lt_from_fail, lt_from_pass}
 use Rattle.calendar.specs.SignedLaws.{signed, one_sided}
 use Rattle.civil_base.specs.Offsets.{signed_by}
@@ -37,9 +36,6 @@ use Rattle.zone_tail_core.specs.declared.rule.Change.{Change}
 use Rattle.zone_tail_core.specs.declared.rule.YearlyRule.{YearlyRule}
 
 -- ---- numbers
-
-digits : IsNumeralModel (λ ds. list_all is_ascii_digit ds ≡ true) (digits_value 10)
-digits = numerals_by_value _ (search rules)
 
 number : (n : ℕ) → n < 256 → SpellsNumber 8 (decimal n) n
 number n few =

@@ -7,6 +7,7 @@ use Rattle.calendar.specs.ComparisonLaws.{le_le, lt_le}
 use Rattle.calendar.specs.SignedLaws.{signed}
 use Rattle.zone_spans.specs.Schedules.{Schedule}
 use Rattle.tz_zone.specs.Spans.{IsCut, Shift, TimesDontFall, shift_at, total_of, total_from}
+use Rattle.tz_posix_core.specs.DayLaws.{day-2100}
 use Rattle.tz_posix_core.specs.InForce.{instant_in, is_within, year_at}
 use Rattle.zone_tail_core.specs.Agreement.{Agrees, AgreesFrom}
 use Rattle.zone_tail_core.specs.Candidates.{IsAllowed}
@@ -38,10 +39,6 @@ start_after a b s h k = grind (arith, ints)
 pub day-2099 : day (pos 2099) 1 1 ≡ pos 47117
 unfolding is_leap days_in_year days_in_month days_after_zero year_start days_through days_into_year day
 day-2099 = refl
-
-pub day-2100 : day (pos 2100) 1 1 ≡ pos 47482
-unfolding is_leap days_in_year days_in_month days_after_zero year_start days_through days_into_year day
-day-2100 = refl
 
 near-2099 : IsNearYear (pos 2099)
 near-2099 = record { first = omega (arith, signed); last = omega (arith, signed) }

@@ -81,9 +81,6 @@ kept_all p same items (x ∷ source) had has = kept_all p same (added same items
     by_test true = had
     by_test false = All-append p items (x ∷ []) had (λ k d within. subst (λ n. p (get_or (x ∷ []) n d)) (let none : 0 ≡ k = omega arith in none) (has 0 d (omega arith)))
 
-same_bytes : (xs ys : List ℕ) → bytes_eq xs ys ≡ true → xs ≡ ys
-same_bytes xs ys = (bytes_eq-Decides xs ys).0
-
 -- a name with a zero after it stands at that place
 record Placed (names : List (List ℕ)) (name : List ℕ) (place : ℕ) : Type 0 where
   before : List ℕ
@@ -100,7 +97,7 @@ placed (other ∷ names) name there = by_test (bytes_eq name other) refl there (
     by_test true e there more = record {
       before = [];
       after = flat_map (λ n. n ++ 0 ∷ []) names;
-      whole = append_assoc other (0 ∷ []) (flat_map (λ n. n ++ 0 ∷ []) names) ∙ ap (λ l. l ++ 0 ∷ flat_map (λ n. n ++ 0 ∷ []) names) (sym (same_bytes name other e));
+      whole = append_assoc other (0 ∷ []) (flat_map (λ n. n ++ 0 ∷ []) names) ∙ ap (λ l. l ++ 0 ∷ flat_map (λ n. n ++ 0 ∷ []) names) (sym ((bytes_eq-Decides name other).0 e));
       starts = refl;
     }
     by_test false e there more =
@@ -118,7 +115,7 @@ all_at test [] name all there = absurd (false≢true there)
 all_at test (other ∷ names) name all there = by_test (bytes_eq name other) refl there (all_at test names name (and_parts (test other) _ all).1)
   where
     by_test : (t : Bool) → bytes_eq name other ≡ t → (t || list_any (bytes_eq name) names) ≡ true → (list_any (bytes_eq name) names ≡ true → test name ≡ true) → test name ≡ true
-    by_test true e there more = subst (λ l. test l ≡ true) (sym (same_bytes name other e)) (and_parts (test other) _ all).0
+    by_test true e there more = subst (λ l. test l ≡ true) (sym ((bytes_eq-Decides name other).0 e)) (and_parts (test other) _ all).0
     by_test false e there more = more there
 
 small_fits : (x : ℤ) → is_small x ≡ true → FitsSigned w32 x
@@ -175,7 +172,7 @@ same_kind a b e =
     let front = and_parts (int_eq a.utoff b.utoff) _ outer.0 in
     let utoff = (Decides-int_eq a.utoff b.utoff).0 front.0 in
     let is_dst = same_flag a.is_dst b.is_dst front.1 in
-    let name = same_bytes a.name b.name outer.1 in
+    let name = (bytes_eq-Decides a.name b.name).0 outer.1 in
     ap (λ x. made x a.is_dst a.name) utoff ∙ ap (λ x. made b.utoff x a.name) is_dst ∙ ap (made b.utoff b.is_dst) name
   where
     made : ℤ → Bool → List ℕ → KindValue

@@ -1,6 +1,5 @@
 -- Definitions: what public clauses say.
-pub mod Numbers
-pub mod Marks
+pub use Rattle.text_parts.specs.Numbers
 pub mod Names
 pub mod Faults
 pub mod Years
@@ -14,7 +13,5 @@ pub mod Bounds
 pub mod Results
 -- Laws: what a caller may use.
 pub use Rattle.calendar.specs.LogicLaws
-pub mod MarkLaws
-pub mod NumberLaws
 pub mod SameLaws
 pub mod WeekdayLaws

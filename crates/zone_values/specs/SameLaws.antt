@@ -1,5 +1,5 @@
 -- Values that are found to be the same by `==` are one value.
-use Rattle.std.proofs.Common.{◌≡◌, ℕ, List, true, ◌&&◌, ap, rules, bytes_eq}
+use Rattle.std.proofs.Common.{◌≡◌, true, ◌&&◌, ap, rules}
 use Rattle.std.proofs.lemmas.Bool.{and_parts}
 use Rattle.calendar.specs.LogicLaws.{no_case}
 use Rattle.zone_values.specs.contracts.change.ChangeTimePartialEq.TheImpl as of_end
@@ -18,9 +18,6 @@ use Rattle.zone_values.specs.declared.time.TimeSpec.TheVariants.{Hours, HoursMin
 use Rattle.zone_values.specs.declared.time.TimeSpecAndType.{TimeSpecAndType}
 use Rattle.zone_values.specs.declared.time.TimeType.{TimeType}
 use Rattle.zone_values.specs.declared.year.Year.{Year}
-
-pub text_is : (a b : List ℕ) → bytes_eq a b ≡ true → a ≡ b
-text_is a b h = search rules
 
 pub time_is : (a b : TimeSpec) → of_time.ghosts.eq a b ≡ true → a ≡ b
 time_is (Hours a0) (Hours b0) h = search rules

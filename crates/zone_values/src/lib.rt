@@ -11,7 +11,6 @@ mod fault;
 mod line;
 mod month;
 mod names;
-mod number;
 mod time;
 mod weekday;
 mod year;

@@ -6,9 +6,9 @@ ghost use Rattle.zone_values.specs.Weekdays.{weekday_named};
 ghost use Rattle.zone_values.specs.Years.{year_named};
 
 use crate::month::Month;
-use crate::number::large_number;
 use crate::weekday::Weekday;
 use crate::year::Year;
+use text_parts::i64_in;
 
 /// The month of that English name.
 #[tactic(auto, unfolding(crate::specs::Months::month_named))]
@@ -78,7 +78,7 @@ pub(crate) fn year_named(text: &str) -> Option<Year>
     } else if is_name(text, "max", "maximum") {
         Some(Year::Maximum)
     } else {
-        Some(Year::Number(large_number(text)?))
+        Some(Year::Number(i64_in(text)?))
     }
 }
 

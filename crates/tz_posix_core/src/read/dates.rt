@@ -3,10 +3,11 @@ ghost use Rattle.std.specs.Prelude.{◌≡◌};
 ghost use Rattle.tz_posix_core.specs.Reading.{read_as, weekday_at, date_at, moment_at, rule_in};
 
 use crate::date::Date;
-use crate::read::numbers::{after_mark, large_number, small_number};
+use crate::read::numbers::{large_number, small_number};
 use crate::read::times::time;
 use crate::time::Time;
 use crate::values::Rule;
+use text_parts::after_mark;
 
 /// The numbers of a weekday of a month, and the rest.
 #[tactic(auto, unfolding(crate::specs::Reading::weekday_at))]

@@ -2,7 +2,8 @@
 ghost use Rattle.std.specs.Prelude.{◌≡◌};
 ghost use Rattle.tz_posix_core.specs.Reading.{read_as, letters_at, enclosed_at, name_at};
 
-use crate::read::numbers::{after_mark, split_enclosed, split_letters};
+use crate::read::numbers::{split_enclosed, split_letters};
+use text_parts::after_mark;
 
 /// The fewest letters of a name without brackets.
 const FEWEST: usize = 3;

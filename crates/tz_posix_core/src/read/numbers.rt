@@ -1,17 +1,11 @@
 //! Runs of bytes, and numbers, at the front of a text.
-ghost use Rattle.std.specs.Prelude.{◌≡◌, ◌<◌, option_map, take_while, true};
+ghost use Rattle.std.specs.Prelude.{◌≡◌, take_while, true};
 ghost use Rattle.std.specs.Char.{is_ascii_digit, is_ascii_alphabetic};
 ghost use Rattle.std.specs.List.{list_all, prefix_len};
 ghost use Rattle.tz_posix_core.specs.Spells.{is_enclosed};
-ghost use Rattle.tz_posix_core.specs.Reading.{number_at, value_in, read_as, after_mark, after_run};
+ghost use Rattle.tz_posix_core.specs.Reading.{number_at, read_as, after_run};
 
-/// What follows the mark, where the text begins with it.
-pub fn after_mark(mark: char, text: &str) -> Option<&str>
-    requires { mark < 128 }
-    ensures { option_map (λ rest. rest.now) result ≡ after_mark mark text.now }
-{
-    text.strip_prefix(mark)
-}
+use text_parts::{u8_of_digits, u16_of_digits};
 
 /// How many ASCII digits stand at the front.
 fn digits_ahead(bytes: &[u8]) -> usize
@@ -68,29 +62,13 @@ pub(crate) fn split_enclosed(text: &str) -> (&str, &str)
     text.split_at(enclosed_ahead(text.as_bytes()))
 }
 
-/// The number of 8 bits that the digits write.
-fn small(digits: &str) -> Option<u8>
-    requires { list_all is_ascii_digit digits.now ≡ true }
-    ensures { result ≡ value_in 8 digits.now }
-{
-    digits.parse::<u8>().ok()
-}
-
-/// The number of 16 bits that the digits write.
-fn large(digits: &str) -> Option<u16>
-    requires { list_all is_ascii_digit digits.now ≡ true }
-    ensures { result ≡ value_in 16 digits.now }
-{
-    digits.parse::<u16>().ok()
-}
-
 /// The number of 8 bits at the front, and the rest.
 #[tactic(auto, unfolding(crate::specs::Reading::number_at))]
 pub(crate) fn small_number(text: &str) -> Option<(u8, &str)>
     ensures { read_as (λ n. n) result ≡ number_at 8 text.now }
 {
     let (digits, rest) = split_digits(text);
-    Some((small(digits)?, rest))
+    Some((u8_of_digits(digits)?, rest))
 }
 
 /// The number of 16 bits at the front, and the rest.
@@ -99,5 +77,5 @@ pub(crate) fn large_number(text: &str) -> Option<(u16, &str)>
     ensures { read_as (λ n. n) result ≡ number_at 16 text.now }
 {
     let (digits, rest) = split_digits(text);
-    Some((large(digits)?, rest))
+    Some((u16_of_digits(digits)?, rest))
 }

@@ -2,8 +2,9 @@
 ghost use Rattle.std.specs.Prelude.{◌≡◌};
 ghost use Rattle.tz_posix_core.specs.Reading.{read_as, part_at, clock_time_at, sign_at, offset_at};
 
-use crate::read::numbers::{after_mark, small_number};
+use crate::read::numbers::small_number;
 use crate::time::{Offset, Time};
+use text_parts::after_mark;
 
 /// `:` and a number, where the text begins with `:`.
 #[tactic(auto, unfolding(crate::specs::Reading::part_at))]

@@ -8,9 +8,9 @@ ghost use Rattle.zone_line.specs.Shown.{clock_shown, day_shown};
 
 use crate::columns::{ClockColumns, DayColumns};
 use crate::fields::{after_last, day_numbered, day_of_month, is_ruleset_name};
-use crate::number::is_numeral;
 use crate::reader::LineReader;
 use crate::time_texts::{clock_time, clock_type, hours_alone, if_wall, no_time};
+use text_parts::is_numeral;
 use zone_values::{
     DaySpec, Fault, FaultKind, Saving, TimeSpec, TimeSpecAndType, Weekday, value_or_fault,
 };

@@ -1,6 +1,6 @@
 use Rattle.std.proofs.Common.{◌∙◌}
-use Rattle.zone_values.specs.NumberLaws.{digits_read}
-use Rattle.zone_plain_lines.proofs.number.small_number.Goals as goal
+use Rattle.text_parts.proofs.NumberLemmas.{digits_read}
+use Rattle.text_parts.proofs.number.u8_of_digits.Goals as goal
 
 pub returns : goal.returns
 returns c = c.ok.ensures.value ∙ digits_read 8 c.args.digits.now c.parse.result c.parse.ensures.value.0 c.requires

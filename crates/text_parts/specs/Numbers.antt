@@ -1,4 +1,4 @@
--- Numbers as texts.
+-- Whole numbers in decimal digits.
 use Rattle.std.specs.Prelude.{ℕ, ℤ, Bool, ◌^◌, ◌&&◌, List, length, Option, Some, None, nat_lt, if◌then◌else◌}
 use Rattle.std.specs.Char.{is_ascii_digit}
 use Rattle.std.specs.List.{list_all}

@@ -1,7 +1,7 @@
 use Rattle.std.proofs.Common.{◌∙◌}
-use Rattle.zone_values.specs.NumberLaws.{signed_read}
+use Rattle.text_parts.proofs.NumberLemmas.{signed_read}
 use mir.Syntax.{w64}
-use Rattle.zone_values.proofs.number.large_number.Goals as goal
+use Rattle.text_parts.proofs.number.i64_in.Goals as goal
 
 pub returns : goal.returns
 returns c = c.ok.ensures.value ∙ signed_read w64 c.args.text.now c.parse.result c.parse.ensures.value.0

@@ -1,6 +1,6 @@
 use Rattle.std.proofs.lemmas.Str.Pattern.{strip_suffix_char}
-use Rattle.zone_plain_lines.proofs.MarkLemmas.{suffixed}
-use Rattle.zone_plain_lines.proofs.number.before_mark.Goals as goal
+use Rattle.text_parts.proofs.MarkLemmas.{suffixed}
+use Rattle.text_parts.proofs.mark.before_mark.Goals as goal
 
 pub returns : goal.returns
 returns c = suffixed c.args.mark c.args.text.now c.strip_suffix.result

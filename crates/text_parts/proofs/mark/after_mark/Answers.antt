@@ -1,6 +1,6 @@
 use Rattle.std.proofs.lemmas.Str.Pattern.{strip_prefix_char}
-use Rattle.tz_posix_core.proofs.RunLemmas.{stripped}
-use Rattle.tz_posix_core.proofs.read.numbers.after_mark.Goals as goal
+use Rattle.text_parts.proofs.MarkLemmas.{stripped}
+use Rattle.text_parts.proofs.mark.after_mark.Goals as goal
 
 pub returns : goal.returns
 returns c = stripped c.args.mark c.args.text.now c.strip_prefix.result
