@@ -16,7 +16,7 @@ use Rattle.zone_source.specs.declared.status.Status.TheVariants as status
 use Rattle.zone_answers.specs.declared.respond.Form.{Form}
 use Rattle.zone_answers.specs.declared.respond.Form.TheVariants as form
 
--- so it ends after the lines, after the line of a fault, and where memory runs out
+-- where no call fails, a run may end after the lines, after the line of a fault, and for want of memory
 pub record EndsWell (writes : Writes) : Type 0 where
   pub lines : (text requests : List ℕ) (before now : OutputSeen) → writes.lines text requests before now
       → writes.ends text requests status.Done

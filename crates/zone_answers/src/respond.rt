@@ -25,6 +25,7 @@ pub(crate) enum Form {
 }
 
 /// The answers to requests over a source.
+#[derive(Drop)]
 pub(crate) struct SourceAnswers<'p> {
     pub(crate) parser: &'p LineParser,
 }

@@ -38,7 +38,7 @@ pub trait TextAnswers {
         requires requests { length requests.now ≤ LIMIT }
         ensures { Responds writes text.now requests.now (output_seen O.Sink output.old) (output_seen O.Sink output.new) result };
 
-    /// How a run ends is by what was written.
+    /// A run that wrote this ends as one of which no call fails.
     ghost ends_well: { EndsWell writes };
 }
 

@@ -11,6 +11,7 @@ use zone_answers::{Answered, TextAnswers};
 use zone_source::{LIMIT, Sink, write_all};
 
 /// The answers to requests over a compiled file.
+#[derive(Drop)]
 pub(crate) struct FileAnswers;
 
 impl TextAnswers for FileAnswers {
