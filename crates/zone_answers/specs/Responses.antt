@@ -1,11 +1,10 @@
 -- What was written of the due bytes.
-use Rattle.std.specs.Prelude.{◌≡◌, ◌≢◌, ℕ, List, ◌++◌, Option, None, IsSomeAnd, All, [], ◌∷◌}
+use Rattle.std.specs.Prelude.{◌≡◌, ℕ, List, ◌++◌, Option, IsSomeAnd, [], ◌∷◌}
 use Rattle.zone_source.specs.LineLists.{ended}
-use Rattle.zone_answers.specs.Due.{shown, due_bytes}
-use Rattle.zone_answers.specs.Faults.{IsValid, fault}
+use Rattle.zone_answers.specs.Due.{due_bytes}
+use Rattle.zone_answers.specs.Faults.{fault}
 use Rattle.zone_answers.specs.Faults as faults
 use Rattle.zone_answers.specs.FaultLines.{fault_line}
-use Rattle.zone_answers.specs.ReadBack.{IsReadBack}
 use Rattle.zone_answers.specs.Summary.{summary, due_summary}
 use Rattle.zone_outside.specs.Seen.{OutputSeen, Grew, GrewBySome}
 use Rattle.zone_outside.specs.Outside.{Rose}

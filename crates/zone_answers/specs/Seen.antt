@@ -1,5 +1,4 @@
 -- What is seen of the outside of a run.
-use Rattle.std.specs.Prelude.{ℕ, List, Option, IfSome}
 use Rattle.zone_outside.specs.Outside.{Rose}
 use Rattle.zone_outside.specs.Seen.{ShelfSeen, InputSeen, OutputSeen, shelf_seen, input_seen, output_seen}
 use Rattle.zone_outside.specs.declared.outside.Source.{Ghosts as SourceOf}

@@ -6,7 +6,7 @@ ghost use Rattle.zone_answers.specs.Faults.{fault};
 ghost use Rattle.zone_answers.specs.Generated.{Generated, WritesMade, made_fault};
 ghost use Rattle.zone_outside.specs.Seen.{output_seen};
 ghost use Rattle.zone_answers.specs.Seen.{run_seen};
-ghost use Rattle.zone_answers.specs.Words.{answer_over, count_of, file_of, task_of};
+ghost use Rattle.zone_answers.specs.Words.{count_of, file_of, task_of};
 
 use crate::made::{made_requests, made_source};
 use crate::respond::{Form, SourceAnswers, respond};

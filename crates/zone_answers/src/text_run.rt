@@ -1,5 +1,5 @@
 //! The run of a program over a text and requests.
-ghost use Rattle.std.specs.Prelude.{◌≡◌, ◌≤◌, length, IsNone, Some};
+ghost use Rattle.std.specs.Prelude.{◌≤◌, length, IsNone, Some};
 ghost use Rattle.zone_answers.specs.Ends.{EndsOver, Writes};
 ghost use Rattle.zone_answers.specs.Responses.{EndsWell, Responds};
 ghost use Rattle.zone_answers.specs.Seen.{run_seen};

@@ -1,6 +1,5 @@
 //! Times of day, offsets and savings.
-ghost use Rattle.std.specs.Prelude.{◌≡◌, ◌<◌, ◌≤◌, IfSome, IfOk, option_map, Some};
-ghost use Rattle.zone_values.specs.Seconds.{with_type};
+ghost use Rattle.std.specs.Prelude.{◌≡◌, ◌<◌, ◌≤◌, IfSome, IfOk, Some};
 ghost use Rattle.zone_plain_lines.specs.Clocks.{
   part,
   clock_spec,

@@ -1,6 +1,6 @@
 //! Days of a month.
 ghost use Rattle.std.specs.Prelude.{◌≡◌, ◌≤◌};
-ghost use Rattle.zone_plain_lines.specs.Days.{longest, day_number, side_of, sided, on_or_before, on_or_after, day_of};
+ghost use Rattle.zone_plain_lines.specs.Days.{longest, day_number, side_of, sided, day_of};
 
 use crate::cause::PlainCause;
 use crate::number::number_between;
