@@ -31,3 +31,5 @@ mod schedules;
 mod source;
 #[cfg(test)]
 mod tails;
+#[cfg(test)]
+mod tasks;
