@@ -74,7 +74,7 @@ PROGRAMS = [
     Program("zone_alarm", (FILE, NEW_YORK, "2024-03-09", "02:30:00", "30"), rf"(({ZONED}|-?\d{{4}}-\d\d-\d\d none)\n)*", "alarm", "range"),
     Program("zone_tail", (FILE, NEW_YORK), r"(-?\d+|all) [^\n]+\n", "tail", "shape|range|name"),
     Program("zone_tzif", (FILE, NEW_YORK), r"TZif[\0-\xff]*", "tzif", "times|types|names"),
-    Program("zone_tree", (FILE,), r"[\0-\xff]*\0{1024}", r"tree [^\n]{1,255}", "times|types|names|name|size"),
+    Program("zone_tree", (FILE,), r"[\0-\xff]*\0{1024}", r"tree [^\n]{1,255}", "format|times|types|names|link|name|size"),
 ]
 
 # A zone of two yearly rules, which zic can compile.

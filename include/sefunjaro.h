@@ -100,7 +100,7 @@ enum sefunjaro_plain_cause {
     SEFUNJARO_PLAIN_QUOTES = 2,           /* quotes are left open, or nothing stands between two */
     SEFUNJARO_PLAIN_LINE_TYPE = 3,        /* the first word fits neither Rule nor Zone nor Link */
     SEFUNJARO_PLAIN_FIELD_COUNT = 4,      /* there are too few fields, or too many */
-    SEFUNJARO_PLAIN_RULESET_NAME = 5,     /* the name of a ruleset begins with a digit, `-` or `+` */
+    SEFUNJARO_PLAIN_RULESET_NAME = 5,     /* the name of a ruleset begins with a digit, `-`, `+` or white space */
     SEFUNJARO_PLAIN_YEAR = 6,             /* a year is no whole number, and no word that fits */
     SEFUNJARO_PLAIN_YEAR_ORDER = 7,       /* FROM is after TO */
     SEFUNJARO_PLAIN_TYPE = 8,             /* TYPE is not `-` */
@@ -116,7 +116,8 @@ enum sefunjaro_plain_cause {
     SEFUNJARO_PLAIN_LINK_IS_ZONE = 18,    /* a zone has the new name of a link */
     SEFUNJARO_PLAIN_DUPLICATE_LINK = 19,  /* an earlier link has the new name, and another target */
     SEFUNJARO_PLAIN_TARGET = 20,          /* a link leads to no zone: to nothing, or in a circle */
-    SEFUNJARO_PLAIN_TOO_LONG = 21         /* the plain form would be longer than 16,777,216 bytes; no line is to blame */
+    SEFUNJARO_PLAIN_TOO_LONG = 21,        /* the plain form would be longer than 16,777,216 bytes; no line is to blame */
+    SEFUNJARO_PLAIN_NAME = 22             /* a name of a zone or a link is `-`, or a part between slashes is empty, `.` or `..` */
 };
 
 /* Why a compiled file is not read. */

@@ -64,7 +64,7 @@ ScheduleCause = enum.IntEnum(
 PlainCause = enum.IntEnum(
     "PlainCause",
     "NOT_TEXT QUOTES LINE_TYPE FIELD_COUNT RULESET_NAME YEAR YEAR_ORDER TYPE MONTH DAY TIME SAVING FORMAT UNSAYABLE CONTINUATION "
-    "UNKNOWN_RULESET DUPLICATE_ZONE LINK_IS_ZONE DUPLICATE_LINK TARGET TOO_LONG",
+    "UNKNOWN_RULESET DUPLICATE_ZONE LINK_IS_ZONE DUPLICATE_LINK TARGET TOO_LONG NAME",
     module=__name__,
 )
 """Why a source in any form has no plain form; the header says more of each. Each but TOO_LONG is that of a line."""

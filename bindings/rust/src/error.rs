@@ -96,6 +96,7 @@ pub enum PlainCause {
     LinkIsZone,
     DuplicateLink,
     Target,
+    Name,
 }
 
 /// Why a zone has no schedule.
@@ -185,6 +186,9 @@ const PLAIN_CAUSES: [PlainCause; 20] = [
 /// The number of the cause that no line is to blame for.
 const PLAIN_TOO_LONG: u32 = 21;
 
+/// The number of a bad name, which stands behind it.
+const PLAIN_NAME: u32 = 22;
+
 const SCHEDULE_CAUSES: [ScheduleCause; 6] = [
     ScheduleCause::UnknownRuleset,
     ScheduleCause::MissingUntil,
@@ -231,6 +235,7 @@ impl Error {
             BAD_LINE => numbered(&LINE_CAUSES, fault.cause).map(|cause| Error::BadLine { line, cause }),
             BAD_JOIN => numbered(&JOIN_CAUSES, fault.cause).map(|cause| Error::BadJoin { line, cause }),
             NO_PLAIN_FORM if fault.cause == PLAIN_TOO_LONG => Some(Error::PlainTooLong),
+            NO_PLAIN_FORM if fault.cause == PLAIN_NAME => Some(Error::NoPlainForm { line, cause: PlainCause::Name }),
             NO_PLAIN_FORM => numbered(&PLAIN_CAUSES, fault.cause).map(|cause| Error::NoPlainForm { line, cause }),
             UNKNOWN_ZONE => Some(Error::UnknownZone),
             NO_SCHEDULE => numbered(&SCHEDULE_CAUSES, fault.cause).map(|cause| Error::NoSchedule { cause }),

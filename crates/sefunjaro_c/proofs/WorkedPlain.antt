@@ -12,8 +12,8 @@ use Rattle.sefunjaro_c.specs.AnySources.{any_told, form_due, plain_number}
 plain_causes : map plain_number (
     cause.NotText ∷ cause.Quotes ∷ cause.LineType ∷ cause.FieldCount ∷ cause.RulesetName ∷ cause.Year ∷ cause.YearOrder ∷ cause.Type ∷ cause.Month
     ∷ cause.Day ∷ cause.Time ∷ cause.Saving ∷ cause.Format ∷ cause.Unsayable ∷ cause.Continuation ∷ cause.UnknownRuleset ∷ cause.DuplicateZone
-    ∷ cause.LinkIsZone ∷ cause.DuplicateLink ∷ cause.Target ∷ []
-    ) ≡ 1 ∷ 2 ∷ 3 ∷ 4 ∷ 5 ∷ 6 ∷ 7 ∷ 8 ∷ 9 ∷ 10 ∷ 11 ∷ 12 ∷ 13 ∷ 14 ∷ 15 ∷ 16 ∷ 17 ∷ 18 ∷ 19 ∷ 20 ∷ []
+    ∷ cause.LinkIsZone ∷ cause.DuplicateLink ∷ cause.Target ∷ cause.Name ∷ []
+    ) ≡ 1 ∷ 2 ∷ 3 ∷ 4 ∷ 5 ∷ 6 ∷ 7 ∷ 8 ∷ 9 ∷ 10 ∷ 11 ∷ 12 ∷ 13 ∷ 14 ∷ 15 ∷ 16 ∷ 17 ∷ 18 ∷ 19 ∷ 20 ∷ 22 ∷ []
 plain_causes = refl
 
 -- the line of the source and its cause; no line is to blame for a form that is too long

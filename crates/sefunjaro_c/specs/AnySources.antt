@@ -38,6 +38,7 @@ plain_number cause.DuplicateZone = 17
 plain_number cause.LinkIsZone = 18
 plain_number cause.DuplicateLink = 19
 plain_number cause.Target = 20
+plain_number cause.Name = 22
 
 abbrev pub line_told : ℕ → PlainCause → Fault
 line_told n c = record { status = no_plain_form; cause = plain_number c; line = n }

@@ -101,5 +101,6 @@ fn plain_number(cause: PlainCause) -> u32
         PlainCause::LinkIsZone => 18,
         PlainCause::DuplicateLink => 19,
         PlainCause::Target => 20,
+        PlainCause::Name => 22,
     }
 }

@@ -11,6 +11,10 @@ texts = codes "Link A B" ∷ [] ∷ (65 ∷ 13 ∷ 66 ∷ []) ∷ (65 ∷ 10 ∷
 one_lines : map is_one_line texts ≡ true ∷ true ∷ true ∷ false ∷ false ∷ false ∷ false ∷ []
 one_lines = refl
 
+-- a sharp anywhere would be a comment's
+with_sharps : map is_one_line (codes "Link A x#y" ∷ codes "Link A #" ∷ codes "#" ∷ codes "Link A x" ∷ []) ≡ false ∷ false ∷ false ∷ true ∷ []
+with_sharps = refl
+
 -- the lines of a source of each and a line feed: the first three are their own one line
 their_lines : map (λ text. lines_of (text ++ 10 ∷ [])) texts
     ≡ (codes "Link A B" ∷ []) ∷ ([] ∷ []) ∷ ((65 ∷ 13 ∷ 66 ∷ []) ∷ []) ∷ ((65 ∷ []) ∷ (66 ∷ []) ∷ []) ∷ ((65 ∷ []) ∷ [] ∷ []) ∷ ((65 ∷ []) ∷ []) ∷ ([] ∷ []) ∷ []

@@ -20,9 +20,12 @@ is_read_as meant (Err refused) = false
 abbrev pub ends_returned : List ℕ → Bool
 ends_returned text = slice_index text (length text - 1) == 13
 
--- before a line feed it is a line of a source as it stands
+abbrev pub is_sharp : ℕ → Bool
+is_sharp byte = byte == 35
+
+-- before a line feed it is a line of a source as it stands, without a sharp, at which a reader of sources begins a comment
 abbrev pub is_one_line : List ℕ → Bool
-is_one_line text = not (list_any is_line_feed text) && not (ends_returned text)
+is_one_line text = not (list_any is_line_feed text) && not (ends_returned text) && not (list_any is_sharp text)
 
 -- it is the text of one line, and what was read of it is this
 unfoldable pub is_said_by : LineValue → List ℕ → Bool

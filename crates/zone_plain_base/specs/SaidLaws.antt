@@ -2,6 +2,7 @@
 use Rattle.std.proofs.Common.{◌≡◌, ℕ, ◌-◌, List, [], ◌∷◌, All, length, take, true, false, cond, not, Result, Ok, Err, refl, ap, rules}
 use Rattle.std.proofs.lemmas.Bool.{and_parts, or_parts, not-true}
 use Rattle.std.proofs.lemmas.List.Elements.{All-nil, All-cons}
+use Rattle.std.specs.Prelude.{◌&&◌}
 use Rattle.std.specs.List.{list_any}
 use Rattle.std.specs.Str.{is_utf8}
 use Rattle.std.specs.Str.Lines.{strip_carriage_return}
@@ -44,5 +45,6 @@ unfolding is_said is_said_by
 one_line meant h =
     let text = plain_text meant in
     let line = and_parts (is_one_line text) _ (and_parts (is_utf8 text) _ h).1 in
-    let both = and_parts (not (list_any is_line_feed text)) _ line.0 in
+    let all = and_parts (not (list_any is_line_feed text) && not (ends_returned text)) _ line.0 in
+    let both = and_parts (not (list_any is_line_feed text)) _ all.0 in
     (none_feeds text (not-true (list_any is_line_feed text) both.0), ap (λ b. cond b (take (length text - 1) text) text) (not-true (ends_returned text) both.1))

@@ -19,11 +19,12 @@ fn ends_returned(text: &[u8]) -> bool
     }
 }
 
-/// Whether a text is one line of a source as it stands: it has no line feed, and no carriage return at its end, which reading would take.
+/// Whether a text is one line of a source as it stands: it has no line feed, no carriage return at its end, which reading would
+/// take, and no sharp, at which a comment would begin.
 fn is_one_line(text: &[u8]) -> bool
     ensures { result ≡ is_one_line text.now }
 {
-    !text.contains(&b'\n') && !ends_returned(text)
+    !text.contains(&b'\n') && !ends_returned(text) && !text.contains(&b'#')
 }
 
 /// Whether the text is one line that is read as this.

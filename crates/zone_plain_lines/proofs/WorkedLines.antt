@@ -13,9 +13,9 @@ use Rattle.zone_values.specs.declared.time.TimeType.TheVariants.{Wall, Standard,
 use Rattle.zone_values.specs.declared.weekday.Weekday.TheVariants.{Sunday, Monday, Tuesday, Wednesday, Thursday, Friday, Saturday}
 use Rattle.zone_values.specs.declared.year.Year.TheVariants.{Minimum, Maximum, Number}
 use Rattle.zone_plain_lines.specs.Clocks.{amount, clock_spec, amount_spec, rounded, second_of, minutes_below, unsigned, clock_of, amount_of, saved, marked, at_of}
-use Rattle.zone_plain_lines.specs.Columns.{year_of, to_of, years_of, ruleset_name, saving_of, is_format}
+use Rattle.zone_plain_lines.specs.Columns.{year_of, to_of, years_of, ruleset_name, zone_name, saving_of, is_format}
 use Rattle.zone_plain_lines.specs.Days.{day_number, side_of, sided, day_of}
-use Rattle.zone_plain_lines.specs.Meanings.{offset_of, save_of, moment_of, rule_of, end_at, end_of, info_of, first_line_of, meaning}
+use Rattle.zone_plain_lines.specs.Meanings.{offset_of, save_of, moment_of, rule_of, end_at, end_of, info_of, link_of, first_line_of, meaning}
 use Rattle.zone_plain_lines.specs.Numbers.{number_between}
 use Rattle.zone_plain_lines.specs.Quotes.{fields, laid_out, pieces, has_bad_quotes}
 use Rattle.zone_plain_lines.specs.Words.{shortened, line_word, month_of, weekday_of, last_weekday_of, from_word}
@@ -137,10 +137,18 @@ rules : map saving_of (codes "-" ∷ codes "0" ∷ codes "1:30" ∷ codes "-1" �
 unfolding saving_of clock_spec saved amount_of clock_of unsigned minutes_below second_of rounded number_between value_in
 rules = refl
 
-names : map ruleset_name (codes "EU" ∷ codes "2b" ∷ codes "-b" ∷ codes "+b" ∷ [])
-    ≡ Ok (codes "EU") ∷ Err cause.RulesetName ∷ Err cause.RulesetName ∷ Err cause.RulesetName ∷ []
+names : map ruleset_name (codes "EU" ∷ codes "2b" ∷ codes "-b" ∷ codes "+b" ∷ codes " EU" ∷ codes "E U" ∷ [])
+    ≡ Ok (codes "EU") ∷ Err cause.RulesetName ∷ Err cause.RulesetName ∷ Err cause.RulesetName ∷ Err cause.RulesetName ∷ Ok (codes "E U") ∷ []
 unfolding ruleset_name
 names = refl
+
+-- paths of files: no part is empty, `.` or `..`, though a part may begin with dots
+zone_names : map zone_name (codes "Etc/GMT-1" ∷ codes "A/.b/..." ∷ codes "-a" ∷ [] ∷ codes "-" ∷ codes "/A" ∷ codes "A/" ∷ codes "A//B" ∷ codes "." ∷ codes "A/.."
+    ∷ codes "./A" ∷ codes "A/../B" ∷ [])
+    ≡ Ok (codes "Etc/GMT-1") ∷ Ok (codes "A/.b/...") ∷ Ok (codes "-a") ∷ Err cause.Name ∷ Err cause.Name ∷ Err cause.Name ∷ Err cause.Name ∷ Err cause.Name
+    ∷ Err cause.Name ∷ Err cause.Name ∷ Err cause.Name ∷ Err cause.Name ∷ []
+unfolding zone_name
+zone_names = refl
 
 ruled_formats : map (is_format true) (codes "C%sT" ∷ codes "%z" ∷ codes "A%zB" ∷ codes "GMT/BST" ∷ codes "X" ∷ codes "-" ∷ codes "%" ∷ codes "%d" ∷ codes "%s%s"
     ∷ codes "%s/A" ∷ codes "A/%z" ∷ [])
@@ -176,7 +184,7 @@ a_zone : meaning false (codes "Z" ∷ codes "A" ∷ codes "-3" ∷ codes "b" ∷
       format = codes "%z";
       time = Some (UntilTime (Number (pos 1999)) October (Ordinal (pos 3)) (with_type (HoursMinutes (pos 2) (pos 0)) UTC));
     }))
-unfolding meaning first_line_of line_word info_of offset_of saving_of is_format end_of end_at year_of from_word signed_in month_of day_of sided day_number
+unfolding meaning first_line_of link_of zone_name line_word info_of offset_of saving_of is_format end_of end_at year_of from_word signed_in month_of day_of sided day_number
     days_in_month is_leap last_weekday_of at_of marked saved amount_spec clock_spec amount_of clock_of unsigned minutes_below second_of rounded number_between value_in
 a_zone = refl
 
@@ -196,5 +204,5 @@ not_by_word = refl
 other_lines : map (meaning false) ((codes "l" ∷ codes "B" ∷ codes "C" ∷ []) ∷ [] ∷ (codes "L" ∷ codes "B" ∷ []) ∷ (codes "Zone" ∷ codes "A" ∷ codes "1" ∷ codes "-" ∷ [])
     ∷ (codes "R" ∷ codes "b" ∷ []) ∷ (codes "1" ∷ codes "-" ∷ codes "X" ∷ []) ∷ [])
     ≡ Ok (link (codes "B") (codes "C")) ∷ Ok space ∷ Err cause.FieldCount ∷ Err cause.FieldCount ∷ Err cause.FieldCount ∷ Err cause.LineType ∷ []
-unfolding meaning first_line_of line_word info_of rule_of
+unfolding meaning first_line_of link_of zone_name line_word info_of rule_of
 other_lines = refl

@@ -8,7 +8,7 @@ use Rattle.zone_values.specs.declared.month.Month.{Month}
 use Rattle.zone_values.specs.declared.time.TimeSpec.{TimeSpec}
 use Rattle.zone_values.specs.declared.time.TimeSpecAndType.{TimeSpecAndType}
 use Rattle.zone_plain_lines.specs.Clocks.{amount_of, amount_spec, at_of, saved}
-use Rattle.zone_plain_lines.specs.Columns.{column, year_of, years_of, type_of, ruleset_name, saving_of, is_format, letters_of}
+use Rattle.zone_plain_lines.specs.Columns.{column, year_of, years_of, type_of, ruleset_name, zone_name, saving_of, is_format, letters_of}
 use Rattle.zone_plain_lines.specs.Days.{day_of}
 use Rattle.zone_values.specs.Results.{◌>>=◌}
 use Rattle.zone_plain_lines.specs.Words.{line_word, month_of}
@@ -88,15 +88,21 @@ info_of fields from =
       end ← end_of fields (from + 3) (length fields - (from + 3))
       Ok (record { utc_offset = offset; saving = saving; format = format; time = end }))
 
+-- `Link TARGET NAME`
+unfoldable pub link_of : List (List ℕ) → Result LineValue PlainCause
+link_of fields = if not (length fields == 3) then Err cause.FieldCount else (do
+  name ← zone_name (column fields 2)
+  Ok (link (column fields 1) name))
+
 abbrev pub by_word : LineWord → List (List ℕ) → Result LineValue PlainCause
 by_word word.Rule fields = do
   read ← rule_of fields
   Ok (rule read)
 by_word word.Zone fields = do
   info ← info_of fields 2
-  Ok (zone (column fields 1) info)
-by_word word.Link fields =
-    if length fields == 3 then Ok (link (column fields 1) (column fields 2)) else Err cause.FieldCount
+  name ← zone_name (column fields 1)
+  Ok (zone name info)
+by_word word.Link fields = link_of fields
 
 -- a line by its first word
 unfoldable pub first_line_of : List (List ℕ) → Result LineValue PlainCause

@@ -13,7 +13,7 @@ pub enum PlainCause {
     LineType,
     /// There are too few fields, or too many.
     FieldCount,
-    /// The name of a ruleset begins with a digit, `-` or `+`.
+    /// The name of a ruleset begins with a digit, `-`, `+` or white space.
     RulesetName,
     /// A year is no whole number, and no word that fits.
     Year,
@@ -45,6 +45,8 @@ pub enum PlainCause {
     DuplicateLink,
     /// A link leads to no zone: to nothing, or in a circle.
     Target,
+    /// The name of a zone, or the new name of a link, is `-`, or a part of it between slashes is empty, `.` or `..`.
+    Name,
 }
 
 impl PlainCause {
@@ -74,6 +76,7 @@ impl PlainCause {
             PlainCause::LinkIsZone => "LinkIsZone",
             PlainCause::DuplicateLink => "DuplicateLink",
             PlainCause::Target => "Target",
+            PlainCause::Name => "Name",
         }
     }
 }

@@ -1,14 +1,14 @@
 //! What the lines mean.
 ghost use Rattle.std.specs.Prelude.{◌≡◌, ◌≤◌, length};
-ghost use Rattle.zone_values.specs.Values.{line_value, rule_value, info_value, saving_value};
+ghost use Rattle.zone_values.specs.Values.{line_value, link, rule_value, info_value, saving_value};
 ghost use Rattle.zone_plain_lines.specs.Columns.{texts};
 ghost use Rattle.zone_plain_lines.specs.Steps.{shown_by};
-ghost use Rattle.zone_plain_lines.specs.Meanings.{offset_of, save_of, moment_of, end_of, end_at, info_of, rule_of, meaning, first_line_of, is_ruled};
+ghost use Rattle.zone_plain_lines.specs.Meanings.{offset_of, save_of, moment_of, end_of, end_at, info_of, rule_of, link_of, meaning, first_line_of, is_ruled};
 
 use crate::cause::PlainCause;
 use crate::clock::{amount_of, amount_spec, at_of, saved};
 use crate::columns::{
-    column, is_format, letters_of, ruleset_name, saving_of, type_of, year_of, years_of,
+    column, is_format, letters_of, ruleset_name, saving_of, type_of, year_of, years_of, zone_name,
 };
 use crate::day::day_of;
 use crate::words::{LineWord, line_word, month_of};
@@ -144,6 +144,21 @@ fn info_of<'a>(fields: &[&'a str], from: usize) -> Result<ZoneInfo<'a>, PlainCau
     })
 }
 
+/// A Link line, by its three fields.
+#[tactic(auto, unfolding(crate::specs::Meanings::link_of))]
+fn link_of<'a>(fields: &[&'a str]) -> Result<Link<'a>, PlainCause>
+    ensures { shown_by (λ l. link l.existing.now l.new.now) result ≡ link_of (texts fields.now) }
+{
+    if fields.len() != 3 {
+        return Err(PlainCause::FieldCount);
+    }
+    let new = zone_name(column(fields, 2))?;
+    Ok(Link {
+        existing: column(fields, 1),
+        new,
+    })
+}
+
 /// A line that doesn't continue a zone, by its fields.
 #[tactic(auto, unfolding(crate::specs::Meanings::first_line_of))]
 fn first_line_of<'a>(fields: &[&'a str]) -> Result<Line<'a>, PlainCause>
@@ -156,16 +171,13 @@ fn first_line_of<'a>(fields: &[&'a str]) -> Result<Line<'a>, PlainCause>
         }
         LineWord::Zone => {
             let info = info_of(fields, 2)?;
-            Ok(Line::Zone(Zone {
-                name: column(fields, 1),
-                info,
-            }))
+            let name = zone_name(column(fields, 1))?;
+            Ok(Line::Zone(Zone { name, info }))
         }
-        LineWord::Link if fields.len() == 3 => Ok(Line::Link(Link {
-            existing: column(fields, 1),
-            new: column(fields, 2),
-        })),
-        LineWord::Link => Err(PlainCause::FieldCount),
+        LineWord::Link => {
+            let link = link_of(fields)?;
+            Ok(Line::Link(link))
+        }
     }
 }
 

@@ -62,7 +62,7 @@ impl Place {
 }
 
 /// Whether the byte is a space, a tab, a form feed, a carriage return or a vertical tab.
-fn is_white(byte: u8) -> bool
+pub(crate) fn is_white(byte: u8) -> bool
     ensures { result ≡ is_white byte }
 {
     byte == b' ' || byte == b'\t' || byte == 12 || byte == b'\r' || byte == 11

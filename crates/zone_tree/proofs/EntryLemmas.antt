@@ -6,9 +6,8 @@ use Rattle.tz_zone.specs.Sets.{schedule_of}
 use Rattle.tz_zone.specs.declared.set.FixedTimespanSet.{FixedTimespanSet}
 use Rattle.zone_run.specs.Causes.{Found, named}
 use Rattle.zone_spans.specs.Schedules.{totals_of, is_in_offset_range}
-use Rattle.zone_tree.specs.Entries.{file_or, zone_content}
+use Rattle.zone_tree.specs.Entries.{file_unless, is_marked, zone_content}
 use Rattle.zone_tree.specs.declared.refusal.Why.TheVariants.{OffsetRange}
-use Rattle.zone_tzif_set.specs.Files.{file_fault}
 
 -- the zone that was found was compiled to this set, which can be looked up
 pub record Compiled (name : List ℕ) (found : Found) (set : FixedTimespanSet) : Type 0 where
@@ -17,14 +16,14 @@ pub record Compiled (name : List ℕ) (found : Found) (set : FixedTimespanSet) :
   pub small : IsTrue (is_in_offset_range (schedule_of set))
 
 pub content_is : (name : List ℕ) (found : Found) (set : FixedTimespanSet) → Compiled name found set
-    → zone_content name found ≡ file_or (file_fault set) set
+    → zone_content name found ≡ file_unless (is_marked set) set
 unfolding totals_of
 content_is name found set is =
     ap (zone_content name) is.spans
-    ∙ ap (λ b. cond b (file_or (file_fault (named name (spans_of set))) (named name (spans_of set))) (Err OffsetRange)) is.small
-    ∙ ap (λ n. file_or (file_fault (named n (spans_of set))) (named n (spans_of set))) (sym is.is_named)
+    ∙ ap (λ b. cond b (file_unless (is_marked (named name (spans_of set))) (named name (spans_of set))) (Err OffsetRange)) is.small
+    ∙ ap (λ n. file_unless (is_marked (named n (spans_of set))) (named n (spans_of set))) (sym is.is_named)
 
 pub too_far : (name : List ℕ) (found : Found) → IsTooFar found → zone_content name found ≡ Err OffsetRange
 too_far name found far =
     ap (zone_content name) far.is_found
-    ∙ ap (λ b. cond b (file_or (file_fault (named name far.set)) (named name far.set)) (Err OffsetRange)) far.far
+    ∙ ap (λ b. cond b (file_unless (is_marked (named name far.set)) (named name far.set)) (Err OffsetRange)) far.far

@@ -1,7 +1,7 @@
--- The entries of an archive have the names that find a zone, and links stand behind what they are to.
-use Rattle.std.proofs.Common.{◌≡◌, ℕ, Bool, true, false, List, [], ◌∷◌, ◌++◌, All, filter, reverse, cond, Option, Some, None, Result, Ok, Err, refl, sym, ap, ◌∙◌, subst}
-use Rattle.std.specs.Prelude.{◌&&◌, ◌||◌, is_some, bytes_eq, option_and_then}
-use Rattle.std.specs.Bool.{beq}
+-- The entries of an archive have the names that lines give, each finds a zone, and links stand behind what they are to.
+use Rattle.std.proofs.Common.{◌≡◌, ℕ, Bool, true, false, List, [], ◌∷◌, ◌++◌, All, not, reverse, cond, Option, Some, None, Result, Ok, Err, refl, sym, ap, ◌∙◌, subst}
+use Rattle.std.specs.Prelude.{◌&&◌, ◌||◌, is_some, bytes_eq, option_and_then, IsSomeAnd}
+use Rattle.std.specs.Cmp.{both_ways}
 use Rattle.std.specs.List.{AllByRecursion, list_any, flat_map}
 use Rattle.std.specs.Option.{option_or}
 use Rattle.std.specs.Ordering.{eq_by_cmp}
@@ -10,6 +10,7 @@ use Rattle.std.proofs.lemmas.List.Elements.{All-nil, All-cons}
 use Rattle.std.proofs.lemmas.List.Folds.{list_any-append}
 use Rattle.std.proofs.lemmas.Map.Text.{is_eq-slice_cmp}
 use Rattle.std.proofs.lemmas.Slice.Eq.{bytes_eq-Decides}
+use Rattle.std.proofs.Math.Bool.{and-false}
 use Rattle.owned.specs.InOrderLaws.{any-in_order}
 use Rattle.owned.specs.Keyed.{text_cmp}
 use Rattle.owned.specs.Listed.{listed}
@@ -22,16 +23,18 @@ use Rattle.zone_run.specs.Causes.{Found, named}
 use Rattle.zone_source.specs.Faults.{SourceFault, source_fault}
 use Rattle.zone_source.specs.Zones.{values_of, zone_in}
 use Rattle.zone_spans.specs.Schedules.{totals_of, is_in_offset_range}
-use Rattle.zone_table.specs.Joined.{zone_of}
-use Rattle.zone_tree.specs.Entries.{file_or, zone_content, link_content, content_of, is_folder, said, entry_with, entry_by, entry_of}
+use Rattle.zone_table.specs.Joined.{zone_of, link_of}
+use Rattle.zone_table.specs.declared.zone.ZoneInfo.{ZoneInfo}
+use Rattle.zone_values.specs.Values.{LineValue}
+use Rattle.zone_tree.specs.Entries.{file_or, file_unless, is_marked, zone_content, link_content, content_of, is_folder, said, entry_with, entry_by, entry_of}
 use Rattle.zone_tree.specs.TreeShape.{are_behind, IsTree}
-use Rattle.zone_tree.specs.Names.{Finds, finds_in, names_in, names_by, kept, archive_names}
+use Rattle.zone_tree.specs.Names.{Finds, finds_in, given_names, names_by, others, archive_names}
 use Rattle.zone_tree.specs.Trees.{Refused, onto, entries_of, archive_of, tree_by, or_cause, after_source, tree_of}
 use Rattle.zone_tree.specs.declared.refusal.Why.{Why}
-use Rattle.zone_tree.specs.declared.refusal.Why.TheVariants.{OffsetRange, Name}
+use Rattle.zone_tree.specs.declared.refusal.Why.TheVariants.{OffsetRange, Link, Name}
 use Rattle.zone_tzif_core.specs.declared.values.WriteFault.{WriteFault}
 use Rattle.zone_tzif_set.specs.Files.{file_fault}
-use Rattle.zone_tree.proofs.NameLemmas.{text_same, is_itself, kept_any, kept_is, among_names}
+use Rattle.zone_tree.proofs.NameLemmas.{text_same, is_itself, zones_given, links_given, names_given}
 
 -- what is Ok, and else another value
 abbrev given : {A E : Type 0} → A → Result A E → A
@@ -96,18 +99,28 @@ file_is name (Some (Ok set)) content h = by_range (is_in_offset_range (totals_of
     by_fault None h = record { bytes = _; is = ok_same _ content h }
     by_fault (Some fault) h = absurd cc
 
-    by_range : (b : Bool) → cond b (file_or (file_fault (named name set)) (named name set)) (Err OffsetRange) ≡ Ok content → IsFile content
-    by_range true h = by_fault (file_fault (named name set)) h
+    by_mark : (b : Bool) → file_unless b (named name set) ≡ Ok content → IsFile content
+    by_mark true h = absurd cc
+    by_mark false h = by_fault (file_fault (named name set)) h
+
+    by_range : (b : Bool) → cond b (file_unless (is_marked (named name set)) (named name set)) (Err OffsetRange) ≡ Ok content → IsFile content
+    by_range true h = by_mark (is_marked (named name set)) h
     by_range false h = absurd cc
 
-record IsLink (target : Option (List ℕ)) (content : Content) : Type 0 where
+record IsLink (is_zone : List ℕ → Bool) (target : Option (List ℕ)) (content : Content) : Type 0 where
   to : List ℕ
   is_target : target ≡ Some to
+  own : is_zone to ≡ true
   is : of_link to ≡ content
 
-link_is : (target : Option (List ℕ)) (content : Content) → link_content target ≡ Ok content → IsLink target content
-link_is None content h = absurd cc
-link_is (Some to) content h = record { to = to; is_target = refl; is = ok_same (of_link to) content h }
+link_is : (is_zone : List ℕ → Bool) (target : Option (List ℕ)) (content : Content) → link_content is_zone target ≡ Ok content
+    → IsLink is_zone target content
+link_is is_zone None content h = absurd cc
+link_is is_zone (Some to) content h = by_own (is_zone to) refl h
+  where
+    by_own : (b : Bool) → is_zone to ≡ b → cond b (Ok (of_link to)) (Err Link) ≡ Ok content → IsLink is_zone (Some to) content
+    by_own true own h = record { to = to; is_target = refl; own = own; is = ok_same (of_link to) content h }
+    by_own false own h = absurd cc
 
 -- ---- the entries of names, one after another
 
@@ -166,23 +179,24 @@ is_there test (name ∷ names) files h = by_test (test name) refl h (is_there te
     by_test true e h more = still_there test names (name ∷ files) (or_left (test name) (list_any test files) e)
     by_test false e h more = more h
 
--- it isn't a zone's own, and is a link to one of these
-record IsLinkTo (finds : Finds) (files : List (List ℕ)) (name : List ℕ) : Type 0 where
-  other : finds.is_zone name ≡ false
-  there : (target : List ℕ) → finds.target name ≡ Some target → list_any (bytes_eq target) files ≡ true
+-- each zone's own name is among these
+abbrev HasZones : Finds → List (List ℕ) → Type 0
+HasZones finds files = (target : List ℕ) → finds.is_zone target ≡ true → list_any (bytes_eq target) files ≡ true
 
-links_behind : (finds : Finds) (files names : List (List ℕ)) (entries : List EntryValue) → AllByRecursion (IsLinkTo finds files) names
-    → entries_of (entry_of finds) names ≡ Ok entries → are_behind files entries ≡ true
+links_behind : (finds : Finds) (files names : List (List ℕ)) (entries : List EntryValue) → HasZones finds files
+    → AllByRecursion (λ name. finds.is_zone name ≡ false) names → entries_of (entry_of finds) names ≡ Ok entries
+    → are_behind files entries ≡ true
 unfolding entries_of are_behind
-links_behind finds files [] entries all h = subst (λ es. are_behind files es ≡ true) (ok_same [] entries h) refl
-links_behind finds files (name ∷ names) entries all h =
+links_behind finds files [] entries there all h = subst (λ es. are_behind files es ≡ true) (ok_same [] entries h) refl
+links_behind finds files (name ∷ names) entries there all h =
     let is = onto_is name (entry_of finds name) (entries_of (entry_of finds) names) entries h in
     let has = of_name finds name is.e is.is_first in
-    let found = ap (λ b. cond b (zone_content name (finds.found name)) (link_content (finds.target name))) (sym all.0.other) ∙ has.is_found in
-    let link = link_is (finds.target name) has.content found in
+    let found = ap (λ b. cond b (zone_content name (finds.found name)) (link_content finds.is_zone (finds.target name))) (sym all.0)
+    ∙ has.is_found in
+    let link = link_is finds.is_zone (finds.target name) has.content found in
     subst (λ es. are_behind files es ≡ true) is.are
     (subst (λ e. are_behind files (e ∷ is.others) ≡ true) (ap (entry name) link.is ∙ has.is_entry.is)
-    (and_from _ _ (all.0.there link.to link.is_target) (links_behind finds files names is.others all.1 is.are_rest)))
+    (and_from _ _ (there link.to link.own) (links_behind finds files names is.others there all.1 is.are_rest)))
 
 zones_first : (finds : Finds) (files own others : List (List ℕ)) (entries : List EntryValue) → AllByRecursion (λ name. finds.is_zone name ≡ true) own
     → entries_of (entry_of finds) (own ++ others) ≡ Ok entries
@@ -193,22 +207,22 @@ zones_first finds files [] others entries all h more = more entries h
 zones_first finds files (name ∷ own) others entries all h more =
     let is = onto_is name (entry_of finds name) (entries_of (entry_of finds) (own ++ others)) entries h in
     let has = of_name finds name is.e is.is_first in
-    let found = ap (λ b. cond b (zone_content name (finds.found name)) (link_content (finds.target name))) (sym all.0) ∙ has.is_found in
+    let found = ap (λ b. cond b (zone_content name (finds.found name)) (link_content finds.is_zone (finds.target name))) (sym all.0) ∙ has.is_found in
     let file = file_is name (finds.found name) has.content found in
     subst (λ es. are_behind files es ≡ true) is.are
     (subst (λ e. are_behind files (e ∷ is.others) ≡ true) (ap (entry name) file.is ∙ has.is_entry.is)
     (zones_first finds (name ∷ files) own others is.others all.1 is.are_rest more))
 
--- ---- what is kept of the names
+-- ---- what holds of each of some names
 
-all_kept : (P Q : List ℕ → Type 0) (p : List ℕ → Bool) → ((name : List ℕ) → p name ≡ true → P name → Q name) → (names : List (List ℕ))
-    → AllByRecursion P names → AllByRecursion Q (filter p names)
-all_kept P Q p step [] all = tt
-all_kept P Q p step (name ∷ names) all = by_test (p name) refl (all_kept P Q p step names all.1)
+all_others : (is_zone : List ℕ → Bool) (names : List (List ℕ)) → AllByRecursion (λ name. is_zone name ≡ false) (others is_zone names)
+all_others is_zone [] = tt
+all_others is_zone (name ∷ names) = by_test (is_zone name) refl
   where
-    by_test : (b : Bool) → p name ≡ b → AllByRecursion Q (filter p names) → AllByRecursion Q (cond b (name ∷ filter p names) (filter p names))
-    by_test true e rest = (step name e all.0, rest)
-    by_test false e rest = rest
+    by_test : (b : Bool) → is_zone name ≡ b
+        → AllByRecursion (λ name. is_zone name ≡ false) (cond (not b) (name ∷ others is_zone names) (others is_zone names))
+    by_test true e = all_others is_zone names
+    by_test false e = (e, all_others is_zone names)
 
 all_among : (P : List ℕ → Type 0) (names : List (List ℕ)) → ((name : List ℕ) → list_any (eq_by_cmp text_cmp name) names ≡ true → P name)
     → AllByRecursion P names
@@ -218,82 +232,139 @@ all_among P (name ∷ names) h = (
   all_among P names (λ other there. h other (or_right (eq_by_cmp text_cmp other name) _ there)),
 )
 
-is_own : (b : Bool) → beq b true ≡ true → b ≡ true
-is_own true h = refl
-is_own false h = absurd cc
-
-is_other : (b : Bool) → beq b false ≡ true → b ≡ false
-is_other true h = absurd cc
-is_other false h = refl
+one_among : (P : List ℕ → Type 0) (names : List (List ℕ)) (name : List ℕ) → AllByRecursion P names → list_any (bytes_eq name) names ≡ true → P name
+one_among P [] name all h = absurd cc
+one_among P (other ∷ names) name all h = by_test (bytes_eq name other) refl h
+  where
+    by_test : (b : Bool) → bytes_eq name other ≡ b → (b || list_any (bytes_eq name) names) ≡ true → P name
+    by_test true e h = subst P (sym ((bytes_eq-Decides name other).0 e)) all.0
+    by_test false e h = one_among P names name all.1 h
 
 -- the test of bytes is that of the order
 one_test : (name : List ℕ) → ◌≡◌ {A = List ℕ → Bool} (eq_by_cmp text_cmp name) (bytes_eq name)
 one_test name = λ i other. is_eq-slice_cmp name other i
 
--- the zones' own names and the others are all names
-both_kinds : (finds : Finds) (name : List ℕ) → list_any (bytes_eq name) (archive_names finds) ≡ list_any (eq_by_cmp text_cmp name) finds.names
-both_kinds finds name =
-    ap (λ test. list_any test (archive_names finds)) (sym (one_test name))
-    ∙ list_any-append (eq_by_cmp text_cmp name) (kept finds true) (kept finds false)
-    ∙ (λ i. kept_any (λ n. beq (finds.is_zone n) true) name finds.names i || kept_any (λ n. beq (finds.is_zone n) false) name finds.names i)
-    ∙ by_kind (finds.is_zone name) (list_any (eq_by_cmp text_cmp name) finds.names)
+-- the others are those of the names that are no zone's own
+among_others : (is_zone : List ℕ → Bool) (names : List (List ℕ)) (name : List ℕ)
+    → list_any (bytes_eq name) (others is_zone names) ≡ (not (is_zone name) && list_any (bytes_eq name) names)
+among_others is_zone [] name = sym (and-false (not (is_zone name)))
+among_others is_zone (other ∷ names) name = by_test (bytes_eq name other) refl (is_zone other) refl
   where
-    by_kind : (b among : Bool) → ((beq b true && among) || (beq b false && among)) ≡ among
-    by_kind true true = refl
-    by_kind true false = refl
-    by_kind false among = refl
+    more : list_any (bytes_eq name) (others is_zone names) ≡ (not (is_zone name) && list_any (bytes_eq name) names)
+    more = among_others is_zone names name
+
+    same : bytes_eq name other ≡ true → (b : Bool) → is_zone other ≡ b → is_zone name ≡ b
+    same e b own = ap is_zone ((bytes_eq-Decides name other).0 e) ∙ own
+
+    met : (b a rest : Bool) → rest ≡ (not b && a) → cond (not b) true rest ≡ (not b && true)
+    met true a rest e = e
+    met false a rest e = refl
+
+    by_test : (e : Bool) → bytes_eq name other ≡ e → (b : Bool) → is_zone other ≡ b
+        → list_any (bytes_eq name) (cond (not (is_zone other)) (other ∷ others is_zone names) (others is_zone names))
+        ≡ (not (is_zone name) && (bytes_eq name other || list_any (bytes_eq name) names))
+    by_test true e true own =
+        ap (λ b. list_any (bytes_eq name) (cond (not b) (other ∷ others is_zone names) (others is_zone names))) own ∙ more
+        ∙ ap (λ b. not b && list_any (bytes_eq name) names) (same e true own)
+        ∙ ap (λ b. not b && (bytes_eq name other || list_any (bytes_eq name) names)) (sym (same e true own))
+    by_test true e false own =
+        ap (λ b. list_any (bytes_eq name) (cond (not b) (other ∷ others is_zone names) (others is_zone names))) own
+        ∙ ap (λ b. b || list_any (bytes_eq name) (others is_zone names)) e
+        ∙ ap (λ b. b || list_any (bytes_eq name) names) (sym e)
+        ∙ ap (λ b. not b && (bytes_eq name other || list_any (bytes_eq name) names)) (sym (same e false own))
+    by_test false e true own =
+        ap (λ b. list_any (bytes_eq name) (cond (not b) (other ∷ others is_zone names) (others is_zone names))) own ∙ more
+        ∙ ap (λ b. not (is_zone name) && (b || list_any (bytes_eq name) names)) (sym e)
+    by_test false e false own =
+        ap (λ b. list_any (bytes_eq name) (cond (not b) (other ∷ others is_zone names) (others is_zone names))) own
+        ∙ ap (λ b. b || list_any (bytes_eq name) (others is_zone names)) e ∙ more
+        ∙ ap (λ b. not (is_zone name) && (b || list_any (bytes_eq name) names)) (sym e)
 
 -- ---- the names of a source
 
--- a name is among them exactly where it finds a zone
-pub names_hold : (source name : List ℕ) → list_any (eq_by_cmp text_cmp name) (names_in source) ≡ is_some (zone_in source name)
-unfolding names_in zone_in
-names_hold source name =
-    let latest = reverse (values_of source) in
-    any-in_order text_same (eq_by_cmp text_cmp name) _
-    ∙ kept_is (λ name. is_some (zone_in source name)) name (flat_map names_by latest) (λ h. among_names latest name h)
+zones_hold : (source name : List ℕ) → list_any (bytes_eq name) (finds_in source).zones ≡ (finds_in source).is_zone name
+zones_hold source name =
+    ap (λ test. list_any test (finds_in source).zones) (sym (one_test name))
+    ∙ any-in_order text_same (eq_by_cmp text_cmp name) _ ∙ zones_given (reverse (values_of source)) name
 
-only_linked : {A : Type 0} (own linked : Option A) → is_some own ≡ false → is_some (option_or own linked) ≡ true → is_some linked ≡ true
-only_linked None linked none h = h
-only_linked (Some x) linked none h = absurd cc
+links_hold : (source name : List ℕ) → list_any (bytes_eq name) (finds_in source).links ≡ is_some ((finds_in source).target name)
+links_hold source name =
+    ap (λ test. list_any test (finds_in source).links) (sym (one_test name))
+    ∙ any-in_order text_same (eq_by_cmp text_cmp name) _ ∙ links_given (reverse (values_of source)) name
 
-own_found : {A : Type 0} (own linked : Option A) → is_some own ≡ true → is_some (option_or own linked) ≡ true
-own_found None linked h = absurd cc
-own_found (Some x) linked h = refl
-
--- a name that finds a zone, and isn't one's own, is a link to a zone's own name
-to_zone : (source name target : List ℕ) → is_some (zone_in source name) ≡ true → (finds_in source).is_zone name ≡ false
-    → (finds_in source).target name ≡ Some target → (finds_in source).is_zone target ≡ true
-unfolding zone_in
-to_zone source name target found other is =
-    ap (λ o. is_some (option_and_then (λ existing. listed (zone_of (reverse (values_of source)) existing)) o)) (sym is)
-    ∙ only_linked (listed (zone_of (reverse (values_of source)) name)) _ other found
-
-own_finds : (source name : List ℕ) → (finds_in source).is_zone name ≡ true → is_some (zone_in source name) ≡ true
-unfolding zone_in
-own_finds source name own = own_found (listed (zone_of (reverse (values_of source)) name)) _ own
-
-links_lead : (source : List ℕ) → AllByRecursion (IsLinkTo (finds_in source) (back (kept (finds_in source) true) [])) (kept (finds_in source) false)
-links_lead source =
+-- those of the archive are those that lines give
+all_given : (source name : List ℕ) → list_any (bytes_eq name) (archive_names (finds_in source)) ≡ list_any (bytes_eq name) (given_names source)
+unfolding given_names
+all_given source name =
     let finds = finds_in source in
-    all_kept (λ name. is_some (zone_in source name) ≡ true) (IsLinkTo finds (back (kept finds true) [])) (λ name. beq (finds.is_zone name) false)
-    (λ name kind found. let other = is_other (finds.is_zone name) kind in
-    record { other = other; there = λ target is. there target (to_zone source name target found other is) }) (names_in source)
-    (all_among _ (names_in source) (λ name among. sym (names_hold source name) ∙ among))
+    list_any-append (bytes_eq name) finds.zones (others finds.is_zone finds.links)
+    ∙ (λ i. zones_hold source name i || among_others finds.is_zone finds.links name i)
+    ∙ ap (λ b. finds.is_zone name || (not (finds.is_zone name) && b)) (links_hold source name)
+    ∙ either (finds.is_zone name) (is_some (finds.target name)) ∙ sym (names_given (reverse (values_of source)) name)
+    ∙ ap (λ test. list_any test (flat_map names_by (reverse (values_of source)))) (one_test name)
   where
-    there : (target : List ℕ) → (finds_in source).is_zone target ≡ true
-        → list_any (bytes_eq target) (back (kept (finds_in source) true) []) ≡ true
-    there target own =
-        is_there (bytes_eq target) (kept (finds_in source) true) []
-        (ap (λ test. list_any test (kept (finds_in source) true)) (sym (one_test target))
-        ∙ kept_any (λ n. beq ((finds_in source).is_zone n) true) target (names_in source)
-        ∙ and_from _ _ (ap (λ b. beq b true) own) (names_hold source target ∙ own_finds source target own))
+    either : (a b : Bool) → (a || (not a && b)) ≡ (a || b)
+    either true b = refl
+    either false b = refl
 
-owns : (source : List ℕ) → AllByRecursion (λ name. (finds_in source).is_zone name ≡ true) (kept (finds_in source) true)
-owns source =
-    all_kept (λ name. is_some (zone_in source name) ≡ true) (λ name. (finds_in source).is_zone name ≡ true)
-    (λ name. beq ((finds_in source).is_zone name) true) (λ name kind found. is_own ((finds_in source).is_zone name) kind) (names_in source)
-    (all_among _ (names_in source) (λ name among. sym (names_hold source name) ∙ among))
+owns : (source : List ℕ) → AllByRecursion (λ name. (finds_in source).is_zone name ≡ true) (finds_in source).zones
+owns source = all_among _ (finds_in source).zones
+    (λ name among. sym (zones_hold source name) ∙ ap (λ test. list_any test (finds_in source).zones) (sym (one_test name)) ∙ among)
+
+-- ---- each finds a zone
+
+-- a name with an entry is a zone's own, or a link to such a name
+record HasZone (finds : Finds) (name : List ℕ) : Type 0 where
+  target : (finds.is_zone name ≡ false) → IsSomeAnd (finds.target name) (λ to. finds.is_zone to ≡ true)
+
+all_found : (finds : Finds) (names : List (List ℕ)) (entries : List EntryValue) → entries_of (entry_of finds) names ≡ Ok entries
+    → AllByRecursion (HasZone finds) names
+unfolding entries_of
+all_found finds [] entries h = tt
+all_found finds (name ∷ names) entries h =
+    let is = onto_is name (entry_of finds name) (entries_of (entry_of finds) names) entries h in
+    let has = of_name finds name is.e is.is_first in
+    (
+      record { target = λ other.
+        let found = ap (λ b. cond b (zone_content name (finds.found name)) (link_content finds.is_zone (finds.target name))) (sym other)
+            ∙ has.is_found in
+        let link = link_is finds.is_zone (finds.target name) has.content found in
+        subst (λ target. IsSomeAnd target (λ to. finds.is_zone to ≡ true)) (sym link.is_target) link.own },
+      all_found finds names is.others is.are_rest,
+    )
+
+by_lines : (source name : List ℕ) → HasZone (finds_in source) name → is_some (zone_in source name) ≡ true
+unfolding zone_in
+by_lines source name has = by_own (listed (zone_of (reverse (values_of source)) name)) refl
+  where
+    latest : List LineValue
+    latest = reverse (values_of source)
+
+    by_target : (target : Option (List ℕ)) → IsSomeAnd target (λ to. is_some (listed (zone_of latest to)) ≡ true)
+        → is_some (option_and_then (λ existing. listed (zone_of latest existing)) target) ≡ true
+    by_target None is = absurd is
+    by_target (Some to) is = is
+
+    by_own : (own : Option (List ZoneInfo)) → listed (zone_of latest name) ≡ own
+        → is_some (option_or own (option_and_then (λ existing. listed (zone_of latest existing)) (link_of latest name))) ≡ true
+    by_own (Some lines) e = refl
+    by_own None e = by_target (link_of latest name) (has.target (ap is_some e))
+
+found_given : (source name : List ℕ) → is_some (zone_in source name) ≡ true → list_any (bytes_eq name) (given_names source) ≡ true
+unfolding zone_in given_names
+found_given source name h =
+    ap (λ test. list_any test (flat_map names_by latest)) (sym (one_test name)) ∙ names_given latest name
+    ∙ by_own (listed (zone_of latest name)) (link_of latest name) h
+  where
+    latest : List LineValue
+    latest = reverse (values_of source)
+
+    by_own : (own : Option (List ZoneInfo)) (target : Option (List ℕ))
+        → is_some (option_or own (option_and_then (λ existing. listed (zone_of latest existing)) target)) ≡ true
+        → (is_some own || is_some target) ≡ true
+    by_own (Some lines) target h = refl
+    by_own None None h = absurd cc
+    by_own None (Some to) h = refl
 
 -- ---- the archive of a source
 
@@ -304,14 +375,23 @@ tree_is source bytes h = by_fault (source_fault source) h
     finds : Finds
     finds = finds_in source
 
+    given : (entries : List EntryValue) → entries_of (entry_of finds) (archive_names finds) ≡ Ok entries → (name : List ℕ)
+        → list_any (λ e. bytes_eq name e.name) entries ≡ list_any (bytes_eq name) (given_names source)
+    given entries e name = all_named finds (archive_names finds) entries e (bytes_eq name) ∙ all_given source name
+
     by_entries : (found : Result (List EntryValue) Refused) → entries_of (entry_of finds) (archive_names finds) ≡ found
         → or_cause (archive_of found) ≡ Ok bytes → IsTree source bytes
     by_entries (Ok entries) e h = record {
       entries = entries;
       is_archive = record { said = all_said finds (archive_names finds) entries e; written = sym (ok_same (archive entries) bytes h) };
-      each = λ name. all_named finds (archive_names finds) entries e (bytes_eq name) ∙ both_kinds finds name ∙ names_hold source name;
-      behind = zones_first finds [] (kept finds true) (kept finds false) entries (owns source) e
-          (λ rest f. links_behind finds (back (kept finds true) []) (kept finds false) rest (links_lead source) f);
+      each = given entries e;
+      found = λ name. given entries e name ∙ both_ways _ _
+          (λ among. by_lines source name (one_among (HasZone finds) (archive_names finds) name
+          (all_found finds (archive_names finds) entries e) (all_given source name ∙ among)))
+          (found_given source name);
+      behind = zones_first finds [] finds.zones (others finds.is_zone finds.links) entries (owns source) e
+          (λ rest f. links_behind finds (back finds.zones []) (others finds.is_zone finds.links) rest
+          (λ target own. is_there (bytes_eq target) finds.zones [] (zones_hold source target ∙ own)) (all_others finds.is_zone finds.links) f);
     }
     by_entries (Err first) e h = absurd cc
 

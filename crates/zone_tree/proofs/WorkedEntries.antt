@@ -10,11 +10,11 @@ use Rattle.zone_run.specs.Causes.{Found}
 use Rattle.zone_spans.specs.Schedules.{totals_of}
 use Rattle.zone_spans.specs.declared.fault.SpanFault.TheVariants as span
 use Rattle.zone_spans.specs.declared.span.FixedTimespanSet as spans
-use Rattle.zone_tree.specs.Entries.{file_or, zone_content, link_content, is_folder, said, entry_by, entry_of}
+use Rattle.zone_tree.specs.Entries.{has_mark, is_marked, file_or, file_unless, zone_content, link_content, is_folder, said, entry_by, entry_of}
 use Rattle.zone_tree.specs.TreeShape.{are_behind}
 use Rattle.zone_tree.specs.Names.{Finds, archive_names}
 use Rattle.zone_tree.specs.Trees.{entries_of, refused, tree_by}
-use Rattle.zone_tree.specs.declared.refusal.Why.TheVariants.{Schedule, OffsetRange, File, Name, Size}
+use Rattle.zone_tree.specs.declared.refusal.Why.TheVariants.{Schedule, OffsetRange, Format, File, Link, Name, Size}
 use Rattle.zone_tzif_core.specs.declared.values.WriteFault.TheVariants as write
 use Rattle.zone_tzif_set.specs.Files.{file_fault, file_of_set}
 
@@ -48,15 +48,39 @@ no_file_of : (set : FixedTimespanSet) → map (λ fault. file_or (Some fault) se
     ≡ Err (File write.Times) ∷ Err (File write.Types) ∷ Err (File write.Names) ∷ []
 no_file_of set = refl
 
+-- a `%` anywhere in an abbreviation, of the first span or another
+texts_with_marks : map has_mark (codes "%z" ∷ codes "A%sT" ∷ codes "T%" ∷ codes "EST" ∷ codes "+03" ∷ [] ∷ []) ≡ true ∷ true ∷ true ∷ false ∷ false ∷ false ∷ []
+texts_with_marks = refl
+
+abbrev three_named : List ℕ → List ℕ → List ℕ → FixedTimespanSet
+three_named first second third = record {
+  name = codes "%";
+  first = record { utc_offset = pos 0; dst_offset = pos 0; name = first };
+  others = (pos 1, record { utc_offset = pos 0; dst_offset = pos 0; name = second })
+      ∷ (pos 2, record { utc_offset = pos 0; dst_offset = pos 0; name = third }) ∷ [];
+}
+
+sets_with_marks : map is_marked (three_named (codes "A") (codes "B") (codes "C") ∷ three_named (codes "%z") (codes "B") (codes "C")
+    ∷ three_named (codes "A") (codes "%z") (codes "C") ∷ three_named (codes "A") (codes "B") (codes "%z") ∷ [])
+    ≡ false ∷ true ∷ true ∷ true ∷ []
+unfolding is_marked
+sets_with_marks = refl
+
+-- a mark comes before what the file would be refused for
+marks_first : (set : FixedTimespanSet) → map (λ mark. file_unless mark set) (true ∷ false ∷ []) ≡ Err Format ∷ file_or (file_fault set) set ∷ []
+marks_first set = refl
+
 -- the file of the spans under the name of the zone
 abbrev the_set : FixedTimespanSet
 the_set = record { name = codes "A/B"; first = record { utc_offset = pos 3600; dst_offset = pos 0; name = codes "T" }; others = [] }
 
 a_file : file_fault the_set ≡ None → zone_content (codes "A/B") (Some (Ok (fixed_at (pos 3600)))) ≡ Ok (of_file (file_of_set the_set))
-unfolding totals_of
+unfolding totals_of is_marked
 a_file sound = ap (λ fault. file_or fault the_set) sound
 
-links : map link_content (Some (codes "A/B") ∷ None ∷ []) ≡ Ok (of_link (codes "A/B")) ∷ Err Name ∷ []
+-- a link to a zone's own name; a link to a link, or to nothing, finds no zone
+links : map (link_content (bytes_eq (codes "A/B"))) (Some (codes "A/B") ∷ Some (codes "A") ∷ Some (codes "A/BC") ∷ None ∷ [])
+    ≡ Ok (of_link (codes "A/B")) ∷ Err Link ∷ Err Link ∷ Err Name ∷ []
 links = refl
 
 -- ---- what can't be said
@@ -69,19 +93,21 @@ refusals = refl
 -- ---- the entries of two zones, and of links to one of them
 
 abbrev is_own : List ℕ → Bool
-is_own name = bytes_eq name (codes "A/B") || bytes_eq name (codes "D") || bytes_eq name (codes "../E")
+is_own name = bytes_eq name (codes "A/B") || bytes_eq name (codes "D") || bytes_eq name (codes "../E") || bytes_eq name (replicate 101 65)
 
 abbrev finds_of : Found → Finds
 finds_of found = record {
-  names = codes "../E" ∷ codes "A/B" ∷ codes "C" ∷ codes "D" ∷ codes "D/F" ∷ codes "L" ∷ codes "Z" ∷ [];
+  zones = codes "../E" ∷ codes "A/B" ∷ codes "D" ∷ [];
+  links = codes "A/B" ∷ codes "C" ∷ codes "D/F" ∷ codes "L" ∷ codes "Y" ∷ codes "Z" ∷ [];
   is_zone = is_own;
   found = λ name. found;
-  target = λ name. if bytes_eq name (codes "Z") then Some (replicate 101 65) else Some (codes "A/B");
+  target = λ name. if bytes_eq name (codes "Z") then Some (replicate 101 65) else (if bytes_eq name (codes "Y") then Some (codes "L") else Some (codes "A/B"));
 }
 
--- a link is to its target, whatever that is compiled to; and a name that can't be said, or is a folder, has no entry
-link_entries : map (entry_of (finds_of (Some (Err span.DayRange)))) (codes "C" ∷ codes "D/F" ∷ codes "L/" ∷ codes "Z" ∷ [])
-    ≡ Ok (entry (codes "C") (of_link (codes "A/B"))) ∷ Ok (entry (codes "D/F") (of_link (codes "A/B"))) ∷ Err Name ∷ Err Name ∷ []
+-- a link is to its target, whatever that is compiled to; and a name that can't be said, or is a folder, or is a link to a link,
+-- has no entry
+link_entries : map (entry_of (finds_of (Some (Err span.DayRange)))) (codes "C" ∷ codes "D/F" ∷ codes "L/" ∷ codes "Y" ∷ codes "Z" ∷ [])
+    ≡ Ok (entry (codes "C") (of_link (codes "A/B"))) ∷ Ok (entry (codes "D/F") (of_link (codes "A/B"))) ∷ Err Name ∷ Err Link ∷ Err Name ∷ []
 unfolding entry_of entry_fault is_path cut
 link_entries = refl
 
@@ -102,7 +128,7 @@ bad_names = refl
 
 -- the zones come first and then the links, each in byte order, and none is left out
 in_their_order : archive_names (finds_of None)
-    ≡ codes "../E" ∷ codes "A/B" ∷ codes "D" ∷ codes "C" ∷ codes "D/F" ∷ codes "L" ∷ codes "Z" ∷ []
+    ≡ codes "../E" ∷ codes "A/B" ∷ codes "D" ∷ codes "C" ∷ codes "D/F" ∷ codes "L" ∷ codes "Y" ∷ codes "Z" ∷ []
 in_their_order = refl
 
 -- links to B, but for two names that have no entry: the first of them is told, wherever the other stands
@@ -127,7 +153,8 @@ behind = refl
 -- the archive of a zone A/B of one offset and a link 0 to it: the link stands behind its zone, though its name comes before
 abbrev two_names : Finds
 two_names = record {
-  names = codes "0" ∷ codes "A/B" ∷ [];
+  zones = codes "A/B" ∷ [];
+  links = codes "0" ∷ [];
   is_zone = λ name. bytes_eq name (codes "A/B");
   found = λ name. Some (Ok (fixed_at (pos 3600)));
   target = λ name. Some (codes "A/B");
@@ -135,5 +162,5 @@ two_names = record {
 
 a_whole_tree : file_fault the_set ≡ None → entry_fault (entry (codes "A/B") (of_file (file_of_set the_set))) ≡ None
     → tree_by two_names ≡ Ok (archive (entry (codes "A/B") (of_file (file_of_set the_set)) ∷ entry (codes "0") (of_link (codes "A/B")) ∷ []))
-unfolding tree_by entries_of entry_of entry_fault is_path cut
+unfolding tree_by entries_of entry_of entry_fault is_path cut is_marked
 a_whole_tree sound fits = rw (a_file sound, fits) refl

@@ -6,7 +6,7 @@ use Rattle.zone_source.specs.FileWords.{file_in}
 use Rattle.zone_spans.specs.declared.fault.SpanFault.TheVariants as span
 use Rattle.zone_tree.specs.Causes.{name_line, cause_line, cause_in, bytes_for}
 use Rattle.zone_tree.specs.Trees.{of_source, of_name, refused, after_source}
-use Rattle.zone_tree.specs.declared.refusal.Why.TheVariants.{Schedule, OffsetRange, File, Name, Size}
+use Rattle.zone_tree.specs.declared.refusal.Why.TheVariants.{Schedule, OffsetRange, Format, File, Link, Name, Size}
 use Rattle.zone_tzif_core.specs.declared.values.WriteFault.TheVariants as write
 
 -- the line of each fault of a schedule
@@ -18,9 +18,10 @@ lines_of_schedules : map (λ fault. name_line (codes "Europe/Paris") (Schedule f
 lines_of_schedules = refl
 
 -- and of each other cause
-lines_of_causes : map (name_line (codes "A")) (OffsetRange ∷ File write.Times ∷ File write.Types ∷ File write.Names ∷ Name ∷ Size ∷ [])
-    ≡ codes "tree A: offset range" ∷ codes "tree A: times" ∷ codes "tree A: types" ∷ codes "tree A: names" ∷ codes "tree A: name"
-    ∷ codes "tree A: size" ∷ []
+lines_of_causes : map (name_line (codes "A"))
+    (OffsetRange ∷ Format ∷ File write.Times ∷ File write.Types ∷ File write.Names ∷ Link ∷ Name ∷ Size ∷ [])
+    ≡ codes "tree A: offset range" ∷ codes "tree A: format" ∷ codes "tree A: times" ∷ codes "tree A: types" ∷ codes "tree A: names"
+    ∷ codes "tree A: link" ∷ codes "tree A: name" ∷ codes "tree A: size" ∷ []
 lines_of_causes = refl
 
 -- names of no byte, of 254, 255, 256 and 260 bytes

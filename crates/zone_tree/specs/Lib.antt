@@ -5,5 +5,6 @@ pub mod Entries
 pub mod Trees
 pub mod TreeShape
 pub mod Told
+mod Shown
 pub mod Causes
 pub mod Ends

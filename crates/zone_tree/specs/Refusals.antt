@@ -2,7 +2,7 @@
 use Rattle.std.specs.Prelude.{ℕ, List, [], codes}
 use Rattle.zone_spans.specs.FaultNames.{fault_name}
 use Rattle.zone_tree.specs.declared.refusal.Why.{Why}
-use Rattle.zone_tree.specs.declared.refusal.Why.TheVariants.{Schedule, OffsetRange, File, Name, Size}
+use Rattle.zone_tree.specs.declared.refusal.Why.TheVariants.{Schedule, OffsetRange, Format, File, Link, Name, Size}
 use Rattle.zone_tzif.specs.Asks.{fault_word}
 
 -- what stands before the word
@@ -13,6 +13,8 @@ group_of _ = []
 abbrev pub word_of : Why → List ℕ
 word_of (Schedule fault) = fault_name fault
 word_of OffsetRange = codes "offset range"
+word_of Format = codes "format"
 word_of (File fault) = fault_word fault
+word_of Link = codes "link"
 word_of Name = codes "name"
 word_of Size = codes "size"

@@ -4,6 +4,7 @@ use Rattle.std.specs.List.{list_any}
 use Rattle.ustar.specs.Archives.{IsArchive}
 use Rattle.ustar.specs.Entries.{Content, of_file, of_link, EntryValue}
 use Rattle.zone_source.specs.Zones.{zone_in}
+use Rattle.zone_tree.specs.Names.{given_names}
 
 -- a link is to one of these names
 abbrev pub is_to : List (List ℕ) → Content → Bool
@@ -20,9 +21,11 @@ unfoldable pub are_behind : List (List ℕ) → List EntryValue → Bool
 are_behind files [] = true
 are_behind files (e ∷ entries) = is_to files e.content && are_behind (files_with e.name files e.content) entries
 
--- the bytes are the archive of entries: a name has one exactly where it finds a zone, and each link is to a file before it
+-- the bytes are the archive of entries: a name has one exactly where a line gives it to a zone or by a link, each of them finds a
+-- zone, and each link is to a file before it
 pub record IsTree (source bytes : List ℕ) : Type 0 where
   pub entries : List EntryValue
   pub is_archive : IsArchive bytes entries
-  pub each : (name : List ℕ) → list_any (λ e. bytes_eq name e.name) entries ≡ is_some (zone_in source name)
+  pub each : (name : List ℕ) → list_any (λ e. bytes_eq name e.name) entries ≡ list_any (bytes_eq name) (given_names source)
+  pub found : (name : List ℕ) → list_any (λ e. bytes_eq name e.name) entries ≡ is_some (zone_in source name)
   pub behind : are_behind [] entries ≡ true

@@ -1,20 +1,21 @@
 //! The entry of a name.
-ghost use Rattle.std.specs.Prelude.{◌≡◌, map as each, Ok, IfOk, IfErr, OnOk};
-ghost use Rattle.std.specs.FinMap.{get};
+ghost use Rattle.std.specs.Prelude.{◌≡◌, map as each, is_some, Ok, IfOk, IfErr, OnOk};
+ghost use Rattle.std.specs.FinMap.{get, keys};
 ghost use Rattle.owned.specs.InOrderLaws.{RisesStrictly};
 ghost use Rattle.owned.specs.Keyed.{text_cmp};
-ghost use Rattle.tz_lookup.specs.Databases.{name_shown, names_of};
+ghost use Rattle.tz_lookup.specs.Databases.{name_shown};
 ghost use Rattle.tz_zone.specs.Compiles.{compiled_in};
 ghost use Rattle.tz_zone.specs.Sets.{schedule_of, IsAccepted};
 ghost use Rattle.ustar.specs.Entries.{content_shown, of_file};
 ghost use Rattle.zone_table.specs.BoundedTables.{IsBoundedTable};
-ghost use Rattle.zone_tree.specs.Entries.{file_or, zone_content, link_content, entry_by, entry_with, entry_of};
+ghost use Rattle.zone_tree.specs.Entries.{has_mark, is_marked, file_or, file_unless, zone_content, link_content, entry_by, entry_with, entry_of};
 ghost use Rattle.zone_tree.specs.Names.{finds_in_table};
+ghost use Rattle.zone_tree.specs.Shown.{all_names};
 ghost use Rattle.zone_tree.specs.Told.{IsPut, IsWhy};
 ghost use Rattle.zone_tzif_set.specs.Files.{file_fault};
 
 use crate::folder::is_folder;
-use crate::names::is_zone;
+use crate::names::{Names, is_zone};
 use crate::refusal::{NameFault, Why};
 use std::alloc::Global;
 use tz_lookup::{FixedTimespanSet, ZoneFault, compile_zone};
@@ -23,8 +24,28 @@ use zone_table::Table;
 use zone_tzif_core::WriteFault;
 use zone_tzif_set::{FileFault, tzif_of};
 
-/// The file of a set.
-fn file_of_set(alloc: Global, set: &FixedTimespanSet) -> Result<Vec<u8>, NameFault>
+/// Whether a `%` is left in a text.
+fn has_mark(text: &str) -> bool
+    ensures { result ≡ has_mark text.now }
+{
+    text.as_bytes().contains(&b'%')
+}
+
+/// Whether a `%` is left in the abbreviation of some span.
+#[tactic(auto, unfolding(crate::specs::Entries::is_marked))]
+fn is_marked(set: &FixedTimespanSet) -> bool
+    ensures { result ≡ is_marked set.now }
+{
+    has_mark(set.first.name.as_str())
+        || set
+            .others
+            .as_slice()
+            .iter()
+            .any(|entry| has_mark(entry.1.name.as_str()))
+}
+
+/// The file of a set that has no `%` in an abbreviation.
+fn file_of_unmarked(alloc: Global, set: &FixedTimespanSet) -> Result<Vec<u8>, NameFault>
     requires { IsAccepted (schedule_of set.now) }
     ensures ok { IfOk result (λ file. file_or (file_fault set.now) set.now ≡ Ok (of_file file.items)) }
     ensures err { IfErr result (IsWhy (file_or (file_fault set.now) set.now)) }
@@ -35,6 +56,19 @@ fn file_of_set(alloc: Global, set: &FixedTimespanSet) -> Result<Vec<u8>, NameFau
         Err(FileFault::Types) => Err(NameFault::Refused(Why::File(WriteFault::Types))),
         Err(FileFault::Names) => Err(NameFault::Refused(Why::File(WriteFault::Names))),
         Err(FileFault::NoMemory) => Err(NameFault::NoMemory),
+    }
+}
+
+/// The file of a set.
+fn file_of_set(alloc: Global, set: &FixedTimespanSet) -> Result<Vec<u8>, NameFault>
+    requires { IsAccepted (schedule_of set.now) }
+    ensures ok { IfOk result (λ file. file_unless (is_marked set.now) set.now ≡ Ok (of_file file.items)) }
+    ensures err { IfErr result (IsWhy (file_unless (is_marked set.now) set.now)) }
+{
+    if is_marked(set) {
+        Err(NameFault::Refused(Why::Format))
+    } else {
+        file_of_unmarked(alloc, set)
     }
 }
 
@@ -56,14 +90,15 @@ fn file_of(alloc: Global, table: &Table, name: &str) -> Result<Vec<u8>, NameFaul
 /// Puts an entry at the end, if it can be said among these names.
 fn put_said(
     alloc: Global,
-    names: &[&str],
+    names: &Names<'_>,
     name: &str,
     content: Content<'_>,
     into: &mut Vec<u8>,
 ) -> Result<(), NameFault>
-    requires { RisesStrictly text_cmp (each name_shown names.now) }
-    ensures ok { OnOk result (IsPut into.old.items into.new.items (entry_with (each name_shown names.now) name.now (content_shown content.entry))) }
-    ensures err { IfErr result (IsWhy (entry_with (each name_shown names.now) name.now (content_shown content.entry))) }
+    requires zones { RisesStrictly text_cmp (each name_shown names.now.zones.now) }
+    requires links { RisesStrictly text_cmp (each name_shown names.now.links.now) }
+    ensures ok { OnOk result (IsPut into.old.items into.new.items (entry_with (all_names names.now) name.now (content_shown content.entry))) }
+    ensures err { IfErr result (IsWhy (entry_with (all_names names.now) name.now (content_shown content.entry))) }
 {
     if is_folder(alloc, names, name)? {
         return Err(NameFault::Refused(Why::Name));
@@ -83,16 +118,17 @@ fn put_said(
 fn put_zone(
     alloc: Global,
     table: &Table,
-    names: &[&str],
+    names: &Names<'_>,
     name: &str,
     into: &mut Vec<u8>,
 ) -> Result<(), NameFault>
     requires bounded { IsBoundedTable table.now }
-    requires sorted { RisesStrictly text_cmp (each name_shown names.now) }
+    requires zones { RisesStrictly text_cmp (each name_shown names.now.zones.now) }
+    requires links { RisesStrictly text_cmp (each name_shown names.now.links.now) }
     ensures ok { OnOk result (IsPut into.old.items into.new.items
-        (entry_by (each name_shown names.now) name.now (zone_content name.now (compiled_in table.now name.now)))) }
+        (entry_by (all_names names.now) name.now (zone_content name.now (compiled_in table.now name.now)))) }
     ensures err { IfErr result (IsWhy
-        (entry_by (each name_shown names.now) name.now (zone_content name.now (compiled_in table.now name.now)))) }
+        (entry_by (all_names names.now) name.now (zone_content name.now (compiled_in table.now name.now)))) }
 {
     let file = file_of(alloc, table, name)?;
     put_said(alloc, names, name, Content::File(file.as_slice()), into)?;
@@ -103,19 +139,23 @@ fn put_zone(
 fn put_link(
     alloc: Global,
     table: &Table,
-    names: &[&str],
+    names: &Names<'_>,
     name: &str,
     into: &mut Vec<u8>,
 ) -> Result<(), NameFault>
-    requires { RisesStrictly text_cmp (each name_shown names.now) }
+    requires zones { RisesStrictly text_cmp (each name_shown names.now.zones.now) }
+    requires links { RisesStrictly text_cmp (each name_shown names.now.links.now) }
     ensures ok { OnOk result (IsPut into.old.items into.new.items
-        (entry_by (each name_shown names.now) name.now (link_content (get table.now.links name.now)))) }
+        (entry_by (all_names names.now) name.now (link_content (λ zone. is_some (get table.now.zonesets zone)) (get table.now.links name.now)))) }
     ensures err { IfErr result (IsWhy
-        (entry_by (each name_shown names.now) name.now (link_content (get table.now.links name.now)))) }
+        (entry_by (all_names names.now) name.now (link_content (λ zone. is_some (get table.now.zonesets zone)) (get table.now.links name.now)))) }
 {
     let Some(target) = table.links.get(name) else {
         return Err(NameFault::Refused(Why::Name));
     };
+    if !is_zone(table, target.as_str()) {
+        return Err(NameFault::Refused(Why::Link));
+    }
     put_said(
         alloc,
         names,
@@ -131,13 +171,15 @@ fn put_link(
 pub(crate) fn put_name(
     alloc: Global,
     table: &Table,
-    names: &[&str],
+    names: &Names<'_>,
     name: &str,
     into: &mut Vec<u8>,
 ) -> Result<(), NameFault>
     requires bounded { IsBoundedTable table.now }
-    requires sorted { RisesStrictly text_cmp (each name_shown names.now) }
-    requires all { each name_shown names.now ≡ names_of table.now }
+    requires zones { each name_shown names.now.zones.now ≡ keys table.now.zonesets }
+    requires links { each name_shown names.now.links.now ≡ keys table.now.links }
+    requires zones_rise { RisesStrictly text_cmp (each name_shown names.now.zones.now) }
+    requires links_rise { RisesStrictly text_cmp (each name_shown names.now.links.now) }
     ensures ok { OnOk result (IsPut into.old.items into.new.items (entry_of (finds_in_table table.now) name.now)) }
     ensures err { IfErr result (IsWhy (entry_of (finds_in_table table.now) name.now)) }
 {

@@ -7,7 +7,9 @@ ghost use Rattle.owned.specs.InOrderLaws.{RisesStrictly};
 ghost use Rattle.owned.specs.Keyed.{text_cmp};
 ghost use Rattle.tz_lookup.specs.Databases.{name_shown};
 ghost use Rattle.zone_tree.specs.Entries.{is_folder};
+ghost use Rattle.zone_tree.specs.Shown.{all_names};
 
+use crate::names::Names;
 use std::alloc::{AllocError, Global};
 
 /// Whether a name comes before another one, by bytes.
@@ -47,12 +49,24 @@ fn has_front(names: &[&str], front: &str) -> bool
     begins_at(names, from, front)
 }
 
-/// Whether another name stands in this one as in a folder, of names in byte order.
-pub(crate) fn is_folder(alloc: Global, names: &[&str], name: &str) -> Result<bool, AllocError>
-    requires { RisesStrictly text_cmp (each name_shown names.now) }
-    ensures { IfOk result (λ folder. folder ≡ is_folder (each name_shown names.now) name.now) }
+/// Whether some name of zones or links begins with that front.
+fn is_front(names: &Names<'_>, front: &str) -> bool
+    requires zones { RisesStrictly text_cmp (each name_shown names.now.zones.now) }
+    requires links { RisesStrictly text_cmp (each name_shown names.now.links.now) }
+    ensures { result ≡ list_any (λ other. starts_with nat_eq other front.now) (all_names names.now) }
+{
+    let in_zones = has_front(names.zones, front);
+    let in_links = has_front(names.links, front);
+    in_zones | in_links
+}
+
+/// Whether another name stands in this one as in a folder.
+pub(crate) fn is_folder(alloc: Global, names: &Names<'_>, name: &str) -> Result<bool, AllocError>
+    requires zones { RisesStrictly text_cmp (each name_shown names.now.zones.now) }
+    requires links { RisesStrictly text_cmp (each name_shown names.now.links.now) }
+    ensures { IfOk result (λ folder. folder ≡ is_folder (all_names names.now) name.now) }
 {
     let mut front = String::from_str(alloc, name)?;
     front.push('/')?;
-    Ok(has_front(names, front.as_str()))
+    Ok(is_front(names, front.as_str()))
 }

@@ -1,13 +1,17 @@
 //! The names of an archive.
-ghost use Rattle.std.specs.Prelude.{◌≡◌, ◌++◌, map as each, filter, is_some, Bool, true, false, IfOk, OnOk};
-ghost use Rattle.std.specs.Bool.{beq};
-ghost use Rattle.std.specs.FinMap.{get};
-ghost use Rattle.tz_lookup.specs.Databases.{names_of, name_shown};
-ghost use Rattle.zone_tree.specs.Names.{archive_names, finds_in_table};
+ghost use Rattle.std.specs.Prelude.{◌≡◌, ◌++◌, map as each, is_some, IfOk, OnOk};
+ghost use Rattle.std.specs.FinMap.{get, keys};
+ghost use Rattle.tz_lookup.specs.Databases.{name_shown};
+ghost use Rattle.zone_tree.specs.Names.{archive_names, finds_in_table, others};
 
 use std::alloc::{AllocError, Global};
-use std::collections::BTreeSet;
 use zone_table::Table;
+
+/// The names of the zones of a table, and the new names of its links, each in byte order.
+pub(crate) struct Names<'n> {
+    pub(crate) zones: &'n [&'n str],
+    pub(crate) links: &'n [&'n str],
+}
 
 /// Whether the name is a zone's own.
 pub(crate) fn is_zone(table: &Table, name: &str) -> bool
@@ -16,32 +20,17 @@ pub(crate) fn is_zone(table: &Table, name: &str) -> bool
     table.zonesets.get(name).is_some()
 }
 
-/// Some names in order.
-pub(crate) fn listed<'t>(
-    alloc: Global,
-    names: &BTreeSet<&'t str>,
-) -> Result<Vec<&'t str>, AllocError>
-    ensures { IfOk result (λ list. each name_shown list.items ≡ each name_shown names.now.keys) }
-{
-    let mut list = Vec::new(alloc);
-    for name in names.iter() {
-        list.push(*name)?;
-    }
-    Ok(list)
-}
-
-/// Puts those names at the end that are zones' own, or those that aren't.
-fn put_kept<'t>(
+/// Puts those names at the end that are no zone's own.
+fn put_others<'t>(
     table: &Table,
     names: &[&'t str],
-    own: bool,
     into: &mut Vec<&'t str>,
 ) -> Result<(), AllocError>
     ensures { OnOk result (each name_shown into.new.items ≡ each name_shown into.old.items
-        ++ filter (λ name. beq (is_some (get table.now.zonesets name)) own) (each name_shown names.now)) }
+        ++ others (λ name. is_some (get table.now.zonesets name)) (each name_shown names.now)) }
 {
     for name in names {
-        if is_zone(table, name) == own {
+        if !is_zone(table, name) {
             into.push(*name)?;
         }
     }
@@ -52,13 +41,14 @@ fn put_kept<'t>(
 pub(crate) fn archive_names<'t>(
     alloc: Global,
     table: &Table,
-    names: &[&'t str],
+    names: &Names<'t>,
 ) -> Result<Vec<&'t str>, AllocError>
-    requires { each name_shown names.now ≡ names_of table.now }
+    requires zones { each name_shown names.now.zones.now ≡ keys table.now.zonesets }
+    requires links { each name_shown names.now.links.now ≡ keys table.now.links }
     ensures { IfOk result (λ ordered. each name_shown ordered.items ≡ archive_names (finds_in_table table.now)) }
 {
     let mut ordered = Vec::new(alloc);
-    put_kept(table, names, true, &mut ordered)?;
-    put_kept(table, names, false, &mut ordered)?;
+    ordered.extend_from_slice(names.zones)?;
+    put_others(table, names.links, &mut ordered)?;
     Ok(ordered)
 }

@@ -15,8 +15,12 @@ pub enum Why {
     Schedule(SpanFault),
     /// Some span of its zone has an offset of 26 hours or more in size.
     OffsetRange,
+    /// A `%` is left in an abbreviation of its zone, which no reader of its file would know.
+    Format,
     /// Its zone has no file: `Times`, `Types` or `Names`.
     File(WriteFault),
+    /// It is a link to a name that is no zone's own.
+    Link,
     /// An archive can't say the name, or that of the zone that it is a link to, or another name stands in it as in a folder.
     Name,
     /// The file has 8,589,934,592 bytes or more.
@@ -74,7 +78,12 @@ impl Why {
     {
         match self {
             Why::Schedule(_) => "schedule ",
-            Why::OffsetRange | Why::File(_) | Why::Name | Why::Size => "",
+            Why::OffsetRange
+            | Why::Format
+            | Why::File(_)
+            | Why::Link
+            | Why::Name
+            | Why::Size => "",
         }
     }
 
@@ -85,7 +94,9 @@ impl Why {
         match self {
             Why::Schedule(fault) => fault.name(),
             Why::OffsetRange => "offset range",
+            Why::Format => "format",
             Why::File(fault) => file_word(fault),
+            Why::Link => "link",
             Why::Name => "name",
             Why::Size => "size",
         }

@@ -1,7 +1,7 @@
 //! The archive of a source.
 ghost use Rattle.std.specs.Prelude.{◌≡◌, ◌≤◌, length, map as each, Ok, IfOk, IfErr, OnOk};
-ghost use Rattle.owned.specs.Keyed.{text_cmp};
-ghost use Rattle.tz_lookup.specs.Databases.{name_shown, names_of};
+ghost use Rattle.std.specs.FinMap.{keys};
+ghost use Rattle.tz_lookup.specs.Databases.{name_shown};
 ghost use Rattle.zone_table.specs.BoundedTables.{IsBoundedTable};
 ghost use Rattle.zone_tree.specs.Entries.{entry_of};
 ghost use Rattle.zone_tree.specs.Names.{finds_in_table};
@@ -9,11 +9,10 @@ ghost use Rattle.zone_tree.specs.Told.{ArePut, IsFirst, IsFaultOf};
 ghost use Rattle.zone_tree.specs.Trees.{entries_of, tree_by, tree_of};
 
 use crate::entry::put_name;
-use crate::names::{archive_names, listed};
+use crate::names::{Names, archive_names};
 use crate::refusal::{NameFault, TreeFault};
 use owned::Text;
 use std::alloc::Global;
-use tz_lookup::names_in_order;
 use ustar::put_end;
 use zone_line::LineParser;
 use zone_source::{LIMIT, read_table};
@@ -23,12 +22,13 @@ use zone_table::Table;
 fn put_names(
     alloc: Global,
     table: &Table,
-    names: &[&str],
+    names: &Names<'_>,
     ordered: &[&str],
     into: &mut Vec<u8>,
 ) -> Result<(), TreeFault>
     requires bounded { IsBoundedTable table.now }
-    requires all { each name_shown names.now ≡ names_of table.now }
+    requires zones { each name_shown names.now.zones.now ≡ keys table.now.zonesets }
+    requires links { each name_shown names.now.links.now ≡ keys table.now.links }
     ensures ok { OnOk result (ArePut into.old.items into.new.items
         (entries_of (entry_of (finds_in_table table.now)) (each name_shown ordered.now))) }
     ensures err { IfErr result (IsFirst (entries_of (entry_of (finds_in_table table.now)) (each name_shown ordered.now))) }
@@ -52,17 +52,15 @@ fn tree_of_table(alloc: Global, table: &Table) -> Result<Vec<u8>, TreeFault>
     ensures ok { IfOk result (λ bytes. tree_by (finds_in_table table.now) ≡ Ok bytes.items) }
     ensures err { IfErr result (IsFirst (tree_by (finds_in_table table.now))) }
 {
-    let set = names_in_order(alloc, table)?;
-    let names = listed(alloc, &set)?;
-    let ordered = archive_names(alloc, table, names.as_slice())?;
+    let zones = table.zonesets.keys(alloc)?;
+    let links = table.links.keys(alloc)?;
+    let names = Names {
+        zones: zones.as_slice(),
+        links: links.as_slice(),
+    };
+    let ordered = archive_names(alloc, table, &names)?;
     let mut bytes = Vec::new(alloc);
-    match put_names(
-        alloc,
-        table,
-        names.as_slice(),
-        ordered.as_slice(),
-        &mut bytes,
-    ) {
+    match put_names(alloc, table, &names, ordered.as_slice(), &mut bytes) {
         Ok(()) => {}
         Err(fault) => return Err(fault),
     }
@@ -70,9 +68,9 @@ fn tree_of_table(alloc: Global, table: &Table) -> Result<Vec<u8>, TreeFault>
     Ok(bytes)
 }
 
-/// Every zone of a source, and every link to one, in a tar archive in the ustar format of POSIX: first the zones in byte order
-/// of their names, each as a file with the bytes of its TZif file, and then the links that find a zone, in byte order, each a
-/// hard link to its zone's name. Mode 0644, owner 0, time 0. The source is at most 16,777,216 bytes long.
+/// Every zone of a source, and every link, in a tar archive in the ustar format of POSIX: first the zones in byte order
+/// of their names, each as a file with the bytes of its TZif file, and then the links, in byte order, each a hard link to its
+/// zone's name. Mode 0644, owner 0, time 0. The source is at most 16,777,216 bytes long.
 ///
 /// # Errors
 ///

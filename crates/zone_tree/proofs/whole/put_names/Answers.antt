@@ -2,12 +2,15 @@ use Rattle.std.proofs.Common.{subst, sym}
 use Rattle.owned.specs.InOrderLaws.{RisesStrictly}
 use Rattle.owned.specs.Keyed.{text_cmp}
 use Rattle.zone_tree.specs.Told.{IsWhy}
-use Rattle.tz_lookup.specs.DatabaseLaws.{names_rise}
+use Rattle.zone_tree.proofs.NameLemmas.{rises-keys}
 use Rattle.zone_tree.proofs.TreeLemmas.{one_step, first_step, all_steps}
 use Rattle.zone_tree.proofs.whole.put_names.Goals as goal
 
-pub put_name-requires-clause-sorted : goal.put_name-requires-clause-sorted
-put_name-requires-clause-sorted c = subst (RisesStrictly text_cmp) (sym c.requires.all) (names_rise c.args.table.now)
+pub put_name-requires-clause-zones_rise : goal.put_name-requires-clause-zones_rise
+put_name-requires-clause-zones_rise c = subst (RisesStrictly text_cmp) (sym c.requires.zones) (rises-keys c.args.table.now.zonesets)
+
+pub put_name-requires-clause-links_rise : goal.put_name-requires-clause-links_rise
+put_name-requires-clause-links_rise c = subst (RisesStrictly text_cmp) (sym c.requires.links) (rises-keys c.args.table.now.links)
 
 pub loop-name-preserved : goal.loop-name-preserved
 loop-name-preserved c =
