@@ -33,7 +33,7 @@ def words(text, *kinds):
     if kinds and kinds[-1].endswith("*"):
         kinds += kinds[-1:] * len(given)
     if not least <= len(given) <= len(kinds):
-        refuse(text, f"it takes other words than these {len(given)}")
+        refuse(text, f"{len(given)} words were given")
     for word, kind in zip(given, kinds):
         kind = kind.rstrip("?*")
         if not KINDS[kind](word):
