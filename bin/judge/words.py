@@ -27,7 +27,7 @@ def words(text, *kinds):
     script's own text and ends with 0; with other words than these it ends with 1."""
     given = sys.argv[1:]
     if given == ["--help"]:
-        print(text)
+        sys.stdout.write(f"{text}\n")
         sys.exit(0)
     least = sum(kind[-1] not in "?*" for kind in kinds)
     if kinds and kinds[-1].endswith("*"):
