@@ -10,14 +10,14 @@ import os
 import random
 import sys
 import tempfile
-from datetime import datetime, timedelta, timezone
+from datetime import datetime, timedelta
 
 from given import words
 
 # (another script takes its comparisons, and has words of its own)
 GIVEN = words(__doc__, "file", "number?", "number?") if __name__ == "__main__" else []
 import sefunjaro  # noqa: E402
-from outside import EPOCH, Tally, compiled, moment, named_copy, year_start, zone_info
+from outside import Tally, compiled, moment, named_copy, year_start, zone_info
 from tzfile import TzFile
 
 FIRST, LAST = year_start(1900), year_start(2100)
