@@ -1,5 +1,6 @@
 """What the scripts that compare share: the programs of this repository, the reference compiler `zic`, `zdump` and Python's
 zoneinfo, and the comparison of two zones at each side of each change."""
+import functools
 import io
 import os
 import shutil
@@ -10,7 +11,7 @@ from zoneinfo import ZoneInfo
 
 from tzfile import TzFile
 
-BIN = os.path.dirname(os.path.dirname(os.path.abspath(__file__)))
+BIN = os.path.dirname(os.path.dirname(os.path.realpath(__file__)))
 EPOCH = datetime(1970, 1, 1, tzinfo=timezone.utc)
 
 
@@ -28,19 +29,17 @@ def found(name):
     return shutil.which(name, path=path) or sys.exit(f"{name} is not installed")
 
 
+@functools.lru_cache(maxsize=None)
+def programs(*names):
+    """The paths of programs of this repository, which are proved and built first where they aren't built or are old."""
+    status = subprocess.run([os.path.join(BIN, "build"), *names], stdin=subprocess.DEVNULL).returncode
+    if status:
+        sys.exit(status)
+    return [os.path.join(os.path.dirname(BIN), "crates", f"{name}_program", "out", f"{name}_program") for name in names]
+
+
 def program(name):
-    """The path of a program of this repository. Its script in bin/ proves and builds it where it isn't built or is old, and says
-    on standard error how far it is; without words the program itself does nothing."""
-    script = os.path.join(BIN, name)
-    if not os.path.exists(script):
-        sys.exit(f"{name} is not in this repository")
-    with subprocess.Popen([script], stdin=subprocess.DEVNULL, stderr=subprocess.PIPE, text=True) as run:
-        for line in run.stderr:
-            if not line.startswith("usage:"):
-                sys.stderr.write(line)
-    if run.returncode != 1:
-        sys.exit(f"{name} could not be built")
-    return os.path.join(os.path.dirname(BIN), "crates", f"{name}_program", "out", f"{name}_program")
+    return programs(name)[0]
 
 
 def named_copy(source, path):

@@ -4,7 +4,10 @@
 Answers the requests on standard input as zone_answers does, each zone opened once."""
 import sys
 
-import sefunjaro
+from given import words
+
+ZONES, = words(__doc__, "file")
+import sefunjaro  # noqa: E402
 
 
 def answer(zone, kind, value):
@@ -16,9 +19,7 @@ def answer(zone, kind, value):
 
 
 def main():
-    if len(sys.argv) != 2:
-        sys.exit(__doc__)
-    source, zones = sefunjaro.Source.from_path(sys.argv[1]), {}
+    source, zones = sefunjaro.Source.from_path(ZONES), {}
     for line in sys.stdin:
         kind, name, value = line.rstrip("\n").split(" ", 2)
         if name not in zones:

@@ -11,10 +11,10 @@ import os
 import struct
 import sys
 
-ROOT = os.path.dirname(os.path.dirname(os.path.dirname(os.path.abspath(__file__))))
-sys.dont_write_bytecode = True
-sys.path.insert(0, os.path.join(ROOT, "bin", "judge"))
-import sefunjaro
+from given import words
+
+GIVEN = words(__doc__, "folder?")
+import sefunjaro  # noqa: E402
 from compare_zoneinfo import compare_changes
 from outside import Tally, distinct, machine_files, year_start, zone_info
 from tzfile import Footer, TzFile
@@ -38,9 +38,7 @@ def parts_at_last(file):
 
 
 def main():
-    if len(sys.argv) > 2:
-        sys.exit(__doc__)
-    folder = sys.argv[1] if len(sys.argv) == 2 else os.path.join(os.sep, "usr", "share", "zoneinfo")
+    folder = GIVEN[0] if GIVEN else os.path.join(os.sep, "usr", "share", "zoneinfo")
     of_files, of_strings, strings = Tally(), Tally(), set()
     files = distinct(machine_files(folder))
     for name, data in files.items():

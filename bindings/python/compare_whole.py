@@ -1,16 +1,21 @@
-"""compare_whole SOURCE: every zone of a source in any form that zic reads, as the file and the string that the library gives of it, beside
+#!/usr/bin/env python3
+"""usage: compare_whole.py SOURCE
+
+Every zone of a source in any form that zic reads, as the file and the string that the library gives of it, beside
 the files that zic makes: at both sides of each change of 1900 to 2099 the file and that of `zic -b fat` have the same offset and
 abbreviation by `zoneinfo`, and the string stands at the end of the zone's own file. It counts the strings that are those of
 `zic -b slim`, and ends with 1 where something differs."""
 import io
-import pathlib
-import subprocess
 import sys
 import tempfile
 import zoneinfo
 from datetime import datetime, timezone
 
-from sefunjaro import NoTail, Source
+from given import words
+
+SOURCE, = words(__doc__, "file")
+from outside import compiled  # noqa: E402
+from sefunjaro import NoTail, Source  # noqa: E402
 
 FIRST, LAST = (int(datetime(year, 1, 1, tzinfo=timezone.utc).timestamp()) for year in (1900, 2100))
 
@@ -28,14 +33,13 @@ def shown(zone, second):
 
 
 def main():
-    source = Source.from_path(sys.argv[1], any_form=True)
+    source = Source.from_path(SOURCE, any_form=True)
     wrong = same_strings = sides = 0
     with tempfile.TemporaryDirectory() as folder:
-        for form in ("fat", "slim"):
-            subprocess.run(["zic", "-b", form, "-d", f"{folder}/{form}", sys.argv[1]], check=True, stderr=subprocess.DEVNULL)
+        made = {form: compiled(SOURCE, f"{folder}/{form}", form) for form in ("fat", "slim")}
         for name in source:
             zone = source.zone(name)
-            file, due, slim = zone.to_tzif(), *(pathlib.Path(folder, form, name).read_bytes() for form in ("fat", "slim"))
+            file, due, slim = zone.to_tzif(), made["fat"][name], made["slim"][name]
             tail = tail_of(zone)
             same_strings += slim.split(b"\n")[-2].decode() == tail
             ours, theirs = (zoneinfo.ZoneInfo.from_file(io.BytesIO(read)) for read in (file, due))

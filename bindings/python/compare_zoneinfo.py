@@ -10,13 +10,14 @@ import os
 import random
 import sys
 import tempfile
-from datetime import datetime, timedelta, timezone
+from datetime import datetime, timedelta
 
-ROOT = os.path.dirname(os.path.dirname(os.path.dirname(os.path.abspath(__file__))))
-sys.dont_write_bytecode = True
-sys.path.insert(0, os.path.join(ROOT, "bin", "judge"))
-import sefunjaro
-from outside import EPOCH, Tally, compiled, moment, named_copy, year_start, zone_info
+from given import words
+
+# (another script takes its comparisons, and has words of its own)
+GIVEN = words(__doc__, "file", "number?", "number?") if __name__ == "__main__" else []
+import sefunjaro  # noqa: E402
+from outside import Tally, compiled, moment, named_copy, year_start, zone_info
 from tzfile import TzFile
 
 FIRST, LAST = year_start(1900), year_start(2100)
@@ -83,11 +84,9 @@ def compare_random(mine, theirs, cases, seed, tally):
 
 
 def main():
-    if not 2 <= len(sys.argv) <= 4:
-        sys.exit(__doc__)
-    cases, seed = (int(word) for word in (sys.argv[2:] + ["100000", "1"][len(sys.argv) - 2:]))
+    cases, seed = (int(word) for word in (GIVEN[1:] + ["100000", "1"][len(GIVEN) - 1:]))
     with tempfile.TemporaryDirectory() as folder:
-        copied = named_copy(sys.argv[1], os.path.join(folder, "source"))
+        copied = named_copy(GIVEN[0], os.path.join(folder, "source"))
         files = compiled(copied, os.path.join(folder, "files"), "fat")
         source = sefunjaro.Source.from_path(copied)
     names = [name for name in source if name in files]

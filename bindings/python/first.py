@@ -2,6 +2,10 @@
 """usage: first.py ZONES
 
 The two answers with which the README begins."""
+from given import words
+
+words(__doc__, "file")
+
 import sys
 from datetime import datetime
 

@@ -5,12 +5,14 @@ The processor time of a call in nanoseconds, the best of nine turns: of a functi
 ctypes' own cost, of an offset at an instant, and of a datetime's utcoffset and astimezone with a zone of sefunjaro.py and with
 Python's zoneinfo."""
 import ctypes
-import sys
 import time
 from datetime import datetime, timedelta, timezone
 from zoneinfo import ZoneInfo
 
-import sefunjaro
+from given import words
+
+SOURCE, *ROUNDS = words(__doc__, "file", "number?")
+import sefunjaro  # noqa: E402
 
 NAME = "America/New_York"
 
@@ -21,10 +23,8 @@ def locals_in(zone, rounds):
 
 
 def main():
-    if not 2 <= len(sys.argv) <= 3:
-        sys.exit(__doc__)
-    rounds = int((sys.argv[2:] or ["2000"])[0])
-    mine, theirs = sefunjaro.Source.from_path(sys.argv[1]).zone(NAME), ZoneInfo(NAME)
+    rounds = int((ROUNDS or ["2000"])[0])
+    mine, theirs = sefunjaro.Source.from_path(SOURCE).zone(NAME), ZoneInfo(NAME)
     nothing, closed = sefunjaro._close, ctypes.byref(sefunjaro._RawHandle())
     seconds = [turn * 7919 * 3600 % 2030000000 for turn in range(rounds)]
     in_utc = locals_in(timezone.utc, rounds)
