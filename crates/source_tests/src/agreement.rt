@@ -12,10 +12,9 @@ ghost use Rattle.tz_lookup.specs.Sets.{schedule_of, IsAccepted};
 ghost use Rattle.tz_posix.specs.Agreement.{IsCovered, RuledValue, SaysTheSame, TwoRuleZone, value_of};
 ghost use Rattle.tz_posix_core.specs.Parses.{IsInRange};
 
-use crate::checks::holds_at;
-use crate::fixtures::table_of;
-use crate::posix::rows::{field, number};
-use crate::posix::zones::{at, empty};
+use crate::checks::same_at;
+use crate::fixtures::{at, database_of, table_of};
+use crate::rows::{field, number};
 use civil_base::{OffsetDateTime, UtcOffset};
 use std::alloc::Global;
 use std::process::Abort;
@@ -126,8 +125,8 @@ fn seconds(offset: Option<UtcOffset>) -> Option<i32> {
 fn zones_agree_with_their_strings(rt: HostRuntime) {
     let alloc = rt.alloc();
     let table = table_of(&rt, alloc, ZONES);
-    let zones = empty(&rt, alloc);
+    let zones = database_of(&rt, alloc, b"");
     for row in OFFSETS.lines() {
-        holds_at(&rt, row, is_given(&rt, alloc, &table, &zones, row));
+        same_at(&rt, row, &is_given(&rt, alloc, &table, &zones, row), &true);
     }
 }

@@ -1,5 +1,5 @@
 use Rattle.source_tests.proofs.AgreedLemmas.{parsed_is, not_refused, of_zone}
-use Rattle.source_tests.proofs.posix.agreement.agreed_by.Goals as goal
+use Rattle.source_tests.proofs.agreement.agreed_by.Goals as goal
 
 pub returns-in-Ok : goal.returns-in-Ok
 returns-in-Ok c rulesets pair q same compiled is covered =

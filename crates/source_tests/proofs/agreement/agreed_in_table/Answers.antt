@@ -1,6 +1,6 @@
 use Rattle.std.specs.FinMap.{get}
 use Rattle.source_tests.proofs.AgreedLemmas.{of_lines}
-use Rattle.source_tests.proofs.posix.agreement.agreed_in_table.Goals as goal
+use Rattle.source_tests.proofs.agreement.agreed_in_table.Goals as goal
 
 pub returns-in-Ok-clause-agreed : goal.returns-in-Ok-clause-agreed
 returns-in-Ok-clause-agreed c pair q same found is covered =

@@ -1,12 +1,12 @@
-//! Sources and what is written of them.
+//! Sources in any form that `zic` reads, and what is written of them.
 use crate::checks::same_at;
+use crate::fixtures::parser;
+use crate::runs::bytes_of;
 use std::alloc::Global;
 use std::process::Abort;
 use zone_line::LineParser;
 use zone_plain::{PlainFault, plain};
-
-/// The most bytes that a source has.
-const LIMIT: usize = 16_777_216;
+use zone_source::LIMIT;
 
 /// Sources, and what is written of each, with `~` between them and `;` for each line feed: an old rule; `%z` with an amount and under a
 /// ruleset; a chain of links; a line of a zone that begins with a rule's word; quotes and a comment; a link that stands twice; a ruleset whose name
@@ -45,64 +45,34 @@ Z A 0 - X;Z B 0 - \"~2 Quotes
 Z \"A#\" 1 - X~1 Unsayable
 ";
 
-/// The bytes of a field of a table, with line feeds.
-fn bytes_of(rt: &impl Abort, alloc: Global, field: Option<&str>) -> Vec<u8> {
-    let mut bytes = field
-        .expect(rt, "no field")
-        .as_bytes()
-        .to_vec(alloc)
-        .expect(rt, "memory");
-    for byte in &mut bytes {
-        if *byte == b';' {
-            *byte = b'\n';
-        }
-    }
-    bytes
-}
-
-/// What is written of a source, or why nothing is.
-fn written(rt: &impl Abort, alloc: Global, source: &[u8]) -> Result<Vec<u8>, PlainFault> {
-    if source.len() > LIMIT {
-        panic!(rt; "too long");
-    }
-    let parser = LineParser::new(alloc).expect(rt, "not built");
-    plain(alloc, &parser, source)
-}
-
-/// The number of the line that is refused, and the cause.
-fn told(rt: &impl Abort, alloc: Global, source: &[u8]) -> String {
-    match written(rt, alloc, source) {
+/// What is written of a source, or the number of the line that is refused, and the cause.
+fn told(rt: &impl Abort, alloc: Global, parser: &LineParser, source: &[u8]) -> Vec<u8> {
+    assert!(rt; source.len() <= LIMIT);
+    match plain(alloc, parser, source) {
+        Ok(bytes) => bytes,
         Err(PlainFault::Line(number, cause)) => {
             let name = cause.name();
-            format!(in alloc; "{number} {name}").expect(rt, "memory")
+            format!(in alloc; "{number} {name}")
+                .expect(rt, "memory")
+                .into_bytes()
         }
-        Err(PlainFault::TooLong) => panic!(rt; "too long"),
-        Err(PlainFault::NoMemory) => panic!(rt; "memory"),
-        Ok(_) => panic!(rt; "not refused"),
+        Err(_) => panic!(rt; "too long, or memory"),
+    }
+}
+
+/// Asserts what is told of each source of a table.
+fn expect_told(rt: &impl Abort, alloc: Global, table: &str) {
+    let parser = parser(rt, alloc);
+    for row in table.lines() {
+        let mut fields = row.split('~');
+        let source = bytes_of(rt, alloc, fields.next());
+        let due = bytes_of(rt, alloc, fields.next());
+        same_at(rt, row, &told(rt, alloc, &parser, &source), &due);
     }
 }
 
 #[test]
-fn sources_are_written(rt: HostRuntime) {
-    let alloc = rt.alloc();
-    for row in SOURCES.lines() {
-        let mut fields = row.split('~');
-        let source = bytes_of(&rt, alloc, fields.next());
-        let due = bytes_of(&rt, alloc, fields.next());
-        match written(&rt, alloc, &source) {
-            Ok(bytes) => same_at(&rt, row, &bytes, &due),
-            Err(_) => panic!(&rt; "{row}"),
-        }
-    }
-}
-
-#[test]
-fn lines_are_refused(rt: HostRuntime) {
-    let alloc = rt.alloc();
-    for row in REFUSED.lines() {
-        let mut fields = row.split('~');
-        let source = bytes_of(&rt, alloc, fields.next());
-        let due = fields.next().expect(&rt, "no fault");
-        same_at(&rt, row, &told(&rt, alloc, &source).as_str(), &due);
-    }
+fn sources_are_written_or_refused(rt: HostRuntime) {
+    expect_told(&rt, rt.alloc(), SOURCES);
+    expect_told(&rt, rt.alloc(), REFUSED);
 }
