@@ -134,6 +134,12 @@ fn each_call_fails(rt: HostRuntime) {
         output: 13,
     };
     expect_failed(&rt, alloc, &parser, past, 0, 80);
+    let eleventh = Failing {
+        output: 11,
+        ..NONE_FAILING
+    };
+    let outcome = run_over(&rt, alloc, &parser, &ONE_REQUEST, 1, &eleventh);
+    expect_end(&rt, "a byte at a time", &outcome, 4, b"1970-01-01");
 }
 
 /// Lines with `;` between them, of which the last but one alone is refused.

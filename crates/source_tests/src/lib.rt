@@ -23,6 +23,8 @@ mod lines;
 #[cfg(test)]
 mod objects;
 #[cfg(test)]
+mod opened;
+#[cfg(test)]
 mod outside;
 #[cfg(test)]
 mod plain;

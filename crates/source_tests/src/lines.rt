@@ -1,12 +1,12 @@
 //! Lines and what they say, and the texts of faults: lines of every form; lines that are refused; and lines that stand at the edges of
 //! the patterns, as each mark of a time and what no mark is, blanks, comments, and columns that are missing or too many. What they say is
 //! by the patterns as the crate `regex` reads them, and by the zic manual where it speaks of the form.
-use crate::checks::{prints, same_at};
+use crate::checks::{prints, same, same_at};
 use crate::fixtures::parser;
 use std::alloc::Global;
 use std::process::Abort;
 use tz_posix::RangeError;
-use zone_line::{Error, LineReader};
+use zone_line::{ChangeTime, DaySpec, Error, LineReader, Month, TimeSpec, TimeType, Weekday, Year};
 
 /// A line and, after `~`, the text that `Debug` gives of its value, or that of its fault.
 const LINES: &str = "\
@@ -177,4 +177,13 @@ fn faults_are_printed(rt: HostRuntime) {
     prints(&rt, alloc, &zone_table::Error::DuplicateZone, text);
     prints(&rt, alloc, &RangeError::Time, "time field out of range");
     prints(&rt, alloc, &RangeError::Date, "date field out of range");
+}
+
+#[test]
+fn an_end_is_a_second(rt: HostRuntime) {
+    let time = TimeSpec::Hours(9).with_type(TimeType::Wall);
+    let sunday = DaySpec::Last(Weekday::Sunday);
+    let end = ChangeTime::UntilTime(Year::Number(2000), Month::February, sunday, time);
+    assert!(rt; end.is_dated());
+    same(&rt, &end.to_timestamp(), &951_642_000);
 }
