@@ -15,11 +15,6 @@ pub(crate) fn holds(rt: &impl Abort, claim: bool) {
     assert!(rt; claim);
 }
 
-/// Ends the test, and shows the row, where the claim doesn't hold at it.
-pub(crate) fn holds_at(rt: &impl Abort, row: &str, claim: bool) {
-    assert!(rt; claim, "{row}");
-}
-
 /// The same of what a value prints.
 pub(crate) fn prints<T: Display>(rt: &impl Abort, alloc: Global, value: &T, wanted: &str) {
     let shown = format!(in alloc; "{value}").expect(rt, "memory");

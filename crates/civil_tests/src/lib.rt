@@ -1,13 +1,11 @@
-//! Tests of the calendar, of dates and times, of format items, of padded texts and of what owns its values, from outside the
-//! crates: tables from elsewhere, printed texts, and a happy path of each call.
+//! Tests of dates and times, of format items, of padded texts and of what owns its values, from outside the crates: printed texts,
+//! a table from elsewhere, a happy path of each call, and what the constants are.
 #![tactic(auto)]
 
 #[cfg(test)]
 mod checks;
 #[cfg(test)]
 mod dates;
-#[cfg(test)]
-mod days;
 #[cfg(test)]
 mod items;
 #[cfg(test)]

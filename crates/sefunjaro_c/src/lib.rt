@@ -5,18 +5,10 @@
 
 mod any_source;
 mod changes;
-#[cfg(test)]
-mod checks;
 mod fault;
-#[cfg(test)]
-mod file_tests;
 mod files;
 mod sources;
 mod status;
-#[cfg(test)]
-mod tests;
-#[cfg(test)]
-mod text_tests;
 mod times;
 mod version;
 mod whole;

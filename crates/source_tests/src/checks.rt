@@ -1,6 +1,7 @@
 //! Assertions: each is proved here once, with what it prints, and not again in every test that makes it.
 
-use std::fmt::Debug;
+use std::alloc::Global;
+use std::fmt::{Debug, Display};
 use std::process::Abort;
 
 /// Ends the test, and shows both, where what was found isn't what is wanted.
@@ -13,7 +14,8 @@ pub(crate) fn same_at<T: PartialEq + Debug>(rt: &impl Abort, row: &str, found: &
     assert_eq!(rt; found, wanted, "{row}");
 }
 
-/// Ends the test, and shows the row, where the claim doesn't hold at it.
-pub(crate) fn holds_at(rt: &impl Abort, row: &str, claim: bool) {
-    assert!(rt; claim, "{row}");
+/// The same of what a value prints.
+pub(crate) fn prints<T: Display>(rt: &impl Abort, alloc: Global, value: &T, wanted: &str) {
+    let shown = format!(in alloc; "{value}").expect(rt, "memory");
+    same(rt, &shown.as_str(), &wanted);
 }

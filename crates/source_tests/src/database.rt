@@ -1,18 +1,70 @@
-//! A database of zones by names and parts of names, and what it refuses.
-ghost use Rattle.std.specs.Prelude.{◌≤◌, length};
-
-use crate::checks::same;
-use crate::fixtures::table_of;
+//! A database of zones by names and parts of names, and schedules at the edges of their rules: the offsets and names that the reference
+//! compiler `zic` gives for the same text. Daylight saving time is where the saving is above 0, so Dublin, whose winter takes an hour off,
+//! has none.
+use crate::checks::{same, same_at};
+use crate::fixtures::{NEW_YORK, at, database_of, table_of};
+use crate::rows::{field, number};
 use std::alloc::Global;
 use std::process::Abort;
-use tz_lookup::{Database, DatabaseFault, Offset, SpanFault, TimeZone, Tz};
-use zone_source::LIMIT;
+use tz_lookup::{Database, Offset, TimeZone, Tz};
+use zone_answers::{answers, open_zone};
+use zone_table::{Child, Format, Structure};
 
-/// The database of a source.
-fn database(rt: &impl Abort, alloc: Global, source: &[u8]) -> Result<Database, DatabaseFault>
-    requires { length source.now ≤ LIMIT }
-{
-    Database::build(alloc, &table_of(rt, alloc, source))
+/// A rule that would fire where its line ends by the wall's clock; an end under the saving of its own line; a saving below 0 at the
+/// beginning of a zone, and of a line.
+const SOURCE: &[u8] = b"\
+Rule End 2000 only - Apr 1 0:00 1:00 S
+Rule End 2001 only - Jan 1 0:00 0 -
+Zone Test/End 0:00 End EN%sT 2001
+ 2:00 - BBB
+Zone Test/Wall 1:00 1:00 AAA 2000
+ 0:00 - BBB
+Rule Eire 1971 only - Oct 31 2:00u -1:00 -
+Rule Eire 1972 only - Mar Sun>=16 2:00u 0 -
+Zone Test/Dublin 1:00 Eire IST/GMT
+Rule Late 1990 only - Mar 1 0:00 -1:00 W
+Rule Late 1991 only - Mar 1 0:00 0 S
+Zone Test/Late 0:00 - AAA 1980
+ 1:00 Late LA%sT
+";
+
+/// A zone, seconds from 1970-01-01 00:00:00 UTC, the offset in seconds, 1 for daylight saving time and 0 for none, and the
+/// abbreviation.
+const ROWS: &str = "\
+Test/End 954547199 7200 0 BBB
+Test/End 954547200 3600 1 ENST
+Test/End 978303599 3600 1 ENST
+Test/End 978303600 7200 0 BBB
+Test/Wall 946677599 7200 1 AAA
+Test/Wall 946677600 0 0 BBB
+Test/Dublin 57722399 3600 0 IST
+Test/Dublin 57722400 0 0 GMT
+Test/Dublin 69818399 0 0 GMT
+Test/Dublin 69818400 3600 0 IST
+Test/Late 315532799 0 0 AAA
+Test/Late 315532800 3600 0 LAST
+Test/Late 636245999 3600 0 LAST
+Test/Late 636246000 0 0 LAWT
+Test/Late 667785600 3600 0 LAST
+";
+
+/// Whether the zone of a row has in force what the row says.
+fn has_in_force(rt: &impl Abort, database: &Database, row: &str) -> bool {
+    let mut fields = row.split(' ');
+    let name = field(rt, &mut fields);
+    let zone = database.get_by_name(name).expect(rt, "no zone");
+    let offset = zone.get_offset_utc(&at(rt, number(rt, &mut fields)));
+    i64::from(offset.to_utc().whole_seconds()) == number(rt, &mut fields)
+        && offset.is_dst() == (field(rt, &mut fields) == "1")
+        && offset.name() == field(rt, &mut fields)
+}
+
+#[test]
+fn edges_of_rules(rt: HostRuntime) {
+    let database = database_of(&rt, rt.alloc(), SOURCE);
+    for row in ROWS.lines() {
+        same_at(&rt, row, &has_in_force(&rt, &database, row), &true);
+    }
 }
 
 const ZONES: &[u8] = b"\
@@ -22,14 +74,6 @@ Zone A/York 2:00 - A
 Link C Z/Link
 Link Nowhere Y
 ";
-
-/// The database of those zones.
-fn of_zones(rt: &impl Abort, alloc: Global) -> Database {
-    let Ok(database) = database(rt, alloc, ZONES) else {
-        panic!(rt; "no database");
-    };
-    database
-}
 
 /// Asserts the names of some zones in order, with a space after each.
 fn expect_names(rt: &impl Abort, alloc: Global, zones: &[Tz<'_>], names: &str) {
@@ -41,56 +85,66 @@ fn expect_names(rt: &impl Abort, alloc: Global, zones: &[Tz<'_>], names: &str) {
     same(rt, &found.as_str(), &names);
 }
 
-/// Asserts the names of the zones with that part in their names.
-fn expect_found(rt: &impl Abort, alloc: Global, database: &Database, part: &str, names: &str) {
-    let found = database.find_by_name(alloc, part).expect(rt, "memory");
-    expect_names(rt, alloc, &found, names);
-}
-
-#[test]
-fn every_zone_in_order(rt: HostRuntime) {
-    let alloc = rt.alloc();
-    let database = of_zones(&rt, alloc);
-    let every: Vec<Tz<'_>> = database.iter().collect(alloc).expect(&rt, "memory");
-    expect_names(&rt, alloc, &every, "A/York B/York C Z/Link ");
-}
-
-#[test]
-fn zones_by_parts_of_names(rt: HostRuntime) {
-    let alloc = rt.alloc();
-    let database = of_zones(&rt, alloc);
-    expect_found(&rt, alloc, &database, "York", "A/York B/York ");
-    expect_found(&rt, alloc, &database, "", "A/York B/York C Z/Link ");
-    expect_found(&rt, alloc, &database, "york", "");
-}
-
 #[test]
 fn zones_by_names(rt: HostRuntime) {
-    let database = of_zones(&rt, rt.alloc());
-    let zone = database.get_by_name("B/York").expect(&rt, "no zone");
-    let offset = zone.get_offset_primary().to_utc();
-    same(&rt, &offset.whole_seconds(), &3600);
-    let link = database.get_by_name("Z/Link").expect(&rt, "no link");
-    same(&rt, &link.name(), &"Z/Link");
-    assert!(rt; database.get_by_name("Y").is_none());
-    assert!(rt; database.get_by_name("York").is_none());
+    let alloc = rt.alloc();
+    let database = database_of(&rt, alloc, ZONES);
+    let every: Vec<Tz<'_>> = database.iter().collect(alloc).expect(&rt, "memory");
+    expect_names(&rt, alloc, &every, "A/York B/York C Z/Link ");
+    let found = database.find_by_name(alloc, "York").expect(&rt, "memory");
+    expect_names(&rt, alloc, &found, "A/York B/York ");
+}
+
+/// Writes a part of a hierarchy and its children, with a slash after a submodule.
+fn push_children(rt: &impl Abort, text: &mut String, children: &[Child<'_>]) {
+    for child in children {
+        let (name, end) = match child {
+            Child::Submodule(name) => (*name, "/ "),
+            Child::TimeZone(name) => (*name, " "),
+        };
+        text.push_str(name).expect(rt, "memory");
+        text.push_str(end).expect(rt, "memory");
+    }
 }
 
 #[test]
-fn the_first_name_without_a_schedule(rt: HostRuntime) {
-    let source = b"Zone C 0:00 - C\n 1:00 - C\nZone B 0:00 - B\n 1:00 - B\nZone D 26:00 - D\n";
-    let Err(DatabaseFault::Schedule(name, fault)) = database(&rt, rt.alloc(), source) else {
-        panic!(rt; "no fault");
-    };
-    same(&rt, &name.as_str(), &"B");
-    same(&rt, &fault, &SpanFault::MissingUntil);
+fn names_have_a_hierarchy(rt: HostRuntime) {
+    let alloc = rt.alloc();
+    let table = table_of(
+        &rt,
+        alloc,
+        b"Zone a/b/d 0 - A\nZone a/e 0 - A\nZone a/b/c 0 - A\n",
+    );
+    let mut text = String::new(alloc);
+    for entry in table.structure(alloc).expect(&rt, "memory") {
+        push_children(&rt, &mut text, &entry.children);
+    }
+    same(&rt, &text.as_str(), &"b/ e c d ");
 }
 
 #[test]
-fn the_first_name_with_an_offset_out_of_range(rt: HostRuntime) {
-    let source = b"Zone D 26:00 - D\nLink D A\n";
-    let Err(DatabaseFault::OffsetRange(name)) = database(&rt, rt.alloc(), source) else {
-        panic!(rt; "no fault");
+fn abbreviations(rt: HostRuntime) {
+    let alloc = rt.alloc();
+    let format = Format::new(alloc, "E%sT").expect(&rt, "memory");
+    let shown = format.format(alloc, 3600, Some("D")).expect(&rt, "memory");
+    same(&rt, &shown.as_str(), &"EDT");
+    let constant = Format::new(alloc, "TST").expect(&rt, "memory");
+    let shown = constant.format_constant(alloc).expect(&rt, "memory");
+    same(&rt, &shown.as_str(), &"TST");
+}
+
+#[test]
+fn a_zone_is_opened_and_answers(rt: HostRuntime) {
+    let alloc = rt.alloc();
+    let table = table_of(&rt, alloc, NEW_YORK);
+    // The first span, and two changes in each year of 2007 to 2099.
+    let opened = open_zone(alloc, &table, "America/New_York");
+    same(&rt, &opened.ok().map(|set| set.span_count()), &Some(187));
+    let asked = b"at Test/Fixed -1\n";
+    let parser = crate::fixtures::parser(&rt, alloc);
+    let Ok(lines) = answers(alloc, &parser, crate::fixtures::FIXED, asked) else {
+        panic!(rt; "refused");
     };
-    same(&rt, &name.as_str(), &"A");
+    let line = b"1970-01-01 01:29:59.999999999 +01:30:00".as_slice();
+    same(&rt, &(lines.len(), lines.get(0)), &(1, Some(line)));
 }

@@ -1,53 +1,81 @@
-//! Compiled zones as TZif files: a whole run over objects in memory, and its file read by both readers.
+//! Compiled zones as TZif files: whole runs over objects in memory, and their files read by both readers.
 use crate::checks::same;
 use crate::fixtures::{NEW_YORK, parser};
-use crate::runs::{Given, ONE_REQUEST, shelf_of, words_of};
+use crate::objects::{Given, NONE_FAILING, ONE_REQUEST, Outcome, run_over};
+use crate::runs::expect_end;
 use std::alloc::Global;
 use std::process::Abort;
-use zone_tzif::{MemSink, ReadFault, TzifZone, read_any, read_tzif, run_tzif};
+use zone_tzif::{read_any, read_tzif};
 
-/// The counts of the second header: 186 times, 2 kinds, 8 bytes of names.
+/// The file of a zone of one offset, by the layout of RFC 8536.
+const FIXED_FILE: &[u8] = b"\
+TZif2\0\0\0\0\0\0\0\0\0\0\0\0\0\0\0\0\0\0\0\0\0\0\0\0\0\0\0\0\0\0\0\0\0\0\x01\0\0\0\x01\0\0\0\0\0\0\0\
+TZif2\0\0\0\0\0\0\0\0\0\0\0\0\0\0\0\0\0\0\0\0\0\0\0\0\0\0\0\0\0\0\0\0\0\0\x01\0\0\0\x04\
+\0\0\x15\x18\0\0TST\0\nTST-1:30\n";
+
+/// The counts of New York's second header: 186 times, 2 kinds, 8 bytes of names.
 const COUNTS: &[u8] = b"\0\0\0\0\0\0\0\0\0\0\0\0\0\0\0\xba\0\0\0\x02\0\0\0\x08";
 
-/// What follows the times and their kinds: -5:00 of EST and -4:00 of EDT, their names, and the string.
+/// What follows its times and their kinds: -5:00 of EST and -4:00 of EDT, their names, and the string.
 const END: &[u8] =
     b"\xff\xff\xb9\xb0\0\0\xff\xff\xc7\xc0\x01\x04EST\0EDT\0\nEST5EDT,M3.2.0,M11.1.0\n";
 
-/// What the program writes for New York.
-fn written(rt: &impl Abort, alloc: Global) -> MemSink {
+/// What the program writes for a zone of a source.
+fn written(rt: &impl Abort, alloc: Global, words: &str, source: &[u8]) -> Outcome {
     let given = Given {
-        source: NEW_YORK,
-        ..ONE_REQUEST
+        words,
+        source,
+        requests: b"",
     };
-    let parser = parser(rt, alloc);
-    let words = words_of(rt, alloc, "source America/New_York");
-    let mut shelf = shelf_of(rt, alloc, &given, 7, &[]);
-    let mut sink = MemSink::new(alloc, 4096, 1000, Vec::new(alloc)).expect(rt, "memory");
-    let status = run_tzif(alloc, &parser, &words, &mut shelf, &mut sink);
-    same(rt, &status.code(), &0);
-    sink
-}
-
-/// The zone has 186 changes, from 2007-03-11 07:00 to 2099-11-01 06:00 UTC, and the string.
-fn expect_new_york(rt: &impl Abort, read: Result<TzifZone, ReadFault>) {
-    let Ok(zone) = read else {
-        panic!(rt; "not read");
-    };
-    let (first, last) = (zone.rest.first(), zone.rest.last());
-    same(rt, &matches!(first, Some((1_173_596_400, _))), &true);
-    same(rt, &matches!(last, Some((4_097_196_000, _))), &true);
-    same(rt, &zone.rest.len(), &186);
-    same(rt, &zone.footer.as_str(), &"EST5EDT,M3.2.0,M11.1.0");
+    run_over(rt, alloc, &parser(rt, alloc), &given, 1000, &NONE_FAILING)
 }
 
 #[test]
 fn new_york_is_written_and_read(rt: HostRuntime) {
     let alloc = rt.alloc();
-    let sink = written(&rt, alloc);
-    let file = sink.taken();
-    same(&rt, &file.len(), &1813);
-    same(&rt, &file.get(71..95), &Some(COUNTS));
-    same(&rt, &file.ends_with(END), &true);
-    expect_new_york(&rt, read_any(alloc, file));
-    expect_new_york(&rt, read_tzif(alloc, file));
+    let outcome = written(&rt, alloc, "tzif zones America/New_York", NEW_YORK);
+    let file = outcome.sink.taken();
+    let parts = (file.len(), file.get(71..95), file.ends_with(END));
+    same(&rt, &parts, &(1813, Some(COUNTS), true));
+    let Ok(zone) = read_any(alloc, file) else {
+        panic!(&rt; "not read");
+    };
+    let (first, last) = (zone.rest.first(), zone.rest.last());
+    same(
+        &rt,
+        &(first.map(|change| change.0), last.map(|change| change.0)),
+        &(Some(1_173_596_400), Some(4_097_196_000)),
+    );
+    same(
+        &rt,
+        &(zone.rest.len(), zone.footer.as_str()),
+        &(186, "EST5EDT,M3.2.0,M11.1.0"),
+    );
+}
+
+/// Whether `read_any` and `read_tzif` take the bytes.
+fn takers(alloc: Global, file: &[u8]) -> (bool, bool) {
+    (
+        read_any(alloc, file).is_ok(),
+        read_tzif(alloc, file).is_ok(),
+    )
+}
+
+#[test]
+fn a_file_is_its_bytes(rt: HostRuntime) {
+    let alloc = rt.alloc();
+    let outcome = written(&rt, alloc, "tzif zones Test/Fixed", ONE_REQUEST.source);
+    expect_end(&rt, "Test/Fixed", &outcome, 0, FIXED_FILE);
+    same(
+        &rt,
+        &(takers(alloc, FIXED_FILE), takers(alloc, &FIXED_FILE[..114])),
+        &((true, true), (false, false)),
+    );
+    let mut file = FIXED_FILE.to_vec(alloc).expect(&rt, "memory");
+    for place in [4, 55] {
+        if let Some(version) = file.get_mut(place) {
+            *version = 0x33;
+        }
+    }
+    same(&rt, &takers(alloc, &file), &(true, false));
 }

@@ -2,11 +2,16 @@
 ghost use Rattle.std.specs.Prelude.{◌≤◌, length};
 ghost use Rattle.zone_table.specs.BoundedTables.{IsBoundedTable};
 
+use civil_base::OffsetDateTime;
 use std::alloc::Global;
 use std::process::Abort;
+use tz_lookup::Database;
 use zone_line::LineParser;
 use zone_source::{LIMIT, read_table};
 use zone_table::Table;
+
+/// A zone of one offset.
+pub(crate) const FIXED: &[u8] = b"Zone Test/Fixed 1:30 - TST";
 
 /// New York by two yearly rules, of which the second takes back the saving of the first.
 pub(crate) const NEW_YORK: &[u8] = b"\
@@ -30,4 +35,21 @@ pub(crate) fn table_of(rt: &impl Abort, alloc: Global, source: &[u8]) -> Table
         panic!(rt; "no table");
     };
     table
+}
+
+/// The database of a source.
+pub(crate) fn database_of(rt: &impl Abort, alloc: Global, source: &[u8]) -> Database
+    requires { length source.now ≤ LIMIT }
+{
+    let Ok(database) = Database::build(alloc, &table_of(rt, alloc, source)) else {
+        panic!(rt; "no database");
+    };
+    database
+}
+
+/// The date-time at UTC so many seconds from 1970-01-01 00:00:00.
+pub(crate) fn at(rt: &impl Abort, second: i64) -> OffsetDateTime {
+    OffsetDateTime::from_unix_timestamp(second)
+        .ok()
+        .expect(rt, "out of range")
 }

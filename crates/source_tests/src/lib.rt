@@ -1,14 +1,13 @@
-//! Tests of all that begins with source text, from outside the crates: lines and their faults, tables, schedules, the database of
-//! zones, compact forms, POSIX strings over a database, daily alarms, listings, strings for the tails of zones, files of compiled
-//! zones, and whole runs over objects in memory and over made texts.
+//! Tests of zones from outside the crates: lines and their faults, tables, the database of zones, POSIX strings, files of compiled
+//! zones, the plain form, the short callers of the library, and whole runs of each program over objects in memory.
 #![tactic(auto)]
 
 #[cfg(test)]
-mod alarms;
+mod agreement;
+#[cfg(test)]
+mod callers;
 #[cfg(test)]
 mod checks;
-#[cfg(test)]
-mod compact;
 #[cfg(test)]
 mod database;
 #[cfg(test)]
@@ -16,20 +15,24 @@ mod files;
 #[cfg(test)]
 mod fixtures;
 #[cfg(test)]
-mod generated;
+mod footers;
+#[cfg(test)]
+mod hostile;
 #[cfg(test)]
 mod lines;
 #[cfg(test)]
-mod lists;
+mod objects;
+#[cfg(test)]
+mod opened;
+#[cfg(test)]
+mod outside;
+#[cfg(test)]
+mod plain;
 #[cfg(test)]
 mod posix;
 #[cfg(test)]
+mod rows;
+#[cfg(test)]
 mod runs;
 #[cfg(test)]
-mod schedules;
-#[cfg(test)]
-mod source;
-#[cfg(test)]
-mod tails;
-#[cfg(test)]
-mod tasks;
+mod surely;

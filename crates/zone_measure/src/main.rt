@@ -1,63 +1,42 @@
-//! `zone_measure FILE PART TIMES`: does one part of the work over the source text in FILE, TIMES times, and prints on one
-//! line what it counted in all of them. Clocks around two runs that differ in TIMES alone tell what the part takes.
+//! `zone_measure FILE PART TIMES`: does one part of the work over FILE, TIMES times, and prints two numbers of what it counted in all of
+//! them. Clocks around two runs that differ in TIMES alone tell what the part takes.
 //!
 //! PART is one of
 //!
-//! - `read`: each line is read by itself; counts the lines, and of them the blank ones and comments;
-//! - `join`: the lines are read and joined to a table; counts its zones, its links and its rulesets;
+//! - `read`: each line of a source is read by itself; counts the lines, and the blank ones and comments;
+//! - `join`: the lines are read and joined to a table; counts the zones and the links;
 //! - `compile`: each zone of the table, and each link to one, is compiled; counts the names and their spans;
-//! - `instants`, `locals`: each of these, compiled once, is asked at 400 instants, or at 400 local times, of the years 1850
-//!   to 2100; counts all, the instants with a saving above 0, and the local times with no offset, with one and with two;
-//! - `compact-instants`, `compact-locals`: the same of their compact sets;
-//! - `kinds`: the compact sets are built; counts the names, their spans, and the distinct kinds of each;
-//! - `database`: the database of the table is built; counts its names, and those whose spans are orderly;
-//! - `files`: each name is compiled and its TZif file made; counts the names, and the bytes of the files;
-//! - `zone`: FILE, which is a TZif file, is read; counts the files and their changes;
-//! - `posix`: each line is read as a POSIX TZ string; counts those that are read and those that are refused;
-//! - `offset`: each of these strings is asked at the same instants; counts the instants, and those with daylight saving.
+//! - `files`: each of these is compiled and its TZif file made; counts the names and the bytes;
+//! - `instants`, `locals`: each of these, compiled once to a compact set, is asked at 400 instants, or at 400 local times, of the years
+//!   1850 to 2100; counts all, and the instants with a saving above 0 or the local times with one offset;
+//! - `zone`: FILE, a TZif file, is read; counts the files and their changes.
 //!
-//! The exit status is 0 where the line was printed. With any other nothing is: 1, the words are not these; 2, a line or a
-//! zone of FILE, or FILE itself, is refused; 3, FILE can't be read; 4, the line can't be written; 5, memory ran out; 6, FILE is longer than
-//! 16,777,216 bytes; 7, the words can't be taken; 8, the parser can't be built.
+//! A count that has reached 18,446,744,073,709,551,615 stays there. The exit status is 0 where the numbers were printed, and 1 with
+//! nothing printed where the words are not these, FILE can't be read, is longer than 16,777,216 bytes or is refused, or memory ran out.
 #![tactic(auto)]
 
 ghost use Rattle.std.specs.Prelude.{◌≤◌, length, IfOk};
 
-mod counts;
-mod files;
-mod job;
 mod looks;
 mod parts;
-mod stopped;
-mod strings;
 
-use counts::Counts;
-use job::Job;
-use parts::count;
+use parts::{Counted, count};
 use std::alloc::Global;
 use std::process::ExitCode;
 use std::{env, io};
-use stopped::Stopped;
 use zone_line::LineParser;
-use zone_source::{FileShelf, LIMIT, ReadEnd, Status, fetch_all};
-
-/// The words after the program's own name couldn't be taken.
-const NO_WORDS: u8 = 7;
-
-/// The parser couldn't be built.
-const NOT_BUILT: u8 = 8;
+use zone_source::{FileShelf, LIMIT, ReadEnd, fetch_all};
 
 fn main(rt: HostRuntime) -> ExitCode {
-    let alloc = rt.alloc();
-    let Ok(words) = words(&rt, alloc) else {
-        return ExitCode::from(NO_WORDS);
+    let Ok(words) = words(&rt, rt.alloc()) else {
+        return ExitCode::FAILURE;
     };
-    let Ok(parser) = LineParser::new(alloc) else {
-        return ExitCode::from(NOT_BUILT);
+    let Some(counted) = measure(rt, &words) else {
+        return ExitCode::FAILURE;
     };
-    match measure(rt, &parser, &words) {
+    match println!(rt; "{} {}", counted.all, counted.found) {
         Ok(()) => ExitCode::SUCCESS,
-        Err(stopped) => ExitCode::from(stopped.status.code()),
+        Err(_) => ExitCode::FAILURE,
     }
 }
 
@@ -66,17 +45,21 @@ fn words(rt: &HostRuntime, alloc: Global) -> io::Result<Vec<String>> {
     Ok(env::args(rt)?.skip(1).collect(alloc)?)
 }
 
-/// Does what the words ask, and prints what it counted.
-fn measure(rt: HostRuntime, parser: &LineParser, words: &[String]) -> Result<(), Stopped> {
-    let Some(job) = Job::read(words) else {
-        return Err(Stopped::by(Status::Words));
+/// Does what the words ask; none where they are no such words, or the work isn't done.
+fn measure(rt: HostRuntime, words: &[String]) -> Option<Counted> {
+    let [file, part, times] = words else {
+        return None;
     };
-    let source = source_of(rt, job.file)?;
-    let counts = count(rt.alloc(), parser, &source, &job)?;
-    match print(rt, &counts) {
-        Ok(()) => Ok(()),
-        Err(_) => Err(Stopped::by(Status::Write)),
-    }
+    let Ok(times) = times.as_str().parse::<u32>() else {
+        return None;
+    };
+    let Ok(source) = source_of(rt, file.as_str()) else {
+        return None;
+    };
+    let Ok(parser) = LineParser::new(rt.alloc()) else {
+        return None;
+    };
+    count(rt.alloc(), &parser, &source, part.as_str(), times)
 }
 
 /// The bytes of a file, at most 16,777,216.
@@ -85,32 +68,4 @@ fn source_of(rt: HostRuntime, file: &str) -> Result<Vec<u8>, ReadEnd>
 {
     let mut shelf = FileShelf::new(rt);
     fetch_all(rt.alloc(), &mut shelf, file)
-}
-
-/// Prints the line of the counts.
-fn print(rt: HostRuntime, counts: &Counts) -> io::Result<()> {
-    match counts {
-        Counts::Read(c) => println!(rt; "{} lines, {} blank", c.lines, c.blank),
-        Counts::Join(c) => {
-            println!(rt;
-                "{} zones, {} links, {} rulesets",
-                c.zones, c.links, c.rulesets
-            )
-        }
-        Counts::Compile(c) => println!(rt; "{} names, {} spans", c.names, c.spans),
-        Counts::Database(c) => println!(rt; "{} names, {} orderly", c.names, c.orderly),
-        Counts::Files(c) => println!(rt; "{} names, {} bytes", c.names, c.bytes),
-        Counts::Zone(c) => println!(rt; "{} files, {} changes", c.files, c.changes),
-        Counts::Posix(c) => println!(rt; "{} strings, {} refused", c.strings, c.refused),
-        Counts::Offset(c) => println!(rt; "{} instants, {} saving", c.instants, c.saving),
-        Counts::Kinds(c) => {
-            println!(rt; "{} names, {} spans, {} kinds", c.names, c.spans, c.kinds)
-        }
-        Counts::Look(c) => {
-            println!(rt;
-                "{} asked, {} saving; {} none, {} one, {} two",
-                c.asked, c.saving, c.none, c.one, c.two
-            )
-        }
-    }
 }

@@ -1,66 +1,73 @@
-//! The parts of the work, each done a number of times.
+//! The parts of the work, each done a number of times. None of them is done where a call refuses.
 ghost use Rattle.std.specs.Prelude.{◌≤◌, length};
 ghost use Rattle.zone_table.specs.BoundedTables.{IsBoundedTable};
 
-use crate::counts::{Counts, LineCounts, NameCounts, SpanCounts, TableCounts, add};
-use crate::files::{read_files, write_files};
-use crate::job::{Job, Part, TablePart};
-use crate::looks::{build_compact, look, look_compact};
-use crate::stopped::Stopped;
-use crate::strings::count_strings;
+use crate::looks::look;
 use std::alloc::{AllocError, Global};
-use tz_lookup::{Database, compile_zone};
+use tz_lookup::compile_zone;
 use zone_line::{Line, LineParser, LineReader};
-use zone_source::{LIMIT, Lines, Status, read_table, text_of};
+use zone_source::{LIMIT, Lines, read_table, text_of};
 use zone_table::Table;
+use zone_tzif_core::read_any;
+use zone_tzif_set::tzif_of;
 
-/// Does the part over the source as often as the job says, and counts.
+/// What was counted.
+#[derive(Clone, Copy)]
+pub(crate) struct Counted {
+    /// Everything that was done or asked.
+    pub(crate) all: u64,
+    /// What was found in it.
+    pub(crate) found: u64,
+}
+
+impl Counted {
+    /// Counts one more, in which so much was found.
+    pub(crate) fn add(&mut self, found: usize) {
+        self.all = self.all.saturating_add(1);
+        self.found = self.found.saturating_add(found as u64);
+    }
+}
+
+/// Does the part of that name as often as that, and counts.
 pub(crate) fn count(
     alloc: Global,
     parser: &LineParser,
     source: &[u8],
-    job: &Job<'_>,
-) -> Result<Counts, Stopped>
+    part: &str,
+    times: u32,
+) -> Option<Counted>
     requires { length source.now ≤ LIMIT }
 {
-    match job.part {
-        Part::Read => read(alloc, parser, source, job.times),
-        Part::Join => join(alloc, parser, source, job.times),
-        Part::Table(part) => {
-            let table = read_table(alloc, parser, source)?;
-            count_table(alloc, &table, part, job.times)
-        }
-        Part::Posix | Part::Offset => {
-            let table = read_table(alloc, parser, b"")?;
-            let database = Database::build(alloc, &table)?;
-            count_strings(&database, source, job)
-        }
-        Part::Zone => read_files(alloc, source, job.times),
-    }
-}
-
-/// Does a part over the table as often as that, and counts.
-fn count_table(alloc: Global, table: &Table, part: TablePart, times: u32) -> Result<Counts, Stopped>
-    requires { IsBoundedTable table.now }
-{
+    let mut counted = Counted { all: 0, found: 0 };
     match part {
-        TablePart::Compile => compile(alloc, table, times),
-        TablePart::Look(question) => look(alloc, table, question, times),
-        TablePart::Compact(question) => look_compact(alloc, table, question, times),
-        TablePart::Kinds => build_compact(alloc, table, times),
-        TablePart::Database => build(alloc, table, times),
-        TablePart::Files => write_files(alloc, table, times),
+        "read" => read(alloc, parser, source, times, &mut counted)?,
+        "join" => join(alloc, parser, source, times, &mut counted)?,
+        "zone" => read_files(alloc, source, times, &mut counted)?,
+        _ => {
+            let Ok(table) = read_table(alloc, parser, source) else {
+                return None;
+            };
+            over_names(alloc, &table, part, times, &mut counted)?;
+        }
     }
+    Some(counted)
 }
 
 /// Reads the lines with matchers that are made once.
-fn read(alloc: Global, parser: &LineParser, source: &[u8], times: u32) -> Result<Counts, Stopped> {
-    let mut reader = parser.reader(alloc)?;
-    let mut counts = LineCounts { lines: 0, blank: 0 };
+fn read(
+    alloc: Global,
+    parser: &LineParser,
+    source: &[u8],
+    times: u32,
+    counted: &mut Counted,
+) -> Option<()> {
+    let Ok(mut reader) = parser.reader(alloc) else {
+        return None;
+    };
     for _ in 0..times {
-        read_lines(alloc, &mut reader, source, &mut counts)?;
+        read_lines(alloc, &mut reader, source, counted)?;
     }
-    Ok(Counts::Read(counts))
+    Some(())
 }
 
 /// Reads each line once.
@@ -68,49 +75,60 @@ fn read_lines(
     alloc: Global,
     reader: &mut LineReader<'_>,
     source: &[u8],
-    counts: &mut LineCounts,
-) -> Result<(), Stopped> {
+    counted: &mut Counted,
+) -> Option<()> {
     for line in Lines::new(source) {
-        let Some(text) = text_of(line) else {
-            return Err(Stopped::by(Status::Fault));
-        };
-        if matches!(reader.parse_str(alloc, text)?, Line::Space) {
-            add(&mut counts.blank, 1);
+        let text = text_of(line)?;
+        match reader.parse_str(alloc, text) {
+            Ok(Line::Space) => counted.add(1),
+            Ok(_) => counted.add(0),
+            Err(_) => return None,
         }
-        add(&mut counts.lines, 1);
     }
-    Ok(())
+    Some(())
 }
 
 /// Reads the lines and joins them to a table.
-fn join(alloc: Global, parser: &LineParser, source: &[u8], times: u32) -> Result<Counts, Stopped>
+fn join(
+    alloc: Global,
+    parser: &LineParser,
+    source: &[u8],
+    times: u32,
+    counted: &mut Counted,
+) -> Option<()>
     requires { length source.now ≤ LIMIT }
 {
-    let mut counts = TableCounts {
-        zones: 0,
-        links: 0,
-        rulesets: 0,
-    };
     for _ in 0..times {
-        let table = read_table(alloc, parser, source)?;
-        add_table(alloc, &table, &mut counts)?;
+        let Ok(table) = read_table(alloc, parser, source) else {
+            return None;
+        };
+        add_table(alloc, &table, counted).ok()?;
     }
-    Ok(Counts::Join(counts))
+    Some(())
 }
 
-/// Adds what a table has.
-fn add_table(alloc: Global, table: &Table, counts: &mut TableCounts) -> Result<(), AllocError> {
+/// Counts the zones of a table, and its links.
+fn add_table(alloc: Global, table: &Table, counted: &mut Counted) -> Result<(), AllocError> {
     let zones = table.zonesets.keys_in_any_order(alloc)?;
+    counted.all = counted.all.saturating_add(zones.len() as u64);
     let links = table.links.keys_in_any_order(alloc)?;
-    let rulesets = table.rulesets.keys_in_any_order(alloc)?;
-    add(&mut counts.zones, zones.len() as u64);
-    add(&mut counts.links, links.len() as u64);
-    add(&mut counts.rulesets, rulesets.len() as u64);
+    counted.found = counted.found.saturating_add(links.len() as u64);
     Ok(())
 }
 
+/// Reads a compiled zone.
+fn read_files(alloc: Global, bytes: &[u8], times: u32, counted: &mut Counted) -> Option<()> {
+    for _ in 0..times {
+        match read_any(alloc, bytes) {
+            Ok(zone) => counted.add(zone.rest.len()),
+            Err(_) => return None,
+        }
+    }
+    Some(())
+}
+
 /// The names of the zones of a table, and of the links to one.
-pub(crate) fn names_of(alloc: Global, table: &Table) -> Result<Vec<&str>, AllocError> {
+fn names_of(alloc: Global, table: &Table) -> Result<Vec<&str>, AllocError> {
     let mut names = table.zonesets.keys(alloc)?;
     for name in table.links.keys(alloc)? {
         if !table.zonesets.contains_key(name) && table.get_zoneset(name).is_some() {
@@ -120,38 +138,57 @@ pub(crate) fn names_of(alloc: Global, table: &Table) -> Result<Vec<&str>, AllocE
     Ok(names)
 }
 
-/// Compiles each name of a table.
-fn compile(alloc: Global, table: &Table, times: u32) -> Result<Counts, Stopped>
+/// Does a part over the names of a table as often as that.
+fn over_names(
+    alloc: Global,
+    table: &Table,
+    part: &str,
+    times: u32,
+    counted: &mut Counted,
+) -> Option<()>
     requires { IsBoundedTable table.now }
 {
-    let names = names_of(alloc, table)?;
-    let mut counts = SpanCounts { names: 0, spans: 0 };
-    for _ in 0..times {
-        for name in &names {
-            let set = compile_zone(alloc, table, name)?;
-            add(&mut counts.names, 1);
-            add(&mut counts.spans, set.span_count() as u64);
-        }
+    let names = names_of(alloc, table).ok()?;
+    match part {
+        "compile" => compile(alloc, table, &names, false, times, counted),
+        "files" => compile(alloc, table, &names, true, times, counted),
+        "instants" => look(alloc, table, &names, false, times, counted),
+        "locals" => look(alloc, table, &names, true, times, counted),
+        _ => None,
     }
-    Ok(Counts::Compile(counts))
 }
 
-/// Builds the database of a table.
-fn build(alloc: Global, table: &Table, times: u32) -> Result<Counts, Stopped>
+/// Compiles each name, and makes its file where that is asked.
+fn compile(
+    alloc: Global,
+    table: &Table,
+    names: &[&str],
+    makes_file: bool,
+    times: u32,
+    counted: &mut Counted,
+) -> Option<()>
     requires { IsBoundedTable table.now }
 {
-    let mut counts = NameCounts {
-        names: 0,
-        orderly: 0,
-    };
     for _ in 0..times {
-        let database = Database::build(alloc, table)?;
-        for zone in database.iter() {
-            add(&mut counts.names, 1);
-            if zone.is_orderly() {
-                add(&mut counts.orderly, 1);
-            }
+        for name in names {
+            counted.add(compiled(alloc, table, name, makes_file)?);
         }
     }
-    Ok(Counts::Database(counts))
+    Some(())
+}
+
+/// The spans of a name, or the bytes of its file.
+fn compiled(alloc: Global, table: &Table, name: &str, makes_file: bool) -> Option<usize>
+    requires { IsBoundedTable table.now }
+{
+    let Ok(set) = compile_zone(alloc, table, name) else {
+        return None;
+    };
+    if !makes_file {
+        return Some(set.span_count());
+    }
+    match tzif_of(alloc, &set) {
+        Ok(file) => Some(file.len()),
+        Err(_) => None,
+    }
 }

@@ -10,8 +10,6 @@ mod found;
 mod moved;
 mod opened;
 mod posix;
-#[cfg(test)]
-mod tests;
 
 pub use alarm::wake_ups;
 pub use asked::{every_instant, local_time, meeting};

@@ -1,9 +1,0 @@
-//! Assertions: each is proved here once, with what it prints, and not again in every test that makes it.
-
-use std::fmt::Debug;
-use std::process::Abort;
-
-/// Ends the test, and shows both, where what was found isn't what is wanted.
-pub(crate) fn same<T: PartialEq + Debug>(rt: &impl Abort, found: &T, wanted: &T) {
-    assert_eq!(rt; found, wanted);
-}

@@ -1,0 +1,151 @@
+//! What the short callers of the library answer over a source of two zones. Expected values are those of Python's `zoneinfo`.
+
+use crate::checks::same;
+use crate::fixtures::{at, parser};
+use civil_base::{
+    Date, Month, OffsetDateTime, PlainDateTime, Time, UtcOffset, read_local, read_zoned,
+    write_zoned,
+};
+use sefunjaro::{open_database, open_source};
+use std::alloc::Global;
+use std::process::Abort;
+use tz_lookup::{CompactSet, CompactTz, Database, Fixed};
+use zone_alarm::{Ring, alarms};
+use zone_uses::{
+    every_instant, how_many, local_time, meeting, offset_in, offset_in_file, posix_offset,
+    wake_ups, zone_of_source,
+};
+
+const SOURCE: &[u8] = b"\
+Rule US 2007 max - Mar Sun>=8 2:00 1:00 D
+Rule US 2007 max - Nov Sun>=1 2:00 0 S
+Zone America/New_York -5:00 US E%sT
+Zone Asia/Tokyo 9:00 - JST
+";
+
+fn new_york(rt: &impl Abort, alloc: Global) -> CompactSet {
+    let Ok(set) = zone_of_source(alloc, &parser(rt, alloc), SOURCE, "America/New_York") else {
+        panic!(rt; "no zone");
+    };
+    set
+}
+
+fn database(rt: &impl Abort, alloc: Global) -> Database {
+    let Ok(table) = open_source(alloc, &parser(rt, alloc), SOURCE) else {
+        panic!(rt; "no table");
+    };
+    let Ok(database) = open_database(alloc, &table) else {
+        panic!(rt; "no database");
+    };
+    database
+}
+
+fn zoned(rt: &impl Abort, text: &str) -> OffsetDateTime {
+    read_zoned(text).expect(rt, text)
+}
+
+fn local(rt: &impl Abort, text: &str) -> PlainDateTime {
+    read_local(text).expect(rt, text)
+}
+
+#[test]
+fn a_zone(rt: HostRuntime) {
+    let alloc = rt.alloc();
+    let set = new_york(&rt, alloc);
+    // Standard and daylight time; the first span, and two changes in each year of 2007 to 2099.
+    same(&rt, &(set.kind_count(), set.span_count()), &(2, 187));
+    let shown = local_time(&set, &at(&rt, 1_710_054_000));
+    let spring = zoned(&rt, "2024-03-10 03:00:00.000000000 -04:00:00");
+    same(&rt, &shown, &Some(spring));
+    let fold = local(&rt, "2024-11-03 01:30:00.000000000");
+    let earlier = zoned(&rt, "2024-11-03 01:30:00.000000000 -04:00:00");
+    let later = zoned(&rt, "2024-11-03 01:30:00.000000000 -05:00:00");
+    let both = every_instant(alloc, &set, &fold).expect(&rt, "memory");
+    same(&rt, &both.as_slice(), &[earlier, later].as_slice());
+    same(&rt, &meeting(&set, &fold), &Some(earlier));
+    let gap = local(&rt, "2024-03-10 02:30:00.000000000");
+    same(&rt, &meeting(&set, &gap), &None);
+}
+
+fn seconds(offset: Option<UtcOffset>) -> Option<i32> {
+    Some(offset?.whole_seconds())
+}
+
+/// A compiled file of one offset.
+const FILE: &[u8] = b"\
+TZif2\0\0\0\0\0\0\0\0\0\0\0\0\0\0\0\0\0\0\0\0\0\0\0\0\0\0\0\0\0\0\0\0\0\0\x01\0\0\0\x01\0\0\0\0\0\0\0\
+TZif2\0\0\0\0\0\0\0\0\0\0\0\0\0\0\0\0\0\0\0\0\0\0\0\0\0\0\0\0\0\0\0\0\0\0\x01\0\0\0\x04\
+\0\0\x15\x18\0\0TST\0\nTST-1:30\n";
+
+#[test]
+fn a_database_a_string_and_a_file(rt: HostRuntime) {
+    let alloc = rt.alloc();
+    let database = database(&rt, alloc);
+    let summer = at(&rt, 1_719_792_000);
+    let tokyo = seconds(offset_in(&database, "Asia/Tokyo", &summer));
+    let new_york = seconds(posix_offset(&database, "EST5EDT,M3.2.0,M11.1.0", &summer));
+    same(&rt, &(tokyo, new_york), &(Some(32_400), Some(-14_400)));
+    let count = how_many(alloc, &database, "o").expect(&rt, "memory");
+    let of_file = seconds(offset_in_file(alloc, FILE, &summer).ok());
+    same(&rt, &(count, of_file), &(2, Some(5400)));
+}
+
+/// A ring's date-time as text, and nothing where there is none.
+fn shown<'a>(ring: &Ring, into: &'a mut [u8; 40]) -> &'a str {
+    let Some(at) = &ring.at else {
+        return "";
+    };
+    let end = write_zoned(at, into);
+    std::str::from_utf8(&into[..end]).unwrap_or("")
+}
+
+#[test]
+fn alarms_of_compact_and_fixed_zones(rt: HostRuntime) {
+    let alloc = rt.alloc();
+    let time = Time::from_hms(2, 30, 0).expect(&rt, "a time");
+    let first = Date::from_calendar_date(2024, Month::March, 9).expect(&rt, "a date");
+    let set = new_york(&rt, alloc);
+    let Ok(found) = wake_ups(alloc, &CompactTz::new(&set), time, first, 3) else {
+        panic!(&rt; "no instants");
+    };
+    let first_ring = zoned(&rt, "2024-03-09 02:30:00.000000000 -05:00:00");
+    let last_ring = zoned(&rt, "2024-03-11 02:30:00.000000000 -04:00:00");
+    same(&rt, &found.as_slice(), &[first_ring, last_ring].as_slice());
+    let offset = UtcOffset::from_whole_seconds(5400).expect(&rt, "no offset");
+    let Ok(rings) = alarms(alloc, &Fixed::new("Test/Fixed", offset), time, first, 1) else {
+        panic!(&rt; "no rings");
+    };
+    for ring in &rings {
+        same(
+            &rt,
+            &shown(ring, &mut [0; 40]),
+            &"2024-03-09 02:30:00.000000000 +01:30:00",
+        );
+    }
+}
+
+/// Sources without a zone `A`, with `;` for each line feed, and the text of the error.
+const ERRORS: &str = "\
+Zone B 0 - B|unknown zone
+Zone A 0 - A;Rule|source 2: line InvalidLineType
+Zone A 0 - A 10000; 0 - A|the zone has no schedule: YearRange
+";
+
+/// What is printed of the error that comes of a source.
+fn told(rt: &impl Abort, alloc: Global, source: &[u8]) -> String {
+    match zone_of_source(alloc, &parser(rt, alloc), source, "A") {
+        Ok(_) => panic!(rt; "a zone"),
+        Err(error) => format!(in alloc; "{error}").expect(rt, "memory"),
+    }
+}
+
+#[test]
+fn errors_are_printed(rt: HostRuntime) {
+    let alloc = rt.alloc();
+    for row in ERRORS.lines() {
+        let mut fields = row.split('|');
+        let source = crate::runs::bytes_of(&rt, alloc, fields.next());
+        let text = told(&rt, alloc, &source);
+        same(&rt, &Some(text.as_str()), &fields.next());
+    }
+}

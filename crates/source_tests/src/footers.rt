@@ -1,0 +1,107 @@
+//! What the strings after compiled zones put in force, as Python's zoneinfo has it; and a zone of a few changes with such a string.
+use crate::checks::same_at;
+use crate::fixtures::at;
+use crate::rows::{field, number};
+use civil_base::read_local;
+use std::alloc::Global;
+use std::process::Abort;
+use tz_footer::Footer;
+use tz_tzif::{TzifOwner, TzifTz};
+use tz_zone::{Offset, TimeZone};
+use zone_tzif_core::{Kind, TzifZone};
+
+/// A footer and, after `|`, seconds from 1970-01-01 00:00:00 UTC, each with the offset in seconds, 1 for daylight saving time and 0 for
+/// standard time, and the abbreviation.
+const ROWS: &str = "\
+EET-2EEST,M4.5.5/0,M10.5.4/24|1714082399 7200 0 EET;1714082400 10800 1 EEST;1730408399 10800 1 EEST;1730408400 7200 0 EET;5690037599 7200 0 EET;5690037600 10800 1 EEST
+EET-2EEST,M3.4.4/50,M10.4.4/50|1711756799 7200 0 EET;1711756800 10800 1 EEST;1729897199 10800 1 EEST;1729897200 7200 0 EET;5687711999 7200 0 EET;5687712000 10800 1 EEST
+IST-2IDT,M3.4.4/26,M10.5.0|1711670399 7200 0 IST;1711670400 10800 1 IDT;1729983599 10800 1 IDT;1729983600 7200 0 IST;5687625599 7200 0 IST;5687625600 10800 1 IDT
+<-02>2<-01>,M3.5.0/-1,M10.5.0/0|1711846799 -7200 0 -02;1711846800 -3600 1 -01;1729990799 -3600 1 -01;1729990800 -7200 0 -02;5687801999 -7200 0 -02;5687802000 -3600 1 -01
+<-04>4<-03>,M9.1.6/24,M4.1.6/24|1712458799 -10800 1 -03;1712458800 -14400 0 -04;1725767999 -14400 0 -04;1725768000 -10800 1 -03;5688413999 -10800 1 -03;5688414000 -14400 0 -04
+IST-1GMT0,M10.5.0,M3.5.0/1|1711846799 0 1 GMT;1711846800 3600 0 IST;1729990799 3600 0 IST;1729990800 0 1 GMT;5687801999 0 1 GMT;5687802000 3600 0 IST
+EST5EDT,M3.2.0,M11.1.0|1710053999 -18000 0 EST;1710054000 -14400 1 EDT;1730613599 -14400 1 EDT;1730613600 -18000 0 EST;5686009199 -18000 0 EST;5686009200 -14400 1 EDT
+EST5EDT,0/0,J365/25|0 -14400 1 EDT;4102444800 -14400 1 EDT
+<+0330>-3:30|0 12600 0 +0330;4102444800 12600 0 +0330
+";
+
+/// Whether a footer puts in force at a second what is said of it.
+fn holds_at(rt: &impl Abort, footer: &Footer<'_>, answer: &str) -> bool {
+    let mut fields = answer.split(' ');
+    let second = number(rt, &mut fields);
+    assert!(rt; second.unsigned_abs() <= 800_000_000_000);
+    let held = footer.held_at(second);
+    i64::from(held.to_utc().whole_seconds()) == number(rt, &mut fields)
+        && held.is_dst() == (field(rt, &mut fields) == "1")
+        && held.name() == field(rt, &mut fields)
+}
+
+#[test]
+fn footers_put_in_force_what_zoneinfo_has(rt: HostRuntime) {
+    for row in ROWS.lines() {
+        let (text, answers) = row.split_once('|').expect(&rt, "no footer");
+        let footer = Footer::parse(text).expect(&rt, "refused");
+        for answer in answers.split(';') {
+            same_at(&rt, answer, &holds_at(&rt, &footer, answer), &true);
+        }
+    }
+}
+
+fn kind(rt: &impl Abort, alloc: Global, utoff: i32, is_dst: bool, name: &str) -> Kind {
+    Kind {
+        utoff,
+        is_dst,
+        name: String::from_str(alloc, name).expect(rt, "memory"),
+    }
+}
+
+/// New York as a slim file has it: local mean time, two changes, and the rules of today in the footer.
+fn new_york(rt: &impl Abort, alloc: Global) -> TzifZone {
+    let mut rest = Vec::new(alloc);
+    rest.push((-2717650800, kind(rt, alloc, -18000, false, "EST")))
+        .expect(rt, "memory");
+    rest.push((1173596400, kind(rt, alloc, -14400, true, "EDT")))
+        .expect(rt, "memory");
+    TzifZone {
+        first: kind(rt, alloc, -17762, false, "LMT"),
+        rest,
+        footer: String::from_str(alloc, "EST5EDT,M3.2.0,M11.1.0").expect(rt, "memory"),
+    }
+}
+
+/// Seconds at which it is asked, with what is in force: the last lies past its changes.
+const HELD: &str =
+    "-2717650801 -17762 LMT;-2717650800 -18000 EST;1173596399 -18000 EST;1173596400 -14400 EDT;5695977600 -14400 EDT";
+
+/// Asserts what the zone has in force, and the instants of a local time in a fold past its changes.
+fn expect_new_york(rt: &impl Abort, tz: &TzifTz<'_>) {
+    for row in HELD.split(';') {
+        let mut fields = row.split(' ');
+        let held = tz.get_offset_utc(&at(rt, number(rt, &mut fields)));
+        let found = (i64::from(held.to_utc().whole_seconds()), held.name());
+        same_at(
+            rt,
+            row,
+            &found,
+            &(number(rt, &mut fields), field(rt, &mut fields)),
+        );
+    }
+    let local = read_local("2024-11-03 01:30:00.000000000").expect(rt, "no local time");
+    let mut instants = tz.instants_local(&local);
+    let first = instants.next().map_or(0, |date| date.unix_timestamp());
+    let other = instants.next().map_or(0, |date| date.unix_timestamp());
+    same_at(rt, tz.name(), &(first, other), &(1730611800, 1730615400));
+}
+
+#[test]
+fn a_slim_file_answers_past_its_last_change(rt: HostRuntime) {
+    let alloc = rt.alloc();
+    let zone = new_york(&rt, alloc);
+    let Ok(tz) = TzifTz::new(alloc, "America/New_York", &zone) else {
+        panic!(rt; "refused");
+    };
+    expect_new_york(&rt, &tz);
+    let Ok(owner) = TzifOwner::new(alloc, new_york(&rt, alloc)) else {
+        panic!(rt; "refused");
+    };
+    expect_new_york(&rt, &owner.lend("America/New_York"));
+}

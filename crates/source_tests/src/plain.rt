@@ -1,0 +1,78 @@
+//! Sources in any form that `zic` reads, and what is written of them.
+use crate::checks::same_at;
+use crate::fixtures::parser;
+use crate::runs::bytes_of;
+use std::alloc::Global;
+use std::process::Abort;
+use zone_line::LineParser;
+use zone_plain::{PlainFault, plain};
+use zone_source::LIMIT;
+
+/// Sources, and what is written of each, with `~` between them and `;` for each line feed: an old rule; `%z` with an amount and under a
+/// ruleset; a chain of links; a line of a zone that begins with a rule's word; quotes and a comment; a link that stands twice; a ruleset whose name
+/// RULES can't say, alone, beside one of the name that it had there, beside one that begins with `__`, and beside two of which more lines name
+/// the second; `%z` under a ruleset that begins with `_`; words and days.
+const SOURCES: &str = "\
+R d 1916 o - Jun 14 23s 1 S~Rule d 1916 only - Jun 14 23:00s 1:00 S;
+R b 1990 o - O 1 0 1 -;R b 1991 o - F 1 0 0 -;Z A -3 b %z 1999 O 3;-4 - %z~Rule b 1990 only - Oct 1 0:00 1:00 -;Rule b 1991 only - Feb 1 0:00 0 -;Rule _a 1990 only - Oct 1 0:00 1:00 -02;Rule _a 1991 only - Feb 1 0:00 0 -03;Zone A -3:00 _a %s 1999 Oct 3; -4:00 - -04;
+L B C;L A B;Z A 0 - X~Zone A 0 - X;Link A C;Link A B;
+Z A 1 - X 1999;0 - Rule~Zone A 1:00 - X 1999; 0 - Rule;
+Z \"A\" 1 - \"X\" # \"~Zone A 1:00 - X;
+Z A 0 - X;L A B;L A B~Zone A 0 - X;Link A B;
+R b2 1990 o - O 1 0 1 -;Z A 0 b2 X~Rule _-b-dc 1990 only - Oct 1 0:00 1:00 -;Zone A 0 _-b-dc X;
+R b2 1990 o - O 1 0 1 -;R _-b-dc 1991 o - O 1 0 1 -;Z A 0 b2 X 1999;0 _-b-dc X~Rule __-b-dc 1990 only - Oct 1 0:00 1:00 -;Rule _-b-dc 1991 only - Oct 1 0:00 1:00 -;Zone A 0 __-b-dc X 1999; 0 _-b-dc X;
+R b2 1990 o - O 1 0 1 -;R __x 1991 o - O 1 0 1 -;Z A 0 b2 X 1999;0 __x X~Rule _a-b-dc 1990 only - Oct 1 0:00 1:00 -;Rule __x 1991 only - Oct 1 0:00 1:00 -;Zone A 0 _a-b-dc X 1999; 0 __x X;
+R b2 1990 o - O 1 0 1 -;R _a 1991 o - O 1 0 1 -;R __ 1992 o - O 1 0 1 -;Z A 0 b2 X 1999;0 __ X~Rule _a_-b-dc 1990 only - Oct 1 0:00 1:00 -;Rule _a 1991 only - Oct 1 0:00 1:00 -;Rule __ 1992 only - Oct 1 0:00 1:00 -;Zone A 0 _a_-b-dc X 1999; 0 __ X;
+R _b 1990 o - O 1 0 1 -;Z A -3 _b %z~Rule _b 1990 only - Oct 1 0:00 1:00 -;Rule __a 1990 only - Oct 1 0:00 1:00 -02;Zone A -3:00 __a %s;
+R a mi ma - O Su<=25 2u 0 A;R a 1990 1991 - ap lastf 24 -0:30 -~Rule a min max - Oct Sun<=25 2:00u 0 A;Rule a 1990 1991 - Apr lastFri 24:00 -0:30 -;
+";
+
+/// Sources that are refused, and the line with its cause: a word that fits two months; a saving of which the suffix says that it is
+/// standard time; a line of a zone that isn't there; links in a circle and to nothing; a ruleset without rules, also where it has the name
+/// that another would get in the plain form; names that stand twice; quotes that are left open; and a sharp within quotes, with which the plain form begins a comment.
+const REFUSED: &str = "\
+Z A 0 - X;R d 1916 o - Ju 14 0 0 S~2 Month
+R d 1916 o - Jun 14 0 1s S~1 Saving
+Z A 0 - X 1999~2 Continuation
+Z A 0 - X;L B C;L C B~2 Target
+L A B~1 Target
+Z A 0 b X~1 UnknownRuleset
+R b2 1990 o - O 1 0 1 -;Z A 0 _-b-dc X~2 UnknownRuleset
+Z A 0 - X;Z A 1 - Y~2 DuplicateZone
+Z A 0 - X;L A A~2 LinkIsZone
+Z A 0 - X;Z B 0 - Y;L A C;L B C~4 DuplicateLink
+Z A 0 - X;Z B 0 - \"~2 Quotes
+Z \"A#\" 1 - X~1 Unsayable
+";
+
+/// What is written of a source, or the number of the line that is refused, and the cause.
+fn told(rt: &impl Abort, alloc: Global, parser: &LineParser, source: &[u8]) -> Vec<u8> {
+    assert!(rt; source.len() <= LIMIT);
+    match plain(alloc, parser, source) {
+        Ok(bytes) => bytes,
+        Err(PlainFault::Line(number, cause)) => {
+            let name = cause.name();
+            format!(in alloc; "{number} {name}")
+                .expect(rt, "memory")
+                .into_bytes()
+        }
+        Err(_) => panic!(rt; "too long, or memory"),
+    }
+}
+
+/// Asserts what is told of each source of a table.
+fn expect_told(rt: &impl Abort, alloc: Global, table: &str) {
+    let parser = parser(rt, alloc);
+    for row in table.lines() {
+        let mut fields = row.split('~');
+        let source = bytes_of(rt, alloc, fields.next());
+        let due = bytes_of(rt, alloc, fields.next());
+        same_at(rt, row, &told(rt, alloc, &parser, &source), &due);
+    }
+}
+
+#[test]
+fn sources_are_written_or_refused(rt: HostRuntime) {
+    expect_told(&rt, rt.alloc(), SOURCES);
+    expect_told(&rt, rt.alloc(), REFUSED);
+}

@@ -1,3 +1,0 @@
-//! The collapse, a zone of two yearly rules, and each fault.
-mod collapses;
-mod zones;

@@ -1,4 +1,0 @@
-//! Owned forms, joined lines and hierarchies on worked rows.
-mod forms;
-mod joined;
-mod names;
