@@ -10,6 +10,7 @@ pub mod Statuses
 pub mod Responses
 pub mod FileWords
 pub mod Runs
+pub mod Starts
 -- Laws: what a caller may use.
 pub mod LineLaws
 -- Words of private clauses.

@@ -22,7 +22,7 @@ pub use line_list::LineList;
 pub use lines::Lines;
 pub use response::{Response, fault_bytes, source_fault_bytes};
 pub use running::{FileTask, run_task, run_task_surely};
-pub use starting::{start_run, start_source_run};
+pub use starting::{BareProgram, SourceProgram, Started, start_run, start_source_run};
 pub use status::Status;
 pub use table::read_table;
 pub use text::text_of;

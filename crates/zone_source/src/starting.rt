@@ -1,12 +1,13 @@
 //! How a program begins: the words after its own name, a parser, the real files and streams.
-ghost use Rattle.std.specs.Prelude.{◌≡◌, IfErr};
+ghost use Rattle.std.specs.Prelude.{◌≡◌, ℕ, List, MatchOption};
+ghost use Rattle.zone_source.specs.Starts.{HasNoParser, HasNoWords, HasRun, Run, Starts, StartsBare, Words, exit_of, outside, words_after};
 
 use crate::status::Status;
 use std::alloc::Global;
 use std::env;
-use std::process::ExitCode;
+use std::process::{ExitCode, Termination};
 use zone_line::LineParser;
-use zone_outside::{FileShelf, StdSink};
+use zone_outside::{FileShelf, Shelf, Sink, Source, StdSink, StdSource};
 
 /// The words after the program's own name couldn't be taken.
 const NO_WORDS: u8 = 7;
@@ -14,87 +15,163 @@ const NO_WORDS: u8 = 7;
 /// The parser couldn't be built.
 const NOT_BUILT: u8 = 8;
 
-/// A whole program that reads source text: what the closure makes of the words after the program's own name, with a parser, the
-/// files and standard output. The exit status is that of the run; before it come 7, where the words can't be taken, and 8, where
-/// the parser can't be built.
-pub fn start_source_run<R>(rt: HostRuntime, run: R) -> ExitCode
-where
-    R: FnOnce(
-        Global,
-        &LineParser,
-        &[String],
-        &mut FileShelf<HostRuntime>,
-        &mut StdSink<HostRuntime>,
-    ) -> Status,
-    requires { R.IsAlwaysCallable run }
-{
-    exit_code(source_run(rt, run))
+/// How a program ended that was started. Only a start makes one, so a `main` that gives it ended as its clauses say.
+#[derive(Drop)]
+pub struct Started {
+    code: ExitCode,
 }
 
-/// A whole program without a parser: what the closure makes of the words after the program's own name. The exit status is that of
-/// the run; before it comes 7, where the words can't be taken.
-pub fn start_run<R>(rt: HostRuntime, run: R) -> ExitCode
-where
-    R: FnOnce(Global, &[String]) -> Status,
-    requires { R.IsAlwaysCallable run }
-{
-    exit_code(word_run(rt, run))
-}
+impl Termination for Started {
+    ghost use Rattle.std.specs.Prelude.{◌≡◌};
+    ghost use Rattle.std.specs.Process.{exit_status};
+    ghost use Rattle.zone_source.specs.Starts.{exit_of};
 
-fn source_run<R>(rt: HostRuntime, run: R) -> Result<Status, u8>
-where
-    R: FnOnce(
-        Global,
-        &LineParser,
-        &[String],
-        &mut FileShelf<HostRuntime>,
-        &mut StdSink<HostRuntime>,
-    ) -> Status,
-    requires { R.IsAlwaysCallable run }
-{
-    let alloc = rt.alloc();
-    let words = program_words(&rt)?;
-    let parser = program_parser(alloc)?;
-    let mut output = StdSink::new(rt);
-    let mut shelf = FileShelf::new(rt);
-    Ok(run(alloc, &parser, &words, &mut shelf, &mut output))
-}
-
-fn word_run<R>(rt: HostRuntime, run: R) -> Result<Status, u8>
-where
-    R: FnOnce(Global, &[String]) -> Status,
-    requires { R.IsAlwaysCallable run }
-{
-    let words = program_words(&rt)?;
-    Ok(run(rt.alloc(), &words))
-}
-
-fn exit_code(ended: Result<Status, u8>) -> ExitCode {
-    match ended {
-        Ok(status) => ExitCode::from(status.code()),
-        Err(status) => ExitCode::from(status),
+    fn report<R: Eprint>(self, _rt: &R) -> ExitCode
+        ensures { exit_status result ≡ exit_of self }
+    {
+        self.code
     }
 }
 
-/// The words after the program's own name, or the exit status 7, where they can't be taken from the system or memory runs out.
-fn program_words(rt: &HostRuntime) -> Result<Vec<String>, u8>
-    ensures { IfErr result (λ status. status ≡ 7) }
+/// A program that reads source text: what it makes of its words, over whatever shelf, input and output.
+pub trait SourceProgram {
+    /// How its run ends.
+    ghost ends: { Run };
+
+    /// Its run with these words, which are those after the program's own name.
+    fn run<H: Shelf, I: Source, O: Sink>(
+        alloc: Global,
+        parser: &LineParser,
+        words: &[String],
+        shelf: &mut H,
+        input: &mut I,
+        output: &mut O,
+    ) -> Status
+        requires { (name : List ℕ) → H.open_to shelf.old name }
+        ensures { ends words.now
+            (outside H.Source I.Source O.Sink shelf.old input.old output.old)
+            (outside H.Source I.Source O.Sink shelf.new input.new output.new) result };
+}
+
+/// A program without a parser: what it makes of its words, over whatever shelf, input and output.
+pub trait BareProgram {
+    /// How its run ends.
+    ghost ends: { Run };
+
+    /// Its run with these words, which are those after the program's own name.
+    fn run<H: Shelf, I: Source, O: Sink>(
+        alloc: Global,
+        words: &[String],
+        shelf: &mut H,
+        input: &mut I,
+        output: &mut O,
+    ) -> Status
+        requires { (name : List ℕ) → H.open_to shelf.old name }
+        ensures { ends words.now
+            (outside H.Source I.Source O.Sink shelf.old input.old output.old)
+            (outside H.Source I.Source O.Sink shelf.new input.new output.new) result };
+}
+
+/// The whole of a program that reads source text. The exit status is that of the run; before it come 7, where the words can't be
+/// taken, and 8, where the parser can't be built.
+pub fn start_source_run<P: SourceProgram>(rt: HostRuntime) -> Started
+    ensures { Starts P.ends result }
 {
-    let Ok(words) = env::args(rt) else {
-        return Err(NO_WORDS);
+    let taken = all_words(&rt);
+    let parser = program_parser(&rt);
+    run_source::<P>(rt, &taken, &parser)
+}
+
+/// The whole of a program without a parser. The exit status is that of the run; before it comes 7, where the words can't be taken.
+pub fn start_run<P: BareProgram>(rt: HostRuntime) -> Started
+    ensures { StartsBare P.ends result }
+{
+    let taken = all_words(&rt);
+    run_bare::<P>(rt, &taken)
+}
+
+/// What becomes of all words and of the parser.
+fn run_source<P: SourceProgram>(
+    rt: HostRuntime,
+    taken: &Option<Vec<String>>,
+    parser: &Option<LineParser>,
+) -> Started
+    ensures { MatchOption taken.now (HasNoWords result) (λ all. MatchOption parser.now (HasNoParser result) (λ _. HasRun P.ends (words_after all.items) result)) }
+{
+    let Some(all) = taken else {
+        return ended_by(NO_WORDS);
     };
-    match words.skip(1).collect(rt.alloc()) {
-        Ok(words) => Ok(words),
-        Err(_) => Err(NO_WORDS),
+    let Some(parser) = parser else {
+        return ended_by(NOT_BUILT);
+    };
+    let mut shelf = FileShelf::new(rt);
+    let mut input = StdSource::new(rt.reader());
+    let mut output = StdSink::new(rt);
+    let status = P::run(
+        rt.alloc(),
+        parser,
+        after_name(all),
+        &mut shelf,
+        &mut input,
+        &mut output,
+    );
+    ended_by(status.code())
+}
+
+/// What becomes of all words.
+fn run_bare<P: BareProgram>(rt: HostRuntime, taken: &Option<Vec<String>>) -> Started
+    ensures { MatchOption taken.now (HasNoWords result) (λ all. HasRun P.ends (words_after all.items) result) }
+{
+    let Some(all) = taken else {
+        return ended_by(NO_WORDS);
+    };
+    let mut shelf = FileShelf::new(rt);
+    let mut input = StdSource::new(rt.reader());
+    let mut output = StdSink::new(rt);
+    let status = P::run(
+        rt.alloc(),
+        after_name(all),
+        &mut shelf,
+        &mut input,
+        &mut output,
+    );
+    ended_by(status.code())
+}
+
+/// A program that ends with this exit status.
+fn ended_by(status: u8) -> Started
+    ensures { exit_of result ≡ status }
+{
+    Started {
+        code: ExitCode::from(status),
     }
 }
 
-/// The parser of a program's lines, or the exit status 8, where it can't be built.
-fn program_parser(alloc: Global) -> Result<LineParser, u8>
-    ensures { IfErr result (λ status. status ≡ 8) }
+/// The words after the first one, which is the program's own name.
+fn after_name(all: &[String]) -> &[String]
+    ensures { result.now ≡ words_after all.now }
 {
-    match LineParser::new(alloc) {
-        Ok(parser) => Ok(parser),
-        Err(_) => Err(NOT_BUILT),
+    match all {
+        [_, words @ ..] => words,
+        [] => &[],
+    }
+}
+
+/// All words of the process, or none, where they can't be taken from the system or memory runs out.
+fn all_words(rt: &HostRuntime) -> Option<Vec<String>> {
+    let Ok(words) = env::args(rt) else {
+        return None;
+    };
+    match words.collect(rt.alloc()) {
+        Ok(words) => Some(words),
+        Err(_) => None,
+    }
+}
+
+/// The parser of a program's lines, or none, where it can't be built.
+fn program_parser(rt: &HostRuntime) -> Option<LineParser> {
+    match LineParser::new(rt.alloc()) {
+        Ok(parser) => Some(parser),
+        Err(_) => None,
     }
 }

@@ -1,0 +1,75 @@
+-- How a program begins and ends: the words after its own name, a run over the real files and streams, the exit status.
+use Rattle.std.specs.Prelude.{◌≡◌, ◌⊎◌, ℕ, List, drop, String, None}
+use Rattle.std.specs.Process.{exit_status}
+use Rattle.std.specs.declared.alloc.Global.{Global}
+use Rattle.zone_outside.specs.Seen.{ShelfSeen, InputSeen, OutputSeen, shelf_seen, input_seen, output_seen}
+use Rattle.zone_outside.specs.declared.outside.Source.{Ghosts as SourceOf}
+use Rattle.zone_outside.specs.declared.outside.Sink.{Ghosts as SinkOf}
+use Rattle.zone_source.specs.Runs.{Seen}
+use Rattle.zone_source.specs.Statuses.{code_of}
+use Rattle.zone_source.specs.declared.starting.Started.{Started}
+use Rattle.zone_source.specs.declared.status.Status.{Status}
+
+abbrev pub Words : Type 0
+Words = List (String Global)
+
+-- what is seen of all that a program has to do with
+pub record Outside : Type 0 where
+  pub shelf : ShelfSeen
+  pub input : InputSeen
+  pub output : OutputSeen
+
+abbrev pub outside : {H I O : Type 0} → SourceOf H → SourceOf I → SinkOf O → H → I → O → Outside
+outside of_shelf of_input of_output shelf input output = record {
+  shelf = shelf_seen of_shelf shelf;
+  input = input_seen of_input input;
+  output = output_seen of_output output;
+}
+
+-- how a run of a program ends: its words, what is seen before it and after it, and the status
+abbrev pub Run : Type 1
+Run = Words → Outside → Outside → Status → Type 0
+
+-- without the input
+abbrev pub seen_of : Outside → Seen
+seen_of all = record { shelf = all.shelf; output = all.output }
+
+-- how a run over one file ends, which leaves the input alone
+abbrev pub over_file : (Words → Seen → Seen → Status → Type 0) → Run
+over_file ends words before now end = ends words (seen_of before) (seen_of now) end × (now.input ≡ before.input)
+
+-- the real files and streams, which tell no content, before anything has called them: nothing was given, and nothing failed
+abbrev pub fresh : Outside
+fresh = record {
+  shelf = record { told = λ _. None; left = None; given = 0; faults = 0 };
+  input = record { left = None; given = 0; faults = 0 };
+  output = record { taken = None; faults = 0 };
+}
+
+-- the words after the program's own name, of all that the system gives
+abbrev pub words_after : Words → Words
+words_after all = drop 1 all
+
+-- the exit status of a program that was started
+abbrev pub exit_of : Started → ℕ
+exit_of started = exit_status started.code
+
+-- the program ran with these words over the real files and streams, and its exit status is that of the run
+abbrev pub HasRun : Run → Words → Started → Type 0
+HasRun ends words started = (now : Outside) × (end : Status) × ends words fresh now end × (exit_of started ≡ code_of end)
+
+-- 7: the words can't be taken
+abbrev pub HasNoWords : Started → Type 0
+HasNoWords started = exit_of started ≡ 7
+
+-- 8: the parser can't be built
+abbrev pub HasNoParser : Started → Type 0
+HasNoParser started = exit_of started ≡ 8
+
+-- how a program without a parser ends that was started: it ran, with what words there were
+abbrev pub StartsBare : Run → Started → Type 0
+StartsBare ends started = HasNoWords started ⊎ ((words : Words) × HasRun ends words started)
+
+-- how a program with a parser ends that was started
+abbrev pub Starts : Run → Started → Type 0
+Starts ends started = HasNoWords started ⊎ (HasNoParser started ⊎ ((words : Words) × HasRun ends words started))
