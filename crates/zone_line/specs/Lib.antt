@@ -23,4 +23,5 @@ pub mod Times
 pub mod Fields
 pub mod LineValues
 -- Words of private clauses.
+mod Numbered
 mod Shown
