@@ -204,68 +204,62 @@ fn half_past_one(rt: &impl Abort) -> OffsetDateTime {
 
 #[test]
 fn date_times_are_one_at_one_instant(rt: HostRuntime) {
-    let shown = half_past_one(&rt);
-    same(
-        &rt,
-        &(shown, hash_of(&shown)),
-        &(epoch(), hash_of(&epoch())),
+    same(&rt, &half_past_one(&rt), &epoch());
+    same(&rt, &hash_of(&half_past_one(&rt)), &hash_of(&epoch()));
+    let offset = half_past_one(&rt).offset();
+    let time = half_past_one(&rt).time();
+    let found = (
+        offset.whole_seconds(),
+        time.as_hms(),
+        half_past_one(&rt).year(),
     );
-    same(
-        &rt,
-        &(
-            shown.offset().whole_seconds(),
-            shown.time().as_hms(),
-            shown.year(),
-        ),
-        &(5400, (1, 30, 0), 1970),
-    );
-    let plain = PlainDateTime::new(shown.date(), Time::MIDNIGHT);
-    same(
-        &rt,
-        &(plain.date(), plain.time(), plain.year()),
-        &(shown.date(), midnight(), 1970),
-    );
+    same(&rt, &found, &(5400, (1, 30, 0), 1970));
+    let plain = PlainDateTime::new(half_past_one(&rt).date(), Time::MIDNIGHT);
+    same(&rt, &(plain.time(), plain.year()), &(midnight(), 1970));
+    same(&rt, &plain.date(), &OffsetDateTime::UNIX_EPOCH.date());
     same(&rt, &plain.assume_utc(), &epoch());
-    holds(&rt, plain.assume_offset(shown.offset()) < epoch());
+    holds(&rt, plain.assume_offset(offset) < epoch());
+}
+
+/// The first instant of all years, at UTC.
+fn first_instant(rt: &impl Abort) -> OffsetDateTime {
+    let first = UtcDateTime::new(Date::MIN, Time::MIDNIGHT);
+    first.to_offset(UtcOffset::UTC).expect(rt, "out of range")
 }
 
 #[test]
 fn instants(rt: HostRuntime) {
     let early = Timestamp::from_milliseconds(-5001).expect(&rt, "refused");
+    same(&rt, &Timestamp::new(-6, 999_000_000), &Ok(early));
+    same(&rt, &Timestamp::from_seconds(0), &Ok(instant_epoch()));
     same(
         &rt,
-        &(Timestamp::new(-6, 999_000_000), Timestamp::from_seconds(0)),
-        &(Ok(early), Ok(instant_epoch())),
-    );
-    same(
-        &rt,
-        &Timestamp::from_nanoseconds(early.as_nanoseconds()),
+        &Timestamp::from_nanoseconds(-5_001_000_000),
         &Ok(early),
     );
     holds(
         &rt,
         early < Timestamp::UNIX_EPOCH && hash_of(&early) != hash_of(&Timestamp::UNIX_EPOCH),
     );
-    let first = UtcDateTime::new(Date::MIN, Time::MIDNIGHT);
+    same(&rt, &early.as_nanoseconds(), &-5_001_000_000);
+    let first = UtcDateTime::from_unix_timestamp(-377_705_116_800).expect(&rt, "refused");
     same(
         &rt,
-        &UtcDateTime::from_unix_timestamp(first.unix_timestamp()),
-        &Ok(first),
+        &(first.unix_timestamp(), first.unix_timestamp_nanos()),
+        &(-377_705_116_800, -377_705_116_800_000_000_000),
     );
     same(
         &rt,
         &UtcDateTime::from_unix_timestamp_nanos(0),
         &Ok(utc_epoch()),
     );
-    let shown = first.to_offset(UtcOffset::UTC).expect(&rt, "out of range");
+    same(&rt, &first_instant(&rt).unix_timestamp(), &-377_705_116_800);
+    let nanos = first_instant(&rt).unix_timestamp_nanos();
+    same(&rt, &nanos, &-377_705_116_800_000_000_000);
+    same(&rt, &OffsetDateTime::from_unix_timestamp(0), &Ok(epoch()));
     same(
         &rt,
-        &(shown.unix_timestamp(), shown.unix_timestamp_nanos()),
-        &(-377_705_116_800, first.unix_timestamp_nanos()),
-    );
-    same(
-        &rt,
-        &OffsetDateTime::from_unix_timestamp(0),
         &OffsetDateTime::from_unix_timestamp_nanos(0),
+        &Ok(epoch()),
     );
 }

@@ -7,7 +7,6 @@ use crate::checks::{hash_of, prints, same};
 use civil_parts::{
     ComponentRange, ConversionRange, InvalidVariant, Month, SignedDuration, StdDuration, Weekday,
 };
-use std::process::Abort;
 
 // The names of the months and of the weekdays, in order.
 const MONTHS: &str =

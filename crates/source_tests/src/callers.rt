@@ -48,6 +48,11 @@ fn local(rt: &impl Abort, text: &str) -> PlainDateTime {
     read_local(text).expect(rt, text)
 }
 
+/// The instants of a local time of New York, as texts.
+const EARLIER: &str = "2024-11-03 01:30:00.000000000 -04:00:00";
+
+const LATER: &str = "2024-11-03 01:30:00.000000000 -05:00:00";
+
 #[test]
 fn a_zone(rt: HostRuntime) {
     let alloc = rt.alloc();
@@ -58,11 +63,10 @@ fn a_zone(rt: HostRuntime) {
     let spring = zoned(&rt, "2024-03-10 03:00:00.000000000 -04:00:00");
     same(&rt, &shown, &Some(spring));
     let fold = local(&rt, "2024-11-03 01:30:00.000000000");
-    let earlier = zoned(&rt, "2024-11-03 01:30:00.000000000 -04:00:00");
-    let later = zoned(&rt, "2024-11-03 01:30:00.000000000 -05:00:00");
     let both = every_instant(alloc, &set, &fold).expect(&rt, "memory");
-    same(&rt, &both.as_slice(), &[earlier, later].as_slice());
-    same(&rt, &meeting(&set, &fold), &Some(earlier));
+    let wanted = [zoned(&rt, EARLIER), zoned(&rt, LATER)];
+    same(&rt, &both.as_slice(), &wanted.as_slice());
+    same(&rt, &meeting(&set, &fold), &Some(zoned(&rt, EARLIER)));
     let gap = local(&rt, "2024-03-10 02:30:00.000000000");
     same(&rt, &meeting(&set, &gap), &None);
 }
@@ -86,8 +90,10 @@ fn a_database_a_string_and_a_file(rt: HostRuntime) {
     let new_york = seconds(posix_offset(&database, "EST5EDT,M3.2.0,M11.1.0", &summer));
     same(&rt, &(tokyo, new_york), &(Some(32_400), Some(-14_400)));
     let count = how_many(alloc, &database, "o").expect(&rt, "memory");
-    let of_file = seconds(offset_in_file(alloc, FILE, &summer).ok());
-    same(&rt, &(count, of_file), &(2, Some(5400)));
+    let Ok(of_file) = offset_in_file(alloc, FILE, &summer) else {
+        panic!(&rt; "not read");
+    };
+    same(&rt, &(count, of_file.whole_seconds()), &(2, 5400));
 }
 
 /// A ring's date-time as text, and nothing where there is none.

@@ -138,8 +138,10 @@ fn a_zone_is_opened_and_answers(rt: HostRuntime) {
     let alloc = rt.alloc();
     let table = table_of(&rt, alloc, NEW_YORK);
     // The first span, and two changes in each year of 2007 to 2099.
-    let opened = open_zone(alloc, &table, "America/New_York");
-    same(&rt, &opened.ok().map(|set| set.span_count()), &Some(187));
+    let Ok(set) = open_zone(alloc, &table, "America/New_York") else {
+        panic!(&rt; "not opened");
+    };
+    same(&rt, &set.span_count(), &187);
     let asked = b"at Test/Fixed -1\n";
     let parser = crate::fixtures::parser(&rt, alloc);
     let Ok(lines) = answers(alloc, &parser, crate::fixtures::FIXED, asked) else {

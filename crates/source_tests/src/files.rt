@@ -41,11 +41,11 @@ fn new_york_is_written_and_read(rt: HostRuntime) {
         panic!(&rt; "not read");
     };
     let (first, last) = (zone.rest.first(), zone.rest.last());
-    same(
-        &rt,
-        &(first.map(|change| change.0), last.map(|change| change.0)),
-        &(Some(1_173_596_400), Some(4_097_196_000)),
+    let ends = (
+        matches!(first, Some((1_173_596_400, _))),
+        matches!(last, Some((4_097_196_000, _))),
     );
+    same(&rt, &ends, &(true, true));
     same(
         &rt,
         &(zone.rest.len(), zone.footer.as_str()),

@@ -3,9 +3,9 @@
 //!
 //! A row has the program and its words, the source in the file `zones`, the requests and the output, with `~` between them and `;` for
 //! each line feed. A row without a source has that of the row above it.
-use crate::checks::{same, same_at};
+use crate::checks::same_at;
 use crate::fixtures::parser;
-use crate::objects::{Failing, Given, NONE_FAILING, ONE_REQUEST, Outcome, run_over};
+use crate::objects::{Given, NONE_FAILING, Outcome, run_over};
 use std::alloc::Global;
 use std::process::Abort;
 use zone_line::LineParser;

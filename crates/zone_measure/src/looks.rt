@@ -57,7 +57,9 @@ fn compact_of(alloc: Global, table: &Table, name: &str) -> Option<CompactSet>
 fn ask(zone: &CompactTz<'_>, at_locals: bool, counted: &mut Counted) -> Option<()> {
     let mut second = FIRST;
     for _ in 0..LOOKS {
-        let at = OffsetDateTime::from_unix_timestamp(second).ok()?;
+        let Ok(at) = OffsetDateTime::from_unix_timestamp(second) else {
+            return None;
+        };
         second = second.saturating_add(STEP);
         let is_found = if at_locals {
             matches!(zone.get_offset_local(&at), OffsetResult::Some(_))

@@ -148,7 +148,9 @@ fn over_names(
 ) -> Option<()>
     requires { IsBoundedTable table.now }
 {
-    let names = names_of(alloc, table).ok()?;
+    let Ok(names) = names_of(alloc, table) else {
+        return None;
+    };
     match part {
         "compile" => compile(alloc, table, &names, false, times, counted),
         "files" => compile(alloc, table, &names, true, times, counted),
