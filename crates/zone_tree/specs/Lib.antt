@@ -7,3 +7,4 @@ pub mod TreeShape
 pub mod Told
 pub mod Causes
 pub mod Ends
+pub mod Starts
