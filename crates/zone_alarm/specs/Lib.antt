@@ -5,3 +5,4 @@ pub mod Shown
 pub mod Words
 pub mod RingLines
 pub mod Asks
+pub mod Starts

@@ -11,5 +11,6 @@ pub use daily::alarms;
 pub use program::{run_alarm, start_alarm};
 pub use ring::{AlarmFault, Ring};
 pub use zone_run::{
-    Failed, FileShelf, MemShelf, MemSink, Shelf, Sink, Source, Status, StdSink, SureShelf, SureSink,
+    Failed, FileShelf, MemShelf, MemSink, Shelf, Sink, Source, Started, Status, StdSink, SureShelf,
+    SureSink,
 };

@@ -7,6 +7,7 @@ ghost use Rattle.zone_alarm.specs.Asks.{asks, form};
 ghost use Rattle.zone_run.specs.Ends.{Ends};
 ghost use Rattle.zone_source.specs.Runs.{seen};
 ghost use Rattle.zone_run.specs.Tasks.{task_of};
+ghost use Rattle.zone_alarm.specs.Starts.{StartsAlarm};
 
 use crate::daily::alarms;
 use crate::line::lines_of;
@@ -14,10 +15,9 @@ use crate::ring::AlarmFault;
 use crate::words::{days_in, start_in};
 use civil_base::PlainDateTime;
 use std::alloc::Global;
-use std::process::ExitCode;
 use tz_lookup::{FixedTimespanSet, Tz};
 use zone_line::LineParser;
-use zone_run::{Refusal, Shelf, Sink, Status, ZoneProgram, run_program, start_program};
+use zone_run::{Refusal, Shelf, Sink, Started, Status, ZoneProgram, run_program, start_program};
 
 /// A daily alarm: the first day and the time of day, and how many days.
 #[derive(Clone, Copy, Debug, PartialEq, Eq)]
@@ -96,6 +96,8 @@ pub fn run_alarm<H: Shelf, O: Sink>(
 
 /// The whole program `zone_alarm`: `run_alarm` over its words, the files and standard output. The exit status is that of the run;
 /// before it come 7, where the words can't be taken, and 8, where the parser can't be built.
-pub fn start_alarm(rt: HostRuntime) -> ExitCode {
+pub fn start_alarm(rt: HostRuntime) -> Started
+    ensures { StartsAlarm result }
+{
     start_program::<Daily>(rt)
 }

@@ -1,9 +1,11 @@
 //! `zone_alarm FILE NAME START TIME DAYS`: when a daily alarm rings in the zone NAME of the file, a line for each day.
 #![tactic(auto)]
+ghost use Rattle.zone_alarm.specs.Starts.{StartsAlarm};
 
-use std::process::ExitCode;
-use zone_alarm::start_alarm;
+use zone_alarm::{Started, start_alarm};
 
-fn main(rt: HostRuntime) -> ExitCode {
+fn main(rt: HostRuntime) -> Started
+    ensures { StartsAlarm result }
+{
     start_alarm(rt)
 }

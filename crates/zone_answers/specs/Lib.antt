@@ -15,6 +15,7 @@ pub mod Responses
 pub mod Made
 pub mod Summary
 pub mod Generated
+pub mod Starts
 -- Laws: what a caller may use.
 pub mod AskedLaws
 pub mod EndLaws

@@ -27,6 +27,6 @@ pub use tz_lookup::ZoneFault;
 /// One line per request, in order. Contracts see the list of the lines' bytes.
 pub use zone_source::{
     BuildKind, Failed, FileShelf, LineList as Answers, Lines, MemShelf, MemSink, MemSource, Shelf,
-    Sink, Source, Status, StdSink, StdSource, SureShelf, SureSink, SureSource,
+    Sink, Source, Started, Status, StdSink, StdSource, SureShelf, SureSink, SureSource,
 };
 pub use zones::open_zone;

@@ -2,6 +2,7 @@
 pub mod Asked
 pub mod Due
 pub mod Ends
+pub mod Starts
 pub mod Faults
 pub mod Files
 pub mod Requests

@@ -14,6 +14,6 @@ pub use fault::FileFault;
 pub use running::run;
 pub use starting::start;
 pub use zone_source::{
-    FileShelf, LineList, MemShelf, MemSink, MemSource, Shelf, Sink, Source, Status, StdSink,
-    StdSource,
+    FileShelf, LineList, MemShelf, MemSink, MemSource, Shelf, Sink, Source, Started, Status,
+    StdSink, StdSource,
 };

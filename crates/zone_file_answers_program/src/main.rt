@@ -1,9 +1,11 @@
 //! `zone_file_answers FILE`: answers the requests on standard input over the compiled zone file.
 #![tactic(auto)]
+ghost use Rattle.zone_file_answers.specs.Starts.{StartsAnswers};
 
-use std::process::ExitCode;
-use zone_file_answers::start;
+use zone_file_answers::{Started, start};
 
-fn main(rt: HostRuntime) -> ExitCode {
+fn main(rt: HostRuntime) -> Started
+    ensures { StartsAnswers result }
+{
     start(rt)
 }

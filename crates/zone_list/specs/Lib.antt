@@ -4,6 +4,7 @@ pub mod Rows
 pub mod Ranges
 pub mod RowTexts
 pub mod Asks
+pub mod Starts
 -- Laws: what a caller may use.
 pub mod WindowLaws
 -- Words of private clauses.

@@ -11,5 +11,6 @@ mod window;
 pub use listing::{ListFault, Listing, list_lines};
 pub use program::{run_list, start_list};
 pub use zone_run::{
-    Failed, FileShelf, MemShelf, MemSink, Shelf, Sink, Source, Status, StdSink, SureShelf, SureSink,
+    Failed, FileShelf, MemShelf, MemSink, Shelf, Sink, Source, Started, Status, StdSink, SureShelf,
+    SureSink,
 };

@@ -5,13 +5,15 @@ ghost use Rattle.zone_list.specs.Asks.{asks, form};
 ghost use Rattle.zone_run.specs.Ends.{Ends};
 ghost use Rattle.zone_source.specs.Runs.{seen};
 ghost use Rattle.zone_run.specs.Tasks.{task_of};
+ghost use Rattle.zone_list.specs.Starts.{StartsList};
 
 use crate::listing::{ListFault, list_lines};
 use std::alloc::Global;
-use std::process::ExitCode;
 use tz_lookup::FixedTimespanSet;
 use zone_line::LineParser;
-use zone_run::{Refusal, Shelf, Sink, Status, ZoneProgram, number_in, run_program, start_program};
+use zone_run::{
+    Refusal, Shelf, Sink, Started, Status, ZoneProgram, number_in, run_program, start_program,
+};
 
 /// The greatest size of FROM and TO, in seconds.
 const MOST_SECONDS: u64 = 9_999_999_999_999;
@@ -75,6 +77,8 @@ pub fn run_list<H: Shelf, O: Sink>(
 
 /// The whole program `zone_list`: `run_list` over its words, the files and standard output. The exit status is that of the run;
 /// before it come 7, where the words can't be taken, and 8, where the parser can't be built.
-pub fn start_list(rt: HostRuntime) -> ExitCode {
+pub fn start_list(rt: HostRuntime) -> Started
+    ensures { StartsList result }
+{
     start_program::<Window>(rt)
 }

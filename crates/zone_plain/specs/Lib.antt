@@ -9,6 +9,7 @@ pub mod Rebuilt
 pub mod Kept
 pub mod Causes
 pub mod Ends
+pub mod Starts
 -- Laws: what a caller may use.
 pub mod NamedLaws
 pub mod PlacedLaws

@@ -17,5 +17,6 @@ pub use starting::start_plain;
 pub use whole::plain;
 pub use zone_plain_base::PlainFault;
 pub use zone_source::{
-    Failed, FileShelf, MemShelf, MemSink, Shelf, Sink, Source, Status, StdSink, SureShelf, SureSink,
+    Failed, FileShelf, MemShelf, MemSink, Shelf, Sink, Source, Started, Status, StdSink, SureShelf,
+    SureSink,
 };

@@ -1,9 +1,11 @@
 //! `zone_plain FILE`: writes the source of the file, in any form that `zic` reads, in plain form.
 #![tactic(auto)]
+ghost use Rattle.zone_plain.specs.Starts.{StartsPlain};
 
-use std::process::ExitCode;
-use zone_plain::start_plain;
+use zone_plain::{Started, start_plain};
 
-fn main(rt: HostRuntime) -> ExitCode {
+fn main(rt: HostRuntime) -> Started
+    ensures { StartsPlain result }
+{
     start_plain(rt)
 }

@@ -5,6 +5,7 @@ pub mod Tasks
 pub mod Causes
 pub mod Due
 pub mod Ends
+pub mod Starts
 -- Laws: what a caller may use.
 pub mod FoundLaws
 -- Words of private clauses.

@@ -17,5 +17,6 @@ pub use program::{Refusal, ZoneProgram};
 pub use running::run_program;
 pub use starting::start_program;
 pub use zone_source::{
-    Failed, FileShelf, MemShelf, MemSink, Shelf, Sink, Source, Status, StdSink, SureShelf, SureSink,
+    Failed, FileShelf, MemShelf, MemSink, Shelf, Sink, Source, Started, Status, StdSink, SureShelf,
+    SureSink,
 };

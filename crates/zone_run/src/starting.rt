@@ -1,14 +1,40 @@
 //! The whole of a program.
+ghost use Rattle.std.specs.Prelude.{ℕ, List};
+ghost use Rattle.zone_run.specs.Starts.{StartsZone};
 
 use crate::program::ZoneProgram;
 use crate::running::run_program;
-use std::process::ExitCode;
-use zone_source::start_source_run;
+use std::alloc::Global;
+use std::marker::PhantomData;
+use zone_line::LineParser;
+use zone_source::{Shelf, Sink, Source, SourceProgram, Started, Status, start_source_run};
+
+/// A program over a file and a zone, as one over source text.
+struct OverZone<P> {
+    program: PhantomData<P>,
+}
+
+impl<P: ZoneProgram> SourceProgram for OverZone<P> {
+    ghost use Rattle.zone_run.specs.Starts.{zone_run};
+
+    ghost ends = { zone_run P.label P.form };
+
+    fn run<H: Shelf, I: Source, O: Sink>(
+        alloc: Global,
+        parser: &LineParser,
+        words: &[String],
+        shelf: &mut H,
+        _input: &mut I,
+        output: &mut O,
+    ) -> Status {
+        run_program::<P, H, O>(alloc, parser, words, shelf, output)
+    }
+}
 
 /// The whole of a program over a file and a zone: `run_program` over its words, the files and standard output. The exit
 /// status is that of the run; before it come 7, where the words can't be taken, and 8, where the parser can't be built.
-pub fn start_program<P: ZoneProgram>(rt: HostRuntime) -> ExitCode {
-    start_source_run(rt, |alloc, parser, words, shelf, output| {
-        run_program::<P, _, _>(alloc, parser, words, shelf, output)
-    })
+pub fn start_program<P: ZoneProgram>(rt: HostRuntime) -> Started
+    ensures { StartsZone P.label P.form result }
+{
+    start_source_run::<OverZone<P>>(rt)
 }

@@ -13,3 +13,4 @@ pub use Rattle.zone_tail_core.specs.Carried
 pub use Rattle.zone_tail_core.specs.Found
 pub mod Lines
 pub mod Asks
+pub mod Starts

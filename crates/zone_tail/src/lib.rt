@@ -6,6 +6,7 @@ mod program;
 
 pub use program::{run_tail, start_tail};
 pub use zone_run::{
-    Failed, FileShelf, MemShelf, MemSink, Shelf, Sink, Source, Status, StdSink, SureShelf, SureSink,
+    Failed, FileShelf, MemShelf, MemSink, Shelf, Sink, Source, Started, Status, StdSink, SureShelf,
+    SureSink,
 };
 pub use zone_tail_core::{Tail, TailFault, laws, tail};

@@ -5,13 +5,13 @@ ghost use Rattle.zone_run.specs.Ends.{Ends};
 ghost use Rattle.zone_source.specs.Runs.{seen};
 ghost use Rattle.zone_run.specs.Tasks.{task_of};
 ghost use Rattle.zone_tail.specs.Asks.{asks, form};
+ghost use Rattle.zone_tail.specs.Starts.{StartsTail};
 
 use crate::line::line_of;
 use std::alloc::Global;
-use std::process::ExitCode;
 use tz_lookup::FixedTimespanSet;
 use zone_line::LineParser;
-use zone_run::{Refusal, Shelf, Sink, Status, ZoneProgram, run_program, start_program};
+use zone_run::{Refusal, Shelf, Sink, Started, Status, ZoneProgram, run_program, start_program};
 use zone_tail_core::laws::one_tail;
 use zone_tail_core::{TailFault, tail};
 
@@ -67,6 +67,8 @@ pub fn run_tail<H: Shelf, O: Sink>(
 
 /// The whole program `zone_tail`: `run_tail` over its words, the files and standard output. The exit status is that of the run;
 /// before it come 7, where the words can't be taken, and 8, where the parser can't be built.
-pub fn start_tail(rt: HostRuntime) -> ExitCode {
+pub fn start_tail(rt: HostRuntime) -> Started
+    ensures { StartsTail result }
+{
     start_program::<Carried>(rt)
 }

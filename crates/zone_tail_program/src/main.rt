@@ -1,10 +1,12 @@
 //! `zone_tail FILE NAME`: writes the POSIX TZ string that carries the zone on, after the second from which on it says the same, or
 //! `all`.
 #![tactic(auto)]
+ghost use Rattle.zone_tail.specs.Starts.{StartsTail};
 
-use std::process::ExitCode;
-use zone_tail::start_tail;
+use zone_tail::{Started, start_tail};
 
-fn main(rt: HostRuntime) -> ExitCode {
+fn main(rt: HostRuntime) -> Started
+    ensures { StartsTail result }
+{
     start_tail(rt)
 }

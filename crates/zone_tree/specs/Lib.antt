@@ -8,3 +8,4 @@ pub mod Told
 mod Shown
 pub mod Causes
 pub mod Ends
+pub mod Starts

@@ -17,5 +17,6 @@ pub use running::run_tree;
 pub use starting::start_tree;
 pub use whole::tree;
 pub use zone_source::{
-    Failed, FileShelf, MemShelf, MemSink, Shelf, Sink, Source, Status, StdSink, SureShelf, SureSink,
+    Failed, FileShelf, MemShelf, MemSink, Shelf, Sink, Source, Started, Status, StdSink, SureShelf,
+    SureSink,
 };

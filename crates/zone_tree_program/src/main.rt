@@ -1,9 +1,11 @@
 //! `zone_tree FILE`: writes every zone and every link to one as TZif files in a tar archive to standard output.
 #![tactic(auto)]
+ghost use Rattle.zone_tree.specs.Starts.{StartsTree};
 
-use std::process::ExitCode;
-use zone_tree::start_tree;
+use zone_tree::{Started, start_tree};
 
-fn main(rt: HostRuntime) -> ExitCode {
+fn main(rt: HostRuntime) -> Started
+    ensures { StartsTree result }
+{
     start_tree(rt)
 }

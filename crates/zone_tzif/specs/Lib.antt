@@ -8,3 +8,4 @@ pub use Rattle.zone_tzif_core.specs.Shown
 pub use Rattle.zone_tzif_set.specs.Values
 pub use Rattle.zone_tzif_set.specs.Files
 pub mod Asks
+pub mod Starts

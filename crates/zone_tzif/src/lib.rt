@@ -5,7 +5,8 @@ mod program;
 
 pub use program::{run_tzif, start_tzif};
 pub use zone_run::{
-    Failed, FileShelf, MemShelf, MemSink, Shelf, Sink, Source, Status, StdSink, SureShelf, SureSink,
+    Failed, FileShelf, MemShelf, MemSink, Shelf, Sink, Source, Started, Status, StdSink, SureShelf,
+    SureSink,
 };
 pub use zone_tzif_core::{
     Kind, ReadFault, TzifZone, WriteFault, one_reading, one_value, read_any, read_tzif, write_tzif,

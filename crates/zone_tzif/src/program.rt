@@ -5,12 +5,12 @@ ghost use Rattle.zone_run.specs.Ends.{Ends};
 ghost use Rattle.zone_source.specs.Runs.{seen};
 ghost use Rattle.zone_run.specs.Tasks.{task_of};
 ghost use Rattle.zone_tzif.specs.Asks.{asks, form};
+ghost use Rattle.zone_tzif.specs.Starts.{StartsTzif};
 
 use std::alloc::Global;
-use std::process::ExitCode;
 use tz_lookup::FixedTimespanSet;
 use zone_line::LineParser;
-use zone_run::{Refusal, Shelf, Sink, Status, ZoneProgram, run_program, start_program};
+use zone_run::{Refusal, Shelf, Sink, Started, Status, ZoneProgram, run_program, start_program};
 use zone_tzif_set::{FileFault, tzif_of};
 
 /// The file of a zone. There is nothing more to ask.
@@ -64,6 +64,8 @@ pub fn run_tzif<H: Shelf, O: Sink>(
 
 /// The whole program `zone_tzif`: `run_tzif` over its words, the files and standard output. The exit status is that of the run;
 /// before it come 7, where the words can't be taken, and 8, where the parser can't be built.
-pub fn start_tzif(rt: HostRuntime) -> ExitCode {
+pub fn start_tzif(rt: HostRuntime) -> Started
+    ensures { StartsTzif result }
+{
     start_program::<Compiled>(rt)
 }
