@@ -323,13 +323,14 @@ unfolding entries_of
 all_found finds [] entries h = tt
 all_found finds (name ∷ names) entries h =
     let is = onto_is name (entry_of finds name) (entries_of (entry_of finds) names) entries h in
-    let has = of_name finds name is.e is.is_first in
-    (
-      record { target = λ other.
-        let found = ap (λ b. cond b (zone_content name (finds.found name)) (link_content finds.is_zone (finds.target name))) (sym other)
+    let has = of_name finds name is.e is.is_first in (
+      record {
+        target = λ other.
+            let found = ap (λ b. cond b (zone_content name (finds.found name)) (link_content finds.is_zone (finds.target name))) (sym other)
             ∙ has.is_found in
-        let link = link_is finds.is_zone (finds.target name) has.content found in
-        subst (λ target. IsSomeAnd target (λ to. finds.is_zone to ≡ true)) (sym link.is_target) link.own },
+            let link = link_is finds.is_zone (finds.target name) has.content found in
+            subst (λ target. IsSomeAnd target (λ to. finds.is_zone to ≡ true)) (sym link.is_target) link.own;
+      },
       all_found finds names is.others is.are_rest,
     )
 

@@ -78,12 +78,7 @@ impl Why {
     {
         match self {
             Why::Schedule(_) => "schedule ",
-            Why::OffsetRange
-            | Why::Format
-            | Why::File(_)
-            | Why::Link
-            | Why::Name
-            | Why::Size => "",
+            Why::OffsetRange | Why::Format | Why::File(_) | Why::Link | Why::Name | Why::Size => "",
         }
     }
 
