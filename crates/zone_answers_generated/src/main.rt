@@ -1,12 +1,9 @@
 //! `zone_answers FILE`: answers the requests on standard input over the zones of the file.
 //! `zone_answers --generate N`: answers over texts made from the number, from 1 to 1000, and writes a summary.
 #![tactic(auto)]
-ghost use Rattle.zone_answers.specs.Starts.{StartsAnswers};
 
 use zone_answers::{Started, start};
 
-fn main(rt: HostRuntime) -> Started
-    ensures { StartsAnswers result }
-{
+fn main(rt: HostRuntime) -> Started {
     start(rt)
 }

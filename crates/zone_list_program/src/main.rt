@@ -1,12 +1,9 @@
 //! `zone_list FILE NAME FROM TO`: writes a line for each change of the zone from FROM on and before TO, both in seconds from
 //! 1970-01-01 00:00:00 UTC.
 #![tactic(auto)]
-ghost use Rattle.zone_list.specs.Starts.{StartsList};
 
 use zone_list::{Started, start_list};
 
-fn main(rt: HostRuntime) -> Started
-    ensures { StartsList result }
-{
+fn main(rt: HostRuntime) -> Started {
     start_list(rt)
 }

@@ -1,11 +1,8 @@
 //! `zone_tree FILE`: writes every zone and every link to one as TZif files in a tar archive to standard output.
 #![tactic(auto)]
-ghost use Rattle.zone_tree.specs.Starts.{StartsTree};
 
 use zone_tree::{Started, start_tree};
 
-fn main(rt: HostRuntime) -> Started
-    ensures { StartsTree result }
-{
+fn main(rt: HostRuntime) -> Started {
     start_tree(rt)
 }

@@ -1,11 +1,8 @@
 //! `zone_tzif FILE NAME`: writes the zone as a TZif file to standard output.
 #![tactic(auto)]
-ghost use Rattle.zone_tzif.specs.Starts.{StartsTzif};
 
 use zone_tzif::{Started, start_tzif};
 
-fn main(rt: HostRuntime) -> Started
-    ensures { StartsTzif result }
-{
+fn main(rt: HostRuntime) -> Started {
     start_tzif(rt)
 }
