@@ -23,5 +23,4 @@ pub mod Times
 pub mod Fields
 pub mod LineValues
 -- Words of private clauses.
-mod Numbered
 mod Shown

@@ -1,8 +1,20 @@
 //! The compiled patterns.
-use crate::patterns::boxed;
+ghost use Rattle.zone_line.specs.Patterns.{IsBuiltFrom};
+ghost use Rattle.zone_line.specs.Texts.{
+  empty_text,
+  zone_text,
+  continuation_text,
+  rule_text,
+  link_text,
+  day_text,
+  hm_text,
+  hms_text,
+};
+
+use crate::patterns::compile;
 use crate::reader::LineReader;
-use crate::searches::{CONTINUATION, Compiled, DAY, EMPTY, HM, HMS, LINK, RULE, ZONE};
 use crate::texts;
+use regex::Regex;
 use std::alloc::{AllocError, Global};
 use zone_values::{Error, Line};
 
@@ -14,59 +26,22 @@ pub struct NotBuilt;
 /// searches for what its text says.
 #[derive(Drop)]
 pub struct LineParser {
-    pub(crate) lines: Box<LinePatterns>,
-    pub(crate) columns: Box<ColumnPatterns>,
-}
-
-/// The compiled patterns of the lines.
-#[derive(Drop)]
-pub(crate) struct LinePatterns {
-    pub(crate) empty: Compiled<EMPTY>,
-    pub(crate) zone: Compiled<ZONE>,
-    pub(crate) continuation: Compiled<CONTINUATION>,
-    pub(crate) rule: Compiled<RULE>,
-    pub(crate) link: Compiled<LINK>,
-}
-
-/// The compiled patterns of the columns.
-#[derive(Drop)]
-pub(crate) struct ColumnPatterns {
-    pub(crate) day: Compiled<DAY>,
-    pub(crate) hm: Compiled<HM>,
-    pub(crate) hms: Compiled<HMS>,
-}
-
-impl LinePatterns {
-    fn new(alloc: Global) -> Result<Box<LinePatterns>, NotBuilt> {
-        let empty = Compiled::new(alloc, texts::EMPTY)?;
-        let zone = Compiled::new(alloc, texts::ZONE)?;
-        let continuation = Compiled::new(alloc, texts::CONTINUATION)?;
-        let rule = Compiled::new(alloc, texts::RULE)?;
-        let link = Compiled::new(alloc, texts::LINK)?;
-        let patterns = LinePatterns {
-            empty,
-            zone,
-            continuation,
-            rule,
-            link,
-        };
-        match boxed(alloc, patterns) {
-            Ok(patterns) => Ok(patterns),
-            Err(_) => Err(NotBuilt),
-        }
-    }
-}
-
-impl ColumnPatterns {
-    fn new(alloc: Global) -> Result<Box<ColumnPatterns>, NotBuilt> {
-        let day = Compiled::new(alloc, texts::DAY)?;
-        let hm = Compiled::new(alloc, texts::HM)?;
-        let hms = Compiled::new(alloc, texts::HMS)?;
-        match boxed(alloc, ColumnPatterns { day, hm, hms }) {
-            Ok(patterns) => Ok(patterns),
-            Err(_) => Err(NotBuilt),
-        }
-    }
+    pub(crate) empty: Box<Regex>,
+    pub(crate) zone: Box<Regex>,
+    pub(crate) continuation: Box<Regex>,
+    pub(crate) rule: Box<Regex>,
+    pub(crate) link: Box<Regex>,
+    pub(crate) day: Box<Regex>,
+    pub(crate) hm: Box<Regex>,
+    pub(crate) hms: Box<Regex>,
+    ghost empty_is: { IsBuiltFrom empty_text empty.value },
+    ghost zone_is: { IsBuiltFrom zone_text zone.value },
+    ghost continuation_is: { IsBuiltFrom continuation_text continuation.value },
+    ghost rule_is: { IsBuiltFrom rule_text rule.value },
+    ghost link_is: { IsBuiltFrom link_text link.value },
+    ghost day_is: { IsBuiltFrom day_text day.value },
+    ghost hm_is: { IsBuiltFrom hm_text hm.value },
+    ghost hms_is: { IsBuiltFrom hms_text hms.value },
 }
 
 impl LineParser {
@@ -77,7 +52,7 @@ impl LineParser {
     ghost use Rattle.zone_values.specs.Values.{line_value};
 
     /// Compiles the patterns of the lines and of their columns, all of them. That each is the one
-    /// of its text in `specs/Texts.antt` is kept by the types of `LineParser`'s fields, so this needs
+    /// of its text in `specs/Texts.antt` is kept by the ghost fields of `LineParser`, so this needs
     /// no clause: from then on `parse_str` reads each line as `value` says, by its own clauses.
     ///
     /// # Errors
@@ -87,9 +62,16 @@ impl LineParser {
     /// `specs/Sources.antt` and `specs/Failures.antt`. The patterns are always the same texts, so
     /// what can differ from one call to the next is the memory alone.
     pub fn new(alloc: Global) -> Result<LineParser, NotBuilt> {
-        let lines = LinePatterns::new(alloc)?;
-        let columns = ColumnPatterns::new(alloc)?;
-        Ok(LineParser { lines, columns })
+        Ok(LineParser {
+            empty: compile(alloc, texts::EMPTY)?,
+            zone: compile(alloc, texts::ZONE)?,
+            continuation: compile(alloc, texts::CONTINUATION)?,
+            rule: compile(alloc, texts::RULE)?,
+            link: compile(alloc, texts::LINK)?,
+            day: compile(alloc, texts::DAY)?,
+            hm: compile(alloc, texts::HM)?,
+            hms: compile(alloc, texts::HMS)?,
+        })
     }
 
     /// What reads lines with matchers that are made once. A caller that goes over a whole text

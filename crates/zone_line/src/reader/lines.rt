@@ -1,25 +1,76 @@
 //! The values of whole lines.
-ghost use Rattle.std.specs.Prelude.{◌≡◌};
+ghost use Rattle.std.specs.Prelude.{◌≡◌, option_map, IfOk, IsTrue};
 
 use crate::columns::{InfoColumns, RuleColumns};
 use crate::fields::{letters_of, to_field, type_field};
 use crate::kind::Kind;
-use crate::reader::columns::ColumnMatchers;
-use zone_values::{ChangeTime, Fault, FaultKind, Line, Link, Month, Rule, Year, Zone, ZoneInfo};
+use crate::reader::LineReader;
+use std::alloc::Global;
+use zone_values::{
+    ChangeTime, Error, Fault, FaultKind, Line, Link, Month, Rule, Year, Zone, ZoneInfo,
+};
 
-impl ColumnMatchers<'_> {
-    ghost use Rattle.zone_values.specs.Faults.{told};
-    ghost use Rattle.zone_line.specs.LineValues.{value_of_kind, info_of, end_of, until, rule_of};
+impl LineReader<'_> {
+    ghost use Rattle.zone_values.specs.Bounds.{is_bounded_line};
+    ghost use Rattle.zone_values.specs.Faults.{Tells, told};
+    ghost use Rattle.zone_line.specs.Kinds.{kind_of};
+    ghost use Rattle.zone_line.specs.LineValues.{value, value_of_kind, info_of, end_of, until, rule_of};
     ghost use Rattle.zone_values.specs.Values.{line_value, info_value, rule_value};
-    ghost use Rattle.zone_line.specs.Shown.{info_shown, rule_shown, kind_shown};
+    ghost use Rattle.zone_line.specs.Shown.{info_shown, rule_shown, zone_shown, kind_shown};
+
+    /// Reads one line, as `LineParser::parse_str` does.
+    ///
+    /// # Errors
+    ///
+    /// Those of `LineParser::parse_str`.
+    pub fn parse_str<'a>(&mut self, alloc: Global, input: &'a str) -> Result<Line<'a>, Error>
+        ensures value { Tells line_value result (value input.now) }
+        ensures bounded { IfOk result (λ line. IsTrue (is_bounded_line (line_value line))) }
+    {
+        match self.value(input) {
+            Ok(line) => Ok(line),
+            Err(fault) => Err(fault.error(alloc)),
+        }
+    }
+
+    /// The value of a line.
+    #[tactic(auto, unfolding(crate::specs::LineValues::value))]
+    fn value<'a>(&mut self, line: &'a str) -> Result<Line<'a>, Fault<'a>>
+        ensures { told line_value result ≡ value line.now }
+    {
+        match self.kind(line) {
+            Some(kind) => self.value_of_kind(line, &kind),
+            None => Err(Fault {
+                kind: FaultKind::InvalidLineType,
+                text: line,
+            }),
+        }
+    }
+
+    /// The kind of a line, with the texts of its columns.
+    #[tactic(auto, unfolding(crate::specs::Kinds::kind_of))]
+    fn kind<'a>(&mut self, line: &'a str) -> Option<Kind<'a>>
+        ensures { option_map kind_shown result ≡ kind_of line.now }
+    {
+        if self.is_blank(line) {
+            return Some(Kind::Space);
+        }
+        if let Some(columns) = self.zone_columns(line) {
+            return Some(Kind::Zone(columns));
+        }
+        if let Some(columns) = self.continuation_columns(line) {
+            return Some(Kind::Continuation(columns));
+        }
+        if let Some(columns) = self.rule_columns(line) {
+            return Some(Kind::Rule(columns));
+        }
+        let columns = self.link_columns(line)?;
+        Some(Kind::Link(columns))
+    }
 
     /// The value of a line of that kind.
     #[tactic(auto, unfolding(crate::specs::LineValues::value_of_kind))]
-    pub(crate) fn value_of_kind<'a>(
-        &mut self,
-        line: &'a str,
-        kind: &Kind<'a>,
-    ) -> Result<Line<'a>, Fault<'a>>
+    fn value_of_kind<'a>(&mut self, line: &'a str, kind: &Kind<'a>) -> Result<Line<'a>, Fault<'a>>
         ensures { told line_value result ≡ value_of_kind line.now (kind_shown kind.now) }
     {
         match kind {

@@ -6,69 +6,23 @@ ghost use Rattle.zone_line.specs.LineValues.{one_off_of};
 ghost use Rattle.zone_values.specs.Values.{saving_value};
 ghost use Rattle.zone_line.specs.Shown.{clock_shown, day_shown};
 
-use crate::columns::{ClockColumns, DayColumns, MinuteClock, SecondClock};
+use crate::columns::{ClockColumns, DayColumns};
 use crate::fields::{after_last, day_numbered, day_of_month, is_ruleset_name};
-use crate::parser::ColumnPatterns;
-use crate::patterns::boxed;
-use crate::searches::{DAY, HM, HMS, Searcher};
+use crate::reader::LineReader;
 use crate::time_texts::{clock_time, clock_type, hours_alone, if_wall, no_time};
-use std::alloc::{AllocError, Global};
 use text_parts::is_numeral;
 use zone_values::{
     DaySpec, Fault, FaultKind, Saving, TimeSpec, TimeSpecAndType, Weekday, value_or_fault,
 };
 
-/// The matchers of the columns' patterns.
-#[derive(Drop)]
-pub(crate) struct ColumnMatchers<'p> {
-    day: Searcher<'p, DAY>,
-    hm: Searcher<'p, HM>,
-    hms: Searcher<'p, HMS>,
-}
-
-impl<'p> ColumnMatchers<'p> {
-    ghost use Rattle.zone_line.specs.Clocks.{clock_in, minute_clock, second_clock};
-    ghost use Rattle.zone_line.specs.DayColumns.{day_columns};
+impl LineReader<'_> {
+    ghost use Rattle.zone_line.specs.Clocks.{clock_in};
+    ghost use Rattle.zone_values.specs.Faults.{told};
     ghost use Rattle.zone_line.specs.Fields.{time_field, wall_field, day_field};
     ghost use Rattle.zone_line.specs.LineValues.{saving_field};
     ghost use Rattle.zone_line.specs.Times.{time_of};
-
-    /// The matchers of those patterns.
-    pub(crate) fn new(
-        alloc: Global,
-        patterns: &'p ColumnPatterns,
-    ) -> Result<Box<ColumnMatchers<'p>>, AllocError> {
-        let day = patterns.day.searcher(alloc)?;
-        let hm = patterns.hm.searcher(alloc)?;
-        let hms = patterns.hms.searcher(alloc)?;
-        boxed(alloc, ColumnMatchers { day, hm, hms })
-    }
-
-    /// The parts of a day on one side of a number.
-    #[tactic(auto, unfolding(crate::specs::DayColumns::day_columns))]
-    fn day_columns<'a>(&mut self, text: &'a str) -> Option<DayColumns<'a>>
-        ensures { option_map day_shown result ≡ day_columns text.now }
-    {
-        self.day.found(text)
-    }
-
-    /// The parts of hours and minutes.
-    #[tactic(auto, unfolding(crate::specs::Clocks::minute_clock))]
-    fn minute_clock<'a>(&mut self, text: &'a str) -> Option<ClockColumns<'a>>
-        ensures { option_map clock_shown result ≡ minute_clock text.now }
-    {
-        let found: MinuteClock<'a> = self.hm.found(text)?;
-        Some(found.0)
-    }
-
-    /// The parts of hours, minutes and seconds.
-    #[tactic(auto, unfolding(crate::specs::Clocks::second_clock))]
-    fn second_clock<'a>(&mut self, text: &'a str) -> Option<ClockColumns<'a>>
-        ensures { option_map clock_shown result ≡ second_clock text.now }
-    {
-        let found: SecondClock<'a> = self.hms.found(text)?;
-        Some(found.0)
-    }
+    ghost use Rattle.zone_values.specs.Values.{saving_value};
+    ghost use Rattle.zone_line.specs.Shown.{clock_shown};
 
     /// The parts of a time with one colon or two.
     fn clock<'a>(&mut self, text: &'a str) -> Option<ClockColumns<'a>>
