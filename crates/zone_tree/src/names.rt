@@ -8,6 +8,7 @@ use std::alloc::{AllocError, Global};
 use zone_table::Table;
 
 /// The names of the zones of a table, and the new names of its links, each in byte order.
+#[derive(Drop)]
 pub(crate) struct Names<'n> {
     pub(crate) zones: &'n [&'n str],
     pub(crate) links: &'n [&'n str],
