@@ -1,13 +1,13 @@
 -- The lines of zones that are written stand in their places.
-use Rattle.std.proofs.Common.{◌≡◌, ℕ, suc, ◌+◌, List, [], ◌∷◌, ◌++◌, map, length, Bool, true, false, cond, Option, Some, None, Result, Ok, Err, IfOk, refl, nat_lt}
+use Rattle.std.proofs.Common.{◌≡◌, ℕ, suc, ◌+◌, List, [], ◌∷◌, ◌++◌, map, length, Bool, true, false, cond, not, Option, Some, None, Result, Ok, Err, IfOk, refl, nat_lt}
 use Rattle.std.specs.Prelude.{◌==◌, is_some}
 use Rattle.std.specs.Str.{is_utf8}
 use Rattle.std.proofs.lemmas.Bool.{both_ways}
 use Rattle.zone_outside.specs.Limit.{text_limit}
 use Rattle.zone_values.specs.Values.{InfoValue, RuleValue, LineValue, space, zone, continuation, rule, link}
 use Rattle.zone_source.specs.Lines.{lines_of}
-use Rattle.zone_plain_lines.specs.Meanings.{rule_of, info_of, by_word, first_line_of, meaning}
-use Rattle.zone_plain_lines.specs.Columns.{column}
+use Rattle.zone_plain_lines.specs.Meanings.{rule_of, info_of, link_of, by_word, first_line_of, meaning}
+use Rattle.zone_plain_lines.specs.Columns.{column, zone_name}
 use Rattle.zone_plain_lines.specs.Quotes.{fields, laid_out}
 use Rattle.zone_values.specs.Results.{◌>>=◌}
 use Rattle.zone_plain_lines.specs.Words.{line_word}
@@ -47,21 +47,26 @@ IsFirst (continuation info) = ⊥
 IsFirst v = Unit {0}
 
 first_by : (w : LineWord) (found : List (List ℕ)) → IfOk (by_word w found) IsFirst
+unfolding link_of
 first_by word.Rule found = by (rule_of found)
   where
     by : (r : Result RuleValue PlainCause) → IfOk (◌>>=◌ r (λ read. Ok (rule read))) IsFirst
     by (Err e) = tt
     by (Ok read) = tt
-first_by word.Zone found = by (info_of found 2)
+first_by word.Zone found = by (info_of found 2) (zone_name (column found 1))
   where
-    by : (r : Result InfoValue PlainCause) → IfOk (◌>>=◌ r (λ info. Ok (zone (column found 1) info))) IsFirst
-    by (Err e) = tt
-    by (Ok info) = tt
-first_by word.Link found = by (length found == 3)
+    by : (r : Result InfoValue PlainCause) (n : Result (List ℕ) PlainCause)
+        → IfOk (◌>>=◌ r (λ info. ◌>>=◌ n (λ name. Ok (zone name info)))) IsFirst
+    by (Err e) n = tt
+    by (Ok info) (Err e) = tt
+    by (Ok info) (Ok name) = tt
+first_by word.Link found = first_link (not (length found == 3)) (zone_name (column found 2))
   where
-    by : (b : Bool) → IfOk (cond b (Ok (link (column found 1) (column found 2))) (Err cause.FieldCount)) IsFirst
-    by true = tt
-    by false = tt
+    first_link : (b : Bool) (n : Result (List ℕ) PlainCause)
+        → IfOk (cond b (Err cause.FieldCount) (◌>>=◌ n (λ name. Ok (link (column found 1) name)))) IsFirst
+    first_link true n = tt
+    first_link false (Err e) = tt
+    first_link false (Ok name) = tt
 
 first_line : (found : List (List ℕ)) → IfOk (first_line_of found) IsFirst
 unfolding first_line_of

@@ -82,7 +82,7 @@ by_is names name (Err why) e h = absurd cc
 
 of_name : (finds : Finds) (name : List ℕ) (e : EntryValue) → entry_of finds name ≡ Ok e → HasContent name (content_of finds name) e
 unfolding entry_of
-of_name finds name e h = by_is finds.names name (content_of finds name) e h
+of_name finds name e h = by_is (finds.zones ++ finds.links) name (content_of finds name) e h
 
 -- ---- a zone has a file, another name a link
 
@@ -217,12 +217,12 @@ zones_first finds files (name ∷ own) others entries all h more =
 
 all_others : (is_zone : List ℕ → Bool) (names : List (List ℕ)) → AllByRecursion (λ name. is_zone name ≡ false) (others is_zone names)
 all_others is_zone [] = tt
-all_others is_zone (name ∷ names) = by_test (is_zone name) refl
+all_others is_zone (name ∷ names) = by_test (is_zone name) refl (all_others is_zone names)
   where
-    by_test : (b : Bool) → is_zone name ≡ b
+    by_test : (b : Bool) → is_zone name ≡ b → AllByRecursion (λ name. is_zone name ≡ false) (others is_zone names)
         → AllByRecursion (λ name. is_zone name ≡ false) (cond (not b) (name ∷ others is_zone names) (others is_zone names))
-    by_test true e = all_others is_zone names
-    by_test false e = (e, all_others is_zone names)
+    by_test true e rest = rest
+    by_test false e rest = (e, rest)
 
 all_among : (P : List ℕ → Type 0) (names : List (List ℕ)) → ((name : List ℕ) → list_any (eq_by_cmp text_cmp name) names ≡ true → P name)
     → AllByRecursion P names
@@ -234,11 +234,12 @@ all_among P (name ∷ names) h = (
 
 one_among : (P : List ℕ → Type 0) (names : List (List ℕ)) (name : List ℕ) → AllByRecursion P names → list_any (bytes_eq name) names ≡ true → P name
 one_among P [] name all h = absurd cc
-one_among P (other ∷ names) name all h = by_test (bytes_eq name other) refl h
+one_among P (other ∷ names) name all h = by_test (bytes_eq name other) refl h (one_among P names name all.1)
   where
-    by_test : (b : Bool) → bytes_eq name other ≡ b → (b || list_any (bytes_eq name) names) ≡ true → P name
-    by_test true e h = subst P (sym ((bytes_eq-Decides name other).0 e)) all.0
-    by_test false e h = one_among P names name all.1 h
+    by_test : (b : Bool) → bytes_eq name other ≡ b → (b || list_any (bytes_eq name) names) ≡ true
+        → (list_any (bytes_eq name) names ≡ true → P name) → P name
+    by_test true e h more = subst P (sym ((bytes_eq-Decides name other).0 e)) all.0
+    by_test false e h more = more h
 
 -- the test of bytes is that of the order
 one_test : (name : List ℕ) → ◌≡◌ {A = List ℕ → Bool} (eq_by_cmp text_cmp name) (bytes_eq name)
@@ -248,34 +249,29 @@ one_test name = λ i other. is_eq-slice_cmp name other i
 among_others : (is_zone : List ℕ → Bool) (names : List (List ℕ)) (name : List ℕ)
     → list_any (bytes_eq name) (others is_zone names) ≡ (not (is_zone name) && list_any (bytes_eq name) names)
 among_others is_zone [] name = sym (and-false (not (is_zone name)))
-among_others is_zone (other ∷ names) name = by_test (bytes_eq name other) refl (is_zone other) refl
+among_others is_zone (other ∷ names) name =
+    by_test (among_others is_zone names name) (bytes_eq name other) refl (is_zone other) refl
   where
-    more : list_any (bytes_eq name) (others is_zone names) ≡ (not (is_zone name) && list_any (bytes_eq name) names)
-    more = among_others is_zone names name
-
     same : bytes_eq name other ≡ true → (b : Bool) → is_zone other ≡ b → is_zone name ≡ b
     same e b own = ap is_zone ((bytes_eq-Decides name other).0 e) ∙ own
 
-    met : (b a rest : Bool) → rest ≡ (not b && a) → cond (not b) true rest ≡ (not b && true)
-    met true a rest e = e
-    met false a rest e = refl
-
-    by_test : (e : Bool) → bytes_eq name other ≡ e → (b : Bool) → is_zone other ≡ b
+    by_test : list_any (bytes_eq name) (others is_zone names) ≡ (not (is_zone name) && list_any (bytes_eq name) names)
+        → (e : Bool) → bytes_eq name other ≡ e → (b : Bool) → is_zone other ≡ b
         → list_any (bytes_eq name) (cond (not (is_zone other)) (other ∷ others is_zone names) (others is_zone names))
         ≡ (not (is_zone name) && (bytes_eq name other || list_any (bytes_eq name) names))
-    by_test true e true own =
+    by_test more true e true own =
         ap (λ b. list_any (bytes_eq name) (cond (not b) (other ∷ others is_zone names) (others is_zone names))) own ∙ more
         ∙ ap (λ b. not b && list_any (bytes_eq name) names) (same e true own)
         ∙ ap (λ b. not b && (bytes_eq name other || list_any (bytes_eq name) names)) (sym (same e true own))
-    by_test true e false own =
+    by_test more true e false own =
         ap (λ b. list_any (bytes_eq name) (cond (not b) (other ∷ others is_zone names) (others is_zone names))) own
         ∙ ap (λ b. b || list_any (bytes_eq name) (others is_zone names)) e
         ∙ ap (λ b. b || list_any (bytes_eq name) names) (sym e)
         ∙ ap (λ b. not b && (bytes_eq name other || list_any (bytes_eq name) names)) (sym (same e false own))
-    by_test false e true own =
+    by_test more false e true own =
         ap (λ b. list_any (bytes_eq name) (cond (not b) (other ∷ others is_zone names) (others is_zone names))) own ∙ more
         ∙ ap (λ b. not (is_zone name) && (b || list_any (bytes_eq name) names)) (sym e)
-    by_test false e false own =
+    by_test more false e false own =
         ap (λ b. list_any (bytes_eq name) (cond (not b) (other ∷ others is_zone names) (others is_zone names))) own
         ∙ ap (λ b. b || list_any (bytes_eq name) (others is_zone names)) e ∙ more
         ∙ ap (λ b. not (is_zone name) && (b || list_any (bytes_eq name) names)) (sym e)

@@ -19,6 +19,7 @@ use Rattle.owned.specs.Listed.{listed}
 use Rattle.zone_run.specs.FoundLaws.{found_is}
 use Rattle.zone_source.specs.Zones.{values_of}
 use Rattle.zone_table.specs.Joined.{zone_of, link_of, is_owner}
+use Rattle.zone_table.specs.Owned.{owned_info}
 use Rattle.zone_table.specs.Tables.{IsTableOf}
 use Rattle.zone_table.specs.declared.table.Table.{Table}
 use Rattle.zone_table.specs.declared.zone.ZoneInfo.{ZoneInfo}
@@ -114,13 +115,15 @@ given_owned (space ∷ before) q h = given_owned before q h
 given_owned (rule r ∷ before) q h = given_owned before q h
 given_owned (link existing name ∷ before) q h = given_owned before q h
 given_owned (continuation info ∷ before) q h = some_more (zone_of before q) _ (given_owned before q h)
-given_owned (zone name info ∷ before) q h = by_name (eq_by_cmp text_cmp q name) refl h
+given_owned (zone name info ∷ before) q h = by_name (eq_by_cmp text_cmp q name) refl h (given_owned before q)
   where
     by_name : (b : Bool) → eq_by_cmp text_cmp q name ≡ b → (b || list_any (eq_by_cmp text_cmp q) (flat_map zone_names before)) ≡ true
+        → (list_any (eq_by_cmp text_cmp q) (flat_map zone_names before) ≡ true → is_some (listed (zone_of before q)) ≡ true)
         → is_some (listed (zone_of (zone name info ∷ before) q)) ≡ true
-    by_name true e h =
-        ap (λ b. is_some (listed (zone_of before q ++ cond b (_ ∷ []) []))) (sym (text_test q name) ∙ e) ∙ some_last (zone_of before q) _
-    by_name false e h = some_more (zone_of before q) _ (given_owned before q h)
+    by_name true e h more =
+        ap (λ b. is_some (listed (zone_of before q ++ cond b (owned_info info ∷ []) []))) (sym (text_test q name) ∙ e)
+        ∙ some_last (zone_of before q) (owned_info info)
+    by_name false e h more = some_more (zone_of before q) _ (more h)
 
 pub zones_given : (latest : List LineValue) (q : List ℕ)
     → list_any (eq_by_cmp text_cmp q) (flat_map zone_names latest) ≡ is_some (listed (zone_of latest q))

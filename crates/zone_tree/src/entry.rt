@@ -1,6 +1,7 @@
 //! The entry of a name.
 ghost use Rattle.std.specs.Prelude.{◌≡◌, map as each, is_some, Ok, IfOk, IfErr, OnOk};
 ghost use Rattle.std.specs.FinMap.{get, keys};
+ghost use Rattle.std.specs.List.{list_any};
 ghost use Rattle.owned.specs.InOrderLaws.{RisesStrictly};
 ghost use Rattle.owned.specs.Keyed.{text_cmp};
 ghost use Rattle.tz_lookup.specs.Databases.{name_shown};
@@ -18,7 +19,7 @@ use crate::folder::is_folder;
 use crate::names::{Names, is_zone};
 use crate::refusal::{NameFault, Why};
 use std::alloc::Global;
-use tz_lookup::{FixedTimespanSet, ZoneFault, compile_zone};
+use tz_lookup::{FixedTimespan, FixedTimespanSet, ZoneFault, compile_zone};
 use ustar::{Content, EntryFault, entry_fault, put_entry};
 use zone_table::Table;
 use zone_tzif_core::WriteFault;
@@ -31,17 +32,21 @@ fn has_mark(text: &str) -> bool
     text.as_bytes().contains(&b'%')
 }
 
+/// Whether a `%` is left in the abbreviation of some entry.
+fn has_marked(entries: &[(i64, FixedTimespan)]) -> bool
+    ensures { result ≡ list_any (λ entry. has_mark entry.1.name) entries.now }
+{
+    entries.iter().any(|entry| has_mark(entry.1.name.as_str()))
+}
+
 /// Whether a `%` is left in the abbreviation of some span.
 #[tactic(auto, unfolding(crate::specs::Entries::is_marked))]
 fn is_marked(set: &FixedTimespanSet) -> bool
     ensures { result ≡ is_marked set.now }
 {
-    has_mark(set.first.name.as_str())
-        || set
-            .others
-            .as_slice()
-            .iter()
-            .any(|entry| has_mark(entry.1.name.as_str()))
+    let in_first = has_mark(set.first.name.as_str());
+    let in_others = has_marked(set.others.as_slice());
+    in_first | in_others
 }
 
 /// The file of a set that has no `%` in an abbreviation.
