@@ -4,6 +4,7 @@
 use crate::checks::{same, same_at};
 use crate::fixtures::{NEW_YORK, at, database_of, table_of};
 use crate::rows::{field, number};
+use owned::Text;
 use std::alloc::Global;
 use std::process::Abort;
 use tz_lookup::{Database, Offset, TimeZone, Tz};
@@ -128,7 +129,7 @@ fn abbreviations(rt: HostRuntime) {
     let format = Format::new(alloc, "E%sT").expect(&rt, "memory");
     let shown = format.format(alloc, 3600, Some("D")).expect(&rt, "memory");
     same(&rt, &shown.as_str(), &"EDT");
-    let constant = Format::new(alloc, "TST").expect(&rt, "memory");
+    let constant = Format::Constant(Text::new(alloc, "TST").expect(&rt, "memory"));
     let shown = constant.format_constant(alloc).expect(&rt, "memory");
     same(&rt, &shown.as_str(), &"TST");
 }

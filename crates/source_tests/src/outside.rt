@@ -12,7 +12,7 @@ use zone_outside::{
 /// Asserts what a shelf gives once the file of a name was asked for: whether it is there, and the count of bytes.
 fn expect_shelf(
     rt: &impl Abort,
-    shelf: &mut impl Shelf,
+    shelf: &mut FileShelf<HostRuntime>,
     name: &str,
     found: bool,
     count: Option<usize>,
