@@ -115,6 +115,16 @@ def rules_and_offsets(count):
     return rules + b"Zone A 0:00 - AAA 1\n" + b"".join(map(ruled, range(count))) + b" 0:00 - CCC\n"
 
 
+def rulesets_alike(rulesets, rules, lines):
+    """So many rulesets, of so many rules each, which differ in the letters of the last one, and lines that go round them."""
+    def alike(number):
+        return b"".join(b"Rule R%03d %d only - Jan 1 %d:00 0 %d\n" % (number, 1800 + place // 24, place % 24, number * (place + 1 == rules))
+                        for place in range(rules))
+
+    return (b"".join(map(alike, range(rulesets))) + b"Zone A 0:00 - AAA 1\n"
+            + b"".join(b" 0:00 R%03d B%%sB %s\n" % (number % rulesets, hour_of(number)) for number in range(lines)) + b" 0:00 - CCC\n")
+
+
 def small_texts():
     yield Text("nothing", b"", UNKNOWN)
     for value in range(256):
@@ -146,6 +156,7 @@ def large_texts():
     yield Text("10,000 rules of all years", b"".join(map(all_years, range(10_000))) + b"Zone A 0:00 R AAA\n", ANSWERS)
     yield Text("rules from min on", b"".join(map(rule, range(1000))) + b"Zone A 0:00 R AAA\n", "schedule RuleYears")
     yield Text("2,000 rules under 2,000 offsets of %z", rules_and_offsets(2_000), ANSWERS, "plain: too long")
+    yield Text("400 rulesets of 200 rules that differ in their last", rulesets_alike(400, 200, 30_000), ANSWERS)
     megabyte = b"M" * 1_000_000
     yield Text("a zone's name of a megabyte", ZONE + b"Zone " + megabyte + b" 0:00 - AAA\n", ANSWERS)
     yield Text("a ruleset's name of a megabyte", TWO_RULES.replace(b" R ", b" " + megabyte + b" ") + b"Zone A 0:00 " + megabyte + b" AAA\n", ANSWERS)

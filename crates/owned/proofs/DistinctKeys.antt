@@ -1,29 +1,12 @@
 -- Keys that differ: in order they strictly rise.
-use Rattle.std.proofs.Common.{◌≡◌, Bool, false, List, [], ◌∷◌, map, cond, refl, sym, ap, ◌∙◌, subst}
-use Rattle.std.specs.Prelude.{◌&&◌}
+use Rattle.std.proofs.Common.{◌≡◌, Bool, false, List, [], ◌∷◌, map, cond, refl, ap, ◌∙◌, subst}
 use Rattle.std.specs.declared.cmp.Ordering.{Ordering}
 use Rattle.std.specs.Cmp.{IsTotalOrder, eq_by_cmp_equiv}
-use Rattle.std.specs.FinMap.{FinMap, keys, entries, entries_sorted, is_sorted}
-use Rattle.std.specs.FinMap.Entries.{below_all}
 use Rattle.std.specs.List.{AllByRecursion, IsDistinct, dedup_from}
 use Rattle.std.specs.List.Sorted.{IsStrictlySortedBy, IsSorted}
-use Rattle.std.specs.Ordering.{is_lt, eq_by_cmp}
+use Rattle.std.specs.Ordering.{eq_by_cmp}
 use Rattle.std.proofs.lemmas.List.Kept.{IsStrictlySortedBy-dedup}
 use Rattle.std.proofs.lemmas.Map.Keys.{IsDistinct-head, IsDistinct-tail}
-use Rattle.owned.specs.InOrderLaws.{tagged, RisesStrictly, true_from_T}
-
-below_keys : {K X : Type 0} (R : K → K → Ordering) (x : K) (es : List (K × X))
-    → below_all R x es ≡ below_all R x (tagged (map (λ e. e.0) es))
-below_keys R x [] = refl
-below_keys R x (e ∷ es) = ap (λ b. is_lt (R x e.0) && b) (below_keys R x es)
-
-sorted_keys : {K X : Type 0} (R : K → K → Ordering) (es : List (K × X)) → is_sorted R es ≡ is_sorted R (tagged (map (λ e. e.0) es))
-sorted_keys R [] = refl
-sorted_keys R (e ∷ es) = λ i. below_keys R e.0 es i && sorted_keys R es i
-
--- the keys of a finite map
-pub rises-keys : {K X : Type 0} {R : K → K → Ordering} (m : FinMap R X) → RisesStrictly R (keys m)
-rises-keys {R = R} m = sym (sorted_keys R (entries m)) ∙ true_from_T (is_sorted R (entries m)) (entries_sorted m)
 
 -- a list is distinct where what it shows is
 apart_unviewed : {X K : Type 0} (F : K → K → Bool) (view : X → K) (x : X) (ys : List X)

@@ -4,7 +4,7 @@ use Rattle.std.specs.Prelude.{T, ◌||◌, ◌&&◌}
 use Rattle.std.specs.declared.cmp.Ordering.{Ordering}
 use Rattle.std.specs.declared.cmp.Ordering.TheVariants.{Less, Equal, Greater}
 use Rattle.std.specs.Cmp.{IsTotalOrder}
-use Rattle.std.specs.FinMap.{IsAntisymmetric, find, put, is_sorted}
+use Rattle.std.specs.FinMap.{FinMap, IsAntisymmetric, entries, entries_sorted, find, is_sorted, keys, put}
 use Rattle.std.specs.BTreeSet.{insert_key}
 use Rattle.std.specs.FinMap.Entries.{below_all, by_order, is_sorted-put, same_entries}
 use Rattle.std.specs.List.{AllByRecursion, list_any}
@@ -87,11 +87,25 @@ rises-viewed R S view tied [] h = refl
 rises-viewed R S view tied (x ∷ xs) h =
     and_from _ _ (below_viewed R S view tied x xs (sorted_head R x xs h)) (rises-viewed R S view tied xs (sorted_tail R x xs h))
 
--- ---- the word `in_order`
+-- ---- the keys of a map rise
 
 pub true_from_T : (b : Bool) → T b → b ≡ true
 true_from_T true h = refl
 true_from_T false h = absurd h
+
+below_keys : {K X : Type 0} (R : K → K → Ordering) (x : K) (es : List (K × X))
+    → below_all R x es ≡ below_all R x (tagged (map (λ e. e.0) es))
+below_keys R x [] = refl
+below_keys R x (e ∷ es) = ap (λ b. is_lt (R x e.0) && b) (below_keys R x es)
+
+sorted_keys : {K X : Type 0} (R : K → K → Ordering) (es : List (K × X)) → is_sorted R es ≡ is_sorted R (tagged (map (λ e. e.0) es))
+sorted_keys R [] = refl
+sorted_keys R (e ∷ es) = λ i. below_keys R e.0 es i && sorted_keys R es i
+
+pub rises-keys : {K X : Type 0} {R : K → K → Ordering} (m : FinMap R X) → RisesStrictly R (keys m)
+rises-keys {R = R} m = sym (sorted_keys R (entries m)) ∙ true_from_T (is_sorted R (entries m)) (entries_sorted m)
+
+-- ---- the word `in_order`
 
 tagged-insert_key : {K : Type 0} (R : K → K → Ordering) (ks : List K) (k : K) → tagged (insert_key R ks k) ≡ put R k tt (tagged ks)
 tagged-insert_key R [] k = refl

@@ -1,8 +1,9 @@
--- Numbers and cut texts at worked rows.
+-- Numbers, cut texts and paths at worked rows.
 use Rattle.std.proofs.Common.{◌≡◌, [], ◌∷◌, map, true, false, Some, None, refl, pos, negsuc, ◌^◌}
 use Rattle.std.specs.Prelude.{codes}
 use Rattle.text_parts.specs.Marks.{after_mark, before_mark, cut}
 use Rattle.text_parts.specs.Numbers.{is_numeral, signed_in, value_in}
+use Rattle.text_parts.specs.Paths.{has_parts}
 
 -- ---- numbers
 
@@ -51,3 +52,10 @@ before_marks = refl
 cuts : map (cut 58) (codes "" ∷ codes "ab" ∷ codes ":ab" ∷ codes "ab:" ∷ codes "a:b" ∷ codes "a:b:c" ∷ codes ":" ∷ [])
     ≡ None ∷ None ∷ Some ([], codes "ab") ∷ Some (codes "ab", []) ∷ Some (codes "a", codes "b") ∷ Some (codes "a", codes "b:c") ∷ Some ([], []) ∷ []
 cuts = refl
+
+-- ---- paths
+
+paths : map has_parts (codes "A" ∷ codes "A/.B/..C/D." ∷ codes "..." ∷ codes "" ∷ codes "/A" ∷ codes "A/" ∷ codes "A//B" ∷ codes "." ∷ codes "A/./B"
+    ∷ codes "../x" ∷ codes "A/.." ∷ [])
+    ≡ true ∷ true ∷ true ∷ false ∷ false ∷ false ∷ false ∷ false ∷ false ∷ false ∷ false ∷ []
+paths = refl

@@ -7,5 +7,7 @@ pub mod Spells
 pub mod Standing
 pub mod Values
 pub mod Yearly
+-- Laws: what a caller may use.
+pub mod FooterLaws
 -- Words of private clauses.
 pub mod Reading

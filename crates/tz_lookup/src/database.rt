@@ -96,7 +96,7 @@ impl Database {
     ///
     /// # Errors
     ///
-    /// The first name in byte order whose zone has no schedule or an offset of 26 hours or more, with its first fault.
+    /// The first name in byte order whose zone has no schedule or an offset of 26 hours or more, with its first fault; or `NoMemory`.
     pub fn build(alloc: Global, table: &Table) -> Result<Database, DatabaseFault>
         requires { IsBoundedTable table.now }
         ensures ok { IfOk result (λ database. each found_as database ≡ each (found_in table.now) (names_of table.now)) }

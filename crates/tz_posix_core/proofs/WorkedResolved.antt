@@ -1,11 +1,15 @@
 -- What values stand for, over worked databases.
-use Rattle.std.proofs.Common.{◌≡◌, refl, ℕ, true, false, List, [], ◌∷◌, Option, Some, None, Result, Ok, Err, codes, pos, neg_ℤ}
+use Rattle.std.proofs.Common.{◌≡◌, refl, ℕ, true, false, List, [], ◌∷◌, map, Option, Some, None, Result, Ok, Err, codes, ℤ, pos, neg_ℤ}
 use Rattle.tz_zone.specs.declared.set.FixedTimespanSet.{FixedTimespanSet}
-use Rattle.tz_posix_core.specs.PosixZones.{PosixZone, zone, fixed, ruled, borrowed}
+use Rattle.tz_posix_core.specs.InForce.{YearlyTime}
+use Rattle.tz_posix_core.specs.PosixShown.{IsAtOffset}
+use Rattle.tz_posix_core.specs.PosixZones.{Named, PosixZone, zone, fixed, ruled, borrowed, iana_of}
 use Rattle.tz_posix_core.specs.Resolved.{resolved}
 use Rattle.tz_posix_core.specs.Seconds.{offset_seconds, time_seconds}
 use Rattle.tz_posix_core.specs.Values.{short, expanded}
 use Rattle.tz_posix_core.specs.declared.date.Date.TheVariants.{J}
+use Rattle.tz_posix_core.specs.declared.error.Error.{Error}
+use Rattle.tz_posix_core.specs.declared.error.Error.TheVariants.{ComponentRange}
 use Rattle.tz_posix_core.specs.declared.time.Offset.{Offset}
 use Rattle.tz_posix_core.specs.declared.values.Rule.{Rule}
 
@@ -56,3 +60,13 @@ module _ (named : List ℕ → FixedTimespanSet) (has_name : (name : List ℕ) �
   worked_none : west_five None None (named (codes "America/New_York_") ∷ []) ≡ Err (codes "America/New_York")
   unfolding resolved
   worked_none = rw (has_name (codes "America/New_York_")) refl
+
+-- only the short form is a zone of the database, not a text that borrows one's rule
+module _ (set : FixedTimespanSet) (standard saving : Named) (start end : YearlyTime) where
+  worked_iana : map iana_of (zone set ∷ fixed standard ∷ ruled standard saving start end ∷ borrowed standard saving set ∷ [])
+      ≡ Some set ∷ None ∷ None ∷ None ∷ []
+  worked_iana = refl
+
+-- an instant whose date there lies past the years is refused by this cause
+worked_refusal : (t total : ℤ) (error : Error) → IsAtOffset t total (Err error) → error ≡ ComponentRange
+worked_refusal t total error at = at.told

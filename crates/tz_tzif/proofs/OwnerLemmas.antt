@@ -1,12 +1,11 @@
 -- What the footer of an owned value says is one thing.
-use Rattle.std.proofs.Common.{◌≡◌, ℕ, ◌<◌, List, [], ◌++◌, length, Option, Some, None, ℤ, refl, sym, ap, ◌∙◌, subst, arith}
-use Rattle.std.proofs.lemmas.List.{length-append}
+use Rattle.std.proofs.Common.{◌≡◌, ℕ, List, Option, Some, None, ℤ, refl, sym, ap, ◌∙◌, subst}
 use Rattle.civil_base.specs.Ranges.{IsOffset}
+use Rattle.tz_footer.specs.FooterLaws.{no_text}
 use Rattle.tz_footer.specs.InForce.{FooterZone}
-use Rattle.tz_footer.specs.Spells.{SpellsFooter, footer}
+use Rattle.tz_footer.specs.Spells.{SpellsFooter}
 use Rattle.tz_footer.specs.Standing.{StandsFor, stands_for}
 use Rattle.tz_footer.specs.Values.{FooterValue}
-use Rattle.tz_posix_core.specs.Spells.{SpellsName, enclosed, letters}
 use Rattle.tz_tzif.specs.Faults.{SaysInFooter, IsNoFooter}
 use Rattle.tz_tzif.specs.InForce.{told_total_at}
 use Rattle.tz_tzif.specs.Kept.{AreKept}
@@ -17,17 +16,6 @@ use Rattle.zone_tzif_core.specs.Zones.{ZoneValue}
 -- a text is the footer of one value at most
 abbrev OneFooter : Type 0
 OneFooter = (text : List ℕ) (x y : FooterValue) → SpellsFooter text x → SpellsFooter text y → x ≡ y
-
-named : {text name : List ℕ} → SpellsName text name → 0 < length text
-named (enclosed h k) = omega arith
-named (letters h k l) = omega (arith, h)
-
-some_text : {text : List ℕ} {value : FooterValue} → SpellsFooter text value → 0 < length text
-some_text (footer {a} {b} {c} name offset saving) =
-    omega (arith, named name, length-append (a ++ b) c, length-append a b)
-
-no_text : {text : List ℕ} {zone : FooterZone} → StandsFor text zone → text ≡ [] → ⊥
-no_text stands e = absurd (omega (arith, some_text stands.is.spelled, ap length e))
 
 one_says : OneFooter → (text : List ℕ) (f g : Option FooterZone) → SaysInFooter text f → SaysInFooter text g → f ≡ g
 one_says one text None None h k = refl

@@ -1,8 +1,12 @@
 -- Words, ends and lines at worked rows.
-use Rattle.std.proofs.Common.{◌≡◌, ℕ, [], ◌∷◌, ◌++◌, map, Some, None, refl, ℤ, pos, true, false}
+use Rattle.std.proofs.Common.{◌≡◌, ℕ, lit≤, [], ◌∷◌, ◌++◌, map, Some, None, refl, ◌∙◌, arith, ℤ, pos, true, false}
 use Rattle.std.specs.Fmt.{digits}
 use Rattle.std.specs.Prelude.{codes}
-use Rattle.zone_alarm.specs.RingLines.{date_text, ring_line}
+use Rattle.calendar.specs.DateLaws.{year_of-day, month_of-day, day_of-day}
+use Rattle.calendar.specs.Days.{is_leap, days_in_year, days_in_month, days_after_zero, year_start, days_through, days_into_year, day, IsCountedYear, IsDate}
+use Rattle.calendar.specs.SignedLaws.{signed}
+use Rattle.civil_base.specs.Layout.{date_digits, four_digits, two_digits, year_sign}
+use Rattle.zone_alarm.specs.RingLines.{ring_line}
 use Rattle.zone_alarm.specs.Rings.{ends_in_years, time_on}
 use Rattle.zone_alarm.specs.Words.{days_in, start_text}
 
@@ -18,16 +22,31 @@ days = refl
 start : start_text (codes "2024-03-09") (codes "02:30:00") ≡ codes "2024-03-09 02:30:00.000000000"
 start = refl
 
--- from 9999-12-31 on, from the day before it, and from a hundred years before it
+-- from 9999-12-31 on, from the day before it and the day after it, and from a hundred years before it
 last_days : map (λ (row : ℤ × ℕ). ends_in_years row.0 row.1)
-    ((pos 2932896, 0) ∷ (pos 2932896, 1) ∷ (pos 2932896, 2) ∷ (pos 2932895, 2) ∷ (pos 2932895, 3) ∷ (pos 2896297, 36600)
+    ((pos 2932896, 0) ∷ (pos 2932896, 1) ∷ (pos 2932896, 2) ∷ (pos 2932895, 2) ∷ (pos 2932895, 3) ∷ (pos 2932897, 1) ∷ (pos 2896297, 36600)
     ∷ (pos 2896298, 36600) ∷ [])
-    ≡ true ∷ true ∷ false ∷ true ∷ false ∷ true ∷ false ∷ []
+    ≡ true ∷ true ∷ false ∷ true ∷ false ∷ false ∷ true ∷ false ∷ []
 last_days = refl
 
 -- half past two of 2024-03-09, in nanoseconds
 half_past_two : time_on (pos 19791) 9000000000000 ≡ pos 1709951400000000000
 half_past_two = refl
 
-no_ring : ring_line (pos 19792, None) ≡ date_text (pos 19792) ++ codes " none"
-no_ring = refl
+-- the line of a day on which it doesn't ring, 2024-03-10
+the_tenth : IsDate (pos 2024) 3 10
+unfolding is_leap days_in_month
+the_tenth = record { first_month = lit≤ tt; last_month = lit≤ tt; first_day = lit≤ tt; last_day = lit≤ tt }
+
+counted : IsCountedYear (pos 2024)
+counted = record { first = omega (arith, signed); last = omega (arith, signed) }
+
+line_of : (k : ℤ) → k ≡ day (pos 2024) 3 10 → ring_line (k, None)
+    ≡ (year_sign (pos 2024) ++ (four_digits 2024 ++ 45 ∷ two_digits 3 ++ 45 ∷ two_digits 10)) ++ codes " none"
+unfolding date_digits
+line_of k is =
+    rw (is, year_of-day (pos 2024) 3 10 counted the_tenth, month_of-day (pos 2024) 3 10 counted the_tenth, day_of-day (pos 2024) 3 10 counted the_tenth) refl
+
+no_ring : ring_line (pos 19792, None) ≡ codes "2024-03-10 none"
+unfolding is_leap days_in_year days_in_month days_after_zero year_start days_through days_into_year day year_sign
+no_ring = line_of (pos 19792) refl ∙ refl

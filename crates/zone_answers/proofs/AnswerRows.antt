@@ -1,8 +1,9 @@
 -- What requests ask, and texts with bars between them, worked out.
-use Rattle.std.proofs.Common.{◌≡◌, [], ◌∷◌, ◌++◌, map, Some, None, refl, pos, negsuc}
-use Rattle.std.specs.Prelude.{codes}
+use Rattle.std.proofs.Common.{◌≡◌, ℕ, List, [], ◌∷◌, ◌++◌, map, Some, None, refl, pos, negsuc}
+use Rattle.std.specs.Prelude.{codes, option_map}
+use Rattle.civil_base.specs.LocalTimes.{local_time_in}
 use Rattle.zone_answers.specs.Due.{with_bars}
-use Rattle.zone_answers.specs.Requests.{at, request_of, nanoseconds_in}
+use Rattle.zone_answers.specs.Requests.{at, local, request_of, nanoseconds_in}
 
 -- none, one, two and three instants
 bars : map with_bars ([] ∷ (codes "a" ∷ []) ∷ (codes "a" ∷ codes "b" ∷ []) ∷ (codes "a" ∷ codes "b" ∷ codes "c" ∷ []) ∷ [])
@@ -31,3 +32,14 @@ tabs : map request_of
     ≡ Some (at (codes "A" ++ 9 ∷ codes "B") (pos 0)) ∷ None ∷ None ∷ None ∷ None ∷ None ∷ []
 unfolding request_of nanoseconds_in
 tabs = refl
+
+-- whatever text stands where a local time is wanted
+module _ (text : List ℕ) where
+  locals : request_of (codes "local A/B " ++ text) ≡ option_map (local (codes "A/B")) (local_time_in text)
+  unfolding request_of
+  locals = refl
+
+  other_words : map request_of ((codes "Local A " ++ text) ∷ (codes "LOCAL A " ++ text) ∷ (codes "locals A " ++ text) ∷ (codes "local  " ++ text) ∷ [])
+      ≡ None ∷ None ∷ None ∷ None ∷ []
+  unfolding request_of
+  other_words = refl

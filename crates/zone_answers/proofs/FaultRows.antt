@@ -12,6 +12,7 @@ use Rattle.zone_answers.specs.FaultLines.{fault_line}
 use Rattle.zone_answers.specs.Faults.{
   are_in_years,
   has_dates,
+  found_refusal,
   request_refusal,
   first_refused,
   of_source,
@@ -23,7 +24,7 @@ use Rattle.zone_answers.specs.Faults.{
   range,
 }
 use Rattle.zone_answers.specs.Found.{Found}
-use Rattle.zone_answers.specs.Requests.{request_of, nanoseconds_in}
+use Rattle.zone_answers.specs.Requests.{local, request_of, nanoseconds_in}
 
 -- no name finds a zone
 abbrev nothing : List ℕ → Found
@@ -48,6 +49,13 @@ far_zone_first : map (λ (offset : ℤ). request_refusal (one_offset offset) 1 (
     (pos 93600 ∷ pos 93599 ∷ []) ≡ Some (offset_range 1) ∷ Some (range 1) ∷ []
 unfolding request_refusal is_utf8 chars encode request_of nanoseconds_in has_dates total_at totals_of
 far_zone_first = refl
+
+-- a local time is refused at a zone as an instant is, and never for its date
+local_refusals : map (found_refusal 3 (local (codes "A") (pos 999999999999999999999999999999)))
+    (None ∷ Some (Err span.DayRange) ∷ one_offset (pos 93600) [] ∷ one_offset (negsuc 93599) [] ∷ one_offset (pos 93599) [] ∷ [])
+    ≡ Some (unknown_zone 3) ∷ Some (bad_schedule 3 span.DayRange) ∷ Some (offset_range 3) ∷ Some (offset_range 3) ∷ None ∷ []
+unfolding has_dates totals_of
+local_refusals = refl
 
 -- a line that is no text, one in no form, and one that names no zone
 before_a_zone_is_found : map (request_refusal nothing 7) ((97 ∷ 255 ∷ []) ∷ codes "what A 0" ∷ codes "at A 0" ∷ [])

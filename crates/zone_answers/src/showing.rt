@@ -1,5 +1,5 @@
 //! The text that answers a request.
-ghost use Rattle.std.specs.Prelude.{◌≡◌, ◌++◌, ◌∷◌, [], true, false, IfOk, IfNone, IfSome, IsTrue, OnOk, map};
+ghost use Rattle.std.specs.Prelude.{◌≡◌, ◌++◌, ◌∷◌, [], true, false, IfOk, IfNone, IfSome, IsTrue, OnErr, OnOk, map};
 ghost use Rattle.civil_base.specs.Layout.{zoned_text};
 ghost use Rattle.tz_lookup.specs.Answers.{listed};
 ghost use Rattle.tz_lookup.specs.InForce.{all_in_force, in_force, shown_of};
@@ -117,9 +117,10 @@ fn show_each(
 ///
 /// # Errors
 ///
-/// Want of memory alone.
+/// Want of memory alone. The text is then as before.
 pub fn add_text(shown: &OffsetDateTime, text: &mut Vec<u8>) -> Result<(), AllocError>
-    ensures { OnOk result (text.new.items ≡ text.old.items ++ text_shown (shown_of shown.now)) }
+    ensures added { OnOk result (text.new.items ≡ text.old.items ++ text_shown (shown_of shown.now)) }
+    ensures err { OnErr result (text.new.items ≡ text.old.items) }
 {
     let mut zoned = [0; 40];
     let end = write_zoned(shown, &mut zoned);
@@ -130,9 +131,10 @@ pub fn add_text(shown: &OffsetDateTime, text: &mut Vec<u8>) -> Result<(), AllocE
 ///
 /// # Errors
 ///
-/// Want of memory alone.
+/// Want of memory alone. The text is then as before.
 pub fn add_bytes(bytes: &[u8], text: &mut Vec<u8>) -> Result<(), AllocError>
-    ensures { OnOk result (text.new.items ≡ text.old.items ++ bytes.now) }
+    ensures added { OnOk result (text.new.items ≡ text.old.items ++ bytes.now) }
+    ensures err { OnErr result (text.new.items ≡ text.old.items) }
 {
     text.extend_from_slice(bytes)?;
     Ok(())

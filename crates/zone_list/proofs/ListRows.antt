@@ -34,6 +34,12 @@ in_columns : rows (entry (pos 7) (pos 3600) (pos 1800) (codes "AB") ∷ entry (n
 unfolding rows row char_count digits
 in_columns = refl
 
+-- also where the widest name is the last one's
+widest_last : rows (entry (pos 7) (pos 0) (pos 0) (codes "A") ∷ entry (pos 8) (pos 0) (pos 0) (codes "BCD") ∷ [])
+    ≡ (codes "7  A    " ++ zoned_text (pos 7000000000) (pos 0)) ∷ (codes "8  BCD  " ++ zoned_text (pos 8000000000) (pos 0)) ∷ []
+unfolding rows row char_count digits
+widest_last = refl
+
 -- the ends of the years 9999 and -9999, at UTC and a second to each side: both dates count
 dates : map has_dates
     (at (pos 253402300799) ∷ at (pos 253402300800) ∷ entry (pos 253402300799) (pos 1) (pos 0) []

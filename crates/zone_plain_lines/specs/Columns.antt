@@ -2,10 +2,11 @@
 use Rattle.std.specs.Prelude.{ℕ, ◌^◌, Bool, true, false, ◌&&◌, ◌||◌, not, ◌==◌, List, [], ◌∷◌, map, slice_index_or, Option, Some, None, option_map, Result, Ok, Err, ok_or, codes, bytes_eq, int_lt, if◌then◌else◌}
 use Rattle.std.specs.Borrow.{Bor}
 use Rattle.std.specs.Char.{is_ascii_digit}
-use Rattle.std.specs.List.{list_all, list_any, slice_split}
+use Rattle.std.specs.List.{list_any}
 use Rattle.std.specs.Option.{option_map_or}
 use Rattle.text_parts.specs.Marks.{cut}
 use Rattle.text_parts.specs.Numbers.{signed_in}
+use Rattle.text_parts.specs.Paths.{has_parts}
 use Rattle.zone_values.specs.Values.{SavingValue, no_saving, one_off, multiple}
 use Rattle.zone_values.specs.declared.year.Year.{Year}
 use Rattle.zone_values.specs.declared.year.Year.TheVariants.{Minimum, Maximum, Number}
@@ -68,17 +69,6 @@ begins_white (first ∷ rest) = is_white first
 
 unfoldable pub ruleset_name : List ℕ → Result (List ℕ) PlainCause
 ruleset_name text = if begins_number text || begins_white text then Err cause.RulesetName else Ok text
-
-abbrev pub is_slash : ℕ → Bool
-is_slash byte = byte == 47
-
--- nothing, `.` or `..`, which name no file of their own
-abbrev pub is_no_part : List ℕ → Bool
-is_no_part part = bytes_eq part [] || bytes_eq part (codes ".") || bytes_eq part (codes "..")
-
--- what stands between slashes are parts
-abbrev pub has_parts : List ℕ → Bool
-has_parts name = list_all (λ part. not (is_no_part part)) (slice_split is_slash name)
 
 -- the name of a zone, or the new name of a link, is the path of a file; a hyphen alone is no name
 unfoldable pub zone_name : List ℕ → Result (List ℕ) PlainCause

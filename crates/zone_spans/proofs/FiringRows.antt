@@ -8,7 +8,7 @@ use Rattle.zone_values.specs.declared.change.ChangeTime.TheVariants.{UntilYear, 
 use Rattle.zone_values.specs.declared.day.DaySpec.{DaySpec}
 use Rattle.zone_values.specs.declared.day.DaySpec.TheVariants.{Ordinal, FirstOnOrAfter}
 use Rattle.zone_values.specs.declared.month.Month.{Month}
-use Rattle.zone_values.specs.declared.month.Month.TheVariants.{January, March, July, November}
+use Rattle.zone_values.specs.declared.month.Month.TheVariants.{January, March, July, November, December}
 use Rattle.zone_values.specs.declared.time.TimeSpec.TheVariants.{Zero}
 use Rattle.zone_values.specs.declared.time.TimeType.TheVariants.{Wall, Standard, UTC}
 use Rattle.zone_values.specs.declared.weekday.Weekday.TheVariants.{Sunday}
@@ -100,6 +100,18 @@ first_years : firings_of_years (pos 0) None (at_second (pos 0) (pos 3600) [] ∷
     ≡ (record { time = negsuc 5364662399; rule = at_second (pos 0) (pos 3600) [] } ∷ [], pos 3600)
 unfolding firings_of_years year_firings fired earliest applies_to_year last_year moment instant_of named_day is_leap days_in_year days_in_month days_after_zero year_start days_through days_into_year day
 first_years = refl
+
+-- a rule of December 31st 1800 at 99:00, which is past the line's end on January 3rd, keeps no rule of the next year from firing before it
+abbrev late : RuleInfo
+late = record (at_second (pos 356400) (pos 7200) (codes "S")) { month = December; day = Ordinal (pos 31) }
+
+abbrev next_year : RuleInfo
+next_year = record (at_second (pos 0) (pos 3600) (codes "D")) { from_year = Number (pos 1801) }
+
+over_for_a_year : firings_of_years (pos 0) (Some (UntilDay (Number (pos 1801)) January (Ordinal (pos 3)))) (late ∷ next_year ∷ []) 2
+    ≡ (record { time = negsuc 5333126399; rule = next_year } ∷ [], pos 3600)
+unfolding firings_of_years year_firings fired earliest line_end applies_to_year last_year moment instant_of named_day is_leap days_in_year days_in_month days_after_zero year_start days_through days_into_year day
+over_for_a_year = refl
 
 -- to 2099, or to the year of the end
 years : map years_expanded (None ∷ Some (UntilYear (Number (pos 1799))) ∷ Some (UntilYear (Number (pos 1800)))

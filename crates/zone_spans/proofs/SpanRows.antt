@@ -1,5 +1,5 @@
 -- The entries of zones, the collapse and the faults, at worked rows.
-use Rattle.std.specs.Prelude.{◌≡◌, ℕ, List, [], ◌∷◌, map, Option, Some, None, Ok, ℤ, pos, negsuc, codes, true, false, refl}
+use Rattle.std.specs.Prelude.{◌≡◌, ℕ, List, [], ◌∷◌, map, Option, Some, None, Result, Ok, Err, ℤ, pos, negsuc, codes, true, false, refl}
 use Rattle.std.specs.Ordering.{int_eq}
 use Rattle.calendar.specs.Days.{days_after_zero, year_start, days_through, days_into_year, day, is_leap, days_in_year, days_in_month}
 use Rattle.calendar.specs.Dates.{last_with}
@@ -20,8 +20,10 @@ use Rattle.zone_table.specs.declared.rule.RuleInfo.{RuleInfo}
 use Rattle.zone_table.specs.declared.zone.Saving.{Saving}
 use Rattle.zone_table.specs.declared.zone.Saving.TheVariants.{NoSaving, OneOff, Multiple}
 use Rattle.zone_table.specs.declared.zone.ZoneInfo.{ZoneInfo}
+use Rattle.zone_spans.specs.declared.fault.SpanFault.{SpanFault}
 use Rattle.zone_spans.specs.declared.fault.SpanFault.TheVariants.{UnknownRuleset, MissingUntil, YearRange, RuleYears, DayRange, NoStandardSpan, NoMemory}
 use Rattle.zone_spans.specs.declared.span.FixedTimespan.{FixedTimespan}
+use Rattle.zone_spans.specs.declared.span.FixedTimespanSet.{FixedTimespanSet}
 use Rattle.zone_spans.specs.Bounds.{is_bounded, is_small}
 use Rattle.zone_spans.specs.Collapse.{collapsed, kept_of, kept_with, without_first}
 use Rattle.zone_spans.specs.Compiled.{compiled, set_of_lines}
@@ -143,6 +145,28 @@ standard_first : set_of_lines (record {
 unfolding set_of_lines first_span sorted_entries entries_from entries_of next_start line_firings years_expanded firings_of_years year_firings fired earliest applies_to_year last_year moment abbreviation filled instant_of named_day is_leap days_in_year days_in_month days_after_zero year_start days_through days_into_year day collapsed kept_of kept_with without_first
 standard_first = refl
 
+-- and with the one that comes first in time, be it of the last line
+abbrev turned_lines : List Line
+turned_lines =
+    record {
+      info = record (line (pos 0) (Multiple []) [] None) {
+        format = Placeholder
+            (codes "%s");
+      };
+      rules = turned;
+      end = Some (UntilYear (Number (pos 1802)));
+    }
+    ∷ record { info = line (pos 0) (OneOff (pos 3600)) (codes "C") None; rules = []; end = Some (UntilYear (Number (pos 1800))) }
+    ∷ record { info = line (pos 0) NoSaving (codes "D") None; rules = []; end = None } ∷ []
+
+abbrev first_name : Result FixedTimespanSet SpanFault → List ℕ
+first_name (Ok set) = set.first.name
+first_name (Err fault) = fault_name fault
+
+first_in_time : first_name (set_of_lines turned_lines) ≡ codes "D"
+unfolding set_of_lines first_span sorted_entries entries_from entries_of next_start listed_from start_firing line_firings years_expanded firings_of_years year_firings fired earliest applies_to_year last_year moment abbreviation filled line_end instant_of named_day is_leap days_in_year days_in_month days_after_zero year_start days_through days_into_year day collapsed kept_of kept_with without_first
+first_in_time = refl
+
 -- a saving below 0 is one: `IST` comes before all, though `GMT` is the first entry; and where each entry has a saving nothing does
 abbrev a_ruled : Line
 a_ruled = record { info = line (pos 3600) (Multiple []) (codes "A") None; rules = []; end = None }
@@ -239,6 +263,11 @@ faults : schedule_fault none (ruled None ∷ saving ∷ [])
 unfolding schedule_fault leaves_year some_year is_outside zone_lines entries_from entries_of next_start listed_from start_firing line_firings years_expanded firings_of_years year_firings fired earliest applies_to_year last_year moment abbreviation line_end is_in_year instant_of named_day first_from last_with weekday_of is_leap days_in_year days_in_month days_after_zero year_start days_through days_into_year day
 faults = refl
 
+-- a rule without years is one also where its line expands no year
+rule_without_years : schedule_fault (all (yearless ∷ [])) (ruled (Some (UntilYear (Number (pos 1799)))) ∷ plain None ∷ []) ≡ Some RuleYears
+unfolding schedule_fault leaves_year some_year is_outside zone_lines entries_from entries_of next_start listed_from start_firing line_firings years_expanded firings_of_years year_firings fired earliest applies_to_year last_year moment abbreviation line_end is_in_year instant_of named_day first_from last_with weekday_of is_leap days_in_year days_in_month days_after_zero year_start days_through days_into_year day
+rule_without_years = refl
+
 -- no line; an end in the year 0; an end whose day is of 1799
 more_faults : schedule_fault none [] ∷ schedule_fault none (plain (Some (UntilYear (Number (pos 0)))) ∷ saving ∷ [])
     ∷ schedule_fault none (plain (Some (UntilDay (Number (pos 1800)) January (LastOnOrBefore Sunday (pos 1)))) ∷ saving ∷ []) ∷ []
@@ -305,6 +334,11 @@ names : collapsed zzz ((pos 1, zzz) ∷ (pos 2, span (pos 0) (pos 0) (codes "z")
     ≡ (pos 2, span (pos 0) (pos 0) (codes "z")) ∷ (pos 3, zzz) ∷ []
 unfolding collapsed kept_of kept_with without_first
 names = refl
+
+-- one entry at most goes where it says what holds before it, also where the next, which took another's time, says the same
+leading : collapsed zzz ((pos 1, zzz) ∷ (pos 100000, span (negsuc 3599) (pos 0) (codes "B")) ∷ (pos 100500, zzz) ∷ []) ≡ (pos 100000, zzz) ∷ []
+unfolding collapsed kept_of kept_with without_first
+leading = refl
 
 -- ---- totals
 

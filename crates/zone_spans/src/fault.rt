@@ -127,7 +127,7 @@ fn some_leaves_year<'a>(alloc: Global, lines: &[Line<'a>]) -> Result<bool, Alloc
     requires years { list_any lacks_years lines.now ≡ false }
     ensures { IfOk result (λ leaves. leaves ≡ list_any leaves_year lines.now) }
 {
-    let mut tested = Several::new(alloc, Tested::new(&[]));
+    let mut tested = Several::new(alloc, Tested::new("", &[]));
     for line in lines {
         if leaves_year(&mut tested, line)? {
             return Ok(true);

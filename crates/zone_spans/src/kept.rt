@@ -289,9 +289,11 @@ fn fire_from_marks<'a>(
     Ok(after)
 }
 
-/// What a ruleset has fired under an offset after each year, as far as a line of them asked for it.
+/// What a ruleset has fired under an offset after each year, as far as a line of them asked for it. Rules that differ late are told
+/// apart by the ruleset's name, before they are compared.
 #[derive(Drop)]
 pub(crate) struct Kept<'a> {
+    name: &'a str,
     rules: &'a [RuleInfo],
     offset: i64,
     quiet: u16,
@@ -304,6 +306,7 @@ impl<'a> Kept<'a> {
         ensures { IsKept result }
     {
         Kept {
+            name: "",
             rules: &[],
             offset: 0,
             quiet: 0,
@@ -318,6 +321,7 @@ impl<'a> Kept<'a> {
         ensures serves { IsFor line.now years result }
     {
         Kept {
+            name: line.ruleset_name(),
             rules: line.rules,
             offset: line.info.offset,
             quiet: years_before_all(line.rules, years),
@@ -375,6 +379,9 @@ impl<'a> Serve for Kept<'a> {
 
     fn serves(&self, line: &Line<'_>, years: u16) -> bool {
         if self.offset != line.info.offset || self.quiet > years {
+            return false;
+        }
+        if self.name != line.ruleset_name() {
             return false;
         }
         self.rules == line.rules

@@ -43,6 +43,14 @@ impl<'a> Line<'a> {
         }
     }
 
+    /// The name of the line's ruleset, or an empty text where it has none.
+    pub(crate) fn ruleset_name(&self) -> &'a str {
+        match &self.info.saving {
+            Saving::Multiple(name) => name.as_str(),
+            Saving::NoSaving | Saving::OneOff(_) => "",
+        }
+    }
+
     /// What is added for as long as the line holds, where no rules say it.
     pub(crate) fn fixed_saving(&self) -> i64
         ensures { result ≡ fixed_saving self.now.info.saving }

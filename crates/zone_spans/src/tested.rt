@@ -22,20 +22,25 @@ use std::alloc::AllocError;
 use zone_table::RuleInfo;
 use zone_values::ChangeTime;
 
-/// Rules, and how many of the first years from the earliest on are tested: in these no day of the rules lies in another year.
+/// A ruleset, and how many of the first years from the earliest on are tested: in these no day of the rules lies in another year.
 #[derive(Drop)]
 pub(crate) struct Tested<'a> {
+    name: &'a str,
     rules: &'a [RuleInfo],
     years: u16,
 }
 
 impl<'a> Tested<'a> {
     /// Nothing is tested.
-    pub(crate) fn new(rules: &'a [RuleInfo]) -> Tested<'a>
+    pub(crate) fn new(name: &'a str, rules: &'a [RuleInfo]) -> Tested<'a>
         ensures tested { IsTested result }
         ensures rules { result.rules.now ≡ rules.now }
     {
-        Tested { rules, years: 0 }
+        Tested {
+            name,
+            rules,
+            years: 0,
+        }
     }
 
     /// Whether the day of a rule lies in another year, in one of so many years from the earliest on.
@@ -64,6 +69,9 @@ impl<'a> Serve for Tested<'a> {
     ghost Suits = { HasRulesOf };
 
     fn serves(&self, line: &Line<'_>, _years: u16) -> bool {
+        if self.name != line.ruleset_name() {
+            return false;
+        }
         self.rules == line.rules
     }
 }
@@ -81,7 +89,7 @@ fn take_for<'a>(
     if tested.find_for(line, years)? {
         return Ok(());
     }
-    tested.begin(Tested::new(line.rules))?;
+    tested.begin(Tested::new(line.ruleset_name(), line.rules))?;
     Ok(())
 }
 

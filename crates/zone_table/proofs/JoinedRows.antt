@@ -26,6 +26,10 @@ module _ (r s t : RuleValue) where
       ≡ owned_rule r ∷ owned_rule t ∷ []
   rules_in_order = refl
 
+  -- a name of other letters is another name, also where they differ in case alone
+  rules_by_case : rules_of (rule (named (codes "r") r) ∷ []) (codes "R") ≡ []
+  rules_by_case = refl
+
 module _ (offset : TimeSpec) (end : Option ChangeTime) (first second : InfoValue) (r : RuleValue) where
   -- a blank line does not close a zone
   continued : zone_of (continuation second ∷ space ∷ zone (codes "A") first ∷ []) (codes "A") ≡ owned_info first ∷ owned_info second ∷ []
@@ -67,6 +71,27 @@ module _ (offset : TimeSpec) (end : Option ChangeTime) (first second : InfoValue
   zone_before_link : resolved (link (codes "A") (codes "B") ∷ zone (codes "B") first ∷ zone (codes "A") second ∷ []) (codes "B")
       ≡ Some (owned_info first ∷ [])
   zone_before_link = refl
+
+  -- nor is a link one to a zone of its name
+  zone_of_link_name : refusal (link (codes "A") (codes "B") ∷ zone (codes "A") first ∷ []) (zone (codes "B") (with_saving offset no_saving end)) ≡ None
+  zone_of_link_name = refl
+
+  -- names of zones and links that differ in case alone are two
+  zone_by_case : zone_of (zone (codes "a") first ∷ []) (codes "A") ≡ []
+  zone_by_case = refl
+
+  two_zones_by_case : refusal (zone (codes "a") first ∷ []) (zone (codes "A") (with_saving offset no_saving end)) ≡ None
+  two_zones_by_case = refl
+
+  link_by_case : resolved (link (codes "A") (codes "b") ∷ zone (codes "A") first ∷ []) (codes "B") ≡ None
+  link_by_case = refl
+
+  two_links_by_case : refusal (link (codes "a") (codes "b") ∷ []) (link (codes "c") (codes "B")) ≡ None
+  two_links_by_case = refl
+
+  unknown_by_case : refusal (rule (named (codes "r") r) ∷ []) (zone (codes "A") (with_saving offset (multiple (codes "R")) end))
+      ≡ Some (unknown_ruleset (codes "R"))
+  unknown_by_case = refl
 
   -- one link is followed, and no second
   one_link : resolved (link (codes "B") (codes "C") ∷ link (codes "A") (codes "B") ∷ zone (codes "A") first ∷ []) (codes "B")

@@ -1,8 +1,10 @@
 -- Entries between two seconds, by how many lie before each.
 use Rattle.std.proofs.Common.{◌≡◌, ℕ, zero, suc, ◌+◌, ◌-◌, ◌<◌, ◌≤◌, Bool, true, false, cond, List, [], ◌∷◌, length, length-take-le, map, take, drop, slice_index_or, ℤ, pos, ◌≤ℤ◌, ◌<ℤ◌, int_le, int_lt, refl, sym, ap, ◌∙◌, subst, ⊎_elim, arith}
-use Rattle.std.specs.Prelude.{◌&&◌, filter}
+use Rattle.std.specs.Prelude.{◌&&◌, ◌||◌, filter, nat_lt}
+use Rattle.std.specs.List.{list_any}
 use Rattle.std.proofs.lemmas.Int.{ints}
 use Rattle.std.proofs.lemmas.Bool.{cases_lt}
+use Rattle.std.proofs.lemmas.Bool.Decides.{nat_tests}
 use Rattle.std.proofs.lemmas.List.{length-drop}
 use Rattle.calendar.specs.ComparisonLaws.{le_fail, le_pass}
 use Rattle.zone_spans.specs.Entries.{Entry}
@@ -128,6 +130,19 @@ module _ (set : FixedTimespanSet) (low high : ℤ) (b e : ℕ) (begins : IsCount
         let high_is : y.0 ≡ (shift_at (shifts_of set) (suc b)).0 = ap (λ es. (slice_index_or es 1 y).0) same ∙ sym (ap (λ (s : ℤ × ℤ). s.0) second) in
         opposed _ _ _ _ low_is high_is rising.1 (not_later is)),
   )
+
+-- some entry lies at a second or past it exactly where not all lie before
+pub later_is : (entries : List Entry) (second : ℤ) (k : ℕ) → IsCount (shifts entries) second k
+    → list_any (λ (entry : Entry). int_le second entry.0) entries ≡ nat_lt k (length entries)
+later_is [] second k h = sym (none k)
+  where
+    none : (k : ℕ) → nat_lt k 0 ≡ false
+    none k = grind (arith, nat_tests)
+later_is (e ∷ es) second zero h =
+    ap (λ b. b || list_any (λ (entry : Entry). int_le second entry.0) es) (le_pass second e.0 (h.after 0 (omega arith) (omega arith)))
+later_is (e ∷ es) second (suc k) h =
+    ap (λ b. b || list_any (λ (entry : Entry). int_le second entry.0) es) (le_fail second e.0 (h.before 0 (omega arith)))
+    ∙ later_is es second k (tail_before e es second k h)
 
 -- ---- the span in force at a second
 

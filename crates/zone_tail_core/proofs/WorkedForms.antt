@@ -1,14 +1,17 @@
 -- Worked rows: the forms of last years, and the first cause.
-use Rattle.std.proofs.Common.{◌≡◌, ℕ, List, [], ◌∷◌, map, Some, None, refl, ℤ, pos, neg_ℤ, ◌*ℤ◌}
+use Rattle.std.proofs.Common.{◌≡◌, ℕ, List, [], ◌∷◌, map, true, false, Some, None, refl, ℤ, pos, neg_ℤ, ◌*ℤ◌}
 use Rattle.std.specs.Prelude.{codes}
 use Rattle.calendar.specs.Days.{day, days_after_zero, days_before_zero, days_in_month, days_in_year, days_into_year, days_through, is_leap, year_start}
 use Rattle.zone_spans.specs.Entries.{Entry}
 use Rattle.zone_spans.specs.declared.span.FixedTimespan.{FixedTimespan}
 use Rattle.tz_zone.specs.declared.set.FixedTimespanSet.{FixedTimespanSet}
 use Rattle.zone_tail_core.specs.Candidates.{year_1800}
+use Rattle.zone_tail_core.specs.Found.{reaches}
 use Rattle.zone_tail_core.specs.LastYear.{steady, yearly, other, form, standard_of, year_begin, year_end}
-use Rattle.zone_tail_core.specs.Tails.{end_of_last_year, tail_fault}
+use Rattle.zone_tail_core.specs.Tails.{end_of_last_year, is_outlasting, tail_fault}
+use Rattle.zone_tail_core.specs.declared.candidate.Candidate.TheVariants.{Fixed, Ruled}
 use Rattle.zone_tail_core.specs.declared.outcome.TailFault.TheVariants.{Shape, OffsetRange, Name}
+use Rattle.zone_tail_core.specs.declared.rule.YearlyRule.{YearlyRule}
 
 abbrev span : ℤ → ℤ → List ℕ → FixedTimespan
 span offset saving name = record { utc_offset = offset; dst_offset = saving; name = name }
@@ -71,11 +74,25 @@ year_seconds : map (λ y. pos 86400 *ℤ day y 1 1) (pos 1800 ∷ pos 2099 ∷ p
 unfolding is_leap days_in_year days_in_month days_after_zero days_before_zero year_start days_through days_into_year day
 year_seconds = refl
 
+-- a rule reaches back to an entry at the beginning of 1800, and to none a second before it; one total reaches back to any
+reaching : (rule : YearlyRule) → map (reaches (Ruled rule)) (neg_ℤ (pos 5364662401) ∷ neg_ℤ (pos 5364662400) ∷ pos 0 ∷ [])
+    ∷ map (reaches (Fixed (pos 0))) (neg_ℤ (pos 5364662401) ∷ neg_ℤ (pos 1099511627776) ∷ pos 0 ∷ []) ∷ []
+    ≡ (false ∷ true ∷ true ∷ []) ∷ (true ∷ true ∷ true ∷ []) ∷ []
+reaching rule = refl
+
 -- the last year ends by the set's standard offset
 year_ends : map end_of_last_year (year [] ∷ year (saving spring ∷ standard autumn ∷ []) ∷ year (saving spring ∷ []) ∷ [])
     ≡ pos 4102444800 ∷ pos 4102441200 ∷ pos 4102441200 ∷ []
 unfolding standard_of
 year_ends = refl
+
+-- an entry in the last second of the last year, at its end, and long past it, beside earlier ones; by clocks an hour ahead
+outlasting : map is_outlasting (year [] ∷ year ((pos 4102444799, span (pos 0) (pos 0) (codes "A")) ∷ [])
+    ∷ year ((pos 4102444800, span (pos 0) (pos 0) (codes "A")) ∷ []) ∷ year (saving spring ∷ standard autumn ∷ standard (pos 5680281600) ∷ [])
+    ∷ year (standard spring ∷ standard (pos 4102441199) ∷ []) ∷ year (standard spring ∷ standard (pos 4102441200) ∷ []) ∷ [])
+    ≡ false ∷ false ∷ true ∷ true ∷ false ∷ true ∷ []
+unfolding is_outlasting standard_of
+outlasting = refl
 
 -- the standard offset is that in force as 2100 begins in UTC: an entry at that second counts, one a second later doesn't
 standards : map standard_of (year ((pos 4102444800, span (pos 7200) (pos 0) []) ∷ []) ∷ year ((pos 4102444801, span (pos 7200) (pos 0) []) ∷ [])

@@ -1,7 +1,7 @@
 -- The POSIX TZ string that stands for the tail of a set, from which entry on, and why there is none.
-use Rattle.std.specs.Prelude.{◌≡◌, ℕ, zero, suc, Bool, ◌&&◌, not, ◌==◌, nat_le, List, [], ◌∷◌, ◌++◌, length, map, Option, Some, None, if◌then◌else◌, ℤ, ◌+ℤ◌, ◌-ℤ◌, unsigned_abs}
-use Rattle.std.specs.List.{list_all}
-use Rattle.zone_spans.specs.Entries.{total}
+use Rattle.std.specs.Prelude.{◌≡◌, ℕ, zero, suc, Bool, ◌&&◌, not, ◌==◌, nat_le, List, [], ◌∷◌, ◌++◌, length, map, Option, Some, None, if◌then◌else◌, ℤ, ◌+ℤ◌, ◌-ℤ◌, int_le, unsigned_abs}
+use Rattle.std.specs.List.{list_all, list_any}
+use Rattle.zone_spans.specs.Entries.{Entry, total}
 use Rattle.tz_zone.specs.Sets.{schedule_of, shifts_of}
 use Rattle.tz_zone.specs.Spans.{Shift, shift_at}
 use Rattle.tz_zone.specs.declared.set.FixedTimespanSet.{FixedTimespanSet}
@@ -42,6 +42,10 @@ candidates set = candidates_of (standard_of set) (form set)
 -- the second at which the last year ends
 abbrev pub end_of_last_year : FixedTimespanSet → ℤ
 end_of_last_year set = year_end -ℤ standard_of set
+
+-- an entry stands at that second or past it, where a string says nothing of the set
+unfoldable pub is_outlasting : FixedTimespanSet → Bool
+is_outlasting set = list_any (λ (entry : Entry). int_le (end_of_last_year set) entry.0) set.others
 
 -- ---- the causes
 

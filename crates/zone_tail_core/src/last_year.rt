@@ -4,6 +4,7 @@ ghost use Rattle.zone_spans.specs.Entries.{total};
 ghost use Rattle.tz_zone.specs.Sets.{IsAccepted, IsSpanTime, schedule_of, shifts_of};
 ghost use Rattle.zone_tail_core.specs.LastYear.{are_start_and_end, is_end, is_start, standard_of, year_begin, year_end};
 ghost use Rattle.zone_tail_core.specs.Shapes.{entry_in, IsForm, IsShape};
+ghost use Rattle.zone_tail_core.specs.Tails.{is_outlasting};
 ghost use Rattle.zone_tail_core.specs.Totals.{IsCount};
 ghost use Rattle.zone_tail_core.specs.declared.last_year.Shape.TheVariants.{Pair};
 
@@ -71,6 +72,15 @@ pub(crate) fn standard_of(set: &FixedTimespanSet) -> i64
 {
     set.span_at(entries_before(set, RULES_END + 1, 0))
         .utc_offset
+}
+
+/// Whether a set has an entry at or past the end of the last year, of which its string says nothing.
+#[tactic(auto, unfolding(crate::specs::Tails::is_outlasting))]
+pub fn is_outlasting(set: &FixedTimespanSet) -> bool
+    requires { IsAccepted (schedule_of set.now) }
+    ensures { result ≡ is_outlasting set.now }
+{
+    entries_before(set, RULES_END, standard_of(set)) < set.entry_count()
 }
 
 /// What the entries of the last year are, by its standard offset.

@@ -17,4 +17,5 @@ mod text;
 mod walk;
 
 pub use call::tail;
+pub use last_year::is_outlasting;
 pub use outcome::{Tail, TailFault};

@@ -13,6 +13,7 @@ use Rattle.std.proofs.lemmas.Slice.Eq.{bytes_eq-Decides}
 use Rattle.std.proofs.Math.Bool.{and-false}
 use Rattle.owned.specs.InOrderLaws.{any-in_order}
 use Rattle.owned.specs.Keyed.{text_cmp}
+use Rattle.owned.specs.KeyedLaws.{tied_texts}
 use Rattle.owned.specs.Listed.{listed}
 use Rattle.ustar.specs.Archives.{archive}
 use Rattle.ustar.specs.Entries.{Content, of_file, of_link, EntryValue, entry}
@@ -33,8 +34,8 @@ use Rattle.zone_tree.specs.Trees.{Refused, onto, entries_of, archive_of, tree_by
 use Rattle.zone_tree.specs.declared.refusal.Why.{Why}
 use Rattle.zone_tree.specs.declared.refusal.Why.TheVariants.{OffsetRange, Link, Name}
 use Rattle.zone_tzif_core.specs.declared.values.WriteFault.{WriteFault}
-use Rattle.zone_tzif_set.specs.Files.{file_fault}
-use Rattle.zone_tree.proofs.NameLemmas.{text_same, is_itself, zones_given, links_given, names_given}
+use Rattle.zone_tzif_set.specs.Files.{consistent_fault}
+use Rattle.zone_tree.proofs.NameLemmas.{text_same, zones_given, links_given, names_given}
 
 -- what is Ok, and else another value
 abbrev given : {A E : Type 0} → A → Result A E → A
@@ -101,7 +102,7 @@ file_is name (Some (Ok set)) content h = by_range (is_in_offset_range (totals_of
 
     by_mark : (b : Bool) → file_unless b (named name set) ≡ Ok content → IsFile content
     by_mark true h = absurd cc
-    by_mark false h = by_fault (file_fault (named name set)) h
+    by_mark false h = by_fault (consistent_fault (named name set)) h
 
     by_range : (b : Bool) → cond b (file_unless (is_marked (named name set)) (named name set)) (Err OffsetRange) ≡ Ok content → IsFile content
     by_range true h = by_mark (is_marked (named name set)) h
@@ -228,7 +229,7 @@ all_among : (P : List ℕ → Type 0) (names : List (List ℕ)) → ((name : Lis
     → AllByRecursion P names
 all_among P [] h = tt
 all_among P (name ∷ names) h = (
-  h name (or_left (eq_by_cmp text_cmp name name) _ (is_itself name name ((bytes_eq-Decides name name).1 refl))),
+  h name (or_left (eq_by_cmp text_cmp name name) _ (tied_texts name name ∙ (bytes_eq-Decides name name).1 refl)),
   all_among P names (λ other there. h other (or_right (eq_by_cmp text_cmp other name) _ there)),
 )
 

@@ -1,20 +1,17 @@
 -- The names of a table are those of its source, and find the same.
 use Rattle.std.proofs.Common.{◌≡◌, ℕ, Bool, true, false, List, [], ◌∷◌, ◌++◌, map, reverse, cond, Some, refl, sym, ap, ◌∙◌, append-nil}
-use Rattle.std.specs.Prelude.{◌&&◌, ◌||◌, is_some, bytes_eq}
+use Rattle.std.specs.Prelude.{◌||◌, is_some, bytes_eq}
 use Rattle.std.specs.Cmp.{both_ways}
-use Rattle.std.specs.declared.cmp.Ordering.{Ordering}
-use Rattle.std.specs.FinMap.{FinMap, get, keys, entries, entries_sorted, contains_key-keys, is_sorted, IsAntisymmetric, slice_cmp-IsAntisymmetric, nat_cmp-IsAntisymmetric}
-use Rattle.std.specs.FinMap.Entries.{below_all}
+use Rattle.std.specs.FinMap.{FinMap, get, keys, contains_key-keys, IsAntisymmetric, slice_cmp-IsAntisymmetric, nat_cmp-IsAntisymmetric}
 use Rattle.std.specs.List.{list_any, flat_map}
-use Rattle.std.specs.Ordering.{eq_by_cmp, is_lt}
+use Rattle.std.specs.Ordering.{eq_by_cmp}
 use Rattle.std.proofs.lemmas.Cmp.{nat_list_cmp_total}
 use Rattle.std.proofs.lemmas.List.Folds.{list_any-append}
-use Rattle.std.proofs.lemmas.Map.Text.{is_eq-slice_cmp}
-use Rattle.std.proofs.lemmas.Slice.Eq.{bytes_eq-Decides}
 use Rattle.std.proofs.lemmas.Bool.{or_right, or_left}
 use Rattle.owned.specs.InOrder.{in_order}
-use Rattle.owned.specs.InOrderLaws.{same_rising, any-in_order, sorted_in_order, rises_from_sorted, RisesStrictly, tagged, true_from_T}
+use Rattle.owned.specs.InOrderLaws.{any-in_order, rises-keys, rises_from_sorted, same_rising, sorted_in_order}
 use Rattle.owned.specs.Keyed.{text_cmp}
+use Rattle.owned.specs.KeyedLaws.{tied_texts}
 use Rattle.owned.specs.Listed.{listed}
 use Rattle.zone_run.specs.FoundLaws.{found_is}
 use Rattle.zone_source.specs.Zones.{values_of}
@@ -28,20 +25,6 @@ use Rattle.zone_tree.specs.Names.{zone_names, link_names, names_by, finds_in, fi
 
 pub text_same : IsAntisymmetric text_cmp
 text_same = slice_cmp-IsAntisymmetric nat_cmp-IsAntisymmetric
-
--- ---- the keys of a map rise
-
-below_keys : {K X : Type 0} (R : K → K → Ordering) (x : K) (es : List (K × X))
-    → below_all R x es ≡ below_all R x (tagged (map (λ e. e.0) es))
-below_keys R x [] = refl
-below_keys R x (e ∷ es) = ap (λ b. is_lt (R x e.0) && b) (below_keys R x es)
-
-sorted_keys : {K X : Type 0} (R : K → K → Ordering) (es : List (K × X)) → is_sorted R es ≡ is_sorted R (tagged (map (λ e. e.0) es))
-sorted_keys R [] = refl
-sorted_keys R (e ∷ es) = λ i. below_keys R e.0 es i && sorted_keys R es i
-
-pub rises-keys : {K X : Type 0} {R : K → K → Ordering} (m : FinMap R X) → RisesStrictly R (keys m)
-rises-keys {R = R} m = sym (sorted_keys R (entries m)) ∙ true_from_T (is_sorted R (entries m)) (entries_sorted m)
 
 -- names in order that find what a map has are its keys
 pub keys_are : {X : Type 0} (m : FinMap text_cmp X) (names : List (List ℕ))
@@ -57,16 +40,12 @@ named : (value : LineValue) (latest : List LineValue) (q : List ℕ) → list_an
     → list_any (eq_by_cmp text_cmp q) (flat_map zone_names (value ∷ latest)) ≡ true
 named value latest q h = list_any-append (eq_by_cmp text_cmp q) (zone_names value) (flat_map zone_names latest) ∙ or_right _ _ h
 
-pub is_itself : (q name : List ℕ) → bytes_eq name q ≡ true → eq_by_cmp text_cmp q name ≡ true
-is_itself q name h =
-    is_eq-slice_cmp q name ∙ (bytes_eq-Decides q name).1 (sym ((bytes_eq-Decides name q).0 h))
-
 -- the owner's name is a line's
 owner_named : (latest : List LineValue) (q : List ℕ) → is_owner latest q ≡ true → list_any (eq_by_cmp text_cmp q) (flat_map zone_names latest) ≡ true
 owner_named [] q h = absurd (cc)
 owner_named (space ∷ before) q h = owner_named before q h
 owner_named (continuation info ∷ before) q h = owner_named before q h
-owner_named (zone name info ∷ before) q h = or_left _ _ (is_itself q name h)
+owner_named (zone name info ∷ before) q h = or_left _ _ (tied_texts q name ∙ h)
 owner_named (rule r ∷ before) q h = absurd (cc)
 owner_named (link existing name ∷ before) q h = absurd (cc)
 
@@ -85,7 +64,7 @@ zone_named (zone name info ∷ before) q h = by_name (bytes_eq name q) refl (zon
     by_name : (b : Bool) → bytes_eq name q ≡ b
         → (is_some (listed (zone_of before q)) ≡ true → list_any (eq_by_cmp text_cmp q) (flat_map zone_names before) ≡ true)
         → list_any (eq_by_cmp text_cmp q) (flat_map zone_names (zone name info ∷ before)) ≡ true
-    by_name true e more = or_left _ _ (is_itself q name e)
+    by_name true e more = or_left _ _ (tied_texts q name ∙ e)
     by_name false e more = named (zone name info) before q (more (some_listed (bytes_eq name q) (zone_of before q) _ e h))
 zone_named (continuation info ∷ before) q h = by_owner (is_owner before q) refl (zone_named before q)
   where
@@ -103,11 +82,6 @@ some_last : (xs : List ZoneInfo) (x : ZoneInfo) → is_some (listed (xs ++ x ∷
 some_last [] x = refl
 some_last (y ∷ xs) x = refl
 
--- the test of the order is that of bytes, the other way round
-pub text_test : (q name : List ℕ) → eq_by_cmp text_cmp q name ≡ bytes_eq name q
-text_test q name = both_ways _ _
-    (λ h. (bytes_eq-Decides name q).1 (sym ((bytes_eq-Decides q name).0 (sym (is_eq-slice_cmp q name) ∙ h)))) (is_itself q name)
-
 given_owned : (latest : List LineValue) (q : List ℕ) → list_any (eq_by_cmp text_cmp q) (flat_map zone_names latest) ≡ true
     → is_some (listed (zone_of latest q)) ≡ true
 given_owned [] q h = absurd cc
@@ -121,7 +95,7 @@ given_owned (zone name info ∷ before) q h = by_name (eq_by_cmp text_cmp q name
         → (list_any (eq_by_cmp text_cmp q) (flat_map zone_names before) ≡ true → is_some (listed (zone_of before q)) ≡ true)
         → is_some (listed (zone_of (zone name info ∷ before) q)) ≡ true
     by_name true e h more =
-        ap (λ b. is_some (listed (zone_of before q ++ cond b (owned_info info ∷ []) []))) (sym (text_test q name) ∙ e)
+        ap (λ b. is_some (listed (zone_of before q ++ cond b (owned_info info ∷ []) []))) (sym (tied_texts q name) ∙ e)
         ∙ some_last (zone_of before q) (owned_info info)
     by_name false e h more = some_more (zone_of before q) _ (more h)
 
@@ -138,7 +112,7 @@ links_given (rule r ∷ before) q = links_given before q
 links_given (continuation info ∷ before) q = links_given before q
 links_given (zone name info ∷ before) q = links_given before q
 links_given (link existing name ∷ before) q =
-    (λ i. text_test q name i || links_given before q i) ∙ by_name (bytes_eq name q)
+    (λ i. tied_texts q name i || links_given before q i) ∙ by_name (bytes_eq name q)
   where
     by_name : (b : Bool) → (b || is_some (link_of before q)) ≡ is_some (cond b (Some existing) (link_of before q))
     by_name true = refl

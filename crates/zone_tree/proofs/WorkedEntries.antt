@@ -16,7 +16,7 @@ use Rattle.zone_tree.specs.Names.{Finds, archive_names}
 use Rattle.zone_tree.specs.Trees.{entries_of, refused, tree_by}
 use Rattle.zone_tree.specs.declared.refusal.Why.TheVariants.{Schedule, OffsetRange, Format, File, Link, Name, Size}
 use Rattle.zone_tzif_core.specs.declared.values.WriteFault.TheVariants as write
-use Rattle.zone_tzif_set.specs.Files.{file_fault, file_of_set}
+use Rattle.zone_tzif_set.specs.Files.{consistent_fault, consistent_file}
 
 -- ---- which names others stand in
 
@@ -67,14 +67,14 @@ unfolding is_marked
 sets_with_marks = refl
 
 -- a mark comes before what the file would be refused for
-marks_first : (set : FixedTimespanSet) → map (λ mark. file_unless mark set) (true ∷ false ∷ []) ≡ Err Format ∷ file_or (file_fault set) set ∷ []
+marks_first : (set : FixedTimespanSet) → map (λ mark. file_unless mark set) (true ∷ false ∷ []) ≡ Err Format ∷ file_or (consistent_fault set) set ∷ []
 marks_first set = refl
 
 -- the file of the spans under the name of the zone
 abbrev the_set : FixedTimespanSet
 the_set = record { name = codes "A/B"; first = record { utc_offset = pos 3600; dst_offset = pos 0; name = codes "T" }; others = [] }
 
-a_file : file_fault the_set ≡ None → zone_content (codes "A/B") (Some (Ok (fixed_at (pos 3600)))) ≡ Ok (of_file (file_of_set the_set))
+a_file : consistent_fault the_set ≡ None → zone_content (codes "A/B") (Some (Ok (fixed_at (pos 3600)))) ≡ Ok (of_file (consistent_file the_set))
 unfolding totals_of is_marked
 a_file sound = ap (λ fault. file_or fault the_set) sound
 
@@ -160,7 +160,7 @@ two_names = record {
   target = λ name. Some (codes "A/B");
 }
 
-a_whole_tree : file_fault the_set ≡ None → entry_fault (entry (codes "A/B") (of_file (file_of_set the_set))) ≡ None
-    → tree_by two_names ≡ Ok (archive (entry (codes "A/B") (of_file (file_of_set the_set)) ∷ entry (codes "0") (of_link (codes "A/B")) ∷ []))
+a_whole_tree : consistent_fault the_set ≡ None → entry_fault (entry (codes "A/B") (of_file (consistent_file the_set))) ≡ None
+    → tree_by two_names ≡ Ok (archive (entry (codes "A/B") (of_file (consistent_file the_set)) ∷ entry (codes "0") (of_link (codes "A/B")) ∷ []))
 unfolding tree_by entries_of entry_of entry_fault is_path cut is_marked
 a_whole_tree sound fits = rw (a_file sound, fits) refl

@@ -12,11 +12,11 @@ use Rattle.zone_tree.specs.Names.{Finds}
 use Rattle.zone_tree.specs.declared.refusal.Why.{Why}
 use Rattle.zone_tree.specs.declared.refusal.Why.TheVariants.{Schedule, OffsetRange, Format, File, Link, Name, Size}
 use Rattle.zone_tzif_core.specs.declared.values.WriteFault.{WriteFault}
-use Rattle.zone_tzif_set.specs.Files.{file_fault, file_of_set}
+use Rattle.zone_tzif_set.specs.Files.{consistent_fault, consistent_file}
 
 -- the file of a set, or why there is none
 abbrev pub file_or : Option WriteFault → FixedTimespanSet → Result Content Why
-file_or None set = Ok (of_file (file_of_set set))
+file_or None set = Ok (of_file (consistent_file set))
 file_or (Some fault) set = Err (File fault)
 
 -- a `%` is left in a text: what a FORMAT asks for was not put in its place
@@ -30,7 +30,7 @@ is_marked set = has_mark set.first.name || list_any (λ entry. has_mark entry.1.
 -- no reader of a file knows such a mark, so there is no file with one
 abbrev pub file_unless : Bool → FixedTimespanSet → Result Content Why
 file_unless true set = Err Format
-file_unless false set = file_or (file_fault set) set
+file_unless false set = file_or (consistent_fault set) set
 
 -- the file of what the name of a zone finds; a name that finds nothing is none of the archive's
 abbrev pub zone_content : List ℕ → Found → Result Content Why

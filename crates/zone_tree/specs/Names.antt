@@ -24,9 +24,7 @@ link_names value = []
 
 -- the name that a line gives to a zone or by a link
 abbrev pub names_by : LineValue → List (List ℕ)
-names_by (zone name info) = name ∷ []
-names_by (link existing name) = name ∷ []
-names_by value = []
+names_by value = zone_names value ++ link_names value
 
 -- those that the lines of a source give
 unfoldable pub given_names : List ℕ → List (List ℕ)

@@ -13,7 +13,7 @@ ghost use Rattle.zone_tree.specs.Entries.{has_mark, is_marked, file_or, file_unl
 ghost use Rattle.zone_tree.specs.Names.{finds_in_table};
 ghost use Rattle.zone_tree.specs.Shown.{all_names};
 ghost use Rattle.zone_tree.specs.Told.{IsPut, IsWhy};
-ghost use Rattle.zone_tzif_set.specs.Files.{file_fault};
+ghost use Rattle.zone_tzif_set.specs.Files.{consistent_fault};
 
 use crate::folder::is_folder;
 use crate::names::{Names, is_zone};
@@ -23,7 +23,7 @@ use tz_lookup::{FixedTimespan, FixedTimespanSet, ZoneFault, compile_zone};
 use ustar::{Content, EntryFault, entry_fault, put_entry};
 use zone_table::Table;
 use zone_tzif_core::WriteFault;
-use zone_tzif_set::{FileFault, tzif_of};
+use zone_tzif_set::{FileFault, consistent_tzif_of};
 
 /// Whether a `%` is left in a text.
 fn has_mark(text: &str) -> bool
@@ -52,10 +52,10 @@ fn is_marked(set: &FixedTimespanSet) -> bool
 /// The file of a set that has no `%` in an abbreviation.
 fn file_of_unmarked(alloc: Global, set: &FixedTimespanSet) -> Result<Vec<u8>, NameFault>
     requires { IsAccepted (schedule_of set.now) }
-    ensures ok { IfOk result (λ file. file_or (file_fault set.now) set.now ≡ Ok (of_file file.items)) }
-    ensures err { IfErr result (IsWhy (file_or (file_fault set.now) set.now)) }
+    ensures ok { IfOk result (λ file. file_or (consistent_fault set.now) set.now ≡ Ok (of_file file.items)) }
+    ensures err { IfErr result (IsWhy (file_or (consistent_fault set.now) set.now)) }
 {
-    match tzif_of(alloc, set) {
+    match consistent_tzif_of(alloc, set) {
         Ok(file) => Ok(file),
         Err(FileFault::Times) => Err(NameFault::Refused(Why::File(WriteFault::Times))),
         Err(FileFault::Types) => Err(NameFault::Refused(Why::File(WriteFault::Types))),

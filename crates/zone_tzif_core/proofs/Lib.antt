@@ -12,5 +12,6 @@ mod TextLemmas
 mod ValueLemmas
 mod WorkedFaults
 mod WorkedFiles
+mod WorkedFormat
 mod WorkedReads
 mod WrittenLemmas

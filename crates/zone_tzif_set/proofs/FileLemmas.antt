@@ -14,9 +14,9 @@ use Rattle.zone_tzif_core.specs.Format.{is_one_line}
 use Rattle.zone_tzif_core.specs.Tzif.{added, are_names, are_times, each_once, first_fault, is_same, kinds_of, names_of, write_fault}
 use Rattle.zone_tzif_core.specs.Zones.{KindValue, ZoneValue, is_small}
 use Rattle.zone_tzif_core.specs.declared.values.WriteFault.TheVariants as write
-use Rattle.zone_tzif_set.specs.Files.{file_fault, footer_of}
+use Rattle.zone_tzif_set.specs.Files.{consistent_footer, consistent_zone, file_fault, footer_of}
 use Rattle.zone_tzif_set.specs.Values.{change_of, kind_of, value_of}
-use Rattle.zone_tzif_set.proofs.FooterLemmas.{footer_clean}
+use Rattle.zone_tzif_set.proofs.FooterLemmas.{consistent_clean, footer_clean}
 use Rattle.zone_tzif_set.proofs.TotalLemmas.{entries_small}
 
 -- what holds of all holds of each once
@@ -53,7 +53,7 @@ kinds_small set footer accepted =
     (and_from _ _ (small (total set.first) parts.0) (changes_small set.others (entries_small set.others parts.1)))
 
 -- the last two tests hold
-abbrev IsNeither : ZoneValue → Type 0
+abbrev pub IsNeither : ZoneValue → Type 0
 IsNeither zone = (write_fault zone ≢ Some write.Offset) × (write_fault zone ≢ Some write.Footer)
 
 neither : (zone : ZoneValue) → list_all has_small (kinds_of zone) ≡ true → is_one_line zone.footer ≡ true → IsNeither zone
@@ -71,3 +71,9 @@ pub never : (set : FixedTimespanSet) → IsAccepted (schedule_of set) → (tail_
     → (file_fault set ≢ Some write.Offset) × (file_fault set ≢ Some write.Footer)
 unfolding value_of
 never set accepted clean = neither (value_of set (footer_of set)) (kinds_small set (footer_of set) accepted) (footer_clean set clean)
+
+pub never_consistent : (set : FixedTimespanSet) → IsAccepted (schedule_of set) → (tail_fault set ≡ None → is_one_line (found_text set) ≡ true)
+    → IsNeither (consistent_zone set)
+unfolding value_of
+never_consistent set accepted clean =
+    neither (value_of set (consistent_footer set)) (kinds_small set (consistent_footer set) accepted) (consistent_clean set clean)

@@ -2,3 +2,4 @@ mod FileLemmas
 mod FooterLemmas
 pub mod TotalLemmas
 pub mod ValueLemmas
+mod WorkedKinds

@@ -1,8 +1,9 @@
 -- The file of a compiled set, and why there is none.
 use Rattle.std.specs.Prelude.{◌≡◌, ℕ, List, [], Option, Some, None, Result, Ok, Err, if◌then◌else◌, is_none}
 use Rattle.tz_zone.specs.declared.set.FixedTimespanSet.{FixedTimespanSet}
-use Rattle.zone_tail_core.specs.Found.{found_text}
-use Rattle.zone_tail_core.specs.Tails.{tail_fault}
+use Rattle.zone_tail_core.specs.Carried.{CarriesOn}
+use Rattle.zone_tail_core.specs.Found.{found_from, found_text}
+use Rattle.zone_tail_core.specs.Tails.{is_outlasting, tail_fault, IsTail}
 use Rattle.zone_tzif_core.specs.Tzif.{tzif, write_fault}
 use Rattle.zone_tzif_core.specs.Zones.{ZoneValue}
 use Rattle.zone_tzif_core.specs.declared.values.WriteFault.{WriteFault}
@@ -15,9 +16,22 @@ use Rattle.zone_tzif_set.specs.declared.file.FileFault.TheVariants.{Times, Types
 unfoldable pub footer_of : FixedTimespanSet → List ℕ
 footer_of set = if is_none (tail_fault set) then found_text set else []
 
+-- where there is one, it is the one string of the set, and carries it on
+pub record IsCarriedOn (set : FixedTimespanSet) : Type 0 where
+  pub tail : tail_fault set ≡ None → IsTail set (found_from set) (footer_of set)
+  pub carries : tail_fault set ≡ None → CarriesOn set (found_from set) (footer_of set)
+
 -- the zone of the set, with that footer
 abbrev pub zone_of : FixedTimespanSet → ZoneValue
 zone_of set = value_of set (footer_of set)
+
+-- The same string, unless a change of the set lies past all that it says: a footer holds from the last change on, so there it would
+-- take back what that change puts in force.
+unfoldable pub consistent_footer : FixedTimespanSet → List ℕ
+consistent_footer set = if is_outlasting set then [] else footer_of set
+
+abbrev pub consistent_zone : FixedTimespanSet → ZoneValue
+consistent_zone set = value_of set (consistent_footer set)
 
 -- its file
 abbrev pub file_of_set : FixedTimespanSet → List ℕ
@@ -27,6 +41,13 @@ file_of_set set = tzif (zone_of set)
 abbrev pub file_fault : FixedTimespanSet → Option WriteFault
 file_fault set = write_fault (zone_of set)
 
+-- the same with the consistent footer
+abbrev pub consistent_file : FixedTimespanSet → List ℕ
+consistent_file set = tzif (consistent_zone set)
+
+abbrev pub consistent_fault : FixedTimespanSet → Option WriteFault
+consistent_fault set = write_fault (consistent_zone set)
+
 -- want of memory may come at any set, any other fault is its cause
 abbrev pub IsFileFault : FileFault → Option WriteFault → Type 0
 IsFileFault NoMemory fault = Unit {0}
@@ -34,7 +55,11 @@ IsFileFault Times fault = fault ≡ Some write.Times
 IsFileFault Types fault = fault ≡ Some write.Types
 IsFileFault Names fault = fault ≡ Some write.Names
 
--- the file where there is no cause, or the cause
+-- the file of a zone where there is no cause, or the cause
+abbrev pub MakesZone : {V : Type 0} → (V → List ℕ) → ZoneValue → Result V FileFault → Type 0
+MakesZone bytes zone (Ok file) = (write_fault zone ≡ None) × (bytes file ≡ tzif zone)
+MakesZone bytes zone (Err fault) = IsFileFault fault (write_fault zone)
+
+-- that of the set's
 abbrev pub Makes : {V : Type 0} → (V → List ℕ) → FixedTimespanSet → Result V FileFault → Type 0
-Makes bytes set (Ok file) = (file_fault set ≡ None) × (bytes file ≡ file_of_set set)
-Makes bytes set (Err fault) = IsFileFault fault (file_fault set)
+Makes bytes set result = MakesZone bytes (zone_of set) result

@@ -6,19 +6,19 @@ ghost use Rattle.zone_tail_core.specs.Carried.{CarriesOn};
 ghost use Rattle.zone_tail_core.specs.Found.{found_from};
 ghost use Rattle.zone_tail_core.specs.Tails.{tail_fault};
 ghost use Rattle.zone_tzif_core.specs.Denotes.{Denotes};
-ghost use Rattle.zone_tzif_core.specs.Shown.{zone_shown};
 ghost use Rattle.zone_tzif_core.specs.Totals.{file_total_at};
-ghost use Rattle.zone_tzif_core.specs.Tzif.{IsTzif};
+ghost use Rattle.zone_tzif_core.specs.Tzif.{IsTzif, write_fault};
 ghost use Rattle.zone_tzif_core.specs.Zones.{ZoneValue};
-ghost use Rattle.zone_tzif_set.specs.Files.{footer_of, zone_of, file_fault, Makes};
+ghost use Rattle.zone_tzif_set.specs.Files.{consistent_footer, consistent_zone, footer_of, zone_of, IsCarriedOn, Makes, MakesZone};
+ghost use Rattle.zone_tzif_set.specs.Values.{value_of};
 
 use crate::convert::from_set;
 use crate::laws::{few_causes, reads_back};
 use std::alloc::{AllocError, Global};
 use tz_zone::FixedTimespanSet;
 use zone_tail_core::laws::one_tail;
-use zone_tail_core::{TailFault, tail};
-use zone_tzif_core::{TzifZone, WriteFault, write_tzif};
+use zone_tail_core::{TailFault, is_outlasting, tail};
+use zone_tzif_core::{WriteFault, write_tzif};
 
 /// Why a set has no file, the first cause that holds.
 #[derive(Clone, Copy, Debug, PartialEq, Eq)]
@@ -48,7 +48,7 @@ impl From<AllocError> for FileFault {
 fn footer_of(alloc: Global, set: &FixedTimespanSet) -> Result<String, AllocError>
     requires { IsAccepted (schedule_of set.now) }
     ensures text { IfOk result (λ text. string_bytes text ≡ footer_of set.now) }
-    ensures carried { IfOk result (λ text. tail_fault set.now ≡ None → CarriesOn set.now (found_from set.now) (footer_of set.now)) }
+    ensures carried { IfOk result (λ _. IsCarriedOn set.now) }
 {
     one_tail();
     match tail(alloc, set) {
@@ -60,19 +60,46 @@ fn footer_of(alloc: Global, set: &FixedTimespanSet) -> Result<String, AllocError
     }
 }
 
-/// The zone of a set, with its string as the footer.
-fn zone_of(alloc: Global, set: &FixedTimespanSet) -> Result<TzifZone, AllocError>
+/// The string that carries a set on, or nothing where it has none or a change lies past all that it says.
+#[tactic(auto, unfolding(crate::specs::Files::consistent_footer))]
+fn consistent_footer(alloc: Global, set: &FixedTimespanSet) -> Result<String, AllocError>
     requires { IsAccepted (schedule_of set.now) }
-    ensures zone { IfOk result (λ zone. zone_shown zone ≡ zone_of set.now) }
-    ensures carried { IfOk result (λ zone. tail_fault set.now ≡ None → CarriesOn set.now (found_from set.now) (footer_of set.now)) }
+    ensures text { IfOk result (λ text. string_bytes text ≡ consistent_footer set.now) }
+    ensures carried { IfOk result (λ _. IsCarriedOn set.now) }
 {
     let footer = footer_of(alloc, set)?;
-    from_set(alloc, set, footer.as_str())
+    if is_outlasting(set) {
+        Ok(String::new(alloc))
+    } else {
+        Ok(footer)
+    }
+}
+
+/// The file of a set with that footer.
+fn with_footer(alloc: Global, set: &FixedTimespanSet, footer: &str) -> Result<Vec<u8>, FileFault>
+    requires accepted { IsAccepted (schedule_of set.now) }
+    requires offset { write_fault (value_of set.now footer.now) ≢ Some WriteFault.Offset }
+    requires footer { write_fault (value_of set.now footer.now) ≢ Some WriteFault.Footer }
+    ensures told { MakesZone (λ file. file.items) (value_of set.now footer.now) result }
+    ensures file { IfOk result (λ file. IsTzif file.items (value_of set.now footer.now)) }
+    ensures totals { IfOk result (λ file. (zone : ZoneValue) → Denotes file.items zone → (t : ℤ) → file_total_at zone t ≡ set_total_at (schedule_of set.now) t) }
+{
+    reads_back();
+    let zone = from_set(alloc, set, footer)?;
+    match write_tzif(alloc, &zone) {
+        Ok(file) => Ok(file),
+        Err(WriteFault::Times) => Err(FileFault::Times),
+        Err(WriteFault::Types) => Err(FileFault::Types),
+        Err(WriteFault::Names) => Err(FileFault::Names),
+        Err(WriteFault::NoMemory) => Err(FileFault::NoMemory),
+        Err(WriteFault::Offset | WriteFault::Footer) => unreachable!(),
+    }
 }
 
 /// The TZif file of a compiled set, the one that [`write_tzif`](zone_tzif_core::write_tzif) writes: each span as what holds from
 /// its time on, and as the footer the POSIX TZ string that [`tail`](zone_tail_core::tail) gives, or nothing where the set has
-/// none. The set is one that a `Tz` can be made of. Whatever zone is read from the file has the set's offset at each instant.
+/// none. The set is one that a `Tz` can be made of. Whatever zone is read from the file has the set's offset at each instant, as
+/// long as its footer is left out of account: where the set changes at or past the end of the year 2099, the footer takes that back.
 ///
 /// # Errors
 ///
@@ -85,14 +112,25 @@ pub fn tzif_of(alloc: Global, set: &FixedTimespanSet) -> Result<Vec<u8>, FileFau
     ensures carried { IfOk result (λ file. tail_fault set.now ≡ None → CarriesOn set.now (found_from set.now) (footer_of set.now)) }
 {
     few_causes();
-    reads_back();
-    let zone = zone_of(alloc, set)?;
-    match write_tzif(alloc, &zone) {
-        Ok(file) => Ok(file),
-        Err(WriteFault::Times) => Err(FileFault::Times),
-        Err(WriteFault::Types) => Err(FileFault::Types),
-        Err(WriteFault::Names) => Err(FileFault::Names),
-        Err(WriteFault::NoMemory) => Err(FileFault::NoMemory),
-        Err(WriteFault::Offset | WriteFault::Footer) => unreachable!(),
-    }
+    let footer = footer_of(alloc, set)?;
+    with_footer(alloc, set, footer.as_str())
+}
+
+/// The same file where the set has no change at or past the end of the year 2099, and else the one without a footer. Whatever zone
+/// is read from the file has the set's offset at each instant before the end of that year also by the footer, and where a change
+/// lies past it, at each instant at all. RFC 8536 wants a footer to be consistent with the last change.
+///
+/// # Errors
+///
+/// In this order, and each exactly where it says: `Times`, `Types`, `Names`; `NoMemory` where there is none.
+pub fn consistent_tzif_of(alloc: Global, set: &FixedTimespanSet) -> Result<Vec<u8>, FileFault>
+    requires { IsAccepted (schedule_of set.now) }
+    ensures told { MakesZone (λ file. file.items) (consistent_zone set.now) result }
+    ensures file { IfOk result (λ file. IsTzif file.items (consistent_zone set.now)) }
+    ensures totals { IfOk result (λ file. (zone : ZoneValue) → Denotes file.items zone → (t : ℤ) → file_total_at zone t ≡ set_total_at (schedule_of set.now) t) }
+    ensures carried { IfOk result (λ _. IsCarriedOn set.now) }
+{
+    few_causes();
+    let footer = consistent_footer(alloc, set)?;
+    with_footer(alloc, set, footer.as_str())
 }

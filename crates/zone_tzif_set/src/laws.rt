@@ -7,7 +7,7 @@ ghost use Rattle.zone_tzif_core.specs.Denotes.{Denotes};
 ghost use Rattle.zone_tzif_core.specs.Totals.{file_total_at};
 ghost use Rattle.zone_tzif_core.specs.Tzif.{IsTzif};
 ghost use Rattle.zone_tzif_core.specs.Zones.{ZoneValue};
-ghost use Rattle.zone_tzif_set.specs.Files.{file_fault};
+ghost use Rattle.zone_tzif_set.specs.Files.{consistent_fault, file_fault};
 ghost use Rattle.zone_tzif_set.specs.Values.{value_of};
 
 use zone_tail_core::laws::one_line;
@@ -31,9 +31,12 @@ pub fn reads_back()
     written_denotes();
 }
 
-/// The file of a set that can be looked up is refused neither for an offset nor for the footer.
+/// The file of a set that can be looked up is refused neither for an offset nor for the footer, be that the set's string or the
+/// consistent one.
 pub fn few_causes()
-    ensures { (set : FixedTimespanSet) → IsAccepted (schedule_of set) → (file_fault set ≢ Some WriteFault.Offset) × (file_fault set ≢ Some WriteFault.Footer) }
+    ensures string { (set : FixedTimespanSet) → IsAccepted (schedule_of set) → (file_fault set ≢ Some WriteFault.Offset) × (file_fault set ≢ Some WriteFault.Footer) }
+    ensures consistent { (set : FixedTimespanSet) → IsAccepted (schedule_of set)
+        → (consistent_fault set ≢ Some WriteFault.Offset) × (consistent_fault set ≢ Some WriteFault.Footer) }
 {
     one_line();
 }

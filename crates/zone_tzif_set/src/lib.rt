@@ -6,5 +6,5 @@ mod file;
 mod laws;
 
 pub use convert::from_set;
-pub use file::{FileFault, tzif_of};
+pub use file::{FileFault, consistent_tzif_of, tzif_of};
 pub use laws::{few_causes, reads_back, totals_kept};

@@ -1,10 +1,12 @@
 -- What the callers answer.
-use Rattle.std.specs.Prelude.{◌≡◌, ℕ, ℤ, List, [], ◌∷◌, Option, Some, None, Ok}
+use Rattle.std.specs.Prelude.{◌≡◌, ℕ, ℤ, int_lt, List, [], ◌∷◌, Option, Some, None, Ok}
+use Rattle.std.specs.List.{find}
 use Rattle.tz_posix_core.specs.Parses.{IsParsed}
 use Rattle.tz_posix_core.specs.PosixShown.{posix_of}
 use Rattle.tz_posix_core.specs.PosixZones.{GivesTotal}
 use Rattle.tz_posix_core.specs.declared.posix.PosixTz.{PosixTz}
 use Rattle.tz_zone.specs.declared.set.FixedTimespanSet.{FixedTimespanSet}
+use Rattle.tz_tzif.specs.Faults.{SaysInFooter}
 use Rattle.tz_tzif.specs.InForce.{told_total_at}
 use Rattle.tz_tzif.specs.Zones.{value_of, says_of}
 use Rattle.tz_tzif.specs.declared.zone.TzifTz.{TzifTz}
@@ -16,16 +18,21 @@ abbrev pub first_of : {A : Type 0} → List A → Option A
 first_of [] = None
 first_of (first ∷ rest) = Some first
 
+-- the first of these times that lies after a second
+abbrev pub next_after : List ℤ → ℤ → Option ℤ
+next_after times second = find (int_lt second) times
+
 -- the text is read as a zone over those of a database, and that gives the instant this total
 pub record IsGivenBy (text : List ℕ) (zones : List FixedTimespanSet) (t total : ℤ) : Type 0 where
   pub zone : PosixTz
   pub is_parsed : IsParsed text zones (Ok zone)
   pub given : GivesTotal (posix_of zone) t total
 
--- the bytes are a file of a zone that can be asked, and that has this total at an instant
+-- the bytes are a file of a zone that can be asked, and that has this total at an instant, from its last change on by what its footer says
 pub record IsGivenByFile (bytes : List ℕ) (t total : ℤ) : Type 0 where
   pub value : ZoneValue
   pub zone : TzifTz
   pub is_file : Denotes bytes value
   pub is_zone : value_of zone ≡ value
+  pub says : SaysInFooter value.footer (says_of zone)
   pub is : total ≡ told_total_at (value_of zone) (says_of zone) t

@@ -1,8 +1,7 @@
 use Rattle.std.proofs.Common.{subst, sym}
-use Rattle.owned.specs.InOrderLaws.{RisesStrictly}
+use Rattle.owned.specs.InOrderLaws.{RisesStrictly, rises-keys}
 use Rattle.owned.specs.Keyed.{text_cmp}
 use Rattle.zone_tree.specs.Told.{IsWhy}
-use Rattle.zone_tree.proofs.NameLemmas.{rises-keys}
 use Rattle.zone_tree.proofs.TreeLemmas.{one_step, first_step, all_steps}
 use Rattle.zone_tree.proofs.whole.put_names.Goals as goal
 

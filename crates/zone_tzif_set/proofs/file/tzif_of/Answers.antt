@@ -1,9 +1,5 @@
-use Rattle.std.proofs.Common.{subst}
+use Rattle.std.proofs.Common.{string_bytes, subst}
 use Rattle.zone_tzif_core.specs.Tzif.{IsTzif}
-use Rattle.zone_tzif_set.specs.Files.{footer_of}
+use Rattle.zone_tzif_set.specs.Files.{MakesZone}
+use Rattle.zone_tzif_set.specs.Values.{value_of}
 use Rattle.zone_tzif_set.proofs.file.tzif_of.Goals as goal
-
-pub returns-in-Ok-clause-totals : goal.returns-in-Ok-clause-totals
-returns-in-Ok-clause-totals c = λ zone read t.
-    c.reads_back.ensures.any c.args.set.now (footer_of c.args.set.now) c.in-Ok.file.items zone
-    (subst (IsTzif c.in-Ok.file.items) c.in_ok-zone.ensures.zone c.in-Ok.ensures.file) read t

@@ -9,6 +9,7 @@ returns c = record {
     zone = c.in_ok-zone.zone;
     is_file = c.in_ok-value.ensures.exact;
     is_zone = c.in_ok-zone.ensures.is;
+    says = c.in_ok-zone.ensures.accepted.says;
     is = c.to_utc.ensures ∙ c.get_offset_utc.ensures.total;
   };
   err = tt;

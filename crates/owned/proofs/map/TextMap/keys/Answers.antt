@@ -11,8 +11,8 @@ use Rattle.std.specs.FinMap.{slice_cmp-IsAntisymmetric, nat_cmp-IsAntisymmetric}
 use Rattle.std.proofs.lemmas.List.Sorted.{IsPermutation-map, IsPermutation-trans, list_any-IsPermutation}
 use Rattle.std.proofs.lemmas.Map.Keys.{IsDistinct-IsPermutation, IsDistinct-from_sorted}
 use Rattle.owned.specs.Keyed.{text_cmp}
-use Rattle.owned.specs.InOrderLaws.{same_rising, sorted_from_rises, rises-viewed}
-use Rattle.owned.proofs.DistinctKeys.{rises-keys, sorted_from_distinct, IsDistinct-unviewed}
+use Rattle.owned.specs.InOrderLaws.{rises-keys, same_rising, sorted_from_rises, rises-viewed}
+use Rattle.owned.proofs.DistinctKeys.{sorted_from_distinct, IsDistinct-unviewed}
 use Rattle.owned.proofs.map.TextMap.keys.Goals as goal
 
 -- the same keys on both sides, and both sides strictly rise
