@@ -116,13 +116,18 @@ def rules_and_offsets(count):
 
 
 def rulesets_alike(rulesets, rules, lines):
-    """So many rulesets, of so many rules each, which differ in the letters of the last one, and lines that go round them."""
+    """So many rulesets, of so many rules each, which differ in the letters of the last one, and lines under each of them, and then under
+    the last two by turns."""
+    def name_of(number):
+        return b"R%c%c" % (97 + number // 26, 97 + number % 26)
+
     def alike(number):
-        return b"".join(b"Rule R%03d %d only - Jan 1 %d:00 0 %d\n" % (number, 1800 + place // 24, place % 24, number * (place + 1 == rules))
+        return b"".join(b"Rule %s %d only - Jan 1 %d:00 0 %d\n" % (name_of(number), 1800 + place // 24, place % 24, number * (place + 1 == rules))
                         for place in range(rules))
 
     return (b"".join(map(alike, range(rulesets))) + b"Zone A 0:00 - AAA 1\n"
-            + b"".join(b" 0:00 R%03d B%%sB %s\n" % (number % rulesets, hour_of(number)) for number in range(lines)) + b" 0:00 - CCC\n")
+            + b"".join(b" 0:00 %s B%%sB %s\n" % (name_of(number if number < rulesets else rulesets - 1 - number % 2), hour_of(number))
+                       for number in range(lines)) + b" 0:00 - CCC\n")
 
 
 def small_texts():
