@@ -1,6 +1,7 @@
 -- Entries between two seconds, by how many lie before each.
 use Rattle.std.proofs.Common.{◌≡◌, ℕ, zero, suc, ◌+◌, ◌-◌, ◌<◌, ◌≤◌, Bool, true, false, cond, List, [], ◌∷◌, length, length-take-le, map, take, drop, slice_index_or, ℤ, pos, ◌≤ℤ◌, ◌<ℤ◌, int_le, int_lt, refl, sym, ap, ◌∙◌, subst, ⊎_elim, arith}
 use Rattle.std.specs.Prelude.{◌&&◌, ◌||◌, filter, nat_lt}
+use Rattle.std.specs.Cmp.{both_ways}
 use Rattle.std.specs.List.{list_any}
 use Rattle.std.proofs.lemmas.Int.{ints}
 use Rattle.std.proofs.lemmas.Bool.{cases_lt}
@@ -131,18 +132,25 @@ module _ (set : FixedTimespanSet) (low high : ℤ) (b e : ℕ) (begins : IsCount
         opposed _ _ _ _ low_is high_is rising.1 (not_later is)),
   )
 
+not_below : (k : ℕ) → false ≡ nat_lt k 0
+not_below k = grind (arith, nat_tests)
+
+first_below : (n : ℕ) → true ≡ nat_lt 0 (suc n)
+first_below n = grind (arith, nat_tests)
+
+next_below : (k n : ℕ) → nat_lt k n ≡ nat_lt (suc k) (suc n)
+next_below k n = both_ways _ _ (λ h. grind (arith, nat_tests, h)) (λ h. grind (arith, nat_tests, h))
+
 -- some entry lies at a second or past it exactly where not all lie before
 pub later_is : (entries : List Entry) (second : ℤ) (k : ℕ) → IsCount (shifts entries) second k
     → list_any (λ (entry : Entry). int_le second entry.0) entries ≡ nat_lt k (length entries)
-later_is [] second k h = sym (none k)
-  where
-    none : (k : ℕ) → nat_lt k 0 ≡ false
-    none k = grind (arith, nat_tests)
+later_is [] second k h = not_below k
 later_is (e ∷ es) second zero h =
     ap (λ b. b || list_any (λ (entry : Entry). int_le second entry.0) es) (le_pass second e.0 (h.after 0 (omega arith) (omega arith)))
+    ∙ first_below (length es)
 later_is (e ∷ es) second (suc k) h =
     ap (λ b. b || list_any (λ (entry : Entry). int_le second entry.0) es) (le_fail second e.0 (h.before 0 (omega arith)))
-    ∙ later_is es second k (tail_before e es second k h)
+    ∙ later_is es second k (tail_before e es second k h) ∙ next_below k (length es)
 
 -- ---- the span in force at a second
 

@@ -75,7 +75,6 @@ pub(crate) fn standard_of(set: &FixedTimespanSet) -> i64
 }
 
 /// Whether a set has an entry at or past the end of the last year, of which its string says nothing.
-#[tactic(auto, unfolding(crate::specs::Tails::is_outlasting))]
 pub fn is_outlasting(set: &FixedTimespanSet) -> bool
     requires { IsAccepted (schedule_of set.now) }
     ensures { result ≡ is_outlasting set.now }
