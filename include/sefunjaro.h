@@ -105,7 +105,8 @@ enum sefunjaro_plain_cause {
     SEFUNJARO_PLAIN_YEAR_ORDER = 7,       /* FROM is after TO */
     SEFUNJARO_PLAIN_TYPE = 8,             /* TYPE is not `-` */
     SEFUNJARO_PLAIN_MONTH = 9,            /* no month fits the word, or two do */
-    SEFUNJARO_PLAIN_DAY = 10,             /* a day has no form of zic's manual, or lies past its month's longest length */
+    SEFUNJARO_PLAIN_DAY = 10,             /* a day has no form of zic's manual, or lies past its month's longest length, or is February 29
+                                             and not of one leap year alone */
     SEFUNJARO_PLAIN_TIME = 11,            /* a time has no form of that manual, minutes past 59, or hours past 99 */
     SEFUNJARO_PLAIN_SAVING = 12,          /* the suffix of a saving changes which time is standard */
     SEFUNJARO_PLAIN_FORMAT = 13,          /* a format has a `%` that can't be filled, or is empty */

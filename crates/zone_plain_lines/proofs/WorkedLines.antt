@@ -14,7 +14,7 @@ use Rattle.zone_values.specs.declared.weekday.Weekday.TheVariants.{Sunday, Monda
 use Rattle.zone_values.specs.declared.year.Year.TheVariants.{Minimum, Maximum, Number}
 use Rattle.zone_plain_lines.specs.Clocks.{amount, clock_spec, amount_spec, rounded, second_of, minutes_below, unsigned, clock_of, amount_of, saved, marked, at_of}
 use Rattle.zone_plain_lines.specs.Columns.{year_of, to_of, years_of, ruleset_name, zone_name, saving_of, is_format}
-use Rattle.zone_plain_lines.specs.Days.{day_number, side_of, sided, day_of}
+use Rattle.zone_plain_lines.specs.Days.{day_number, side_of, sided, day_of, if_there}
 use Rattle.zone_plain_lines.specs.Meanings.{offset_of, save_of, moment_of, rule_of, end_at, end_of, info_of, link_of, first_line_of, meaning}
 use Rattle.zone_plain_lines.specs.Numbers.{number_between}
 use Rattle.zone_plain_lines.specs.Quotes.{fields, laid_out, pieces, has_bad_quotes}
@@ -122,12 +122,47 @@ marks = refl
 
 -- ---- days
 
-days : map (day_of February) (codes "29" ∷ codes "lastSu" ∷ codes "Su>=8" ∷ codes "sunday<=25" ∷ codes "30" ∷ codes "0" ∷ codes "S>=8" ∷ codes "Su>8"
+days : map (day_of February) (codes "29" ∷ codes "lastSu" ∷ codes "Su>=8" ∷ codes "Su>=29" ∷ codes "sunday<=25" ∷ codes "Su<=28" ∷ codes "Su<=29" ∷ codes "30" ∷ codes "0" ∷ codes "S>=8" ∷ codes "Su>8"
     ∷ codes "Su>=30" ∷ codes "last" ∷ codes "Su" ∷ [])
-    ≡ Ok (Ordinal (pos 29)) ∷ Ok (Last Sunday) ∷ Ok (FirstOnOrAfter Sunday (pos 8)) ∷ Ok (LastOnOrBefore Sunday (pos 25))
+    ≡ Ok (Ordinal (pos 29)) ∷ Ok (Last Sunday) ∷ Ok (FirstOnOrAfter Sunday (pos 8)) ∷ Ok (FirstOnOrAfter Sunday (pos 29)) ∷ Ok (LastOnOrBefore Sunday (pos 25))
+    ∷ Ok (LastOnOrBefore Sunday (pos 28)) ∷ Ok (Last Sunday)
     ∷ Err cause.Day ∷ Err cause.Day ∷ Err cause.Day ∷ Err cause.Day ∷ Err cause.Day ∷ Err cause.Day ∷ Err cause.Day ∷ []
 unfolding day_of sided side_of day_number number_between value_in weekday_of last_weekday_of days_in_month is_leap
 days = refl
+
+-- other months have their last day in each year
+other_months : map (λ month. day_of month (codes "Su<=29")) (January ∷ March ∷ December ∷ [])
+    ≡ Ok (LastOnOrBefore Sunday (pos 29)) ∷ Ok (LastOnOrBefore Sunday (pos 29)) ∷ Ok (LastOnOrBefore Sunday (pos 29)) ∷ []
+unfolding day_of sided side_of day_number number_between value_in weekday_of last_weekday_of days_in_month is_leap
+other_months = refl
+
+-- February 29 in a leap year, and in a common one
+leap_days : map (λ year. if_there (Number year) None February (Ordinal (pos 29))) (pos 2020 ∷ pos 2000 ∷ pos 0 ∷ negsuc 3 ∷ pos 2019 ∷ pos 2022 ∷ pos 1900 ∷ [])
+    ≡ Ok tt ∷ Ok tt ∷ Ok tt ∷ Ok tt ∷ Err cause.Day ∷ Err cause.Day ∷ Err cause.Day ∷ []
+unfolding if_there is_leap
+leap_days = refl
+
+-- in one leap year by its number, as `only` or as both years, and in no others
+leap_spans : map (λ last. if_there (Number (pos 2020)) last February (Ordinal (pos 29)))
+    (Some (Number (pos 2020)) ∷ Some (Number (pos 2021)) ∷ Some (Number (pos 2024)) ∷ Some Maximum ∷ [])
+    ≡ Ok tt ∷ Err cause.Day ∷ Err cause.Day ∷ Err cause.Day ∷ []
+unfolding if_there is_leap
+leap_spans = refl
+
+no_number : map (λ year. if_there year None February (Ordinal (pos 29))) (Minimum ∷ Maximum ∷ []) ≡ Err cause.Day ∷ Err cause.Day ∷ []
+unfolding if_there
+no_number = refl
+
+-- a weekday from it on too; every other day is in each year, or past its month's end in none
+common_days : map (if_there (Number (pos 2019)) None February)
+    (FirstOnOrAfter Sunday (pos 29) ∷ FirstOnOrAfter Sunday (pos 28) ∷ Ordinal (pos 28) ∷ Last Sunday ∷ LastOnOrBefore Sunday (pos 28) ∷ [])
+    ≡ Err cause.Day ∷ Ok tt ∷ Ok tt ∷ Ok tt ∷ Ok tt ∷ []
+unfolding if_there is_leap
+common_days = refl
+
+march_days : if_there (Number (pos 2019)) None March (Ordinal (pos 29)) ≡ Ok tt
+unfolding if_there
+march_days = refl
 
 -- ---- columns
 
@@ -173,7 +208,7 @@ a_rule : meaning false (codes "R" ∷ codes "d" ∷ codes "1916" ∷ codes "o" �
       time_to_add = HoursMinutes (pos 1) (pos 0);
       letters = Some (codes "S");
     }))
-unfolding meaning first_line_of line_word rule_of ruleset_name years_of to_of year_of from_word signed_in moment_of month_of day_of sided day_number
+unfolding meaning first_line_of line_word rule_of ruleset_name years_of to_of year_of from_word signed_in moment_of if_there month_of day_of sided day_number
     days_in_month is_leap last_weekday_of at_of marked save_of saved amount_spec clock_spec amount_of clock_of unsigned minutes_below second_of rounded number_between value_in
 a_rule = refl
 
@@ -184,7 +219,7 @@ a_zone : meaning false (codes "Z" ∷ codes "A" ∷ codes "-3" ∷ codes "b" ∷
       format = codes "%z";
       time = Some (UntilTime (Number (pos 1999)) October (Ordinal (pos 3)) (with_type (HoursMinutes (pos 2) (pos 0)) UTC));
     }))
-unfolding meaning first_line_of link_of zone_name line_word info_of offset_of saving_of is_format end_of end_at year_of from_word signed_in month_of day_of sided day_number
+unfolding meaning first_line_of link_of zone_name line_word info_of offset_of saving_of is_format end_of end_at if_there year_of from_word signed_in month_of day_of sided day_number
     days_in_month is_leap last_weekday_of at_of marked saved amount_spec clock_spec amount_of clock_of unsigned minutes_below second_of rounded number_between value_in
 a_zone = refl
 

@@ -5,6 +5,6 @@ pub mod Quotes
 pub mod Words
 pub mod Numbers
 pub mod Clocks
-pub mod Days
 pub mod Columns
+pub mod Days
 pub mod Meanings

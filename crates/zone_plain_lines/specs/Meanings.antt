@@ -7,9 +7,10 @@ use Rattle.zone_values.specs.declared.day.DaySpec.{DaySpec}
 use Rattle.zone_values.specs.declared.month.Month.{Month}
 use Rattle.zone_values.specs.declared.time.TimeSpec.{TimeSpec}
 use Rattle.zone_values.specs.declared.time.TimeSpecAndType.{TimeSpecAndType}
+use Rattle.zone_values.specs.declared.year.Year.{Year}
 use Rattle.zone_plain_lines.specs.Clocks.{amount_of, amount_spec, at_of, saved}
 use Rattle.zone_plain_lines.specs.Columns.{column, year_of, years_of, type_of, ruleset_name, zone_name, saving_of, is_format, letters_of}
-use Rattle.zone_plain_lines.specs.Days.{day_of}
+use Rattle.zone_plain_lines.specs.Days.{day_of, if_there}
 use Rattle.zone_values.specs.Results.{◌>>=◌}
 use Rattle.zone_plain_lines.specs.Words.{line_word, month_of}
 use Rattle.zone_plain_lines.specs.declared.cause.PlainCause.{PlainCause}
@@ -27,10 +28,12 @@ save_of text = do
   a ← saved text
   Ok (amount_spec a)
 
-unfoldable pub moment_of : List ℕ → List ℕ → List ℕ → Result (Month × DaySpec × TimeSpecAndType) PlainCause
-moment_of in_month on at = do
+-- in each year from the first to the last, if there is one beside it
+unfoldable pub moment_of : Year → Option Year → List ℕ → List ℕ → List ℕ → Result (Month × DaySpec × TimeSpecAndType) PlainCause
+moment_of first last in_month on at = do
   month ← month_of in_month
   day ← day_of month on
+  there ← if_there first last month day
   time ← at_of at
   Ok (month, day, time)
 
@@ -40,7 +43,7 @@ rule_of fields = if not (length fields == 10) then Err cause.FieldCount else (do
   name ← ruleset_name (column fields 1)
   years ← years_of (column fields 2) (column fields 3)
   hyphen ← type_of (column fields 4)
-  moment ← moment_of (column fields 5) (column fields 6) (column fields 7)
+  moment ← moment_of years.0 years.1 (column fields 5) (column fields 6) (column fields 7)
   saving ← save_of (column fields 8)
   Ok (record {
     name = name;
@@ -61,6 +64,7 @@ end_at fields from count = do
     month ← month_of (column fields (from + 1))
     if count == 2 then Ok (UntilMonth year month) else (do
       day ← day_of month (column fields (from + 2))
+      there ← if_there year None month day
       if count == 3 then Ok (UntilDay year month day) else (do
         time ← at_of (column fields (from + 3))
         Ok (UntilTime year month day time))))

@@ -23,7 +23,7 @@ pub enum PlainCause {
     Type,
     /// No month fits the word, or two do.
     Month,
-    /// A day has no form of the manual's, or lies past its month's longest length.
+    /// A day has no form of the manual's, or lies past its month's longest length, or is February 29 and not of one leap year alone.
     Day,
     /// A time has no form of the manual's, minutes past 59, or hours past 99.
     Time,

@@ -10,10 +10,11 @@ use crate::clock::{amount_of, amount_spec, at_of, saved};
 use crate::columns::{
     column, is_format, letters_of, ruleset_name, saving_of, type_of, year_of, years_of, zone_name,
 };
-use crate::day::day_of;
+use crate::day::{day_of, if_there};
 use crate::words::{LineWord, line_word, month_of};
 use zone_values::{
-    ChangeTime, DaySpec, Line, Link, Month, Rule, Saving, TimeSpec, TimeSpecAndType, Zone, ZoneInfo,
+    ChangeTime, DaySpec, Line, Link, Month, Rule, Saving, TimeSpec, TimeSpecAndType, Year, Zone,
+    ZoneInfo,
 };
 
 /// A standard offset.
@@ -34,17 +35,20 @@ fn save_of(text: &str) -> Result<TimeSpec, PlainCause>
     Ok(amount_spec(amount))
 }
 
-/// The month, the day and the time of a rule.
+/// The month, the day and the time of a rule, whose day each of its years has to have.
 #[tactic(auto, unfolding(crate::specs::Meanings::moment_of))]
 fn moment_of(
+    first: Year,
+    last: Option<Year>,
     month: &str,
     on: &str,
     at: &str,
 ) -> Result<(Month, DaySpec, TimeSpecAndType), PlainCause>
-    ensures { result ≡ moment_of month.now on.now at.now }
+    ensures { result ≡ moment_of first last month.now on.now at.now }
 {
     let month = month_of(month)?;
     let day = day_of(month, on)?;
+    if_there(first, last, month, day)?;
     let time = at_of(at)?;
     Ok((month, day, time))
 }
@@ -60,7 +64,13 @@ fn rule_of<'a>(fields: &[&'a str]) -> Result<Rule<'a>, PlainCause>
     let name = ruleset_name(column(fields, 1))?;
     let (from_year, to_year) = years_of(column(fields, 2), column(fields, 3))?;
     type_of(column(fields, 4))?;
-    let (month, day, time) = moment_of(column(fields, 5), column(fields, 6), column(fields, 7))?;
+    let (month, day, time) = moment_of(
+        from_year,
+        to_year,
+        column(fields, 5),
+        column(fields, 6),
+        column(fields, 7),
+    )?;
     let time_to_add = save_of(column(fields, 8))?;
     let letters = letters_of(column(fields, 9));
     Ok(Rule {
@@ -90,6 +100,7 @@ fn end_at(fields: &[&str], from: usize, count: usize) -> Result<ChangeTime, Plai
         return Ok(ChangeTime::UntilMonth(year, month));
     }
     let day = day_of(month, column(fields, from + 2))?;
+    if_there(year, None, month, day)?;
     if count == 3 {
         return Ok(ChangeTime::UntilDay(year, month, day));
     }
