@@ -10,7 +10,7 @@ use Rattle.std.specs.Str.{IsUtf8}
 use Rattle.zone_tzif_core.specs.Zones.{KindValue, ZoneValue, rises}
 use Rattle.zone_tzif_core.specs.Format.{is_one_line}
 use Rattle.zone_tzif_core.specs.Reading.{Cuts, cut, header_at, text_in, between, footer_in, before_zero, name_in, kind_in, kinds_in, shifts_in, second_in, parts_in, joined_in, zone_in}
-use Rattle.zone_tzif_core.specs.Denotes.{IsHeader, IsName, IsKind, AreKinds, no_kind, a_kind, AreShifts, no_shift, a_shift, IsBlock, Denotes}
+use Rattle.zone_tzif_core.specs.Denotes.{IsHeader, IsName, IsKind, AreKinds, no_kind, a_kind, AreShifts, no_shift, a_shift, IsBlock, IsZoneFile}
 use Rattle.zone_tzif_core.specs.declared.header.Header.{Header}
 
 pub cut_again : (n : ℕ) (front rest : List ℕ) → length front ≡ n → cut n (front ++ rest) ≡ Some (front, rest)
@@ -99,9 +99,9 @@ joined_again says block footer kinds zone is end first rising =
     rw (← is.kind_count, kinds_again is.are_kinds, first, shifts_again is.are_shifts, rising, end) refl
 
 -- what a file denotes is read from it
-pub denoted_again : (bytes : List ℕ) (zone : ZoneValue) → Denotes bytes zone → zone_in bytes ≡ Some zone
+pub denoted_again : (last : ℕ) (bytes : List ℕ) (zone : ZoneValue) → IsZoneFile last bytes zone → zone_in last bytes ≡ Some zone
 unfolding zone_in parts_in
-denoted_again bytes zone is =
+denoted_again last bytes zone is =
     let ends = footer_again zone.footer is.one_line is.text in
     let tail = 10 ∷ zone.footer ++ 10 ∷ [] in
     let second = second_again is.says is.block tail zone.footer is.kinds zone.rest is.block_is ends in

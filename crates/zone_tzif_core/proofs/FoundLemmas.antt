@@ -12,7 +12,7 @@ use Rattle.zone_tzif_core.specs.Zones.{KindValue, ZoneValue, is_small, rises}
 use Rattle.zone_tzif_core.specs.Numbers.{four_of, eight_of}
 use Rattle.zone_tzif_core.specs.Format.{begins_well, block_len, suits, is_one_line}
 use Rattle.zone_tzif_core.specs.Reading.{Cuts, cut, header_at, text_in, between, footer_in, before_zero, name_in, kind_in, kinds_in, shifts_in, second_in, parts_in, joined_in, zone_in}
-use Rattle.zone_tzif_core.specs.Denotes.{IsHeader, IsName, IsKind, AreKinds, no_kind, a_kind, AreShifts, no_shift, a_shift, Denotes}
+use Rattle.zone_tzif_core.specs.Denotes.{IsHeader, IsName, IsKind, AreKinds, no_kind, a_kind, AreShifts, no_shift, a_shift, IsZoneFile}
 use Rattle.zone_tzif_core.specs.declared.header.Header.{Header}
 
 bind_some : {A B : Type 0} (f : A → Option B) (o : Option A) (y : B) → option_and_then f o ≡ Some y → (x : A) × (o ≡ Some x) × (f x ≡ Some y)
@@ -101,6 +101,14 @@ name_found names place name e =
       text = text.1;
     }
 
+-- its name stands at the place that the record says
+pub named_found : (names bytes : List ℕ) (kind : KindValue) → kind_in names bytes ≡ Some kind → IsName names (get_or bytes 5 0) kind.name
+unfolding kind_in
+named_found names bytes kind e =
+    let step = chosen (is_small (four_of bytes) && nat_le (get_or bytes 4 0) 1) _ kind e in
+    let name = bind_some _ (name_in names (get_or bytes 5 0)) kind step.1 in
+    subst (λ (k : KindValue). IsName names (get_or bytes 5 0) k.name) (same_Some _ kind name.2) (name_found names (get_or bytes 5 0) name.0 name.1)
+
 kind_found : (names bytes : List ℕ) (kind : KindValue) → length bytes ≡ 6 → kind_in names bytes ≡ Some kind → IsKind names bytes kind
 unfolding kind_in
 kind_found names bytes kind long e =
@@ -114,7 +122,7 @@ kind_found names bytes kind long e =
       small = subst (λ (k : KindValue). is_small k.utoff ≡ true) same tests.0;
       flag = grind (arith, nat_tests, tests.1);
       is_dst = ap (λ (k : KindValue). k.is_dst) same;
-      named = subst (λ (k : KindValue). IsName names (get_or bytes 5 0) k.name) same (name_found names (get_or bytes 5 0) name.0 name.1);
+      named = named_found names bytes kind e;
     }
 
 kinds_found : (names : List ℕ) (n : ℕ) (records : List ℕ) (kinds : List KindValue) → length records ≡ 6 * n → kinds_in names n records ≡ Some kinds → AreKinds names records kinds × (length kinds ≡ n)
@@ -227,14 +235,14 @@ second_found says bytes cuts e =
     })
 
 -- what is read is denoted
-pub denoted_found : (bytes : List ℕ) (zone : ZoneValue) → zone_in bytes ≡ Some zone → Denotes bytes zone
+pub denoted_found : (last : ℕ) (bytes : List ℕ) (zone : ZoneValue) → zone_in last bytes ≡ Some zone → IsZoneFile last bytes zone
 unfolding zone_in parts_in joined_in
-denoted_found bytes zone e =
-    let cuts = bind_some _ (parts_in bytes) zone e in
+denoted_found last bytes zone e =
+    let cuts = bind_some _ (parts_in last bytes) zone e in
     let first = bind_some _ (header_at bytes) cuts.0 cuts.1 in
     let skipped = bind_some _ (cut (block_len first.0.0) first.0.1) cuts.0 first.2 in
     let second = bind_some _ (header_at skipped.0.1) cuts.0 skipped.2 in
-    let suited = chosen (suits first.0.0.version second.0.0) _ cuts.0 second.2 in
+    let suited = chosen (suits last first.0.0.version second.0.0) _ cuts.0 second.2 in
     let a = header_found bytes first.0 first.1 in
     let b = cut_found (block_len first.0.0) first.0.1 skipped.0 skipped.1 in
     let c = header_found skipped.0.1 second.0 second.1 in
@@ -246,7 +254,7 @@ denoted_found bytes zone e =
     let records : length cuts.0.records ≡ 6 * cuts.0.kinds = omega (arith, d.kind_long, d.count) in
     let times : length cuts.0.times ≡ 8 * length cuts.0.numbers = omega (arith, d.time_long, d.time_count) in
     let are = kinds_found cuts.0.names cuts.0.kinds cuts.0.records kinds.0 records kinds.1 in
-    subst (Denotes bytes) rising.1 (record {
+    subst (IsZoneFile last bytes) rising.1 (record {
       head = a.0;
       skipped = skipped.0.0;
       second_head = c.0;

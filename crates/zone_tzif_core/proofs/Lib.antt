@@ -2,6 +2,7 @@ mod AgainLemmas
 mod CheckLemmas
 mod DistinctLemmas
 mod ExactLemmas
+mod FileLemmas
 mod FoundLemmas
 mod JoinedLemmas
 mod LoopLemmas

@@ -4,8 +4,7 @@ use Rattle.std.proofs.lemmas.List.{map-append, drop_more, drop-drop, get_or-map,
 use Rattle.zone_tzif_core.specs.Zones.{KindValue, go_up}
 use Rattle.zone_tzif_core.specs.Numbers.{eight_of}
 use Rattle.zone_tzif_core.specs.Reading.{kind_in, kinds_in, shifts_in}
-use Rattle.zone_tzif_core.specs.Shown.{record_shown, records_shown, found_shown, all_found, Faults}
-use Rattle.zone_tzif_core.specs.declared.kinds.Record.{Record}
+use Rattle.zone_tzif_core.specs.Shown.{Faults}
 use Rattle.zone_tzif_core.specs.declared.values.ReadFault.{ReadFault}
 use Rattle.zone_tzif_core.specs.declared.values.ReadFault.TheVariants.{Refused, NoMemory}
 
@@ -44,43 +43,43 @@ fault_passes Refused step whole told then = then told
 fault_passes NoMemory step whole told then = tt
 
 -- the kinds so far and those that are left make those of all records
-abbrev pub KindsSoFar : List ℕ → ℕ → List ℕ → ℕ → List Record → Type 0
-KindsSoFar names count records i kinds = option_map (λ more. records_shown kinds ++ more) (kinds_in names (count - i) (drop (6 * i) records)) ≡ kinds_in names count records
+abbrev pub KindsSoFar : {K : Type 0} → (K → KindValue) → List ℕ → ℕ → List ℕ → ℕ → List K → Type 0
+KindsSoFar shown names count records i kinds = option_map (λ more. map shown kinds ++ more) (kinds_in names (count - i) (drop (6 * i) records)) ≡ kinds_in names count records
 
-pub kinds_kept : (names : List ℕ) (count : ℕ) (records : List ℕ) (i : ℕ) (kinds grown : List Record) (kind : Record) → i < count → grown ≡ kinds ++ kind ∷ [] → Some (record_shown kind) ≡ kind_in names (take (6 * i + 6 - 6 * i) (drop (6 * i) records)) → KindsSoFar names count records i kinds → KindsSoFar names count records (i + 1) grown
-kinds_kept names count records i kinds grown kind within items told is =
+pub kinds_kept : {K : Type 0} (shown : K → KindValue) (names : List ℕ) (count : ℕ) (records : List ℕ) (i : ℕ) (kinds grown : List K) (kind : K) → i < count → grown ≡ kinds ++ kind ∷ [] → Some (shown kind) ≡ kind_in names (take (6 * i + 6 - 6 * i) (drop (6 * i) records)) → KindsSoFar shown names count records i kinds → KindsSoFar shown names count records (i + 1) grown
+kinds_kept shown names count records i kinds grown kind within items told is =
     let left : count - i ≡ suc (count - (i + 1)) = omega arith in
     let six : 6 * i + 6 - 6 * i ≡ 6 = omega arith in
     let next : 6 * i + 6 ≡ 6 * (i + 1) = omega arith in
     let rest : drop (6 * (i + 1)) records ≡ drop 6 (drop (6 * i) records) = sym (drop-drop 6 (6 * i) records ∙ ap (λ n. drop n records) next) in
-    let shown : records_shown grown ≡ records_shown kinds ++ record_shown kind ∷ [] = ap records_shown items ∙ map-append record_shown kinds (kind ∷ []) in
-    let found : Some (record_shown kind) ≡ kind_in names (take 6 (drop (6 * i) records)) = told ∙ ap (λ n. kind_in names (take n (drop (6 * i) records))) six in
-    ap (λ front. option_map (λ more. front ++ more) (kinds_in names (count - (i + 1)) (drop (6 * (i + 1)) records))) shown
-    ∙ sym (kinds_more names (count - i) (count - (i + 1)) (drop (6 * i) records) (drop (6 * (i + 1)) records) (records_shown kinds) (record_shown kind) left rest found) ∙ is
+    let all : map shown grown ≡ map shown kinds ++ shown kind ∷ [] = ap (map shown) items ∙ map-append shown kinds (kind ∷ []) in
+    let found : Some (shown kind) ≡ kind_in names (take 6 (drop (6 * i) records)) = told ∙ ap (λ n. kind_in names (take n (drop (6 * i) records))) six in
+    ap (λ front. option_map (λ more. front ++ more) (kinds_in names (count - (i + 1)) (drop (6 * (i + 1)) records))) all
+    ∙ sym (kinds_more names (count - i) (count - (i + 1)) (drop (6 * i) records) (drop (6 * (i + 1)) records) (map shown kinds) (shown kind) left rest found) ∙ is
 
-pub kinds_refused : (names : List ℕ) (count : ℕ) (records : List ℕ) (i : ℕ) (kinds : List Record) → i < count → KindsSoFar names count records i kinds → None ≡ kind_in names (take (6 * i + 6 - 6 * i) (drop (6 * i) records)) → None ≡ kinds_in names count records
-kinds_refused names count records i kinds within is refused =
+pub kinds_refused : {K : Type 0} (shown : K → KindValue) (names : List ℕ) (count : ℕ) (records : List ℕ) (i : ℕ) (kinds : List K) → i < count → KindsSoFar shown names count records i kinds → None ≡ kind_in names (take (6 * i + 6 - 6 * i) (drop (6 * i) records)) → None ≡ kinds_in names count records
+kinds_refused shown names count records i kinds within is refused =
     let left : count - i ≡ suc (count - (i + 1)) = omega arith in
     let six : 6 * i + 6 - 6 * i ≡ 6 = omega arith in
-    kinds_none names (count - i) (count - (i + 1)) (drop (6 * i) records) (records_shown kinds) _ left is (refused ∙ ap (λ n. kind_in names (take n (drop (6 * i) records))) six)
+    kinds_none names (count - i) (count - (i + 1)) (drop (6 * i) records) (map shown kinds) _ left is (refused ∙ ap (λ n. kind_in names (take n (drop (6 * i) records))) six)
 
 -- the times so far and those that are left make those of all numbers
-abbrev pub ShiftsSoFar : List Record → List ℕ → List ℕ → ℕ → List (ℤ × Record) → Type 0
-ShiftsSoFar kinds times numbers i shifts = option_map (λ more. all_found shifts ++ more) (shifts_in (records_shown kinds) (drop (8 * i) times) (drop i numbers)) ≡ shifts_in (records_shown kinds) times numbers
+abbrev pub ShiftsSoFar : {C : Type 0} → (C → ℤ × KindValue) → List KindValue → List ℕ → List ℕ → ℕ → List C → Type 0
+ShiftsSoFar shown kinds times numbers i shifts = option_map (λ more. map shown shifts ++ more) (shifts_in kinds (drop (8 * i) times) (drop i numbers)) ≡ shifts_in kinds times numbers
 
-pub shifts_kept : (kinds : List Record) (times numbers : List ℕ) (i : ℕ) (shifts grown : List (ℤ × Record)) (kind : Record) (time : ℤ) → i < length numbers → grown ≡ shifts ++ (time, kind) ∷ [] → time ≡ eight_of (take (8 * i + 8 - 8 * i) (drop (8 * i) times)) → Some (record_shown kind) ≡ slice_get (records_shown kinds) (get_or numbers i 0) → ShiftsSoFar kinds times numbers i shifts → ShiftsSoFar kinds times numbers (i + 1) grown
-shifts_kept kinds times numbers i shifts grown kind time within items read told is =
+pub shifts_kept : {C : Type 0} (shown : C → ℤ × KindValue) (kinds : List KindValue) (times numbers : List ℕ) (i : ℕ) (shifts grown : List C) (shift : C) (kind : KindValue) (time : ℤ) → i < length numbers → grown ≡ shifts ++ shift ∷ [] → shown shift ≡ (time, kind) → time ≡ eight_of (take (8 * i + 8 - 8 * i) (drop (8 * i) times)) → Some kind ≡ slice_get kinds (get_or numbers i 0) → ShiftsSoFar shown kinds times numbers i shifts → ShiftsSoFar shown kinds times numbers (i + 1) grown
+shifts_kept shown kinds times numbers i shifts grown shift kind time within items seen read told is =
     let next : 8 * i + 8 ≡ 8 * (i + 1) = omega arith in
     let rest : drop (8 * (i + 1)) times ≡ drop 8 (drop (8 * i) times) = sym (drop-drop 8 (8 * i) times ∙ ap (λ n. drop n times) next) in
     let eight : 8 * i + 8 - 8 * i ≡ 8 = omega arith in
     let clock : time ≡ eight_of (take 8 (drop (8 * i) times)) = read ∙ ap (λ n. eight_of (take n (drop (8 * i) times))) eight in
-    let shown : all_found grown ≡ all_found shifts ++ (eight_of (take 8 (drop (8 * i) times)), record_shown kind) ∷ [] = ap all_found items ∙ map-append found_shown shifts ((time, kind) ∷ []) ∙ ap (λ t. all_found shifts ++ (t, record_shown kind) ∷ []) clock in
-    ap (λ front. option_map (λ more. front ++ more) (shifts_in (records_shown kinds) (drop (8 * (i + 1)) times) (drop (i + 1) numbers))) shown
-    ∙ sym (shifts_more (records_shown kinds) (drop (8 * i) times) (drop (8 * (i + 1)) times) (drop (i + 1) numbers) (drop i numbers) (get_or numbers i 0) (all_found shifts) (record_shown kind) (drop_more numbers i 0 within) rest told) ∙ is
+    let all : map shown grown ≡ map shown shifts ++ (eight_of (take 8 (drop (8 * i) times)), kind) ∷ [] = ap (map shown) items ∙ map-append shown shifts (shift ∷ []) ∙ ap (λ s. map shown shifts ++ s ∷ []) (seen ∙ ap (λ t. (t, kind)) clock) in
+    ap (λ front. option_map (λ more. front ++ more) (shifts_in kinds (drop (8 * (i + 1)) times) (drop (i + 1) numbers))) all
+    ∙ sym (shifts_more kinds (drop (8 * i) times) (drop (8 * (i + 1)) times) (drop (i + 1) numbers) (drop i numbers) (get_or numbers i 0) (map shown shifts) kind (drop_more numbers i 0 within) rest told) ∙ is
 
-pub shifts_refused : (kinds : List Record) (times numbers : List ℕ) (i : ℕ) (shifts : List (ℤ × Record)) → i < length numbers → ShiftsSoFar kinds times numbers i shifts → None ≡ slice_get (records_shown kinds) (get_or numbers i 0) → None ≡ shifts_in (records_shown kinds) times numbers
-shifts_refused kinds times numbers i shifts within is refused =
-    shifts_none (records_shown kinds) (drop (8 * i) times) (drop (i + 1) numbers) (drop i numbers) (get_or numbers i 0) (all_found shifts) _ (drop_more numbers i 0 within) is refused
+pub shifts_refused : {C : Type 0} (shown : C → ℤ × KindValue) (kinds : List KindValue) (times numbers : List ℕ) (i : ℕ) (shifts : List C) → i < length numbers → ShiftsSoFar shown kinds times numbers i shifts → None ≡ slice_get kinds (get_or numbers i 0) → None ≡ shifts_in kinds times numbers
+shifts_refused shown kinds times numbers i shifts within is refused =
+    shifts_none kinds (drop (8 * i) times) (drop (i + 1) numbers) (drop i numbers) (get_or numbers i 0) (map shown shifts) _ (drop_more numbers i 0 within) is refused
 
 -- two neighbours, and the rest
 up_pair : (times : List ℤ) (x y : ℤ) (rest : List ℤ) → times ≡ x ∷ y ∷ rest → go_up times ≡ (int_lt x y && go_up (y ∷ rest))

@@ -1,5 +1,5 @@
 -- The table of names, one more at a time.
-use Rattle.std.proofs.Common.{◌≡◌, ℕ, zero, suc, List, [], ◌∷◌, ◌++◌, length, Option, Some, None, Bor, option_map, slice_get, sym, ap, subst}
+use Rattle.std.proofs.Common.{◌≡◌, ℕ, zero, suc, List, [], ◌∷◌, ◌++◌, length, Option, Some, None, Bor, option_map, slice_get, sym, ap, ◌∙◌, subst}
 use Rattle.std.proofs.lemmas.Option.{none-some}
 use Rattle.zone_tzif_core.specs.Names.{AreNames}
 use Rattle.zone_tzif_core.specs.Reading.{name_in}
@@ -21,3 +21,8 @@ pub names_kept : (names : List ℕ) (table grown : List (Option (Bor (List ℕ))
 names_kept names table grown found place items long is are =
     let here = subst (λ n. option_map (λ text. text.now) found ≡ name_in names n) (sym long) is in
     subst (AreNames names) (sym items) (one_more (λ n f. option_map (λ text. text.now) f ≡ name_in names n) table found are here)
+
+-- what holds of each item, and of one more, holds of each of all
+pub grown_by : {X : Type 0} (P : X → Type 0) (xs grown : List X) (x : X) → grown ≡ xs ++ x ∷ [] → ((k : ℕ) (y : X) → slice_get xs k ≡ Some y → P y) → P x
+    → (k : ℕ) (y : X) → slice_get grown k ≡ Some y → P y
+grown_by P xs grown x items had new k y e = one_more (λ _ z. P z) xs x had new k y (ap (λ l. slice_get l k) (sym items) ∙ e)

@@ -56,7 +56,7 @@ patched file place byte = take place file ++ byte ∷ drop (place + 1) file
 abbrev pub of_version : ℕ → List ℕ
 of_version version = patched (patched fixed_file 4 version) 55 version
 
-read_back : map zone_in (fixed_file ∷ changing_file ∷ of_version 51 ∷ of_version 52 ∷ patched fixed_file 5 1 ∷ patched fixed_file 44 9 ∷ [])
+read_back : map (zone_in 52) (fixed_file ∷ changing_file ∷ of_version 51 ∷ of_version 52 ∷ patched fixed_file 5 1 ∷ patched fixed_file 44 9 ∷ [])
     ≡ Some fixed ∷ Some changing ∷ Some fixed ∷ Some fixed ∷ Some fixed ∷ Some fixed ∷ []
 unfolding zone_in parts_in joined_in second_in footer_in between text_in header_at cut header_of begins_well block_len suits kinds_in shifts_in kind_in name_in before_zero count_of four_of eight_of is_utf8 chars encode
 read_back = refl

@@ -21,14 +21,14 @@ abbrev of_version : ℕ → Header
 of_version version = header version 0 2 4 0 0 0
 
 -- `2` to `4`, and the same in both headers
-versions : suits 50 (of_version 50) ∷ suits 51 (of_version 51) ∷ suits 52 (of_version 52) ∷ suits 50 (of_version 51) ∷ suits 51 (of_version 50)
-    ∷ suits 49 (of_version 49) ∷ suits 53 (of_version 53) ∷ suits 0 (of_version 0) ∷ []
+versions : suits 52 50 (of_version 50) ∷ suits 52 51 (of_version 51) ∷ suits 52 52 (of_version 52) ∷ suits 52 50 (of_version 51) ∷ suits 52 51 (of_version 50)
+    ∷ suits 52 49 (of_version 49) ∷ suits 52 53 (of_version 53) ∷ suits 52 0 (of_version 0) ∷ []
     ≡ true ∷ true ∷ true ∷ false ∷ false ∷ false ∷ false ∷ false ∷ []
 unfolding suits
 versions = refl
 
 -- no leap second, some kind and character, and no flags or one for each kind
-counts : map (suits 50) (header 50 0 1 1 0 0 0 ∷ header 50 0 2 4 1 0 0 ∷ header 50 0 0 4 0 0 0 ∷ header 50 0 2 0 0 0 0 ∷ header 50 0 2 4 0 2 0
+counts : map (suits 52 50) (header 50 0 1 1 0 0 0 ∷ header 50 0 2 4 1 0 0 ∷ header 50 0 0 4 0 0 0 ∷ header 50 0 2 0 0 0 0 ∷ header 50 0 2 4 0 2 0
     ∷ header 50 0 2 4 0 0 2 ∷ header 50 0 2 4 0 1 0 ∷ header 50 0 2 4 0 0 1 ∷ header 50 0 2 4 0 3 3 ∷ [])
     ≡ true ∷ false ∷ false ∷ false ∷ true ∷ true ∷ false ∷ false ∷ false ∷ []
 unfolding suits

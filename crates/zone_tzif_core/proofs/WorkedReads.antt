@@ -7,17 +7,17 @@ use Rattle.zone_tzif_core.specs.Format.{header_of, begins_well, block_len, suits
 use Rattle.zone_tzif_core.specs.Numbers.{count_of, four_of, eight_of}
 use Rattle.zone_tzif_core.specs.Reading.{cut, header_at, text_in, between, footer_in, second_in, parts_in, before_zero, name_in, kind_in, kinds_in, shifts_in, joined_in, zone_in}
 use Rattle.zone_tzif_core.specs.Zones.{KindValue}
-use Rattle.zone_tzif_core.proofs.WorkedFiles.{a_kind, changing, fixed_file, changing_file, patched, of_version}
+use Rattle.zone_tzif_core.proofs.WorkedFiles.{a_kind, changing, fixed, fixed_file, changing_file, patched, of_version}
 
 abbrev first_read : List ℕ → Option KindValue
-first_read file = option_map (λ zone. zone.first) (zone_in file)
+first_read file = option_map (λ zone. zone.first) (zone_in 52 file)
 
 -- bytes put in at a place
 abbrev with : List ℕ → ℕ → List ℕ → List ℕ
 with file place bytes = take place file ++ bytes ++ drop place file
 
 -- version 1, version 5, two versions; a leap second; no kind; no name; `TZif` misspelled; no last byte, one byte more
-no_file : map zone_in
+no_file : map (zone_in 52)
     (of_version 49 ∷ of_version 53 ∷ patched fixed_file 4 51 ∷ patched fixed_file 82 1 ∷ patched fixed_file 90 0 ∷ patched fixed_file 94 0
     ∷ patched fixed_file 0 116 ∷ patched fixed_file 54 70 ∷ take 114 fixed_file ∷ (fixed_file ++ 10 ∷ []) ∷ []) ≡ replicate 10 None
 unfolding zone_in parts_in joined_in second_in footer_in between text_in header_at cut header_of begins_well block_len suits kinds_in shifts_in kind_in name_in before_zero count_of four_of eight_of is_utf8 chars encode
@@ -37,7 +37,7 @@ unfolding zone_in parts_in joined_in second_in footer_in between text_in header_
 records = refl
 
 -- of four kinds: four bytes of each flag, and one; a time equal to the one before; a kind's number that there isn't
-blocks : map zone_in
+blocks : map (zone_in 52)
     (with (patched changing_file 74 4) 170 (1 ∷ 2 ∷ 3 ∷ 4 ∷ []) ∷ with (patched changing_file 78 4) 170 (1 ∷ 2 ∷ 3 ∷ 4 ∷ [])
     ∷ with (patched changing_file 74 1) 170 (1 ∷ []) ∷ with (patched changing_file 78 1) 170 (1 ∷ []) ∷ patched changing_file 118 5 ∷ patched changing_file 127 4 ∷ [])
     ≡ Some changing ∷ Some changing ∷ None ∷ None ∷ None ∷ None ∷ []
@@ -49,3 +49,9 @@ counts : map (λ bytes. block_len (header_of (codes "TZif2" ++ replicate 15 0 ++
     ((0 ∷ 0 ∷ 0 ∷ 1 ∷ 0 ∷ 0 ∷ 0 ∷ 10 ∷ 0 ∷ 0 ∷ 0 ∷ 100 ∷ 0 ∷ 0 ∷ 3 ∷ 232 ∷ 0 ∷ 0 ∷ 39 ∷ 16 ∷ 0 ∷ 1 ∷ 134 ∷ 160 ∷ []) ∷ []) ≡ 165811 ∷ []
 unfolding header_of block_len count_of
 counts = refl
+
+-- to a reader of later versions version 5 is version 4; version 1, two versions and a leap second are none to it either
+later_read : map (zone_in 255) (of_version 50 ∷ of_version 52 ∷ of_version 53 ∷ of_version 255 ∷ of_version 49 ∷ patched fixed_file 4 51 ∷ patched fixed_file 82 1 ∷ [])
+    ≡ Some fixed ∷ Some fixed ∷ Some fixed ∷ Some fixed ∷ None ∷ None ∷ None ∷ []
+unfolding zone_in parts_in joined_in second_in footer_in between text_in header_at cut header_of begins_well block_len suits kinds_in shifts_in kind_in name_in before_zero count_of four_of eight_of is_utf8 chars encode
+later_read = refl

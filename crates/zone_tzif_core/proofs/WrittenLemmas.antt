@@ -297,7 +297,7 @@ texts_are zone is = kept_all (λ kind. IsUtf8 kind.name) is_same [] (zone.first 
         let inside : k < length zone.rest = omega (arith, long, within) in
         subst (λ kind. IsUtf8 kind.name) (sym (get_or-map (λ shift. shift.1) zone.rest k (pos 0, d) d inside)) (is.texts k (pos 0, d) inside)
 
-suited : (t k c : ℕ) → 1 ≤ k → 1 ≤ c → suits 50 (header_made 0 0 0 t k c) ≡ true
+suited : (t k c : ℕ) → 1 ≤ k → 1 ≤ c → suits 52 50 (header_made 0 0 0 t k c) ≡ true
 unfolding suits
 suited t k c some_kind some_char =
     let kinds : nat_le 1 k ≡ true = grind (arith, nat_tests) in
@@ -369,7 +369,7 @@ written_denotes bytes zone is =
       text = is.value.footer;
     }
   where
-    suited_again : (t k s : ℕ) → 1 ≤ k → 1 ≤ s → suits (header_made 0 0 0 0 1 1).version (header_made 0 0 0 t k s) ≡ true
+    suited_again : (t k s : ℕ) → 1 ≤ k → 1 ≤ s → suits 52 (header_made 0 0 0 0 1 1).version (header_made 0 0 0 t k s) ≡ true
     suited_again t k s some_kind some_char = suited t k s some_kind some_char
 
 -- a name's place is a byte

@@ -59,8 +59,8 @@ pub record IsBlock (says : Header) (bytes : List ℕ) (kinds : List KindValue) (
   pub are_kinds : AreKinds names records kinds
   pub are_shifts : AreShifts kinds times numbers shifts
 
--- the bytes are a header, its block of any bytes, a header, its block, an LF, the footer and an LF
-pub record Denotes (bytes : List ℕ) (zone : ZoneValue) : Type 0 where
+-- the bytes are a header, its block of any bytes, a header, its block, an LF, the footer and an LF, of version 2 to the last one
+pub record IsZoneFile (last : ℕ) (bytes : List ℕ) (zone : ZoneValue) : Type 0 where
   pub head : List ℕ
   pub skipped : List ℕ
   pub second_head : List ℕ
@@ -72,9 +72,17 @@ pub record Denotes (bytes : List ℕ) (zone : ZoneValue) : Type 0 where
   pub first_header : IsHeader head first_says
   pub first_length : length skipped ≡ block_len first_says
   pub second_header : IsHeader second_head says
-  pub suited : suits first_says.version says ≡ true
+  pub suited : suits last first_says.version says ≡ true
   pub block_is : IsBlock says block kinds zone.rest
   pub rising : rises zone.rest ≡ true
   pub first_kind : slice_get kinds 0 ≡ Some zone.first
   pub one_line : is_one_line zone.footer ≡ true
   pub text : IsUtf8 zone.footer
+
+-- of version 2 to 4
+abbrev pub Denotes : List ℕ → ZoneValue → Type 0
+Denotes bytes zone = IsZoneFile 52 bytes zone
+
+-- of version 2 and up: a later version is taken as the last one that is known
+abbrev pub Says : List ℕ → ZoneValue → Type 0
+Says bytes zone = IsZoneFile 255 bytes zone

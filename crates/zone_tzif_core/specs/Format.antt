@@ -24,9 +24,9 @@ header_of head = record {
 unfoldable pub block_len : Header → ℕ
 block_len h = 5 * h.time + 6 * h.kind + h.char + 8 * h.leap + h.isstd + h.isut
 
--- whether a second header may stand after a first one of that version
-unfoldable pub suits : ℕ → Header → Bool
-suits version h = h.version == version && nat_le 50 version && nat_le version 52 && h.leap == 0 && nat_le 1 h.kind && nat_le 1 h.char
+-- whether a second header may stand after a first one of that version, which is 2 to the last one that is taken
+unfoldable pub suits : ℕ → ℕ → Header → Bool
+suits last version h = h.version == version && nat_le 50 version && nat_le version last && h.leap == 0 && nat_le 1 h.kind && nat_le 1 h.char
     && (h.isstd == 0 || h.isstd == h.kind) && (h.isut == 0 || h.isut == h.kind)
 
 -- no byte is an LF or zero

@@ -6,6 +6,8 @@ pub mod Shown
 pub mod Denotes
 pub mod Tzif
 pub mod Totals
+pub mod Stored
+pub mod ZoneFiles
 -- Words of private clauses.
 pub mod Reading
 pub mod Names

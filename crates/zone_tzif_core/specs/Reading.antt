@@ -64,12 +64,13 @@ second_in h bytes = do
   footer ← footer_in flags.1
   Some (record { kinds = h.kind; times = times.0; numbers = numbers.0; records = records.0; names = names.0; footer = footer })
 
-unfoldable pub parts_in : List ℕ → Option Cuts
-parts_in bytes = do
+-- of a whole file, of a version up to the last one
+unfoldable pub parts_in : ℕ → List ℕ → Option Cuts
+parts_in last bytes = do
   first ← header_at bytes
   block ← cut (block_len first.0) first.1
   second ← header_at block.1
-  if suits first.0.version second.0 then second_in second.0 second.1 else None
+  if suits last first.0.version second.0 then second_in second.0 second.1 else None
 
 -- the bytes before the first zero
 unfoldable pub before_zero : List ℕ → Option (List ℕ)
@@ -114,7 +115,7 @@ joined_in parts = do
   if rises shifts then Some (record { first = first; rest = shifts; footer = parts.footer }) else None
 
 -- the value that a whole file is read as
-unfoldable pub zone_in : List ℕ → Option ZoneValue
-zone_in bytes = do
-  parts ← parts_in bytes
+unfoldable pub zone_in : ℕ → List ℕ → Option ZoneValue
+zone_in last bytes = do
+  parts ← parts_in last bytes
   joined_in parts

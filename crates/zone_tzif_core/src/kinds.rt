@@ -10,11 +10,14 @@ use crate::numbers::signed_four;
 use crate::values::{Kind, ReadFault};
 use std::alloc::{AllocError, Global};
 
-/// A kind as its record says it, with its name in the file.
-#[derive(Clone, Copy)]
-pub(crate) struct Record<'a> {
+/// A kind as its record says it. Its name is lent.
+#[derive(Clone, Copy, Debug)]
+pub struct Record<'a> {
+    /// The offset, in seconds east of UTC.
     pub utoff: i32,
+    /// Whether this is daylight saving time.
     pub is_dst: bool,
+    /// The abbreviation.
     pub name: &'a str,
 }
 
@@ -60,7 +63,7 @@ pub(crate) fn owned(alloc: Global, kind: Record<'_>) -> Result<Kind, AllocError>
 }
 
 /// The kind that a record is, or a refusal.
-fn kind<'a>(
+pub(crate) fn kind<'a>(
     names: &'a [u8],
     table: &[Option<&'a str>],
     bytes: &[u8],

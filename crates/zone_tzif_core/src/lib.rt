@@ -2,6 +2,7 @@
 #![tactic(auto)]
 
 mod distinct;
+mod file_reader;
 mod header;
 mod kinds;
 mod laws;
@@ -11,14 +12,18 @@ mod parts;
 mod profile;
 mod reader;
 mod shifts;
+mod stored;
 mod values;
 mod write;
 mod writer;
+mod zone_file;
 
-pub use kinds::is_small;
-pub use laws::{one_reading, one_value, written_denotes};
+pub use file_reader::read_file;
+pub use kinds::{Record, is_small};
+pub use laws::{denoted_is_said, one_reading, one_saying, one_value, written_denotes};
 pub use profile::read_tzif;
 pub use reader::read_any;
 pub use shifts::do_rise;
 pub use values::{Kind, ReadFault, TzifZone, WriteFault};
 pub use writer::write_tzif;
+pub use zone_file::ZoneFile;

@@ -27,14 +27,14 @@ fn block_len(header: &Header) -> usize
     5 * time + 6 * kind + char + 8 * leap + isstd + isut
 }
 
-/// Whether a second header may stand after a first one of that version.
+/// Whether a second header may stand after a first one of that version, which is 2 to the last one that is taken.
 #[tactic(auto, unfolding(crate::specs::Format::suits))]
-fn suits(version: u8, header: &Header) -> bool
-    ensures { result ≡ suits version header.now }
+fn suits(last: u8, version: u8, header: &Header) -> bool
+    ensures { result ≡ suits last version header.now }
 {
     header.version == version
         && version >= b'2'
-        && version <= b'4'
+        && version <= last
         && header.leap == 0
         && header.kind >= 1
         && header.char >= 1
@@ -105,17 +105,17 @@ fn second<'a>(header: &Header, bytes: &'a [u8]) -> Option<Parts<'a>>
     })
 }
 
-/// The parts of a whole file.
+/// The parts of a whole file, of a version up to the last one.
 #[tactic(auto, unfolding(crate::specs::Reading::parts_in))]
-pub(crate) fn cut_parts(bytes: &[u8]) -> Option<Parts<'_>>
-    ensures parts { option_map parts_shown result ≡ parts_in bytes.now }
+pub(crate) fn cut_parts(bytes: &[u8], last: u8) -> Option<Parts<'_>>
+    ensures parts { option_map parts_shown result ≡ parts_in last bytes.now }
     ensures records { IfSome result (λ parts. length parts.records.now ≡ 6 * parts.kinds) }
     ensures times { IfSome result (λ parts. length parts.times.now ≡ 8 * length parts.numbers.now) }
 {
     let (first, rest) = read_header(bytes)?;
     let (_, rest) = cut(rest, block_len(&first))?;
     let (header, rest) = read_header(rest)?;
-    if !suits(first.version, &header) {
+    if !suits(last, first.version, &header) {
         return None;
     }
     second(&header, rest)

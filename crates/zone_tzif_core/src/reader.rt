@@ -53,10 +53,10 @@ fn joined(alloc: Global, parts: &Parts) -> Result<TzifZone, ReadFault>
 
 /// The zone that a file is read as.
 #[tactic(auto, unfolding(crate::specs::Reading::zone_in))]
-fn read_file(alloc: Global, bytes: &[u8]) -> Result<TzifZone, ReadFault>
-    ensures { TellsFound zone_shown result (zone_in bytes.now) }
+fn zone_of(alloc: Global, bytes: &[u8]) -> Result<TzifZone, ReadFault>
+    ensures { TellsFound zone_shown result (zone_in 52 bytes.now) }
 {
-    match cut_parts(bytes) {
+    match cut_parts(bytes, b'4') {
         Some(parts) => joined(alloc, &parts),
         None => Err(ReadFault::Refused),
     }
@@ -66,11 +66,14 @@ fn read_file(alloc: Global, bytes: &[u8]) -> Result<TzifZone, ReadFault>
 /// may follow the footer, times strictly rise, each record has a flag of 0 or 1, an offset of 93,599 seconds at most to
 /// either side and a name that is UTF-8 and ends in a zero byte, and the footer is UTF-8 of one line.
 ///
+/// Each change owns the name of its kind, so what is read takes as much memory as the names of all changes together; a
+/// `ZoneFile` takes as much as the file.
+///
 /// # Errors
 ///
 /// `Refused` exactly where the file denotes none, or `NoMemory`.
 pub fn read_any(alloc: Global, bytes: &[u8]) -> Result<TzifZone, ReadFault>
     ensures exact { Reads (Denotes bytes.now) result }
 {
-    read_file(alloc, bytes)
+    zone_of(alloc, bytes)
 }

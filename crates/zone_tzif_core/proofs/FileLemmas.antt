@@ -1,0 +1,90 @@
+-- Kinds that are kept once, and changes by their numbers.
+use Rattle.std.proofs.Common.{◌≡◌, ℕ, zero, suc, ◌+◌, ◌<◌, ◌≤◌, ℤ, true, false, List, [], ◌∷◌, ◌++◌, length, map, take, drop, get_or, Some, None, slice_get, refl, sym, ap, ◌∙◌, arith, length-append, append-nil}
+use Rattle.std.proofs.lemmas.List.{take_at, drop_at}
+use Rattle.std.proofs.lemmas.Option.{none-some}
+use Rattle.std.proofs.lemmas.Simd.{map-map}
+use Rattle.std.specs.Str.{IsUtf8, is_utf8}
+use Rattle.std.proofs.lemmas.Str.{is_utf8-from_IsUtf8}
+use Rattle.zone_tzif_core.specs.Denotes.{IsName}
+use Rattle.zone_tzif_core.specs.Reading.{Cuts, kind_in, kinds_in, shifts_in, joined_in}
+use Rattle.zone_tzif_core.specs.Stored.{stored_kind, stored_name, IsStored}
+use Rattle.zone_tzif_core.specs.ZoneFiles.{change_with, changes_with, file_with, kind_numbered, unnumbered}
+use Rattle.zone_tzif_core.specs.Zones.{KindValue, ZoneValue, go_up, rises}
+use Rattle.zone_tzif_core.specs.declared.stored.Stored.{Stored}
+use Rattle.zone_tzif_core.proofs.FoundLemmas.{named_found}
+use Rattle.zone_tzif_core.proofs.JoinedLemmas.{falls, joined}
+
+-- the item at a place, and none past the end
+pub some_at : {A : Type 0} (xs : List A) (n : ℕ) (d : A) → n < length xs → slice_get xs n ≡ Some (get_or xs n d)
+some_at [] n d l = absurd (omega (arith, l))
+some_at (x ∷ xs) zero d l = refl
+some_at (x ∷ xs) (suc n) d l = some_at xs n d (omega (arith, l))
+
+pub none_at : {A : Type 0} (xs : List A) (n : ℕ) → length xs ≤ n → None ≡ slice_get xs n
+none_at [] n l = refl
+none_at (x ∷ xs) zero l = absurd (omega (arith, l))
+none_at (x ∷ xs) (suc n) l = none_at xs n (omega (arith, l))
+
+-- a name is as many bytes from its place on as it has
+sliced : (names : List ℕ) (place : ℕ) (name : List ℕ) → IsName names place name → take (length name) (drop place names) ≡ name
+sliced names place name is =
+    ap (λ l. take (length name) (drop place l)) is.whole
+    ∙ ap (take (length name)) (drop_at is.before (name ++ 0 ∷ is.after) place is.starts) ∙ take_at name (0 ∷ is.after) (length name) refl
+
+within : (names : List ℕ) (place : ℕ) (name : List ℕ) → IsName names place name → place + length name ≤ length names
+within names place name is =
+    omega (arith, ap length is.whole, length-append is.before (name ++ 0 ∷ is.after), length-append name (0 ∷ is.after), is.starts)
+
+-- a kind that is kept is the record's
+pub stored_is : (names bytes : List ℕ) (kind : KindValue) (stored : Stored) → Some kind ≡ kind_in names bytes → stored.utoff ≡ kind.utoff
+    → stored.is_dst ≡ kind.is_dst → stored.from ≡ get_or bytes 5 0 → stored.length ≡ length kind.name
+    → (stored_kind names stored ≡ kind) × IsStored names stored
+stored_is names bytes kind stored found offset flag from long =
+    let is = named_found names bytes kind (sym found) in
+    let name : stored_name names stored ≡ kind.name = (λ i. take (long i) (drop (from i) names)) ∙ sliced names (get_or bytes 5 0) kind.name is in (
+      λ i. record { utoff = offset i; is_dst = flag i; name = name i },
+      (omega (arith, from, long, within names (get_or bytes 5 0) kind.name is), ap is_utf8 name ∙ is_utf8-from_IsUtf8 kind.name is.text),
+    )
+
+-- a change whose number is one of the kinds has its kind
+pub numbered_is : (kinds : List KindValue) (n : ℕ) → n < length kinds → Some (kind_numbered kinds n) ≡ slice_get kinds n
+numbered_is kinds n l = sym (some_at kinds n unnumbered l)
+
+-- the times of the changes are those that rise
+times_are : (kinds : List KindValue) (changes : List (ℤ × ℕ)) → go_up (map (λ change. change.0) changes) ≡ rises (changes_with kinds changes)
+times_are kinds changes = ap go_up (sym (map-map (λ (shift : ℤ × KindValue). shift.0) (change_with kinds) changes))
+
+-- none stands in nothing
+pub none_yet : {X : Type 0} (P : X → Type 0) (xs : List X) → xs ≡ [] → (k : ℕ) (x : X) → slice_get xs k ≡ Some x → P x
+none_yet P xs none k x e = absurd (none-some x (ap (λ l. slice_get l k) (sym none) ∙ e))
+
+-- a name that is all names
+pub whole_kept : (names name : List ℕ) (kind : Stored) → names ≡ name → IsUtf8 name → kind.from ≡ 0 → kind.length ≡ length name → IsStored names kind
+whole_kept names name kind same text from long =
+    let all : stored_name names kind ≡ name =
+    (λ i. take (long i) (drop (from i) (same i))) ∙ ap (take (length name)) (sym (append-nil name)) ∙ take_at name [] (length name) refl in
+    (omega (arith, from, long, ap length same), ap is_utf8 all ∙ is_utf8-from_IsUtf8 name text)
+
+-- there is no zone without a kind
+pub no_zone : (parts : Cuts) (kinds : List KindValue) → Some kinds ≡ kinds_in parts.names parts.kinds parts.records → length kinds ≡ 0 → None ≡ joined_in parts
+unfolding joined_in
+no_zone parts [] found none = rw (← found) refl
+no_zone parts (kind ∷ kinds) found none = absurd (omega (arith, none))
+
+-- nor where a change has no kind
+pub no_changes : (parts : Cuts) (kinds : List KindValue) → Some kinds ≡ kinds_in parts.names parts.kinds parts.records → 0 < length kinds
+    → None ≡ shifts_in kinds parts.times parts.numbers → None ≡ joined_in parts
+unfolding joined_in
+no_changes parts kinds found some none = rw (← found, ← numbered_is kinds 0 some, ← none) refl
+
+pub falling : (parts : Cuts) (kinds : List KindValue) (changes : List (ℤ × ℕ)) → Some kinds ≡ kinds_in parts.names parts.kinds parts.records
+    → 0 < length kinds → Some (changes_with kinds changes) ≡ shifts_in kinds parts.times parts.numbers
+    → false ≡ go_up (map (λ change. change.0) changes) → None ≡ joined_in parts
+falling parts kinds changes found some shifts rise =
+    falls parts kinds (kind_numbered kinds 0) (changes_with kinds changes) found (numbered_is kinds 0 some) shifts (rise ∙ times_are kinds changes)
+
+pub rising : (parts : Cuts) (kinds : List KindValue) (changes : List (ℤ × ℕ)) (zone : ZoneValue) → Some kinds ≡ kinds_in parts.names parts.kinds parts.records
+    → 0 < length kinds → Some (changes_with kinds changes) ≡ shifts_in kinds parts.times parts.numbers
+    → true ≡ go_up (map (λ change. change.0) changes) → zone ≡ file_with kinds changes parts.footer → Some zone ≡ joined_in parts
+rising parts kinds changes zone found some shifts rise is =
+    joined parts kinds (kind_numbered kinds 0) (changes_with kinds changes) zone found (numbered_is kinds 0 some) shifts (rise ∙ times_are kinds changes) is

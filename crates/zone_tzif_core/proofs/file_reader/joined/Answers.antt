@@ -1,0 +1,54 @@
+use Rattle.std.proofs.Common.{◌≡◌, ◌<◌, ◌∙◌, length, map, ap, sym, arith}
+use Rattle.std.proofs.lemmas.Bool.Decides.{nat_tests}
+use Rattle.std.proofs.lemmas.List.{length-map}
+use Rattle.std.proofs.lemmas.Result.{err_from_is_err_and}
+use Rattle.zone_tzif_core.specs.Reading.{parts_shown}
+use Rattle.zone_tzif_core.specs.Stored.{stored_kind}
+use Rattle.zone_tzif_core.specs.Zones.{go_up}
+use Rattle.zone_tzif_core.specs.ZoneFiles.{zone_seen}
+use Rattle.zone_tzif_core.proofs.FileLemmas.{no_zone, no_changes, falling, rising}
+use Rattle.zone_tzif_core.proofs.LoopLemmas.{fault_passes}
+use Rattle.zone_tzif_core.proofs.file_reader.joined.Goals as goal
+
+pub returns-then-is_empty : goal.returns-then-is_empty
+returns-then-is_empty c =
+    let parts = parts_shown c.args.parts.now in
+    let items = c.in_ok-kinds.kinds.items in
+    let none : length c.as_slice-2.result.now ≡ 0 = grind (arith, nat_tests, c.if-is_empty.ensures) in
+    no_zone parts (map (stored_kind parts.names) items) c.in_ok-kinds.ensures.told
+    (omega (arith, none, ap length c.as_slice-2.ensures.value, length-map items (stored_kind parts.names)))
+
+pub returns-in_err-changes : goal.returns-in_err-changes
+returns-in_err-changes c =
+    let parts = parts_shown c.args.parts.now in
+    let items = c.in_ok-kinds.kinds.items in
+    let kinds = map (stored_kind parts.names) items in
+    let long : length kinds ≡ length items = length-map items (stored_kind parts.names) in
+    let count = long ∙ sym (ap length c.as_slice-3.ensures.value) in
+    let some : 0 < length kinds = grind (arith, nat_tests, c.if-is_empty.ensures, long, ap length c.as_slice-2.ensures.value) in
+    let p = err_from_is_err_and c.from_residual-in_err-changes.result c.from_residual-in_err-changes.ensures.1 in
+    rw (p.1, p.2) (fault_passes c.in_err-changes.field-0.0 _ _ (c.in_err-changes.ensures.told kinds count)
+    (λ none. no_changes parts kinds c.in_ok-kinds.ensures.told some none))
+
+pub returns-then-not-rises : goal.returns-then-not-rises
+returns-then-not-rises c =
+    let parts = parts_shown c.args.parts.now in
+    let items = c.in_ok-kinds.kinds.items in
+    let kinds = map (stored_kind parts.names) items in
+    let long : length kinds ≡ length items = length-map items (stored_kind parts.names) in
+    let count = long ∙ sym (ap length c.as_slice-3.ensures.value) in
+    let some : 0 < length kinds = grind (arith, nat_tests, c.if-is_empty.ensures, long, ap length c.as_slice-2.ensures.value) in
+    falling parts kinds c.in_ok-changes.changes.items c.in_ok-kinds.ensures.told some (c.in_ok-changes.ensures.told kinds count)
+    (c.if-not-rises.ensures ∙ ap (λ l. go_up (map (λ change. change.0) l)) c.as_slice-4.ensures.value)
+
+pub returns : goal.returns
+returns c =
+    let parts = parts_shown c.args.parts.now in
+    let items = c.in_ok-kinds.kinds.items in
+    let kinds = map (stored_kind parts.names) items in
+    let long : length kinds ≡ length items = length-map items (stored_kind parts.names) in
+    let count = long ∙ sym (ap length c.as_slice-3.ensures.value) in
+    let some : 0 < length kinds = grind (arith, nat_tests, c.if-is_empty.ensures, long, ap length c.as_slice-2.ensures.value) in
+    rising parts kinds c.in_ok-changes.changes.items (zone_seen c.in_ok-zone_file.field-0) c.in_ok-kinds.ensures.told some
+    (c.in_ok-changes.ensures.told kinds count)
+    (c.if-not-rises.ensures ∙ ap (λ l. go_up (map (λ change. change.0) l)) c.as_slice-4.ensures.value) c.in_ok-zone_file.ensures
