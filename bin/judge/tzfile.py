@@ -54,7 +54,7 @@ class Footer:
             self.end = (end, seconds_of(end_clock or "2"))
 
     def edges(self, year):
-        """The start and the end of daylight saving time in a year of the zone's clocks."""
+        """The start and the end of daylight saving time in a year of the zone's clocks; both may lie past the year's edges."""
         if not self.daylight:
             return []
         (start, start_clock), (end, end_clock) = self.start, self.end
@@ -65,9 +65,13 @@ class Footer:
         """The kind of an instant: offset, whether it is daylight saving time, and name."""
         if not self.daylight:
             return self.standard
-        start, end = self.edges(date.fromordinal(date(1970, 1, 1).toordinal() + (second + self.standard[0]) // DAY).year)
-        holds = start <= second < end if start < end else not end <= second < start
-        return self.daylight if holds else self.standard
+        year = date.fromordinal(date(1970, 1, 1).toordinal() + (second + self.standard[0]) // DAY).year
+        return self.daylight if any(self.lasts(first, second) for first in range(year - 2, year + 2)) else self.standard
+
+    def lasts(self, year, second):
+        """Whether the daylight saving time that starts in a year holds: to the end in that year, or in the next one."""
+        start, end = self.edges(year)
+        return start <= second < (end if start <= end else self.edges(year + 1)[1])
 
 
 class TzFile:

@@ -1,4 +1,5 @@
-//! What the strings after compiled zones put in force, as Python's zoneinfo has it; and a zone of a few changes with such a string.
+//! What the strings after compiled zones put in force, as Python's zoneinfo has it, and past a year's edges as `zic -b fat` has it; and a
+//! zone of a few changes with such a string.
 use crate::checks::same_at;
 use crate::fixtures::at;
 use crate::rows::{field, number};
@@ -22,6 +23,15 @@ IST-1GMT0,M10.5.0,M3.5.0/1|1711846799 0 1 GMT;1711846800 3600 0 IST;1729990799 3
 EST5EDT,M3.2.0,M11.1.0|1710053999 -18000 0 EST;1710054000 -14400 1 EDT;1730613599 -14400 1 EDT;1730613600 -18000 0 EST;5686009199 -18000 0 EST;5686009200 -14400 1 EDT
 EST5EDT,0/0,J365/25|0 -14400 1 EDT;4102444800 -14400 1 EDT
 <+0330>-3:30|0 12600 0 +0330;4102444800 12600 0 +0330
+";
+
+/// The same of rules that fire past their year's edges, as the files of `zic -b fat` list the changes.
+const PAST_EDGES: &str = "\
+EST5EDT,M12.5.0/150,M3.2.0|1704067200 -18000 0 EST;1704538799 -18000 0 EST;1704538800 -14400 1 EDT;1710050399 -14400 1 EDT;1710050400 -18000 0 EST
+EST5EDT,M10.1.0,M12.5.0/150|1704067200 -14400 1 EDT;1704535199 -14400 1 EDT;1704535200 -18000 0 EST;1728197999 -18000 0 EST;1728198000 -14400 1 EDT
+EST5EDT,M1.1.0/-150,M4.1.0|1704063599 -18000 0 EST;1704063600 -14400 1 EDT;1712469599 -14400 1 EDT;1712469600 -18000 0 EST;1735513200 -14400 1 EDT
+EST-10EDT,M9.1.0,0/-10|1703991599 39600 1 EDT;1703991600 36000 0 EST;1725119999 36000 0 EST;1725120000 39600 1 EDT;1735614000 36000 0 EST
+EST-10EDT,J365/167,J365/100|1704153600 39600 1 EDT;1704301199 39600 1 EDT;1704301200 36000 0 EST;1704545999 36000 0 EST;1704546000 39600 1 EDT
 ";
 
 /// Whether a footer puts in force at a second what is said of it.
@@ -49,6 +59,13 @@ fn expect_held(rt: &impl Abort, row: &str) {
 #[test]
 fn footers_put_in_force_what_zoneinfo_has(rt: HostRuntime) {
     for row in ROWS.lines() {
+        expect_held(&rt, row);
+    }
+}
+
+#[test]
+fn footers_fire_past_the_edges_of_their_years(rt: HostRuntime) {
+    for row in PAST_EDGES.lines() {
         expect_held(&rt, row);
     }
 }

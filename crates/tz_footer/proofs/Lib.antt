@@ -3,3 +3,4 @@ mod FoundLemmas
 mod RangeLemmas
 mod ReadLemmas
 mod WorkedFooters
+mod WorkedForce

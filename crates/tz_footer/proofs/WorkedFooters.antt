@@ -1,5 +1,5 @@
 -- Footers that spell a value and texts that spell none, what is in range, and what values stand for, by hand.
-use Rattle.std.proofs.Common.{◌≡◌, refl, sym, ◌∙◌, ℕ, pos, neg_ℤ, Bool, true, false, List, [], ◌∷◌, map, Option, Some, None, codes}
+use Rattle.std.proofs.Common.{◌≡◌, refl, sym, ◌∙◌, ℕ, pos, neg_ℤ, Bool, true, false, List, [], ◌∷◌, ◌++◌, map, Option, Some, None, codes}
 use Rattle.std.proofs.lemmas.Option.{none-some}
 use Rattle.text_parts.specs.Numbers.{value_in}
 use Rattle.calendar.specs.Dates.{last_with}
@@ -57,6 +57,26 @@ unfolding
     moment_at rule_in saving_in footer_in
 worked_dublin = footer_found (codes "IST-1GMT0,J60,M3.5.0/24") _ refl
 
+-- minutes of one digit, zeros before numbers, a name of one byte, and one past ASCII (`é`)
+abbrev loose : FooterValue
+loose = record {
+  standard = record { name = codes "A"; offset = record { positive = true; time = record { hh = 5; mm = Some 7; ss = None } } };
+  saving = Some (record {
+    name = 195 ∷ 169 ∷ [];
+    offset = None;
+    rule = record {
+      start = (M 3 2 0, Some (record { positive = true; time = record { hh = 2; mm = Some 5; ss = None } }));
+      end = (M 11 1 0, None);
+    };
+  });
+}
+
+worked_loose : SpellsFooter (codes "<A>05:7<" ++ 195 ∷ 169 ∷ codes ">,M03.2.0/2:5,M11.01.0") loose
+unfolding
+    value_in number_at part_at clock_time_at sign_at offset_at letters_at enclosed_at name_at weekday_at date_at own_offset_at
+    moment_at rule_in saving_in footer_in
+worked_loose = footer_found (codes "<A>05:7<" ++ 195 ∷ 169 ∷ codes ">,M03.2.0/2:5,M11.01.0") _ refl
+
 -- what is read as nothing spells nothing
 spells_none : (text : List ℕ) → footer_in text ≡ None → (value : FooterValue) → SpellsFooter text value → ⊥
 spells_none text none value spelled = none-some value (sym none ∙ footer_again spelled)
@@ -105,6 +125,14 @@ worked_ranges : map is_in_range (with_offsets 24 None 1 1 ∷ with_offsets 25 No
     ≡ true ∷ false ∷ true ∷ false ∷ false ∷ false ∷ []
 unfolding is_in_range
 worked_ranges = refl
+
+-- an offset is in range to its last second of the hour 24
+worked_last : map (λ m. is_in_range (record {
+  standard = record { name = codes "EST"; offset = record { positive = true; time = record { hh = 24; mm = Some m; ss = Some 59 } } };
+  saving = None;
+})) (59 ∷ 60 ∷ []) ≡ true ∷ false ∷ []
+unfolding is_in_range
+worked_last = refl
 
 worked_alone : map (λ h. is_in_range (record { standard = record { name = codes "AAA"; offset = hours true h }; saving = None })) (24 ∷ 25 ∷ [])
     ≡ true ∷ false ∷ []

@@ -1,7 +1,7 @@
 -- What a footer puts in force. Seconds are from 1970-01-01 00:00 UTC.
-use Rattle.std.specs.Prelude.{Bool, if◌then◌else◌, ℤ, pos, ◌+ℤ◌, ◌-ℤ◌, ◌*ℤ◌}
+use Rattle.std.specs.Prelude.{Bool, true, ◌&&◌, ◌||◌, not, if◌then◌else◌, ℤ, pos, neg_ℤ, ◌+ℤ◌, ◌-ℤ◌, ◌*ℤ◌, int_le, int_lt}
 use Rattle.tz_posix_core.specs.Days.{rule_day}
-use Rattle.tz_posix_core.specs.InForce.{is_within, year_at}
+use Rattle.tz_posix_core.specs.InForce.{year_at}
 use Rattle.tz_posix_core.specs.declared.date.Date.{Date}
 use Rattle.zone_tzif_core.specs.Zones.{KindValue}
 
@@ -13,11 +13,41 @@ YearlyTime = Date × ℤ
 unfoldable pub second_in : ℤ → ℤ → YearlyTime → ℤ
 second_in y offset time = pos 86400 *ℤ rule_day time.0 y +ℤ time.1 -ℤ offset
 
--- the start is read at the standard offset, the end at that of daylight saving time, both in the year at the standard offset
+-- the start and the end of a year's daylight saving time: the start is read at the standard offset, the end at that of daylight
+-- saving time, and either may lie past the year's edges
+unfoldable pub moments_in : ℤ → ℤ → YearlyTime → YearlyTime → ℤ → ℤ × ℤ
+moments_in standard saving start end y = (second_in y standard start, second_in y saving end)
+
+-- the start or the end is at or before the second
+abbrev pub has_begun : ℤ × ℤ → ℤ → Bool
+has_begun moments s = int_le moments.0 s || int_le moments.1 s
+
+-- the start is, and the end isn't yet, or lies before the start
+abbrev pub is_saved : ℤ × ℤ → ℤ → Bool
+is_saved moments s = int_le moments.0 s && (int_lt s moments.1 || int_lt moments.1 moments.0)
+
+-- of three years in a row, the latest first, the latest that has begun decides; before them it is daylight saving time where the
+-- earliest ends it before it starts it
+unfoldable pub is_saved_by : ℤ × ℤ → ℤ × ℤ → ℤ × ℤ → ℤ → Bool
+is_saved_by after here before s =
+    if has_begun after s then is_saved after s
+    else (if has_begun here s then is_saved here s
+    else (if has_begun before s then is_saved before s
+    else int_lt before.1 before.0))
+
+-- the year after and the year before, as far as years are counted
+abbrev pub year_after : ℤ → ℤ
+year_after y = if int_lt y (pos 10000) then y +ℤ pos 1 else y
+
+abbrev pub year_before : ℤ → ℤ
+year_before y = if int_lt (neg_ℤ (pos 10000)) y then y -ℤ pos 1 else y
+
+-- by the rule in the year at the standard offset, in the year after and in the year before
 unfoldable pub is_footer_saving : ℤ → ℤ → YearlyTime → YearlyTime → ℤ → Bool
 is_footer_saving standard saving start end s =
     let y = year_at standard s in
-    is_within (second_in y standard start) (second_in y saving end) s
+    let moments = moments_in standard saving start end in
+    is_saved_by (moments (year_after y)) (moments y) (moments (year_before y)) s
 
 -- one kind for good, or standard and daylight saving time with a start and an end in each year
 pub data FooterZone : Type 0 where
@@ -28,6 +58,14 @@ pub data FooterZone : Type 0 where
 unfoldable pub held_at : FooterZone → ℤ → KindValue
 held_at (fixed kind) s = kind
 held_at (yearly standard saving start end) s = if is_footer_saving standard.utoff saving.utoff start end s then saving else standard
+
+-- whether the year of a second decides by itself: its rule has begun, and that of the year after hasn't
+unfoldable pub is_of_one_year : FooterZone → ℤ → Bool
+is_of_one_year (fixed kind) s = true
+is_of_one_year (yearly standard saving start end) s =
+    let y = year_at standard.utoff s in
+    let moments = moments_in standard.utoff saving.utoff start end in
+    has_begun (moments y) s && not (has_begun (moments (year_after y)) s)
 
 -- the seconds east of UTC of standard time
 abbrev pub standard_total : FooterZone → ℤ

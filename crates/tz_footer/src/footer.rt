@@ -39,8 +39,8 @@ impl<'a> Footer<'a> {
     ghost use Rattle.tz_footer.specs.Values.{FooterValue};
 
     /// What a whole footer stands for. There is nothing exactly where the text is no footer, or has a part that is out of its
-    /// range: an offset of more than 24 hours, a time of a rule of more than 167, a minute or a second past 59, or a day
-    /// outside the ranges of POSIX TZ strings.
+    /// range: more than 24 hours of an offset (24:59:59 is taken), more than 167 of a rule's time, a minute or a second past 59,
+    /// or a day outside the ranges of POSIX TZ strings.
     pub fn parse(text: &'a str) -> Option<Footer<'a>>
         ensures { MatchOption result ((value : FooterValue) → ¬ (IsFooterOf text.now value)) (λ footer. StandsFor text.now (footer_shown footer)) }
     {
@@ -73,9 +73,9 @@ impl<'a> Footer<'a> {
 
     /// What holds at a second from 1970-01-01 00:00:00 UTC.
     ///
-    /// Daylight saving time holds from the start, read at the standard offset, up to, without, the end, read at the offset of
-    /// daylight saving time, both in the year of the second's date at the standard offset; where the end lies before the
-    /// start, before the end and from the start on.
+    /// Daylight saving time holds from each year's start, read at the standard offset, up to, without, that year's end, read at
+    /// the offset of daylight saving time, or, where the end lies before the start, the next year's. Both may lie past their
+    /// year's edges, as that of `M12.5.0/150` does, so the years before and after are looked at too.
     #[tactic(auto, unfolding(crate::specs::InForce::held_at))]
     pub fn held_at(&self, second: i64) -> Held<'a>
         requires { unsigned_abs second ≤ 800_000_000_000 }

@@ -7,6 +7,7 @@
 mod footer;
 mod held;
 mod laws;
+mod moments;
 mod range;
 mod read;
 mod rule;

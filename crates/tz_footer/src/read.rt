@@ -71,7 +71,9 @@ fn whole(text: &str) -> Option<FooterText<'_>>
 /// The value that a whole footer spells. There is none exactly where it spells none.
 ///
 /// A footer is a name, an offset, and maybe daylight saving time: a name, maybe an offset, and a rule. Names, offsets and
-/// dates are those of POSIX TZ strings; a time of a rule is written as an offset is, with a sign or without one.
+/// dates are those of POSIX TZ strings; a time of a rule is written as an offset is, with a sign or without one. More is taken
+/// than the standard's grammar has: zeros before a number, minutes and seconds of one digit, in brackets any name of one
+/// byte and more without `<` and `>`, and hours past 24 in a rule's time whatever the version of the file.
 pub fn footer_text(text: &str) -> Option<FooterText<'_>>
     ensures exact { MatchOption result ((value : FooterValue) → ¬ (SpellsFooter text.now value))
         (λ footer. SpellsFooter text.now (text_shown footer)) }

@@ -1,14 +1,15 @@
 //! Daylight saving time by a footer's rule: whether it is in force at a second.
 ghost use Rattle.std.specs.Prelude.{◌≡◌, ◌≤◌, IsTrue, unsigned_abs, pos, ◌+ℤ◌, ◌-ℤ◌, ◌*ℤ◌};
 ghost use Rattle.calendar.specs.Days.{IsCountedYear};
-ghost use Rattle.tz_footer.specs.InForce.{is_footer_saving, second_in};
+ghost use Rattle.tz_footer.specs.InForce.{is_footer_saving, moments_in, second_in};
 ghost use Rattle.tz_footer.specs.Ranges.{is_moment, is_rule};
 ghost use Rattle.tz_footer.specs.Standing.{moment_of};
 ghost use Rattle.tz_posix_core.specs.Ranges.{is_rule_date};
 
+use crate::moments::{Moments, is_saved_by, year_after, year_before};
 use crate::values::FooterRule;
 use civil_base::UtcOffset;
-use tz_posix_core::parts::{counted_year_at, is_within};
+use tz_posix_core::parts::counted_year_at;
 use tz_posix_core::{Date, Offset};
 
 const SECONDS_PER_DAY: i64 = 86_400;
@@ -60,7 +61,7 @@ impl YearlyTime {
 }
 
 impl YearlyRule {
-    ghost use Rattle.tz_footer.specs.Yearly.{time_shown};
+    ghost use Rattle.tz_footer.specs.Yearly.{moments_shown, time_shown};
 
     /// The start and the end of a rule.
     pub(crate) fn new(rule: &FooterRule) -> YearlyRule
@@ -74,16 +75,30 @@ impl YearlyRule {
         }
     }
 
-    /// Whether daylight saving time is in force at a second, where it and standard time have these offsets.
+    /// The start and the end in a year, where standard and daylight saving time have these offsets.
+    #[tactic(auto, unfolding(crate::specs::InForce::moments_in))]
+    fn in_year(&self, year: i32, standard: UtcOffset, saving: UtcOffset) -> Moments
+        requires { IsCountedYear year }
+        ensures { moments_shown result ≡ moments_in standard saving (time_shown self.now.start) (time_shown self.now.end) year }
+    {
+        Moments {
+            start: self.start.in_year(year, standard),
+            end: self.end.in_year(year, saving),
+        }
+    }
+
+    /// Whether daylight saving time is in force at a second, where it and standard time have these offsets. A start or an end
+    /// may lie past its year's edges, so the years before and after are looked at too.
     #[tactic(auto, unfolding(crate::specs::InForce::is_footer_saving))]
     pub(crate) fn is_saving(&self, standard: UtcOffset, saving: UtcOffset, second: i64) -> bool
         requires { unsigned_abs second ≤ 800_000_000_000 }
         ensures { result ≡ is_footer_saving standard saving (time_shown self.now.start) (time_shown self.now.end) second }
     {
         let year = counted_year_at(standard, second);
-        let start = self.start.in_year(year, standard);
-        let end = self.end.in_year(year, saving);
-        is_within(start, end, second)
+        let after = self.in_year(year_after(year), standard, saving);
+        let here = self.in_year(year, standard, saving);
+        let before = self.in_year(year_before(year), standard, saving);
+        is_saved_by(&after, &here, &before, second)
     }
 }
 

@@ -9,7 +9,7 @@ use Rattle.zone_spans.specs.Schedules.{total_at as set_total_at}
 use Rattle.tz_zone.specs.Sets.{schedule_of, shift_of, shifts_of}
 use Rattle.tz_zone.specs.Spans.{shift_at}
 use Rattle.tz_zone.specs.declared.set.FixedTimespanSet.{FixedTimespanSet}
-use Rattle.tz_footer.specs.InForce.{FooterZone, held_at}
+use Rattle.tz_footer.specs.InForce.{FooterZone, held_at, is_of_one_year}
 use Rattle.tz_footer.specs.Spells.{SpellsFooter}
 use Rattle.tz_footer.specs.Standing.{StandsFor, stands_for}
 use Rattle.tz_footer.specs.Values.{FooterValue}
@@ -52,8 +52,9 @@ module _ (set : FixedTimespanSet) (from : Option ℤ) (text : List ℕ) (carries
   after_over : (tail : IsTail set from text) (footer : FooterZone) (t : ℤ) → ((x y : FooterValue) → SpellsFooter text x → SpellsFooter text y → x ≡ y)
       → StandsFor text footer → seconds_of t <ℤ end_of_last_year set
       → list_all (λ (change : ℤ × KindValue). int_le change.0 (seconds_of t)) (map change_of set.others) ≡ true
+      → is_of_one_year footer (seconds_of t) ≡ true
       → (held_at footer (seconds_of t)).utoff ≡ set_total_at (schedule_of set) t
-  after_over tail footer t one stands last over =
+  after_over tail footer t one stands last over own =
       let s = seconds_of t in
       let same : stands_for both_of.value ≡ footer =
       ap stands_for (one both_of.value stands.value both_of.is.spelled stands.is.spelled) ∙ stands.stands in
@@ -61,7 +62,7 @@ module _ (set : FixedTimespanSet) (from : Option ℤ) (text : List ℕ) (carries
         begun = subst (λ o. IsFrom o s) (sym tail.begins) (begun set s tail.span _ tail.choice.allowed over);
         not_over = last;
       } in
-      let gives = both_of.gives t in
+      let gives = both_of.gives t (subst (λ f. is_of_one_year f s ≡ true) (sym same) own) in
       ap (λ f. (held_at f s).utoff) (sym same) ∙ sym gives.is ∙ carries.agrees t gives.given covered gives.gives
 
   -- by the laws on the totals of files
@@ -72,10 +73,11 @@ module _ (set : FixedTimespanSet) (from : Option ℤ) (text : List ℕ) (carries
       → told_total_at zone (Some footer) t ≡ (held_at footer (seconds_of t)).utoff)
       → (tail : IsTail set from text) (footer : FooterZone) (t : ℤ) → ((x y : FooterValue) → SpellsFooter text x → SpellsFooter text y → x ≡ y)
       → StandsFor text footer → seconds_of t <ℤ end_of_last_year set
+      → (are_over (value_of set text).rest (seconds_of t) ≡ true → is_of_one_year footer (seconds_of t) ≡ true)
       → told_total_at (value_of set text) (Some footer) t ≡ set_total_at (schedule_of set) t
-  carried kept before after tail footer t one stands last = by_over (are_over (value_of set text).rest (seconds_of t)) refl
+  carried kept before after tail footer t one stands last own = by_over (are_over (value_of set text).rest (seconds_of t)) refl
     where
       by_over : (b : Bool) → are_over (value_of set text).rest (seconds_of t) ≡ b
           → told_total_at (value_of set text) (Some footer) t ≡ set_total_at (schedule_of set) t
       by_over false over = before (value_of set text) footer t over ∙ kept set text t
-      by_over true over = after (value_of set text) footer t over ∙ after_over tail footer t one stands last (over_of set text (seconds_of t) over)
+      by_over true over = after (value_of set text) footer t over ∙ after_over tail footer t one stands last (over_of set text (seconds_of t) over) (own over)

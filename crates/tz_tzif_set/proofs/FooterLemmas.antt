@@ -1,7 +1,8 @@
 -- A string in its ranges that stands for a zone by itself is a footer, and gives the same totals.
-use Rattle.std.proofs.Common.{◌≡◌, ℕ, ◌≤◌, Bool, true, false, cond, ◌&&◌, List, [], ◌∷◌, Option, Some, None, option_map, option_and_then, Result, Ok, Err, ℤ, pos, ◌+ℤ◌, ◌++◌, subst, refl, sym, ap, ◌∙◌, arith, nat_le}
+use Rattle.std.proofs.Common.{◌≡◌, ℕ, ◌≤◌, Bool, true, false, cond, not, ◌&&◌, List, [], ◌∷◌, Option, Some, None, option_map, option_and_then, Result, Ok, Err, ℤ, pos, ◌+ℤ◌, ◌++◌, subst, refl, sym, ap, ◌∙◌, arith, nat_le}
 use Rattle.std.proofs.lemmas.Bool.{and_parts, and_from}
 use Rattle.std.proofs.lemmas.Bool.Decides.{nat_tests}
+use Rattle.std.proofs.lemmas.Int.{ints}
 use Rattle.civil_base.specs.Instants.{seconds_of}
 use Rattle.tz_posix_core.specs.InForce.{instant_in, is_saving, posix_total, year_at, is_within, yearly_time}
 use Rattle.tz_posix_core.specs.PosixZones.{PosixZone, fixed, ruled, GivesTotal, Named, either}
@@ -20,7 +21,8 @@ use Rattle.tz_posix_core.specs.declared.time.Offset.{Offset}
 use Rattle.tz_posix_core.specs.declared.time.Time.{Time}
 use Rattle.tz_posix_core.specs.declared.values.Rule.{Rule}
 use Rattle.tz_zone.specs.declared.set.FixedTimespanSet.{FixedTimespanSet}
-use Rattle.tz_footer.specs.InForce.{held_at, second_in, yearly, is_footer_saving}
+use Rattle.tz_footer.specs.InForce.{held_at, second_in, yearly, is_footer_saving, is_of_one_year, is_saved, is_saved_by, has_begun, moments_in}
+use Rattle.tz_footer.specs.InForce.{year_after, year_before}
 use Rattle.tz_footer.specs.Ranges.{IsFooterOf, is_in_range, is_rule, is_own_offset, has_time}
 use Rattle.tz_footer.specs.Spells.{SpellsFooterMoment, date, timed, SpellsFooterRule, rule, saving, footer}
 use Rattle.tz_footer.specs.Standing.{moment_of, stands_for}
@@ -95,11 +97,11 @@ either_total : (b : Bool) (a c : KindValue) → (cond b a c).utoff ≡ cond b a.
 either_total true a c = refl
 either_total false a c = refl
 
--- a value of a footer that gives what a zone of a string gives
+-- a value of a footer that gives what a zone of a string gives, where the year of an instant decides by itself
 pub record Both (text : List ℕ) (tz : PosixZone) : Type 0 where
   pub value : FooterValue
   pub is : IsFooterOf text value
-  pub gives : (t : ℤ) → GivesTotal tz t (held_at (stands_for value) (seconds_of t)).utoff
+  pub gives : (t : ℤ) → is_of_one_year (stands_for value) (seconds_of t) ≡ true → GivesTotal tz t (held_at (stands_for value) (seconds_of t)).utoff
 
 alone : {a b name : List ℕ} {o : Offset} (tz : PosixZone) → spells.SpellsName a name → spells.SpellsOffset b o → offset_miss o ≡ None
     → fixed (record { name = name; total = east_of o }) ≡ tz → Both (a ++ b ++ []) tz
@@ -107,17 +109,47 @@ unfolding is_in_range stands_for held_at
 alone {a} {b} {name} {o} tz is_name is_offset fits same = record {
   value = record { standard = record { name = name; offset = o }; saving = None };
   is = record { spelled = footer is_name is_offset absent; range = time_in 24 o.time fits };
-  gives = λ t. subst (λ z. GivesTotal z t (east_of o)) same
+  gives = λ t own. subst (λ z. GivesTotal z t (east_of o)) same
       (record { given = record { total = east_of o; name = name; saving = false }; gives = ((refl, refl), refl); is = refl });
 }
 
+not_from : (b : Bool) → not b ≡ true → b ≡ false
+not_from true h = absurd cc
+not_from false h = refl
+
+-- a year that has begun is read as one standard year is
+within_begun : (start end s : ℤ) → has_begun (start, end) s ≡ true → is_saved (start, end) s ≡ is_within start end s
+within_begun start end s begun = grind (arith, ints, begun)
+
+by_here : (after here before : ℤ × ℤ) (s : ℤ) → has_begun after s ≡ false → has_begun here s ≡ true → is_saved_by after here before s ≡ is_saved here s
+unfolding is_saved_by
+by_here after here before s later begun = rw (later, begun) refl
+
+-- the start and the end in a year
+abbrev pair : ℤ → ℤ → Date × ℤ → Date × ℤ → ℤ → ℤ × ℤ
+pair standard ahead start end y = (second_in y standard start, second_in y ahead end)
+
+own_year : (standard ahead s : ℤ) (start end : Date × ℤ)
+    → (has_begun (pair standard ahead start end (year_at standard s)) s && not (has_begun (pair standard ahead start end (year_after (year_at standard s))) s)) ≡ true
+    → is_footer_saving standard ahead start end s
+    ≡ is_within (second_in (year_at standard s) standard start) (second_in (year_at standard s) ahead end) s
+unfolding is_footer_saving moments_in
+own_year standard ahead s start end own =
+    let y = year_at standard s in
+    let moments = pair standard ahead start end in
+    let both = and_parts (has_begun (moments y) s) (not (has_begun (moments (year_after y)) s)) own in
+    by_here (moments (year_after y)) (moments y) (moments (year_before y)) s (not_from (has_begun (moments (year_after y)) s) both.1) both.0
+    ∙ within_begun (second_in y standard start) (second_in y ahead end) s both.0
+
 totals_same : (standard saved : KindValue) (start end : Date × Option Time) (s : ℤ)
+    → is_of_one_year (yearly standard saved (moment_of (lifted start)) (moment_of (lifted end))) s ≡ true
     → (held_at (yearly standard saved (moment_of (lifted start)) (moment_of (lifted end))) s).utoff
     ≡ posix_total standard.utoff saved.utoff (yearly_time start) (yearly_time end) s
-unfolding held_at is_footer_saving second_in posix_total is_saving instant_in
-totals_same standard saved start end s =
+unfolding held_at is_of_one_year moments_in second_in posix_total is_saving instant_in
+totals_same standard saved start end s own =
     let y = year_at standard.utoff s in
     either_total _ saved standard
+    ∙ ap (λ b. cond b saved.utoff standard.utoff) (own_year standard.utoff saved.utoff s (moment_of (lifted start)) (moment_of (lifted end)) own)
     ∙ (λ i. cond (is_within (second_in y standard.utoff (moment_same start i)) (second_in y saved.utoff (moment_same end i)) s) saved.utoff standard.utoff)
 
 changing : {a b c d e name other : List ℕ} {o : Offset} {p : Option Offset} {r : Rule} (tz : PosixZone) → spells.SpellsName a name
@@ -141,7 +173,7 @@ changing {a} {b} {c} {d} {e} {name} {other} {o} {p} {r} tz is_name is_offset is_
         spelled = footer is_name is_offset (present (saving is_other is_own (rule_lifted is_rule_text)));
         range = and_from _ _ (time_in 24 o.time fits) (and_from _ _ (own_in p own_fits) (rule_in_range r rule_fits));
       };
-      gives = λ t.
+      gives = λ t own.
           let s = seconds_of t in
           let holds = is_saving st.total sv.total (yearly_time r.start) (yearly_time r.end) s in
           subst (λ z. GivesTotal z t (held_at (yearly standard saved (moment_of (lifted r.start)) (moment_of (lifted r.end))) s).utoff) same (record {
@@ -151,7 +183,7 @@ changing {a} {b} {c} {d} {e} {name} {other} {o} {p} {r} tz is_name is_offset is_
               saving = holds;
             };
             gives = record { total = refl; saves = refl; named = refl };
-            is = sym (totals_same standard saved r.start r.end s);
+            is = sym (totals_same standard saved r.start r.end s own);
           });
     }
 

@@ -1,0 +1,106 @@
+-- What rules give at instants that are known from outside, where they fire past their year's edges; and which year decides.
+use Rattle.std.proofs.Common.{◌≡◌, refl, arith, ◌∙◌, ap, ℕ, ◌≤◌, [], ◌∷◌, map, true, false, ℤ, pos, neg_ℤ, ◌+ℤ◌, Bool}
+use Rattle.std.specs.Int.{int_div_euclid}
+use Rattle.calendar.specs.Dates.{last_with, year_of}
+use Rattle.calendar.specs.DateLaws.{year_of-day}
+use Rattle.calendar.specs.Days.{is_leap, days_in_year, days_in_month, days_after_zero, year_start, days_through, days_into_year}
+use Rattle.calendar.specs.Days.{day, IsCountedYear, IsDate}
+use Rattle.calendar.specs.SignedLaws.{signed}
+use Rattle.calendar.specs.Weekdays.{weekday_of}
+use Rattle.tz_posix_core.specs.Days.{nth_weekday, rule_day}
+use Rattle.tz_posix_core.specs.InForce.{year_at}
+use Rattle.tz_posix_core.specs.declared.date.Date.TheVariants.{M}
+use Rattle.tz_footer.specs.InForce.{is_saved_by, is_footer_saving, moments_in, second_in, year_after, year_before}
+
+-- years from 10 to 20, from 110 to 120 and from 210 to 220: before all, and at each moment and a second before it
+in_order : map (is_saved_by (pos 210, pos 220) (pos 110, pos 120) (pos 10, pos 20))
+    (pos 9 ∷ pos 10 ∷ pos 19 ∷ pos 20 ∷ pos 109 ∷ pos 110 ∷ pos 119 ∷ pos 120 ∷ pos 209 ∷ pos 210 ∷ pos 219 ∷ pos 220 ∷ [])
+    ≡ false ∷ true ∷ true ∷ false ∷ false ∷ true ∷ true ∷ false ∷ false ∷ true ∷ true ∷ false ∷ []
+unfolding is_saved_by
+in_order = refl
+
+-- the end before the start
+reversed : map (is_saved_by (pos 220, pos 210) (pos 120, pos 110) (pos 20, pos 10))
+    (pos 9 ∷ pos 10 ∷ pos 19 ∷ pos 20 ∷ pos 109 ∷ pos 110 ∷ pos 119 ∷ pos 120 ∷ pos 209 ∷ pos 210 ∷ pos 219 ∷ pos 220 ∷ [])
+    ≡ true ∷ false ∷ false ∷ true ∷ true ∷ false ∷ false ∷ true ∷ true ∷ false ∷ false ∷ true ∷ []
+unfolding is_saved_by
+reversed = refl
+
+-- the order changes from year to year; saving that never ends, to the second and with hours left over; and none, whose start is its end
+other_orders : map (λ s. is_saved_by (pos 220, pos 210) (pos 110, pos 120) (pos 20, pos 10) s) (pos 19 ∷ pos 20 ∷ pos 110 ∷ pos 119 ∷ pos 120 ∷ pos 219 ∷ pos 220 ∷ [])
+    ≡ false ∷ true ∷ true ∷ true ∷ false ∷ false ∷ true ∷ []
+unfolding is_saved_by
+other_orders = refl
+
+for_ever : map (is_saved_by (pos 200, pos 300) (pos 100, pos 200) (pos 0, pos 100)) (pos 0 ∷ pos 99 ∷ pos 100 ∷ pos 199 ∷ pos 200 ∷ pos 299 ∷ [])
+    ≡ true ∷ true ∷ true ∷ true ∷ true ∷ true ∷ []
+unfolding is_saved_by
+for_ever = refl
+
+left_over : map (is_saved_by (pos 200, pos 305) (pos 100, pos 205) (pos 0, pos 105)) (pos 0 ∷ pos 99 ∷ pos 100 ∷ pos 105 ∷ pos 200 ∷ pos 205 ∷ [])
+    ≡ true ∷ true ∷ true ∷ true ∷ true ∷ true ∷ []
+unfolding is_saved_by
+left_over = refl
+
+never : map (is_saved_by (pos 200, pos 200) (pos 100, pos 100) (pos 10, pos 10)) (pos 9 ∷ pos 10 ∷ pos 100 ∷ pos 150 ∷ pos 200 ∷ [])
+    ≡ false ∷ false ∷ false ∷ false ∷ false ∷ []
+unfolding is_saved_by
+never = refl
+
+-- years are counted to 10000 on both sides
+edges : map year_after (pos 9999 ∷ pos 10000 ∷ []) ≡ pos 10000 ∷ pos 10000 ∷ []
+edges = refl
+
+first_edges : map year_before (neg_ℤ (pos 9999) ∷ neg_ℤ (pos 10000) ∷ []) ≡ neg_ℤ (pos 10000) ∷ neg_ℤ (pos 10000) ∷ []
+first_edges = refl
+
+years_2024 : IsCountedYear (pos 2024)
+years_2024 = record { first = omega (arith, signed); last = omega (arith, signed) }
+
+year_is : (offset t : ℤ) (m d : ℕ) → IsDate (pos 2024) m d → int_div_euclid (t +ℤ offset) (pos 86400) ≡ day (pos 2024) m d → year_at offset t ≡ pos 2024
+unfolding year_at
+year_is offset t m d date is = ap year_of is ∙ year_of-day (pos 2024) m d years_2024 date
+
+a_date : (m d : ℕ) → 1 ≤ m → m ≤ 12 → 1 ≤ d → d ≤ days_in_month (pos 2024) m → IsDate (pos 2024) m d
+a_date m d first last one most = record { first_month = first; last_month = last; first_day = one; last_day = most }
+
+-- five hours behind UTC, daylight saving time from 150 hours into the last Sunday of December to the second Sunday of March at 02:00: the
+-- start of 2023 lies on 6 January 2024 at 06:00
+abbrev late_start : ℤ → Bool
+late_start s = is_footer_saving (neg_ℤ (pos 18000)) (neg_ℤ (pos 14400)) (M 12 5 0, pos 540000) (M 3 2 0, pos 7200) s
+
+before_start : late_start (pos 1704538799) ≡ false
+unfolding
+    is_footer_saving is_saved_by moments_in second_in rule_day nth_weekday last_with weekday_of
+    is_leap days_in_year days_in_month days_after_zero year_start days_through days_into_year day
+before_start =
+    let date : IsDate (pos 2024) 1 6 = a_date 1 6 (omega arith) (omega arith) (omega arith) (omega arith) in
+    rw (year_is (neg_ℤ (pos 18000)) (pos 1704538799) 1 6 date refl) refl
+
+at_start : late_start (pos 1704538800) ≡ true
+unfolding
+    is_footer_saving is_saved_by moments_in second_in rule_day nth_weekday last_with weekday_of
+    is_leap days_in_year days_in_month days_after_zero year_start days_through days_into_year day
+at_start =
+    let date : IsDate (pos 2024) 1 6 = a_date 1 6 (omega arith) (omega arith) (omega arith) (omega arith) in
+    rw (year_is (neg_ℤ (pos 18000)) (pos 1704538800) 1 6 date refl) refl
+
+-- the same offsets, from 150 hours before the first Sunday of January to the first of April: the start of 2025 lies on 29 December 2024
+abbrev early_start : ℤ → Bool
+early_start s = is_footer_saving (neg_ℤ (pos 18000)) (neg_ℤ (pos 14400)) (M 1 1 0, neg_ℤ (pos 540000)) (M 4 1 0, pos 7200) s
+
+before_early : early_start (pos 1735513199) ≡ false
+unfolding
+    is_footer_saving is_saved_by moments_in second_in rule_day nth_weekday last_with weekday_of
+    is_leap days_in_year days_in_month days_after_zero year_start days_through days_into_year day
+before_early =
+    let date : IsDate (pos 2024) 12 29 = a_date 12 29 (omega arith) (omega arith) (omega arith) (omega arith) in
+    rw (year_is (neg_ℤ (pos 18000)) (pos 1735513199) 12 29 date refl) refl
+
+at_early : early_start (pos 1735513200) ≡ true
+unfolding
+    is_footer_saving is_saved_by moments_in second_in rule_day nth_weekday last_with weekday_of
+    is_leap days_in_year days_in_month days_after_zero year_start days_through days_into_year day
+at_early =
+    let date : IsDate (pos 2024) 12 29 = a_date 12 29 (omega arith) (omega arith) (omega arith) (omega arith) in
+    rw (year_is (neg_ℤ (pos 18000)) (pos 1735513200) 12 29 date refl) refl
