@@ -1,2 +1,3 @@
 mod CarriedLemmas
+mod ConsistentLemmas
 mod FooterLemmas

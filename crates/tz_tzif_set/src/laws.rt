@@ -6,14 +6,20 @@ ghost use Rattle.tz_zone.specs.Sets.{schedule_of};
 ghost use Rattle.tz_zone.specs.declared.set.FixedTimespanSet.{FixedTimespanSet};
 ghost use Rattle.tz_footer.specs.InForce.{FooterZone, is_of_one_year};
 ghost use Rattle.tz_footer.specs.Standing.{StandsFor};
+ghost use Rattle.tz_tzif.specs.Faults.{SaysInFooter};
 ghost use Rattle.tz_tzif.specs.InForce.{are_over, told_total_at};
 ghost use Rattle.zone_tail_core.specs.Carried.{CarriesOn};
 ghost use Rattle.zone_tail_core.specs.Tails.{IsTail, end_of_last_year};
+ghost use Rattle.zone_tzif_core.specs.Denotes.{Denotes};
+ghost use Rattle.zone_tzif_core.specs.Tzif.{IsTzif};
+ghost use Rattle.zone_tzif_core.specs.Zones.{ZoneValue};
+ghost use Rattle.zone_tzif_set.specs.Files.{consistent_zone, IsCarriedOn};
 ghost use Rattle.zone_tzif_set.specs.Values.{value_of};
-ghost use Rattle.tz_tzif_set.specs.Footers.{IsFooterText};
+ghost use Rattle.tz_tzif_set.specs.Footers.{IsFooterText, IsSaid};
 
 use tz_footer::one_footer;
 use tz_tzif::file_totals;
+use zone_tzif_core::{one_reading, written_denotes};
 use zone_tzif_set::totals_kept;
 
 /// The string that `tail` gives for a set is a footer, and of the zone that `from_set` makes of the set with it, the total is the
@@ -30,4 +36,19 @@ pub fn carried_on()
     one_footer();
     file_totals();
     totals_kept();
+}
+
+/// Whatever is read from a set's consistent file, with what its footer says, has the set's offset: at every instant, where the set
+/// has no string or changes past all that it says, and else at every instant before the end of the last year, as `carried_on` has it.
+/// That the string carries the set on is told by whoever writes the file (`consistent_tzif_of`).
+pub fn consistent_totals()
+    ensures { (set : FixedTimespanSet) (bytes : List ℕ) (zone : ZoneValue) (footer : Option FooterZone) (t : ℤ) → IsCarriedOn set
+        → IsTzif bytes (consistent_zone set) → Denotes bytes zone → SaysInFooter zone.footer footer → IsSaid set footer t
+        → told_total_at zone footer t ≡ set_total_at (schedule_of set) t }
+{
+    carried_on();
+    file_totals();
+    totals_kept();
+    one_reading();
+    written_denotes();
 }

@@ -3,4 +3,4 @@
 
 mod laws;
 
-pub use laws::carried_on;
+pub use laws::{carried_on, consistent_totals};
