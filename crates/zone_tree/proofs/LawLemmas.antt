@@ -6,7 +6,7 @@ use Rattle.std.specs.List.{AllByRecursion, list_any, flat_map}
 use Rattle.std.specs.Option.{option_or}
 use Rattle.std.specs.Ordering.{eq_by_cmp}
 use Rattle.std.proofs.lemmas.Bool.{and_from, or_left, or_right}
-use Rattle.std.proofs.lemmas.List.Elements.{All-nil, All-cons}
+use Rattle.std.proofs.lemmas.List.Elements.{All-nil, All-cons, All-append}
 use Rattle.std.proofs.lemmas.List.Folds.{list_any-append}
 use Rattle.std.proofs.lemmas.Map.Text.{is_eq-slice_cmp}
 use Rattle.std.proofs.lemmas.Slice.Eq.{bytes_eq-Decides}
@@ -15,11 +15,12 @@ use Rattle.owned.specs.InOrderLaws.{any-in_order}
 use Rattle.owned.specs.Keyed.{text_cmp}
 use Rattle.owned.specs.KeyedLaws.{tied_texts}
 use Rattle.owned.specs.Listed.{listed}
-use Rattle.ustar.specs.Archives.{archive}
+use Rattle.ustar.specs.Archives.{archive, IsArchive}
 use Rattle.ustar.specs.Entries.{Content, of_file, of_link, EntryValue, entry}
 use Rattle.ustar.specs.Names.{entry_fault}
 use Rattle.ustar.specs.declared.entry.EntryFault.{EntryFault}
 use Rattle.ustar.specs.declared.entry.EntryFault.TheVariants as fault_is
+use Rattle.zone_release.specs.Releases.{release_of}
 use Rattle.zone_run.specs.Causes.{Found, named}
 use Rattle.zone_source.specs.Faults.{SourceFault, source_fault}
 use Rattle.zone_source.specs.Zones.{values_of, zone_in}
@@ -27,10 +28,27 @@ use Rattle.zone_spans.specs.Schedules.{totals_of, is_in_offset_range}
 use Rattle.zone_table.specs.Joined.{zone_of, link_of}
 use Rattle.zone_table.specs.declared.zone.ZoneInfo.{ZoneInfo}
 use Rattle.zone_values.specs.Values.{LineValue}
-use Rattle.zone_tree.specs.Entries.{file_or, file_unless, is_marked, zone_content, link_content, content_of, is_folder, said, entry_with, entry_by, entry_of}
-use Rattle.zone_tree.specs.TreeShape.{are_behind, IsTree}
+use Rattle.zone_tree.specs.Entries.{
+  file_or,
+  file_unless,
+  is_marked,
+  zone_content,
+  link_content,
+  content_of,
+  version_name,
+  is_folder,
+  is_reserved,
+  is_taken,
+  said,
+  fitting,
+  entry_with,
+  entry_by,
+  entry_of,
+  release_entry,
+}
+use Rattle.zone_tree.specs.TreeShape.{are_behind, version_entries, IsTree}
 use Rattle.zone_tree.specs.Names.{Finds, finds_in, given_names, names_by, others, archive_names}
-use Rattle.zone_tree.specs.Trees.{Refused, onto, entries_of, archive_of, tree_by, or_cause, after_source, tree_of}
+use Rattle.zone_tree.specs.Trees.{Refused, onto, entries_of, first_entries, before, joined, archive_of, tree_by, or_cause, after_source, tree_of}
 use Rattle.zone_tree.specs.declared.refusal.Why.{Why}
 use Rattle.zone_tree.specs.declared.refusal.Why.TheVariants.{OffsetRange, Link, Name}
 use Rattle.zone_tzif_core.specs.declared.values.WriteFault.{WriteFault}
@@ -65,9 +83,9 @@ said_is name content e h = by_fault (entry_fault (entry name content)) refl h
     by_fault (Some fault_is.Size) f h = absurd cc
 
 with_is : (names : List (List ℕ)) (name : List ℕ) (content : Content) (e : EntryValue) → entry_with names name content ≡ Ok e → IsEntry name content e
-with_is names name content e h = by_folder (is_folder names name) h
+with_is names name content e h = by_folder (is_taken names name) h
   where
-    by_folder : (b : Bool) → cond b (Err Name) (said (entry name content) (entry_fault (entry name content))) ≡ Ok e → IsEntry name content e
+    by_folder : (b : Bool) → cond b (Err Name) (fitting name content) ≡ Ok e → IsEntry name content e
     by_folder true h = absurd cc
     by_folder false h = said_is name content e h
 
@@ -84,6 +102,36 @@ by_is names name (Err why) e h = absurd cc
 of_name : (finds : Finds) (name : List ℕ) (e : EntryValue) → entry_of finds name ≡ Ok e → HasContent name (content_of finds name) e
 unfolding entry_of
 of_name finds name e h = by_is (finds.zones ++ finds.links) name (content_of finds name) e h
+
+-- ---- no name is that of the release's file
+
+free_with : (names : List (List ℕ)) (name : List ℕ) (content : Content) (e : EntryValue) → entry_with names name content ≡ Ok e
+    → is_reserved name ≡ false
+free_with names name content e h = by (is_folder names name) (is_reserved name) refl h
+  where
+    by : (b c : Bool) → is_reserved name ≡ c → cond (b || c) (Err Name) (fitting name content) ≡ Ok e → is_reserved name ≡ false
+    by true c is h = absurd cc
+    by false true is h = absurd cc
+    by false false is h = is
+
+free_by : (names : List (List ℕ)) (name : List ℕ) (found : Result Content Why) (e : EntryValue) → entry_by names name found ≡ Ok e
+    → is_reserved name ≡ false
+free_by names name (Ok content) e h = free_with names name content e h
+free_by names name (Err why) e h = absurd cc
+
+free_name : (finds : Finds) (name : List ℕ) (e : EntryValue) → entry_of finds name ≡ Ok e → is_reserved name ≡ false
+unfolding entry_of
+free_name finds name e h = free_by (finds.zones ++ finds.links) name (content_of finds name) e h
+
+apart : (name : List ℕ) → is_reserved name ≡ false → bytes_eq version_name name ≡ false
+apart name free = by (bytes_eq version_name name) refl
+  where
+    reserved : version_name ≡ name → is_reserved name ≡ true
+    reserved same = ap is_reserved (sym same)
+
+    by : (b : Bool) → bytes_eq version_name name ≡ b → bytes_eq version_name name ≡ false
+    by false e = e
+    by true e = let is = reserved ((bytes_eq-Decides version_name name).0 e) in absurd cc
 
 -- ---- a zone has a file, another name a link
 
@@ -159,6 +207,35 @@ all_named finds (name ∷ names) entries h test =
     let has = of_name finds name is.e is.is_first in
     ap (list_any (λ e. test e.name)) (sym is.are)
     ∙ (λ i. test (sym has.is_entry.is i).name || all_named finds names is.others is.are_rest test i)
+
+all_apart : (finds : Finds) (names : List (List ℕ)) (entries : List EntryValue) → entries_of (entry_of finds) names ≡ Ok entries
+    → list_any (bytes_eq version_name) names ≡ false
+unfolding entries_of
+all_apart finds [] entries h = refl
+all_apart finds (name ∷ names) entries h =
+    let is = onto_is name (entry_of finds name) (entries_of (entry_of finds) names) entries h in
+    (λ i. apart name (free_name finds name is.e is.is_first) i || all_apart finds names is.others is.are_rest i)
+
+-- ---- the release's file
+
+record AreFirst (release : Option (List ℕ)) (firsts : List EntryValue) : Type 0 where
+  are : version_entries release ≡ firsts
+  said : All (λ e. entry_fault e ≡ None) firsts
+
+first_are : (release : Option (List ℕ)) (firsts : List EntryValue) → first_entries release ≡ Ok firsts → AreFirst release firsts
+first_are None firsts h =
+    let is = ok_same [] firsts h in
+    record { are = is; said = subst (All (λ e. entry_fault e ≡ None)) is (All-nil (λ e. entry_fault e ≡ None)) }
+first_are (Some release) firsts h =
+    let is = onto_is version_name (release_entry release) (Ok []) firsts h in
+    let entry_is = said_is version_name (of_file (release ++ 10 ∷ [])) is.e is.is_first in
+    let none = ok_same [] is.others is.are_rest in
+    record {
+      are = (λ i. entry_is.is i ∷ none i) ∙ is.are;
+      said = subst (All (λ e. entry_fault e ≡ None)) is.are
+          (All-cons (λ e. entry_fault e ≡ None) is.e is.others entry_is.fits
+          (subst (All (λ e. entry_fault e ≡ None)) none (All-nil (λ e. entry_fault e ≡ None))));
+    }
 
 -- ---- links behind files
 
@@ -377,11 +454,20 @@ tree_is source bytes h = by_fault (source_fault source) h
         → list_any (λ e. bytes_eq name e.name) entries ≡ list_any (bytes_eq name) (given_names source)
     given entries e name = all_named finds (archive_names finds) entries e (bytes_eq name) ∙ all_given source name
 
-    by_entries : (found : Result (List EntryValue) Refused) → entries_of (entry_of finds) (archive_names finds) ≡ found
-        → or_cause (archive_of found) ≡ Ok bytes → IsTree source bytes
-    by_entries (Ok entries) e h = record {
+    archived : (firsts entries : List EntryValue) → AreFirst (release_of source) firsts → entries_of (entry_of finds) (archive_names finds) ≡ Ok entries
+        → archive (firsts ++ entries) ≡ bytes → IsArchive bytes (version_entries (release_of source) ++ entries)
+    archived firsts entries first e written = record {
+      said = subst (λ fs. All (λ e. entry_fault e ≡ None) (fs ++ entries)) (sym first.are)
+          (All-append (λ e. entry_fault e ≡ None) firsts entries first.said (all_said finds (archive_names finds) entries e));
+      written = sym written ∙ ap (λ fs. archive (fs ++ entries)) (sym first.are);
+    }
+
+    by_entries : (firsts : List EntryValue) (found : Result (List EntryValue) Refused) → first_entries (release_of source) ≡ Ok firsts
+        → entries_of (entry_of finds) (archive_names finds) ≡ found → or_cause (archive_of (before firsts found)) ≡ Ok bytes → IsTree source bytes
+    by_entries firsts (Ok entries) f e h = record {
       entries = entries;
-      is_archive = record { said = all_said finds (archive_names finds) entries e; written = sym (ok_same (archive entries) bytes h) };
+      is_archive = archived firsts entries (first_are (release_of source) firsts f) e (ok_same (archive (firsts ++ entries)) bytes h);
+      apart = all_named finds (archive_names finds) entries e (bytes_eq version_name) ∙ all_apart finds (archive_names finds) entries e;
       each = given entries e;
       found = λ name. given entries e name ∙ both_ways _ _
           (λ among. by_lines source name (one_among (HasZone finds) (archive_names finds) name
@@ -391,9 +477,15 @@ tree_is source bytes h = by_fault (source_fault source) h
           (λ rest f. links_behind finds (back finds.zones []) (others finds.is_zone finds.links) rest
           (λ target own. is_there (bytes_eq target) finds.zones [] (zones_hold source target ∙ own)) (all_others finds.is_zone finds.links) f);
     }
-    by_entries (Err first) e h = absurd cc
+    by_entries firsts (Err first) f e h = absurd cc
 
-    by_fault : (fault : Option SourceFault) → after_source fault (archive_of (entries_of (entry_of finds) (archive_names finds))) ≡ Ok bytes
+    by_first : (found : Result (List EntryValue) Refused) → first_entries (release_of source) ≡ found
+        → or_cause (archive_of (joined found (entries_of (entry_of finds) (archive_names finds)))) ≡ Ok bytes → IsTree source bytes
+    by_first (Ok firsts) f h = by_entries firsts (entries_of (entry_of finds) (archive_names finds)) f refl h
+    by_first (Err first) f h = absurd cc
+
+    by_fault : (fault : Option SourceFault)
+        → after_source fault (archive_of (joined (first_entries (release_of source)) (entries_of (entry_of finds) (archive_names finds)))) ≡ Ok bytes
         → IsTree source bytes
     by_fault (Some fault) h = absurd cc
-    by_fault None h = by_entries (entries_of (entry_of finds) (archive_names finds)) refl h
+    by_fault None h = by_first (first_entries (release_of source)) refl h

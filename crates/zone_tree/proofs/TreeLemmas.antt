@@ -7,6 +7,7 @@ use Rattle.tz_lookup.specs.Databases.{name_shown}
 use Rattle.std.proofs.lemmas.Grind.{flat_map-append}
 use Rattle.ustar.specs.Archives.{archive, end_bytes, entry_bytes}
 use Rattle.ustar.specs.Entries.{EntryValue}
+use Rattle.zone_release.specs.Releases.{release_of}
 use Rattle.zone_source.specs.Faults.{SourceFault, source_fault}
 use Rattle.zone_source.specs.Told.{TellsOfSource, told_by_source}
 use Rattle.zone_source.specs.Zones.{values_of}
@@ -14,19 +15,14 @@ use Rattle.zone_source.specs.declared.error.SourceError.{SourceError}
 use Rattle.zone_source.specs.declared.error.SourceError.TheVariants as source_error
 use Rattle.zone_table.specs.Tables.{IsTableOf}
 use Rattle.zone_table.specs.declared.table.Table.{Table}
-use Rattle.zone_tree.specs.Entries.{entry_of}
+use Rattle.zone_tree.specs.Entries.{version_name, entry_of, release_entry}
 use Rattle.zone_tree.specs.Names.{Finds, finds_in, finds_in_table, archive_names}
 use Rattle.zone_tree.specs.Told.{IsPut, ArePut, IsFirst, IsFaultOf}
-use Rattle.zone_tree.specs.Trees.{Refused, refused, onto, entries_of, archive_of, tree_by, Cause, of_source, or_cause, after_source, tree_of}
+use Rattle.zone_tree.specs.Trees.{Refused, refused, onto, entries_of, first_entries, before, joined, archive_of, tree_by, Cause, of_source, or_cause, after_source, tree_of}
 use Rattle.zone_tree.specs.declared.refusal.TreeFault.{TreeFault}
 use Rattle.zone_tree.specs.declared.refusal.TreeFault.TheVariants as tree
 use Rattle.zone_tree.specs.declared.refusal.Why.{Why}
 use Rattle.zone_tree.proofs.NameLemmas.{finds_same}
-
--- these entries come before those that are found
-abbrev pub before : List EntryValue → Result (List EntryValue) Refused → Result (List EntryValue) Refused
-before es (Ok fs) = Ok (es ++ fs)
-before es (Err first) = Err first
 
 before_none : (r : Result (List EntryValue) Refused) → before [] r ≡ r
 before_none (Ok fs) = refl
@@ -103,31 +99,71 @@ pub all_steps : (entry : List ℕ → Result EntryValue Why) (all : List (List �
 all_steps entry all names i old now past so_far =
     all_put entry all old now (subst (λ left. HasPut entry all (map name_shown left) old now) (drop_all i names past) so_far)
 
+-- ---- what comes first
+
+none_at : (old : List ℕ) → ArePut old old (first_entries None)
+none_at old = record { entries = []; are_found = refl; bytes = sym (append-nil old) }
+
+pub none_first : (release : Option (List ℕ)) (old : List ℕ) → None ≡ release → ArePut old old (first_entries release)
+none_first release old none = subst (λ r. ArePut old old (first_entries r)) none (none_at old)
+
+pub one_first : (release old new : List ℕ) → IsPut old new (release_entry release) → ArePut old new (first_entries (Some release))
+one_first release old new put = record {
+  entries = put.entry ∷ [];
+  are_found = ap (λ r. onto version_name r (Ok [])) put.is_found;
+  bytes = put.bytes ∙ ap (λ l. old ++ l) (sym (append-nil (entry_bytes put.entry)));
+}
+
+pub refused_first : (release text : List ℕ) (why : Why) → release_entry release ≡ Err why → text ≡ version_name
+    → first_entries (Some release) ≡ Err (refused text why)
+refused_first release text why met same = ap (λ r. onto version_name r (Ok [])) met ∙ ap (λ t. Err (refused t why)) (sym same)
+
+both_put : (old mid now : List ℕ) (firsts others : Result (List EntryValue) Refused) → ArePut old mid firsts → ArePut mid now others
+    → ArePut old now (joined firsts others)
+both_put old mid now firsts others first other = record {
+  entries = first.entries ++ other.entries;
+  are_found = ap (λ r. joined r others) first.are_found ∙ ap (before first.entries) other.are_found;
+  bytes = other.bytes ∙ ap (λ l. l ++ flat_map entry_bytes other.entries) first.bytes
+      ∙ append_assoc old (flat_map entry_bytes first.entries) (flat_map entry_bytes other.entries)
+      ∙ ap (λ l. old ++ l) (sym (flat_map-append entry_bytes first.entries other.entries));
+}
+
 -- ---- the archive of a table
 
-pub tree_put : (finds : Finds) (ordered : List (List ℕ)) (old now whole : List ℕ) → ordered ≡ archive_names finds
-    → ArePut old now (entries_of (entry_of finds) ordered) → old ≡ [] → whole ≡ now ++ end_bytes → tree_by finds ≡ Ok whole
+pub tree_put : (release : Option (List ℕ)) (finds : Finds) (ordered : List (List ℕ)) (old mid now whole : List ℕ) → ordered ≡ archive_names finds
+    → ArePut old mid (first_entries release) → ArePut mid now (entries_of (entry_of finds) ordered) → old ≡ [] → whole ≡ now ++ end_bytes
+    → tree_by release finds ≡ Ok whole
 unfolding tree_by archive
-tree_put finds ordered old now whole names put empty ended =
-    ap (λ names. archive_of (entries_of (entry_of finds) names)) (sym names) ∙ ap archive_of put.are_found
+tree_put release finds ordered old mid now whole names first others empty ended =
+    let put = both_put old mid now (first_entries release) (entries_of (entry_of finds) ordered) first others in
+    ap (λ names. archive_of (joined (first_entries release) (entries_of (entry_of finds) names))) (sym names) ∙ ap archive_of put.are_found
     ∙ ap Ok (sym (ended ∙ ap (λ l. l ++ end_bytes) (put.bytes ∙ ap (λ l. l ++ flat_map entry_bytes put.entries) empty)))
 
-pub first_kept : (finds : Finds) (ordered : List (List ℕ)) (fault : TreeFault) → ordered ≡ archive_names finds
-    → IsFirst (entries_of (entry_of finds) ordered) fault → IsFirst (tree_by finds) fault
+pub first_kept : (release : Option (List ℕ)) (finds : Finds) (ordered : List (List ℕ)) (old mid : List ℕ) (fault : TreeFault) → ordered ≡ archive_names finds
+    → ArePut old mid (first_entries release) → IsFirst (entries_of (entry_of finds) ordered) fault → IsFirst (tree_by release finds) fault
 unfolding tree_by
-first_kept finds ordered (tree.Source error) names first = absurd first
-first_kept finds ordered (tree.Refused text why) names first =
-    ap (λ names. archive_of (entries_of (entry_of finds) names)) (sym names) ∙ ap archive_of first
-first_kept finds ordered tree.NoMemory names first = tt
+first_kept release finds ordered old mid (tree.Source error) names put first = absurd first
+first_kept release finds ordered old mid (tree.Refused text why) names put first =
+    ap (λ names. archive_of (joined (first_entries release) (entries_of (entry_of finds) names))) (sym names)
+    ∙ ap (λ r. archive_of (joined r (entries_of (entry_of finds) ordered))) put.are_found ∙ ap (λ r. archive_of (before put.entries r)) first
+first_kept release finds ordered old mid tree.NoMemory names put first = tt
+
+pub front_kept : (release : Option (List ℕ)) (finds : Finds) (fault : TreeFault) → IsFirst (first_entries release) fault
+    → IsFirst (tree_by release finds) fault
+unfolding tree_by
+front_kept release finds (tree.Source error) first = absurd first
+front_kept release finds (tree.Refused text why) first =
+    ap (λ r. archive_of (joined r (entries_of (entry_of finds) (archive_names finds)))) first
+front_kept release finds tree.NoMemory first = tt
 
 -- ---- the archive of a source
 
 pub tree_is : (table : Table) (source : List ℕ) → source_fault source ≡ None → IsTableOf table (values_of source)
-    → tree_of source ≡ or_cause (tree_by (finds_in_table table))
+    → tree_of source ≡ or_cause (tree_by (release_of source) (finds_in_table table))
 unfolding tree_of
 tree_is table source sound is =
-    ap (λ fault. after_source fault (tree_by (finds_in source))) sound
-    ∙ ap (λ finds. or_cause (tree_by finds)) (sym (finds_same table source is))
+    ap (λ fault. after_source fault (tree_by (release_of source) (finds_in source))) sound
+    ∙ ap (λ finds. or_cause (tree_by (release_of source) finds)) (sym (finds_same table source is))
 
 pub first_told : (found : Result (List ℕ) Refused) (whole : Result (List ℕ) Cause) (fault : TreeFault) → whole ≡ or_cause found → IsFirst found fault
     → IsFaultOf whole fault
@@ -137,7 +173,7 @@ first_told found whole tree.NoMemory is first = tt
 
 source_met : (source : List ℕ) (fault : SourceFault) → source_fault source ≡ Some fault → tree_of source ≡ Err (of_source fault)
 unfolding tree_of
-source_met source fault is = ap (λ o. after_source o (tree_by (finds_in source))) is
+source_met source fault is = ap (λ o. after_source o (tree_by (release_of source) (finds_in source))) is
 
 pub source_told : (source : List ℕ) (error : SourceError) → TellsOfSource (source_fault source) error → IsFaultOf (tree_of source) (tree.Source error)
 source_told source error tells = by_told (told_by_source error) tells

@@ -10,10 +10,10 @@ use Rattle.zone_run.specs.Causes.{Found}
 use Rattle.zone_spans.specs.Schedules.{totals_of}
 use Rattle.zone_spans.specs.declared.fault.SpanFault.TheVariants as span
 use Rattle.zone_spans.specs.declared.span.FixedTimespanSet as spans
-use Rattle.zone_tree.specs.Entries.{has_mark, is_marked, file_or, file_unless, zone_content, link_content, is_folder, said, entry_by, entry_of}
+use Rattle.zone_tree.specs.Entries.{has_mark, is_marked, file_or, file_unless, zone_content, link_content, is_folder, is_reserved, is_taken, said, entry_by, entry_of}
 use Rattle.zone_tree.specs.TreeShape.{are_behind}
 use Rattle.zone_tree.specs.Names.{Finds, archive_names}
-use Rattle.zone_tree.specs.Trees.{entries_of, refused, tree_by}
+use Rattle.zone_tree.specs.Trees.{entries_of, first_entries, joined, refused, tree_by}
 use Rattle.zone_tree.specs.declared.refusal.Why.TheVariants.{Schedule, OffsetRange, Format, File, Link, Name, Size}
 use Rattle.zone_tzif_core.specs.declared.values.WriteFault.TheVariants as write
 use Rattle.zone_tzif_set.specs.Files.{consistent_fault, consistent_file}
@@ -31,6 +31,14 @@ which_folders = refl
 -- a name needn't be there to be a folder
 no_name_of_them : map (is_folder some_names) (codes "X" ∷ codes "A/" ∷ codes "C" ∷ []) ≡ true ∷ false ∷ false ∷ []
 no_name_of_them = refl
+
+-- the name of the release's file, and what stands in it; a name beside others is taken by either
+reserved_names : map is_reserved (codes "+VERSION" ∷ codes "+VERSION/A" ∷ codes "+VERSION/" ∷ codes "+VERSIONS" ∷ codes "+VERSIO" ∷ codes "A/+VERSION" ∷ codes "+version" ∷ [] ∷ [])
+    ≡ true ∷ true ∷ true ∷ false ∷ false ∷ false ∷ false ∷ false ∷ []
+reserved_names = refl
+
+taken_names : map (is_taken some_names) (codes "+VERSION" ∷ codes "A" ∷ codes "AB" ∷ []) ≡ true ∷ true ∷ false ∷ []
+taken_names = refl
 
 -- ---- what a name of a zone, or of a link, finds
 
@@ -119,8 +127,8 @@ what_is_found_first = refl
 
 -- an entry with a file is refused for its name, or for another name that stands in it
 bad_names : map (λ name. entry_by (codes "D" ∷ codes "D/F" ∷ []) name (Ok (of_file (1 ∷ []))))
-    (codes "../E" ∷ codes "D" ∷ codes "A//B" ∷ codes "A/B" ∷ [])
-    ≡ Err Name ∷ Err Name ∷ Err Name ∷ Ok (entry (codes "A/B") (of_file (1 ∷ []))) ∷ []
+    (codes "../E" ∷ codes "D" ∷ codes "A//B" ∷ codes "+VERSION" ∷ codes "A/B" ∷ [])
+    ≡ Err Name ∷ Err Name ∷ Err Name ∷ Err Name ∷ Ok (entry (codes "A/B") (of_file (1 ∷ []))) ∷ []
 unfolding entry_fault is_path cut
 bad_names = refl
 
@@ -130,6 +138,21 @@ bad_names = refl
 in_their_order : archive_names (finds_of None)
     ≡ codes "../E" ∷ codes "A/B" ∷ codes "D" ∷ codes "C" ∷ codes "D/F" ∷ codes "L" ∷ codes "Y" ∷ codes "Z" ∷ []
 in_their_order = refl
+
+-- a file that says the release, in a line, where a source names one
+the_release : map first_entries (None ∷ Some (codes "2026b") ∷ []) ≡ Ok [] ∷ Ok (entry (codes "+VERSION") (of_file (codes "2026b\n")) ∷ []) ∷ []
+unfolding entry_fault is_path cut
+the_release = refl
+
+-- it comes first, and so does why it can't be said
+it_comes_first : map (joined (Ok (entry (codes "A") (of_file []) ∷ [])))
+    (Ok (entry (codes "B") (of_file []) ∷ []) ∷ Err (refused (codes "C") Size) ∷ [])
+    ≡ Ok (entry (codes "A") (of_file []) ∷ entry (codes "B") (of_file []) ∷ []) ∷ Err (refused (codes "C") Size) ∷ []
+it_comes_first = refl
+
+its_fault_first : map (joined (Err (refused (codes "A") Size))) (Ok [] ∷ Err (refused (codes "C") Name) ∷ [])
+    ≡ Err (refused (codes "A") Size) ∷ Err (refused (codes "A") Size) ∷ []
+its_fault_first = refl
 
 -- links to B, but for two names that have no entry: the first of them is told, wherever the other stands
 two_refused : map (entries_of (λ name. if bytes_eq name (codes "C") then Err Size else (if bytes_eq name (codes "D") then Err Name
@@ -150,7 +173,7 @@ behind : map (are_behind []) (
 unfolding are_behind
 behind = refl
 
--- the archive of a zone A/B of one offset and a link 0 to it: the link stands behind its zone, though its name comes before
+-- the archive of a release, a zone A/B of one offset and a link 0 to it: the link stands behind its zone, though its name comes before
 abbrev two_names : Finds
 two_names = record {
   zones = codes "A/B" ∷ [];
@@ -161,6 +184,6 @@ two_names = record {
 }
 
 a_whole_tree : consistent_fault the_set ≡ None → entry_fault (entry (codes "A/B") (of_file (consistent_file the_set))) ≡ None
-    → tree_by two_names ≡ Ok (archive (entry (codes "A/B") (of_file (consistent_file the_set)) ∷ entry (codes "0") (of_link (codes "A/B")) ∷ []))
+    → tree_by (Some (codes "2026b")) two_names ≡ Ok (archive (entry (codes "+VERSION") (of_file (codes "2026b\n")) ∷ entry (codes "A/B") (of_file (consistent_file the_set)) ∷ entry (codes "0") (of_link (codes "A/B")) ∷ []))
 unfolding tree_by entries_of entry_of entry_fault is_path cut is_marked
 a_whole_tree sound fits = rw (a_file sound, fits) refl

@@ -1,9 +1,11 @@
 -- What holds of each archive.
-use Rattle.std.specs.Prelude.{◌≡◌, ◌&&◌, ℕ, Bool, true, List, [], ◌∷◌, bytes_eq, is_some}
+use Rattle.std.specs.Prelude.{◌≡◌, ◌&&◌, ℕ, Bool, true, false, List, [], ◌∷◌, ◌++◌, Option, Some, None, bytes_eq, is_some}
 use Rattle.std.specs.List.{list_any}
 use Rattle.ustar.specs.Archives.{IsArchive}
-use Rattle.ustar.specs.Entries.{Content, of_file, of_link, EntryValue}
+use Rattle.ustar.specs.Entries.{Content, of_file, of_link, EntryValue, entry}
+use Rattle.zone_release.specs.Releases.{release_of}
 use Rattle.zone_source.specs.Zones.{zone_in}
+use Rattle.zone_tree.specs.Entries.{version_name}
 use Rattle.zone_tree.specs.Names.{given_names}
 
 -- a link is to one of these names
@@ -21,11 +23,18 @@ unfoldable pub are_behind : List (List ℕ) → List EntryValue → Bool
 are_behind files [] = true
 are_behind files (e ∷ entries) = is_to files e.content && are_behind (files_with e.name files e.content) entries
 
--- the bytes are the archive of entries: a name has one exactly where a line gives it to a zone or by a link, each of them finds a
--- zone, and each link is to a file before it
+-- a file that says the release in a line of its own, if there is one
+abbrev pub version_entries : Option (List ℕ) → List EntryValue
+version_entries None = []
+version_entries (Some release) = entry version_name (of_file (release ++ 10 ∷ [])) ∷ []
+
+-- the bytes are the archive of the release's file, if the source names its release, and then of entries, none of which has the name of
+-- that file: a name has one exactly where a line gives it to a zone or by a link, each of them finds a zone, and each link is to a file
+-- before it
 pub record IsTree (source bytes : List ℕ) : Type 0 where
   pub entries : List EntryValue
-  pub is_archive : IsArchive bytes entries
+  pub is_archive : IsArchive bytes (version_entries (release_of source) ++ entries)
+  pub apart : list_any (λ e. bytes_eq version_name e.name) entries ≡ false
   pub each : (name : List ℕ) → list_any (λ e. bytes_eq name e.name) entries ≡ list_any (bytes_eq name) (given_names source)
   pub found : (name : List ℕ) → list_any (λ e. bytes_eq name e.name) entries ≡ is_some (zone_in source name)
   pub behind : are_behind [] entries ≡ true

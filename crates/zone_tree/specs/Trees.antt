@@ -1,9 +1,10 @@
 -- The archive of a source.
-use Rattle.std.specs.Prelude.{ℕ, List, [], ◌∷◌, Option, Some, None, Result, Ok, Err}
+use Rattle.std.specs.Prelude.{ℕ, List, [], ◌∷◌, ◌++◌, Option, Some, None, Result, Ok, Err}
 use Rattle.ustar.specs.Archives.{archive}
 use Rattle.ustar.specs.Entries.{EntryValue}
+use Rattle.zone_release.specs.Releases.{release_of}
 use Rattle.zone_source.specs.Faults.{SourceFault, source_fault}
-use Rattle.zone_tree.specs.Entries.{entry_of}
+use Rattle.zone_tree.specs.Entries.{version_name, entry_of, release_entry}
 use Rattle.zone_tree.specs.Names.{Finds, finds_in, archive_names}
 use Rattle.zone_tree.specs.declared.refusal.Why.{Why}
 
@@ -26,13 +27,27 @@ unfoldable pub entries_of : (List ℕ → Result EntryValue Why) → List (List 
 entries_of entry [] = Ok []
 entries_of entry (name ∷ names) = onto name (entry name) (entries_of entry names)
 
+-- what comes first: the file that says the release, if the source names one
+abbrev pub first_entries : Option (List ℕ) → Result (List EntryValue) Refused
+first_entries None = Ok []
+first_entries (Some release) = onto version_name (release_entry release) (Ok [])
+
+-- these entries before those
+abbrev pub before : List EntryValue → Result (List EntryValue) Refused → Result (List EntryValue) Refused
+before es (Ok fs) = Ok (es ++ fs)
+before es (Err first) = Err first
+
+abbrev pub joined : Result (List EntryValue) Refused → Result (List EntryValue) Refused → Result (List EntryValue) Refused
+joined (Ok es) others = before es others
+joined (Err first) others = Err first
+
 abbrev pub archive_of : Result (List EntryValue) Refused → Result (List ℕ) Refused
 archive_of (Ok entries) = Ok (archive entries)
 archive_of (Err first) = Err first
 
--- the archive of the zones, and then of the links
-unfoldable pub tree_by : Finds → Result (List ℕ) Refused
-tree_by finds = archive_of (entries_of (entry_of finds) (archive_names finds))
+-- the archive of the release's file, then of the zones, and then of the links
+unfoldable pub tree_by : Option (List ℕ) → Finds → Result (List ℕ) Refused
+tree_by release finds = archive_of (joined (first_entries release) (entries_of (entry_of finds) (archive_names finds)))
 
 -- the source has a fault, or a name has no entry
 pub data Cause : Type 0 where
@@ -49,4 +64,4 @@ after_source None tree = or_cause tree
 
 -- the archive of a source, or the first cause that there is none
 unfoldable pub tree_of : List ℕ → Result (List ℕ) Cause
-tree_of source = after_source (source_fault source) (tree_by (finds_in source))
+tree_of source = after_source (source_fault source) (tree_by (release_of source) (finds_in source))

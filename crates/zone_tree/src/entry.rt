@@ -9,13 +9,13 @@ ghost use Rattle.tz_zone.specs.Compiles.{compiled_in};
 ghost use Rattle.tz_zone.specs.Sets.{schedule_of, IsAccepted};
 ghost use Rattle.ustar.specs.Entries.{content_shown, of_file};
 ghost use Rattle.zone_table.specs.BoundedTables.{IsBoundedTable};
-ghost use Rattle.zone_tree.specs.Entries.{has_mark, is_marked, file_or, file_unless, zone_content, link_content, entry_by, entry_with, entry_of};
+ghost use Rattle.zone_tree.specs.Entries.{has_mark, is_marked, file_or, file_unless, zone_content, link_content, fitting, entry_by, entry_with, entry_of, release_entry};
 ghost use Rattle.zone_tree.specs.Names.{finds_in_table};
 ghost use Rattle.zone_tree.specs.Shown.{all_names};
 ghost use Rattle.zone_tree.specs.Told.{IsPut, IsWhy};
 ghost use Rattle.zone_tzif_set.specs.Files.{consistent_fault};
 
-use crate::folder::is_folder;
+use crate::folder::is_taken;
 use crate::names::{Names, is_zone};
 use crate::refusal::{NameFault, Why};
 use std::alloc::Global;
@@ -24,6 +24,9 @@ use ustar::{Content, EntryFault, entry_fault, put_entry};
 use zone_table::Table;
 use zone_tzif_core::WriteFault;
 use zone_tzif_set::{FileFault, consistent_tzif_of};
+
+/// The name of the file that says a source's release, as compiled trees of distributions have it.
+pub(crate) const VERSION_NAME: &str = "+VERSION";
 
 /// Whether a `%` is left in a text.
 fn has_mark(text: &str) -> bool
@@ -92,6 +95,27 @@ fn file_of(alloc: Global, table: &Table, name: &str) -> Result<Vec<u8>, NameFaul
     }
 }
 
+/// Puts an entry at the end, if it can be said.
+fn put_fitting(
+    alloc: Global,
+    name: &str,
+    content: Content<'_>,
+    into: &mut Vec<u8>,
+) -> Result<(), NameFault>
+    ensures ok { OnOk result (IsPut into.old.items into.new.items (fitting name.now (content_shown content.entry))) }
+    ensures err { IfErr result (IsWhy (fitting name.now (content_shown content.entry))) }
+{
+    match entry_fault(name.as_bytes(), content) {
+        None => {
+            put_entry(alloc, into, name.as_bytes(), content)?;
+            Ok(())
+        }
+        Some(EntryFault::Name) => Err(NameFault::Refused(Why::Name)),
+        Some(EntryFault::Target) => Err(NameFault::Refused(Why::Name)),
+        Some(EntryFault::Size) => Err(NameFault::Refused(Why::Size)),
+    }
+}
+
 /// Puts an entry at the end, if it can be said among these names.
 fn put_said(
     alloc: Global,
@@ -105,18 +129,10 @@ fn put_said(
     ensures ok { OnOk result (IsPut into.old.items into.new.items (entry_with (all_names names.now) name.now (content_shown content.entry))) }
     ensures err { IfErr result (IsWhy (entry_with (all_names names.now) name.now (content_shown content.entry))) }
 {
-    if is_folder(alloc, names, name)? {
+    if is_taken(alloc, names, name)? {
         return Err(NameFault::Refused(Why::Name));
     }
-    match entry_fault(name.as_bytes(), content) {
-        None => {
-            put_entry(alloc, into, name.as_bytes(), content)?;
-            Ok(())
-        }
-        Some(EntryFault::Name) => Err(NameFault::Refused(Why::Name)),
-        Some(EntryFault::Target) => Err(NameFault::Refused(Why::Name)),
-        Some(EntryFault::Size) => Err(NameFault::Refused(Why::Size)),
-    }
+    put_fitting(alloc, name, content, into)
 }
 
 /// Puts the entry of a zone at the end.
@@ -193,4 +209,16 @@ pub(crate) fn put_name(
     } else {
         put_link(alloc, table, names, name, into)
     }
+}
+
+/// Puts the file that says a release at the end.
+pub(crate) fn put_release(alloc: Global, release: &str, into: &mut Vec<u8>) -> Result<(), NameFault>
+    ensures ok { OnOk result (IsPut into.old.items into.new.items (release_entry release.now)) }
+    ensures err { IfErr result (IsWhy (release_entry release.now)) }
+{
+    let mut line = Vec::new(alloc);
+    line.extend_from_slice(release.as_bytes())?;
+    line.extend_from_slice(b"\n")?;
+    put_fitting(alloc, VERSION_NAME, Content::File(line.as_slice()), into)?;
+    Ok(())
 }

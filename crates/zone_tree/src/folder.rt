@@ -6,7 +6,7 @@ ghost use Rattle.std.specs.List.{list_any, starts_with};
 ghost use Rattle.owned.specs.InOrderLaws.{RisesStrictly};
 ghost use Rattle.owned.specs.Keyed.{text_cmp};
 ghost use Rattle.tz_lookup.specs.Databases.{name_shown};
-ghost use Rattle.zone_tree.specs.Entries.{is_folder};
+ghost use Rattle.zone_tree.specs.Entries.{is_taken};
 ghost use Rattle.zone_tree.specs.Shown.{all_names};
 
 use crate::names::Names;
@@ -60,13 +60,15 @@ fn is_front(names: &Names<'_>, front: &str) -> bool
     in_zones | in_links
 }
 
-/// Whether another name stands in this one as in a folder.
-pub(crate) fn is_folder(alloc: Global, names: &Names<'_>, name: &str) -> Result<bool, AllocError>
+/// Whether another name stands in this one as in a folder, or it is that of the release's file or stands in that one.
+pub(crate) fn is_taken(alloc: Global, names: &Names<'_>, name: &str) -> Result<bool, AllocError>
     requires zones { RisesStrictly text_cmp (each name_shown names.now.zones.now) }
     requires links { RisesStrictly text_cmp (each name_shown names.now.links.now) }
-    ensures { IfOk result (λ folder. folder ≡ is_folder (all_names names.now) name.now) }
+    ensures { IfOk result (λ taken. taken ≡ is_taken (all_names names.now) name.now) }
 {
     let mut front = String::from_str(alloc, name)?;
     front.push('/')?;
-    Ok(is_front(names, front.as_str()))
+    let has_others = is_front(names, front.as_str());
+    let is_reserved = begins(front.as_str(), "+VERSION/");
+    Ok(has_others | is_reserved)
 }

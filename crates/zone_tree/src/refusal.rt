@@ -21,7 +21,8 @@ pub enum Why {
     File(WriteFault),
     /// It is a link to a name that is no zone's own.
     Link,
-    /// An archive can't say the name, or that of the zone that it is a link to, or another name stands in it as in a folder.
+    /// An archive can't say the name, or that of the zone that it is a link to, or another name stands in it as in a folder; or it is
+    /// `+VERSION`, the name of the file that says the release, or stands in that.
     Name,
     /// The file has 8,589,934,592 bytes or more.
     Size,

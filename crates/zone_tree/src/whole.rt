@@ -1,22 +1,49 @@
 //! The archive of a source.
-ghost use Rattle.std.specs.Prelude.{◌≡◌, ◌≤◌, length, map as each, Ok, IfOk, IfErr, OnOk};
+ghost use Rattle.std.specs.Prelude.{◌≡◌, ◌≤◌, length, map as each, Ok, Some, IfOk, IfErr, OnOk};
 ghost use Rattle.std.specs.FinMap.{keys};
 ghost use Rattle.tz_lookup.specs.Databases.{name_shown};
 ghost use Rattle.zone_table.specs.BoundedTables.{IsBoundedTable};
 ghost use Rattle.zone_tree.specs.Entries.{entry_of};
 ghost use Rattle.zone_tree.specs.Names.{finds_in_table};
 ghost use Rattle.zone_tree.specs.Told.{ArePut, IsFirst, IsFaultOf};
-ghost use Rattle.zone_tree.specs.Trees.{entries_of, tree_by, tree_of};
+ghost use Rattle.zone_release.specs.Releases.{release_of};
+ghost use Rattle.zone_tree.specs.Trees.{entries_of, first_entries, tree_by, tree_of};
 
-use crate::entry::put_name;
+use crate::entry::{VERSION_NAME, put_name, put_release};
 use crate::names::{Names, archive_names};
 use crate::refusal::{NameFault, TreeFault};
 use owned::Text;
 use std::alloc::Global;
 use ustar::put_end;
 use zone_line::LineParser;
+use zone_release::release_of;
 use zone_source::{LIMIT, read_table};
 use zone_table::Table;
+
+/// Puts the file of a release at the end.
+fn put_named(alloc: Global, release: &str, into: &mut Vec<u8>) -> Result<(), TreeFault>
+    ensures ok { OnOk result (ArePut into.old.items into.new.items (first_entries (Some release.now))) }
+    ensures err { IfErr result (IsFirst (first_entries (Some release.now))) }
+{
+    match put_release(alloc, release, into) {
+        Ok(()) => Ok(()),
+        Err(NameFault::Refused(why)) => {
+            Err(TreeFault::Refused(Text::new(alloc, VERSION_NAME)?, why))
+        }
+        Err(NameFault::NoMemory) => Err(TreeFault::NoMemory),
+    }
+}
+
+/// Puts what comes first at the end: the file of the source's release, if it names one.
+fn put_first(alloc: Global, source: &[u8], into: &mut Vec<u8>) -> Result<(), TreeFault>
+    ensures ok { OnOk result (ArePut into.old.items into.new.items (first_entries (release_of source.now))) }
+    ensures err { IfErr result (IsFirst (first_entries (release_of source.now))) }
+{
+    match release_of(source) {
+        Some(release) => put_named(alloc, release, into),
+        None => Ok(()),
+    }
+}
 
 /// Puts the entries of some names at the end, in their order.
 fn put_names(
@@ -45,12 +72,12 @@ fn put_names(
     Ok(())
 }
 
-/// The archive of a table.
+/// The archive of a table, which names a source's release first.
 #[tactic(auto, unfolding(crate::specs::Trees::tree_by))]
-fn tree_of_table(alloc: Global, table: &Table) -> Result<Vec<u8>, TreeFault>
+fn tree_of_table(alloc: Global, source: &[u8], table: &Table) -> Result<Vec<u8>, TreeFault>
     requires { IsBoundedTable table.now }
-    ensures ok { IfOk result (λ bytes. tree_by (finds_in_table table.now) ≡ Ok bytes.items) }
-    ensures err { IfErr result (IsFirst (tree_by (finds_in_table table.now))) }
+    ensures ok { IfOk result (λ bytes. tree_by (release_of source.now) (finds_in_table table.now) ≡ Ok bytes.items) }
+    ensures err { IfErr result (IsFirst (tree_by (release_of source.now) (finds_in_table table.now))) }
 {
     let zones = table.zonesets.keys(alloc)?;
     let links = table.links.keys(alloc)?;
@@ -60,6 +87,10 @@ fn tree_of_table(alloc: Global, table: &Table) -> Result<Vec<u8>, TreeFault>
     };
     let ordered = archive_names(alloc, table, &names)?;
     let mut bytes = Vec::new(alloc);
+    match put_first(alloc, source, &mut bytes) {
+        Ok(()) => {}
+        Err(fault) => return Err(fault),
+    }
     match put_names(alloc, table, &names, ordered.as_slice(), &mut bytes) {
         Ok(()) => {}
         Err(fault) => return Err(fault),
@@ -68,9 +99,9 @@ fn tree_of_table(alloc: Global, table: &Table) -> Result<Vec<u8>, TreeFault>
     Ok(bytes)
 }
 
-/// Every zone of a source, and every link, in a tar archive in the ustar format of POSIX: first the zones in byte order
-/// of their names, each as a file with the bytes of its TZif file, and then the links, in byte order, each a hard link to its
-/// zone's name. Mode 0644, owner 0, time 0. The source is at most 16,777,216 bytes long.
+/// Every zone of a source, and every link, in a tar archive in the ustar format of POSIX: first, where the source names its release, a
+/// file `+VERSION` with that in a line; then the zones in byte order of their names, each as a file with the bytes of its TZif file, and
+/// then the links, in byte order, each a hard link to its zone's name. Mode 0644, owner 0, time 0. The source is at most 16,777,216 bytes long.
 ///
 /// # Errors
 ///
@@ -85,7 +116,7 @@ pub fn tree(alloc: Global, parser: &LineParser, source: &[u8]) -> Result<Vec<u8>
         Ok(table) => table,
         Err(error) => return Err(TreeFault::Source(error)),
     };
-    let bytes = match tree_of_table(alloc, &table) {
+    let bytes = match tree_of_table(alloc, source, &table) {
         Ok(bytes) => bytes,
         Err(fault) => return Err(fault),
     };

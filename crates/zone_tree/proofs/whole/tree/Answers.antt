@@ -1,4 +1,5 @@
 use Rattle.std.proofs.Common.{ap, ◌∙◌}
+use Rattle.zone_release.specs.Releases.{release_of}
 use Rattle.zone_tree.specs.Names.{finds_in_table}
 use Rattle.zone_tree.specs.Trees.{or_cause, tree_by}
 use Rattle.zone_tree.proofs.TreeLemmas.{tree_is, first_told, source_told}
@@ -12,5 +13,5 @@ returns-clause-ok c = tree_is c.in-Ok.table c.args.source.now c.in-Ok.ensures.ok
 
 pub returns-in-Err-tree_of_table-clause-err : goal.returns-in-Err-tree_of_table-clause-err
 returns-in-Err-tree_of_table-clause-err c =
-    first_told (tree_by (finds_in_table c.in-Ok.table)) _ _
+    first_told (tree_by (release_of c.args.source.now) (finds_in_table c.in-Ok.table)) _ _
     (tree_is c.in-Ok.table c.args.source.now c.in-Ok.ensures.ok c.in-Ok.ensures.table) c.in-Err-tree_of_table.ensures.err

@@ -1,0 +1,5 @@
+use Rattle.zone_tree.proofs.TreeLemmas.{none_first}
+use Rattle.zone_tree.proofs.whole.put_first.Goals as goal
+
+pub returns-in-None-clause-ok : goal.returns-in-None-clause-ok
+returns-in-None-clause-ok c = none_first _ _ c.in-None.ensures
