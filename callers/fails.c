@@ -44,13 +44,14 @@ static struct sefunjaro_handle source = SEFUNJARO_CLOSED, zone = SEFUNJARO_CLOSE
 static struct sefunjaro_fault fault;
 static uint8_t found[64];
 static size_t length;
+static bool is_posix;
 
-static uint32_t open_source(void) { return sefunjaro_source_open((const uint8_t *)small_source, strlen(small_source), &source, &fault); }
-static uint32_t open_any(void) { return sefunjaro_source_open_any((const uint8_t *)"Zone A 1 - A\n", 13, &source, &fault); }
+static uint32_t open_plain(void) { return sefunjaro_source_open_plain((const uint8_t *)small_source, strlen(small_source), &source, &fault); }
+static uint32_t open_source(void) { return sefunjaro_source_open((const uint8_t *)"Zone A 1 - A\n", 13, &source, &fault); }
 static uint32_t open_zone(void) { return sefunjaro_zone_open(&source, (const uint8_t *)"Europe/Paris", 12, &zone, &fault); }
 static uint32_t open_file(void) { return sefunjaro_file_open(small_file, sizeof small_file, &zone, &fault); }
 static uint32_t open_posix(void) { return sefunjaro_posix_open((const uint8_t *)"CET-1CEST,M3.5.0,M10.5.0/3", 26, &zone, &fault); }
-static uint32_t tail(void) { return sefunjaro_tail(&zone, found, sizeof found, &length, &fault); }
+static uint32_t tail(void) { return sefunjaro_tail(&zone, found, sizeof found, &length, &is_posix, &fault); }
 static uint32_t tzif(void) { return sefunjaro_tzif(&zone, found, sizeof found, &length, &fault); }
 static uint32_t share(void) { return sefunjaro_share(&zone, &other); }
 
@@ -106,10 +107,10 @@ static bool look_far(void) {
 int main(void) {
     for (int pass = 0; pass < 2; pass++) {
         for_good = pass;
-        long of_any = tried(open_any, &source);
+        long of_source = tried(open_source, &source);
         sefunjaro_close(&source);
-        long of_source = tried(open_source, &source), of_zone = tried(open_zone, &zone), of_share = tried(share, &other);
-        if (of_any < 0 || of_source < 0 || of_zone < 0 || of_share < 0 || !look()) return 1;
+        long of_plain = tried(open_plain, &source), of_zone = tried(open_zone, &zone), of_share = tried(share, &other);
+        if (of_source < 0 || of_plain < 0 || of_zone < 0 || of_share < 0 || !look()) return 1;
         long of_tail = tried(tail, NULL), of_tzif = tried(tzif, NULL);
         if (of_tail < 0 || of_tzif < 0) return 5;
         sefunjaro_close(&source);
@@ -124,7 +125,7 @@ int main(void) {
         if (live) return 2;
         if (pass) printf("%ld requests of a file and %ld of a string refused in turn\n", of_file, of_posix);
         if (pass) printf("%ld requests for a zone's string and %ld for its file refused in turn\n", of_tail, of_tzif);
-        if (pass) printf("%ld requests of a source, %ld in any form, %ld of a zone and %ld of a share refused in turn\n", of_source, of_any, of_zone, of_share);
+        if (pass) printf("%ld requests of a source, %ld of a plain one, %ld of a zone and %ld of a share refused in turn\n", of_source, of_plain, of_zone, of_share);
     }
     return 0;
 }

@@ -10,7 +10,7 @@
 static struct sefunjaro_handle source = SEFUNJARO_CLOSED, zone = SEFUNJARO_CLOSED;
 static struct sefunjaro_fault fault;
 
-static uint32_t open_any(const char *text) { return sefunjaro_source_open_any((const uint8_t *)text, strlen(text), &source, &fault); }
+static uint32_t open_any(const char *text) { return sefunjaro_source_open((const uint8_t *)text, strlen(text), &source, &fault); }
 static uint32_t open_name(const char *name) { return sefunjaro_zone_open(&source, (const uint8_t *)name, strlen(name), &zone, &fault); }
 static bool is_fault(uint32_t status, uint32_t cause, size_t line) { return fault.status == status && fault.cause == cause && fault.line == line; }
 
@@ -70,7 +70,7 @@ static int faults(void) {
         if (!is_fault(SEFUNJARO_NO_PLAIN_FORM, refused[i].cause, refused[i].line)) return 50 + (int)i;
         if (sefunjaro_name_count(&source, &count) != SEFUNJARO_NOT_OPEN) return 10;
     }
-    if (sefunjaro_source_open_any((const uint8_t *)many, sizeof many, &source, &fault) != SEFUNJARO_TOO_LONG) return 11;
+    if (sefunjaro_source_open((const uint8_t *)many, sizeof many, &source, &fault) != SEFUNJARO_TOO_LONG) return 11;
     if (!is_fault(SEFUNJARO_TOO_LONG, 0, 0)) return 12;
     return 0;
 }
@@ -85,6 +85,8 @@ static const char whole_source[] =
     " 2 - B 2000 Jan 1 0:00u\n"
     " 3 - C\n"
     "Zone America/Sao_Paulo -3 - %z\n"
+    "Zone Letters 2 - CD\n"
+    "Zone Underscore 5 - A_B\n"
     "R EU 1981 max - Mar lastSun 1u 1 S\n"
     "R EU 1996 max - Oct lastSun 1u 0 -\n"
     "Zone Europe/Paris 1 EU CE%sT\n";
@@ -95,21 +97,26 @@ static int tails(void) {
     };
     uint8_t text[40];
     size_t whole = 9;
+    bool is_posix = true;
     memset(text, '.', sizeof text);
     sefunjaro_close(&zone);
-    if (open_any(whole_source) || sefunjaro_tail(&zone, text, 40, &whole, &fault) != SEFUNJARO_NOT_OPEN) return 80;
-    if (!is_fault(SEFUNJARO_NOT_OPEN, 0, 0) || whole != 9 || text[0] != '.') return 81;
-    if (sefunjaro_tail(&source, text, 40, &whole, &fault) != SEFUNJARO_NOT_OPEN) return 82;
+    if (open_any(whole_source) || sefunjaro_tail(&zone, text, 40, &whole, &is_posix, &fault) != SEFUNJARO_NOT_OPEN) return 80;
+    if (!is_fault(SEFUNJARO_NOT_OPEN, 0, 0) || whole != 9 || text[0] != '.' || !is_posix) return 81;
+    if (sefunjaro_tail(&source, text, 40, &whole, &is_posix, &fault) != SEFUNJARO_NOT_OPEN) return 82;
     for (size_t i = 0; i < sizeof none / sizeof *none; i++) {
-        if (open_name(none[i].name) || sefunjaro_tail(&zone, text, 40, &whole, &fault) != SEFUNJARO_NONE) return 83 + (int)i;
-        if (!is_fault(SEFUNJARO_NONE, none[i].cause, 0) || text[0] != '.') return 86 + (int)i;
+        if (open_name(none[i].name) || sefunjaro_tail(&zone, text, 40, &whole, &is_posix, &fault) != SEFUNJARO_NONE) return 83 + (int)i;
+        if (!is_fault(SEFUNJARO_NONE, none[i].cause, 0) || text[0] != '.' || !is_posix) return 86 + (int)i;
     }
-    if (open_name("Europe/Paris") || sefunjaro_tail(&zone, text, 0, &whole, &fault) || whole != 26 || text[0] != '.') return 90;
-    if (sefunjaro_tail(&zone, text, 6, &whole, &fault) || !is_fault(0, 0, 0) || memcmp(text, "CET-1C.", 7)) return 91;
-    if (sefunjaro_tail(&zone, text, 40, &whole, &fault) || memcmp(text, "CET-1CEST,M3.5.0,M10.5.0/3.", 27)) return 92;
-    if (open_name("America/Sao_Paulo") || sefunjaro_tail(&zone, text, 40, &whole, &fault) || whole != 6 || memcmp(text, "<-03>3CET", 6)) return 93;
-    if (sefunjaro_posix_open((const uint8_t *)"UTC0", 4, &zone, &fault) || sefunjaro_tail(&zone, text, 40, &whole, &fault) != SEFUNJARO_NOT_KEPT) return 94;
-    if (sefunjaro_tzif(&zone, text, 40, &whole, &fault) != SEFUNJARO_NOT_KEPT || !is_fault(SEFUNJARO_NOT_KEPT, 0, 0) || whole != 6) return 95;
+    is_posix = false;
+    if (open_name("Europe/Paris") || sefunjaro_tail(&zone, text, 0, &whole, &is_posix, &fault) || whole != 26 || text[0] != '.' || !is_posix) return 90;
+    if (sefunjaro_tail(&zone, text, 6, &whole, &is_posix, &fault) || !is_fault(0, 0, 0) || memcmp(text, "CET-1C.", 7)) return 91;
+    if (sefunjaro_tail(&zone, text, 40, &whole, &is_posix, &fault) || memcmp(text, "CET-1CEST,M3.5.0,M10.5.0/3.", 27)) return 92;
+    if (open_name("Letters") || sefunjaro_tail(&zone, text, 40, &whole, &is_posix, &fault) || whole != 6 || memcmp(text, "<CD>-2CES", 9) || is_posix) return 96;
+    if (open_name("America/Sao_Paulo") || sefunjaro_tail(&zone, text, 40, &whole, &is_posix, &fault) || whole != 6 || memcmp(text, "<-03>3CET", 6)) return 93;
+    if (!is_posix) return 97;
+    if (open_name("Underscore") || sefunjaro_tail(&zone, text, 40, &whole, &is_posix, &fault) || memcmp(text, "<A_B>-5", 7) || is_posix) return 98;
+    if (sefunjaro_posix_open((const uint8_t *)"UTC0", 4, &zone, &fault) || sefunjaro_tail(&zone, text, 40, &whole, &is_posix, &fault) != SEFUNJARO_NOT_KEPT) return 94;
+    if (sefunjaro_tzif(&zone, text, 40, &whole, &fault) != SEFUNJARO_NOT_KEPT || !is_fault(SEFUNJARO_NOT_KEPT, 0, 0) || whole != 7) return 95;
     return 0;
 }
 
@@ -144,7 +151,7 @@ static int written(const char *path, const char *name) {
     FILE *from = fopen(path, "rb");
     size_t length = from ? fread(text, 1, sizeof text, from) : 0, whole = 0, room = 0;
     uint8_t *file = malloc(1);
-    if (!from || sefunjaro_source_open_any((const uint8_t *)text, length, &source, &fault) || open_name(name)) return 1;
+    if (!from || sefunjaro_source_open((const uint8_t *)text, length, &source, &fault) || open_name(name)) return 1;
     fclose(from);
     while (!sefunjaro_tzif(&zone, file, room, &whole, &fault) && room < whole) file = realloc(file, room = whole);
     bool is_done = !fault.status && fwrite(file, 1, whole, stdout) == whole;

@@ -1,4 +1,5 @@
-/* threads: eight threads with handles of their own on one zone ask it, share it on and close it, all at once. */
+/* threads: eight threads ask one source and one zone by the same two handles, and open handles of their own by them, share these and close
+   them, all at once. */
 #include "sefunjaro.h"
 #include "small.h"
 #include <pthread.h>
@@ -6,37 +7,46 @@
 
 enum { THREADS = 8, ROUNDS = 2000 };
 
-static struct sefunjaro_handle handles[THREADS];
+static struct sefunjaro_handle source = SEFUNJARO_CLOSED, zone = SEFUNJARO_CLOSED;
 static int failed[THREADS];
 
+/* Whether a zone has the rules of Europe: its offset in winter, and the text of an instant in summer. */
+static bool is_paris(const struct sefunjaro_handle *asked, int i) {
+    uint8_t text[40];
+    int32_t winter = 0;
+    size_t whole = 0;
+    if (sefunjaro_offset_at(asked, 1704067200 + i, 0, &winter) || winter != 3600) return false;
+    if (sefunjaro_text_at(asked, 1720000000, (uint32_t)i, text, sizeof text, &whole) || whole != 39) return false;
+    return !memcmp(text, "2024-07-03 11:46:40.", 20) && !memcmp(text + 29, " +02:00:00", 10);
+}
+
 static void *asks(void *place) {
-    struct sefunjaro_handle *mine = place, again = SEFUNJARO_CLOSED;
-    int *wrong = &failed[mine - handles];
+    struct sefunjaro_handle opened = SEFUNJARO_CLOSED, shared = SEFUNJARO_CLOSED;
+    struct sefunjaro_fault fault;
+    int *wrong = place;
+    size_t count;
     for (int i = 0; i < ROUNDS; i++) {
-        int32_t winter = 0, summer = 0;
-        if (sefunjaro_offset_at(mine, 1704067200 + i, 0, &winter) || winter != 3600) *wrong = 1;
-        if (i % 100 == 0 && sefunjaro_share(mine, &again)) *wrong = 2;
-        if (sefunjaro_offset_at(&again, 1720000000 + i, 0, &summer) || summer != 7200) *wrong = 3;
-        if (i % 100 == 99) sefunjaro_close(&again);
+        if (!is_paris(&zone, i)) *wrong = 1;
+        if (sefunjaro_name_count(&source, &count) || count != 5) *wrong = 2;
+        if (i % 100 == 0 && sefunjaro_zone_open(&source, (const uint8_t *)"Europe/Monaco", 13, &opened, &fault)) *wrong = 3;
+        if (i % 100 == 0 && sefunjaro_share(i % 200 ? &zone : &opened, &shared)) *wrong = 4;
+        if (!is_paris(&opened, i) || !is_paris(&shared, i)) *wrong = 5;
+        if (i % 100 == 99) sefunjaro_close(&opened), sefunjaro_close(&shared);
     }
-    sefunjaro_close(&again);
-    sefunjaro_close(mine);
     return NULL;
 }
 
 int main(void) {
-    struct sefunjaro_handle source = SEFUNJARO_CLOSED, zone = SEFUNJARO_CLOSED;
     struct sefunjaro_fault fault;
     pthread_t threads[THREADS];
     if (sefunjaro_source_open((const uint8_t *)small_source, strlen(small_source), &source, &fault)) return 1;
-    if (sefunjaro_zone_open(&source, (const uint8_t *)"Europe/Monaco", 13, &zone, &fault)) return 1;
+    if (sefunjaro_zone_open(&source, (const uint8_t *)"Europe/Paris", 12, &zone, &fault)) return 1;
     for (int i = 0; i < THREADS; i++)
-        if (sefunjaro_share(&zone, &handles[i])) return 1;
-    for (int i = 0; i < THREADS; i++)
-        if (pthread_create(&threads[i], NULL, asks, &handles[i])) return 1;
-    sefunjaro_close(&zone);
+        if (pthread_create(&threads[i], NULL, asks, &failed[i])) return 1;
     int wrong = 0;
     for (int i = 0; i < THREADS; i++) pthread_join(threads[i], NULL), wrong |= failed[i];
+    if (!is_paris(&zone, 0)) return 1;
     sefunjaro_close(&source);
-    return wrong;
+    sefunjaro_close(&zone);
+    return wrong || is_paris(&zone, 0);
 }

@@ -8,7 +8,7 @@
 static struct sefunjaro_handle source = SEFUNJARO_CLOSED, zone = SEFUNJARO_CLOSED, other = SEFUNJARO_CLOSED;
 static struct sefunjaro_fault fault;
 
-static uint32_t open_text(const char *text, size_t length) { return sefunjaro_source_open((const uint8_t *)text, length, &source, &fault); }
+static uint32_t open_text(const char *text, size_t length) { return sefunjaro_source_open_plain((const uint8_t *)text, length, &source, &fault); }
 static uint32_t open_name(const char *name) { return sefunjaro_zone_open(&source, (const uint8_t *)name, strlen(name), &zone, &fault); }
 static bool is_fault(uint32_t status, uint32_t cause, size_t line) { return fault.status == status && fault.cause == cause && fault.line == line; }
 
@@ -29,7 +29,7 @@ static int closed_handles(void) {
     if (sefunjaro_text_at(&zone, 0, 0, text, 40, &count) != SEFUNJARO_NOT_OPEN || text[0] != 7) return 7;
     if (sefunjaro_readings(&zone, &clock, &reading, 1, &count, &gap) != SEFUNJARO_NOT_OPEN) return 8;
     if (sefunjaro_share(&zone, &other) != SEFUNJARO_NOT_OPEN) return 9;
-    struct sefunjaro_change change = { 5, 6, 7 };
+    struct sefunjaro_change change = { 5, 6, 7, 8, true };
     int64_t saving = 9;
     if (sefunjaro_saving_at(&zone, 0, 0, &saving) != SEFUNJARO_NOT_OPEN || saving != 9) return 60;
     if (sefunjaro_next_change(&zone, 0, &change) != SEFUNJARO_NOT_OPEN || change.second != 5) return 61;
@@ -109,14 +109,14 @@ static int looks(void) {
 
 /* 2024 has its changes on 31 March and 27 October, both at 01:00 UTC. */
 static int changes(void) {
-    struct sefunjaro_change change, found[3] = { { 0, 0, 77 }, { 0, 0, 77 }, { 0, 0, 77 } };
+    struct sefunjaro_change change, found[3] = { { 0, 0, 77, 0, false }, { 0, 0, 77, 0, false }, { 0, 0, 77, 0, false } };
     int64_t saving = 9;
     size_t count;
     if (sefunjaro_saving_at(&zone, 1711846799, 999999999, &saving) || saving != 0) return 70;
     if (sefunjaro_saving_at(&zone, 1711846800, 0, &saving) || saving != 3600) return 71;
     if (sefunjaro_saving_at(&zone, 0, 1000000000, &saving) != SEFUNJARO_OUT_OF_RANGE || saving != 3600) return 72;
-    if (sefunjaro_next_change(&zone, 1711846799, &change) || change.second != 1711846800 || change.offset != 7200 || change.saving != 3600) return 73;
-    if (sefunjaro_next_change(&zone, 1711846800, &change) || change.second != 1729990800 || change.offset != 3600 || change.saving != 0) return 74;
+    if (sefunjaro_next_change(&zone, 1711846799, &change) || change.second != 1711846800 || change.offset != 7200 || change.saving != 3600 || change.name_length != 4 || !change.differs) return 73;
+    if (sefunjaro_next_change(&zone, 1711846800, &change) || change.second != 1729990800 || change.offset != 3600 || change.saving != 0 || change.name_length != 3 || !change.differs) return 74;
     if (sefunjaro_next_change(&zone, INT64_MIN, &change) || change.second != 354675600) return 75;
     change.second = 5;
     if (sefunjaro_next_change(&zone, INT64_MAX, &change) != SEFUNJARO_NONE || change.second != 5) return 76;
@@ -125,6 +125,53 @@ static int changes(void) {
     if (sefunjaro_changes(&zone, 1711846801, INT64_MAX, found, 2, &count) || count != 151 || found[1].second != 1743296400 || found[2].saving != 77) return 79;
     if (sefunjaro_changes(&zone, INT64_MAX, INT64_MIN, found, 3, &count) || count != 0 || found[0].second != 1729990800) return 80;
     if (sefunjaro_changes(&zone, INT64_MIN, INT64_MAX, found, 0, &count) || count != 208) return 81;
+    return 0;
+}
+
+/* Clocks in New York and in Paris show local times of the years at instants whose date in UTC lies outside them. */
+static int edges(void) {
+    struct sefunjaro_clock last = { 9999, 12, 31, 23, 30, 0, 7 }, first = { -9999, 1, 1, 0, 30, 0, 0 }, clock;
+    struct sefunjaro_reading reading = { 0, 0 };
+    struct sefunjaro_gap gap;
+    struct sefunjaro_in_force found;
+    uint8_t text[40];
+    int64_t saving = 9;
+    int32_t offset = 9;
+    size_t count;
+    if (open_text(small_source, strlen(small_source)) || open_name("America/New_York")) return 200;
+    if (sefunjaro_readings(&zone, &last, &reading, 1, &count, &gap) || count != 1 || reading.second != 253402317000 || reading.offset != -18000) return 201;
+    if (sefunjaro_offset_at(&zone, reading.second, 7, &offset) || offset != -18000) return 202;
+    if (sefunjaro_in_force(&zone, reading.second, 7, &found, text, 40) || found.offset != -18000 || memcmp(text, "EST", 3)) return 203;
+    if (sefunjaro_clock_at(&zone, reading.second, 7, &clock, &offset) || clock.year != 9999 || clock.day != 31 || clock.hour != 23 || clock.nanosecond != 7) return 204;
+    if (sefunjaro_text_at(&zone, reading.second, 7, text, 40, &count) || memcmp(text, "9999-12-31 23:30:00.000000007 -05:00:00", count)) return 205;
+    if (sefunjaro_saving_at(&zone, reading.second, 7, &saving) || saving != 0) return 206;
+    if (sefunjaro_text_at(&zone, 253402318800, 0, text, 40, &count) != SEFUNJARO_OUT_OF_RANGE) return 207;
+    if (sefunjaro_offset_at(&zone, 253402394398, 999999999, &offset) || sefunjaro_offset_at(&zone, 253402394399, 0, &offset) != SEFUNJARO_OUT_OF_RANGE) return 208;
+    if (open_name("Europe/Paris") || sefunjaro_readings(&zone, &first, &reading, 1, &count, &gap) || count != 1 || reading.second != -377705118600) return 209;
+    if (sefunjaro_text_at(&zone, reading.second, 0, text, 40, &count) || memcmp(text, "-9999-01-01 00:30:00.000000000 +01:00:00", count)) return 210;
+    if (sefunjaro_offset_at(&zone, -377705210399, 0, &offset) || sefunjaro_offset_at(&zone, -377705210400, 999999999, &offset) != SEFUNJARO_OUT_OF_RANGE) return 211;
+    sefunjaro_close(&source);
+    return 0;
+}
+
+/* Georgia's clocks stood at +05 from the spring of 1996 on; what its lines say of the autumn and of the spring of 1997 changes nothing.
+   At the end the abbreviation alone is another. */
+static int changes_of_nothing(void) {
+    static const char text[] =
+        "Rule E 1981 max - Mar lastSun 0:00 1:00 -\n"
+        "Rule E 1996 max - Oct lastSun 0:00 0 -\n"
+        "Zone Asia/Tbilisi 4:00 E +04/+05 1996 Oct lastSun\n"
+        " 4:00 1:00 +05 1997 Mar lastSun\n"
+        " 4:00 E +04/+05 1998 Jan 1\n"
+        " 4:00 - GET\n";
+    struct sefunjaro_change change;
+    if (open_text(text, strlen(text)) || open_name("Asia/Tbilisi")) return 220;
+    if (sefunjaro_next_change(&zone, 828216000 - 1, &change) || change.second != 828216000 || change.offset != 18000 || !change.differs) return 221;
+    if (sefunjaro_next_change(&zone, 828216000, &change) || change.second != 859662000 || change.offset != 18000 || change.differs) return 222;
+    if (sefunjaro_next_change(&zone, 859662000, &change) || change.second != 877806000 || change.offset != 14400 || !change.differs) return 223;
+    if (sefunjaro_next_change(&zone, 877806000, &change) || change.offset != 14400 || change.name_length != 3 || !change.differs) return 224;
+    if (sefunjaro_next_change(&zone, change.second, &change) != SEFUNJARO_NONE) return 225;
+    sefunjaro_close(&source);
     return 0;
 }
 
@@ -143,7 +190,7 @@ static int rings_and_texts(void) {
     if (sefunjaro_read_zoned((const uint8_t *)"\xff", 1, &instant) != SEFUNJARO_NOT_READ) return 94;
     if (sefunjaro_read_zoned((const uint8_t *)zoned, 39, &instant) || instant.second != -1 || instant.nanosecond != 999999999 || instant.offset != -18000) return 95;
     sefunjaro_version(text, 3, &whole, &years);
-    if (whole != strlen(SEFUNJARO_VERSION) || memcmp(text, "1.2.....", 8) || years.first != 1800 || years.last != 2099) return 96;
+    if (whole != strlen(SEFUNJARO_VERSION) || memcmp(text, "2.0.....", 8) || years.first != 1800 || years.last != 2099) return 96;
     sefunjaro_version(text, 8, &whole, &years);
     if (memcmp(text, SEFUNJARO_VERSION, whole)) return 97;
     return 0;
@@ -156,7 +203,7 @@ static uint32_t open_posix(const char *text) { return sefunjaro_posix_open((cons
 static int far_off(void) {
     struct sefunjaro_clock clock, twice = { 2400, 10, 29, 2, 30, 0, 0 }, skipped = { 2400, 3, 26, 2, 30, 0, 0 };
     struct sefunjaro_reading readings[2] = { { 0, 0 }, { 0, 0 } }, ring = { 77, 0 };
-    struct sefunjaro_change change = { 77, 0, 0 };
+    struct sefunjaro_change change = { 77, 0, 0, 0, false };
     struct sefunjaro_in_force found;
     struct sefunjaro_gap gap = { 0, 0, 0 };
     uint8_t text[40];
@@ -213,6 +260,8 @@ int main(void) {
     if (!failed) failed = changes();
     if (!failed) failed = rings_and_texts();
     if (!failed) failed = files();
+    if (!failed) failed = edges();
+    if (!failed) failed = changes_of_nothing();
     sefunjaro_close(&zone);
     sefunjaro_close(&zone);
     return failed;

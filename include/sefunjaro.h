@@ -8,12 +8,16 @@
    - A handle begins as SEFUNJARO_CLOSED, that is zeros. Only these functions read or write its fields. It is not copied: what it holds
      is in this one struct, and two copies that are closed are a double free. It may be moved, as by memcpy, where the old place is
      used no more.
-   - One call at a time uses a handle. Calls on different handles may run at once, also where the handles share a zone. A handle may go
-     to another thread, if a lock, the thread's start or its join orders the calls.
+   - Any number of threads may read one handle at once: a call that takes it as `const` reads it, and leaves it as it is. A call that
+     opens or closes it, and whoever moves it, wants it alone: from the start of a call that reads it to its end none of these happens.
+     A lock, a thread's start or its join orders them.
    - A pointer with a length points to that many items, of which nobody else writes any during the call. It is never null, also where
      the length is 0. Every other pointer is valid and aligned. No two arguments of a call overlap where one of them is written, and the
      two handles of a call are not one.
-   - No function is called in a signal handler, or in the forked child of a process that has threads.
+   - No function is called in a signal handler.
+   - In the forked child of a process that had threads, a handle may be used that no thread was opening, closing or moving when the
+     process forked. What takes memory or gives it back (each call that opens or closes, sefunjaro_tail, sefunjaro_tzif) needs a malloc
+     that may be called there, as that of the GNU C library.
 
    A handle that holds nothing, was closed, or holds a source where a zone is asked, answers SEFUNJARO_NOT_OPEN; closing it again does
    nothing. A handle that was never set to SEFUNJARO_CLOSED has no meaning, and no function can tell.
@@ -22,7 +26,9 @@
    room, and their whole length is told. Where it is another, every place that a pointer leads to stays as it was, but for a fault, which
    tells the status, the cause and the line in either case, and the handle that a call was to open, which is closed. Text is UTF-8 and
    ends without a zero byte. Seconds are counted from 1970-01-01 00:00:00 UTC, offsets in seconds east of UTC (at most 93,599 to either
-   side), and the years of dates are -9999 to 9999. */
+   side), and the years of dates are -9999 to 9999. An instant may lie outside these years by so much as the greatest offset, so that
+   each local time of them has its instants: clocks in New York show 23:30 on the last day of 9999 at an instant of the year 10000 in
+   UTC. `local` lines of the program zone_answers are the same there; its `at` lines take instants of those years in UTC alone. */
 #ifndef SEFUNJARO_H
 #define SEFUNJARO_H
 
@@ -42,8 +48,10 @@ struct sefunjaro_handle {
 
 #define SEFUNJARO_CLOSED { 0, false }
 
-/* The version of the calls that are declared here. A later one of the same first number has all of these, with the same meaning. */
-#define SEFUNJARO_VERSION "1.2.0"
+/* The version of the calls that are declared here. A later one of the same first number has all of these, with the same meaning. What was
+   called how in version 1 stands in docs/VERSIONS.md: sefunjaro_source_open is what was sefunjaro_source_open_any, and
+   sefunjaro_source_open_plain what was sefunjaro_source_open. */
+#define SEFUNJARO_VERSION "2.0.0"
 
 enum sefunjaro_status {
     SEFUNJARO_DONE = 0,
@@ -56,7 +64,8 @@ enum sefunjaro_status {
     SEFUNJARO_UNKNOWN_ZONE = 7,  /* the name is that of no zone, and of no link to one */
     SEFUNJARO_NO_SCHEDULE = 8,   /* the zone has no schedule: enum sefunjaro_schedule_cause */
     SEFUNJARO_OFFSET_RANGE = 9,  /* some offset of the zone is 26 hours or more in size */
-    SEFUNJARO_OUT_OF_RANGE = 10, /* a date lies outside the years -9999 to 9999, or the parts are no time */
+    SEFUNJARO_OUT_OF_RANGE = 10, /* a date lies outside the years -9999 to 9999, an instant does by more than the greatest offset, or the
+                                    parts are no date or no time */
     SEFUNJARO_NONE = 11,         /* there is none of what is asked for */
     SEFUNJARO_NOT_READ = 12,     /* the text is none of those that are read; of a file: enum sefunjaro_file_cause */
     SEFUNJARO_NOT_KEPT = 13,     /* the zone is that of a file or of a POSIX string, of which this is not asked */
@@ -185,11 +194,14 @@ struct sefunjaro_years {
     int32_t last;
 };
 
-/* A change: what is in force from a second on. */
+/* A change: what is in force from a second on. sefunjaro_in_force tells the abbreviation itself. */
 struct sefunjaro_change {
     int64_t second;
     int32_t offset;
-    int64_t saving; /* how many seconds of the offset are the saving; below 0 where winter time is the one with a saving */
+    int64_t saving;     /* how many seconds of the offset are the saving; below 0 where winter time is the one with a saving */
+    size_t name_length; /* how many bytes the abbreviation has */
+    bool differs;       /* whether the offset, the saving or the abbreviation is another than just before the second; where a source has
+                           a line or a rule that says again what holds, none is */
 };
 
 /* An instant, and an offset. */
@@ -199,31 +211,66 @@ struct sefunjaro_instant {
     int32_t offset;
 };
 
+/* What reads a handle, over a copy of its two fields that serves one call at a time, and is then forgotten: it is never opened or closed.
+   In C and C++ the functions below make the copy on the stack; other languages make it themselves. */
+uint32_t sefunjaro_name_count_by(struct sefunjaro_handle *copy, size_t *count);
+uint32_t sefunjaro_name_by(struct sefunjaro_handle *copy, size_t place, uint8_t *name, size_t room, size_t *whole);
+uint32_t sefunjaro_zone_open_by(struct sefunjaro_handle *copy, const uint8_t *name, size_t length, struct sefunjaro_handle *zone,
+                                struct sefunjaro_fault *fault);
+uint32_t sefunjaro_share_by(struct sefunjaro_handle *copy, struct sefunjaro_handle *other);
+uint32_t sefunjaro_offset_at_by(struct sefunjaro_handle *copy, int64_t second, uint32_t nanosecond, int32_t *offset);
+uint32_t sefunjaro_in_force_by(struct sefunjaro_handle *copy, int64_t second, uint32_t nanosecond, struct sefunjaro_in_force *found,
+                               uint8_t *name, size_t room);
+uint32_t sefunjaro_clock_at_by(struct sefunjaro_handle *copy, int64_t second, uint32_t nanosecond, struct sefunjaro_clock *clock,
+                               int32_t *offset);
+uint32_t sefunjaro_text_at_by(struct sefunjaro_handle *copy, int64_t second, uint32_t nanosecond, uint8_t *text, size_t room,
+                              size_t *whole);
+uint32_t sefunjaro_readings_by(struct sefunjaro_handle *copy, const struct sefunjaro_clock *local, struct sefunjaro_reading *readings,
+                               size_t room, size_t *count, struct sefunjaro_gap *gap);
+uint32_t sefunjaro_saving_at_by(struct sefunjaro_handle *copy, int64_t second, uint32_t nanosecond, int64_t *saving);
+uint32_t sefunjaro_next_change_by(struct sefunjaro_handle *copy, int64_t second, struct sefunjaro_change *change);
+uint32_t sefunjaro_changes_by(struct sefunjaro_handle *copy, int64_t from, int64_t to, struct sefunjaro_change *changes, size_t room,
+                              size_t *count);
+uint32_t sefunjaro_ring_by(struct sefunjaro_handle *copy, const struct sefunjaro_clock *local, struct sefunjaro_reading *ring);
+uint32_t sefunjaro_tail_by(struct sefunjaro_handle *copy, uint8_t *text, size_t room, size_t *whole, bool *is_posix,
+                           struct sefunjaro_fault *fault);
+uint32_t sefunjaro_tzif_by(struct sefunjaro_handle *copy, uint8_t *file, size_t room, size_t *whole, struct sefunjaro_fault *fault);
+
 /* The version of the calls that the library has, as SEFUNJARO_VERSION, and its whole length; and the years of the rules. */
 void sefunjaro_version(uint8_t *text, size_t room, size_t *whole, struct sefunjaro_years *years);
-
-/* Opens a source from its text, in the plain form of the tz database. What the handle held before is closed first. The text is used
-   no more after the call.
-   TOO_LONG, NOT_TEXT, BAD_LINE, BAD_JOIN (of the first line that is refused), NO_MEMORY. */
-uint32_t sefunjaro_source_open(const uint8_t *text, size_t length, struct sefunjaro_handle *source, struct sefunjaro_fault *fault);
 
 /* Opens a source from its text in any form that zic reads: words cut short, times and days in each form of zic's manual, quotes, links to
    links, %z. What is opened is its plain form, as the program zone_plain writes it. What the handle held before is closed first. The text
    is used no more after the call.
    TOO_LONG; NO_PLAIN_FORM, with the first line that is refused and why; NOT_TEXT, BAD_LINE or BAD_JOIN, of the plain form, in which the
    line is counted, and not in the text; NO_MEMORY. */
-uint32_t sefunjaro_source_open_any(const uint8_t *text, size_t length, struct sefunjaro_handle *source, struct sefunjaro_fault *fault);
+uint32_t sefunjaro_source_open(const uint8_t *text, size_t length, struct sefunjaro_handle *source, struct sefunjaro_fault *fault);
+
+/* Opens a source from its text in plain form, and in no other: what zone_plain wrote, which it reads in less time. A line of another form
+   is refused, or has the meaning that the plain form gives it: `%z` is then an abbreviation like any other. What the handle held before
+   is closed first. The text is used no more after the call.
+   TOO_LONG, NOT_TEXT, BAD_LINE, BAD_JOIN (of the first line that is refused), NO_MEMORY. */
+uint32_t sefunjaro_source_open_plain(const uint8_t *text, size_t length, struct sefunjaro_handle *source, struct sefunjaro_fault *fault);
 
 /* How many names of a source find a zone: those of its zones, and of the links to them. NOT_OPEN. */
-uint32_t sefunjaro_name_count(struct sefunjaro_handle *source, size_t *count);
+static inline uint32_t sefunjaro_name_count(const struct sefunjaro_handle *source, size_t *count) {
+    struct sefunjaro_handle copy = *source;
+    return sefunjaro_name_count_by(&copy, count);
+}
 
 /* The name at a place of the byte order, which counts from 0, and its whole length. NOT_OPEN, NONE. */
-uint32_t sefunjaro_name(struct sefunjaro_handle *source, size_t place, uint8_t *name, size_t room, size_t *whole);
+static inline uint32_t sefunjaro_name(const struct sefunjaro_handle *source, size_t place, uint8_t *name, size_t room, size_t *whole) {
+    struct sefunjaro_handle copy = *source;
+    return sefunjaro_name_by(&copy, place, name, room, whole);
+}
 
 /* Opens the zone of a name. What the zone's handle held before is closed first. The zone needs its source no more.
    NOT_OPEN (of the source), NOT_TEXT (the name), UNKNOWN_ZONE, NO_SCHEDULE, OFFSET_RANGE, NO_MEMORY. */
-uint32_t sefunjaro_zone_open(struct sefunjaro_handle *source, const uint8_t *name, size_t length, struct sefunjaro_handle *zone,
-                             struct sefunjaro_fault *fault);
+static inline uint32_t sefunjaro_zone_open(const struct sefunjaro_handle *source, const uint8_t *name, size_t length,
+                                           struct sefunjaro_handle *zone, struct sefunjaro_fault *fault) {
+    struct sefunjaro_handle copy = *source;
+    return sefunjaro_zone_open_by(&copy, name, length, zone, fault);
+}
 
 /* Opens the zone of a compiled file (TZif, RFC 8536) from its bytes, as zic writes it and systems keep it below
    /usr/share/zoneinfo, with what its footer says from its last change on. What the handle held before is closed first. The bytes are
@@ -238,59 +285,100 @@ uint32_t sefunjaro_posix_open(const uint8_t *text, size_t length, struct sefunja
 
 /* Opens another handle on the same zone, for another thread. What the other handle held before is closed first. The zone itself is
    there once, until its last handle is closed. NOT_OPEN, NO_MEMORY. */
-uint32_t sefunjaro_share(struct sefunjaro_handle *zone, struct sefunjaro_handle *other);
+static inline uint32_t sefunjaro_share(const struct sefunjaro_handle *zone, struct sefunjaro_handle *other) {
+    struct sefunjaro_handle copy = *zone;
+    return sefunjaro_share_by(&copy, other);
+}
 
 /* Closes a handle, whatever it holds. */
 void sefunjaro_close(struct sefunjaro_handle *handle);
 
 /* The offset in force at an instant, of which the nanosecond is from 0 to 999,999,999. It takes no memory, nor does one below
    that doesn't say so. NOT_OPEN, OUT_OF_RANGE. */
-uint32_t sefunjaro_offset_at(struct sefunjaro_handle *zone, int64_t second, uint32_t nanosecond, int32_t *offset);
+static inline uint32_t sefunjaro_offset_at(const struct sefunjaro_handle *zone, int64_t second, uint32_t nanosecond, int32_t *offset) {
+    struct sefunjaro_handle copy = *zone;
+    return sefunjaro_offset_at_by(&copy, second, nanosecond, offset);
+}
 
 /* The offset, whether it is daylight saving time, and the abbreviation at an instant. NOT_OPEN, OUT_OF_RANGE. */
-uint32_t sefunjaro_in_force(struct sefunjaro_handle *zone, int64_t second, uint32_t nanosecond, struct sefunjaro_in_force *found,
-                            uint8_t *name, size_t room);
+static inline uint32_t sefunjaro_in_force(const struct sefunjaro_handle *zone, int64_t second, uint32_t nanosecond,
+                                          struct sefunjaro_in_force *found, uint8_t *name, size_t room) {
+    struct sefunjaro_handle copy = *zone;
+    return sefunjaro_in_force_by(&copy, second, nanosecond, found, name, room);
+}
 
 /* The local date and time of an instant, and the offset in force. NOT_OPEN, OUT_OF_RANGE. */
-uint32_t sefunjaro_clock_at(struct sefunjaro_handle *zone, int64_t second, uint32_t nanosecond, struct sefunjaro_clock *clock,
-                            int32_t *offset);
+static inline uint32_t sefunjaro_clock_at(const struct sefunjaro_handle *zone, int64_t second, uint32_t nanosecond,
+                                          struct sefunjaro_clock *clock, int32_t *offset) {
+    struct sefunjaro_handle copy = *zone;
+    return sefunjaro_clock_at_by(&copy, second, nanosecond, clock, offset);
+}
 
 /* The text of an instant, `YYYY-MM-DD hh:mm:ss.nnnnnnnnn +hh:mm:ss` with a `-` before a year below 0, and its whole length: 39 bytes
    or 40. NOT_OPEN, OUT_OF_RANGE. */
-uint32_t sefunjaro_text_at(struct sefunjaro_handle *zone, int64_t second, uint32_t nanosecond, uint8_t *text, size_t room,
-                           size_t *whole);
+static inline uint32_t sefunjaro_text_at(const struct sefunjaro_handle *zone, int64_t second, uint32_t nanosecond, uint8_t *text,
+                                         size_t room, size_t *whole) {
+    struct sefunjaro_handle copy = *zone;
+    return sefunjaro_text_at_by(&copy, second, nanosecond, text, room, whole);
+}
 
 /* All instants at which clocks show a local time, by time, and how many there are: most often one, two where clocks are set back over
    it, more in zones without order. Where there are none, `gap` is the change that skips the local time; else it stays as it is.
    NOT_OPEN, OUT_OF_RANGE (also where the parts are no date or no time). */
-uint32_t sefunjaro_readings(struct sefunjaro_handle *zone, const struct sefunjaro_clock *local, struct sefunjaro_reading *readings,
-                            size_t room, size_t *count, struct sefunjaro_gap *gap);
+static inline uint32_t sefunjaro_readings(const struct sefunjaro_handle *zone, const struct sefunjaro_clock *local,
+                                          struct sefunjaro_reading *readings, size_t room, size_t *count, struct sefunjaro_gap *gap) {
+    struct sefunjaro_handle copy = *zone;
+    return sefunjaro_readings_by(&copy, local, readings, room, count, gap);
+}
 
 /* How many seconds of the offset at an instant are the saving: above 0 in daylight saving time, and below 0 where winter time is the
    one with a saving. NOT_OPEN, NOT_KEPT, OUT_OF_RANGE. */
-uint32_t sefunjaro_saving_at(struct sefunjaro_handle *zone, int64_t second, uint32_t nanosecond, int64_t *saving);
+static inline uint32_t sefunjaro_saving_at(const struct sefunjaro_handle *zone, int64_t second, uint32_t nanosecond, int64_t *saving) {
+    struct sefunjaro_handle copy = *zone;
+    return sefunjaro_saving_at_by(&copy, second, nanosecond, saving);
+}
 
-/* The first change after a second. NOT_OPEN, NOT_KEPT, NONE. */
-uint32_t sefunjaro_next_change(struct sefunjaro_handle *zone, int64_t second, struct sefunjaro_change *change);
+/* The first change after a second, also where it changes nothing: `differs` tells. NOT_OPEN, NOT_KEPT, NONE. */
+static inline uint32_t sefunjaro_next_change(const struct sefunjaro_handle *zone, int64_t second, struct sefunjaro_change *change) {
+    struct sefunjaro_handle copy = *zone;
+    return sefunjaro_next_change_by(&copy, second, change);
+}
 
-/* The changes from the second `from` on and before `to`, by time, and how many there are: none where `from` is not below `to`.
-   NOT_OPEN, NOT_KEPT. */
-uint32_t sefunjaro_changes(struct sefunjaro_handle *zone, int64_t from, int64_t to, struct sefunjaro_change *changes, size_t room,
-                           size_t *count);
+/* The changes from the second `from` on and before `to`, by time, and how many there are: none where `from` is not below `to`. Those that
+   change nothing are among them. NOT_OPEN, NOT_KEPT. */
+static inline uint32_t sefunjaro_changes(const struct sefunjaro_handle *zone, int64_t from, int64_t to, struct sefunjaro_change *changes,
+                                         size_t room, size_t *count) {
+    struct sefunjaro_handle copy = *zone;
+    return sefunjaro_changes_by(&copy, from, to, changes, room, count);
+}
 
 /* When a daily alarm rings on the day and at the time of day of a local time: at the first instant at which clocks show it, at its
    nanosecond. NONE where clocks skip it. NOT_OPEN, OUT_OF_RANGE (also where the parts are no date or no time). */
-uint32_t sefunjaro_ring(struct sefunjaro_handle *zone, const struct sefunjaro_clock *local, struct sefunjaro_reading *ring);
+static inline uint32_t sefunjaro_ring(const struct sefunjaro_handle *zone, const struct sefunjaro_clock *local,
+                                      struct sefunjaro_reading *ring) {
+    struct sefunjaro_handle copy = *zone;
+    return sefunjaro_ring_by(&copy, local, ring);
+}
 
 /* The POSIX TZ string that carries a zone on after its last change, as zic writes it at a file's end, and its whole length: up to the end
-   of 2099 it gives the zone's offsets from some change on. It takes memory.
+   of 2099 it gives the zone's offsets from some change on. `is_posix` is whether POSIX has a place for the abbreviations in it: three
+   bytes or more, ASCII letters, digits, `+` and `-`. Other strings, as `<CD>-2` or `<A_B>-5`, are read as UTC by the GNU C library. It
+   takes memory.
    NOT_OPEN; NOT_KEPT; NONE, with why there is no string: enum sefunjaro_tail_cause; NO_MEMORY. */
-uint32_t sefunjaro_tail(struct sefunjaro_handle *zone, uint8_t *text, size_t room, size_t *whole, struct sefunjaro_fault *fault);
+static inline uint32_t sefunjaro_tail(const struct sefunjaro_handle *zone, uint8_t *text, size_t room, size_t *whole, bool *is_posix,
+                                      struct sefunjaro_fault *fault) {
+    struct sefunjaro_handle copy = *zone;
+    return sefunjaro_tail_by(&copy, text, room, whole, is_posix, fault);
+}
 
 /* The zone's TZif file (RFC 8536, version 2), and its whole length: each change, and as the footer the string of sefunjaro_tail, or
    nothing where there is none. It takes memory: each call writes the file whole, and then as much of it into the room as fits.
    NOT_OPEN; NOT_KEPT; NONE, with why there is no file: enum sefunjaro_tzif_cause; NO_MEMORY. */
-uint32_t sefunjaro_tzif(struct sefunjaro_handle *zone, uint8_t *file, size_t room, size_t *whole, struct sefunjaro_fault *fault);
+static inline uint32_t sefunjaro_tzif(const struct sefunjaro_handle *zone, uint8_t *file, size_t room, size_t *whole,
+                                      struct sefunjaro_fault *fault) {
+    struct sefunjaro_handle copy = *zone;
+    return sefunjaro_tzif_by(&copy, file, room, whole, fault);
+}
 
 /* The local time that a text `YYYY-MM-DD hh:mm:ss.nnnnnnnnn` names. Each local time has one such text, and nothing stands before or
    after it. NOT_READ. */

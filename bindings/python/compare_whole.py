@@ -22,7 +22,7 @@ FIRST, LAST = (int(datetime(year, 1, 1, tzinfo=timezone.utc).timestamp()) for ye
 
 def tail_of(zone):
     try:
-        return zone.posix_tail()
+        return zone.posix_tail().text
     except NoTail:
         return ""
 
@@ -33,7 +33,7 @@ def shown(zone, second):
 
 
 def main():
-    source = Source.from_path(SOURCE, any_form=True)
+    source = Source.from_path(SOURCE)
     wrong = same_strings = sides = 0
     with tempfile.TemporaryDirectory() as folder:
         made = {form: compiled(SOURCE, f"{folder}/{form}", form) for form in ("fat", "slim")}

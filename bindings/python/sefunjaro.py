@@ -3,7 +3,7 @@
     from datetime import datetime
     from sefunjaro import Source
 
-    source = Source.from_path("zones.txt")
+    source = Source.from_path("tzdata.zi")
     paris = source.zone("Europe/Paris")
     datetime(2024, 7, 14, 21, 15, tzinfo=paris).isoformat()      # '2024-07-14T21:15:00+02:00'
     paris.instants(datetime(2024, 10, 27, 2, 30))                # both instants of a local time that clocks show twice
@@ -11,9 +11,9 @@
 One file over ctypes. It loads libsefunjaro.so, which `bin/make_library` makes: the file that the environment variable
 SEFUNJARO_LIBRARY names, else the one beside this module, else the one that the system's loader finds.
 
-Instants are given as seconds from 1970-01-01 00:00:00 UTC and nanoseconds, offsets as seconds east of UTC. Each source and each zone
-has a lock, so threads may use one object; `Zone.share` gives a thread an object of its own, without waiting, on the same zone. As the
-library is for C, nothing here may be called in the forked child of a process that has threads.
+Instants are given as seconds from 1970-01-01 00:00:00 UTC and nanoseconds, offsets as seconds east of UTC. Any number of threads may
+ask one source or one zone at once; `close` waits for the calls that are under way, and a call after it raises NotOpen. A child of fork
+may go on with what was open: it asks without a lock, and waits for no thread that it doesn't have.
 """
 from __future__ import annotations
 
@@ -24,12 +24,13 @@ import functools
 import operator
 import os
 import threading
+import weakref
 from typing import Iterator, List, NamedTuple, Optional, Tuple, Union
 
 __all__ = [
     "BadJoin", "BadLine", "Change", "Clock", "Error", "FileCause", "FIRST_YEAR", "Gap", "InForce", "Instant", "JoinCause", "LAST_YEAR",
     "LineCause", "NoPlainForm", "NoSchedule", "NoTail", "NotKept", "NotOpen", "NotRead", "NoTzif", "OffsetRange", "OffsetTooLarge",
-    "OutOfRange", "PlainCause", "ScheduleCause", "Source", "SourceError", "Status", "TailCause", "TzifCause", "UnknownZone", "VERSION",
+    "OutOfRange", "PlainCause", "PosixTail", "ScheduleCause", "Source", "SourceError", "Status", "TailCause", "TzifCause", "UnknownZone", "VERSION",
     "Zone", "ZoneError", "read_local", "read_zoned",
 ]
 
@@ -158,7 +159,8 @@ class NoTzif(ZoneError):
 
 
 class OutOfRange(Error, ValueError):
-    """A date lies outside the years -9999 to 9999, or the parts are no date, no time or no instant."""
+    """A date lies outside the years -9999 to 9999, an instant does by more than 93,599 seconds, the greatest offset, or the parts are
+    no date, no time or no instant."""
 
     status = Status.OUT_OF_RANGE
 
@@ -218,16 +220,27 @@ class Gap(NamedTuple):
 
 
 class Change(NamedTuple):
-    """What is in force in a zone from a second on: the offset, and how many seconds of it are the saving."""
+    """What is in force in a zone from a second on: the offset, how many seconds of it are the saving, and the abbreviation; and whether
+    one of them is another than just before."""
 
     second: int
     offset: int
     saving: int
+    name: str
+    differs: bool
 
     @property
     def utc(self) -> datetime.datetime:
         """The second as a datetime in UTC. OverflowError outside the years 1 to 9999."""
         return _EPOCH + datetime.timedelta(seconds=self.second)
+
+
+class PosixTail(NamedTuple):
+    """A POSIX TZ string, and whether POSIX has a place for the abbreviations in it: three bytes or more, ASCII letters, digits, `+` and
+    `-`. Others, as "<CD>-2" and "<A_B>-5", are read as UTC by the GNU C library."""
+
+    text: str
+    is_posix: bool
 
 
 class InForce(NamedTuple):
@@ -254,7 +267,10 @@ _RawClock = _struct(
 _RawReading = _struct("_RawReading", second=ctypes.c_int64, offset=ctypes.c_int32)
 _RawGap = _struct("_RawGap", second=ctypes.c_int64, before=ctypes.c_int32, after=ctypes.c_int32)
 _RawYears = _struct("_RawYears", first=ctypes.c_int32, last=ctypes.c_int32)
-_RawChange = _struct("_RawChange", second=ctypes.c_int64, offset=ctypes.c_int32, saving=ctypes.c_int64)
+_RawChange = _struct(
+    "_RawChange",
+    second=ctypes.c_int64, offset=ctypes.c_int32, saving=ctypes.c_int64, name_length=ctypes.c_size_t, differs=ctypes.c_bool,
+)
 _RawInstant = _struct("_RawInstant", second=ctypes.c_int64, nanosecond=ctypes.c_uint32, offset=ctypes.c_int32)
 
 _FORM = "plain form of the source"
@@ -287,27 +303,27 @@ _library = _load()
 _at, _size, _length = ctypes.c_void_p, ctypes.c_size_t, ctypes.c_size_t
 _instant = (ctypes.c_int64, ctypes.c_uint32)
 _source_open = _function("sefunjaro_source_open", ctypes.c_char_p, _length, _at, _at)
-_source_open_any = _function("sefunjaro_source_open_any", ctypes.c_char_p, _length, _at, _at)
-_name_count = _function("sefunjaro_name_count", _at, _at)
-_name = _function("sefunjaro_name", _at, _size, _at, _size, _at)
-_zone_open = _function("sefunjaro_zone_open", _at, ctypes.c_char_p, _length, _at, _at)
+_source_open_plain = _function("sefunjaro_source_open_plain", ctypes.c_char_p, _length, _at, _at)
+_name_count = _function("sefunjaro_name_count_by", _at, _at)
+_name = _function("sefunjaro_name_by", _at, _size, _at, _size, _at)
+_zone_open = _function("sefunjaro_zone_open_by", _at, ctypes.c_char_p, _length, _at, _at)
 _file_open = _function("sefunjaro_file_open", ctypes.c_char_p, _length, _at, _at)
 _posix_open = _function("sefunjaro_posix_open", ctypes.c_char_p, _length, _at, _at)
-_share = _function("sefunjaro_share", _at, _at)
+_share = _function("sefunjaro_share_by", _at, _at)
 _close = _function("sefunjaro_close", _at, answer=None)
-_offset_at = _function("sefunjaro_offset_at", _at, *_instant, _at)
-_in_force = _function("sefunjaro_in_force", _at, *_instant, _at, _at, _size)
-_clock_at = _function("sefunjaro_clock_at", _at, *_instant, _at, _at)
-_text_at = _function("sefunjaro_text_at", _at, *_instant, _at, _size, _at)
-_readings = _function("sefunjaro_readings", _at, _at, _at, _size, _at, _at)
+_offset_at = _function("sefunjaro_offset_at_by", _at, *_instant, _at)
+_in_force = _function("sefunjaro_in_force_by", _at, *_instant, _at, _at, _size)
+_clock_at = _function("sefunjaro_clock_at_by", _at, *_instant, _at, _at)
+_text_at = _function("sefunjaro_text_at_by", _at, *_instant, _at, _size, _at)
+_readings = _function("sefunjaro_readings_by", _at, _at, _at, _size, _at, _at)
 _read_local = _function("sefunjaro_read_local", ctypes.c_char_p, _length, _at)
 _read_zoned = _function("sefunjaro_read_zoned", ctypes.c_char_p, _length, _at)
-_saving_at = _function("sefunjaro_saving_at", _at, *_instant, _at)
-_next_change = _function("sefunjaro_next_change", _at, ctypes.c_int64, _at)
-_changes = _function("sefunjaro_changes", _at, ctypes.c_int64, ctypes.c_int64, _at, _size, _at)
-_ring = _function("sefunjaro_ring", _at, _at, _at)
-_tail = _function("sefunjaro_tail", _at, _at, _size, _at, _at)
-_tzif = _function("sefunjaro_tzif", _at, _at, _size, _at, _at)
+_saving_at = _function("sefunjaro_saving_at_by", _at, *_instant, _at)
+_next_change = _function("sefunjaro_next_change_by", _at, ctypes.c_int64, _at)
+_changes = _function("sefunjaro_changes_by", _at, ctypes.c_int64, ctypes.c_int64, _at, _size, _at)
+_ring = _function("sefunjaro_ring_by", _at, _at, _at)
+_tail = _function("sefunjaro_tail_by", _at, _at, _size, _at, _at, _at)
+_tzif = _function("sefunjaro_tzif_by", _at, _at, _size, _at, _at)
 _version = _function("sefunjaro_version", _at, _size, _at, _at, answer=None)
 
 
@@ -390,24 +406,91 @@ def _delta(offset: int) -> datetime.timedelta:
 
 
 class _Handle:
-    """A handle of the library. Each call holds the lock, since ctypes lets other threads run meanwhile. The lock may be taken again
-    by its own thread, as a signal's handler does, so what a call writes is never kept here."""
+    """A handle of the library. Any number of threads read it at once, each call over a copy of its own; `close` waits for those that are
+    under way, and those that come later find it closed.
 
-    __slots__ = ("raw", "at", "lock")
+    Each thread has a number of its own of the calls that it has under way, in a dictionary whose steps are whole: more than one where a
+    signal's handler asks in the middle of a call. So no lock is taken to read."""
+
+    __slots__ = ("raw", "calls", "is_closing", "is_left", "ended", "__weakref__")
 
     def __init__(self) -> None:
         self.raw = _RawHandle()
-        self.at = ctypes.byref(self.raw)
-        self.lock = threading.RLock()
+        self.calls = {}
+        self.is_closing = False
+        # Whether the last call that is under way closes the handle.
+        self.is_left = False
+        self.ended = threading.Condition()
+        _handles.add(self)
+
+    @property
+    def at(self):
+        """Where a call opens it, while nobody else has it."""
+        return ctypes.byref(self.raw)
+
+    def ask(self, call, *arguments) -> int:
+        """The status of a call that reads the handle."""
+        thread, calls = threading.get_ident(), self.calls
+        outer = calls.get(thread, 0)
+        try:
+            calls[thread] = outer + 1
+            if self.is_closing:
+                return Status.NOT_OPEN
+            return call(ctypes.byref(_RawHandle(self.raw.at, self.raw.is_open)), *arguments)
+        finally:
+            if outer:
+                calls[thread] = outer
+            else:
+                calls.pop(thread, None)
+            if self.is_closing:
+                self._end()
+
+    def _end(self) -> None:
+        """A call has ended that `close` waits for, or that closes in its place."""
+        with self.ended:
+            self.ended.notify_all()
+            if self.is_left and not self.calls:
+                self._release()
+
+    def _release(self) -> None:
+        # The handle is a closed one before the library lets go, so that a child of fork closes nothing that a thread was closing.
+        raw, self.raw = self.raw, _RawHandle()
+        _close(ctypes.byref(raw))
 
     def close(self) -> None:
-        with self.lock:
-            _close(self.at)
+        self.is_closing = True
+        if threading.get_ident() in self.calls:
+            # A signal's handler closes it in the middle of a call of its own thread, for which it can't wait.
+            self.is_left = True
+            return
+        with self.ended:
+            while self.calls:
+                self.ended.wait()
+            self._release()
+
+    def forked(self, thread: int) -> None:
+        """In the child of fork only that thread goes on: no other has calls under way, or holds the lock."""
+        for other in list(self.calls):
+            if other != thread:
+                del self.calls[other]
+        self.ended = threading.Condition()
 
     def __del__(self, close=_close) -> None:
         # Nobody else has the handle any more, so there is nothing to wait for.
-        if hasattr(self, "at"):
-            close(self.at)
+        if hasattr(self, "raw"):
+            close(ctypes.byref(self.raw))
+
+
+_handles = weakref.WeakSet()
+
+
+def _forked() -> None:
+    thread = threading.get_ident()
+    for handle in list(_handles):
+        handle.forked(thread)
+
+
+os.register_at_fork(after_in_child=_forked)
 
 
 class _Opened:
@@ -416,7 +499,8 @@ class _Opened:
     __slots__ = ()
 
     def close(self) -> None:
-        """Gives back the memory. What is asked afterwards raises NotOpen; closing again does nothing."""
+        """Gives back the memory, after the calls that are under way. What is asked afterwards raises NotOpen; closing again does
+        nothing."""
         self._handle.close()
 
     def __enter__(self):
@@ -436,32 +520,33 @@ class _Opened:
 
 
 class Source(_Opened):
-    """A source of the tz database: in its plain form, or with `any_form` in any form that zic reads, as that of tzdata.zi.
+    """A source of the tz database in any form that zic reads, as that of tzdata.zi; with `plain` one in plain form and in no other, as
+    zone_plain wrote it, which is read in less time.
 
-    Raises SourceError where the text has more than 16,777,216 bytes or a line is not UTF-8, BadLine and BadJoin with the first line
-    that is refused and the cause. With `any_form` it raises NoPlainForm with that line and its cause; what the others say is then of
-    the plain form that is made of the text, and so is their line."""
+    Raises SourceError where the text has more than 16,777,216 bytes, and NoPlainForm with the first line that is refused and the cause;
+    what BadLine, BadJoin and SourceError of a line say is of the plain form that is made of the text, and so is their line. With `plain`
+    they are of the text: SourceError where a line is not UTF-8, BadLine and BadJoin with the first line that is refused and the cause."""
 
     __slots__ = ("_handle", "__weakref__")
 
-    def __init__(self, text: Union[bytes, bytearray, memoryview, str], *, any_form: bool = False) -> None:
+    def __init__(self, text: Union[bytes, bytearray, memoryview, str], *, plain: bool = False) -> None:
         self._handle = _Handle()
         if isinstance(text, str):
             text = text.encode()
         elif not isinstance(text, bytes):
             text = memoryview(text).tobytes()
         fault = _RawFault()
-        open_text = _source_open_any if any_form else _source_open
+        open_text = _source_open_plain if plain else _source_open
         status = open_text(text, len(text), self._handle.at, ctypes.byref(fault))
         if status:
-            of_form = any_form and status in (Status.NOT_TEXT, Status.BAD_LINE, Status.BAD_JOIN)
+            of_form = not plain and status in (Status.NOT_TEXT, Status.BAD_LINE, Status.BAD_JOIN)
             _raise(status, _FORM if of_form else "source", fault)
 
     @classmethod
-    def from_path(cls, path: Union[str, os.PathLike], *, any_form: bool = False) -> "Source":
+    def from_path(cls, path: Union[str, os.PathLike], *, plain: bool = False) -> "Source":
         """The source that a file holds. OSError where it can't be read."""
         with open(path, "rb") as file:
-            return cls(file.read(), any_form=any_form)
+            return cls(file.read(), plain=plain)
 
     def zone(self, name: str) -> "Zone":
         """The zone of a name; it needs the source no more.
@@ -472,8 +557,7 @@ class Source(_Opened):
     def __len__(self) -> int:
         """How many names find a zone: those of zones, and of the links to them."""
         count = ctypes.c_size_t()
-        with self._handle.lock:
-            status = _name_count(self._handle.at, ctypes.byref(count))
+        status = self._handle.ask(_name_count, ctypes.byref(count))
         if status:
             _raise(status, "source")
         return count.value
@@ -490,8 +574,7 @@ class Source(_Opened):
         room = 64
         while True:
             name = (ctypes.c_uint8 * room)()
-            with self._handle.lock:
-                status = _name(self._handle.at, place, name, room, ctypes.byref(whole))
+            status = self._handle.ask(_name, place, name, room, ctypes.byref(whole))
             if status:
                 _raise(status, "source")
             if whole.value <= room:
@@ -516,8 +599,7 @@ class Zone(datetime.tzinfo, _Opened):
         self._name = name
         told = name.encode()
         fault = _RawFault()
-        with source._handle.lock:
-            status = _zone_open(source._handle.at, told, len(told), self._handle.at, ctypes.byref(fault))
+        status = source._handle.ask(_zone_open, told, len(told), self._handle.at, ctypes.byref(fault))
         if status:
             _raise(status, "source" if status == Status.NOT_OPEN else repr(name), fault)
 
@@ -552,12 +634,11 @@ class Zone(datetime.tzinfo, _Opened):
         return zone
 
     def share(self) -> "Zone":
-        """Another object on the same zone, with a lock of its own. The zone itself is there once, until its last object is closed."""
+        """Another object on the same zone, which is closed by itself. The zone itself is there once, until its last object is closed."""
         other = Zone.__new__(Zone)
         other._handle = _Handle()
         other._name = self._name
-        with self._handle.lock:
-            status = _share(self._handle.at, other._handle.at)
+        status = self._handle.ask(_share, other._handle.at)
         if status:
             _raise(status, repr(self._name))
         return other
@@ -568,14 +649,13 @@ class Zone(datetime.tzinfo, _Opened):
         return self._name
 
     def offset_at(self, second: int, nanosecond: int = 0) -> int:
-        """The offset in force at an instant. Raises OutOfRange outside the years -9999 to 9999."""
+        """The offset in force at an instant. Raises OutOfRange more than 93,599 seconds outside the years -9999 to 9999."""
         return self._number_at(_offset_at, ctypes.c_int32(), second, nanosecond)
 
     def _number_at(self, call, number, second: int, nanosecond: int) -> int:
         """The number that a call tells of an instant."""
         handle, second, nanosecond = self._handle, _second(second), _nanosecond(nanosecond)
-        with handle.lock:
-            status = call(handle.at, second, nanosecond, ctypes.byref(number))
+        status = handle.ask(call, second, nanosecond, ctypes.byref(number))
         if status:
             _raise(status, repr(self._name))
         return number.value
@@ -585,8 +665,7 @@ class Zone(datetime.tzinfo, _Opened):
         found, name, room = _RawInForce(), _Name(), _NAME_ROOM
         handle, second, nanosecond = self._handle, _second(second), _nanosecond(nanosecond)
         while True:
-            with handle.lock:
-                status = _in_force(handle.at, second, nanosecond, ctypes.byref(found), name, room)
+            status = handle.ask(_in_force, second, nanosecond, ctypes.byref(found), name, room)
             if status:
                 _raise(status, repr(self._name))
             if found.name_length <= room:
@@ -595,12 +674,11 @@ class Zone(datetime.tzinfo, _Opened):
             name = (ctypes.c_uint8 * room)()
 
     def clock_at(self, second: int, nanosecond: int = 0) -> Tuple[Clock, int]:
-        """The local date and time of an instant, and the offset in force. Raises OutOfRange where the instant or the local date lies
-        outside the years -9999 to 9999."""
+        """The local date and time of an instant, and the offset in force. Raises OutOfRange where the local date lies outside the years
+        -9999 to 9999."""
         clock, offset = _RawClock(), ctypes.c_int32()
         handle, second, nanosecond = self._handle, _second(second), _nanosecond(nanosecond)
-        with handle.lock:
-            status = _clock_at(handle.at, second, nanosecond, ctypes.byref(clock), ctypes.byref(offset))
+        status = handle.ask(_clock_at, second, nanosecond, ctypes.byref(clock), ctypes.byref(offset))
         if status:
             _raise(status, repr(self._name))
         return _clock(clock), offset.value
@@ -609,8 +687,7 @@ class Zone(datetime.tzinfo, _Opened):
         """The text of an instant, `YYYY-MM-DD hh:mm:ss.nnnnnnnnn +hh:mm:ss`. Raises OutOfRange as `clock_at`."""
         text, whole = ctypes.create_string_buffer(40), ctypes.c_size_t()
         handle, second, nanosecond = self._handle, _second(second), _nanosecond(nanosecond)
-        with handle.lock:
-            status = _text_at(handle.at, second, nanosecond, text, 40, ctypes.byref(whole))
+        status = handle.ask(_text_at, second, nanosecond, text, 40, ctypes.byref(whole))
         if status:
             _raise(status, repr(self._name))
         return text.raw[: whole.value].decode()
@@ -621,39 +698,44 @@ class Zone(datetime.tzinfo, _Opened):
         return self._number_at(_saving_at, ctypes.c_int64(), second, nanosecond)
 
     def next_change(self, second: int) -> Optional[Change]:
-        """The first change after a second, or None where there is none. Raises OutOfRange where 64 bits don't hold the second, and
-        NotKept."""
+        """The first change after a second, also where it changes nothing, or None where there is none. Raises OutOfRange where 64 bits
+        don't hold the second, and NotKept."""
         change = _RawChange()
         handle, second = self._handle, _second(second)
-        with handle.lock:
-            status = _next_change(handle.at, second, ctypes.byref(change))
+        status = handle.ask(_next_change, second, ctypes.byref(change))
         if status == Status.NONE:
             return None
         if status:
             _raise(status, repr(self._name))
-        return Change(change.second, change.offset, change.saving)
+        return self._change(change)
 
-    def changes(self, begin: int, end: int) -> List[Change]:
-        """The changes from the second `begin` on and before the second `end`, by time. Raises OutOfRange as `next_change`."""
+    def _change(self, raw: _RawChange) -> Change:
+        """A change with its abbreviation."""
+        return Change(raw.second, raw.offset, raw.saving, self.in_force(raw.second).name, raw.differs)
+
+    def changes(self, begin: int, end: int, *, every: bool = False) -> List[Change]:
+        """The changes from the second `begin` on and before the second `end`, by time: those in which something differs, or with `every`
+        also those that change nothing. Raises OutOfRange as `next_change`."""
         room, count = 0, ctypes.c_size_t()
         found = (_RawChange * room)()
         handle, begin, end = self._handle, _second(begin), _second(end)
         while True:
-            with handle.lock:
-                status = _changes(handle.at, begin, end, ctypes.byref(found), room, ctypes.byref(count))
+            status = handle.ask(_changes, begin, end, ctypes.byref(found), room, ctypes.byref(count))
             if status:
                 _raise(status, repr(self._name))
             if count.value <= room:
-                return [Change(change.second, change.offset, change.saving) for change in found]
+                return [self._change(change) for change in found if every or change.differs]
             room = count.value
             found = (_RawChange * room)()
 
-    def posix_tail(self) -> str:
-        """The POSIX TZ string that carries the zone on after its last change, as zic writes it at a file's end. Raises NoTail and NotKept."""
-        told, cause = self._whole(_tail, 64)
+    def posix_tail(self) -> PosixTail:
+        """The POSIX TZ string that carries the zone on after its last change, as zic writes it at a file's end, and whether POSIX has a
+        place for the abbreviations in it. Raises NoTail and NotKept."""
+        is_posix = ctypes.c_bool()
+        told, cause = self._whole(_tail, 64, ctypes.byref(is_posix))
         if cause:
             raise NoTail(f"{self._name!r}: no string, {TailCause(cause).name}", cause=TailCause(cause))
-        return told.decode()
+        return PosixTail(told.decode(), is_posix.value)
 
     def to_tzif(self) -> bytes:
         """The zone's TZif file, which `zoneinfo.ZoneInfo.from_file` reads. Raises NoTzif, and NotKept."""
@@ -662,13 +744,13 @@ class Zone(datetime.tzinfo, _Opened):
             raise NoTzif(f"{self._name!r}: no file, {TzifCause(cause).name}", cause=TzifCause(cause))
         return told
 
-    def _whole(self, call, room: int) -> Tuple[bytes, int]:
-        """What a call puts into a room, which grows as it has to, or the number of the cause that there is none."""
+    def _whole(self, call, room: int, *answers) -> Tuple[bytes, int]:
+        """What a call puts into a room, which grows as it has to, or the number of the cause that there is none. Its other answers go to
+        the places that are given."""
         whole, fault, handle = ctypes.c_size_t(), _RawFault(), self._handle
         while True:
             found = ctypes.create_string_buffer(room)
-            with handle.lock:
-                status = call(handle.at, found, room, ctypes.byref(whole), ctypes.byref(fault))
+            status = handle.ask(call, found, room, ctypes.byref(whole), *answers, ctypes.byref(fault))
             if status == Status.NONE:
                 return b"", fault.cause
             if status:
@@ -681,8 +763,7 @@ class Zone(datetime.tzinfo, _Opened):
         """When a daily alarm rings on the day and at the time of day of a local time: the first instant at which clocks show it, or
         None where they skip it. Raises OutOfRange as `instants`."""
         clock, reading, handle = _raw_clock(local), _RawReading(), self._handle
-        with handle.lock:
-            status = _ring(handle.at, ctypes.byref(clock), ctypes.byref(reading))
+        status = handle.ask(_ring, ctypes.byref(clock), ctypes.byref(reading))
         if status == Status.NONE:
             return None
         if status:
@@ -714,8 +795,7 @@ class Zone(datetime.tzinfo, _Opened):
         readings, room, count, gap = _TwoReadings(), 2, ctypes.c_size_t(), _RawGap()
         handle = self._handle
         while True:
-            with handle.lock:
-                status = _readings(handle.at, ctypes.byref(clock), readings, room, ctypes.byref(count), ctypes.byref(gap))
+            status = handle.ask(_readings, ctypes.byref(clock), readings, room, ctypes.byref(count), ctypes.byref(gap))
             if status:
                 _raise(status, repr(self._name))
             if count.value <= room:

@@ -1,13 +1,18 @@
 """The tests of sefunjaro.py over a small source of its own: python3 -m unittest, with SEFUNJARO_LIBRARY set."""
 import base64
 import copy
+import ctypes
 import io
+import os
 import pathlib
 import pickle
 import resource
+import signal
 import tempfile
 import threading
+import time as clock
 import unittest
+import warnings
 import zoneinfo
 from datetime import date, datetime, time, timedelta, timezone
 
@@ -25,6 +30,14 @@ Zone Here/Twice 0:00 - A 2000 Jan 1 2:00
   -1:00 - B 2000 Jan 1 1:30
   -2:00 - C
 Link Here/Middle There/Middle
+"""
+GEORGIA = """\
+Rule E 1981 max - Mar lastSun 0:00 1:00 -
+Rule E 1996 max - Oct lastSun 0:00 0 -
+Zone Asia/Tbilisi 4:00 E +04/+05 1996 Oct lastSun
+ 4:00 1:00 +05 1997 Mar lastSun
+ 4:00 E +04/+05 1998 Jan 1
+ 4:00 - GET
 """
 SPRING, AUTUMN = 1711846800, 1729990800  # 2024-03-31 and 2024-10-27, 01:00 UTC
 SKIPPED, TWICE = datetime(2024, 3, 31, 2, 30), datetime(2024, 10, 27, 2, 30)
@@ -93,7 +106,7 @@ class Zones(unittest.TestCase):
     def test_changes(self):
         zone = self.zone
         self.assertEqual((zone.saving_at(SPRING - 1, 999_999_999), zone.saving_at(SPRING)), (0, 3600))
-        spring, autumn = Change(SPRING, 7200, 3600), Change(AUTUMN, 3600, 0)
+        spring, autumn = Change(SPRING, 7200, 3600, "CEST", True), Change(AUTUMN, 3600, 0, "CET", True)
         self.assertEqual((zone.next_change(SPRING - 1), zone.next_change(SPRING)), (spring, autumn))
         self.assertIsNone(zone.next_change(2**63 - 1))
         self.assertEqual(zone.changes(SPRING, AUTUMN), [spring])
@@ -102,6 +115,12 @@ class Zones(unittest.TestCase):
         every = zone.changes(-(2**63), 2**63 - 1)
         self.assertEqual([change.second for change in every], sorted({change.second for change in every}))
         self.assertEqual(spring.utc, datetime(2024, 3, 31, 1, tzinfo=timezone.utc))
+        # In the spring of 1997 a line of Georgia says again what holds, and in 1998 the abbreviation alone is another.
+        georgia = Source(GEORGIA).zone("Asia/Tbilisi")
+        nothing, name = Change(859662000, 18000, 3600, "+05", False), Change(883598400, 14400, 0, "GET", True)
+        self.assertEqual(georgia.next_change(849398400), nothing)
+        self.assertEqual(georgia.changes(849398400, 2**63 - 1), [Change(877806000, 14400, 0, "+04", True), name])
+        self.assertEqual(georgia.changes(849398400, 2**63 - 1, every=True), [nothing, Change(877806000, 14400, 0, "+04", True), name])
         winter = Source("Zone Here/Negative 1:00 -1:00 GMT\n").zone("Here/Negative")
         self.assertEqual(datetime(2024, 1, 1, tzinfo=winter).dst(), -hours(1))
         self.assertEqual(datetime(2024, 1, 1, tzinfo=winter).utcoffset(), hours(0))
@@ -118,7 +137,10 @@ class Zones(unittest.TestCase):
         self.assertEqual([ring and ring.second for _, ring in rings], [SPRING - 84600, None, SPRING + 84600])
 
     def test_whole(self):
-        self.assertEqual(self.zone.posix_tail(), "CET-1CEST,M3.5.0,M10.5.0/3")
+        self.assertEqual(self.zone.posix_tail(), ("CET-1CEST,M3.5.0,M10.5.0/3", True))
+        short = Source("Zone Letters 2 - CD\nZone Signs -3 - %z\nZone Underscore 5 - A_B\nZone Umlauts 5 - ÄÄÄ\n")
+        tails = [short.zone(name).posix_tail() for name in ("Letters", "Signs", "Underscore", "Umlauts")]
+        self.assertEqual(tails, [("<CD>-2", False), ("<-03>3", True), ("<A_B>-5", False), ("<ÄÄÄ>-5", False)])
         file = self.zone.to_tzif()
         read = zoneinfo.ZoneInfo.from_file(io.BytesIO(file))
         for second in (0, SPRING - 1, SPRING, AUTUMN - 1, AUTUMN, 4_000_000_000):
@@ -138,7 +160,7 @@ class Zones(unittest.TestCase):
                 call(sefunjaro.Zone.from_posix("UTC0"))
 
     def test_version(self):
-        self.assertEqual((sefunjaro.VERSION, sefunjaro.FIRST_YEAR, sefunjaro.LAST_YEAR), ("1.2.0", 1800, 2099))
+        self.assertEqual((sefunjaro.VERSION, sefunjaro.FIRST_YEAR, sefunjaro.LAST_YEAR), ("2.0.0", 1800, 2099))
 
     def test_fold_and_gap(self):
         # local time, fold, offset in hours, name; the standard offset is 1 hour throughout
@@ -171,6 +193,11 @@ class Zones(unittest.TestCase):
         self.assertEqual(datetime(2024, 7, 1, 12, tzinfo=timezone.utc).astimezone(self.zone).hour, 14)
         self.assertIsNone(time(12, tzinfo=self.zone).utcoffset())
         self.assertEqual(datetime.max.replace(tzinfo=self.zone).utcoffset(), hours(2 - 1))
+        behind = Source("Zone Behind -5 - EST\n").zone("Behind")
+        last, first = datetime.max.replace(tzinfo=behind), datetime.min.replace(tzinfo=self.zone)
+        self.assertEqual((last.tzname(), last.dst(), first.tzname(), first.dst()), ("EST", hours(0), "CET", hours(0)))
+        instant, = behind.instants(datetime.max)
+        self.assertEqual(behind.text_at(instant.second, instant.nanosecond), "9999-12-31 23:59:59.999999000 -05:00:00")
         with self.assertRaises(OverflowError):
             datetime.max.replace(tzinfo=timezone.utc).astimezone(self.zone)
         with self.assertRaises(TypeError):
@@ -281,18 +308,18 @@ class Faults(unittest.TestCase):
         ]
         for text, kind, status, cause, line in rows:
             with self.assertRaises(kind) as raised:
-                Source(text)
+                Source(text, plain=True)
             error = raised.exception
             self.assertEqual((type(error), error.status, error.line), (kind, status, line))
             self.assertIs(error.cause, cause)
 
     def test_any_form(self):
         text = "R EU 1981 ma - Mar lastSu 1u 1 S\nR EU 1996 ma - O lastSu 1u 0 -\nZ Here 1 EU CE%sT\nL There Here/Too\nL Here There\n"
-        source = Source(text, any_form=True)
+        source = Source(text)
         self.assertEqual(list(source), ["Here", "Here/Too", "There"])
         self.assertEqual([source.zone("Here/Too").offset_at(second) for second in (SPRING - 1, SPRING)], [3600, 7200])
         with self.assertRaises(sefunjaro.BadLine):
-            Source(text)
+            Source(text, plain=True)
         cause = sefunjaro.PlainCause
         for text, kind, status, why, line in (
             ("\nRule R 2000 max - Foo 1 2:00 0 S\n", sefunjaro.NoPlainForm, Status.NO_PLAIN_FORM, cause.MONTH, 2),
@@ -301,13 +328,14 @@ class Faults(unittest.TestCase):
             (b"#" * (2**24 + 1), sefunjaro.SourceError, Status.TOO_LONG, None, None),
         ):
             with self.assertRaises(kind) as raised:
-                Source(text, any_form=True)
+                Source(text)
             error = raised.exception
             self.assertEqual((type(error), error.status, error.line), (kind, status, line))
             self.assertIs(error.cause, why)
 
     def test_zones(self):
-        source = Source("Rule R min 1990 - Jan 1 0:00 0 -\nZone Rules 0:00 R A\nZone Open 0:00 - A\n 1:00 - B\nZone Wide 26:00 - X\n")
+        text = "Rule R min 1990 - Jan 1 0:00 0 -\nZone Rules 0:00 R A\nZone Open 0:00 - A\n 1:00 - B\nZone Wide 26:00 - X\n"
+        source = Source(text, plain=True)
         for name, kind, status, cause in (
             ("None", sefunjaro.UnknownZone, Status.UNKNOWN_ZONE, None),
             ("", sefunjaro.UnknownZone, Status.UNKNOWN_ZONE, None),
@@ -377,6 +405,78 @@ class Lifetimes(unittest.TestCase):
         for thread in threads:
             thread.join()
         self.assertEqual(ends, [True] * 4)
+
+    def test_calls_under_way(self):
+        zone, offset, statuses = Source(SOURCE).zone("Here/Middle"), ctypes.c_int32(), []
+        begun, leave = threading.Event(), threading.Event()
+
+        def slow(handle):
+            begun.set()
+            leave.wait()
+            return sefunjaro._offset_at(handle, SPRING, 0, ctypes.byref(offset))
+
+        reader = threading.Thread(target=lambda: statuses.append(zone._handle.ask(slow)))
+        closer = threading.Thread(target=zone.close)
+        reader.start()
+        begun.wait()
+        # Another call comes through meanwhile, until the zone is being closed; close itself waits.
+        self.assertEqual(zone.offset_at(SPRING), 7200)
+        closer.start()
+        with self.assertRaises(sefunjaro.NotOpen):
+            while True:
+                zone.offset_at(SPRING)
+        self.assertTrue(closer.is_alive())
+        leave.set()
+        for thread in (reader, closer):
+            thread.join()
+        self.assertEqual((statuses, offset.value, zone._handle.raw.is_open), ([Status.DONE], 7200, False))
+
+    def test_closed_in_a_call(self):
+        # As a signal's handler does, in the middle of a call of its own thread.
+        zone, offset = Source(SOURCE).zone("Here/Middle"), ctypes.c_int32()
+
+        def closing(handle):
+            zone.close()
+            with self.assertRaises(sefunjaro.NotOpen):
+                zone.offset_at(SPRING)
+            return sefunjaro._offset_at(handle, SPRING, 0, ctypes.byref(offset))
+
+        self.assertEqual((zone._handle.ask(closing), offset.value), (Status.DONE, 7200))
+        self.assertFalse(zone._handle.raw.is_open)
+
+    def child(self, zone):
+        """Whether a child of fork can ask a zone and close it, and open another."""
+        with warnings.catch_warnings():
+            warnings.simplefilter("ignore", DeprecationWarning)
+            process = os.fork()
+        if not process:
+            asked = zone.offset_at(SPRING) == 7200
+            zone.close()
+            os._exit(0 if asked and Source(SOURCE).zone("Here/Middle").offset_at(SPRING) == 7200 else 1)
+        for _ in range(2000):
+            ended, status = os.waitpid(process, os.WNOHANG)
+            if ended:
+                return status == 0
+            clock.sleep(0.01)
+        os.kill(process, signal.SIGKILL)
+        os.waitpid(process, 0)
+        return False
+
+    def test_fork(self):
+        zone, ends = Source(SOURCE).zone("Here/Middle"), threading.Event()
+
+        def ask():
+            while not ends.is_set():
+                zone.offset_at(SPRING)
+
+        threads = [threading.Thread(target=ask) for _ in range(4)]
+        for thread in threads:
+            thread.start()
+        children = [self.child(zone) for _ in range(20)]
+        ends.set()
+        for thread in threads:
+            thread.join()
+        self.assertEqual(children, [True] * 20)
 
     def test_memory(self):
         # A million zones, most of one line, closed or only dropped; with sources, shared zones and some that are refused.

@@ -4,7 +4,7 @@ use crate::raw::{self, DONE, NONE};
 use crate::{done, Clock, Error, Instant, Zone};
 use std::iter::FusedIterator;
 
-/// A change: what is in force in a zone from a second on.
+/// A change: what is in force in a zone from a second on. [`Zone::in_force`] tells the abbreviation itself.
 #[repr(C)]
 #[derive(Clone, Copy, Debug, Default, PartialEq, Eq, Hash)]
 pub struct Change {
@@ -13,6 +13,10 @@ pub struct Change {
     pub offset: i32,
     /// How many seconds of the offset are the saving; below 0 where winter time is the one with a saving.
     pub saving: i64,
+    /// How many bytes the abbreviation has.
+    pub name_length: usize,
+    /// Whether the offset, the saving or the abbreviation is another than just before the second.
+    pub differs: bool,
 }
 
 impl Zone {
@@ -31,12 +35,13 @@ impl Zone {
     #[inline]
     pub fn saving_at(&self, second: i64, nanosecond: u32) -> Result<i64, Error> {
         let mut saving = 0;
-        // SAFETY: the handle is used by no other call.
-        done(unsafe { raw::sefunjaro_saving_at(self.handle().at(), second, nanosecond, &mut saving) })?;
+        // SAFETY: the copy serves this call alone.
+        done(unsafe { raw::sefunjaro_saving_at_by(&mut self.handle().copy(), second, nanosecond, &mut saving) })?;
         Ok(saving)
     }
 
-    /// The first change after a second, or none. The zone of a file or of a POSIX string keeps none, as [`Zone::keeps_changes`] tells.
+    /// The first change after a second, also where it changes nothing, or none. The zone of a file or of a POSIX string keeps none, as
+    /// [`Zone::keeps_changes`] tells.
     ///
     /// ```
     /// let zone = sefunjaro::Source::open(b"Zone A 1:00 - A 2000 Jan 1\n 2:00 - B\n")?.zone("A")?;
@@ -47,8 +52,8 @@ impl Zone {
     #[inline]
     pub fn next_change(&self, second: i64) -> Option<Change> {
         let mut change = Change::default();
-        // SAFETY: the handle is used by no other call.
-        let status = unsafe { raw::sefunjaro_next_change(self.handle().at(), second, &mut change) };
+        // SAFETY: the copy serves this call alone.
+        let status = unsafe { raw::sefunjaro_next_change_by(&mut self.handle().copy(), second, &mut change) };
         (status == DONE).then_some(change)
     }
 
@@ -63,7 +68,7 @@ impl Zone {
         self.saving_at(0, 0) != Err(Error::NotKept)
     }
 
-    /// The changes from the second `from` on and before the second `to`, by time. It takes no memory.
+    /// The changes from the second `from` on and before the second `to`, by time, in which something differs. It takes no memory.
     ///
     /// ```
     /// let zone = sefunjaro::Source::open(b"Zone A 1:00 - A 2000 Jan 1\n 2:00 - B 2001 Jan 1\n 3:00 - C\n")?.zone("A")?;
@@ -73,8 +78,13 @@ impl Zone {
     /// # Ok::<(), sefunjaro::Error>(())
     /// ```
     pub fn changes(&self, from: i64, to: i64) -> Changes<'_> {
+        Changes { every: false, ..self.every_change(from, to) }
+    }
+
+    /// The same, with the changes that change nothing.
+    pub fn every_change(&self, from: i64, to: i64) -> Changes<'_> {
         // `next_change` tells what is after a second; none is at the least one.
-        Changes { zone: self, after: from.checked_sub(1).unwrap_or(from), to }
+        Changes { zone: self, after: from.checked_sub(1).unwrap_or(from), to, every: true }
     }
 
     /// When a daily alarm rings on the day and at the time of day of a local time: the first instant at which clocks show it, or none
@@ -92,8 +102,8 @@ impl Zone {
     /// ```
     pub fn ring(&self, local: &Clock) -> Result<Option<Instant>, Error> {
         let mut ring = raw::RawReading::default();
-        // SAFETY: the handle is used by no other call.
-        match unsafe { raw::sefunjaro_ring(self.handle().at(), local, &mut ring) } {
+        // SAFETY: the copy serves this call alone.
+        match unsafe { raw::sefunjaro_ring_by(&mut self.handle().copy(), local, &mut ring) } {
             NONE => Ok(None),
             status => done(status).map(|()| {
                 Some(Instant { second: ring.second, nanosecond: local.nanosecond, offset: ring.offset })
@@ -108,15 +118,20 @@ pub struct Changes<'a> {
     zone: &'a Zone,
     after: i64,
     to: i64,
+    every: bool,
 }
 
 impl Iterator for Changes<'_> {
     type Item = Change;
 
     fn next(&mut self) -> Option<Change> {
-        let change = self.zone.next_change(self.after).filter(|change| change.second < self.to)?;
-        self.after = change.second;
-        Some(change)
+        loop {
+            let change = self.zone.next_change(self.after).filter(|change| change.second < self.to)?;
+            self.after = change.second;
+            if self.every || change.differs {
+                return Some(change);
+            }
+        }
     }
 }
 

@@ -6,8 +6,8 @@ use crate::raw::{
 };
 use std::fmt;
 
-/// Why a call was refused. A `line` is that of the source, from 1; of [`Source::open_any`](crate::Source::open_any) it is that of the text
-/// where the error is `NoPlainForm`, and else that of the text's plain form.
+/// Why a call was refused. A `line` is that of the source, from 1; of [`Source::open`](crate::Source::open) it is that of the text where
+/// the error is `NoPlainForm`, and else that of the text's plain form.
 #[derive(Clone, Copy, Debug, PartialEq, Eq)]
 #[non_exhaustive]
 pub enum Error {
@@ -35,7 +35,8 @@ pub enum Error {
     NoTzif { cause: TzifCause },
     /// Some offset of the zone is 26 hours or more in size.
     OffsetRange,
-    /// A date lies outside the years -9999 to 9999, or the parts are no date, no time or no instant.
+    /// A date lies outside the years -9999 to 9999, an instant does by more than 93,599 seconds, the greatest offset, or the parts are no
+    /// date, no time or no instant.
     OutOfRange,
     /// The text is none of those that are read.
     NotRead,

@@ -19,9 +19,9 @@
 //! ```
 //!
 //! Instants are seconds from 1970-01-01 00:00:00 UTC and nanoseconds, from 0 to 999,999,999; offsets are seconds east of UTC, at most
-//! 93,599 to either side. A value is used by one thread at a time and may go to another (it is [`Send`], not [`Sync`]);
-//! [`Zone::share`] gives a thread a value of its own on the same zone. Look-ups take no memory, but for a local time with more than
-//! two instants, which no zone of the tz database has.
+//! 93,599 to either side. Any number of threads may ask one value at once (it is [`Send`] and [`Sync`]); [`Zone::share`] gives a thread a
+//! value of its own on the same zone. Look-ups take no memory, but for a local time with more than two instants, which no zone of the
+//! tz database has.
 
 mod changes;
 mod error;
@@ -33,10 +33,10 @@ mod zone;
 pub use changes::{Change, Changes};
 pub use error::{Error, FileCause, JoinCause, LineCause, PlainCause, ScheduleCause, TailCause, TzifCause};
 pub use source::{Names, Source};
+pub use whole::PosixTail;
 pub use zone::{InForce, Instant, Instants, LocalTime, Zone};
 
 use raw::{RawHandle, DONE};
-use std::cell::UnsafeCell;
 use std::ops::RangeInclusive;
 use std::str::FromStr;
 
@@ -115,7 +115,7 @@ impl FromStr for Instant {
 /// The version of the library's calls, as `SEFUNJARO_VERSION` of its header.
 ///
 /// ```
-/// assert_eq!(sefunjaro::version(), "1.2.0");
+/// assert_eq!(sefunjaro::version(), "2.0.0");
 /// ```
 pub fn version() -> String {
     let mut text = vec![0; 32];
@@ -146,20 +146,26 @@ fn done(status: u32) -> Result<(), Error> {
     }
 }
 
-/// A handle of the library. The calls write to it, also those that only look something up, one at a time; the cell keeps other
-/// threads out.
-struct Handle(UnsafeCell<RawHandle>);
+/// A handle of the library. Calls that open or close it have it alone; those that read it take a copy.
+struct Handle(RawHandle);
 
 // SAFETY: a handle may go to another thread where the calls are ordered, and moving a value between threads orders them.
 unsafe impl Send for Handle {}
 
+// SAFETY: whoever has a `&` copies the handle, and calls over copies may run at once, while nobody opens, closes or moves it.
+unsafe impl Sync for Handle {}
+
 impl Handle {
     fn closed() -> Handle {
-        Handle(UnsafeCell::new(RawHandle::CLOSED))
+        Handle(RawHandle::CLOSED)
     }
 
-    fn at(&self) -> *mut RawHandle {
-        self.0.get()
+    fn at(&mut self) -> *mut RawHandle {
+        &mut self.0
+    }
+
+    fn copy(&self) -> RawHandle {
+        self.0.copy()
     }
 }
 

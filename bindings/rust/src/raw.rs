@@ -1,4 +1,4 @@
-//! The header `sefunjaro.h`, as far as this crate calls it.
+//! The header `sefunjaro.h`, as far as this crate calls it. Calls that read a handle take a copy of it, which serves one call.
 
 use std::os::raw::c_void;
 use std::ptr;
@@ -11,6 +11,12 @@ pub struct RawHandle {
 
 impl RawHandle {
     pub const CLOSED: RawHandle = RawHandle { at: ptr::null_mut(), is_open: false };
+
+    /// A copy for one call that reads. It is never opened or closed.
+    #[inline]
+    pub fn copy(&self) -> RawHandle {
+        RawHandle { at: self.at, is_open: self.is_open }
+    }
 }
 
 #[repr(C)]
@@ -69,11 +75,11 @@ pub const NO_PLAIN_FORM: u32 = 14;
 
 extern "C" {
     pub fn sefunjaro_source_open(text: *const u8, length: usize, source: *mut RawHandle, fault: *mut RawFault) -> u32;
-    pub fn sefunjaro_source_open_any(text: *const u8, length: usize, source: *mut RawHandle, fault: *mut RawFault) -> u32;
-    pub fn sefunjaro_name_count(source: *mut RawHandle, count: *mut usize) -> u32;
-    pub fn sefunjaro_name(source: *mut RawHandle, place: usize, name: *mut u8, room: usize, whole: *mut usize) -> u32;
-    pub fn sefunjaro_zone_open(
-        source: *mut RawHandle,
+    pub fn sefunjaro_source_open_plain(text: *const u8, length: usize, source: *mut RawHandle, fault: *mut RawFault) -> u32;
+    pub fn sefunjaro_name_count_by(copy: *mut RawHandle, count: *mut usize) -> u32;
+    pub fn sefunjaro_name_by(copy: *mut RawHandle, place: usize, name: *mut u8, room: usize, whole: *mut usize) -> u32;
+    pub fn sefunjaro_zone_open_by(
+        copy: *mut RawHandle,
         name: *const u8,
         length: usize,
         zone: *mut RawHandle,
@@ -81,34 +87,34 @@ extern "C" {
     ) -> u32;
     pub fn sefunjaro_file_open(bytes: *const u8, length: usize, zone: *mut RawHandle, fault: *mut RawFault) -> u32;
     pub fn sefunjaro_posix_open(text: *const u8, length: usize, zone: *mut RawHandle, fault: *mut RawFault) -> u32;
-    pub fn sefunjaro_share(zone: *mut RawHandle, other: *mut RawHandle) -> u32;
+    pub fn sefunjaro_share_by(copy: *mut RawHandle, other: *mut RawHandle) -> u32;
     pub fn sefunjaro_close(handle: *mut RawHandle);
-    pub fn sefunjaro_offset_at(zone: *mut RawHandle, second: i64, nanosecond: u32, offset: *mut i32) -> u32;
-    pub fn sefunjaro_in_force(
-        zone: *mut RawHandle,
+    pub fn sefunjaro_offset_at_by(copy: *mut RawHandle, second: i64, nanosecond: u32, offset: *mut i32) -> u32;
+    pub fn sefunjaro_in_force_by(
+        copy: *mut RawHandle,
         second: i64,
         nanosecond: u32,
         found: *mut RawInForce,
         name: *mut u8,
         room: usize,
     ) -> u32;
-    pub fn sefunjaro_clock_at(
-        zone: *mut RawHandle,
+    pub fn sefunjaro_clock_at_by(
+        copy: *mut RawHandle,
         second: i64,
         nanosecond: u32,
         clock: *mut crate::Clock,
         offset: *mut i32,
     ) -> u32;
-    pub fn sefunjaro_text_at(
-        zone: *mut RawHandle,
+    pub fn sefunjaro_text_at_by(
+        copy: *mut RawHandle,
         second: i64,
         nanosecond: u32,
         text: *mut u8,
         room: usize,
         whole: *mut usize,
     ) -> u32;
-    pub fn sefunjaro_readings(
-        zone: *mut RawHandle,
+    pub fn sefunjaro_readings_by(
+        copy: *mut RawHandle,
         local: *const crate::Clock,
         readings: *mut RawReading,
         room: usize,
@@ -117,10 +123,56 @@ extern "C" {
     ) -> u32;
     pub fn sefunjaro_read_local(text: *const u8, length: usize, clock: *mut crate::Clock) -> u32;
     pub fn sefunjaro_read_zoned(text: *const u8, length: usize, instant: *mut RawInstant) -> u32;
-    pub fn sefunjaro_saving_at(zone: *mut RawHandle, second: i64, nanosecond: u32, saving: *mut i64) -> u32;
-    pub fn sefunjaro_next_change(zone: *mut RawHandle, second: i64, change: *mut crate::Change) -> u32;
-    pub fn sefunjaro_ring(zone: *mut RawHandle, local: *const crate::Clock, ring: *mut RawReading) -> u32;
-    pub fn sefunjaro_tail(zone: *mut RawHandle, text: *mut u8, room: usize, whole: *mut usize, fault: *mut RawFault) -> u32;
-    pub fn sefunjaro_tzif(zone: *mut RawHandle, file: *mut u8, room: usize, whole: *mut usize, fault: *mut RawFault) -> u32;
+    pub fn sefunjaro_saving_at_by(copy: *mut RawHandle, second: i64, nanosecond: u32, saving: *mut i64) -> u32;
+    pub fn sefunjaro_next_change_by(copy: *mut RawHandle, second: i64, change: *mut crate::Change) -> u32;
+    pub fn sefunjaro_ring_by(copy: *mut RawHandle, local: *const crate::Clock, ring: *mut RawReading) -> u32;
+    pub fn sefunjaro_tail_by(
+        copy: *mut RawHandle,
+        text: *mut u8,
+        room: usize,
+        whole: *mut usize,
+        is_posix: *mut bool,
+        fault: *mut RawFault,
+    ) -> u32;
+    pub fn sefunjaro_tzif_by(copy: *mut RawHandle, file: *mut u8, room: usize, whole: *mut usize, fault: *mut RawFault) -> u32;
     pub fn sefunjaro_version(text: *mut u8, room: usize, whole: *mut usize, years: *mut RawYears);
+}
+
+#[cfg(test)]
+mod tests {
+    use super::*;
+    use crate::{Change, Clock, Gap};
+    use std::mem::{size_of, MaybeUninit};
+    use std::ptr::addr_of;
+
+    /// A struct's name and size, and where its fields begin.
+    macro_rules! layout {
+        ($name:literal, $kind:ty: $($field:ident)*) => {{
+            let value = MaybeUninit::<$kind>::uninit();
+            let start = value.as_ptr();
+            let mut text = format!("{} {}:", $name, size_of::<$kind>());
+            $(
+                // SAFETY: the place of a field is taken, and nothing is read there.
+                let place = unsafe { addr_of!((*start).$field) } as usize - start as usize;
+                text += &format!(" {} {place}", stringify!($field));
+            )*
+            text + "\n"
+        }};
+    }
+
+    #[test]
+    fn layouts() {
+        let all = [
+            layout!("Handle", RawHandle: at is_open),
+            layout!("Fault", RawFault: status cause line),
+            layout!("InForce", RawInForce: offset is_saving name_length),
+            layout!("Clock", Clock: year month day hour minute second nanosecond),
+            layout!("Reading", RawReading: second offset),
+            layout!("Gap", Gap: second before after),
+            layout!("Years", RawYears: first last),
+            layout!("Change", Change: second offset saving name_length differs),
+            layout!("Instant", RawInstant: second nanosecond offset),
+        ];
+        assert_eq!(all.concat(), include_str!(concat!(env!("CARGO_MANIFEST_DIR"), "/../layouts.txt")));
+    }
 }

@@ -10,27 +10,6 @@ pub struct Source {
 }
 
 impl Source {
-    /// Opens a source from its text in plain form, which is used no more afterwards.
-    ///
-    /// # Errors
-    ///
-    /// [`Error::TooLong`]; [`Error::NotText`], [`Error::BadLine`] and [`Error::BadJoin`] of the first line that is refused;
-    /// [`Error::NoMemory`].
-    ///
-    /// ```
-    /// use sefunjaro::{Error, LineCause, Source};
-    ///
-    /// let refused = Source::open(b"Zone A 1:00 - A\nRule R 2000 max - Nof Sun>=1 2:00 0 S\n").err();
-    /// assert_eq!(refused, Some(Error::BadLine { line: 2, cause: LineCause::FailedMonthParse }));
-    /// ```
-    pub fn open(text: &[u8]) -> Result<Source, Error> {
-        let handle = Handle::closed();
-        let mut fault = RawFault::default();
-        // SAFETY: the text is never null, nobody writes it during the call, and nothing overlaps.
-        let status = unsafe { raw::sefunjaro_source_open(text.as_ptr(), text.len(), handle.at(), &mut fault) };
-        Source::opened(handle, status, &fault)
-    }
-
     /// Opens a source from its text in any form that zic reads, as that of tzdata.zi. The text is used no more afterwards.
     ///
     /// # Errors
@@ -41,18 +20,39 @@ impl Source {
     /// ```
     /// use sefunjaro::{Error, PlainCause, Source};
     ///
-    /// let source = Source::open_any(b"Z Europe/Paris 1 EU CE%sT\nR EU 1981 ma - Mar lastSu 1u 1 S\nR EU 1996 ma - O lastSu 1u 0 -\n")?;
+    /// let source = Source::open(b"Z Europe/Paris 1 EU CE%sT\nR EU 1981 ma - Mar lastSu 1u 1 S\nR EU 1996 ma - O lastSu 1u 0 -\n")?;
     /// assert_eq!(source.zone("Europe/Paris")?.offset_at(1711846800, 0), Ok(7200));
     ///
-    /// let refused = Source::open_any(b"R EU 1981 ma - Foo 1 0 1 S\n").err();
+    /// let refused = Source::open(b"R EU 1981 ma - Foo 1 0 1 S\n").err();
     /// assert_eq!(refused, Some(Error::NoPlainForm { line: 1, cause: PlainCause::Month }));
     /// # Ok::<(), sefunjaro::Error>(())
     /// ```
-    pub fn open_any(text: &[u8]) -> Result<Source, Error> {
-        let handle = Handle::closed();
+    pub fn open(text: &[u8]) -> Result<Source, Error> {
+        let mut handle = Handle::closed();
         let mut fault = RawFault::default();
         // SAFETY: the text is never null, nobody writes it during the call, and nothing overlaps.
-        let status = unsafe { raw::sefunjaro_source_open_any(text.as_ptr(), text.len(), handle.at(), &mut fault) };
+        let status = unsafe { raw::sefunjaro_source_open(text.as_ptr(), text.len(), handle.at(), &mut fault) };
+        Source::opened(handle, status, &fault)
+    }
+
+    /// Opens a source from its text in plain form, and in no other, which is used no more afterwards.
+    ///
+    /// # Errors
+    ///
+    /// [`Error::TooLong`]; [`Error::NotText`], [`Error::BadLine`] and [`Error::BadJoin`] of the first line that is refused;
+    /// [`Error::NoMemory`].
+    ///
+    /// ```
+    /// use sefunjaro::{Error, LineCause, Source};
+    ///
+    /// let refused = Source::open_plain(b"Zone A 1:00 - A\nRule R 2000 max - Nof Sun>=1 2:00 0 S\n").err();
+    /// assert_eq!(refused, Some(Error::BadLine { line: 2, cause: LineCause::FailedMonthParse }));
+    /// ```
+    pub fn open_plain(text: &[u8]) -> Result<Source, Error> {
+        let mut handle = Handle::closed();
+        let mut fault = RawFault::default();
+        // SAFETY: the text is never null, nobody writes it during the call, and nothing overlaps.
+        let status = unsafe { raw::sefunjaro_source_open_plain(text.as_ptr(), text.len(), handle.at(), &mut fault) };
         Source::opened(handle, status, &fault)
     }
 
@@ -79,11 +79,11 @@ impl Source {
     /// # Ok::<(), sefunjaro::Error>(())
     /// ```
     pub fn zone(&self, name: &str) -> Result<Zone, Error> {
-        let handle = Handle::closed();
+        let mut handle = Handle::closed();
         let mut fault = RawFault::default();
-        // SAFETY: the name is never null, and the two handles are not one.
+        // SAFETY: the copy serves this call alone, the name is never null, and the two handles are not one.
         let status =
-            unsafe { raw::sefunjaro_zone_open(self.handle.at(), name.as_ptr(), name.len(), handle.at(), &mut fault) };
+            unsafe { raw::sefunjaro_zone_open_by(&mut self.handle.copy(), name.as_ptr(), name.len(), handle.at(), &mut fault) };
         if status == DONE {
             Ok(Zone::of(handle))
         } else {
@@ -106,8 +106,8 @@ impl Source {
     /// ```
     pub fn names(&self) -> Result<Names<'_>, Error> {
         let mut count = 0;
-        // SAFETY: the handle is used by no other call.
-        done(unsafe { raw::sefunjaro_name_count(self.handle.at(), &mut count) })?;
+        // SAFETY: the copy serves this call alone.
+        done(unsafe { raw::sefunjaro_name_count_by(&mut self.handle.copy(), &mut count) })?;
         Ok(Names { source: self, places: 0..count })
     }
 
@@ -116,9 +116,9 @@ impl Source {
         let mut name = vec![0; 64];
         loop {
             let mut whole = 0;
-            // SAFETY: the room is as long as is said, and never null.
+            // SAFETY: the copy serves this call alone, and the room is as long as is said.
             let status =
-                unsafe { raw::sefunjaro_name(self.handle.at(), place, name.as_mut_ptr(), name.len(), &mut whole) };
+                unsafe { raw::sefunjaro_name_by(&mut self.handle.copy(), place, name.as_mut_ptr(), name.len(), &mut whole) };
             if status != DONE {
                 return None;
             }

@@ -7,21 +7,19 @@ use std::iter::FusedIterator;
 
 /// A zone of the tz database.
 ///
-/// It may go to another thread, and isn't shared between them:
+/// Any number of threads may ask it at once:
 ///
 /// ```
 /// use sefunjaro::Source;
 /// use std::thread;
 ///
 /// let zone = Source::open(b"Zone A 1:00 - A\n")?.zone("A")?;
-/// let other = zone.share()?;
-/// assert_eq!(thread::spawn(move || other.offset_at(0, 0)).join().unwrap(), zone.offset_at(0, 0));
+/// thread::scope(|scope| {
+///     for _ in 0..8 {
+///         scope.spawn(|| assert_eq!(zone.offset_at(0, 0), Ok(3600)));
+///     }
+/// });
 /// # Ok::<(), sefunjaro::Error>(())
-/// ```
-///
-/// ```compile_fail,E0277
-/// fn is_shared<T: Sync>() {}
-/// is_shared::<sefunjaro::Zone>();
 /// ```
 pub struct Zone {
     handle: Handle,
@@ -100,7 +98,7 @@ impl Zone {
         open: unsafe extern "C" fn(*const u8, usize, *mut RawHandle, *mut RawFault) -> u32,
         told: &[u8],
     ) -> Result<Zone, Error> {
-        let handle = Handle::closed();
+        let mut handle = Handle::closed();
         let mut fault = RawFault::default();
         // SAFETY: the bytes are never null, nobody writes them during the call, and nothing overlaps.
         match unsafe { open(told.as_ptr(), told.len(), handle.at(), &mut fault) } {
@@ -109,15 +107,15 @@ impl Zone {
         }
     }
 
-    /// Another value on the same zone, for another thread. The zone itself is there once.
+    /// Another value on the same zone, for a thread that outlives this one. The zone itself is there once.
     ///
     /// # Errors
     ///
     /// [`Error::NoMemory`].
     pub fn share(&self) -> Result<Zone, Error> {
-        let handle = Handle::closed();
-        // SAFETY: the two handles are not one.
-        done(unsafe { raw::sefunjaro_share(self.handle.at(), handle.at()) })?;
+        let mut handle = Handle::closed();
+        // SAFETY: the copy serves this call alone, and the two handles are not one.
+        done(unsafe { raw::sefunjaro_share_by(&mut self.handle.copy(), handle.at()) })?;
         Ok(Zone { handle })
     }
 
@@ -129,8 +127,8 @@ impl Zone {
     #[inline]
     pub fn offset_at(&self, second: i64, nanosecond: u32) -> Result<i32, Error> {
         let mut offset = 0;
-        // SAFETY: the handle is used by no other call.
-        done(unsafe { raw::sefunjaro_offset_at(self.handle.at(), second, nanosecond, &mut offset) })?;
+        // SAFETY: the copy serves this call alone.
+        done(unsafe { raw::sefunjaro_offset_at_by(&mut self.handle.copy(), second, nanosecond, &mut offset) })?;
         Ok(offset)
     }
 
@@ -150,9 +148,9 @@ impl Zone {
         let mut name = vec![0; 16];
         loop {
             let mut found = RawInForce::default();
-            // SAFETY: the room is as long as is said, and never null.
+            // SAFETY: the copy serves this call alone, and the room is as long as is said.
             done(unsafe {
-                raw::sefunjaro_in_force(self.handle.at(), second, nanosecond, &mut found, name.as_mut_ptr(), name.len())
+                raw::sefunjaro_in_force_by(&mut self.handle.copy(), second, nanosecond, &mut found, name.as_mut_ptr(), name.len())
             })?;
             let is_whole = found.name_length <= name.len();
             name.resize(found.name_length, 0);
@@ -171,8 +169,8 @@ impl Zone {
     #[inline]
     pub fn clock_at(&self, second: i64, nanosecond: u32) -> Result<(Clock, i32), Error> {
         let (mut clock, mut offset) = (Clock::default(), 0);
-        // SAFETY: the handle is used by no other call.
-        done(unsafe { raw::sefunjaro_clock_at(self.handle.at(), second, nanosecond, &mut clock, &mut offset) })?;
+        // SAFETY: the copy serves this call alone.
+        done(unsafe { raw::sefunjaro_clock_at_by(&mut self.handle.copy(), second, nanosecond, &mut clock, &mut offset) })?;
         Ok((clock, offset))
     }
 
@@ -190,9 +188,9 @@ impl Zone {
     pub fn text_at(&self, second: i64, nanosecond: u32) -> Result<String, Error> {
         let mut text = vec![0; 40];
         let mut whole = 0;
-        // SAFETY: the room is as long as is said, and never null.
+        // SAFETY: the copy serves this call alone, and the room is as long as is said.
         done(unsafe {
-            raw::sefunjaro_text_at(self.handle.at(), second, nanosecond, text.as_mut_ptr(), text.len(), &mut whole)
+            raw::sefunjaro_text_at_by(&mut self.handle.copy(), second, nanosecond, text.as_mut_ptr(), text.len(), &mut whole)
         })?;
         text.truncate(whole);
         String::from_utf8(text).map_err(|_| Error::Unexpected { status: 0, cause: 0 })
@@ -240,9 +238,9 @@ impl Zone {
 
     fn fill(&self, local: &Clock, room: &mut [RawReading]) -> Result<(usize, Gap), Error> {
         let (mut count, mut gap) = (0, Gap::default());
-        // SAFETY: the room is as long as is said, and nothing overlaps.
+        // SAFETY: the copy serves this call alone, the room is as long as is said, and nothing overlaps.
         done(unsafe {
-            raw::sefunjaro_readings(self.handle.at(), local, room.as_mut_ptr(), room.len(), &mut count, &mut gap)
+            raw::sefunjaro_readings_by(&mut self.handle.copy(), local, room.as_mut_ptr(), room.len(), &mut count, &mut gap)
         })?;
         Ok((count, gap))
     }

@@ -110,8 +110,8 @@ fn files_and_strings() {
 fn changes() {
     let zone = zone("Here/Middle");
     assert_eq!((zone.saving_at(SPRING - 1, 999_999_999), zone.saving_at(SPRING, 0)), (Ok(0), Ok(3600)));
-    let spring = Change { second: SPRING, offset: 7200, saving: 3600 };
-    let autumn = Change { second: AUTUMN, offset: 3600, saving: 0 };
+    let spring = Change { second: SPRING, offset: 7200, saving: 3600, name_length: 4, differs: true };
+    let autumn = Change { second: AUTUMN, offset: 3600, saving: 0, name_length: 3, differs: true };
     assert_eq!((zone.next_change(SPRING - 1), zone.next_change(SPRING)), (Some(spring), Some(autumn)));
     assert_eq!(zone.next_change(i64::MAX), None);
     assert_eq!(zone.changes(SPRING, AUTUMN).collect::<Vec<_>>(), [spring]);
@@ -119,6 +119,39 @@ fn changes() {
     assert_eq!(zone.changes(AUTUMN, SPRING).next(), None);
     let seconds: Vec<_> = zone.changes(i64::MIN, i64::MAX).map(|change| change.second).collect();
     assert!(seconds.len() > 200 && seconds.windows(2).all(|two| two[0] < two[1]));
+}
+
+/// In the spring of 1997 a line of Georgia says again what holds, and in 1998 the abbreviation alone is another.
+#[test]
+fn changes_of_nothing() {
+    let text = "\
+Rule E 1981 max - Mar lastSun 0:00 1:00 -
+Rule E 1996 max - Oct lastSun 0:00 0 -
+Zone Asia/Tbilisi 4:00 E +04/+05 1996 Oct lastSun
+ 4:00 1:00 +05 1997 Mar lastSun
+ 4:00 E +04/+05 1998 Jan 1
+ 4:00 - GET
+";
+    let zone = Source::open(text.as_bytes()).unwrap().zone("Asia/Tbilisi").unwrap();
+    let nothing = Change { second: 859662000, offset: 18000, saving: 3600, name_length: 3, differs: false };
+    let autumn = Change { second: 877806000, offset: 14400, saving: 0, name_length: 3, differs: true };
+    let name = Change { second: 883598400, ..autumn };
+    assert_eq!(zone.next_change(849398400), Some(nothing));
+    assert_eq!(zone.changes(849398400, i64::MAX).collect::<Vec<_>>(), [autumn, name]);
+    assert_eq!(zone.every_change(849398400, i64::MAX).collect::<Vec<_>>(), [nothing, autumn, name]);
+}
+
+#[test]
+fn edges() {
+    let source = Source::open(b"Zone Behind -5 - EST\nZone Ahead 1 - CET\n").unwrap();
+    for (name, text) in [("Behind", "9999-12-31 23:30:00.000000007"), ("Ahead", "-9999-01-01 00:30:00.000000007")] {
+        let zone = source.zone(name).unwrap();
+        let instant = zone.instants(&local(text)).unwrap().next().unwrap();
+        assert_eq!(zone.clock_at(instant.second, instant.nanosecond), Ok((local(text), instant.offset)));
+        assert!(zone.text_at(instant.second, instant.nanosecond).unwrap().starts_with(text));
+        assert_eq!(zone.in_force(instant.second, instant.nanosecond).unwrap().offset, instant.offset);
+        assert_eq!(zone.saving_at(instant.second, instant.nanosecond), Ok(0));
+    }
 }
 
 #[test]
@@ -161,12 +194,12 @@ fn faults() {
         (&[b'#'; (1 << 24) + 1], Error::TooLong, "the source is longer than 16,777,216 bytes"),
     ];
     for (text, error, words) in rows {
-        let told: Box<dyn std::error::Error> = Box::new(Source::open(text).unwrap_err());
+        let told: Box<dyn std::error::Error> = Box::new(Source::open_plain(text).unwrap_err());
         assert_eq!(told.to_string(), words);
         assert_eq!(told.downcast_ref(), Some(&error));
     }
     let text = b"Rule R min 1990 - Jan 1 0:00 0 -\nZone Rules 0:00 R A\nZone Open 0:00 - A\n 1:00 - B\nZone Wide 26:00 - X\n";
-    let source = Source::open(text).unwrap();
+    let source = Source::open_plain(text).unwrap();
     for (name, error) in [
         ("None", Error::UnknownZone),
         ("", Error::UnknownZone),
@@ -181,18 +214,18 @@ fn faults() {
 #[test]
 fn any_form() {
     let text = b"R EU 1981 ma - Mar lastSu 1u 1 S\nR EU 1996 ma - O lastSu 1u 0 -\nZ Here 1 EU CE%sT\nL There Here/Too\nL Here There\n";
-    let source = Source::open_any(text).unwrap();
+    let source = Source::open(text).unwrap();
     assert_eq!(source.names().unwrap().collect::<Vec<_>>(), ["Here", "Here/Too", "There"]);
     let zone = source.zone("Here/Too").unwrap();
     assert_eq!((zone.offset_at(SPRING - 1, 0), zone.offset_at(SPRING, 0)), (Ok(3600), Ok(7200)));
-    assert_eq!(Source::open(text).err(), Some(Error::BadLine { line: 1, cause: LineCause::InvalidLineType }));
+    assert_eq!(Source::open_plain(text).err(), Some(Error::BadLine { line: 1, cause: LineCause::InvalidLineType }));
     let rows: [(&[u8], Error, &str); 3] = [
         (b"\nRule R 2000 max - Foo 1 2:00 0 S\n", Error::NoPlainForm { line: 2, cause: PlainCause::Month }, "line 2: no plain form, Month"),
         (b"Link A B\n", Error::NoPlainForm { line: 1, cause: PlainCause::Target }, "line 1: no plain form, Target"),
         (&[b'#'; (1 << 24) + 1], Error::TooLong, "the source is longer than 16,777,216 bytes"),
     ];
     for (text, error, words) in rows {
-        let told = Source::open_any(text).unwrap_err();
+        let told = Source::open(text).unwrap_err();
         assert_eq!((told, told.to_string().as_str()), (error, words));
     }
 }
@@ -200,7 +233,10 @@ fn any_form() {
 #[test]
 fn whole() {
     let zone = zone("Here/Middle");
-    assert_eq!(zone.posix_tail().unwrap(), "CET-1CEST,M3.5.0,M10.5.0/3");
+    let tail = zone.posix_tail().unwrap();
+    assert_eq!((tail.text.as_str(), tail.is_posix), ("CET-1CEST,M3.5.0,M10.5.0/3", true));
+    let letters = Source::open(b"Zone Letters 2 - CD\n").unwrap().zone("Letters").unwrap().posix_tail().unwrap();
+    assert_eq!((letters.text.as_str(), letters.is_posix), ("<CD>-2", false));
     let file = zone.to_tzif().unwrap();
     assert!(file.starts_with(b"TZif2") && file.ends_with(b"\nCET-1CEST,M3.5.0,M10.5.0/3\n"));
     let text = format!("Zone Shape 1:00 - A 2099 Jun 1\n 2:00 - B\nZone Wide 25:30 - X\nZone Name 1:00 - A<B\nZone Long 1:00 - {}\n", "A".repeat(256));
@@ -215,17 +251,22 @@ fn whole() {
 
 #[test]
 fn threads() {
+    let source = Source::open(SOURCE.as_bytes()).unwrap();
     let zone = zone("Here/Middle");
-    let asked: Vec<_> = (0..8)
-        .map(|_| {
-            let zone = zone.share().unwrap();
-            thread::spawn(move || (SPRING - 5000..SPRING + 5000).filter(|&second| zone.offset_at(second, 0) == Ok(7200)).count())
-        })
-        .collect();
+    let asked = |zone: &Zone| (SPRING - 5000..SPRING + 5000).filter(|&second| zone.offset_at(second, 0) == Ok(7200)).count();
+    thread::scope(|scope| {
+        for turn in 0..8 {
+            let (source, zone) = (&source, &zone);
+            scope.spawn(move || {
+                assert_eq!(asked(zone), 5000);
+                let own = if turn % 2 == 0 { zone.share() } else { source.zone("There/Middle") };
+                assert_eq!((asked(&own.unwrap()), source.names().unwrap().count()), (5000, 5));
+            });
+        }
+    });
+    let own = zone.share().unwrap();
     drop(zone);
-    for thread in asked {
-        assert_eq!(thread.join().unwrap(), 5000);
-    }
+    assert_eq!(thread::spawn(move || asked(&own)).join().unwrap(), 5000);
 }
 
 /// The kilobytes that the process holds, of Linux.

@@ -6,7 +6,7 @@ use Rattle.sefunjaro_handles.specs.Held.{OfZone, OnZone}
 use Rattle.sefunjaro_handles.specs.declared.opened.Opened.{Opened}
 use Rattle.sefunjaro_c.specs.Answers.{Where, Within}
 
--- what holds of the value that was taken out of a handle holds of what the handle held
+-- what holds of the value that is read holds of what the handle holds
 pub handed : {B : Type 0} (b : B) (value : B → Opened) (held : Option Opened) (now : Opened) (status : ℕ) (kept : Type 0) (P : AnyZone → Type 0)
     → MatchOption held (Some b ≡ None) (λ opened. IsSomeAnd (Some b) (λ taken. value taken ≡ opened)) → now ≡ value b
     → OfZone now status kept P → OnZone held status kept P

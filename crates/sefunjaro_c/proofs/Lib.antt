@@ -3,6 +3,8 @@ mod AskedLemmas
 mod FaultLemmas
 mod ShownLemmas
 mod TextLemmas
+mod TimeLemmas
 pub mod WorkedPlain
 pub mod WorkedStatuses
+pub mod WorkedTimes
 pub mod WorkedWhole

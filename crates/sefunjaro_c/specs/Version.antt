@@ -4,7 +4,7 @@ use Rattle.zone_spans.specs.Years.{earliest_year, latest_year}
 use Rattle.sefunjaro_c.specs.declared.version.Years.{Years}
 
 abbrev pub version : List ℕ
-version = codes "1.2.0"
+version = codes "2.0.0"
 
 -- the first and the last year in which the rules of a line without an end fire
 abbrev pub rule_years : Years

@@ -1,5 +1,5 @@
 -- The string that carries a zone on, and the zone's file; and why there is none, in numbers.
-use Rattle.std.specs.Prelude.{◌≡◌, ◌⊎◌, ℕ, ℤ, List, length, Option, None, option_map}
+use Rattle.std.specs.Prelude.{◌≡◌, ◌⊎◌, ℕ, ℤ, Bool, List, length, Option, None, option_map}
 use Rattle.zone_tail_core.specs.Carried.{CarriesOn}
 use Rattle.zone_tail_core.specs.Found.{found_from}
 use Rattle.zone_tail_core.specs.Tails.{tail_fault, IsTail}
@@ -13,6 +13,7 @@ use Rattle.zone_tzif_core.specs.declared.values.WriteFault.TheVariants as write
 use Rattle.zone_tzif_set.specs.Files.{file_fault, file_of_set, footer_of}
 use Rattle.zone_tzif_set.specs.declared.file.FileFault.{FileFault}
 use Rattle.zone_tzif_set.specs.declared.file.FileFault.TheVariants as file
+use Rattle.zone_open.specs.PosixNames.{has_posix_names}
 use Rattle.zone_open.specs.Rooms.{filled}
 use Rattle.zone_open.specs.Zones.{set_in, total_in}
 use Rattle.zone_open.specs.declared.zone.OpenZone.{OpenZone}
@@ -43,19 +44,21 @@ tail_told tail.NoMemory = plain out_of_memory
 abbrev pub tail_due : OpenZone → Option Fault
 tail_due zone = option_map tail_told (tail_fault (set_in zone))
 
--- the string that carries the zone on stands in the room, as far as it fits, and its length is told
-pub record IsTailIn (zone : OpenZone) (old new : List ℕ) (whole : ℕ) : Type 0 where
+-- the string that carries the zone on stands in the room, as far as it fits, and its length is told, and whether POSIX has a place for
+-- the names of the value that it spells
+pub record IsTailIn (zone : OpenZone) (old new : List ℕ) (whole : ℕ) (is_posix : Bool) : Type 0 where
   pub from : Option ℤ
   pub text : List ℕ
   pub tail : IsTail (set_in zone) from text
   pub carries : CarriesOn (set_in zone) from text
   pub room : new ≡ filled text old
   pub length : whole ≡ length text
+  pub named : is_posix ≡ has_posix_names carries.value
 
 -- it is told, or why there is none
-abbrev pub IsTailTold : OpenZone → List ℕ → List ℕ → ℕ → Fault → Type 0
-IsTailTold zone old new whole fault =
-    ((fault ≡ plain done) × IsTailIn zone old new whole) ⊎ (IsRefused (tail_due zone) fault × (new ≡ old))
+abbrev pub IsTailTold : OpenZone → List ℕ → List ℕ → ℕ → Bool → Fault → Type 0
+IsTailTold zone old new whole is_posix fault =
+    ((fault ≡ plain done) × IsTailIn zone old new whole is_posix) ⊎ (IsRefused (tail_due zone) fault × (new ≡ old))
 
 -- ---- the file
 

@@ -17,7 +17,7 @@ const TOO_LONG_FORM: u32 = 21;
 
 /// Opens a source from its text in any form that `zic` reads. What the handle held before is closed.
 #[unsafe(no_mangle)]
-pub extern "C" fn sefunjaro_source_open_any(
+pub extern "C" fn sefunjaro_source_open(
     alloc: Global,
     text: &[u8],
     source: &mut Handle,
@@ -47,7 +47,7 @@ fn open_any(alloc: Global, text: &[u8]) -> Result<Box<Opened>, Fault>
     ensures ok { IfOk result (λ opened. IsSource (IsAnySourceOf text.now) opened.value) }
     ensures err { IfErr result (IsRefused (any_due text.now)) }
 {
-    match OpenSource::open_any(alloc, text) {
+    match OpenSource::open(alloc, text) {
         Ok(source) => match Opened::source(alloc, source) {
             Ok(opened) => Ok(opened),
             Err(_) => Err(plain_fault(NO_MEMORY)),

@@ -1,5 +1,5 @@
 //! The saving and the changes of a zone, and the ring of a daily alarm.
-ghost use Rattle.std.specs.Prelude.{◌≡◌};
+ghost use Rattle.std.specs.Prelude.{◌≡◌, IfSome};
 ghost use Rattle.sefunjaro_c.specs.Answers.{Where};
 ghost use Rattle.sefunjaro_c.specs.Changes.{AreChanges, IsFound, IsRing};
 ghost use Rattle.sefunjaro_c.specs.Times.{is_instant};
@@ -10,30 +10,29 @@ ghost use Rattle.zone_open.specs.Zones.{set_in};
 
 use crate::status::{DONE, NONE_THERE, NOT_KEPT, NOT_OPEN, OUT_OF_RANGE};
 use crate::times::instant_of;
-use sefunjaro_handles::{Handle, Opened};
-use std::alloc::Global;
+use sefunjaro_handles::{Opened, View};
 use zone_open::{AnyZone, Change, Clock, Reading};
 
 /// The saving that is in force at an instant, in seconds. A change lies on a whole second, so the nanosecond only has to be one.
 #[unsafe(no_mangle)]
-pub extern "C" fn sefunjaro_saving_at(
-    alloc: Global,
-    zone: &mut Handle,
+pub extern "C" fn sefunjaro_saving_at_by(
+    zone: &mut View,
     second: i64,
     nanosecond: u32,
     saving: &mut i64,
 ) -> u32
-    ensures same { zone.new.held.opened ≡ zone.old.held.opened }
-    ensures answer { OnZone zone.old.held.opened result (saving.new ≡ saving.old)
+    ensures same { zone.new.part.opened ≡ zone.old.part.opened }
+    ensures loan { IfSome zone.old.part.opened (λ _. zone.new.part.loan ≡ zone.old.part.loan) }
+    ensures answer { OnZone zone.old.part.opened result (saving.new ≡ saving.old)
         (λ held. OfKept held result (saving.new ≡ saving.old)
         (λ zone. Where (is_instant second nanosecond) result (saving.new ≡ saving.old) (saving.new ≡ saving_at (set_in zone) second))) }
     ensures kept { IfRefused result (saving.new ≡ saving.old) }
 {
-    let Some(opened) = zone.take(alloc) else {
+    let Some(reading) = zone.take() else {
         return NOT_OPEN;
     };
-    let status = saving_at(&opened, second, nanosecond, saving);
-    zone.put(alloc, opened);
+    let status = saving_at(reading.get(), second, nanosecond, saving);
+    zone.put(reading);
     status
 }
 
@@ -60,22 +59,18 @@ fn saving_at(opened: &Opened, second: i64, nanosecond: u32, saving: &mut i64) ->
 
 /// The first change after a second, if there is one.
 #[unsafe(no_mangle)]
-pub extern "C" fn sefunjaro_next_change(
-    alloc: Global,
-    zone: &mut Handle,
-    second: i64,
-    change: &mut Change,
-) -> u32
-    ensures same { zone.new.held.opened ≡ zone.old.held.opened }
-    ensures answer { OnZone zone.old.held.opened result (change.new ≡ change.old)
+pub extern "C" fn sefunjaro_next_change_by(zone: &mut View, second: i64, change: &mut Change) -> u32
+    ensures same { zone.new.part.opened ≡ zone.old.part.opened }
+    ensures loan { IfSome zone.old.part.opened (λ _. zone.new.part.loan ≡ zone.old.part.loan) }
+    ensures answer { OnZone zone.old.part.opened result (change.new ≡ change.old)
         (λ held. OfKept held result (change.new ≡ change.old) (λ zone. IsFound (next_after (set_in zone) second) result change.old change.new)) }
     ensures kept { IfRefused result (change.new ≡ change.old) }
 {
-    let Some(opened) = zone.take(alloc) else {
+    let Some(reading) = zone.take() else {
         return NOT_OPEN;
     };
-    let status = next_change(&opened, second, change);
-    zone.put(alloc, opened);
+    let status = next_change(reading.get(), second, change);
+    zone.put(reading);
     status
 }
 
@@ -101,24 +96,24 @@ fn next_change(opened: &Opened, second: i64, change: &mut Change) -> u32
 
 /// The changes from a second on and before another, by time, as far as they fit, and how many there are.
 #[unsafe(no_mangle)]
-pub extern "C" fn sefunjaro_changes(
-    alloc: Global,
-    zone: &mut Handle,
+pub extern "C" fn sefunjaro_changes_by(
+    zone: &mut View,
     from: i64,
     to: i64,
     changes: &mut [Change],
     count: &mut usize,
 ) -> u32
-    ensures same { zone.new.held.opened ≡ zone.old.held.opened }
-    ensures answer { OnZone zone.old.held.opened result (changes.new ≡ changes.old)
+    ensures same { zone.new.part.opened ≡ zone.old.part.opened }
+    ensures loan { IfSome zone.old.part.opened (λ _. zone.new.part.loan ≡ zone.old.part.loan) }
+    ensures answer { OnZone zone.old.part.opened result (changes.new ≡ changes.old)
         (λ held. OfKept held result (changes.new ≡ changes.old) (λ zone. AreChanges zone from to result changes.old changes.new count.new)) }
     ensures kept { IfRefused result ((changes.new ≡ changes.old) × (count.new ≡ count.old)) }
 {
-    let Some(opened) = zone.take(alloc) else {
+    let Some(reading) = zone.take() else {
         return NOT_OPEN;
     };
-    let status = all_changes(&opened, from, to, changes, count);
-    zone.put(alloc, opened);
+    let status = all_changes(reading.get(), from, to, changes, count);
+    zone.put(reading);
     status
 }
 
@@ -146,22 +141,18 @@ fn all_changes(
 /// The ring of a daily alarm on the day and at the time of day of a local time: the first instant at which clocks show it, if
 /// they do.
 #[unsafe(no_mangle)]
-pub extern "C" fn sefunjaro_ring(
-    alloc: Global,
-    zone: &mut Handle,
-    local: &Clock,
-    ring: &mut Reading,
-) -> u32
-    ensures same { zone.new.held.opened ≡ zone.old.held.opened }
-    ensures answer { OnZone zone.old.held.opened result (ring.new ≡ ring.old)
+pub extern "C" fn sefunjaro_ring_by(zone: &mut View, local: &Clock, ring: &mut Reading) -> u32
+    ensures same { zone.new.part.opened ≡ zone.old.part.opened }
+    ensures loan { IfSome zone.old.part.opened (λ _. zone.new.part.loan ≡ zone.old.part.loan) }
+    ensures answer { OnZone zone.old.part.opened result (ring.new ≡ ring.old)
         (λ held. IsRing held local.now result ring.old ring.new) }
     ensures kept { IfRefused result (ring.new ≡ ring.old) }
 {
-    let Some(opened) = zone.take(alloc) else {
+    let Some(reading) = zone.take() else {
         return NOT_OPEN;
     };
-    let status = ring_of(&opened, local, ring);
-    zone.put(alloc, opened);
+    let status = ring_of(reading.get(), local, ring);
+    zone.put(reading);
     status
 }
 

@@ -12,14 +12,14 @@ ghost use Rattle.zone_open.specs.Sources.{table_in};
 
 use crate::fault::{Fault, opening_fault, plain_fault, zone_fault};
 use crate::status::{DONE, NO_MEMORY, NONE_THERE, NOT_OPEN, NOT_TEXT};
-use sefunjaro_handles::{Handle, Opened};
+use sefunjaro_handles::{Handle, Opened, View};
 use std::alloc::Global;
 use zone_open::{AnyZone, OpenSource, fill};
 use zone_source::text_of;
 
-/// Opens a source from its text in plain form. What the handle held before is closed.
+/// Opens a source from its text in plain form, and in no other. What the handle held before is closed.
 #[unsafe(no_mangle)]
-pub extern "C" fn sefunjaro_source_open(
+pub extern "C" fn sefunjaro_source_open_plain(
     alloc: Global,
     text: &[u8],
     source: &mut Handle,
@@ -49,7 +49,7 @@ fn open_source(alloc: Global, text: &[u8]) -> Result<Box<Opened>, Fault>
     ensures ok { IfOk result (λ opened. IsSource (IsSourceOf text.now) opened.value) }
     ensures err { IfErr result (IsRefused (source_due text.now)) }
 {
-    match OpenSource::open(alloc, text) {
+    match OpenSource::open_plain(alloc, text) {
         Ok(source) => match Opened::source(alloc, source) {
             Ok(opened) => Ok(opened),
             Err(_) => Err(plain_fault(NO_MEMORY)),
@@ -68,27 +68,28 @@ pub extern "C" fn sefunjaro_close(alloc: Global, handle: &mut Handle)
 
 /// Opens the zone of a name in a source. What the zone's handle held before is closed. The zone needs its source no more.
 #[unsafe(no_mangle)]
-pub extern "C" fn sefunjaro_zone_open(
+pub extern "C" fn sefunjaro_zone_open_by(
     alloc: Global,
-    source: &mut Handle,
+    source: &mut View,
     name: &[u8],
     zone: &mut Handle,
     fault: &mut Fault,
 ) -> u32
-    ensures same { source.new.held.opened ≡ source.old.held.opened }
+    ensures same { source.new.part.opened ≡ source.old.part.opened }
+    ensures loan { IfSome source.old.part.opened (λ _. source.new.part.loan ≡ source.old.part.loan) }
     ensures status { result ≡ fault.new.status }
     ensures opened { is_some zone.new.held.opened ≡ nat_eq result 0 }
     ensures done { IfSome zone.new.held.opened (λ _. fault.new ≡ plain done) }
-    ensures answer { OnSource source.old.held.opened result ((zone.new.held.opened ≡ None) × (fault.new ≡ plain not_open))
+    ensures answer { OnSource source.old.part.opened result ((zone.new.held.opened ≡ None) × (fault.new ≡ plain not_open))
         (λ from. MatchOption zone.new.held.opened (IsRefused (zone_due (table_in from) name.now) fault.new) (IsZone (IsOfSource (IsZoneOf (table_in from) name.now)))) }
 {
     drop(zone.take(alloc));
-    let Some(from) = source.take(alloc) else {
+    let Some(reading) = source.take() else {
         *fault = plain_fault(NOT_OPEN);
         return NOT_OPEN;
     };
-    let made = open_zone(alloc, &from, name);
-    source.put(alloc, from);
+    let made = open_zone(alloc, reading.get(), name);
+    source.put(reading);
     match made {
         Ok(opened) => {
             zone.put(alloc, opened);
@@ -133,17 +134,18 @@ fn zone_of(alloc: Global, source: &OpenSource, name: &[u8]) -> Result<Box<Opened
 
 /// How many names of a source find a zone: those of its zones, and of the links to them.
 #[unsafe(no_mangle)]
-pub extern "C" fn sefunjaro_name_count(alloc: Global, source: &mut Handle, count: &mut usize) -> u32
-    ensures same { source.new.held.opened ≡ source.old.held.opened }
-    ensures answer { OnSource source.old.held.opened result (count.new ≡ count.old)
+pub extern "C" fn sefunjaro_name_count_by(source: &mut View, count: &mut usize) -> u32
+    ensures same { source.new.part.opened ≡ source.old.part.opened }
+    ensures loan { IfSome source.old.part.opened (λ _. source.new.part.loan ≡ source.old.part.loan) }
+    ensures answer { OnSource source.old.part.opened result (count.new ≡ count.old)
         (λ from. (result ≡ 0) × (count.new ≡ length (names_of (table_in from)))) }
     ensures kept { IfRefused result (count.new ≡ count.old) }
 {
-    let Some(from) = source.take(alloc) else {
+    let Some(reading) = source.take() else {
         return NOT_OPEN;
     };
-    let status = name_count(&from, count);
-    source.put(alloc, from);
+    let status = name_count(reading.get(), count);
+    source.put(reading);
     status
 }
 
@@ -161,23 +163,23 @@ fn name_count(from: &Opened, count: &mut usize) -> u32
 /// The name at a place of the byte order, which counts from 0. It goes into the room, as far as it fits, and its whole length
 /// is told.
 #[unsafe(no_mangle)]
-pub extern "C" fn sefunjaro_name(
-    alloc: Global,
-    source: &mut Handle,
+pub extern "C" fn sefunjaro_name_by(
+    source: &mut View,
     place: usize,
     name: &mut [u8],
     whole: &mut usize,
 ) -> u32
-    ensures same { source.new.held.opened ≡ source.old.held.opened }
-    ensures answer { OnSource source.old.held.opened result (name.new ≡ name.old)
+    ensures same { source.new.part.opened ≡ source.old.part.opened }
+    ensures loan { IfSome source.old.part.opened (λ _. source.new.part.loan ≡ source.old.part.loan) }
+    ensures answer { OnSource source.old.part.opened result (name.new ≡ name.old)
         (λ from. IsNameAt (slice_get (names_of (table_in from)) place) result name.old name.new whole.new) }
     ensures kept { IfRefused result ((name.new ≡ name.old) × (whole.new ≡ whole.old)) }
 {
-    let Some(from) = source.take(alloc) else {
+    let Some(reading) = source.take() else {
         return NOT_OPEN;
     };
-    let status = name_at(&from, place, name, whole);
-    source.put(alloc, from);
+    let status = name_at(reading.get(), place, name, whole);
+    source.put(reading);
     status
 }
 

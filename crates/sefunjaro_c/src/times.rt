@@ -1,14 +1,19 @@
 //! Instants and texts.
-ghost use Rattle.std.specs.Prelude.{◌≡◌, ◌<◌, IfNone, IfSome, MatchOption, true, false};
-ghost use Rattle.civil_base.specs.DateTimes.{instant, offset_of};
+ghost use Rattle.std.specs.Prelude.{◌≡◌, ◌<◌, IfNone, IfSome, MatchOption, is_some, true, false, unsigned_abs};
+ghost use Rattle.civil_base.specs.DateTimes.{instant, local_of, offset_of};
+ghost use Rattle.civil_base.specs.Instants.{instant_at, local_at};
+ghost use Rattle.civil_base.specs.Ranges.{is_in_years, IsOffset};
 ghost use Rattle.sefunjaro_c.specs.Read.{local_in, IsInstantOf, IsLocalRead, IsNoZonedText, IsZonedRead};
-ghost use Rattle.sefunjaro_c.specs.Times.{is_instant, nanos_at};
+ghost use Rattle.sefunjaro_c.specs.Times.{is_instant, is_near, nanos_at};
 ghost use Rattle.sefunjaro_handles.specs.Statuses.{IfRefused};
 
 use crate::status::{DONE, NOT_READ};
-use civil_base::{OffsetDateTime, PlainDateTime, read_local, read_zoned};
+use civil_base::{OffsetDateTime, PlainDateTime, UtcOffset, read_local, read_zoned};
 use zone_open::Clock;
 use zone_source::text_of;
+
+/// The greatest offset, in seconds.
+const GREATEST: i32 = 93_599;
 
 /// An instant, and an offset from UTC.
 #[derive(Clone, Copy, Debug, PartialEq, Eq)]
@@ -22,7 +27,8 @@ pub struct Instant {
     pub offset: i32,
 }
 
-/// The instant so many seconds and nanoseconds from 1970-01-01 00:00:00 UTC, if there is one.
+/// The instant so many seconds and nanoseconds from 1970-01-01 00:00:00 UTC, if it lies at most 93,599 seconds outside the years
+/// -9999 to 9999.
 pub(crate) fn instant_of(second: i64, nanosecond: u32) -> Option<OffsetDateTime>
     ensures some { IfSome result (λ at. (is_instant second nanosecond ≡ true) × (instant at ≡ nanos_at second nanosecond)) }
     ensures none { IfNone result (is_instant second nanosecond ≡ false) }
@@ -30,8 +36,55 @@ pub(crate) fn instant_of(second: i64, nanosecond: u32) -> Option<OffsetDateTime>
     if nanosecond >= 1_000_000_000 {
         return None;
     }
-    let nanos = i128::from(second) * 1_000_000_000 + i128::from(nanosecond);
-    OffsetDateTime::from_unix_timestamp_nanos(nanos).ok()
+    near_instant(i128::from(second) * 1_000_000_000 + i128::from(nanosecond))
+}
+
+/// The same of so many nanoseconds.
+fn near_instant(nanos: i128) -> Option<OffsetDateTime>
+    requires { unsigned_abs nanos < 10000000000000000000000000000 }
+    ensures has { is_some result ≡ is_near nanos }
+    ensures instant { IfSome result (λ at. instant at ≡ nanos) }
+{
+    match OffsetDateTime::from_unix_timestamp_nanos(nanos) {
+        Ok(at) => Some(at),
+        Err(_) => far_instant(nanos),
+    }
+}
+
+/// The same by the clocks that show the latest date where the instant lies before 1970, and else by those that show the earliest.
+fn far_instant(nanos: i128) -> Option<OffsetDateTime>
+    requires { unsigned_abs nanos < 10000000000000000000000000000 }
+    ensures has { is_some result ≡ is_near nanos }
+    ensures instant { IfSome result (λ at. instant at ≡ nanos) }
+{
+    if nanos < 0 {
+        shown_at(nanos, GREATEST)
+    } else {
+        shown_at(nanos, -GREATEST)
+    }
+}
+
+/// An instant at an offset, if its date lies in the years -9999 to 9999 there.
+fn shown_at(nanos: i128, seconds: i32) -> Option<OffsetDateTime>
+    requires near { unsigned_abs nanos < 10000000000000000000000000000 }
+    requires offset { IsOffset seconds }
+    ensures has { is_some result ≡ is_in_years (local_at nanos seconds) }
+    ensures instant { IfSome result (λ at. instant at ≡ nanos) }
+{
+    let Ok(offset) = UtcOffset::from_whole_seconds(seconds) else {
+        unreachable!();
+    };
+    match OffsetDateTime::from_unix_timestamp_nanos(nanos + 1_000_000_000 * i128::from(seconds)) {
+        Ok(shown) => Some(moved_to(&shown, offset)),
+        Err(_) => None,
+    }
+}
+
+/// The instant at which clocks at an offset show what others show.
+fn moved_to(shown: &OffsetDateTime, offset: UtcOffset) -> OffsetDateTime
+    ensures { instant result ≡ instant_at (local_of shown.now) offset }
+{
+    PlainDateTime::new(shown.date(), shown.time()).assume_offset(offset)
 }
 
 /// The local time that a text `YYYY-MM-DD hh:mm:ss.nnnnnnnnn` names, by its parts. A year below 0 has a `-` before it.

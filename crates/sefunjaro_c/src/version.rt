@@ -23,7 +23,7 @@ pub extern "C" fn sefunjaro_version(text: &mut [u8], whole: &mut usize, years: &
     ensures length { whole.new ≡ length version }
     ensures years { years.new ≡ rule_years }
 {
-    *whole = fill(b"1.2.0", text);
+    *whole = fill(b"2.0.0", text);
     *years = Years {
         first: i32::from(EARLIEST_YEAR),
         last: i32::from(EARLIEST_YEAR + MOST_YEARS - 1),

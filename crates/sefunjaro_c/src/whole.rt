@@ -1,5 +1,5 @@
 //! A zone as a whole: the string that carries it on, and its file.
-ghost use Rattle.std.specs.Prelude.{◌≡◌};
+ghost use Rattle.std.specs.Prelude.{◌≡◌, IfSome};
 ghost use Rattle.sefunjaro_c.specs.Faults.{plain};
 ghost use Rattle.sefunjaro_c.specs.Whole.{tzif_told, none_for, tail_told, IsFileTold, IsTailTold};
 ghost use Rattle.sefunjaro_handles.specs.Held.{OfKept, OfZone, OnZone};
@@ -7,58 +7,74 @@ ghost use Rattle.sefunjaro_handles.specs.Statuses.{not_kept, not_open, IfRefused
 
 use crate::fault::{Fault, plain_fault};
 use crate::status::{DONE, NO_MEMORY, NONE_THERE, NOT_KEPT, NOT_OPEN};
-use sefunjaro_handles::{Handle, Opened};
+use sefunjaro_handles::{Opened, View};
 use std::alloc::Global;
-use zone_open::{AnyZone, OpenZone, fill};
+use zone_open::{AnyZone, OpenZone, fill, has_posix_names};
 use zone_tail_core::TailFault;
 use zone_tzif_set::FileFault;
 
-/// The POSIX TZ string that carries a zone on. It goes into the room, as far as it fits, and its whole length is told.
+/// The POSIX TZ string that carries a zone on. It goes into the room, as far as it fits, and its whole length is told, with whether
+/// POSIX has a place for the names in it.
 #[unsafe(no_mangle)]
-pub extern "C" fn sefunjaro_tail(
+pub extern "C" fn sefunjaro_tail_by(
     alloc: Global,
-    zone: &mut Handle,
+    zone: &mut View,
     text: &mut [u8],
     whole: &mut usize,
+    is_posix: &mut bool,
     fault: &mut Fault,
 ) -> u32
-    ensures same { zone.new.held.opened ≡ zone.old.held.opened }
+    ensures same { zone.new.part.opened ≡ zone.old.part.opened }
+    ensures loan { IfSome zone.old.part.opened (λ _. zone.new.part.loan ≡ zone.old.part.loan) }
     ensures status { result ≡ fault.new.status }
-    ensures answer { OnZone zone.old.held.opened result ((text.new ≡ text.old) × (fault.new ≡ plain not_open))
-        (λ held. OfKept held result ((text.new ≡ text.old) × (fault.new ≡ plain not_kept)) (λ zone. IsTailTold zone text.old text.new whole.new fault.new)) }
-    ensures kept { IfRefused result ((text.new ≡ text.old) × (whole.new ≡ whole.old)) }
+    ensures answer { OnZone zone.old.part.opened result ((text.new ≡ text.old) × (fault.new ≡ plain not_open))
+        (λ held. OfKept held result ((text.new ≡ text.old) × (fault.new ≡ plain not_kept)) (λ zone. IsTailTold zone text.old text.new whole.new is_posix.new fault.new)) }
+    ensures kept { IfRefused result ((text.new ≡ text.old) × ((whole.new ≡ whole.old) × (is_posix.new ≡ is_posix.old))) }
 {
-    let Some(opened) = zone.take(alloc) else {
+    let Some(reading) = zone.take() else {
         *fault = plain_fault(NOT_OPEN);
         return NOT_OPEN;
     };
-    let told = tail_in(alloc, &opened, text, whole);
-    zone.put(alloc, opened);
+    let told = tail_in(alloc, reading.get(), text, whole, is_posix);
+    zone.put(reading);
     *fault = told;
     told.status
 }
 
-fn tail_in(alloc: Global, opened: &Opened, text: &mut [u8], whole: &mut usize) -> Fault
+fn tail_in(
+    alloc: Global,
+    opened: &Opened,
+    text: &mut [u8],
+    whole: &mut usize,
+    is_posix: &mut bool,
+) -> Fault
     ensures answer { OfZone opened.now result.status ((text.new ≡ text.old) × (result ≡ plain not_open))
-        (λ held. OfKept held result.status ((text.new ≡ text.old) × (result ≡ plain not_kept)) (λ zone. IsTailTold zone text.old text.new whole.new result)) }
-    ensures kept { IfRefused result.status ((text.new ≡ text.old) × (whole.new ≡ whole.old)) }
+        (λ held. OfKept held result.status ((text.new ≡ text.old) × (result ≡ plain not_kept)) (λ zone. IsTailTold zone text.old text.new whole.new is_posix.new result)) }
+    ensures kept { IfRefused result.status ((text.new ≡ text.old) × ((whole.new ≡ whole.old) × (is_posix.new ≡ is_posix.old))) }
 {
     let Opened::Zone(zone) = opened else {
         return plain_fault(NOT_OPEN);
     };
     match &**zone {
-        AnyZone::Source(zone) => tail_of(alloc, zone, text, whole),
+        AnyZone::Source(zone) => tail_of(alloc, zone, text, whole, is_posix),
         AnyZone::File(_) => plain_fault(NOT_KEPT),
     }
 }
 
-fn tail_of(alloc: Global, zone: &OpenZone, text: &mut [u8], whole: &mut usize) -> Fault
-    ensures answer { IsTailTold zone.now text.old text.new whole.new result }
-    ensures kept { IfRefused result.status ((text.new ≡ text.old) × (whole.new ≡ whole.old)) }
+fn tail_of(
+    alloc: Global,
+    zone: &OpenZone,
+    text: &mut [u8],
+    whole: &mut usize,
+    is_posix: &mut bool,
+) -> Fault
+    ensures answer { IsTailTold zone.now text.old text.new whole.new is_posix.new result }
+    ensures kept { IfRefused result.status ((text.new ≡ text.old) × ((whole.new ≡ whole.old) × (is_posix.new ≡ is_posix.old))) }
 {
     match zone.tail(alloc) {
         Ok(tail) => {
             *whole = fill(tail.text.as_bytes(), text);
+            *is_posix = has_posix_names(tail.text.as_str());
             plain_fault(DONE)
         }
         Err(fault) => tail_fault(fault),
@@ -79,25 +95,26 @@ fn tail_fault(fault: TailFault) -> Fault
 
 /// A zone's TZif file. It goes into the room, as far as it fits, and its whole length is told.
 #[unsafe(no_mangle)]
-pub extern "C" fn sefunjaro_tzif(
+pub extern "C" fn sefunjaro_tzif_by(
     alloc: Global,
-    zone: &mut Handle,
+    zone: &mut View,
     file: &mut [u8],
     whole: &mut usize,
     fault: &mut Fault,
 ) -> u32
-    ensures same { zone.new.held.opened ≡ zone.old.held.opened }
+    ensures same { zone.new.part.opened ≡ zone.old.part.opened }
+    ensures loan { IfSome zone.old.part.opened (λ _. zone.new.part.loan ≡ zone.old.part.loan) }
     ensures status { result ≡ fault.new.status }
-    ensures answer { OnZone zone.old.held.opened result ((file.new ≡ file.old) × (fault.new ≡ plain not_open))
+    ensures answer { OnZone zone.old.part.opened result ((file.new ≡ file.old) × (fault.new ≡ plain not_open))
         (λ held. OfKept held result ((file.new ≡ file.old) × (fault.new ≡ plain not_kept)) (λ zone. IsFileTold zone file.old file.new whole.new fault.new)) }
     ensures kept { IfRefused result ((file.new ≡ file.old) × (whole.new ≡ whole.old)) }
 {
-    let Some(opened) = zone.take(alloc) else {
+    let Some(reading) = zone.take() else {
         *fault = plain_fault(NOT_OPEN);
         return NOT_OPEN;
     };
-    let told = file_in(alloc, &opened, file, whole);
-    zone.put(alloc, opened);
+    let told = file_in(alloc, reading.get(), file, whole);
+    zone.put(reading);
     *fault = told;
     told.status
 }

@@ -1,5 +1,5 @@
 //! What a zone is asked.
-ghost use Rattle.std.specs.Prelude.{◌≡◌, ◌<◌, IfErr, IfOk, MatchOption, is_some, length, nat_eq};
+ghost use Rattle.std.specs.Prelude.{◌≡◌, ◌<◌, IfErr, IfOk, MatchOption, is_some, length, nat_eq, IfSome};
 ghost use Rattle.civil_base.specs.DateTimes.{instant, local_of, offset_of};
 ghost use Rattle.civil_base.specs.Layout.{day_part, time_part, zoned_text};
 ghost use Rattle.sefunjaro_c.specs.Answers.{is_shown, IsClockIn, IsTextIn, OfClock, Within, Where};
@@ -14,24 +14,25 @@ ghost use Rattle.zone_open.specs.Rooms.{filled};
 use crate::status::{DONE, NO_MEMORY, NOT_OPEN, OUT_OF_RANGE};
 use crate::times::instant_of;
 use civil_base::{OffsetDateTime, write_zoned};
-use sefunjaro_handles::{Handle, Opened};
+use sefunjaro_handles::{Handle, Opened, View};
 use std::alloc::Global;
 use zone_open::{AnyZone, Clock, Gap, InForce, Reading, fill};
 
 /// Opens another handle on the same zone, as another thread may need it. What the other held before is closed.
 #[unsafe(no_mangle)]
-pub extern "C" fn sefunjaro_share(alloc: Global, zone: &mut Handle, other: &mut Handle) -> u32
-    ensures same { zone.new.held.opened ≡ zone.old.held.opened }
+pub extern "C" fn sefunjaro_share_by(alloc: Global, zone: &mut View, other: &mut Handle) -> u32
+    ensures same { zone.new.part.opened ≡ zone.old.part.opened }
+    ensures loan { IfSome zone.old.part.opened (λ _. zone.new.part.loan ≡ zone.old.part.loan) }
     ensures opened { is_some other.new.held.opened ≡ nat_eq result 0 }
-    ensures answer { OnZone zone.old.held.opened result (Unit {0})
+    ensures answer { OnZone zone.old.part.opened result (Unit {0})
         (λ held. MatchOption other.new.held.opened (result ≡ out_of_memory) (IsZone (λ shared. shared ≡ held))) }
 {
     drop(other.take(alloc));
-    let Some(opened) = zone.take(alloc) else {
+    let Some(reading) = zone.take() else {
         return NOT_OPEN;
     };
-    let made = shared(alloc, &opened);
-    zone.put(alloc, opened);
+    let made = shared(alloc, reading.get());
+    zone.put(reading);
     match made {
         Ok(opened) => {
             other.put(alloc, opened);
@@ -57,23 +58,23 @@ fn shared(alloc: Global, opened: &Opened) -> Result<Box<Opened>, u32>
 
 /// The seconds east of UTC that are in force at an instant.
 #[unsafe(no_mangle)]
-pub extern "C" fn sefunjaro_offset_at(
-    alloc: Global,
-    zone: &mut Handle,
+pub extern "C" fn sefunjaro_offset_at_by(
+    zone: &mut View,
     second: i64,
     nanosecond: u32,
     offset: &mut i32,
 ) -> u32
-    ensures same { zone.new.held.opened ≡ zone.old.held.opened }
-    ensures answer { OnZone zone.old.held.opened result (offset.new ≡ offset.old)
+    ensures same { zone.new.part.opened ≡ zone.old.part.opened }
+    ensures loan { IfSome zone.old.part.opened (λ _. zone.new.part.loan ≡ zone.old.part.loan) }
+    ensures answer { OnZone zone.old.part.opened result (offset.new ≡ offset.old)
         (λ held. Where (is_instant second nanosecond) result (offset.new ≡ offset.old) (Seen held (λ total _. offset.new ≡ total (nanos_at second nanosecond)))) }
     ensures kept { IfRefused result (offset.new ≡ offset.old) }
 {
-    let Some(opened) = zone.take(alloc) else {
+    let Some(reading) = zone.take() else {
         return NOT_OPEN;
     };
-    let status = offset_at(&opened, second, nanosecond, offset);
-    zone.put(alloc, opened);
+    let status = offset_at(reading.get(), second, nanosecond, offset);
+    zone.put(reading);
     status
 }
 
@@ -96,25 +97,25 @@ fn offset_at(opened: &Opened, second: i64, nanosecond: u32, offset: &mut i32) ->
 
 /// What is in force at an instant. The abbreviation goes into the room, as far as it fits, and its whole length is told.
 #[unsafe(no_mangle)]
-pub extern "C" fn sefunjaro_in_force(
-    alloc: Global,
-    zone: &mut Handle,
+pub extern "C" fn sefunjaro_in_force_by(
+    zone: &mut View,
     second: i64,
     nanosecond: u32,
     found: &mut InForce,
     name: &mut [u8],
 ) -> u32
-    ensures same { zone.new.held.opened ≡ zone.old.held.opened }
-    ensures answer { OnZone zone.old.held.opened result (name.new ≡ name.old)
+    ensures same { zone.new.part.opened ≡ zone.old.part.opened }
+    ensures loan { IfSome zone.old.part.opened (λ _. zone.new.part.loan ≡ zone.old.part.loan) }
+    ensures answer { OnZone zone.old.part.opened result (name.new ≡ name.old)
         (λ held. Where (is_instant second nanosecond) result (name.new ≡ name.old)
         (Seen held (λ total gives. IsInForce total gives (nanos_at second nanosecond) found.new name.old name.new))) }
     ensures kept { IfRefused result ((found.new ≡ found.old) × (name.new ≡ name.old)) }
 {
-    let Some(opened) = zone.take(alloc) else {
+    let Some(reading) = zone.take() else {
         return NOT_OPEN;
     };
-    let status = in_force(&opened, second, nanosecond, found, name);
-    zone.put(alloc, opened);
+    let status = in_force(reading.get(), second, nanosecond, found, name);
+    zone.put(reading);
     status
 }
 
@@ -144,25 +145,25 @@ fn in_force(
 
 /// The local date and time of an instant, and the seconds east of UTC that are in force.
 #[unsafe(no_mangle)]
-pub extern "C" fn sefunjaro_clock_at(
-    alloc: Global,
-    zone: &mut Handle,
+pub extern "C" fn sefunjaro_clock_at_by(
+    zone: &mut View,
     second: i64,
     nanosecond: u32,
     clock: &mut Clock,
     offset: &mut i32,
 ) -> u32
-    ensures same { zone.new.held.opened ≡ zone.old.held.opened }
-    ensures answer { OnZone zone.old.held.opened result (clock.new ≡ clock.old)
+    ensures same { zone.new.part.opened ≡ zone.old.part.opened }
+    ensures loan { IfSome zone.old.part.opened (λ _. zone.new.part.loan ≡ zone.old.part.loan) }
+    ensures answer { OnZone zone.old.part.opened result (clock.new ≡ clock.old)
         (λ held. Within (is_instant second nanosecond) result (clock.new ≡ clock.old) (Seen held (λ total _.
         Where (is_shown total (nanos_at second nanosecond)) result (clock.new ≡ clock.old) (IsClockIn total (nanos_at second nanosecond) clock.new offset.new)))) }
     ensures kept { IfRefused result ((clock.new ≡ clock.old) × (offset.new ≡ offset.old)) }
 {
-    let Some(opened) = zone.take(alloc) else {
+    let Some(reading) = zone.take() else {
         return NOT_OPEN;
     };
-    let status = clock_at(&opened, second, nanosecond, clock, offset);
-    zone.put(alloc, opened);
+    let status = clock_at(reading.get(), second, nanosecond, clock, offset);
+    zone.put(reading);
     status
 }
 
@@ -203,25 +204,25 @@ fn clock_in(zone: &AnyZone, at: &OffsetDateTime, clock: &mut Clock, offset: &mut
 
 /// The zoned text of an instant, as far as it fits, and its whole length.
 #[unsafe(no_mangle)]
-pub extern "C" fn sefunjaro_text_at(
-    alloc: Global,
-    zone: &mut Handle,
+pub extern "C" fn sefunjaro_text_at_by(
+    zone: &mut View,
     second: i64,
     nanosecond: u32,
     text: &mut [u8],
     whole: &mut usize,
 ) -> u32
-    ensures same { zone.new.held.opened ≡ zone.old.held.opened }
-    ensures answer { OnZone zone.old.held.opened result (text.new ≡ text.old)
+    ensures same { zone.new.part.opened ≡ zone.old.part.opened }
+    ensures loan { IfSome zone.old.part.opened (λ _. zone.new.part.loan ≡ zone.old.part.loan) }
+    ensures answer { OnZone zone.old.part.opened result (text.new ≡ text.old)
         (λ held. Within (is_instant second nanosecond) result (text.new ≡ text.old) (Seen held (λ total _.
         Where (is_shown total (nanos_at second nanosecond)) result (text.new ≡ text.old) (IsTextIn total (nanos_at second nanosecond) text.old text.new whole.new)))) }
     ensures kept { IfRefused result ((text.new ≡ text.old) × (whole.new ≡ whole.old)) }
 {
-    let Some(opened) = zone.take(alloc) else {
+    let Some(reading) = zone.take() else {
         return NOT_OPEN;
     };
-    let status = text_at(&opened, second, nanosecond, text, whole);
-    zone.put(alloc, opened);
+    let status = text_at(reading.get(), second, nanosecond, text, whole);
+    zone.put(reading);
     status
 }
 
@@ -279,25 +280,25 @@ pub(crate) fn fill_text(shown: &OffsetDateTime, room: &mut [u8]) -> usize
 /// All instants at which clocks show a local time, by time, as far as they fit, and how many there are. Where there is none
 /// the change that skips the local time is told.
 #[unsafe(no_mangle)]
-pub extern "C" fn sefunjaro_readings(
-    alloc: Global,
-    zone: &mut Handle,
+pub extern "C" fn sefunjaro_readings_by(
+    zone: &mut View,
     local: &Clock,
     readings: &mut [Reading],
     count: &mut usize,
     gap: &mut Gap,
 ) -> u32
-    ensures same { zone.new.held.opened ≡ zone.old.held.opened }
-    ensures answer { OnZone zone.old.held.opened result (readings.new ≡ readings.old)
+    ensures same { zone.new.part.opened ≡ zone.old.part.opened }
+    ensures loan { IfSome zone.old.part.opened (λ _. zone.new.part.loan ≡ zone.old.part.loan) }
+    ensures answer { OnZone zone.old.part.opened result (readings.new ≡ readings.old)
         (λ held. OfClock local.now result (readings.new ≡ readings.old) (λ x. Seen held (λ total _. AreReadings total x readings.old readings.new count.new gap.new))) }
     ensures kept { IfRefused result ((readings.new ≡ readings.old) × ((count.new ≡ count.old) × (gap.new ≡ gap.old))) }
     ensures gap { 0 < count.new → gap.new ≡ gap.old }
 {
-    let Some(opened) = zone.take(alloc) else {
+    let Some(reading) = zone.take() else {
         return NOT_OPEN;
     };
-    let status = all_readings(&opened, local, readings, count, gap);
-    zone.put(alloc, opened);
+    let status = all_readings(reading.get(), local, readings, count, gap);
+    zone.put(reading);
     status
 }
 

@@ -9,6 +9,7 @@ use Rattle.std.specs.Prelude.{Option, Some, None, is_some}
 use Rattle.std.specs.Box.Ownership.{box_owns}
 use Rattle.sefunjaro_handles.specs.Heap.{token}
 use Rattle.sefunjaro_handles.specs.Handles.{owned_at}
+use Rattle.sefunjaro_handles.specs.Loans.{Loan, loan_owns, part_owns}
 use Rattle.sefunjaro_handles.specs.contracts.opened.Opened as Opened
 use Rattle.sefunjaro_handles.proofs.opened.Opened.TheLaws as opened_laws
 use seplogic.Ra.Ura.{Ura}
@@ -91,3 +92,10 @@ module _ {M : Type 1} {𝓤 : Ura M} {𝓛 : Logic 𝓤} {K : Type 0} {Γ : List
       → Seq K 𝓛 (‵ (owned_at at held) ∷ Γ) G
   held_there k at None some next = absurd (subst T (sym some) tt)
   held_there k at (Some value) some next = next value refl
+
+  -- and what is lent has a value
+  pub lent_there : K → (at : Ptr) (held : Option Opened.the_row.Denot) (loan : Loan) → is_some held ≡ true
+      → ((value : Opened.the_row.Denot) → held ≡ Some value → Seq K 𝓛 (‵ (part_owns at value loan) ∷ Γ) G)
+      → Seq K 𝓛 (‵ (loan_owns at held loan) ∷ Γ) G
+  lent_there k at None loan some next = absurd (subst T (sym some) tt)
+  lent_there k at (Some value) loan some next = next value refl

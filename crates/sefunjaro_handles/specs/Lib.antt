@@ -4,3 +4,4 @@ pub mod Statuses
 -- Words of private clauses.
 pub mod Handles
 pub mod Heap
+pub mod Loans

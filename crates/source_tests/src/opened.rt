@@ -43,9 +43,9 @@ fn expect_shared(rt: &impl Abort, alloc: Global, zone: OpenZone) {
 }
 
 #[test]
-fn a_source_is_opened(rt: HostRuntime) {
+fn a_source_in_plain_form_is_opened(rt: HostRuntime) {
     let alloc = rt.alloc();
-    let Ok(source) = OpenSource::open(alloc, NEW_YORK) else {
+    let Ok(source) = OpenSource::open_plain(alloc, NEW_YORK) else {
         panic!(rt; "not opened");
     };
     same(
@@ -64,7 +64,7 @@ fn a_source_is_opened(rt: HostRuntime) {
 #[test]
 fn a_source_in_any_form_is_opened(rt: HostRuntime) {
     let alloc = rt.alloc();
-    let Ok(source) = OpenSource::open_any(alloc, SHORT) else {
+    let Ok(source) = OpenSource::open(alloc, SHORT) else {
         panic!(rt; "not opened");
     };
     let Ok(zone) = source.zone(alloc, "East") else {

@@ -6,6 +6,7 @@ pub mod ChangeRows
 mod FileLemmas
 mod GapLemmas
 pub mod GapRows
+pub mod PosixNameRows
 pub mod PosixRows
 mod RoomLemmas
 mod WholeLemmas

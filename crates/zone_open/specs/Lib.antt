@@ -9,6 +9,7 @@ pub mod Faults
 pub mod Files
 pub mod Gaps
 pub mod Posix
+pub mod PosixNames
 pub mod Rooms
 pub mod Sources
 pub mod Zones

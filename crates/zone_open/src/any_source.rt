@@ -27,7 +27,7 @@ impl OpenSource {
     ghost use Rattle.zone_open.specs.AnySources.{IsAnyFault, IsAnySource};
 
     /// Opens a source in any form that `zic` reads: its plain form, as [`plain`](zone_plain::plain) writes it, is opened as
-    /// [`open`](OpenSource::open) opens a text.
+    /// [`open_plain`](OpenSource::open_plain) opens a text.
     ///
     /// # Errors
     ///
@@ -35,7 +35,7 @@ impl OpenSource {
     /// `PlainTooLong` where that form would be longer than 16,777,216 bytes, which is told at the first line with which its links, or
     /// the rules that are made for `%z`, alone are; then `Plain` with the first fault of the plain form, which is never want of
     /// memory; `NoMemory`.
-    pub fn open_any(alloc: Global, text: &[u8]) -> Result<OpenSource, AnySourceFault>
+    pub fn open(alloc: Global, text: &[u8]) -> Result<OpenSource, AnySourceFault>
         ensures ok { IfOk result (IsAnySource text.now) }
         ensures err { IfErr result (IsAnyFault text.now) }
     {

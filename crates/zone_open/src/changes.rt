@@ -4,14 +4,15 @@ ghost use Rattle.std.specs.List.{slice_get};
 ghost use Rattle.tz_zone.specs.Sets.{schedule_of, shifts_of, IsAccepted};
 ghost use Rattle.tz_zone.specs.Spans.{shift_at, IsCut};
 ghost use Rattle.tz_lookup.specs.CompactShown.{seen};
-ghost use Rattle.zone_open.specs.Changes.{change_of, next_after, saving_at, window};
+ghost use Rattle.zone_spans.specs.Collapse.{is_same_span};
+ghost use Rattle.zone_open.specs.Changes.{change_of, next_after, saving_at, span_before, window};
 ghost use Rattle.zone_open.specs.ChangeSteps.{AreParted, HasPut, IsChangeAt};
 ghost use Rattle.zone_open.specs.Rooms.{filled};
 
 use crate::room::put;
 use std::marker::Brand;
 use std::sync::ledger::{Blank, Ledger};
-use tz_lookup::{CompactSet, SpanTable, Steps};
+use tz_lookup::{CompactSet, FixedTimespan, SpanTable, Steps};
 use tz_zone::{offset_of, span_between};
 
 /// A change: what is in force from a second on.
@@ -24,6 +25,10 @@ pub struct Change {
     pub offset: i32,
     /// How many of them are the saving. They are below 0 where winter time is the one with a saving.
     pub saving: i64,
+    /// How many bytes the abbreviation has that is in force from it on.
+    pub name_length: usize,
+    /// Whether the offset, the saving or the abbreviation is another than just before the second.
+    pub differs: bool,
 }
 
 /// The saving that is in force at a second, in seconds.
@@ -68,7 +73,7 @@ fn put_change(set: &CompactSet, place: usize, count: usize, room: &mut [Change])
     requires accepted { IsAccepted (schedule_of (seen set.now)) }
     requires within { place < length (seen set.now).others }
     requires bound { count < 18446744073709551615 }
-    ensures { HasPut (map change_of (seen set.now).others) place count result room.old room.new }
+    ensures { HasPut (map (change_of (seen set.now)) (seen set.now).others) place count result room.old room.new }
 {
     match change_at(set, place) {
         Some(change) => {
@@ -83,7 +88,7 @@ fn put_change(set: &CompactSet, place: usize, count: usize, room: &mut [Change])
 fn change_at(set: &CompactSet, place: usize) -> Option<Change>
     requires accepted { IsAccepted (schedule_of (seen set.now)) }
     requires within { place < length (seen set.now).others }
-    ensures { IsChangeAt (map change_of (seen set.now).others) place result }
+    ensures { IsChangeAt (map (change_of (seen set.now)) (seen set.now).others) place result }
 {
     let count = set.entry_count();
     if place + 1 < count {
@@ -111,13 +116,32 @@ fn entry_at(set: &CompactSet, place: usize) -> Change
     requires accepted { IsAccepted (schedule_of (seen set.now)) }
     requires within { place < length (seen set.now).others }
     requires bound { place < 18446744073709551615 }
-    ensures { slice_get (map change_of (seen set.now).others) place ≡ Some result }
+    ensures { slice_get (map (change_of (seen set.now)) (seen set.now).others) place ≡ Some result }
 {
+    let second = set.time(place);
+    let span = set.span(place + 1);
     Change {
-        second: set.time(place),
+        second,
         offset: offset_of(set, place + 1).whole_seconds(),
-        saving: set.span(place + 1).dst_offset,
+        saving: span.dst_offset,
+        name_length: span.name.as_str().len(),
+        differs: !is_same_span(span, span_before(set, second)),
     }
+}
+
+/// What is in force just before a second.
+fn span_before(set: &CompactSet, second: i64) -> &FixedTimespan
+    requires { IsAccepted (schedule_of (seen set.now)) }
+    ensures { result.now ≡ span_before (seen set.now) second }
+{
+    set.span(entries_before(set, second))
+}
+
+/// Whether two spans have one offset, one saving and one abbreviation.
+fn is_same_span(a: &FixedTimespan, b: &FixedTimespan) -> bool
+    ensures { result ≡ is_same_span a.now b.now }
+{
+    a.utc_offset == b.utc_offset && a.dst_offset == b.dst_offset && a.name == b.name
 }
 
 /// How many entries lie before a second.

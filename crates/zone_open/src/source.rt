@@ -49,13 +49,13 @@ impl OpenSource {
     ghost use Rattle.tz_zone.specs.Sets.{schedule_of, IsAccepted};
     ghost use Rattle.zone_open.specs.declared.source.OpenFault.TheVariants.{NoMemory};
 
-    /// Opens a source from its text in plain form.
+    /// Opens a source from its text in plain form, and in no other.
     ///
     /// # Errors
     ///
     /// `TooLong` exactly where the text is longer than 16,777,216 bytes; then `Source` with its first fault, which is never
     /// want of memory; `NoMemory`.
-    pub fn open(alloc: Global, text: &[u8]) -> Result<OpenSource, OpenFault>
+    pub fn open_plain(alloc: Global, text: &[u8]) -> Result<OpenSource, OpenFault>
         ensures short { OnOk result (length text.now ≤ LIMIT) }
         ensures ok { OnOk result (source_fault text.now ≡ None) }
         ensures table { IfOk result (λ source. IsTableOf (table_in source) (values_of text.now)) }

@@ -11,7 +11,7 @@ pub loop-place-init : goal.loop-place-init
 loop-place-init c =
     let set = seen c.args.set.now in let first = c.entries_before-first in record {
       begun = omega arith;
-      met = met_none (to_z w64 (of_z w64 c.args.from)) (to_z w64 (of_z w64 c.args.to)) set.others first.result c.args.room.now first.ensures;
+      met = met_none set (to_z w64 (of_z w64 c.args.from)) (to_z w64 (of_z w64 c.args.to)) set.others first.result c.args.room.now first.ensures;
     }
 
 pub loop-place-preserved : goal.loop-place-preserved
@@ -21,7 +21,7 @@ loop-place-preserved c =
     let lasts : place < c.entries_before.result = omega (arith, c.loop-place-test.true, invariant.begun, c.max-end.ensures) in
     let within : place < length set.others = omega (arith, lasts, ended.within, size) in record {
       begun = omega (arith, invariant.begun);
-      met = met_more (to_z w64 (of_z w64 c.args.from)) (to_z w64 (of_z w64 c.args.to)) set.others c.args.room.now c.loop-place.room _ place
+      met = met_more set (to_z w64 (of_z w64 c.args.from)) (to_z w64 (of_z w64 c.args.to)) set.others c.args.room.now c.loop-place.room _ place
           c.loop-place.count c.put_change-count.result invariant.met within (begun.after place invariant.begun (omega (arith, within, size)))
           (ended.before place lasts) c.put_change-count.ensures;
     }
@@ -30,7 +30,7 @@ pub returns-clause-room : goal.returns-clause-room
 unfolding window
 returns-clause-room c =
     let set = seen c.args.set.now in let from = to_z-of_z c.ranges.from in let to = to_z-of_z c.ranges.to in
-    let met = met_all (to_z w64 (of_z w64 c.args.from)) (to_z w64 (of_z w64 c.args.to)) set.others c.args.room.now c.loop-place.room
+    let met = met_all set (to_z w64 (of_z w64 c.args.from)) (to_z w64 (of_z w64 c.args.to)) set.others c.args.room.now c.loop-place.room
     c.loop-place.place c.loop-place.count c.loop-place.invariant.met
     (λ j l m. c.entries_before.ensures.after j (omega (arith, c.loop-place-test.false, c.max-end.ensures, l)) (omega (arith, m, length-map set.others shift_of))) in
     subst (λ a. c.loop-place.room ≡ filled (window set a c.args.to) c.args.room.now) from
@@ -40,7 +40,7 @@ pub returns-clause-count : goal.returns-clause-count
 unfolding window
 returns-clause-count c =
     let set = seen c.args.set.now in let from = to_z-of_z c.ranges.from in let to = to_z-of_z c.ranges.to in
-    let met = met_all (to_z w64 (of_z w64 c.args.from)) (to_z w64 (of_z w64 c.args.to)) set.others c.args.room.now c.loop-place.room
+    let met = met_all set (to_z w64 (of_z w64 c.args.from)) (to_z w64 (of_z w64 c.args.to)) set.others c.args.room.now c.loop-place.room
     c.loop-place.place c.loop-place.count c.loop-place.invariant.met
     (λ j l m. c.entries_before.ensures.after j (omega (arith, c.loop-place-test.false, c.max-end.ensures, l)) (omega (arith, m, length-map set.others shift_of))) in
     subst (λ a. c.loop-place.count ≡ length (window set a c.args.to)) from

@@ -7,5 +7,5 @@ use Rattle.zone_open.proofs.changes.changes.Given as goal
 abbrev pub invariant-loop-place : goal.invariant-loop-place
 invariant-loop-place l = record {
   begun : l.initial.place ≤ l.place;
-  met : AreMet l.from l.to (seen l.set).others l.fn.room l.place l.count l.room;
+  met : AreMet (seen l.set) l.from l.to (seen l.set).others l.fn.room l.place l.count l.room;
 }

@@ -9,7 +9,7 @@ pub loop-place-init : goal.loop-place-init
 loop-place-init c =
     let set = seen c.args.set.now in let first = c.span_in_force_at-place.result in let second = to_z w64 (of_z w64 c.args.second) in record {
       later = later_from set.others first second c.span_in_force_at-place.ensures;
-      left = left_after set.others first second c.span_in_force_at-place.ensures;
+      left = left_after set set.others first second c.span_in_force_at-place.ensures;
     }
 
 pub returns-in-Some : goal.returns-in-Some

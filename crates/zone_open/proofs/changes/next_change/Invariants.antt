@@ -12,5 +12,5 @@ invariant-loop-place l =
     let set = seen l.set in record {
       later : (j : ℕ) → l.place ≤ j → j < length set.others → l.second <ℤ (shift_at (shifts_of set) j).0;
       left : filter (λ change. int_lt l.second change.second) (changes_of set)
-          ≡ filter (λ change. int_lt l.second change.second) (settled_changes (drop l.place (map change_of set.others)));
+          ≡ filter (λ change. int_lt l.second change.second) (settled_changes (drop l.place (map (change_of set) set.others)));
     }

@@ -1,0 +1,16 @@
+use Rattle.std.proofs.Common.{◌≡◌, to_z-of_z, subst}
+use Rattle.zone_open.specs.Any.{Seen}
+use Rattle.sefunjaro_handles.specs.Held.{OnZone}
+use Rattle.sefunjaro_c.specs.Answers.{is_shown, IsTextIn, Where, Within}
+use Rattle.sefunjaro_c.specs.Times.{is_instant, nanos_at}
+use Rattle.sefunjaro_c.proofs.AskedLemmas.{handed}
+use Rattle.sefunjaro_c.proofs.zones.sefunjaro_text_at_by.Goals as goal
+
+pub returns-clause-answer : goal.returns-clause-answer
+returns-clause-answer c =
+    let told = c.text_at-status in let old = c.args.text.now in let new = told.new.text in let kept = new ≡ old in
+    let zone = c.args.zone.now.part.opened in
+    subst (λ s. OnZone zone told.result kept (λ held. Within (is_instant s c.args.nanosecond) told.result kept (Seen held (λ total _.
+    Where (is_shown total (nanos_at s c.args.nanosecond)) told.result kept (IsTextIn total (nanos_at s c.args.nanosecond) old new told.new.whole)))))
+    (to_z-of_z c.ranges.second)
+    (handed c.in-Some.reading (λ reading. reading.opened) zone c.get.result.now told.result kept _ c.in-Some.ensures.reading c.get.ensures told.ensures.answer)
