@@ -1,5 +1,6 @@
 """Texts that nobody writes by hand, from one byte to 16 MiB, each with what is due of it: the programs are asked for the zone A."""
 import re
+import struct
 from dataclasses import dataclass
 
 from programs import ANY_SOURCE, COMPILED, SOURCE
@@ -187,6 +188,16 @@ def request_texts():
     yield Text("300,000 local requests", b"local A 1970-01-01 00:00:00.000000000\n" * 300_000, ANSWERS)
 
 
+def long_name_file(length, changes, kinds=1):
+    """A compiled zone with changes between kinds whose names are the ends of one long name: each kind's begins a byte later."""
+    first = b"TZif2" + bytes(15) + struct.pack(">6I", 0, 0, 0, 0, 1, 1) + bytes(7)
+    head = b"TZif2" + bytes(15) + struct.pack(">6I", 0, 0, 0, changes, kinds, length)
+    times = struct.pack(f">{changes}q", *range(changes))
+    numbers = bytes(number % kinds for number in range(changes))
+    records = b"".join(struct.pack(">iBB", 3600 * (number % 2), 0, number) for number in range(kinds))
+    return first + head + times + numbers + records + b"A" * (length - 1) + b"\0" + b"\n\n"
+
+
 def compiled_texts(compiled):
     """A compiled zone that is cut at each byte, and one with a byte changed or put in at each place."""
     for length in range(len(compiled)):
@@ -194,6 +205,9 @@ def compiled_texts(compiled):
         yield Text(f"a compiled zone with byte {length} changed", compiled[:length] + bytes([compiled[length] ^ 0x41]) + compiled[length + 1:], None)
         yield Text(f"a compiled zone with a byte put in at {length}", compiled[:length] + b"\1" + compiled[length:], None)
     yield Text("a compiled zone and more", compiled + b"\n", "file: refused")
+    yield Text("160 KB of one name and 8,888 changes", long_name_file(80_000, 8_888), ANSWERS)
+    yield Text("160 KB of a name, 256 kinds and 8,888 changes", long_name_file(80_000, 8_888, 256), ANSWERS)
+    yield Text("16 MB of a name, 256 kinds and 880,000 changes", long_name_file(8_000_000, 880_000, 256), ANSWERS)
     yield Text("a compiled zone and 16 MiB more", compiled + b"\n" * (LIMIT - len(compiled)), "file: refused")
 
 

@@ -9,7 +9,7 @@ use std::process::Abort;
 use tz_footer::Footer;
 use tz_tzif::{TzifOwner, TzifTz};
 use tz_zone::{Offset, TimeZone};
-use zone_tzif_core::{Kind, TzifZone};
+use zone_tzif_core::{ZoneFile, read_file};
 
 /// A footer and, after `|`, seconds from 1970-01-01 00:00:00 UTC, each with the offset in seconds, 1 for daylight saving time and 0 for
 /// standard time, and the abbreviation.
@@ -70,25 +70,17 @@ fn footers_fire_past_the_edges_of_their_years(rt: HostRuntime) {
     }
 }
 
-fn kind(rt: &impl Abort, alloc: Global, utoff: i32, is_dst: bool, name: &str) -> Kind {
-    Kind {
-        utoff,
-        is_dst,
-        name: String::from_str(alloc, name).expect(rt, "memory"),
-    }
-}
-
 /// New York as a slim file has it: local mean time, two changes, and the rules of today in the footer.
-fn new_york(rt: &impl Abort, alloc: Global) -> TzifZone {
-    let mut rest = Vec::new(alloc);
-    rest.push((-2717650800, kind(rt, alloc, -18000, false, "EST")))
-        .expect(rt, "memory");
-    rest.push((1173596400, kind(rt, alloc, -14400, true, "EDT")))
-        .expect(rt, "memory");
-    TzifZone {
-        first: kind(rt, alloc, -17762, false, "LMT"),
-        rest,
-        footer: String::from_str(alloc, "EST5EDT,M3.2.0,M11.1.0").expect(rt, "memory"),
+const NEW_YORK: &[u8] = b"\
+TZif2\0\0\0\0\0\0\0\0\0\0\0\0\0\0\0\0\0\0\0\0\0\0\0\0\0\0\0\0\0\0\0\0\0\0\x01\0\0\0\x01\0\0\0\0\0\0\0\
+TZif2\0\0\0\0\0\0\0\0\0\0\0\0\0\0\0\0\0\0\0\0\0\0\0\0\0\0\0\0\0\0\x02\0\0\0\x03\0\0\0\x0c\
+\xff\xff\xff\xff^\x03\xf0\x90\0\0\0\0E\xf3\xa8\xf0\x01\x02\
+\xff\xff\xba\x9e\0\0\xff\xff\xb9\xb0\0\x04\xff\xff\xc7\xc0\x01\x08LMT\0EST\0EDT\0\nEST5EDT,M3.2.0,M11.1.0\n";
+
+fn new_york(rt: &impl Abort, alloc: Global) -> ZoneFile {
+    match read_file(alloc, NEW_YORK) {
+        Ok(zone) => zone,
+        Err(_) => panic!(rt; "refused"),
     }
 }
 

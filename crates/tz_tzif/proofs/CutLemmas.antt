@@ -6,9 +6,8 @@ use Rattle.std.proofs.lemmas.Bool.Decides.{nat_tests}
 use Rattle.std.proofs.lemmas.Int.{ints}
 use Rattle.std.proofs.lemmas.Simd.{map-map}
 use Rattle.calendar.specs.ComparisonLaws.{le_itself}
-use Rattle.zone_tzif_core.specs.Shown.{shift_shown, shifts_shown}
+use Rattle.zone_tzif_core.specs.ZoneFiles.{change_with, changes_with}
 use Rattle.zone_tzif_core.specs.Zones.{KindValue, go_up, rises}
-use Rattle.zone_tzif_core.specs.declared.values.Kind.{Kind}
 
 -- where the first i items pass a test and no others do, they are what passes
 pub front : {X Y : Type 0} (f : X → Y) (p : Y → Bool) (xs : List X) (i : ℕ) → i ≤ length xs
@@ -64,9 +63,9 @@ before_too : (a b s : ℤ) → a ≤ℤ b → int_le b s ≡ true → int_le a s
 before_too a b s h k = grind (arith, ints)
 
 -- what the search asks for
-pub parted : (changes : List (ℤ × Kind)) (s : ℤ) → rises (shifts_shown changes) ≡ true → (i j : ℕ) (d : ℤ × Kind) → i ≤ j
+pub parted : (kinds : List KindValue) (changes : List (ℤ × ℕ)) (s : ℤ) → rises (changes_with kinds changes) ≡ true → (i j : ℕ) (d : ℤ × ℕ) → i ≤ j
     → j < length changes → int_le (get_or changes j d).0 s ≡ true → int_le (get_or changes i d).0 s ≡ true
-parted changes s h i j d l m passes =
-    let up : go_up (map (λ (c : ℤ × Kind). c.0) changes) ≡ true =
-    subst (λ ts. go_up ts ≡ true) (map-map (λ (shift : ℤ × KindValue). shift.0) shift_shown changes) h in
-    before_too _ _ s (later (λ (c : ℤ × Kind). c.0) changes up i j d l m) passes
+parted kinds changes s h i j d l m passes =
+    let up : go_up (map (λ (c : ℤ × ℕ). c.0) changes) ≡ true =
+    subst (λ ts. go_up ts ≡ true) (map-map (λ (shift : ℤ × KindValue). shift.0) (change_with kinds) changes) h in
+    before_too _ _ s (later (λ (c : ℤ × ℕ). c.0) changes up i j d l m) passes

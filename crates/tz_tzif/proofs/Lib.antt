@@ -4,6 +4,7 @@ mod GivenLemmas
 mod HeldLemmas
 mod InstantLemmas
 mod KindLemmas
+mod NextLemmas
 mod OffsetLemmas
 mod OwnerLemmas
 mod ReadLemmas

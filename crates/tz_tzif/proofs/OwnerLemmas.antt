@@ -4,7 +4,7 @@ use Rattle.civil_base.specs.Ranges.{IsOffset}
 use Rattle.tz_footer.specs.FooterLaws.{no_text}
 use Rattle.tz_footer.specs.InForce.{FooterZone}
 use Rattle.tz_footer.specs.Spells.{SpellsFooter}
-use Rattle.tz_footer.specs.Standing.{StandsFor, stands_for}
+use Rattle.tz_footer.specs.Standing.{stands_for}
 use Rattle.tz_footer.specs.Values.{FooterValue}
 use Rattle.tz_tzif.specs.Faults.{SaysInFooter, IsNoFooter}
 use Rattle.tz_tzif.specs.InForce.{told_total_at}

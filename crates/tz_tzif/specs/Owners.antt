@@ -3,12 +3,12 @@ use Rattle.std.specs.Prelude.{◌≡◌, Option}
 use Rattle.tz_footer.specs.InForce.{FooterZone}
 use Rattle.tz_tzif.specs.Faults.{IsAcceptedFile}
 use Rattle.tz_tzif.specs.declared.owner.TzifOwner.{TzifOwner}
-use Rattle.zone_tzif_core.specs.Shown.{zone_shown}
+use Rattle.zone_tzif_core.specs.ZoneFiles.{zone_seen}
 use Rattle.zone_tzif_core.specs.Zones.{ZoneValue}
 
 -- the value
 abbrev pub value_in : TzifOwner → ZoneValue
-value_in owner = zone_shown owner.zone
+value_in owner = zone_seen owner.zone
 
 -- the value is this, and it can be looked up by what its footer says
 pub record IsOwnerOf (value : ZoneValue) (owner : TzifOwner) : Type 0 where

@@ -2,7 +2,7 @@
 use Rattle.std.specs.Prelude.{◌≡◌, ℕ, Bool, List, Option, option_map, ℤ}
 use Rattle.tz_footer.specs.FooterShown.{footer_shown}
 use Rattle.tz_footer.specs.InForce.{FooterZone}
-use Rattle.zone_tzif_core.specs.Shown.{zone_shown}
+use Rattle.zone_tzif_core.specs.ZoneFiles.{zone_seen}
 use Rattle.zone_tzif_core.specs.Zones.{KindValue, ZoneValue}
 use Rattle.tz_tzif.specs.Faults.{IsAcceptedFile}
 use Rattle.tz_tzif.specs.InForce.{kind_at}
@@ -10,7 +10,7 @@ use Rattle.tz_tzif.specs.declared.zone.TzifTz.{TzifTz}
 
 -- the value
 abbrev pub value_of : TzifTz → ZoneValue
-value_of tz = zone_shown tz.zone.now
+value_of tz = zone_seen tz.zone.now
 
 -- what its footer says
 abbrev pub says_of : TzifTz → Option FooterZone

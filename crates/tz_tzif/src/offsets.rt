@@ -2,44 +2,37 @@
 ghost use Rattle.std.specs.Prelude.{◌≡◌, ◌≤◌, OnOk, IfOk, cond, insert, length, drop, option_map};
 ghost use Rattle.tz_footer.specs.FooterShown.{footer_shown};
 ghost use Rattle.tz_tzif.specs.Offsets.{AreOffsets, begins_with, offsets_of, put, put_all, put_footer};
-ghost use Rattle.zone_tzif_core.specs.Shown.{shifts_shown, zone_shown};
+ghost use Rattle.zone_tzif_core.specs.ZoneFiles.{zone_seen};
 
 use std::alloc::{AllocError, Global};
 use tz_footer::Footer;
-use zone_tzif_core::{Kind, TzifZone};
+use zone_tzif_core::ZoneFile;
 
 /// The distinct offsets of a zone and its footer, the greatest first.
 #[tactic(auto, unfolding(crate::specs::Offsets::offsets_of))]
 pub(crate) fn offsets_of(
     alloc: Global,
-    zone: &TzifZone,
+    zone: &ZoneFile,
     footer: &Option<Footer<'_>>,
 ) -> Result<Vec<i32>, AllocError>
-    ensures value { IfOk result (λ offsets. offsets.items ≡ offsets_of (zone_shown zone.now) (option_map footer_shown footer.now)) }
+    ensures value { IfOk result (λ offsets. offsets.items ≡ offsets_of (zone_seen zone.now) (option_map footer_shown footer.now)) }
     ensures range { IfOk result (λ _. AreOffsets (option_map footer_shown footer.now)) }
 {
     let mut offsets = Vec::new(alloc);
-    offsets.push(zone.first.utoff)?;
-    put_all(&mut offsets, zone.rest.as_slice())?;
+    offsets.push(zone.first().utoff)?;
+    put_all(&mut offsets, zone)?;
     put_footer(&mut offsets, footer)?;
     Ok(offsets)
 }
 
 /// Puts in the offset of each change.
-fn put_all(offsets: &mut Vec<i32>, changes: &[(i64, Kind)]) -> Result<(), AllocError>
-    ensures { OnOk result (offsets.new.items ≡ put_all offsets.old.items (shifts_shown changes.now)) }
+fn put_all(offsets: &mut Vec<i32>, zone: &ZoneFile) -> Result<(), AllocError>
+    ensures { OnOk result (offsets.new.items ≡ put_all offsets.old.items (zone_seen zone.now).rest) }
 {
-    for change in changes {
-        put_change(offsets, change)?;
+    for place in 0..zone.change_count() {
+        put(offsets, zone.kind_at(place).utoff)?;
     }
     Ok(())
-}
-
-/// Puts in the offset of a change.
-fn put_change(offsets: &mut Vec<i32>, change: &(i64, Kind)) -> Result<(), AllocError>
-    ensures { OnOk result (offsets.new.items ≡ put change.now.1.utoff offsets.old.items) }
-{
-    put(offsets, change.1.utoff)
 }
 
 /// Puts in the offsets of a footer.

@@ -6,7 +6,7 @@ ghost use Rattle.tz_tzif.specs.Faults.{are_small, IsTzifFault, IsNoFooter, SaysI
 ghost use Rattle.tz_tzif.specs.InForce.{told_total_at};
 ghost use Rattle.tz_tzif.specs.Kept.{AreKept};
 ghost use Rattle.tz_tzif.specs.Offsets.{offsets_of};
-ghost use Rattle.zone_tzif_core.specs.Shown.{zone_shown};
+ghost use Rattle.zone_tzif_core.specs.ZoneFiles.{zone_seen};
 ghost use Rattle.zone_tzif_core.specs.Zones.{rises};
 
 use crate::accept::{accepted_footer, read_footer};
@@ -16,19 +16,19 @@ use crate::offsets::offsets_of;
 use crate::zone::TzifTz;
 use std::alloc::Global;
 use tz_footer::{Footer, one_footer};
-use zone_tzif_core::TzifZone;
+use zone_tzif_core::ZoneFile;
 
 /// A compiled zone with its distinct offsets, which owns both and lends a zone to ask. To lend takes no memory: the footer is
 /// read anew, where it stands.
 #[derive(Debug, Drop)]
 pub struct TzifOwner {
-    zone: TzifZone,
+    zone: ZoneFile,
     offsets: Vec<i32>,
-    ghost rising: { rises (zone_shown zone).rest ≡ true },
-    ghost small: { are_small (zone_shown zone) ≡ true },
-    ghost readable: { ¬ (IsNoFooter (zone_shown zone).footer) },
-    ghost made: { (footer : Option FooterZone) → SaysInFooter (zone_shown zone).footer footer → offsets.items ≡ offsets_of (zone_shown zone) footer },
-    ghost range: { (footer : Option FooterZone) → SaysInFooter (zone_shown zone).footer footer → (t : ℤ) → IsOffset (told_total_at (zone_shown zone) footer t) },
+    ghost rising: { rises (zone_seen zone).rest ≡ true },
+    ghost small: { are_small (zone_seen zone) ≡ true },
+    ghost readable: { ¬ (IsNoFooter (zone_seen zone).footer) },
+    ghost made: { (footer : Option FooterZone) → SaysInFooter (zone_seen zone).footer footer → offsets.items ≡ offsets_of (zone_seen zone) footer },
+    ghost range: { (footer : Option FooterZone) → SaysInFooter (zone_seen zone).footer footer → (t : ℤ) → IsOffset (told_total_at (zone_seen zone) footer t) },
 }
 
 impl TzifOwner {
@@ -44,8 +44,8 @@ impl TzifOwner {
     /// As `TzifTz::new`, in this order: `Times` exactly where the times don't strictly rise; `Offset` exactly where an offset is
     /// past 93,599 seconds in size; `Footer` exactly where there is a footer and it is no footer in the ranges of its parts;
     /// `NoMemory`.
-    pub fn new(alloc: Global, zone: TzifZone) -> Result<TzifOwner, TzifFault>
-        ensures { MatchResult result (IsOwnerOf (zone_shown zone)) (IsTzifFault (zone_shown zone)) }
+    pub fn new(alloc: Global, zone: ZoneFile) -> Result<TzifOwner, TzifFault>
+        ensures { MatchResult result (IsOwnerOf (zone_seen zone)) (IsTzifFault (zone_seen zone)) }
     {
         one_footer();
         match kept_offsets(alloc, &zone) {
@@ -70,7 +70,7 @@ impl TzifOwner {
     fn says(&self) -> Option<Footer<'_>>
         ensures { SaysInFooter (value_in self.now).footer (option_map footer_shown result) }
     {
-        match read_footer(self.zone.footer.as_str()) {
+        match read_footer(self.zone.footer()) {
             Some(footer) => footer,
             None => unreachable!(),
         }
@@ -78,8 +78,8 @@ impl TzifOwner {
 }
 
 /// The distinct offsets of a value that can be looked up.
-fn kept_offsets(alloc: Global, zone: &TzifZone) -> Result<Vec<i32>, TzifFault>
-    ensures { MatchResult result (λ offsets. AreKept (zone_shown zone.now) offsets.items) (IsTzifFault (zone_shown zone.now)) }
+fn kept_offsets(alloc: Global, zone: &ZoneFile) -> Result<Vec<i32>, TzifFault>
+    ensures { MatchResult result (λ offsets. AreKept (zone_seen zone.now) offsets.items) (IsTzifFault (zone_seen zone.now)) }
 {
     match accepted_footer(zone) {
         Ok(footer) => match offsets_of(alloc, zone, &footer) {

@@ -2,7 +2,7 @@
 ghost use Rattle.std.specs.Prelude.{◌≡◌, ℕ, ℤ, ◌<◌, ◌≤◌, true, length, option_map};
 ghost use Rattle.civil_base.specs.Ranges.{IsOffset};
 ghost use Rattle.zone_spans.specs.Schedules.{instants};
-ghost use Rattle.zone_tzif_core.specs.Shown.{zone_shown};
+ghost use Rattle.zone_tzif_core.specs.ZoneFiles.{zone_seen};
 ghost use Rattle.zone_tzif_core.specs.Zones.{rises};
 ghost use Rattle.tz_footer.specs.FooterShown.{footer_shown};
 ghost use Rattle.tz_tzif.specs.Faults.{are_small};
@@ -20,20 +20,20 @@ use civil_base::{OffsetDateTime, PlainDateTime};
 use std::alloc::Global;
 use tz_footer::{Footer, Held};
 use tz_zone::{OffsetResult, TimeZone};
-use zone_tzif_core::TzifZone;
+use zone_tzif_core::ZoneFile;
 
 /// A compiled zone that can be looked up, with what its footer says from the last change on. It borrows the value, and
 /// remembers its distinct offsets, or borrows them too.
 #[derive(Drop)]
 pub struct TzifTz<'a> {
     pub(crate) name: &'a str,
-    pub(crate) zone: &'a TzifZone,
+    pub(crate) zone: &'a ZoneFile,
     pub(crate) footer: Option<Footer<'a>>,
     pub(crate) offsets: KeptOffsets<'a>,
-    ghost rising: { rises (zone_shown zone.now).rest ≡ true },
-    ghost small: { are_small (zone_shown zone.now) ≡ true },
-    ghost made: { items_of offsets ≡ offsets_of (zone_shown zone.now) (option_map footer_shown footer) },
-    ghost range: { (t : ℤ) → IsOffset (told_total_at (zone_shown zone.now) (option_map footer_shown footer) t) },
+    ghost rising: { rises (zone_seen zone.now).rest ≡ true },
+    ghost small: { are_small (zone_seen zone.now) ≡ true },
+    ghost made: { items_of offsets ≡ offsets_of (zone_seen zone.now) (option_map footer_shown footer) },
+    ghost range: { (t : ℤ) → IsOffset (told_total_at (zone_seen zone.now) (option_map footer_shown footer) t) },
 }
 
 impl<'a> TzifTz<'a> {
@@ -52,8 +52,8 @@ impl<'a> TzifTz<'a> {
     ///
     /// In this order: `Times` exactly where the times don't strictly rise; `Offset` exactly where an offset is past 93,599
     /// seconds in size; `Footer` exactly where there is a footer and it is no footer in the ranges of its parts; `NoMemory`.
-    pub fn new(alloc: Global, name: &'a str, zone: &'a TzifZone) -> Result<TzifTz<'a>, TzifFault>
-        ensures { MatchResult result (IsZoneOf name.now (zone_shown zone.now)) (IsTzifFault (zone_shown zone.now)) }
+    pub fn new(alloc: Global, name: &'a str, zone: &'a ZoneFile) -> Result<TzifTz<'a>, TzifFault>
+        ensures { MatchResult result (IsZoneOf name.now (zone_seen zone.now)) (IsTzifFault (zone_seen zone.now)) }
     {
         match accepted_footer(zone) {
             Ok(footer) => match offsets_of(alloc, zone, &footer) {
@@ -93,9 +93,8 @@ impl<'a> TzifTz<'a> {
         requires { unsigned_abs second ≤ 800_000_000_000 }
         ensures { held_shown result ≡ kind_in (value_of self.now) (says_of self.now) second }
     {
-        let changes = self.zone.rest.as_slice();
-        let count = changes_until(changes, second);
-        let over = count == changes.len();
+        let count = changes_until(self.zone, second);
+        let over = count == self.zone.change_count();
         match &self.footer {
             Some(footer) if over => footer.held_at(second),
             Some(_) => held_after(self.zone, count),

@@ -7,7 +7,7 @@ use Rattle.tz_tzif.specs.declared.fault.TzifFault.{TzifFault}
 use Rattle.tz_tzif.specs.declared.fault.TzifFault.TheVariants as tzif
 use Rattle.zone_outside.specs.Seen.{OutputSeen}
 use Rattle.zone_source.specs.Lines.{lines_of}
-use Rattle.zone_tzif_core.specs.Denotes.{Denotes}
+use Rattle.zone_tzif_core.specs.Denotes.{Says}
 use Rattle.zone_tzif_core.specs.Zones.{ZoneValue}
 use Rattle.zone_file_answers.specs.Due.{answer_line, IsFaultLine}
 use Rattle.zone_file_answers.specs.Faults.{Fault, fault_line, first_refused}
@@ -30,11 +30,11 @@ refused_value value (Some footer) tzif.Footer is other accepted = is.1.none acce
 refused_value value footer tzif.NoMemory is other accepted = other refl
 
 pub no_file : (file : List ℕ) (value : ZoneValue) (fault : TzifFault)
-    → ((x y : ZoneValue) → Denotes file x → Denotes file y → x ≡ y) → Denotes file value → IsTzifFault value fault → (fault ≡ tzif.NoMemory → ⊥)
+    → ((x y : ZoneValue) → Says file x → Says file y → x ≡ y) → Says file value → IsTzifFault value fault → (fault ≡ tzif.NoMemory → ⊥)
     → IsNoFile file
-no_file file value fault one denotes is other total found =
+no_file file value fault one says is other total found =
     refused_value value found.footer fault is other
-    (subst (λ v. IsAcceptedFile v found.footer) (one found.value value found.denotes denotes) found.accepted)
+    (subst (λ v. IsAcceptedFile v found.footer) (one found.value value found.says says) found.accepted)
 
 -- what is found over a file that is a zone
 pub found_over : (file requests : List ℕ) (total : ℤ → ℤ) → IsFile file total → (result : Result (List (List ℕ)) FileFault)

@@ -3,14 +3,14 @@ use Rattle.std.specs.Prelude.{◌≡◌, ℕ, ℤ, List, Option}
 use Rattle.tz_footer.specs.InForce.{FooterZone}
 use Rattle.tz_tzif.specs.Faults.{IsAcceptedFile}
 use Rattle.tz_tzif.specs.InForce.{told_total_at}
-use Rattle.zone_tzif_core.specs.Denotes.{Denotes}
+use Rattle.zone_tzif_core.specs.Denotes.{Says}
 use Rattle.zone_tzif_core.specs.Zones.{ZoneValue}
 
--- a value that the file denotes, with what its footer says, can be looked up, and has this total at each instant
+-- a value that the file says, with what its footer says, can be looked up, and has this total at each instant
 pub record IsFile (file : List ℕ) (total : ℤ → ℤ) : Type 0 where
   pub value : ZoneValue
   pub footer : Option FooterZone
-  pub denotes : Denotes file value
+  pub says : Says file value
   pub accepted : IsAcceptedFile value footer
   pub is : total ≡ told_total_at value footer
 

@@ -13,7 +13,7 @@ use crate::showing::show;
 use std::alloc::Global;
 use tz_tzif::{TzifFault, TzifTz};
 use zone_source::{LIMIT, LineList, Lines, text_of};
-use zone_tzif_core::{ReadFault, one_reading, read_any};
+use zone_tzif_core::{ReadFault, one_saying, read_file};
 
 /// Answers each request over the zone of a file, in order. Lines end at an LF, a CR before it is dropped, and they are
 /// numbered from 1.
@@ -25,8 +25,8 @@ pub fn answers(alloc: Global, file: &[u8], requests: &[u8]) -> Result<LineList, 
     requires { length requests.now ≤ LIMIT }
     ensures { MatchResult result (AnswersFile file.now requests.now) (FaultOfFile file.now requests.now) }
 {
-    one_reading();
-    let zone = match read_any(alloc, file) {
+    one_saying();
+    let zone = match read_file(alloc, file) {
         Ok(zone) => zone,
         Err(ReadFault::Refused) => return Err(FileFault::File),
         Err(ReadFault::NoMemory) => return Err(FileFault::NoMemory),

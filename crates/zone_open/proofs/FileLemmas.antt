@@ -14,7 +14,7 @@ use Rattle.tz_posix_core.specs.Seconds.{east_of}
 use Rattle.tz_tzif.specs.Faults.{HasOffsets}
 use Rattle.tz_tzif.specs.Zones.{value_of, says_of, IsZoneOf}
 use Rattle.tz_tzif.specs.declared.zone.TzifTz.{TzifTz}
-use Rattle.zone_tzif_core.specs.Denotes.{AreKinds, AreShifts, Denotes, IsKind, no_kind, a_kind, no_shift, a_shift}
+use Rattle.zone_tzif_core.specs.Denotes.{AreKinds, AreShifts, IsKind, Says, no_kind, a_kind, no_shift, a_shift}
 use Rattle.zone_tzif_core.specs.Shown.{kind_shown}
 use Rattle.zone_tzif_core.specs.declared.values.Kind.{Kind}
 use Rattle.zone_tzif_core.specs.Zones.{KindValue, ZoneValue, is_small}
@@ -45,7 +45,7 @@ all_small : {kinds : List KindValue} {names records times numbers : List ℕ} {s
 all_small kinds no_shift = refl
 all_small kinds (a_shift time {number = n} {kind = k} long at others) = both _ _ (small_at kinds n k at) (all_small kinds others)
 
-pub denoted : (bytes : List ℕ) (value : ZoneValue) → Denotes bytes value → HasOffsets value
+pub denoted : (bytes : List ℕ) (value : ZoneValue) → Says bytes value → HasOffsets value
 denoted bytes value d =
     (d.rising, both _ _ (small_at d.block_is.are_kinds 0 value.first d.first_kind) (all_small d.block_is.are_kinds d.block_is.are_shifts))
 

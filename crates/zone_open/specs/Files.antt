@@ -7,7 +7,7 @@ use Rattle.tz_tzif.specs.Faults.{IsAcceptedFile, IsNoFooter, SaysInFooter}
 use Rattle.tz_tzif.specs.InForce.{kind_at}
 use Rattle.tz_tzif.specs.Owners.{value_in}
 use Rattle.tz_tzif.specs.Zones.{IsOfKind}
-use Rattle.zone_tzif_core.specs.Denotes.{Denotes}
+use Rattle.zone_tzif_core.specs.Denotes.{Says}
 use Rattle.zone_tzif_core.specs.Zones.{ZoneValue}
 use Rattle.zone_open.specs.Posix.{standard_kind}
 use Rattle.zone_open.specs.declared.file.FileFault.{FileFault}
@@ -28,20 +28,20 @@ pub record SaysOf (zone : FileZone) (P : Option FooterZone → Type 0) : Type 0 
 abbrev pub given_at : ZoneValue → Option FooterZone → ℤ → List ℕ → Bool → Type 0
 given_at value footer t = IsOfKind (kind_at value footer t)
 
--- the file denotes the value, which can be looked up
+-- the file says the value, which can be looked up
 pub record IsFileOf (bytes : List ℕ) (zone : FileZone) : Type 0 where
-  pub denotes : Denotes bytes (file_value zone)
+  pub told : Says bytes (file_value zone)
   pub accepted : SaysOf zone (IsAcceptedFile (file_value zone))
 
--- the file denotes a value whose footer can't be read
+-- the file says a value whose footer can't be read
 pub record HasNoFooter (bytes : List ℕ) : Type 0 where
   pub value : ZoneValue
-  pub denotes : Denotes bytes value
+  pub told : Says bytes value
   pub footer : IsNoFooter value.footer
 
 -- why a file gives no zone; want of memory may come in place of any
 abbrev pub IsFileFault : List ℕ → FileFault → Type 0
-IsFileFault bytes Refused = (value : ZoneValue) → ¬ (Denotes bytes value)
+IsFileFault bytes Refused = (value : ZoneValue) → ¬ (Says bytes value)
 IsFileFault bytes Footer = HasNoFooter bytes
 IsFileFault bytes NoMemory = Unit {0}
 

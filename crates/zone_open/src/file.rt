@@ -1,6 +1,7 @@
 //! Zones of compiled files, and of POSIX strings.
 ghost use Rattle.std.specs.Prelude.{◌≡◌, ◌<◌, MatchResult, IfErr, IfOk, false, true};
-ghost use Rattle.zone_tzif_core.specs.Shown.{kind_shown, zone_shown};
+ghost use Rattle.zone_tzif_core.specs.Shown.{kind_shown};
+ghost use Rattle.zone_tzif_core.specs.ZoneFiles.{zone_seen};
 ghost use Rattle.zone_tzif_core.specs.Zones.{is_small};
 ghost use Rattle.zone_open.specs.Posix.{IsPosixFault, IsStandardOf};
 ghost use Rattle.zone_open.specs.declared.file.PosixFault.TheVariants.{NoMemory as NoPosixMemory};
@@ -13,7 +14,7 @@ use std::alloc::Global;
 use tz_footer::{Footer, footer_text, one_footer};
 use tz_lookup::OffsetDateTimeExt;
 use tz_tzif::{TzifFault, TzifOwner, TzifTz};
-use zone_tzif_core::{Kind, ReadFault, TzifZone, read_any};
+use zone_tzif_core::{Kind, ReadFault, Record, ZoneFile, read_file};
 
 /// A zone of a compiled file, or of a POSIX string, that owns all that it is asked for.
 ///
@@ -52,7 +53,8 @@ impl FileZone {
     ghost use Rattle.zone_open.specs.Answered.{first_of, AreReadings, IsInForce, IsShown};
     ghost use Rattle.zone_open.specs.Files.{file_value, given_at, IsFileFault, IsFileOf, IsPosixOf, IsValueFault, SaysOf};
 
-    /// The zone of a compiled file (RFC 8536, versions 2 to 4), with what its footer says from the last change on.
+    /// The zone of a compiled file (RFC 8536, version 2 and up), with what its footer says from the last change on. It takes
+    /// memory in proportion to the file.
     ///
     /// # Errors
     ///
@@ -62,7 +64,7 @@ impl FileZone {
     pub fn read(alloc: Global, bytes: &[u8]) -> Result<FileZone, FileFault>
         ensures { MatchResult result (IsFileOf bytes.now) (IsFileFault bytes.now) }
     {
-        match read_any(alloc, bytes) {
+        match read_file(alloc, bytes) {
             Ok(zone) => FileZone::of_value(alloc, zone),
             Err(ReadFault::Refused) => Err(FileFault::Refused),
             Err(ReadFault::NoMemory) => Err(FileFault::NoMemory),
@@ -89,13 +91,13 @@ impl FileZone {
         requires { IsStandardOf text.now (kind_shown first) }
         ensures { MatchResult result (IsPosixOf text.now) (IsPosixFault text.now) }
     {
-        let Ok(footer) = String::from_str(alloc, text) else {
-            return Err(PosixFault::NoMemory);
+        let kind = Record {
+            utoff: first.utoff,
+            is_dst: first.is_dst,
+            name: first.name.as_str(),
         };
-        let zone = TzifZone {
-            first,
-            rest: Vec::new(alloc),
-            footer,
+        let Ok(zone) = ZoneFile::steady(alloc, &kind, text) else {
+            return Err(PosixFault::NoMemory);
         };
         match FileZone::of_value(alloc, zone) {
             Ok(zone) => Ok(zone),
@@ -106,9 +108,9 @@ impl FileZone {
     }
 
     /// The zone of a value whose times rise, and whose offsets are small.
-    fn of_value(alloc: Global, zone: TzifZone) -> Result<FileZone, FileFault>
-        requires { HasOffsets (zone_shown zone) }
-        ensures { MatchResult result (λ found. (file_value found ≡ zone_shown zone) × SaysOf found (IsAcceptedFile (file_value found))) (IsValueFault (zone_shown zone)) }
+    fn of_value(alloc: Global, zone: ZoneFile) -> Result<FileZone, FileFault>
+        requires { HasOffsets (zone_seen zone) }
+        ensures { MatchResult result (λ found. (file_value found ≡ zone_seen zone) × SaysOf found (IsAcceptedFile (file_value found))) (IsValueFault (zone_seen zone)) }
     {
         match TzifOwner::new(alloc, zone) {
             Ok(owner) => Ok(FileZone { owner }),

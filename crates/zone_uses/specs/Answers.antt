@@ -10,7 +10,7 @@ use Rattle.tz_tzif.specs.Faults.{SaysInFooter}
 use Rattle.tz_tzif.specs.InForce.{told_total_at}
 use Rattle.tz_tzif.specs.Zones.{value_of, says_of}
 use Rattle.tz_tzif.specs.declared.zone.TzifTz.{TzifTz}
-use Rattle.zone_tzif_core.specs.Denotes.{Denotes}
+use Rattle.zone_tzif_core.specs.Denotes.{Says}
 use Rattle.zone_tzif_core.specs.Zones.{ZoneValue}
 
 -- the first of a list, if it has one
@@ -32,7 +32,7 @@ pub record IsGivenBy (text : List ℕ) (zones : List FixedTimespanSet) (t total 
 pub record IsGivenByFile (bytes : List ℕ) (t total : ℤ) : Type 0 where
   pub value : ZoneValue
   pub zone : TzifTz
-  pub is_file : Denotes bytes value
+  pub is_file : Says bytes value
   pub is_zone : value_of zone ≡ value
   pub says : SaysInFooter value.footer (says_of zone)
   pub is : total ≡ told_total_at (value_of zone) (says_of zone) t

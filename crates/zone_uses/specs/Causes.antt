@@ -21,7 +21,7 @@ use Rattle.zone_source.specs.Faults.{source_fault}
 use Rattle.zone_source.specs.Zones.{values_of}
 use Rattle.zone_table.specs.Tables.{IsTableOf}
 use Rattle.zone_table.specs.declared.table.Table.{Table}
-use Rattle.zone_tzif_core.specs.Denotes.{Denotes}
+use Rattle.zone_tzif_core.specs.Denotes.{Says}
 use Rattle.zone_tzif_core.specs.Zones.{ZoneValue}
 use Rattle.zone_tzif_core.specs.declared.values.ReadFault.TheVariants as read
 
@@ -51,12 +51,12 @@ IsAlarmCause first days _ = ⊥
 -- the bytes are a file of a zone that can't be asked
 pub record IsNoFileZone (bytes : List ℕ) (fault : TzifFault) : Type 0 where
   pub value : ZoneValue
-  pub is_file : Denotes bytes value
+  pub is_file : Says bytes value
   pub cause : IsTzifFault value fault
 
 -- why bytes have no zone: they are no file, or its zone can't be asked; or memory ran out
 abbrev pub IsFileCause : List ℕ → Error → Type 0
-IsFileCause bytes (error.File read.Refused) = (value : ZoneValue) → ¬ (Denotes bytes value)
+IsFileCause bytes (error.File read.Refused) = (value : ZoneValue) → ¬ (Says bytes value)
 IsFileCause bytes (error.File read.NoMemory) = Unit {0}
 IsFileCause bytes (error.FileZone fault) = IsNoFileZone bytes fault
 IsFileCause bytes _ = ⊥

@@ -4,7 +4,7 @@ ghost use Rattle.civil_base.specs.DateTimes.{instant};
 ghost use Rattle.zone_uses.specs.Answers.{IsGivenByFile};
 ghost use Rattle.zone_uses.specs.Causes.{IsFileCause};
 
-use sefunjaro::{Error, Offset, OffsetDateTime, TimeZone, TzifTz, UtcOffset, read_any};
+use sefunjaro::{Error, Offset, OffsetDateTime, TimeZone, TzifTz, UtcOffset, read_file};
 use std::alloc::Global;
 
 /// The offset that a compiled zone file gives an instant: past its last change by its footer, so in any year.
@@ -16,7 +16,7 @@ pub fn offset_in_file(alloc: Global, bytes: &[u8], at: &OffsetDateTime) -> Resul
     ensures given { IfOk result (IsGivenByFile bytes.now (instant at.now)) }
     ensures err { IfErr result (IsFileCause bytes.now) }
 {
-    let value = read_any(alloc, bytes)?;
+    let value = read_file(alloc, bytes)?;
     let zone = TzifTz::new(alloc, "file", &value)?;
     Ok(zone.get_offset_utc(at).to_utc())
 }

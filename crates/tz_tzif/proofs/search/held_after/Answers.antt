@@ -1,23 +1,23 @@
-use Rattle.std.proofs.Common.{◌≡◌, ◌∙◌, ◌-◌, true, sym, ap, subst, take, arith}
+use Rattle.std.proofs.Common.{◌≡◌, ◌∙◌, ◌-◌, true, pos, sym, ap, subst, take, arith}
 use Rattle.std.proofs.lemmas.Bool.{and_parts}
-use Rattle.zone_tzif_core.specs.Shown.{kind_shown, shifts_shown}
 use Rattle.zone_tzif_core.specs.Totals.{last_kind}
-use Rattle.zone_tzif_core.specs.Zones.{is_small}
+use Rattle.zone_tzif_core.specs.ZoneFiles.{unnumbered, zone_seen}
+use Rattle.zone_tzif_core.specs.Zones.{KindValue, is_small}
 use Rattle.tz_tzif.proofs.HeldLemmas.{last_of, small_at, not_none}
 use Rattle.tz_tzif.proofs.search.held_after.Goals as goal
 
 pub held_of-requires-else-count-eq0 : goal.held_of-requires-else-count-eq0
 held_of-requires-else-count-eq0 c =
+    let zone = zone_seen c.args.zone.now in
     let some = not_none c.args.count c.if-count-eq0.false in
-    let both = and_parts (is_small c.args.zone.now.first.utoff) _ c.requires.small in
-    subst (λ x. is_small x.1.utoff ≡ true) (sym c.index.ensures)
-    (small_at c.args.zone.now.rest.items (c.args.count - 1) c.index.result.now (omega (arith, c.requires.within, some)) both.1)
+    let both = and_parts (is_small zone.first.utoff) _ c.requires.small in
+    subst (λ (kind : KindValue). is_small kind.utoff ≡ true) (sym c.kind_at.ensures)
+    (small_at zone.rest (c.args.count - 1) (pos 0, unnumbered) (omega (arith, c.requires.within, some)) both.1)
 
 pub returns-else-count-eq0 : goal.returns-else-count-eq0
 returns-else-count-eq0 c =
+    let zone = zone_seen c.args.zone.now in
     let some = not_none c.args.count c.if-count-eq0.false in
-    let first = kind_shown c.args.zone.now.first in
-    let changes = c.args.zone.now.rest.items in
-    c.held_of-else-count-eq0.ensures ∙ ap (λ x. kind_shown x.1) c.index.ensures
-    ∙ sym (last_of first changes (c.args.count - 1) c.index.result.now (omega (arith, c.requires.within, some)))
-    ∙ ap (λ n. last_kind first (take n (shifts_shown changes))) some
+    c.held_of-else-count-eq0.ensures ∙ c.kind_at.ensures
+    ∙ sym (last_of zone.first zone.rest (c.args.count - 1) (pos 0, unnumbered) (omega (arith, c.requires.within, some)))
+    ∙ ap (λ n. last_kind zone.first (take n zone.rest)) some

@@ -1,26 +1,26 @@
 use Rattle.std.proofs.Common.{Err, subst}
 use Rattle.tz_tzif.specs.Faults.{IsTzifFault}
 use Rattle.tz_tzif.specs.declared.fault.TzifFault.TheVariants as tzif
-use Rattle.zone_tzif_core.specs.Denotes.{Denotes}
-use Rattle.zone_tzif_core.specs.Shown.{Reads, zone_shown}
+use Rattle.zone_tzif_core.specs.Denotes.{Says}
+use Rattle.zone_tzif_core.specs.ZoneFiles.{ReadsFile, zone_seen}
 use Rattle.zone_file_answers.proofs.ResponseLemmas.{no_file}
 use Rattle.zone_file_answers.proofs.answering.answers.Goals as goal
 
 pub returns-in-Err-Refused : goal.returns-in-Err-Refused
 returns-in-Err-Refused c = λ total is.
-    subst (λ fault. Reads (Denotes c.args.file.now) (Err fault)) c.in-Err-Refused.field-0-is c.in-Err-Refused.ensures.exact is.value is.denotes
+    subst (λ fault. ReadsFile (Says c.args.file.now) (Err fault)) c.in-Err-Refused.field-0-is c.in-Err-Refused.ensures.exact is.value is.says
 
 pub returns-in-Err-Times : goal.returns-in-Err-Times
 returns-in-Err-Times c =
-    no_file c.args.file.now (zone_shown c.in-Ok.zone) tzif.Times (c.one_reading.ensures c.args.file.now) c.in-Ok.ensures.exact
-    (subst (IsTzifFault (zone_shown c.in-Ok.zone)) c.in-Err-Times.field-0-is c.in-Err-Times.ensures) (λ e. absurd cc)
+    no_file c.args.file.now (zone_seen c.in-Ok.zone) tzif.Times (c.one_saying.ensures c.args.file.now) c.in-Ok.ensures.exact
+    (subst (IsTzifFault (zone_seen c.in-Ok.zone)) c.in-Err-Times.field-0-is c.in-Err-Times.ensures) (λ e. absurd cc)
 
 pub returns-in-Err-Offset : goal.returns-in-Err-Offset
 returns-in-Err-Offset c =
-    no_file c.args.file.now (zone_shown c.in-Ok.zone) tzif.Offset (c.one_reading.ensures c.args.file.now) c.in-Ok.ensures.exact
-    (subst (IsTzifFault (zone_shown c.in-Ok.zone)) c.in-Err-Offset.field-0-is c.in-Err-Offset.ensures) (λ e. absurd cc)
+    no_file c.args.file.now (zone_seen c.in-Ok.zone) tzif.Offset (c.one_saying.ensures c.args.file.now) c.in-Ok.ensures.exact
+    (subst (IsTzifFault (zone_seen c.in-Ok.zone)) c.in-Err-Offset.field-0-is c.in-Err-Offset.ensures) (λ e. absurd cc)
 
 pub returns : goal.returns
 returns c =
-    no_file c.args.file.now (zone_shown c.in-Ok.zone) tzif.Footer (c.one_reading.ensures c.args.file.now) c.in-Ok.ensures.exact
-    (subst (IsTzifFault (zone_shown c.in-Ok.zone)) c.in-Err-Footer.field-0-is c.in-Err-Footer.ensures) (λ e. absurd cc)
+    no_file c.args.file.now (zone_seen c.in-Ok.zone) tzif.Footer (c.one_saying.ensures c.args.file.now) c.in-Ok.ensures.exact
+    (subst (IsTzifFault (zone_seen c.in-Ok.zone)) c.in-Err-Footer.field-0-is c.in-Err-Footer.ensures) (λ e. absurd cc)

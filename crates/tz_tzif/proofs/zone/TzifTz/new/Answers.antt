@@ -1,12 +1,12 @@
 use Rattle.std.proofs.Common.{◌≡◌, true, rules}
-use Rattle.zone_tzif_core.specs.Shown.{zone_shown}
+use Rattle.zone_tzif_core.specs.ZoneFiles.{zone_seen}
 use Rattle.tz_tzif.specs.Faults.{are_small}
 use Rattle.tz_tzif.proofs.KindLemmas.{in_range}
 use Rattle.tz_tzif.proofs.zone.TzifTz.new.Goals as goal
 
 pub invariant_of-result : goal.invariant_of-result
 invariant_of-result c =
-    let is_small : are_small (zone_shown c.args.zone.now) ≡ true = search rules in
+    let is_small : are_small (zone_seen c.args.zone.now) ≡ true = search rules in
     record {
       rising = search rules;
       small = is_small;
