@@ -1,3 +1,4 @@
+mod FaultRows
 mod ResponseLemmas
 mod RefusalLemmas
 mod ShowingLemmas
