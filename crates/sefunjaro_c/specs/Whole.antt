@@ -1,7 +1,6 @@
 -- The string that carries a zone on, and the zone's file; and why there is none, in numbers.
 use Rattle.std.specs.Prelude.{◌≡◌, ◌⊎◌, ℕ, ℤ, Bool, List, length, Option, None, option_map}
 use Rattle.zone_tail_core.specs.Carried.{CarriesOn}
-use Rattle.zone_tail_core.specs.Found.{found_from}
 use Rattle.zone_tail_core.specs.Tails.{tail_fault, IsTail}
 use Rattle.zone_tail_core.specs.declared.outcome.TailFault.{TailFault}
 use Rattle.zone_tail_core.specs.declared.outcome.TailFault.TheVariants as tail
@@ -10,7 +9,7 @@ use Rattle.zone_tzif_core.specs.Totals.{file_total_at}
 use Rattle.zone_tzif_core.specs.Zones.{ZoneValue}
 use Rattle.zone_tzif_core.specs.declared.values.WriteFault.{WriteFault}
 use Rattle.zone_tzif_core.specs.declared.values.WriteFault.TheVariants as write
-use Rattle.zone_tzif_set.specs.Files.{file_fault, file_of_set, footer_of}
+use Rattle.zone_tzif_set.specs.Files.{consistent_fault, consistent_file, IsCarriedOn}
 use Rattle.zone_tzif_set.specs.declared.file.FileFault.{FileFault}
 use Rattle.zone_tzif_set.specs.declared.file.FileFault.TheVariants as file
 use Rattle.zone_open.specs.PosixNames.{has_posix_names}
@@ -79,16 +78,16 @@ tzif_told file.NoMemory = plain out_of_memory
 
 -- why a zone has no file, if so
 abbrev pub file_due : OpenZone → Option Fault
-file_due zone = option_map (λ fault. none_for (file_number fault)) (file_fault (set_in zone))
+file_due zone = option_map (λ fault. none_for (file_number fault)) (consistent_fault (set_in zone))
 
 -- The zone's file stands in the room, as far as it fits, and its length is told. Whatever is read from that file has the zone's offset
--- at each instant, and its footer is the string that carries the zone on, if there is one.
+-- at each instant, and its footer is the string that carries the zone on, if there is one and no change lies past all that it says.
 pub record IsFileIn (zone : OpenZone) (old new : List ℕ) (whole : ℕ) : Type 0 where
-  pub none : file_fault (set_in zone) ≡ None
-  pub room : new ≡ filled (file_of_set (set_in zone)) old
-  pub length : whole ≡ length (file_of_set (set_in zone))
-  pub totals : (value : ZoneValue) → Denotes (file_of_set (set_in zone)) value → (t : ℤ) → file_total_at value t ≡ total_in zone t
-  pub carried : tail_fault (set_in zone) ≡ None → CarriesOn (set_in zone) (found_from (set_in zone)) (footer_of (set_in zone))
+  pub none : consistent_fault (set_in zone) ≡ None
+  pub room : new ≡ filled (consistent_file (set_in zone)) old
+  pub length : whole ≡ length (consistent_file (set_in zone))
+  pub totals : (value : ZoneValue) → Denotes (consistent_file (set_in zone)) value → (t : ℤ) → file_total_at value t ≡ total_in zone t
+  pub carried : IsCarriedOn (set_in zone)
 
 -- it is told, or why there is none
 abbrev pub IsFileTold : OpenZone → List ℕ → List ℕ → ℕ → Fault → Type 0

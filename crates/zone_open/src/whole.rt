@@ -9,20 +9,19 @@ use owned::{Items, Text};
 use std::alloc::{AllocError, Global};
 use tz_lookup::{CompactSet, CompactTz, FixedTimespan, FixedTimespanSet, SpanTable, TimeZone};
 use zone_tail_core::{Tail, TailFault, tail};
-use zone_tzif_set::{FileFault, tzif_of};
+use zone_tzif_set::{FileFault, consistent_tzif_of};
 
 impl OpenZone {
-    ghost use Rattle.std.specs.Prelude.{◌≡◌, ℤ, IfOk, MatchResult, None, string_bytes};
+    ghost use Rattle.std.specs.Prelude.{◌≡◌, ℤ, IfOk, MatchResult, string_bytes};
     ghost use Rattle.zone_spans.specs.Schedules.{total_at as set_total_at};
     ghost use Rattle.tz_zone.specs.Sets.{schedule_of};
     ghost use Rattle.zone_tail_core.specs.Carried.{CarriesOn};
-    ghost use Rattle.zone_tail_core.specs.Found.{found_from};
-    ghost use Rattle.zone_tail_core.specs.Tails.{IsFaultOf, IsTail, tail_fault};
+    ghost use Rattle.zone_tail_core.specs.Tails.{IsFaultOf, IsTail};
     ghost use Rattle.zone_tzif_core.specs.Denotes.{Denotes};
     ghost use Rattle.zone_tzif_core.specs.Totals.{file_total_at};
     ghost use Rattle.zone_tzif_core.specs.Tzif.{IsTzif};
     ghost use Rattle.zone_tzif_core.specs.Zones.{ZoneValue};
-    ghost use Rattle.zone_tzif_set.specs.Files.{footer_of, zone_of, Makes};
+    ghost use Rattle.zone_tzif_set.specs.Files.{consistent_zone, IsCarriedOn, MakesZone};
     ghost use Rattle.zone_open.specs.Zones.{set_in};
 
     /// The POSIX TZ string that carries the zone on, as [`tail`](zone_tail_core::tail) gives it of the zone's spans. It takes
@@ -42,20 +41,20 @@ impl OpenZone {
         }
     }
 
-    /// The zone's TZif file, as [`tzif_of`] writes it of the zone's spans, with the string that carries the zone on as its
-    /// footer, or none where there is no such string. It takes memory for the spans and for the file.
+    /// The zone's TZif file, as [`consistent_tzif_of`] writes it of the zone's spans, with the string that carries the zone on as
+    /// its footer, or none where there is no such string or the zone changes past all that it says. It takes memory for the spans and for the file.
     ///
     /// # Errors
     ///
     /// In this order, and each exactly where it says: `Times`, `Types`, `Names`; `NoMemory`.
     pub fn tzif(&self, alloc: Global) -> Result<Vec<u8>, FileFault>
-        ensures told { Makes (λ file. file.items) (set_in self.now) result }
-        ensures file { IfOk result (λ file. IsTzif file.items (zone_of (set_in self.now))) }
+        ensures told { MakesZone (λ file. file.items) (consistent_zone (set_in self.now)) result }
+        ensures file { IfOk result (λ file. IsTzif file.items (consistent_zone (set_in self.now))) }
         ensures totals { IfOk result (λ file. (zone : ZoneValue) → Denotes file.items zone → (t : ℤ) → file_total_at zone t ≡ set_total_at (schedule_of (set_in self.now)) t) }
-        ensures carried { IfOk result (λ file. tail_fault (set_in self.now) ≡ None → CarriesOn (set_in self.now) (found_from (set_in self.now)) (footer_of (set_in self.now))) }
+        ensures carried { IfOk result (λ _. IsCarriedOn (set_in self.now)) }
     {
         let set = spans_of(alloc, self.compact())?;
-        match tzif_of(alloc, &set) {
+        match consistent_tzif_of(alloc, &set) {
             Ok(file) => Ok(file),
             Err(fault) => Err(fault),
         }
