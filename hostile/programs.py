@@ -69,7 +69,7 @@ ANSWERS = rf"(({ZONED}( \| {ZONED})*|none)\n)*"
 PROGRAMS = [
     Program("zone_answers", (FILE,), ANSWERS, r"request \d+", "not text|request|range", has_input=True),
     Program("zone_file_answers", (FILE,), ANSWERS, r"request \d+", "not text|request|range", takes=COMPILED, has_input=True),
-    Program("zone_plain", (FILE,), r"((Rule|Zone|Link)? [^\n]*\n)*", "plain", "too long", takes=ANY_SOURCE),
+    Program("zone_plain", (FILE,), r"(# version [^\n]+\n)?((Rule|Zone|Link)? [^\n]*\n)*", "plain", "too long", takes=ANY_SOURCE),
     Program("zone_list", (FILE, NEW_YORK, "1000000000", "4102444800"), rf"( *-?\d+  [^\n]*  {ZONED}\n)*", "list", "range"),
     Program("zone_alarm", (FILE, NEW_YORK, "2024-03-09", "02:30:00", "30"), rf"(({ZONED}|-?\d{{4}}-\d\d-\d\d none)\n)*", "alarm", "range"),
     Program("zone_tail", (FILE, NEW_YORK), r"(-?\d+|all) [^\n]+\n", "tail", "shape|range|name"),

@@ -11,7 +11,7 @@ use zone_source::LIMIT;
 /// Sources, and what is written of each, with `~` between them and `;` for each line feed: an old rule; `%z` with an amount and under a
 /// ruleset; a chain of links; a line of a zone that begins with a rule's word; quotes and a comment; a link that stands twice; a ruleset whose name
 /// RULES can't say, alone, beside one of the name that it had there, beside one that begins with `__`, and beside two of which more lines name
-/// the second; `%z` under a ruleset that begins with `_`; words and days.
+/// the second; `%z` under a ruleset that begins with `_`; words and days; a weekday up to February 29; a release, and one that is no first line.
 const SOURCES: &str = "\
 R d 1916 o - Jun 14 23s 1 S~Rule d 1916 only - Jun 14 23:00s 1:00 S;
 R b 1990 o - O 1 0 1 -;R b 1991 o - F 1 0 0 -;Z A -3 b %z 1999 O 3;-4 - %z~Rule b 1990 only - Oct 1 0:00 1:00 -;Rule b 1991 only - Feb 1 0:00 0 -;Rule _a 1990 only - Oct 1 0:00 1:00 -02;Rule _a 1991 only - Feb 1 0:00 0 -03;Zone A -3:00 _a %s 1999 Oct 3; -4:00 - -04;
@@ -25,11 +25,15 @@ R b2 1990 o - O 1 0 1 -;R __x 1991 o - O 1 0 1 -;Z A 0 b2 X 1999;0 __x X~Rule _a
 R b2 1990 o - O 1 0 1 -;R _a 1991 o - O 1 0 1 -;R __ 1992 o - O 1 0 1 -;Z A 0 b2 X 1999;0 __ X~Rule _a_-b-dc 1990 only - Oct 1 0:00 1:00 -;Rule _a 1991 only - Oct 1 0:00 1:00 -;Rule __ 1992 only - Oct 1 0:00 1:00 -;Zone A 0 _a_-b-dc X 1999; 0 __ X;
 R _b 1990 o - O 1 0 1 -;Z A -3 _b %z~Rule _b 1990 only - Oct 1 0:00 1:00 -;Rule __a 1990 only - Oct 1 0:00 1:00 -02;Zone A -3:00 __a %s;
 R a mi ma - O Su<=25 2u 0 A;R a 1990 1991 - ap lastf 24 -0:30 -~Rule a min max - Oct Sun<=25 2:00u 0 A;Rule a 1990 1991 - Apr lastFri 24:00 -0:30 -;
+R a 1990 ma - F su<=29 0 0 -~Rule a 1990 max - Feb lastSun 0:00 0 -;
+# version 2026b;# a;L A B;Z A 0 - X~# version 2026b;Zone A 0 - X;Link A B;
+# a;# version 2026b;Z A 0 - X~Zone A 0 - X;
 ";
 
 /// Sources that are refused, and the line with its cause: a word that fits two months; a saving of which the suffix says that it is
 /// standard time; a line of a zone that isn't there; links in a circle and to nothing; a ruleset without rules, also where it has the name
-/// that another would get in the plain form; names that stand twice; quotes that are left open; and a sharp within quotes, with which the plain form begins a comment.
+/// that another would get in the plain form; names that stand twice; quotes that are left open; a sharp within quotes, with which the plain form begins a comment;
+/// and February 29 of two years.
 const REFUSED: &str = "\
 Z A 0 - X;R d 1916 o - Ju 14 0 0 S~2 Month
 R d 1916 o - Jun 14 0 1s S~1 Saving
@@ -43,6 +47,7 @@ Z A 0 - X;L A A~2 LinkIsZone
 Z A 0 - X;Z B 0 - Y;L A C;L B C~4 DuplicateLink
 Z A 0 - X;Z B 0 - \"~2 Quotes
 Z \"A#\" 1 - X~1 Unsayable
+Z A 0 - X 2020 F 29;0 - X;R a 2019 2020 - F 29 0 0 -~3 Day
 ";
 
 /// What is written of a source, or the number of the line that is refused, and the cause.

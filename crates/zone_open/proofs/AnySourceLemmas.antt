@@ -1,10 +1,11 @@
 -- Plain forms are short, and their faults are those of the text.
-use Rattle.std.proofs.Common.{◌≡◌, ◌≤◌, ℕ, Bool, true, false, cond, List, length, nat_lt, refl, subst, ap, arith}
+use Rattle.std.proofs.Common.{◌≡◌, ◌≤◌, ℕ, Bool, true, false, cond, List, ◌++◌, length, nat_lt, refl, subst, ap, arith}
 use Rattle.std.specs.Prelude.{Result, Ok, Err, IfErr}
 use Rattle.zone_values.specs.Results.{◌>>=◌}
 use Rattle.zone_plain_base.specs.LineFaults.{Refusal, by_line, too_long}
 use Rattle.zone_plain_links.specs.Settled.{settled}
 use Rattle.zone_plain_offsets.specs.WrittenOut.{written_out}
+use Rattle.zone_plain.specs.Heads.{head_of}
 use Rattle.zone_plain.specs.LineValues.{values_in}
 use Rattle.zone_plain.specs.Plain.{if_short, plain_of}
 use Rattle.zone_plain.specs.Written.{written}
@@ -37,9 +38,10 @@ after (Err refusal) next form short e = absurd (not_ok e)
 pub plain_short : (text form : List ℕ) → plain_of text ≡ Ok form → length form ≤ 16777216
 unfolding plain_of
 plain_short text form e =
+    after (by_line (head_of text)) _ form (λ head.
     after (by_line (values_in text)) _ form (λ values.
     after (settled values) _ form (λ linked.
-    after (written_out linked) _ form (λ out. is_short (written out) form))) e
+    after (written_out linked) _ form (λ out. is_short (head ++ written out) form)))) e
 
 -- a fault of the plain form is one of the text's
 pub form_refused : (text form : List ℕ) (result : Result OpenSource AnySourceFault) → length text ≤ 16777216 → plain_of text ≡ Ok form

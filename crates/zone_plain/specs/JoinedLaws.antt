@@ -223,6 +223,25 @@ parts_link values name =
     ∙ no_links_in_zones values links name ∙ links_alone values name)
     ∙ sym (ap (λ vs. link_of vs name) (whole values) ∙ link_forward values [] name)
 
+-- a blank line in front changes nothing
+pub blank_first : (values : List LineValue) → JoinAlike (space ∷ values) values
+blank_first values = record {
+  rules = λ name. ap (λ vs. rules_of vs name) (whole (space ∷ values)) ∙ rules_forward (space ∷ values) [] name
+      ∙ sym (ap (λ vs. rules_of vs name) (whole values) ∙ rules_forward values [] name);
+  zones = λ name. ap (λ vs. zone_of vs name) (whole (space ∷ values)) ∙ zone_forward (space ∷ values) [] name
+      ∙ sym (ap (λ vs. zone_of vs name) (whole values) ∙ zone_forward values [] name);
+  links = λ name. ap (λ vs. link_of vs name) (whole (space ∷ values)) ∙ link_forward (space ∷ values) [] name
+      ∙ sym (ap (λ vs. link_of vs name) (whole values) ∙ link_forward values [] name);
+}
+
+-- what is alike of two is alike of the first and the last
+pub alike_both : (one other last : List LineValue) → JoinAlike one other → JoinAlike other last → JoinAlike one last
+alike_both one other last first second = record {
+  rules = λ name. first.rules name ∙ second.rules name;
+  zones = λ name. first.zones name ∙ second.zones name;
+  links = λ name. first.links name ∙ second.links name;
+}
+
 -- the parts of lines in their places have the rulesets, the zones and the links of the lines
 pub parts_alike : (values : List LineValue) → are_placed false values ≡ true → JoinAlike (in_parts values) values
 parts_alike values placed = record {

@@ -15,10 +15,12 @@ use Rattle.zone_plain_names.specs.Names.{said_name}
 use Rattle.zone_plain_names.specs.NameLaws.{stays_so}
 use Rattle.zone_plain_names.specs.Renamed.{saved_by, ruleset_of, saving_by, under, renamed}
 use Rattle.zone_plain_links.specs.Needs.{IsPlain}
+use Rattle.zone_plain_links.specs.Settled.{settled}
 use Rattle.zone_plain_links.specs.SettledLaws.{plain_stays}
 use Rattle.zone_plain_offsets.specs.Made.{changed_by, changed, is_changed_said, name_in, made_for, made}
 use Rattle.zone_plain_offsets.specs.Pairs.{Pair, joined_by, pairs_from}
 use Rattle.zone_plain_offsets.specs.WrittenOut.{made_size, refused_from, written_unless, written_out}
+use Rattle.zone_plain.specs.Heads.{head_of}
 use Rattle.zone_plain.specs.Kept.{HasNoOffsets}
 use Rattle.zone_plain.specs.LineValues.{line_meaning, is_open_after, values_from, meant_in, mark_in, named, values_in}
 use Rattle.zone_plain.specs.Named.{IsSaidAsMeant}
@@ -100,14 +102,20 @@ all_named mark is_open n (line ∷ lines) =
     by (Ok v) more = rest v (values_from Ok (is_open_after is_open v) (suc n) lines) (more v)
 
 -- where each name can be said, the values of a source are what it means, with its own names
-names_stay : (source : List ℕ) (meant : List LineValue) → meant_in source ≡ Ok meant → All IsSaidAsMeant meant → values_in source ≡ Ok meant
+pub names_stay : (source : List ℕ) (meant : List LineValue) → meant_in source ≡ Ok meant → All IsSaidAsMeant meant → values_in source ≡ Ok meant
 unfolding values_in meant_in
 names_stay source meant means said =
     subst (λ r. IfOk r (λ meant. All IsSaidAsMeant meant → values_in source ≡ Ok meant)) means (all_named (mark_in source) false 1 (lines_of source)) said
 
--- each rule, each zone with its continuations and each link is written, in order and with the source's names
-pub plain_is_kept : (source : List ℕ) (meant : List LineValue) → meant_in source ≡ Ok meant → All IsSaidAsMeant meant → IsPlain meant → HasNoOffsets meant
-    → length (written meant) ≤ text_limit → plain_of source ≡ Ok (written meant)
+-- values that stay are written as they are, behind the line of the release
+pub kept_by : (source head : List ℕ) (values : List LineValue) → head_of source ≡ Ok head → values_in source ≡ Ok values → settled values ≡ Ok values
+    → HasNoOffsets values → length (head ++ written values) ≤ text_limit → plain_of source ≡ Ok (head ++ written values)
 unfolding plain_of
-plain_is_kept source meant means said plain none short =
-    rw (names_stay source meant means said, plain_stays meant plain, out_stays meant none, le-ltb text_limit (length (written meant)) short) refl
+kept_by source head values heads meant stay none short =
+    rw (heads, meant, stay, out_stays values none, le-ltb text_limit (length (head ++ written values)) short) refl
+
+-- behind the line of the release each rule, each zone with its continuations and each link is written, in order and with the source's names
+pub plain_is_kept : (source head : List ℕ) (meant : List LineValue) → head_of source ≡ Ok head → meant_in source ≡ Ok meant → All IsSaidAsMeant meant → IsPlain meant → HasNoOffsets meant
+    → length (head ++ written meant) ≤ text_limit → plain_of source ≡ Ok (head ++ written meant)
+plain_is_kept source head meant heads means said plain none short =
+    kept_by source head meant heads (names_stay source meant means said) (plain_stays meant plain) none short

@@ -1,5 +1,6 @@
 -- Definitions: what public clauses say.
 pub mod LineValues
+pub mod Heads
 pub mod Written
 pub mod Plain
 pub mod Named
@@ -16,7 +17,12 @@ pub mod PlacedLaws
 pub mod ReadBackLaws
 pub mod JoinedLaws
 pub mod WrittenLinesLaws
+pub mod MeansLaws
+pub mod RebuiltLaws
 pub mod KeptLaws
+pub mod PartLaws
+pub mod OwnLaws
 -- Words of private clauses.
 pub mod Placed
+pub mod Followed
 pub mod Told

@@ -1,26 +1,15 @@
 -- The values of the lines of a source, each in its place.
 use Rattle.std.specs.Prelude.{ℕ, suc, List, [], ◌∷◌, Bool, false, is_some, Result, Ok, Err, if◌then◌else◌}
-use Rattle.std.specs.Str.{is_utf8}
 use Rattle.zone_values.specs.Values.{LineValue, space, zone, continuation, rule, link}
-use Rattle.zone_plain_lines.specs.Meanings.{meaning}
-use Rattle.zone_plain_lines.specs.Quotes.{fields, laid_out}
 use Rattle.zone_values.specs.Results.{◌>>=◌}
 use Rattle.zone_plain_lines.specs.declared.cause.PlainCause.{PlainCause}
 use Rattle.zone_plain_lines.specs.declared.cause.PlainCause.TheVariants as cause
 use Rattle.zone_source.specs.Lines.{lines_of}
 use Rattle.zone_plain_base.specs.LineFaults.{LineFault, at, numbered, onto}
 use Rattle.zone_plain_base.specs.Said.{if_said}
+pub use Rattle.zone_plain_base.specs.Meant.{meant_by}
+unfoldable pub use Rattle.zone_plain_base.specs.Meant.{line_meaning}
 use Rattle.zone_plain_names.specs.Renamed.{mark_of, renamed}
-
--- the same of a line whose fields stand in its text; the text of a line without its comment and its quotes is text too
-abbrev pub meant_by : Bool → List ℕ → List (List ℕ) → Result LineValue PlainCause
-meant_by is_continued line found = if is_utf8 (laid_out line) then meaning is_continued found else Err cause.NotText
-
--- what a line means, with its ruleset by the source's name
-unfoldable pub line_meaning : Bool → List ℕ → Result LineValue PlainCause
-line_meaning is_continued line = if is_utf8 line then (do
-  found ← fields line
-  meant_by is_continued line found) else Err cause.NotText
 
 -- whether a line of the zone has to follow, where one had to before
 abbrev pub is_open_after : Bool → LineValue → Bool

@@ -1,20 +1,23 @@
 -- The plain form of a source.
-use Rattle.std.specs.Prelude.{ℕ, List, Result, Ok, Err, length, nat_lt, if◌then◌else◌}
+use Rattle.std.specs.Prelude.{ℕ, List, ◌++◌, Result, Ok, Err, length, nat_lt, if◌then◌else◌}
 use Rattle.zone_outside.specs.Limit.{text_limit}
 use Rattle.zone_values.specs.Results.{◌>>=◌}
 use Rattle.zone_plain_base.specs.LineFaults.{Refusal, too_long, by_line}
 use Rattle.zone_plain_links.specs.Settled.{settled}
 use Rattle.zone_plain_offsets.specs.WrittenOut.{written_out}
+use Rattle.zone_plain.specs.Heads.{head_of}
 use Rattle.zone_plain.specs.LineValues.{values_in}
 use Rattle.zone_plain.specs.Written.{written}
 
 abbrev pub if_short : List ℕ → Result (List ℕ) Refusal
 if_short bytes = if nat_lt text_limit (length bytes) then Err too_long else Ok bytes
 
--- what is written of a source, or why nothing is: its lines each by itself, then its links, then what `%z` asks for
+-- what is written of a source, or why nothing is: the line of its release, then its lines each by itself, then its links, then what `%z`
+-- asks for
 unfoldable pub plain_of : List ℕ → Result (List ℕ) Refusal
 plain_of source = do
+  head ← by_line (head_of source)
   values ← by_line (values_in source)
   linked ← settled values
   out ← written_out linked
-  if_short (written out)
+  if_short (head ++ written out)

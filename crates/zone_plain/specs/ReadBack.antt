@@ -1,11 +1,12 @@
 -- What is written is read as it is meant.
-use Rattle.std.specs.Prelude.{◌≡◌, ℕ, List, All, true, Ok}
+use Rattle.std.specs.Prelude.{◌≡◌, ℕ, List, ◌++◌, All, true, Ok}
 use Rattle.std.specs.Str.{is_utf8}
 use Rattle.zone_line.specs.LineValues.{value}
 use Rattle.zone_values.specs.Values.{LineValue}
 use Rattle.zone_plain_text.specs.PlainTexts.{plain_text}
 use Rattle.zone_plain_links.specs.Settled.{settled}
 use Rattle.zone_plain_offsets.specs.WrittenOut.{written_out}
+use Rattle.zone_plain.specs.Heads.{head_of}
 use Rattle.zone_plain.specs.LineValues.{meant_in}
 use Rattle.zone_plain.specs.Named.{named_lines}
 use Rattle.zone_plain.specs.Written.{written}
@@ -19,6 +20,9 @@ pub record IsReadAsMeant (v : LineValue) : Type 0 where
 
 -- the bytes are written of what a source means, and each line of them is read as it is meant
 pub record IsReadBack (source bytes : List ℕ) : Type 0 where
+  -- the line of its release, if it names one
+  pub head : List ℕ
+  pub heads : head_of source ≡ Ok head
   -- what the lines of the source mean, with its own names
   pub meant : List LineValue
   pub means : meant_in source ≡ Ok meant
@@ -28,6 +32,6 @@ pub record IsReadBack (source bytes : List ℕ) : Type 0 where
   -- the same with `%z` written out
   pub out : List LineValue
   pub spelled : written_out linked ≡ Ok out
-  -- these are written, and read again
-  pub wrote : bytes ≡ written out
+  -- these are written behind that line, and read again
+  pub wrote : bytes ≡ head ++ written out
   pub read : All IsReadAsMeant out

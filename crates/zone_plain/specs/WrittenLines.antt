@@ -7,10 +7,13 @@ use Rattle.zone_table.specs.Joined.{rules_of, zone_of, link_of}
 use Rattle.zone_plain_text.specs.PlainTexts.{plain_text}
 use Rattle.zone_plain.specs.Written.{Rules, Zones, Links, is_in}
 
--- its text has no line feed, and no carriage return at its end
-pub record IsOneLine (v : LineValue) : Type 0 where
-  pub unbroken : All (λ byte. is_line_feed byte ≡ false) (plain_text v)
-  pub kept : strip_carriage_return (plain_text v) ≡ plain_text v
+-- the text has no line feed, and no carriage return at its end
+pub record IsLine (text : List ℕ) : Type 0 where
+  pub unbroken : All (λ byte. is_line_feed byte ≡ false) text
+  pub kept : strip_carriage_return text ≡ text
+
+abbrev pub IsOneLine : LineValue → Type 0
+IsOneLine v = IsLine (plain_text v)
 
 -- the rules, then the zones, then the links, each in their order
 abbrev pub in_parts : List LineValue → List LineValue

@@ -1,7 +1,8 @@
 //! Laws of what is written.
-ghost use Rattle.std.specs.Prelude.{◌≡◌, ◌≤◌, ℕ, All, List, Ok, length};
+ghost use Rattle.std.specs.Prelude.{◌≡◌, ◌≤◌, ◌++◌, ℕ, All, List, Ok, length};
 ghost use Rattle.zone_values.specs.Values.{LineValue};
 ghost use Rattle.zone_plain_links.specs.Needs.{IsPlain};
+ghost use Rattle.zone_plain.specs.Heads.{head_of};
 ghost use Rattle.zone_plain.specs.Kept.{HasNoOffsets};
 ghost use Rattle.zone_plain.specs.LineValues.{meant_in};
 ghost use Rattle.zone_plain.specs.Named.{IsSaidAsMeant};
@@ -10,16 +11,23 @@ ghost use Rattle.zone_plain.specs.Rebuilt.{IsRebuilt};
 ghost use Rattle.zone_plain.specs.Written.{written};
 
 /// Of a source that needs nothing and whose rulesets have names that RULES can say each rule, each line of a zone and each link is
-/// written, as it was meant, under the source's own names and in the order of its part, and nothing else.
+/// written, as it was meant, under the source's own names and in the order of its part, behind the line of its release, if it names one,
+/// and nothing else.
 pub fn plain_is_kept()
-    ensures { (source : List ℕ) (meant : List LineValue) → meant_in source ≡ Ok meant → All IsSaidAsMeant meant → IsPlain meant
-        → HasNoOffsets meant → length (written meant) ≤ 16_777_216 → plain_of source ≡ Ok (written meant) }
+    ensures { (source head : List ℕ) (meant : List LineValue) → head_of source ≡ Ok head → meant_in source ≡ Ok meant
+        → All IsSaidAsMeant meant → IsPlain meant → HasNoOffsets meant → length (head ++ written meant) ≤ 16_777_216
+        → plain_of source ≡ Ok (head ++ written meant) }
 {}
 
 /// What is written of a source is written of what its lines mean, with its rulesets by names that RULES can say, each link led to its
 /// zone and `%z` written out. Each line that is written is UTF-8, and `LineParser::parse_str` reads it as what is meant. A source of
-/// what is written has these lines, the rules, then the zones, then the links, each in their order, and nothing else; and every name
-/// finds in it the rules, the zone's lines and the link's target that it finds in what is meant.
+/// what is written names the release that the source names, and has these lines, the rules, then the zones, then the links, each in their
+/// order, and nothing else; and every name finds in it the rules, the zone's lines and the link's target that it finds in what is meant.
 pub fn written_is_read()
     ensures { (source bytes : List ℕ) → plain_of source ≡ Ok bytes → IsRebuilt source bytes }
+{}
+
+/// A plain form is its own plain form: what is written of what was written of a source is the same, byte for byte.
+pub fn its_own()
+    ensures { (source bytes : List ℕ) → plain_of source ≡ Ok bytes → plain_of bytes ≡ Ok bytes }
 {}

@@ -1,6 +1,7 @@
 //! A tz source in any form that `zic` reads, written in the plain form that the other crates read.
 #![tactic(auto)]
 
+mod head;
 mod laws;
 mod line;
 mod mark;
@@ -11,7 +12,7 @@ mod running;
 mod starting;
 mod whole;
 
-pub use laws::{plain_is_kept, written_is_read};
+pub use laws::{its_own, plain_is_kept, written_is_read};
 pub use running::run_plain;
 pub use starting::start_plain;
 pub use whole::plain;

@@ -5,10 +5,10 @@ ghost use Rattle.zone_plain_names.specs.Marks.{behind, tails};
 ghost use Rattle.zone_plain_names.specs.Renamed.{ruleset_of};
 ghost use Rattle.zone_plain.specs.LineValues.{known, mark_in, meant_in};
 
-use crate::line::{is_open_after, line_meant};
+use crate::line::is_open_after;
 use std::alloc::{AllocError, Global};
 use zone_line::Line;
-use zone_plain_base::Refused;
+use zone_plain_base::{Refused, line_meant};
 use zone_plain_names::{behind_underscore, mark_behind};
 use zone_source::{LIMIT, LineList, Lines};
 

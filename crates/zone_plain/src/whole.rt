@@ -7,6 +7,7 @@ ghost use Rattle.zone_plain.specs.Plain.{plain_of};
 ghost use Rattle.zone_plain.specs.Rebuilt.{IsRebuilt};
 ghost use Rattle.zone_plain.specs.Written.{written};
 
+use crate::head::head_of;
 use crate::output::written;
 use crate::reading::read_lines;
 use std::alloc::{AllocError, Global};
@@ -16,10 +17,11 @@ use zone_plain_links::settle;
 use zone_plain_offsets::write_out;
 use zone_source::{LIMIT, LineList};
 
-/// The plain form of a source in any form that `zic` reads: its rules, then its zones, then its links, each in the order of the
-/// source, a line each, with `%z` written out and each link led to its zone. A ruleset whose name RULES can't say has another name
-/// there, and every other one its own. Each line is written so that `LineParser::parse_str` reads it as what is meant, and a source of
-/// what is written has the rules, the zones and the links that are meant.
+/// The plain form of a source in any form that `zic` reads: the line of its release, if its first line names one, as `# version 2026b`;
+/// then its rules, then its zones, then its links, each in the order of the source, a line each, with `%z` written out and each link led
+/// to its zone. A ruleset whose name RULES can't say has another name there, and every other one its own. Each line is written so that
+/// `LineParser::parse_str` reads it as what is meant, and a source of what is written names the release of the source and has the rules,
+/// the zones and the links that are meant.
 ///
 /// # Errors
 ///
@@ -44,10 +46,12 @@ fn plain_of(alloc: Global, parser: &LineParser, source: &[u8]) -> Result<Vec<u8>
     ensures ok { IfOk result (λ bytes. plain_of source.now ≡ Ok bytes.items) }
     ensures err { IfErr result (IsFaultOf (plain_of source.now)) }
 {
+    let mut bytes = head_of(alloc, parser, source)?;
     let lines = read_lines(alloc, parser, source)?;
     let lines = settle(alloc, parser, &lines)?;
     let lines = write_out(alloc, parser, &lines)?;
-    let bytes = write_lines(alloc, parser, &lines)?;
+    let body = write_lines(alloc, parser, &lines)?;
+    bytes.extend_from_slice(body.as_slice())?;
     if bytes.as_slice().len() > LIMIT {
         return Err(PlainFault::TooLong);
     }

@@ -1,2 +1,3 @@
+pub mod MeantLemmas
 pub mod ReadingLemmas
 mod WorkedSaid

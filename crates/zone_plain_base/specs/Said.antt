@@ -2,6 +2,7 @@
 use Rattle.std.specs.Prelude.{ℕ, ◌-◌, ◌==◌, List, length, slice_index, Bool, false, ◌&&◌, not, Result, Ok, Err, if◌then◌else◌}
 use Rattle.std.specs.List.{list_any}
 use Rattle.std.specs.Str.{is_utf8}
+use Rattle.zone_line.specs.Fields.{is_ruleset_name}
 use Rattle.zone_line.specs.LineValues.{value}
 use Rattle.zone_source.specs.Lines.{is_line_feed}
 use Rattle.zone_values.specs.Faults.{Fault}
@@ -10,6 +11,8 @@ use Rattle.zone_plain_lines.specs.declared.cause.PlainCause.{PlainCause}
 use Rattle.zone_plain_lines.specs.declared.cause.PlainCause.TheVariants as cause
 use Rattle.zone_plain_text.specs.Same.{same_line}
 use Rattle.zone_plain_text.specs.PlainTexts.{plain_text}
+use Rattle.zone_plain_names.specs.Renamed.{ruleset_of}
+use Rattle.zone_plain_base.specs.Meant.{line_meaning, is_next}
 
 -- what was read is this
 abbrev pub is_read_as : LineValue → Result LineValue Fault → Bool
@@ -27,9 +30,18 @@ is_sharp byte = byte == 35
 abbrev pub is_one_line : List ℕ → Bool
 is_one_line text = not (list_any is_line_feed text) && not (ends_returned text) && not (list_any is_sharp text)
 
--- it is the text of one line, and what was read of it is this
+-- what a line means is this
+abbrev pub is_meant_as : LineValue → Result LineValue PlainCause → Bool
+is_meant_as meant (Ok read) = same_line read meant
+is_meant_as meant (Err c) = false
+
+-- whoever reads its text as a line of the plain form, and whoever reads it as a line of a source in any form, finds this in it
+unfoldable pub is_read_by_both : LineValue → List ℕ → Bool
+is_read_by_both meant text = is_read_as meant (value text) && is_meant_as meant (line_meaning (is_next meant) text)
+
+-- RULES can say the name of its ruleset, and it is the text of one line, and what was read of it is this
 unfoldable pub is_said_by : LineValue → List ℕ → Bool
-is_said_by meant text = is_utf8 text && (is_one_line text && is_read_as meant (value text))
+is_said_by meant text = is_ruleset_name (ruleset_of meant) && (is_utf8 text && (is_one_line text && is_read_by_both meant text))
 
 unfoldable pub is_said : LineValue → Bool
 is_said meant = is_said_by meant (plain_text meant)

@@ -2,10 +2,14 @@
 ghost use Rattle.std.specs.Prelude.{◌≡◌, IfOk};
 ghost use Rattle.zone_values.specs.Values.{line_value};
 ghost use Rattle.zone_plain_text.specs.PlainTexts.{plain_text};
-ghost use Rattle.zone_plain_base.specs.Said.{ends_returned, is_one_line, is_said_by, is_said};
+ghost use Rattle.zone_plain_base.specs.Meant.{line_meaning, is_next};
+ghost use Rattle.zone_plain_base.specs.Said.{ends_returned, is_one_line, is_meant_as, is_read_by_both, is_said_by, is_said};
 
+use crate::error::Refused;
+use crate::meant::{is_next, line_meant};
 use std::alloc::{AllocError, Global};
 use zone_line::{Error, Line, LineReader};
+use zone_plain_names::has_said_name;
 use zone_plain_text::{put_plain, same_line};
 use zone_source::text_of;
 
@@ -27,7 +31,40 @@ fn is_one_line(text: &[u8]) -> bool
     !text.contains(&b'\n') && !ends_returned(text) && !text.contains(&b'#')
 }
 
-/// Whether the text is one line that is read as this.
+/// Whether the text means this, as a line of a source in any form in its place.
+fn is_meant(alloc: Global, meant: &Line<'_>, text: &[u8]) -> Result<bool, AllocError>
+    ensures { IfOk result (λ same. same ≡ is_meant_as (line_value meant.now) (line_meaning (is_next (line_value meant.now)) text.now)) }
+{
+    let mut laid = Vec::new(alloc);
+    match line_meant(alloc, is_next(meant), text, &mut laid) {
+        Ok(read) => Ok(same_line(&read, meant)),
+        Err(Refused::Cause(_)) => Ok(false),
+        Err(Refused::NoMemory) => Err(AllocError),
+    }
+}
+
+/// Whether the text is read as this in the plain form, and as a line of a source in any form.
+#[tactic(auto, unfolding(crate::specs::Said::is_read_by_both))]
+fn is_read_by_both(
+    alloc: Global,
+    reader: &mut LineReader<'_>,
+    meant: &Line<'_>,
+    text: &str,
+) -> Result<bool, AllocError>
+    ensures { IfOk result (λ read. read ≡ is_read_by_both (line_value meant.now) text.now) }
+{
+    let is_read = match reader.parse_str(alloc, text) {
+        Ok(read) => same_line(&read, meant),
+        Err(Error::NoMemory) => return Err(AllocError),
+        Err(_) => false,
+    };
+    if !is_read {
+        return Ok(false);
+    }
+    is_meant(alloc, meant, text.as_bytes())
+}
+
+/// Whether the text is one line that is read as this, of a ruleset that RULES can say.
 #[tactic(auto, unfolding(crate::specs::Said::is_said_by))]
 fn is_said_by(
     alloc: Global,
@@ -37,17 +74,16 @@ fn is_said_by(
 ) -> Result<bool, AllocError>
     ensures { IfOk result (λ said. said ≡ is_said_by (line_value meant.now) text.now) }
 {
+    if !has_said_name(meant) {
+        return Ok(false);
+    }
     let Some(text) = text_of(text) else {
         return Ok(false);
     };
     if !is_one_line(text.as_bytes()) {
         return Ok(false);
     }
-    match reader.parse_str(alloc, text) {
-        Ok(read) => Ok(same_line(&read, meant)),
-        Err(Error::NoMemory) => Err(AllocError),
-        Err(_) => Ok(false),
-    }
+    is_read_by_both(alloc, reader, meant, text)
 }
 
 /// Writes what a line means, in place of what the buffer has, and answers whether it is one line that is read as this.

@@ -21,14 +21,14 @@ use Rattle.zone_plain_links.specs.LeadsLaws.{is_zone_behind, behind_itself}
 use Rattle.zone_plain_links.specs.Needs.{is_to_zone, has_zones_as_targets, NeedsNothing, IsPlain}
 use Rattle.zone_plain_links.specs.Settled.{lacks_rules, link_to, link_after, settled_link, settled_line, link_size, settled_from, settled}
 
-ok_is : {A E : Type 0} {a b : A} → ◌≡◌ {A = Result A E} (Ok a) (Ok b) → a ≡ b
+pub ok_is : {A E : Type 0} {a b : A} → ◌≡◌ {A = Result A E} (Ok a) (Ok b) → a ≡ b
 ok_is {a = a} e = ap (λ r. result_unwrap_or r a) e
 
-no_ok : {X A E : Type 0} {e : E} {a : A} → Err e ≡ Ok a → X
+pub no_ok : {X A E : Type 0} {e : E} {a : A} → Err e ≡ Ok a → X
 no_ok h = search rules
 
 -- what a link that isn't refused becomes: the first of its name a link to the zone behind its target, and a later one nothing
-data Becomes (values before : List LineValue) (existing new : List ℕ) (w : LineValue) : Type 0 where
+pub data Becomes (values before : List LineValue) (existing new : List ℕ) (w : LineValue) : Type 0 where
   as_link : (z : List ℕ) → target_of before new ≡ None → zone_behind values existing ≡ Some z → link z new ≡ w → Becomes values before existing new w
   as_nothing : (t : List ℕ) → target_of before new ≡ Some t → space ≡ w → Becomes values before existing new w
 
@@ -39,7 +39,7 @@ said_is found w h = by (is_said found) h
     by true h = ok_is h
     by false h = no_ok h
 
-becomes : (values before : List LineValue) (existing new : List ℕ) (w : LineValue) → settled_link values before existing new ≡ Ok w
+pub becomes : (values before : List LineValue) (existing new : List ℕ) (w : LineValue) → settled_link values before existing new ≡ Ok w
     → Becomes values before existing new w
 unfolding settled_link
 becomes values before existing new w h = by (has_zone values new) h
@@ -80,7 +80,7 @@ link_led values before existing new w (as_link z first behind e) = record {
 }
 link_led values before existing new w (as_nothing t later e) = record { zone_stays = ap zone_name (sym e); to_zone = ap (is_to_zone (has_zone values)) (sym e) }
 
-continuation_is : (values before : List LineValue) (info : InfoValue) (w : LineValue) → settled_line values before (continuation info) ≡ Ok w
+pub continuation_is : (values before : List LineValue) (info : InfoValue) (w : LineValue) → settled_line values before (continuation info) ≡ Ok w
     → continuation info ≡ w
 unfolding settled_line
 continuation_is values before info w h = by (lacks_rules values info.saving) h
@@ -89,7 +89,7 @@ continuation_is values before info w h = by (lacks_rules values info.saving) h
     by true h = no_ok h
     by false h = ok_is h
 
-zone_is : (values before : List LineValue) (name : List ℕ) (info : InfoValue) (w : LineValue) → settled_line values before (zone name info) ≡ Ok w
+pub zone_is : (values before : List LineValue) (name : List ℕ) (info : InfoValue) (w : LineValue) → settled_line values before (zone name info) ≡ Ok w
     → zone name info ≡ w
 unfolding settled_line
 zone_is values before name info w h = by (lacks_rules values info.saving) (has_zone before name) h
@@ -108,14 +108,14 @@ led values before (zone name info) w h = no_link_led values (zone name info) w r
 led values before (link existing new) w h = link_led values before existing new w (becomes values before existing new w h)
 
 -- the first line that isn't refused, and what becomes of the others
-record Steps (values before : List LineValue) (n size : ℕ) (v : LineValue) (vs ws : List LineValue) : Type 0 where
+pub record Steps (values before : List LineValue) (n size : ℕ) (v : LineValue) (vs ws : List LineValue) : Type 0 where
   pub line : LineValue
   pub lines : List LineValue
   pub here : settled_line values before v ≡ Ok line
   pub on : settled_from values (before ++ v ∷ []) (suc n) (size + link_size line) vs ≡ Ok lines
   pub is : ws ≡ line ∷ lines
 
-steps : (values before : List LineValue) (n size : ℕ) (v : LineValue) (vs ws : List LineValue)
+pub steps : (values before : List LineValue) (n size : ℕ) (v : LineValue) (vs ws : List LineValue)
     → settled_from values before n size (v ∷ vs) ≡ Ok ws → Steps values before n size v vs ws
 unfolding settled_from
 steps values before n size v vs ws h = by (settled_line values before v) refl h
@@ -262,7 +262,7 @@ unfolding settled
 names_lead values out h name = names_from values [] 1 0 values out h name
 
 -- a line that needs nothing stays
-line_stays : (values before : List LineValue) (v : LineValue) → NeedsNothing values before v → settled_line values before v ≡ Ok v
+pub line_stays : (values before : List LineValue) (v : LineValue) → NeedsNothing values before v → settled_line values before v ≡ Ok v
 unfolding settled_line settled_link
 line_stays values before space needs = refl
 line_stays values before (rule r) needs = refl
@@ -271,7 +271,7 @@ line_stays values before (zone name info) needs = rw (needs.0, needs.1) refl
 line_stays values before (link existing new) needs =
     rw (needs.no_zone, needs.first, behind_itself values existing needs.to_zone, needs.said) refl
 
-step_stays : (values before : List LineValue) (n size : ℕ) (v : LineValue) (vs : List LineValue) → settled_line values before v ≡ Ok v
+pub step_stays : (values before : List LineValue) (n size : ℕ) (v : LineValue) (vs : List LineValue) → settled_line values before v ≡ Ok v
     → nat_lt text_limit (size + link_size v) ≡ false
     → settled_from values before n size (v ∷ vs) ≡ onto v (settled_from values (before ++ v ∷ []) (suc n) (size + link_size v) vs)
 unfolding settled_from

@@ -7,6 +7,6 @@ mod mark;
 mod name;
 
 pub use laws::said_names;
-pub use line::{behind_underscore, mark_of, said_name_of, under};
+pub use line::{behind_underscore, has_said_name, mark_of, said_name_of, under};
 pub use mark::mark_behind;
 pub use name::said_name;

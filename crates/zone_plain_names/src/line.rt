@@ -1,12 +1,13 @@
 //! Lines with the rulesets that they name.
 ghost use Rattle.std.specs.Prelude.{◌≡◌, map, option_map, option_to_list, string_bytes, IfOk};
 ghost use Rattle.zone_values.specs.Values.{line_value, info_value, saving_value};
+ghost use Rattle.zone_line.specs.Fields.{is_ruleset_name};
 ghost use Rattle.zone_plain_names.specs.Marks.{behind};
 ghost use Rattle.zone_plain_names.specs.Names.{said_name};
 ghost use Rattle.zone_plain_names.specs.Renamed.{saved_by, info_by, mark_of, ruleset_of, under};
 
 use crate::mark::{add, behind, mark_behind};
-use crate::name::said_name;
+use crate::name::{is_ruleset_name, said_name};
 use std::alloc::{AllocError, Global};
 use zone_values::{Line, Rule, Saving, Zone, ZoneInfo};
 
@@ -30,6 +31,13 @@ fn ruleset_of<'t>(line: &Line<'t>) -> &'t str
         Line::Continuation(info) => saved_by(info.saving),
         Line::Space | Line::Link(_) => "",
     }
+}
+
+/// Whether RULES can say the name of the ruleset that a line is of or names; it can where the line names none.
+pub fn has_said_name(line: &Line<'_>) -> bool
+    ensures { result ≡ is_ruleset_name (ruleset_of (line_value line.now)) }
+{
+    is_ruleset_name(ruleset_of(line))
 }
 
 /// What a line says of a stretch of time, with another name for its ruleset.

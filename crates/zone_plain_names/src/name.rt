@@ -13,7 +13,7 @@ fn is_letter(byte: u8) -> bool
 }
 
 /// Whether RULES can say the name: it has ASCII letters, hyphens and underscores alone.
-fn is_ruleset_name(name: &str) -> bool
+pub(crate) fn is_ruleset_name(name: &str) -> bool
     ensures { result ≡ is_ruleset_name name.now }
 {
     name.bytes().all(|byte| byte == b'-' || byte == b'_' || byte.is_ascii_alphabetic())

@@ -71,7 +71,7 @@ not_placed (c ∷ d ∷ text) e =
     (λ i. (both.0 i && (d == 115)) || not_placed (d ∷ text) both.1 i)
 
 -- a text without such a byte, and one more behind it
-clean_append : (mark : ℕ) (xs ys : List ℕ) → has_byte mark xs ≡ false → has_byte mark ys ≡ false → has_byte mark (xs ++ ys) ≡ false
+pub clean_append : (mark : ℕ) (xs ys : List ℕ) → has_byte mark xs ≡ false → has_byte mark ys ≡ false → has_byte mark (xs ++ ys) ≡ false
 clean_append mark xs ys p q = list_any-append (λ c. c == mark) xs ys ∙ (λ i. p i || q i)
 
 -- what stands on either side of `%z` has neither a percent sign nor a slash
@@ -122,7 +122,7 @@ minutes_clean mark n below = by_test (n == 0)
     by_test true = refl
     by_test false = clean_append mark (two_digits (n / 60)) (seconds_text (n % 60)) (digits_clean mark (n / 60) below) (seconds_clean mark (n % 60) below)
 
-text_clean : (mark : ℕ) (t : ℤ) → mark < 48 → (43 == mark) ≡ false → (45 == mark) ≡ false → has_byte mark (offset_text t) ≡ false
+pub text_clean : (mark : ℕ) (t : ℤ) → mark < 48 → (43 == mark) ≡ false → (45 == mark) ≡ false → has_byte mark (offset_text t) ≡ false
 unfolding offset_text
 text_clean mark t below plus minus =
     clean_append mark (sign t ∷ two_digits (unsigned_abs t / 3600)) (minutes_text (unsigned_abs t % 3600))
@@ -175,7 +175,8 @@ parted ruled x (c ∷ y) before after e none mark = by_test (c == 122) mark
     by_test true mark = let same : around x y ≡ around before after = cc in subst (λ a. AreClean a.before a.after) same clean
     by_test false mark = absurd (cc)
 
-clean_parts : (ruled : Bool) (format before after : List ℕ) → is_format ruled format ≡ true → around_mark format ≡ Some (around before after)
+-- so a format is parted
+pub clean_parts : (ruled : Bool) (format before after : List ℕ) → is_format ruled format ≡ true → around_mark format ≡ Some (around before after)
     → AreClean before after
 unfolding is_format around_mark
 clean_parts ruled format before after e mark = by_hyphen (bytes_eq format (codes "-")) e
@@ -284,7 +285,7 @@ by_name (rule q) info format name is = absurd (cc)
 by_name (link x y) info format name is = absurd (cc)
 
 -- a pair for which a line asks is one of the pairs
-among_stays : (pair : Pair) (values : List LineValue) (pairs : List Pair) → is_among pair pairs ≡ true → is_among pair (pairs_from pairs values) ≡ true
+pub among_stays : (pair : Pair) (values : List LineValue) (pairs : List Pair) → is_among pair pairs ≡ true → is_among pair (pairs_from pairs values) ≡ true
 unfolding pairs_from
 among_stays pair [] pairs e = e
 among_stays pair (v ∷ values) pairs e = among_stays pair values (joined_by (asked v) pairs) (among_joined pair (asked v) pairs e)

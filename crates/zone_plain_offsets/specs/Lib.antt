@@ -14,6 +14,7 @@ pub mod SaidLaws
 pub mod MadeLaws
 pub mod TableLaws
 pub mod AbbreviationLaws
+pub mod NoneLeftLaws
 -- Words of private clauses.
 pub mod Shown
 pub mod Told

@@ -1,7 +1,8 @@
 use Rattle.std.proofs.Common.{sym, ◌∙◌, ap, not}
 use Rattle.std.specs.Str.{is_utf8}
-use Rattle.zone_plain.proofs.LineLemmas.{IsGood, no_text, bad_quotes, laid_no_text, told_meant}
-use Rattle.zone_plain.proofs.line.line_meant.Goals as goal
+use Rattle.zone_plain_base.specs.SaidLaws.{no_text}
+use Rattle.zone_plain_base.proofs.MeantLemmas.{IsGood, bad_quotes, laid_no_text, told_meant}
+use Rattle.zone_plain_base.proofs.meant.line_meant.Goals as goal
 
 pub returns-then-not-is_text : goal.returns-then-not-is_text
 returns-then-not-is_text c = no_text _ _ (sym c.is_text.ensures ∙ c.if-not-is_text.true)

@@ -1,0 +1,47 @@
+-- Lines of which each needs nothing where it stands.
+use Rattle.std.specs.Prelude.{◌≡◌, ℕ, List, [], ◌∷◌, ◌++◌, Bool, true, false, Option, Some, None, bytes_eq}
+use Rattle.std.specs.List.{list_any, filter_map}
+use Rattle.zone_values.specs.Values.{LineValue, space, zone, continuation, rule, link}
+use Rattle.zone_plain_base.specs.Said.{is_said}
+use Rattle.zone_plain_links.specs.Named.{has_zone}
+use Rattle.zone_plain_links.specs.Needs.{NeedsNothing}
+use Rattle.zone_plain_links.specs.Settled.{lacks_rules}
+
+-- the new name that a link gives
+abbrev pub new_name : LineValue → Option (List ℕ)
+new_name space = None
+new_name (zone name info) = None
+new_name (continuation info) = None
+new_name (rule r) = None
+new_name (link existing new) = Some new
+
+-- the names that lines give
+abbrev pub names_by : (LineValue → Option (List ℕ)) → List LineValue → List (List ℕ)
+names_by name_of values = filter_map name_of values
+
+abbrev pub has : List (List ℕ) → List ℕ → Bool
+has names name = list_any (λ other. bytes_eq other name) names
+
+-- none of the names is one of those before it
+abbrev pub AreFresh : List (List ℕ) → List (List ℕ) → Type 0
+AreFresh before [] = Unit {0}
+AreFresh before (name ∷ names) = (has before name ≡ false) × AreFresh (before ++ name ∷ []) names
+
+-- a link to a zone of a source, of a name that no zone of it has, which the plain form can say
+pub record IsSoundLink (all : List LineValue) (existing new : List ℕ) : Type 0 where
+  pub to_zone : has_zone all existing ≡ true
+  pub no_zone : has_zone all new ≡ false
+  pub said : is_said (link existing new) ≡ true
+
+-- what a line needs of its source, apart from the lines before it
+abbrev pub IsSound : List LineValue → LineValue → Type 0
+IsSound all space = Unit {0}
+IsSound all (rule r) = Unit {0}
+IsSound all (continuation info) = lacks_rules all info.saving ≡ false
+IsSound all (zone name info) = lacks_rules all info.saving ≡ false
+IsSound all (link existing new) = IsSoundLink all existing new
+
+-- each line needs nothing behind those before it
+abbrev pub AreClean : List LineValue → List LineValue → List LineValue → Type 0
+AreClean all before [] = Unit {0}
+AreClean all before (v ∷ values) = NeedsNothing all before v × AreClean all (before ++ v ∷ []) values
