@@ -8,5 +8,6 @@ mod GapLemmas
 pub mod GapRows
 pub mod PosixNameRows
 pub mod PosixRows
+mod ReleaseLemmas
 mod RoomLemmas
 mod WholeLemmas

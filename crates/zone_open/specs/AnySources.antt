@@ -2,12 +2,13 @@
 use Rattle.std.specs.Prelude.{◌≡◌, ◌<◌, ◌≤◌, ℕ, List, None, Ok, Err, length}
 use Rattle.zone_plain.specs.Plain.{plain_of}
 use Rattle.zone_plain_base.specs.LineFaults.{at, bad_line, too_long}
+use Rattle.zone_release.specs.Releases.{release_of}
 use Rattle.zone_source.specs.Faults.{source_fault}
 use Rattle.zone_source.specs.Zones.{values_of}
 use Rattle.zone_source.specs.declared.error.SourceError.{SourceError}
 use Rattle.zone_table.specs.Tables.{IsTableOf}
 use Rattle.zone_open.specs.Faults.{IsFirstFault}
-use Rattle.zone_open.specs.Sources.{table_in}
+use Rattle.zone_open.specs.Sources.{table_in, release_in}
 use Rattle.zone_open.specs.declared.any_source.AnySourceFault.{AnySourceFault}
 use Rattle.zone_open.specs.declared.any_source.AnySourceFault.TheVariants.{TooLong, Line, PlainTooLong, Plain, NoMemory}
 use Rattle.zone_open.specs.declared.source.OpenSource.{OpenSource}
@@ -17,6 +18,7 @@ pub record IsSourceOfForm (form : List ℕ) (source : OpenSource) : Type 0 where
   pub short : length form ≤ 16777216
   pub valid : source_fault form ≡ None
   pub table : IsTableOf (table_in source) (values_of form)
+  pub release : release_in source ≡ release_of form
 
 -- the source is that of the plain form of a text
 pub record IsAnySource (text : List ℕ) (source : OpenSource) : Type 0 where

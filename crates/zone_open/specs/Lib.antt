@@ -10,6 +10,7 @@ pub mod Files
 pub mod Gaps
 pub mod Posix
 pub mod PosixNames
+pub mod Releases
 pub mod Rooms
 pub mod Sources
 pub mod Zones

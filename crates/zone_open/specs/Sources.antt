@@ -1,7 +1,13 @@
 -- What is seen of a source that is kept open.
+use Rattle.std.specs.Prelude.{ℕ, List, Option}
 use Rattle.zone_table.specs.declared.table.Table.{Table}
+use Rattle.zone_open.specs.Releases.{if_some}
 use Rattle.zone_open.specs.declared.source.OpenSource.{OpenSource}
 
 -- the table of its lines
 abbrev pub table_in : OpenSource → Table
 table_in source = source.table
+
+-- the release that it names
+abbrev pub release_in : OpenSource → Option (List ℕ)
+release_in source = if_some source.release

@@ -23,8 +23,10 @@ pub enum AnySourceFault {
 }
 
 impl OpenSource {
-    ghost use Rattle.std.specs.Prelude.{IfOk, IfErr};
+    ghost use Rattle.std.specs.Prelude.{◌≡◌, IfOk, IfErr};
     ghost use Rattle.zone_open.specs.AnySources.{IsAnyFault, IsAnySource};
+    ghost use Rattle.zone_open.specs.Sources.{release_in};
+    ghost use Rattle.zone_release.specs.Releases.{release_of};
 
     /// Opens a source in any form that `zic` reads: its plain form, as [`plain`](zone_plain::plain) writes it, is opened as
     /// [`open_plain`](OpenSource::open_plain) opens a text.
@@ -37,6 +39,7 @@ impl OpenSource {
     /// memory; `NoMemory`.
     pub fn open(alloc: Global, text: &[u8]) -> Result<OpenSource, AnySourceFault>
         ensures ok { IfOk result (IsAnySource text.now) }
+        ensures release { IfOk result (λ source. release_in source ≡ release_of text.now) }
         ensures err { IfErr result (IsAnyFault text.now) }
     {
         if text.len() > LIMIT {

@@ -3,6 +3,8 @@ ghost use Rattle.std.specs.Prelude.{◌≡◌};
 ghost use Rattle.std.proofs.Props.{props};
 ghost use Rattle.tz_lookup.specs.Databases.{names_of};
 ghost use Rattle.zone_table.specs.BoundedTables.{IsBoundedTable};
+ghost use Rattle.zone_open.specs.Releases.{if_some, release_text};
+ghost use Rattle.zone_release.specs.Releases.{release_of};
 
 use crate::names::names_of;
 use crate::zone::OpenZone;
@@ -10,16 +12,29 @@ use owned::{Items, Text};
 use std::alloc::Global;
 use tz_lookup::{ZoneFault, compile_zone};
 use zone_line::LineParser;
+use zone_release::release_of;
 use zone_source::{LIMIT, SourceError, read_table};
 use zone_table::Table;
 
-/// The zones of a source, with their names in byte order.
+/// The zones of a source, with their names in byte order, and its release, or nothing where it names none.
 #[derive(Drop)]
 pub struct OpenSource {
     table: Table,
     names: Items<Text>,
+    release: Text,
     ghost bounded: { IsBoundedTable table } by { Prim.hlevel props },
     ghost all: { names ≡ names_of table },
+}
+
+/// The release that a text names, or nothing where it names none.
+fn release_text(text: &[u8]) -> &str
+    ensures value { result.now ≡ release_text (release_of text.now) }
+    ensures back { if_some result.now ≡ release_of text.now }
+{
+    match release_of(text) {
+        Some(release) => release,
+        None => "",
+    }
 }
 
 /// Why a source isn't opened.
@@ -44,7 +59,8 @@ impl OpenSource {
     ghost use Rattle.zone_source.specs.Faults.{source_fault};
     ghost use Rattle.zone_source.specs.Zones.{values_of};
     ghost use Rattle.zone_open.specs.Faults.{IsOpenFault, IsReadFault};
-    ghost use Rattle.zone_open.specs.Sources.{table_in};
+    ghost use Rattle.zone_open.specs.Sources.{table_in, release_in};
+    ghost use Rattle.zone_release.specs.Releases.{release_of};
     ghost use Rattle.zone_open.specs.Zones.{set_in, IsOpened};
     ghost use Rattle.tz_zone.specs.Sets.{schedule_of, IsAccepted};
     ghost use Rattle.zone_open.specs.declared.source.OpenFault.TheVariants.{NoMemory};
@@ -59,6 +75,7 @@ impl OpenSource {
         ensures short { OnOk result (length text.now ≤ LIMIT) }
         ensures ok { OnOk result (source_fault text.now ≡ None) }
         ensures table { IfOk result (λ source. IsTableOf (table_in source) (values_of text.now)) }
+        ensures release { IfOk result (λ source. release_in source ≡ release_of text.now) }
         ensures err { IfErr result (IsOpenFault text.now) }
     {
         if text.len() > LIMIT {
@@ -79,24 +96,45 @@ impl OpenSource {
         requires { length text.now ≤ LIMIT }
         ensures ok { OnOk result (source_fault text.now ≡ None) }
         ensures table { IfOk result (λ source. IsTableOf (table_in source) (values_of text.now)) }
+        ensures release { IfOk result (λ source. release_in source ≡ release_of text.now) }
         ensures err { IfErr result (IsReadFault text.now) }
     {
         match read_table(alloc, parser, text) {
-            Ok(table) => OpenSource::of(alloc, table),
+            Ok(table) => OpenSource::of(alloc, table, text),
             Err(SourceError::NoMemory) => Err(OpenFault::NoMemory),
             Err(error) => Err(OpenFault::Source(error)),
         }
     }
 
-    /// A table with its names.
-    fn of(alloc: Global, table: Table) -> Result<OpenSource, OpenFault>
+    /// A table with its names, and the release that its text names.
+    fn of(alloc: Global, table: Table, text: &[u8]) -> Result<OpenSource, OpenFault>
         requires { IsBoundedTable table }
         ensures ok { IfOk result (λ source. table_in source ≡ table) }
+        ensures release { IfOk result (λ source. release_in source ≡ release_of text.now) }
         ensures err { IfErr result (λ fault. fault ≡ NoMemory) }
     {
+        let Ok(release) = Text::new(alloc, release_text(text)) else {
+            return Err(OpenFault::NoMemory);
+        };
         match names_of(alloc, &table) {
-            Ok(names) => Ok(OpenSource { table, names }),
+            Ok(names) => Ok(OpenSource {
+                table,
+                names,
+                release,
+            }),
             Err(_) => Err(OpenFault::NoMemory),
+        }
+    }
+
+    /// The release that the source names by its first line, as `2026b` in `# version 2026b`, if it names one.
+    pub fn release(&self) -> Option<&str>
+        ensures { option_copied result ≡ release_in self.now }
+    {
+        let release = self.release.as_str();
+        if release.is_empty() {
+            None
+        } else {
+            Some(release)
         }
     }
 
