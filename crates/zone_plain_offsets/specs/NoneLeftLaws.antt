@@ -93,16 +93,16 @@ info_formed found from =
     end : Result (Option ChangeTime) PlainCause
     end = end_of found (from + 3) (length found - (from + 3))
 
-    ended : (offset : TimeSpec) (saving : SavingValue) (r : Result (Option ChangeTime) PlainCause) → is_format (is_ruled saving) text ≡ true
-        → IfOk (◌>>=◌ r (λ e. Ok (record { utc_offset = offset; saving = saving; format = text; time = e }))) HasFormat
-    ended offset saving (Err c) h = tt
-    ended offset saving (Ok e) h = h
+    ended : (offset : TimeSpec) (added : SavingValue) (r : Result (Option ChangeTime) PlainCause) → is_format (is_ruled added) text ≡ true
+        → IfOk (◌>>=◌ r (λ e. Ok (record { utc_offset = offset; saving = added; format = text; time = e }))) HasFormat
+    ended offset added (Err c) h = tt
+    ended offset added (Ok e) h = h
 
-    formed : (offset : TimeSpec) (saving : SavingValue) (b : Bool) → is_format (is_ruled saving) text ≡ b
+    formed : (offset : TimeSpec) (added : SavingValue) (b : Bool) → is_format (is_ruled added) text ≡ b
         → IfOk (◌>>=◌ (cond b (Ok text) (Err cause.Format))
-        (λ format. ◌>>=◌ end (λ e. Ok (record { utc_offset = offset; saving = saving; format = format; time = e })))) HasFormat
-    formed offset saving true h = ended offset saving end h
-    formed offset saving false h = tt
+        (λ format. ◌>>=◌ end (λ e. Ok (record { utc_offset = offset; saving = added; format = format; time = e })))) HasFormat
+    formed offset added true h = ended offset added end h
+    formed offset added false h = tt
 
     by : (b : Bool) (o : Result TimeSpec PlainCause) (s : Result SavingValue PlainCause)
         → IfOk (cond b (Err cause.FieldCount) (◌>>=◌ o (λ offset. ◌>>=◌ s (λ saving. ◌>>=◌ (if_format saving text)
