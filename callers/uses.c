@@ -159,6 +159,7 @@ static int edges(void) {
 static int changes_of_nothing(void) {
     static const char text[] =
         "Rule E 1981 max - Mar lastSun 0:00 1:00 -\n"
+        "Rule E 1984 1995 - Sep lastSun 0:00 0 -\n"
         "Rule E 1996 max - Oct lastSun 0:00 0 -\n"
         "Zone Asia/Tbilisi 4:00 E +04/+05 1996 Oct lastSun\n"
         " 4:00 1:00 +05 1997 Mar lastSun\n"
