@@ -22,6 +22,7 @@ static int closed_handles(void) {
     int32_t offset = 9;
     if (sefunjaro_name_count(&source, &count) != SEFUNJARO_NOT_OPEN || count != 9) return 1;
     if (sefunjaro_name(&source, 0, text, 40, &count) != SEFUNJARO_NOT_OPEN || text[0] != 7) return 2;
+    if (sefunjaro_source_version(&source, text, 40, &count) != SEFUNJARO_NOT_OPEN || text[0] != 7 || count != 9) return 64;
     if (open_name("Europe/Paris") != SEFUNJARO_NOT_OPEN || !is_fault(SEFUNJARO_NOT_OPEN, 0, 0)) return 3;
     if (sefunjaro_offset_at(&zone, 0, 0, &offset) != SEFUNJARO_NOT_OPEN || offset != 9) return 4;
     if (sefunjaro_in_force(&zone, 0, 0, &found, text, 40) != SEFUNJARO_NOT_OPEN) return 5;
@@ -36,6 +37,25 @@ static int closed_handles(void) {
     if (sefunjaro_changes(&zone, 0, 1, &change, 1, &count) != SEFUNJARO_NOT_OPEN || change.saving != 7) return 62;
     if (sefunjaro_ring(&zone, &clock, &reading) != SEFUNJARO_NOT_OPEN) return 63;
     sefunjaro_close(&zone);
+    return 0;
+}
+
+/* A source names its release by its first line, and by no other. */
+static int releases(void) {
+    static const char named[] = "# version 2026b\nZone A 1:00 - A\n", later[] = "Zone A 1:00 - A\n# version 2026b\n";
+    uint8_t text[8] = "........";
+    size_t whole = 9;
+    if (open_text(named, sizeof named - 1) || sefunjaro_source_version(&source, text, 3, &whole) || whole != 5 || memcmp(text, "202.....", 8)) return 230;
+    if (sefunjaro_source_version(&source, text, 8, &whole) || whole != 5 || memcmp(text, "2026b...", 8)) return 231;
+    if (sefunjaro_source_open((const uint8_t *)named, sizeof named - 1, &source, &fault)) return 232;
+    text[0] = '.';
+    if (sefunjaro_source_version(&source, text, 8, &whole) || whole != 5 || memcmp(text, "2026b...", 8)) return 233;
+    text[0] = '.', whole = 9;
+    if (open_text(later, sizeof later - 1) || sefunjaro_source_version(&source, text, 8, &whole) != SEFUNJARO_NONE) return 234;
+    if (whole != 9 || text[0] != '.') return 235;
+    if (open_name("A") || sefunjaro_source_version(&zone, text, 8, &whole) != SEFUNJARO_NOT_OPEN || whole != 9) return 236;
+    sefunjaro_close(&zone);
+    sefunjaro_close(&source);
     return 0;
 }
 
@@ -255,6 +275,7 @@ static int files(void) {
 
 int main(void) {
     int failed = closed_handles();
+    if (!failed) failed = releases();
     if (!failed) failed = sources();
     if (!failed) failed = zones();
     if (!failed) failed = looks();

@@ -215,6 +215,7 @@ struct sefunjaro_instant {
    In C and C++ the functions below make the copy on the stack; other languages make it themselves. */
 uint32_t sefunjaro_name_count_by(struct sefunjaro_handle *copy, size_t *count);
 uint32_t sefunjaro_name_by(struct sefunjaro_handle *copy, size_t place, uint8_t *name, size_t room, size_t *whole);
+uint32_t sefunjaro_source_version_by(struct sefunjaro_handle *copy, uint8_t *version, size_t room, size_t *whole);
 uint32_t sefunjaro_zone_open_by(struct sefunjaro_handle *copy, const uint8_t *name, size_t length, struct sefunjaro_handle *zone,
                                 struct sefunjaro_fault *fault);
 uint32_t sefunjaro_share_by(struct sefunjaro_handle *copy, struct sefunjaro_handle *other);
@@ -262,6 +263,13 @@ static inline uint32_t sefunjaro_name_count(const struct sefunjaro_handle *sourc
 static inline uint32_t sefunjaro_name(const struct sefunjaro_handle *source, size_t place, uint8_t *name, size_t room, size_t *whole) {
     struct sefunjaro_handle copy = *source;
     return sefunjaro_name_by(&copy, place, name, room, whole);
+}
+
+/* The release that a source names by its first line, as 2026b in `# version 2026b`, and its whole length: all that stands behind
+   `# version `, where that is something, UTF-8 and without control characters. NOT_OPEN, NONE. */
+static inline uint32_t sefunjaro_source_version(const struct sefunjaro_handle *source, uint8_t *version, size_t room, size_t *whole) {
+    struct sefunjaro_handle copy = *source;
+    return sefunjaro_source_version_by(&copy, version, room, whole);
 }
 
 /* Opens the zone of a name. What the zone's handle held before is closed first. The zone needs its source no more.

@@ -306,6 +306,7 @@ _source_open = _function("sefunjaro_source_open", ctypes.c_char_p, _length, _at,
 _source_open_plain = _function("sefunjaro_source_open_plain", ctypes.c_char_p, _length, _at, _at)
 _name_count = _function("sefunjaro_name_count_by", _at, _at)
 _name = _function("sefunjaro_name_by", _at, _size, _at, _size, _at)
+_source_version = _function("sefunjaro_source_version_by", _at, _at, _size, _at)
 _zone_open = _function("sefunjaro_zone_open_by", _at, ctypes.c_char_p, _length, _at, _at)
 _file_open = _function("sefunjaro_file_open", ctypes.c_char_p, _length, _at, _at)
 _posix_open = _function("sefunjaro_posix_open", ctypes.c_char_p, _length, _at, _at)
@@ -569,16 +570,33 @@ class Source(_Opened):
     def __bool__(self) -> bool:
         return True
 
+    @property
+    def version(self) -> Optional[str]:
+        """The release that the source names by its first line, as "2026b" in `# version 2026b`, or None where it names none. Raises
+        NotOpen where the source was closed."""
+        status, release = self._text(_source_version)
+        if status == Status.NONE:
+            return None
+        if status:
+            _raise(status, "source")
+        return release
+
     def _name_at(self, place: int) -> str:
-        whole = ctypes.c_size_t()
-        room = 64
+        status, name = self._text(_name, place)
+        if status:
+            _raise(status, "source")
+        return name
+
+    def _text(self, call, *asked) -> Tuple[int, str]:
+        """The status of a call, and what it puts into a room, which grows as it has to."""
+        whole, room = ctypes.c_size_t(), 64
         while True:
-            name = (ctypes.c_uint8 * room)()
-            status = self._handle.ask(_name, place, name, room, ctypes.byref(whole))
+            found = (ctypes.c_uint8 * room)()
+            status = self._handle.ask(call, *asked, found, room, ctypes.byref(whole))
             if status:
-                _raise(status, "source")
+                return status, ""
             if whole.value <= room:
-                return bytes(name[: whole.value]).decode()
+                return status, bytes(found[: whole.value]).decode()
             room = whole.value
 
     def __repr__(self) -> str:

@@ -66,6 +66,12 @@ class Zones(unittest.TestCase):
             with self.assertRaises(TypeError):
                 Source(text)
 
+    def test_releases(self):
+        for plain in (False, True):
+            self.assertEqual(Source("# version 2026b\n" + SOURCE, plain=plain).version, "2026b")
+            self.assertEqual(Source(f"# version {'é' * 100}\n" + SOURCE, plain=plain).version, "é" * 100)
+            self.assertIsNone(Source(SOURCE + "# version 2026b\n", plain=plain).version)
+
     def test_look_ups(self):
         zone = self.zone
         self.assertEqual((zone.offset_at(SPRING - 1, 999_999_999), zone.offset_at(SPRING)), (3600, 7200))
@@ -358,7 +364,7 @@ class Lifetimes(unittest.TestCase):
         other = zone.share()
         source.close()
         source.close()
-        for ask in (lambda: source.zone("Here/Middle"), lambda: len(source), lambda: list(source)):
+        for ask in (lambda: source.zone("Here/Middle"), lambda: len(source), lambda: list(source), lambda: source.version):
             with self.assertRaises(sefunjaro.NotOpen):
                 ask()
         moment = TWICE.replace(tzinfo=zone)

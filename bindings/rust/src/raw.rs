@@ -78,6 +78,7 @@ extern "C" {
     pub fn sefunjaro_source_open_plain(text: *const u8, length: usize, source: *mut RawHandle, fault: *mut RawFault) -> u32;
     pub fn sefunjaro_name_count_by(copy: *mut RawHandle, count: *mut usize) -> u32;
     pub fn sefunjaro_name_by(copy: *mut RawHandle, place: usize, name: *mut u8, room: usize, whole: *mut usize) -> u32;
+    pub fn sefunjaro_source_version_by(copy: *mut RawHandle, version: *mut u8, room: usize, whole: *mut usize) -> u32;
     pub fn sefunjaro_zone_open_by(
         copy: *mut RawHandle,
         name: *const u8,

@@ -1,6 +1,6 @@
 //! A source of the tz database.
 
-use crate::raw::{self, RawFault, DONE};
+use crate::raw::{self, RawFault, DONE, NONE};
 use crate::{done, Error, Handle, Zone};
 use std::fmt;
 
@@ -113,20 +113,47 @@ impl Source {
 
     /// The name at a place below the count.
     fn name(&self, place: usize) -> Option<String> {
-        let mut name = vec![0; 64];
-        loop {
-            let mut whole = 0;
-            // SAFETY: the copy serves this call alone, and the room is as long as is said.
-            let status =
-                unsafe { raw::sefunjaro_name_by(&mut self.handle.copy(), place, name.as_mut_ptr(), name.len(), &mut whole) };
-            if status != DONE {
-                return None;
-            }
-            let is_whole = whole <= name.len();
-            name.resize(whole, 0);
-            if is_whole {
-                return String::from_utf8(name).ok();
-            }
+        // SAFETY: the copy serves this call alone, and the room is as long as is said.
+        let name = told(|room, whole| unsafe {
+            raw::sefunjaro_name_by(&mut self.handle.copy(), place, room.as_mut_ptr(), room.len(), whole)
+        });
+        name.ok().flatten()
+    }
+
+    /// The release that the source names by its first line, as `2026b` in `# version 2026b`, or none where it names none.
+    ///
+    /// # Errors
+    ///
+    /// None that a caller can bring about.
+    ///
+    /// ```
+    /// use sefunjaro::Source;
+    ///
+    /// let source = Source::open(b"# version 2026b\nZone A 1:00 - A\n")?;
+    /// assert_eq!(source.version()?.as_deref(), Some("2026b"));
+    /// # Ok::<(), sefunjaro::Error>(())
+    /// ```
+    pub fn version(&self) -> Result<Option<String>, Error> {
+        // SAFETY: the copy serves this call alone, and the room is as long as is said.
+        told(|room, whole| unsafe {
+            raw::sefunjaro_source_version_by(&mut self.handle.copy(), room.as_mut_ptr(), room.len(), whole)
+        })
+    }
+}
+
+/// What a call puts into a room, which grows as it has to, and of which it tells the whole length, or none where there is none.
+fn told(mut call: impl FnMut(&mut [u8], &mut usize) -> u32) -> Result<Option<String>, Error> {
+    let mut text = vec![0; 64];
+    loop {
+        let mut whole = 0;
+        match call(&mut text, &mut whole) {
+            NONE => return Ok(None),
+            status => done(status)?,
+        }
+        let is_whole = whole <= text.len();
+        text.resize(whole, 0);
+        if is_whole {
+            return String::from_utf8(text).map(Some).map_err(|_| Error::Unexpected { status: 0, cause: 0 });
         }
     }
 }

@@ -51,6 +51,17 @@ fn names() {
 }
 
 #[test]
+fn releases() {
+    let version = |text: &str| Source::open(text.as_bytes()).unwrap().version();
+    let long = "é".repeat(100);
+    assert_eq!(version(&format!("# version 2026b\n{SOURCE}")), Ok(Some("2026b".to_owned())));
+    assert_eq!(version(&format!("# version {long}\n{SOURCE}")), Ok(Some(long)));
+    assert_eq!(version(&format!("{SOURCE}# version 2026b\n")), Ok(None));
+    let plain = Source::open_plain(b"# version 2026b\nZone A 1:00 - A\n").unwrap();
+    assert_eq!(plain.version(), Ok(Some("2026b".to_owned())));
+}
+
+#[test]
 fn look_ups() {
     let zone = zone("There/Middle");
     assert_eq!(zone.offset_at(SPRING - 1, 999_999_999), Ok(3600));

@@ -4,9 +4,11 @@ use Rattle.std.specs.Prelude.{Option, Some, None, Result, Ok, Err, option_map}
 use Rattle.zone_plain_base.specs.LineFaults.{Refusal, at, bad_line}
 use Rattle.zone_plain_base.specs.LineFaults as refused
 use Rattle.zone_plain.specs.Plain.{plain_of}
+use Rattle.zone_release.specs.Releases.{release_of}
 use Rattle.zone_source.specs.Faults.{SourceFault, source_fault}
 use Rattle.zone_source.specs.Told.{told_by_source}
 use Rattle.zone_open.specs.AnySources.{IsAnyFault, IsAnySource}
+use Rattle.zone_open.specs.Sources.{release_in}
 use Rattle.zone_open.specs.declared.any_source.AnySourceFault.{AnySourceFault}
 use Rattle.zone_open.specs.declared.any_source.AnySourceFault.TheVariants as opening
 use Rattle.zone_open.specs.declared.source.OpenSource.{OpenSource}
@@ -39,10 +41,12 @@ any_refused text opening.PlainTooLong h = record { told = inr (form_is text (Err
 any_refused text (opening.Plain error) h = told_refused text h.1.form (told_by_source error) h.0 h.1.written h.1.fault.first
 any_refused text opening.NoMemory h = record { told = inl refl; refused = omega arith }
 
-pub any_opened : (text : List ℕ) (source : OpenSource) → IsAnySource text source → IsAnySourceOf text source
-any_opened text source h = record {
+pub any_opened : (text : List ℕ) (source : OpenSource) → IsAnySource text source → release_in source ≡ release_of text
+    → IsAnySourceOf text source
+any_opened text source h named = record {
   valid = form_is text (Ok h.form) h.short h.written ∙ ap (option_map fault_told) h.opened.valid;
   form = h.form;
   written = h.written;
   table = h.opened.table;
+  release = named;
 }

@@ -5,10 +5,11 @@ use Rattle.zone_plain_lines.specs.declared.cause.PlainCause.TheVariants as cause
 use Rattle.zone_plain_base.specs.LineFaults.{Refusal, bad_line}
 use Rattle.zone_plain_base.specs.LineFaults as refused
 use Rattle.zone_plain.specs.Plain.{plain_of}
+use Rattle.zone_release.specs.Releases.{release_of}
 use Rattle.zone_source.specs.Faults.{source_fault}
 use Rattle.zone_source.specs.Zones.{values_of}
 use Rattle.zone_table.specs.Tables.{IsTableOf}
-use Rattle.zone_open.specs.Sources.{table_in}
+use Rattle.zone_open.specs.Sources.{table_in, release_in}
 use Rattle.zone_open.specs.declared.any_source.AnySourceFault.{AnySourceFault}
 use Rattle.zone_open.specs.declared.any_source.AnySourceFault.TheVariants as opening
 use Rattle.zone_open.specs.declared.source.OpenSource.{OpenSource}
@@ -67,9 +68,10 @@ any_told opening.PlainTooLong = long_form
 any_told (opening.Plain error) = error_told error
 any_told opening.NoMemory = plain out_of_memory
 
--- the source is that of the plain form of a text, in which there is no fault
+-- the source is that of the plain form of a text, in which there is no fault, with the release that the text names
 pub record IsAnySourceOf (text : List ℕ) (source : OpenSource) : Type 0 where
   pub valid : any_due text ≡ None
   pub form : List ℕ
   pub written : plain_of text ≡ Ok form
   pub table : IsTableOf (table_in source) (values_of form)
+  pub release : release_in source ≡ release_of text

@@ -2,19 +2,21 @@
 use Rattle.std.specs.Prelude.{◌≡◌, ℕ, List, None}
 use Rattle.zone_table.specs.Tables.{IsTableOf}
 use Rattle.zone_table.specs.declared.table.Table.{Table}
+use Rattle.zone_release.specs.Releases.{release_of}
 use Rattle.zone_source.specs.Zones.{values_of}
 use Rattle.tz_zone.specs.Compiles.{compiled_in}
 use Rattle.tz_zone.specs.Sets.{schedule_of, IsAccepted}
-use Rattle.zone_open.specs.Sources.{table_in}
+use Rattle.zone_open.specs.Sources.{table_in, release_in}
 use Rattle.zone_open.specs.Zones.{set_in, IsOpened}
 use Rattle.zone_open.specs.declared.source.OpenSource.{OpenSource}
 use Rattle.zone_open.specs.declared.zone.OpenZone.{OpenZone}
 use Rattle.sefunjaro_c.specs.Faults.{source_due}
 
--- the source is that of a text with no fault
+-- the source is that of a text with no fault, with the release that the text names
 pub record IsSourceOf (text : List ℕ) (source : OpenSource) : Type 0 where
   pub valid : source_due text ≡ None
   pub table : IsTableOf (table_in source) (values_of text)
+  pub release : release_in source ≡ release_of text
 
 -- the zone is what a table's lines under a name are compiled to, and can be looked up
 pub record IsZoneOf (table : Table) (name : List ℕ) (zone : OpenZone) : Type 0 where

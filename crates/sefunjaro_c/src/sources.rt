@@ -8,7 +8,7 @@ ghost use Rattle.tz_lookup.specs.Databases.{names_of};
 ghost use Rattle.sefunjaro_handles.specs.Held.{OfSource, OnSource, IsSource, IsZone};
 ghost use Rattle.sefunjaro_handles.specs.Statuses.{done, not_open, IfRefused};
 ghost use Rattle.zone_open.specs.Any.{IsOfSource};
-ghost use Rattle.zone_open.specs.Sources.{table_in};
+ghost use Rattle.zone_open.specs.Sources.{release_in, table_in};
 
 use crate::fault::{Fault, opening_fault, plain_fault, zone_fault};
 use crate::status::{DONE, NO_MEMORY, NONE_THERE, NOT_OPEN, NOT_TEXT};
@@ -194,6 +194,45 @@ fn name_at(from: &Opened, place: usize, name: &mut [u8], whole: &mut usize) -> u
     match source.name(place) {
         Some(text) => {
             *whole = fill(text.as_bytes(), name);
+            DONE
+        }
+        None => NONE_THERE,
+    }
+}
+
+/// The release that the source names by its first line, as `2026b` in `# version 2026b`. It goes into the room, as far as it
+/// fits, and its whole length is told.
+#[unsafe(no_mangle)]
+pub extern "C" fn sefunjaro_source_version_by(
+    source: &mut View,
+    version: &mut [u8],
+    whole: &mut usize,
+) -> u32
+    ensures same { source.new.part.opened ≡ source.old.part.opened }
+    ensures loan { IfSome source.old.part.opened (λ _. source.new.part.loan ≡ source.old.part.loan) }
+    ensures answer { OnSource source.old.part.opened result (version.new ≡ version.old)
+        (λ from. IsNameAt (release_in from) result version.old version.new whole.new) }
+    ensures kept { IfRefused result ((version.new ≡ version.old) × (whole.new ≡ whole.old)) }
+{
+    let Some(reading) = source.take() else {
+        return NOT_OPEN;
+    };
+    let status = version_in(reading.get(), version, whole);
+    source.put(reading);
+    status
+}
+
+fn version_in(from: &Opened, version: &mut [u8], whole: &mut usize) -> u32
+    ensures answer { OfSource from.now result (version.new ≡ version.old)
+        (λ source. IsNameAt (release_in source) result version.old version.new whole.new) }
+    ensures kept { IfRefused result ((version.new ≡ version.old) × (whole.new ≡ whole.old)) }
+{
+    let Opened::Source(source) = from else {
+        return NOT_OPEN;
+    };
+    match source.release() {
+        Some(release) => {
+            *whole = fill(release.as_bytes(), version);
             DONE
         }
         None => NONE_THERE,

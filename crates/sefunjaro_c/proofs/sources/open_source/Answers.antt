@@ -7,7 +7,11 @@ use Rattle.sefunjaro_c.proofs.sources.open_source.Goals as goal
 pub returns-in-Ok-source-clause-ok : goal.returns-in-Ok-source-clause-ok
 returns-in-Ok-source-clause-ok c =
     held_source (IsSourceOf c.args.text.now) c.in-Ok.source c.in-Ok-source.opened.value
-    (record { valid = none_due c.args.text.now c.in-Ok.ensures.short c.in-Ok.ensures.ok; table = c.in-Ok.ensures.table })
+    (record {
+      valid = none_due c.args.text.now c.in-Ok.ensures.short c.in-Ok.ensures.ok;
+      table = c.in-Ok.ensures.table;
+      release = c.in-Ok.ensures.release;
+    })
     c.in-Ok-source.ensures
 
 pub returns-in-Err-clause-err : goal.returns-in-Err-clause-err
