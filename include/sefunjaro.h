@@ -132,7 +132,7 @@ enum sefunjaro_plain_cause {
 
 /* Why a compiled file is not read. */
 enum sefunjaro_file_cause {
-    SEFUNJARO_FILE_REFUSED = 1, /* it is no TZif file of version 2 and up, or has leap seconds or an offset of 26 hours or more */
+    SEFUNJARO_FILE_REFUSED = 1, /* it is no TZif file, or has leap seconds or an offset of 26 hours or more */
     SEFUNJARO_FILE_FOOTER = 2   /* its footer is not empty, and no POSIX string of those that are read */
 };
 

@@ -116,7 +116,7 @@ pub enum ScheduleCause {
 #[derive(Clone, Copy, Debug, PartialEq, Eq)]
 #[non_exhaustive]
 pub enum FileCause {
-    /// It is no TZif file of version 2 and up, or has leap seconds or an offset of 26 hours or more.
+    /// It is no TZif file, or has leap seconds or an offset of 26 hours or more.
     Refused,
     /// Its footer is not empty, and no POSIX string of those that are read.
     Footer,

@@ -14,10 +14,10 @@ use Rattle.tz_posix_core.specs.Seconds.{east_of}
 use Rattle.tz_tzif.specs.Faults.{HasOffsets}
 use Rattle.tz_tzif.specs.Zones.{value_of, says_of, IsZoneOf}
 use Rattle.tz_tzif.specs.declared.zone.TzifTz.{TzifTz}
-use Rattle.zone_tzif_core.specs.Denotes.{AreKinds, AreShifts, IsKind, Says, no_kind, a_kind, no_shift, a_shift}
+use Rattle.zone_tzif_core.specs.Denotes.{AreKinds, AreShifts, IsKind, Says, no_kind, a_kind, no_shift, a_shift, zone_file, old_file}
 use Rattle.zone_tzif_core.specs.Shown.{kind_shown}
 use Rattle.zone_tzif_core.specs.declared.values.Kind.{Kind}
-use Rattle.zone_tzif_core.specs.Zones.{KindValue, ZoneValue, is_small}
+use Rattle.zone_tzif_core.specs.Zones.{KindValue, ZoneValue, is_small, rises}
 use Rattle.zone_open.specs.Files.{file_value, SaysOf}
 use Rattle.zone_open.specs.Posix.{standard_kind, IsPosixFault, IsStandardOf}
 use Rattle.zone_open.specs.declared.file.FileZone.{FileZone}
@@ -40,14 +40,20 @@ both : (a b : Bool) → a ≡ true → b ≡ true → (a && b) ≡ true
 both a b h k = λ i. h i && k i
 
 -- and so are those of its changes
-all_small : {kinds : List KindValue} {names records times numbers : List ℕ} {shifts : List (ℤ × KindValue)} → AreKinds names records kinds
-    → AreShifts kinds times numbers shifts → list_all (λ change. is_small change.1.utoff) shifts ≡ true
+all_small : {size : ℕ} {time_of : List ℕ → ℤ} {kinds : List KindValue} {names records times numbers : List ℕ} {shifts : List (ℤ × KindValue)}
+    → AreKinds names records kinds → AreShifts size time_of kinds times numbers shifts → list_all (λ change. is_small change.1.utoff) shifts ≡ true
 all_small kinds no_shift = refl
 all_small kinds (a_shift time {number = n} {kind = k} long at others) = both _ _ (small_at kinds n k at) (all_small kinds others)
 
+-- so what a block says has times that rise and small offsets
+of_block : {size : ℕ} {time_of : List ℕ → ℤ} {kinds : List KindValue} {names records times numbers : List ℕ} (value : ZoneValue)
+    → AreKinds names records kinds → AreShifts size time_of kinds times numbers value.rest → rises value.rest ≡ true
+    → slice_get kinds 0 ≡ Some value.first → HasOffsets value
+of_block value kinds shifts rising first = (rising, both _ _ (small_at kinds 0 value.first first) (all_small kinds shifts))
+
 pub denoted : (bytes : List ℕ) (value : ZoneValue) → Says bytes value → HasOffsets value
-denoted bytes value d =
-    (d.rising, both _ _ (small_at d.block_is.are_kinds 0 value.first d.first_kind) (all_small d.block_is.are_kinds d.block_is.are_shifts))
+denoted bytes value (zone_file is) = of_block value is.block_is.are_kinds is.block_is.are_shifts is.rising is.first_kind
+denoted bytes value (old_file is) = of_block value is.block_is.are_kinds is.block_is.are_shifts is.rising is.first_kind
 
 pub small_offset : (o : ℤ) → IsOffset o → is_small o ≡ true
 small_offset o h =

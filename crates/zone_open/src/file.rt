@@ -53,8 +53,8 @@ impl FileZone {
     ghost use Rattle.zone_open.specs.Answered.{first_of, AreReadings, IsInForce, IsShown};
     ghost use Rattle.zone_open.specs.Files.{file_value, given_at, IsFileFault, IsFileOf, IsPosixOf, IsValueFault, SaysOf};
 
-    /// The zone of a compiled file (RFC 8536, version 2 and up), with what its footer says from the last change on. It takes
-    /// memory in proportion to the file.
+    /// The zone of a compiled file (RFC 8536, any version), with what its footer, if it has one, says from the last change on. It
+    /// takes memory in proportion to the file.
     ///
     /// # Errors
     ///

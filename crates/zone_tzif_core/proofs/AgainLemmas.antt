@@ -8,6 +8,7 @@ use Rattle.std.proofs.lemmas.Str.{is_utf8-from_IsUtf8}
 use Rattle.std.specs.List.{list_all, prefix_len}
 use Rattle.std.specs.Str.{IsUtf8}
 use Rattle.zone_tzif_core.specs.Zones.{KindValue, ZoneValue, rises}
+use Rattle.zone_tzif_core.specs.Numbers.{eight_of}
 use Rattle.zone_tzif_core.specs.Format.{is_one_line}
 use Rattle.zone_tzif_core.specs.Reading.{Cuts, cut, header_at, text_in, between, footer_in, before_zero, name_in, kind_in, kinds_in, shifts_in, second_in, parts_in, joined_in, zone_in}
 use Rattle.zone_tzif_core.specs.Denotes.{IsHeader, IsName, IsKind, AreKinds, no_kind, a_kind, AreShifts, no_shift, a_shift, IsBlock, IsZoneFile}
@@ -57,7 +58,7 @@ kinds_again no_kind = refl
 kinds_again {names} (a_kind {bytes} {records} {kind} {kinds} is are) =
     rw (take_at bytes records 6 is.long, drop_at bytes records 6 is.long, kind_again names bytes kind is, kinds_again are) refl
 
-shifts_again : {kinds : List KindValue} {times numbers : List ℕ} {shifts : List (ℤ × KindValue)} → AreShifts kinds times numbers shifts → shifts_in kinds times numbers ≡ Some shifts
+shifts_again : {kinds : List KindValue} {times numbers : List ℕ} {shifts : List (ℤ × KindValue)} → AreShifts 8 eight_of kinds times numbers shifts → shifts_in kinds times numbers ≡ Some shifts
 unfolding shifts_in
 shifts_again no_shift = refl
 shifts_again (a_shift time {times} long found are) =
@@ -75,25 +76,25 @@ footer_again footer one text =
     let enough : nat_le 2 (length bytes) ≡ true = grind (arith, nat_tests, long) in
     rw (enough, last, inner, one) (text_again footer text)
 
-kinds_long : {names records : List ℕ} {kinds : List KindValue} → AreKinds names records kinds → length records ≡ 6 * length kinds
+pub kinds_long : {names records : List ℕ} {kinds : List KindValue} → AreKinds names records kinds → length records ≡ 6 * length kinds
 kinds_long no_kind = refl
 kinds_long (a_kind {bytes} {records} is are) = omega (arith, length-append bytes records, is.long, kinds_long are)
 
-shifts_long : {kinds : List KindValue} {times numbers : List ℕ} {shifts : List (ℤ × KindValue)} → AreShifts kinds times numbers shifts → length times ≡ 8 * length numbers
+shifts_long : {kinds : List KindValue} {times numbers : List ℕ} {shifts : List (ℤ × KindValue)} → AreShifts 8 eight_of kinds times numbers shifts → length times ≡ 8 * length numbers
 shifts_long no_shift = refl
 shifts_long (a_shift time {times} long found are) = omega (arith, length-append time times, long, shifts_long are)
 
-cuts_of : {says : Header} {block : List ℕ} {kinds : List KindValue} {shifts : List (ℤ × KindValue)} → IsBlock says block kinds shifts → List ℕ → Cuts
+pub cuts_of : {says : Header} {block : List ℕ} {kinds : List KindValue} {shifts : List (ℤ × KindValue)} → IsBlock 8 eight_of says block kinds shifts → List ℕ → Cuts
 cuts_of {says} is footer = record { kinds = says.kind; times = is.times; numbers = is.numbers; records = is.records; names = is.names; footer = footer }
 
-second_again : (says : Header) (block rest footer : List ℕ) (kinds : List KindValue) (shifts : List (ℤ × KindValue)) (is : IsBlock says block kinds shifts) → footer_in rest ≡ Some footer → second_in says (block ++ rest) ≡ Some (cuts_of is footer)
+pub second_again : (says : Header) (block rest footer : List ℕ) (kinds : List KindValue) (shifts : List (ℤ × KindValue)) (is : IsBlock 8 eight_of says block kinds shifts) → footer_in rest ≡ Some footer → second_in says (block ++ rest) ≡ Some (cuts_of is footer)
 unfolding second_in cuts_of
 second_again says block rest footer kinds shifts is ends =
     let times : length is.times ≡ 8 * says.time = omega (arith, shifts_long is.are_shifts, is.time_count) in
     let records : length is.records ≡ 6 * says.kind = omega (arith, kinds_long is.are_kinds, is.kind_count) in
     rw (is.whole, append_assoc, append_assoc, append_assoc, append_assoc) (rw (cut_again _ is.times _ times, cut_again _ is.numbers _ is.time_count, cut_again _ is.records _ records, cut_again _ is.names _ is.char_count, cut_again _ is.flags _ is.flag_count, ends) refl)
 
-joined_again : (says : Header) (block footer : List ℕ) (kinds : List KindValue) (zone : ZoneValue) (is : IsBlock says block kinds zone.rest) → footer ≡ zone.footer → slice_get kinds 0 ≡ Some zone.first → rises zone.rest ≡ true → joined_in (cuts_of is footer) ≡ Some zone
+pub joined_again : (says : Header) (block footer : List ℕ) (kinds : List KindValue) (zone : ZoneValue) (is : IsBlock 8 eight_of says block kinds zone.rest) → footer ≡ zone.footer → slice_get kinds 0 ≡ Some zone.first → rises zone.rest ≡ true → joined_in (cuts_of is footer) ≡ Some zone
 unfolding joined_in cuts_of
 joined_again says block footer kinds zone is end first rising =
     rw (← is.kind_count, kinds_again is.are_kinds, first, shifts_again is.are_shifts, rising, end) refl

@@ -1,10 +1,10 @@
 -- A file is read as what it denotes, or says.
-use Rattle.std.proofs.Common.{◌≡◌, ℕ, true, List, Result, Ok, Err, sym, ◌∙◌, arith}
+use Rattle.std.proofs.Common.{◌≡◌, ℕ, Bool, true, false, List, ◌++◌, ◌∷◌, [], Option, Some, None, Result, Ok, Err, refl, sym, ◌∙◌, arith, nat_eq, append_assoc}
 use Rattle.std.proofs.lemmas.Bool.Decides.{nat_tests}
 use Rattle.std.proofs.lemmas.Option.{same_Some, none-some}
-use Rattle.zone_tzif_core.specs.Denotes.{Denotes, IsZoneFile, Says}
-use Rattle.zone_tzif_core.specs.Format.{suits}
-use Rattle.zone_tzif_core.specs.Reading.{zone_in}
+use Rattle.zone_tzif_core.specs.Denotes.{Denotes, IsZoneFile, Says, zone_file, old_file}
+use Rattle.zone_tzif_core.specs.Format.{is_only, suits}
+use Rattle.zone_tzif_core.specs.Reading.{old_at, said_by, said_in, zone_in}
 use Rattle.zone_tzif_core.specs.Shown.{zone_shown, TellsFound, Reads}
 use Rattle.zone_tzif_core.specs.ZoneFiles.{zone_seen, ReadsFile}
 use Rattle.zone_tzif_core.specs.Zones.{ZoneValue}
@@ -13,24 +13,56 @@ use Rattle.zone_tzif_core.specs.declared.values.TzifZone.{TzifZone}
 use Rattle.zone_tzif_core.specs.declared.values.ReadFault.{ReadFault}
 use Rattle.zone_tzif_core.specs.declared.values.ReadFault.TheVariants.{Refused, NoMemory}
 use Rattle.zone_tzif_core.specs.declared.zone_file.ZoneFile.{ZoneFile}
-use Rattle.zone_tzif_core.proofs.AgainLemmas.{denoted_again}
+use Rattle.zone_tzif_core.proofs.AgainLemmas.{denoted_again, header_again}
 use Rattle.zone_tzif_core.proofs.FoundLemmas.{denoted_found}
+use Rattle.zone_tzif_core.proofs.OldLemmas.{old_again, old_found, value_again}
 
 pub exact : (bytes : List ℕ) (result : Result TzifZone ReadFault) → TellsFound zone_shown result (zone_in 52 bytes) → Reads (Denotes bytes) result
 exact bytes (Ok zone) told = denoted_found 52 bytes (zone_shown zone) (sym told)
 exact bytes (Err Refused) told = λ zone denoted. none-some zone (told ∙ denoted_again 52 bytes zone denoted)
 exact bytes (Err NoMemory) told = tt
 
-pub exact_file : (bytes : List ℕ) (result : Result ZoneFile ReadFault) → TellsFound zone_seen result (zone_in 255 bytes) → ReadsFile (Says bytes) result
-exact_file bytes (Ok file) told = denoted_found 255 bytes (zone_seen file) (sym told)
-exact_file bytes (Err Refused) told = λ zone said. none-some zone (told ∙ denoted_again 255 bytes zone said)
+-- a header that has a second one after it is not the only one
+not_only : (last : ℕ) (first says : Header) → suits last first.version says ≡ true → is_only first ≡ false
+unfolding suits is_only
+not_only last first says suited = by_test (nat_eq first.version 0) refl
+  where
+    by_test : (t : Bool) → nat_eq first.version 0 ≡ t → is_only first ≡ false
+    by_test true e = absurd (grind (arith, nat_tests, suited, e))
+    by_test false e = rw e refl
+
+-- so a file of two headers is none of version 1
+not_old : (last : ℕ) (bytes : List ℕ) (zone : ZoneValue) → IsZoneFile last bytes zone → old_at bytes ≡ None
+unfolding old_at
+not_old last bytes zone is =
+    let tail = 10 ∷ zone.footer ++ 10 ∷ [] in
+    rw (is.whole, append_assoc, append_assoc, append_assoc, append_assoc) (rw (header_again is.head (is.skipped ++ (is.second_head ++ (is.block ++ tail))) is.first_says is.first_header, not_only last is.first_says is.says is.suited) refl)
+
+-- what a file says is read from it
+said_again : (bytes : List ℕ) (zone : ZoneValue) → Says bytes zone → said_in bytes ≡ Some zone
+unfolding said_in
+said_again bytes zone (zone_file is) = rw (not_old 255 bytes zone is) (denoted_again 255 bytes zone is)
+said_again bytes zone (old_file is) = rw (old_again bytes zone is) (value_again bytes zone is)
+
+-- what is read is said
+said_found : (bytes : List ℕ) (zone : ZoneValue) → said_in bytes ≡ Some zone → Says bytes zone
+unfolding said_in
+said_found bytes zone told = by_version (old_at bytes) refl told
+  where
+    by_version : (old : Option (Header × List ℕ)) → old_at bytes ≡ old → said_by bytes old ≡ Some zone → Says bytes zone
+    by_version (Some file) at e = old_file (old_found bytes file zone at e)
+    by_version None at e = zone_file (denoted_found 255 bytes zone e)
+
+pub exact_file : (bytes : List ℕ) (result : Result ZoneFile ReadFault) → TellsFound zone_seen result (said_in bytes) → ReadsFile (Says bytes) result
+exact_file bytes (Ok file) told = said_found bytes (zone_seen file) (sym told)
+exact_file bytes (Err Refused) told = λ zone said. none-some zone (told ∙ said_again bytes zone said)
 exact_file bytes (Err NoMemory) told = tt
 
-pub one_in : (last : ℕ) (bytes : List ℕ) (x y : ZoneValue) → IsZoneFile last bytes x → IsZoneFile last bytes y → x ≡ y
-one_in last bytes x y a b = same_Some x y (sym (denoted_again last bytes x a) ∙ denoted_again last bytes y b)
-
 pub one_reading : (bytes : List ℕ) (x y : ZoneValue) → Denotes bytes x → Denotes bytes y → x ≡ y
-one_reading = one_in 52
+one_reading bytes x y a b = same_Some x y (sym (denoted_again 52 bytes x a) ∙ denoted_again 52 bytes y b)
+
+pub one_saying : (bytes : List ℕ) (x y : ZoneValue) → Says bytes x → Says bytes y → x ≡ y
+one_saying bytes x y a b = same_Some x y (sym (said_again bytes x a) ∙ said_again bytes y b)
 
 -- a version that is known is one that is taken
 suits_more : (version : ℕ) (h : Header) → suits 52 version h ≡ true → suits 255 version h ≡ true
@@ -38,7 +70,7 @@ unfolding suits
 suits_more version h is = grind (arith, nat_tests, is)
 
 pub said : (bytes : List ℕ) (zone : ZoneValue) → Denotes bytes zone → Says bytes zone
-said bytes zone is = record {
+said bytes zone is = zone_file (record {
   head = is.head;
   skipped = is.skipped;
   second_head = is.second_head;
@@ -56,7 +88,7 @@ said bytes zone is = record {
   first_kind = is.first_kind;
   one_line = is.one_line;
   text = is.text;
-}
+})
 
 pub same : (bytes : List ℕ) (x y : ZoneValue) → Denotes bytes x → Says bytes y → x ≡ y
-same bytes x y a b = one_in 255 bytes x y (said bytes x a) b
+same bytes x y a b = one_saying bytes x y (said bytes x a) b

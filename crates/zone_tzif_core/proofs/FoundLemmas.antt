@@ -15,7 +15,7 @@ use Rattle.zone_tzif_core.specs.Reading.{Cuts, cut, header_at, text_in, between,
 use Rattle.zone_tzif_core.specs.Denotes.{IsHeader, IsName, IsKind, AreKinds, no_kind, a_kind, AreShifts, no_shift, a_shift, IsZoneFile}
 use Rattle.zone_tzif_core.specs.declared.header.Header.{Header}
 
-bind_some : {A B : Type 0} (f : A → Option B) (o : Option A) (y : B) → option_and_then f o ≡ Some y → (x : A) × (o ≡ Some x) × (f x ≡ Some y)
+pub bind_some : {A B : Type 0} (f : A → Option B) (o : Option A) (y : B) → option_and_then f o ≡ Some y → (x : A) × (o ≡ Some x) × (f x ≡ Some y)
 bind_some f (Some x) y e = (x, refl, e)
 bind_some f None y e = absurd cc
 
@@ -37,7 +37,7 @@ cut_found n bytes y e =
     let back : drop n bytes ≡ y.1 = ap (λ (p : List ℕ × List ℕ). p.1) both.1 in
     (sym (take-append-drop n bytes) ∙ ap (λ l. l ++ drop n bytes) front ∙ ap (λ l. y.0 ++ l) back, ap length (sym front) ∙ length-take-le n bytes enough)
 
-header_found : (bytes : List ℕ) (y : Header × List ℕ) → header_at bytes ≡ Some y → (head : List ℕ) × (bytes ≡ head ++ y.1) × IsHeader head y.0
+pub header_found : (bytes : List ℕ) (y : Header × List ℕ) → header_at bytes ≡ Some y → (head : List ℕ) × (bytes ≡ head ++ y.1) × IsHeader head y.0
 unfolding header_at
 header_found bytes y e =
     let head = bind_some _ (cut 44 bytes) y e in
@@ -125,7 +125,7 @@ kind_found names bytes kind long e =
       named = named_found names bytes kind e;
     }
 
-kinds_found : (names : List ℕ) (n : ℕ) (records : List ℕ) (kinds : List KindValue) → length records ≡ 6 * n → kinds_in names n records ≡ Some kinds → AreKinds names records kinds × (length kinds ≡ n)
+pub kinds_found : (names : List ℕ) (n : ℕ) (records : List ℕ) (kinds : List KindValue) → length records ≡ 6 * n → kinds_in names n records ≡ Some kinds → AreKinds names records kinds × (length kinds ≡ n)
 unfolding kinds_in
 kinds_found names zero records kinds long e =
     let none = same_Some [] kinds e in
@@ -142,10 +142,10 @@ kinds_found names (suc n) records kinds long e =
     let size : length (kind.0 ∷ more.0) ≡ suc n = omega (arith, rest.1) in
     (subst (λ l. AreKinds names records l) same all, ap length (sym same) ∙ size)
 
-shifts_found : (kinds : List KindValue) (times numbers : List ℕ) (shifts : List (ℤ × KindValue)) → length times ≡ 8 * length numbers → shifts_in kinds times numbers ≡ Some shifts → AreShifts kinds times numbers shifts
+shifts_found : (kinds : List KindValue) (times numbers : List ℕ) (shifts : List (ℤ × KindValue)) → length times ≡ 8 * length numbers → shifts_in kinds times numbers ≡ Some shifts → AreShifts 8 eight_of kinds times numbers shifts
 unfolding shifts_in
 shifts_found kinds times [] shifts long e =
-    subst (λ l. AreShifts kinds l [] shifts) (sym (nil_from_length times long)) (subst (λ l. AreShifts kinds [] [] l) (same_Some [] shifts e) no_shift)
+    subst (λ l. AreShifts 8 eight_of kinds l [] shifts) (sym (nil_from_length times long)) (subst (λ l. AreShifts 8 eight_of kinds [] [] l) (same_Some [] shifts e) no_shift)
 shifts_found kinds times (number ∷ numbers) shifts long e =
     let kind = bind_some _ (slice_get kinds number) shifts e in
     let more = bind_some _ (shifts_in kinds (drop 8 times) numbers) shifts kind.2 in
@@ -153,8 +153,8 @@ shifts_found kinds times (number ∷ numbers) shifts long e =
     let enough : 8 ≤ length times = omega (arith, long) in
     let left : length (drop 8 times) ≡ 8 * length numbers = omega (arith, long, length-drop 8 times) in
     let rest = shifts_found kinds (drop 8 times) numbers more.0 left more.1 in
-    let all : AreShifts kinds times (number ∷ numbers) ((eight_of (take 8 times), kind.0) ∷ more.0) = subst (λ l. AreShifts kinds l (number ∷ numbers) ((eight_of (take 8 times), kind.0) ∷ more.0)) (take-append-drop 8 times) (a_shift (take 8 times) (length-take-le 8 times enough) kind.1 rest) in
-    subst (λ l. AreShifts kinds times (number ∷ numbers) l) same all
+    let all : AreShifts 8 eight_of kinds times (number ∷ numbers) ((eight_of (take 8 times), kind.0) ∷ more.0) = subst (λ l. AreShifts 8 eight_of kinds l (number ∷ numbers) ((eight_of (take 8 times), kind.0) ∷ more.0)) (take-append-drop 8 times) (a_shift (take 8 times) (length-take-le 8 times enough) kind.1 rest) in
+    subst (λ l. AreShifts 8 eight_of kinds times (number ∷ numbers) l) same all
 
 two_ends : (bytes : List ℕ) → 2 ≤ length bytes → get_or bytes 0 0 ≡ 10 → get_or bytes (length bytes - 1) 0 ≡ 10 → bytes ≡ 10 ∷ slice_range bytes 1 (length bytes - 1) ++ 10 ∷ []
 two_ends [] some first last = absurd (omega arith)
@@ -193,19 +193,19 @@ joined : (front next rest : List ℕ) {bytes left : List ℕ} → bytes ≡ fron
 joined front next rest a b = a ∙ ap (λ l. front ++ l) b ∙ sym (append_assoc front next rest)
 
 -- the parts of a second block, and the footer after it
-record Second (says : Header) (bytes : List ℕ) (cuts : Cuts) : Type 0 where
-  flags : List ℕ
-  whole : bytes ≡ (cuts.times ++ cuts.numbers ++ cuts.records ++ cuts.names ++ flags) ++ (10 ∷ cuts.footer ++ 10 ∷ [])
-  count : cuts.kinds ≡ says.kind
-  time_long : length cuts.times ≡ 8 * says.time
-  time_count : length cuts.numbers ≡ says.time
-  kind_long : length cuts.records ≡ 6 * says.kind
-  char_count : length cuts.names ≡ says.char
-  flag_count : length flags ≡ says.isstd + says.isut
-  one_line : is_one_line cuts.footer ≡ true
-  text : IsUtf8 cuts.footer
+pub record Second (says : Header) (bytes : List ℕ) (cuts : Cuts) : Type 0 where
+  pub flags : List ℕ
+  pub whole : bytes ≡ (cuts.times ++ cuts.numbers ++ cuts.records ++ cuts.names ++ flags) ++ (10 ∷ cuts.footer ++ 10 ∷ [])
+  pub count : cuts.kinds ≡ says.kind
+  pub time_long : length cuts.times ≡ 8 * says.time
+  pub time_count : length cuts.numbers ≡ says.time
+  pub kind_long : length cuts.records ≡ 6 * says.kind
+  pub char_count : length cuts.names ≡ says.char
+  pub flag_count : length flags ≡ says.isstd + says.isut
+  pub one_line : is_one_line cuts.footer ≡ true
+  pub text : IsUtf8 cuts.footer
 
-second_found : (says : Header) (bytes : List ℕ) (cuts : Cuts) → second_in says bytes ≡ Some cuts → Second says bytes cuts
+pub second_found : (says : Header) (bytes : List ℕ) (cuts : Cuts) → second_in says bytes ≡ Some cuts → Second says bytes cuts
 unfolding second_in
 second_found says bytes cuts e =
     let times = bind_some _ (cut (8 * says.time) bytes) cuts e in

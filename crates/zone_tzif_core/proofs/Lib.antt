@@ -7,6 +7,7 @@ mod FoundLemmas
 mod JoinedLemmas
 mod LoopLemmas
 mod NameLemmas
+mod OldLemmas
 mod ProfileLemmas
 mod PutLemmas
 mod TextLemmas

@@ -127,7 +127,7 @@ four_again : (x : ℤ) (rest : List ℕ) → FitsSigned w32 x → four_of (four_
 unfolding four_of four_bytes
 four_again x rest fits = ap (to_z w32) (from_be_bytes-to_be_bytes_4 (of_z w32 x) (small_four x fits)) ∙ to_z-of_z w32 x fits
 
-eight_again : (x : ℤ) → FitsSigned w64 x → eight_of (eight_bytes x) ≡ x
+pub eight_again : (x : ℤ) → FitsSigned w64 x → eight_of (eight_bytes x) ≡ x
 unfolding eight_of eight_bytes
 eight_again x fits = ap (to_z w64) (from_be_bytes-to_be_bytes_8 (of_z w64 x) (small_eight x fits)) ∙ to_z-of_z w64 x fits
 
@@ -196,16 +196,16 @@ numbered kinds kind there = sym (find_at (is_same kind) kinds) ∙ found kinds t
         by_test true e there more = ap Some (sym (same_kind kind other e))
         by_test false e there more = more there
 
-eight_long : (x : ℤ) → length (eight_bytes x) ≡ 8
+pub eight_long : (x : ℤ) → length (eight_bytes x) ≡ 8
 unfolding eight_bytes
 eight_long x = refl
 
-shifts_written : (kinds : List KindValue) (shifts : List (ℤ × KindValue)) → ((k : ℕ) (d : ℤ × KindValue) → k < length shifts → FitsSigned w64 (get_or shifts k d).0) → ((k : ℕ) (d : ℤ × KindValue) → k < length shifts → list_any (is_same (get_or shifts k d).1) kinds ≡ true) → AreShifts kinds (flat_map (λ shift. eight_bytes shift.0) shifts) (map (λ shift. kind_number kinds shift.1) shifts) shifts
+shifts_written : (kinds : List KindValue) (shifts : List (ℤ × KindValue)) → ((k : ℕ) (d : ℤ × KindValue) → k < length shifts → FitsSigned w64 (get_or shifts k d).0) → ((k : ℕ) (d : ℤ × KindValue) → k < length shifts → list_any (is_same (get_or shifts k d).1) kinds ≡ true) → AreShifts 8 eight_of kinds (flat_map (λ shift. eight_bytes shift.0) shifts) (map (λ shift. kind_number kinds shift.1) shifts) shifts
 shifts_written kinds [] fit there = no_shift
 shifts_written kinds (shift ∷ shifts) fit there =
     let more = shifts_written kinds shifts (λ k d within. fit (suc k) d (omega arith)) (λ k d within. there (suc k) d (omega arith)) in
     let found = numbered kinds shift.1 (there 0 shift (omega arith)) in
-    subst (λ t. AreShifts kinds (eight_bytes shift.0 ++ flat_map (λ shift. eight_bytes shift.0) shifts) (kind_number kinds shift.1 ∷ map (λ shift. kind_number kinds shift.1) shifts) ((t, shift.1) ∷ shifts)) (eight_again shift.0 (fit 0 shift (omega arith)))
+    subst (λ t. AreShifts 8 eight_of kinds (eight_bytes shift.0 ++ flat_map (λ shift. eight_bytes shift.0) shifts) (kind_number kinds shift.1 ∷ map (λ shift. kind_number kinds shift.1) shifts) ((t, shift.1) ∷ shifts)) (eight_again shift.0 (fit 0 shift (omega arith)))
     (a_shift (eight_bytes shift.0) (eight_long shift.0) found more)
 
 bytes_itself : (xs : List ℕ) → bytes_eq xs xs ≡ true
@@ -314,7 +314,7 @@ some_bytes names name there =
     let place = placed names name there in
     omega (arith, ap length place.whole, length-append place.before (name ++ 0 ∷ place.after), length-append name (0 ∷ place.after))
 
-written_block : (zone : ZoneValue) → IsValue zone → (c : Checks zone) → (says : Header) → says ≡ header_made 0 0 0 (length zone.rest) (length (kinds_of zone)) (length (name_bytes (names_of (kinds_of zone)))) → IsBlock says (block_bytes (kinds_of zone) zone.rest) (kinds_of zone) zone.rest
+written_block : (zone : ZoneValue) → IsValue zone → (c : Checks zone) → (says : Header) → says ≡ header_made 0 0 0 (length zone.rest) (length (kinds_of zone)) (length (name_bytes (names_of (kinds_of zone)))) → IsBlock 8 eight_of says (block_bytes (kinds_of zone) zone.rest) (kinds_of zone) zone.rest
 unfolding block_bytes
 written_block zone is c says e =
     let kinds = kinds_of zone in

@@ -4,7 +4,7 @@ use Rattle.std.specs.List.{list_all}
 use Rattle.std.specs.Str.{IsUtf8}
 use Rattle.zone_tzif_core.specs.Zones.{KindValue, ZoneValue, is_small, rises}
 use Rattle.zone_tzif_core.specs.Numbers.{four_of, eight_of}
-use Rattle.zone_tzif_core.specs.Format.{header_of, begins_well, block_len, suits, is_one_line}
+use Rattle.zone_tzif_core.specs.Format.{header_of, begins_well, block_len, suits, is_only, is_one_line}
 use Rattle.zone_tzif_core.specs.declared.header.Header.{Header}
 
 -- 44 bytes that begin with `TZif`; the 15 bytes after the version are any
@@ -37,15 +37,15 @@ pub data AreKinds (names : List ℕ) : List ℕ → List KindValue → Type 0 wh
   a_kind : {bytes records : List ℕ} {kind : KindValue} {kinds : List KindValue} → IsKind names bytes kind →
       AreKinds names records kinds → AreKinds names (bytes ++ records) (kind ∷ kinds)
 
--- eight bytes and a kind's number for each time
-pub data AreShifts (kinds : List KindValue) : List ℕ → List ℕ → List (ℤ × KindValue) → Type 0 where
-  no_shift : AreShifts kinds [] [] []
-  a_shift : (time : List ℕ) {times numbers : List ℕ} {number : ℕ} {kind : KindValue} {shifts : List (ℤ × KindValue)} → length time ≡ 8 →
-      slice_get kinds number ≡ Some kind → AreShifts kinds times numbers shifts →
-      AreShifts kinds (time ++ times) (number ∷ numbers) ((eight_of time, kind) ∷ shifts)
+-- so many bytes and a kind's number for each time
+pub data AreShifts (size : ℕ) (time_of : List ℕ → ℤ) (kinds : List KindValue) : List ℕ → List ℕ → List (ℤ × KindValue) → Type 0 where
+  no_shift : AreShifts size time_of kinds [] [] []
+  a_shift : (time : List ℕ) {times numbers : List ℕ} {number : ℕ} {kind : KindValue} {shifts : List (ℤ × KindValue)} → length time ≡ size →
+      slice_get kinds number ≡ Some kind → AreShifts size time_of kinds times numbers shifts →
+      AreShifts size time_of kinds (time ++ times) (number ∷ numbers) ((time_of time, kind) ∷ shifts)
 
--- the second block
-pub record IsBlock (says : Header) (bytes : List ℕ) (kinds : List KindValue) (shifts : List (ℤ × KindValue)) : Type 0 where
+-- a block whose times have so many bytes
+pub record IsBlock (size : ℕ) (time_of : List ℕ → ℤ) (says : Header) (bytes : List ℕ) (kinds : List KindValue) (shifts : List (ℤ × KindValue)) : Type 0 where
   pub times : List ℕ
   pub numbers : List ℕ
   pub records : List ℕ
@@ -57,7 +57,7 @@ pub record IsBlock (says : Header) (bytes : List ℕ) (kinds : List KindValue) (
   pub char_count : length names ≡ says.char
   pub flag_count : length flags ≡ says.isstd + says.isut
   pub are_kinds : AreKinds names records kinds
-  pub are_shifts : AreShifts kinds times numbers shifts
+  pub are_shifts : AreShifts size time_of kinds times numbers shifts
 
 -- the bytes are a header, its block of any bytes, a header, its block, an LF, the footer and an LF, of version 2 to the last one
 pub record IsZoneFile (last : ℕ) (bytes : List ℕ) (zone : ZoneValue) : Type 0 where
@@ -73,7 +73,7 @@ pub record IsZoneFile (last : ℕ) (bytes : List ℕ) (zone : ZoneValue) : Type 
   pub first_length : length skipped ≡ block_len first_says
   pub second_header : IsHeader second_head says
   pub suited : suits last first_says.version says ≡ true
-  pub block_is : IsBlock says block kinds zone.rest
+  pub block_is : IsBlock 8 eight_of says block kinds zone.rest
   pub rising : rises zone.rest ≡ true
   pub first_kind : slice_get kinds 0 ≡ Some zone.first
   pub one_line : is_one_line zone.footer ≡ true
@@ -83,6 +83,21 @@ pub record IsZoneFile (last : ℕ) (bytes : List ℕ) (zone : ZoneValue) : Type 
 abbrev pub Denotes : List ℕ → ZoneValue → Type 0
 Denotes bytes zone = IsZoneFile 52 bytes zone
 
--- of version 2 and up: a later version is taken as the last one that is known
-abbrev pub Says : List ℕ → ZoneValue → Type 0
-Says bytes zone = IsZoneFile 255 bytes zone
+-- the bytes are one header, that of version 1, and its block, whose times have four bytes; so there is no footer
+pub record IsOldFile (bytes : List ℕ) (zone : ZoneValue) : Type 0 where
+  pub head : List ℕ
+  pub block : List ℕ
+  pub says : Header
+  pub kinds : List KindValue
+  pub whole : bytes ≡ head ++ block
+  pub header : IsHeader head says
+  pub only : is_only says ≡ true
+  pub block_is : IsBlock 4 four_of says block kinds zone.rest
+  pub rising : rises zone.rest ≡ true
+  pub first_kind : slice_get kinds 0 ≡ Some zone.first
+  pub no_footer : zone.footer ≡ []
+
+-- of any version: a later version than 4 is taken as that
+pub data Says (bytes : List ℕ) (zone : ZoneValue) : Type 0 where
+  zone_file : IsZoneFile 255 bytes zone → Says bytes zone
+  old_file : IsOldFile bytes zone → Says bytes zone

@@ -24,10 +24,17 @@ header_of head = record {
 unfoldable pub block_len : Header → ℕ
 block_len h = 5 * h.time + 6 * h.kind + h.char + 8 * h.leap + h.isstd + h.isut
 
+-- no leap second, some kind and some character, and of either sort of flags none or one for each kind
+abbrev pub is_sound : Header → Bool
+is_sound h = h.leap == 0 && nat_le 1 h.kind && nat_le 1 h.char && (h.isstd == 0 || h.isstd == h.kind) && (h.isut == 0 || h.isut == h.kind)
+
 -- whether a second header may stand after a first one of that version, which is 2 to the last one that is taken
 unfoldable pub suits : ℕ → ℕ → Header → Bool
-suits last version h = h.version == version && nat_le 50 version && nat_le version last && h.leap == 0 && nat_le 1 h.kind && nat_le 1 h.char
-    && (h.isstd == 0 || h.isstd == h.kind) && (h.isut == 0 || h.isut == h.kind)
+suits last version h = h.version == version && nat_le 50 version && nat_le version last && is_sound h
+
+-- whether a header is the only one of its file: that of version 1, whose byte is zero
+unfoldable pub is_only : Header → Bool
+is_only h = h.version == 0 && is_sound h
 
 -- no byte is an LF or zero
 abbrev pub is_one_line : List ℕ → Bool

@@ -1,11 +1,11 @@
 -- The parts of a file, as the code cuts them.
-use Rattle.std.specs.Prelude.{ℕ, zero, suc, ℤ, ◌+◌, ◌-◌, ◌*◌, ◌==◌, ◌&&◌, List, [], ◌∷◌, length, take, drop, Option, Some, None, option_map, option_and_then, nat_le, if◌then◌else◌, slice_index, slice_get, slice_range, position}
+use Rattle.std.specs.Prelude.{ℕ, zero, suc, ℤ, ◌+◌, ◌-◌, ◌*◌, ◌==◌, ◌&&◌, List, [], ◌∷◌, ◌++◌, length, take, drop, Option, Some, None, option_map, option_and_then, nat_le, if◌then◌else◌, slice_index, slice_get, slice_range, position}
 use Rattle.std.specs.Str.{is_utf8}
 use Rattle.std.specs.Borrow.{Bor}
 use Rattle.zone_tzif_core.specs.declared.header.Header.{Header}
 use Rattle.zone_tzif_core.specs.declared.parts.Parts.{Parts}
-use Rattle.zone_tzif_core.specs.Format.{begins_well, header_of, block_len, suits, is_one_line}
-use Rattle.zone_tzif_core.specs.Numbers.{four_of, eight_of}
+use Rattle.zone_tzif_core.specs.Format.{begins_well, header_of, block_len, suits, is_only, is_one_line}
+use Rattle.zone_tzif_core.specs.Numbers.{four_of, eight_of, eight_bytes}
 use Rattle.zone_tzif_core.specs.Zones.{KindValue, ZoneValue, is_small, rises}
 
 infixl 10 ◌>>=◌
@@ -119,3 +119,29 @@ unfoldable pub zone_in : ℕ → List ℕ → Option ZoneValue
 zone_in last bytes = do
   parts ← parts_in last bytes
   joined_in parts
+
+-- the block of version 2, with an empty footer, that a block with so many times of four bytes is
+unfoldable pub widened : ℕ → List ℕ → List ℕ
+widened zero block = block ++ 10 ∷ 10 ∷ []
+widened (suc n) block = eight_bytes (four_of (take 4 block)) ++ widened n (drop 4 block)
+
+-- the header and the block of a file of version 1
+unfoldable pub old_at : List ℕ → Option (Header × List ℕ)
+old_at bytes = do
+  file ← header_at bytes
+  if is_only file.0 && length file.1 == block_len file.0 then Some file else None
+
+-- the value that such a block is read as
+unfoldable pub old_in : Header → List ℕ → Option ZoneValue
+old_in h block = do
+  parts ← second_in h (widened h.time block)
+  joined_in parts
+
+-- the value of a file, if it is of version 1, or of another one
+abbrev pub said_by : List ℕ → Option (Header × List ℕ) → Option ZoneValue
+said_by bytes (Some file) = old_in file.0 file.1
+said_by bytes None = zone_in 255 bytes
+
+-- the value that a whole file of any version is read as
+unfoldable pub said_in : List ℕ → Option ZoneValue
+said_in bytes = said_by bytes (old_at bytes)

@@ -2,16 +2,18 @@
 ghost use Rattle.std.specs.Prelude.{◌≡◌, ◌*◌, ◌<◌, ◌≤◌, ℕ, List, length, map, IfOk};
 ghost use Rattle.zone_tzif_core.specs.Denotes.{Says};
 ghost use Rattle.zone_tzif_core.specs.Names.{AreNames};
-ghost use Rattle.zone_tzif_core.specs.Reading.{kind_in, kinds_in, shifts_in, joined_in, zone_in, parts_shown};
+ghost use Rattle.zone_tzif_core.specs.Reading.{kind_in, kinds_in, shifts_in, joined_in, old_in, said_in, zone_in, parts_shown};
 ghost use Rattle.zone_tzif_core.specs.Shown.{TellsFound};
 ghost use Rattle.zone_tzif_core.specs.Stored.{stored_kind, AreNumbered, AreStored, IsStored};
 ghost use Rattle.zone_tzif_core.specs.ZoneFiles.{changes_with, file_with, zone_seen, ReadsFile};
 ghost use Rattle.zone_tzif_core.specs.Zones.{KindValue};
 
+use crate::header::Header;
 use crate::kinds::kind;
 use crate::names::name_table;
 use crate::numbers::signed_eight;
-use crate::parts::{Parts, cut_parts};
+use crate::old_file::{old_block, widened};
+use crate::parts::{Parts, cut_parts, second};
 use crate::shifts::do_rise;
 use crate::stored::Stored;
 use crate::values::ReadFault;
@@ -146,9 +148,34 @@ fn file_in(alloc: Global, bytes: &[u8]) -> Result<ZoneFile, ReadFault>
     }
 }
 
-/// The zone that a file of RFC 8536 says, as any compiler writes it, of version 2 and up without leap seconds; a later version
-/// is read as version 4. Nothing may follow the footer, times strictly rise, each record has a flag of 0 or 1, an offset of
-/// 93,599 seconds at most to either side and a name that is UTF-8 and ends in a zero byte, and the footer is UTF-8 of one line.
+/// The zone that the block of a file of version 1 is read as.
+#[tactic(auto, unfolding(crate::specs::Reading::old_in))]
+fn old_file(alloc: Global, header: &Header, block: &[u8]) -> Result<ZoneFile, ReadFault>
+    requires { 4 * header.now.time ≤ length block.now }
+    ensures { TellsFound zone_seen result (old_in header.now block.now) }
+{
+    let wide = widened(alloc, header.time, block)?;
+    match second(header, wide.as_slice()) {
+        Some(parts) => joined(alloc, &parts),
+        None => Err(ReadFault::Refused),
+    }
+}
+
+/// The zone that a file of any version is read as.
+#[tactic(auto, unfolding(crate::specs::Reading::said_in))]
+fn said_in(alloc: Global, bytes: &[u8]) -> Result<ZoneFile, ReadFault>
+    ensures { TellsFound zone_seen result (said_in bytes.now) }
+{
+    match old_block(bytes) {
+        Some((header, block)) => old_file(alloc, &header, block),
+        None => file_in(alloc, bytes),
+    }
+}
+
+/// The zone that a file of RFC 8536 says, as any compiler writes it, of any version without leap seconds; a later version than 4
+/// is read as that, and a file of version 1 has no footer. Nothing may follow its last part, times strictly rise, each record has
+/// a flag of 0 or 1, an offset of 93,599 seconds at most to either side and a name that is UTF-8 and ends in a zero byte, and the
+/// footer is UTF-8 of one line.
 ///
 /// Where `read_any` reads the file, both say the same zone (`denoted_is_said`). What is read takes memory in proportion to the
 /// file.
@@ -159,5 +186,5 @@ fn file_in(alloc: Global, bytes: &[u8]) -> Result<ZoneFile, ReadFault>
 pub fn read_file(alloc: Global, bytes: &[u8]) -> Result<ZoneFile, ReadFault>
     ensures exact { ReadsFile (Says bytes.now) result }
 {
-    file_in(alloc, bytes)
+    said_in(alloc, bytes)
 }

@@ -1,6 +1,6 @@
 //! The parts of a file.
 ghost use Rattle.std.specs.Prelude.{◌≡◌, ◌*◌, length, option_map, IfSome};
-ghost use Rattle.zone_tzif_core.specs.Format.{is_one_line, block_len, suits};
+ghost use Rattle.zone_tzif_core.specs.Format.{is_one_line, is_only, is_sound, block_len, suits};
 ghost use Rattle.zone_tzif_core.specs.Reading.{parts_shown, parts_in, second_in, footer_in, between, text_in};
 
 use crate::header::{Header, cut, read_header};
@@ -18,7 +18,7 @@ pub(crate) struct Parts<'a> {
 
 /// How many bytes a first block takes.
 #[tactic(auto, unfolding(crate::specs::Format::block_len))]
-fn block_len(header: &Header) -> usize
+pub(crate) fn block_len(header: &Header) -> usize
     ensures { result ≡ block_len header.now }
 {
     let (isut, isstd) = (header.isut as usize, header.isstd as usize);
@@ -27,19 +27,31 @@ fn block_len(header: &Header) -> usize
     5 * time + 6 * kind + char + 8 * leap + isstd + isut
 }
 
+/// Whether there is no leap second, some kind and some character, and of either sort of flags none or one for each kind.
+fn is_sound(header: &Header) -> bool
+    ensures { result ≡ is_sound header.now }
+{
+    header.leap == 0
+        && header.kind >= 1
+        && header.char >= 1
+        && (header.isstd == 0 || header.isstd == header.kind)
+        && (header.isut == 0 || header.isut == header.kind)
+}
+
+/// Whether a header is the only one of its file: that of version 1, whose byte is zero.
+#[tactic(auto, unfolding(crate::specs::Format::is_only))]
+pub(crate) fn is_only(header: &Header) -> bool
+    ensures { result ≡ is_only header.now }
+{
+    header.version == 0 && is_sound(header)
+}
+
 /// Whether a second header may stand after a first one of that version, which is 2 to the last one that is taken.
 #[tactic(auto, unfolding(crate::specs::Format::suits))]
 fn suits(last: u8, version: u8, header: &Header) -> bool
     ensures { result ≡ suits last version header.now }
 {
-    header.version == version
-        && version >= b'2'
-        && version <= last
-        && header.leap == 0
-        && header.kind >= 1
-        && header.char >= 1
-        && (header.isstd == 0 || header.isstd == header.kind)
-        && (header.isut == 0 || header.isut == header.kind)
+    header.version == version && version >= b'2' && version <= last && is_sound(header)
 }
 
 /// The text that the bytes are.
@@ -84,7 +96,7 @@ fn footer(bytes: &[u8]) -> Option<&str>
 
 /// The parts of a second block and what follows it.
 #[tactic(auto, unfolding(crate::specs::Reading::second_in))]
-fn second<'a>(header: &Header, bytes: &'a [u8]) -> Option<Parts<'a>>
+pub(crate) fn second<'a>(header: &Header, bytes: &'a [u8]) -> Option<Parts<'a>>
     ensures parts { option_map parts_shown result ≡ second_in header.now bytes.now }
     ensures records { IfSome result (λ parts. length parts.records.now ≡ 6 * parts.kinds) }
     ensures times { IfSome result (λ parts. length parts.times.now ≡ 8 * length parts.numbers.now) }
