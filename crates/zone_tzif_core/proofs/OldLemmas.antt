@@ -25,6 +25,7 @@ four_fits bytes = fits _
     by_test : (n : ℕ) (t : Bool) → nat_lt n 2147483648 ≡ t → FitsSigned w64 (cond t (pos n) (negsuc (4294967296 - suc n)))
     by_test n true e = grind (arith, ints, nat_tests, e)
     by_test n false e = grind (arith, ints, nat_tests, e)
+
     fits : (n : ℕ) → FitsSigned w64 (to_z w32 n)
     fits n = by_test n (nat_lt n 2147483648) refl
 
@@ -89,9 +90,10 @@ first_of a b c d e = ap (λ l. l ++ d ++ e) (append_assoc a b c) ∙ ap (λ l. l
 
 -- parts of the same length are the same
 same_parts : (a b c d : List ℕ) → length a ≡ length c → a ++ b ≡ c ++ d → (a ≡ c) × (b ≡ d)
-same_parts a b c d long e =
-    (sym (take_at a b (length a) refl) ∙ ap (take (length a)) e ∙ take_at c d (length a) (sym long),
-    sym (drop_at a b (length a) refl) ∙ ap (drop (length a)) e ∙ drop_at c d (length a) (sym long))
+same_parts a b c d long e = (
+  sym (take_at a b (length a) refl) ∙ ap (take (length a)) e ∙ take_at c d (length a) (sym long),
+  sym (drop_at a b (length a) refl) ∙ ap (drop (length a)) e ∙ drop_at c d (length a) (sym long),
+)
 
 empty_footer : footer_in (10 ∷ 10 ∷ []) ≡ Some []
 unfolding footer_in between text_in is_utf8 chars
@@ -102,8 +104,21 @@ block_long : (says : Header) (block : List ℕ) (kinds : List KindValue) (shifts
 unfolding block_len is_only
 block_long says block kinds shifts only b =
     let leap : says.leap ≡ 0 = grind (arith, nat_tests, only) in
-    omega (arith, ap length b.whole, length-append b.times b.numbers, length-append (b.times ++ b.numbers) b.records, length-append (b.times ++ b.numbers ++ b.records) b.names,
-    length-append (b.times ++ b.numbers ++ b.records ++ b.names) b.flags, shifts_long b.are_shifts, kinds_long b.are_kinds, b.time_count, b.kind_count, b.char_count, b.flag_count, leap)
+    omega (
+      arith,
+      ap length b.whole,
+      length-append b.times b.numbers,
+      length-append (b.times ++ b.numbers) b.records,
+      length-append (b.times ++ b.numbers ++ b.records) b.names,
+      length-append (b.times ++ b.numbers ++ b.records ++ b.names) b.flags,
+      shifts_long b.are_shifts,
+      kinds_long b.are_kinds,
+      b.time_count,
+      b.kind_count,
+      b.char_count,
+      b.flag_count,
+      leap,
+    )
 
 -- a file of version 1 is found, with its header and its block
 pub old_again : (bytes : List ℕ) (zone : ZoneValue) (is : IsOldFile bytes zone) → old_at bytes ≡ Some (is.says, is.block)
@@ -165,8 +180,19 @@ old_found bytes file zone at e =
     let made : wide n times ++ (rest ++ tail) ≡ parts.times ++ (others ++ end) = sym (ap (widened n) split ∙ widened_is n times rest four) ∙ d.whole
     ∙ ap (λ l. l ++ end) (first_of parts.times parts.numbers parts.records parts.names d.flags) ∙ append_assoc parts.times others end in
     let a = same_parts (wide n times) (rest ++ tail) parts.times (others ++ end) (omega (arith, wide_long n times, d.time_long)) made in
-    let size : length rest ≡ length others = omega (arith, long, leap, length-drop (4 * n) file.1, length-append parts.numbers parts.records, length-append (parts.numbers ++ parts.records) parts.names,
-    length-append (parts.numbers ++ parts.records ++ parts.names) d.flags, d.time_count, d.kind_long, d.char_count, d.flag_count) in
+    let size : length rest ≡ length others = omega (
+      arith,
+      long,
+      leap,
+      length-drop (4 * n) file.1,
+      length-append parts.numbers parts.records,
+      length-append (parts.numbers ++ parts.records) parts.names,
+      length-append (parts.numbers ++ parts.records ++ parts.names) d.flags,
+      d.time_count,
+      d.kind_long,
+      d.char_count,
+      d.flag_count,
+    ) in
     let b = same_parts rest tail others end size a.1 in
     let none : parts.footer ≡ [] = nil_from_length parts.footer (omega (arith, ap length b.1, length-append (10 ∷ parts.footer) (10 ∷ []))) in
     let kinds = bind_some _ (kinds_in parts.names parts.kinds parts.records) zone cuts.2 in
