@@ -380,8 +380,9 @@ static inline uint32_t sefunjaro_tail(const struct sefunjaro_handle *zone, uint8
 }
 
 /* The zone's TZif file (RFC 8536, version 2), and its whole length: each change, and as the footer the string of sefunjaro_tail, or
-   nothing where there is none or the zone changes at or past the end of 2099, of which that string says nothing. It takes memory: each
-   call writes the file whole, and then as much of it into the room as fits.
+   nothing where there is none, where the zone changes at or past the end of 2099, of which that string says nothing, or where its
+   daylight saving time ends in the first week of January, so that as a footer the string may end it before 2099 is over. It takes
+   memory: each call writes the file whole, and then as much of it into the room as fits.
    NOT_OPEN; NOT_KEPT; NONE, with why there is no file: enum sefunjaro_tzif_cause; NO_MEMORY. */
 static inline uint32_t sefunjaro_tzif(const struct sefunjaro_handle *zone, uint8_t *file, size_t room, size_t *whole,
                                       struct sefunjaro_fault *fault) {

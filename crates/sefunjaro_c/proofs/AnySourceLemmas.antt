@@ -4,7 +4,7 @@ use Rattle.std.specs.Prelude.{Option, Some, None, Result, Ok, Err, option_map}
 use Rattle.zone_plain_base.specs.LineFaults.{Refusal, at, bad_line}
 use Rattle.zone_plain_base.specs.LineFaults as refused
 use Rattle.zone_plain.specs.Plain.{plain_of}
-use Rattle.zone_release.specs.Releases.{release_of}
+use Rattle.zone_source.specs.Releases.{release_of}
 use Rattle.zone_source.specs.Faults.{SourceFault, source_fault}
 use Rattle.zone_source.specs.Told.{told_by_source}
 use Rattle.zone_open.specs.AnySources.{IsAnyFault, IsAnySource}

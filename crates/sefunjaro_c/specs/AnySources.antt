@@ -5,7 +5,7 @@ use Rattle.zone_plain_lines.specs.declared.cause.PlainCause.TheVariants as cause
 use Rattle.zone_plain_base.specs.LineFaults.{Refusal, bad_line}
 use Rattle.zone_plain_base.specs.LineFaults as refused
 use Rattle.zone_plain.specs.Plain.{plain_of}
-use Rattle.zone_release.specs.Releases.{release_of}
+use Rattle.zone_source.specs.Releases.{release_of}
 use Rattle.zone_source.specs.Faults.{source_fault}
 use Rattle.zone_source.specs.Zones.{values_of}
 use Rattle.zone_table.specs.Tables.{IsTableOf}

@@ -81,7 +81,7 @@ abbrev pub file_due : OpenZone → Option Fault
 file_due zone = option_map (λ fault. none_for (file_number fault)) (consistent_fault (set_in zone))
 
 -- The zone's file stands in the room, as far as it fits, and its length is told. Whatever is read from that file has the zone's offset
--- at each instant, and its footer is the string that carries the zone on, if there is one and no change lies past all that it says.
+-- at each instant, and its footer is the string that carries the zone on, if there is one that can't say otherwise as a footer.
 pub record IsFileIn (zone : OpenZone) (old new : List ℕ) (whole : ℕ) : Type 0 where
   pub none : consistent_fault (set_in zone) ≡ None
   pub room : new ≡ filled (consistent_file (set_in zone)) old

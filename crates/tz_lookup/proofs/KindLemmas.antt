@@ -6,7 +6,7 @@ use Rattle.std.proofs.lemmas.List.{map-append, length-append}
 use Rattle.indexmap.specs.IndexSet.{insert_key}
 use Rattle.zone_spans.specs.declared.span.FixedTimespan.{FixedTimespan}
 use Rattle.tz_lookup.specs.Kinds.{is_same_kind, kind_in, with_kind}
-use Rattle.tz_lookup.specs.KindLaws.{same_kind}
+use Rattle.tz_lookup.proofs.KindLaws.{same_kind}
 use Rattle.tz_lookup.specs.KindShown.{kind_shown}
 use Rattle.tz_lookup.specs.declared.kinds.Kind.{Kind}
 use Rattle.tz_lookup.specs.contracts.kinds.KindPartialEq.TheImpl as same

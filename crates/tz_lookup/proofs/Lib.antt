@@ -6,3 +6,6 @@ pub mod YearLemmas
 pub mod YearCountLemmas
 pub mod BuildLemmas
 pub mod CompactRows
+pub mod DatabaseLaws
+pub mod KindLaws
+pub mod PartLaws

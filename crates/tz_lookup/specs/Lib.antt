@@ -30,7 +30,3 @@ pub mod CompactShown
 pub mod CompactFaults
 pub mod CompactZones
 pub mod CompactLeft
--- Laws: what a caller may use.
-pub mod PartLaws
-pub mod DatabaseLaws
-pub mod KindLaws

@@ -1,5 +1,5 @@
 //! Laws of zones and strings that say the same.
-ghost use Rattle.std.specs.Prelude.{◌≡◌, ℕ, ℤ, pos, neg_ℤ, ◌≤ℤ◌, ◌<ℤ◌, true, List, [], ◌∷◌, Option, is_some, IfSome, Ok};
+ghost use Rattle.std.specs.Prelude.{◌≡◌, ℕ, ℤ, pos, neg_ℤ, ◌≤ℤ◌, ◌<ℤ◌, true, List, [], ◌∷◌, Option, None, is_some, ¬◌, IfSome, Ok};
 ghost use Rattle.civil_base.specs.DateTimes.{instant};
 ghost use Rattle.civil_base.specs.Instants.{seconds_of};
 ghost use Rattle.zone_table.specs.declared.zone.ZoneInfo.{ZoneInfo};
@@ -26,7 +26,7 @@ ghost use Rattle.tz_posix.specs.Agreement.{
   value_total,
 };
 ghost use Rattle.tz_posix_core.specs.PosixShown.{posix_of};
-ghost use Rattle.tz_posix_core.specs.PosixZones.{GivesTotal};
+ghost use Rattle.tz_posix_core.specs.PosixZones.{GivesTotal, posix_refusal};
 ghost use Rattle.tz_posix.specs.RealPairs.{
   IsRuledBy,
   lord_howe_rules,
@@ -121,6 +121,8 @@ pub fn agreed_offset(
 ) -> Option<UtcOffset>
     ensures of_zone { IfSome result (λ offset. offset ≡ total_at (schedule_in (set_of zone.now)) (instant date_time.now)) }
     ensures of_string { IfSome result (GivesTotal (posix_of posix.now) (instant date_time.now)) }
+    ensures none { result ≡ None → posix_refusal (posix_of posix.now) (instant date_time.now) ≡ None
+        → ¬ (GivesTotal (posix_of posix.now) (instant date_time.now) (total_at (schedule_in (set_of zone.now)) (instant date_time.now))) }
     ensures agreed { (rulesets : Rulesets) (pair : TwoRuleZone) (q : RuledValue) (zones : List FixedTimespanSet)
         → SaysTheSame rulesets pair q → compiled rulesets (pair.line ∷ []) ≡ Ok (spans_of (set_of zone.now))
         → resolved zones (value_of q) ≡ Ok (posix_of posix.now) → IsCovered pair (seconds_of (instant date_time.now))

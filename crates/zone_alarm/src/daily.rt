@@ -18,7 +18,7 @@ use tz_lookup::{PrimitiveDateTimeExt, TimeZone};
 ///
 /// # Errors
 ///
-/// `Range` exactly where `days` is above 0 and the last day is past 9999-12-31; `NoMemory`.
+/// `Range` exactly where `days` is above 0 and the last day is past 9999-12-31; `NoMemory`, and never where `Range` is due.
 pub fn alarms<T: TimeZone>(
     alloc: Global,
     zone: &T,
@@ -28,6 +28,7 @@ pub fn alarms<T: TimeZone>(
 ) -> Result<Vec<Ring>, AlarmFault>
     ensures ok { OnOk result (ends_in_years first days ≡ true) }
     ensures range { IsErrOf result AlarmFault.Range → ends_in_years first days ≡ false }
+    ensures memory { IsErrOf result AlarmFault.NoMemory → ends_in_years first days ≡ true }
     ensures rings { IfOk result (λ found. map ring_shown found.items ≡ rings (T.total_at zone.now) at first days) }
     ensures once { IfOk result (λ found. All (RingsOnce (T.total_at zone.now) at) (map ring_shown found.items)) }
     ensures apart { IfOk result (λ found. AllPairs AreApart (map ring_shown found.items)) }

@@ -3,3 +3,4 @@ pub mod ColumnLemmas
 pub mod WidthLemmas
 pub mod RangeLemmas
 pub mod ListRows
+pub mod WindowLaws

@@ -5,7 +5,7 @@ use Rattle.std.specs.List.{prefix_len}
 use Rattle.calendar.specs.ComparisonLaws.{lt_from_pass, lt_from_fail}
 use Rattle.zone_spans.specs.Entries.{Entry}
 use Rattle.zone_list.specs.Windows.{within}
-use Rattle.zone_list.specs.WindowLaws.{AreFrom, Rise, from_earlier, lies_before, lies_within, one_more, no_more, none_within}
+use Rattle.zone_list.proofs.WindowLaws.{AreFrom, Rise, from_earlier, lies_before, lies_within, one_more, no_more, none_within}
 
 -- how many entries there are before the first that is at or after a second
 abbrev pub before : ℤ → List Entry → ℕ

@@ -5,8 +5,6 @@ pub mod Ranges
 pub mod RowTexts
 pub mod Asks
 pub mod Starts
--- Laws: what a caller may use.
-pub mod WindowLaws
 -- Words of private clauses.
 pub mod Columns
 pub mod ShownEntries

@@ -2,8 +2,8 @@
 use Rattle.std.proofs.Common.{◌≡◌, ℕ, ◌<◌, List, false, cond, length, Some, None, sym, ap, ◌∙◌, arith}
 use Rattle.std.specs.Prelude.{◌==◌}
 use Rattle.std.proofs.lemmas.Bool.Decides.{nat_tests}
-use Rattle.zone_release.specs.ReleaseLaws.{release_line}
-use Rattle.zone_release.specs.Releases.{release_of}
+use Rattle.zone_source.specs.ReleaseLaws.{release_line}
+use Rattle.zone_source.specs.Releases.{release_of}
 use Rattle.zone_open.specs.Releases.{if_some}
 
 not_none : (text : List ℕ) → 0 < length text → (length text == 0) ≡ false

@@ -2,7 +2,7 @@
 use Rattle.std.specs.Prelude.{◌≡◌, ◌<◌, ◌≤◌, ℕ, List, None, Ok, Err, length}
 use Rattle.zone_plain.specs.Plain.{plain_of}
 use Rattle.zone_plain_base.specs.LineFaults.{at, bad_line, too_long}
-use Rattle.zone_release.specs.Releases.{release_of}
+use Rattle.zone_source.specs.Releases.{release_of}
 use Rattle.zone_source.specs.Faults.{source_fault}
 use Rattle.zone_source.specs.Zones.{values_of}
 use Rattle.zone_source.specs.declared.error.SourceError.{SourceError}

@@ -13,6 +13,7 @@ pub mod PosixNames
 pub mod Releases
 pub mod Rooms
 pub mod Sources
+pub mod Whole
 pub mod Zones
 -- Words of private clauses.
 pub mod ChangeSteps

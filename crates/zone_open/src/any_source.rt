@@ -26,7 +26,7 @@ impl OpenSource {
     ghost use Rattle.std.specs.Prelude.{◌≡◌, IfOk, IfErr};
     ghost use Rattle.zone_open.specs.AnySources.{IsAnyFault, IsAnySource};
     ghost use Rattle.zone_open.specs.Sources.{release_in};
-    ghost use Rattle.zone_release.specs.Releases.{release_of};
+    ghost use Rattle.zone_source.specs.Releases.{release_of};
 
     /// Opens a source in any form that `zic` reads: its plain form, as [`plain`](zone_plain::plain) writes it, is opened as
     /// [`open_plain`](OpenSource::open_plain) opens a text.

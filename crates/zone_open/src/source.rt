@@ -4,7 +4,7 @@ ghost use Rattle.std.proofs.Props.{props};
 ghost use Rattle.tz_lookup.specs.Databases.{names_of};
 ghost use Rattle.zone_table.specs.BoundedTables.{IsBoundedTable};
 ghost use Rattle.zone_open.specs.Releases.{if_some, release_text};
-ghost use Rattle.zone_release.specs.Releases.{release_of};
+ghost use Rattle.zone_source.specs.Releases.{release_of};
 
 use crate::names::names_of;
 use crate::zone::OpenZone;
@@ -12,8 +12,7 @@ use owned::{Items, Text};
 use std::alloc::Global;
 use tz_lookup::{ZoneFault, compile_zone};
 use zone_line::LineParser;
-use zone_release::release_of;
-use zone_source::{LIMIT, SourceError, read_table};
+use zone_source::{LIMIT, SourceError, read_table, release_of};
 use zone_table::Table;
 
 /// The zones of a source, with their names in byte order, and its release, or nothing where it names none.
@@ -60,7 +59,7 @@ impl OpenSource {
     ghost use Rattle.zone_source.specs.Zones.{values_of};
     ghost use Rattle.zone_open.specs.Faults.{IsOpenFault, IsReadFault};
     ghost use Rattle.zone_open.specs.Sources.{table_in, release_in};
-    ghost use Rattle.zone_release.specs.Releases.{release_of};
+    ghost use Rattle.zone_source.specs.Releases.{release_of};
     ghost use Rattle.zone_open.specs.Zones.{set_in, IsOpened};
     ghost use Rattle.tz_zone.specs.Sets.{schedule_of, IsAccepted};
     ghost use Rattle.zone_open.specs.declared.source.OpenFault.TheVariants.{NoMemory};

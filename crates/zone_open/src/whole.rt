@@ -16,12 +16,13 @@ impl OpenZone {
     ghost use Rattle.zone_spans.specs.Schedules.{total_at as set_total_at};
     ghost use Rattle.tz_zone.specs.Sets.{schedule_of};
     ghost use Rattle.zone_tail_core.specs.Carried.{CarriesOn};
-    ghost use Rattle.zone_tail_core.specs.Tails.{IsFaultOf, IsTail};
+    ghost use Rattle.zone_tail_core.specs.Tails.{IsTail};
     ghost use Rattle.zone_tzif_core.specs.Denotes.{Denotes};
     ghost use Rattle.zone_tzif_core.specs.Totals.{file_total_at};
     ghost use Rattle.zone_tzif_core.specs.Tzif.{IsTzif};
     ghost use Rattle.zone_tzif_core.specs.Zones.{ZoneValue};
     ghost use Rattle.zone_tzif_set.specs.Files.{consistent_zone, IsCarriedOn, MakesZone};
+    ghost use Rattle.zone_open.specs.Whole.{IsTailFault};
     ghost use Rattle.zone_open.specs.Zones.{set_in};
 
     /// The POSIX TZ string that carries the zone on, as [`tail`](zone_tail_core::tail) gives it of the zone's spans. It takes
@@ -29,9 +30,10 @@ impl OpenZone {
     ///
     /// # Errors
     ///
-    /// In this order, and each exactly where it says: `Shape`, `OffsetRange`, `Name`; `NoMemory`.
+    /// In this order, and each exactly where it says: `Shape`, `OffsetRange`, `Name`; `NoMemory`, at any zone, since the spans are copied
+    /// first.
     pub fn tail(&self, alloc: Global) -> Result<Tail, TailFault>
-        ensures told { MatchResult result (λ tail. IsTail (set_in self.now) tail.from (string_bytes tail.text)) (IsFaultOf (set_in self.now)) }
+        ensures told { MatchResult result (λ tail. IsTail (set_in self.now) tail.from (string_bytes tail.text)) (IsTailFault self.now) }
         ensures read { IfOk result (λ tail. CarriesOn (set_in self.now) tail.from (string_bytes tail.text)) }
     {
         let set = spans_of(alloc, self.compact())?;
@@ -42,7 +44,8 @@ impl OpenZone {
     }
 
     /// The zone's TZif file, as [`consistent_tzif_of`] writes it of the zone's spans, with the string that carries the zone on as
-    /// its footer, or none where there is no such string or the zone changes past all that it says. It takes memory for the spans and for the file.
+    /// its footer, or none where there is no such string or it may say otherwise as a footer. It takes memory for the spans and for the
+    /// file.
     ///
     /// # Errors
     ///

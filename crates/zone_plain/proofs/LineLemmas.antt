@@ -8,8 +8,8 @@ use Rattle.zone_plain_base.specs.Said.{is_said, if_said}
 use Rattle.zone_plain_base.specs.Told.{IsToldBy}
 use Rattle.zone_plain_base.specs.declared.error.Refused.{Refused}
 use Rattle.zone_plain_base.specs.declared.error.Refused.TheVariants.{Cause, NoMemory}
-use Rattle.zone_plain_names.specs.Names.{said_name}
-use Rattle.zone_plain_names.specs.Renamed.{ruleset_of, under, renamed}
+use Rattle.zone_plain_base.specs.Names.{said_name}
+use Rattle.zone_plain_base.specs.Renamed.{ruleset_of, under, renamed}
 use Rattle.zone_plain.specs.LineValues.{line_meaning, named}
 use Rattle.zone_plain.specs.Told.{IsRefusedLine, added_line}
 

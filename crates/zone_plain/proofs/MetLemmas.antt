@@ -9,8 +9,8 @@ use Rattle.zone_values.specs.Values.{LineValue}
 use Rattle.zone_plain_lines.specs.declared.cause.PlainCause.{PlainCause}
 use Rattle.zone_plain_lines.specs.declared.cause.PlainCause.TheVariants as cause
 use Rattle.zone_plain_base.specs.LineFaults.{at, onto}
-use Rattle.zone_plain_names.specs.Marks.{behind, tails, mark_behind}
-use Rattle.zone_plain_names.specs.Renamed.{ruleset_of, mark_of}
+use Rattle.zone_plain_base.specs.Marks.{behind, tails, mark_behind}
+use Rattle.zone_plain_base.specs.Renamed.{ruleset_of, mark_of}
 use Rattle.zone_plain.specs.LineValues.{line_meaning, is_open_after, values_from, meant_in, known, mark_in}
 use Rattle.zone_plain.proofs.ReadingLemmas.{before, before_none, before_one}
 

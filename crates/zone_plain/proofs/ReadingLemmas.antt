@@ -7,14 +7,14 @@ use Rattle.zone_values.specs.Values.{LineValue}
 use Rattle.zone_values.specs.Results.{◌>>=◌}
 use Rattle.zone_plain_lines.specs.declared.cause.PlainCause.{PlainCause}
 use Rattle.zone_plain_lines.specs.declared.cause.PlainCause.TheVariants as cause
-use Rattle.zone_plain_text.specs.PlainTexts.{plain_text}
+use Rattle.zone_plain_base.specs.PlainTexts.{plain_text}
 use Rattle.zone_plain_base.specs.LineFaults.{LineFault, at, numbered, onto}
 use Rattle.zone_plain_base.specs.Said.{is_said}
 use Rattle.zone_plain_base.specs.SaidLaws.{source_value_is}
 use Rattle.zone_plain_base.specs.Told.{fault_at}
 use Rattle.zone_plain_base.specs.declared.error.Refused.{Refused}
 use Rattle.zone_plain_base.specs.declared.error.Refused.TheVariants.{Cause, NoMemory}
-use Rattle.zone_plain_names.specs.Renamed.{renamed}
+use Rattle.zone_plain_base.specs.Renamed.{renamed}
 use Rattle.zone_plain.specs.LineValues.{line_meaning, is_open_after, values_from, mark_in, named, values_in}
 use Rattle.zone_plain.specs.Told.{added_line, IsReadLine, IsRefusedLine, IsLineFault}
 

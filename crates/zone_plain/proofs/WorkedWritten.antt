@@ -12,7 +12,7 @@ use Rattle.zone_values.specs.declared.month.Month.TheVariants.{June}
 use Rattle.zone_values.specs.declared.time.TimeSpec.TheVariants.{Hours, HoursMinutes}
 use Rattle.zone_values.specs.declared.time.TimeType.TheVariants.{Standard}
 use Rattle.zone_values.specs.declared.year.Year.TheVariants.{Minimum, Number}
-use Rattle.zone_plain_text.specs.PlainTexts.{plain_text, rule_text, years_text, year_text, to_text, moment_text, day_text, time_text, clock_text, info_text, stretch_text, saving_text, end_text}
+use Rattle.zone_plain_base.specs.PlainTexts.{plain_text, rule_text, years_text, year_text, to_text, moment_text, day_text, time_text, clock_text, info_text, stretch_text, saving_text, end_text}
 use Rattle.zone_plain.specs.Written.{written}
 use Rattle.zone_plain.specs.WrittenLines.{IsOneLine}
 

@@ -6,7 +6,7 @@ use Rattle.zone_values.specs.Values.{LineValue, space}
 use Rattle.zone_plain_lines.specs.declared.cause.PlainCause.TheVariants as cause
 use Rattle.zone_plain_base.specs.LineFaults.{LineFault, at}
 use Rattle.zone_plain_base.specs.Said.{is_read_as}
-use Rattle.zone_release.specs.Releases.{line_naming, release_of}
+use Rattle.zone_source.specs.Releases.{line_naming, release_of}
 
 -- the line is read as one that says nothing
 unfoldable pub is_silent : List ℕ → Bool

@@ -9,7 +9,7 @@ use Rattle.zone_plain_base.specs.LineFaults.{LineFault, at, numbered, onto}
 use Rattle.zone_plain_base.specs.Said.{if_said}
 pub use Rattle.zone_plain_base.specs.Meant.{meant_by}
 unfoldable pub use Rattle.zone_plain_base.specs.Meant.{line_meaning}
-use Rattle.zone_plain_names.specs.Renamed.{mark_of, renamed}
+use Rattle.zone_plain_base.specs.Renamed.{mark_of, renamed}
 
 -- whether a line of the zone has to follow, where one had to before
 abbrev pub is_open_after : Bool → LineValue → Bool

@@ -1,6 +1,6 @@
 -- A source of what is written.
 use Rattle.std.specs.Prelude.{◌≡◌, ℕ, List, ◌++◌, Ok}
-use Rattle.zone_release.specs.Releases.{release_of}
+use Rattle.zone_source.specs.Releases.{release_of}
 use Rattle.zone_source.specs.Zones.{values_of}
 use Rattle.zone_plain.specs.Heads.{head_values}
 use Rattle.zone_plain.specs.LineValues.{meant_in}

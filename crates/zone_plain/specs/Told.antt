@@ -1,7 +1,7 @@
 -- What the code's answers tell.
 use Rattle.std.specs.Prelude.{◌≡◌, ℕ, List, [], ◌∷◌, ◌++◌, Bool, true, Result, Ok, Err}
 use Rattle.zone_values.specs.Values.{LineValue}
-use Rattle.zone_plain_text.specs.PlainTexts.{plain_text}
+use Rattle.zone_plain_base.specs.PlainTexts.{plain_text}
 use Rattle.zone_plain_base.specs.LineFaults.{LineFault, at}
 use Rattle.zone_plain_base.specs.Said.{is_said}
 use Rattle.zone_plain_base.specs.declared.error.PlainFault.{PlainFault}
@@ -10,7 +10,7 @@ use Rattle.zone_plain_base.specs.declared.error.Refused.{Refused}
 use Rattle.zone_plain_base.specs.declared.error.Refused.TheVariants.{Cause, NoMemory}
 use Rattle.zone_values.specs.Results.{◌>>=◌}
 use Rattle.zone_plain_lines.specs.declared.cause.PlainCause.{PlainCause}
-use Rattle.zone_plain_names.specs.Renamed.{renamed}
+use Rattle.zone_plain_base.specs.Renamed.{renamed}
 use Rattle.zone_plain.specs.LineValues.{line_meaning, is_open_after, named}
 
 -- what is added of a line of a source of that mark, if it can be said

@@ -5,11 +5,9 @@ ghost use Rattle.zone_plain.specs.Told.{IsLineFault};
 
 use std::alloc::{AllocError, Global};
 use zone_line::{Error, Line, LineParser};
-use zone_plain_base::PlainFault;
+use zone_plain_base::{PlainFault, same_line};
 use zone_plain_lines::PlainCause;
-use zone_plain_text::same_line;
-use zone_release::{put_release_line, release_of};
-use zone_source::text_of;
+use zone_source::{put_release_line, release_of, text_of};
 
 /// Whether the line is read as one that says nothing.
 #[tactic(auto, unfolding(crate::specs::Heads::is_silent))]

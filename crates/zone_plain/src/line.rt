@@ -6,9 +6,8 @@ ghost use Rattle.zone_plain.specs.Told.{IsReadLine, IsRefusedLine};
 
 use std::alloc::Global;
 use zone_line::{Line, LineReader};
-use zone_plain_base::{Refused, line_meant, write_said};
+use zone_plain_base::{Refused, line_meant, said_name_of, under, write_said};
 use zone_plain_lines::PlainCause;
-use zone_plain_names::{said_name_of, under};
 use zone_source::LineList;
 
 /// Whether a line of the zone has to follow, where one had to before.

@@ -1,15 +1,14 @@
 //! The mark of a source, from its lines.
 ghost use Rattle.std.specs.Prelude.{◌≡◌, ◌≤◌, ◌++◌, map, length, string_bytes, IfOk, OnOk};
 ghost use Rattle.zone_values.specs.Values.{line_value};
-ghost use Rattle.zone_plain_names.specs.Marks.{behind, tails};
-ghost use Rattle.zone_plain_names.specs.Renamed.{ruleset_of};
+ghost use Rattle.zone_plain_base.specs.Marks.{behind, tails};
+ghost use Rattle.zone_plain_base.specs.Renamed.{ruleset_of};
 ghost use Rattle.zone_plain.specs.LineValues.{known, mark_in, meant_in};
 
 use crate::line::is_open_after;
 use std::alloc::{AllocError, Global};
 use zone_line::Line;
-use zone_plain_base::{Refused, line_meant};
-use zone_plain_names::{behind_underscore, mark_behind};
+use zone_plain_base::{Refused, behind_underscore, line_meant, mark_behind};
 use zone_source::{LIMIT, LineList, Lines};
 
 /// Adds what stands behind the `_` in the name of the ruleset that a line is of or names, if it begins with one.

@@ -1,12 +1,12 @@
 //! What is written of the lines that were read.
 ghost use Rattle.std.specs.Prelude.{◌≡◌, ◌++◌, [], ◌∷◌, map, flat_map, IfOk, OnOk};
 ghost use Rattle.zone_values.specs.Values.{line_value};
-ghost use Rattle.zone_plain_text.specs.PlainTexts.{plain_text};
+ghost use Rattle.zone_plain_base.specs.PlainTexts.{plain_text};
 ghost use Rattle.zone_plain.specs.Written.{Rules, Zones, Links, part_text, written};
 
 use std::alloc::{AllocError, Global};
 use zone_line::Line;
-use zone_plain_text::put_plain;
+use zone_plain_base::put_plain;
 
 /// What is written, by its parts.
 #[derive(Drop)]

@@ -1,3 +1,7 @@
 pub mod MeantLemmas
 pub mod ReadingLemmas
 mod WorkedSaid
+mod WorkedTexts
+mod MarkLemmas
+mod WorkedMarks
+mod WorkedNames

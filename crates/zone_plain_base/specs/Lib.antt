@@ -1,8 +1,16 @@
 -- Definitions: what public clauses say.
+pub mod PlainTexts
+pub mod Same
+pub mod Names
+pub mod Marks
+pub mod Renamed
 pub mod LineFaults
 pub mod Told
 pub mod Meant
 pub mod Said
 pub mod LinesAt
 -- Laws: what a caller may use.
+pub mod SameLaws
+pub mod MarkLaws
+pub mod NameLaws
 pub mod SaidLaws

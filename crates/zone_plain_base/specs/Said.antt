@@ -9,9 +9,9 @@ use Rattle.zone_values.specs.Faults.{Fault}
 use Rattle.zone_values.specs.Values.{LineValue}
 use Rattle.zone_plain_lines.specs.declared.cause.PlainCause.{PlainCause}
 use Rattle.zone_plain_lines.specs.declared.cause.PlainCause.TheVariants as cause
-use Rattle.zone_plain_text.specs.Same.{same_line}
-use Rattle.zone_plain_text.specs.PlainTexts.{plain_text}
-use Rattle.zone_plain_names.specs.Renamed.{ruleset_of}
+use Rattle.zone_plain_base.specs.Same.{same_line}
+use Rattle.zone_plain_base.specs.PlainTexts.{plain_text}
+use Rattle.zone_plain_base.specs.Renamed.{ruleset_of}
 use Rattle.zone_plain_base.specs.Meant.{line_meaning, is_next}
 
 -- what was read is this

@@ -12,13 +12,13 @@ use Rattle.zone_source.specs.Zones.{source_value}
 use Rattle.zone_values.specs.Faults.{Fault}
 use Rattle.zone_values.specs.Values.{LineValue}
 use Rattle.zone_line.specs.Fields.{is_ruleset_name}
-use Rattle.zone_plain_names.specs.Renamed.{ruleset_of}
+use Rattle.zone_plain_base.specs.Renamed.{ruleset_of}
 use Rattle.zone_plain_lines.specs.declared.cause.PlainCause.{PlainCause}
 use Rattle.zone_plain_lines.specs.declared.cause.PlainCause.TheVariants as cause
 use Rattle.zone_plain_base.specs.Meant.{line_meaning, is_next}
 use Rattle.zone_plain_base.specs.Said.{is_read_as, ends_returned, is_one_line, is_meant_as, is_read_by_both, is_said_by, is_said}
-use Rattle.zone_plain_text.specs.PlainTexts.{plain_text}
-use Rattle.zone_plain_text.specs.SameLaws.{line_is}
+use Rattle.zone_plain_base.specs.PlainTexts.{plain_text}
+use Rattle.zone_plain_base.specs.SameLaws.{line_is}
 
 -- what is read as a value is this value
 pub read_as : (meant : LineValue) (r : Result LineValue Fault) → is_read_as meant r ≡ true → r ≡ Ok meant

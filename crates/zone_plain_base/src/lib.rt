@@ -1,12 +1,26 @@
-//! What the stages of the plain form share: its faults, and lines that are written and read back.
+//! What the stages of the plain form share: the plain text of a line, the one form that is written for what the line means, and whether
+//! two lines mean the same; rulesets whose names the plain form can't say, and the names that stand for these; the stages' faults; and
+//! lines that are written and read back.
 #![tactic(auto)]
 
 mod error;
+mod laws;
+mod mark;
 mod meant;
+mod name;
 mod reading;
+mod renamed;
 mod said;
+mod same;
+mod text;
 
 pub use error::{PlainFault, Refused, fault_at};
+pub use laws::said_names;
+pub use mark::mark_behind;
 pub use meant::line_meant;
+pub use name::said_name;
 pub use reading::lines_read;
+pub use renamed::{behind_underscore, has_said_name, mark_of, said_name_of, under};
 pub use said::write_said;
+pub use same::same_line;
+pub use text::put_plain;

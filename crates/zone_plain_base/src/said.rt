@@ -1,16 +1,17 @@
 //! What a line means, written and read back.
 ghost use Rattle.std.specs.Prelude.{◌≡◌, IfOk};
 ghost use Rattle.zone_values.specs.Values.{line_value};
-ghost use Rattle.zone_plain_text.specs.PlainTexts.{plain_text};
+ghost use Rattle.zone_plain_base.specs.PlainTexts.{plain_text};
 ghost use Rattle.zone_plain_base.specs.Meant.{line_meaning, is_next};
 ghost use Rattle.zone_plain_base.specs.Said.{ends_returned, is_one_line, is_meant_as, is_read_by_both, is_said_by, is_said};
 
 use crate::error::Refused;
 use crate::meant::{is_next, line_meant};
+use crate::renamed::has_said_name;
+use crate::same::same_line;
+use crate::text::put_plain;
 use std::alloc::{AllocError, Global};
 use zone_line::{Error, Line, LineReader};
-use zone_plain_names::has_said_name;
-use zone_plain_text::{put_plain, same_line};
 use zone_source::text_of;
 
 /// Whether a text has a carriage return at its end.

@@ -5,7 +5,7 @@ use Rattle.std.specs.FinMap.{get, insert, contains_key}
 use Rattle.std.proofs.lemmas.Option.{same_Some}
 use Rattle.zone_values.specs.Values.{LineValue, InfoValue, RuleValue, multiple, space, zone, continuation, rule, link}
 use Rattle.zone_plain_lines.specs.declared.cause.PlainCause.TheVariants as cause
-use Rattle.zone_plain_text.specs.PlainTexts.{plain_text}
+use Rattle.zone_plain_base.specs.PlainTexts.{plain_text}
 use Rattle.zone_plain_base.specs.Said.{is_said}
 use Rattle.zone_plain_base.specs.declared.error.Refused.{Refused}
 use Rattle.zone_plain_base.specs.declared.error.Refused.TheVariants.{Cause, NoMemory}

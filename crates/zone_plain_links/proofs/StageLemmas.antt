@@ -11,7 +11,7 @@ use Rattle.zone_values.specs.Values.{LineValue, line_value, space}
 use Rattle.zone_values.specs.declared.line.Line.{Line}
 use Rattle.zone_values.specs.declared.line.Line.TheVariants.{Space}
 use Rattle.zone_plain_lines.specs.declared.cause.PlainCause.{PlainCause}
-use Rattle.zone_plain_text.specs.PlainTexts.{plain_text}
+use Rattle.zone_plain_base.specs.PlainTexts.{plain_text}
 use Rattle.zone_plain_base.specs.Said.{is_said}
 use Rattle.zone_plain_base.specs.SaidLaws.{source_value_is}
 use Rattle.zone_plain_base.specs.LineFaults.{Refusal, bad_line, too_long, at, onto, IsFaultOf}

@@ -6,7 +6,7 @@ use Rattle.zone_values.specs.Values.{SavingValue, no_saving, one_off, multiple, 
 use Rattle.zone_values.specs.Results.{◌>>=◌}
 use Rattle.zone_plain_lines.specs.declared.cause.PlainCause.{PlainCause}
 use Rattle.zone_plain_lines.specs.declared.cause.PlainCause.TheVariants as cause
-use Rattle.zone_plain_text.specs.PlainTexts.{plain_text}
+use Rattle.zone_plain_base.specs.PlainTexts.{plain_text}
 use Rattle.zone_plain_base.specs.LineFaults.{Refusal, too_long, numbered, by_line, onto}
 use Rattle.zone_plain_base.specs.Said.{if_said}
 use Rattle.zone_plain_links.specs.Named.{has_zone, has_ruleset, target_of}

@@ -7,7 +7,7 @@ use Rattle.std.specs.FinMap.{FinMap, get, contains_key}
 use Rattle.owned.specs.Keyed.{text_cmp}
 use Rattle.zone_values.specs.Values.{LineValue, space, link}
 use Rattle.zone_plain_lines.specs.declared.cause.PlainCause.{PlainCause}
-use Rattle.zone_plain_text.specs.PlainTexts.{plain_text}
+use Rattle.zone_plain_base.specs.PlainTexts.{plain_text}
 use Rattle.zone_plain_base.specs.Said.{is_said}
 use Rattle.zone_plain_base.specs.declared.error.Refused.{Refused}
 use Rattle.zone_plain_base.specs.declared.error.Refused.TheVariants.{Cause, NoMemory}

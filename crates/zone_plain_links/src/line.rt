@@ -4,7 +4,7 @@ ghost use Rattle.std.specs.FinMap as map;
 ghost use Rattle.zone_values.specs.Values.{LineValue, line_value, saving_value};
 ghost use Rattle.zone_values.specs.Values as value;
 ghost use Rattle.zone_values.specs.declared.line.Line.TheVariants as kind;
-ghost use Rattle.zone_plain_text.specs.PlainTexts.{plain_text};
+ghost use Rattle.zone_plain_base.specs.PlainTexts.{plain_text};
 ghost use Rattle.zone_plain_links.specs.Named.{has_zone, target_of};
 ghost use Rattle.zone_plain_links.specs.Settled.{lacks_rules, link_size, link_after, settled_line, settled_link};
 ghost use Rattle.zone_plain_links.specs.Stands.{IsDeclared, IsAt, IsOutcome, IsRefused, line_at_place};

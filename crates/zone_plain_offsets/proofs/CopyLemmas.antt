@@ -7,7 +7,7 @@ use Rattle.zone_values.specs.Values.{LineValue, space}
 use Rattle.zone_plain_base.specs.LinesAt.{value_at}
 use Rattle.zone_plain_base.specs.Said.{is_said}
 use Rattle.zone_plain_base.specs.SaidLaws.{source_value_is}
-use Rattle.zone_plain_text.specs.PlainTexts.{plain_text}
+use Rattle.zone_plain_base.specs.PlainTexts.{plain_text}
 use Rattle.zone_plain_offsets.specs.Told.{IsAdded}
 
 -- a line that was found at a place says what stands there

@@ -9,3 +9,4 @@ pub mod StageLemmas
 pub mod SizeLemmas
 mod WorkedOffsets
 mod WorkedSources
+pub mod OffsetTextLaws

@@ -12,9 +12,9 @@ use Rattle.zone_outside.specs.Limit.{text_limit}
 use Rattle.zone_values.specs.Values.{LineValue, space}
 use Rattle.zone_plain_lines.specs.declared.cause.PlainCause.TheVariants as cause
 use Rattle.zone_plain_base.specs.LineFaults.{at, bad_line, too_long}
-use Rattle.zone_plain_text.specs.PlainTexts.{plain_text}
+use Rattle.zone_plain_base.specs.PlainTexts.{plain_text}
 use Rattle.zone_plain_base.specs.Said.{is_said}
-use Rattle.zone_plain_names.specs.Renamed.{mark_of}
+use Rattle.zone_plain_base.specs.Renamed.{mark_of}
 use Rattle.zone_plain_offsets.specs.Names.{made_name}
 use Rattle.zone_plain_offsets.specs.Pairs.{Pair, Asked, nothing, total, under, asked, is_same, is_among, with_pair, number_of, joined_by, pairs_from, pairs_of}
 use Rattle.zone_plain_offsets.specs.Made.{rules_for, are_rules_said, changed_by, changed, is_changed_said, named_in, name_in, made}

@@ -11,10 +11,10 @@ use Rattle.zone_values.specs.declared.time.TimeSpec.TheVariants.{Hours, HoursMin
 use Rattle.zone_values.specs.declared.time.TimeType.TheVariants.{Wall}
 use Rattle.zone_values.specs.declared.year.Year.TheVariants.{Minimum}
 use Rattle.zone_plain_lines.specs.declared.cause.PlainCause.TheVariants as cause
-use Rattle.zone_plain_text.specs.PlainTexts.{plain_text, rule_text, years_text, year_text, to_text, moment_text, day_text, time_text}
+use Rattle.zone_plain_base.specs.PlainTexts.{plain_text, rule_text, years_text, year_text, to_text, moment_text, day_text, time_text}
 use Rattle.zone_plain_base.specs.LineFaults.{at, bad_line, too_long}
-use Rattle.zone_plain_names.specs.Marks.{ending_within}
-use Rattle.zone_plain_names.specs.Renamed.{mark_of}
+use Rattle.zone_plain_base.specs.Marks.{ending_within}
+use Rattle.zone_plain_base.specs.Renamed.{mark_of}
 use Rattle.zone_plain_offsets.specs.Formats.{around_mark}
 use Rattle.zone_plain_offsets.specs.Made.{is_changed_said, name_in, rules_named, made_for, made}
 use Rattle.zone_plain_offsets.specs.Names.{made_name}

@@ -7,7 +7,6 @@ pub mod Made
 pub mod WrittenOut
 pub mod Abbreviations
 -- Laws: what a caller may use.
-pub mod OffsetTextLaws
 pub mod NameLaws
 pub mod PairLaws
 pub mod SaidLaws

@@ -6,7 +6,7 @@ use Rattle.zone_values.specs.Values.{multiple, RuleValue, LineValue, space, zone
 use Rattle.zone_table.specs.declared.rule.RuleInfo.{RuleInfo}
 use Rattle.zone_plain_base.specs.Said.{is_said}
 use Rattle.zone_plain_offsets.specs.Formats.{Around}
-use Rattle.zone_plain_names.specs.Renamed.{mark_of}
+use Rattle.zone_plain_base.specs.Renamed.{mark_of}
 use Rattle.zone_plain_offsets.specs.Names.{made_name}
 use Rattle.zone_plain_offsets.specs.OffsetTexts.{offset_text, has_text}
 use Rattle.zone_plain_offsets.specs.Pairs.{Pair, Asked, nothing, total, under, asked, number_of, pairs_of}

@@ -7,7 +7,7 @@ use Rattle.std.proofs.lemmas.Grind.{flat_map-append}
 use Rattle.std.proofs.lemmas.Slice.Eq.{bytes_eq-Decides}
 use Rattle.zone_outside.specs.Limit.{text_limit}
 use Rattle.zone_values.specs.Values.{RuleValue, LineValue, space, zone, continuation, rule, link}
-use Rattle.zone_plain_names.specs.Renamed.{mark_of}
+use Rattle.zone_plain_base.specs.Renamed.{mark_of}
 use Rattle.zone_plain_offsets.specs.NameLaws.{name_is_new, one_name}
 use Rattle.zone_plain_offsets.specs.PairLaws.{same_pair, pair_itself, among_more}
 use Rattle.zone_plain_offsets.specs.Pairs.{Pair, Asked, nothing, total, under, asked, asked_by, is_same, is_among, with_pair, joined_by, number_of, pairs_from, pairs_of}

@@ -8,8 +8,8 @@ use Rattle.std.specs.Char.{digit_value}
 use Rattle.std.specs.Str.Parse.{AllDigits}
 use Rattle.std.proofs.lemmas.Fmt.{decimal_injective, decimal_is_IsNumeral}
 use Rattle.zone_values.specs.Values.{LineValue, space, zone, continuation, rule, link}
-use Rattle.zone_plain_names.specs.MarkLaws.{no_mark}
-use Rattle.zone_plain_names.specs.Renamed.{has_name, mark_of}
+use Rattle.zone_plain_base.specs.MarkLaws.{no_mark}
+use Rattle.zone_plain_base.specs.Renamed.{has_name, mark_of}
 use Rattle.zone_plain_offsets.specs.Names.{letter, made_name}
 use Rattle.zone_plain_offsets.specs.Made.{rules_named}
 

@@ -23,7 +23,7 @@ use Rattle.zone_plain_lines.specs.declared.words.LineWord.TheVariants as word
 use Rattle.zone_plain_base.specs.Meant.{meant_by, line_meaning, is_next}
 use Rattle.zone_plain_base.specs.Said.{is_said}
 use Rattle.zone_plain_base.specs.SaidLaws.{meant_back}
-use Rattle.zone_plain_text.specs.PlainTexts.{plain_text}
+use Rattle.zone_plain_base.specs.PlainTexts.{plain_text}
 use Rattle.zone_plain_offsets.specs.AbbreviationLaws.{AreClean, clean_append, clean_parts, text_clean}
 use Rattle.zone_plain_offsets.specs.Formats.{Around, around, around_z, around_mark}
 use Rattle.zone_plain_offsets.specs.Made.{made_rule, rules_named, rules_for, around_text, changed_by, changed, name_in, made_for, made}

@@ -8,7 +8,7 @@ use Rattle.zone_table.specs.Owned.{owned_rule}
 use Rattle.zone_plain_offsets.specs.Made.{rules_named, made_rule, made_info, name_in}
 use Rattle.zone_plain_offsets.specs.MadeLaws.{made_rules}
 use Rattle.zone_plain_offsets.specs.NameLaws.{name_is_new}
-use Rattle.zone_plain_names.specs.Renamed.{mark_of}
+use Rattle.zone_plain_base.specs.Renamed.{mark_of}
 use Rattle.zone_plain_offsets.specs.Names.{made_name}
 use Rattle.zone_plain_offsets.specs.Pairs.{Pair, is_among, pairs_of}
 use Rattle.zone_plain_offsets.specs.WrittenOut.{written_out}

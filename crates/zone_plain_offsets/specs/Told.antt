@@ -6,7 +6,7 @@ use Rattle.owned.specs.Listed.{listed}
 use Rattle.zone_source.specs.Zones.{source_value}
 use Rattle.zone_values.specs.Values.{LineValue, space, zone, continuation, rule, link}
 use Rattle.zone_plain_offsets.specs.Pairs.{Pair, Asked, nothing, total, under, is_among, with_pair, joined_by, asked}
-use Rattle.zone_plain_text.specs.PlainTexts.{plain_text}
+use Rattle.zone_plain_base.specs.PlainTexts.{plain_text}
 use Rattle.zone_plain_base.specs.Said.{is_said}
 use Rattle.zone_plain_offsets.specs.Made.{named_in, rules_for, are_rules_said, made_rule, is_rule_said, with_format, with_ruleset, around_text, changed_by}
 use Rattle.zone_plain_offsets.specs.OffsetTexts.{offset_text, has_text}

@@ -4,7 +4,7 @@ use Rattle.std.specs.List.{sum_by}
 use Rattle.zone_outside.specs.Limit.{text_limit}
 use Rattle.zone_values.specs.Values.{LineValue}
 use Rattle.zone_plain_lines.specs.declared.cause.PlainCause.TheVariants as cause
-use Rattle.zone_plain_text.specs.PlainTexts.{plain_text}
+use Rattle.zone_plain_base.specs.PlainTexts.{plain_text}
 use Rattle.zone_plain_base.specs.LineFaults.{Refusal, at, bad_line, too_long}
 use Rattle.zone_plain_offsets.specs.Pairs.{Pair, asked, joined_by}
 use Rattle.zone_plain_offsets.specs.Made.{is_changed_said, name_in, changed, made_for, made}

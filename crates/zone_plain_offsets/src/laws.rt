@@ -7,7 +7,7 @@ ghost use Rattle.zone_plain_lines.specs.Columns.{is_format};
 ghost use Rattle.zone_plain_offsets.specs.Abbreviations.{IsNamedUnder, info_in, named_total, own_abbreviation, own_saving};
 ghost use Rattle.zone_plain_offsets.specs.Formats.{around, around_mark};
 ghost use Rattle.zone_plain_offsets.specs.Made.{made_info, name_in};
-ghost use Rattle.zone_plain_names.specs.Renamed.{mark_of};
+ghost use Rattle.zone_plain_base.specs.Renamed.{mark_of};
 ghost use Rattle.zone_plain_offsets.specs.Names.{made_name};
 ghost use Rattle.zone_plain_offsets.specs.OffsetTexts.{offset_text};
 ghost use Rattle.zone_plain_offsets.specs.Pairs.{Pair, is_among, pairs_of};

@@ -1,7 +1,7 @@
 //! The text that stands for `%z`.
 ghost use Rattle.std.specs.Prelude.{◌≡◌, ◌∷◌, ◌++◌, ◌<◌, ◌+◌, ◌+ℤ◌, true, string_bytes, OnOk, IfOk, Some, None, if◌then◌else◌};
 ghost use Rattle.zone_values.specs.Seconds.{seconds_of};
-ghost use Rattle.zone_plain_text.specs.PlainTexts.{two_digits};
+ghost use Rattle.zone_plain_base.specs.PlainTexts.{two_digits};
 ghost use Rattle.zone_plain_offsets.specs.OffsetTexts.{seconds_text, minutes_text, offset_text, has_text};
 
 use std::alloc::{AllocError, Global};

@@ -7,7 +7,7 @@ ghost use Rattle.zone_plain_base.specs.LinesAt.{value_at};
 ghost use Rattle.zone_plain_base.specs.Said.{is_said};
 ghost use Rattle.zone_plain_offsets.specs.Made.{with_format, with_ruleset, around_text, named_in, rules_for, are_rules_said};
 ghost use Rattle.zone_plain_offsets.specs.Pairs.{with_pair};
-ghost use Rattle.zone_plain_names.specs.Renamed.{mark_of};
+ghost use Rattle.zone_plain_base.specs.Renamed.{mark_of};
 ghost use Rattle.zone_plain_offsets.specs.OffsetTexts.{offset_text, has_text};
 ghost use Rattle.zone_plain_offsets.specs.Shown.{parts_shown, pair_shown};
 ghost use Rattle.zone_plain_offsets.specs.Told.{IsGrouped, IsAdded, AreAdded, IsWrittenOut, new_rules, are_new_said};
@@ -24,9 +24,8 @@ use crate::size::size_from;
 use owned::{Items, TextMap};
 use std::alloc::{AllocError, Global};
 use zone_line::{Line, LineParser, LineReader};
-use zone_plain_base::{PlainFault, lines_read};
+use zone_plain_base::{PlainFault, lines_read, mark_of};
 use zone_plain_lines::PlainCause;
-use zone_plain_names::mark_of;
 use zone_source::LineList;
 
 /// Adds a line with another format. Answers whether it can be said.

@@ -2,3 +2,4 @@ pub mod LineLemmas
 pub mod LineListLemmas
 pub mod JoinLemmas
 pub mod SourceRows
+mod WorkedReleases

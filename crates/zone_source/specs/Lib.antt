@@ -3,6 +3,8 @@ pub mod Lines
 pub mod LinesLeft
 pub mod LineLists
 pub mod Zones
+pub mod Releases
+pub mod ReleaseLines
 pub mod Faults
 pub mod FaultLines
 pub mod Told
@@ -13,5 +15,6 @@ pub mod Runs
 pub mod Starts
 -- Laws: what a caller may use.
 pub mod LineLaws
+pub mod ReleaseLaws
 -- Words of private clauses.
 pub mod Joining

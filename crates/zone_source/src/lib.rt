@@ -1,4 +1,5 @@
-//! The source text of zones, read as a whole: its lines, the table that they join to, and the first fault of it.
+//! The source text of zones, read as a whole: its lines, the table that they join to, and the first fault of it; and the release that it
+//! names by its first line, as `# version 2026b`.
 //!
 //! Programs over a source file stand on this crate: it also has the statuses that they end with, how a run over one
 //! file ends, and the lines that tell a fault, and it gives the outside on.
@@ -6,8 +7,10 @@
 
 mod error;
 mod fault_line;
+mod laws;
 mod line_list;
 pub mod lines;
+mod release;
 mod response;
 mod running;
 mod starting;
@@ -18,8 +21,10 @@ mod words;
 
 pub use error::{BuildKind, SourceError};
 pub use fault_line::{FaultText, write_fault_line};
+pub use laws::names_itself;
 pub use line_list::LineList;
 pub use lines::Lines;
+pub use release::{put_release_line, release_of};
 pub use response::{Response, fault_bytes, source_fault_bytes};
 pub use running::{FileTask, run_task, run_task_surely};
 pub use starting::{BareProgram, SourceProgram, Started, start_run, start_source_run};

@@ -1,5 +1,5 @@
 -- What a chosen candidate's text is read as, and that its zone gives the set's offset.
-use Rattle.std.proofs.Common.{◌≡◌, ℕ, zero, suc, true, cond, List, [], ◌∷◌, Option, Some, None, ℤ, pos, neg_ℤ, ◌<ℤ◌, refl, sym, ◌∙◌, subst, arith}
+use Rattle.std.proofs.Common.{◌≡◌, ℕ, zero, suc, true, false, cond, List, [], ◌∷◌, Option, Some, None, ℤ, pos, neg_ℤ, ◌<ℤ◌, refl, sym, ◌∙◌, subst, arith}
 use Rattle.std.proofs.lemmas.Bool.{and_from}
 use Rattle.std.proofs.lemmas.Int.{ints}
 use Rattle.calendar.specs.ComparisonLaws.{le_pass}
@@ -17,7 +17,8 @@ use Rattle.zone_tail_core.specs.Candidates.{candidate_total, IsAllowed, IsLast, 
 use Rattle.zone_tail_core.specs.Carried.{CarriesOn, IsCovered, IsFrom}
 use Rattle.zone_tail_core.specs.Ready.{CanBeWritten, IsNamedBy}
 use Rattle.zone_tail_core.specs.Rules.{IsNearYear, IsReach, rule_total}
-use Rattle.zone_tail_core.specs.Tails.{beginning, end_of_last_year}
+use Rattle.zone_tail_core.specs.Settled.{IsPastChanges, IsSettled, Settles}
+use Rattle.zone_tail_core.specs.Tails.{beginning, end_of_last_year, is_ending_early}
 use Rattle.zone_tail_core.specs.Texts.{text_of}
 use Rattle.zone_tail_core.specs.Totals.{HasBegun}
 use Rattle.zone_tail_core.specs.Values.{value_of, zone_of}
@@ -61,17 +62,23 @@ module _ (set : FixedTimespanSet) (standard saving : List ℕ) where
       let y = year_at q.standard (seconds_of t) in
       (λ i. cond (near_is_year y near i) (first_some (never_refused q.start y near i ∷ never_refused q.end y near i ∷ [])) (Some ComponentRange))
 
+  settled : (c : Candidate) → Settles set c → is_ending_early set ≡ false → (s : ℤ) → IsPastChanges set s → IsSettled (zone_of standard saving c) s
+  unfolding zone_of
+  settled (Fixed total) settles early s past = tt
+  settled (Ruled q) settles early s past = settles early s past
+
   -- the text of a candidate that agrees from a span on
   pub carries_on : (c : Candidate) (span : ℕ) (from : Option ℤ) (text : List ℕ) → IsNamedBy standard saving c → CanBeWritten c → IsSoundCandidate c
-      → IsLast c (end_of_last_year set) → IsAllowed c (schedule_of set) span → Agrees c (schedule_of set) (end_of_last_year set) span
+      → IsLast c (end_of_last_year set) → Settles set c → IsAllowed c (schedule_of set) span → Agrees c (schedule_of set) (end_of_last_year set) span
       → from ≡ beginning (shifts_of set) span → text ≡ text_of standard saving c → CarriesOn set from text
-  carries_on c span from text names written sound end allowed agrees begins is = record {
+  carries_on c span from text names written sound end settles allowed agrees begins is = record {
     value = value_of standard saving c;
     zone = zone_of standard saving c;
     spelled = subst (λ t. Spells t (value_of standard saving c)) (sym is) (text_spelled standard saving c names written sound);
     in_range = value_in_range standard saving c written sound;
     stands_for = value_stands standard saving c;
     accepts = λ t covered. accepted c t sound (reach (seconds_of t) (end_of_last_year set) c span allowed (begun t covered) covered.not_over end);
+    settled = settled c settles;
     agrees = λ t given covered gives. total_is standard saving c t given gives ∙ agrees.alike t (begun t covered) covered.not_over;
   }
     where

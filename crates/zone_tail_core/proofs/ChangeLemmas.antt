@@ -1,6 +1,7 @@
 -- The changes that come at a local second of the last year come there.
-use Rattle.std.proofs.Common.{◌≡◌, ℕ, ◌+◌, ◌*◌, ◌/◌, ◌<◌, ◌≤◌, Bool, true, false, cond, ◌++◌, [], ◌∷◌, length, map, nat_eq, nat_le, nat_lt, All, ℤ, pos, ◌+ℤ◌, ◌-ℤ◌, ◌*ℤ◌, ◌≤ℤ◌, ◌<ℤ◌, unsigned_abs, refl, sym, ap, ◌∙◌, subst, arith}
+use Rattle.std.proofs.Common.{◌≡◌, ℕ, ◌+◌, ◌*◌, ◌/◌, ◌<◌, ◌≤◌, Bool, true, false, cond, ◌++◌, [], ◌∷◌, length, map, nat_eq, nat_le, nat_lt, All, ℤ, pos, ◌+ℤ◌, ◌-ℤ◌, ◌*ℤ◌, ◌≤ℤ◌, ◌<ℤ◌, unsigned_abs, inl, inr, refl, sym, ap, ◌∙◌, subst, arith}
 use Rattle.std.specs.Int.{int_div_euclid, int_rem_euclid}
+use Rattle.std.proofs.lemmas.Bool.{cases_lt}
 use Rattle.std.proofs.lemmas.Bool.Decides.{nat_tests}
 use Rattle.std.proofs.lemmas.List.{length-map}
 use Rattle.std.proofs.lemmas.List.Elements.{All-append, All-cons, All-map, All-nil, All-weaker}
@@ -9,14 +10,15 @@ use Rattle.calendar.specs.DateLaws.{day_parts, year-between}
 use Rattle.calendar.specs.Days.{day, days_in_month, is_leap, days_in_year, days_after_zero, year_start, days_through, days_into_year, IsCountedYear, IsDate}
 use Rattle.calendar.specs.MonthLaws.{days_in_month-bounds}
 use Rattle.calendar.specs.SignedLaws.{signed, floored}
-use Rattle.calendar.specs.WeekdayLaws.{last_with_weekday, weekday_in_month, weekday_of-small}
+use Rattle.calendar.specs.WeekdayLaws.{day-from_first, last_with_weekday, weekday_in_month, weekday_of-small}
 use Rattle.calendar.specs.Weekdays.{weekday_of}
 use Rattle.tz_posix_core.specs.Days.{nth_weekday, rule_day}
 use Rattle.tz_posix_core.specs.InForce.{instant_in}
 use Rattle.tz_posix_core.specs.Ranges.{is_rule_date}
+use Rattle.tz_posix_core.specs.WeekdayLaws.{first_weekday-is}
 use Rattle.tz_posix_core.specs.declared.date.Date.TheVariants.{M}
 use Rattle.zone_tail_core.specs.Changes.{change_with, changes_at, weeks}
-use Rattle.zone_tail_core.specs.LastYear.{year_begin, year_end}
+use Rattle.zone_tail_core.specs.LastYear.{second_week, year_begin, year_end}
 use Rattle.zone_tail_core.specs.Rules.{IsChange, time_of}
 use Rattle.zone_tail_core.specs.declared.rule.Change.{Change}
 use Rattle.zone_tail_core.proofs.TotalLemmas.{day-2099}
@@ -66,9 +68,10 @@ all_weeks y m d years date =
     by_count true h = All-cons (Names y m d) ((d + 6) / 7) [] (h refl) (All-nil (Names y m d))
     by_count false h = All-nil (Names y m d)
 
--- a change that comes at a local second of the last year
+-- a change that comes at a local second of the last year; from the second week on it is none of the first week of January
 pub record Comes (local : ℤ) (change : Change) : Type 0 where
   pub sound : IsChange change
+  pub late : second_week ≤ℤ local → 3 ≤ change.month + change.week
   pub instant : (offset : ℤ) → instant_in (pos 2099) offset (time_of change) ≡ local -ℤ offset
 
 rule_date : (m n d : ℕ) → 1 ≤ m → m ≤ 12 → 1 ≤ n → n ≤ 5 → d < 7 → is_rule_date (M m n d) ≡ true
@@ -100,6 +103,37 @@ dated k low high =
       number = subst (λ y. day y (month_of k) (day_of k) ≡ k) year number;
     }
 
+-- the first day of a month with a weekday is one of its first seven
+first_is_early : (m n w d : ℕ) → w < 7 → n ≡ 1 → nth_weekday (pos 2099) m n w ≡ d → d ≤ 7
+first_is_early m n w d small one is =
+    let first = first_weekday-is (pos 2099) m w last_counted small in
+    let same = ap (λ i. nth_weekday (pos 2099) m i w) one in
+    omega (arith, first, same, is)
+
+-- a day of the second week or later is of another month, or of another week of January
+late_day : (k : ℤ) (n : ℕ) → IsDated k → pos 47124 ≤ℤ k → Names (pos 2099) (month_of k) (day_of k) n → 3 ≤ month_of k + n
+late_day k n at low names =
+    elim (cases_lt (month_of k) 2) [
+      | inl few ↦ let january : month_of k ≡ 1 = omega (arith, at.date.first_month) in
+          let number = day-from_first (pos 2099) 1 (day_of k) last_counted at.date.first_day in
+          let same = ap (λ m. day (pos 2099) m (day_of k)) january in
+          elim (cases_lt n 2) [
+            | inl early ↦ let one : n ≡ 1 = omega (arith, names.first) in
+                absurd (omega (
+                  arith,
+                  signed,
+                  number,
+                  same,
+                  at.number,
+                  day-2099,
+                  low,
+                  first_is_early (month_of k) n (weekday_of (day (pos 2099) (month_of k) (day_of k))) (day_of k) (weekday_of-small (day (pos 2099) (month_of k) (day_of k))) one names.nth,
+                ))
+            | inr later ↦ omega (arith, at.date.first_month)
+          ]
+      | inr many ↦ omega (arith, names.first)
+    ]
+
 comes : (local k : ℤ) (second n : ℕ) → IsDated k → local ≡ pos 86400 *ℤ k +ℤ pos second → second < 86400 → Names (pos 2099) (month_of k) (day_of k) n
     → Comes local (change_with k second n)
 unfolding instant_in rule_day
@@ -111,6 +145,7 @@ comes local k second n at is few names =
         date = rule_date (month_of k) n (weekday_of k) at.date.first_month at.date.last_month names.first names.last (weekday_of-small k);
         second = few;
       };
+      late = λ low. late_day k n at (omega (arith, signed, is, low)) names;
       instant = λ offset. by_day offset (day (pos 2099) (month_of k) (nth_weekday (pos 2099) (month_of k) n (weekday_of k))) (ap (day (pos 2099) (month_of k)) nth ∙ at.number);
     }
   where

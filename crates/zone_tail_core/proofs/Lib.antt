@@ -9,6 +9,7 @@ pub mod ChoiceLemmas
 pub mod ShapeLemmas
 pub mod TotalLemmas
 pub mod ChangeLemmas
+pub mod SettledLemmas
 pub mod FormLemmas
 pub mod ReadyLemmas
 pub mod ReadLemmas

@@ -5,7 +5,7 @@ use Rattle.std.proofs.lemmas.Int.{ints}
 use Rattle.std.proofs.lemmas.Bool.{and_parts}
 use Rattle.std.proofs.lemmas.List.{length-append, length-map}
 use Rattle.std.proofs.lemmas.List.Elements.{All-append, All-cons, All-get_or, All-map, All-nil, All-tail, All-weaker}
-use Rattle.calendar.specs.ComparisonLaws.{lt_from_pass, lt_le, eq_from_pass}
+use Rattle.calendar.specs.ComparisonLaws.{eq_from_pass, le_le, le_same, lt_from_fail, lt_from_pass, lt_le}
 use Rattle.civil_base.specs.Ranges.{is_offset}
 use Rattle.civil_base.specs.RangeLaws.{offset_greatest, offset_least}
 use Rattle.zone_spans.specs.Entries.{Entry, total}
@@ -17,11 +17,12 @@ use Rattle.zone_tail_core.specs.Agreement.{Agrees}
 use Rattle.zone_tail_core.specs.Candidates.{IsAllowed, IsLast, IsSoundCandidate}
 use Rattle.zone_tail_core.specs.Changes.{changes_at}
 use Rattle.zone_tail_core.specs.Choices.{candidate_at, IsChoice}
-use Rattle.zone_tail_core.specs.LastYear.{Form, form, is_end, is_start, standard_of, year_begin, year_end}
+use Rattle.zone_tail_core.specs.LastYear.{Form, form, is_end, is_start, second_week, standard_of, year_begin, year_end}
 use Rattle.zone_tail_core.specs.Ready.{CanBeWritten, IsChosen, IsNamedBy, IsReady, IsReadyList}
 use Rattle.zone_tail_core.specs.Rules.{IsSmall, time_of}
+use Rattle.zone_tail_core.specs.Settled.{Settles}
 use Rattle.zone_tail_core.specs.Shapes.{entry_in, IsForm}
-use Rattle.zone_tail_core.specs.Tails.{can_be_written, candidates, candidates_of, end_of_last_year, fault_of, is_name, named_or, names_of, rule_with, rules_with, tail_fault}
+use Rattle.zone_tail_core.specs.Tails.{can_be_written, candidates, candidates_of, end_of_last_year, ends_early, fault_of, is_ending_early, is_name, named_or, names_of, rule_with, rules_with, tail_fault}
 use Rattle.zone_tail_core.specs.Totals.{IsCount}
 use Rattle.zone_tail_core.specs.declared.candidate.Candidate.{Candidate}
 use Rattle.zone_tail_core.specs.declared.candidate.Candidate.TheVariants.{Fixed, Ruled}
@@ -30,6 +31,7 @@ use Rattle.zone_tail_core.specs.declared.last_year.Form.TheVariants.{Steady, Yea
 use Rattle.zone_tail_core.specs.declared.outcome.TailFault.TheVariants as fault
 use Rattle.zone_tail_core.specs.declared.rule.Change.{Change}
 use Rattle.zone_tail_core.proofs.ChangeLemmas.{Comes, all_come, changes_some}
+use Rattle.zone_tail_core.proofs.SettledLemmas.{begun_entry, settled}
 use Rattle.zone_tail_core.proofs.ShapeLemmas.{shift_is}
 use Rattle.zone_tail_core.proofs.SpanLemmas.{length-shifts}
 use Rattle.zone_tail_core.proofs.TotalLemmas.{Gives, IsCandidate, candidate_agrees, same_choice, steady_agrees}
@@ -72,6 +74,7 @@ module _ (set : FixedTimespanSet) (accepted : IsAccepted (schedule_of set)) (k :
   steady_ready last count = subst (IsReadyList set last) (sym steady_candidates) (record {
     some = omega arith;
     sound = All-cons IsSoundCandidate (Fixed v) [] tt (All-nil IsSoundCandidate);
+    settle = All-cons (Settles set) (Fixed v) [] tt (All-nil (Settles set));
     ends = All-cons (λ candidate. IsLast candidate last) (Fixed v) [] tt (All-nil (λ candidate. IsLast candidate last));
     closes = All-cons (λ candidate. IsLast candidate (end_of_last_year set)) (Fixed v) [] tt (All-nil (λ candidate. IsLast candidate (end_of_last_year set)));
     agree = record { span = k; each = only last count };
@@ -226,6 +229,7 @@ module _ (set : FixedTimespanSet) (accepted : IsAccepted (schedule_of set)) (sta
   record IsGood (candidate : Candidate) : Type 0 where
     pub sound : IsSoundCandidate candidate
     pub ends : IsLast candidate (end_of_last_year set)
+    pub settles : Settles set candidate
     pub allowed : IsAllowed candidate (schedule_of set) (suc first)
     pub agrees : Agrees candidate (schedule_of set) (end_of_last_year set) (suc first)
 
@@ -265,6 +269,19 @@ module _ (set : FixedTimespanSet) (accepted : IsAccepted (schedule_of set)) (sta
           subst (λ (s : Shift). s.0 <ℤ (shift_at (shifts_of set) (suc first)).0) (sym one)
           (subst (λ (s : Shift). (entry_in set first).0 <ℤ s.0) (sym two) h.1.rising)
 
+  -- the rule of the last year decides by itself, since the start is an entry and the end lies in the second week or later
+  not_early : is_ending_early set ≡ false → second_week ≤ℤ (b.0 +ℤ total a.1)
+  unfolding is_ending_early
+  not_early e = lt_from_fail (b.0 +ℤ total a.1) second_week (sym (ap ends_early h.0) ∙ e)
+
+  settles : (s e : Change) → Comes (a.0 +ℤ off) s → Comes (b.0 +ℤ total a.1) e → Settles set (Ruled (rule_with off (total a.1) s e))
+  settles s e come_s come_e early t past =
+      let begun = begun_entry (pos 0, set.first) set.others t start past.over start_inside in
+      settled off (total a.1) s e t come_s.sound come_e.sound standard_small saving_small past.not_over
+      (le_le _ _ _ (one_begun start start_one) begun)
+      (le_same _ _ _ _ (come_s.instant off ∙ back a.0 off) refl begun)
+      (come_e.late (not_early early))
+
   reaches : neg_ℤ (pos 5364662400) ≤ℤ (shift_at (shifts_of set) first).0
   reaches = omega (arith, ints, h.1.begins.after first (omega arith) (one_inside first (record { from = omega arith; to = omega arith })), standard_small.greatest)
 
@@ -272,6 +289,7 @@ module _ (set : FixedTimespanSet) (accepted : IsAccepted (schedule_of set)) (sta
   good s e come_s come_e = record {
     sound = record { standard = standard_small; saving = saving_small; start = come_s.sound; end = come_e.sound };
     ends = omega (arith, ints, standard_small.least);
+    settles = settles s e come_s come_e;
     allowed = (one_inside first (record { from = omega arith; to = omega arith }), reaches);
     agrees = candidate_agrees (rule_with off (total a.1) s e) (schedule_of set) first (given s e come_s come_e) accepted.times;
   }
@@ -287,6 +305,7 @@ module _ (set : FixedTimespanSet) (accepted : IsAccepted (schedule_of set)) (sta
   yearly_ready = subst (IsReadyList set (end_of_last_year set)) (sym yearly_list) (record {
     some = some_rules off (total a.1) _ _ (changes_some (a.0 +ℤ off) start_low start_high) (changes_some (b.0 +ℤ total a.1) end_low end_high);
     sound = All-weaker IsGood IsSoundCandidate (λ c g. g.sound) list all_good;
+    settle = All-weaker IsGood (Settles set) (λ c g. g.settles) list all_good;
     ends = All-weaker IsGood (λ c. IsLast c (end_of_last_year set)) (λ c g. g.ends) list all_good;
     closes = All-weaker IsGood (λ c. IsLast c (end_of_last_year set)) (λ c g. g.ends) list all_good;
     agree = record {
@@ -378,6 +397,7 @@ is_chosen set found h none last ready i k choice = record {
   within = within_others set (candidate_at (candidates set) i) k choice.allowed;
   sound = All-get_or IsSoundCandidate (candidates set) i (Fixed (pos 0)) choice.within ready.sound;
   closes = All-get_or (λ c. IsLast c (end_of_last_year set)) (candidates set) i (Fixed (pos 0)) choice.within ready.closes;
+  settles = All-get_or (Settles set) (candidates set) i (Fixed (pos 0)) choice.within ready.settle;
   written = All-get_or CanBeWritten (candidates set) i (Fixed (pos 0)) choice.within (written_of set found h none);
   named = All-get_or (λ c. IsNamedBy (names_of (form set)).0 (names_of (form set)).1 c) (candidates set) i (Fixed (pos 0)) choice.within (named_of set found h none);
 }

@@ -8,7 +8,7 @@ use Rattle.tz_zone.specs.declared.set.FixedTimespanSet.{FixedTimespanSet}
 use Rattle.zone_tail_core.specs.Candidates.{year_1800}
 use Rattle.zone_tail_core.specs.Found.{reaches}
 use Rattle.zone_tail_core.specs.LastYear.{steady, yearly, other, form, standard_of, year_begin, year_end}
-use Rattle.zone_tail_core.specs.Tails.{end_of_last_year, is_outlasting, tail_fault}
+use Rattle.zone_tail_core.specs.Tails.{end_of_last_year, is_ending_early, is_outlasting, tail_fault}
 use Rattle.zone_tail_core.specs.declared.candidate.Candidate.TheVariants.{Fixed, Ruled}
 use Rattle.zone_tail_core.specs.declared.outcome.TailFault.TheVariants.{Shape, OffsetRange, Name}
 use Rattle.zone_tail_core.specs.declared.rule.YearlyRule.{YearlyRule}
@@ -93,6 +93,13 @@ outlasting : map is_outlasting (year [] ∷ year ((pos 4102444799, span (pos 0) 
     ≡ false ∷ false ∷ true ∷ true ∷ false ∷ true ∷ []
 unfolding is_outlasting standard_of
 outlasting = refl
+
+-- daylight saving time that ends on January 7 at 23:59:59 by its own clocks, and a second later; and none that ends
+ending_early : map is_ending_early (year (standard (pos 4071506399) ∷ saving spring ∷ []) ∷ year (standard (pos 4071506400) ∷ saving spring ∷ [])
+    ∷ year (saving spring ∷ standard autumn ∷ []) ∷ year [] ∷ year (standard (pos 4071506399) ∷ []) ∷ [])
+    ≡ true ∷ false ∷ false ∷ false ∷ false ∷ []
+unfolding is_ending_early form standard_of
+ending_early = refl
 
 -- the standard offset is that in force as 2100 begins in UTC: an entry at that second counts, one a second later doesn't
 standards : map standard_of (year ((pos 4102444800, span (pos 7200) (pos 0) []) ∷ []) ∷ year ((pos 4102444801, span (pos 7200) (pos 0) []) ∷ [])

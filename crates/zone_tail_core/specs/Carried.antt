@@ -1,5 +1,5 @@
 -- What a set's string is read as, and where it gives the set's offset.
-use Rattle.std.specs.Prelude.{◌≡◌, ℕ, List, Option, Some, None, Ok, ℤ, ◌≤ℤ◌, ◌<ℤ◌}
+use Rattle.std.specs.Prelude.{◌≡◌, ℕ, false, List, Option, Some, None, Ok, ℤ, ◌≤ℤ◌, ◌<ℤ◌}
 use Rattle.civil_base.specs.Instants.{seconds_of}
 use Rattle.zone_spans.specs.Schedules.{total_at}
 use Rattle.tz_zone.specs.Sets.{schedule_of}
@@ -9,7 +9,8 @@ use Rattle.tz_posix_core.specs.Ranges.{posix_range}
 use Rattle.tz_posix_core.specs.Resolved.{resolved}
 use Rattle.tz_posix_core.specs.Spells.{Spells}
 use Rattle.tz_posix_core.specs.Values.{TzValue}
-use Rattle.zone_tail_core.specs.Tails.{end_of_last_year}
+use Rattle.zone_tail_core.specs.Settled.{IsPastChanges, IsSettled}
+use Rattle.zone_tail_core.specs.Tails.{end_of_last_year, is_ending_early}
 
 -- at or after the second from which on a string says the same; none stands for the beginning of time
 abbrev pub IsFrom : Option ℤ → ℤ → Type 0
@@ -22,7 +23,8 @@ pub record IsCovered (set : FixedTimespanSet) (from : Option ℤ) (t : ℤ) : Ty
   pub not_over : seconds_of t <ℤ end_of_last_year set
 
 -- a text spells a value whose parts are in their ranges and which stands for the same time zone over every database; at each of these
--- instants that zone refuses nothing, and gives the set's offset alone
+-- instants that zone refuses nothing, and gives the set's offset alone; and its rule decides the last year by itself from the set's last
+-- change on, unless daylight saving time ends in that year's first week
 pub record CarriesOn (set : FixedTimespanSet) (from : Option ℤ) (text : List ℕ) : Type 0 where
   pub value : TzValue
   pub zone : PosixZone
@@ -30,4 +32,5 @@ pub record CarriesOn (set : FixedTimespanSet) (from : Option ℤ) (text : List �
   pub in_range : posix_range value ≡ None
   pub stands_for : (zones : List FixedTimespanSet) → resolved zones value ≡ Ok zone
   pub accepts : (t : ℤ) → IsCovered set from t → posix_refusal zone t ≡ None
+  pub settled : is_ending_early set ≡ false → (s : ℤ) → IsPastChanges set s → IsSettled zone s
   pub agrees : (t : ℤ) (given : Given) → IsCovered set from t → Gives zone t given → given.total ≡ total_at (schedule_of set) t

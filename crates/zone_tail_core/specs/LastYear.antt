@@ -13,6 +13,10 @@ year_begin = last_year_begin
 abbrev pub year_end : ℤ
 year_end = rules_end
 
+-- 2099-01-08 00:00:00
+abbrev pub second_week : ℤ
+second_week = year_begin +ℤ pos 604800
+
 -- the span of the last entry, else the first
 abbrev pub last_span : FixedTimespan → List Entry → FixedTimespan
 last_span first [] = first

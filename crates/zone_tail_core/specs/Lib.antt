@@ -9,6 +9,7 @@ pub mod Changes
 pub mod Texts
 pub mod Tails
 pub mod Values
+pub mod Settled
 pub mod Carried
 pub mod Found
 -- Words of private clauses.

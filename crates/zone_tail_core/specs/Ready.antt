@@ -7,6 +7,7 @@ use Rattle.zone_tail_core.specs.Agreement.{Agrees}
 use Rattle.zone_tail_core.specs.Candidates.{IsAllowed, IsLast, IsSoundCandidate}
 use Rattle.zone_tail_core.specs.Choices.{candidate_at, IsChoice}
 use Rattle.zone_tail_core.specs.LastYear.{form}
+use Rattle.zone_tail_core.specs.Settled.{Settles}
 use Rattle.zone_tail_core.specs.Tails.{can_be_written, candidates, end_of_last_year, is_name, names_of}
 use Rattle.zone_tail_core.specs.declared.candidate.Candidate.{Candidate}
 use Rattle.zone_tail_core.specs.declared.candidate.Candidate.TheVariants.{Fixed, Ruled}
@@ -22,6 +23,7 @@ pub record IsReadyList (set : FixedTimespanSet) (last : ℤ) (list : List Candid
   pub sound : All IsSoundCandidate list
   pub ends : All (λ candidate. IsLast candidate last) list
   pub closes : All (λ candidate. IsLast candidate (end_of_last_year set)) list
+  pub settle : All (Settles set) list
   pub agree : AllAgree list (schedule_of set) last
   pub same : (i k : ℕ) → IsChoice list (schedule_of set) last i k → IsChoice list (schedule_of set) (end_of_last_year set) i k
 
@@ -50,5 +52,6 @@ pub record IsChosen (set : FixedTimespanSet) (candidate : Candidate) (span : ℕ
   pub within : span ≤ length set.others
   pub sound : IsSoundCandidate candidate
   pub closes : IsLast candidate (end_of_last_year set)
+  pub settles : Settles set candidate
   pub written : CanBeWritten candidate
   pub named : IsNamedBy (names_of (form set)).0 (names_of (form set)).1 candidate

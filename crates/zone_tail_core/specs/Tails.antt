@@ -1,5 +1,5 @@
 -- The POSIX TZ string that stands for the tail of a set, from which entry on, and why there is none.
-use Rattle.std.specs.Prelude.{◌≡◌, ℕ, zero, suc, Bool, ◌&&◌, not, ◌==◌, nat_le, List, [], ◌∷◌, ◌++◌, length, map, Option, Some, None, if◌then◌else◌, ℤ, ◌+ℤ◌, ◌-ℤ◌, int_le, unsigned_abs}
+use Rattle.std.specs.Prelude.{◌≡◌, ℕ, zero, suc, Bool, false, ◌&&◌, not, ◌==◌, nat_le, List, [], ◌∷◌, ◌++◌, length, map, Option, Some, None, if◌then◌else◌, ℤ, ◌+ℤ◌, ◌-ℤ◌, int_le, int_lt, unsigned_abs}
 use Rattle.std.specs.List.{list_all, list_any}
 use Rattle.zone_spans.specs.Entries.{Entry, total}
 use Rattle.tz_zone.specs.Sets.{schedule_of, shifts_of}
@@ -8,7 +8,7 @@ use Rattle.tz_zone.specs.declared.set.FixedTimespanSet.{FixedTimespanSet}
 use Rattle.tz_posix_core.specs.Marks.{less, greater}
 use Rattle.zone_tail_core.specs.Changes.{changes_at}
 use Rattle.zone_tail_core.specs.Choices.{candidate_at, IsChoice}
-use Rattle.zone_tail_core.specs.LastYear.{Form, steady, yearly, other, form, standard_of, year_end}
+use Rattle.zone_tail_core.specs.LastYear.{Form, steady, yearly, other, form, second_week, standard_of, year_end}
 use Rattle.zone_tail_core.specs.Texts.{text_of}
 use Rattle.zone_tail_core.specs.declared.candidate.Candidate.{Candidate}
 use Rattle.zone_tail_core.specs.declared.candidate.Candidate.TheVariants.{Fixed, Ruled}
@@ -47,6 +47,16 @@ end_of_last_year set = year_end -ℤ standard_of set
 unfoldable pub is_outlasting : FixedTimespanSet → Bool
 is_outlasting set = list_any (λ (entry : Entry). int_le (end_of_last_year set) entry.0) set.others
 
+-- Daylight saving time ends in the first week of the last year, by its own clocks. A rule that says so may end that of the year after
+-- before the last year is over, where a string and a footer are read otherwise.
+abbrev pub ends_early : Form → Bool
+ends_early (yearly start end) = int_lt (end.0 +ℤ total start.1) second_week
+ends_early (steady span) = false
+ends_early other = false
+
+unfoldable pub is_ending_early : FixedTimespanSet → Bool
+is_ending_early set = ends_early (form set)
+
 -- ---- the causes
 
 -- at most 24:59:59 in size
@@ -75,9 +85,9 @@ fault_of offset other = Some fault.Shape
 abbrev pub tail_fault : FixedTimespanSet → Option TailFault
 tail_fault set = fault_of (standard_of set) (form set)
 
--- want of memory may come at any set, any other fault is its cause
+-- want of memory comes only where there is no cause, any other fault is its cause
 abbrev pub IsFaultOf : FixedTimespanSet → TailFault → Type 0
-IsFaultOf set fault.NoMemory = Unit {0}
+IsFaultOf set fault.NoMemory = tail_fault set ≡ None
 IsFaultOf set fault.Shape = tail_fault set ≡ Some fault.Shape
 IsFaultOf set fault.OffsetRange = tail_fault set ≡ Some fault.OffsetRange
 IsFaultOf set fault.Name = tail_fault set ≡ Some fault.Name

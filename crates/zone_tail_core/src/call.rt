@@ -30,7 +30,7 @@ const FAR: i64 = 1 << 41;
 ///
 /// # Errors
 ///
-/// In this order, and each exactly where it says: `Shape`, `OffsetRange`, `Name`; `NoMemory` where there is none.
+/// In this order, and each exactly where it says: `Shape`, `OffsetRange`, `Name`; `NoMemory`, and never where one of these is due.
 pub fn tail(alloc: Global, set: &FixedTimespanSet) -> Result<Tail, TailFault>
     requires { IsAccepted (schedule_of set.now) }
     ensures told { MatchResult result (λ tail. IsTail set.now tail.from (string_bytes tail.text)) (IsFaultOf set.now) }

@@ -4,7 +4,7 @@ ghost use Rattle.zone_spans.specs.Entries.{total};
 ghost use Rattle.tz_zone.specs.Sets.{IsAccepted, IsSpanTime, schedule_of, shifts_of};
 ghost use Rattle.zone_tail_core.specs.LastYear.{are_start_and_end, is_end, is_start, standard_of, year_begin, year_end};
 ghost use Rattle.zone_tail_core.specs.Shapes.{entry_in, IsForm, IsShape};
-ghost use Rattle.zone_tail_core.specs.Tails.{is_outlasting};
+ghost use Rattle.zone_tail_core.specs.Tails.{is_ending_early, is_outlasting};
 ghost use Rattle.zone_tail_core.specs.Totals.{IsCount};
 ghost use Rattle.zone_tail_core.specs.declared.last_year.Shape.TheVariants.{Pair};
 
@@ -13,6 +13,9 @@ use tz_lookup::{FixedTimespan, FixedTimespanSet, LAST_YEAR_BEGIN, RULES_END, Spa
 
 /// Further than any entry, 2^41 seconds.
 const FAR: i64 = 1 << 41;
+
+/// When the second week of the last year begins, as a local second.
+const SECOND_WEEK: i64 = LAST_YEAR_BEGIN + 7 * 86_400;
 
 /// What the last year of a set has.
 #[derive(Clone, Copy, Debug, PartialEq, Eq)]
@@ -82,6 +85,19 @@ pub fn is_outlasting(set: &FixedTimespanSet) -> bool
     entries_before(set, RULES_END, standard_of(set)) < set.entry_count()
 }
 
+/// Whether daylight saving time ends in the first week of the last year, by its own clocks. Then the rule of a string may end that
+/// of the year after before the last year is over.
+pub fn is_ending_early(set: &FixedTimespanSet) -> bool
+    requires { IsAccepted (schedule_of set.now) }
+    ensures { result ≡ is_ending_early set.now }
+{
+    match form_of(set, standard_of(set)) {
+        Form::Yearly { start, end } => ends_before(set, start, end, SECOND_WEEK),
+        Form::Steady(_) => false,
+        Form::Other => false,
+    }
+}
+
 /// What the entries of the last year are, by its standard offset.
 fn shape_of(set: &FixedTimespanSet, offset: i64) -> Shape
     requires accepted { IsAccepted (schedule_of set.now) }
@@ -110,15 +126,15 @@ fn is_end(offset: i64, span: &FixedTimespan) -> bool
     span.utc_offset == offset && span.dst_offset == 0
 }
 
-/// Whether daylight saving time ends with an entry in the year, by its clocks.
-fn ends_in_year(set: &FixedTimespanSet, start: usize, end: usize) -> bool
+/// Whether daylight saving time ends with an entry before a local second, by its clocks.
+fn ends_before(set: &FixedTimespanSet, start: usize, end: usize, local: i64) -> bool
     requires accepted { IsAccepted (schedule_of set.now) }
     requires start { start < length set.now.others }
     requires end { end < length set.now.others }
     requires bound { start < 18446744073709551615 }
-    ensures { result ≡ int_lt ((entry_in set.now end).0 +ℤ total (entry_in set.now start).1) year_end }
+    ensures { result ≡ int_lt ((entry_in set.now end).0 +ℤ total (entry_in set.now start).1) local }
 {
-    set.time(end) + total_of(set, start + 1) < RULES_END
+    set.time(end) + total_of(set, start + 1) < local
 }
 
 /// Whether daylight saving time starts with one entry and ends with another.
@@ -131,7 +147,7 @@ fn are_start_and_end(set: &FixedTimespanSet, offset: i64, start: usize, end: usi
 {
     is_start(offset, &entry(set, start).1)
         && is_end(offset, &entry(set, end).1)
-        && ends_in_year(set, start, end)
+        && ends_before(set, start, end, RULES_END)
 }
 
 /// What two entries of the last year are.

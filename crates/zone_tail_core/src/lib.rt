@@ -17,5 +17,5 @@ mod text;
 mod walk;
 
 pub use call::tail;
-pub use last_year::is_outlasting;
+pub use last_year::{is_ending_early, is_outlasting};
 pub use outcome::{Tail, TailFault};

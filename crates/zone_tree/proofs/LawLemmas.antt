@@ -20,7 +20,7 @@ use Rattle.ustar.specs.Entries.{Content, of_file, of_link, EntryValue, entry}
 use Rattle.ustar.specs.Names.{entry_fault}
 use Rattle.ustar.specs.declared.entry.EntryFault.{EntryFault}
 use Rattle.ustar.specs.declared.entry.EntryFault.TheVariants as fault_is
-use Rattle.zone_release.specs.Releases.{release_of}
+use Rattle.zone_source.specs.Releases.{release_of}
 use Rattle.zone_run.specs.Causes.{Found, named}
 use Rattle.zone_source.specs.Faults.{SourceFault, source_fault}
 use Rattle.zone_source.specs.Zones.{values_of, zone_in}

@@ -7,7 +7,7 @@ use Rattle.tz_lookup.specs.Databases.{name_shown}
 use Rattle.std.proofs.lemmas.Grind.{flat_map-append}
 use Rattle.ustar.specs.Archives.{archive, end_bytes, entry_bytes}
 use Rattle.ustar.specs.Entries.{EntryValue}
-use Rattle.zone_release.specs.Releases.{release_of}
+use Rattle.zone_source.specs.Releases.{release_of}
 use Rattle.zone_source.specs.Faults.{SourceFault, source_fault}
 use Rattle.zone_source.specs.Told.{TellsOfSource, told_by_source}
 use Rattle.zone_source.specs.Zones.{values_of}

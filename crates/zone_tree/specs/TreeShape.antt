@@ -3,7 +3,7 @@ use Rattle.std.specs.Prelude.{◌≡◌, ◌&&◌, ℕ, Bool, true, false, List,
 use Rattle.std.specs.List.{list_any}
 use Rattle.ustar.specs.Archives.{IsArchive}
 use Rattle.ustar.specs.Entries.{Content, of_file, of_link, EntryValue, entry}
-use Rattle.zone_release.specs.Releases.{release_of}
+use Rattle.zone_source.specs.Releases.{release_of}
 use Rattle.zone_source.specs.Zones.{zone_in}
 use Rattle.zone_tree.specs.Entries.{version_name}
 use Rattle.zone_tree.specs.Names.{given_names}

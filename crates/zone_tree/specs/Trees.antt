@@ -2,7 +2,7 @@
 use Rattle.std.specs.Prelude.{ℕ, List, [], ◌∷◌, ◌++◌, Option, Some, None, Result, Ok, Err}
 use Rattle.ustar.specs.Archives.{archive}
 use Rattle.ustar.specs.Entries.{EntryValue}
-use Rattle.zone_release.specs.Releases.{release_of}
+use Rattle.zone_source.specs.Releases.{release_of}
 use Rattle.zone_source.specs.Faults.{SourceFault, source_fault}
 use Rattle.zone_tree.specs.Entries.{version_name, entry_of, release_entry}
 use Rattle.zone_tree.specs.Names.{Finds, finds_in, archive_names}

@@ -6,7 +6,7 @@ ghost use Rattle.zone_table.specs.BoundedTables.{IsBoundedTable};
 ghost use Rattle.zone_tree.specs.Entries.{entry_of};
 ghost use Rattle.zone_tree.specs.Names.{finds_in_table};
 ghost use Rattle.zone_tree.specs.Told.{ArePut, IsFirst, IsFaultOf};
-ghost use Rattle.zone_release.specs.Releases.{release_of};
+ghost use Rattle.zone_source.specs.Releases.{release_of};
 ghost use Rattle.zone_tree.specs.Trees.{entries_of, first_entries, tree_by, tree_of};
 
 use crate::entry::{VERSION_NAME, put_name, put_release};
@@ -16,8 +16,7 @@ use owned::Text;
 use std::alloc::Global;
 use ustar::put_end;
 use zone_line::LineParser;
-use zone_release::release_of;
-use zone_source::{LIMIT, read_table};
+use zone_source::{LIMIT, read_table, release_of};
 use zone_table::Table;
 
 /// Puts the file of a release at the end.

@@ -3,10 +3,10 @@ use Rattle.std.proofs.Common.{◌≡◌, ℕ, Bool, true, false, cond, List, [],
 use Rattle.tz_zone.specs.declared.set.FixedTimespanSet.{FixedTimespanSet}
 use Rattle.zone_tail_core.specs.Carried.{CarriesOn}
 use Rattle.zone_tail_core.specs.Found.{found_from, found_text}
-use Rattle.zone_tail_core.specs.Tails.{is_outlasting, tail_fault, IsTail}
+use Rattle.zone_tail_core.specs.Tails.{tail_fault, IsTail}
 use Rattle.zone_tail_core.specs.declared.outcome.TailFault.{TailFault}
 use Rattle.zone_tzif_core.specs.Format.{is_one_line}
-use Rattle.zone_tzif_set.specs.Files.{consistent_footer, footer_of, IsCarriedOn}
+use Rattle.zone_tzif_set.specs.Files.{consistent_footer, footer_of, is_contradicted, IsCarriedOn}
 
 pub footer_is : (set : FixedTimespanSet) (text : List ℕ) → tail_fault set ≡ None → text ≡ found_text set → text ≡ footer_of set
 unfolding footer_of
@@ -27,7 +27,7 @@ footer_clean set clean = by_fault (tail_fault set) refl
 
 pub consistent_clean : (set : FixedTimespanSet) → (tail_fault set ≡ None → is_one_line (found_text set) ≡ true) → is_one_line (consistent_footer set) ≡ true
 unfolding consistent_footer
-consistent_clean set clean = by_test (is_outlasting set)
+consistent_clean set clean = by_test (is_contradicted set)
   where
     by_test : (b : Bool) → is_one_line (cond b [] (footer_of set)) ≡ true
     by_test true = refl

@@ -3,3 +3,7 @@ mod FooterLemmas
 pub mod TotalLemmas
 pub mod ValueLemmas
 mod WorkedKinds
+mod WorkedFooters
+mod StringLemmas
+mod CarriedLemmas
+mod ConsistentLemmas

@@ -1,9 +1,9 @@
 -- The file of a compiled set, and why there is none.
-use Rattle.std.specs.Prelude.{◌≡◌, ℕ, List, [], Option, Some, None, Result, Ok, Err, if◌then◌else◌, is_none}
+use Rattle.std.specs.Prelude.{◌≡◌, ℕ, Bool, ◌||◌, List, [], Option, Some, None, Result, Ok, Err, if◌then◌else◌, is_none}
 use Rattle.tz_zone.specs.declared.set.FixedTimespanSet.{FixedTimespanSet}
 use Rattle.zone_tail_core.specs.Carried.{CarriesOn}
 use Rattle.zone_tail_core.specs.Found.{found_from, found_text}
-use Rattle.zone_tail_core.specs.Tails.{is_outlasting, tail_fault, IsTail}
+use Rattle.zone_tail_core.specs.Tails.{is_ending_early, is_outlasting, tail_fault, IsTail}
 use Rattle.zone_tzif_core.specs.Tzif.{tzif, write_fault}
 use Rattle.zone_tzif_core.specs.Zones.{ZoneValue}
 use Rattle.zone_tzif_core.specs.declared.values.WriteFault.{WriteFault}
@@ -25,10 +25,15 @@ pub record IsCarriedOn (set : FixedTimespanSet) : Type 0 where
 abbrev pub zone_of : FixedTimespanSet → ZoneValue
 zone_of set = value_of set (footer_of set)
 
--- The same string, unless a change of the set lies past all that it says: a footer holds from the last change on, so there it would
--- take back what that change puts in force.
+-- As a footer the string may say otherwise than the set: where a change of the set lies past all that it says, since a footer holds from
+-- the last change on and would take that back; or where daylight saving time ends in the first week of the last year, since then a
+-- footer's rule may end it for the year after before the last year is over.
+unfoldable pub is_contradicted : FixedTimespanSet → Bool
+is_contradicted set = is_outlasting set || is_ending_early set
+
+-- the same string, but where it may say otherwise
 unfoldable pub consistent_footer : FixedTimespanSet → List ℕ
-consistent_footer set = if is_outlasting set then [] else footer_of set
+consistent_footer set = if is_contradicted set then [] else footer_of set
 
 abbrev pub consistent_zone : FixedTimespanSet → ZoneValue
 consistent_zone set = value_of set (consistent_footer set)

@@ -1,3 +1,4 @@
 -- Definitions: what public clauses say.
 pub mod Values
 pub mod Files
+pub mod Footers

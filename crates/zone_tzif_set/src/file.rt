@@ -9,7 +9,7 @@ ghost use Rattle.zone_tzif_core.specs.Denotes.{Denotes};
 ghost use Rattle.zone_tzif_core.specs.Totals.{file_total_at};
 ghost use Rattle.zone_tzif_core.specs.Tzif.{IsTzif, write_fault};
 ghost use Rattle.zone_tzif_core.specs.Zones.{ZoneValue};
-ghost use Rattle.zone_tzif_set.specs.Files.{consistent_footer, consistent_zone, footer_of, zone_of, IsCarriedOn, Makes, MakesZone};
+ghost use Rattle.zone_tzif_set.specs.Files.{consistent_footer, consistent_zone, footer_of, is_contradicted, zone_of, IsCarriedOn, Makes, MakesZone};
 ghost use Rattle.zone_tzif_set.specs.Values.{value_of};
 
 use crate::convert::from_set;
@@ -17,7 +17,7 @@ use crate::laws::{few_causes, reads_back};
 use std::alloc::{AllocError, Global};
 use tz_zone::FixedTimespanSet;
 use zone_tail_core::laws::one_tail;
-use zone_tail_core::{TailFault, is_outlasting, tail};
+use zone_tail_core::{TailFault, is_ending_early, is_outlasting, tail};
 use zone_tzif_core::{WriteFault, write_tzif};
 
 /// Why a set has no file, the first cause that holds.
@@ -60,7 +60,17 @@ fn footer_of(alloc: Global, set: &FixedTimespanSet) -> Result<String, AllocError
     }
 }
 
-/// The string that carries a set on, or nothing where it has none or a change lies past all that it says.
+/// Whether a set's string may say otherwise as a footer: a change lies past all that it says, or daylight saving time ends in the
+/// first week of the last year.
+#[tactic(auto, unfolding(crate::specs::Files::is_contradicted))]
+fn is_contradicted(set: &FixedTimespanSet) -> bool
+    requires { IsAccepted (schedule_of set.now) }
+    ensures { result ≡ is_contradicted set.now }
+{
+    is_outlasting(set) || is_ending_early(set)
+}
+
+/// The string that carries a set on, or nothing where it has none or may say otherwise as a footer.
 #[tactic(auto, unfolding(crate::specs::Files::consistent_footer))]
 fn consistent_footer(alloc: Global, set: &FixedTimespanSet) -> Result<String, AllocError>
     requires { IsAccepted (schedule_of set.now) }
@@ -68,7 +78,7 @@ fn consistent_footer(alloc: Global, set: &FixedTimespanSet) -> Result<String, Al
     ensures carried { IfOk result (λ _. IsCarriedOn set.now) }
 {
     let footer = footer_of(alloc, set)?;
-    if is_outlasting(set) {
+    if is_contradicted(set) {
         Ok(String::new(alloc))
     } else {
         Ok(footer)
@@ -116,9 +126,10 @@ pub fn tzif_of(alloc: Global, set: &FixedTimespanSet) -> Result<Vec<u8>, FileFau
     with_footer(alloc, set, footer.as_str())
 }
 
-/// The same file where the set has no change at or past the end of the year 2099, and else the one without a footer. Whatever zone
-/// is read from the file has the set's offset at each instant before the end of that year also by the footer, and where a change
-/// lies past it, at each instant at all. RFC 8536 wants a footer to be consistent with the last change.
+/// The same file, or the one without a footer: where the set has a change at or past the end of the year 2099, or its daylight saving
+/// time of that year ends in the first week of January. Whatever zone is read from the file has the set's offset at each instant before
+/// the end of that year also by the footer, and at each instant at all where there is none. RFC 8536 wants a footer to be consistent
+/// with the last change.
 ///
 /// # Errors
 ///

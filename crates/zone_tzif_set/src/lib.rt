@@ -1,10 +1,12 @@
-//! Compiled sets of spans as zones of a TZif file, and their files.
+//! Compiled sets of spans as zones of a TZif file, and their files, which have the set's offset also by their footers.
 #![tactic(auto)]
 
+mod carried;
 mod convert;
 mod file;
 mod laws;
 
+pub use carried::{carried_on, consistent_totals};
 pub use convert::from_set;
 pub use file::{FileFault, consistent_tzif_of, tzif_of};
 pub use laws::{few_causes, reads_back, totals_kept};

@@ -1,5 +1,5 @@
 -- Why the callers have no answer.
-use Rattle.std.specs.Prelude.{◌≡◌, ◌≤◌, ℕ, List, length, ℤ, false, Some, None, Ok, Err}
+use Rattle.std.specs.Prelude.{◌≡◌, ◌≤◌, ℕ, List, length, ℤ, true, false, Some, None, Ok, Err}
 use Rattle.sefunjaro.specs.Causes.{IsSourceCause}
 use Rattle.sefunjaro.specs.declared.error.Error.{Error}
 use Rattle.sefunjaro.specs.declared.error.Error.TheVariants as error
@@ -41,11 +41,11 @@ IsOpenCause source name (error.Zone fault) = IsNoZone source name fault
 IsOpenCause source name error.NoMemory = Unit {0}
 IsOpenCause source name _ = ⊥
 
--- why an alarm has no rings: its last day is past the years; or memory ran out
+-- why an alarm has no rings: its last day is past the years; or it isn't, and memory ran out
 abbrev pub IsAlarmCause : ℤ → ℕ → Error → Type 0
 IsAlarmCause first days (error.Alarm alarm.Range) = ends_in_years first days ≡ false
-IsAlarmCause first days (error.Alarm alarm.NoMemory) = Unit {0}
-IsAlarmCause first days error.NoMemory = Unit {0}
+IsAlarmCause first days (error.Alarm alarm.NoMemory) = ends_in_years first days ≡ true
+IsAlarmCause first days error.NoMemory = ends_in_years first days ≡ true
 IsAlarmCause first days _ = ⊥
 
 -- the bytes are a file of a zone that can't be asked

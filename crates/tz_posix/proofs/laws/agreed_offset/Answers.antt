@@ -1,15 +1,25 @@
 use Rattle.std.proofs.Common.{◌∙◌, sym}
 use Rattle.civil_base.specs.DateTimes.{instant}
+use Rattle.tz_lookup.specs.Sets.{schedule_of as schedule_in}
 use Rattle.tz_lookup.specs.Zones.{set_of}
+use Rattle.zone_spans.specs.Schedules.{total_at}
 use Rattle.tz_posix_core.specs.Offsets.{given_of}
 use Rattle.tz_posix_core.specs.PosixShown.{posix_of}
 use Rattle.tz_posix.proofs.CallLemmas.{gives_total, string_accepts, string_total, zone_total}
+use Rattle.tz_posix.proofs.OneTotalLemmas.{not_shared}
 use Rattle.tz_posix.proofs.laws.agreed_offset.Goals as goal
 
 pub returns-in-Ok-clause-of_string : goal.returns-in-Ok-clause-of_string
 returns-in-Ok-clause-of_string c =
     gives_total (posix_of c.args.posix.now) (instant c.args.date_time.now) c.to_utc-of_string.result (given_of c.in-Ok.offset)
     c.shared.result c.in-Ok.ensures.value c.to_utc-of_string.ensures c.shared.ensures.second
+
+pub returns-in-Ok-clause-none : goal.returns-in-Ok-clause-none
+returns-in-Ok-clause-none c none accepts found =
+    not_shared (posix_of c.args.posix.now) (instant c.args.date_time.now) c.to_utc-of_string.result
+    (total_at (schedule_in (set_of c.args.zone.now)) (instant c.args.date_time.now)) (given_of c.in-Ok.offset)
+    c.shared.result c.in-Ok.ensures.value c.to_utc-of_string.ensures
+    (λ e. c.shared.ensures.same (c.to_utc-of_zone.ensures ∙ c.get_offset_utc.ensures.total ∙ e)) none found
 
 pub returns-in-Ok-clause-agreed : goal.returns-in-Ok-clause-agreed
 returns-in-Ok-clause-agreed c rulesets pair q zones same compiled resolved covered =

@@ -1,7 +1,7 @@
 use Rattle.std.proofs.Common.{◌≡◌, to_z, of_z, w64}
 use Rattle.std.proofs.lemmas.Int.{to_z-of_z}
 use Rattle.zone_list.specs.Windows.{window}
-use Rattle.zone_list.specs.WindowLaws.{rise}
+use Rattle.zone_list.proofs.WindowLaws.{rise}
 use Rattle.zone_list.proofs.WindowLemmas.{slice_is}
 use Rattle.zone_list.proofs.window.window.Goals as goal
 

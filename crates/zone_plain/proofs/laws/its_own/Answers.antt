@@ -1,4 +1,4 @@
-use Rattle.zone_plain.specs.OwnLaws as laws
+use Rattle.zone_plain.proofs.OwnLaws as laws
 use Rattle.zone_plain.proofs.laws.its_own.Goals as goal
 
 pub returns : goal.returns

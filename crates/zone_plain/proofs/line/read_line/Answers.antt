@@ -1,7 +1,7 @@
 use Rattle.std.proofs.Common.{sym, ◌∙◌, ap}
 use Rattle.zone_values.specs.Values.{line_value}
 use Rattle.zone_plain_base.specs.Said.{is_said}
-use Rattle.zone_plain_text.specs.PlainTexts.{plain_text}
+use Rattle.zone_plain_base.specs.PlainTexts.{plain_text}
 use Rattle.zone_plain.proofs.LineLemmas.{told_refused, unsaid, read_and_added, under_is}
 use Rattle.zone_plain.proofs.line.read_line.Goals as goal
 

@@ -1,4 +1,4 @@
-use Rattle.zone_plain.specs.RebuiltLaws.{rebuilt}
+use Rattle.zone_plain.proofs.RebuiltLaws.{rebuilt}
 use Rattle.zone_plain.proofs.whole.plain.Goals as goal
 
 pub returns-in-Ok-clause-read : goal.returns-in-Ok-clause-read

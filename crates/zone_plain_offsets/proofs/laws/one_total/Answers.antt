@@ -1,4 +1,4 @@
-use Rattle.zone_plain_offsets.specs.OffsetTextLaws as laws
+use Rattle.zone_plain_offsets.proofs.OffsetTextLaws as laws
 use Rattle.zone_plain_offsets.proofs.laws.one_total.Goals as goal
 
 pub returns : goal.returns

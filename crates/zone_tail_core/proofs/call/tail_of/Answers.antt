@@ -12,6 +12,6 @@ returns-clause-read c =
     let set = c.args.set.now in
     let is = c.requires.chosen in
     let text = rw (c.names.ensures.standard, c.names.ensures.saving) at c.in_ok-text.ensures in
-    carries_on set (names_of (form set)).0 (names_of (form set)).1 c.args.candidate.now c.args.span c.beginning.result _ is.named is.written is.sound is.closes
+    carries_on set (names_of (form set)).0 (names_of (form set)).1 c.args.candidate.now c.args.span c.beginning.result _ is.named is.written is.sound is.closes is.settles
     (subst (λ v. IsAllowed v (schedule_of set) c.args.span) (sym is.is) is.choice.allowed)
     (subst (λ v. Agrees v (schedule_of set) (end_of_last_year set) c.args.span) (sym is.is) is.choice.agrees) c.beginning.ensures text

@@ -1,5 +1,5 @@
 use Rattle.std.proofs.Common.{ap, ◌∙◌}
-use Rattle.zone_release.specs.Releases.{release_of}
+use Rattle.zone_source.specs.Releases.{release_of}
 use Rattle.zone_tree.specs.Names.{finds_in_table}
 use Rattle.zone_tree.specs.Trees.{or_cause, tree_by}
 use Rattle.zone_tree.proofs.TreeLemmas.{tree_is, first_told, source_told}

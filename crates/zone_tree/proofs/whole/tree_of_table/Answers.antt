@@ -1,6 +1,6 @@
 use Rattle.std.proofs.Common.{map, ap, ◌∙◌}
 use Rattle.tz_lookup.specs.Databases.{name_shown}
-use Rattle.zone_release.specs.Releases.{release_of}
+use Rattle.zone_source.specs.Releases.{release_of}
 use Rattle.zone_tree.specs.Names.{finds_in_table}
 use Rattle.zone_tree.proofs.TreeLemmas.{tree_put, first_kept, front_kept}
 use Rattle.zone_tree.proofs.whole.tree_of_table.Goals as goal

@@ -1,3 +1,0 @@
-mod CarriedLemmas
-mod ConsistentLemmas
-mod FooterLemmas

@@ -1,2 +1,0 @@
--- Definitions: what public clauses say.
-pub mod Footers

@@ -1,0 +1,111 @@
+-- Each line that is written is read as it is meant.
+use Rattle.std.proofs.Common.{◌≡◌, ℕ, List, ◌++◌, ◌≤◌, All, Bool, true, false, cond, Result, Ok, Err, IfOk, refl, sym, subst, length, nat_lt, ap, ◌∙◌}
+use Rattle.std.proofs.lemmas.Bool.{ltb-false}
+use Rattle.std.proofs.lemmas.List.Elements.{All-weaker}
+use Rattle.zone_outside.specs.Limit.{text_limit}
+use Rattle.zone_values.specs.Values.{LineValue}
+use Rattle.zone_values.specs.Results.{◌>>=◌}
+use Rattle.zone_plain_base.specs.LineFaults.{LineFault, Refusal, too_long, by_line}
+use Rattle.zone_plain_base.specs.SaidLaws.{read_back, one_line}
+use Rattle.zone_plain_links.specs.SaidLaws.{settled_said}
+use Rattle.zone_plain_links.specs.Settled.{settled}
+use Rattle.zone_plain_offsets.specs.SaidLaws.{written_out_said}
+use Rattle.zone_plain_offsets.specs.WrittenOut.{written_out}
+use Rattle.zone_plain.specs.Heads.{head_of}
+use Rattle.zone_plain.specs.LineValues.{values_in}
+use Rattle.zone_plain.specs.Named.{IsSaid, named_lines}
+use Rattle.zone_plain.proofs.NamedLaws.{is_named}
+use Rattle.zone_plain.proofs.Followed.{are_followed}
+use Rattle.zone_plain.proofs.PlacedLaws.{StaysFollowed, source_followed, settled_followed, out_followed}
+use Rattle.zone_plain.specs.Plain.{if_short, plain_of}
+use Rattle.zone_plain.specs.ReadBack.{IsReadAsMeant, IsReadBack}
+use Rattle.zone_plain.specs.Written.{written}
+
+-- what can be said is read as it is meant
+pub said_is_read : (v : LineValue) → IsSaid v → IsReadAsMeant v
+said_is_read v said =
+    let back = read_back v said in
+    let line = one_line v said in
+    record { text = back.0; line = record { unbroken = line.0; kept = line.1 }; read = back.1 }
+
+-- what is written of a source, of lines that can be said, with each line of a zone in its place
+pub record IsPlaced (source bytes : List ℕ) : Type 0 where
+  pub back : IsReadBack source bytes
+  pub values : values_in source ≡ Ok (named_lines back.meant)
+  pub linked_said : All IsSaid back.linked
+  pub said : All IsSaid back.out
+  pub followed : are_followed false back.out ≡ true
+  pub short : length bytes ≤ text_limit
+
+-- the line of a source's release, its values, what becomes of its links, and what of `%z`
+record Stages (source head : List ℕ) (values linked out : List LineValue) : Type 0 where
+  pub heads : head_of source ≡ Ok head
+  pub meant : values_in source ≡ Ok values
+  pub led : settled values ≡ Ok linked
+  pub spelled : written_out linked ≡ Ok out
+
+of_ok : {A E : Type 0} {r : Result A E} {x : A} (P : A → Type 0) → r ≡ Ok x → IfOk r P → P x
+of_ok P e h = subst (λ r. IfOk r P) e h
+
+back_of : (source head : List ℕ) (values linked out : List LineValue) → Stages source head values linked out → length (head ++ written out) ≤ text_limit
+    → IsPlaced source (head ++ written out)
+back_of source head values linked out s short =
+    let named = is_named source values s.meant in
+    let linked_said = of_ok (All IsSaid) s.led (settled_said values named.said) in
+    let said = of_ok (All IsSaid) s.spelled (written_out_said linked linked_said) in
+    let followed = of_ok (λ vs. are_followed false vs ≡ true) s.meant (source_followed source) in
+    record {
+      back = record {
+        head = head;
+        heads = s.heads;
+        meant = named.meant;
+        means = named.means;
+        linked = linked;
+        led = ap settled (sym named.by_name) ∙ s.led;
+        out = out;
+        spelled = s.spelled;
+        wrote = refl;
+        read = All-weaker IsSaid IsReadAsMeant said_is_read out said;
+      };
+      values = s.meant ∙ ap Ok named.by_name;
+      linked_said = linked_said;
+      said = said;
+      short = short;
+      followed = of_ok (StaysFollowed linked) s.spelled (out_followed linked) false (of_ok (StaysFollowed values) s.led (settled_followed values) false followed);
+    }
+
+read_of : (source : List ℕ) → IfOk (plain_of source) (IsPlaced source)
+unfolding plain_of
+read_of source = by (head_of source) refl
+  where
+    by_out : (head : List ℕ) (values linked : List LineValue) (r : Result (List LineValue) Refusal) → head_of source ≡ Ok head → values_in source ≡ Ok values
+        → settled values ≡ Ok linked → written_out linked ≡ r → IfOk (◌>>=◌ r (λ out. if_short (head ++ written out))) (IsPlaced source)
+    by_out head values linked (Err e) heads meant led spelled = tt
+    by_out head values linked (Ok out) heads meant led spelled = short (nat_lt text_limit (length (head ++ written out))) refl
+      where
+        short : (b : Bool) → nat_lt text_limit (length (head ++ written out)) ≡ b → IfOk (cond b (Err too_long) (Ok (head ++ written out))) (IsPlaced source)
+        short true e = tt
+        short false e =
+            back_of source head values linked out (record { heads = heads; meant = meant; led = led; spelled = spelled })
+            (ltb-false text_limit (length (head ++ written out)) e)
+
+    by_linked : (head : List ℕ) (values : List LineValue) (r : Result (List LineValue) Refusal) → head_of source ≡ Ok head → values_in source ≡ Ok values
+        → settled values ≡ r → IfOk (◌>>=◌ r (λ linked. ◌>>=◌ (written_out linked) (λ out. if_short (head ++ written out)))) (IsPlaced source)
+    by_linked head values (Err e) heads meant led = tt
+    by_linked head values (Ok linked) heads meant led = by_out head values linked (written_out linked) heads meant led refl
+
+    by_values : (head : List ℕ) (r : Result (List LineValue) LineFault) → head_of source ≡ Ok head → values_in source ≡ r
+        → IfOk (◌>>=◌ (by_line r) (λ values. ◌>>=◌ (settled values) (λ linked. ◌>>=◌ (written_out linked) (λ out. if_short (head ++ written out)))))
+        (IsPlaced source)
+    by_values head (Err e) heads meant = tt
+    by_values head (Ok values) heads meant = by_linked head values (settled values) heads meant refl
+
+    by : (r : Result (List ℕ) LineFault) → head_of source ≡ r
+        → IfOk (◌>>=◌ (by_line r) (λ head. ◌>>=◌ (by_line (values_in source)) (λ values. ◌>>=◌ (settled values) (λ linked.
+        ◌>>=◌ (written_out linked) (λ out. if_short (head ++ written out)))))) (IsPlaced source)
+    by (Err e) heads = tt
+    by (Ok head) heads = by_values head (values_in source) heads refl
+
+-- each line that is written of a source is read as it is meant, and each line of a zone stands in its place
+pub read_as_meant : (source bytes : List ℕ) → plain_of source ≡ Ok bytes → IsPlaced source bytes
+read_as_meant source bytes h = of_ok (IsPlaced source) h (read_of source)

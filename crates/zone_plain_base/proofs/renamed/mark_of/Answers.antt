@@ -1,0 +1,18 @@
+use Rattle.std.proofs.Common.{◌∙◌, sym, ap, map}
+use Rattle.std.specs.Prelude.{flat_map}
+use Rattle.std.proofs.lemmas.List.{take_all}
+use Rattle.std.proofs.lemmas.List.Folds.{flat_map-map}
+use Rattle.zone_values.specs.Values.{line_value}
+use Rattle.zone_plain_base.specs.Marks.{behind}
+use Rattle.zone_plain_base.specs.Renamed.{ruleset_of}
+use Rattle.zone_plain_base.proofs.MarkLemmas.{mark_is}
+use Rattle.zone_plain_base.proofs.renamed.mark_of.Goals as goal
+
+pub returns : goal.returns
+returns c =
+    mark_is (map line_value c.args.lines.now) _ _
+    (c.loop-line.invariant
+    ∙ ap (flat_map (λ line. behind 95 (ruleset_of (line_value line)))) (take_all c.loop-line.line-index c.args.lines.now c.loop-line-test.false)
+    ∙ sym (flat_map-map (λ v. behind 95 (ruleset_of v)) line_value c.args.lines.now)
+    ∙ sym (flat_map-map (behind 95) ruleset_of (map line_value c.args.lines.now)))
+    c.in_ok-mark.ensures

@@ -1,3 +1,0 @@
-mod MarkLemmas
-mod WorkedMarks
-mod WorkedNames
