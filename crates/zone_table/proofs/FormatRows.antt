@@ -1,6 +1,6 @@
 -- The definitions on worked rows.
-use Rattle.std.specs.Prelude.{◌≡◌, pos, negsuc, Some, None, codes, refl}
-use Rattle.zone_table.specs.Formats.{format_of, filled, has_placeholder, abbreviation}
+use Rattle.std.specs.Prelude.{◌≡◌, [], ◌∷◌, map, pos, negsuc, Some, None, true, false, codes, refl}
+use Rattle.zone_table.specs.Formats.{format_of, filled, has_placeholder, abbreviation, is_constant, constant_text}
 use Rattle.zone_table.specs.declared.format.Format.TheVariants.{Constant, Alternate, Placeholder}
 
 placeholder_named : format_of (codes "E%sT") ≡ Placeholder (codes "E%sT")
@@ -44,3 +44,15 @@ no_saving_is_standard = refl
 saving_decides : abbreviation (Alternate (codes "GMT") (codes "BST")) (pos 3600) (Some (codes "S")) ≡ codes "BST"
 unfolding abbreviation
 saving_decides = refl
+
+-- a format that is always the same stays under a saving with letters too
+constant_stays : abbreviation (Constant (codes "UTC")) (pos 3600) (Some (codes "S")) ≡ codes "UTC"
+unfolding abbreviation
+constant_stays = refl
+
+-- the others are not always the same
+constants : map is_constant (Constant (codes "UTC") ∷ Alternate (codes "GMT") (codes "BST") ∷ Placeholder (codes "E%sT") ∷ []) ≡ true ∷ false ∷ false ∷ []
+constants = refl
+
+text_of_constant : constant_text (Constant (codes "UTC")) ≡ codes "UTC"
+text_of_constant = refl

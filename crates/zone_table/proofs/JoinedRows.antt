@@ -8,7 +8,7 @@ use Rattle.zone_values.specs.Values.{SavingValue, no_saving, multiple, InfoValue
 use Rattle.zone_table.specs.Built.{refusal_of}
 use Rattle.zone_table.specs.Joined.{rules_of, zone_of, owner}
 use Rattle.zone_table.specs.Owned.{owned_rule, owned_info}
-use Rattle.zone_table.specs.Refusals.{surprise_continuation_line, unknown_ruleset, duplicate_link, duplicate_zone, refusal}
+use Rattle.zone_table.specs.Refusals.{surprise_continuation_line, unknown_ruleset, duplicate_link, duplicate_zone, refusal, Accepted}
 use Rattle.zone_table.specs.Resolved.{resolved}
 use Rattle.zone_table.specs.declared.error.Error.TheVariants as error
 
@@ -35,6 +35,11 @@ module _ (offset : TimeSpec) (end : Option ChangeTime) (first second : InfoValue
   continued : zone_of (continuation second ∷ space ∷ zone (codes "A") first ∷ []) (codes "A") ≡ owned_info first ∷ owned_info second ∷ []
   continued = refl
 
+  -- nor does a continuation
+  three_lines : zone_of (continuation first ∷ continuation second ∷ zone (codes "A") first ∷ []) (codes "A")
+      ≡ owned_info first ∷ owned_info second ∷ owned_info first ∷ []
+  three_lines = refl
+
   -- a zone after another takes the continuations from then on
   apart : zone_of (continuation second ∷ zone (codes "B") first ∷ zone (codes "A") first ∷ []) (codes "A") ≡ owned_info first ∷ []
   apart = refl
@@ -53,6 +58,19 @@ module _ (offset : TimeSpec) (end : Option ChangeTime) (first second : InfoValue
   unknown : refusal (zone (codes "A") first ∷ []) (zone (codes "A") (with_saving offset (multiple (codes "X")) end))
       ≡ Some (unknown_ruleset (codes "X"))
   unknown = refl
+
+  -- a ruleset of an earlier rule, with other lines between them, is known
+  known : refusal (link (codes "a") (codes "b") ∷ space ∷ rule (named (codes "X") r) ∷ [])
+      (zone (codes "A") (with_saving offset (multiple (codes "X")) end)) ≡ None
+  known = refl
+
+  -- rules and blank lines are never refused, in an open zone or twice
+  rules_and_blank_lines : map (refusal (zone (codes "A") first ∷ rule r ∷ [])) (rule r ∷ space ∷ []) ≡ None ∷ None ∷ []
+  rules_and_blank_lines = refl
+
+  -- a value that is refused is not accepted, whatever comes after it
+  refused_before : Accepted (space ∷ continuation first ∷ []) → ⊥
+  refused_before accepted = cc (accepted.1.0)
 
   duplicate : refusal (space ∷ zone (codes "A") first ∷ []) (zone (codes "A") (with_saving offset no_saving end)) ≡ Some duplicate_zone
   duplicate = refl

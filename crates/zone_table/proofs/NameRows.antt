@@ -16,6 +16,14 @@ submodules_first : name_tree (codes "a/b" ∷ codes "a/z/c" ∷ [])
 unfolding name_tree tree_of
 submodules_first = refl
 
+-- submodules of one part stand in byte order too
+submodules_in_order : name_tree (codes "a/c/x" ∷ codes "a/b/y" ∷ [])
+    ≡ record { name = codes "a"; children = submodule (codes "b") ∷ submodule (codes "c") ∷ [] }
+    ∷ record { name = codes "a/b"; children = time_zone (codes "y") ∷ [] }
+    ∷ record { name = codes "a/c"; children = time_zone (codes "x") ∷ [] } ∷ []
+unfolding name_tree tree_of
+submodules_in_order = refl
+
 -- the front up to the first slash gets the rest
 three_slashes : name_tree (codes "a/b/c/d" ∷ [])
     ≡ record { name = codes "a"; children = submodule (codes "b/c") ∷ [] }
