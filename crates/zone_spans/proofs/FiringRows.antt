@@ -95,6 +95,16 @@ ties : fired 2 (pos 1800) (pos 0) None (pos 0) (at_second (pos 0) (pos 3600) (co
 unfolding fired earliest moment instant_of named_day is_leap days_in_year days_in_month days_after_zero year_start days_through days_into_year day
 ties = refl
 
+-- of three the last listed is the earliest, and the others keep their order
+others_in_order : earliest (pos 1800) (pos 0) (pos 0) (at_second (pos 0) (pos 0) (codes "A"))
+    (at_second (pos 0) (pos 0) (codes "B") ∷ at_second (negsuc 0) (pos 0) (codes "C") ∷ [])
+    ≡ (
+      at_second (negsuc 0) (pos 0) (codes "C"),
+      at_second (pos 0) (pos 0) (codes "A") ∷ at_second (pos 0) (pos 0) (codes "B") ∷ [],
+    )
+unfolding earliest moment instant_of named_day is_leap days_in_year days_in_month days_after_zero year_start days_through days_into_year day
+others_in_order = refl
+
 -- the saving goes from one year to the next, and begins with none
 first_years : firings_of_years (pos 0) None (at_second (pos 0) (pos 3600) [] ∷ []) 2
     ≡ (record { time = negsuc 5364662399; rule = at_second (pos 0) (pos 3600) [] } ∷ [], pos 3600)

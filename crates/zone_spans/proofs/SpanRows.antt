@@ -33,7 +33,7 @@ use Rattle.zone_spans.specs.Faults.{is_outside, leaves_year, schedule_fault, som
 use Rattle.zone_spans.specs.Firings.{earliest, fired, firings_of_years, line_firings, year_firings, years_expanded}
 use Rattle.zone_spans.specs.Lines.{Line, Rulesets, zone_lines}
 use Rattle.zone_spans.specs.Listing.{listed_from, start_firing}
-use Rattle.zone_spans.specs.Schedules.{Schedule, is_in_offset_range, total_at, totals_of}
+use Rattle.zone_spans.specs.Schedules.{Schedule, down_from, is_in_offset_range, offset_count, total_at, totals_of}
 use Rattle.zone_spans.specs.Windows.{line_end}
 use Rattle.zone_spans.proofs.FiringRows.{yearly}
 
@@ -263,6 +263,17 @@ faults : schedule_fault none (ruled None ∷ saving ∷ [])
 unfolding schedule_fault leaves_year some_year is_outside zone_lines entries_from entries_of next_start listed_from start_firing line_firings years_expanded firings_of_years year_firings fired earliest applies_to_year last_year moment abbreviation line_end is_in_year instant_of named_day first_from last_with weekday_of is_leap days_in_year days_in_month days_after_zero year_start days_through days_into_year day
 faults = refl
 
+-- each is a fault of a later line too: an unknown ruleset of the last one as well, and of the middle one no end, an end in no year, a rule
+-- without years and one whose day lies in another year
+later_faults : schedule_fault none (plain in_1800 ∷ ruled None ∷ [])
+    ∷ schedule_fault none (plain in_1800 ∷ plain None ∷ saving ∷ [])
+    ∷ schedule_fault none (plain in_1800 ∷ plain (Some (UntilYear (Number (pos 10000)))) ∷ saving ∷ [])
+    ∷ schedule_fault (all (yearless ∷ [])) (plain in_1800 ∷ ruled in_1800 ∷ saving ∷ [])
+    ∷ schedule_fault (all (outside ∷ [])) (plain in_1800 ∷ ruled in_1800 ∷ saving ∷ []) ∷ []
+    ≡ map Some (UnknownRuleset ∷ MissingUntil ∷ YearRange ∷ RuleYears ∷ DayRange ∷ [])
+unfolding schedule_fault leaves_year some_year is_outside zone_lines entries_from entries_of next_start listed_from start_firing line_firings years_expanded firings_of_years year_firings fired earliest applies_to_year last_year moment abbreviation line_end is_in_year instant_of named_day first_from last_with weekday_of is_leap days_in_year days_in_month days_after_zero year_start days_through days_into_year day
+later_faults = refl
+
 -- a rule without years is one also where its line expands no year
 rule_without_years : schedule_fault (all (yearless ∷ [])) (ruled (Some (UntilYear (Number (pos 1799)))) ∷ plain None ∷ []) ≡ Some RuleYears
 unfolding schedule_fault leaves_year some_year is_outside zone_lines entries_from entries_of next_start listed_from start_firing line_firings years_expanded firings_of_years year_firings fired earliest applies_to_year last_year moment abbreviation line_end is_in_year instant_of named_day first_from last_with weekday_of is_leap days_in_year days_in_month days_after_zero year_start days_through days_into_year day
@@ -360,6 +371,14 @@ parts : collapsed zzz ((pos 1, span (pos 3600) (pos 0) (codes "x")) ∷ (pos 100
     ≡ (pos 1, span (pos 3600) (pos 0) (codes "x")) ∷ (pos 100000, span (pos 0) (pos 3600) (codes "x")) ∷ []
 unfolding collapsed kept_of kept_with without_first
 parts = refl
+
+-- 2 * 93,599 + 1 offsets, one after the other down past 0
+all_offsets : offset_count ≡ 187199
+unfolding offset_count
+all_offsets = refl
+
+downwards : down_from (pos 1) 3 ≡ pos 1 ∷ pos 0 ∷ negsuc 0 ∷ []
+downwards = refl
 
 in_range : map is_in_offset_range (
     record { first = pos 93599; shifts = (pos 0, negsuc 93598) ∷ [] }
