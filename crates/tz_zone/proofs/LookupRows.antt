@@ -1,14 +1,18 @@
 -- Gaps, folds, faults, abbreviations and kinds of small sets, at worked rows.
-use Rattle.std.proofs.Common.{◌≡◌, ℕ, zero, suc, true, false, List, [], ◌∷◌, ℤ, pos, negsuc, refl, ap, ◌∙◌, arith}
-use Rattle.std.specs.Prelude.{Bool, Option, Some, None, codes, int_lt}
+use Rattle.std.proofs.Common.{◌≡◌, ℕ, zero, suc, ◌+◌, true, false, List, [], ◌∷◌, ℤ, pos, negsuc, refl, ap, ◌∙◌, arith}
+use Rattle.std.specs.Prelude.{Bool, Option, Some, None, Ok, Err, codes, int_lt}
 use Rattle.std.proofs.lemmas.Int.{ints}
 use Rattle.civil_base.specs.Instants.{seconds_of}
-use Rattle.zone_spans.specs.Schedules.{Schedule, total_at, is_in_offset_range}
+use Rattle.zone_spans.specs.Schedules.{Schedule, total_at, totals_of, is_in_offset_range}
 use Rattle.tz_zone.specs.declared.accept.TzFault.TheVariants.{OffsetRange, Falling, Bound}
 use Rattle.tz_zone.specs.declared.result.OffsetResult.{OffsetResult}
 use Rattle.tz_zone.specs.declared.result.OffsetResult.TheVariants as found
 use Rattle.tz_zone.specs.declared.set.FixedTimespanSet.{FixedTimespanSet}
-use Rattle.tz_zone.specs.Answers.{listed, AreAdjacent}
+use Rattle.tz_zone.specs.Answers.{listed, AreAdjacent, AreMapped, EachOf}
+use Rattle.tz_zone.specs.Compiles.{IsZoneFault}
+use Rattle.tz_zone.specs.declared.compile.ZoneFault.TheVariants as cause
+use Rattle.zone_spans.specs.declared.fault.SpanFault.TheVariants as span_fault
+use Rattle.zone_spans.specs.declared.span.FixedTimespanSet as spans
 use Rattle.tz_zone.specs.Faults.{IsFault}
 use Rattle.tz_zone.specs.InForce.{GivesAt}
 use Rattle.tz_zone.specs.Results.{has_one, only_in, first_in, second_in, is_none_in, is_ambiguous_in}
@@ -66,6 +70,10 @@ in_the_first = record { within = omega arith; begun = λ l. absurd (omega arith)
 
 in_the_third : IsIn (pos 7200) knot.shifts 2 (pos 5000)
 in_the_third = record { within = omega arith; begun = λ l. omega (arith, ints); lasts = λ l. absurd (omega arith) }
+
+-- at its local end a span has ended
+at_its_end : IsIn (pos 0) ahead.shifts 0 (pos 1000000) → ⊥
+at_its_end lies = absurd (omega (arith, ints, lies.lasts (omega arith)))
 
 -- such a set isn't orderly
 knot_is_not_orderly : IsOrderlyZone knot → ⊥
@@ -212,3 +220,40 @@ neighbours = refl
 
 no_neighbours : (AreAdjacent (found.Ambiguous 1 1) → ⊥) × (AreAdjacent (found.Ambiguous 1 3) → ⊥) × (AreAdjacent (found.Ambiguous 2 1) → ⊥)
 no_neighbours = (λ e. absurd (omega (arith, e)), λ e. absurd (omega (arith, e)), λ e. absurd (omega (arith, e)))
+
+-- of two values each counts
+abbrev is_one : ℕ → Type 0
+is_one n = n ≡ 1
+
+each_of_two : EachOf is_one (found.Ambiguous 1 2) → ⊥
+each_of_two each = absurd (omega (arith, each.1))
+
+-- what is mapped has a value for each, in the same order
+abbrev ten_more : ℕ → ℕ → Type 0
+ten_more a b = b ≡ a + 10
+
+mapped_in_order : AreMapped ten_more (found.Ambiguous 1 2) (found.Ambiguous 11 12)
+mapped_in_order = (refl, refl)
+
+mapped_otherwise : (AreMapped ten_more (found.Ambiguous 1 2) (found.Ambiguous 12 11) → ⊥) × (AreMapped ten_more (found.Some 1) found.None → ⊥)
+mapped_otherwise = (λ e. absurd (omega (arith, e.0)), λ e. e)
+
+-- ---- why what a name finds can't be looked up
+
+-- one offset for good
+abbrev for_good : ℤ → spans.FixedTimespanSet
+for_good offset = record { first = record { utc_offset = offset; dst_offset = pos 0; name = codes "A" }; rest = [] }
+
+-- a zone that is found is no unknown one, and a fault is its own
+other_causes : (IsZoneFault (Some (Ok (for_good (pos 0)))) cause.UnknownZone → ⊥)
+    × (IsZoneFault (Some (Err span_fault.DayRange)) (cause.Schedule span_fault.MissingUntil) → ⊥)
+other_causes = (λ e. cc (e), λ e. cc (e.0))
+
+-- want of memory is no fault of a schedule
+no_fault_of_memory : IsZoneFault (Some (Err span_fault.NoMemory)) (cause.Schedule span_fault.NoMemory) → ⊥
+no_fault_of_memory e = e.1 refl
+
+-- 26 hours
+far_zone : IsZoneFault (Some (Ok (for_good (pos 93600)))) cause.OffsetRange
+unfolding totals_of
+far_zone = record { set = for_good (pos 93600); is_found = refl; far = refl }
