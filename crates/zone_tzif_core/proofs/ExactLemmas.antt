@@ -1,26 +1,39 @@
 -- A file is read as what it denotes, or says.
-use Rattle.std.proofs.Common.{◌≡◌, ℕ, Bool, true, false, List, ◌++◌, ◌∷◌, [], Option, Some, None, Result, Ok, Err, refl, sym, ◌∙◌, arith, nat_eq, append_assoc}
+use Rattle.std.proofs.Common.{◌≡◌, ℕ, Bool, true, false, cond, is_some, List, ◌++◌, ◌∷◌, [], Option, Some, None, Err, refl, sym, ◌∙◌, arith, nat_eq, append_assoc}
 use Rattle.std.proofs.lemmas.Bool.Decides.{nat_tests}
 use Rattle.std.proofs.lemmas.Option.{same_Some, none-some}
 use Rattle.zone_tzif_core.specs.Denotes.{Denotes, IsZoneFile, Says, zone_file, old_file}
 use Rattle.zone_tzif_core.specs.Format.{is_only, suits}
 use Rattle.zone_tzif_core.specs.Reading.{old_at, said_by, said_in, zone_in}
-use Rattle.zone_tzif_core.specs.Shown.{zone_shown, TellsFound, Reads}
+use Rattle.zone_tzif_core.specs.Shown.{zone_shown, Reads}
 use Rattle.zone_tzif_core.specs.ZoneFiles.{zone_seen, ReadsFile}
 use Rattle.zone_tzif_core.specs.Zones.{ZoneValue}
 use Rattle.zone_tzif_core.specs.declared.header.Header.{Header}
 use Rattle.zone_tzif_core.specs.declared.values.TzifZone.{TzifZone}
-use Rattle.zone_tzif_core.specs.declared.values.ReadFault.{ReadFault}
 use Rattle.zone_tzif_core.specs.declared.values.ReadFault.TheVariants.{Refused, NoMemory}
 use Rattle.zone_tzif_core.specs.declared.zone_file.ZoneFile.{ZoneFile}
 use Rattle.zone_tzif_core.proofs.AgainLemmas.{denoted_again, header_again}
 use Rattle.zone_tzif_core.proofs.FoundLemmas.{denoted_found}
 use Rattle.zone_tzif_core.proofs.OldLemmas.{old_again, old_found, value_again}
 
-pub exact : (bytes : List ℕ) (result : Result TzifZone ReadFault) → TellsFound zone_shown result (zone_in 52 bytes) → Reads (Denotes bytes) result
-exact bytes (Ok zone) told = denoted_found 52 bytes (zone_shown zone) (sym told)
-exact bytes (Err Refused) told = λ zone denoted. none-some zone (told ∙ denoted_again 52 bytes zone denoted)
-exact bytes (Err NoMemory) told = tt
+pub exact : (bytes : List ℕ) (zone : TzifZone) → Some (zone_shown zone) ≡ zone_in 52 bytes → Denotes bytes (zone_shown zone)
+exact bytes zone told = denoted_found 52 bytes (zone_shown zone) (sym told)
+
+pub refused : (bytes : List ℕ) → None ≡ zone_in 52 bytes → (zone : ZoneValue) → ¬ (Denotes bytes zone)
+refused bytes told zone denoted = none-some zone (told ∙ denoted_again 52 bytes zone denoted)
+
+-- there is a zone where memory is said to be wanting
+pub wanting : (bytes : List ℕ) (test : Bool) → test ≡ is_some (zone_in 52 bytes) → Reads (Denotes bytes) (Err (cond test NoMemory Refused))
+wanting bytes true is = by_value (zone_in 52 bytes) refl (sym is)
+  where
+    by_value : (value : Option ZoneValue) → zone_in 52 bytes ≡ value → is_some value ≡ true → (zone : ZoneValue) × Denotes bytes zone
+    by_value (Some zone) e found = (zone, denoted_found 52 bytes zone e)
+    by_value None e found = absurd cc
+wanting bytes false is = by_value (zone_in 52 bytes) refl (sym is)
+  where
+    by_value : (value : Option ZoneValue) → zone_in 52 bytes ≡ value → is_some value ≡ false → (zone : ZoneValue) → ¬ (Denotes bytes zone)
+    by_value (Some zone) e found = absurd cc
+    by_value None e found = refused bytes (sym e)
 
 -- a header that has a second one after it is not the only one
 not_only : (last : ℕ) (first says : Header) → suits last first.version says ≡ true → is_only first ≡ false
@@ -53,10 +66,23 @@ said_found bytes zone told = by_version (old_at bytes) refl told
     by_version (Some file) at e = old_file (old_found bytes file zone at e)
     by_version None at e = zone_file (denoted_found 255 bytes zone e)
 
-pub exact_file : (bytes : List ℕ) (result : Result ZoneFile ReadFault) → TellsFound zone_seen result (said_in bytes) → ReadsFile (Says bytes) result
-exact_file bytes (Ok file) told = said_found bytes (zone_seen file) (sym told)
-exact_file bytes (Err Refused) told = λ zone said. none-some zone (told ∙ said_again bytes zone said)
-exact_file bytes (Err NoMemory) told = tt
+pub exact_file : (bytes : List ℕ) (file : ZoneFile) → Some (zone_seen file) ≡ said_in bytes → Says bytes (zone_seen file)
+exact_file bytes file told = said_found bytes (zone_seen file) (sym told)
+
+pub refused_file : (bytes : List ℕ) → None ≡ said_in bytes → (zone : ZoneValue) → ¬ (Says bytes zone)
+refused_file bytes told zone said = none-some zone (told ∙ said_again bytes zone said)
+
+pub wanting_file : (bytes : List ℕ) (test : Bool) → test ≡ is_some (said_in bytes) → ReadsFile (Says bytes) (Err (cond test NoMemory Refused))
+wanting_file bytes true is = by_value (said_in bytes) refl (sym is)
+  where
+    by_value : (value : Option ZoneValue) → said_in bytes ≡ value → is_some value ≡ true → (zone : ZoneValue) × Says bytes zone
+    by_value (Some zone) e found = (zone, said_found bytes zone e)
+    by_value None e found = absurd cc
+wanting_file bytes false is = by_value (said_in bytes) refl (sym is)
+  where
+    by_value : (value : Option ZoneValue) → said_in bytes ≡ value → is_some value ≡ false → (zone : ZoneValue) → ¬ (Says bytes zone)
+    by_value (Some zone) e found = absurd cc
+    by_value None e found = refused_file bytes (sym e)
 
 pub one_reading : (bytes : List ℕ) (x y : ZoneValue) → Denotes bytes x → Denotes bytes y → x ≡ y
 one_reading bytes x y a b = same_Some x y (sym (denoted_again 52 bytes x a) ∙ denoted_again 52 bytes y b)

@@ -7,6 +7,8 @@ mod FoundLemmas
 mod JoinedLemmas
 mod LoopLemmas
 mod NameLemmas
+mod NarrowLemmas
+mod PassLemmas
 mod OldLemmas
 mod ProfileLemmas
 mod PutLemmas

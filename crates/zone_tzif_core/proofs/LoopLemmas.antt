@@ -89,7 +89,7 @@ up_pair times x y rest e = rw e refl
 abbrev pub RiseFrom : List ℤ → ℕ → Type 0
 RiseFrom times i = go_up (drop (i - 1) times) ≡ go_up times
 
-up_step : (times : List ℤ) (i : ℕ) (x y d : ℤ) → 1 ≤ i → i < length times → x ≡ get_or times (i - 1) d → y ≡ get_or times i d → go_up (drop (i - 1) times) ≡ (int_lt x y && go_up (drop i times))
+pub up_step : (times : List ℤ) (i : ℕ) (x y d : ℤ) → 1 ≤ i → i < length times → x ≡ get_or times (i - 1) d → y ≡ get_or times i d → go_up (drop (i - 1) times) ≡ (int_lt x y && go_up (drop i times))
 up_step times i x y d some within first second =
     let next : i - 1 + 1 ≡ i = omega arith in
     let here : drop (i - 1) times ≡ x ∷ drop i times = drop_more times (i - 1) d (omega arith) ∙ ap (λ z. z ∷ drop (i - 1 + 1) times) (sym first) ∙ ap (λ n. x ∷ drop n times) next in
@@ -117,7 +117,7 @@ pub rises_refused : {V : Type 0} (shifts : List (ℤ × V)) (i : ℕ) (x y : ℤ
 rises_refused shifts i x y some within first second before is =
     ap (λ b. b && go_up (drop i (times_of shifts))) before ∙ sym (step shifts i x y some within first second) ∙ is
 
-up_short : (times : List ℤ) → length times ≤ 1 → true ≡ go_up times
+pub up_short : (times : List ℤ) → length times ≤ 1 → true ≡ go_up times
 up_short [] few = refl
 up_short (x ∷ []) few = refl
 up_short (x ∷ y ∷ rest) few = absurd (omega arith)

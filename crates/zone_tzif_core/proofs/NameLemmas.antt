@@ -1,8 +1,6 @@
--- The table of names, one more at a time.
-use Rattle.std.proofs.Common.{◌≡◌, ℕ, zero, suc, List, [], ◌∷◌, ◌++◌, length, Option, Some, None, Bor, option_map, slice_get, sym, ap, ◌∙◌, subst}
+-- What holds of each item of a list, and of one more.
+use Rattle.std.proofs.Common.{◌≡◌, ℕ, zero, suc, List, [], ◌∷◌, ◌++◌, length, Option, Some, None, slice_get, sym, ap, ◌∙◌, subst}
 use Rattle.std.proofs.lemmas.Option.{none-some}
-use Rattle.zone_tzif_core.specs.Names.{AreNames}
-use Rattle.zone_tzif_core.specs.Reading.{name_in}
 
 same : {X : Type 0} (x y : X) → Some x ≡ Some y → x ≡ y
 same x y e = ap (unwrap_or x) e
@@ -16,11 +14,6 @@ one_more p [] x had new zero y e = subst (p 0) (same x y e) new
 one_more p [] x had new (suc k) y e = absurd (none-some y e)
 one_more p (z ∷ xs) x had new zero y e = had 0 y e
 one_more p (z ∷ xs) x had new (suc k) y e = one_more (λ k. p (suc k)) xs x (λ k y e. had (suc k) y e) new k y e
-
-pub names_kept : (names : List ℕ) (table grown : List (Option (Bor (List ℕ)))) (found : Option (Bor (List ℕ))) (place : ℕ) → grown ≡ table ++ found ∷ [] → length table ≡ place → option_map (λ text. text.now) found ≡ name_in names place → AreNames names table → AreNames names grown
-names_kept names table grown found place items long is are =
-    let here = subst (λ n. option_map (λ text. text.now) found ≡ name_in names n) (sym long) is in
-    subst (AreNames names) (sym items) (one_more (λ n f. option_map (λ text. text.now) f ≡ name_in names n) table found are here)
 
 -- what holds of each item, and of one more, holds of each of all
 pub grown_by : {X : Type 0} (P : X → Type 0) (xs grown : List X) (x : X) → grown ≡ xs ++ x ∷ [] → ((k : ℕ) (y : X) → slice_get xs k ≡ Some y → P y) → P x

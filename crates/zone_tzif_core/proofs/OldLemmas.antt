@@ -30,16 +30,16 @@ four_fits bytes = fits _
     fits n = by_test n (nat_lt n 2147483648) refl
 
 -- the times alone
-abbrev wide : ℕ → List ℕ → List ℕ
+abbrev pub wide : ℕ → List ℕ → List ℕ
 wide zero times = []
 wide (suc n) times = eight_bytes (four_of (take 4 times)) ++ wide n (drop 4 times)
 
-wide_long : (n : ℕ) (times : List ℕ) → length (wide n times) ≡ 8 * n
+pub wide_long : (n : ℕ) (times : List ℕ) → length (wide n times) ≡ 8 * n
 wide_long zero times = refl
 wide_long (suc n) times = omega (arith, length-append (eight_bytes (four_of (take 4 times))) (wide n (drop 4 times)), eight_long (four_of (take 4 times)), wide_long n (drop 4 times))
 
 -- what follows them stays
-widened_is : (n : ℕ) (times rest : List ℕ) → length times ≡ 4 * n → widened n (times ++ rest) ≡ wide n times ++ (rest ++ 10 ∷ 10 ∷ [])
+pub widened_is : (n : ℕ) (times rest : List ℕ) → length times ≡ 4 * n → widened n (times ++ rest) ≡ wide n times ++ (rest ++ 10 ∷ 10 ∷ [])
 unfolding widened
 widened_is zero times rest long = ap (λ l. (l ++ rest) ++ 10 ∷ 10 ∷ []) (nil_from_length times long)
 widened_is (suc n) times rest long =
@@ -95,7 +95,7 @@ same_parts a b c d long e = (
   sym (drop_at a b (length a) refl) ∙ ap (drop (length a)) e ∙ drop_at c d (length a) (sym long),
 )
 
-empty_footer : footer_in (10 ∷ 10 ∷ []) ≡ Some []
+pub empty_footer : footer_in (10 ∷ 10 ∷ []) ≡ Some []
 unfolding footer_in between text_in is_utf8 chars
 empty_footer = refl
 

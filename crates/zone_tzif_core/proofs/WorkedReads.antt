@@ -1,12 +1,18 @@
 -- Which changed files are read, and as what.
-use Rattle.std.proofs.Common.{◌≡◌, ℕ, pos, negsuc, true, false, List, [], ◌∷◌, ◌++◌, map, take, drop, replicate, Option, Some, None, option_map, refl}
+use Rattle.std.proofs.Common.{◌≡◌, ℕ, pos, negsuc, true, false, List, [], ◌∷◌, ◌++◌, map, take, drop, replicate, Option, Some, None, option_map, Err, refl}
 use lib.Utf8.{encode}
 use Rattle.std.specs.Prelude.{codes}
 use Rattle.std.specs.Str.{is_utf8, chars}
+use Rattle.zone_tzif_core.specs.Denotes.{Denotes, Says}
 use Rattle.zone_tzif_core.specs.Format.{header_of, begins_well, block_len, is_only, suits}
 use Rattle.zone_tzif_core.specs.Numbers.{count_of, four_of, eight_of, eight_bytes}
 use Rattle.zone_tzif_core.specs.Reading.{cut, header_at, text_in, between, footer_in, second_in, parts_in, before_zero, name_in, kind_in, kinds_in, shifts_in, joined_in, old_at, old_in, said_in, widened, zone_in}
+use Rattle.zone_tzif_core.specs.Profile.{ReadsWritten}
+use Rattle.zone_tzif_core.specs.Shown.{Reads}
+use Rattle.zone_tzif_core.specs.ZoneFiles.{ReadsFile}
 use Rattle.zone_tzif_core.specs.Zones.{KindValue}
+use Rattle.zone_tzif_core.specs.declared.values.ReadFault.TheVariants.{NoMemory}
+use Rattle.zone_tzif_core.proofs.ExactLemmas.{refused, refused_file}
 use Rattle.zone_tzif_core.proofs.WorkedFiles.{a_kind, changing, fixed, fixed_file, changing_file, head, patched, of_version, standard}
 
 abbrev first_read : List ℕ → Option KindValue
@@ -22,6 +28,11 @@ no_file : map (zone_in 52)
     ∷ patched fixed_file 0 116 ∷ patched fixed_file 54 70 ∷ take 114 fixed_file ∷ (fixed_file ++ 10 ∷ []) ∷ []) ≡ replicate 10 None
 unfolding zone_in parts_in joined_in second_in footer_in between text_in header_at cut header_of begins_well block_len suits kinds_in shifts_in kind_in name_in before_zero count_of four_of eight_of is_utf8 chars encode
 no_file = refl
+
+-- where nothing is denoted or said, no memory is wanting
+no_want : (¬ (Reads (Denotes []) (Err NoMemory))) × (¬ (ReadsFile (Says []) (Err NoMemory))) × (¬ (ReadsWritten [] (Err NoMemory)))
+unfolding zone_in parts_in said_in old_at header_at cut
+no_want = (λ some. refused [] refl some.0 some.1, λ some. refused_file [] refl some.0 some.1, λ some. refused [] refl some.0 some.1)
 
 -- the offset's bounds, `is_dst` of 1 and of 2, places of the name: one in it, its zero byte, one past the last; a name without a zero
 -- byte; a name and a footer that are not UTF-8; a footer with an LF, with a zero byte

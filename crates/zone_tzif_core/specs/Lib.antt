@@ -11,5 +11,6 @@ pub mod ZoneFiles
 -- Words of private clauses.
 pub mod Reading
 pub mod Names
+pub mod Check
 pub mod Collected
 pub mod Profile

@@ -46,11 +46,11 @@ abbrev pub TellsFound : {V W : Type 0} → (V → W) → Result V ReadFault → 
 TellsFound shown (Ok value) answer = Some (shown value) ≡ answer
 TellsFound shown (Err fault) answer = Faults fault answer
 
--- the value of the result is what the bytes are, and no value is where they are refused
+-- the value of the result is what the bytes are, no value is where they are refused, and some value is where memory was wanting
 abbrev pub Reads : (ZoneValue → Type 0) → Result TzifZone ReadFault → Type 0
 Reads Is (Ok zone) = Is (zone_shown zone)
 Reads Is (Err Refused) = (zone : ZoneValue) → ¬ (Is zone)
-Reads Is (Err NoMemory) = Unit {0}
+Reads Is (Err NoMemory) = (zone : ZoneValue) × Is zone
 
 -- kinds and names that are borrowed
 abbrev pub kinds_seen : List (Bor Kind) → List KindValue

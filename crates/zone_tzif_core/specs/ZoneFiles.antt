@@ -30,8 +30,8 @@ kinds_kept file = map (stored_kind file.names.items) file.kinds.items
 abbrev pub zone_seen : ZoneFile → ZoneValue
 zone_seen file = file_with (kinds_kept file) file.changes.items (string_bytes file.footer)
 
--- the zone of the result is what the bytes are, and none is where they are refused
+-- the zone of the result is what the bytes are, none is where they are refused, and some zone is where memory was wanting
 abbrev pub ReadsFile : (ZoneValue → Type 0) → Result ZoneFile ReadFault → Type 0
 ReadsFile Is (Ok file) = Is (zone_seen file)
 ReadsFile Is (Err Refused) = (zone : ZoneValue) → ¬ (Is zone)
-ReadsFile Is (Err NoMemory) = Unit {0}
+ReadsFile Is (Err NoMemory) = (zone : ZoneValue) × Is zone

@@ -8,6 +8,7 @@ ghost use Rattle.zone_tzif_core.specs.Stored.{stored_kind, AreNumbered, AreStore
 ghost use Rattle.zone_tzif_core.specs.ZoneFiles.{changes_with, file_with, zone_seen, ReadsFile};
 ghost use Rattle.zone_tzif_core.specs.Zones.{KindValue};
 
+use crate::check::{says_zone, wanting};
 use crate::header::Header;
 use crate::kinds::kind;
 use crate::names::name_table;
@@ -118,7 +119,7 @@ fn joined(alloc: Global, parts: &Parts) -> Result<ZoneFile, ReadFault>
     requires times { length parts.now.times.now ≡ 8 * length parts.now.numbers.now }
     ensures { TellsFound zone_seen result (joined_in (parts_shown parts.now)) }
 {
-    let table = name_table(alloc, parts.names)?;
+    let table = name_table(parts.names);
     let kinds = read_stored(
         alloc,
         parts.names,
@@ -182,9 +183,13 @@ fn said_in(alloc: Global, bytes: &[u8]) -> Result<ZoneFile, ReadFault>
 ///
 /// # Errors
 ///
-/// `Refused` exactly where the file says none, or `NoMemory`.
+/// `Refused` exactly where the file says none, or `NoMemory`, which comes only where it says one.
 pub fn read_file(alloc: Global, bytes: &[u8]) -> Result<ZoneFile, ReadFault>
     ensures exact { ReadsFile (Says bytes.now) result }
 {
-    said_in(alloc, bytes)
+    match said_in(alloc, bytes) {
+        Ok(zone) => Ok(zone),
+        Err(ReadFault::Refused) => Err(ReadFault::Refused),
+        Err(ReadFault::NoMemory) => Err(wanting(says_zone(bytes))),
+    }
 }

@@ -34,7 +34,11 @@ pub fn is_small(utoff: i32) -> bool
 
 /// The kind that a record of six bytes is.
 #[tactic(auto, unfolding(crate::specs::Reading::kind_in))]
-fn read_record<'a>(names: &'a [u8], table: &[Option<&'a str>], bytes: &[u8]) -> Option<Record<'a>>
+pub(crate) fn read_record<'a>(
+    names: &'a [u8],
+    table: &[Option<&'a str>],
+    bytes: &[u8],
+) -> Option<Record<'a>>
     requires six { 6 ≤ length bytes.now }
     requires names { AreNames names.now table.now }
     ensures { option_map record_shown result ≡ kind_in names.now bytes.now }

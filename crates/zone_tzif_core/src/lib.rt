@@ -1,6 +1,7 @@
 //! Compiled zones as TZif files (RFC 8536), which most systems read: one file is written for a zone, and files are read exactly.
 #![tactic(auto)]
 
+mod check;
 mod distinct;
 mod file_reader;
 mod header;

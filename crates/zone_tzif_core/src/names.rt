@@ -1,11 +1,10 @@
 //! The names of a block.
-ghost use Rattle.std.specs.Prelude.{◌≡◌, ◌==◌, ◌≤◌, length, option_map, position, IfOk, IfSome};
+ghost use Rattle.std.specs.Prelude.{◌≡◌, ◌==◌, ◌≤◌, length, option_map, position, IfSome};
 ghost use Rattle.zone_tzif_core.specs.Names.{AreNames};
 ghost use Rattle.zone_tzif_core.specs.Reading.{before_zero, name_in};
 
 use crate::header::cut;
 use crate::parts::text;
-use std::alloc::{AllocError, Global};
 
 /// Where the first zero is.
 fn zero_place(bytes: &[u8]) -> Option<usize>
@@ -34,20 +33,15 @@ fn name(names: &[u8], place: usize) -> Option<&str>
     text(name)
 }
 
-/// The names at the first places, as many as there are bytes and 256 at most: a record's place is a byte. Each is looked for
-/// once, however many records there are.
-pub(crate) fn name_table<'a>(
-    alloc: Global,
-    names: &'a [u8],
-) -> Result<Vec<Option<&'a str>>, AllocError>
-    ensures { IfOk result (λ table. AreNames names.now table.items) }
+/// The names at the first 256 places: a record's place is a byte. Each is looked for once, however many records there are.
+pub(crate) fn name_table(names: &[u8]) -> [Option<&str>; 256]
+    ensures { AreNames names.now result }
 {
-    let mut table = Vec::new(alloc);
-    let count = names.len().min(256);
-    for place in 0..count {
-        table.push(name(names, place))?;
+    let mut table = [None; 256];
+    for place in 0..256 {
+        table[place] = name(names, place);
     }
-    Ok(table)
+    table
 }
 
 /// The name at a place, from the table as far as that goes.

@@ -1,7 +1,7 @@
 //! Files in the one spelling that is written.
 ghost use Rattle.std.specs.Prelude.{◌≡◌};
-ghost use Rattle.zone_tzif_core.specs.Profile.{Compares};
-ghost use Rattle.zone_tzif_core.specs.Shown.{zone_shown, Reads};
+ghost use Rattle.zone_tzif_core.specs.Profile.{Compares, ReadsWritten};
+ghost use Rattle.zone_tzif_core.specs.Shown.{zone_shown};
 ghost use Rattle.zone_tzif_core.specs.Tzif.{IsTzif};
 
 use crate::reader::read_any;
@@ -24,9 +24,9 @@ fn is_written(alloc: Global, zone: &TzifZone, bytes: &[u8]) -> Result<bool, Read
 ///
 /// # Errors
 ///
-/// `Refused` exactly where it is the file of none, or `NoMemory`.
+/// `Refused` exactly where it is the file of none, or `NoMemory`, which comes only where `read_any` reads a zone of it.
 pub fn read_tzif(alloc: Global, bytes: &[u8]) -> Result<TzifZone, ReadFault>
-    ensures exact { Reads (IsTzif bytes.now) result }
+    ensures exact { ReadsWritten bytes.now result }
 {
     let zone = read_any(alloc, bytes)?;
     let same = is_written(alloc, &zone, bytes)?;

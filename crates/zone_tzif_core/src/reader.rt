@@ -4,6 +4,7 @@ ghost use Rattle.zone_tzif_core.specs.Denotes.{Denotes};
 ghost use Rattle.zone_tzif_core.specs.Reading.{zone_in, joined_in, parts_shown};
 ghost use Rattle.zone_tzif_core.specs.Shown.{record_shown, all_found, zone_shown, TellsFound, Reads};
 
+use crate::check::{has_zone, wanting};
 use crate::kinds::{Record, owned, read_kinds};
 use crate::names::name_table;
 use crate::parts::{Parts, cut_parts};
@@ -34,7 +35,7 @@ fn joined(alloc: Global, parts: &Parts) -> Result<TzifZone, ReadFault>
     requires times { length parts.now.times.now ≡ 8 * length parts.now.numbers.now }
     ensures { TellsFound zone_shown result (joined_in (parts_shown parts.now)) }
 {
-    let table = name_table(alloc, parts.names)?;
+    let table = name_table(parts.names);
     let kinds = read_kinds(
         alloc,
         parts.names,
@@ -71,9 +72,13 @@ fn zone_of(alloc: Global, bytes: &[u8]) -> Result<TzifZone, ReadFault>
 ///
 /// # Errors
 ///
-/// `Refused` exactly where the file denotes none, or `NoMemory`.
+/// `Refused` exactly where the file denotes none, or `NoMemory`, which comes only where it denotes one.
 pub fn read_any(alloc: Global, bytes: &[u8]) -> Result<TzifZone, ReadFault>
     ensures exact { Reads (Denotes bytes.now) result }
 {
-    zone_of(alloc, bytes)
+    match zone_of(alloc, bytes) {
+        Ok(zone) => Ok(zone),
+        Err(ReadFault::Refused) => Err(ReadFault::Refused),
+        Err(ReadFault::NoMemory) => Err(wanting(has_zone(bytes, b'4'))),
+    }
 }

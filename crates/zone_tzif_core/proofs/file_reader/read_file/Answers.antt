@@ -1,5 +1,18 @@
-use Rattle.zone_tzif_core.proofs.ExactLemmas.{exact_file}
+use Rattle.std.proofs.Common.{subst, sym, Err}
+use Rattle.zone_tzif_core.specs.Denotes.{Says}
+use Rattle.zone_tzif_core.specs.Reading.{said_in}
+use Rattle.zone_tzif_core.specs.Shown.{Faults}
+use Rattle.zone_tzif_core.specs.ZoneFiles.{ReadsFile}
+use Rattle.zone_tzif_core.proofs.ExactLemmas.{exact_file, refused_file, wanting_file}
 use Rattle.zone_tzif_core.proofs.file_reader.read_file.Goals as goal
 
-pub returns : goal.returns
-returns c = record { exact = exact_file c.args.bytes.now c.said_in.result c.said_in.ensures }
+pub returns-in-Ok : goal.returns-in-Ok
+returns-in-Ok c = record { exact = exact_file c.args.bytes.now c.in-Ok.zone c.in-Ok.ensures }
+
+pub returns-in-Err-Refused : goal.returns-in-Err-Refused
+returns-in-Err-Refused c = record { exact = refused_file c.args.bytes.now (subst (λ fault. Faults fault (said_in c.args.bytes.now)) c.in-Err-Refused.field-0-is c.in-Err-Refused.ensures) }
+
+pub returns-in-Err-NoMemory : goal.returns-in-Err-NoMemory
+returns-in-Err-NoMemory c = record {
+  exact = subst (λ fault. ReadsFile (Says c.args.bytes.now) (Err fault)) (sym c.wanting.ensures) (wanting_file c.args.bytes.now c.says_zone.result c.says_zone.ensures);
+}
