@@ -1,24 +1,22 @@
 -- The rule of the last year decides by itself from the last entry on.
-use Rattle.std.proofs.Common.{◌≡◌, ℕ, zero, suc, ◌+◌, ◌-◌, ◌*◌, ◌<◌, ◌≤◌, Bool, true, false, ◌||◌, List, [], ◌∷◌, length, slice_index_or, IsTrue, ℤ, pos, ◌+ℤ◌, ◌-ℤ◌, ◌*ℤ◌, ◌≤ℤ◌, ◌<ℤ◌, int_le, inl, inr, refl, ap, ◌∙◌, arith}
+use Rattle.std.proofs.Common.{◌≡◌, ℕ, zero, suc, ◌+◌, ◌-◌, ◌*◌, ◌<◌, ◌≤◌, Bool, true, false, ◌||◌, List, [], ◌∷◌, length, slice_index_or, ℤ, pos, ◌+ℤ◌, ◌-ℤ◌, ◌≤ℤ◌, ◌<ℤ◌, int_le, inl, inr, refl, ap, arith}
 use Rattle.std.specs.List.{list_all}
 use Rattle.std.proofs.lemmas.Bool.{and_parts, cases_lt}
 use Rattle.std.proofs.lemmas.Int.{ints}
 use Rattle.calendar.specs.ComparisonLaws.{le_fail, le_from_pass, le_pass}
 use Rattle.calendar.specs.DateLaws.{day-into_year}
-use Rattle.calendar.specs.Days.{day, days_through, IsCountedYear}
-use Rattle.calendar.specs.MonthLaws.{days_in_month-bounds, days_through-rise, days_through-two}
+use Rattle.calendar.specs.Days.{day, days_in_month, IsCountedYear}
+use Rattle.calendar.specs.MonthLaws.{days_through-rise, days_through-two}
 use Rattle.calendar.specs.SignedLaws.{signed}
-use Rattle.calendar.specs.WeekdayLaws.{day-from_first, weekday_of-small}
+use Rattle.calendar.specs.WeekdayLaws.{day-from_first}
 use Rattle.zone_spans.specs.Entries.{Entry}
 use Rattle.tz_posix_core.specs.DayLaws.{day-2100, days_into_year-is}
 use Rattle.tz_posix_core.specs.Days.{nth_weekday, rule_day}
-use Rattle.tz_posix_core.specs.InForce.{instant_in, year_at}
-use Rattle.tz_posix_core.specs.Ranges.{is_rule_date}
+use Rattle.tz_posix_core.specs.InForce.{instant_in}
 use Rattle.tz_posix_core.specs.WeekdayLaws.{first_weekday-is, nth_weekday-is, weekday_parts}
-use Rattle.tz_posix_core.specs.declared.date.Date.TheVariants.{M}
 use Rattle.zone_tail_core.specs.LastYear.{year_begin, year_end}
 use Rattle.zone_tail_core.specs.Rules.{date_of, IsChange, IsSmall, time_of}
-use Rattle.zone_tail_core.specs.Settled.{has_begun_in, IsOfLastYear}
+use Rattle.zone_tail_core.specs.Settled.{IsOfLastYear}
 use Rattle.zone_tail_core.specs.declared.rule.Change.{Change}
 use Rattle.zone_tail_core.proofs.TotalLemmas.{in_last_year}
 

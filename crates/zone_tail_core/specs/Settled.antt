@@ -1,5 +1,5 @@
 -- Seconds at which the rule of the last year decides by itself: it has begun, and that of the year after hasn't.
-use Rattle.std.specs.Prelude.{◌≡◌, Bool, true, false, ◌||◌, List, ℤ, pos, ◌<ℤ◌, int_le}
+use Rattle.std.specs.Prelude.{◌≡◌, Bool, true, false, ◌||◌, ℤ, pos, ◌<ℤ◌, int_le}
 use Rattle.std.specs.List.{list_all}
 use Rattle.zone_spans.specs.Entries.{Entry}
 use Rattle.tz_zone.specs.declared.set.FixedTimespanSet.{FixedTimespanSet}

@@ -4,7 +4,6 @@ use Rattle.std.proofs.lemmas.Int.{ints}
 use Rattle.zone_spans.specs.Entries.{total}
 use Rattle.tz_zone.specs.Sets.{IsSpanTime, shifts_of, total_of_span}
 use Rattle.tz_zone.specs.Spans.{shift_at}
-use Rattle.zone_tail_core.specs.LastYear.{year_end}
 use Rattle.zone_tail_core.specs.Shapes.{entry_in}
 use Rattle.zone_tail_core.proofs.ShapeLemmas.{shift_is}
 use Rattle.zone_tail_core.proofs.SpanLemmas.{length-shifts}
@@ -25,5 +24,5 @@ returns c =
     c.total_of.ensures.total ∙ ap (total_of_span set) next ∙ ap (λ (s : ℤ × ℤ). s.1) (shift_is (pos 0, set.first) set.others c.args.start c.requires.start) in
     let at : IsSpanTime (shift_at (shifts_of set) c.args.end).0 = All-get_or (λ (s : ℤ × ℤ). IsSpanTime s.0) (shifts_of set) c.args.end (pos 0, pos 0) (omega (arith, length-shifts set.others, c.requires.end)) c.requires.accepted.bound in
     let near = subst IsSpanTime (sym c.time.ensures) at in
-    ap (λ z. int_lt z year_end) (to_z-of_z (sum_fits c.time.result c.total_of.result near c.total_of.ensures.least c.total_of.ensures.greatest))
-    ∙ (λ i. int_lt ((to_z-of_z fits_time ∙ time) i +ℤ (to_z-of_z fits_total ∙ total_is) i) year_end)
+    ap (λ z. int_lt z (to_z w64 (of_z w64 c.args.local))) (to_z-of_z (sum_fits c.time.result c.total_of.result near c.total_of.ensures.least c.total_of.ensures.greatest))
+    ∙ (λ i. int_lt ((to_z-of_z fits_time ∙ time) i +ℤ (to_z-of_z fits_total ∙ total_is) i) (to_z-of_z c.ranges.local i))
