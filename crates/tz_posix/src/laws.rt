@@ -1,5 +1,5 @@
 //! Laws of zones and strings that say the same.
-ghost use Rattle.std.specs.Prelude.{◌≡◌, ℕ, ℤ, pos, neg_ℤ, ◌≤ℤ◌, ◌<ℤ◌, true, List, [], ◌∷◌, Option, None, is_some, ¬◌, IfSome, Ok};
+ghost use Rattle.std.specs.Prelude.{◌≡◌, ℕ, ℤ, pos, neg_ℤ, ◌≤ℤ◌, ◌<ℤ◌, true, List, [], ◌∷◌, Option, None, is_some, IfSome, Ok};
 ghost use Rattle.civil_base.specs.DateTimes.{instant};
 ghost use Rattle.civil_base.specs.Instants.{seconds_of};
 ghost use Rattle.zone_table.specs.declared.zone.ZoneInfo.{ZoneInfo};
