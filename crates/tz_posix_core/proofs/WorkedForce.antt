@@ -1,6 +1,7 @@
 -- What rules give at instants that are known from outside.
-use Rattle.std.proofs.Common.{◌≡◌, refl, arith, ◌∙◌, ap, ℕ, ◌≤◌, [], ◌∷◌, map, true, false, Some, None, ℤ, pos, neg_ℤ, ◌+ℤ◌}
+use Rattle.std.proofs.Common.{◌≡◌, refl, arith, ◌∙◌, ap, ℕ, ◌≤◌, Bool, List, [], ◌∷◌, map, true, false, Option, Some, None, ℤ, pos, neg_ℤ, ◌+ℤ◌}
 use Rattle.std.specs.Int.{int_div_euclid}
+use Rattle.std.specs.Prelude.{codes}
 use Rattle.calendar.specs.Dates.{last_with, year_of}
 use Rattle.calendar.specs.DateLaws.{year_of-day}
 use Rattle.calendar.specs.Days.{is_leap, days_in_year, days_in_month, days_after_zero, days_before_zero, year_start, days_through, days_into_year}
@@ -9,8 +10,11 @@ use Rattle.calendar.specs.SignedLaws.{signed}
 use Rattle.calendar.specs.Weekdays.{weekday_of}
 use Rattle.tz_posix_core.specs.Days.{nth_weekday, rule_day, day_refusal}
 use Rattle.tz_posix_core.specs.InForce.{instant_in, is_saving, is_within, is_year, posix_total, rule_refusal, year_at, yearly_time}
+use Rattle.civil_base.specs.Instants.{seconds_of}
+use Rattle.tz_posix_core.specs.PosixZones.{Named, PosixZone, ruled, Given, Gives, posix_refusal}
 use Rattle.tz_posix_core.specs.Seconds.{time_seconds}
 use Rattle.tz_posix_core.specs.declared.date.Date.TheVariants.{J, N, M}
+use Rattle.tz_posix_core.specs.declared.error.Error.{Error}
 use Rattle.tz_posix_core.specs.declared.error.Error.TheVariants.{ComponentRange, DateTooLarge}
 use Rattle.tz_posix_core.proofs.WorkedDates.{julian_is}
 
@@ -180,3 +184,47 @@ first_second : rule_refusal (pos 0) (J 1) (J 2) (neg_ℤ (pos 377705116800)) ∷
     ≡ None ∷ Some ComponentRange ∷ []
 unfolding rule_refusal day_refusal
 first_second = rw (first_year, year_before) refl
+
+-- what New York's rule gives an instant in nanoseconds: the last nanosecond of standard time in spring, and the next one
+abbrev named : List ℕ → ℤ → Named
+named name total = record { name = name; total = total }
+
+abbrev eastern : PosixZone
+eastern = ruled (named (codes "EST") (neg_ℤ (pos 18000))) (named (codes "EDT") (neg_ℤ (pos 14400))) (M 3 2 0, 7200) (M 11 1 0, 7200)
+
+-- the offset, whether daylight saving time holds, and the abbreviation
+abbrev IsGiven : Given → ℤ → Bool → List ℕ → Type 0
+IsGiven given total saving name = (given.total ≡ total) × (given.saving ≡ saving) × (given.name ≡ name)
+
+standard_given : (given : Given) → Gives eastern (pos 1710053999999999999) given → IsGiven given (neg_ℤ (pos 18000)) false (codes "EST")
+unfolding
+    seconds_of
+    posix_total is_saving instant_in rule_day nth_weekday last_with weekday_of
+    is_leap days_in_year days_in_month days_after_zero year_start days_through days_into_year day
+standard_given given gives =
+    let date : IsDate (pos 2024) 3 10 = a_date 3 10 (omega arith) (omega arith) (omega arith) (omega arith) in
+    let year = dates_2024 3 10 date (neg_ℤ (pos 18000)) (pos 1710053999) refl in
+    let saves : given.saving ≡ false = gives.saves ∙ (rw (year) refl) in
+    (gives.total ∙ (rw (year) refl), saves, gives.named ∙ (rw (saves) refl))
+
+saving_given : (given : Given) → Gives eastern (pos 1710054000000000000) given → IsGiven given (neg_ℤ (pos 14400)) true (codes "EDT")
+unfolding
+    seconds_of
+    posix_total is_saving instant_in rule_day nth_weekday last_with weekday_of
+    is_leap days_in_year days_in_month days_after_zero year_start days_through days_into_year day
+saving_given given gives =
+    let date : IsDate (pos 2024) 3 10 = a_date 3 10 (omega arith) (omega arith) (omega arith) (omega arith) in
+    let year = dates_2024 3 10 date (neg_ℤ (pos 18000)) (pos 1710054000) refl in
+    let saves : given.saving ≡ true = gives.saves ∙ (rw (year) refl) in
+    (gives.total ∙ (rw (year) refl), saves, gives.named ∙ (rw (saves) refl))
+
+-- a zone with a rule is refused by the start's day before the end's
+abbrev first_of : List (Option Error) → Option Error
+first_of [] = None
+first_of (refused ∷ others) = refused
+
+refused_by_the_start :
+    posix_refusal (ruled (named (codes "A") (pos 0)) (named (codes "B") (pos 3600)) (M 12 5 0, 0) (N 365, 0)) (pos 253402300799000000000)
+    ≡ Some DateTooLarge
+unfolding seconds_of
+refused_by_the_start = ap first_of first_refusals

@@ -72,3 +72,28 @@ unfolding
     value_in number_at part_at clock_time_at sign_at offset_at letters_at enclosed_at name_at weekday_at date_at moment_at
     rule_in own_offset_at own_rule_in dst_in short_in expanded_in entry_in
 past_a_byte = spells_none (codes "AAA256") refl
+
+-- 16 letters are a name, and a seventeenth is none; brackets hold one byte or more, and no bracket
+sixteen_letters : Spells (codes ":ABCDEFGHIJKLMNOP") (short (codes "ABCDEFGHIJKLMNOP"))
+unfolding
+    value_in number_at part_at clock_time_at sign_at offset_at letters_at enclosed_at name_at weekday_at date_at moment_at
+    rule_in own_offset_at own_rule_in dst_in short_in expanded_in entry_in
+sixteen_letters = entry_found (codes ":ABCDEFGHIJKLMNOP") _ refl
+
+seventeen_letters : (value : TzValue) → Spells (codes ":ABCDEFGHIJKLMNOPQ") value → ⊥
+unfolding
+    value_in number_at part_at clock_time_at sign_at offset_at letters_at enclosed_at name_at weekday_at date_at moment_at
+    rule_in own_offset_at own_rule_in dst_in short_in expanded_in entry_in
+seventeen_letters = spells_none (codes ":ABCDEFGHIJKLMNOPQ") refl
+
+nothing_in_brackets : (value : TzValue) → Spells (codes ":<>") value → ⊥
+unfolding
+    value_in number_at part_at clock_time_at sign_at offset_at letters_at enclosed_at name_at weekday_at date_at moment_at
+    rule_in own_offset_at own_rule_in dst_in short_in expanded_in entry_in
+nothing_in_brackets = spells_none (codes ":<>") refl
+
+bracket_in_brackets : (value : TzValue) → Spells (codes ":<A<B>") value → ⊥
+unfolding
+    value_in number_at part_at clock_time_at sign_at offset_at letters_at enclosed_at name_at weekday_at date_at moment_at
+    rule_in own_offset_at own_rule_in dst_in short_in expanded_in entry_in
+bracket_in_brackets = spells_none (codes ":<A<B>") refl
