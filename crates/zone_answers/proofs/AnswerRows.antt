@@ -2,7 +2,8 @@
 use Rattle.std.proofs.Common.{◌≡◌, ℕ, List, [], ◌∷◌, ◌++◌, map, Some, None, refl, pos, negsuc}
 use Rattle.std.specs.Prelude.{codes, option_map}
 use Rattle.civil_base.specs.LocalTimes.{local_time_in}
-use Rattle.zone_answers.specs.Due.{with_bars}
+use Rattle.zone_answers.specs.Due.{shown_at, with_bars}
+use Rattle.zone_spans.specs.Schedules.{fixed, total_at}
 use Rattle.zone_answers.specs.Requests.{at, local, request_of, nanoseconds_in}
 
 -- none, one, two and three instants
@@ -43,3 +44,8 @@ module _ (text : List ℕ) where
       ≡ None ∷ None ∷ None ∷ None ∷ []
   unfolding request_of
   other_words = refl
+
+-- an instant is shown at the offset in force
+at_an_instant : shown_at (fixed (pos 3600)) (at (codes "A") (pos 5)) ≡ (pos 5, pos 3600) ∷ []
+unfolding shown_at total_at
+at_an_instant = refl

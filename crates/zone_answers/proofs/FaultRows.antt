@@ -4,13 +4,18 @@ use Rattle.std.specs.Fmt.{digits}
 use Rattle.std.specs.Prelude.{codes}
 use Rattle.std.specs.Str.{is_utf8, chars}
 use lib.Utf8.{encode}
-use Rattle.zone_source.specs.Faults.{not_text}
+use Rattle.zone_source.specs.Faults.{not_text, source_fault}
+use Rattle.zone_source.specs.Lines.{lines_of}
 use Rattle.zone_spans.specs.Schedules.{total_at, totals_of}
 use Rattle.zone_spans.specs.declared.fault.SpanFault.TheVariants as span
 use Rattle.zone_source.specs.LineLists.{ended}
 use Rattle.zone_answers.specs.FaultLines.{fault_line}
+use Rattle.zone_answers.specs.Told.{fault_told}
+use Rattle.zone_answers.specs.declared.error.AnswerError.TheVariants as error
+use Rattle.zone_answers.specs.declared.error.Side.TheVariants.{Source, Requests}
 use Rattle.zone_answers.specs.Faults.{
   are_in_years,
+  fault,
   has_dates,
   found_refusal,
   request_refusal,
@@ -68,6 +73,11 @@ first_of_two : first_refused (one_offset (pos 0)) 1 (codes "at A 0" ∷ codes "w
 unfolding request_refusal is_utf8 chars encode request_of nanoseconds_in has_dates total_at totals_of
 first_of_two = refl
 
+-- the source's fault comes before those of the requests
+source_first : fault (255 ∷ []) (codes "what") ≡ Some (of_source (not_text 1))
+unfolding fault source_fault lines_of is_utf8 chars encode
+source_first = refl
+
 -- why a zone has no schedule, in place of a schedule
 no_schedule : map (λ fault. request_refusal (λ name. Some (Err fault)) 4 (codes "at A 0")) (span.MissingUntil ∷ span.DayRange ∷ [])
     ≡ Some (bad_schedule 4 span.MissingUntil) ∷ Some (bad_schedule 4 span.DayRange) ∷ []
@@ -92,3 +102,11 @@ lines_of_schedules = refl
 
 each_line_ends : ended (codes "a" ∷ codes "bc" ∷ []) ≡ 97 ∷ 10 ∷ 98 ∷ 99 ∷ 10 ∷ []
 each_line_ends = refl
+
+-- the code's errors, each with its own fault and number; want of memory is none, a schedule's neither
+errors : map fault_told
+    (error.NotText Source 1 ∷ error.NotText Requests 2 ∷ error.Request 3 ∷ error.UnknownZone 4 ∷ error.Schedule 5 span.DayRange
+    ∷ error.Schedule 6 span.NoMemory ∷ error.OffsetRange 7 ∷ error.Range 8 ∷ error.NoMemory ∷ [])
+    ≡ Some (of_source (not_text 1)) ∷ Some (request_not_text 2) ∷ Some (bad_request 3) ∷ Some (unknown_zone 4)
+    ∷ Some (bad_schedule 5 span.DayRange) ∷ None ∷ Some (offset_range 7) ∷ Some (range 8) ∷ None ∷ []
+errors = refl
