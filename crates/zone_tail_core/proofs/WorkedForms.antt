@@ -107,3 +107,10 @@ standards : map standard_of (year ((pos 4102444800, span (pos 7200) (pos 0) []) 
     ≡ pos 7200 ∷ pos 0 ∷ pos 3600 ∷ []
 unfolding standard_of
 standards = refl
+
+-- an entry at the second at which the last year ends is none of it, and one a second earlier is
+at_the_end : map form (year (saving spring ∷ standard autumn ∷ standard (pos 4102441200) ∷ [])
+    ∷ year (saving spring ∷ standard autumn ∷ standard (pos 4102441199) ∷ []) ∷ [])
+    ≡ yearly (saving spring) (standard autumn) ∷ other ∷ []
+unfolding form standard_of
+at_the_end = refl

@@ -1,9 +1,13 @@
 -- Worked rows: the weeks that name a day, what may be written, and the texts of candidates.
-use Rattle.std.proofs.Common.{◌≡◌, ℕ, [], ◌∷◌, map, true, false, refl, ℤ, pos, neg_ℤ}
+use Rattle.std.proofs.Common.{◌≡◌, ℕ, List, [], ◌∷◌, map, true, false, Some, None, refl, arith, ℤ, pos, neg_ℤ}
+use Rattle.std.proofs.lemmas.Int.{ints}
 use Rattle.std.specs.Prelude.{codes}
 use Rattle.std.specs.Fmt.{digits}
+use Rattle.zone_spans.specs.declared.span.FixedTimespan.{FixedTimespan}
+use Rattle.zone_tail_core.specs.Carried.{IsFrom}
 use Rattle.zone_tail_core.specs.Changes.{weeks}
-use Rattle.zone_tail_core.specs.Tails.{can_be_written, is_name}
+use Rattle.zone_tail_core.specs.LastYear.{steady, yearly, other}
+use Rattle.zone_tail_core.specs.Tails.{beginning, can_be_written, is_name, names_of, rules_with}
 use Rattle.zone_tail_core.specs.Texts.{change_text, name_text, offset_text, rule_text, saving_text, text_of, time_text}
 use Rattle.zone_tail_core.specs.declared.candidate.Candidate.TheVariants.{Fixed, Ruled}
 use Rattle.zone_tail_core.specs.declared.rule.Change.{Change}
@@ -52,3 +56,29 @@ texts : text_of (codes "EST") (codes "EDT") (Ruled (rule (neg_ℤ (pos 18000)) (
     ≡ codes "EST5EDT,M3.2.0,M11.1.0" ∷ codes "CET-1CEST,M3.5.0,M10.5.0/3" ∷ codes "<+1030>-10:30<+11>-11,M10.1.0,M4.1.0" ∷ codes "TST-1:30" ∷ []
 unfolding text_of name_text offset_text time_text saving_text rule_text change_text digits
 texts = refl
+
+-- the name of standard time and that of daylight saving time, which starts with the first entry and ends with the second
+abbrev called : ℤ → List ℕ → FixedTimespan
+called saving name = record { utc_offset = pos 3600; dst_offset = saving; name = name }
+
+names_of_years : map names_of (steady (called (pos 0) (codes "CET"))
+    ∷ yearly (pos 1, called (pos 3600) (codes "CEST")) (pos 2, called (pos 0) (codes "CET")) ∷ other ∷ [])
+    ≡ (codes "CET", []) ∷ (codes "CET", codes "CEST") ∷ ([], []) ∷ []
+names_of_years = refl
+
+-- each start with each end, by the start first
+in_pairs : rules_with (pos 0) (pos 3600) (change 3 5 0 0 ∷ change 3 4 0 0 ∷ []) (change 10 5 0 0 ∷ change 10 4 0 0 ∷ [])
+    ≡ Ruled (rule (pos 0) (pos 3600) (change 3 5 0 0) (change 10 5 0 0)) ∷ Ruled (rule (pos 0) (pos 3600) (change 3 5 0 0) (change 10 4 0 0))
+    ∷ Ruled (rule (pos 0) (pos 3600) (change 3 4 0 0) (change 10 5 0 0)) ∷ Ruled (rule (pos 0) (pos 3600) (change 3 4 0 0) (change 10 4 0 0)) ∷ []
+in_pairs = refl
+
+-- the first span has no beginning, and each other begins with its change
+beginnings : map (beginning ((pos 5, pos 0) ∷ (pos 9, pos 1) ∷ [])) (0 ∷ 1 ∷ 2 ∷ []) ≡ None ∷ Some (pos 5) ∷ Some (pos 9) ∷ []
+beginnings = refl
+
+-- a string holds from its second on, that second too, or always
+holds_from : IsFrom (Some (pos 5)) (pos 5) × IsFrom None (neg_ℤ (pos 9))
+holds_from = (omega (arith, ints), tt)
+
+holds_no_earlier : IsFrom (Some (pos 5)) (pos 4) → ⊥
+holds_no_earlier from = absurd (omega (arith, ints, from))
