@@ -3,11 +3,13 @@ use Rattle.std.proofs.Common.{◌≡◌, ℕ, List, [], ◌∷◌, ◌++◌, map
 use Rattle.std.specs.Prelude.{codes}
 use Rattle.std.specs.Fmt.{char_count, digits}
 use Rattle.civil_base.specs.Layout.{zoned_text}
+use Rattle.tz_zone.specs.declared.set.FixedTimespanSet.{FixedTimespanSet}
+use Rattle.zone_source.specs.LineLists.{ended}
 use Rattle.zone_spans.specs.Entries.{Entry}
 use Rattle.zone_list.specs.Asks.{asks, form}
-use Rattle.zone_list.specs.Ranges.{has_dates}
+use Rattle.zone_list.specs.Ranges.{all_have_dates, has_dates}
 use Rattle.zone_list.specs.Rows.{row, rows}
-use Rattle.zone_list.specs.Windows.{within}
+use Rattle.zone_list.specs.Windows.{window, within}
 
 abbrev entry : ℤ → ℤ → ℤ → List ℕ → Entry
 entry time offset saving name = (time, record { utc_offset = offset; dst_offset = saving; name = name })
@@ -58,3 +60,25 @@ words : map form
     ∷ None ∷ []
 unfolding digits
 words = refl
+
+-- an entry without dates among others
+not_all : map all_have_dates ([] ∷ (at (pos 0) ∷ []) ∷ (at (pos 0) ∷ at (pos 253402300800) ∷ []) ∷ []) ≡ true ∷ true ∷ false ∷ []
+not_all = refl
+
+-- what is asked of a set with an entry of 1970 and one past the years: a window that ends before that has a row, one through it a cause
+abbrev two : FixedTimespanSet
+two = record {
+  name = [];
+  first = record { utc_offset = pos 0; dst_offset = pos 0; name = [] };
+  others = entry (pos 5) (pos 0) (pos 0) (codes "A") ∷ at (pos 253402300800) ∷ [];
+}
+
+refused : (asks (pos 0) (pos 253402300800)).cause two ∷ (asks (pos 0) (pos 253402300801)).cause two ∷ (asks (pos 6) (pos 7)).cause two ∷ []
+    ≡ None ∷ Some (codes "range") ∷ None ∷ []
+unfolding window
+refused = refl
+
+shown : (asks (pos 0) (pos 253402300800)).due two ∷ (asks (pos 6) (pos 7)).due two ∷ []
+    ≡ ended ((codes "5  A  " ++ zoned_text (pos 5000000000) (pos 0)) ∷ []) ∷ [] ∷ []
+unfolding window rows row digits char_count
+shown = refl
