@@ -1,13 +1,16 @@
 -- Words, ends and lines at worked rows.
-use Rattle.std.proofs.Common.{◌≡◌, ℕ, lit≤, [], ◌∷◌, ◌++◌, map, Some, None, refl, ◌∙◌, arith, ℤ, pos, true, false}
+use Rattle.std.proofs.Common.{◌≡◌, ℕ, lit≤, List, [], ◌∷◌, ◌++◌, map, Option, Some, None, option_map, refl, ◌∙◌, arith, ℤ, pos, true, false}
 use Rattle.std.specs.Fmt.{digits}
 use Rattle.std.specs.Prelude.{codes}
 use Rattle.calendar.specs.DateLaws.{year_of-day, month_of-day, day_of-day}
 use Rattle.calendar.specs.Days.{is_leap, days_in_year, days_in_month, days_after_zero, year_start, days_through, days_into_year, day, IsCountedYear, IsDate}
 use Rattle.calendar.specs.SignedLaws.{signed}
-use Rattle.civil_base.specs.Layout.{date_digits, four_digits, two_digits, year_sign}
+use Rattle.civil_base.specs.Layout.{date_digits, day_part, four_digits, two_digits, year_sign}
+use Rattle.civil_base.specs.LocalTimes.{local_time_in}
+use Rattle.tz_zone.specs.declared.set.FixedTimespanSet.{FixedTimespanSet}
+use Rattle.zone_alarm.specs.Asks.{asks, asks_both, form}
 use Rattle.zone_alarm.specs.RingLines.{ring_line}
-use Rattle.zone_alarm.specs.Rings.{ends_in_years, time_on}
+use Rattle.zone_alarm.specs.Rings.{ends_in_years, rings, time_on}
 use Rattle.zone_alarm.specs.Words.{days_in, start_text}
 
 -- from 1 to 36,600, with neither a sign nor a leading zero
@@ -50,3 +53,26 @@ line_of k is =
 no_ring : ring_line (pos 19792, None) ≡ codes "2024-03-10 none"
 unfolding is_leap days_in_year days_in_month days_after_zero year_start days_through days_into_year day year_sign
 no_ring = line_of (pos 19792) refl ∙ refl
+
+-- one for each day, from the first on
+day_by_day : map (λ (shown : ℤ × Option (ℤ × ℤ)). shown.0) (rings (λ t. pos 0) 0 (pos 5) 3) ≡ pos 5 ∷ pos 6 ∷ pos 7 ∷ []
+unfolding rings
+day_by_day = refl
+
+-- at 23:00 of 9999-12-31: one day is in the years, two are not
+refused : (set : FixedTimespanSet) → map (λ n. (asks (time_on (pos 2932896) 82800000000000) n).cause set) (1 ∷ 2 ∷ []) ≡ None ∷ Some (codes "range") ∷ []
+unfolding day_part
+refused set = refl
+
+-- START, TIME and DAYS in this order, and no word fewer or more
+module _ (date time : List ℕ) where
+  in_order : form (date ∷ time ∷ codes "3" ∷ []) ≡ option_map (λ start. asks start 3) (local_time_in (date ++ codes " " ++ time ++ codes ".000000000"))
+  unfolding digits
+  in_order = by_start (local_time_in (date ++ codes " " ++ time ++ codes ".000000000"))
+    where
+      by_start : (start : Option ℤ) → asks_both start (Some 3) ≡ option_map (λ s. asks s 3) start
+      by_start None = refl
+      by_start (Some start) = refl
+
+  other_counts : map form ([] ∷ (date ∷ []) ∷ (date ∷ time ∷ []) ∷ (date ∷ time ∷ codes "3" ∷ codes "3" ∷ []) ∷ []) ≡ None ∷ None ∷ None ∷ None ∷ []
+  other_counts = refl
