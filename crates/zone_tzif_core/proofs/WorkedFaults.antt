@@ -48,3 +48,10 @@ totals : map (file_total_at changing)
     ≡ negsuc 17761 ∷ negsuc 17761 ∷ negsuc 17999 ∷ negsuc 17999 ∷ negsuc 14399 ∷ negsuc 17999 ∷ pos 3600 ∷ []
 unfolding file_total_at
 totals = refl
+
+-- kinds that differ in one part alone are two, and one that comes again is none more
+distinct : kinds_of (zone_with (a_kind (pos 0) false (codes "A")) ((pos 1, a_kind (pos 0) true (codes "A")) ∷ (pos 2, a_kind (pos 1) false (codes "A"))
+    ∷ (pos 3, a_kind (pos 0) false (codes "B")) ∷ at (pos 4) ∷ []) [])
+    ≡ a_kind (pos 0) false (codes "A") ∷ a_kind (pos 0) true (codes "A") ∷ a_kind (pos 1) false (codes "A") ∷ a_kind (pos 0) false (codes "B") ∷ []
+unfolding kinds_of
+distinct = refl
