@@ -14,7 +14,7 @@ use tz_lookup::{PrimitiveDateTimeExt, TimeZone};
 /// When an alarm rings that is set to a time of day: one `Ring` for each of so many days, from the first on, in order.
 ///
 /// On a day on which clocks skip the time it doesn't ring; on one on which they show it twice it rings at the first of the
-/// instants; so it rings at most once a day, and never at one instant on two days. The zone is asked once for each day.
+/// instants; so it rings at most once a day, and never at one instant on two days.
 ///
 /// # Errors
 ///

@@ -38,7 +38,7 @@ pub fn read_table(alloc: Global, parser: &LineParser, source: &[u8]) -> Result<T
 }
 
 /// Answers each request over the source, in order. Lines end at an LF, a CR before it is dropped, and they are numbered from
-/// 1. A zone is compiled once for all its requests, and one that no request names never.
+/// 1.
 ///
 /// # Errors
 ///

@@ -1,4 +1,4 @@
-//! The zones that requests name, each compiled once and kept compactly.
+//! The zones that requests name, kept compactly.
 ghost use Rattle.std.specs.Prelude.{◌≡◌, IfOk, IfErr};
 ghost use Rattle.zone_table.specs.BoundedTables.{IsBoundedTable};
 ghost use Rattle.tz_lookup.specs.Compiles.{compiled_in, IsCompiledAs, IsZoneFault};
