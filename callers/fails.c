@@ -73,14 +73,35 @@ static long tried(uint32_t (*call)(void), struct sefunjaro_handle *made) {
     }
 }
 
-static bool look(void) {
-    struct sefunjaro_clock local = { 2024, 3, 31, 2, 30, 0, 0 };
-    struct sefunjaro_reading reading;
-    struct sefunjaro_gap gap;
+/* What a source and a text are asked. */
+static bool look_aside(void) {
+    struct sefunjaro_clock clock;
+    struct sefunjaro_instant instant;
+    struct sefunjaro_years years;
     uint8_t text[40];
     size_t whole;
     left = 0;
+    sefunjaro_version(text, 40, &whole, &years);
+    bool done = !sefunjaro_name_count(&source, &whole) && !sefunjaro_name(&source, 0, text, 40, &whole);
+    done = done && sefunjaro_source_version(&source, text, 40, &whole) == SEFUNJARO_NONE;
+    done = done && !sefunjaro_read_local((const uint8_t *)"2024-03-31 02:30:00.000000000", 29, &clock);
+    done = done && !sefunjaro_read_zoned((const uint8_t *)"2024-03-31 02:30:00.000000000 +01:00:00", 39, &instant) && left == 0;
+    left = -1;
+    return done;
+}
+
+static bool look(void) {
+    struct sefunjaro_clock local = { 2024, 3, 31, 2, 30, 0, 0 }, clock;
+    struct sefunjaro_reading reading;
+    struct sefunjaro_gap gap;
+    struct sefunjaro_in_force in_force;
+    uint8_t text[40];
+    size_t whole;
+    int32_t offset;
+    left = 0;
     bool done = !sefunjaro_text_at(&other, 0, 0, text, 40, &whole) && !sefunjaro_readings(&other, &local, &reading, 1, &whole, &gap);
+    done = done && !sefunjaro_offset_at(&other, 0, 0, &offset) && !sefunjaro_in_force(&other, 0, 0, &in_force, text, 40);
+    done = done && !sefunjaro_clock_at(&other, 0, 0, &clock, &offset);
     struct sefunjaro_change change;
     int64_t saving;
     done = done && !sefunjaro_saving_at(&other, 0, 0, &saving) && !sefunjaro_next_change(&other, 0, &change);
@@ -110,7 +131,7 @@ int main(void) {
         long of_source = tried(open_source, &source);
         sefunjaro_close(&source);
         long of_plain = tried(open_plain, &source), of_zone = tried(open_zone, &zone), of_share = tried(share, &other);
-        if (of_source < 0 || of_plain < 0 || of_zone < 0 || of_share < 0 || !look()) return 1;
+        if (of_source < 0 || of_plain < 0 || of_zone < 0 || of_share < 0 || !look() || !look_aside()) return 1;
         long of_tail = tried(tail, NULL), of_tzif = tried(tzif, NULL);
         if (of_tail < 0 || of_tzif < 0) return 5;
         sefunjaro_close(&source);

@@ -302,7 +302,8 @@ static inline uint32_t sefunjaro_share(const struct sefunjaro_handle *zone, stru
 void sefunjaro_close(struct sefunjaro_handle *handle);
 
 /* The offset in force at an instant, of which the nanosecond is from 0 to 999,999,999. It takes no memory, nor does one below
-   that doesn't say so. NOT_OPEN, OUT_OF_RANGE. */
+   that doesn't say so: in the proved code behind it none of these is passed an allocator, and none answers NO_MEMORY.
+   NOT_OPEN, OUT_OF_RANGE. */
 static inline uint32_t sefunjaro_offset_at(const struct sefunjaro_handle *zone, int64_t second, uint32_t nanosecond, int32_t *offset) {
     struct sefunjaro_handle copy = *zone;
     return sefunjaro_offset_at_by(&copy, second, nanosecond, offset);

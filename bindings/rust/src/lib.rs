@@ -20,8 +20,9 @@
 //!
 //! Instants are seconds from 1970-01-01 00:00:00 UTC and nanoseconds, from 0 to 999,999,999; offsets are seconds east of UTC, at most
 //! 93,599 to either side. Any number of threads may ask one value at once (it is [`Send`] and [`Sync`]); [`Zone::share`] gives a thread a
-//! value of its own on the same zone. Look-ups take no memory, but for a local time with more than two instants, which no zone of the
-//! tz database has.
+//! value of its own on the same zone. An answer that is or has a `String` or a `Vec` takes memory, and so does a local time with more
+//! than two instants, which no zone of the tz database has. Other look-ups take none: the library's calls behind them are passed no
+//! allocator, and none of them answers that there was no memory.
 
 mod changes;
 mod error;

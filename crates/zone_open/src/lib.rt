@@ -1,7 +1,8 @@
 //! Sources and zones that are opened once and asked many times, as a program in another language holds them.
 //!
 //! What is asked is answered in plain numbers, and lists and texts go as far as the caller's room. No question takes memory
-//! but those for the string that carries a zone on and for its file.
+//! but those for the string that carries a zone on and for its file: these alone are passed an allocator, and may fail for
+//! want of memory.
 #![tactic(auto)]
 
 mod any;
