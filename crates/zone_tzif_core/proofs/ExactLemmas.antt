@@ -1,12 +1,12 @@
 -- A file is read as what it denotes, or says.
-use Rattle.std.proofs.Common.{◌≡◌, ℕ, Bool, true, false, cond, is_some, List, ◌++◌, ◌∷◌, [], Option, Some, None, Err, refl, sym, ◌∙◌, arith, nat_eq, append_assoc}
+use Rattle.std.proofs.Common.{◌≡◌, ℕ, Bool, true, false, cond, is_some, option_map, MatchOption, Bor, List, ◌++◌, ◌∷◌, [], Option, Some, None, Err, refl, sym, ◌∙◌, arith, nat_eq, append_assoc}
 use Rattle.std.proofs.lemmas.Bool.Decides.{nat_tests}
 use Rattle.std.proofs.lemmas.Option.{same_Some, none-some}
 use Rattle.zone_tzif_core.specs.Denotes.{Denotes, IsZoneFile, Says, zone_file, old_file}
 use Rattle.zone_tzif_core.specs.Format.{is_only, suits}
 use Rattle.zone_tzif_core.specs.Reading.{old_at, said_by, said_in, zone_in}
 use Rattle.zone_tzif_core.specs.Shown.{zone_shown, Reads}
-use Rattle.zone_tzif_core.specs.ZoneFiles.{zone_seen, ReadsFile}
+use Rattle.zone_tzif_core.specs.ZoneFiles.{zone_seen, HasFooter, ReadsFile}
 use Rattle.zone_tzif_core.specs.Zones.{ZoneValue}
 use Rattle.zone_tzif_core.specs.declared.header.Header.{Header}
 use Rattle.zone_tzif_core.specs.declared.values.TzifZone.{TzifZone}
@@ -83,6 +83,26 @@ wanting_file bytes false is = by_value (said_in bytes) refl (sym is)
     by_value : (value : Option ZoneValue) → said_in bytes ≡ value → is_some value ≡ false → (zone : ZoneValue) → ¬ (Says bytes zone)
     by_value (Some zone) e found = absurd cc
     by_value None e found = refused_file bytes (sym e)
+
+-- the footer that is found is that of what the file says
+pub footer_is : (bytes footer : List ℕ) → Some footer ≡ option_map (λ zone. zone.footer) (said_in bytes) → HasFooter (Says bytes) footer
+footer_is bytes footer told = by_value (said_in bytes) refl told
+  where
+    by_value : (value : Option ZoneValue) → said_in bytes ≡ value → Some footer ≡ option_map (λ zone. zone.footer) value → HasFooter (Says bytes) footer
+    by_value (Some zone) at e = record { zone = zone; told = said_found bytes zone at; ends = same_Some zone.footer footer (sym e) }
+    by_value None at e = absurd cc
+
+pub no_footer : (bytes : List ℕ) → None ≡ option_map (λ zone. zone.footer) (said_in bytes) → (zone : ZoneValue) → ¬ (Says bytes zone)
+no_footer bytes told = by_value (said_in bytes) refl told
+  where
+    by_value : (value : Option ZoneValue) → said_in bytes ≡ value → None ≡ option_map (λ zone. zone.footer) value → (zone : ZoneValue) → ¬ (Says bytes zone)
+    by_value (Some zone) at e = absurd cc
+    by_value None at e = refused_file bytes (sym at)
+
+pub exact_footer : (bytes : List ℕ) (result : Option (Bor (List ℕ))) → option_map (λ footer. footer.now) result ≡ option_map (λ zone. zone.footer) (said_in bytes)
+    → MatchOption result ((zone : ZoneValue) → ¬ (Says bytes zone)) (λ footer. HasFooter (Says bytes) footer.now)
+exact_footer bytes (Some footer) told = footer_is bytes footer.now told
+exact_footer bytes None told = no_footer bytes told
 
 pub one_reading : (bytes : List ℕ) (x y : ZoneValue) → Denotes bytes x → Denotes bytes y → x ≡ y
 one_reading bytes x y a b = same_Some x y (sym (denoted_again 52 bytes x a) ∙ denoted_again 52 bytes y b)

@@ -12,6 +12,7 @@ mod PassLemmas
 mod OldLemmas
 mod ProfileLemmas
 mod PutLemmas
+mod SmallLemmas
 mod TextLemmas
 mod ValueLemmas
 mod WorkedFaults

@@ -1,5 +1,5 @@
 -- The block of a file of version 1 passes where the one of version 2 that it is read as does.
-use Rattle.std.proofs.Common.{◌≡◌, ℕ, zero, suc, ◌+◌, ◌*◌, ◌≤◌, true, false, ◌&&◌, List, [], ◌∷◌, ◌++◌, length, take, drop, Some, None, is_some, refl, sym, ap, subst, ◌∙◌, arith, nat_eq, nat_le, nat_lt, append_assoc, length-drop}
+use Rattle.std.proofs.Common.{◌≡◌, ℕ, zero, suc, ◌+◌, ◌*◌, ◌≤◌, Bool, true, false, cond, ◌&&◌, List, [], ◌∷◌, ◌++◌, length, take, drop, Some, None, is_some, option_map, refl, sym, ap, subst, ◌∙◌, arith, nat_eq, nat_le, nat_lt, append_assoc, length-drop}
 use Rattle.std.proofs.lemmas.Bool.{and_parts}
 use Rattle.std.proofs.lemmas.Bool.Decides.{nat_tests}
 use Rattle.std.proofs.lemmas.List.{drop_at, length-take-le, take_at, take-append-drop}
@@ -14,7 +14,7 @@ use Rattle.zone_tzif_core.specs.declared.header.Header.{Header}
 use Rattle.zone_tzif_core.proofs.AgainLemmas.{cut_again}
 use Rattle.zone_tzif_core.proofs.FoundLemmas.{bind_some}
 use Rattle.zone_tzif_core.proofs.OldLemmas.{empty_footer, four_fits, wide, wide_long, widened_is}
-use Rattle.zone_tzif_core.proofs.PassLemmas.{joined_passes}
+use Rattle.zone_tzif_core.proofs.PassLemmas.{joined_footer}
 use Rattle.zone_tzif_core.proofs.WrittenLemmas.{eight_again, eight_long}
 
 times_wide : (n : ℕ) (times : List ℕ) → times_in true n (wide n times) ≡ times_in false n times
@@ -75,10 +75,11 @@ old_cut h block only long =
       length-take-le n a in_a,
     )
 
--- it passes exactly where it has a value
-pub old_passes : (bytes : List ℕ) (file : Header × List ℕ) → Some file ≡ old_at bytes → narrow_passes (narrow_in file.0 file.1) ≡ is_some (said_in bytes)
+-- it passes exactly where it has a value, whose footer is empty
+pub old_footer : (bytes : List ℕ) (file : Header × List ℕ) (passed : Bool) → Some file ≡ old_at bytes → passed ≡ narrow_passes (narrow_in file.0 file.1)
+    → cond passed (Some []) None ≡ option_map (λ zone. zone.footer) (said_in bytes)
 unfolding old_at said_in old_in
-old_passes bytes file at =
+old_footer bytes file passed at is =
     let found = bind_some _ (header_at bytes) file (sym at) in
     let test = cond_some (is_only found.0.0 && nat_eq (length found.0.1) (block_len found.0.0)) found.0 file found.2 in
     let both = and_parts (is_only file.0) _ (subst (λ (f : Header × List ℕ). is_only f.0 && nat_eq (length f.1) (block_len f.0) ≡ true) test.1 test.0) in
@@ -91,8 +92,9 @@ old_passes bytes file at =
     ap (λ m. times_in false m narrow.times) cuts.2 ∙ sym (times_wide n narrow.times) ∙ ap (λ m. times_in true m wider.times) (sym cuts.2) in
     let same : passes false narrow ≡ passes true wider =
     ap (λ l. go_up l && nat_le 1 narrow.kinds && list_all (λ number. nat_lt number narrow.kinds) narrow.numbers && is_some (kinds_in narrow.names narrow.kinds narrow.records)) times in
-    ap narrow_passes cuts.0 ∙ same ∙ joined_passes wider ∙ (let e : said_in bytes ≡ joined_in wider = rw (← at, cuts.1) refl in ap is_some (sym e))
+    let value : joined_in wider ≡ said_in bytes = rw (← at, cuts.1) refl in
+    joined_footer wider passed (is ∙ ap narrow_passes cuts.0 ∙ same) ∙ ap (option_map (λ zone. zone.footer)) value
 
-pub none_old : (bytes : List ℕ) → None ≡ old_at bytes → is_some (zone_in 255 bytes) ≡ is_some (said_in bytes)
+pub none_old : (bytes : List ℕ) → None ≡ old_at bytes → option_map (λ zone. zone.footer) (zone_in 255 bytes) ≡ option_map (λ zone. zone.footer) (said_in bytes)
 unfolding said_in
 none_old bytes at = rw (← at) refl

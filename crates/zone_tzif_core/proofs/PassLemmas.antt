@@ -2,7 +2,7 @@
 use Rattle.std.proofs.Common.{◌≡◌, ℕ, zero, suc, ◌+◌, ◌-◌, ◌*◌, ◌<◌, ◌≤◌, ℤ, int_lt, Bool, true, false, cond, ◌&&◌, List, [], ◌∷◌, length, map, take, drop, get_or, Option, Some, None, is_some, option_map, option_and_then, slice_get, refl, sym, ap, ◌∙◌, arith, length-drop, nat_le, nat_lt}
 use Rattle.std.proofs.lemmas.Bool.Decides.{nat_tests}
 use Rattle.std.proofs.lemmas.List.{drop-drop}
-use Rattle.std.proofs.lemmas.Option.{same_Some}
+use Rattle.std.proofs.lemmas.Option.{cond_some, same_Some}
 use Rattle.std.specs.List.{list_all}
 use Rattle.zone_tzif_core.specs.Check.{passes, time_of, time_size, times_in}
 use Rattle.zone_tzif_core.specs.Numbers.{eight_of}
@@ -21,6 +21,13 @@ both f None b = refl
 pub seen : {A B : Type 0} (f : A → B) (o : Option A) (shown : Option B) (t : Bool) → option_map f o ≡ shown → is_some o ≡ t → t ≡ is_some shown
 seen f (Some x) shown t e is = sym is ∙ ap is_some e
 seen f None shown t e is = sym is ∙ ap is_some e
+
+-- two that show the same are both there, or neither
+pub both_seen : {A B C : Type 0} (f : A → C) (g : B → C) (o : Option A) (v : Option B) → option_map f o ≡ option_map g v → is_some o ≡ is_some v
+both_seen f g (Some x) (Some y) e = refl
+both_seen f g (Some x) None e = absurd cc
+both_seen f g None (Some y) e = absurd cc
+both_seen f g None None e = refl
 
 -- the kinds of one record more
 kinds_step : (names : List ℕ) (n m : ℕ) (bytes rest : List ℕ) → n ≡ suc m → rest ≡ drop 6 bytes
@@ -199,10 +206,30 @@ joined_passes parts = by_kinds (kinds_in parts.names parts.kinds parts.records) 
         (λ i. rise && nat_le 1 (count i) && all (count i) && is_some (e i)) ∙ always (rise && false && all 0) ∙ ap (λ t. t && all 0) (never rise) ∙ rw e refl
     by_kinds (Some (kind ∷ kinds)) e = by_shifts kind kinds e (shifts_in (kind ∷ kinds) parts.times parts.numbers) refl ∙ rw e refl
 
-pub zone_passes : (last : ℕ) (bytes : List ℕ) (parts : Cuts) → Some parts ≡ parts_in last bytes → passes true parts ≡ is_some (zone_in last bytes)
-unfolding zone_in
-zone_passes last bytes parts e = rw (← e) (joined_passes parts)
+footer_kept : (parts : Cuts) (zone : ZoneValue) → joined_in parts ≡ Some zone → zone.footer ≡ parts.footer
+unfolding joined_in
+footer_kept parts zone e =
+    let kinds = bind_some _ (kinds_in parts.names parts.kinds parts.records) zone e in
+    let first = bind_some _ (slice_get kinds.0 0) zone kinds.2 in
+    let shifts = bind_some _ (shifts_in kinds.0 parts.times parts.numbers) zone first.2 in
+    sym (ap (λ (z : ZoneValue). z.footer) (cond_some (rises shifts.0) _ zone shifts.2).1)
 
-pub zone_none : (last : ℕ) (bytes : List ℕ) → None ≡ parts_in last bytes → false ≡ is_some (zone_in last bytes)
+-- and their footer is its footer
+pub joined_footer : (parts : Cuts) (test : Bool) → test ≡ passes true parts → cond test (Some parts.footer) None ≡ option_map (λ zone. zone.footer) (joined_in parts)
+joined_footer parts test is = by_value test (joined_in parts) refl (is ∙ joined_passes parts)
+  where
+    by_value : (test : Bool) (value : Option ZoneValue) → joined_in parts ≡ value → test ≡ is_some value
+        → cond test (Some parts.footer) None ≡ option_map (λ zone. zone.footer) value
+    by_value true (Some zone) e is = ap Some (sym (footer_kept parts zone e))
+    by_value false (Some zone) e is = absurd cc
+    by_value true None e is = absurd cc
+    by_value false None e is = refl
+
+pub zone_footer : (last : ℕ) (bytes : List ℕ) (parts : Cuts) (test : Bool) → Some parts ≡ parts_in last bytes → test ≡ passes true parts
+    → cond test (Some parts.footer) None ≡ option_map (λ zone. zone.footer) (zone_in last bytes)
+unfolding zone_in
+zone_footer last bytes parts test e is = rw (← e) (joined_footer parts test is)
+
+pub zone_none : (last : ℕ) (bytes : List ℕ) → None ≡ parts_in last bytes → None ≡ option_map (λ zone. zone.footer) (zone_in last bytes)
 unfolding zone_in
 zone_none last bytes e = rw (← e) refl

@@ -1,5 +1,5 @@
 -- What is seen of a zone whose kinds are kept once.
-use Rattle.std.specs.Prelude.{ℕ, ℤ, pos, false, List, [], map, Result, Ok, Err, slice_index_or, string_bytes}
+use Rattle.std.specs.Prelude.{◌≡◌, ℕ, ℤ, pos, false, List, [], map, Result, Ok, Err, slice_index_or, string_bytes}
 use Rattle.zone_tzif_core.specs.Stored.{stored_kind}
 use Rattle.zone_tzif_core.specs.Zones.{KindValue, ZoneValue}
 use Rattle.zone_tzif_core.specs.declared.values.ReadFault.{ReadFault}
@@ -35,3 +35,9 @@ abbrev pub ReadsFile : (ZoneValue → Type 0) → Result ZoneFile ReadFault → 
 ReadsFile Is (Ok file) = Is (zone_seen file)
 ReadsFile Is (Err Refused) = (zone : ZoneValue) → ¬ (Is zone)
 ReadsFile Is (Err NoMemory) = (zone : ZoneValue) × Is zone
+
+-- a zone that the bytes are has this footer
+pub record HasFooter (Is : ZoneValue → Type 0) (footer : List ℕ) : Type 0 where
+  pub zone : ZoneValue
+  pub told : Is zone
+  pub ends : zone.footer ≡ footer

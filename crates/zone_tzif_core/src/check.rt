@@ -1,10 +1,12 @@
-//! Whether there is a zone in a file, found without memory.
-ghost use Rattle.std.specs.Prelude.{◌≡◌, ◌*◌, ◌+◌, ◌≤◌, nat_lt, cond, is_some, length, option_map, slice_range, take, drop, IfSome};
+//! Whether there is a zone in a file, and its footer, found without memory.
+ghost use Rattle.std.specs.Prelude.{◌≡◌, ◌*◌, ◌+◌, ◌≤◌, nat_lt, cond, is_some, length, option_map, MatchOption, slice_range, take, drop, IfSome};
 ghost use Rattle.std.specs.List.{list_all};
 ghost use Rattle.zone_tzif_core.specs.Check.{narrow_in, narrow_passes, passes, time_of, time_size, times_in};
+ghost use Rattle.zone_tzif_core.specs.Denotes.{Says};
 ghost use Rattle.zone_tzif_core.specs.Names.{AreNames};
 ghost use Rattle.zone_tzif_core.specs.Reading.{kinds_in, parts_shown, said_in, zone_in};
-ghost use Rattle.zone_tzif_core.specs.Zones.{go_up};
+ghost use Rattle.zone_tzif_core.specs.ZoneFiles.{HasFooter};
+ghost use Rattle.zone_tzif_core.specs.Zones.{ZoneValue, go_up};
 ghost use Rattle.zone_tzif_core.specs.declared.values.ReadFault.TheVariants.{Refused, NoMemory};
 
 use crate::header::{Header, cut};
@@ -107,33 +109,36 @@ fn old_passes(header: &Header, block: &[u8]) -> bool
     }
 }
 
-/// Whether there is a zone in a file of a version up to the last one.
-pub(crate) fn has_zone(bytes: &[u8], last: u8) -> bool
-    ensures { result ≡ is_some (zone_in last bytes.now) }
+/// The footer of the zone of a file of a version up to the last one, if there is such a zone.
+pub(crate) fn zone_footer(bytes: &[u8], last: u8) -> Option<&str>
+    ensures { option_map (λ footer. footer.now) result ≡ option_map (λ zone. zone.footer) (zone_in last bytes.now) }
 {
-    match cut_parts(bytes, last) {
-        Some(parts) => passes(true, &parts),
-        None => false,
+    let parts = cut_parts(bytes, last)?;
+    if passes(true, &parts) {
+        Some(parts.footer)
+    } else {
+        None
     }
 }
 
-/// Whether there is a zone in a file of any version.
-pub(crate) fn says_zone(bytes: &[u8]) -> bool
-    ensures { result ≡ is_some (said_in bytes.now) }
+/// The footer of the zone that a file says, as `read_file` reads it, or nothing where the file says none. It takes no memory.
+pub fn said_footer(bytes: &[u8]) -> Option<&str>
+    ensures value { option_map (λ footer. footer.now) result ≡ option_map (λ zone. zone.footer) (said_in bytes.now) }
+    ensures exact { MatchOption result ((zone : ZoneValue) → ¬ (Says bytes.now zone)) (λ footer. HasFooter (Says bytes.now) footer.now) }
 {
     match old_block(bytes) {
-        Some((header, block)) => old_passes(&header, block),
-        None => has_zone(bytes, 255),
+        Some((header, block)) if old_passes(&header, block) => Some(""),
+        Some(_) => None,
+        None => zone_footer(bytes, 255),
     }
 }
 
-/// Want of memory where there is a zone, and else a refusal.
-pub(crate) fn wanting(is_zone: bool) -> ReadFault
-    ensures { result ≡ cond is_zone NoMemory Refused }
+/// Want of memory where there is a zone, with its footer, and else a refusal.
+pub(crate) fn wanting(footer: Option<&str>) -> ReadFault
+    ensures { result ≡ cond (is_some footer.entry) NoMemory Refused }
 {
-    if is_zone {
-        ReadFault::NoMemory
-    } else {
-        ReadFault::Refused
+    match footer {
+        Some(_) => ReadFault::NoMemory,
+        None => ReadFault::Refused,
     }
 }

@@ -8,7 +8,7 @@ ghost use Rattle.zone_tzif_core.specs.Stored.{stored_kind, AreNumbered, AreStore
 ghost use Rattle.zone_tzif_core.specs.ZoneFiles.{changes_with, file_with, zone_seen, ReadsFile};
 ghost use Rattle.zone_tzif_core.specs.Zones.{KindValue};
 
-use crate::check::{says_zone, wanting};
+use crate::check::{said_footer, wanting};
 use crate::header::Header;
 use crate::kinds::kind;
 use crate::names::name_table;
@@ -190,6 +190,6 @@ pub fn read_file(alloc: Global, bytes: &[u8]) -> Result<ZoneFile, ReadFault>
     match said_in(alloc, bytes) {
         Ok(zone) => Ok(zone),
         Err(ReadFault::Refused) => Err(ReadFault::Refused),
-        Err(ReadFault::NoMemory) => Err(wanting(says_zone(bytes))),
+        Err(ReadFault::NoMemory) => Err(wanting(said_footer(bytes))),
     }
 }

@@ -1,8 +1,9 @@
 //! Laws of the files.
-ghost use Rattle.std.specs.Prelude.{◌≡◌, ℕ, List};
+ghost use Rattle.std.specs.Prelude.{◌≡◌, ◌&&◌, ℕ, List, true};
+ghost use Rattle.std.specs.List.{list_all};
 ghost use Rattle.zone_tzif_core.specs.Denotes.{Denotes, Says};
 ghost use Rattle.zone_tzif_core.specs.Tzif.{IsTzif};
-ghost use Rattle.zone_tzif_core.specs.Zones.{ZoneValue};
+ghost use Rattle.zone_tzif_core.specs.Zones.{ZoneValue, is_small, rises};
 
 /// A file denotes one value at most.
 pub fn one_reading()
@@ -28,4 +29,11 @@ pub fn denoted_is_said()
 /// A file says one value at most.
 pub fn one_saying()
     ensures { (bytes : List ℕ) (x y : ZoneValue) → Says bytes x → Says bytes y → x ≡ y }
+{}
+
+/// The times of what a file says strictly rise, and each of its offsets is 93,599 seconds at most to either side.
+pub fn said_bounds()
+    ensures rising { (bytes : List ℕ) (zone : ZoneValue) → Says bytes zone → rises zone.rest ≡ true }
+    ensures small { (bytes : List ℕ) (zone : ZoneValue) → Says bytes zone
+        → (is_small zone.first.utoff && list_all (λ change. is_small change.1.utoff) zone.rest) ≡ true }
 {}

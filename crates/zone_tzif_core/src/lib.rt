@@ -20,9 +20,10 @@ mod write;
 mod writer;
 mod zone_file;
 
+pub use check::said_footer;
 pub use file_reader::read_file;
 pub use kinds::{Record, is_small};
-pub use laws::{denoted_is_said, one_reading, one_saying, one_value, written_denotes};
+pub use laws::{denoted_is_said, one_reading, one_saying, one_value, said_bounds, written_denotes};
 pub use profile::read_tzif;
 pub use reader::read_any;
 pub use shifts::do_rise;

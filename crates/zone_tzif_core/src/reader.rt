@@ -4,7 +4,7 @@ ghost use Rattle.zone_tzif_core.specs.Denotes.{Denotes};
 ghost use Rattle.zone_tzif_core.specs.Reading.{zone_in, joined_in, parts_shown};
 ghost use Rattle.zone_tzif_core.specs.Shown.{record_shown, all_found, zone_shown, TellsFound, Reads};
 
-use crate::check::{has_zone, wanting};
+use crate::check::{wanting, zone_footer};
 use crate::kinds::{Record, owned, read_kinds};
 use crate::names::name_table;
 use crate::parts::{Parts, cut_parts};
@@ -79,6 +79,6 @@ pub fn read_any(alloc: Global, bytes: &[u8]) -> Result<TzifZone, ReadFault>
     match zone_of(alloc, bytes) {
         Ok(zone) => Ok(zone),
         Err(ReadFault::Refused) => Err(ReadFault::Refused),
-        Err(ReadFault::NoMemory) => Err(wanting(has_zone(bytes, b'4'))),
+        Err(ReadFault::NoMemory) => Err(wanting(zone_footer(bytes, b'4'))),
     }
 }
