@@ -1,8 +1,14 @@
 -- What spans are in a file, at worked rows.
-use Rattle.std.proofs.Common.{◌≡◌, Bool, true, false, [], ◌∷◌, map, codes, refl, ℤ, pos, negsuc}
+use Rattle.std.proofs.Common.{◌≡◌, Bool, true, false, [], ◌∷◌, map, Some, codes, refl, ℤ, pos, negsuc}
 use Rattle.zone_spans.specs.declared.span.FixedTimespan.{FixedTimespan}
+use Rattle.tz_zone.specs.declared.set.FixedTimespanSet.{FixedTimespanSet}
+use Rattle.zone_tail_core.specs.LastYear.{form, standard_of}
+use Rattle.zone_tail_core.specs.Tails.{is_outlasting}
 use Rattle.zone_tzif_core.specs.Zones.{KindValue}
-use Rattle.zone_tzif_set.specs.Values.{kind_of}
+use Rattle.zone_tzif_core.specs.declared.values.WriteFault.TheVariants as write
+use Rattle.zone_tzif_set.specs.Files.{consistent_footer, footer_of, IsFileFault}
+use Rattle.zone_tzif_set.specs.Values.{kind_of, value_of}
+use Rattle.zone_tzif_set.specs.declared.file.FileFault.TheVariants.{Times, Types, Names}
 
 abbrev span : ℤ → ℤ → FixedTimespan
 span offset saving = record { utc_offset = offset; dst_offset = saving; name = codes "A" }
@@ -14,3 +20,28 @@ kind total saves = record { utoff = total; is_dst = saves; name = codes "A" }
 kinds : map (λ (s : ℤ × ℤ). kind_of (span s.0 s.1)) ((pos 3600, pos 0) ∷ (pos 3600, pos 1) ∷ (pos 3600, negsuc 3599) ∷ (negsuc 17999, pos 3600) ∷ [])
     ≡ kind (pos 3600) false ∷ kind (pos 3601) true ∷ kind (pos 0) false ∷ kind (negsuc 14399) true ∷ []
 kinds = refl
+
+-- a set's first span and each entry from its time on, and the footer
+whole : value_of (record { name = codes "A/B"; first = span (pos 3600) (pos 0); others = (pos 5, span (pos 3600) (pos 3600)) ∷ (pos 9, span (pos 0) (pos 0)) ∷ [] })
+    (codes "F")
+    ≡ record { first = kind (pos 3600) false; rest = (pos 5, kind (pos 7200) true) ∷ (pos 9, kind (pos 0) false) ∷ []; footer = codes "F" }
+unfolding value_of
+whole = refl
+
+-- a set that has no string has an empty footer, as one 25 hours ahead of UTC
+without_string : footer_of (record { name = []; first = span (pos 90000) (pos 0); others = [] }) ≡ []
+unfolding footer_of form standard_of
+without_string = refl
+
+-- where a change lies past all that the string says there is no footer, and else it is the string
+past_the_string : (set : FixedTimespanSet) → is_outlasting set ≡ true → consistent_footer set ≡ []
+unfolding consistent_footer
+past_the_string set past = rw (past) refl
+
+within_the_string : (set : FixedTimespanSet) → is_outlasting set ≡ false → consistent_footer set ≡ footer_of set
+unfolding consistent_footer
+within_the_string set past = rw (past) refl
+
+-- each cause is its own
+causes : IsFileFault Times (Some write.Times) × IsFileFault Types (Some write.Types) × IsFileFault Names (Some write.Names)
+causes = (refl, refl, refl)
