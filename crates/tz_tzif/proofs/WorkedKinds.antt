@@ -1,9 +1,12 @@
 -- What holds in a zone of two changes, by hand.
-use Rattle.std.proofs.Common.{◌≡◌, refl, ℤ, pos, [], ◌∷◌, map, Some, None, true}
-use Rattle.tz_footer.specs.InForce.{fixed, held_at}
+use Rattle.std.proofs.Common.{◌≡◌, refl, ℤ, pos, List, [], ◌∷◌, map, Some, None, true, false, codes}
+use Rattle.tz_footer.specs.InForce.{fixed, held_at, yearly}
+use Rattle.tz_posix_core.specs.declared.date.Date.TheVariants.{J}
 use Rattle.zone_tzif_core.specs.Zones.{KindValue, ZoneValue}
+use Rattle.tz_tzif.specs.Faults.{are_small, IsNoFooter, IsTzifFault, SaysInFooter}
 use Rattle.tz_tzif.specs.InForce.{kind_in}
 use Rattle.tz_tzif.specs.Offsets.{offsets_of}
+use Rattle.tz_tzif.specs.declared.fault.TzifFault.TheVariants.{Times, Offset}
 
 abbrev kind : ℤ → KindValue
 kind o = record { utoff = o; is_dst = true; name = [] }
@@ -36,3 +39,32 @@ worked_offsets : offsets_of (record { first = kind (pos 2); rest = (pos 1, kind 
     (Some (fixed (kind (pos 1)))) ≡ pos 3 ∷ pos 2 ∷ pos 1 ∷ []
 unfolding offsets_of
 worked_offsets = refl
+
+-- both offsets of a footer's rule count
+both_offsets : offsets_of (record { first = kind (pos 2); rest = []; footer = [] }) (Some (yearly (kind (pos 1)) (kind (pos 3)) (J 1, pos 0) (J 2, pos 0)))
+    ≡ pos 3 ∷ pos 2 ∷ pos 1 ∷ []
+unfolding offsets_of
+both_offsets = refl
+
+-- a zone of a first offset and of changes to others
+abbrev changed : ℤ → List (ℤ × ℤ) → ZoneValue
+changed first changes = record { first = kind first; rest = map (λ (change : ℤ × ℤ). (change.0, kind change.1)) changes; footer = codes "?" }
+
+-- 25:59:59 is small, and a second more is not, before the first change and after one
+small_offsets : map are_small (changed (pos 93599) ((pos 1, pos 93599) ∷ []) ∷ changed (pos 93600) [] ∷ changed (pos 0) ((pos 1, pos 0) ∷ (pos 2, pos 93600) ∷ []) ∷ [])
+    ≡ true ∷ false ∷ false ∷ []
+small_offsets = refl
+
+-- times that don't rise come before an offset that is too far
+first_cause : IsTzifFault (changed (pos 93600) ((pos 5, pos 0) ∷ (pos 5, pos 0) ∷ [])) Times × IsTzifFault (changed (pos 93600) ((pos 5, pos 0) ∷ (pos 6, pos 0) ∷ [])) Offset
+first_cause = (refl, (refl, refl))
+
+no_second_cause : IsTzifFault (changed (pos 93600) ((pos 5, pos 0) ∷ (pos 5, pos 0) ∷ [])) Offset → ⊥
+no_second_cause fault = cc (fault.0)
+
+-- an empty footer is no fault, and only that says nothing
+empty_footer : IsNoFooter [] → ⊥
+empty_footer none = none.some refl
+
+some_footer : SaysInFooter (codes "?") None → ⊥
+some_footer says = cc (says)
