@@ -3,10 +3,9 @@ use Rattle.std.proofs.Common.{◌≡◌, Bool, true, false, [], ◌∷◌, map, 
 use Rattle.zone_spans.specs.declared.span.FixedTimespan.{FixedTimespan}
 use Rattle.tz_zone.specs.declared.set.FixedTimespanSet.{FixedTimespanSet}
 use Rattle.zone_tail_core.specs.LastYear.{form, standard_of}
-use Rattle.zone_tail_core.specs.Tails.{is_outlasting}
 use Rattle.zone_tzif_core.specs.Zones.{KindValue}
 use Rattle.zone_tzif_core.specs.declared.values.WriteFault.TheVariants as write
-use Rattle.zone_tzif_set.specs.Files.{consistent_footer, footer_of, IsFileFault}
+use Rattle.zone_tzif_set.specs.Files.{consistent_footer, footer_of, is_contradicted, IsFileFault}
 use Rattle.zone_tzif_set.specs.Values.{kind_of, value_of}
 use Rattle.zone_tzif_set.specs.declared.file.FileFault.TheVariants.{Times, Types, Names}
 
@@ -33,14 +32,14 @@ without_string : footer_of (record { name = []; first = span (pos 90000) (pos 0)
 unfolding footer_of form standard_of
 without_string = refl
 
--- where a change lies past all that the string says there is no footer, and else it is the string
-past_the_string : (set : FixedTimespanSet) → is_outlasting set ≡ true → consistent_footer set ≡ []
+-- where the string may say otherwise there is no footer, and else it is the string
+contradicted_string : (set : FixedTimespanSet) → is_contradicted set ≡ true → consistent_footer set ≡ []
 unfolding consistent_footer
-past_the_string set past = rw (past) refl
+contradicted_string set past = rw (past) refl
 
-within_the_string : (set : FixedTimespanSet) → is_outlasting set ≡ false → consistent_footer set ≡ footer_of set
+kept_string : (set : FixedTimespanSet) → is_contradicted set ≡ false → consistent_footer set ≡ footer_of set
 unfolding consistent_footer
-within_the_string set past = rw (past) refl
+kept_string set past = rw (past) refl
 
 -- each cause is its own
 causes : IsFileFault Times (Some write.Times) × IsFileFault Types (Some write.Types) × IsFileFault Names (Some write.Names)
