@@ -1,14 +1,17 @@
 -- Which fault of a request comes first, its number and its line, at worked rows.
-use Rattle.std.proofs.Common.{◌≡◌, ℕ, List, [], ◌∷◌, map, Option, Some, None, refl, ap, ℤ, pos}
+use Rattle.std.proofs.Common.{◌≡◌, ℕ, List, [], ◌∷◌, ◌++◌, map, Option, Some, None, option_map, refl, ap, pos, negsuc, true}
 use Rattle.std.specs.Fmt.{digits}
 use Rattle.std.specs.Prelude.{codes, unwrap_or}
 use Rattle.std.specs.Str.{is_utf8, chars}
 use lib.Utf8.{encode}
+use Rattle.civil_base.specs.LocalTimes.{local_time_in}
 use Rattle.zone_answers.specs.Requests.{nanoseconds_in}
 use Rattle.zone_source.specs.Lines.{lines_of}
-use Rattle.zone_file_answers.specs.Due.{IsRefused}
+use Rattle.zone_file_answers.specs.Due.{IsRefused, shown_at}
 use Rattle.zone_file_answers.specs.Faults.{Fault, bad_request, fault_line, file, first_refused, has_dates, not_text, range, request_refusal}
-use Rattle.zone_file_answers.specs.Requests.{request_of}
+use Rattle.zone_file_answers.specs.Requests.{at, local, request_of}
+use Rattle.zone_file_answers.specs.Told.{fault_told, TellsOf}
+use Rattle.zone_file_answers.specs.declared.fault.FileFault.TheVariants as of_code
 
 -- of two faults the first is told, with the number of its line
 first_of_two : first_refused (λ t. pos 0) 1 (codes "at 0" ∷ codes "what" ∷ (255 ∷ []) ∷ []) ≡ Some (bad_request 2)
@@ -30,3 +33,37 @@ lines_of_faults : map fault_line (file ∷ not_text 1 ∷ bad_request 2 ∷ rang
     ≡ codes "file: refused" ∷ codes "request 1: not text" ∷ codes "request 2: request" ∷ codes "request 10: range" ∷ []
 unfolding digits
 lines_of_faults = refl
+
+-- a local time is never refused for its date
+far_local_time : has_dates (λ t. pos 0) (local (pos 999999999999999999999999999999)) ≡ true
+unfolding has_dates
+far_local_time = refl
+
+-- instants, and words that ask nothing
+instants : map request_of (codes "at -5" ∷ codes "at 007" ∷ codes "at +5" ∷ codes "at  5" ∷ codes "at 5 " ∷ codes "At 5" ∷ codes " at 5" ∷ [])
+    ≡ Some (at (negsuc 4)) ∷ Some (at (pos 7)) ∷ None ∷ None ∷ None ∷ None ∷ None ∷ []
+unfolding request_of nanoseconds_in
+instants = refl
+
+-- whatever text stands where a local time is wanted
+module _ (text : List ℕ) where
+  locals : request_of (codes "local " ++ text) ≡ option_map local (local_time_in text)
+  unfolding request_of
+  locals = refl
+
+  other_words : map request_of ((codes "Local " ++ text) ∷ (codes "locals " ++ text) ∷ (codes "loca " ++ text) ∷ []) ≡ None ∷ None ∷ None ∷ []
+  unfolding request_of
+  other_words = refl
+
+-- an instant is shown at the offset in force
+at_an_instant : shown_at (λ t. pos 3600) (at (pos 5)) ≡ (pos 5, pos 3600) ∷ []
+unfolding shown_at
+at_an_instant = refl
+
+-- the code's faults, each with its own fault and number; want of memory is none
+told : map fault_told (of_code.File ∷ of_code.NotText 1 ∷ of_code.Request 2 ∷ of_code.Range 3 ∷ of_code.NoMemory ∷ [])
+    ≡ Some file ∷ Some (not_text 1) ∷ Some (bad_request 2) ∷ Some (range 3) ∷ None ∷ []
+told = refl
+
+tells : TellsOf (Some (not_text 1)) (of_code.NotText 1) × TellsOf (Some (bad_request 2)) (of_code.Request 2) × TellsOf (Some (range 3)) (of_code.Range 3)
+tells = (refl, refl, refl)
