@@ -55,3 +55,8 @@ distinct : kinds_of (zone_with (a_kind (pos 0) false (codes "A")) ((pos 1, a_kin
     ≡ a_kind (pos 0) false (codes "A") ∷ a_kind (pos 0) true (codes "A") ∷ a_kind (pos 1) false (codes "A") ∷ a_kind (pos 0) false (codes "B") ∷ []
 unfolding kinds_of
 distinct = refl
+
+-- a name of two kinds is written once
+once : names_of (a_kind (pos 0) false (codes "A") ∷ a_kind (pos 1) false (codes "B") ∷ a_kind (pos 2) true (codes "A") ∷ []) ≡ codes "A" ∷ codes "B" ∷ []
+unfolding names_of
+once = refl
