@@ -1,7 +1,13 @@
 -- What the callers answer, at worked rows.
 use Rattle.std.proofs.Common.{◌≡◌, [], ◌∷◌, map, Some, None, refl, pos, negsuc}
+use Rattle.civil_base.specs.DateTimes.{instant}
+use Rattle.sefunjaro.specs.declared.error.Error.TheVariants as error
+use Rattle.zone_alarm.specs.declared.ring.AlarmFault.TheVariants as alarm
 use Rattle.zone_uses.specs.Answers.{first_of, next_after}
+use Rattle.zone_uses.specs.Causes.{IsAlarmCause}
+use Rattle.zone_uses.specs.MovedShown.{total_shown}
 use Rattle.zone_uses.specs.Moves.{total_around}
+use Rattle.zone_uses.specs.declared.moved.Moved.{Moved}
 
 -- after a second, not at it
 next_times : map (next_after (pos 0 ∷ pos 5 ∷ pos 9 ∷ [])) (negsuc 0 ∷ pos 0 ∷ pos 4 ∷ pos 5 ∷ pos 8 ∷ pos 9 ∷ [])
@@ -14,3 +20,15 @@ totals = refl
 
 firsts : first_of (pos 1 ∷ pos 2 ∷ []) ∷ first_of [] ∷ [] ≡ Some (pos 1) ∷ None ∷ []
 firsts = refl
+
+-- a zone has its first offset before its change, and its second one from it on
+around_its_change : (zone : Moved) → instant zone.change ≡ pos 10 → map (total_shown zone) (pos 9 ∷ pos 10 ∷ []) ≡ zone.before ∷ zone.after ∷ []
+unfolding total_shown
+around_its_change zone is = rw (is) refl
+
+-- two days from 9999-12-31 on are past the years, and one is not
+past_the_years : IsAlarmCause (pos 2932896) 2 (error.Alarm alarm.Range)
+past_the_years = refl
+
+in_the_years : IsAlarmCause (pos 2932896) 1 (error.Alarm alarm.Range) → ⊥
+in_the_years cause = cc (cause)
