@@ -5,7 +5,7 @@ use Rattle.zone_outside.specs.declared.whole.ReadEnd.{ReadEnd}
 use Rattle.zone_outside.specs.declared.whole.ReadEnd.TheVariants as read
 use Rattle.zone_source.specs.Statuses.{status_of}
 use Rattle.zone_source.specs.declared.status.Status.TheVariants as status
-use Rattle.zone_answers.proofs.TextReadLemmas.{Read, BothRead, NotRead, where_told, neither_more, neither_long, silent_not_done, silent_not_fault, silent_not_write, not_written, if_told, too_short, no_more_failed, read_not_ended, too_long_not_ended, no_memory_not_ended}
+use Rattle.zone_answers.proofs.TextReadLemmas.{Read, BothRead, NotRead, where_told, neither_more, neither_long, silent_not_done, silent_not_fault, silent_not_write, if_told, too_short, no_more_failed, read_not_ended, too_long_not_ended, no_memory_not_ended}
 use Rattle.zone_answers.specs.Seen.{Seen}
 use Rattle.zone_answers.specs.Ends.{Writes, EndsOver}
 use Rattle.zone_answers.specs.Responses.{EndsWell, Responds}
@@ -69,8 +69,8 @@ failed_ends writes well name before now text requests both (rose, some) = record
   words = (λ e. absurd (cc), λ e. absurd (cc));
   untouched = λ e. absurd (cc);
   order = inr (IfSome_then (before.shelf.told name) both.shelf.text (λ _ h. h.1));
-  shelf_ended = λ e. absurd (not_written e);
-  input_ended = λ e. absurd (not_written e);
+  shelf_ended = λ _. IfSome_then (before.shelf.told name) both.shelf.text (λ _ h. h.1);
+  input_ended = λ _. IfSome_then before.input.left both.input.text (λ _ h. h.1);
   done = λ e. absurd (cc);
   refused = λ e. absurd (cc);
   read = λ e. absurd (cc);

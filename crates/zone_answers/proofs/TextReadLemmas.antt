@@ -6,7 +6,7 @@ use Rattle.zone_outside.specs.declared.whole.ReadEnd.{ReadEnd}
 use Rattle.zone_outside.specs.declared.whole.ReadEnd.TheVariants as read
 use Rattle.zone_outside.specs.declared.whole.TheConstants.{LIMIT}
 use Rattle.zone_source.specs.declared.status.Status.TheVariants as status
-use Rattle.zone_source.specs.Statuses.{IsSilent}
+use Rattle.zone_source.specs.Statuses.{IsSilent, IsWritten}
 use Rattle.zone_answers.specs.Seen.{Seen}
 
 -- a text was read to its end
@@ -66,10 +66,6 @@ silent_not_write (inr (inl e)) = absurd (cc)
 silent_not_write (inr (inr (inl e))) = absurd (cc)
 silent_not_write (inr (inr (inr e))) = absurd (cc)
 
-pub not_written : (status.Write ≡ status.Done) ⊎ (status.Write ≡ status.Fault) → ⊥
-not_written (inl e) = absurd (cc)
-not_written (inr e) = absurd (cc)
-
 -- where both texts are told, what holds of each text that is left to read
 pub if_told : (o p : Option (List ℕ)) (P : List ℕ → List ℕ → Type 0) → ((s r : List ℕ) → p ≡ Some r → P s r) → IfSome o (λ s. IfSome p (P s))
 if_told None p P h = tt
@@ -89,14 +85,17 @@ no_more_failed name before now source first second (inl more) =
     not_more before.shelf.given now.shelf.given (length source) first.given first.within more
 no_more_failed name before now source first second (inr more) = omega (arith, second.failed_given refl, more)
 
-pub read_not_ended : (status.Read ≡ status.Done) ⊎ (status.Read ≡ status.Fault) → ⊥
+pub read_not_ended : IsWritten status.Read → ⊥
 read_not_ended (inl e) = absurd (cc)
-read_not_ended (inr e) = absurd (cc)
+read_not_ended (inr (inl e)) = absurd (cc)
+read_not_ended (inr (inr e)) = absurd (cc)
 
-pub too_long_not_ended : (status.TooLong ≡ status.Done) ⊎ (status.TooLong ≡ status.Fault) → ⊥
+pub too_long_not_ended : IsWritten status.TooLong → ⊥
 too_long_not_ended (inl e) = absurd (cc)
-too_long_not_ended (inr e) = absurd (cc)
+too_long_not_ended (inr (inl e)) = absurd (cc)
+too_long_not_ended (inr (inr e)) = absurd (cc)
 
-pub no_memory_not_ended : (status.NoMemory ≡ status.Done) ⊎ (status.NoMemory ≡ status.Fault) → ⊥
+pub no_memory_not_ended : IsWritten status.NoMemory → ⊥
 no_memory_not_ended (inl e) = absurd (cc)
-no_memory_not_ended (inr e) = absurd (cc)
+no_memory_not_ended (inr (inl e)) = absurd (cc)
+no_memory_not_ended (inr (inr e)) = absurd (cc)

@@ -8,7 +8,7 @@ use Rattle.zone_answers.specs.Faults.{fault, IsValid}
 use Rattle.zone_answers.specs.ReadBack.{IsReadBack}
 use Rattle.zone_answers.specs.Seen.{Seen, NoneFailed}
 use Rattle.zone_answers.specs.Words.{Task, file_of}
-use Rattle.zone_source.specs.Statuses.{EndsBy, IsPastLimit, IsSilent}
+use Rattle.zone_source.specs.Statuses.{EndsBy, IsPastLimit, IsSilent, IsWritten}
 use Rattle.zone_source.specs.declared.status.Status.{Status}
 use Rattle.zone_source.specs.declared.status.Status.TheVariants as status
 
@@ -35,9 +35,10 @@ pub record EndsOver (writes : Writes) (NoForm : Type 0) (name : Option (List ℕ
   pub untouched : end ≡ status.Words → now ≡ before
   -- the input is touched only where the shelf's text was read to its end
   pub order : (now.input ≡ before.input) ⊎ IfText name before.shelf (λ text. now.shelf.left ≡ Some [])
-  -- 0 and 2: where a file is read, both texts were read to their end, and what is due was written
-  pub shelf_ended : (end ≡ status.Done) ⊎ (end ≡ status.Fault) → IfText name before.shelf (λ text. now.shelf.left ≡ Some [])
-  pub input_ended : (end ≡ status.Done) ⊎ (end ≡ status.Fault) → IfSome name (λ file. IfSome before.input.left (λ requests. now.input.left ≡ Some []))
+  -- 0, 2 and 4: where a file is read, both texts were read to their end before anything was written
+  pub shelf_ended : IsWritten end → IfText name before.shelf (λ text. now.shelf.left ≡ Some [])
+  pub input_ended : IsWritten end → IfSome name (λ file. IfSome before.input.left (λ requests. now.input.left ≡ Some []))
+  -- 0 and 2: what is due was written
   pub done : end ≡ status.Done → IfTold name before (λ text requests. writes.lines text requests before.output now.output)
   pub refused : end ≡ status.Fault → IfTold name before (λ text requests. writes.fault text requests before.output now.output)
   -- 3 and 4: a call failed; 3 before the input is touched or by it; 4 after a first part of what is due
