@@ -53,7 +53,7 @@ fn all_small(zone: &ZoneFile) -> bool
 }
 
 /// What a footer says: nothing where it is empty. There is no answer exactly where it is not empty and is no footer.
-pub(crate) fn read_footer(text: &str) -> Option<Option<Footer<'_>>>
+pub fn read_footer(text: &str) -> Option<Option<Footer<'_>>>
     ensures { MatchOption result (IsNoFooter text.now) (λ footer. SaysInFooter text.now (option_map footer_shown footer)) }
 {
     if text.is_empty() {

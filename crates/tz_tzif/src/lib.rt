@@ -12,6 +12,7 @@ mod owner;
 mod search;
 mod zone;
 
+pub use accept::read_footer;
 pub use fault::TzifFault;
 pub use instants::TzifInstants;
 pub use laws::file_totals;
