@@ -1,3 +1,4 @@
 pub mod QuoteLemmas
 pub mod WordLemmas
 mod WorkedLines
+mod WorkedWords

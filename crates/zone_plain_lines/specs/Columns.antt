@@ -13,7 +13,7 @@ use Rattle.zone_values.specs.declared.year.Year.TheVariants.{Minimum, Maximum, N
 use Rattle.zone_plain_lines.specs.Clocks.{clock_spec, saved}
 use Rattle.zone_values.specs.Results.{◌>>=◌}
 use Rattle.zone_plain_lines.specs.Quotes.{is_white}
-use Rattle.zone_plain_lines.specs.Words.{shortens, from_word}
+use Rattle.zone_plain_lines.specs.Words.{from_word, to_word}
 use Rattle.zone_plain_lines.specs.declared.cause.PlainCause.{PlainCause}
 use Rattle.zone_plain_lines.specs.declared.cause.PlainCause.TheVariants as cause
 
@@ -25,15 +25,22 @@ texts fields = map (λ t. t.now) fields
 abbrev pub column : List (List ℕ) → ℕ → List ℕ
 column fields place = slice_index_or fields place []
 
--- a word, or a whole number of 64 bits
-unfoldable pub year_of : List ℕ → Result Year PlainCause
-year_of text = option_map_or (λ year. Ok year) (from_word text) (ok_or (option_map Number (signed_in (2 ^ 63) text)) cause.Year)
+-- a whole number of 64 bits
+unfoldable pub numbered_year : List ℕ → Result Year PlainCause
+numbered_year text = ok_or (option_map Number (signed_in (2 ^ 63) text)) cause.Year
 
--- `only` is no year of its own
+-- a word, or a number
+unfoldable pub year_of : List ℕ → Result Year PlainCause
+year_of text = option_map_or (λ year. Ok year) (from_word text) (numbered_year text)
+
+abbrev pub to_number : List ℕ → Result (Option Year) PlainCause
+to_number text = do
+  year ← numbered_year text
+  Ok (Some year)
+
+-- a word, of which `only` is no year of its own, or a number
 unfoldable pub to_of : List ℕ → Result (Option Year) PlainCause
-to_of text = if shortens text 1 (codes "only") then Ok None else (do
-  year ← year_of text
-  Ok (Some year))
+to_of text = option_map_or (λ last. Ok last) (to_word text) (to_number text)
 
 abbrev pub is_after : Year → Year → Bool
 is_after Minimum other = false

@@ -1,5 +1,6 @@
--- Words, without regard to ASCII case, shortened to any beginning that fits one word alone.
-use Rattle.std.specs.Prelude.{ℕ, ◌+◌, List, [], ◌∷◌, ◌++◌, map, length, take, Bool, ◌&&◌, Option, Some, None, Result, ok_or, codes, bytes_eq, nat_le, if◌then◌else◌}
+-- Words in any case, in full or abbreviated to a beginning that fits one word of their list alone.
+use Rattle.std.specs.Prelude.{ℕ, List, [], ◌∷◌, drop, length, take, Bool, ◌&&◌, Option, Some, None, option_map, Result, ok_or, codes, bytes_eq, nat_le, filter, find, if◌then◌else◌}
+use Rattle.std.specs.Option.{option_or}
 use Rattle.std.specs.Borrow.{Bor}
 use Rattle.zone_values.specs.Names.{lower}
 use Rattle.zone_values.specs.declared.month.Month.{Month}
@@ -26,78 +27,107 @@ use Rattle.zone_plain_lines.specs.declared.cause.PlainCause.TheVariants as cause
 use Rattle.zone_plain_lines.specs.declared.words.LineWord.{LineWord}
 use Rattle.zone_plain_lines.specs.declared.words.LineWord.TheVariants.{Rule, Zone, Link}
 
--- a beginning of the word, in any case, of that many letters at least: those that no other word of its place begins with
-abbrev pub shortens : List ℕ → ℕ → List ℕ → Bool
-shortens text least word =
-    nat_le least (length text) && nat_le (length text) (length word) && bytes_eq (lower text) (lower (take (length text) word))
+-- the text is the word, in any case
+abbrev pub is_word : List ℕ → List ℕ → Bool
+is_word text word = bytes_eq (lower text) (lower word)
 
--- a word, how many letters of it are enough, and what it stands for
+-- the text is a beginning of the word, in any case
+abbrev pub begins : List ℕ → List ℕ → Bool
+begins text word = nat_le (length text) (length word) && is_word text (take (length text) word)
+
+-- a word, and what it stands for
 abbrev pub Word : Type 0 → Type 0
-Word A = List ℕ × ℕ × A
+Word A = List ℕ × A
 
--- what the first of these words that the text shortens stands for
-abbrev pub shortened : {A : Type 0} → List (Word A) → List ℕ → Option A
-shortened [] text = None
-shortened (word ∷ words) text = if shortens text word.1 word.0 then Some word.2 else shortened words text
+-- what a list of one word stands for
+abbrev pub alone : {A : Type 0} → List (Word A) → Option A
+alone [] = None
+alone (word ∷ []) = Some word.1
+alone (word ∷ other ∷ more) = None
+
+-- what the word that the text is stands for
+abbrev pub in_full : {A : Type 0} → List (Word A) → List ℕ → Option A
+in_full words text = option_map (λ word. word.1) (find (λ word. is_word text word.0) words)
+
+-- what the only word that the text begins stands for
+abbrev pub abbreviated : {A : Type 0} → List (Word A) → List ℕ → Option A
+abbreviated words text = alone (filter (λ word. begins text word.0) words)
+
+-- a word in full, or else an abbreviation
+unfoldable pub meant : {A : Type 0} → List (Word A) → List ℕ → Option A
+meant words text = option_or (in_full words text) (abbreviated words text)
 
 -- a word as the code has it
-abbrev pub shown : {A : Type 0} → Bor (List ℕ) × ℕ × A → Word A
-shown entry = (entry.0.now, entry.1, entry.2)
+abbrev pub shown : {A : Type 0} → Bor (List ℕ) × A → Word A
+shown entry = (entry.0.now, entry.1)
 
 abbrev pub line_words : List (Word LineWord)
 line_words =
-    (codes "rule", 1, Rule)
-    ∷ (codes "zone", 1, Zone)
-    ∷ (codes "link", 1, Link)
+    (codes "Rule", Rule)
+    ∷ (codes "Zone", Zone)
+    ∷ (codes "Link", Link)
     ∷ []
 
 -- the first word of a line
 unfoldable pub line_word : List ℕ → Result LineWord PlainCause
-line_word text = ok_or (shortened line_words text) cause.LineType
+line_word text = ok_or (meant line_words text) cause.LineType
 
 abbrev pub months : List (Word Month)
 months =
-    (codes "january", 2, January)
-    ∷ (codes "february", 1, February)
-    ∷ (codes "march", 3, March)
-    ∷ (codes "april", 2, April)
-    ∷ (codes "may", 3, May)
-    ∷ (codes "june", 3, June)
-    ∷ (codes "july", 3, July)
-    ∷ (codes "august", 2, August)
-    ∷ (codes "september", 1, September)
-    ∷ (codes "october", 1, October)
-    ∷ (codes "november", 1, November)
-    ∷ (codes "december", 1, December)
+    (codes "January", January)
+    ∷ (codes "February", February)
+    ∷ (codes "March", March)
+    ∷ (codes "April", April)
+    ∷ (codes "May", May)
+    ∷ (codes "June", June)
+    ∷ (codes "July", July)
+    ∷ (codes "August", August)
+    ∷ (codes "September", September)
+    ∷ (codes "October", October)
+    ∷ (codes "November", November)
+    ∷ (codes "December", December)
     ∷ []
 
+unfoldable pub month_word : List ℕ → Option Month
+month_word text = meant months text
+
 unfoldable pub month_of : List ℕ → Result Month PlainCause
-month_of text = ok_or (shortened months text) cause.Month
+month_of text = ok_or (month_word text) cause.Month
 
 abbrev pub weekdays : List (Word Weekday)
 weekdays =
-    (codes "sunday", 2, Sunday)
-    ∷ (codes "monday", 1, Monday)
-    ∷ (codes "tuesday", 2, Tuesday)
-    ∷ (codes "wednesday", 1, Wednesday)
-    ∷ (codes "thursday", 2, Thursday)
-    ∷ (codes "friday", 1, Friday)
-    ∷ (codes "saturday", 2, Saturday)
+    (codes "Sunday", Sunday)
+    ∷ (codes "Monday", Monday)
+    ∷ (codes "Tuesday", Tuesday)
+    ∷ (codes "Wednesday", Wednesday)
+    ∷ (codes "Thursday", Thursday)
+    ∷ (codes "Friday", Friday)
+    ∷ (codes "Saturday", Saturday)
     ∷ []
 
 unfoldable pub weekday_of : List ℕ → Option Weekday
-weekday_of text = shortened weekdays text
+weekday_of text = meant weekdays text
 
--- `last` in full, and a weekday
+-- `last`, and the word of a weekday behind it
 unfoldable pub last_weekday_of : List ℕ → Option Weekday
-last_weekday_of text = shortened (map (λ day. (codes "last" ++ day.0, 4 + day.1, day.2)) weekdays) text
+last_weekday_of text = if begins (codes "last") text then weekday_of (drop 4 text) else None
 
--- the words of years; in TO the word `only` stands beside these two
-abbrev pub years : List (Word Year)
-years =
-    (codes "minimum", 2, Minimum)
-    ∷ (codes "maximum", 2, Maximum)
+abbrev pub from_words : List (Word Year)
+from_words =
+    (codes "minimum", Minimum)
+    ∷ (codes "maximum", Maximum)
     ∷ []
 
 unfoldable pub from_word : List ℕ → Option Year
-from_word text = shortened years text
+from_word text = meant from_words text
+
+-- `only` is no year of its own
+abbrev pub to_words : List (Word (Option Year))
+to_words =
+    (codes "minimum", Some Minimum)
+    ∷ (codes "maximum", Some Maximum)
+    ∷ (codes "only", None)
+    ∷ []
+
+unfoldable pub to_word : List ℕ → Option (Option Year)
+to_word text = meant to_words text

@@ -42,7 +42,7 @@ fn day_number(month: Month, text: &str) -> Result<i8, PlainCause>
 fn side_of(month: Month, word: &str, rest: &str) -> Result<(Weekday, i8), PlainCause>
     ensures { result ≡ side_of month word.now rest.now }
 {
-    let Some(weekday) = weekday_of(word) else {
+    let Some(weekday) = weekday_of(word.as_bytes()) else {
         return Err(PlainCause::Day);
     };
     let Some(number) = after_mark('=', rest) else {

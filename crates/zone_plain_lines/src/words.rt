@@ -1,7 +1,6 @@
-//! Words, in any case and shortened.
-ghost use Rattle.std.specs.Prelude.{◌≡◌, ◌≤◌, length, map, take, bytes_eq, codes};
-ghost use Rattle.zone_values.specs.Names.{lower};
-ghost use Rattle.zone_plain_lines.specs.Words.{shortens, shown, shortened, line_word, month_of, weekday_of, last_weekday_of, from_word};
+//! Words in any case, in full or abbreviated.
+ghost use Rattle.std.specs.Prelude.{◌≡◌, map, codes};
+ghost use Rattle.zone_plain_lines.specs.Words.{is_word, begins, in_full, abbreviated, meant, shown, line_word, month_word, month_of, weekday_of, last_weekday_of, from_word, to_word};
 
 use crate::cause::PlainCause;
 use zone_values::{Month, Weekday, Year};
@@ -17,51 +16,98 @@ pub enum LineWord {
     Link,
 }
 
-/// Whether the text is a beginning of the word, in any case, of that many letters at least.
-fn shortens(text: &str, least: usize, word: &str) -> bool
-    ensures { result ≡ shortens text.now least word.now }
+/// Whether the text is the word, in any case.
+fn is_word(text: &[u8], word: &str) -> bool
+    ensures { result ≡ is_word text.now word.now }
 {
-    let count = text.len();
-    least <= count && count <= word.len() && is_front(text.as_bytes(), word.as_bytes())
+    text.eq_ignore_ascii_case(word.as_bytes())
 }
 
-/// Whether the text is the front of the word, in any case, which is no shorter.
-fn is_front(text: &[u8], word: &[u8]) -> bool
-    requires { length text.now ≤ length word.now }
-    ensures { result ≡ bytes_eq (lower text.now) (lower (take (length text.now) word.now)) }
+/// Whether the text is a beginning of the word, in any case.
+fn begins(text: &[u8], word: &str) -> bool
+    ensures { result ≡ begins text.now word.now }
 {
-    text.eq_ignore_ascii_case(&word[..text.len()])
+    text.len() <= word.len() && text.eq_ignore_ascii_case(&word.as_bytes()[..text.len()])
 }
 
-/// What the first word that the text shortens stands for. Beside each word is how many of its letters are enough: no other
-/// word of its place begins with them.
-fn shortened<T: Copy>(text: &str, words: &[(&str, usize, T)]) -> Option<T>
-    ensures { result ≡ shortened (map shown words.now) text.now }
+/// What the word that the text is stands for.
+fn in_full<T: Copy>(text: &[u8], words: &[(&str, T)]) -> Option<T>
+    ensures { result ≡ in_full (map shown words.now) text.now }
 {
     for entry in words {
-        let (word, least, meaning) = entry;
-        if shortens(text, *least, word) {
+        let (word, meaning) = entry;
+        if is_word(text, word) {
             return Some(*meaning);
         }
     }
     None
 }
 
+/// What the only word that the text begins stands for.
+fn abbreviated<T: Copy>(text: &[u8], words: &[(&str, T)]) -> Option<T>
+    ensures { result ≡ abbreviated (map shown words.now) text.now }
+{
+    let mut found = None;
+    for entry in words {
+        let (word, meaning) = entry;
+        if begins(text, word) {
+            if found.is_some() {
+                return None;
+            }
+            found = Some(*meaning);
+        }
+    }
+    found
+}
+
+/// What a word stands for, in full or else abbreviated to a beginning that no other word of the list has.
+#[tactic(auto, unfolding(crate::specs::Words::meant))]
+fn meant<T: Copy>(text: &[u8], words: &[(&str, T)]) -> Option<T>
+    ensures { result ≡ meant (map shown words.now) text.now }
+{
+    match in_full(text, words) {
+        Some(meaning) => Some(meaning),
+        None => abbreviated(text, words),
+    }
+}
+
 /// What a line is by its first word.
 ///
 /// # Errors
 ///
-/// `LineType` where the word shortens none of `rule`, `zone` and `link`.
+/// `LineType` where the word is none of `Rule`, `Zone` and `Link`, and abbreviates none of them.
 #[tactic(auto, unfolding(crate::specs::Words::line_word))]
 pub fn line_word(text: &str) -> Result<LineWord, PlainCause>
     ensures { result ≡ line_word text.now }
 {
     let words = [
-        ("rule", 1, LineWord::Rule),
-        ("zone", 1, LineWord::Zone),
-        ("link", 1, LineWord::Link),
+        ("Rule", LineWord::Rule),
+        ("Zone", LineWord::Zone),
+        ("Link", LineWord::Link),
     ];
-    shortened(text, &words).ok_or(PlainCause::LineType)
+    meant(text.as_bytes(), &words).ok_or(PlainCause::LineType)
+}
+
+/// The month of the word, if there is one.
+#[tactic(auto, unfolding(crate::specs::Words::month_word))]
+fn month_word(text: &[u8]) -> Option<Month>
+    ensures { result ≡ month_word text.now }
+{
+    let words = [
+        ("January", Month::January),
+        ("February", Month::February),
+        ("March", Month::March),
+        ("April", Month::April),
+        ("May", Month::May),
+        ("June", Month::June),
+        ("July", Month::July),
+        ("August", Month::August),
+        ("September", Month::September),
+        ("October", Month::October),
+        ("November", Month::November),
+        ("December", Month::December),
+    ];
+    meant(text, &words)
 }
 
 /// The month of the word.
@@ -69,38 +115,24 @@ pub fn line_word(text: &str) -> Result<LineWord, PlainCause>
 pub(crate) fn month_of(text: &str) -> Result<Month, PlainCause>
     ensures { result ≡ month_of text.now }
 {
-    let words = [
-        ("january", 2, Month::January),
-        ("february", 1, Month::February),
-        ("march", 3, Month::March),
-        ("april", 2, Month::April),
-        ("may", 3, Month::May),
-        ("june", 3, Month::June),
-        ("july", 3, Month::July),
-        ("august", 2, Month::August),
-        ("september", 1, Month::September),
-        ("october", 1, Month::October),
-        ("november", 1, Month::November),
-        ("december", 1, Month::December),
-    ];
-    shortened(text, &words).ok_or(PlainCause::Month)
+    month_word(text.as_bytes()).ok_or(PlainCause::Month)
 }
 
 /// The weekday of the word.
 #[tactic(auto, unfolding(crate::specs::Words::weekday_of))]
-pub(crate) fn weekday_of(text: &str) -> Option<Weekday>
+pub(crate) fn weekday_of(text: &[u8]) -> Option<Weekday>
     ensures { result ≡ weekday_of text.now }
 {
     let words = [
-        ("sunday", 2, Weekday::Sunday),
-        ("monday", 1, Weekday::Monday),
-        ("tuesday", 2, Weekday::Tuesday),
-        ("wednesday", 1, Weekday::Wednesday),
-        ("thursday", 2, Weekday::Thursday),
-        ("friday", 1, Weekday::Friday),
-        ("saturday", 2, Weekday::Saturday),
+        ("Sunday", Weekday::Sunday),
+        ("Monday", Weekday::Monday),
+        ("Tuesday", Weekday::Tuesday),
+        ("Wednesday", Weekday::Wednesday),
+        ("Thursday", Weekday::Thursday),
+        ("Friday", Weekday::Friday),
+        ("Saturday", Weekday::Saturday),
     ];
-    shortened(text, &words)
+    meant(text, &words)
 }
 
 /// The weekday of a word that follows `last`.
@@ -108,16 +140,11 @@ pub(crate) fn weekday_of(text: &str) -> Option<Weekday>
 pub(crate) fn last_weekday_of(text: &str) -> Option<Weekday>
     ensures { result ≡ last_weekday_of text.now }
 {
-    let words = [
-        ("lastsunday", 6, Weekday::Sunday),
-        ("lastmonday", 5, Weekday::Monday),
-        ("lasttuesday", 6, Weekday::Tuesday),
-        ("lastwednesday", 5, Weekday::Wednesday),
-        ("lastthursday", 6, Weekday::Thursday),
-        ("lastfriday", 5, Weekday::Friday),
-        ("lastsaturday", 6, Weekday::Saturday),
-    ];
-    shortened(text, &words)
+    if begins(b"last", text) {
+        weekday_of(&text.as_bytes()[4..])
+    } else {
+        None
+    }
 }
 
 /// The first or the last of all years, by its word.
@@ -125,13 +152,19 @@ pub(crate) fn last_weekday_of(text: &str) -> Option<Weekday>
 pub(crate) fn from_word(text: &str) -> Option<Year>
     ensures { result ≡ from_word text.now }
 {
-    let words = [("minimum", 2, Year::Minimum), ("maximum", 2, Year::Maximum)];
-    shortened(text, &words)
+    let words = [("minimum", Year::Minimum), ("maximum", Year::Maximum)];
+    meant(text.as_bytes(), &words)
 }
 
-/// Whether the text is the word `only`.
-pub(crate) fn is_only(text: &str) -> bool
-    ensures { result ≡ shortens text.now 1 (codes "only") }
+/// The last year of a rule, by its word: `only` is none of its own.
+#[tactic(auto, unfolding(crate::specs::Words::to_word))]
+pub(crate) fn to_word(text: &str) -> Option<Option<Year>>
+    ensures { result ≡ to_word text.now }
 {
-    shortens(text, 1, "only")
+    let words = [
+        ("minimum", Some(Year::Minimum)),
+        ("maximum", Some(Year::Maximum)),
+        ("only", None),
+    ];
+    meant(text.as_bytes(), &words)
 }
