@@ -1,5 +1,5 @@
 -- What rules give at instants that are known from outside, where they fire past their year's edges; and which year decides.
-use Rattle.std.proofs.Common.{◌≡◌, refl, arith, ◌∙◌, ap, ℕ, ◌≤◌, [], ◌∷◌, map, true, false, ℤ, pos, neg_ℤ, ◌+ℤ◌, Bool}
+use Rattle.std.proofs.Common.{◌≡◌, refl, arith, ◌∙◌, ap, cond, ℕ, ◌≤◌, [], ◌∷◌, map, true, false, ℤ, pos, neg_ℤ, ◌+ℤ◌, Bool, codes}
 use Rattle.std.specs.Int.{int_div_euclid}
 use Rattle.calendar.specs.Dates.{last_with, year_of}
 use Rattle.calendar.specs.DateLaws.{year_of-day}
@@ -9,40 +9,48 @@ use Rattle.calendar.specs.SignedLaws.{signed}
 use Rattle.calendar.specs.Weekdays.{weekday_of}
 use Rattle.tz_posix_core.specs.Days.{nth_weekday, rule_day}
 use Rattle.tz_posix_core.specs.InForce.{year_at}
-use Rattle.tz_posix_core.specs.declared.date.Date.TheVariants.{M}
+use Rattle.tz_posix_core.specs.declared.date.Date.TheVariants.{M, N}
+use Rattle.zone_tzif_core.specs.Zones.{KindValue}
 use Rattle.tz_footer.specs.InForce.{is_saved_by, is_footer_saving, moments_in, second_in, year_after, year_before}
+use Rattle.tz_footer.specs.InForce.{FooterZone, fixed, yearly, held_at, is_of_one_year, standard_total, saving_total}
 
 -- years from 10 to 20, from 110 to 120 and from 210 to 220: before all, and at each moment and a second before it
-in_order : map (is_saved_by (pos 210, pos 220) (pos 110, pos 120) (pos 10, pos 20))
+in_order : map (is_saved_by (pos 210, pos 220) (pos 110, pos 120) (pos 10, pos 20) (neg_ℤ (pos 90), neg_ℤ (pos 80)))
     (pos 9 ∷ pos 10 ∷ pos 19 ∷ pos 20 ∷ pos 109 ∷ pos 110 ∷ pos 119 ∷ pos 120 ∷ pos 209 ∷ pos 210 ∷ pos 219 ∷ pos 220 ∷ [])
     ≡ false ∷ true ∷ true ∷ false ∷ false ∷ true ∷ true ∷ false ∷ false ∷ true ∷ true ∷ false ∷ []
 unfolding is_saved_by
 in_order = refl
 
 -- the end before the start
-reversed : map (is_saved_by (pos 220, pos 210) (pos 120, pos 110) (pos 20, pos 10))
+reversed : map (is_saved_by (pos 220, pos 210) (pos 120, pos 110) (pos 20, pos 10) (neg_ℤ (pos 80), neg_ℤ (pos 90)))
     (pos 9 ∷ pos 10 ∷ pos 19 ∷ pos 20 ∷ pos 109 ∷ pos 110 ∷ pos 119 ∷ pos 120 ∷ pos 209 ∷ pos 210 ∷ pos 219 ∷ pos 220 ∷ [])
     ≡ true ∷ false ∷ false ∷ true ∷ true ∷ false ∷ false ∷ true ∷ true ∷ false ∷ false ∷ true ∷ []
 unfolding is_saved_by
 reversed = refl
 
+-- before the three it is the year before them that decides, and not the first of them
+before_them : map (λ earlier. is_saved_by (pos 220, pos 210) (pos 120, pos 110) (pos 20, pos 10) earlier (pos 9))
+    ((neg_ℤ (pos 90), neg_ℤ (pos 80)) ∷ (neg_ℤ (pos 80), neg_ℤ (pos 90)) ∷ []) ≡ false ∷ true ∷ []
+unfolding is_saved_by
+before_them = refl
+
 -- the order changes from year to year; saving that never ends, to the second and with hours left over; and none, whose start is its end
-other_orders : map (λ s. is_saved_by (pos 220, pos 210) (pos 110, pos 120) (pos 20, pos 10) s) (pos 19 ∷ pos 20 ∷ pos 110 ∷ pos 119 ∷ pos 120 ∷ pos 219 ∷ pos 220 ∷ [])
+other_orders : map (λ s. is_saved_by (pos 220, pos 210) (pos 110, pos 120) (pos 20, pos 10) (pos 0, pos 1) s) (pos 19 ∷ pos 20 ∷ pos 110 ∷ pos 119 ∷ pos 120 ∷ pos 219 ∷ pos 220 ∷ [])
     ≡ false ∷ true ∷ true ∷ true ∷ false ∷ false ∷ true ∷ []
 unfolding is_saved_by
 other_orders = refl
 
-for_ever : map (is_saved_by (pos 200, pos 300) (pos 100, pos 200) (pos 0, pos 100)) (pos 0 ∷ pos 99 ∷ pos 100 ∷ pos 199 ∷ pos 200 ∷ pos 299 ∷ [])
+for_ever : map (is_saved_by (pos 200, pos 300) (pos 100, pos 200) (pos 0, pos 100) (neg_ℤ (pos 100), pos 0)) (pos 0 ∷ pos 99 ∷ pos 100 ∷ pos 199 ∷ pos 200 ∷ pos 299 ∷ [])
     ≡ true ∷ true ∷ true ∷ true ∷ true ∷ true ∷ []
 unfolding is_saved_by
 for_ever = refl
 
-left_over : map (is_saved_by (pos 200, pos 305) (pos 100, pos 205) (pos 0, pos 105)) (pos 0 ∷ pos 99 ∷ pos 100 ∷ pos 105 ∷ pos 200 ∷ pos 205 ∷ [])
+left_over : map (is_saved_by (pos 200, pos 305) (pos 100, pos 205) (pos 0, pos 105) (neg_ℤ (pos 100), pos 5)) (pos 0 ∷ pos 99 ∷ pos 100 ∷ pos 105 ∷ pos 200 ∷ pos 205 ∷ [])
     ≡ true ∷ true ∷ true ∷ true ∷ true ∷ true ∷ []
 unfolding is_saved_by
 left_over = refl
 
-never : map (is_saved_by (pos 200, pos 200) (pos 100, pos 100) (pos 10, pos 10)) (pos 9 ∷ pos 10 ∷ pos 100 ∷ pos 150 ∷ pos 200 ∷ [])
+never : map (is_saved_by (pos 200, pos 200) (pos 100, pos 100) (pos 10, pos 10) (pos 0, pos 0)) (pos 9 ∷ pos 10 ∷ pos 100 ∷ pos 150 ∷ pos 200 ∷ [])
     ≡ false ∷ false ∷ false ∷ false ∷ false ∷ []
 unfolding is_saved_by
 never = refl
@@ -102,5 +110,77 @@ unfolding
     is_footer_saving is_saved_by moments_in second_in rule_day nth_weekday last_with weekday_of
     is_leap days_in_year days_in_month days_after_zero year_start days_through days_into_year day
 at_early =
+    let date : IsDate (pos 2024) 12 29 = a_date 12 29 (omega arith) (omega arith) (omega arith) (omega arith) in
+    rw (year_is (neg_ℤ (pos 18000)) (pos 1735513200) 12 29 date refl) refl
+
+-- the same offsets, from 50 hours into the 365th day to 72 hours into the last Sunday of December. The end of 2022 lies on 28 December, before
+-- its start, on 2 January 2023; the start of 2023 lies on 2 January 2024 at 02:00, before its end. So noon of 1 January 2024, before both, is
+-- daylight saving time, as it has been since 2 January 2023.
+abbrev over_edges : ℤ → Bool
+over_edges s = is_footer_saving (neg_ℤ (pos 18000)) (neg_ℤ (pos 14400)) (N 364, pos 180000) (M 12 5 0, pos 259200) s
+
+new_year : over_edges (pos 1704128400) ≡ true
+unfolding
+    is_footer_saving is_saved_by moments_in second_in rule_day nth_weekday last_with weekday_of
+    is_leap days_in_year days_in_month days_after_zero year_start days_through days_into_year day
+new_year =
+    let date : IsDate (pos 2024) 1 1 = a_date 1 1 (omega arith) (omega arith) (omega arith) (omega arith) in
+    rw (year_is (neg_ℤ (pos 18000)) (pos 1704128400) 1 1 date refl) refl
+
+-- what these hold: daylight saving time from the start on and standard time before it, and one kind for good
+abbrev est : KindValue
+est = record { utoff = neg_ℤ (pos 18000); is_dst = false; name = codes "EST" }
+
+abbrev edt : KindValue
+edt = record { utoff = neg_ℤ (pos 14400); is_dst = true; name = codes "EDT" }
+
+abbrev late : FooterZone
+late = yearly est edt (M 12 5 0, pos 540000) (M 3 2 0, pos 7200)
+
+held_before : held_at late (pos 1704538799) ≡ est
+unfolding held_at
+held_before = ap (λ b. cond b edt est) before_start
+
+held_from : held_at late (pos 1704538800) ≡ edt
+unfolding held_at
+held_from = ap (λ b. cond b edt est) at_start
+
+held_always : map (held_at (fixed est)) (pos 0 ∷ pos 1704538800 ∷ []) ≡ est ∷ est ∷ []
+unfolding held_at
+held_always = refl
+
+totals : map (λ footer. (standard_total footer, saving_total footer)) (late ∷ fixed est ∷ [])
+    ≡ (neg_ℤ (pos 18000), neg_ℤ (pos 14400)) ∷ (neg_ℤ (pos 18000), neg_ℤ (pos 18000)) ∷ []
+totals = refl
+
+-- the year before decides of 6 January, and the year after of 29 December from its start on; a second before that the year itself does
+abbrev early : FooterZone
+early = yearly est edt (M 1 1 0, neg_ℤ (pos 540000)) (M 4 1 0, pos 7200)
+
+one_year_always : is_of_one_year (fixed est) (pos 0) ≡ true
+unfolding is_of_one_year
+one_year_always = refl
+
+not_yet_its_own : is_of_one_year late (pos 1704538800) ≡ false
+unfolding
+    is_of_one_year moments_in second_in rule_day nth_weekday last_with weekday_of
+    is_leap days_in_year days_in_month days_after_zero year_start days_through days_into_year day
+not_yet_its_own =
+    let date : IsDate (pos 2024) 1 6 = a_date 1 6 (omega arith) (omega arith) (omega arith) (omega arith) in
+    rw (year_is (neg_ℤ (pos 18000)) (pos 1704538800) 1 6 date refl) refl
+
+still_its_own : is_of_one_year early (pos 1735513199) ≡ true
+unfolding
+    is_of_one_year moments_in second_in rule_day nth_weekday last_with weekday_of
+    is_leap days_in_year days_in_month days_after_zero year_start days_through days_into_year day
+still_its_own =
+    let date : IsDate (pos 2024) 12 29 = a_date 12 29 (omega arith) (omega arith) (omega arith) (omega arith) in
+    rw (year_is (neg_ℤ (pos 18000)) (pos 1735513199) 12 29 date refl) refl
+
+no_more_its_own : is_of_one_year early (pos 1735513200) ≡ false
+unfolding
+    is_of_one_year moments_in second_in rule_day nth_weekday last_with weekday_of
+    is_leap days_in_year days_in_month days_after_zero year_start days_through days_into_year day
+no_more_its_own =
     let date : IsDate (pos 2024) 12 29 = a_date 12 29 (omega arith) (omega arith) (omega arith) (omega arith) in
     rw (year_is (neg_ℤ (pos 18000)) (pos 1735513200) 12 29 date refl) refl

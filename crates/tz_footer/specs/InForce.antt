@@ -26,14 +26,14 @@ has_begun moments s = int_le moments.0 s || int_le moments.1 s
 abbrev pub is_saved : ℤ × ℤ → ℤ → Bool
 is_saved moments s = int_le moments.0 s && (int_lt s moments.1 || int_lt moments.1 moments.0)
 
--- of three years in a row, the latest first, the latest that has begun decides; before them it is daylight saving time where the
--- earliest ends it before it starts it
-unfoldable pub is_saved_by : ℤ × ℤ → ℤ × ℤ → ℤ × ℤ → ℤ → Bool
-is_saved_by after here before s =
+-- of three years in a row, the latest first, the latest that has begun decides; before them it is daylight saving time where the year
+-- before them, which is over, ends it before it starts it
+unfoldable pub is_saved_by : ℤ × ℤ → ℤ × ℤ → ℤ × ℤ → ℤ × ℤ → ℤ → Bool
+is_saved_by after here before earlier s =
     if has_begun after s then is_saved after s
     else (if has_begun here s then is_saved here s
     else (if has_begun before s then is_saved before s
-    else int_lt before.1 before.0))
+    else int_lt earlier.1 earlier.0))
 
 -- the year after and the year before, as far as years are counted
 abbrev pub year_after : ℤ → ℤ
@@ -42,12 +42,12 @@ year_after y = if int_lt y (pos 10000) then y +ℤ pos 1 else y
 abbrev pub year_before : ℤ → ℤ
 year_before y = if int_lt (neg_ℤ (pos 10000)) y then y -ℤ pos 1 else y
 
--- by the rule in the year at the standard offset, in the year after and in the year before
+-- by the rule in the year at the standard offset, in the year after and in the two years before
 unfoldable pub is_footer_saving : ℤ → ℤ → YearlyTime → YearlyTime → ℤ → Bool
 is_footer_saving standard saving start end s =
     let y = year_at standard s in
     let moments = moments_in standard saving start end in
-    is_saved_by (moments (year_after y)) (moments y) (moments (year_before y)) s
+    is_saved_by (moments (year_after y)) (moments y) (moments (year_before y)) (moments (year_before (year_before y))) s
 
 -- one kind for good, or standard and daylight saving time with a start and an end in each year
 pub data FooterZone : Type 0 where

@@ -75,7 +75,7 @@ impl<'a> Footer<'a> {
     ///
     /// Daylight saving time holds from each year's start, read at the standard offset, up to, without, that year's end, read at
     /// the offset of daylight saving time, or, where the end lies before the start, the next year's. Both may lie past their
-    /// year's edges, as that of `M12.5.0/150` does, so the years before and after are looked at too.
+    /// year's edges, as that of `M12.5.0/150` does, so the year after and the two before are looked at too.
     #[tactic(auto, unfolding(crate::specs::InForce::held_at))]
     pub fn held_at(&self, second: i64) -> Held<'a>
         requires { unsigned_abs second ≤ 800_000_000_000 }

@@ -40,10 +40,17 @@ impl Moments {
     }
 }
 
-/// Whether it is daylight saving time at a second, by three years in a row: the latest that has begun decides.
+/// Whether it is daylight saving time at a second, by three years in a row: the latest that has begun decides, and before them
+/// the year before them.
 #[tactic(auto, unfolding(crate::specs::InForce::is_saved_by))]
-pub(crate) fn is_saved_by(after: &Moments, here: &Moments, before: &Moments, second: i64) -> bool
-    ensures { result ≡ is_saved_by (moments_shown after.now) (moments_shown here.now) (moments_shown before.now) second }
+pub(crate) fn is_saved_by(
+    after: &Moments,
+    here: &Moments,
+    before: &Moments,
+    earlier: &Moments,
+    second: i64,
+) -> bool
+    ensures { result ≡ is_saved_by (moments_shown after.now) (moments_shown here.now) (moments_shown before.now) (moments_shown earlier.now) second }
 {
     if after.has_begun(second) {
         after.is_saved(second)
@@ -52,7 +59,7 @@ pub(crate) fn is_saved_by(after: &Moments, here: &Moments, before: &Moments, sec
     } else if before.has_begun(second) {
         before.is_saved(second)
     } else {
-        before.is_reversed()
+        earlier.is_reversed()
     }
 }
 

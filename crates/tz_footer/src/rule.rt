@@ -88,17 +88,21 @@ impl YearlyRule {
     }
 
     /// Whether daylight saving time is in force at a second, where it and standard time have these offsets. A start or an end
-    /// may lie past its year's edges, so the years before and after are looked at too.
+    /// may lie past its year's edges, so the year after and the two before are looked at too.
     #[tactic(auto, unfolding(crate::specs::InForce::is_footer_saving))]
     pub(crate) fn is_saving(&self, standard: UtcOffset, saving: UtcOffset, second: i64) -> bool
         requires { unsigned_abs second ≤ 800_000_000_000 }
         ensures { result ≡ is_footer_saving standard saving (time_shown self.now.start) (time_shown self.now.end) second }
     {
         let year = counted_year_at(standard, second);
-        let after = self.in_year(year_after(year), standard, saving);
+        let last = year_before(year);
+        let next = year_after(year);
+        let one_more = year_before(last);
+        let after = self.in_year(next, standard, saving);
         let here = self.in_year(year, standard, saving);
-        let before = self.in_year(year_before(year), standard, saving);
-        is_saved_by(&after, &here, &before, second)
+        let before = self.in_year(last, standard, saving);
+        let earlier = self.in_year(one_more, standard, saving);
+        is_saved_by(&after, &here, &before, &earlier, second)
     }
 }
 

@@ -124,9 +124,10 @@ not_from false h = refl
 within_begun : (start end s : ℤ) → has_begun (start, end) s ≡ true → is_saved (start, end) s ≡ is_within start end s
 within_begun start end s begun = grind (arith, ints, begun)
 
-by_here : (after here before : ℤ × ℤ) (s : ℤ) → has_begun after s ≡ false → has_begun here s ≡ true → is_saved_by after here before s ≡ is_saved here s
+by_here : (after here before earlier : ℤ × ℤ) (s : ℤ) → has_begun after s ≡ false → has_begun here s ≡ true
+    → is_saved_by after here before earlier s ≡ is_saved here s
 unfolding is_saved_by
-by_here after here before s later begun = rw (later, begun) refl
+by_here after here before earlier s later begun = rw (later, begun) refl
 
 -- the start and the end in a year
 abbrev pair : ℤ → ℤ → Date × ℤ → Date × ℤ → ℤ → ℤ × ℤ
@@ -141,7 +142,8 @@ own_year standard ahead s start end own =
     let y = year_at standard s in
     let moments = pair standard ahead start end in
     let both = and_parts (has_begun (moments y) s) (not (has_begun (moments (year_after y)) s)) own in
-    by_here (moments (year_after y)) (moments y) (moments (year_before y)) s (not_from (has_begun (moments (year_after y)) s) both.1) both.0
+    by_here (moments (year_after y)) (moments y) (moments (year_before y)) (moments (year_before (year_before y))) s
+        (not_from (has_begun (moments (year_after y)) s) both.1) both.0
     ∙ within_begun (second_in y standard start) (second_in y ahead end) s both.0
 
 totals_same : (standard saved : KindValue) (start end : Date × Option Time) (s : ℤ)
