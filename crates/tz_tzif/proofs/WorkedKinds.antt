@@ -1,12 +1,13 @@
 -- What holds in a zone of two changes, by hand.
-use Rattle.std.proofs.Common.{◌≡◌, refl, ℤ, pos, List, [], ◌∷◌, map, Some, None, true, false, codes}
+use Rattle.std.proofs.Common.{◌≡◌, refl, ℤ, pos, neg_ℤ, List, [], ◌∷◌, map, Some, None, true, false, codes}
+use Rattle.civil_base.specs.Instants.{seconds_of}
 use Rattle.tz_footer.specs.InForce.{fixed, held_at, yearly}
 use Rattle.tz_posix_core.specs.declared.date.Date.TheVariants.{J}
 use Rattle.zone_tzif_core.specs.Zones.{KindValue, ZoneValue}
 use Rattle.tz_tzif.specs.Faults.{are_small, IsNoFooter, IsTzifFault, SaysInFooter}
-use Rattle.tz_tzif.specs.InForce.{kind_in}
+use Rattle.tz_tzif.specs.InForce.{kind_in, told_total_at}
 use Rattle.tz_tzif.specs.Offsets.{offsets_of}
-use Rattle.tz_tzif.specs.declared.fault.TzifFault.TheVariants.{Times, Offset}
+use Rattle.tz_tzif.specs.declared.fault.TzifFault.TheVariants.{Times, Offset, Footer}
 
 abbrev kind : ℤ → KindValue
 kind o = record { utoff = o; is_dst = true; name = [] }
@@ -50,9 +51,10 @@ both_offsets = refl
 abbrev changed : ℤ → List (ℤ × ℤ) → ZoneValue
 changed first changes = record { first = kind first; rest = map (λ (change : ℤ × ℤ). (change.0, kind change.1)) changes; footer = codes "?" }
 
--- 25:59:59 is small, and a second more is not, before the first change and after one
-small_offsets : map are_small (changed (pos 93599) ((pos 1, pos 93599) ∷ []) ∷ changed (pos 93600) [] ∷ changed (pos 0) ((pos 1, pos 0) ∷ (pos 2, pos 93600) ∷ []) ∷ [])
-    ≡ true ∷ false ∷ false ∷ []
+-- 25:59:59 to either side is small, and a second more is not, before the first change and after one
+small_offsets : map are_small (changed (pos 93599) ((pos 1, neg_ℤ (pos 93599)) ∷ []) ∷ changed (pos 93600) [] ∷ changed (pos 0) ((pos 1, pos 0) ∷ (pos 2, pos 93600) ∷ [])
+    ∷ changed (neg_ℤ (pos 93600)) [] ∷ changed (pos 0) ((pos 1, neg_ℤ (pos 93600)) ∷ []) ∷ [])
+    ≡ true ∷ false ∷ false ∷ false ∷ false ∷ []
 small_offsets = refl
 
 -- times that don't rise come before an offset that is too far
@@ -62,9 +64,19 @@ first_cause = (refl, (refl, refl))
 no_second_cause : IsTzifFault (changed (pos 93600) ((pos 5, pos 0) ∷ (pos 5, pos 0) ∷ [])) Offset → ⊥
 no_second_cause fault = cc (fault.0)
 
+-- an offset that is too far is told before a footer
+no_footer_cause : IsTzifFault (changed (pos 93600) []) Footer → ⊥
+no_footer_cause fault = cc (fault.0.1)
+
 -- an empty footer is no fault, and only that says nothing
 empty_footer : IsNoFooter [] → ⊥
 empty_footer none = none.some refl
 
 some_footer : SaysInFooter (codes "?") None → ⊥
 some_footer says = cc (says)
+
+-- an instant in nanoseconds counts by its second, rounded down, before 1970 too
+worked_instants : map (told_total_at (record { first = kind (pos 1); rest = (neg_ℤ (pos 1), kind (pos 2)) ∷ []; footer = [] }) None)
+    (neg_ℤ (pos 1000000001) ∷ neg_ℤ (pos 1000000000) ∷ neg_ℤ (pos 1) ∷ []) ≡ pos 1 ∷ pos 2 ∷ pos 2 ∷ []
+unfolding kind_at kind_in seconds_of
+worked_instants = refl
