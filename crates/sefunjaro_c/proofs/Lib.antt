@@ -1,6 +1,8 @@
 mod AnySourceLemmas
 mod AskedLemmas
 mod FaultLemmas
+pub mod NumberRows
+pub mod RoomRows
 mod ShownLemmas
 mod TextLemmas
 mod TimeLemmas

@@ -1,20 +1,11 @@
--- Worked examples: the numbers of the causes that a source has no plain form, and faults as they are told. The numbers are those of the
--- header.
-use Rattle.std.proofs.Common.{◌≡◌, refl, [], ◌∷◌, map}
+-- Worked examples: faults of sources in any form as they are told. The numbers are those of the header.
+use Rattle.std.proofs.Common.{◌≡◌, refl}
 use Rattle.std.specs.Prelude.{Some, Err}
 use Rattle.zone_plain_lines.specs.declared.cause.PlainCause.TheVariants as cause
 use Rattle.zone_plain_base.specs.LineFaults.{at, bad_line}
 use Rattle.zone_plain_base.specs.LineFaults as refused
 use Rattle.zone_open.specs.declared.any_source.AnySourceFault.TheVariants as opening
-use Rattle.sefunjaro_c.specs.AnySources.{any_told, form_due, plain_number}
-
--- each cause has a number of its own, in the header's order
-plain_causes : map plain_number (
-    cause.NotText ∷ cause.Quotes ∷ cause.LineType ∷ cause.FieldCount ∷ cause.RulesetName ∷ cause.Year ∷ cause.YearOrder ∷ cause.Type ∷ cause.Month
-    ∷ cause.Day ∷ cause.Time ∷ cause.Saving ∷ cause.Format ∷ cause.Unsayable ∷ cause.Continuation ∷ cause.UnknownRuleset ∷ cause.DuplicateZone
-    ∷ cause.LinkIsZone ∷ cause.DuplicateLink ∷ cause.Target ∷ cause.Name ∷ []
-    ) ≡ 1 ∷ 2 ∷ 3 ∷ 4 ∷ 5 ∷ 6 ∷ 7 ∷ 8 ∷ 9 ∷ 10 ∷ 11 ∷ 12 ∷ 13 ∷ 14 ∷ 15 ∷ 16 ∷ 17 ∷ 18 ∷ 19 ∷ 20 ∷ 22 ∷ []
-plain_causes = refl
+use Rattle.sefunjaro_c.specs.AnySources.{any_told, form_due}
 
 -- the line of the source and its cause; no line is to blame for a form that is too long
 fifth_line_bad_month : form_due (Err (bad_line (at 5 cause.Month))) ≡ Some (record { status = 14; cause = 9; line = 5 })

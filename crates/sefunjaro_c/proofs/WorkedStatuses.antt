@@ -1,33 +1,16 @@
--- Worked examples: numbers of causes, faults as they are told, and what may be answered. The numbers are those of the header.
+-- Worked examples: faults as they are told, and what may be answered. The numbers are those of the header.
 use Rattle.std.proofs.Common.{◌≡◌, ℕ, suc, true, false, refl, [], ◌∷◌, map, arith}
 use Rattle.std.specs.Prelude.{None}
 use Rattle.zone_source.specs.Faults as source
 use Rattle.zone_source.specs.declared.error.BuildKind.TheVariants as join
 use Rattle.zone_spans.specs.declared.fault.SpanFault.TheVariants as span
 use Rattle.tz_zone.specs.declared.compile.ZoneFault.TheVariants as zone
-use Rattle.zone_values.specs.declared.fault.FaultKind.TheVariants as line
 use Rattle.zone_open.specs.declared.file.FileFault.TheVariants as file
 use Rattle.zone_open.specs.declared.file.PosixFault.TheVariants as posix
-use Rattle.sefunjaro_handles.specs.Statuses.{not_kept, IfRefused}
+use Rattle.sefunjaro_handles.specs.Statuses.{IfRefused}
 use Rattle.sefunjaro_c.specs.Answers.{Where}
 use Rattle.sefunjaro_c.specs.Files.{file_told, posix_told}
-use Rattle.sefunjaro_c.specs.Faults.{fault_told, join_number, kind_number, plain, schedule_number, told_or_memory, zone_told}
-
--- each cause has a number of its own, in the header's order
-line_causes : map kind_number (
-    line.FailedYearParse ∷ line.FailedMonthParse ∷ line.FailedWeekdayParse ∷ line.InvalidLineType ∷ line.TypeColumnContainedNonHyphen
-    ∷ line.CouldNotParseSaving ∷ line.InvalidDaySpec ∷ line.InvalidTimeSpecAndType ∷ line.NonWallClockInTimeSpec ∷ []
-    ) ≡ 1 ∷ 2 ∷ 3 ∷ 4 ∷ 5 ∷ 6 ∷ 7 ∷ 8 ∷ 9 ∷ []
-line_causes = refl
-
-join_causes : map join_number (join.SurpriseContinuationLine ∷ join.UnknownRuleset ∷ join.DuplicateLink ∷ join.DuplicateZone ∷ [])
-    ≡ 1 ∷ 2 ∷ 3 ∷ 4 ∷ []
-join_causes = refl
-
-schedule_causes : map schedule_number (
-    span.UnknownRuleset ∷ span.MissingUntil ∷ span.YearRange ∷ span.RuleYears ∷ span.DayRange ∷ span.NoStandardSpan ∷ []
-    ) ≡ 1 ∷ 2 ∷ 3 ∷ 4 ∷ 5 ∷ 6 ∷ []
-schedule_causes = refl
+use Rattle.sefunjaro_c.specs.Faults.{fault_told, plain, told_or_memory, zone_told}
 
 -- a line that isn't text, one that may not follow those before it, and want of memory
 third_line_no_text : fault_told (source.not_text 3) ≡ record { status = 4; cause = 0; line = 3 }
@@ -58,16 +41,13 @@ not_refused h = cc
 not_answered : Where false 0 (Unit {0}) (Unit {0}) → ⊥
 not_answered h = cc
 
--- a file that isn't read, by its cause, and a string; and what a zone of theirs doesn't keep
+-- a file that isn't read, by its cause, and a string
 unread_files : map file_told (file.Refused ∷ file.Footer ∷ file.NoMemory ∷ [])
     ≡ record { status = 12; cause = 1; line = 0 } ∷ record { status = 12; cause = 2; line = 0 } ∷ plain 2 ∷ []
 unread_files = refl
 
 unread_strings : map posix_told (posix.Refused ∷ posix.NoMemory ∷ []) ≡ plain 12 ∷ plain 2 ∷ []
 unread_strings = refl
-
-nothing_kept : not_kept ≡ 13
-nothing_kept = refl
 
 -- any refusal keeps what is to be kept, and an answer keeps nothing
 kept_by_refusal : (P : Type 0) (n : ℕ) → IfRefused (suc n) P → P

@@ -5,6 +5,7 @@ pub mod Changes
 pub mod Faults
 pub mod Files
 pub mod Names
+pub mod Numbers
 pub mod Opened
 pub mod Read
 pub mod Times
