@@ -149,9 +149,11 @@ held_always : map (held_at (fixed est)) (pos 0 ∷ pos 1704538800 ∷ []) ≡ es
 unfolding held_at
 held_always = refl
 
-totals : map (λ footer. (standard_total footer, saving_total footer)) (late ∷ fixed est ∷ [])
-    ≡ (neg_ℤ (pos 18000), neg_ℤ (pos 14400)) ∷ (neg_ℤ (pos 18000), neg_ℤ (pos 18000)) ∷ []
-totals = refl
+standard_totals : map standard_total (late ∷ fixed est ∷ []) ≡ neg_ℤ (pos 18000) ∷ neg_ℤ (pos 18000) ∷ []
+standard_totals = refl
+
+saving_totals : map saving_total (late ∷ fixed est ∷ []) ≡ neg_ℤ (pos 14400) ∷ neg_ℤ (pos 18000) ∷ []
+saving_totals = refl
 
 -- the year before decides of 6 January, and the year after of 29 December from its start on; a second before that the year itself does
 abbrev early : FooterZone

@@ -26,14 +26,17 @@ has_begun moments s = int_le moments.0 s || int_le moments.1 s
 abbrev pub is_saved : ℤ × ℤ → ℤ → Bool
 is_saved moments s = int_le moments.0 s && (int_lt s moments.1 || int_lt moments.1 moments.0)
 
--- of three years in a row, the latest first, the latest that has begun decides; before them it is daylight saving time where the year
--- before them, which is over, ends it before it starts it
+-- a year decides where it has begun; before that it is daylight saving time where the year before, which is over, ends it before it
+-- starts it
+abbrev pub is_saved_since : ℤ × ℤ → ℤ × ℤ → ℤ → Bool
+is_saved_since before earlier s = if has_begun before s then is_saved before s else int_lt earlier.1 earlier.0
+
+-- of three years in a row, the latest first, the latest that has begun decides, or the year before them
 unfoldable pub is_saved_by : ℤ × ℤ → ℤ × ℤ → ℤ × ℤ → ℤ × ℤ → ℤ → Bool
 is_saved_by after here before earlier s =
     if has_begun after s then is_saved after s
     else (if has_begun here s then is_saved here s
-    else (if has_begun before s then is_saved before s
-    else int_lt earlier.1 earlier.0))
+    else is_saved_since before earlier s)
 
 -- the year after and the year before, as far as years are counted
 abbrev pub year_after : ℤ → ℤ

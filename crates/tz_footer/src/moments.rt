@@ -1,7 +1,7 @@
 //! When daylight saving time starts and ends, in years in a row.
 ghost use Rattle.std.specs.Prelude.{◌≡◌, int_lt};
 ghost use Rattle.calendar.specs.Days.{IsCountedYear};
-ghost use Rattle.tz_footer.specs.InForce.{has_begun, is_saved, is_saved_by};
+ghost use Rattle.tz_footer.specs.InForce.{has_begun, is_saved};
 ghost use Rattle.tz_footer.specs.InForce.{year_after as next_of, year_before as last_of};
 ghost use Rattle.tz_footer.specs.Yearly.{moments_shown};
 
@@ -19,47 +19,24 @@ pub(crate) struct Moments {
 
 impl Moments {
     /// Whether the start or the end is at or before a second.
-    fn has_begun(&self, second: i64) -> bool
+    pub(crate) fn has_begun(&self, second: i64) -> bool
         ensures { result ≡ has_begun (moments_shown self.now) second }
     {
         self.start <= second || self.end <= second
     }
 
     /// Whether the start is at or before a second, and the end after it, or before the start.
-    fn is_saved(&self, second: i64) -> bool
+    pub(crate) fn is_saved(&self, second: i64) -> bool
         ensures { result ≡ is_saved (moments_shown self.now) second }
     {
         self.start <= second && (second < self.end || self.end < self.start)
     }
 
     /// Whether the year ends daylight saving time before it starts it.
-    fn is_reversed(&self) -> bool
+    pub(crate) fn is_reversed(&self) -> bool
         ensures { result ≡ int_lt (moments_shown self.now).1 (moments_shown self.now).0 }
     {
         self.end < self.start
-    }
-}
-
-/// Whether it is daylight saving time at a second, by three years in a row: the latest that has begun decides, and before them
-/// the year before them.
-#[tactic(auto, unfolding(crate::specs::InForce::is_saved_by))]
-pub(crate) fn is_saved_by(
-    after: &Moments,
-    here: &Moments,
-    before: &Moments,
-    earlier: &Moments,
-    second: i64,
-) -> bool
-    ensures { result ≡ is_saved_by (moments_shown after.now) (moments_shown here.now) (moments_shown before.now) (moments_shown earlier.now) second }
-{
-    if after.has_begun(second) {
-        after.is_saved(second)
-    } else if here.has_begun(second) {
-        here.is_saved(second)
-    } else if before.has_begun(second) {
-        before.is_saved(second)
-    } else {
-        earlier.is_reversed()
     }
 }
 

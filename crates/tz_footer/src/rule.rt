@@ -1,12 +1,12 @@
 //! Daylight saving time by a footer's rule: whether it is in force at a second.
 ghost use Rattle.std.specs.Prelude.{◌≡◌, ◌≤◌, IsTrue, unsigned_abs, pos, ◌+ℤ◌, ◌-ℤ◌, ◌*ℤ◌};
 ghost use Rattle.calendar.specs.Days.{IsCountedYear};
-ghost use Rattle.tz_footer.specs.InForce.{is_footer_saving, moments_in, second_in};
+ghost use Rattle.tz_footer.specs.InForce.{is_footer_saving, is_saved_since, moments_in, second_in, year_before};
 ghost use Rattle.tz_footer.specs.Ranges.{is_moment, is_rule};
 ghost use Rattle.tz_footer.specs.Standing.{moment_of};
 ghost use Rattle.tz_posix_core.specs.Ranges.{is_rule_date};
 
-use crate::moments::{Moments, is_saved_by, year_after, year_before};
+use crate::moments::{Moments, year_after, year_before};
 use crate::values::FooterRule;
 use civil_base::UtcOffset;
 use tz_posix_core::parts::counted_year_at;
@@ -95,14 +95,31 @@ impl YearlyRule {
         ensures { result ≡ is_footer_saving standard saving (time_shown self.now.start) (time_shown self.now.end) second }
     {
         let year = counted_year_at(standard, second);
-        let last = year_before(year);
-        let next = year_after(year);
-        let one_more = year_before(last);
-        let after = self.in_year(next, standard, saving);
+        let after = self.in_year(year_after(year), standard, saving);
+        if after.has_begun(second) {
+            return after.is_saved(second);
+        }
         let here = self.in_year(year, standard, saving);
-        let before = self.in_year(last, standard, saving);
-        let earlier = self.in_year(one_more, standard, saving);
-        is_saved_by(&after, &here, &before, &earlier, second)
+        if here.has_begun(second) {
+            return here.is_saved(second);
+        }
+        self.is_saved_since(year_before(year), standard, saving, second)
+    }
+
+    /// Whether it is in force at a second before the year after a year has begun.
+    fn is_saved_since(&self, year: i32, standard: UtcOffset, saving: UtcOffset, second: i64) -> bool
+        requires { IsCountedYear year }
+        ensures { result ≡ is_saved_since
+            (moments_in standard saving (time_shown self.now.start) (time_shown self.now.end) year)
+            (moments_in standard saving (time_shown self.now.start) (time_shown self.now.end) (year_before year)) second }
+    {
+        let before = self.in_year(year, standard, saving);
+        if before.has_begun(second) {
+            before.is_saved(second)
+        } else {
+            self.in_year(year_before(year), standard, saving)
+                .is_reversed()
+        }
     }
 }
 
