@@ -1,14 +1,26 @@
 -- Words and years at worked rows.
-use Rattle.std.proofs.Common.{◌≡◌, ℕ, [], ◌∷◌, map, Some, None, Ok, Err, refl, pos, negsuc}
+use Rattle.std.proofs.Common.{◌≡◌, ℕ, [], ◌∷◌, map, Some, None, Ok, Err, refl, pos, negsuc, length}
 use Rattle.std.specs.Prelude.{codes}
 use Rattle.text_parts.specs.Numbers.{signed_in}
 use Rattle.zone_values.specs.declared.month.Month.TheVariants.{January, February, March, April, May, June, July, August, September, October, November, December}
 use Rattle.zone_values.specs.declared.weekday.Weekday.TheVariants.{Sunday, Monday, Tuesday, Wednesday, Thursday, Friday, Saturday}
 use Rattle.zone_values.specs.declared.year.Year.TheVariants.{Minimum, Maximum, Number}
 use Rattle.zone_plain_lines.specs.Columns.{numbered_year, year_of, to_of, years_of}
+use Rattle.zone_plain_lines.specs.Words as words
 use Rattle.zone_plain_lines.specs.Words.{meant, line_word, month_word, month_of, weekday_of, last_weekday_of, from_word, to_word}
 use Rattle.zone_plain_lines.specs.declared.cause.PlainCause.TheVariants as cause
 use Rattle.zone_plain_lines.specs.declared.words.LineWord.TheVariants as word
+
+-- how many letters each word has, so that none is spelled longer
+month_lengths : map (λ word. length word.0) words.months ≡ 7 ∷ 8 ∷ 5 ∷ 5 ∷ 3 ∷ 4 ∷ 4 ∷ 6 ∷ 9 ∷ 7 ∷ 8 ∷ 8 ∷ []
+month_lengths = refl
+
+weekday_lengths : map (λ word. length word.0) words.weekdays ≡ 6 ∷ 6 ∷ 7 ∷ 9 ∷ 8 ∷ 6 ∷ 8 ∷ []
+weekday_lengths = refl
+
+other_lengths : (map (λ word. length word.0) words.line_words ≡ 4 ∷ 4 ∷ 4 ∷ []) × (map (λ word. length word.0) words.from_words ≡ 7 ∷ 7 ∷ [])
+    × (map (λ word. length word.0) words.to_words ≡ 7 ∷ 7 ∷ 4 ∷ [])
+other_lengths = (refl, refl, refl)
 
 first_words : map line_word (codes "R" ∷ codes "ruLE" ∷ codes "z" ∷ codes "Link" ∷ codes "L" ∷ codes "Rule" ∷ codes "ZONE" ∷ codes "lin" ∷ codes "Leap" ∷ codes "Rules" ∷ codes "" ∷ codes "1:00" ∷ [])
     ≡ Ok word.Rule ∷ Ok word.Rule ∷ Ok word.Zone ∷ Ok word.Link ∷ Ok word.Link ∷ Ok word.Rule ∷ Ok word.Zone ∷ Ok word.Link ∷ Err cause.LineType ∷ Err cause.LineType ∷ Err cause.LineType ∷ Err cause.LineType ∷ []
