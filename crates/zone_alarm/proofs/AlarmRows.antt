@@ -66,13 +66,13 @@ refused set = refl
 
 -- START, TIME and DAYS in this order, and no word fewer or more
 module _ (date time : List ℕ) where
-  in_order : form (date ∷ time ∷ codes "3" ∷ []) ≡ option_map (λ start. asks start 3) (local_time_in (date ++ codes " " ++ time ++ codes ".000000000"))
+  in_order : form (date ∷ time ∷ codes "3" ∷ []) ≡ option_map (λ second. asks second 3) (local_time_in (date ++ codes " " ++ time ++ codes ".000000000"))
   unfolding digits
   in_order = by_start (local_time_in (date ++ codes " " ++ time ++ codes ".000000000"))
     where
-      by_start : (start : Option ℤ) → asks_both start (Some 3) ≡ option_map (λ s. asks s 3) start
+      by_start : (found : Option ℤ) → asks_both found (Some 3) ≡ option_map (λ second. asks second 3) found
       by_start None = refl
-      by_start (Some start) = refl
+      by_start (Some second) = refl
 
   other_counts : map form ([] ∷ (date ∷ []) ∷ (date ∷ time ∷ []) ∷ (date ∷ time ∷ codes "3" ∷ codes "3" ∷ []) ∷ []) ≡ None ∷ None ∷ None ∷ None ∷ []
   other_counts = refl
