@@ -1,13 +1,19 @@
 -- Worked rows: the forms of last years, and the first cause.
-use Rattle.std.proofs.Common.{◌≡◌, ℕ, List, [], ◌∷◌, map, true, false, Some, None, refl, ℤ, pos, neg_ℤ, ◌*ℤ◌}
+use Rattle.std.proofs.Common.{◌≡◌, ℕ, List, [], ◌∷◌, ◌++◌, map, true, false, Some, None, refl, ℤ, pos, neg_ℤ, ◌*ℤ◌}
 use Rattle.std.specs.Prelude.{codes}
+use Rattle.calendar.specs.Dates.{last_with}
 use Rattle.calendar.specs.Days.{day, days_after_zero, days_before_zero, days_in_month, days_in_year, days_into_year, days_through, is_leap, year_start}
+use Rattle.calendar.specs.Weekdays.{weekday_of}
+use Rattle.tz_posix_core.specs.Days.{nth_weekday, rule_day}
+use Rattle.tz_posix_core.specs.InForce.{instant_in}
+use Rattle.tz_posix_core.specs.declared.date.Date.TheVariants.{M}
 use Rattle.zone_spans.specs.Entries.{Entry}
 use Rattle.zone_spans.specs.declared.span.FixedTimespan.{FixedTimespan}
 use Rattle.tz_zone.specs.declared.set.FixedTimespanSet.{FixedTimespanSet}
 use Rattle.zone_tail_core.specs.Candidates.{year_1800}
 use Rattle.zone_tail_core.specs.Found.{reaches}
 use Rattle.zone_tail_core.specs.LastYear.{steady, yearly, other, form, standard_of, year_begin, year_end}
+use Rattle.zone_tail_core.specs.Settled.{has_begun_in}
 use Rattle.zone_tail_core.specs.Tails.{end_of_last_year, is_ending_early, is_outlasting, tail_fault}
 use Rattle.zone_tail_core.specs.declared.candidate.Candidate.TheVariants.{Fixed, Ruled}
 use Rattle.zone_tail_core.specs.declared.outcome.TailFault.TheVariants.{Shape, OffsetRange, Name}
@@ -114,3 +120,10 @@ at_the_end : map form (year (saving spring ∷ standard autumn ∷ standard (pos
     ≡ yearly (saving spring) (standard autumn) ∷ other ∷ []
 unfolding form standard_of
 at_the_end = refl
+
+-- a year's rule has begun with the earlier of its start and its end: in Madrid on 2099-03-29 at 01:00 UTC, in Sydney on 2099-04-04 at 16:00 UTC
+begun_in_2099 : map (has_begun_in (pos 2099) (pos 3600) (pos 7200) (M 3 5 0, 7200) (M 10 5 0, 10800)) (pos 4078429199 ∷ pos 4078429200 ∷ [])
+    ++ map (has_begun_in (pos 2099) (pos 36000) (pos 39600) (M 10 1 0, 7200) (M 4 1 0, 10800)) (pos 4079001599 ∷ pos 4079001600 ∷ [])
+    ≡ false ∷ true ∷ false ∷ true ∷ []
+unfolding instant_in rule_day nth_weekday last_with weekday_of is_leap days_in_year days_in_month days_after_zero year_start days_through days_into_year day
+begun_in_2099 = refl
