@@ -1,10 +1,10 @@
 -- What the callers answer, at worked rows.
-use Rattle.std.proofs.Common.{◌≡◌, [], ◌∷◌, map, Some, None, refl, pos, negsuc}
+use Rattle.std.proofs.Common.{◌≡◌, ℕ, List, [], ◌∷◌, map, Some, None, refl, pos, negsuc}
 use Rattle.civil_base.specs.DateTimes.{instant}
 use Rattle.sefunjaro.specs.declared.error.Error.TheVariants as error
 use Rattle.zone_alarm.specs.declared.ring.AlarmFault.TheVariants as alarm
 use Rattle.zone_uses.specs.Answers.{first_of, next_after}
-use Rattle.zone_uses.specs.Causes.{IsAlarmCause}
+use Rattle.zone_uses.specs.Causes.{IsAlarmCause, IsFileCause, IsOpenCause}
 use Rattle.zone_uses.specs.MovedShown.{total_shown}
 use Rattle.zone_uses.specs.Moves.{total_around}
 use Rattle.zone_uses.specs.declared.moved.Moved.{Moved}
@@ -32,3 +32,12 @@ past_the_years = refl
 
 in_the_years : IsAlarmCause (pos 2932896) 1 (error.Alarm alarm.Range) → ⊥
 in_the_years cause = cc (cause)
+
+-- and there want of memory is not told in place of that
+no_want_of_memory : (IsAlarmCause (pos 2932896) 2 error.NoMemory → ⊥) × (IsAlarmCause (pos 2932896) 2 (error.Alarm alarm.NoMemory) → ⊥)
+no_want_of_memory = (λ cause. cc (cause), λ cause. cc (cause))
+
+-- no call tells a cause of another call
+other_calls : (source name bytes : List ℕ)
+    → (IsOpenCause source name (error.Alarm alarm.Range) → ⊥) × (IsFileCause bytes error.TooLong → ⊥) × (IsAlarmCause (pos 0) 1 error.TooLong → ⊥)
+other_calls source name bytes = (λ cause. cause, λ cause. cause, λ cause. cause)
