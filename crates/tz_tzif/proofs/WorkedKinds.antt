@@ -5,7 +5,7 @@ use Rattle.tz_footer.specs.InForce.{fixed, held_at, yearly}
 use Rattle.tz_posix_core.specs.declared.date.Date.TheVariants.{J}
 use Rattle.zone_tzif_core.specs.Zones.{KindValue, ZoneValue}
 use Rattle.tz_tzif.specs.Faults.{are_small, IsNoFooter, IsTzifFault, SaysInFooter}
-use Rattle.tz_tzif.specs.InForce.{kind_in, told_total_at}
+use Rattle.tz_tzif.specs.InForce.{kind_at, kind_in, told_total_at}
 use Rattle.tz_tzif.specs.Offsets.{offsets_of}
 use Rattle.tz_tzif.specs.declared.fault.TzifFault.TheVariants.{Times, Offset, Footer}
 
