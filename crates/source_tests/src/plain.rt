@@ -50,6 +50,20 @@ Z \"A#\" 1 - X~1 Unsayable
 Z A 0 - X 2020 F 29;0 - X;R a 2019 2020 - F 29 0 0 -~3 Day
 ";
 
+/// How many links a chain has that is led in moments where each name on a way is noted, and in minutes where each way is walked anew.
+const LINKS: u32 = 100_000;
+
+/// A zone, and links in a chain behind it, each to the new name of the link before.
+fn chain(rt: &impl Abort, alloc: Global) -> Vec<u8> {
+    let mut text = bytes_of(rt, alloc, Some("Z n0 0 - X;"));
+    for number in 0..LINKS {
+        let next = number + 1;
+        let line = format!(in alloc; "L n{number} n{next}\n").expect(rt, "memory");
+        text.extend_from_slice(line.as_bytes()).expect(rt, "memory");
+    }
+    text
+}
+
 /// What is written of a source, or the number of the line that is refused, and the cause.
 fn told(rt: &impl Abort, alloc: Global, parser: &LineParser, source: &[u8]) -> Vec<u8> {
     assert!(rt; source.len() <= LIMIT);
@@ -80,4 +94,12 @@ fn expect_told(rt: &impl Abort, alloc: Global, table: &str) {
 fn sources_are_written_or_refused(rt: HostRuntime) {
     expect_told(&rt, rt.alloc(), SOURCES);
     expect_told(&rt, rt.alloc(), REFUSED);
+}
+
+#[test]
+fn a_long_chain_is_led(rt: HostRuntime) {
+    let alloc = rt.alloc();
+    let parser = parser(&rt, alloc);
+    let written = told(&rt, alloc, &parser, &chain(&rt, alloc));
+    assert!(rt; written.ends_with(b"\nLink n0 n100000\n"));
 }
