@@ -1,5 +1,5 @@
 -- Which fault of a request comes first, its number and its line, at worked rows.
-use Rattle.std.proofs.Common.{◌≡◌, ℕ, List, [], ◌∷◌, ◌++◌, map, Option, Some, None, option_map, refl, ap, pos, negsuc, true}
+use Rattle.std.proofs.Common.{◌≡◌, ℕ, List, [], ◌∷◌, ◌++◌, length, map, Option, Some, None, option_map, refl, ap, pos, negsuc, true, arith, length-append}
 use Rattle.std.specs.Fmt.{digits}
 use Rattle.std.specs.Prelude.{codes, unwrap_or}
 use Rattle.std.specs.Str.{is_utf8, chars}
@@ -10,8 +10,11 @@ use Rattle.zone_source.specs.Lines.{lines_of}
 use Rattle.zone_file_answers.specs.Due.{IsRefused, shown_at}
 use Rattle.zone_file_answers.specs.Faults.{Fault, bad_request, fault_line, file, first_refused, has_dates, not_text, range, request_refusal}
 use Rattle.zone_file_answers.specs.Requests.{at, local, request_of}
-use Rattle.zone_file_answers.specs.Told.{fault_told, TellsOf}
+use Rattle.zone_file_answers.specs.Told.{fault_told, FaultOfFile, TellsOf}
 use Rattle.zone_file_answers.specs.declared.fault.FileFault.TheVariants as of_code
+use Rattle.zone_file_answers.specs.declared.fault.FileFault.TheVariants.{NoMemory}
+use Rattle.zone_tzif_core.specs.Denotes.{Says, zone_file, old_file}
+use Rattle.zone_tzif_core.specs.Zones.{ZoneValue}
 
 -- of two faults the first is told, with the number of its line
 first_of_two : first_refused (λ t. pos 0) 1 (codes "at 0" ∷ codes "what" ∷ (255 ∷ []) ∷ []) ≡ Some (bad_request 2)
@@ -67,3 +70,22 @@ told = refl
 
 tells : TellsOf (Some (not_text 1)) (of_code.NotText 1) × TellsOf (Some (bad_request 2)) (of_code.Request 2) × TellsOf (Some (range 3)) (of_code.Range 3)
 tells = (refl, refl, refl)
+
+-- no bytes are no file
+no_bytes : (value : ZoneValue) → ¬ (Says [] value)
+no_bytes value (zone_file is) =
+    absurd (omega (
+      arith,
+      ap length is.whole,
+      is.first_header.long,
+      length-append (is.head ++ is.skipped ++ is.second_head ++ is.block ++ 10 ∷ value.footer) (10 ∷ []),
+      length-append (is.head ++ is.skipped ++ is.second_head ++ is.block) (10 ∷ value.footer),
+      length-append (is.head ++ is.skipped ++ is.second_head) is.block,
+      length-append (is.head ++ is.skipped) is.second_head,
+      length-append is.head is.skipped,
+    ))
+no_bytes value (old_file is) = absurd (omega (arith, ap length is.whole, is.header.long, length-append is.head is.block))
+
+-- so whatever is asked of them, no memory is wanting
+no_want : (requests : List ℕ) → ¬ (FaultOfFile [] requests NoMemory)
+no_want requests told = told (λ total is. no_bytes is.value is.says)

@@ -2,12 +2,15 @@
 use Rattle.std.proofs.Common.{◌≡◌, ℕ, ℤ, List, [], ◌∷◌, ◌++◌, map, Option, Some, None, Result, Ok, Err, IfOk, IfErr, OnOk, MatchResult, IfSome, true, is_some, inr, refl, sym, ◌∙◌, subst}
 use Rattle.std.specs.Prelude.{IsSomeAnd}
 use Rattle.tz_footer.specs.InForce.{FooterZone}
-use Rattle.tz_tzif.specs.Faults.{IsAcceptedFile, IsTzifFault}
+use Rattle.tz_footer.specs.Standing.{stands_for}
+use Rattle.tz_tzif.specs.Faults.{HasOffsets, IsAcceptedFile, IsNoFooter, IsTzifFault, SaysInFooter}
+use Rattle.tz_tzif.specs.InForce.{told_total_at}
 use Rattle.tz_tzif.specs.declared.fault.TzifFault.{TzifFault}
 use Rattle.tz_tzif.specs.declared.fault.TzifFault.TheVariants as tzif
 use Rattle.zone_outside.specs.Seen.{OutputSeen}
 use Rattle.zone_source.specs.Lines.{lines_of}
 use Rattle.zone_tzif_core.specs.Denotes.{Says}
+use Rattle.zone_tzif_core.specs.ZoneFiles.{HasFooter}
 use Rattle.zone_tzif_core.specs.Zones.{ZoneValue}
 use Rattle.zone_file_answers.specs.Due.{answer_line, IsFaultLine}
 use Rattle.zone_file_answers.specs.Faults.{Fault, fault_line, first_refused}
@@ -36,6 +39,30 @@ no_file file value fault one says is other total found =
     refused_value value found.footer fault is other
     (subst (λ v. IsAcceptedFile v found.footer) (one found.value value found.says says) found.accepted)
 
+-- a footer that can't be read leaves no zone
+pub no_footer : (file text : List ℕ) → ((x y : ZoneValue) → Says file x → Says file y → x ≡ y) → HasFooter (Says file) text
+    → ((zone : ZoneValue) → Says file zone → HasOffsets zone) → IsNoFooter text → IsNoFile file
+no_footer file text one ends offsets unread =
+    no_file file ends.zone tzif.Footer one ends.told (offsets ends.zone ends.told, subst IsNoFooter (sym ends.ends) unread) (λ e. absurd cc)
+
+-- and one that can leaves one
+pub has_file : (file text : List ℕ) (footer : Option FooterZone) → HasFooter (Says file) text → ((zone : ZoneValue) → Says file zone → HasOffsets zone)
+    → SaysInFooter text footer → ¬ (IsNoFile file)
+has_file file text footer ends offsets says none =
+    let has = offsets ends.zone ends.told in
+    none (told_total_at ends.zone footer)
+    (record { value = ends.zone; footer = footer; says = ends.told; accepted = record { times = has.0; offsets = has.1; says = subst (λ l. SaysInFooter l footer) (sym ends.ends) says }; is = refl })
+
+-- as does a value that is not refused
+pub not_refused : (file : List ℕ) (value : ZoneValue) → Says file value → HasOffsets value → ¬ (IsNoFooter value.footer) → ¬ (IsNoFile file)
+not_refused file value says has readable none =
+    readable (record {
+      some = λ empty. none (told_total_at value None)
+          (record { value = value; footer = None; says = says; accepted = record { times = has.0; offsets = has.1; says = empty }; is = refl });
+      none = λ read is. none (told_total_at value (Some (stands_for read)))
+          (record { value = value; footer = Some (stands_for read); says = says; accepted = record { times = has.0; offsets = has.1; says = record { value = read; is = is; stands = refl } }; is = refl });
+    })
+
 -- what is found over a file that is a zone
 pub found_over : (file requests : List ℕ) (total : ℤ → ℤ) → IsFile file total → (result : Result (List (List ℕ)) FileFault)
     → OnOk result (first_refused total 1 (lines_of requests) ≡ None) → IfOk result (λ lines. lines ≡ map (answer_line total) (lines_of requests))
@@ -45,7 +72,7 @@ found_over file requests total is (Err code.File) none are tells = absurd tells
 found_over file requests total is (Err (code.NotText n)) none are tells = record { total = total; is = is; first = tells }
 found_over file requests total is (Err (code.Request n)) none are tells = record { total = total; is = is; first = tells }
 found_over file requests total is (Err (code.Range n)) none are tells = record { total = total; is = is; first = tells }
-found_over file requests total is (Err code.NoMemory) none are tells = tt
+found_over file requests total is (Err code.NoMemory) none are tells = λ unread. unread total is
 
 -- the line of a fault that is told is due
 line_due : (file requests : List ℕ) (told : Option Fault) (bytes : List ℕ) → IsToldFault file requests told

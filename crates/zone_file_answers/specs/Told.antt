@@ -3,7 +3,7 @@ use Rattle.std.specs.Prelude.{◌≡◌, ℕ, ℤ, List, map, Option, Some, None
 use Rattle.zone_source.specs.Lines.{lines_of}
 use Rattle.zone_file_answers.specs.Due.{answer_line, IsFault}
 use Rattle.zone_file_answers.specs.Faults.{Fault, file, not_text, bad_request, range, first_refused}
-use Rattle.zone_file_answers.specs.Files.{IsFile}
+use Rattle.zone_file_answers.specs.Files.{IsFile, IsNoFile}
 use Rattle.zone_file_answers.specs.declared.fault.FileFault.{FileFault}
 use Rattle.zone_file_answers.specs.declared.fault.FileFault.TheVariants as of_code
 
@@ -29,9 +29,9 @@ pub record AnswersFile (source requests : List ℕ) (lines : List (List ℕ)) : 
   pub none : first_refused total 1 (lines_of requests) ≡ None
   pub are : lines ≡ map (answer_line total) (lines_of requests)
 
--- what is told is the first fault
+-- what is told is the first fault; none is told, for want of memory, only of a file that is a zone
 abbrev pub IsToldFault : List ℕ → List ℕ → Option Fault → Type 0
-IsToldFault source requests None = Unit {0}
+IsToldFault source requests None = ¬ (IsNoFile source)
 IsToldFault source requests (Some fault) = IsFault source requests fault
 
 abbrev pub FaultOfFile : List ℕ → List ℕ → FileFault → Type 0

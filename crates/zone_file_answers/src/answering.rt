@@ -1,5 +1,5 @@
 //! The answers to the requests over a file.
-ghost use Rattle.std.specs.Prelude.{◌≡◌, ◌≤◌, None, IfErr, IfOk, OnOk, MatchResult, length, map};
+ghost use Rattle.std.specs.Prelude.{◌≡◌, ◌≤◌, ℕ, List, None, IfErr, IfOk, OnOk, MatchResult, length, map};
 ghost use Rattle.tz_tzif.specs.InForce.{told_total_at};
 ghost use Rattle.tz_tzif.specs.Zones.{value_of, says_of};
 ghost use Rattle.zone_source.specs.Lines.{lines_of};
@@ -11,16 +11,17 @@ use crate::fault::FileFault;
 use crate::request::Request;
 use crate::showing::show;
 use std::alloc::Global;
-use tz_tzif::{TzifFault, TzifTz};
+use tz_tzif::{TzifFault, TzifTz, read_footer};
 use zone_source::{LIMIT, LineList, Lines, text_of};
-use zone_tzif_core::{ReadFault, one_saying, read_file};
+use zone_tzif_core::{ReadFault, one_saying, read_file, said_bounds, said_footer};
 
 /// Answers each request over the zone of a file, in order. Lines end at an LF, a CR before it is dropped, and they are
 /// numbered from 1.
 ///
 /// # Errors
 ///
-/// The first fault: that of the file, else that of the requests, with its line; or want of memory.
+/// The first fault: that of the file, else that of the requests, with its line; or want of memory, which comes only where the file
+/// has no fault.
 pub fn answers(alloc: Global, file: &[u8], requests: &[u8]) -> Result<LineList, FileFault>
     requires { length requests.now ≤ LIMIT }
     ensures { MatchResult result (AnswersFile file.now requests.now) (FaultOfFile file.now requests.now) }
@@ -29,7 +30,7 @@ pub fn answers(alloc: Global, file: &[u8], requests: &[u8]) -> Result<LineList, 
     let zone = match read_file(alloc, file) {
         Ok(zone) => zone,
         Err(ReadFault::Refused) => return Err(FileFault::File),
-        Err(ReadFault::NoMemory) => return Err(FileFault::NoMemory),
+        Err(ReadFault::NoMemory) => return Err(wanting(file)),
     };
     match TzifTz::new(alloc, "", &zone) {
         Ok(tz) => answer_all(alloc, &tz, requests),
@@ -37,6 +38,21 @@ pub fn answers(alloc: Global, file: &[u8], requests: &[u8]) -> Result<LineList, 
         Err(TzifFault::Times) => Err(FileFault::File),
         Err(TzifFault::Offset) => Err(FileFault::File),
         Err(TzifFault::Footer) => Err(FileFault::File),
+    }
+}
+
+/// Why a file is not looked up, where there was no memory to read it: that it is refused, or else this.
+fn wanting(file: &[u8]) -> FileFault
+    ensures { (requests : List ℕ) → FaultOfFile file.now requests result }
+{
+    one_saying();
+    said_bounds();
+    let Some(footer) = said_footer(file) else {
+        return FileFault::File;
+    };
+    match read_footer(footer) {
+        Some(_) => FileFault::NoMemory,
+        None => FileFault::File,
     }
 }
 
