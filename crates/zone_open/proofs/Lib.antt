@@ -4,6 +4,7 @@ mod CaseLemmas
 mod ChangeLemmas
 pub mod ChangeRows
 mod FileLemmas
+pub mod FileRows
 mod GapLemmas
 pub mod GapRows
 pub mod PosixNameRows

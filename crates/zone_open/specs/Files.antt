@@ -39,17 +39,23 @@ pub record HasNoFooter (bytes : List ℕ) : Type 0 where
   pub told : Says bytes value
   pub footer : IsNoFooter value.footer
 
--- why a file gives no zone; want of memory may come in place of any
+-- the file says a value whose footer, if it has one, can be read
+pub record HasZone (bytes : List ℕ) : Type 0 where
+  pub value : ZoneValue
+  pub told : Says bytes value
+  pub footer : ¬ (IsNoFooter value.footer)
+
+-- why a file gives no zone; memory is wanting only where there is one
 abbrev pub IsFileFault : List ℕ → FileFault → Type 0
 IsFileFault bytes Refused = (value : ZoneValue) → ¬ (Says bytes value)
 IsFileFault bytes Footer = HasNoFooter bytes
-IsFileFault bytes NoMemory = Unit {0}
+IsFileFault bytes NoMemory = HasZone bytes
 
 -- the same of a value
 abbrev pub IsValueFault : ZoneValue → FileFault → Type 0
 IsValueFault value Refused = ⊥
 IsValueFault value Footer = IsNoFooter value.footer
-IsValueFault value NoMemory = Unit {0}
+IsValueFault value NoMemory = ¬ (IsNoFooter value.footer)
 
 -- it has no change, the standard time of a POSIX string, and the string for its footer
 pub record IsPosixOf (text : List ℕ) (zone : FileZone) : Type 0 where

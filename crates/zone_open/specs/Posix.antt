@@ -12,10 +12,10 @@ use Rattle.zone_open.specs.declared.file.PosixFault.TheVariants.{Refused, NoMemo
 abbrev pub standard_kind : FooterValue → KindValue
 standard_kind value = kind_of value.standard.name (east_of value.standard.offset) false
 
--- the text is no string in the ranges of its parts; want of memory may come in its place
+-- the text is no string in the ranges of its parts; memory is wanting only where it is one
 abbrev pub IsPosixFault : List ℕ → PosixFault → Type 0
 IsPosixFault text Refused = (value : FooterValue) → ¬ (IsFooterOf text value)
-IsPosixFault text NoMemory = Unit {0}
+IsPosixFault text NoMemory = (value : FooterValue) × IsFooterOf text value
 
 -- this is the standard time of a string
 pub record IsStandardOf (text : List ℕ) (kind : KindValue) : Type 0 where

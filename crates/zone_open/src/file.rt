@@ -3,6 +3,7 @@ ghost use Rattle.std.specs.Prelude.{◌≡◌, ◌<◌, MatchResult, IfErr, IfOk
 ghost use Rattle.zone_tzif_core.specs.Shown.{kind_shown};
 ghost use Rattle.zone_tzif_core.specs.ZoneFiles.{zone_seen};
 ghost use Rattle.zone_tzif_core.specs.Zones.{is_small};
+ghost use Rattle.zone_open.specs.Files.{IsFileFault};
 ghost use Rattle.zone_open.specs.Posix.{IsPosixFault, IsStandardOf};
 ghost use Rattle.zone_open.specs.declared.file.PosixFault.TheVariants.{NoMemory as NoPosixMemory};
 
@@ -13,8 +14,8 @@ use civil_base::{OffsetDateTime, PlainDateTime, UtcOffset};
 use std::alloc::Global;
 use tz_footer::{Footer, footer_text, one_footer};
 use tz_lookup::OffsetDateTimeExt;
-use tz_tzif::{TzifFault, TzifOwner, TzifTz};
-use zone_tzif_core::{Kind, ReadFault, Record, ZoneFile, read_file};
+use tz_tzif::{TzifFault, TzifOwner, TzifTz, read_footer};
+use zone_tzif_core::{Kind, ReadFault, Record, ZoneFile, read_file, said_bounds, said_footer};
 
 /// A zone of a compiled file, or of a POSIX string, that owns all that it is asked for.
 ///
@@ -60,14 +61,15 @@ impl FileZone {
     ///
     /// In this order: `Refused` exactly where the bytes are no file of the format, or one with leap seconds or with an offset
     /// past 93,599 seconds in size; `Footer` exactly where there is a footer and it is no footer in the ranges of its parts;
-    /// `NoMemory`.
+    /// `NoMemory`, only where there is a zone.
     pub fn read(alloc: Global, bytes: &[u8]) -> Result<FileZone, FileFault>
         ensures { MatchResult result (IsFileOf bytes.now) (IsFileFault bytes.now) }
     {
+        said_bounds();
         match read_file(alloc, bytes) {
             Ok(zone) => FileZone::of_value(alloc, zone),
             Err(ReadFault::Refused) => Err(FileFault::Refused),
-            Err(ReadFault::NoMemory) => Err(FileFault::NoMemory),
+            Err(ReadFault::NoMemory) => Err(wanting(bytes)),
         }
     }
 
@@ -76,7 +78,8 @@ impl FileZone {
     ///
     /// # Errors
     ///
-    /// In this order: `Refused` exactly where the text is no such string in the ranges of its parts; `NoMemory`.
+    /// In this order: `Refused` exactly where the text is no such string in the ranges of its parts; `NoMemory`,
+    /// only where it is one.
     pub fn posix(alloc: Global, text: &str) -> Result<FileZone, PosixFault>
         ensures { MatchResult result (IsPosixOf text.now) (IsPosixFault text.now) }
     {
@@ -166,6 +169,19 @@ impl FileZone {
             Some(first) => Some(reading_of(&first)),
             None => None,
         }
+    }
+}
+
+/// Why a file gives no zone, where there was no memory to read it: a cause that is found without memory, or else this.
+fn wanting(bytes: &[u8]) -> FileFault
+    ensures { IsFileFault bytes.now result }
+{
+    match said_footer(bytes) {
+        Some(footer) => match read_footer(footer) {
+            Some(_) => FileFault::NoMemory,
+            None => FileFault::Footer,
+        },
+        None => FileFault::Refused,
     }
 }
 
