@@ -34,13 +34,14 @@ pub record HasFormFault (text : List ℕ) (error : SourceError) : Type 0 where
   pub short : length form ≤ 16777216
   pub fault : IsFirstFault form error
 
--- it is too long, or has no plain form for this, or one with this first fault; want of memory may come in place of any
+-- it is too long, or has no plain form for this, or one with this first fault; of a text that isn't too long, want of memory may come in
+-- place of any fault
 abbrev pub IsAnyFault : List ℕ → AnySourceFault → Type 0
 IsAnyFault text TooLong = 16777216 < length text
 IsAnyFault text (Line n c) = (length text ≤ 16777216) × (plain_of text ≡ Err (bad_line (at n c)))
 IsAnyFault text PlainTooLong = (length text ≤ 16777216) × (plain_of text ≡ Err too_long)
 IsAnyFault text (Plain error) = (length text ≤ 16777216) × HasFormFault text error
-IsAnyFault text NoMemory = Unit {0}
+IsAnyFault text NoMemory = length text ≤ 16777216
 
 -- what is told where a text is the plain form
 abbrev pub IsFormFault : List ℕ → AnySourceFault → Type 0

@@ -36,7 +36,7 @@ impl OpenSource {
     /// `TooLong` exactly where the text is longer than 16,777,216 bytes; then `Line` with the first line that has no plain form, or
     /// `PlainTooLong` where that form would be longer than 16,777,216 bytes, which is told at the first line with which its links, or
     /// the rules that are made for `%z`, alone are; then `Plain` with the first fault of the plain form, which is never want of
-    /// memory; `NoMemory`.
+    /// memory; `NoMemory`, never where `TooLong` is due.
     pub fn open(alloc: Global, text: &[u8]) -> Result<OpenSource, AnySourceFault>
         ensures ok { IfOk result (IsAnySource text.now) }
         ensures release { IfOk result (λ source. release_in source ≡ release_of text.now) }

@@ -69,7 +69,7 @@ impl OpenSource {
     /// # Errors
     ///
     /// `TooLong` exactly where the text is longer than 16,777,216 bytes; then `Source` with its first fault, which is never
-    /// want of memory; `NoMemory`.
+    /// want of memory; `NoMemory`, never where `TooLong` is due.
     pub fn open_plain(alloc: Global, text: &[u8]) -> Result<OpenSource, OpenFault>
         ensures short { OnOk result (length text.now ≤ LIMIT) }
         ensures ok { OnOk result (source_fault text.now ≡ None) }
