@@ -54,10 +54,10 @@ pub record IsNoFileZone (bytes : List ℕ) (fault : TzifFault) : Type 0 where
   pub is_file : Says bytes value
   pub cause : IsTzifFault value fault
 
--- why bytes have no zone: they are no file, or its zone can't be asked; or memory ran out
+-- why bytes have no zone: they are no file, or its zone can't be asked; or they are one, and memory ran out
 abbrev pub IsFileCause : List ℕ → Error → Type 0
 IsFileCause bytes (error.File read.Refused) = (value : ZoneValue) → ¬ (Says bytes value)
-IsFileCause bytes (error.File read.NoMemory) = Unit {0}
+IsFileCause bytes (error.File read.NoMemory) = (value : ZoneValue) × Says bytes value
 IsFileCause bytes (error.FileZone fault) = IsNoFileZone bytes fault
 IsFileCause bytes _ = ⊥
 
