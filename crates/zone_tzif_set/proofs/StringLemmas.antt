@@ -143,7 +143,7 @@ own_year standard ahead s start end own =
     let moments = pair standard ahead start end in
     let both = and_parts (has_begun (moments y) s) (not (has_begun (moments (year_after y)) s)) own in
     by_here (moments (year_after y)) (moments y) (moments (year_before y)) (moments (year_before (year_before y))) s
-        (not_from (has_begun (moments (year_after y)) s) both.1) both.0
+    (not_from (has_begun (moments (year_after y)) s) both.1) both.0
     ∙ within_begun (second_in y standard start) (second_in y ahead end) s both.0
 
 totals_same : (standard saved : KindValue) (start end : Date × Option Time) (s : ℤ)
