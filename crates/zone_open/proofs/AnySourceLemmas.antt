@@ -52,4 +52,4 @@ form_refused text form (Err (Line n c)) short written is_form h = absurd h
 form_refused text form (Err PlainTooLong) short written is_form h = absurd h
 form_refused text form (Err (Plain error)) short written is_form h =
     (short, record { form = form; written = written; short = is_form; fault = h })
-form_refused text form (Err NoMemory) short written is_form h = tt
+form_refused text form (Err NoMemory) short written is_form h = short
