@@ -1,7 +1,7 @@
 -- Worked examples: what is told where there is too little room, a nanosecond too much, and the version. A name goes as far as it fits, and
 -- its whole length is told, not the room's; of a list it is how many there are, whatever the room.
 use Rattle.std.proofs.Common.{◌≡◌, ℕ, ℤ, pos, List, [], ◌∷◌, length, refl, ◌∙◌, arith}
-use Rattle.std.specs.Prelude.{◌<◌, Some, codes}
+use Rattle.std.specs.Prelude.{Some, codes}
 use Rattle.tz_zone.specs.InForce.{all_in_force}
 use Rattle.zone_open.specs.Answered.{AreReadings}
 use Rattle.zone_open.specs.Changes.{window}
@@ -25,7 +25,7 @@ whole_name : cut_to 13
 unfolding filled
 whole_name = (refl, (refl, refl))
 
-no_four : 4 ≡ 13 → ⊥
+no_four : ◌≡◌ {A = ℕ} 4 13 → ⊥
 no_four h = cc
 
 not_capped : cut_to 4 → ⊥
