@@ -1,12 +1,14 @@
 //! What a program in another language holds: each call that takes memory, with ample memory. The values are those of the tz database for
 //! New York and for the rules of Europe, as Python's `zoneinfo` gives them, and the string is that of `zic -b slim`.
-use crate::checks::same;
+use crate::checks::{same, same_at};
 use crate::fixtures::{NEW_YORK, at};
+use crate::runs::bytes_of;
 use sefunjaro_handles::Opened;
 use std::alloc::Global;
 use std::process::Abort;
 use std::sync::Arc;
-use zone_open::{AnyZone, FileZone, OpenSource, OpenZone};
+use zone_open::{AnySourceFault, AnyZone, FileZone, OpenFault, OpenSource, OpenZone};
+use zone_source::source_fault_bytes;
 
 /// The rules of New York as `zic` reads them too: words cut short, hours alone, and a link to a link.
 const SHORT: &[u8] =
@@ -71,6 +73,83 @@ fn a_source_in_any_form_is_opened(rt: HostRuntime) {
         panic!(rt; "no zone");
     };
     expect_new_york(&rt, alloc, &zone);
+}
+
+/// Sources that are refused in plain form, and in any, each with the line that tells its fault.
+const REFUSED: &str = "\
+Zone A 0 - X;Zone~source 2: line InvalidLineType;
+ 0 - X~source 1: build SurpriseContinuationLine;
+Zone A 0 - X;Zone B 0 b X~source 2: build UnknownRuleset;
+Link A B;Link C B~source 2: build DuplicateLink;
+Zone A 0 - X;Zone A 0 - Y~source 2: build DuplicateZone;
+";
+
+/// The line of the fault for which a source in plain form is refused.
+fn plain_refusal(rt: &impl Abort, alloc: Global, source: &[u8]) -> Vec<u8> {
+    match OpenSource::open_plain(alloc, source) {
+        Err(OpenFault::Source(error)) => source_fault_bytes(alloc, &error).expect(rt, "memory"),
+        Err(_) => panic!(rt; "too long, or memory"),
+        Ok(_) => panic!(rt; "opened"),
+    }
+}
+
+#[test]
+fn refused_plain_sources_are_told_by_their_faults(rt: HostRuntime) {
+    let alloc = rt.alloc();
+    for row in REFUSED.lines() {
+        let mut fields = row.split('~');
+        let source = bytes_of(&rt, alloc, fields.next());
+        let due = bytes_of(&rt, alloc, fields.next());
+        same_at(&rt, row, &plain_refusal(&rt, alloc, &source), &due);
+    }
+    let no_text = plain_refusal(&rt, alloc, b"# a\n\xff\n");
+    same(
+        &rt,
+        &no_text.as_slice(),
+        &b"source 2: not text\n".as_slice(),
+    );
+}
+
+/// How many rules, and how many offsets under them, a source has whose plain form would be too long, since each rule is written once
+/// for each offset.
+const MANY: u32 = 700;
+
+/// Such a source.
+fn product(rt: &impl Abort, alloc: Global) -> Vec<u8> {
+    let mut rules = String::new(alloc);
+    let mut lines = bytes_of(rt, alloc, Some("Z A 1 r %z 1000;"));
+    for number in 0..MANY {
+        let (minute, second, year) = (number / 60, number % 60, number + 1001);
+        let rule = format!(in alloc; "R r 1990 o - O 1 0:{minute}:{second} 1 -\n").expect(
+            rt, "memory",
+        );
+        rules.push_str(rule.as_str()).expect(rt, "memory");
+        let line = format!(in alloc; "0:{minute}:{second} r %z {year}\n").expect(rt, "memory");
+        lines
+            .extend_from_slice(line.as_bytes())
+            .expect(rt, "memory");
+    }
+    let mut text = rules.into_bytes();
+    text.extend_from_slice(lines.as_slice())
+        .expect(rt, "memory");
+    text.extend_from_slice(b"0 - X\n").expect(rt, "memory");
+    text
+}
+
+#[test]
+fn refused_sources_are_told_by_their_faults(rt: HostRuntime) {
+    let alloc = rt.alloc();
+    let Err(AnySourceFault::Line(number, cause)) = OpenSource::open(
+        alloc,
+        b"Z A 0 - X\nZ A 1 - Y\n",
+    ) else {
+        panic!(rt; "no line is told");
+    };
+    same(&rt, &(number, cause.name()), &(2, "DuplicateZone"));
+    let Err(AnySourceFault::PlainTooLong) = OpenSource::open(alloc, product(&rt, alloc).as_slice())
+    else {
+        panic!(rt; "not too long");
+    };
 }
 
 /// A compiled file as `zic -b slim` writes it of the rules of Europe from 1996 on, after local mean time, and the string at its end.
