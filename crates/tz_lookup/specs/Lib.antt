@@ -13,7 +13,9 @@ pub use Rattle.tz_zone.specs.Answers
 pub use Rattle.tz_zone.specs.Results
 pub use Rattle.tz_zone.specs.Scans
 pub use Rattle.tz_zone.specs.Dates
+pub use Rattle.tz_zone.specs.Cursors
 pub use Rattle.tz_zone.specs.InstantsLeft
+pub use Rattle.tz_zone.specs.AllLeft
 pub use Rattle.tz_zone.specs.FixedZones
 pub use Rattle.tz_zone.specs.Zones
 pub use Rattle.tz_zone.specs.Compiles

@@ -2,6 +2,7 @@
 ghost use Rattle.std.specs.Prelude.{◌≡◌, ◌≤◌, length, int_lt, pos};
 ghost use Rattle.zone_spans.specs.Entries.{total};
 ghost use Rattle.zone_spans.specs.Schedules.{total_at};
+ghost use Rattle.tz_zone.specs.Cursors.{cursor_left};
 ghost use Rattle.tz_zone.specs.InForce.{GivesAt};
 ghost use Rattle.tz_zone.specs.Sets.{schedule_of, IsOrderlyZone};
 ghost use Rattle.tz_lookup.specs.CompactShown.{seen};
@@ -11,7 +12,8 @@ use civil_base::{OffsetDateTime, PlainDateTime};
 use std::marker::Brand;
 use std::sync::ledger::{Blank, Ledger};
 use tz_zone::{
-    InstantsIn, OffsetResult, Steps, TimeZone, TzOffset, local_spans, local_spans_counted,
+    AllInstants, InstantsIn, OffsetResult, PrimitiveDateTimeExt, SpanCursor, SpanScan, Steps,
+    TimeZone, TzOffset, local_spans, local_spans_counted,
 };
 
 /// The zone of a compact set, which it borrows.
@@ -154,4 +156,22 @@ impl<'a> TimeZone for CompactTz<'a> {
     ghost in_range = { λ zone t. zone.set.now.range t };
 
     ghost two_at_most = { λ zone time orderly. zone.set.now.two orderly time };
+}
+
+impl<'a> AllInstants for CompactTz<'a> {
+    type Cursor = SpanCursor;
+
+    ghost left = { λ zone. cursor_left (seen zone.set.now) };
+
+    fn begin(&self, local: &PlainDateTime) -> SpanCursor {
+        if self.set.is_orderly() {
+            SpanCursor::Found(local.assume_timezone(self))
+        } else {
+            SpanCursor::Sought(SpanScan::new(local))
+        }
+    }
+
+    fn next(&self, cursor: &mut SpanCursor) -> Option<OffsetDateTime> {
+        cursor.next(self.set)
+    }
 }

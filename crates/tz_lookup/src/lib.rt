@@ -14,8 +14,9 @@ pub use compact_set::{CompactFault, CompactSet};
 pub use compact_tz::{CompactInstants, CompactOffset, CompactTz};
 pub use database::{Database, DatabaseFault, DatabaseIter, names_in_order};
 pub use tz_zone::{
-    Fixed, FixedOffset, FixedTimespan, FixedTimespanSet, InstantsLocal, Offset, OffsetDateTimeExt,
-    OffsetResult, PrimitiveDateTimeExt, Probe, SpanFault, SpanTable, Steps, TimeZone, Tz, TzFault,
-    TzOffset, ZoneFault, binary_search, compile_zone, is_orderly, local_spans, local_spans_counted,
+    AllInstants, Fixed, FixedOffset, FixedTimespan, FixedTimespanSet, InstantsLocal, InstantsOf,
+    Offset, OffsetDateTimeExt, OffsetResult, PrimitiveDateTimeExt, Probe, SpanFault, SpanTable,
+    Steps, TimeZone, Tz, TzFault, TzOffset, ZoneFault, binary_search, compile_zone, is_orderly,
+    local_spans, local_spans_counted,
 };
 pub use years::{LAST_YEAR_BEGIN, RULES_BEGIN, RULES_END};

@@ -52,10 +52,14 @@ instants_of_dates total x dates range e =
     (sym (instants_shown dates ∙ ap (map (λ (shown : ℤ × ℤ). shown.0)) e ∙ instants_in total (instants total x)))
     (instants_are total x range)
 
+-- where there are no more than two, the first two are all
+pub all_of_two : (total : ℤ → ℤ) (x : ℤ) (shown : List (ℤ × ℤ)) → length (instants total x) ≤ 2
+    → shown ≡ take 2 (all_in_force total x) → shown ≡ all_in_force total x
+unfolding all_in_force
+all_of_two total x shown two e =
+    e ∙ take_all 2 (map (in_force total) (instants total x)) (omega (arith, two, length-map (instants total x) (in_force total)))
+
 -- and so are those that show the first two, where there are no more
 pub instants_of_two : (total : ℤ → ℤ) (x : ℤ) (dates : List OffsetDateTime) → ((t : ℤ) → IsOffset (total t))
     → length (instants total x) ≤ 2 → map shown_of dates ≡ take 2 (all_in_force total x) → AreInstants total x (map instant dates)
-unfolding all_in_force
-instants_of_two total x dates range two e =
-    instants_of_dates total x dates range
-    (e ∙ take_all 2 (map (in_force total) (instants total x)) (omega (arith, two, length-map (instants total x) (in_force total))))
+instants_of_two total x dates range two e = instants_of_dates total x dates range (all_of_two total x (map shown_of dates) two e)

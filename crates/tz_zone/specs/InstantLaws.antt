@@ -1,16 +1,17 @@
 -- The instants of a local time are one rising list.
-use Rattle.std.proofs.Common.{◌≡◌, ℕ, zero, suc, Bool, true, false, cond, List, ◌∷◌, map, ℤ, pos, ◌+ℤ◌, ◌-ℤ◌, ◌*ℤ◌, ◌≤ℤ◌, ◌<ℤ◌, sym, ap, ◌∙◌, subst, ⊎_elim, arith}
+use Rattle.std.proofs.Common.{◌≡◌, ℕ, zero, suc, ◌≤◌, Bool, true, false, cond, List, [], ◌∷◌, length, map, ℤ, pos, ◌+ℤ◌, ◌-ℤ◌, ◌*ℤ◌, ◌≤ℤ◌, ◌<ℤ◌, refl, sym, ap, ◌∙◌, subst, ⊎_elim, arith}
 use Rattle.std.specs.Prelude.{Contains}
 use Rattle.std.specs.Ordering.{int_eq}
 use Rattle.std.specs.List.{filter}
 use Rattle.std.proofs.lemmas.Bool.{cases_Bool}
 use Rattle.std.proofs.lemmas.Int.{ints}
+use Rattle.std.proofs.lemmas.List.{length-map}
 use Rattle.calendar.specs.ComparisonLaws.{eq_from_pass, eq_pass, lt_le, le_from_eq}
 use Rattle.civil_base.specs.Ranges.{IsOffset, greatest_offset}
 use Rattle.civil_base.specs.RangeLaws.{offset_least, offset_greatest}
 use Rattle.zone_spans.specs.Schedules.{down_from, offset_count, offsets, instants}
 use Rattle.civil_base.specs.Instants.{instant_at}
-use Rattle.tz_zone.specs.InForce.{AreInstants}
+use Rattle.tz_zone.specs.InForce.{all_in_force, in_force, AreInstants}
 use Rattle.tz_zone.specs.RisingLaws.{Rises, same_rising, pairs_more, contains_head, contains_more, cases_more}
 
 abbrev reads : (ℤ → ℤ) → ℤ → ℤ → Bool
@@ -138,3 +139,22 @@ one_list total x ts us are also =
 -- so it is the one that tries every offset
 pub instants_one : (total : ℤ → ℤ) (x : ℤ) (ts : List ℤ) → ((t : ℤ) → IsOffset (total t)) → AreInstants total x ts → instants total x ≡ ts
 instants_one total x ts h are = one_list total x (instants total x) ts (instants_are total x h) are
+
+-- what is made of those that pass a test is no more than they are
+pub few_pass : {X Y : Type 0} (f : X → Y) (p : X → Bool) (xs : List X) → length (map f (filter p xs)) ≤ length xs
+few_pass f p [] = omega arith
+few_pass {X} f p (x ∷ xs) = by_test (p x) (few_pass f p xs)
+  where
+    by_test : (b : Bool) → length (map f (filter p xs)) ≤ length xs → length (map f (cond b (x ∷ filter p xs) (filter p xs))) ≤ length (x ∷ xs)
+    by_test true h = omega (arith, h)
+    by_test false h = omega (arith, h)
+
+down_count : (o : ℤ) (n : ℕ) → length (down_from o n) ≡ n
+down_count o zero = refl
+down_count o (suc n) = ap suc (down_count (o -ℤ pos 1) n)
+
+-- there is at most one for each offset
+pub few_instants : (total : ℤ → ℤ) (x : ℤ) → length (all_in_force total x) ≤ 187199
+unfolding all_in_force instants offsets offset_count
+few_instants total x =
+    omega (arith, length-map (instants total x) (in_force total), few_pass (instant_at x) (reads total x) offsets, down_count (pos greatest_offset) offset_count)

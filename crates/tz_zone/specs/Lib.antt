@@ -8,7 +8,9 @@ pub mod InForce
 pub mod Results
 pub mod Scans
 pub mod Dates
+pub mod Cursors
 pub mod InstantsLeft
+pub mod AllLeft
 pub mod FixedZones
 pub mod Zones
 pub mod Compiles

@@ -2,10 +2,13 @@
 ghost use Rattle.std.specs.Prelude.{◌≡◌, ℕ, ℤ, ◌≤◌, length, false, List};
 ghost use Rattle.civil_base.specs.Ranges.{IsOffset};
 ghost use Rattle.zone_spans.specs.Schedules.{instants};
+ghost use Rattle.tz_zone.specs.Answers.{listed};
 
+use crate::all_instants::AllInstants;
+use crate::extensions::PrimitiveDateTimeExt;
 use crate::result::OffsetResult;
 use crate::time_zone::{Offset, TimeZone};
-use civil_base::{OffsetDateTime, UtcOffset};
+use civil_base::{OffsetDateTime, PlainDateTime, UtcOffset};
 
 /// A zone that has one offset for good, which is no saving.
 #[derive(Clone, Copy, Debug, Drop)]
@@ -102,4 +105,18 @@ impl<'a> TimeZone for Fixed<'a> {
     ghost in_range = { λ zone t. zone.in_range };
 
     ghost two_at_most = { λ zone time _. zone.two time };
+}
+
+impl<'a> AllInstants for Fixed<'a> {
+    type Cursor = OffsetResult<OffsetDateTime>;
+
+    ghost left = { λ _. listed };
+
+    fn begin(&self, local: &PlainDateTime) -> OffsetResult<OffsetDateTime> {
+        local.assume_timezone(self)
+    }
+
+    fn next(&self, cursor: &mut OffsetResult<OffsetDateTime>) -> Option<OffsetDateTime> {
+        cursor.take_next()
+    }
 }

@@ -1,39 +1,18 @@
-//! Every instant that a zone reads as one local time, one after another, on any set.
-ghost use Rattle.std.specs.Prelude.{◌≡◌, ◌+◌, ◌≤◌, length, map};
-ghost use Rattle.civil_base.specs.Instants.{seconds_of};
-ghost use Rattle.zone_spans.specs.Schedules.{total_at};
-ghost use Rattle.tz_zone.specs.Dates.{dates_from};
-ghost use Rattle.tz_zone.specs.InForce.{all_in_force, shown_of};
+//! Every instant that a set of spans reads as one local time, one after another, by looking at each span.
 ghost use Rattle.tz_zone.specs.Sets.{schedule_of, IsAccepted};
-ghost use Rattle.tz_zone.specs.declared.set.FixedTimespanSet.{FixedTimespanSet as Spans};
 
-use crate::offsets::offset_of;
-use crate::scan::next_span;
+use crate::cursor::SpanScan;
 use crate::set::FixedTimespanSet;
 use crate::table::SpanTable;
 use civil_base::{OffsetDateTime, PlainDateTime};
-
-/// The second of a local time, rounded down. In every set that can be looked up the spans that contain it are those at whose
-/// totals the local time is read, in the order of the instants.
-pub fn local_second(local: &PlainDateTime) -> i64
-    ensures value { result ≡ seconds_of local.now }
-    ensures all { (set : Spans) → IsAccepted (schedule_of set) →
-        map shown_of (dates_from set local.now result 0) ≡ all_in_force (total_at (schedule_of set)) local.now }
-    ensures few { (set : Spans) → length (dates_from set local.now result 0) ≤ length set.others + 1 }
-{
-    local.assume_utc().unix_timestamp()
-}
 
 /// The date-times that a zone reads as one local time, the earliest first, each once: at most one for each span. It takes
 /// no memory.
 #[derive(Drop)]
 pub struct InstantsIn<'a, S: SpanTable> {
     set: &'a S,
-    local: PlainDateTime,
-    second: i64,
-    next: usize,
+    scan: SpanScan,
     ghost accepted: { IsAccepted (schedule_of (S.seen set.now)) },
-    ghost within: { next ≤ length (S.seen set.now).others + 1 },
 }
 
 /// Those of a set of spans.
@@ -56,9 +35,7 @@ impl<'a, S: SpanTable> InstantsIn<'a, S> {
     {
         InstantsIn {
             set,
-            local: *local,
-            second: local_second(local),
-            next: 0,
+            scan: SpanScan::new(local),
         }
     }
 }
@@ -74,12 +51,6 @@ impl<'a, S: SpanTable> Iterator for InstantsIn<'a, S> {
     ghost remaining = { item_count dates_left };
 
     fn next(&mut self) -> Option<OffsetDateTime> {
-        match next_span(self.set, self.second, self.next) {
-            None => None,
-            Some(span) => {
-                self.next = span + 1;
-                Some(self.local.assume_offset(offset_of(self.set, span)))
-            }
-        }
+        self.scan.next(self.set)
     }
 }

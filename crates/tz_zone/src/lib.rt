@@ -4,7 +4,9 @@
 #![tactic(auto)]
 
 mod accept;
+mod all_instants;
 mod compile;
+mod cursor;
 mod extensions;
 mod fixed;
 mod instants;
@@ -24,10 +26,12 @@ mod tz;
 mod utc;
 
 pub use accept::TzFault;
+pub use all_instants::{AllInstants, InstantsOf};
 pub use compile::{ZoneFault, compile_zone};
+pub use cursor::{SpanCursor, SpanScan, local_second};
 pub use extensions::{OffsetDateTimeExt, PrimitiveDateTimeExt};
 pub use fixed::{Fixed, FixedOffset};
-pub use instants::{InstantsIn, InstantsLocal, local_second};
+pub use instants::{InstantsIn, InstantsLocal};
 pub use lookups::{local_spans, local_spans_counted};
 pub use offsets::offset_of;
 pub use orderly::is_orderly;

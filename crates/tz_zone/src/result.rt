@@ -1,5 +1,7 @@
 //! The offsets of a local time.
 
+use std::mem;
+
 /// The offsets of a local time: one, two where a clock was set back over it, or none where it was set ahead over it.
 #[derive(Clone, Copy, Debug, Drop)]
 pub enum OffsetResult<T> {
@@ -14,7 +16,9 @@ pub enum OffsetResult<T> {
 impl<T: Drop> OffsetResult<T> {
     ghost use Rattle.tz_zone.specs.Answers.{AreMapped, EachOf};
     ghost use Rattle.tz_zone.specs.Results.{has_one, first_in, second_in, only_in, is_none_in, is_ambiguous_in};
+    ghost use Rattle.std.specs.Iterator.{YieldsFirst};
     ghost use Rattle.std.specs.Prelude.{◌≡◌, IsTrue, false, Some};
+    ghost use Rattle.tz_zone.specs.Answers.{listed};
 
     /// What a function makes of each value, in the same order.
     pub fn map<U: Drop, F: Fn(T) -> U + Drop>(self, f: F) -> OffsetResult<U>
@@ -95,6 +99,20 @@ impl<T: Drop> OffsetResult<T> {
             OffsetResult::Some(value) => Some(value),
             OffsetResult::Ambiguous(_, second) => Some(second),
             OffsetResult::None => None,
+        }
+    }
+
+    /// Takes the first value out, and leaves what comes after it.
+    pub fn take_next(&mut self) -> Option<T>
+        ensures { YieldsFirst listed self.old result self.new }
+    {
+        match mem::replace(self, OffsetResult::None) {
+            OffsetResult::None => None,
+            OffsetResult::Some(only) => Some(only),
+            OffsetResult::Ambiguous(first, second) => {
+                *self = OffsetResult::Some(second);
+                Some(first)
+            }
         }
     }
 

@@ -31,10 +31,9 @@ pub(crate) fn first_local_spans_at<T: SpanTable>(set: &T, second: i64) -> Offset
     }
 }
 
-/// The first span from an index on that contains a local second.
+/// The first span from an index on that contains a local second. Past the last span there is none.
 pub fn next_span<T: SpanTable>(set: &T, second: i64, from: usize) -> Option<usize>
     requires accepted { IsAccepted (schedule_of (T.seen set.now)) }
-    requires within { from ≤ length (T.seen set.now).others + 1 }
     ensures within { IfSome result (λ k. k ≤ length (T.seen set.now).others) }
     ensures bound { IfSome result (λ k. k < 18446744073709551615) }
     ensures next { MatchOption result

@@ -4,10 +4,14 @@ ghost use Rattle.civil_base.specs.Ranges.{IsOffset};
 ghost use Rattle.zone_spans.specs.Entries.{total};
 ghost use Rattle.zone_spans.specs.Schedules.{instants, total_at};
 ghost use Rattle.civil_base.specs.Ranges.{is_offset};
+ghost use Rattle.tz_zone.specs.Cursors.{cursor_left};
 ghost use Rattle.tz_zone.specs.InForce.{GivesAt};
 ghost use Rattle.tz_zone.specs.Sets.{schedule_of, IsAccepted, IsOrderlyZone};
 
 use crate::accept::{TzFault, accept};
+use crate::all_instants::AllInstants;
+use crate::cursor::{SpanCursor, SpanScan};
+use crate::extensions::PrimitiveDateTimeExt;
 use crate::instants::{InstantsIn, InstantsLocal};
 use crate::lookups::{local_spans, local_spans_counted, span_in_force};
 use crate::offsets::offset_of;
@@ -207,4 +211,22 @@ impl<'a> TimeZone for Tz<'a> {
     ghost in_range = { λ zone t. zone.range t };
 
     ghost two_at_most = { λ zone time orderly. zone.two orderly time };
+}
+
+impl<'a> AllInstants for Tz<'a> {
+    type Cursor = SpanCursor;
+
+    ghost left = { λ zone. cursor_left zone.set.now };
+
+    fn begin(&self, local: &PlainDateTime) -> SpanCursor {
+        if self.orderly {
+            SpanCursor::Found(local.assume_timezone(self))
+        } else {
+            SpanCursor::Sought(SpanScan::new(local))
+        }
+    }
+
+    fn next(&self, cursor: &mut SpanCursor) -> Option<OffsetDateTime> {
+        cursor.next(self.set)
+    }
 }

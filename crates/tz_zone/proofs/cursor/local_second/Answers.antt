@@ -2,7 +2,7 @@ use Rattle.std.proofs.Common.{w64, SFits, rules, sym, ◌∙◌}
 use Rattle.std.proofs.lemmas.Int.{to_z-of_z}
 use Rattle.tz_zone.proofs.EachLemmas.{each_date, few_dates}
 use Rattle.tz_zone.specs.UtcLaws.{second_at_utc}
-use Rattle.tz_zone.proofs.instants.local_second.Goals as goal
+use Rattle.tz_zone.proofs.cursor.local_second.Goals as goal
 
 pub returns-clause-value : goal.returns-clause-value
 returns-clause-value c =
