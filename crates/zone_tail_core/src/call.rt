@@ -13,10 +13,10 @@ use crate::choice::choose;
 use crate::faults::fault_in;
 use crate::last_year::{Form, form_of, standard_of};
 use crate::outcome::{Tail, TailFault};
-use crate::spans::entry;
+use crate::spans::entry_span;
 use crate::text::candidate_text;
 use std::alloc::{AllocError, Global};
-use tz_lookup::{FixedTimespanSet, RULES_END, SpanTable};
+use tz_lookup::{RULES_END, SpanTable};
 
 /// Later than any entry.
 const FAR: i64 = 1 << 41;
@@ -31,10 +31,10 @@ const FAR: i64 = 1 << 41;
 /// # Errors
 ///
 /// In this order, and each exactly where it says: `Shape`, `OffsetRange`, `Name`; `NoMemory`, and never where one of these is due.
-pub fn tail(alloc: Global, set: &FixedTimespanSet) -> Result<Tail, TailFault>
-    requires { IsAccepted (schedule_of set.now) }
-    ensures told { MatchResult result (λ tail. IsTail set.now tail.from (string_bytes tail.text)) (IsFaultOf set.now) }
-    ensures read { IfOk result (λ tail. CarriesOn set.now tail.from (string_bytes tail.text)) }
+pub fn tail<S: SpanTable>(alloc: Global, set: &S) -> Result<Tail, TailFault>
+    requires { IsAccepted (schedule_of (S.seen set.now)) }
+    ensures told { MatchResult result (λ tail. IsTail (S.seen set.now) tail.from (string_bytes tail.text)) (IsFaultOf (S.seen set.now)) }
+    ensures read { IfOk result (λ tail. CarriesOn (S.seen set.now) tail.from (string_bytes tail.text)) }
 {
     let offset = standard_of(set);
     let form = form_of(set, offset);
@@ -48,18 +48,18 @@ pub fn tail(alloc: Global, set: &FixedTimespanSet) -> Result<Tail, TailFault>
 }
 
 /// The string of a set that has one.
-fn written(
+fn written<S: SpanTable>(
     alloc: Global,
-    set: &FixedTimespanSet,
+    set: &S,
     form: &Form,
     offset: i64,
 ) -> Result<Tail, AllocError>
-    requires accepted { IsAccepted (schedule_of set.now) }
-    requires offset { offset ≡ standard_of set.now }
-    requires form { IsForm set.now form.now }
-    requires none { tail_fault set.now ≡ None }
-    ensures told { IfOk result (λ tail. IsTail set.now tail.from (string_bytes tail.text)) }
-    ensures read { IfOk result (λ tail. CarriesOn set.now tail.from (string_bytes tail.text)) }
+    requires accepted { IsAccepted (schedule_of (S.seen set.now)) }
+    requires offset { offset ≡ standard_of (S.seen set.now) }
+    requires form { IsForm (S.seen set.now) form.now }
+    requires none { tail_fault (S.seen set.now) ≡ None }
+    ensures told { IfOk result (λ tail. IsTail (S.seen set.now) tail.from (string_bytes tail.text)) }
+    ensures read { IfOk result (λ tail. CarriesOn (S.seen set.now) tail.from (string_bytes tail.text)) }
 {
     let list = candidates_of(alloc, set, form, offset)?;
     let (candidate, span) = chosen(list.as_slice(), set, form, offset);
@@ -67,18 +67,13 @@ fn written(
 }
 
 /// The candidate that is given, and the span from which on it agrees.
-fn chosen(
-    list: &[Candidate],
-    set: &FixedTimespanSet,
-    form: &Form,
-    offset: i64,
-) -> (Candidate, usize)
-    requires list { list.now ≡ candidates set.now }
-    requires accepted { IsAccepted (schedule_of set.now) }
-    requires offset { offset ≡ standard_of set.now }
-    requires form { IsForm set.now form.now }
-    requires none { tail_fault set.now ≡ None }
-    ensures { IsChosen set.now result.0 result.1 }
+fn chosen<S: SpanTable>(list: &[Candidate], set: &S, form: &Form, offset: i64) -> (Candidate, usize)
+    requires list { list.now ≡ candidates (S.seen set.now) }
+    requires accepted { IsAccepted (schedule_of (S.seen set.now)) }
+    requires offset { offset ≡ standard_of (S.seen set.now) }
+    requires form { IsForm (S.seen set.now) form.now }
+    requires none { tail_fault (S.seen set.now) ≡ None }
+    ensures { IsChosen (S.seen set.now) result.0 result.1 }
 {
     let last = last_second(set, form, offset);
     let choice = choose(list, set, last);
@@ -86,18 +81,18 @@ fn chosen(
 }
 
 /// Its text, and the beginning of the span.
-fn tail_of(
+fn tail_of<S: SpanTable>(
     alloc: Global,
-    set: &FixedTimespanSet,
+    set: &S,
     form: &Form,
     candidate: &Candidate,
     span: usize,
 ) -> Result<Tail, AllocError>
-    requires form { IsForm set.now form.now }
-    requires none { tail_fault set.now ≡ None }
-    requires chosen { IsChosen set.now candidate.now span }
-    ensures told { IfOk result (λ tail. IsTail set.now tail.from (string_bytes tail.text)) }
-    ensures read { IfOk result (λ tail. CarriesOn set.now tail.from (string_bytes tail.text)) }
+    requires form { IsForm (S.seen set.now) form.now }
+    requires none { tail_fault (S.seen set.now) ≡ None }
+    requires chosen { IsChosen (S.seen set.now) candidate.now span }
+    ensures told { IfOk result (λ tail. IsTail (S.seen set.now) tail.from (string_bytes tail.text)) }
+    ensures read { IfOk result (λ tail. CarriesOn (S.seen set.now) tail.from (string_bytes tail.text)) }
 {
     let (standard, saving) = names(set, form);
     let text = candidate_text(alloc, standard, saving, candidate)?;
@@ -108,12 +103,12 @@ fn tail_of(
 }
 
 /// A second by which the candidates are told apart: that at which the last year ends, or, of one total, when its span ends.
-fn last_second(set: &FixedTimespanSet, form: &Form, offset: i64) -> i64
-    requires accepted { IsAccepted (schedule_of set.now) }
-    requires offset { offset ≡ standard_of set.now }
-    requires form { IsForm set.now form.now }
-    requires none { tail_fault set.now ≡ None }
-    ensures { IsReady set.now result }
+fn last_second<S: SpanTable>(set: &S, form: &Form, offset: i64) -> i64
+    requires accepted { IsAccepted (schedule_of (S.seen set.now)) }
+    requires offset { offset ≡ standard_of (S.seen set.now) }
+    requires form { IsForm (S.seen set.now) form.now }
+    requires none { tail_fault (S.seen set.now) ≡ None }
+    ensures { IsReady (S.seen set.now) result }
 {
     match form {
         Form::Steady(span) => {
@@ -129,25 +124,25 @@ fn last_second(set: &FixedTimespanSet, form: &Form, offset: i64) -> i64
 }
 
 /// The names of standard and of daylight saving time.
-fn names<'a>(set: &'a FixedTimespanSet, form: &Form) -> (&'a str, &'a str)
-    requires { IsForm set.now form.now }
-    ensures standard { result.0.now ≡ (names_of (form_in set.now)).0 }
-    ensures saving { result.1.now ≡ (names_of (form_in set.now)).1 }
+fn names<'a, S: SpanTable>(set: &'a S, form: &Form) -> (&'a str, &'a str)
+    requires { IsForm (S.seen set.now) form.now }
+    ensures standard { result.0.now ≡ (names_of (form_in (S.seen set.now))).0 }
+    ensures saving { result.1.now ≡ (names_of (form_in (S.seen set.now))).1 }
 {
     match form {
-        Form::Steady(span) => (set.span_at(*span).name.as_str(), ""),
+        Form::Steady(span) => (set.span(*span).name.as_str(), ""),
         Form::Yearly { start, end } => (
-            entry(set, *end).1.name.as_str(),
-            entry(set, *start).1.name.as_str(),
+            entry_span(set, *end).name.as_str(),
+            entry_span(set, *start).name.as_str(),
         ),
         Form::Other => ("", ""),
     }
 }
 
 /// When a span begins.
-fn beginning(set: &FixedTimespanSet, span: usize) -> Option<i64>
-    requires { span ≤ length set.now.others }
-    ensures { result ≡ beginning (shifts_of set.now) span }
+fn beginning<S: SpanTable>(set: &S, span: usize) -> Option<i64>
+    requires { span ≤ length (S.seen set.now).others }
+    ensures { result ≡ beginning (shifts_of (S.seen set.now)) span }
 {
     if span == 0 {
         None

@@ -12,22 +12,22 @@ use crate::candidate::Candidate;
 use crate::changes::{Changes, changes_at};
 use crate::last_year::Form;
 use crate::rule::{Change, YearlyRule};
-use crate::spans::{entry, total_of};
+use crate::spans::{entry_time, total_of};
 use std::alloc::{AllocError, Global};
-use tz_lookup::FixedTimespanSet;
+use tz_lookup::SpanTable;
 
 /// What may stand for the tail of a set, in order.
-pub(crate) fn candidates_of(
+pub(crate) fn candidates_of<S: SpanTable>(
     alloc: Global,
-    set: &FixedTimespanSet,
+    set: &S,
     form: &Form,
     offset: i64,
 ) -> Result<Vec<Candidate>, AllocError>
-    requires accepted { IsAccepted (schedule_of set.now) }
-    requires offset { offset ≡ standard_of set.now }
-    requires form { IsForm set.now form.now }
-    requires none { tail_fault set.now ≡ None }
-    ensures { IfOk result (λ list. list.items ≡ candidates set.now) }
+    requires accepted { IsAccepted (schedule_of (S.seen set.now)) }
+    requires offset { offset ≡ standard_of (S.seen set.now) }
+    requires form { IsForm (S.seen set.now) form.now }
+    requires none { tail_fault (S.seen set.now) ≡ None }
+    ensures { IfOk result (λ list. list.items ≡ candidates (S.seen set.now)) }
 {
     match form {
         Form::Steady(span) => {
@@ -41,21 +41,21 @@ pub(crate) fn candidates_of(
 }
 
 /// Those of a yearly set, by its entries.
-fn yearly_candidates(
+fn yearly_candidates<S: SpanTable>(
     alloc: Global,
-    set: &FixedTimespanSet,
+    set: &S,
     start: usize,
     end: usize,
     offset: i64,
 ) -> Result<Vec<Candidate>, AllocError>
-    requires accepted { IsAccepted (schedule_of set.now) }
-    requires offset { offset ≡ standard_of set.now }
-    requires form { IsForm set.now (Yearly start end) }
-    ensures { IfOk result (λ list. list.items ≡ candidates set.now) }
+    requires accepted { IsAccepted (schedule_of (S.seen set.now)) }
+    requires offset { offset ≡ standard_of (S.seen set.now) }
+    requires form { IsForm (S.seen set.now) (Yearly start end) }
+    ensures { IfOk result (λ list. list.items ≡ candidates (S.seen set.now)) }
 {
     let saving = total_of(set, start + 1);
-    let starts = changes_at(entry(set, start).0 + offset);
-    let ends = changes_at(entry(set, end).0 + saving);
+    let starts = changes_at(entry_time(set, start) + offset);
+    let ends = changes_at(entry_time(set, end) + saving);
     rules(alloc, offset, saving, &starts, &ends)
 }
 

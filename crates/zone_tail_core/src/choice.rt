@@ -7,7 +7,7 @@ ghost use Rattle.zone_tail_core.specs.Choices.{candidate_at, IsBest, IsChoice};
 
 use crate::candidate::Candidate;
 use crate::walk::walk;
-use tz_lookup::FixedTimespanSet;
+use tz_lookup::SpanTable;
 
 /// A candidate, and the span from which on it agrees.
 #[derive(Clone, Copy, Debug, PartialEq, Eq)]
@@ -17,23 +17,23 @@ pub(crate) struct Choice {
 }
 
 /// How far a candidate is walked.
-fn steps_of(candidates: &[Candidate], index: usize, set: &FixedTimespanSet, last: i64) -> usize
+fn steps_of<S: SpanTable>(candidates: &[Candidate], index: usize, set: &S, last: i64) -> usize
     requires within { index < length candidates.now }
     requires sound { All IsSoundCandidate candidates.now }
-    requires accepted { IsAccepted (schedule_of set.now) }
+    requires accepted { IsAccepted (schedule_of (S.seen set.now)) }
     requires last { All (λ candidate. IsLast candidate last) candidates.now }
-    ensures { IsWalked (candidate_at candidates.now index) (schedule_of set.now) last result }
+    ensures { IsWalked (candidate_at candidates.now index) (schedule_of (S.seen set.now)) last result }
 {
     walk(&candidates[index], set, last)
 }
 
 /// The first candidate that is walked furthest, and how many entries are left before.
-fn best(candidates: &[Candidate], set: &FixedTimespanSet, last: i64) -> (usize, usize)
+fn best<S: SpanTable>(candidates: &[Candidate], set: &S, last: i64) -> (usize, usize)
     requires some { 0 < length candidates.now }
     requires sound { All IsSoundCandidate candidates.now }
-    requires accepted { IsAccepted (schedule_of set.now) }
+    requires accepted { IsAccepted (schedule_of (S.seen set.now)) }
     requires last { All (λ candidate. IsLast candidate last) candidates.now }
-    ensures { IsBest candidates.now (schedule_of set.now) last (length candidates.now) result.0 result.1 }
+    ensures { IsBest candidates.now (schedule_of (S.seen set.now)) last (length candidates.now) result.0 result.1 }
 {
     let mut best = 0;
     let mut from = steps_of(candidates, 0, set, last);
@@ -48,14 +48,14 @@ fn best(candidates: &[Candidate], set: &FixedTimespanSet, last: i64) -> (usize, 
 }
 
 /// The first candidate that agrees from the earliest allowed span on, and that span, where all agree from some allowed one on.
-pub(crate) fn choose(candidates: &[Candidate], set: &FixedTimespanSet, last: i64) -> Choice
+pub(crate) fn choose<S: SpanTable>(candidates: &[Candidate], set: &S, last: i64) -> Choice
     requires some { 0 < length candidates.now }
     requires sound { All IsSoundCandidate candidates.now }
-    requires accepted { IsAccepted (schedule_of set.now) }
+    requires accepted { IsAccepted (schedule_of (S.seen set.now)) }
     requires last { All (λ candidate. IsLast candidate last) candidates.now }
     requires agree { (span : ℕ) × ((j : ℕ) → j < length candidates.now
-        → IsAllowed (candidate_at candidates.now j) (schedule_of set.now) span × Agrees (candidate_at candidates.now j) (schedule_of set.now) last span) }
-    ensures { IsChoice candidates.now (schedule_of set.now) last result.index result.span }
+        → IsAllowed (candidate_at candidates.now j) (schedule_of (S.seen set.now)) span × Agrees (candidate_at candidates.now j) (schedule_of (S.seen set.now)) last span) }
+    ensures { IsChoice candidates.now (schedule_of (S.seen set.now)) last result.index result.span }
 {
     let (index, span) = best(candidates, set, last);
     Choice { index, span }

@@ -10,23 +10,23 @@ ghost use Rattle.zone_tail_core.specs.declared.outcome.TailFault.TheVariants.{Of
 
 use crate::last_year::Form;
 use crate::outcome::TailFault;
-use crate::spans::{entry, total_of};
-use tz_lookup::FixedTimespanSet;
+use crate::spans::{entry_span, total_of};
+use tz_lookup::SpanTable;
 
 /// 24:59:59, the greatest size of an offset that is written.
 const GREATEST: i64 = 89_999;
 
 /// The first cause, or none.
-pub(crate) fn fault_in(set: &FixedTimespanSet, form: &Form, offset: i64) -> Option<TailFault>
-    requires accepted { IsAccepted (schedule_of set.now) }
-    requires offset { offset ≡ standard_of set.now }
-    requires form { IsForm set.now form.now }
-    ensures { result ≡ tail_fault set.now }
+pub(crate) fn fault_in<S: SpanTable>(set: &S, form: &Form, offset: i64) -> Option<TailFault>
+    requires accepted { IsAccepted (schedule_of (S.seen set.now)) }
+    requires offset { offset ≡ standard_of (S.seen set.now) }
+    requires form { IsForm (S.seen set.now) form.now }
+    ensures { result ≡ tail_fault (S.seen set.now) }
 {
     match form {
         Form::Steady(span) => fault_of(
             can_be_written(total_of(set, *span)),
-            is_name(set.span_at(*span).name.as_str()),
+            is_name(set.span(*span).name.as_str()),
         ),
         Form::Yearly { start, end } => fault_of(
             are_written(set, *start, offset),
@@ -50,22 +50,24 @@ fn fault_of(written: bool, named: bool) -> Option<TailFault>
 }
 
 /// Whether the offsets of a yearly set can be written, by the entry with which daylight saving time starts.
-fn are_written(set: &FixedTimespanSet, start: usize, offset: i64) -> bool
-    requires accepted { IsAccepted (schedule_of set.now) }
-    requires start { start < length set.now.others }
+fn are_written<S: SpanTable>(set: &S, start: usize, offset: i64) -> bool
+    requires accepted { IsAccepted (schedule_of (S.seen set.now)) }
+    requires start { start < length (S.seen set.now).others }
     requires bound { start < 18446744073709551615 }
-    ensures { result ≡ (can_be_written offset && can_be_written (total (entry_in set.now start).1)) }
+    ensures { result ≡ (can_be_written offset && can_be_written (total (entry_in (S.seen set.now) start).1)) }
 {
     can_be_written(offset) && can_be_written(total_of(set, start + 1))
 }
 
 /// Whether its names can.
-fn are_names(set: &FixedTimespanSet, start: usize, end: usize) -> bool
-    requires start { start < length set.now.others }
-    requires end { end < length set.now.others }
-    ensures { result ≡ (is_name (entry_in set.now end).1.name && is_name (entry_in set.now start).1.name) }
+fn are_names<S: SpanTable>(set: &S, start: usize, end: usize) -> bool
+    requires start { start < length (S.seen set.now).others }
+    requires end { end < length (S.seen set.now).others }
+    requires start_bound { start < 18446744073709551615 }
+    requires end_bound { end < 18446744073709551615 }
+    ensures { result ≡ (is_name (entry_in (S.seen set.now) end).1.name && is_name (entry_in (S.seen set.now) start).1.name) }
 {
-    is_name(entry(set, end).1.name.as_str()) && is_name(entry(set, start).1.name.as_str())
+    is_name(entry_span(set, end).name.as_str()) && is_name(entry_span(set, start).name.as_str())
 }
 
 /// Whether an offset is at most 24:59:59 in size.

@@ -8,8 +8,8 @@ ghost use Rattle.zone_tail_core.specs.Tails.{is_ending_early, is_outlasting};
 ghost use Rattle.zone_tail_core.specs.Totals.{IsCount};
 ghost use Rattle.zone_tail_core.specs.declared.last_year.Shape.TheVariants.{Pair};
 
-use crate::spans::{entry, total_of};
-use tz_lookup::{FixedTimespan, FixedTimespanSet, LAST_YEAR_BEGIN, RULES_END, SpanTable};
+use crate::spans::{entry_span, total_of};
+use tz_lookup::{FixedTimespan, LAST_YEAR_BEGIN, RULES_END, SpanTable};
 
 /// Further than any entry, 2^41 seconds.
 const FAR: i64 = 1 << 41;
@@ -54,11 +54,11 @@ fn is_before(second: i64, local: i64, offset: i64) -> bool
 }
 
 /// How many entries lie before a local second, by clocks so many seconds ahead of UTC.
-fn entries_before(set: &FixedTimespanSet, local: i64, offset: i64) -> usize
-    requires accepted { IsAccepted (schedule_of set.now) }
+fn entries_before<S: SpanTable>(set: &S, local: i64, offset: i64) -> usize
+    requires accepted { IsAccepted (schedule_of (S.seen set.now)) }
     requires least { pos 0 ≤ℤ local }
     requires greatest { local ≤ℤ pos 5_000_000_000 }
-    ensures { IsCount (shifts_of set.now) (local -ℤ offset) result }
+    ensures { IsCount (shifts_of (S.seen set.now)) (local -ℤ offset) result }
 {
     for i in 0..set.entry_count() {
         if !is_before(set.time(i), local, offset) {
@@ -69,27 +69,26 @@ fn entries_before(set: &FixedTimespanSet, local: i64, offset: i64) -> usize
 }
 
 /// The standard offset in force at the beginning of 2100 in UTC.
-pub(crate) fn standard_of(set: &FixedTimespanSet) -> i64
-    requires accepted { IsAccepted (schedule_of set.now) }
-    ensures { result ≡ standard_of set.now }
+pub(crate) fn standard_of<S: SpanTable>(set: &S) -> i64
+    requires accepted { IsAccepted (schedule_of (S.seen set.now)) }
+    ensures { result ≡ standard_of (S.seen set.now) }
 {
-    set.span_at(entries_before(set, RULES_END + 1, 0))
-        .utc_offset
+    set.span(entries_before(set, RULES_END + 1, 0)).utc_offset
 }
 
 /// Whether a set has an entry at or past the end of the last year, of which its string says nothing.
-pub fn is_outlasting(set: &FixedTimespanSet) -> bool
-    requires { IsAccepted (schedule_of set.now) }
-    ensures { result ≡ is_outlasting set.now }
+pub fn is_outlasting<S: SpanTable>(set: &S) -> bool
+    requires { IsAccepted (schedule_of (S.seen set.now)) }
+    ensures { result ≡ is_outlasting (S.seen set.now) }
 {
     entries_before(set, RULES_END, standard_of(set)) < set.entry_count()
 }
 
 /// Whether daylight saving time ends in the first week of the last year, by its own clocks. Then the rule of a string may end that
 /// of the year after before the last year is over.
-pub fn is_ending_early(set: &FixedTimespanSet) -> bool
-    requires { IsAccepted (schedule_of set.now) }
-    ensures { result ≡ is_ending_early set.now }
+pub fn is_ending_early<S: SpanTable>(set: &S) -> bool
+    requires { IsAccepted (schedule_of (S.seen set.now)) }
+    ensures { result ≡ is_ending_early (S.seen set.now) }
 {
     match form_of(set, standard_of(set)) {
         Form::Yearly { start, end } => ends_before(set, start, end, SECOND_WEEK),
@@ -99,9 +98,9 @@ pub fn is_ending_early(set: &FixedTimespanSet) -> bool
 }
 
 /// What the entries of the last year are, by its standard offset.
-fn shape_of(set: &FixedTimespanSet, offset: i64) -> Shape
-    requires accepted { IsAccepted (schedule_of set.now) }
-    ensures { IsShape set.now (year_begin -ℤ offset) (year_end -ℤ offset) result }
+fn shape_of<S: SpanTable>(set: &S, offset: i64) -> Shape
+    requires accepted { IsAccepted (schedule_of (S.seen set.now)) }
+    ensures { IsShape (S.seen set.now) (year_begin -ℤ offset) (year_end -ℤ offset) result }
 {
     let begin = entries_before(set, LAST_YEAR_BEGIN, offset);
     let end = entries_before(set, RULES_END, offset);
@@ -127,35 +126,36 @@ fn is_end(offset: i64, span: &FixedTimespan) -> bool
 }
 
 /// Whether daylight saving time ends with an entry before a local second, by its clocks.
-fn ends_before(set: &FixedTimespanSet, start: usize, end: usize, local: i64) -> bool
-    requires accepted { IsAccepted (schedule_of set.now) }
-    requires start { start < length set.now.others }
-    requires end { end < length set.now.others }
+fn ends_before<S: SpanTable>(set: &S, start: usize, end: usize, local: i64) -> bool
+    requires accepted { IsAccepted (schedule_of (S.seen set.now)) }
+    requires start { start < length (S.seen set.now).others }
+    requires end { end < length (S.seen set.now).others }
     requires bound { start < 18446744073709551615 }
-    ensures { result ≡ int_lt ((entry_in set.now end).0 +ℤ total (entry_in set.now start).1) local }
+    ensures { result ≡ int_lt ((entry_in (S.seen set.now) end).0 +ℤ total (entry_in (S.seen set.now) start).1) local }
 {
     set.time(end) + total_of(set, start + 1) < local
 }
 
 /// Whether daylight saving time starts with one entry and ends with another.
-fn are_start_and_end(set: &FixedTimespanSet, offset: i64, start: usize, end: usize) -> bool
-    requires accepted { IsAccepted (schedule_of set.now) }
-    requires start { start < length set.now.others }
-    requires end { end < length set.now.others }
+fn are_start_and_end<S: SpanTable>(set: &S, offset: i64, start: usize, end: usize) -> bool
+    requires accepted { IsAccepted (schedule_of (S.seen set.now)) }
+    requires start { start < length (S.seen set.now).others }
+    requires end { end < length (S.seen set.now).others }
     requires start_bound { start < 18446744073709551615 }
-    ensures { result ≡ are_start_and_end offset (entry_in set.now start) (entry_in set.now end) }
+    requires end_bound { end < 18446744073709551615 }
+    ensures { result ≡ are_start_and_end offset (entry_in (S.seen set.now) start) (entry_in (S.seen set.now) end) }
 {
-    is_start(offset, &entry(set, start).1)
-        && is_end(offset, &entry(set, end).1)
+    is_start(offset, entry_span(set, start))
+        && is_end(offset, entry_span(set, end))
         && ends_before(set, start, end, RULES_END)
 }
 
 /// What two entries of the last year are.
-fn form_of_pair(set: &FixedTimespanSet, offset: i64, first: usize, second: usize) -> Form
-    requires accepted { IsAccepted (schedule_of set.now) }
-    requires offset { offset ≡ standard_of set.now }
-    requires shape { IsShape set.now (year_begin -ℤ offset) (year_end -ℤ offset) (Pair first second) }
-    ensures { IsForm set.now result }
+fn form_of_pair<S: SpanTable>(set: &S, offset: i64, first: usize, second: usize) -> Form
+    requires accepted { IsAccepted (schedule_of (S.seen set.now)) }
+    requires offset { offset ≡ standard_of (S.seen set.now) }
+    requires shape { IsShape (S.seen set.now) (year_begin -ℤ offset) (year_end -ℤ offset) (Pair first second) }
+    ensures { IsForm (S.seen set.now) result }
 {
     if are_start_and_end(set, offset, first, second) {
         Form::Yearly {
@@ -173,10 +173,10 @@ fn form_of_pair(set: &FixedTimespanSet, offset: i64, first: usize, second: usize
 }
 
 /// What the last year of a set has, by its standard offset.
-pub(crate) fn form_of(set: &FixedTimespanSet, offset: i64) -> Form
-    requires accepted { IsAccepted (schedule_of set.now) }
-    requires offset { offset ≡ standard_of set.now }
-    ensures { IsForm set.now result }
+pub(crate) fn form_of<S: SpanTable>(set: &S, offset: i64) -> Form
+    requires accepted { IsAccepted (schedule_of (S.seen set.now)) }
+    requires offset { offset ≡ standard_of (S.seen set.now) }
+    ensures { IsForm (S.seen set.now) result }
 {
     match shape_of(set, offset) {
         Shape::Steady(span) => Form::Steady(span),

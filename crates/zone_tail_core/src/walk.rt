@@ -8,11 +8,11 @@ ghost use Rattle.tz_zone.specs.Spans.{shift_at};
 
 use crate::candidate::Candidate;
 use crate::spans::total_of;
-use tz_lookup::{FixedTimespanSet, SpanTable};
+use tz_lookup::SpanTable;
 
 /// Where a span ends, or the last year does.
-fn end_of_span(set: &FixedTimespanSet, span: usize, last: i64) -> i64
-    ensures end { (s : ℤ) → s <ℤ result ↔ (Lasts (shifts_of set.now) span s × (s <ℤ last)) }
+fn end_of_span<S: SpanTable>(set: &S, span: usize, last: i64) -> i64
+    ensures end { (s : ℤ) → s <ℤ result ↔ (Lasts (shifts_of (S.seen set.now)) span s × (s <ℤ last)) }
     ensures last { result ≤ℤ last }
 {
     if span < set.entry_count() {
@@ -30,14 +30,14 @@ fn sooner(a: i64, b: i64) -> i64
 }
 
 /// Whether a candidate gives the total of a span that an entry begins, up to the end of the last year.
-fn agrees_in_span(candidate: &Candidate, set: &FixedTimespanSet, span: usize, last: i64) -> bool
+fn agrees_in_span<S: SpanTable>(candidate: &Candidate, set: &S, span: usize, last: i64) -> bool
     requires sound { IsSoundCandidate candidate.now }
     requires some { 0 < span }
-    requires within { span ≤ length set.now.others }
-    requires accepted { IsAccepted (schedule_of set.now) }
-    requires reaches { ReachesTo candidate.now (shift_at (shifts_of set.now) (span - 1)).0 }
+    requires within { span ≤ length (S.seen set.now).others }
+    requires accepted { IsAccepted (schedule_of (S.seen set.now)) }
+    requires reaches { ReachesTo candidate.now (shift_at (shifts_of (S.seen set.now)) (span - 1)).0 }
     requires last { IsLast candidate.now last }
-    ensures { IsTrue result ↔ AgreesIn candidate.now (schedule_of set.now) last span }
+    ensures { IsTrue result ↔ AgreesIn candidate.now (schedule_of (S.seen set.now)) last span }
 {
     let low = set.time(span - 1);
     let high = end_of_span(set, span, last);
@@ -48,12 +48,12 @@ fn agrees_in_span(candidate: &Candidate, set: &FixedTimespanSet, span: usize, la
 }
 
 /// Whether a span is allowed and agrees.
-fn goes_on(candidate: &Candidate, set: &FixedTimespanSet, span: usize, last: i64) -> bool
+fn goes_on<S: SpanTable>(candidate: &Candidate, set: &S, span: usize, last: i64) -> bool
     requires sound { IsSoundCandidate candidate.now }
-    requires within { span ≤ length set.now.others }
-    requires accepted { IsAccepted (schedule_of set.now) }
+    requires within { span ≤ length (S.seen set.now).others }
+    requires accepted { IsAccepted (schedule_of (S.seen set.now)) }
     requires last { IsLast candidate.now last }
-    ensures { IsTrue result ↔ (IsAllowed candidate.now (schedule_of set.now) span × AgreesIn candidate.now (schedule_of set.now) last span) }
+    ensures { IsTrue result ↔ (IsAllowed candidate.now (schedule_of (S.seen set.now)) span × AgreesIn candidate.now (schedule_of (S.seen set.now)) last span) }
 {
     if span == 0 {
         candidate.is_fixed_at(total_of(set, 0))
@@ -63,11 +63,11 @@ fn goes_on(candidate: &Candidate, set: &FixedTimespanSet, span: usize, last: i64
 }
 
 /// The first of the spans from each of which on a candidate agrees; one past the last where it agrees from none.
-pub(crate) fn walk(candidate: &Candidate, set: &FixedTimespanSet, last: i64) -> usize
+pub(crate) fn walk<S: SpanTable>(candidate: &Candidate, set: &S, last: i64) -> usize
     requires sound { IsSoundCandidate candidate.now }
-    requires accepted { IsAccepted (schedule_of set.now) }
+    requires accepted { IsAccepted (schedule_of (S.seen set.now)) }
     requires last { IsLast candidate.now last }
-    ensures { IsWalked candidate.now (schedule_of set.now) last result }
+    ensures { IsWalked candidate.now (schedule_of (S.seen set.now)) last result }
 {
     let mut from = set.entry_count() + 1;
     'spans: while from > 0 {

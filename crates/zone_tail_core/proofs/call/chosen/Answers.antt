@@ -8,8 +8,8 @@ use Rattle.zone_tail_core.proofs.ReadyLemmas.{is_chosen}
 use Rattle.zone_tail_core.proofs.call.chosen.Goals as goal
 
 pub returns : goal.returns
-returns c =
-    let set = c.args.set.now in
+returns g c =
+    let set = g.S.SpanTable.seen c.args.set.now in
     let index = c.choose-choice.result.index in
     let span = c.choose-choice.result.span in
     let fits : FitsSigned w64 c.last_second-last.result = search rules in

@@ -13,22 +13,22 @@ difference_is : (o p : ℤ) → FitsSigned w64 o → o ≡ p → IsSmall p → t
 difference_is o p fits is small = omega (arith, ints, is, small.least, small.greatest)
 
 pub overflow_sub-result : goal.overflow_sub-result
-overflow_sub-result c =
-    let small = standard_small c.args.set.now c.requires.accepted c.in-Yearly.start c.in-Yearly.end (rw c.in-Yearly.is at c.requires.form) in
-    difference c.args.offset (standard_of c.args.set.now) c.ranges.offset c.requires.offset small
+overflow_sub-result g c =
+    let small = standard_small (g.S.SpanTable.seen c.args.set.now) c.requires.accepted c.in-Yearly.start c.in-Yearly.end (rw c.in-Yearly.is at c.requires.form) in
+    difference c.args.offset (standard_of (g.S.SpanTable.seen c.args.set.now)) c.ranges.offset c.requires.offset small
 
 pub returns-then-span-entry_count : goal.returns-then-span-entry_count
-returns-then-span-entry_count c =
+returns-then-span-entry_count g c =
     let fits : FitsSigned w64 c.time.result = search rules in
-    ready_before_entry c.args.set.now c.requires.accepted c.in-Steady.span (rw c.in-Steady.is at c.requires.form) _ (omega (arith, c.entry_count.ensures.count)) (to_z-of_z fits ∙ c.time.ensures)
+    ready_before_entry (g.S.SpanTable.seen c.args.set.now) c.requires.accepted c.in-Steady.span (rw c.in-Steady.is at c.requires.form) _ (omega (arith, c.entry_count.ensures.count)) (to_z-of_z fits ∙ c.time.ensures)
 
 pub returns-else-span-entry_count : goal.returns-else-span-entry_count
-returns-else-span-entry_count c =
-    ready_far c.args.set.now c.requires.accepted c.in-Steady.span (rw c.in-Steady.is at c.requires.form) (omega (arith, c.entry_count.ensures.count))
+returns-else-span-entry_count g c =
+    ready_far (g.S.SpanTable.seen c.args.set.now) c.requires.accepted c.in-Steady.span (rw c.in-Steady.is at c.requires.form) (omega (arith, c.entry_count.ensures.count))
 
 pub returns-in-Yearly : goal.returns-in-Yearly
-returns-in-Yearly c =
+returns-in-Yearly g c =
     let h = rw c.in-Yearly.is at c.requires.form in
-    let small = standard_small c.args.set.now c.requires.accepted c.in-Yearly.start c.in-Yearly.end h in
-    subst (IsReady c.args.set.now) (sym (difference_is c.args.offset (standard_of c.args.set.now) c.ranges.offset c.requires.offset small))
-    (yearly_ready c.args.set.now c.requires.accepted c.in-Yearly.start c.in-Yearly.end h)
+    let small = standard_small (g.S.SpanTable.seen c.args.set.now) c.requires.accepted c.in-Yearly.start c.in-Yearly.end h in
+    subst (IsReady (g.S.SpanTable.seen c.args.set.now)) (sym (difference_is c.args.offset (standard_of (g.S.SpanTable.seen c.args.set.now)) c.ranges.offset c.requires.offset small))
+    (yearly_ready (g.S.SpanTable.seen c.args.set.now) c.requires.accepted c.in-Yearly.start c.in-Yearly.end h)

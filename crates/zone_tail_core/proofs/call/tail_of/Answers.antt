@@ -8,8 +8,8 @@ use Rattle.zone_tail_core.proofs.CarryLemmas.{carries_on}
 use Rattle.zone_tail_core.proofs.call.tail_of.Goals as goal
 
 pub returns-clause-read : goal.returns-clause-read
-returns-clause-read c =
-    let set = c.args.set.now in
+returns-clause-read g c =
+    let set = g.S.SpanTable.seen c.args.set.now in
     let is = c.requires.chosen in
     let text = rw (c.names.ensures.standard, c.names.ensures.saving) at c.in_ok-text.ensures in
     carries_on set (names_of (form set)).0 (names_of (form set)).1 c.args.candidate.now c.args.span c.beginning.result _ is.named is.written is.sound is.closes is.settles

@@ -1,6 +1,6 @@
 use Rattle.std.proofs.Common.{◌≡◌, ℕ, suc, ◌+◌, ◌≤◌, length, ℤ, ◌+ℤ◌, ◌≤ℤ◌, ◌<ℤ◌, w64, to_z, of_z, to_z-of_z, FitsSigned, rules, IfOk, sym, ap, subst, ◌∙◌, arith}
 use Rattle.std.proofs.lemmas.Int.{ints}
-use Rattle.zone_spans.specs.Entries.{Entry, total}
+use Rattle.zone_spans.specs.Entries.{total}
 use Rattle.tz_zone.specs.Sets.{total_of_span}
 use Rattle.tz_zone.specs.declared.set.FixedTimespanSet.{FixedTimespanSet}
 use Rattle.zone_tail_core.specs.Changes.{changes_at}
@@ -28,78 +28,78 @@ total_is set start r l is =
     let next : start + 1 ≡ suc start = omega arith in
     is ∙ ap (total_of_span set) next ∙ total_of_span-is set (suc start) l
 
-pub overflow_add-entry : goal.overflow_add-entry
-overflow_add-entry c =
-    let set = c.args.set.now in
-    let at = ap (λ (e : Entry). e.0) c.entry.ensures in
-    let fits : FitsSigned w64 c.entry.result.now.0 = search rules in
-    (local c.entry.result.now.0 c.args.offset (entry_in set c.args.start).0 (standard_of set) fits c.ranges.offset at c.requires.offset
+pub overflow_add-entry_time : goal.overflow_add-entry_time
+overflow_add-entry_time g c =
+    let set = g.S.SpanTable.seen c.args.set.now in
+    let at = c.entry_time.ensures in
+    let fits : FitsSigned w64 c.entry_time.result = search rules in
+    (local c.entry_time.result c.args.offset (entry_in set c.args.start).0 (standard_of set) fits c.ranges.offset at c.requires.offset
     (start_low set c.requires.accepted c.args.start c.args.end c.requires.form) (start_high set c.requires.accepted c.args.start c.args.end c.requires.form)).fits
 
 pub changes_at-starts-requires-clause-begun : goal.changes_at-starts-requires-clause-begun
-changes_at-starts-requires-clause-begun c =
-    let set = c.args.set.now in
-    let at = ap (λ (e : Entry). e.0) c.entry.ensures in
-    let fits : FitsSigned w64 c.entry.result.now.0 = search rules in
-    (local c.entry.result.now.0 c.args.offset (entry_in set c.args.start).0 (standard_of set) fits c.ranges.offset at c.requires.offset
+changes_at-starts-requires-clause-begun g c =
+    let set = g.S.SpanTable.seen c.args.set.now in
+    let at = c.entry_time.ensures in
+    let fits : FitsSigned w64 c.entry_time.result = search rules in
+    (local c.entry_time.result c.args.offset (entry_in set c.args.start).0 (standard_of set) fits c.ranges.offset at c.requires.offset
     (start_low set c.requires.accepted c.args.start c.args.end c.requires.form) (start_high set c.requires.accepted c.args.start c.args.end c.requires.form)).begun
 
 pub changes_at-starts-requires-clause-not_over : goal.changes_at-starts-requires-clause-not_over
-changes_at-starts-requires-clause-not_over c =
-    let set = c.args.set.now in
-    let at = ap (λ (e : Entry). e.0) c.entry.ensures in
-    let fits : FitsSigned w64 c.entry.result.now.0 = search rules in
-    (local c.entry.result.now.0 c.args.offset (entry_in set c.args.start).0 (standard_of set) fits c.ranges.offset at c.requires.offset
+changes_at-starts-requires-clause-not_over g c =
+    let set = g.S.SpanTable.seen c.args.set.now in
+    let at = c.entry_time.ensures in
+    let fits : FitsSigned w64 c.entry_time.result = search rules in
+    (local c.entry_time.result c.args.offset (entry_in set c.args.start).0 (standard_of set) fits c.ranges.offset at c.requires.offset
     (start_low set c.requires.accepted c.args.start c.args.end c.requires.form) (start_high set c.requires.accepted c.args.start c.args.end c.requires.form)).not_over
 
-pub entry-requires-2 : goal.entry-requires-2
-entry-requires-2 c = end_inside c.args.set.now c.requires.accepted c.args.start c.args.end c.requires.form
+pub entry_time-requires-2 : goal.entry_time-requires-2
+entry_time-requires-2 g c = end_inside (g.S.SpanTable.seen c.args.set.now) c.requires.accepted c.args.start c.args.end c.requires.form
 
-pub overflow_add-entry-2 : goal.overflow_add-entry-2
-overflow_add-entry-2 c =
-    let set = c.args.set.now in
-    let at = ap (λ (e : Entry). e.0) c.entry-2.ensures in
-    let fits : FitsSigned w64 c.entry-2.result.now.0 = search rules in
+pub overflow_add-entry_time-2 : goal.overflow_add-entry_time-2
+overflow_add-entry_time-2 g c =
+    let set = g.S.SpanTable.seen c.args.set.now in
+    let at = c.entry_time-2.ensures in
+    let fits : FitsSigned w64 c.entry_time-2.result = search rules in
     let fits_total : FitsSigned w64 c.total_of-saving.result = search rules in
     let inside = start_inside set c.requires.accepted c.args.start c.args.end c.requires.form in
     let saving = total_is set c.args.start c.total_of-saving.result (omega (arith, inside)) c.total_of-saving.ensures.total in
-    (local c.entry-2.result.now.0 c.total_of-saving.result (entry_in set c.args.end).0 (total (entry_in set c.args.start).1) fits fits_total at saving
+    (local c.entry_time-2.result c.total_of-saving.result (entry_in set c.args.end).0 (total (entry_in set c.args.start).1) fits fits_total at saving
     (end_low set c.requires.accepted c.args.start c.args.end c.requires.form) (end_high set c.requires.accepted c.args.start c.args.end c.requires.form)).fits
 
 pub changes_at-ends-requires-clause-begun : goal.changes_at-ends-requires-clause-begun
-changes_at-ends-requires-clause-begun c =
-    let set = c.args.set.now in
-    let at = ap (λ (e : Entry). e.0) c.entry-2.ensures in
-    let fits : FitsSigned w64 c.entry-2.result.now.0 = search rules in
+changes_at-ends-requires-clause-begun g c =
+    let set = g.S.SpanTable.seen c.args.set.now in
+    let at = c.entry_time-2.ensures in
+    let fits : FitsSigned w64 c.entry_time-2.result = search rules in
     let fits_total : FitsSigned w64 c.total_of-saving.result = search rules in
     let inside = start_inside set c.requires.accepted c.args.start c.args.end c.requires.form in
     let saving = total_is set c.args.start c.total_of-saving.result (omega (arith, inside)) c.total_of-saving.ensures.total in
-    (local c.entry-2.result.now.0 c.total_of-saving.result (entry_in set c.args.end).0 (total (entry_in set c.args.start).1) fits fits_total at saving
+    (local c.entry_time-2.result c.total_of-saving.result (entry_in set c.args.end).0 (total (entry_in set c.args.start).1) fits fits_total at saving
     (end_low set c.requires.accepted c.args.start c.args.end c.requires.form) (end_high set c.requires.accepted c.args.start c.args.end c.requires.form)).begun
 
 pub changes_at-ends-requires-clause-not_over : goal.changes_at-ends-requires-clause-not_over
-changes_at-ends-requires-clause-not_over c =
-    let set = c.args.set.now in
-    let at = ap (λ (e : Entry). e.0) c.entry-2.ensures in
-    let fits : FitsSigned w64 c.entry-2.result.now.0 = search rules in
+changes_at-ends-requires-clause-not_over g c =
+    let set = g.S.SpanTable.seen c.args.set.now in
+    let at = c.entry_time-2.ensures in
+    let fits : FitsSigned w64 c.entry_time-2.result = search rules in
     let fits_total : FitsSigned w64 c.total_of-saving.result = search rules in
     let inside = start_inside set c.requires.accepted c.args.start c.args.end c.requires.form in
     let saving = total_is set c.args.start c.total_of-saving.result (omega (arith, inside)) c.total_of-saving.ensures.total in
-    (local c.entry-2.result.now.0 c.total_of-saving.result (entry_in set c.args.end).0 (total (entry_in set c.args.start).1) fits fits_total at saving
+    (local c.entry_time-2.result c.total_of-saving.result (entry_in set c.args.end).0 (total (entry_in set c.args.start).1) fits fits_total at saving
     (end_low set c.requires.accepted c.args.start c.args.end c.requires.form) (end_high set c.requires.accepted c.args.start c.args.end c.requires.form)).not_over
 
 pub returns : goal.returns
-returns c =
-    let set = c.args.set.now in
+returns g c =
+    let set = g.S.SpanTable.seen c.args.set.now in
     let h = c.requires.form in
-    let fits : FitsSigned w64 c.entry.result.now.0 = search rules in
-    let fits_2 : FitsSigned w64 c.entry-2.result.now.0 = search rules in
+    let fits : FitsSigned w64 c.entry_time.result = search rules in
+    let fits_2 : FitsSigned w64 c.entry_time-2.result = search rules in
     let fits_total : FitsSigned w64 c.total_of-saving.result = search rules in
     let inside = start_inside set c.requires.accepted c.args.start c.args.end h in
     let saving = total_is set c.args.start c.total_of-saving.result (omega (arith, inside)) c.total_of-saving.ensures.total in
-    let starts = local c.entry.result.now.0 c.args.offset (entry_in set c.args.start).0 (standard_of set) fits c.ranges.offset (ap (λ (e : Entry). e.0) c.entry.ensures) c.requires.offset
+    let starts = local c.entry_time.result c.args.offset (entry_in set c.args.start).0 (standard_of set) fits c.ranges.offset c.entry_time.ensures c.requires.offset
     (start_low set c.requires.accepted c.args.start c.args.end h) (start_high set c.requires.accepted c.args.start c.args.end h) in
-    let ends = local c.entry-2.result.now.0 c.total_of-saving.result (entry_in set c.args.end).0 (total (entry_in set c.args.start).1) fits_2 fits_total (ap (λ (e : Entry). e.0) c.entry-2.ensures) saving
+    let ends = local c.entry_time-2.result c.total_of-saving.result (entry_in set c.args.end).0 (total (entry_in set c.args.start).1) fits_2 fits_total c.entry_time-2.ensures saving
     (end_low set c.requires.accepted c.args.start c.args.end h) (end_high set c.requires.accepted c.args.start c.args.end h) in
     let first = c.changes_at-starts.ensures ∙ ap changes_at starts.is in
     let second = c.changes_at-ends.ensures ∙ ap changes_at ends.is in

@@ -6,9 +6,9 @@ use Rattle.zone_tail_core.proofs.choice.best.Goals as goal
 use Rattle.zone_tail_core.proofs.choice.best.Goals.{then-steps-from, else-steps-from}
 
 pub loop-i-preserved : goal.loop-i-preserved
-loop-i-preserved c =
+loop-i-preserved g c =
     let candidates = c.args.candidates.now in
-    let zone = schedule_of c.args.set.now in
+    let zone = schedule_of (g.S.SpanTable.seen c.args.set.now) in
     let last : ℤ = to_z w64 (of_z w64 c.args.last) in
     let i = c.loop-i.i in
     elim c.if-steps-from.branch [

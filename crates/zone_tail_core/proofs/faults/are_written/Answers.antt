@@ -7,8 +7,8 @@ use Rattle.zone_tail_core.proofs.ReadyLemmas.{total_of_span-is}
 use Rattle.zone_tail_core.proofs.faults.are_written.Goals as goal
 
 pub returns-then-can_be_written : goal.returns-then-can_be_written
-returns-then-can_be_written c =
-    let set = c.args.set.now in
+returns-then-can_be_written g c =
+    let set = g.S.SpanTable.seen c.args.set.now in
     let fits : FitsSigned w64 c.total_of.result = search rules in
     let next : c.args.start + 1 ≡ suc c.args.start = omega arith in
     let first = ap can_be_written (sym (to_z-of_z c.ranges.offset)) ∙ sym c.can_be_written.ensures ∙ c.if-can_be_written.true in

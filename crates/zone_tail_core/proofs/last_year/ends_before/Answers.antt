@@ -13,8 +13,8 @@ sum_fits : (t o : ℤ) → IsSpanTime t → neg_ℤ (pos 93599) ≤ℤ o → o �
 sum_fits t o time least greatest = omega (arith, ints, time.0, time.1)
 
 pub returns : goal.returns
-returns c =
-    let set = c.args.set.now in
+returns g c =
+    let set = g.S.SpanTable.seen c.args.set.now in
     let fits_time : FitsSigned w64 c.time.result = search rules in
     let fits_total : FitsSigned w64 c.total_of.result = search rules in
     let next : c.args.start + 1 ≡ suc c.args.start = omega arith in

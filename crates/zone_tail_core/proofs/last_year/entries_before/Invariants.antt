@@ -5,4 +5,4 @@ use Rattle.zone_tail_core.proofs.last_year.entries_before.Given as goal
 
 -- the entries so far lie before
 abbrev pub invariant-loop-i : goal.invariant-loop-i
-invariant-loop-i l = (j : ℕ) → j < l.i → (shift_at (shifts_of l.set) j).0 <ℤ (l.local -ℤ l.offset)
+invariant-loop-i g l = (j : ℕ) → j < l.i → (shift_at (shifts_of (g.S.SpanTable.seen l.set)) j).0 <ℤ (l.local -ℤ l.offset)

@@ -5,12 +5,12 @@ use Rattle.zone_tail_core.proofs.last_year.is_ending_early.Goals as goal
 
 pub returns-in-Yearly : goal.returns-in-Yearly
 unfolding is_ending_early
-returns-in-Yearly c = c.ends_before.ensures ∙ sym (ap ends_early (subst (IsForm c.args.set.now) c.in-Yearly.is c.form_of.ensures).0)
+returns-in-Yearly g c = c.ends_before.ensures ∙ sym (ap ends_early (subst (IsForm (g.S.SpanTable.seen c.args.set.now)) c.in-Yearly.is c.form_of.ensures).0)
 
 pub returns-in-Steady : goal.returns-in-Steady
 unfolding is_ending_early
-returns-in-Steady c = sym (ap ends_early (subst (IsForm c.args.set.now) c.in-Steady.is c.form_of.ensures).0)
+returns-in-Steady g c = sym (ap ends_early (subst (IsForm (g.S.SpanTable.seen c.args.set.now)) c.in-Steady.is c.form_of.ensures).0)
 
 pub returns-in-Other : goal.returns-in-Other
 unfolding is_ending_early
-returns-in-Other c = sym (ap ends_early (subst (IsForm c.args.set.now) c.in-Other.is c.form_of.ensures))
+returns-in-Other g c = sym (ap ends_early (subst (IsForm (g.S.SpanTable.seen c.args.set.now)) c.in-Other.is c.form_of.ensures))

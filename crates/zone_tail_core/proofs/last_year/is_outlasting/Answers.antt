@@ -9,8 +9,8 @@ use Rattle.zone_tail_core.proofs.last_year.is_outlasting.Goals as goal
 
 pub returns : goal.returns
 unfolding is_outlasting
-returns c =
-    let set = c.args.set.now in
+returns g c =
+    let set = g.S.SpanTable.seen c.args.set.now in
     let fits : FitsSigned w64 c.standard_of.result = search rules in
     let count = subst (λ (o : ℤ). IsCount (shifts_of set) (year_end -ℤ o) c.entries_before.result) (to_z-of_z fits ∙ c.standard_of.ensures) c.entries_before.ensures in
     ap (nat_lt c.entries_before.result) c.entry_count.ensures.count

@@ -4,7 +4,7 @@ use Rattle.zone_tail_core.proofs.FormLemmas.{standard_from_count}
 use Rattle.zone_tail_core.proofs.last_year.standard_of.Goals as goal
 
 pub returns : goal.returns
-returns c =
-    let fits : FitsSigned w64 c.span_at.result.now.utc_offset = search rules in
-    to_z-of_z fits ∙ ap (λ (s : FixedTimespan). s.utc_offset) c.span_at.ensures
-    ∙ standard_from_count c.args.set.now c.entries_before.result c.entries_before.ensures
+returns g c =
+    let fits : FitsSigned w64 c.span.result.now.utc_offset = search rules in
+    to_z-of_z fits ∙ ap (λ (s : FixedTimespan). s.utc_offset) c.span.ensures
+    ∙ standard_from_count (g.S.SpanTable.seen c.args.set.now) c.entries_before.result c.entries_before.ensures

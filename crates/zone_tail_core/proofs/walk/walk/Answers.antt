@@ -5,14 +5,14 @@ use Rattle.zone_tail_core.proofs.StepLemmas.{walked_more}
 use Rattle.zone_tail_core.proofs.walk.walk.Goals as goal
 
 pub spans-preserved : goal.spans-preserved
-spans-preserved c = record {
+spans-preserved g c = record {
   within = omega arith;
-  later = walked_more c.args.candidate.now (schedule_of c.args.set.now) (to_z w64 (of_z w64 c.args.last)) c.requires.accepted.times c.spans.from (omega arith) (omega arith) (c.goes_on.ensures.0 c.if-not-goes_on.false) c.spans.invariant.later;
+  later = walked_more c.args.candidate.now (schedule_of (g.S.SpanTable.seen c.args.set.now)) (to_z w64 (of_z w64 c.args.last)) c.requires.accepted.times c.spans.from (omega arith) (omega arith) (c.goes_on.ensures.0 c.if-not-goes_on.false) c.spans.invariant.later;
 }
 
 pub returns : goal.returns
-returns c =
-    let walked : IsWalked c.args.candidate.now (schedule_of c.args.set.now) (to_z w64 (of_z w64 c.args.last)) c.spans.from = record {
+returns g c =
+    let walked : IsWalked c.args.candidate.now (schedule_of (g.S.SpanTable.seen c.args.set.now)) (to_z w64 (of_z w64 c.args.last)) c.spans.from = record {
       within = omega arith;
       later = c.spans.invariant.later;
       stops = λ k e. absurd (omega arith);

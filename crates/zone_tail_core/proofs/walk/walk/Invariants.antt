@@ -6,11 +6,11 @@ use Rattle.zone_tail_core.proofs.walk.walk.Given as goal
 
 -- the spans from here on
 abbrev pub invariant-spans : goal.invariant-spans
-invariant-spans l = record {
-  within : l.from ≤ length (schedule_of l.set).shifts + 1;
-  later : (k : ℕ) → l.from ≤ k → k ≤ length (schedule_of l.set).shifts
-      → IsAllowed l.candidate (schedule_of l.set) k × AgreesFrom l.candidate (schedule_of l.set) l.last k;
+invariant-spans g l = record {
+  within : l.from ≤ length (schedule_of (g.S.SpanTable.seen l.set)).shifts + 1;
+  later : (k : ℕ) → l.from ≤ k → k ≤ length (schedule_of (g.S.SpanTable.seen l.set)).shifts
+      → IsAllowed l.candidate (schedule_of (g.S.SpanTable.seen l.set)) k × AgreesFrom l.candidate (schedule_of (g.S.SpanTable.seen l.set)) l.last k;
 }
 
 abbrev pub decreases-spans : goal.decreases-spans
-decreases-spans l = l.from
+decreases-spans g l = l.from
