@@ -1,5 +1,5 @@
-"""The programs that are tried: a table, in which a new program is one entry. What is due of statuses and lines is what the README
-says of them."""
+"""The programs that are tried: a table, in which a new program is one entry. What is due of statuses and lines is what
+docs/PROGRAMS.md says of them."""
 import os
 import re
 from dataclasses import dataclass
