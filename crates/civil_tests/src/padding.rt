@@ -142,3 +142,16 @@ fn metadata_is_reused(rt: HostRuntime) {
     let mut out = WriteBuffer::<5>::new();
     holds(&rt, value.fmt_with_metadata(&mut out, f, copy).is_ok());
 }
+
+#[test]
+fn flags_that_no_text_shows(rt: HostRuntime) {
+    let mut f = FormatterOptions::default();
+    f.with_sign_plus(true)
+        .with_sign_minus(true)
+        .with_alternate(true);
+    same(
+        &rt,
+        &(f.sign_plus(), f.sign_minus(), f.alternate()),
+        &(false, true, true),
+    );
+}

@@ -1,0 +1,122 @@
+//! The happy path of public calls that nothing else names. Values are those of the calendar, of the tz database for New York, and of
+//! Python's `zoneinfo`.
+ghost use Rattle.std.specs.Prelude.{◌≡◌, ◌<◌};
+
+use crate::checks::same;
+use crate::fixtures::{NEW_YORK, at, database_of, parser, table_of};
+use civil_base::{OffsetDateTime, PlainDateTime, UtcOffset, read_local, read_zoned};
+use std::marker::Brand;
+use std::process::Abort;
+use std::sync::ledger::{Blank, Ledger};
+use tz_lookup::{CompactTz, OffsetDateTimeExt, OffsetResult, PrimitiveDateTimeExt, Steps, Tz};
+use tz_posix::{PosixTz, Time};
+use zone_answers::open_zone;
+use zone_uses::{Moved, next_change, zone_of_source};
+use zone_values::{DaySpec, Month, Weekday, Year};
+
+#[test]
+fn fields_of_lines(rt: HostRuntime) {
+    let alloc = rt.alloc();
+    let month = Month::parse(alloc, "oCT").ok().expect(&rt, "a month");
+    let weekday = Weekday::parse(alloc, "sunday")
+        .ok()
+        .expect(&rt, "a weekday");
+    let year = Year::parse(alloc, "2024").ok().expect(&rt, "a year");
+    same(
+        &rt,
+        &(month, weekday, year),
+        &(Month::October, Weekday::Sunday, Year::Number(2024)),
+    );
+    let day = DaySpec::Last(Weekday::Sunday).to_concrete_day(2024, Month::October);
+    same(&rt, &day, &Some((Month::October, 27)));
+}
+
+/// The seconds of 01:30 at the end of New York's summer of 2024, a time that is shown twice.
+fn fold(rt: &impl Abort) -> PlainDateTime {
+    read_local("2024-11-03 01:30:00.000000000").expect(rt, "no local time")
+}
+
+/// Whether a search that counts its steps finds two offsets at the fold.
+fn finds_two<L: Ledger>(rt: &impl Abort, zone: &Tz<'_>, blank: Blank) -> bool
+    requires name { blank.name ≡ L.name }
+    requires parts { blank.parts ≡ L.parts }
+    requires some { 0 < L.parts }
+{
+    let mut steps: Steps<L> = Steps::new(blank);
+    zone.get_offset_local_counted(&fold(rt).assume_utc(), &mut steps)
+        .is_ambiguous()
+}
+
+/// The same of a compact set.
+fn finds_two_compactly<L: Ledger>(rt: &impl Abort, zone: &CompactTz<'_>, blank: Blank) -> bool
+    requires name { blank.name ≡ L.name }
+    requires parts { blank.parts ≡ L.parts }
+    requires some { 0 < L.parts }
+{
+    let mut steps: Steps<L> = Steps::new(blank);
+    zone.get_offset_local_counted(&fold(rt).assume_utc(), &mut steps)
+        .is_ambiguous()
+}
+
+#[test]
+fn a_fold_has_two_offsets(rt: HostRuntime) {
+    let alloc = rt.alloc();
+    let database = database_of(&rt, alloc, NEW_YORK);
+    let zone = database
+        .get_by_name("America/New_York")
+        .expect(&rt, "no zone");
+    let Ok(set) = zone_of_source(alloc, &parser(&rt, alloc), NEW_YORK, "America/New_York") else {
+        panic!(&rt; "no zone");
+    };
+    let compact = CompactTz::new(&set);
+    let both = (
+        finds_two::<Brand>(&rt, &zone, Blank::new(1)),
+        finds_two_compactly::<Brand>(&rt, &compact, Blank::new(1)),
+    );
+    same(&rt, &both, &(true, true));
+    let later = read_zoned("2024-11-03 01:30:00.000000000 -05:00:00");
+    same(&rt, &fold(&rt).assume_timezone(&zone).take_second(), &later);
+    let as_utc = read_zoned("2024-11-03 01:30:00.000000000 -04:00:00");
+    same(&rt, &Some(fold(&rt).assume_timezone_utc(&zone)), &as_utc);
+    let two = OffsetResult::Ambiguous(1, 2);
+    same(&rt, &(two.unwrap_first(), two.unwrap_second()), &(1, 2));
+}
+
+/// Half an hour after midnight of 1 July 2024 at UTC, by the clocks of a string's summer.
+fn converted(rt: &impl Abort, zone: &PosixTz<'_>) -> Option<OffsetDateTime> {
+    zone.convert(&at(rt, 1_719_793_800)).ok()
+}
+
+#[test]
+fn a_string_moves_an_instant(rt: HostRuntime) {
+    let database = database_of(&rt, rt.alloc(), NEW_YORK);
+    let Ok(zone) = PosixTz::parse("CET-1CEST,M3.5.0,M10.5.0/3", &database) else {
+        panic!(&rt; "refused");
+    };
+    let summer = read_zoned("2024-07-01 02:30:00.000000000 +02:00:00");
+    same(&rt, &converted(&rt, &zone), &summer);
+    let time = Time {
+        hh: 2,
+        mm: Some(30),
+        ss: None,
+    };
+    same(
+        &rt,
+        &Some(time.to_time()),
+        &civil_base::Time::from_hms(2, 30, 0).ok(),
+    );
+}
+
+#[test]
+fn callers_answer(rt: HostRuntime) {
+    let alloc = rt.alloc();
+    let table = table_of(&rt, alloc, NEW_YORK);
+    let Ok(set) = open_zone(alloc, &table, "America/New_York") else {
+        panic!(&rt; "no zone");
+    };
+    same(&rt, &next_change(&set, 1_700_000_000), &Some(1_710_054_000));
+    let hour = UtcOffset::from_whole_seconds(3600).expect(&rt, "no offset");
+    let moved = Moved::new("Moved", &at(&rt, 0), UtcOffset::UTC, hour);
+    let first = read_zoned("1970-01-01 01:00:00.000000000 +01:00:00");
+    same(&rt, &at(&rt, 0).to_timezone(&moved), &first);
+}
