@@ -24,6 +24,9 @@ const FAR: i64 = 1 << 41;
 /// The POSIX TZ string that carries a set on, and the first entry from which on its offset is the set's at every instant up to
 /// the end of the last year, 2099 by clocks of the standard offset in force at the beginning of 2100 UTC.
 ///
+/// The set is a `FixedTimespanSet`, a `CompactSet` or whatever else gives spans by number, and one that a `Tz` can be made of. Memory
+/// is taken for the candidates and the string alone, and none before it is known that there is a string.
+///
 /// A set without an entry in that year has one string, of standard time alone. A set with two, with which daylight saving time
 /// starts and ends, has up to four, with a rule of two `M` dates; it begins with an entry from 1800 on. Of the strings that reach
 /// back furthest the first is given, where the fifth weekday comes before the others, of the start and then of the end.

@@ -1,7 +1,9 @@
 mod FileLemmas
 mod FooterLemmas
+pub mod CauseLemmas
 pub mod TotalLemmas
 pub mod ValueLemmas
+pub mod PlaceLemmas
 mod WorkedKinds
 mod WorkedFooters
 mod StringLemmas

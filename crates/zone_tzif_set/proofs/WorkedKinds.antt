@@ -1,13 +1,15 @@
 -- What spans are in a file, at worked rows.
-use Rattle.std.proofs.Common.{◌≡◌, Bool, true, false, [], ◌∷◌, map, Some, codes, refl, ℤ, pos, negsuc}
+use Rattle.std.proofs.Common.{◌≡◌, Bool, true, false, [], ◌∷◌, map, Some, None, codes, refl, sym, ℤ, pos, negsuc}
+use Rattle.std.proofs.lemmas.Option.{none-some}
 use Rattle.zone_spans.specs.declared.span.FixedTimespan.{FixedTimespan}
 use Rattle.tz_zone.specs.declared.set.FixedTimespanSet.{FixedTimespanSet}
 use Rattle.zone_tail_core.specs.LastYear.{form, standard_of}
 use Rattle.zone_tzif_core.specs.Zones.{KindValue}
+use Rattle.zone_tzif_core.specs.declared.values.WriteFault.{WriteFault}
 use Rattle.zone_tzif_core.specs.declared.values.WriteFault.TheVariants as write
 use Rattle.zone_tzif_set.specs.Files.{consistent_footer, footer_of, is_contradicted, IsFileFault}
 use Rattle.zone_tzif_set.specs.Values.{kind_of, value_of}
-use Rattle.zone_tzif_set.specs.declared.file.FileFault.TheVariants.{Times, Types, Names}
+use Rattle.zone_tzif_set.specs.declared.file.FileFault.TheVariants.{Times, Types, Names, NoMemory}
 
 abbrev span : ℤ → ℤ → FixedTimespan
 span offset saving = record { utc_offset = offset; dst_offset = saving; name = codes "A" }
@@ -44,3 +46,7 @@ kept_string set past = rw (past) refl
 -- each cause is its own
 causes : IsFileFault Times (Some write.Times) × IsFileFault Types (Some write.Types) × IsFileFault Names (Some write.Names)
 causes = (refl, refl, refl)
+
+-- want of memory is told only where there is no cause
+memory_last : IsFileFault NoMemory None × ((cause : WriteFault) → ¬ (IsFileFault NoMemory (Some cause)))
+memory_last = (refl, λ cause e. none-some cause (sym e))

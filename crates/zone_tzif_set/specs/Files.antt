@@ -53,9 +53,9 @@ consistent_file set = tzif (consistent_zone set)
 abbrev pub consistent_fault : FixedTimespanSet → Option WriteFault
 consistent_fault set = write_fault (consistent_zone set)
 
--- want of memory may come at any set, any other fault is its cause
+-- want of memory comes only where there is no cause, any other fault is its cause
 abbrev pub IsFileFault : FileFault → Option WriteFault → Type 0
-IsFileFault NoMemory fault = Unit {0}
+IsFileFault NoMemory fault = fault ≡ None
 IsFileFault Times fault = fault ≡ Some write.Times
 IsFileFault Types fault = fault ≡ Some write.Types
 IsFileFault Names fault = fault ≡ Some write.Names

@@ -2,3 +2,5 @@
 pub mod Values
 pub mod Files
 pub mod Footers
+-- Words of private clauses.
+pub mod Causes

@@ -12,10 +12,11 @@ ghost use Rattle.zone_tzif_core.specs.Zones.{ZoneValue};
 ghost use Rattle.zone_tzif_set.specs.Files.{consistent_footer, consistent_zone, footer_of, is_contradicted, zone_of, IsCarriedOn, Makes, MakesZone};
 ghost use Rattle.zone_tzif_set.specs.Values.{value_of};
 
+use crate::causes::cause_of;
 use crate::convert::from_set;
 use crate::laws::{few_causes, reads_back};
 use std::alloc::{AllocError, Global};
-use tz_zone::FixedTimespanSet;
+use tz_zone::SpanTable;
 use zone_tail_core::laws::one_tail;
 use zone_tail_core::{TailFault, is_ending_early, is_outlasting, tail};
 use zone_tzif_core::{WriteFault, write_tzif};
@@ -29,7 +30,7 @@ pub enum FileFault {
     Types,
     /// An abbreviation has a zero byte, or the distinct ones take more than 256 bytes, each with a zero after it.
     Names,
-    /// There was no memory for the file.
+    /// There was no memory for the file, of which none of these is a cause.
     NoMemory,
 }
 
@@ -45,10 +46,10 @@ impl From<AllocError> for FileFault {
 }
 
 /// The string that carries a set on, or nothing where it has none.
-fn footer_of(alloc: Global, set: &FixedTimespanSet) -> Result<String, AllocError>
-    requires { IsAccepted (schedule_of set.now) }
-    ensures text { IfOk result (λ text. string_bytes text ≡ footer_of set.now) }
-    ensures carried { IfOk result (λ _. IsCarriedOn set.now) }
+fn footer_of<S: SpanTable>(alloc: Global, set: &S) -> Result<String, AllocError>
+    requires { IsAccepted (schedule_of (S.seen set.now)) }
+    ensures text { IfOk result (λ text. string_bytes text ≡ footer_of (S.seen set.now)) }
+    ensures carried { IfOk result (λ _. IsCarriedOn (S.seen set.now)) }
 {
     one_tail();
     match tail(alloc, set) {
@@ -63,19 +64,19 @@ fn footer_of(alloc: Global, set: &FixedTimespanSet) -> Result<String, AllocError
 /// Whether a set's string may say otherwise as a footer: a change lies past all that it says, or daylight saving time ends in the
 /// first week of the last year.
 #[tactic(auto, unfolding(crate::specs::Files::is_contradicted))]
-fn is_contradicted(set: &FixedTimespanSet) -> bool
-    requires { IsAccepted (schedule_of set.now) }
-    ensures { result ≡ is_contradicted set.now }
+fn is_contradicted<S: SpanTable>(set: &S) -> bool
+    requires { IsAccepted (schedule_of (S.seen set.now)) }
+    ensures { result ≡ is_contradicted (S.seen set.now) }
 {
     is_outlasting(set) || is_ending_early(set)
 }
 
 /// The string that carries a set on, or nothing where it has none or may say otherwise as a footer.
 #[tactic(auto, unfolding(crate::specs::Files::consistent_footer))]
-fn consistent_footer(alloc: Global, set: &FixedTimespanSet) -> Result<String, AllocError>
-    requires { IsAccepted (schedule_of set.now) }
-    ensures text { IfOk result (λ text. string_bytes text ≡ consistent_footer set.now) }
-    ensures carried { IfOk result (λ _. IsCarriedOn set.now) }
+fn consistent_footer<S: SpanTable>(alloc: Global, set: &S) -> Result<String, AllocError>
+    requires { IsAccepted (schedule_of (S.seen set.now)) }
+    ensures text { IfOk result (λ text. string_bytes text ≡ consistent_footer (S.seen set.now)) }
+    ensures carried { IfOk result (λ _. IsCarriedOn (S.seen set.now)) }
 {
     let footer = footer_of(alloc, set)?;
     if is_contradicted(set) {
@@ -85,45 +86,56 @@ fn consistent_footer(alloc: Global, set: &FixedTimespanSet) -> Result<String, Al
     }
 }
 
-/// The file of a set with that footer.
-fn with_footer(alloc: Global, set: &FixedTimespanSet, footer: &str) -> Result<Vec<u8>, FileFault>
-    requires accepted { IsAccepted (schedule_of set.now) }
-    requires offset { write_fault (value_of set.now footer.now) ≢ Some WriteFault.Offset }
-    requires footer { write_fault (value_of set.now footer.now) ≢ Some WriteFault.Footer }
-    ensures told { MakesZone (λ file. file.items) (value_of set.now footer.now) result }
-    ensures file { IfOk result (λ file. IsTzif file.items (value_of set.now footer.now)) }
-    ensures totals { IfOk result (λ file. (zone : ZoneValue) → Denotes file.items zone → (t : ℤ) → file_total_at zone t ≡ set_total_at (schedule_of set.now) t) }
+/// The file of the zone that a set is with that footer.
+fn written<S: SpanTable>(alloc: Global, set: &S, footer: &str) -> Result<Vec<u8>, WriteFault>
+    requires { IsAccepted (schedule_of (S.seen set.now)) }
+    ensures { IfOk result (λ file. IsTzif file.items (value_of (S.seen set.now) footer.now)) }
 {
-    reads_back();
     let zone = from_set(alloc, set, footer)?;
     match write_tzif(alloc, &zone) {
         Ok(file) => Ok(file),
-        Err(WriteFault::Times) => Err(FileFault::Times),
-        Err(WriteFault::Types) => Err(FileFault::Types),
-        Err(WriteFault::Names) => Err(FileFault::Names),
-        Err(WriteFault::NoMemory) => Err(FileFault::NoMemory),
-        Err(WriteFault::Offset | WriteFault::Footer) => unreachable!(),
+        Err(fault) => Err(fault),
+    }
+}
+
+/// The file of a set with that footer. Where there is none, the cause is looked for without memory, so that want of memory is told only
+/// where nothing else refuses the file.
+fn with_footer<S: SpanTable>(alloc: Global, set: &S, footer: &str) -> Result<Vec<u8>, FileFault>
+    requires accepted { IsAccepted (schedule_of (S.seen set.now)) }
+    requires offset { write_fault (value_of (S.seen set.now) footer.now) ≢ Some WriteFault.Offset }
+    requires footer { write_fault (value_of (S.seen set.now) footer.now) ≢ Some WriteFault.Footer }
+    ensures told { MakesZone (λ file. file.items) (value_of (S.seen set.now) footer.now) result }
+    ensures file { IfOk result (λ file. IsTzif file.items (value_of (S.seen set.now) footer.now)) }
+    ensures totals { IfOk result (λ file. (zone : ZoneValue) → Denotes file.items zone → (t : ℤ) → file_total_at zone t ≡ set_total_at (schedule_of (S.seen set.now)) t) }
+{
+    reads_back();
+    match written(alloc, set, footer) {
+        Ok(file) => Ok(file),
+        Err(_) => Err(cause_of(set)),
     }
 }
 
 /// The TZif file of a compiled set, the one that [`write_tzif`](zone_tzif_core::write_tzif) writes: each span as what holds from
 /// its time on, and as the footer the POSIX TZ string that [`tail`](zone_tail_core::tail) gives, or nothing where the set has
-/// none. The set is one that a `Tz` can be made of. Whatever zone is read from the file has the set's offset at each instant, as
-/// long as its footer is left out of account: where the set changes at or past the end of the year 2099, the footer takes that back.
+/// none. The set is a `FixedTimespanSet`, a `CompactSet` or whatever else gives spans by number, and one that a `Tz` can be made of.
+/// Whatever zone is read from the file has the set's offset at each instant, as long as its footer is left out of account: where the
+/// set changes at or past the end of the year 2099, the footer takes that back.
 ///
 /// # Errors
 ///
-/// In this order, and each exactly where it says: `Times`, `Types`, `Names`; `NoMemory` where there is none.
-pub fn tzif_of(alloc: Global, set: &FixedTimespanSet) -> Result<Vec<u8>, FileFault>
-    requires { IsAccepted (schedule_of set.now) }
-    ensures told { Makes (λ file. file.items) set.now result }
-    ensures file { IfOk result (λ file. IsTzif file.items (zone_of set.now)) }
-    ensures totals { IfOk result (λ file. (zone : ZoneValue) → Denotes file.items zone → (t : ℤ) → file_total_at zone t ≡ set_total_at (schedule_of set.now) t) }
-    ensures carried { IfOk result (λ file. tail_fault set.now ≡ None → CarriesOn set.now (found_from set.now) (footer_of set.now)) }
+/// In this order, and each exactly where it says: `Times`, `Types`, `Names`; `NoMemory`, and never where one of these is due.
+pub fn tzif_of<S: SpanTable>(alloc: Global, set: &S) -> Result<Vec<u8>, FileFault>
+    requires { IsAccepted (schedule_of (S.seen set.now)) }
+    ensures told { Makes (λ file. file.items) (S.seen set.now) result }
+    ensures file { IfOk result (λ file. IsTzif file.items (zone_of (S.seen set.now))) }
+    ensures totals { IfOk result (λ file. (zone : ZoneValue) → Denotes file.items zone → (t : ℤ) → file_total_at zone t ≡ set_total_at (schedule_of (S.seen set.now)) t) }
+    ensures carried { IfOk result (λ file. tail_fault (S.seen set.now) ≡ None → CarriesOn (S.seen set.now) (found_from (S.seen set.now)) (footer_of (S.seen set.now))) }
 {
     few_causes();
-    let footer = footer_of(alloc, set)?;
-    with_footer(alloc, set, footer.as_str())
+    match footer_of(alloc, set) {
+        Ok(footer) => with_footer(alloc, set, footer.as_str()),
+        Err(_) => Err(cause_of(set)),
+    }
 }
 
 /// The same file, or the one without a footer: where the set has a change at or past the end of the year 2099, or its daylight saving
@@ -133,15 +145,17 @@ pub fn tzif_of(alloc: Global, set: &FixedTimespanSet) -> Result<Vec<u8>, FileFau
 ///
 /// # Errors
 ///
-/// In this order, and each exactly where it says: `Times`, `Types`, `Names`; `NoMemory` where there is none.
-pub fn consistent_tzif_of(alloc: Global, set: &FixedTimespanSet) -> Result<Vec<u8>, FileFault>
-    requires { IsAccepted (schedule_of set.now) }
-    ensures told { MakesZone (λ file. file.items) (consistent_zone set.now) result }
-    ensures file { IfOk result (λ file. IsTzif file.items (consistent_zone set.now)) }
-    ensures totals { IfOk result (λ file. (zone : ZoneValue) → Denotes file.items zone → (t : ℤ) → file_total_at zone t ≡ set_total_at (schedule_of set.now) t) }
-    ensures carried { IfOk result (λ _. IsCarriedOn set.now) }
+/// In this order, and each exactly where it says: `Times`, `Types`, `Names`; `NoMemory`, and never where one of these is due.
+pub fn consistent_tzif_of<S: SpanTable>(alloc: Global, set: &S) -> Result<Vec<u8>, FileFault>
+    requires { IsAccepted (schedule_of (S.seen set.now)) }
+    ensures told { MakesZone (λ file. file.items) (consistent_zone (S.seen set.now)) result }
+    ensures file { IfOk result (λ file. IsTzif file.items (consistent_zone (S.seen set.now))) }
+    ensures totals { IfOk result (λ file. (zone : ZoneValue) → Denotes file.items zone → (t : ℤ) → file_total_at zone t ≡ set_total_at (schedule_of (S.seen set.now)) t) }
+    ensures carried { IfOk result (λ _. IsCarriedOn (S.seen set.now)) }
 {
     few_causes();
-    let footer = consistent_footer(alloc, set)?;
-    with_footer(alloc, set, footer.as_str())
+    match consistent_footer(alloc, set) {
+        Ok(footer) => with_footer(alloc, set, footer.as_str()),
+        Err(_) => Err(cause_of(set)),
+    }
 }

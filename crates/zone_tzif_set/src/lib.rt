@@ -2,6 +2,7 @@
 #![tactic(auto)]
 
 mod carried;
+mod causes;
 mod convert;
 mod file;
 mod laws;
