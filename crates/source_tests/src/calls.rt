@@ -11,6 +11,7 @@ use std::sync::ledger::{Blank, Ledger};
 use tz_lookup::{CompactTz, OffsetDateTimeExt, OffsetResult, PrimitiveDateTimeExt, Steps, Tz};
 use tz_posix::{PosixTz, Time};
 use zone_answers::open_zone;
+use zone_tail_core::laws::both_offsets;
 use zone_uses::{Moved, next_change, zone_of_source};
 use zone_values::{DaySpec, Month, Weekday, Year};
 
@@ -104,6 +105,24 @@ fn a_string_moves_an_instant(rt: HostRuntime) {
         &rt,
         &Some(time.to_time()),
         &civil_base::Time::from_hms(2, 30, 0).ok(),
+    );
+}
+
+#[test]
+fn a_zone_and_its_string_agree(rt: HostRuntime) {
+    let database = database_of(&rt, rt.alloc(), NEW_YORK);
+    let zone = database
+        .get_by_name("America/New_York")
+        .expect(&rt, "no zone");
+    let Ok(string) = PosixTz::parse("EST5EDT,M3.2.0,M11.1.0", &database) else {
+        panic!(&rt; "refused");
+    };
+    let (of_zone, of_string) = both_offsets(&zone, &string, &at(&rt, 1_719_793_800));
+    let seconds = of_string.map(|offset| offset.whole_seconds());
+    same(
+        &rt,
+        &(of_zone.whole_seconds(), seconds),
+        &(-14_400, Some(-14_400)),
     );
 }
 
