@@ -11,4 +11,3 @@ pub mod PosixNameRows
 pub mod PosixRows
 mod ReleaseLemmas
 mod RoomLemmas
-mod WholeLemmas

@@ -13,7 +13,6 @@ pub mod PosixNames
 pub mod Releases
 pub mod Rooms
 pub mod Sources
-pub mod Whole
 pub mod Zones
 -- Words of private clauses.
 pub mod ChangeSteps
