@@ -7,7 +7,7 @@ use sefunjaro_handles::Opened;
 use std::alloc::Global;
 use std::process::Abort;
 use std::sync::Arc;
-use zone_open::{AnySourceFault, AnyZone, FileZone, OpenFault, OpenSource, OpenZone};
+use sefunjaro::{AnySourceFault, AnyZone, FileZone, OpenFault, OpenSource, OpenZone};
 use zone_source::source_fault_bytes;
 
 /// The rules of New York as `zic` reads them too: words cut short, hours alone, and a link to a link.
