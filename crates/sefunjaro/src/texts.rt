@@ -4,8 +4,7 @@ use crate::any_source::AnySourceFault;
 use crate::error::Error;
 use crate::file::{FileFault as OpenedFileFault, PosixFault};
 use crate::source::OpenFault;
-use std::error;
-use std::fmt;
+use std::{error, fmt};
 use tz_lookup::{DatabaseFault, SpanFault, TzFault, ZoneFault};
 use tz_tzif::TzifFault;
 use zone_plain_lines::PlainCause;
@@ -162,7 +161,11 @@ fn write_database_fault<W: fmt::Write>(
     fault: &DatabaseFault,
 ) -> fmt::Result {
     match fault {
-        DatabaseFault::Schedule(name, cause) => write_named(f, name.as_str(), schedule_text(*cause)),
+        DatabaseFault::Schedule(name, cause) => write_named(
+            f,
+            name.as_str(),
+            schedule_text(*cause),
+        ),
         DatabaseFault::OffsetRange(name) => write_named(f, name.as_str(), FAR_OFFSET),
         DatabaseFault::NoMemory => f.write_str(NO_MEMORY),
     }
