@@ -1,2 +1,21 @@
 -- Definitions: what public clauses say.
+pub mod AnySources
+pub mod Answered
+pub mod Any
+pub mod Asked
 pub mod Causes
+pub mod Changes
+pub mod Clocks
+pub mod Errors
+pub mod Faults
+pub mod Files
+pub mod Gaps
+pub mod Posix
+pub mod PosixNames
+pub mod Releases
+pub mod Rooms
+pub mod Sources
+pub mod Zones
+-- Words of private clauses.
+pub mod ChangeSteps
+pub mod GapPlaces

@@ -1,27 +1,36 @@
-//! One error for all that opens a zone.
-ghost use Rattle.std.specs.Prelude.{◌≡◌};
+//! One error for all that is asked of a source, of a zone and of a file.
 
 use crate::SourceError;
+use crate::any_source::AnySourceFault;
+use crate::file::{FileFault as OpenedFileFault, PosixFault};
+use crate::source::OpenFault;
 use std::alloc::AllocError;
-use std::fmt;
 use tz_lookup::{DatabaseFault, TzFault, ZoneFault};
 use tz_tzif::TzifFault;
 use zone_alarm::AlarmFault;
 use zone_line::NotBuilt;
 use zone_list::ListFault;
-use zone_source::FaultText;
+use zone_plain_lines::PlainCause;
 use zone_tail_core::TailFault;
 use zone_tzif_core::ReadFault;
+use zone_tzif_set::FileFault;
 
-/// Why a call of this library has no answer: the fault of the call that refused. `?` reaches it from each of these faults.
+/// Why a call of this library has no answer: the fault of the call that refused. `?` reaches it from each of these faults, and of
+/// each want of memory becomes `NoMemory`.
 #[derive(Debug, Drop, PartialEq)]
 pub enum Error {
     /// The source is longer than 16,777,216 bytes.
     TooLong,
     /// The patterns of a parser couldn't be built.
     Parser,
-    /// A line of the source is refused: the first such, with its number and the cause.
+    /// A line of a source in plain form is refused: the first such, with its number and the cause.
     Source(SourceError),
+    /// A line of a source in any form has no plain form: the first such, with its number, from 1, and the cause.
+    Line(usize, PlainCause),
+    /// The plain form of a source would be longer than 16,777,216 bytes.
+    PlainTooLong,
+    /// A line of the plain form of a source is refused: the first such, counted there.
+    Plain(SourceError),
     /// A name finds no zone that can be asked.
     Zone(ZoneFault),
     /// A set that was made by hand can't be asked.
@@ -34,10 +43,14 @@ pub enum Error {
     Alarm(AlarmFault),
     /// A zone has no POSIX TZ string.
     Tail(TailFault),
+    /// A zone has no TZif file.
+    Tzif(FileFault),
     /// Bytes are no compiled zone file.
     File(ReadFault),
     /// A compiled zone file can't be asked.
     FileZone(TzifFault),
+    /// A text is no POSIX TZ string that is read.
+    Posix,
     /// Memory ran out.
     NoMemory,
 }
@@ -66,23 +79,65 @@ impl From<NotBuilt> for Error {
 
 impl From<SourceError> for Error {
     ghost use Rattle.std.specs.Prelude.{◌≡◌};
-    ghost use Rattle.sefunjaro.specs.declared.error.Error.TheVariants.{Source};
+    ghost use Rattle.sefunjaro.specs.Errors.{of_source};
 
-    ghost from_gives = { λ fault error. error ≡ Source fault };
+    ghost from_gives = { λ fault error. error ≡ of_source fault };
 
     fn from(fault: SourceError) -> Error {
-        Error::Source(fault)
+        match fault {
+            SourceError::NoMemory => Error::NoMemory,
+            SourceError::NotText(line) => Error::Source(SourceError::NotText(line)),
+            SourceError::Line(line, cause) => Error::Source(SourceError::Line(line, cause)),
+            SourceError::Build(line, kind) => Error::Source(SourceError::Build(line, kind)),
+        }
+    }
+}
+
+impl From<OpenFault> for Error {
+    ghost use Rattle.std.specs.Prelude.{◌≡◌};
+    ghost use Rattle.sefunjaro.specs.Errors.{of_open};
+
+    ghost from_gives = { λ fault error. error ≡ of_open fault };
+
+    fn from(fault: OpenFault) -> Error {
+        match fault {
+            OpenFault::TooLong => Error::TooLong,
+            OpenFault::Source(fault) => Error::Source(fault),
+            OpenFault::NoMemory => Error::NoMemory,
+        }
+    }
+}
+
+impl From<AnySourceFault> for Error {
+    ghost use Rattle.std.specs.Prelude.{◌≡◌};
+    ghost use Rattle.sefunjaro.specs.Errors.{of_any_source};
+
+    ghost from_gives = { λ fault error. error ≡ of_any_source fault };
+
+    fn from(fault: AnySourceFault) -> Error {
+        match fault {
+            AnySourceFault::TooLong => Error::TooLong,
+            AnySourceFault::Line(line, cause) => Error::Line(line, cause),
+            AnySourceFault::PlainTooLong => Error::PlainTooLong,
+            AnySourceFault::Plain(fault) => Error::Plain(fault),
+            AnySourceFault::NoMemory => Error::NoMemory,
+        }
     }
 }
 
 impl From<ZoneFault> for Error {
     ghost use Rattle.std.specs.Prelude.{◌≡◌};
-    ghost use Rattle.sefunjaro.specs.declared.error.Error.TheVariants.{Zone};
+    ghost use Rattle.sefunjaro.specs.Errors.{of_zone};
 
-    ghost from_gives = { λ fault error. error ≡ Zone fault };
+    ghost from_gives = { λ fault error. error ≡ of_zone fault };
 
     fn from(fault: ZoneFault) -> Error {
-        Error::Zone(fault)
+        match fault {
+            ZoneFault::UnknownZone => Error::Zone(ZoneFault::UnknownZone),
+            ZoneFault::Schedule(cause) => Error::Zone(ZoneFault::Schedule(cause)),
+            ZoneFault::OffsetRange => Error::Zone(ZoneFault::OffsetRange),
+            ZoneFault::NoMemory => Error::NoMemory,
+        }
     }
 }
 
@@ -99,110 +154,136 @@ impl From<TzFault> for Error {
 
 impl From<DatabaseFault> for Error {
     ghost use Rattle.std.specs.Prelude.{◌≡◌};
-    ghost use Rattle.sefunjaro.specs.declared.error.Error.TheVariants.{Database};
+    ghost use Rattle.sefunjaro.specs.Errors.{of_database};
 
-    ghost from_gives = { λ fault error. error ≡ Database fault };
+    ghost from_gives = { λ fault error. error ≡ of_database fault };
 
     fn from(fault: DatabaseFault) -> Error {
-        Error::Database(fault)
+        match fault {
+            DatabaseFault::Schedule(name, cause) => {
+                Error::Database(DatabaseFault::Schedule(name, cause))
+            }
+            DatabaseFault::OffsetRange(name) => Error::Database(DatabaseFault::OffsetRange(name)),
+            DatabaseFault::NoMemory => Error::NoMemory,
+        }
     }
 }
 
 impl From<ListFault> for Error {
     ghost use Rattle.std.specs.Prelude.{◌≡◌};
-    ghost use Rattle.sefunjaro.specs.declared.error.Error.TheVariants.{List};
+    ghost use Rattle.sefunjaro.specs.Errors.{of_list};
 
-    ghost from_gives = { λ fault error. error ≡ List fault };
+    ghost from_gives = { λ fault error. error ≡ of_list fault };
 
     fn from(fault: ListFault) -> Error {
-        Error::List(fault)
+        match fault {
+            ListFault::Range => Error::List(ListFault::Range),
+            ListFault::NoMemory => Error::NoMemory,
+        }
     }
 }
 
 impl From<AlarmFault> for Error {
     ghost use Rattle.std.specs.Prelude.{◌≡◌};
-    ghost use Rattle.sefunjaro.specs.declared.error.Error.TheVariants.{Alarm};
+    ghost use Rattle.sefunjaro.specs.Errors.{of_alarm};
 
-    ghost from_gives = { λ fault error. error ≡ Alarm fault };
+    ghost from_gives = { λ fault error. error ≡ of_alarm fault };
 
     fn from(fault: AlarmFault) -> Error {
-        Error::Alarm(fault)
+        match fault {
+            AlarmFault::Range => Error::Alarm(AlarmFault::Range),
+            AlarmFault::NoMemory => Error::NoMemory,
+        }
     }
 }
 
 impl From<TailFault> for Error {
     ghost use Rattle.std.specs.Prelude.{◌≡◌};
-    ghost use Rattle.sefunjaro.specs.declared.error.Error.TheVariants.{Tail};
+    ghost use Rattle.sefunjaro.specs.Errors.{of_tail};
 
-    ghost from_gives = { λ fault error. error ≡ Tail fault };
+    ghost from_gives = { λ fault error. error ≡ of_tail fault };
 
     fn from(fault: TailFault) -> Error {
-        Error::Tail(fault)
+        match fault {
+            TailFault::Shape => Error::Tail(TailFault::Shape),
+            TailFault::OffsetRange => Error::Tail(TailFault::OffsetRange),
+            TailFault::Name => Error::Tail(TailFault::Name),
+            TailFault::NoMemory => Error::NoMemory,
+        }
+    }
+}
+
+impl From<FileFault> for Error {
+    ghost use Rattle.std.specs.Prelude.{◌≡◌};
+    ghost use Rattle.sefunjaro.specs.Errors.{of_made_file};
+
+    ghost from_gives = { λ fault error. error ≡ of_made_file fault };
+
+    fn from(fault: FileFault) -> Error {
+        match fault {
+            FileFault::Times => Error::Tzif(FileFault::Times),
+            FileFault::Types => Error::Tzif(FileFault::Types),
+            FileFault::Names => Error::Tzif(FileFault::Names),
+            FileFault::NoMemory => Error::NoMemory,
+        }
     }
 }
 
 impl From<ReadFault> for Error {
     ghost use Rattle.std.specs.Prelude.{◌≡◌};
-    ghost use Rattle.sefunjaro.specs.declared.error.Error.TheVariants.{File};
+    ghost use Rattle.sefunjaro.specs.Errors.{of_read};
 
-    ghost from_gives = { λ fault error. error ≡ File fault };
+    ghost from_gives = { λ fault error. error ≡ of_read fault };
 
     fn from(fault: ReadFault) -> Error {
-        Error::File(fault)
+        match fault {
+            ReadFault::Refused => Error::File(ReadFault::Refused),
+            ReadFault::NoMemory => Error::NoMemory,
+        }
     }
 }
 
 impl From<TzifFault> for Error {
     ghost use Rattle.std.specs.Prelude.{◌≡◌};
-    ghost use Rattle.sefunjaro.specs.declared.error.Error.TheVariants.{FileZone};
+    ghost use Rattle.sefunjaro.specs.Errors.{of_file_zone};
 
-    ghost from_gives = { λ fault error. error ≡ FileZone fault };
+    ghost from_gives = { λ fault error. error ≡ of_file_zone fault };
 
     fn from(fault: TzifFault) -> Error {
-        Error::FileZone(fault)
-    }
-}
-
-impl fmt::Display for Error {
-    fn fmt<W: fmt::Write>(&self, f: &mut fmt::Formatter<W>) -> fmt::Result {
-        match self {
-            Error::TooLong => f.write_str("the source is longer than 16,777,216 bytes"),
-            Error::Parser => f.write_str("the patterns of a parser couldn't be built"),
-            Error::Source(fault) => write_source_fault(f, fault),
-            Error::Zone(fault) => write_zone_fault(f, *fault),
-            Error::Set(fault) => write!(f, "the spans can't be asked: {fault:?}"),
-            Error::Database(fault) => write!(f, "a zone can't be asked: {fault:?}"),
-            Error::List(fault) => write!(f, "the changes can't be listed: {fault:?}"),
-            Error::Alarm(fault) => write!(f, "the alarm goes too far: {fault:?}"),
-            Error::Tail(fault) => write!(f, "no string carries the zone on: {fault:?}"),
-            Error::File(fault) => write!(f, "the bytes are no compiled zone file: {fault:?}"),
-            Error::FileZone(fault) => write!(f, "the compiled zone can't be asked: {fault:?}"),
-            Error::NoMemory => f.write_str("out of memory"),
+        match fault {
+            TzifFault::Times => Error::FileZone(TzifFault::Times),
+            TzifFault::Offset => Error::FileZone(TzifFault::Offset),
+            TzifFault::Footer => Error::FileZone(TzifFault::Footer),
+            TzifFault::NoMemory => Error::NoMemory,
         }
     }
 }
 
-/// The line of the source and its cause, as `source 2: line FailedMonthParse`.
-fn write_source_fault<W: fmt::Write>(
-    f: &mut fmt::Formatter<W>,
-    fault: &SourceError,
-) -> fmt::Result {
-    match FaultText::of_source(fault) {
-        Some(text) => write!(
-            f,
-            "{}{}: {}{}",
-            text.side, text.number, text.group, text.cause
-        ),
-        None => f.write_str("out of memory"),
+impl From<OpenedFileFault> for Error {
+    ghost use Rattle.std.specs.Prelude.{◌≡◌};
+    ghost use Rattle.sefunjaro.specs.Errors.{of_opened_file};
+
+    ghost from_gives = { λ fault error. error ≡ of_opened_file fault };
+
+    fn from(fault: OpenedFileFault) -> Error {
+        match fault {
+            OpenedFileFault::Refused => Error::File(ReadFault::Refused),
+            OpenedFileFault::Footer => Error::FileZone(TzifFault::Footer),
+            OpenedFileFault::NoMemory => Error::NoMemory,
+        }
     }
 }
 
-/// Why a name finds no zone that can be asked.
-fn write_zone_fault<W: fmt::Write>(f: &mut fmt::Formatter<W>, fault: ZoneFault) -> fmt::Result {
-    match fault {
-        ZoneFault::UnknownZone => f.write_str("unknown zone"),
-        ZoneFault::Schedule(cause) => write!(f, "the zone has no schedule: {cause:?}"),
-        ZoneFault::OffsetRange => f.write_str("an offset of the zone is 26 hours or more in size"),
-        ZoneFault::NoMemory => f.write_str("out of memory"),
+impl From<PosixFault> for Error {
+    ghost use Rattle.std.specs.Prelude.{◌≡◌};
+    ghost use Rattle.sefunjaro.specs.Errors.{of_posix};
+
+    ghost from_gives = { λ fault error. error ≡ of_posix fault };
+
+    fn from(fault: PosixFault) -> Error {
+        match fault {
+            PosixFault::Refused => Error::Posix,
+            PosixFault::NoMemory => Error::NoMemory,
+        }
     }
 }

@@ -1,24 +1,54 @@
-//! Sefunjaro as one library: a source read, a zone opened, and asked both ways.
+//! Sefunjaro as one library: a source in plain form or in any opened, a zone of it, of a compiled file or of a POSIX string, and
+//! asked both ways; its changes, its saving, its rings, the string that carries it on and its file.
 //!
-//! This crate has the names that most callers need, from the crates where they are defined and proved, and one error that `?`
-//! reaches from each of theirs.
+//! Sources and zones are opened once and asked many times ([`OpenSource`], [`OpenZone`], [`FileZone`], [`AnyZone`]), as a program in
+//! another language holds them: what is asked is answered in plain numbers, lists and texts go as far as the caller's room, and no
+//! question takes memory but those for the string and the file. Beside them stand the calls over tables and sets by which a zone is
+//! opened step by step ([`open_source`], [`open_zone`]), and the names that most callers need, from the crates where they are defined
+//! and proved. One [`Error`] has the cause of each call, typed and with a text, and `?` reaches it from each.
 #![tactic(auto)]
 
+mod any;
+mod any_source;
+mod asking;
+mod changes;
+mod clock;
 mod error;
+mod file;
+mod gap;
+mod lent;
+mod names;
 mod opening;
+mod posix_names;
+mod room;
+mod source;
+mod texts;
+mod whole;
+mod zone;
 
+pub use any::AnyZone;
+pub use any_source::AnySourceFault;
+pub use asking::{InForce, Reading};
+pub use changes::Change;
 pub use civil_base::{
     Date, Month, OffsetDateTime, PlainDateTime, SignedDuration, Time, UtcOffset, Weekday,
     read_local, read_zoned, write_local, write_zoned,
 };
+pub use clock::Clock;
 pub use error::Error;
+pub use file::{FileFault, FileZone, PosixFault};
+pub use gap::Gap;
 pub use opening::{open_database, open_source, open_zone};
+pub use posix_names::has_posix_names;
+pub use room::fill;
+pub use source::{OpenFault, OpenSource};
 pub use tz_lookup::{
     CompactSet, CompactTz, Database, DatabaseFault, Fixed, FixedTimespanSet, InstantsLocal, Offset,
     OffsetDateTimeExt, OffsetResult, PrimitiveDateTimeExt, TimeZone, Tz, TzFault, ZoneFault,
 };
 pub use tz_posix_core::PosixTz;
 pub use tz_tzif::{TzifFault, TzifTz};
+pub use zone::OpenZone;
 pub use zone_alarm::{AlarmFault, Ring, alarms};
 pub use zone_line::LineParser;
 pub use zone_list::{ListFault, Listing, list_lines};

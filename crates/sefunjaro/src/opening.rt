@@ -9,12 +9,15 @@ ghost use Rattle.tz_lookup.specs.Compiles.{compiled_in, IsCompiledAs};
 ghost use Rattle.tz_lookup.specs.Databases.{names_of, found_in, found_as};
 ghost use Rattle.tz_zone.specs.Sets.{schedule_of, IsAccepted};
 ghost use Rattle.sefunjaro.specs.Causes.{IsSourceCause, IsZoneCause, IsDatabaseCause};
+ghost use Rattle.sefunjaro.specs.declared.error.Error.TheVariants.{NoMemory};
 
 use crate::error::Error;
 use std::alloc::Global;
-use tz_lookup::{CompactFault, CompactSet, Database, ZoneFault, compile_zone};
+use tz_lookup::{
+    CompactFault, CompactSet, Database, DatabaseFault, FixedTimespanSet, ZoneFault, compile_zone,
+};
 use zone_line::LineParser;
-use zone_source::{LIMIT, read_table};
+use zone_source::{LIMIT, SourceError, read_table};
 use zone_table::Table;
 
 /// The table of all rulesets, zones and links of a source, the text of the tz database in its plain form. A parser serves for
@@ -23,7 +26,7 @@ use zone_table::Table;
 /// # Errors
 ///
 /// `TooLong` exactly where the source is longer than 16,777,216 bytes; else `Source` with the first line that is refused and
-/// its cause, or for want of memory.
+/// its cause; `NoMemory`, never where `TooLong` is due.
 pub fn open_source(alloc: Global, parser: &LineParser, source: &[u8]) -> Result<Table, Error>
     ensures short { OnOk result (length source.now ≤ LIMIT) }
     ensures ok { OnOk result (source_fault source.now ≡ None) }
@@ -34,7 +37,11 @@ pub fn open_source(alloc: Global, parser: &LineParser, source: &[u8]) -> Result<
     if source.len() > LIMIT {
         return Err(Error::TooLong);
     }
-    Ok(read_table(alloc, parser, source)?)
+    match read_table(alloc, parser, source) {
+        Ok(table) => Ok(table),
+        Err(SourceError::NoMemory) => Err(Error::NoMemory),
+        Err(error) => Err(Error::Source(error)),
+    }
 }
 
 /// The zone of that name, or of the link of that name, worked out and kept compactly: [`CompactTz::new`] asks it. A table of
@@ -43,7 +50,7 @@ pub fn open_source(alloc: Global, parser: &LineParser, source: &[u8]) -> Result<
 /// # Errors
 ///
 /// `Zone`, in this order: `UnknownZone` exactly where the name finds no zone; `Schedule` with the zone's first fault;
-/// `OffsetRange` exactly where some offset is 26 hours or more in size. Want of memory is `NoMemory`, or the `NoMemory` of `Zone`.
+/// `OffsetRange` exactly where some offset is 26 hours or more in size. Then `NoMemory`.
 pub fn open_zone(alloc: Global, table: &Table, name: &str) -> Result<CompactSet, Error>
     requires { IsBoundedTable table.now }
     ensures ok { IfOk result (λ set. IsCompiledAs (seen set) (compiled_in table.now name.now)) }
@@ -51,8 +58,22 @@ pub fn open_zone(alloc: Global, table: &Table, name: &str) -> Result<CompactSet,
     ensures accepted { IfOk result (λ set. IsAccepted (schedule_of (seen set))) }
     ensures err { IfErr result (IsZoneCause (compiled_in table.now name.now)) }
 {
-    let set = compile_zone(alloc, table, name)?;
-    match CompactSet::build(alloc, &set) {
+    match compile_zone(alloc, table, name) {
+        Ok(set) => compact_of(alloc, &set),
+        Err(ZoneFault::UnknownZone) => Err(Error::Zone(ZoneFault::UnknownZone)),
+        Err(ZoneFault::Schedule(cause)) => Err(Error::Zone(ZoneFault::Schedule(cause))),
+        Err(ZoneFault::OffsetRange) => Err(Error::Zone(ZoneFault::OffsetRange)),
+        Err(ZoneFault::NoMemory) => Err(Error::NoMemory),
+    }
+}
+
+/// A set that can be looked up, kept compactly.
+fn compact_of(alloc: Global, set: &FixedTimespanSet) -> Result<CompactSet, Error>
+    requires { IsAccepted (schedule_of set.now) }
+    ensures ok { IfOk result (λ compact. seen compact ≡ set.now) }
+    ensures err { IfErr result (λ error. error ≡ NoMemory) }
+{
+    match CompactSet::build(alloc, set) {
         Ok(compact) => Ok(compact),
         Err(CompactFault::NoMemory) => Err(Error::NoMemory),
         Err(CompactFault::OffsetRange | CompactFault::Falling | CompactFault::Bound) => {
@@ -65,11 +86,20 @@ pub fn open_zone(alloc: Global, table: &Table, name: &str) -> Result<CompactSet,
 ///
 /// # Errors
 ///
-/// `Database` with the first name in byte order whose zone can't be asked, and why, or for want of memory.
+/// `Database` with the first name in byte order whose zone can't be asked, and why; `NoMemory`.
 pub fn open_database(alloc: Global, table: &Table) -> Result<Database, Error>
     requires { IsBoundedTable table.now }
     ensures ok { IfOk result (λ database. each found_as database ≡ each (found_in table.now) (names_of table.now)) }
     ensures err { IfErr result (IsDatabaseCause table.now) }
 {
-    Ok(Database::build(alloc, table)?)
+    match Database::build(alloc, table) {
+        Ok(database) => Ok(database),
+        Err(DatabaseFault::Schedule(name, cause)) => {
+            Err(Error::Database(DatabaseFault::Schedule(name, cause)))
+        }
+        Err(DatabaseFault::OffsetRange(name)) => {
+            Err(Error::Database(DatabaseFault::OffsetRange(name)))
+        }
+        Err(DatabaseFault::NoMemory) => Err(Error::NoMemory),
+    }
 }

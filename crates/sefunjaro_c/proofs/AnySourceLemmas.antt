@@ -7,11 +7,11 @@ use Rattle.zone_plain.specs.Plain.{plain_of}
 use Rattle.zone_source.specs.Releases.{release_of}
 use Rattle.zone_source.specs.Faults.{SourceFault, source_fault}
 use Rattle.zone_source.specs.Told.{told_by_source}
-use Rattle.zone_open.specs.AnySources.{IsAnyFault, IsAnySource}
-use Rattle.zone_open.specs.Sources.{release_in}
-use Rattle.zone_open.specs.declared.any_source.AnySourceFault.{AnySourceFault}
-use Rattle.zone_open.specs.declared.any_source.AnySourceFault.TheVariants as opening
-use Rattle.zone_open.specs.declared.source.OpenSource.{OpenSource}
+use Rattle.sefunjaro.specs.AnySources.{IsAnyFault, IsAnySource}
+use Rattle.sefunjaro.specs.Sources.{release_in}
+use Rattle.sefunjaro.specs.declared.any_source.AnySourceFault.{AnySourceFault}
+use Rattle.sefunjaro.specs.declared.any_source.AnySourceFault.TheVariants as opening
+use Rattle.sefunjaro.specs.declared.source.OpenSource.{OpenSource}
 use Rattle.sefunjaro_handles.specs.Statuses.{too_long}
 use Rattle.sefunjaro_c.specs.AnySources.{any_due, any_told, form_due, IsAnySourceOf}
 use Rattle.sefunjaro_c.specs.Faults.{fault_told, plain, told_or_memory, IsRefused}

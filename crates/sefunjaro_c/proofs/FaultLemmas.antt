@@ -11,10 +11,10 @@ use Rattle.tz_zone.specs.Compiles.{compiled_in, IsZoneFault}
 use Rattle.tz_zone.specs.declared.compile.ZoneFault.{ZoneFault}
 use Rattle.tz_zone.specs.declared.compile.ZoneFault.TheVariants as zone
 use Rattle.tz_lookup.specs.Databases.{refusal_of, zone_refusal}
-use Rattle.zone_open.specs.Faults.{IsOpenFault}
-use Rattle.zone_open.specs.declared.source.OpenFault.{OpenFault}
-use Rattle.zone_open.specs.declared.source.OpenFault.TheVariants as opening
-use Rattle.zone_open.specs.declared.source.OpenSource.{OpenSource}
+use Rattle.sefunjaro.specs.Faults.{IsOpenFault}
+use Rattle.sefunjaro.specs.declared.source.OpenFault.{OpenFault}
+use Rattle.sefunjaro.specs.declared.source.OpenFault.TheVariants as opening
+use Rattle.sefunjaro.specs.declared.source.OpenSource.{OpenSource}
 use Rattle.sefunjaro_handles.specs.Held.{IsSource}
 use Rattle.sefunjaro_handles.specs.Statuses.{not_text, too_long}
 use Rattle.sefunjaro_handles.specs.declared.opened.Opened.{Opened}

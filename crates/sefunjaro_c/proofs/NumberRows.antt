@@ -2,7 +2,7 @@
 use Rattle.std.proofs.Common.{◌≡◌, refl, [], ◌∷◌, codes}
 use Rattle.sefunjaro_handles.specs.Statuses as status
 use Rattle.zone_values.specs.declared.fault.FaultKind.TheVariants as line
-use Rattle.zone_open.specs.declared.file.FileFault.TheVariants as file
+use Rattle.sefunjaro.specs.declared.file.FileFault.TheVariants as file
 use Rattle.zone_plain_lines.specs.declared.cause.PlainCause.TheVariants as cause
 use Rattle.zone_source.specs.declared.error.BuildKind.TheVariants as join
 use Rattle.zone_spans.specs.declared.fault.SpanFault.TheVariants as span

@@ -3,16 +3,16 @@
 use Rattle.std.proofs.Common.{◌≡◌, ℕ, ℤ, pos, List, [], ◌∷◌, length, refl, ◌∙◌, arith}
 use Rattle.std.specs.Prelude.{Some, codes}
 use Rattle.tz_zone.specs.InForce.{all_in_force}
-use Rattle.zone_open.specs.Answered.{AreReadings}
-use Rattle.zone_open.specs.Changes.{window}
-use Rattle.zone_open.specs.Clocks.{IsClock}
-use Rattle.zone_open.specs.Rooms.{filled}
-use Rattle.zone_open.specs.Zones.{set_in}
-use Rattle.zone_open.specs.declared.asking.Reading.{Reading}
-use Rattle.zone_open.specs.declared.changes.Change.{Change}
-use Rattle.zone_open.specs.declared.clock.Clock.{Clock}
-use Rattle.zone_open.specs.declared.gap.Gap.{Gap}
-use Rattle.zone_open.specs.declared.zone.OpenZone.{OpenZone}
+use Rattle.sefunjaro.specs.Answered.{AreReadings}
+use Rattle.sefunjaro.specs.Changes.{window}
+use Rattle.sefunjaro.specs.Clocks.{IsClock}
+use Rattle.sefunjaro.specs.Rooms.{filled}
+use Rattle.sefunjaro.specs.Zones.{set_in}
+use Rattle.sefunjaro.specs.declared.asking.Reading.{Reading}
+use Rattle.sefunjaro.specs.declared.changes.Change.{Change}
+use Rattle.sefunjaro.specs.declared.clock.Clock.{Clock}
+use Rattle.sefunjaro.specs.declared.gap.Gap.{Gap}
+use Rattle.sefunjaro.specs.declared.zone.OpenZone.{OpenZone}
 use Rattle.sefunjaro_c.specs.Changes.{AreChanges}
 use Rattle.sefunjaro_c.specs.Names.{IsNameAt}
 use Rattle.sefunjaro_c.specs.Version.{rule_years, version}

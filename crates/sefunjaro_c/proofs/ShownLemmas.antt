@@ -6,10 +6,10 @@ use Rattle.civil_base.specs.DateTimes.{instant, local_of, offset_of}
 use Rattle.civil_base.specs.Instants.{instant_at, local_at}
 use Rattle.civil_base.specs.declared.offset_date_time.OffsetDateTime.{OffsetDateTime}
 use Rattle.tz_zone.specs.InForce.{in_force, shown_of}
-use Rattle.zone_open.specs.Answered.{IsShown}
-use Rattle.zone_open.specs.Any.{Seen}
-use Rattle.zone_open.specs.declared.any.AnyZone.{AnyZone}
-use Rattle.zone_open.specs.declared.any.AnyZone.TheVariants.{Source, File}
+use Rattle.sefunjaro.specs.Answered.{IsShown}
+use Rattle.sefunjaro.specs.Any.{Seen}
+use Rattle.sefunjaro.specs.declared.any.AnyZone.{AnyZone}
+use Rattle.sefunjaro.specs.declared.any.AnyZone.TheVariants.{Source, File}
 use Rattle.sefunjaro_c.specs.Answers.{is_shown, IsShownAs, Where}
 
 -- what follows from what is seen, whatever zone it is

@@ -4,7 +4,7 @@ use Rattle.std.specs.Prelude.{Some, Err}
 use Rattle.zone_plain_lines.specs.declared.cause.PlainCause.TheVariants as cause
 use Rattle.zone_plain_base.specs.LineFaults.{at, bad_line}
 use Rattle.zone_plain_base.specs.LineFaults as refused
-use Rattle.zone_open.specs.declared.any_source.AnySourceFault.TheVariants as opening
+use Rattle.sefunjaro.specs.declared.any_source.AnySourceFault.TheVariants as opening
 use Rattle.sefunjaro_c.specs.AnySources.{any_told, form_due}
 
 -- the line of the source and its cause; no line is to blame for a form that is too long

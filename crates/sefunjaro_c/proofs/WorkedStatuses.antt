@@ -5,8 +5,8 @@ use Rattle.zone_source.specs.Faults as source
 use Rattle.zone_source.specs.declared.error.BuildKind.TheVariants as join
 use Rattle.zone_spans.specs.declared.fault.SpanFault.TheVariants as span
 use Rattle.tz_zone.specs.declared.compile.ZoneFault.TheVariants as zone
-use Rattle.zone_open.specs.declared.file.FileFault.TheVariants as file
-use Rattle.zone_open.specs.declared.file.PosixFault.TheVariants as posix
+use Rattle.sefunjaro.specs.declared.file.FileFault.TheVariants as file
+use Rattle.sefunjaro.specs.declared.file.PosixFault.TheVariants as posix
 use Rattle.sefunjaro_handles.specs.Statuses.{IfRefused}
 use Rattle.sefunjaro_c.specs.Answers.{Where}
 use Rattle.sefunjaro_c.specs.Files.{file_told, posix_told}

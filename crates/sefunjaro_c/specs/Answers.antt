@@ -5,9 +5,9 @@ use Rattle.civil_base.specs.declared.offset_date_time.OffsetDateTime.{OffsetDate
 use Rattle.civil_base.specs.Instants.{local_at}
 use Rattle.civil_base.specs.Layout.{day_part, time_part, zoned_text}
 use Rattle.civil_base.specs.Ranges.{is_in_years}
-use Rattle.zone_open.specs.Clocks.{clock_at, clock_shown, IsClock}
-use Rattle.zone_open.specs.Rooms.{filled}
-use Rattle.zone_open.specs.declared.clock.Clock.{Clock}
+use Rattle.sefunjaro.specs.Clocks.{clock_at, clock_shown, IsClock}
+use Rattle.sefunjaro.specs.Rooms.{filled}
+use Rattle.sefunjaro.specs.declared.clock.Clock.{Clock}
 use Rattle.sefunjaro_handles.specs.Statuses.{done, out_of_range}
 
 -- where the question may be asked it is answered; else it is out of range, and what is kept is kept

@@ -9,10 +9,10 @@ use Rattle.zone_source.specs.Releases.{release_of}
 use Rattle.zone_source.specs.Faults.{source_fault}
 use Rattle.zone_source.specs.Zones.{values_of}
 use Rattle.zone_table.specs.Tables.{IsTableOf}
-use Rattle.zone_open.specs.Sources.{table_in, release_in}
-use Rattle.zone_open.specs.declared.any_source.AnySourceFault.{AnySourceFault}
-use Rattle.zone_open.specs.declared.any_source.AnySourceFault.TheVariants as opening
-use Rattle.zone_open.specs.declared.source.OpenSource.{OpenSource}
+use Rattle.sefunjaro.specs.Sources.{table_in, release_in}
+use Rattle.sefunjaro.specs.declared.any_source.AnySourceFault.{AnySourceFault}
+use Rattle.sefunjaro.specs.declared.any_source.AnySourceFault.TheVariants as opening
+use Rattle.sefunjaro.specs.declared.source.OpenSource.{OpenSource}
 use Rattle.sefunjaro_handles.specs.Statuses.{no_plain_form, out_of_memory, too_long}
 use Rattle.sefunjaro_c.specs.Faults.{error_told, fault_told, plain}
 use Rattle.sefunjaro_c.specs.declared.fault.Fault.{Fault}

@@ -1,16 +1,16 @@
 -- The changes of a zone, and the ring of an alarm.
 use Rattle.std.specs.Prelude.{◌≡◌, ◌⊎◌, ℕ, ℤ, List, Option, Some, None, length}
-use Rattle.zone_open.specs.Answered.{first_of}
-use Rattle.zone_open.specs.Any.{Seen}
-use Rattle.zone_open.specs.Changes.{window}
-use Rattle.zone_open.specs.Clocks.{clock_shown, IsClock}
-use Rattle.zone_open.specs.Rooms.{filled}
-use Rattle.zone_open.specs.Zones.{set_in}
-use Rattle.zone_open.specs.declared.any.AnyZone.{AnyZone}
-use Rattle.zone_open.specs.declared.asking.Reading.{Reading}
-use Rattle.zone_open.specs.declared.changes.Change.{Change}
-use Rattle.zone_open.specs.declared.clock.Clock.{Clock}
-use Rattle.zone_open.specs.declared.zone.OpenZone.{OpenZone}
+use Rattle.sefunjaro.specs.Answered.{first_of}
+use Rattle.sefunjaro.specs.Any.{Seen}
+use Rattle.sefunjaro.specs.Changes.{window}
+use Rattle.sefunjaro.specs.Clocks.{clock_shown, IsClock}
+use Rattle.sefunjaro.specs.Rooms.{filled}
+use Rattle.sefunjaro.specs.Zones.{set_in}
+use Rattle.sefunjaro.specs.declared.any.AnyZone.{AnyZone}
+use Rattle.sefunjaro.specs.declared.asking.Reading.{Reading}
+use Rattle.sefunjaro.specs.declared.changes.Change.{Change}
+use Rattle.sefunjaro.specs.declared.clock.Clock.{Clock}
+use Rattle.sefunjaro.specs.declared.zone.OpenZone.{OpenZone}
 use Rattle.sefunjaro_handles.specs.Statuses.{done, none_there, out_of_range}
 
 -- what is found is told; there may be none

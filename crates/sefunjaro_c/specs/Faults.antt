@@ -25,8 +25,8 @@ use Rattle.zone_table.specs.declared.table.Table.{Table}
 use Rattle.tz_zone.specs.declared.compile.ZoneFault.{ZoneFault}
 use Rattle.tz_zone.specs.declared.compile.ZoneFault.TheVariants as zone
 use Rattle.tz_lookup.specs.Databases.{zone_refusal}
-use Rattle.zone_open.specs.declared.source.OpenFault.{OpenFault}
-use Rattle.zone_open.specs.declared.source.OpenFault.TheVariants as opening
+use Rattle.sefunjaro.specs.declared.source.OpenFault.{OpenFault}
+use Rattle.sefunjaro.specs.declared.source.OpenFault.TheVariants as opening
 use Rattle.sefunjaro_handles.specs.Statuses.{bad_join, bad_line, no_schedule, not_text, offset_range, out_of_memory, too_long, unknown_zone}
 use Rattle.sefunjaro_c.specs.declared.fault.Fault.{Fault}
 

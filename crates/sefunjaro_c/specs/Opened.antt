@@ -6,10 +6,10 @@ use Rattle.zone_source.specs.Releases.{release_of}
 use Rattle.zone_source.specs.Zones.{values_of}
 use Rattle.tz_zone.specs.Compiles.{compiled_in}
 use Rattle.tz_zone.specs.Sets.{schedule_of, IsAccepted}
-use Rattle.zone_open.specs.Sources.{table_in, release_in}
-use Rattle.zone_open.specs.Zones.{set_in, IsOpened}
-use Rattle.zone_open.specs.declared.source.OpenSource.{OpenSource}
-use Rattle.zone_open.specs.declared.zone.OpenZone.{OpenZone}
+use Rattle.sefunjaro.specs.Sources.{table_in, release_in}
+use Rattle.sefunjaro.specs.Zones.{set_in, IsOpened}
+use Rattle.sefunjaro.specs.declared.source.OpenSource.{OpenSource}
+use Rattle.sefunjaro.specs.declared.zone.OpenZone.{OpenZone}
 use Rattle.sefunjaro_c.specs.Faults.{source_due}
 
 -- the source is that of a text with no fault, with the release that the text names

@@ -7,8 +7,8 @@ use Rattle.civil_base.specs.LocalTimes.{local_time_in}
 use Rattle.civil_base.specs.Ranges.{IsInYears, IsOffset}
 use Rattle.civil_base.specs.ReadAs.{IsReadAs}
 use Rattle.sefunjaro_handles.specs.Statuses.{done, not_read}
-use Rattle.zone_open.specs.Clocks.{clock_at}
-use Rattle.zone_open.specs.declared.clock.Clock.{Clock}
+use Rattle.sefunjaro.specs.Clocks.{clock_at}
+use Rattle.sefunjaro.specs.declared.clock.Clock.{Clock}
 use Rattle.sefunjaro_c.specs.Times.{nanos_at}
 use Rattle.sefunjaro_c.specs.declared.times.Instant.{Instant}
 

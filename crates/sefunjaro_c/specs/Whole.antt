@@ -12,10 +12,10 @@ use Rattle.zone_tzif_core.specs.declared.values.WriteFault.TheVariants as write
 use Rattle.zone_tzif_set.specs.Files.{consistent_fault, consistent_file, IsCarriedOn}
 use Rattle.zone_tzif_set.specs.declared.file.FileFault.{FileFault}
 use Rattle.zone_tzif_set.specs.declared.file.FileFault.TheVariants as file
-use Rattle.zone_open.specs.PosixNames.{has_posix_names}
-use Rattle.zone_open.specs.Rooms.{filled}
-use Rattle.zone_open.specs.Zones.{set_in, total_in}
-use Rattle.zone_open.specs.declared.zone.OpenZone.{OpenZone}
+use Rattle.sefunjaro.specs.PosixNames.{has_posix_names}
+use Rattle.sefunjaro.specs.Rooms.{filled}
+use Rattle.sefunjaro.specs.Zones.{set_in, total_in}
+use Rattle.sefunjaro.specs.declared.zone.OpenZone.{OpenZone}
 use Rattle.sefunjaro_handles.specs.Statuses.{done, none_there, out_of_memory}
 use Rattle.sefunjaro_c.specs.Faults.{plain, IsRefused}
 use Rattle.sefunjaro_c.specs.declared.fault.Fault.{Fault}

@@ -9,7 +9,7 @@ use crate::fault::{Fault, plain_fault, source_fault};
 use crate::status::{DONE, NO_MEMORY, NO_PLAIN_FORM, TOO_LONG};
 use sefunjaro_handles::{Handle, Opened};
 use std::alloc::Global;
-use zone_open::{AnySourceFault, OpenSource};
+use sefunjaro::{AnySourceFault, OpenSource};
 use zone_plain_lines::PlainCause;
 
 /// The number of the cause that a plain form would be too long. It stands behind those of lines.

@@ -5,13 +5,13 @@ ghost use Rattle.sefunjaro_c.specs.Changes.{AreChanges, IsFound, IsRing};
 ghost use Rattle.sefunjaro_c.specs.Times.{is_instant};
 ghost use Rattle.sefunjaro_handles.specs.Held.{OfKept, OfZone, OnZone};
 ghost use Rattle.sefunjaro_handles.specs.Statuses.{IfRefused};
-ghost use Rattle.zone_open.specs.Changes.{next_after, saving_at};
-ghost use Rattle.zone_open.specs.Zones.{set_in};
+ghost use Rattle.sefunjaro.specs.Changes.{next_after, saving_at};
+ghost use Rattle.sefunjaro.specs.Zones.{set_in};
 
 use crate::status::{DONE, NONE_THERE, NOT_KEPT, NOT_OPEN, OUT_OF_RANGE};
 use crate::times::instant_of;
 use sefunjaro_handles::{Opened, View};
-use zone_open::{AnyZone, Change, Clock, Reading};
+use sefunjaro::{AnyZone, Change, Clock, Reading};
 
 /// The saving that is in force at an instant, in seconds. A change lies on a whole second, so the nanosecond only has to be one.
 #[unsafe(no_mangle)]

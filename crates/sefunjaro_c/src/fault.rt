@@ -7,7 +7,7 @@ use crate::status::{
 };
 use tz_lookup::{SpanFault, ZoneFault};
 use zone_line::FaultKind;
-use zone_open::OpenFault;
+use sefunjaro::OpenFault;
 use zone_source::{BuildKind, SourceError};
 
 /// What a call refuses: its status, and where there is one, the cause and the line of the source.

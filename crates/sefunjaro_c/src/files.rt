@@ -4,14 +4,14 @@ ghost use Rattle.sefunjaro_c.specs.Faults.{plain};
 ghost use Rattle.sefunjaro_c.specs.Files.{file_told, posix_told, IsFileRefused, IsPosixRefused, IsTextOf};
 ghost use Rattle.sefunjaro_handles.specs.Held.{IsZone};
 ghost use Rattle.sefunjaro_handles.specs.Statuses.{done};
-ghost use Rattle.zone_open.specs.Any.{IsOfFile};
-ghost use Rattle.zone_open.specs.Files.{IsFileOf};
+ghost use Rattle.sefunjaro.specs.Any.{IsOfFile};
+ghost use Rattle.sefunjaro.specs.Files.{IsFileOf};
 
 use crate::fault::{Fault, plain_fault};
 use crate::status::{DONE, NO_MEMORY, NOT_READ, NOT_TEXT};
 use sefunjaro_handles::{Handle, Opened};
 use std::alloc::Global;
-use zone_open::{AnyZone, FileFault, FileZone, PosixFault};
+use sefunjaro::{AnyZone, FileFault, FileZone, PosixFault};
 use zone_source::text_of;
 
 /// Opens the zone of a compiled file from its bytes. What the handle held before is closed.

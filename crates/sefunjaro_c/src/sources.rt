@@ -7,14 +7,14 @@ ghost use Rattle.std.specs.List.{slice_get};
 ghost use Rattle.tz_lookup.specs.Databases.{names_of};
 ghost use Rattle.sefunjaro_handles.specs.Held.{OfSource, OnSource, IsSource, IsZone};
 ghost use Rattle.sefunjaro_handles.specs.Statuses.{done, not_open, IfRefused};
-ghost use Rattle.zone_open.specs.Any.{IsOfSource};
-ghost use Rattle.zone_open.specs.Sources.{release_in, table_in};
+ghost use Rattle.sefunjaro.specs.Any.{IsOfSource};
+ghost use Rattle.sefunjaro.specs.Sources.{release_in, table_in};
 
 use crate::fault::{Fault, opening_fault, plain_fault, zone_fault};
 use crate::status::{DONE, NO_MEMORY, NONE_THERE, NOT_OPEN, NOT_TEXT};
 use sefunjaro_handles::{Handle, Opened, View};
 use std::alloc::Global;
-use zone_open::{AnyZone, OpenSource, fill};
+use sefunjaro::{AnyZone, OpenSource, fill};
 use zone_source::text_of;
 
 /// Opens a source from its text in plain form, and in no other. What the handle held before is closed.

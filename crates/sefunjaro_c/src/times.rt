@@ -9,7 +9,7 @@ ghost use Rattle.sefunjaro_handles.specs.Statuses.{IfRefused};
 
 use crate::status::{DONE, NOT_READ};
 use civil_base::{OffsetDateTime, PlainDateTime, UtcOffset, read_local, read_zoned};
-use zone_open::Clock;
+use sefunjaro::Clock;
 use zone_source::text_of;
 
 /// The greatest offset, in seconds.

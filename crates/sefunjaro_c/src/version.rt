@@ -1,9 +1,9 @@
 //! Which version of the calls this is, and the years of the rules.
 ghost use Rattle.std.specs.Prelude.{◌≡◌, length};
 ghost use Rattle.sefunjaro_c.specs.Version.{rule_years, version};
-ghost use Rattle.zone_open.specs.Rooms.{filled};
+ghost use Rattle.sefunjaro.specs.Rooms.{filled};
 
-use zone_open::fill;
+use sefunjaro::fill;
 use zone_spans::{EARLIEST_YEAR, MOST_YEARS};
 
 /// The years in which the rules of a source fire. Before the first and after the last nothing changes in a zone.

@@ -6,17 +6,17 @@ ghost use Rattle.sefunjaro_c.specs.Answers.{is_shown, IsClockIn, IsTextIn, OfClo
 ghost use Rattle.sefunjaro_c.specs.Times.{is_instant, nanos_at};
 ghost use Rattle.sefunjaro_handles.specs.Held.{OfZone, OnZone, IsZone};
 ghost use Rattle.sefunjaro_handles.specs.Statuses.{out_of_memory, IfRefused};
-ghost use Rattle.zone_open.specs.Answered.{AreReadings, IsInForce};
-ghost use Rattle.zone_open.specs.Any.{Seen};
-ghost use Rattle.zone_open.specs.Clocks.{clock_at};
-ghost use Rattle.zone_open.specs.Rooms.{filled};
+ghost use Rattle.sefunjaro.specs.Answered.{AreReadings, IsInForce};
+ghost use Rattle.sefunjaro.specs.Any.{Seen};
+ghost use Rattle.sefunjaro.specs.Clocks.{clock_at};
+ghost use Rattle.sefunjaro.specs.Rooms.{filled};
 
 use crate::status::{DONE, NO_MEMORY, NOT_OPEN, OUT_OF_RANGE};
 use crate::times::instant_of;
 use civil_base::{OffsetDateTime, write_zoned};
 use sefunjaro_handles::{Handle, Opened, View};
 use std::alloc::Global;
-use zone_open::{AnyZone, Clock, Gap, InForce, Reading, fill};
+use sefunjaro::{AnyZone, Clock, Gap, InForce, Reading, fill};
 
 /// Opens another handle on the same zone, as another thread may need it. What the other held before is closed.
 #[unsafe(no_mangle)]

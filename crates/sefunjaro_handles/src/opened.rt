@@ -2,7 +2,7 @@
 
 use std::alloc::{AllocError, Global};
 use std::sync::Arc;
-use zone_open::{AnyZone, OpenSource};
+use sefunjaro::{AnyZone, OpenSource};
 
 /// What was opened: a source, or a zone that handles share.
 #[derive(Drop)]

@@ -2,6 +2,7 @@
 
 use crate::checks::same;
 use crate::fixtures::{at, parser};
+use crate::runs::bytes_of;
 use civil_base::{
     Date, Month, OffsetDateTime, PlainDateTime, Time, UtcOffset, read_local, read_zoned,
     write_zoned,
@@ -12,8 +13,8 @@ use std::process::Abort;
 use tz_lookup::{CompactSet, CompactTz, Database, Fixed};
 use zone_alarm::{Ring, alarms};
 use zone_uses::{
-    every_instant, how_many, local_time, meeting, offset_in, offset_in_file, posix_offset,
-    wake_ups, zone_of_source,
+    every_instant, how_many, local_time, meeting, offset_in, offset_in_file, offset_in_source,
+    offset_or_text, posix_offset, wake_ups, zone_of_source,
 };
 
 const SOURCE: &[u8] = b"\
@@ -134,7 +135,14 @@ fn alarms_of_compact_and_fixed_zones(rt: HostRuntime) {
 const ERRORS: &str = "\
 Zone B 0 - B|unknown zone
 Zone A 0 - A;Rule|source 2: line InvalidLineType
-Zone A 0 - A 10000; 0 - A|the zone has no schedule: YearRange
+Zone A 0 - A 10000; 0 - A|a line of the zone ends in a year that is none from 1 to 9999
+";
+
+/// The same of sources in any form.
+const ANY_ERRORS: &str = "\
+Z B 0 - B|unknown zone
+Z A 0 - A;Z A 1 - A|source 2: DuplicateZone
+Z A 26 - A|an offset of the zone is 26 hours or more in size
 ";
 
 /// What is printed of the error that comes of a source.
@@ -145,13 +153,35 @@ fn told(rt: &impl Abort, alloc: Global, source: &[u8]) -> String {
     }
 }
 
+/// The same of the error that only its text is left of.
+fn told_of_any(rt: &impl Abort, alloc: Global, source: &[u8]) -> String {
+    match offset_or_text(alloc, source, "A", &at(rt, 0)) {
+        Ok(_) => panic!(rt; "an offset"),
+        Err(error) => format!(in alloc; "{error}").expect(rt, "memory"),
+    }
+}
+
 #[test]
 fn errors_are_printed(rt: HostRuntime) {
     let alloc = rt.alloc();
     for row in ERRORS.lines() {
         let mut fields = row.split('|');
-        let source = crate::runs::bytes_of(&rt, alloc, fields.next());
+        let source = bytes_of(&rt, alloc, fields.next());
         let text = told(&rt, alloc, &source);
         same(&rt, &Some(text.as_str()), &fields.next());
     }
+    for row in ANY_ERRORS.lines() {
+        let mut fields = row.split('|');
+        let source = bytes_of(&rt, alloc, fields.next());
+        let text = told_of_any(&rt, alloc, &source);
+        same(&rt, &Some(text.as_str()), &fields.next());
+    }
+}
+
+#[test]
+fn a_source_in_any_form_has_an_offset(rt: HostRuntime) {
+    let Ok(offset) = offset_in_source(rt.alloc(), SOURCE, "Asia/Tokyo", &at(&rt, 0)) else {
+        panic!(&rt; "no offset");
+    };
+    same(&rt, &offset, &32_400);
 }

@@ -3,11 +3,11 @@
 use crate::checks::{same, same_at};
 use crate::fixtures::{NEW_YORK, at};
 use crate::runs::bytes_of;
+use sefunjaro::{AnySourceFault, AnyZone, FileZone, OpenFault, OpenSource, OpenZone};
 use sefunjaro_handles::Opened;
 use std::alloc::Global;
 use std::process::Abort;
 use std::sync::Arc;
-use zone_open::{AnySourceFault, AnyZone, FileZone, OpenFault, OpenSource, OpenZone};
 use zone_source::source_fault_bytes;
 
 /// The rules of New York as `zic` reads them too: words cut short, hours alone, and a link to a link.

@@ -11,6 +11,7 @@ use Rattle.tz_lookup.specs.declared.compact_set.CompactSet.{CompactSet}
 use Rattle.sefunjaro.specs.Causes.{IsZoneCause}
 use Rattle.sefunjaro.specs.declared.error.Error.{Error}
 use Rattle.sefunjaro.specs.declared.error.Error.TheVariants as error
+use Rattle.tz_zone.specs.declared.compile.ZoneFault.TheVariants as zone
 use Rattle.zone_uses.specs.Causes.{IsOpenCause}
 use Rattle.zone_uses.specs.Opened.{IsOpened}
 
@@ -28,16 +29,26 @@ whatever_is_found (Err error) h = tt
 pub cause_from : (source name : List ℕ) (table : Table) (found : Result CompactSet Error) → length source ≤ text_limit → source_fault source ≡ None
     → IsTableOf table (values_of source) → IfErr found (IsZoneCause (compiled_in table name)) → IfErr found (IsOpenCause source name)
 cause_from source name table (Ok set) short valid h cause = tt
-cause_from source name table (Err (error.Zone fault)) short valid h cause =
+cause_from source name table (Err (error.Zone zone.UnknownZone)) short valid h cause =
     record { short = short; valid = valid; table = table; is_table = h; cause = cause }
-cause_from source name table (Err error.NoMemory) short valid h cause = tt
+cause_from source name table (Err (error.Zone (zone.Schedule fault))) short valid h cause =
+    record { short = short; valid = valid; table = table; is_table = h; cause = cause }
+cause_from source name table (Err (error.Zone zone.OffsetRange)) short valid h cause =
+    record { short = short; valid = valid; table = table; is_table = h; cause = cause }
+cause_from source name table (Err (error.Zone zone.NoMemory)) short valid h cause = absurd cause
+cause_from source name table (Err error.NoMemory) short valid h cause = short
 cause_from source name table (Err error.TooLong) short valid h cause = absurd cause
 cause_from source name table (Err error.Parser) short valid h cause = absurd cause
 cause_from source name table (Err (error.Source fault)) short valid h cause = absurd cause
+cause_from source name table (Err (error.Line n c)) short valid h cause = absurd cause
+cause_from source name table (Err error.PlainTooLong) short valid h cause = absurd cause
+cause_from source name table (Err (error.Plain fault)) short valid h cause = absurd cause
 cause_from source name table (Err (error.Set fault)) short valid h cause = absurd cause
 cause_from source name table (Err (error.Database fault)) short valid h cause = absurd cause
 cause_from source name table (Err (error.List fault)) short valid h cause = absurd cause
 cause_from source name table (Err (error.Alarm fault)) short valid h cause = absurd cause
 cause_from source name table (Err (error.Tail fault)) short valid h cause = absurd cause
+cause_from source name table (Err (error.Tzif fault)) short valid h cause = absurd cause
 cause_from source name table (Err (error.File fault)) short valid h cause = absurd cause
 cause_from source name table (Err (error.FileZone fault)) short valid h cause = absurd cause
+cause_from source name table (Err error.Posix) short valid h cause = absurd cause

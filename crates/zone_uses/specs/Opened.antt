@@ -1,5 +1,10 @@
 -- A zone from a source.
-use Rattle.std.specs.Prelude.{◌≡◌, ℕ, List}
+use Rattle.std.specs.Prelude.{◌≡◌, ℕ, ℤ, List}
+use Rattle.sefunjaro.specs.AnySources.{IsAnySource}
+use Rattle.sefunjaro.specs.Sources.{table_in}
+use Rattle.sefunjaro.specs.Zones as zones
+use Rattle.sefunjaro.specs.declared.source.OpenSource.{OpenSource}
+use Rattle.sefunjaro.specs.declared.zone.OpenZone.{OpenZone}
 use Rattle.zone_source.specs.Zones.{values_of}
 use Rattle.zone_table.specs.Tables.{IsTableOf}
 use Rattle.zone_table.specs.declared.table.Table.{Table}
@@ -13,3 +18,11 @@ pub record IsOpened (source name : List ℕ) (set : CompactSet) : Type 0 where
   pub is_table : IsTableOf table (values_of source)
   pub is_named : (seen set).name ≡ name
   pub is_compiled : IsCompiledAs (seen set) (compiled_in table name)
+
+-- the text is that of a source whose zone of that name has this total at an instant
+pub record IsGivenInSource (text name : List ℕ) (t total : ℤ) : Type 0 where
+  pub source : OpenSource
+  pub zone : OpenZone
+  pub is_source : IsAnySource text source
+  pub is_zone : zones.IsOpened name (compiled_in (table_in source) name) zone
+  pub is : total ≡ zones.total_in zone t

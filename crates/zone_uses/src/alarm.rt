@@ -12,8 +12,7 @@ use std::alloc::{AllocError, Global};
 ///
 /// # Errors
 ///
-/// `Alarm` of `Range` exactly where `days` is above 0 and the last day is past 9999-12-31; for want of memory `Alarm` of `NoMemory`, or
-/// `NoMemory`, and never where `Range` is due.
+/// `Alarm` of `Range` exactly where `days` is above 0 and the last day is past 9999-12-31; `NoMemory`, and never where `Range` is due.
 pub fn wake_ups<T: TimeZone>(
     alloc: Global,
     zone: &T,

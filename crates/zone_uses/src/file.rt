@@ -11,8 +11,7 @@ use std::alloc::Global;
 ///
 /// # Errors
 ///
-/// `File` where the bytes are no such file; `FileZone` where its footer is none; both for want of memory too, and never where the bytes
-/// are no such file.
+/// `File` where the bytes are no such file; `FileZone` where its footer is none; `NoMemory`, and never where the bytes are no such file.
 pub fn offset_in_file(alloc: Global, bytes: &[u8], at: &OffsetDateTime) -> Result<UtcOffset, Error>
     ensures given { IfOk result (IsGivenByFile bytes.now (instant at.now)) }
     ensures err { IfErr result (IsFileCause bytes.now) }

@@ -10,6 +10,7 @@ mod found;
 mod moved;
 mod opened;
 mod posix;
+mod told;
 
 pub use alarm::wake_ups;
 pub use asked::{every_instant, local_time, meeting};
@@ -19,3 +20,4 @@ pub use found::{how_many, offset_in};
 pub use moved::{Moved, MovedOffset};
 pub use opened::zone_of_source;
 pub use posix::posix_offset;
+pub use told::{offset_in_source, offset_or_text};

@@ -1,10 +1,10 @@
 use Rattle.std.proofs.Common.{◌≡◌, ◌∙◌, inl, refl, ap, subst}
 use Rattle.std.specs.Prelude.{Option, Some, None}
 use Rattle.std.specs.Arc.{arc_value}
-use Rattle.zone_open.specs.Answered.{first_of}
-use Rattle.zone_open.specs.Any.{Seen}
-use Rattle.zone_open.specs.Clocks.{clock_shown}
-use Rattle.zone_open.specs.declared.asking.Reading.{Reading}
+use Rattle.sefunjaro.specs.Answered.{first_of}
+use Rattle.sefunjaro.specs.Any.{Seen}
+use Rattle.sefunjaro.specs.Clocks.{clock_shown}
+use Rattle.sefunjaro.specs.declared.asking.Reading.{Reading}
 use Rattle.sefunjaro_handles.specs.declared.opened.Opened.TheVariants.{Zone}
 use Rattle.sefunjaro_c.specs.Changes.{IsFound, IsRing}
 use Rattle.sefunjaro_c.proofs.AskedLemmas.{of_zone}

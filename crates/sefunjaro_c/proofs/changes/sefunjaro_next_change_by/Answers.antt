@@ -1,6 +1,6 @@
 use Rattle.std.proofs.Common.{◌≡◌, to_z-of_z, subst}
-use Rattle.zone_open.specs.Changes.{next_after}
-use Rattle.zone_open.specs.Zones.{set_in}
+use Rattle.sefunjaro.specs.Changes.{next_after}
+use Rattle.sefunjaro.specs.Zones.{set_in}
 use Rattle.sefunjaro_handles.specs.Held.{OfKept, OnZone}
 use Rattle.sefunjaro_c.specs.Changes.{IsFound}
 use Rattle.sefunjaro_c.proofs.AskedLemmas.{handed}

@@ -1,6 +1,6 @@
 use Rattle.std.proofs.Common.{◌≡◌, to_z-of_z, subst}
-use Rattle.zone_open.specs.Changes.{saving_at}
-use Rattle.zone_open.specs.Zones.{set_in}
+use Rattle.sefunjaro.specs.Changes.{saving_at}
+use Rattle.sefunjaro.specs.Zones.{set_in}
 use Rattle.sefunjaro_handles.specs.Held.{OfKept, OnZone}
 use Rattle.sefunjaro_c.specs.Answers.{Where}
 use Rattle.sefunjaro_c.specs.Times.{is_instant}

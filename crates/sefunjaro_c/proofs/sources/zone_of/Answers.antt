@@ -1,6 +1,6 @@
 use Rattle.std.proofs.Common.{sym, subst}
 use Rattle.tz_zone.specs.Compiles.{compiled_in, IsZoneFault}
-use Rattle.zone_open.specs.Sources.{table_in}
+use Rattle.sefunjaro.specs.Sources.{table_in}
 use Rattle.sefunjaro_c.specs.Faults.{zone_due, IsRefused}
 use Rattle.sefunjaro_c.proofs.FaultLemmas.{no_text, zone_refused}
 use Rattle.sefunjaro_c.proofs.sources.zone_of.Goals as goal

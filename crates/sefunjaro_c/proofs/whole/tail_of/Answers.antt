@@ -1,6 +1,6 @@
 use Rattle.std.proofs.Common.{◌∙◌, inl, length, string_bytes, sym, ap, subst}
 use Rattle.tz_posix_core.specs.Spells.{Spells}
-use Rattle.zone_open.specs.Rooms.{filled}
+use Rattle.sefunjaro.specs.Rooms.{filled}
 use Rattle.sefunjaro_c.proofs.whole.tail_of.Goals as goal
 
 pub returns-in-Ok-clause-answer : goal.returns-in-Ok-clause-answer

@@ -2,8 +2,8 @@ use Rattle.std.proofs.Common.{◌∙◌, to_z-of_z, FitsSigned, w32, rules, refl
 use Rattle.std.specs.Prelude.{Some, None}
 use Rattle.civil_base.specs.DateTimes.{instant}
 use Rattle.civil_base.specs.Layout.{day_part, time_part}
-use Rattle.zone_open.specs.Answered.{IsShown}
-use Rattle.zone_open.specs.Clocks.{clock_at}
+use Rattle.sefunjaro.specs.Answered.{IsShown}
+use Rattle.sefunjaro.specs.Clocks.{clock_at}
 use Rattle.sefunjaro_c.proofs.ShownLemmas.{seen_map, where_none, where_shown}
 use Rattle.sefunjaro_c.proofs.zones.clock_in.Goals as goal
 

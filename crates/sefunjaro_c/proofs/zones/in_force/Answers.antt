@@ -1,8 +1,8 @@
 use Rattle.std.proofs.Common.{◌≡◌, ◌∙◌, to_z-of_z, true, ap, subst}
 use Rattle.std.specs.Arc.{arc_value}
 use Rattle.civil_base.specs.DateTimes.{instant}
-use Rattle.zone_open.specs.Answered.{IsInForce}
-use Rattle.zone_open.specs.Any.{Seen}
+use Rattle.sefunjaro.specs.Answered.{IsInForce}
+use Rattle.sefunjaro.specs.Any.{Seen}
 use Rattle.sefunjaro_handles.specs.declared.opened.Opened.TheVariants.{Zone}
 use Rattle.sefunjaro_c.specs.Answers.{Where}
 use Rattle.sefunjaro_c.specs.Times.{is_instant, nanos_at}

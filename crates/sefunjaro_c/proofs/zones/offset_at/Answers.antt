@@ -1,7 +1,7 @@
 use Rattle.std.proofs.Common.{◌≡◌, ◌∙◌, to_z, of_z, to_z-of_z, true, FitsSigned, w32, rules, ap, subst}
 use Rattle.std.specs.Arc.{arc_value}
 use Rattle.civil_base.specs.DateTimes.{instant}
-use Rattle.zone_open.specs.Any.{Seen}
+use Rattle.sefunjaro.specs.Any.{Seen}
 use Rattle.sefunjaro_handles.specs.declared.opened.Opened.TheVariants.{Zone}
 use Rattle.sefunjaro_c.specs.Answers.{Where}
 use Rattle.sefunjaro_c.specs.Times.{is_instant, nanos_at}

@@ -1,5 +1,5 @@
 use Rattle.std.proofs.Common.{◌≡◌, to_z-of_z, subst}
-use Rattle.zone_open.specs.Any.{Seen}
+use Rattle.sefunjaro.specs.Any.{Seen}
 use Rattle.sefunjaro_handles.specs.Held.{OnZone}
 use Rattle.sefunjaro_c.specs.Answers.{is_shown, IsClockIn, Where, Within}
 use Rattle.sefunjaro_c.specs.Times.{is_instant, nanos_at}

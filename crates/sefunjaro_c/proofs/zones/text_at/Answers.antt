@@ -1,8 +1,8 @@
 use Rattle.std.proofs.Common.{◌≡◌, ◌∙◌, to_z-of_z, ℤ, true, ap, subst}
 use Rattle.std.specs.Arc.{arc_value}
 use Rattle.civil_base.specs.DateTimes.{instant}
-use Rattle.zone_open.specs.Any.{Seen}
-use Rattle.zone_open.specs.declared.any.AnyZone.{AnyZone}
+use Rattle.sefunjaro.specs.Any.{Seen}
+use Rattle.sefunjaro.specs.declared.any.AnyZone.{AnyZone}
 use Rattle.sefunjaro_handles.specs.declared.opened.Opened.TheVariants.{Zone}
 use Rattle.sefunjaro_c.specs.Answers.{is_shown, IsTextIn, Where, Within}
 use Rattle.sefunjaro_c.specs.Times.{is_instant, nanos_at}

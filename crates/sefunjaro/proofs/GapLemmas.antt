@@ -1,0 +1,93 @@
+-- Local times that clocks skip.
+use Rattle.std.proofs.Common.{length, ◌≡◌, ◌+◌, ℕ, Bool, false, filter, Option, ℤ, pos, ◌+ℤ◌, ◌-ℤ◌, ◌*ℤ◌, ◌≤ℤ◌, ◌<ℤ◌, int_le, int_lt, sym, ap, ◌∙◌, subst, arith}
+use Rattle.std.proofs.lemmas.Int.{ints}
+use Rattle.std.proofs.lemmas.List.{length-map}
+use Rattle.civil_base.specs.Instants.{instant_at, local_at, nanos_of, seconds_of}
+use Rattle.civil_base.specs.Ranges.{IsOffset}
+use Rattle.civil_base.specs.RangeLaws.{offset_least, offset_greatest}
+use Rattle.tz_footer.specs.InForce.{FooterZone}
+use Rattle.tz_tzif.specs.InForce.{kind_at, kind_in, told_total_at}
+use Rattle.zone_spans.specs.Schedules.{Schedule, instants, last_total, total_at}
+use Rattle.tz_zone.specs.InForce.{all_in_force, in_force}
+use Rattle.tz_zone.specs.InstantLaws.{instants_are}
+use Rattle.tz_zone.specs.SecondLaws.{IsSecond, second_is, one_second}
+use Rattle.zone_tzif_core.specs.Zones.{ZoneValue}
+use Rattle.sefunjaro.specs.Gaps.{IsSkippedBy}
+use Rattle.sefunjaro.specs.GapPlaces.{nth_offset, HoldsSeconds, IsNeverRead}
+
+reads : (x k total : ℤ) → total ≡ k → (instant_at x k +ℤ pos 1000000000 *ℤ total) ≡ x
+reads x k total e = omega (arith, ints, e)
+
+less_from : (a k : ℤ) → int_lt k a ≡ false → (a ≡ k → ⊥) → a <ℤ k
+less_from a k h n = grind (arith, ints)
+
+-- where the local time is never shown, less is in force than an offset that isn't passed
+pub falls_short : (total : ℤ → ℤ) (x k : ℤ) → IsNeverRead total x → false ≡ int_lt k (total (instant_at x k)) → total (instant_at x k) <ℤ k
+unfolding IsNeverRead
+falls_short total x k never h =
+    less_from (total (instant_at x k)) k (sym h) (λ e. never (instant_at x k) (reads x k (total (instant_at x k)) e))
+
+pub above : (o : ℤ) → IsOffset o → nth_offset 0 <ℤ o
+above o h = omega (arith, ints, offset_least o h)
+
+pub below : (o : ℤ) → IsOffset o → o <ℤ nth_offset 187200
+below o h = omega (arith, ints, offset_greatest o h)
+
+next_place : (place p : ℕ) → place ≡ p + 1 → nth_offset place ≡ nth_offset p +ℤ pos 1
+next_place place p e = omega (arith, ints, e)
+
+-- an instant of a second, and one just before it
+same_second : (total : ℤ → ℤ) (t s : ℤ) → HoldsSeconds total → IsSecond t s → total t ≡ total (nanos_of s)
+unfolding HoldsSeconds
+same_second total t s holds h = holds t ∙ ap (λ u. total (nanos_of u)) (one_second t (seconds_of t) s (second_is t) h)
+
+earlier_second : (x k l s : ℤ) → l ≡ k +ℤ pos 1 → IsSecond (instant_at x k) s → IsSecond (instant_at x l) (s -ℤ pos 1)
+earlier_second x k l s e h = record { low = omega (arith, ints, e, h.low); high = omega (arith, ints, e, h.high) }
+
+just_before : (s : ℤ) → IsSecond (nanos_of s -ℤ pos 1) (s -ℤ pos 1)
+just_before s = record { low = omega (arith, ints); high = omega (arith, ints) }
+
+is_behind : (x k l a s : ℤ) → l ≡ k +ℤ pos 1 → IsSecond (instant_at x k) s → a <ℤ l → local_at (nanos_of s) a ≤ℤ x
+is_behind x k l a s e h less = omega (arith, ints, e, h.low, less)
+
+is_ahead : (x k b s : ℤ) → IsSecond (instant_at x k) s → k <ℤ b → x <ℤ local_at (nanos_of s) b
+is_ahead x k b s h more = omega (arith, ints, h.high, more)
+
+pub skipped_by : (total : ℤ → ℤ) (x : ℤ) (place p : ℕ) (second before after : ℤ) → HoldsSeconds total → place ≡ p + 1
+    → second ≡ seconds_of (instant_at x (nth_offset p)) → before ≡ total (instant_at x (nth_offset place))
+    → after ≡ total (instant_at x (nth_offset p)) → total (instant_at x (nth_offset place)) <ℤ nth_offset place
+    → nth_offset p <ℤ total (instant_at x (nth_offset p)) → IsSkippedBy total x (record { second = second; before = before; after = after })
+skipped_by total x place p second before after holds e s b a less more =
+    let k = nth_offset p in let l = nth_offset place in let step = next_place place p e in
+    let here : IsSecond (instant_at x k) second = subst (IsSecond (instant_at x k)) (sym s) (second_is (instant_at x k)) in
+    let there : IsSecond (instant_at x l) (second -ℤ pos 1) = earlier_second x k l second step here in record {
+      before = b ∙ same_second total (instant_at x l) (second -ℤ pos 1) holds there
+          ∙ sym (same_second total (nanos_of second -ℤ pos 1) (second -ℤ pos 1) holds (just_before second));
+      after = a ∙ same_second total (instant_at x k) second holds here;
+      behind = is_behind x k l before second step here (subst (λ o. o <ℤ l) (sym b) less);
+      ahead = is_ahead x k after second here (subst (λ o. k <ℤ o) (sym a) more);
+    }
+
+test_same : (a t s : ℤ) → IsSecond t s → int_le (a *ℤ pos 1000000000) t ≡ int_le (a *ℤ pos 1000000000) (nanos_of s)
+test_same a t s h = grind (arith, ints, h.low, h.high)
+
+-- the shifts of a schedule lie on whole seconds
+pub schedule_holds : (schedule : Schedule) → HoldsSeconds (total_at schedule)
+unfolding HoldsSeconds total_at
+schedule_holds schedule t =
+    ap (λ (p : ℤ × ℤ → Bool). last_total schedule.first (filter p schedule.shifts)) (λ i shift. test_same shift.0 t (seconds_of t) (second_is t) i)
+
+whole_second : (s : ℤ) → seconds_of (nanos_of s) ≡ s
+whole_second s = one_second (nanos_of s) _ s (second_is (nanos_of s)) (record { low = omega (arith, ints); high = omega (arith, ints) })
+
+-- a file speaks of seconds alone
+pub file_holds : (value : ZoneValue) (footer : Option FooterZone) → HoldsSeconds (told_total_at value footer)
+unfolding HoldsSeconds kind_at
+file_holds value footer t = ap (λ s. (kind_in value footer s).utoff) (sym (whole_second (seconds_of t)))
+
+-- a local time without an instant is never shown
+pub never_read : (total : ℤ → ℤ) (x : ℤ) → ((t : ℤ) → IsOffset (total t)) → length (all_in_force total x) ≡ 0 → IsNeverRead total x
+unfolding IsNeverRead all_in_force
+never_read total x range none t e =
+    let found = ((instants_are total x range).exact t).1 e in
+    absurd (omega (arith, found.1, none, length-map (instants total x) (in_force total)))

@@ -1,0 +1,23 @@
+-- Worked examples: which names POSIX has a place for.
+use Rattle.std.proofs.Common.{◌≡◌, true, false, refl, [], ◌∷◌, map}
+use Rattle.std.specs.Prelude.{List, ℕ, Some, None, codes}
+use Rattle.tz_posix_core.specs.Values.{TzValue, expanded}
+use Rattle.sefunjaro.specs.PosixNames.{has_posix_names, is_posix_name}
+
+-- two letters, an underscore, letters past ASCII (in UTF-8) and a space are none
+others : map is_posix_name (codes "CD" ∷ codes "A_B" ∷ (195 ∷ 132 ∷ 195 ∷ 132 ∷ []) ∷ codes "A B" ∷ []) ≡ false ∷ false ∷ false ∷ false ∷ []
+others = refl
+
+-- letters of either size, digits, and signs are
+theirs : map is_posix_name (codes "EST" ∷ codes "abz" ∷ codes "-03" ∷ codes "+0530" ∷ codes "A09" ∷ []) ≡ true ∷ true ∷ true ∷ true ∷ true ∷ []
+theirs = refl
+
+abbrev named : List ℕ → List ℕ → TzValue
+named standard saving =
+    expanded (record { name = standard; offset = record { positive = true; time = record { hh = 5; mm = None; ss = None } } })
+    (Some (record { name = saving; offset = None; rule = None }))
+
+-- both names count
+both_names : map has_posix_names (named (codes "EST") (codes "EDT") ∷ named (codes "EST") (codes "ED") ∷ named (codes "E") (codes "EDT") ∷ [])
+    ≡ true ∷ false ∷ false ∷ []
+both_names = refl

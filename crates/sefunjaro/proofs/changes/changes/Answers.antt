@@ -1,0 +1,47 @@
+use Rattle.std.proofs.Common.{◌≡◌, ◌<◌, length, to_z, of_z, to_z-of_z, w64, subst, arith}
+use Rattle.std.proofs.lemmas.List.{length-map}
+use Rattle.tz_zone.specs.Sets.{shift_of}
+use Rattle.tz_lookup.specs.CompactShown.{seen}
+use Rattle.sefunjaro.specs.Changes.{window}
+use Rattle.sefunjaro.specs.Rooms.{filled}
+use Rattle.sefunjaro.proofs.ChangeLemmas.{met_all, met_more, met_none}
+use Rattle.sefunjaro.proofs.changes.changes.Goals as goal
+
+pub loop-place-init : goal.loop-place-init
+loop-place-init c =
+    let set = seen c.args.set.now in let first = c.entries_before-first in record {
+      begun = omega arith;
+      met = met_none set (to_z w64 (of_z w64 c.args.from)) (to_z w64 (of_z w64 c.args.to)) set.others first.result c.args.room.now first.ensures;
+    }
+
+pub loop-place-preserved : goal.loop-place-preserved
+loop-place-preserved c =
+    let set = seen c.args.set.now in let begun = c.entries_before-first.ensures in let ended = c.entries_before.ensures in
+    let place = c.loop-place.place in let invariant = c.loop-place.invariant in let size = length-map set.others shift_of in
+    let lasts : place < c.entries_before.result = omega (arith, c.loop-place-test.true, invariant.begun, c.max-end.ensures) in
+    let within : place < length set.others = omega (arith, lasts, ended.within, size) in record {
+      begun = omega (arith, invariant.begun);
+      met = met_more set (to_z w64 (of_z w64 c.args.from)) (to_z w64 (of_z w64 c.args.to)) set.others c.args.room.now c.loop-place.room _ place
+          c.loop-place.count c.put_change-count.result invariant.met within (begun.after place invariant.begun (omega (arith, within, size)))
+          (ended.before place lasts) c.put_change-count.ensures;
+    }
+
+pub returns-clause-room : goal.returns-clause-room
+unfolding window
+returns-clause-room c =
+    let set = seen c.args.set.now in let from = to_z-of_z c.ranges.from in let to = to_z-of_z c.ranges.to in
+    let met = met_all set (to_z w64 (of_z w64 c.args.from)) (to_z w64 (of_z w64 c.args.to)) set.others c.args.room.now c.loop-place.room
+    c.loop-place.place c.loop-place.count c.loop-place.invariant.met
+    (λ j l m. c.entries_before.ensures.after j (omega (arith, c.loop-place-test.false, c.max-end.ensures, l)) (omega (arith, m, length-map set.others shift_of))) in
+    subst (λ a. c.loop-place.room ≡ filled (window set a c.args.to) c.args.room.now) from
+    (subst (λ b. c.loop-place.room ≡ filled (window set (to_z w64 (of_z w64 c.args.from)) b) c.args.room.now) to met.0)
+
+pub returns-clause-count : goal.returns-clause-count
+unfolding window
+returns-clause-count c =
+    let set = seen c.args.set.now in let from = to_z-of_z c.ranges.from in let to = to_z-of_z c.ranges.to in
+    let met = met_all set (to_z w64 (of_z w64 c.args.from)) (to_z w64 (of_z w64 c.args.to)) set.others c.args.room.now c.loop-place.room
+    c.loop-place.place c.loop-place.count c.loop-place.invariant.met
+    (λ j l m. c.entries_before.ensures.after j (omega (arith, c.loop-place-test.false, c.max-end.ensures, l)) (omega (arith, m, length-map set.others shift_of))) in
+    subst (λ a. c.loop-place.count ≡ length (window set a c.args.to)) from
+    (subst (λ b. c.loop-place.count ≡ length (window set (to_z w64 (of_z w64 c.args.from)) b)) to met.1)

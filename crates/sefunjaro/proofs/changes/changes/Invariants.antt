@@ -1,0 +1,11 @@
+use Rattle.std.proofs.Common.{◌≤◌}
+use Rattle.tz_lookup.specs.CompactShown.{seen}
+use Rattle.sefunjaro.proofs.ChangeLemmas.{AreMet}
+use Rattle.sefunjaro.proofs.changes.changes.Given as goal
+
+-- as many changes of the window as were met stand in the room, as far as they fit, and the others are left
+abbrev pub invariant-loop-place : goal.invariant-loop-place
+invariant-loop-place l = record {
+  begun : l.initial.place ≤ l.place;
+  met : AreMet (seen l.set) l.from l.to (seen l.set).others l.fn.room l.place l.count l.room;
+}

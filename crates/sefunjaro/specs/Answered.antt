@@ -1,0 +1,33 @@
+-- What zones of every kind answer, by the total in force at each instant.
+use Rattle.std.specs.Prelude.{◌≡◌, ℕ, ℤ, Bool, List, length, map, Option, option_map, IfSome, is_some}
+use Rattle.std.specs.List.{slice_get}
+use Rattle.civil_base.specs.Instants.{local_at}
+use Rattle.civil_base.specs.Ranges.{is_in_years}
+use Rattle.civil_base.specs.declared.offset_date_time.OffsetDateTime.{OffsetDateTime}
+use Rattle.tz_zone.specs.InForce.{all_in_force, in_force, shown_of}
+use Rattle.sefunjaro.specs.Asked.{reading_of, IsNamed}
+use Rattle.sefunjaro.specs.Gaps.{IsSkippedBy}
+use Rattle.sefunjaro.specs.Rooms.{filled}
+use Rattle.sefunjaro.specs.declared.asking.InForce.{InForce}
+use Rattle.sefunjaro.specs.declared.asking.Reading.{Reading}
+use Rattle.sefunjaro.specs.declared.gap.Gap.{Gap}
+
+-- what is in force at an instant, where each instant has a total, and gives abbreviations
+pub record IsInForce (total : ℤ → ℤ) (gives : ℤ → List ℕ → Bool → Type 0) (t : ℤ) (found : InForce) (old new : List ℕ) : Type 0 where
+  pub offset : found.offset ≡ total t
+  pub named : IsNamed (gives t) found old new
+
+-- an instant at the offset in force, where its local date lies in the years -9999 to 9999
+pub record IsShown (total : ℤ → ℤ) (t : ℤ) (found : Option OffsetDateTime) : Type 0 where
+  pub shown : IfSome found (λ value. shown_of value ≡ in_force total t)
+  pub years : is_some found ≡ is_in_years (local_at t (total t))
+
+-- all instants of a local time, as far as there is room, how many there are, and the change that skips it where there is none
+pub record AreReadings (total : ℤ → ℤ) (x : ℤ) (old new : List Reading) (count : ℕ) (gap : Gap) : Type 0 where
+  pub room : new ≡ filled (map reading_of (all_in_force total x)) old
+  pub all : count ≡ length (all_in_force total x)
+  pub skipped : count ≡ 0 → IsSkippedBy total x gap
+
+-- of the instants of a local time the first, if there is one
+abbrev pub first_of : (ℤ → ℤ) → ℤ → Option Reading
+first_of total x = option_map reading_of (slice_get (all_in_force total x) 0)

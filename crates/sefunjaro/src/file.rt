@@ -1,0 +1,216 @@
+//! Zones of compiled files, and of POSIX strings.
+ghost use Rattle.std.specs.Prelude.{◌≡◌, ◌<◌, MatchResult, IfErr, IfOk, false, true};
+ghost use Rattle.zone_tzif_core.specs.Shown.{kind_shown};
+ghost use Rattle.zone_tzif_core.specs.ZoneFiles.{zone_seen};
+ghost use Rattle.zone_tzif_core.specs.Zones.{is_small};
+ghost use Rattle.sefunjaro.specs.Files.{IsFileFault};
+ghost use Rattle.sefunjaro.specs.Posix.{IsPosixFault, IsStandardOf};
+ghost use Rattle.sefunjaro.specs.declared.file.PosixFault.TheVariants.{NoMemory as NoPosixMemory};
+
+use crate::asking::{InForce, Reading, first_reading, in_force, offset_at, reading_of};
+use crate::gap::Gap;
+use crate::lent::lent_readings;
+use civil_base::{OffsetDateTime, PlainDateTime, UtcOffset};
+use std::alloc::Global;
+use tz_footer::{Footer, footer_text, one_footer};
+use tz_lookup::OffsetDateTimeExt;
+use tz_tzif::{TzifFault, TzifOwner, TzifTz, read_footer};
+use zone_tzif_core::{Kind, ReadFault, Record, ZoneFile, read_file, said_bounds, said_footer};
+
+/// A zone of a compiled file, or of a POSIX string, that owns all that it is asked for.
+///
+/// What is asked at a local time takes no memory, as nothing else does. Its changes and their saving are not kept.
+#[derive(Debug, Drop)]
+pub struct FileZone {
+    owner: TzifOwner,
+}
+
+/// Why a file gives no zone.
+#[derive(Clone, Copy, Debug, PartialEq, Eq)]
+pub enum FileFault {
+    /// It is no compiled file that is read.
+    Refused,
+    /// Its footer is neither empty nor a POSIX string of those that are read.
+    Footer,
+    /// There was no memory for the zone.
+    NoMemory,
+}
+
+/// Why a text gives no zone.
+#[derive(Clone, Copy, Debug, PartialEq, Eq)]
+pub enum PosixFault {
+    /// It is no POSIX string of those that are read.
+    Refused,
+    /// There was no memory for the zone.
+    NoMemory,
+}
+
+impl FileZone {
+    ghost use Rattle.std.specs.Prelude.{[]};
+    ghost use Rattle.civil_base.specs.DateTimes.{instant};
+    ghost use Rattle.tz_tzif.specs.Faults.{HasOffsets, IsAcceptedFile};
+    ghost use Rattle.tz_tzif.specs.InForce.{told_total_at};
+    ghost use Rattle.tz_tzif.specs.Zones.{IsZoneOf};
+    ghost use Rattle.sefunjaro.specs.Answered.{first_of, AreReadings, IsInForce, IsShown};
+    ghost use Rattle.sefunjaro.specs.Files.{file_value, given_at, IsFileFault, IsFileOf, IsPosixOf, IsValueFault, SaysOf};
+
+    /// The zone of a compiled file (RFC 8536, any version), with what its footer, if it has one, says from the last change on. It
+    /// takes memory in proportion to the file.
+    ///
+    /// # Errors
+    ///
+    /// In this order: `Refused` exactly where the bytes are no file of the format, or one with leap seconds or with an offset
+    /// past 93,599 seconds in size; `Footer` exactly where there is a footer and it is no footer in the ranges of its parts;
+    /// `NoMemory`, only where there is a zone.
+    pub fn read(alloc: Global, bytes: &[u8]) -> Result<FileZone, FileFault>
+        ensures { MatchResult result (IsFileOf bytes.now) (IsFileFault bytes.now) }
+    {
+        said_bounds();
+        match read_file(alloc, bytes) {
+            Ok(zone) => FileZone::of_value(alloc, zone),
+            Err(ReadFault::Refused) => Err(FileFault::Refused),
+            Err(ReadFault::NoMemory) => Err(wanting(bytes)),
+        }
+    }
+
+    /// The zone that a POSIX string stands for, at all times: standard time alone, or with daylight saving time and its rule, as
+    /// the footers of compiled files are. Before all it has standard time for its first kind.
+    ///
+    /// # Errors
+    ///
+    /// In this order: `Refused` exactly where the text is no such string in the ranges of its parts; `NoMemory`,
+    /// only where it is one.
+    pub fn posix(alloc: Global, text: &str) -> Result<FileZone, PosixFault>
+        ensures { MatchResult result (IsPosixOf text.now) (IsPosixFault text.now) }
+    {
+        match standard_of(alloc, text) {
+            Ok(first) => FileZone::of_string(alloc, first, text),
+            Err(fault) => Err(fault),
+        }
+    }
+
+    /// A zone without changes, whose footer is that text.
+    fn of_string(alloc: Global, first: Kind, text: &str) -> Result<FileZone, PosixFault>
+        requires { IsStandardOf text.now (kind_shown first) }
+        ensures { MatchResult result (IsPosixOf text.now) (IsPosixFault text.now) }
+    {
+        let kind = Record {
+            utoff: first.utoff,
+            is_dst: first.is_dst,
+            name: first.name.as_str(),
+        };
+        let Ok(zone) = ZoneFile::steady(alloc, &kind, text) else {
+            return Err(PosixFault::NoMemory);
+        };
+        match FileZone::of_value(alloc, zone) {
+            Ok(zone) => Ok(zone),
+            Err(FileFault::Refused) => Err(PosixFault::Refused),
+            Err(FileFault::Footer) => Err(PosixFault::Refused),
+            Err(FileFault::NoMemory) => Err(PosixFault::NoMemory),
+        }
+    }
+
+    /// The zone of a value whose times rise, and whose offsets are small.
+    fn of_value(alloc: Global, zone: ZoneFile) -> Result<FileZone, FileFault>
+        requires { HasOffsets (zone_seen zone) }
+        ensures { MatchResult result (λ found. (file_value found ≡ zone_seen zone) × SaysOf found (IsAcceptedFile (file_value found))) (IsValueFault (zone_seen zone)) }
+    {
+        match TzifOwner::new(alloc, zone) {
+            Ok(owner) => Ok(FileZone { owner }),
+            Err(TzifFault::Times) => unreachable!(),
+            Err(TzifFault::Offset) => unreachable!(),
+            Err(TzifFault::Footer) => Err(FileFault::Footer),
+            Err(TzifFault::NoMemory) => Err(FileFault::NoMemory),
+        }
+    }
+
+    fn zone(&self) -> TzifTz<'_>
+        ensures { IsZoneOf [] (file_value self.now) result }
+    {
+        self.owner.lend("")
+    }
+
+    /// The seconds east of UTC that are in force at an instant.
+    pub fn offset_at(&self, at: &OffsetDateTime) -> i32
+        ensures { SaysOf self.now (λ footer. result ≡ told_total_at (file_value self.now) footer (instant at.now)) }
+    {
+        offset_at(&self.zone(), at)
+    }
+
+    /// What is in force at an instant. The abbreviation goes into the room, as far as it fits.
+    pub fn in_force(&self, at: &OffsetDateTime, room: &mut [u8]) -> InForce
+        ensures { SaysOf self.now (λ footer. IsInForce (told_total_at (file_value self.now) footer) (given_at (file_value self.now) footer) (instant at.now) result room.old room.new) }
+    {
+        in_force(&self.zone(), at, room)
+    }
+
+    /// The instant at the offset in force. There is none exactly where the local date lies outside the years -9999 to 9999.
+    pub fn shown_at(&self, at: &OffsetDateTime) -> Option<OffsetDateTime>
+        ensures { SaysOf self.now (λ footer. IsShown (told_total_at (file_value self.now) footer) (instant at.now) result) }
+    {
+        at.to_timezone(&self.zone())
+    }
+
+    /// All instants at which clocks show a local time, by time, as far as they fit in the room, and how many there are. Where
+    /// there is none, the change that skips the local time is told.
+    pub fn readings(&self, local: &PlainDateTime, room: &mut [Reading], gap: &mut Gap) -> usize
+        ensures answer { SaysOf self.now (λ footer. AreReadings (told_total_at (file_value self.now) footer) local.now room.old room.new result gap.new) }
+        ensures gap { 0 < result → gap.new ≡ gap.old }
+    {
+        lent_readings(&self.zone(), local, room, gap)
+    }
+
+    /// The ring of a daily alarm on the day and at the time of day of a local time: the first of the instants at which clocks
+    /// show it, or none where they skip it.
+    pub fn ring(&self, local: &PlainDateTime) -> Option<Reading>
+        ensures { SaysOf self.now (λ footer. result ≡ first_of (told_total_at (file_value self.now) footer) local.now) }
+    {
+        match first_reading(&self.zone(), local) {
+            Some(first) => Some(reading_of(&first)),
+            None => None,
+        }
+    }
+}
+
+/// Why a file gives no zone, where there was no memory to read it: a cause that is found without memory, or else this.
+fn wanting(bytes: &[u8]) -> FileFault
+    ensures { IsFileFault bytes.now result }
+{
+    match said_footer(bytes) {
+        Some(footer) => match read_footer(footer) {
+            Some(_) => FileFault::NoMemory,
+            None => FileFault::Footer,
+        },
+        None => FileFault::Refused,
+    }
+}
+
+/// The standard time of a POSIX string.
+fn standard_of(alloc: Global, text: &str) -> Result<Kind, PosixFault>
+    ensures { MatchResult result (λ kind. IsStandardOf text.now (kind_shown kind)) (IsPosixFault text.now) }
+{
+    one_footer();
+    match Footer::parse(text) {
+        Some(footer) => match footer_text(text) {
+            Some(read) => standard_kind(alloc, read.std.name, footer.offsets().0),
+            None => Err(PosixFault::Refused),
+        },
+        None => Err(PosixFault::Refused),
+    }
+}
+
+/// Standard time of that abbreviation and offset.
+fn standard_kind(alloc: Global, name: &str, offset: UtcOffset) -> Result<Kind, PosixFault>
+    ensures kind { IfOk result (λ kind. kind_shown kind ≡ record { utoff = offset; is_dst = false; name = name.now }) }
+    ensures small { IfOk result (λ _. is_small offset ≡ true) }
+    ensures err { IfErr result (λ fault. fault ≡ NoPosixMemory) }
+{
+    match String::from_str(alloc, name) {
+        Ok(name) => Ok(Kind {
+            utoff: offset.whole_seconds(),
+            is_dst: false,
+            name,
+        }),
+        Err(_) => Err(PosixFault::NoMemory),
+    }
+}

@@ -1,0 +1,171 @@
+//! A source that is kept open.
+ghost use Rattle.std.specs.Prelude.{◌≡◌};
+ghost use Rattle.std.proofs.Props.{props};
+ghost use Rattle.tz_lookup.specs.Databases.{names_of};
+ghost use Rattle.zone_table.specs.BoundedTables.{IsBoundedTable};
+ghost use Rattle.sefunjaro.specs.Releases.{if_some, release_text};
+ghost use Rattle.zone_source.specs.Releases.{release_of};
+
+use crate::names::names_of;
+use crate::zone::OpenZone;
+use owned::{Items, Text};
+use std::alloc::Global;
+use tz_lookup::{ZoneFault, compile_zone};
+use zone_line::LineParser;
+use zone_source::{LIMIT, SourceError, read_table, release_of};
+use zone_table::Table;
+
+/// The zones of a source, with their names in byte order, and its release, or nothing where it names none.
+#[derive(Drop)]
+pub struct OpenSource {
+    table: Table,
+    names: Items<Text>,
+    release: Text,
+    ghost bounded: { IsBoundedTable table } by { Prim.hlevel props },
+    ghost all: { names ≡ names_of table },
+}
+
+/// The release that a text names, or nothing where it names none.
+fn release_text(text: &[u8]) -> &str
+    ensures value { result.now ≡ release_text (release_of text.now) }
+    ensures back { if_some result.now ≡ release_of text.now }
+{
+    match release_of(text) {
+        Some(release) => release,
+        None => "",
+    }
+}
+
+/// Why a source isn't opened.
+#[derive(Debug, Drop, PartialEq)]
+pub enum OpenFault {
+    /// It is longer than 16,777,216 bytes.
+    TooLong,
+    /// The first fault of its lines.
+    Source(SourceError),
+    /// There was no memory for it.
+    NoMemory,
+}
+
+impl OpenSource {
+    ghost use Rattle.std.specs.Prelude.{◌≡◌, ◌≤◌, IfOk, IfErr, OnOk, None, length};
+    ghost use Rattle.std.specs.List.{slice_get};
+    ghost use Rattle.std.specs.Option.{option_copied};
+    ghost use Rattle.tz_lookup.specs.Databases.{names_of};
+    ghost use Rattle.tz_zone.specs.Compiles.{compiled_in, IsZoneFault};
+    ghost use Rattle.zone_table.specs.BoundedTables.{IsBoundedTable};
+    ghost use Rattle.zone_table.specs.Tables.{IsTableOf};
+    ghost use Rattle.zone_source.specs.Faults.{source_fault};
+    ghost use Rattle.zone_source.specs.Zones.{values_of};
+    ghost use Rattle.sefunjaro.specs.Faults.{IsOpenFault, IsReadFault};
+    ghost use Rattle.sefunjaro.specs.Sources.{table_in, release_in};
+    ghost use Rattle.zone_source.specs.Releases.{release_of};
+    ghost use Rattle.sefunjaro.specs.Zones.{set_in, IsOpened};
+    ghost use Rattle.tz_zone.specs.Sets.{schedule_of, IsAccepted};
+    ghost use Rattle.sefunjaro.specs.declared.source.OpenFault.TheVariants.{NoMemory};
+
+    /// Opens a source from its text in plain form, and in no other.
+    ///
+    /// # Errors
+    ///
+    /// `TooLong` exactly where the text is longer than 16,777,216 bytes; then `Source` with its first fault, which is never
+    /// want of memory; `NoMemory`, never where `TooLong` is due.
+    pub fn open_plain(alloc: Global, text: &[u8]) -> Result<OpenSource, OpenFault>
+        ensures short { OnOk result (length text.now ≤ LIMIT) }
+        ensures ok { OnOk result (source_fault text.now ≡ None) }
+        ensures table { IfOk result (λ source. IsTableOf (table_in source) (values_of text.now)) }
+        ensures release { IfOk result (λ source. release_in source ≡ release_of text.now) }
+        ensures err { IfErr result (IsOpenFault text.now) }
+    {
+        if text.len() > LIMIT {
+            return Err(OpenFault::TooLong);
+        }
+        let Ok(parser) = LineParser::new(alloc) else {
+            return Err(OpenFault::NoMemory);
+        };
+        OpenSource::read(alloc, &parser, text)
+    }
+
+    /// The same with a parser of lines that is there, of a text that isn't too long.
+    pub(crate) fn read(
+        alloc: Global,
+        parser: &LineParser,
+        text: &[u8],
+    ) -> Result<OpenSource, OpenFault>
+        requires { length text.now ≤ LIMIT }
+        ensures ok { OnOk result (source_fault text.now ≡ None) }
+        ensures table { IfOk result (λ source. IsTableOf (table_in source) (values_of text.now)) }
+        ensures release { IfOk result (λ source. release_in source ≡ release_of text.now) }
+        ensures err { IfErr result (IsReadFault text.now) }
+    {
+        match read_table(alloc, parser, text) {
+            Ok(table) => OpenSource::of(alloc, table, text),
+            Err(SourceError::NoMemory) => Err(OpenFault::NoMemory),
+            Err(error) => Err(OpenFault::Source(error)),
+        }
+    }
+
+    /// A table with its names, and the release that its text names.
+    fn of(alloc: Global, table: Table, text: &[u8]) -> Result<OpenSource, OpenFault>
+        requires { IsBoundedTable table }
+        ensures ok { IfOk result (λ source. table_in source ≡ table) }
+        ensures release { IfOk result (λ source. release_in source ≡ release_of text.now) }
+        ensures err { IfErr result (λ fault. fault ≡ NoMemory) }
+    {
+        let Ok(release) = Text::new(alloc, release_text(text)) else {
+            return Err(OpenFault::NoMemory);
+        };
+        match names_of(alloc, &table) {
+            Ok(names) => Ok(OpenSource {
+                table,
+                names,
+                release,
+            }),
+            Err(_) => Err(OpenFault::NoMemory),
+        }
+    }
+
+    /// The release that the source names by its first line, as `2026b` in `# version 2026b`, if it names one.
+    pub fn release(&self) -> Option<&str>
+        ensures { option_copied result ≡ release_in self.now }
+    {
+        let release = self.release.as_str();
+        if release.is_empty() {
+            None
+        } else {
+            Some(release)
+        }
+    }
+
+    /// How many names find a zone: those of its zones, and of the links to them.
+    pub fn name_count(&self) -> usize
+        ensures { result ≡ length (names_of (table_in self.now)) }
+    {
+        self.names.len()
+    }
+
+    /// The name at a place of their byte order, which counts from 0, if there are so many.
+    pub fn name(&self, place: usize) -> Option<&str>
+        ensures { option_copied result ≡ slice_get (names_of (table_in self.now)) place }
+    {
+        match self.names.get(place) {
+            Some(name) => Some(name.as_str()),
+            None => None,
+        }
+    }
+
+    /// The zone that a name finds. It needs no more of the source.
+    ///
+    /// # Errors
+    ///
+    /// In this order: `UnknownZone` exactly where the name finds no zone; `Schedule` with the zone's first fault, which is
+    /// never want of memory; `OffsetRange` exactly where some span has an offset of 26 hours or more; `NoMemory`.
+    pub fn zone(&self, alloc: Global, name: &str) -> Result<OpenZone, ZoneFault>
+        ensures ok { IfOk result (IsOpened name.now (compiled_in (table_in self.now) name.now)) }
+        ensures accepted { IfOk result (λ zone. IsAccepted (schedule_of (set_in zone))) }
+        ensures err { IfErr result (IsZoneFault (compiled_in (table_in self.now) name.now)) }
+    {
+        let set = compile_zone(alloc, &self.table, name)?;
+        Ok(OpenZone::of_set(alloc, &set)?)
+    }
+}

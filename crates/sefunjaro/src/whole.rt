@@ -1,0 +1,53 @@
+//! A zone as a whole: the string that carries it on, and its file.
+use crate::zone::OpenZone;
+use std::alloc::Global;
+use zone_tail_core::{Tail, TailFault, tail};
+use zone_tzif_set::{FileFault, consistent_tzif_of};
+
+impl OpenZone {
+    ghost use Rattle.std.specs.Prelude.{◌≡◌, ℤ, IfOk, MatchResult, string_bytes};
+    ghost use Rattle.zone_spans.specs.Schedules.{total_at as set_total_at};
+    ghost use Rattle.tz_zone.specs.Sets.{schedule_of};
+    ghost use Rattle.zone_tail_core.specs.Carried.{CarriesOn};
+    ghost use Rattle.zone_tail_core.specs.Tails.{IsFaultOf, IsTail};
+    ghost use Rattle.zone_tzif_core.specs.Denotes.{Denotes};
+    ghost use Rattle.zone_tzif_core.specs.Totals.{file_total_at};
+    ghost use Rattle.zone_tzif_core.specs.Tzif.{IsTzif};
+    ghost use Rattle.zone_tzif_core.specs.Zones.{ZoneValue};
+    ghost use Rattle.zone_tzif_set.specs.Files.{consistent_zone, IsCarriedOn, MakesZone};
+    ghost use Rattle.sefunjaro.specs.Zones.{set_in};
+
+    /// The POSIX TZ string that carries the zone on, as [`tail`](zone_tail_core::tail) gives it of the zone's spans. It takes
+    /// memory for the string alone.
+    ///
+    /// # Errors
+    ///
+    /// In this order, and each exactly where it says: `Shape`, `OffsetRange`, `Name`; `NoMemory`, and never where one of these is due.
+    pub fn tail(&self, alloc: Global) -> Result<Tail, TailFault>
+        ensures told { MatchResult result (λ tail. IsTail (set_in self.now) tail.from (string_bytes tail.text)) (IsFaultOf (set_in self.now)) }
+        ensures read { IfOk result (λ tail. CarriesOn (set_in self.now) tail.from (string_bytes tail.text)) }
+    {
+        match tail(alloc, self.compact()) {
+            Ok(tail) => Ok(tail),
+            Err(fault) => Err(fault),
+        }
+    }
+
+    /// The zone's TZif file, as [`consistent_tzif_of`] writes it of the zone's spans, with the string that carries the zone on as
+    /// its footer, or none where there is no such string or it may say otherwise as a footer. It takes memory for the file.
+    ///
+    /// # Errors
+    ///
+    /// In this order, and each exactly where it says: `Times`, `Types`, `Names`; `NoMemory`, and never where one of these is due.
+    pub fn tzif(&self, alloc: Global) -> Result<Vec<u8>, FileFault>
+        ensures told { MakesZone (λ file. file.items) (consistent_zone (set_in self.now)) result }
+        ensures file { IfOk result (λ file. IsTzif file.items (consistent_zone (set_in self.now))) }
+        ensures totals { IfOk result (λ file. (zone : ZoneValue) → Denotes file.items zone → (t : ℤ) → file_total_at zone t ≡ set_total_at (schedule_of (set_in self.now)) t) }
+        ensures carried { IfOk result (λ _. IsCarriedOn (set_in self.now)) }
+    {
+        match consistent_tzif_of(alloc, self.compact()) {
+            Ok(file) => Ok(file),
+            Err(fault) => Err(fault),
+        }
+    }
+}

@@ -1,5 +1,0 @@
-use Rattle.zone_open.proofs.ReleaseLemmas.{is_some}
-use Rattle.zone_open.proofs.source.release_text.Goals as goal
-
-pub returns-in-Some-clause-back : goal.returns-in-Some-clause-back
-returns-in-Some-clause-back c = is_some c.args.text.now _ c.in-Some.ensures
