@@ -1,18 +1,14 @@
 //! What a zone is asked at an instant, and at a local time.
-ghost use Rattle.std.specs.Prelude.{◌≡◌, ◌<◌, ◌≤◌, length, map, option_map};
+ghost use Rattle.std.specs.Prelude.{◌≡◌, length, map, option_map};
 ghost use Rattle.std.specs.List.{slice_get};
 ghost use Rattle.civil_base.specs.DateTimes.{instant};
-ghost use Rattle.tz_lookup.specs.Answers.{listed};
-ghost use Rattle.tz_lookup.specs.CompactZones.{compact_of};
 ghost use Rattle.tz_lookup.specs.InForce.{all_in_force, shown_of};
-ghost use Rattle.tz_lookup.specs.Sets.{schedule_of};
-ghost use Rattle.zone_spans.specs.Schedules.{total_at};
 ghost use Rattle.sefunjaro.specs.Asked.{reading_of, IsNamed};
 ghost use Rattle.sefunjaro.specs.Rooms.{filled};
 
 use crate::room::{fill, put};
 use civil_base::{OffsetDateTime, PlainDateTime};
-use tz_lookup::{CompactTz, Offset, OffsetResult, PrimitiveDateTimeExt, TimeZone};
+use tz_lookup::{AllInstants, InstantsOf, Offset, PrimitiveDateTimeExt, TimeZone};
 
 /// What is in force in a zone.
 #[derive(Clone, Copy, Debug, PartialEq, Eq)]
@@ -57,54 +53,17 @@ pub(crate) fn in_force<T: TimeZone>(zone: &T, at: &OffsetDateTime, room: &mut [u
     }
 }
 
-/// All instants at which the clocks of a compact zone show a local time, by time, as far as they fit, and how many there
-/// are. The zone has at most so many entries.
-pub(crate) fn readings(
-    zone: &CompactTz<'_>,
+/// All instants at which the clocks of a zone show a local time, by time, as far as they fit, and how many there are.
+pub(crate) fn readings<T: AllInstants>(
+    zone: &T,
     local: &PlainDateTime,
-    most: usize,
     room: &mut [Reading],
 ) -> usize
-    requires bound { length (compact_of zone.now).others ≤ most }
-    requires most { most < 18446744073709551615 }
-    ensures room { room.new ≡ filled (map reading_of (all_in_force (total_at (schedule_of (compact_of zone.now))) local.now)) room.old }
-    ensures count { result ≡ length (all_in_force (total_at (schedule_of (compact_of zone.now))) local.now) }
-{
-    if zone.is_orderly() {
-        two_readings(local.assume_timezone(zone), room)
-    } else {
-        each_reading(zone, local, most, room)
-    }
-}
-
-/// The readings of at most two date-times.
-fn two_readings(dates: OffsetResult<OffsetDateTime>, room: &mut [Reading]) -> usize
-    ensures room { room.new ≡ filled (map reading_of (map shown_of (listed dates))) room.old }
-    ensures count { result ≡ length (map shown_of (listed dates)) }
-{
-    match dates {
-        OffsetResult::None => fill(&[], room),
-        OffsetResult::Some(only) => fill(&[reading_of(&only)], room),
-        OffsetResult::Ambiguous(first, second) => {
-            fill(&[reading_of(&first), reading_of(&second)], room)
-        }
-    }
-}
-
-/// The readings of each date-time of a local time.
-fn each_reading(
-    zone: &CompactTz<'_>,
-    local: &PlainDateTime,
-    most: usize,
-    room: &mut [Reading],
-) -> usize
-    requires bound { length (compact_of zone.now).others ≤ most }
-    requires most { most < 18446744073709551615 }
-    ensures room { room.new ≡ filled (map reading_of (all_in_force (total_at (schedule_of (compact_of zone.now))) local.now)) room.old }
-    ensures count { result ≡ length (all_in_force (total_at (schedule_of (compact_of zone.now))) local.now) }
+    ensures room { room.new ≡ filled (map reading_of (all_in_force (T.total_at zone.now) local.now)) room.old }
+    ensures count { result ≡ length (all_in_force (T.total_at zone.now) local.now) }
 {
     let mut count = 0;
-    for date in zone.instants_local(local) {
+    for date in InstantsOf::new(zone, local) {
         put(reading_of(&date), count, room);
         count += 1;
     }

@@ -4,9 +4,7 @@ use crate::changes::{Change, changes, next_change, saving_at};
 use crate::gap::{Gap, find_gap};
 use civil_base::{OffsetDateTime, PlainDateTime};
 use std::alloc::{AllocError, Global};
-use tz_lookup::{
-    CompactFault, CompactSet, CompactTz, FixedTimespanSet, OffsetDateTimeExt, SpanTable,
-};
+use tz_lookup::{CompactFault, CompactSet, CompactTz, FixedTimespanSet, OffsetDateTimeExt};
 
 /// A zone that owns all that it is asked for.
 #[derive(Debug, Drop)]
@@ -107,7 +105,7 @@ impl OpenZone {
         ensures room { room.new ≡ filled (map reading_of (all_in_force (total_in self.now) local.now)) room.old }
         ensures count { result ≡ length (all_in_force (total_in self.now) local.now) }
     {
-        readings(&self.zone(), local, self.set.entry_count(), room)
+        readings(&self.zone(), local, room)
     }
 
     /// The change by which clocks skip a local time that they never show.

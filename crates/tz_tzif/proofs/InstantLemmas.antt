@@ -1,9 +1,10 @@
 -- The offsets that are read at a local second give the instants of a local time.
-use Rattle.std.proofs.Common.{◌≡◌, Bool, cond, List, [], ◌∷◌, Option, map, ℤ, ◌-ℤ◌, refl, sym, ap, ◌∙◌, ⊎_elim}
+use Rattle.std.proofs.Common.{◌≡◌, ◌≤◌, Bool, cond, List, [], ◌∷◌, Option, length, map, ℤ, ◌-ℤ◌, refl, sym, ap, ◌∙◌, ⊎_elim, arith}
 use Rattle.std.specs.Prelude.{Contains}
 use Rattle.std.specs.List.{filter}
 use Rattle.std.specs.Ordering.{int_eq}
 use Rattle.std.proofs.lemmas.Bool.{cases_Bool}
+use Rattle.std.proofs.lemmas.List.{length-map}
 use Rattle.calendar.specs.ComparisonLaws.{eq_from_pass}
 use Rattle.civil_base.specs.DateTimes.{at_offset}
 use Rattle.civil_base.specs.Instants.{instant_at, seconds_of}
@@ -12,7 +13,7 @@ use Rattle.tz_footer.specs.InForce.{FooterZone}
 use Rattle.zone_spans.specs.Schedules.{instants}
 use Rattle.tz_zone.specs.InForce.{in_force, all_in_force, shown_of, totals_at}
 use Rattle.tz_zone.specs.InForceLaws.{shown_at_offset}
-use Rattle.tz_zone.specs.InstantLaws.{instants_one}
+use Rattle.tz_zone.specs.InstantLaws.{few_pass, instants_one}
 use Rattle.tz_zone.specs.SecondLaws.{seconds_of-instant_at}
 use Rattle.zone_tzif_core.specs.Zones.{KindValue, ZoneValue}
 use Rattle.tz_footer.specs.FooterShown.{held_shown}
@@ -72,6 +73,19 @@ dates_are zone footer x range =
     let os = offsets_of zone footer in
     ap (λ ps. map shown_of (map (at_offset x) ps)) (sym (same_filter total x os)) ∙ shown_given (by_second total) x os
     ∙ ap (map (in_force (by_second total))) (sym (all_given total x os (offsets_fall zone footer) (each_there zone footer) range))
+
+-- there are no more than the offsets
+pub few_dates : (zone : ZoneValue) (footer : Option FooterZone) (x : ℤ) → ((t : ℤ) → IsOffset (told_total_at zone footer t))
+    → length (all_in_force (told_total_at zone footer) x) ≤ length (offsets_of zone footer)
+few_dates zone footer x range =
+    let os = offsets_of zone footer in
+    let dates = map (at_offset x) (read_at (total_in zone footer) (seconds_of x) os) in
+    omega (
+      arith,
+      ap length (dates_are zone footer x range),
+      length-map dates shown_of,
+      few_pass (at_offset x) (is_read (total_in zone footer) (seconds_of x)) os,
+    )
 
 -- what is held for a local second is of the kind in force at its instant
 pub kind_held : (zone : ZoneValue) (footer : Option FooterZone) (x s : ℤ) (held : Held) → s ≡ seconds_of x

@@ -6,9 +6,10 @@ use Rattle.tz_tzif.specs.InForce.{total_in}
 use Rattle.tz_tzif.specs.Instants.{read_at}
 use Rattle.tz_tzif.specs.Kept.{items_of}
 use Rattle.tz_tzif.specs.Zones.{value_of, says_of}
-use Rattle.tz_tzif.specs.declared.instants.TzifInstants.{TzifInstants}
+use Rattle.tz_tzif.specs.declared.instants.TzifCursor.{TzifCursor}
+use Rattle.tz_tzif.specs.declared.zone.TzifTz.{TzifTz}
 
 -- the local time at each offset that is read, from the next one on
-abbrev pub dates_left : TzifInstants → List OffsetDateTime
-dates_left left = map (at_offset left.local)
-    (read_at (total_in (value_of left.tz.now) (says_of left.tz.now)) left.second (drop left.next (items_of left.tz.now.offsets)))
+abbrev pub dates_left : TzifTz → TzifCursor → List OffsetDateTime
+dates_left tz cursor = map (at_offset cursor.local)
+    (read_at (total_in (value_of tz) (says_of tz)) cursor.second (drop cursor.next (items_of tz.offsets)))

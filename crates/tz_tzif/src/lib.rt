@@ -14,7 +14,7 @@ mod zone;
 
 pub use accept::read_footer;
 pub use fault::TzifFault;
-pub use instants::TzifInstants;
+pub use instants::{TzifCursor, TzifInstants};
 pub use laws::file_totals;
 pub use owner::TzifOwner;
 pub use tz_footer::{Footer, Held};

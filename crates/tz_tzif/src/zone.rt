@@ -1,5 +1,5 @@
 //! Compiled zones that can be looked up.
-ghost use Rattle.std.specs.Prelude.{◌≡◌, ℕ, ℤ, ◌<◌, ◌≤◌, true, length, option_map};
+ghost use Rattle.std.specs.Prelude.{◌≡◌, ℕ, ℤ, ◌≤◌, true, length, option_map};
 ghost use Rattle.civil_base.specs.Ranges.{IsOffset};
 ghost use Rattle.zone_spans.specs.Schedules.{instants};
 ghost use Rattle.zone_tzif_core.specs.ZoneFiles.{zone_seen};
@@ -19,7 +19,7 @@ use crate::search::{changes_until, held_after};
 use civil_base::{OffsetDateTime, PlainDateTime};
 use std::alloc::Global;
 use tz_footer::{Footer, Held};
-use tz_zone::{OffsetResult, TimeZone};
+use tz_zone::{InstantsOf, OffsetResult, TimeZone};
 use zone_tzif_core::ZoneFile;
 
 /// A compiled zone that can be looked up, with what its footer says from the last change on. It borrows the value, and
@@ -39,11 +39,11 @@ pub struct TzifTz<'a> {
 impl<'a> TzifTz<'a> {
     ghost use Rattle.std.specs.Prelude.{MatchResult, map, unsigned_abs};
     ghost use Rattle.civil_base.specs.DateTimes.{instant};
+    ghost use Rattle.tz_zone.specs.AllLeft.{all_left};
     ghost use Rattle.tz_zone.specs.InForce.{all_in_force, shown_of, AreInstants};
     ghost use Rattle.tz_footer.specs.FooterShown.{held_shown};
     ghost use Rattle.tz_tzif.specs.Faults.{IsTzifFault};
     ghost use Rattle.tz_tzif.specs.InForce.{kind_in};
-    ghost use Rattle.tz_tzif.specs.InstantsLeft.{dates_left};
     ghost use Rattle.tz_tzif.specs.Zones.{value_of, says_of, IsZoneOf};
 
     /// The zone of a value, under that name.
@@ -72,19 +72,11 @@ impl<'a> TzifTz<'a> {
     /// The date-times that the zone reads as that local time: each once, by time, at most one for each distinct offset. It
     /// takes no memory.
     pub fn instants_local(&self, date_time: &PlainDateTime) -> TzifInstants<'_, 'a>
-        ensures all { map shown_of (dates_left result) ≡ all_in_force (told_total_at (value_of self.now) (says_of self.now)) date_time.now }
-        ensures few { length (dates_left result) ≤ length (offsets_of (value_of self.now) (says_of self.now)) }
-        ensures exact { AreInstants (told_total_at (value_of self.now) (says_of self.now)) date_time.now (map instant (dates_left result)) }
+        ensures all { map shown_of (all_left result) ≡ all_in_force (told_total_at (value_of self.now) (says_of self.now)) date_time.now }
+        ensures few { length (all_left result) ≤ length (offsets_of (value_of self.now) (says_of self.now)) }
+        ensures exact { AreInstants (told_total_at (value_of self.now) (says_of self.now)) date_time.now (map instant (all_left result)) }
     {
-        TzifInstants::new(self, date_time)
-    }
-
-    /// How many distinct offsets it has, with those of its footer: a local time has at most as many instants.
-    pub fn offset_count(&self) -> usize
-        ensures count { result ≡ length (offsets_of (value_of self.now) (says_of self.now)) }
-        ensures bound { result < 18446744073709551615 }
-    {
-        self.offsets.len()
+        InstantsOf::new(self, date_time)
     }
 
     /// What holds at a second.

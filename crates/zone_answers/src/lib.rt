@@ -20,7 +20,7 @@ pub use error::{AnswerError, Side};
 pub use fault::write_fault;
 pub use request::nanoseconds;
 pub use running::{run, run_surely};
-pub use showing::{add_bytes, add_text};
+pub use showing::{add_instant, add_instants};
 pub use starting::start;
 pub use text_run::{Answered, TextAnswers, run_over};
 pub use tz_lookup::ZoneFault;

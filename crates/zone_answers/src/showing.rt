@@ -1,9 +1,6 @@
 //! The text that answers a request.
-ghost use Rattle.std.specs.Prelude.{◌≡◌, ◌++◌, ◌∷◌, [], true, false, IfOk, IfNone, IfSome, IsTrue, OnErr, OnOk, map};
-ghost use Rattle.civil_base.specs.Layout.{zoned_text};
-ghost use Rattle.tz_lookup.specs.Answers.{listed};
+ghost use Rattle.std.specs.Prelude.{◌≡◌, ◌++◌, ◌∷◌, [], true, false, IfOk, IfNone, IfSome, IsTrue, OnErr, OnOk};
 ghost use Rattle.tz_lookup.specs.InForce.{all_in_force, in_force, shown_of};
-ghost use Rattle.tz_lookup.specs.CompactLeft.{compact_left};
 ghost use Rattle.tz_lookup.specs.CompactZones.{compact_of};
 ghost use Rattle.tz_lookup.specs.Sets.{schedule_of};
 ghost use Rattle.zone_spans.specs.Schedules.{total_at};
@@ -14,40 +11,58 @@ ghost use Rattle.zone_answers.specs.Faults.{are_in_years, has_dates};
 use crate::request::Request;
 use civil_base::{OffsetDateTime, PlainDateTime, write_zoned};
 use std::alloc::AllocError;
-use tz_lookup::{CompactTz, OffsetDateTimeExt, OffsetResult, PrimitiveDateTimeExt};
+use tz_lookup::{AllInstants, CompactTz, InstantsOf, OffsetDateTimeExt, TimeZone};
 
-/// Adds the line of a request of the zone to an empty text, without its LF. It adds none and answers no where the UTC date
-/// or the local date of an asked instant lies outside the years -9999 to 9999.
+/// Adds the line of a request of the zone to a text, without its LF. It adds none and answers no where the UTC date or the local
+/// date of an asked instant lies outside the years -9999 to 9999.
 #[tactic(auto, unfolding(crate::specs::Due::shown_at, crate::specs::Faults::has_dates))]
 pub(crate) fn show(
     zone: &CompactTz<'_>,
     request: &Request<'_>,
     text: &mut Vec<u8>,
 ) -> Result<bool, AllocError>
-    requires { text.old.items ≡ [] }
     ensures dates { IfOk result (λ has. has ≡ has_dates (schedule_of (compact_of zone.now)) (asked request.now)) }
-    ensures line { IfOk result (λ has. IsTrue has → text.new.items ≡ answer_text (shown_at (schedule_of (compact_of zone.now)) (asked request.now))) }
+    ensures line { IfOk result (λ has. IsTrue has →
+        text.new.items ≡ text.old.items ++ answer_text (shown_at (schedule_of (compact_of zone.now)) (asked request.now))) }
 {
     match request {
-        Request::At(_, nanoseconds) => match date_time_at(zone, *nanoseconds) {
-            Some(shown) => {
-                add_text(&shown, text)?;
-                Ok(true)
-            }
-            None => Ok(false),
-        },
+        Request::At(_, nanoseconds) => Ok(add_instant(zone, nanoseconds, text)?),
         Request::Local(_, local) => {
-            show_local(zone, local, text)?;
+            add_instants(zone, local, text)?;
             Ok(true)
         }
     }
 }
 
+/// Adds the text of an instant in a zone, which is told in nanoseconds from 1970-01-01 00:00:00 UTC. It adds none and answers no where
+/// its UTC date or its local date lies outside the years -9999 to 9999.
+///
+/// # Errors
+///
+/// Want of memory alone.
+pub fn add_instant<T: TimeZone>(
+    zone: &T,
+    nanoseconds: &i128,
+    text: &mut Vec<u8>,
+) -> Result<bool, AllocError>
+    ensures dates { IfOk result (λ has. has ≡ are_in_years nanoseconds.now (T.total_at zone.now nanoseconds.now)) }
+    ensures added { IfOk result (λ has. IsTrue has →
+        text.new.items ≡ text.old.items ++ answer_text (in_force (T.total_at zone.now) nanoseconds.now ∷ [])) }
+{
+    match date_time_at(zone, *nanoseconds) {
+        Some(shown) => {
+            add_text(&shown, text)?;
+            Ok(true)
+        }
+        None => Ok(false),
+    }
+}
+
 /// The date and time in the zone at an instant, if its UTC date and its local date lie in the years -9999 to 9999.
-fn date_time_at(zone: &CompactTz<'_>, nanoseconds: i128) -> Option<OffsetDateTime>
-    ensures none { IfNone result (are_in_years nanoseconds (total_at (schedule_of (compact_of zone.now)) nanoseconds) ≡ false) }
-    ensures some { IfSome result (λ _. are_in_years nanoseconds (total_at (schedule_of (compact_of zone.now)) nanoseconds) ≡ true) }
-    ensures shown { IfSome result (λ shown. shown_of shown ≡ in_force (total_at (schedule_of (compact_of zone.now))) nanoseconds) }
+fn date_time_at<T: TimeZone>(zone: &T, nanoseconds: i128) -> Option<OffsetDateTime>
+    ensures none { IfNone result (are_in_years nanoseconds (T.total_at zone.now nanoseconds) ≡ false) }
+    ensures some { IfSome result (λ _. are_in_years nanoseconds (T.total_at zone.now nanoseconds) ≡ true) }
+    ensures shown { IfSome result (λ shown. shown_of shown ≡ in_force (T.total_at zone.now) nanoseconds) }
 {
     let Ok(at_utc) = OffsetDateTime::from_unix_timestamp_nanos(nanoseconds) else {
         return None;
@@ -58,49 +73,20 @@ fn date_time_at(zone: &CompactTz<'_>, nanoseconds: i128) -> Option<OffsetDateTim
     }
 }
 
-/// Adds the texts of the instants that the zone reads as the local time.
-fn show_local(
-    zone: &CompactTz<'_>,
+/// Adds the texts of all instants that a zone reads as a local time, by time, with bars between them, or that there is none.
+///
+/// # Errors
+///
+/// Want of memory alone.
+pub fn add_instants<T: AllInstants>(
+    zone: &T,
     local: &PlainDateTime,
     text: &mut Vec<u8>,
 ) -> Result<(), AllocError>
-    requires { text.old.items ≡ [] }
-    ensures { OnOk result (text.new.items ≡ answer_text (all_in_force (total_at (schedule_of (compact_of zone.now))) local.now)) }
-{
-    if zone.is_orderly() {
-        show_result(local.assume_timezone(zone), text)
-    } else {
-        show_each(zone, local, text)
-    }
-}
-
-/// Adds the texts of at most two instants.
-fn show_result(dates: OffsetResult<OffsetDateTime>, text: &mut Vec<u8>) -> Result<(), AllocError>
-    requires { text.old.items ≡ [] }
-    ensures { OnOk result (text.new.items ≡ answer_text (map shown_of (listed dates))) }
-{
-    match dates {
-        OffsetResult::None => add_bytes(b"none", text),
-        OffsetResult::Some(only) => add_text(&only, text),
-        OffsetResult::Ambiguous(first, second) => {
-            add_text(&first, text)?;
-            add_bytes(b" | ", text)?;
-            add_text(&second, text)
-        }
-    }
-}
-
-/// Adds the texts of each instant.
-fn show_each(
-    zone: &CompactTz<'_>,
-    local: &PlainDateTime,
-    text: &mut Vec<u8>,
-) -> Result<(), AllocError>
-    requires { text.old.items ≡ [] }
-    ensures { OnOk result (text.new.items ≡ answer_text (all_in_force (total_at (schedule_of (compact_of zone.now))) local.now)) }
+    ensures { OnOk result (text.new.items ≡ text.old.items ++ answer_text (all_in_force (T.total_at zone.now) local.now)) }
 {
     let mut is_first = true;
-    for date in zone.instants_local(local) {
+    for date in InstantsOf::new(zone, local) {
         if !is_first {
             add_bytes(b" | ", text)?;
         }
@@ -114,11 +100,7 @@ fn show_each(
 }
 
 /// Adds the zoned text of a date-time.
-///
-/// # Errors
-///
-/// Want of memory alone. The text is then as before.
-pub fn add_text(shown: &OffsetDateTime, text: &mut Vec<u8>) -> Result<(), AllocError>
+fn add_text(shown: &OffsetDateTime, text: &mut Vec<u8>) -> Result<(), AllocError>
     ensures added { OnOk result (text.new.items ≡ text.old.items ++ text_shown (shown_of shown.now)) }
     ensures err { OnErr result (text.new.items ≡ text.old.items) }
 {
@@ -128,11 +110,7 @@ pub fn add_text(shown: &OffsetDateTime, text: &mut Vec<u8>) -> Result<(), AllocE
 }
 
 /// Adds some bytes.
-///
-/// # Errors
-///
-/// Want of memory alone. The text is then as before.
-pub fn add_bytes(bytes: &[u8], text: &mut Vec<u8>) -> Result<(), AllocError>
+fn add_bytes(bytes: &[u8], text: &mut Vec<u8>) -> Result<(), AllocError>
     ensures added { OnOk result (text.new.items ≡ text.old.items ++ bytes.now) }
     ensures err { OnErr result (text.new.items ≡ text.old.items) }
 {

@@ -1,4 +1,3 @@
 mod FaultRows
 mod ResponseLemmas
 mod RefusalLemmas
-mod ShowingLemmas

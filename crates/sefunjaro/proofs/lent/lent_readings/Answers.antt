@@ -7,7 +7,7 @@ use Rattle.sefunjaro.proofs.lent.lent_readings.Goals as goal
 pub find_gap-requires-clause-never : goal.find_gap-requires-clause-never
 find_gap-requires-clause-never c =
     never_read (told_total_at (value_of c.args.zone.now) (says_of c.args.zone.now)) c.args.local.now c.args.zone.now.range
-    (sym c.each_lent-count.ensures.count ∙ c.if-count-eq0.true)
+    (sym c.readings-count.ensures.count ∙ c.if-count-eq0.true)
 
 pub find_gap-requires-clause-seconds : goal.find_gap-requires-clause-seconds
 find_gap-requires-clause-seconds c = file_holds (value_of c.args.zone.now) (says_of c.args.zone.now)

@@ -1,5 +1,6 @@
-use Rattle.std.proofs.Common.{cond, None, Some, sym, ap, ◌∙◌}
+use Rattle.std.proofs.Common.{◌++◌, cond, None, Some, sym, ap, ◌∙◌}
 use Rattle.tz_lookup.specs.CompactZones.{compact_of}
+use Rattle.tz_lookup.specs.Sets.{schedule_of}
 use Rattle.zone_answers.specs.Asked.{asked}
 use Rattle.zone_answers.specs.Due.{answer_text, shown_at}
 use Rattle.zone_answers.specs.Faults.{range}
@@ -47,6 +48,7 @@ returns-in-Ok-true-clause-text c =
     let zone = c.find-zone.result in
     let found = rw (c.in_default-open.ensures.same, c.name-2.ensures) at c.find-zone.ensures in
     c.in-Ok-true.ensures.line c.in-Ok-true.field-0-test
+    ∙ ap (λ text. text ++ answer_text (shown_at (schedule_of (compact_of zone)) (asked request))) c.clear.ensures.items
     ∙ ap (λ schedule. answer_text (shown_at schedule (asked request))) (sym (schedule_is _ (compact_of zone) found))
     ∙ sym (line_is (found_in_table (table_of c.args.zones.now)) c.args.line.now (asked request) reads)
 

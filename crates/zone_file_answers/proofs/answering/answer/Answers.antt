@@ -1,7 +1,9 @@
-use Rattle.std.proofs.Common.{cond, None, Some, sym, ap, ◌∙◌}
+use Rattle.std.proofs.Common.{◌++◌, cond, None, Some, sym, ap, ◌∙◌}
 use Rattle.tz_tzif.specs.InForce.{told_total_at}
 use Rattle.tz_tzif.specs.Zones.{value_of, says_of}
+use Rattle.zone_answers.specs.Due.{answer_text}
 use Rattle.zone_file_answers.specs.Asked.{asked}
+use Rattle.zone_file_answers.specs.Due.{shown_at}
 use Rattle.zone_file_answers.specs.Faults.{range}
 use Rattle.zone_answers.specs.AskedLaws.{asks}
 use Rattle.zone_file_answers.specs.Requests.{request_of}
@@ -30,6 +32,7 @@ returns-in-Ok-true-clause-text c =
     let request = c.in-Some-read.request in
     let reads = asks request_of c.args.line.now c.in-Some.asked.now (asked request) text.1 text.0 c.in-Some-read.ensures in
     c.in-Ok-true.ensures.line c.in-Ok-true.field-0-test
+    ∙ ap (λ text. text ++ answer_text (shown_at (told_total_at (value_of c.args.zone.now) (says_of c.args.zone.now)) (asked request))) c.clear.ensures.items
     ∙ sym (line_is (told_total_at (value_of c.args.zone.now) (says_of c.args.zone.now)) c.args.line.now (asked request) reads)
 
 pub returns-in-Ok-false-clause-err : goal.returns-in-Ok-false-clause-err
