@@ -5,8 +5,6 @@ pub mod ReadBackLemmas
 pub mod ShowingLemmas
 pub mod ZoneLemmas
 pub mod RefusalLemmas
-pub mod TextReadLemmas
-pub mod EndLemmas
 pub mod AnswerRows
 pub mod FaultRows
 pub mod CountLemmas

@@ -10,12 +10,13 @@ use Rattle.zone_answers.specs.FaultLines.{fault_line}
 use Rattle.zone_answers.specs.Told.{fault_told, TellsOf}
 use Rattle.zone_outside.specs.Seen.{OutputSeen, Grew, GrewBySome}
 use Rattle.zone_answers.specs.Ends.{writes_of}
-use Rattle.zone_answers.specs.Responses.{Responds, RespondsError, due_in, lines_in}
+use Rattle.zone_answers.specs.Responses.{RespondsError, due_in, lines_in}
+use Rattle.zone_source.specs.Responses.{Responds}
 use Rattle.zone_answers.specs.Summary.{summary, due_summary}
 use Rattle.zone_answers.specs.declared.error.AnswerError.{AnswerError}
 use Rattle.zone_answers.specs.declared.error.AnswerError.TheVariants as errors
-use Rattle.zone_answers.specs.declared.text_run.Answered.{Answered}
-use Rattle.zone_answers.specs.declared.text_run.Answered.TheVariants.{Done, Fault, Failed, NoMemory}
+use Rattle.zone_source.specs.declared.text_run.Answered.{Answered}
+use Rattle.zone_source.specs.declared.text_run.Answered.TheVariants.{Done, Fault, Failed, NoMemory}
 use Rattle.zone_answers.specs.declared.respond.Form.{Form}
 use Rattle.zone_answers.specs.declared.respond.Form.TheVariants as forms
 

@@ -1,23 +1,9 @@
 -- After the lines, after the line of a fault and for want of memory a run ends by the fault of its texts.
-use Rattle.std.proofs.Common.{◌≡◌, ◌≢◌, ℕ, List, Option, Some, None, refl, sym, inl, inr}
-use Rattle.std.proofs.lemmas.Option.{none-some}
+use Rattle.std.specs.Prelude.{ℕ, List}
 use Rattle.zone_answers.specs.Ends.{writes_of}
-use Rattle.zone_answers.specs.Faults.{Fault, fault}
-use Rattle.zone_answers.specs.Responses.{EndsWell}
-use Rattle.zone_source.specs.Statuses.{EndsBy}
-use Rattle.zone_source.specs.declared.status.Status.TheVariants as status
-
-ends_valid : (found : Option Fault) → found ≡ None → EndsBy found status.Done
-ends_valid None is = inl refl
-ends_valid (Some f) is = absurd (none-some _ (sym is))
-
-ends_refused : (found : Option Fault) → found ≢ None → EndsBy found status.Fault
-ends_refused None other = absurd (other refl)
-ends_refused (Some f) other = inl refl
-
-ends_without : (found : Option Fault) → EndsBy found status.NoMemory
-ends_without None = inr refl
-ends_without (Some f) = inr refl
+use Rattle.zone_answers.specs.Faults.{fault}
+use Rattle.zone_source.specs.EndLaws.{ends_valid, ends_refused, ends_without}
+use Rattle.zone_source.specs.Runs.{EndsWell}
 
 pub ends_well : (due : List ℕ → List ℕ → List ℕ) → EndsWell (writes_of due)
 ends_well due = record {

@@ -5,7 +5,7 @@ use Rattle.zone_source.specs.Statuses.{EndsBy}
 use Rattle.zone_answers.specs.Faults.{Fault, fault}
 use Rattle.zone_answers.specs.Made.{made_source, made_requests}
 use Rattle.zone_outside.specs.Seen.{OutputSeen, Grew, GrewBySome}
-use Rattle.zone_answers.specs.Seen.{Seen}
+use Rattle.zone_source.specs.Runs.{Seen}
 use Rattle.zone_answers.specs.Summary.{due_summary}
 use Rattle.zone_source.specs.declared.status.Status.{Status}
 use Rattle.zone_source.specs.declared.status.Status.TheVariants as status

@@ -8,7 +8,6 @@ pub mod Told
 pub mod Due
 pub mod Counts
 pub mod Words
-pub mod Seen
 pub mod ReadBack
 pub mod Ends
 pub mod Responses

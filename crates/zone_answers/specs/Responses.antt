@@ -2,33 +2,15 @@
 use Rattle.std.specs.Prelude.{◌≡◌, ℕ, List, ◌++◌, Option, IsSomeAnd, [], ◌∷◌}
 use Rattle.zone_source.specs.LineLists.{ended}
 use Rattle.zone_answers.specs.Due.{due_bytes}
-use Rattle.zone_answers.specs.Faults.{fault}
 use Rattle.zone_answers.specs.Faults as faults
 use Rattle.zone_answers.specs.FaultLines.{fault_line}
 use Rattle.zone_answers.specs.Summary.{summary, due_summary}
 use Rattle.zone_outside.specs.Seen.{OutputSeen, Grew, GrewBySome}
 use Rattle.zone_outside.specs.Outside.{Rose}
-use Rattle.zone_answers.specs.declared.text_run.Answered.{Answered}
-use Rattle.zone_answers.specs.declared.text_run.Answered.TheVariants.{Done, Fault, Failed, NoMemory}
-use Rattle.zone_answers.specs.Ends.{Writes}
-use Rattle.zone_source.specs.declared.status.Status.TheVariants as status
+use Rattle.zone_source.specs.declared.text_run.Answered.{Answered}
+use Rattle.zone_source.specs.declared.text_run.Answered.TheVariants.{Done, Fault, Failed, NoMemory}
 use Rattle.zone_answers.specs.declared.respond.Form.{Form}
 use Rattle.zone_answers.specs.declared.respond.Form.TheVariants as form
-
--- where no call fails, a run may end after the lines, after the line of a fault, and for want of memory
-pub record EndsWell (writes : Writes) : Type 0 where
-  pub lines : (text requests : List ℕ) (before now : OutputSeen) → writes.lines text requests before now
-      → writes.ends text requests status.Done
-  pub fault : (text requests : List ℕ) (before now : OutputSeen) → writes.fault text requests before now
-      → writes.ends text requests status.Fault
-  pub memory : (text requests : List ℕ) → writes.ends text requests status.NoMemory
-
--- what was written, by what is answered of it
-abbrev pub Responds : Writes → List ℕ → List ℕ → OutputSeen → OutputSeen → Answered → Type 0
-Responds writes text requests before now Done = writes.lines text requests before now
-Responds writes text requests before now Fault = writes.fault text requests before now
-Responds writes text requests before now Failed = Rose before.faults now.faults × writes.part text requests before now
-Responds writes text requests before now NoMemory = now ≡ before
 
 -- the bytes of the answers' lines in this form
 abbrev pub lines_in : Form → List (List ℕ) → List ℕ

@@ -11,7 +11,6 @@ mod running;
 mod showing;
 mod starting;
 mod summary;
-mod text_run;
 mod words;
 mod zones;
 
@@ -22,7 +21,6 @@ pub use request::nanoseconds;
 pub use running::{run, run_surely};
 pub use showing::{add_instant, add_instants};
 pub use starting::start;
-pub use text_run::{Answered, TextAnswers, run_over};
 pub use tz_lookup::ZoneFault;
 /// One line per request, in order. Contracts see the list of the lines' bytes.
 pub use zone_source::{

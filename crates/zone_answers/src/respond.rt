@@ -1,7 +1,8 @@
 //! The answers to two texts, written to an output.
 ghost use Rattle.std.specs.Prelude.{◌≤◌, length, OnErr, OnOk};
 ghost use Rattle.zone_answers.specs.Ends.{writes_of};
-ghost use Rattle.zone_answers.specs.Responses.{Responds, RespondsError, due_in, lines_in};
+ghost use Rattle.zone_answers.specs.Responses.{RespondsError, due_in, lines_in};
+ghost use Rattle.zone_source.specs.Responses.{Responds};
 ghost use Rattle.zone_outside.specs.Outside.{Rose};
 ghost use Rattle.zone_outside.specs.Seen.{Grew, GrewBySome, output_seen};
 ghost use Rattle.zone_answers.specs.Told.{fault_told};
@@ -10,10 +11,9 @@ use crate::answering::answers;
 use crate::error::AnswerError;
 use crate::fault::write_fault;
 use crate::summary::summary_line;
-use crate::text_run::{Answered, TextAnswers};
 use std::alloc::Global;
 use zone_line::LineParser;
-use zone_source::{Failed, LIMIT, LineList, Sink, write_all};
+use zone_source::{Answered, Failed, LIMIT, LineList, Sink, TextAnswers, write_all};
 
 /// What is written of the answers.
 #[derive(Clone, Copy, Debug, PartialEq, Eq)]
@@ -35,7 +35,7 @@ impl TextAnswers for SourceAnswers<'_> {
     ghost use Rattle.zone_answers.specs.EndLaws as laws;
     ghost use Rattle.zone_answers.specs.Ends.{writes_of};
 
-    ghost writes = { writes_of due_bytes };
+    ghost writes = { λ _. writes_of due_bytes };
 
     fn respond<O: Sink>(
         &self,
@@ -47,7 +47,7 @@ impl TextAnswers for SourceAnswers<'_> {
         respond(alloc, self.parser, source, requests, Form::Lines, output)
     }
 
-    ghost ends_well = { laws.ends_well due_bytes };
+    ghost ends_well = { λ _. laws.ends_well due_bytes };
 }
 
 /// Answers the requests over the source, and writes the answers in the form, or the first fault.

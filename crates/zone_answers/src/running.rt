@@ -1,20 +1,21 @@
 //! The top call.
 ghost use Rattle.std.specs.Prelude.{◌≡◌, ◌≢◌, ◌⊎◌, ◌↔◌, ◌<◌, ◌≤◌, ℕ, List, length, IfSome, IsNone, IsSome, Some};
 ghost use Rattle.zone_answers.specs.Ends.{Ends};
+ghost use Rattle.zone_source.specs.Runs.{run_seen};
 ghost use Rattle.zone_source.specs.Statuses.{EndsBy, IsPastLimit};
 ghost use Rattle.zone_answers.specs.Faults.{fault};
 ghost use Rattle.zone_answers.specs.Generated.{Generated, WritesMade, made_fault};
 ghost use Rattle.zone_outside.specs.Seen.{output_seen};
-ghost use Rattle.zone_answers.specs.Seen.{run_seen};
 ghost use Rattle.zone_answers.specs.Words.{count_of, file_of, task_of};
 
 use crate::made::{made_requests, made_source};
 use crate::respond::{Form, SourceAnswers, respond};
-use crate::text_run::{Answered, run_over};
 use crate::words::Task;
 use std::alloc::Global;
 use zone_line::LineParser;
-use zone_source::{LIMIT, Shelf, Sink, Source, Status, SureShelf, SureSink, SureSource};
+use zone_source::{
+    Answered, LIMIT, Shelf, Sink, Source, Status, SureShelf, SureSink, SureSource, run_over,
+};
 
 /// Answers the requests of the input over the named text of the shelf, and writes the answers, or the first fault, to
 /// the output. With the words `--generate` and a number from 1 to 1000 it answers over texts made from the number, touches

@@ -6,9 +6,9 @@ use Rattle.zone_file_answers.specs.Due.{AreAnswers, IsFaultLine}
 use Rattle.zone_file_answers.specs.Faults.{fault_line}
 use Rattle.zone_file_answers.specs.Told.{fault_told}
 use Rattle.zone_file_answers.specs.declared.fault.FileFault.{FileFault}
-use Rattle.zone_answers.specs.Ends.{Writes}
-use Rattle.zone_answers.specs.declared.text_run.Answered.{Answered}
-use Rattle.zone_answers.specs.declared.text_run.Answered.TheVariants.{Done, Fault, Failed, NoMemory}
+use Rattle.zone_source.specs.Runs.{Writes}
+use Rattle.zone_source.specs.declared.text_run.Answered.{Answered}
+use Rattle.zone_source.specs.declared.text_run.Answered.TheVariants.{Done, Fault, Failed, NoMemory}
 use Rattle.zone_source.specs.declared.status.Status.{Status}
 use Rattle.zone_source.specs.declared.status.Status.TheVariants as status
 

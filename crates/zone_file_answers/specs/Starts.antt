@@ -1,5 +1,4 @@
 -- How the program ends that was started.
-use Rattle.zone_answers.specs.Starts.{seen_of}
 use Rattle.zone_file_answers.specs.Ends.{Ends}
 use Rattle.zone_source.specs.FileWords.{file_of}
 use Rattle.zone_source.specs.Starts.{Run, StartsBare}
@@ -7,7 +6,7 @@ use Rattle.zone_source.specs.declared.starting.Started.{Started}
 
 -- how its run ends, whose words name one file
 abbrev pub answers_run : Run
-answers_run words before now end = Ends (file_of words) (seen_of before) (seen_of now) end
+answers_run words before now end = Ends (file_of words) before now end
 
 abbrev pub StartsAnswers : Started → Type 0
 StartsAnswers started = StartsBare answers_run started

@@ -1,14 +1,13 @@
 //! The answers to two texts, written to an output.
 ghost use Rattle.std.specs.Prelude.{◌≤◌, length};
 ghost use Rattle.zone_outside.specs.Seen.{output_seen};
-ghost use Rattle.zone_answers.specs.Responses.{Responds};
+ghost use Rattle.zone_source.specs.Responses.{Responds};
 ghost use Rattle.zone_file_answers.specs.Responses.{RespondsFault, writes};
 
 use crate::answering::answers;
 use crate::fault::{FileFault, line_of};
 use std::alloc::Global;
-use zone_answers::{Answered, TextAnswers};
-use zone_source::{LIMIT, Sink, write_all};
+use zone_source::{Answered, LIMIT, Sink, TextAnswers, write_all};
 
 /// The answers to requests over a compiled file.
 #[derive(Drop)]
@@ -18,7 +17,7 @@ impl TextAnswers for FileAnswers {
     ghost use Rattle.zone_file_answers.specs.EndLaws as laws;
     ghost use Rattle.zone_file_answers.specs.Responses.{writes};
 
-    ghost writes = { writes };
+    ghost writes = { λ _. writes };
 
     fn respond<O: Sink>(
         &self,
@@ -30,7 +29,7 @@ impl TextAnswers for FileAnswers {
         respond(alloc, file, requests, output)
     }
 
-    ghost ends_well = { laws.ends_well };
+    ghost ends_well = { λ _. laws.ends_well };
 }
 
 /// Answers the requests over the file, and writes the lines or the first fault.

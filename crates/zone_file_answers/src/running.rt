@@ -1,13 +1,12 @@
 //! The top call.
 ghost use Rattle.std.specs.Prelude.{◌≡◌, ℕ, List, Some};
-ghost use Rattle.zone_answers.specs.Seen.{run_seen};
 ghost use Rattle.zone_file_answers.specs.Ends.{Ends};
 ghost use Rattle.zone_source.specs.FileWords.{file_of};
+ghost use Rattle.zone_source.specs.Runs.{run_seen};
 
 use crate::respond::FileAnswers;
 use std::alloc::Global;
-use zone_answers::run_over;
-use zone_source::{Shelf, Sink, Source, Status};
+use zone_source::{Shelf, Sink, Source, Status, run_over};
 
 /// Answers the requests of the input over the compiled zone file of the shelf that the words name, and writes the answers, or
 /// the first fault, to the output.

@@ -3,3 +3,5 @@ pub mod LineListLemmas
 pub mod JoinLemmas
 pub mod SourceRows
 mod WorkedReleases
+mod TextReadLemmas
+mod EndLemmas

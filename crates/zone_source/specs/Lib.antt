@@ -16,5 +16,6 @@ pub mod Starts
 -- Laws: what a caller may use.
 pub mod LineLaws
 pub mod ReleaseLaws
+pub mod EndLaws
 -- Words of private clauses.
 pub mod Joining

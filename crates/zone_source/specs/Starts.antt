@@ -2,10 +2,7 @@
 use Rattle.std.specs.Prelude.{◌≡◌, ◌⊎◌, ℕ, List, drop, String, None}
 use Rattle.std.specs.Process.{exit_status}
 use Rattle.std.specs.declared.alloc.Global.{Global}
-use Rattle.zone_outside.specs.Seen.{ShelfSeen, InputSeen, OutputSeen, shelf_seen, input_seen, output_seen}
-use Rattle.zone_outside.specs.declared.outside.Source.{Ghosts as SourceOf}
-use Rattle.zone_outside.specs.declared.outside.Sink.{Ghosts as SinkOf}
-use Rattle.zone_source.specs.Runs.{Seen}
+use Rattle.zone_source.specs.Runs.{Seen, no_input}
 use Rattle.zone_source.specs.Statuses.{code_of}
 use Rattle.zone_source.specs.declared.starting.Started.{Started}
 use Rattle.zone_source.specs.declared.status.Status.{Status}
@@ -13,33 +10,20 @@ use Rattle.zone_source.specs.declared.status.Status.{Status}
 abbrev pub Words : Type 0
 Words = List (String Global)
 
--- what is seen of all that a program has to do with
-pub record Outside : Type 0 where
-  pub shelf : ShelfSeen
-  pub input : InputSeen
-  pub output : OutputSeen
-
-abbrev pub outside : {H I O : Type 0} → SourceOf H → SourceOf I → SinkOf O → H → I → O → Outside
-outside of_shelf of_input of_output shelf input output = record {
-  shelf = shelf_seen of_shelf shelf;
-  input = input_seen of_input input;
-  output = output_seen of_output output;
-}
-
 -- how a run of a program ends: its words, what is seen before it and after it, and the status
 abbrev pub Run : Type 1
-Run = Words → Outside → Outside → Status → Type 0
+Run = Words → Seen → Seen → Status → Type 0
 
 -- without the input
-abbrev pub seen_of : Outside → Seen
-seen_of all = record { shelf = all.shelf; output = all.output }
+abbrev pub without_input : Seen → Seen
+without_input all = record { shelf = all.shelf; input = no_input; output = all.output }
 
 -- how a run over one file ends, which leaves the input alone
 abbrev pub over_file : (Words → Seen → Seen → Status → Type 0) → Run
-over_file ends words before now end = ends words (seen_of before) (seen_of now) end × (now.input ≡ before.input)
+over_file ends words before now end = ends words (without_input before) (without_input now) end × (now.input ≡ before.input)
 
 -- the real files and streams, which tell no content, before anything has called them: nothing was given, and nothing failed
-abbrev pub fresh : Outside
+abbrev pub fresh : Seen
 fresh = record {
   shelf = record { told = λ _. None; left = None; given = 0; faults = 0 };
   input = record { left = None; given = 0; faults = 0 };
@@ -56,7 +40,7 @@ exit_of started = exit_status started.code
 
 -- the program ran with these words over the real files and streams, and its exit status is that of the run
 abbrev pub HasRun : Run → Words → Started → Type 0
-HasRun ends words started = (now : Outside) × (end : Status) × ends words fresh now end × (exit_of started ≡ code_of end)
+HasRun ends words started = (now : Seen) × (end : Status) × ends words fresh now end × (exit_of started ≡ code_of end)
 
 -- 7: the words can't be taken
 abbrev pub HasNoWords : Started → Type 0

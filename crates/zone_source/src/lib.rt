@@ -1,7 +1,7 @@
 //! The source text of zones, read as a whole: its lines, the table that they join to, and the first fault of it; and the release that it
 //! names by its first line, as `# version 2026b`.
 //!
-//! Programs over a source file stand on this crate: it also has the statuses that they end with, how a run over one
+//! Programs over a source file stand on this crate: it also has the statuses that they end with, how a run over a
 //! file ends, and the lines that tell a fault, and it gives the outside on.
 #![tactic(auto)]
 
@@ -10,6 +10,7 @@ mod fault_line;
 mod laws;
 mod line_list;
 pub mod lines;
+mod no_input;
 mod release;
 mod response;
 mod running;
@@ -17,6 +18,7 @@ mod starting;
 mod status;
 mod table;
 mod text;
+mod text_run;
 mod words;
 
 pub use error::{BuildKind, SourceError};
@@ -31,6 +33,7 @@ pub use starting::{BareProgram, SourceProgram, Started, start_run, start_source_
 pub use status::Status;
 pub use table::read_table;
 pub use text::text_of;
+pub use text_run::{Answered, TextAnswers, run_over};
 pub use words::file_named;
 pub use zone_outside::{
     Failed, FileShelf, LIMIT, MemShelf, MemSink, MemSource, ReadEnd, Shelf, Sink, Source, StdSink,

@@ -4,11 +4,13 @@ ghost use Rattle.std.specs.Option.{ForSome};
 ghost use Rattle.zone_source.specs.Responses.{IsResponse};
 ghost use Rattle.zone_source.specs.Runs.{EndsOf, EndsSurely, Work, seen};
 
+use crate::no_input::NoInput;
 use crate::response::Response;
 use crate::status::Status;
+use crate::text_run::{Answered, TextAnswers, run_over};
 use std::alloc::{AllocError, Global};
 use zone_line::LineParser;
-use zone_outside::{LIMIT, Shelf, Sink, SureShelf, SureSink, fetch_all, write_all};
+use zone_outside::{LIMIT, Shelf, Sink, SureShelf, SureSink, write_all};
 
 /// What the words of a run ask of one file.
 pub trait FileTask: Drop {
@@ -43,10 +45,47 @@ pub trait FileTask: Drop {
         ensures { IsResponse (work.cause (asked self.now) source.now) (work.due (asked self.now) source.now) result };
 }
 
+/// What answers a task over the text of its file. It has no requests.
+#[derive(Drop)]
+struct TaskAnswers<'p, T> {
+    parser: &'p LineParser,
+    task: &'p T,
+}
+
+impl<'p, T: FileTask> TextAnswers for TaskAnswers<'p, T> {
+    ghost use Rattle.std.specs.Prelude.{Some};
+    ghost use Rattle.zone_source.specs.EndLaws.{asked_ends_well};
+    ghost use Rattle.zone_source.specs.Runs.{writes_asked};
+
+    ghost writes = { λ answers. writes_asked T.work (Some (T.asked answers.task.now)) };
+
+    fn respond<O: Sink>(
+        &self,
+        alloc: Global,
+        text: &[u8],
+        _requests: &[u8],
+        output: &mut O,
+    ) -> Answered {
+        match self.task.respond(alloc, self.parser, text) {
+            Ok(Response::Answer(bytes)) => match write_all(output, &bytes) {
+                Ok(()) => Answered::Done,
+                Err(_) => Answered::Failed,
+            },
+            Ok(Response::Fault(line)) => match write_all(output, &line) {
+                Ok(()) => Answered::Fault,
+                Err(_) => Answered::Failed,
+            },
+            Err(_) => Answered::NoMemory,
+        }
+    }
+
+    ghost ends_well = { λ answers. asked_ends_well T.work (T.asked answers.task.now) };
+}
+
 /// Writes what is due for a task, or the line of the first cause; `None` stands for words that are in no form.
 ///
-/// It works in this order: the words; the shelf's text to its end; the answer; the writing. What each status says is told
-/// field by field by `EndsOf`.
+/// It is a run over the shelf's text and an input that holds nothing, in this order: the words; the shelf's text to its end; the
+/// answer; the writing. What each status says is told field by field by `EndsOf`.
 pub fn run_task<T: FileTask, H: Shelf, O: Sink>(
     alloc: Global,
     parser: &LineParser,
@@ -61,21 +100,11 @@ pub fn run_task<T: FileTask, H: Shelf, O: Sink>(
     let Some(task) = task else {
         return Status::Words;
     };
-    let source = match fetch_all(alloc, shelf, task.file()) {
-        Ok(source) => source,
-        Err(end) => return Status::from(end),
+    let answers = TaskAnswers {
+        parser,
+        task: &task,
     };
-    match task.respond(alloc, parser, &source) {
-        Ok(Response::Answer(bytes)) => match write_all(output, &bytes) {
-            Ok(()) => Status::Done,
-            Err(_) => Status::Write,
-        },
-        Ok(Response::Fault(line)) => match write_all(output, &line) {
-            Ok(()) => Status::Fault,
-            Err(_) => Status::Write,
-        },
-        Err(_) => Status::NoMemory,
-    }
+    run_over(alloc, &answers, task.file(), shelf, &mut NoInput, output)
 }
 
 /// A run over objects that never fail. It ends neither for a failed read nor for a failed write: by the words, the cause

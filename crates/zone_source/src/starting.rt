@@ -1,6 +1,7 @@
 //! How a program begins: the words after its own name, a parser, the real files and streams.
 ghost use Rattle.std.specs.Prelude.{◌≡◌, ℕ, List, MatchOption};
-ghost use Rattle.zone_source.specs.Starts.{HasNoParser, HasNoWords, HasRun, Run, Starts, StartsBare, Words, exit_of, outside, words_after};
+ghost use Rattle.zone_source.specs.Starts.{HasNoParser, HasNoWords, HasRun, Run, Starts, StartsBare, Words, exit_of, words_after};
+ghost use Rattle.zone_source.specs.Runs.{run_seen};
 
 use crate::status::Status;
 use std::alloc::Global;
@@ -49,8 +50,8 @@ pub trait SourceProgram {
     ) -> Status
         requires { (name : List ℕ) → H.open_to shelf.old name }
         ensures { ends words.now
-            (outside H.Source I.Source O.Sink shelf.old input.old output.old)
-            (outside H.Source I.Source O.Sink shelf.new input.new output.new) result };
+            (run_seen H.Source I.Source O.Sink shelf.old input.old output.old)
+            (run_seen H.Source I.Source O.Sink shelf.new input.new output.new) result };
 }
 
 /// A program without a parser: what it makes of its words, over whatever shelf, input and output.
@@ -68,8 +69,8 @@ pub trait BareProgram {
     ) -> Status
         requires { (name : List ℕ) → H.open_to shelf.old name }
         ensures { ends words.now
-            (outside H.Source I.Source O.Sink shelf.old input.old output.old)
-            (outside H.Source I.Source O.Sink shelf.new input.new output.new) result };
+            (run_seen H.Source I.Source O.Sink shelf.old input.old output.old)
+            (run_seen H.Source I.Source O.Sink shelf.new input.new output.new) result };
 }
 
 /// The whole of a program that reads source text. The exit status is that of the run; before it come 7, where the words can't be

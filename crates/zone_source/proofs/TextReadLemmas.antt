@@ -7,7 +7,7 @@ use Rattle.zone_outside.specs.declared.whole.ReadEnd.TheVariants as read
 use Rattle.zone_outside.specs.declared.whole.TheConstants.{LIMIT}
 use Rattle.zone_source.specs.declared.status.Status.TheVariants as status
 use Rattle.zone_source.specs.Statuses.{IsSilent, IsWritten}
-use Rattle.zone_answers.specs.Seen.{Seen}
+use Rattle.zone_source.specs.Runs.{Seen}
 
 -- a text was read to its end
 pub record Read (told left_now : Option (List ℕ)) (had gave : ℕ) (bytes : List ℕ) : Type 0 where

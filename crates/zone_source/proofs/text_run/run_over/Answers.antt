@@ -1,11 +1,11 @@
 use Rattle.std.proofs.Common.{Err, refl, ap}
-use Rattle.zone_answers.proofs.EndLemmas.{done_ends, fault_ends, failed_ends, input_ends}
-use Rattle.zone_answers.proofs.text_run.run_over.Goals as goal
+use Rattle.zone_source.proofs.EndLemmas.{done_ends, fault_ends, failed_ends, input_ends}
+use Rattle.zone_source.proofs.text_run.run_over.Goals as goal
 
 pub returns-in-Err-read_all : goal.returns-in-Err-read_all
 returns-in-Err-read_all g c =
     let input = c.in-Err-read_all.ensures in
-    rw (c.from-in-Err-read_all.ensures) (input_ends g.A.TextAnswers.writes g.met.A.TextAnswers.ends_well c.args.name.now _ _ c.in-Ok.text.items c.in-Err-read_all.end
+    rw (c.from-in-Err-read_all.ensures) (input_ends (g.A.TextAnswers.writes c.args.answers.now) (g.met.A.TextAnswers.ends_well c.args.answers.now) c.args.name.now _ _ c.in-Ok.text.items c.in-Err-read_all.end
     (record { text = c.in-Ok.ensures.bytes; within = c.in-Ok.ensures.within; given = c.in-Ok.ensures.ok_given })
     (record {
       failed = λ e. input.failed (ap Err e);
@@ -18,7 +18,7 @@ returns-in-Err-read_all g c =
 pub returns-in-Done : goal.returns-in-Done
 returns-in-Done g c =
     let responds = rw (c.deref.ensures.value, c.deref-2.ensures.value) at c.in-Done.ensures in
-    (done_ends g.A.TextAnswers.writes g.met.A.TextAnswers.ends_well c.args.name.now _ _ c.in-Ok.text.items c.in-Ok-read_all.requests.items
+    (done_ends (g.A.TextAnswers.writes c.args.answers.now) (g.met.A.TextAnswers.ends_well c.args.answers.now) c.args.name.now _ _ c.in-Ok.text.items c.in-Ok-read_all.requests.items
     (record {
       shelf = record { text = c.in-Ok.ensures.bytes; within = c.in-Ok.ensures.within; given = c.in-Ok.ensures.ok_given };
       input =
@@ -33,7 +33,7 @@ returns-in-Done g c =
 pub returns-in-Fault : goal.returns-in-Fault
 returns-in-Fault g c =
     let responds = rw (c.deref.ensures.value, c.deref-2.ensures.value) at c.in-Fault.ensures in
-    (fault_ends g.A.TextAnswers.writes g.met.A.TextAnswers.ends_well c.args.name.now _ _ c.in-Ok.text.items c.in-Ok-read_all.requests.items
+    (fault_ends (g.A.TextAnswers.writes c.args.answers.now) (g.met.A.TextAnswers.ends_well c.args.answers.now) c.args.name.now _ _ c.in-Ok.text.items c.in-Ok-read_all.requests.items
     (record {
       shelf = record { text = c.in-Ok.ensures.bytes; within = c.in-Ok.ensures.within; given = c.in-Ok.ensures.ok_given };
       input =
@@ -48,7 +48,7 @@ returns-in-Fault g c =
 pub returns-in-Failed : goal.returns-in-Failed
 returns-in-Failed g c =
     let responds = rw (c.deref.ensures.value, c.deref-2.ensures.value) at c.in-Failed.ensures in
-    (failed_ends g.A.TextAnswers.writes g.met.A.TextAnswers.ends_well c.args.name.now _ _ c.in-Ok.text.items c.in-Ok-read_all.requests.items
+    (failed_ends (g.A.TextAnswers.writes c.args.answers.now) (g.met.A.TextAnswers.ends_well c.args.answers.now) c.args.name.now _ _ c.in-Ok.text.items c.in-Ok-read_all.requests.items
     (record {
       shelf = record { text = c.in-Ok.ensures.bytes; within = c.in-Ok.ensures.within; given = c.in-Ok.ensures.ok_given };
       input =

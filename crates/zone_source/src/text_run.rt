@@ -1,12 +1,12 @@
 //! The run of a program over a text and requests.
 ghost use Rattle.std.specs.Prelude.{◌≤◌, length, IsNone, Some};
-ghost use Rattle.zone_answers.specs.Ends.{EndsOver, Writes};
-ghost use Rattle.zone_answers.specs.Responses.{EndsWell, Responds};
-ghost use Rattle.zone_answers.specs.Seen.{run_seen};
+ghost use Rattle.zone_source.specs.Responses.{Responds};
+ghost use Rattle.zone_source.specs.Runs.{EndsOver, EndsWell, Writes, run_seen};
 ghost use Rattle.zone_outside.specs.Seen.{output_seen};
 
+use crate::status::Status;
 use std::alloc::Global;
-use zone_source::{LIMIT, Shelf, Sink, Source, Status, fetch_all, read_all};
+use zone_outside::{LIMIT, Shelf, Sink, Source, fetch_all, read_all};
 
 /// What was written.
 #[derive(Clone, Copy, Debug, PartialEq, Eq)]
@@ -24,7 +24,7 @@ pub enum Answered {
 /// What answers the requests over a text.
 pub trait TextAnswers {
     /// What it writes.
-    ghost writes: { Writes };
+    ghost writes: { Self → Writes };
 
     /// Answers the requests over the text, and writes the answers or the line of the first fault.
     fn respond<O: Sink>(
@@ -36,10 +36,10 @@ pub trait TextAnswers {
     ) -> Answered
         requires text { length text.now ≤ LIMIT }
         requires requests { length requests.now ≤ LIMIT }
-        ensures { Responds writes text.now requests.now (output_seen O.Sink output.old) (output_seen O.Sink output.new) result };
+        ensures { Responds (writes self.now) text.now requests.now (output_seen O.Sink output.old) (output_seen O.Sink output.new) result };
 
     /// A run that wrote this ends as one of which no call fails.
-    ghost ends_well: { EndsWell writes };
+    ghost ends_well: { (answers : Self) → EndsWell (writes answers) };
 }
 
 /// Answers the requests of the input over the named text of the shelf.
@@ -55,7 +55,7 @@ pub fn run_over<A: TextAnswers, H: Shelf, I: Source, O: Sink>(
     output: &mut O,
 ) -> Status
     requires { H.open_to shelf.old name.now }
-    ensures { EndsOver A.writes (IsNone (Some name.now)) (Some name.now)
+    ensures { EndsOver (A.writes answers.now) (IsNone (Some name.now)) (Some name.now)
         (run_seen H.Source I.Source O.Sink shelf.old input.old output.old)
         (run_seen H.Source I.Source O.Sink shelf.new input.new output.new) result }
 {
