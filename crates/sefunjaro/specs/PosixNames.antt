@@ -4,6 +4,7 @@ use Rattle.std.specs.Char.{is_ascii_alphabetic, is_ascii_digit}
 use Rattle.std.specs.List.{list_all}
 use Rattle.tz_posix_core.specs.Marks.{plus_sign, minus_sign}
 use Rattle.tz_posix_core.specs.Values.{DstPart, TzValue, short, expanded}
+use Rattle.tz_posix_core.specs.declared.time.Time.{Time}
 
 -- an ASCII letter or digit, `+` or `-`
 abbrev pub is_posix_byte : ℕ → Bool
@@ -13,7 +14,7 @@ is_posix_byte c = is_ascii_alphabetic c || is_ascii_digit c || c == plus_sign ||
 abbrev pub is_posix_name : List ℕ → Bool
 is_posix_name name = nat_le 3 (length name) && list_all is_posix_byte name
 
-abbrev pub is_saving_named : Option DstPart → Bool
+abbrev pub is_saving_named : Option (DstPart Time) → Bool
 is_saving_named None = true
 is_saving_named (Some saving) = is_posix_name saving.name
 

@@ -1,5 +1,3 @@
-mod AgainLemmas
-mod FoundLemmas
 mod RangeLemmas
 mod ReadLemmas
 mod WorkedFooters

@@ -1,17 +1,25 @@
 -- The parts of a footer in its ranges.
-use Rattle.std.proofs.Common.{◌≡◌, Bool, true, Option, Some, None, refl}
-use Rattle.std.proofs.lemmas.Bool.{and_parts}
-use Rattle.tz_posix_core.specs.Ranges.{offset_miss, is_time}
-use Rattle.tz_footer.specs.Ranges.{is_part, is_saving_part, is_in_range}
-use Rattle.tz_footer.specs.Values.{SavingValue, FooterValue}
+use Rattle.std.proofs.Common.{◌≡◌, [], ◌∷◌, Option, Some, None}
+use Rattle.std.specs.Prelude.{option_and_then}
+use Rattle.tz_posix_core.specs.RangeLaws.{none_first}
+use Rattle.tz_posix_core.specs.Ranges.{first_miss, offset_miss, rule_range}
+use Rattle.tz_posix_core.specs.Spells.{signed_times}
+use Rattle.tz_posix_core.specs.Values.{StdPart}
+use Rattle.tz_footer.specs.Ranges.{footer_miss}
+use Rattle.tz_footer.specs.Values.{SavingValue}
 
-standard_in : (b : Bool) (s : Option SavingValue) → is_part b s ≡ true → b ≡ true
-standard_in b None h = h
-standard_in b (Some s) h = (and_parts b _ h).0
+pub standard_offset : (standard : StdPart) (saving : Option SavingValue) → footer_miss (record { standard = standard; saving = saving }) ≡ None
+    → offset_miss standard.offset ≡ None
+unfolding first_miss
+standard_offset standard None h = h
+standard_offset standard (Some s) h = (none_first _ _ h).0
 
-pub standard_offset : (value : FooterValue) → is_in_range value ≡ true → offset_miss value.standard.offset ≡ None
-unfolding is_in_range
-standard_offset value h = rw (standard_in (is_time 24 value.standard.offset.time) value.saving h) refl
-
-pub saving_part : (b : Bool) (s : SavingValue) → is_part b (Some s) ≡ true → is_saving_part s ≡ true
-saving_part b s h = (and_parts b _ h).1
+pub saving_parts : (standard : StdPart) (s : SavingValue) → footer_miss (record { standard = standard; saving = Some s }) ≡ None
+    → (option_and_then offset_miss s.offset ≡ None) × (rule_range signed_times s.rule ≡ None)
+unfolding first_miss
+saving_parts standard s h =
+    let own = option_and_then offset_miss s.offset in
+    let rule = rule_range signed_times s.rule in
+    let later = none_first (offset_miss standard.offset) (own ∷ rule ∷ []) h in
+    let both = none_first own (rule ∷ []) later.1 in
+    (both.0, (none_first rule [] both.1).0)

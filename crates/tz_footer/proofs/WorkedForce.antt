@@ -8,10 +8,10 @@ use Rattle.calendar.specs.Days.{day, IsCountedYear, IsDate}
 use Rattle.calendar.specs.SignedLaws.{signed}
 use Rattle.calendar.specs.Weekdays.{weekday_of}
 use Rattle.tz_posix_core.specs.Days.{nth_weekday, rule_day}
-use Rattle.tz_posix_core.specs.InForce.{year_at}
+use Rattle.tz_posix_core.specs.InForce.{instant_in, year_at}
 use Rattle.tz_posix_core.specs.declared.date.Date.TheVariants.{M, N}
 use Rattle.zone_tzif_core.specs.Zones.{KindValue}
-use Rattle.tz_footer.specs.InForce.{is_saved_by, is_footer_saving, moments_in, second_in, year_after, year_before}
+use Rattle.tz_footer.specs.InForce.{is_saved_by, is_footer_saving, year_after, year_before}
 use Rattle.tz_footer.specs.InForce.{FooterZone, fixed, yearly, held_at, is_of_one_year, standard_total, saving_total}
 
 -- years from 10 to 20, from 110 to 120 and from 210 to 220: before all, and at each moment and a second before it
@@ -79,7 +79,7 @@ late_start s = is_footer_saving (neg_ℤ (pos 18000)) (neg_ℤ (pos 14400)) (M 1
 
 before_start : late_start (pos 1704538799) ≡ false
 unfolding
-    is_footer_saving is_saved_by moments_in second_in rule_day nth_weekday last_with weekday_of
+    is_footer_saving is_saved_by instant_in rule_day nth_weekday last_with weekday_of
     is_leap days_in_year days_in_month days_after_zero year_start days_through days_into_year day
 before_start =
     let date : IsDate (pos 2024) 1 6 = a_date 1 6 (omega arith) (omega arith) (omega arith) (omega arith) in
@@ -87,7 +87,7 @@ before_start =
 
 at_start : late_start (pos 1704538800) ≡ true
 unfolding
-    is_footer_saving is_saved_by moments_in second_in rule_day nth_weekday last_with weekday_of
+    is_footer_saving is_saved_by instant_in rule_day nth_weekday last_with weekday_of
     is_leap days_in_year days_in_month days_after_zero year_start days_through days_into_year day
 at_start =
     let date : IsDate (pos 2024) 1 6 = a_date 1 6 (omega arith) (omega arith) (omega arith) (omega arith) in
@@ -99,7 +99,7 @@ early_start s = is_footer_saving (neg_ℤ (pos 18000)) (neg_ℤ (pos 14400)) (M 
 
 before_early : early_start (pos 1735513199) ≡ false
 unfolding
-    is_footer_saving is_saved_by moments_in second_in rule_day nth_weekday last_with weekday_of
+    is_footer_saving is_saved_by instant_in rule_day nth_weekday last_with weekday_of
     is_leap days_in_year days_in_month days_after_zero year_start days_through days_into_year day
 before_early =
     let date : IsDate (pos 2024) 12 29 = a_date 12 29 (omega arith) (omega arith) (omega arith) (omega arith) in
@@ -107,7 +107,7 @@ before_early =
 
 at_early : early_start (pos 1735513200) ≡ true
 unfolding
-    is_footer_saving is_saved_by moments_in second_in rule_day nth_weekday last_with weekday_of
+    is_footer_saving is_saved_by instant_in rule_day nth_weekday last_with weekday_of
     is_leap days_in_year days_in_month days_after_zero year_start days_through days_into_year day
 at_early =
     let date : IsDate (pos 2024) 12 29 = a_date 12 29 (omega arith) (omega arith) (omega arith) (omega arith) in
@@ -121,7 +121,7 @@ over_edges s = is_footer_saving (neg_ℤ (pos 18000)) (neg_ℤ (pos 14400)) (N 3
 
 new_year : over_edges (pos 1704128400) ≡ true
 unfolding
-    is_footer_saving is_saved_by moments_in second_in rule_day nth_weekday last_with weekday_of
+    is_footer_saving is_saved_by instant_in rule_day nth_weekday last_with weekday_of
     is_leap days_in_year days_in_month days_after_zero year_start days_through days_into_year day
 new_year =
     let date : IsDate (pos 2024) 1 1 = a_date 1 1 (omega arith) (omega arith) (omega arith) (omega arith) in
@@ -165,7 +165,7 @@ one_year_always = refl
 
 not_yet_its_own : is_of_one_year late (pos 1704538800) ≡ false
 unfolding
-    is_of_one_year moments_in second_in rule_day nth_weekday last_with weekday_of
+    is_of_one_year instant_in rule_day nth_weekday last_with weekday_of
     is_leap days_in_year days_in_month days_after_zero year_start days_through days_into_year day
 not_yet_its_own =
     let date : IsDate (pos 2024) 1 6 = a_date 1 6 (omega arith) (omega arith) (omega arith) (omega arith) in
@@ -173,7 +173,7 @@ not_yet_its_own =
 
 still_its_own : is_of_one_year early (pos 1735513199) ≡ true
 unfolding
-    is_of_one_year moments_in second_in rule_day nth_weekday last_with weekday_of
+    is_of_one_year instant_in rule_day nth_weekday last_with weekday_of
     is_leap days_in_year days_in_month days_after_zero year_start days_through days_into_year day
 still_its_own =
     let date : IsDate (pos 2024) 12 29 = a_date 12 29 (omega arith) (omega arith) (omega arith) (omega arith) in
@@ -181,7 +181,7 @@ still_its_own =
 
 no_more_its_own : is_of_one_year early (pos 1735513200) ≡ false
 unfolding
-    is_of_one_year moments_in second_in rule_day nth_weekday last_with weekday_of
+    is_of_one_year instant_in rule_day nth_weekday last_with weekday_of
     is_leap days_in_year days_in_month days_after_zero year_start days_through days_into_year day
 no_more_its_own =
     let date : IsDate (pos 2024) 12 29 = a_date 12 29 (omega arith) (omega arith) (omega arith) (omega arith) in

@@ -1,22 +1,7 @@
 -- What a footer puts in force. Seconds are from 1970-01-01 00:00 UTC.
-use Rattle.std.specs.Prelude.{Bool, true, ◌&&◌, ◌||◌, not, if◌then◌else◌, ℤ, pos, neg_ℤ, ◌+ℤ◌, ◌-ℤ◌, ◌*ℤ◌, int_le, int_lt}
-use Rattle.tz_posix_core.specs.Days.{rule_day}
-use Rattle.tz_posix_core.specs.InForce.{year_at}
-use Rattle.tz_posix_core.specs.declared.date.Date.{Date}
+use Rattle.std.specs.Prelude.{Bool, true, ◌&&◌, ◌||◌, not, if◌then◌else◌, ℤ, pos, neg_ℤ, ◌+ℤ◌, ◌-ℤ◌, int_le, int_lt}
+use Rattle.tz_posix_core.specs.InForce.{YearlyTime, moments_in, year_at}
 use Rattle.zone_tzif_core.specs.Zones.{KindValue}
-
--- a day of each year, and the seconds from its midnight, which may be below 0
-abbrev pub YearlyTime : Type 0
-YearlyTime = Date × ℤ
-
--- the second at which clocks that are so many seconds ahead of UTC show the time of a year
-unfoldable pub second_in : ℤ → ℤ → YearlyTime → ℤ
-second_in y offset time = pos 86400 *ℤ rule_day time.0 y +ℤ time.1 -ℤ offset
-
--- the start and the end of a year's daylight saving time: the start is read at the standard offset, the end at that of daylight
--- saving time, and either may lie past the year's edges
-unfoldable pub moments_in : ℤ → ℤ → YearlyTime → YearlyTime → ℤ → ℤ × ℤ
-moments_in standard saving start end y = (second_in y standard start, second_in y saving end)
 
 -- the start or the end is at or before the second
 abbrev pub has_begun : ℤ × ℤ → ℤ → Bool

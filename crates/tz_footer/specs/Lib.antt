@@ -6,8 +6,5 @@ pub mod Shown
 pub mod Spells
 pub mod Standing
 pub mod Values
-pub mod Yearly
 -- Laws: what a caller may use.
 pub mod FooterLaws
--- Words of private clauses.
-pub mod Reading

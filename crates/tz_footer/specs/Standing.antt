@@ -1,24 +1,16 @@
 -- What the value of a footer stands for.
 use Rattle.std.specs.Prelude.{◌≡◌, ℕ, Bool, true, false, List, Option, Some, None, ℤ, pos, ◌+ℤ◌}
 use Rattle.std.specs.Option.{option_map_or}
-use Rattle.tz_posix_core.specs.Seconds.{east_of, offset_seconds}
-use Rattle.tz_posix_core.specs.declared.date.Date.{Date}
-use Rattle.tz_posix_core.specs.declared.time.Offset.{Offset}
-use Rattle.tz_footer.specs.InForce.{YearlyTime, FooterZone, fixed, yearly}
+use Rattle.tz_posix_core.specs.InForce.{moment_of}
+use Rattle.tz_posix_core.specs.Seconds.{east_of}
+use Rattle.tz_posix_core.specs.Spells.{signed_times}
+use Rattle.tz_footer.specs.InForce.{FooterZone, fixed, yearly}
 use Rattle.tz_footer.specs.Ranges.{IsFooterOf}
 use Rattle.tz_footer.specs.Values.{SavingValue, FooterValue}
 use Rattle.zone_tzif_core.specs.Zones.{KindValue}
 
 abbrev pub kind_of : List ℕ → ℤ → Bool → KindValue
 kind_of name total saving = record { utoff = total; is_dst = saving; name = name }
-
--- a time that is not written is 02:00:00, and one after `-` is below 0
-abbrev pub seconds_of : Option Offset → ℤ
-seconds_of None = pos 7200
-seconds_of (Some time) = offset_seconds time
-
-abbrev pub moment_of : Date × Option Offset → YearlyTime
-moment_of moment = (moment.0, seconds_of moment.1)
 
 -- without an offset of its own daylight saving time is an hour ahead of standard time
 abbrev pub saving_kind : SavingValue → ℤ → KindValue
@@ -27,7 +19,7 @@ saving_kind saving standard = kind_of saving.name (option_map_or east_of saving.
 abbrev pub with_saving : KindValue → Option SavingValue → FooterZone
 with_saving standard None = fixed standard
 with_saving standard (Some saving) =
-    yearly standard (saving_kind saving standard.utoff) (moment_of saving.rule.start) (moment_of saving.rule.end)
+    yearly standard (saving_kind saving standard.utoff) (moment_of signed_times saving.rule.start) (moment_of signed_times saving.rule.end)
 
 unfoldable pub stands_for : FooterValue → FooterZone
 stands_for value = with_saving (kind_of value.standard.name (east_of value.standard.offset) false) value.saving

@@ -1,20 +1,22 @@
 //! Footers and what they put in force.
-ghost use Rattle.std.specs.Prelude.{◌≡◌, ◌≤◌, true, IsTrue, unsigned_abs, pos, ◌+ℤ◌};
-ghost use Rattle.std.specs.Option.{option_map_or};
-ghost use Rattle.tz_footer.specs.Ranges.{is_in_range, is_saving_part};
+ghost use Rattle.std.specs.Prelude.{◌≡◌, ◌≤◌, None, option_and_then, unsigned_abs};
+ghost use Rattle.tz_footer.specs.Ranges.{footer_miss};
 ghost use Rattle.tz_footer.specs.Shown.{saving_shown, text_shown};
 ghost use Rattle.tz_footer.specs.FooterShown.{held_shown};
-ghost use Rattle.tz_footer.specs.Standing.{saving_kind, moment_of};
-ghost use Rattle.tz_footer.specs.Yearly.{time_shown};
+ghost use Rattle.tz_footer.specs.Standing.{saving_kind};
+ghost use Rattle.tz_posix_core.specs.InForce.{moment_of};
+ghost use Rattle.tz_posix_core.specs.Ranges.{offset_miss, rule_range};
 ghost use Rattle.tz_posix_core.specs.Seconds.{IsWritten};
+ghost use Rattle.tz_posix_core.specs.Spells.{signed_times};
+ghost use Rattle.tz_posix_core.specs.Yearly.{time_shown};
 
 use crate::held::Held;
-use crate::range::is_in_range;
+use crate::range::check;
 use crate::read::footer_text;
-use crate::rule::YearlyRule;
+use crate::rule::is_saving;
 use crate::values::{FooterText, Saving};
 use civil_base::UtcOffset;
-use tz_posix_core::parts::saving_offset;
+use tz_posix_core::parts::{YearlyRule, saving_offset};
 
 /// What a footer puts in force at each second.
 #[derive(Clone, Debug, Drop, PartialEq, Eq)]
@@ -45,8 +47,10 @@ impl<'a> Footer<'a> {
         ensures { MatchOption result ((value : FooterValue) → ¬ (IsFooterOf text.now value)) (λ footer. StandsFor text.now (footer_shown footer)) }
     {
         match footer_text(text) {
-            Some(read) if is_in_range(&read) => Some(Footer::of(&read)),
-            Some(_) => None,
+            Some(read) => match check(&read) {
+                Ok(()) => Some(Footer::of(&read)),
+                Err(_error) => None,
+            },
             None => None,
         }
     }
@@ -54,7 +58,7 @@ impl<'a> Footer<'a> {
     /// What a value in its ranges stands for.
     #[tactic(auto, unfolding(crate::specs::Standing::stands_for))]
     fn of(text: &FooterText<'a>) -> Footer<'a>
-        requires { is_in_range (text_shown text.now) ≡ true }
+        requires { footer_miss (text_shown text.now) ≡ None }
         ensures { footer_shown result ≡ stands_for (text_shown text.now) }
     {
         let offset = text.std.offset.to_utc_offset();
@@ -84,9 +88,12 @@ impl<'a> Footer<'a> {
         match &self.saving {
             None => self.standard.copied(),
             Some(saving) => {
-                let holds = saving
-                    .rule
-                    .is_saving(self.standard.offset(), saving.held.offset(), second);
+                let holds = is_saving(
+                    &saving.rule,
+                    self.standard.offset(),
+                    saving.held.offset(),
+                    second,
+                );
                 if holds {
                     saving.held.copied()
                 } else {
@@ -111,11 +118,12 @@ impl<'a> Footer<'a> {
 impl<'a> Yearly<'a> {
     /// Daylight saving time of a value, beside standard time.
     fn of(saving: &Saving<'a>, standard: UtcOffset) -> Yearly<'a>
-        requires range { is_saving_part (saving_shown saving.now) ≡ true }
+        requires own { option_and_then offset_miss saving.now.offset ≡ None }
+        requires rule { rule_range signed_times saving.now.rule ≡ None }
         requires standard { IsWritten standard }
         ensures held { held_shown result.held ≡ saving_kind (saving_shown saving.now) standard }
-        ensures start { time_shown result.rule.start ≡ moment_of saving.now.rule.start }
-        ensures end { time_shown result.rule.end ≡ moment_of saving.now.rule.end }
+        ensures start { time_shown result.rule.start ≡ moment_of signed_times saving.now.rule.start }
+        ensures end { time_shown result.rule.end ≡ moment_of signed_times saving.now.rule.end }
     {
         let offset = saving_offset(&saving.offset, standard);
         Yearly {

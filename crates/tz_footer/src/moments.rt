@@ -1,43 +1,36 @@
-//! When daylight saving time starts and ends, in years in a row.
+//! What the start and the end of daylight saving time in one year say of a second, and the years beside.
 ghost use Rattle.std.specs.Prelude.{◌≡◌, int_lt};
 ghost use Rattle.calendar.specs.Days.{IsCountedYear};
-ghost use Rattle.tz_footer.specs.InForce.{has_begun, is_saved};
+ghost use Rattle.tz_footer.specs.InForce.{has_begun as begun_by, is_saved as saved_by};
 ghost use Rattle.tz_footer.specs.InForce.{year_after as next_of, year_before as last_of};
-ghost use Rattle.tz_footer.specs.Yearly.{moments_shown};
+ghost use Rattle.tz_posix_core.specs.Yearly.{moments_shown};
+
+use tz_posix_core::parts::Moments;
 
 /// The first and the last year in which days are counted.
 const FIRST_YEAR: i32 = -10_000;
 
 const LAST_YEAR: i32 = 10_000;
 
-/// The start and the end of daylight saving time in one year, in seconds.
-#[derive(Clone, Copy, Debug, PartialEq, Eq)]
-pub(crate) struct Moments {
-    pub(crate) start: i64,
-    pub(crate) end: i64,
+/// Whether the start or the end is at or before a second.
+pub(crate) fn has_begun(moments: &Moments, second: i64) -> bool
+    ensures { result ≡ begun_by (moments_shown moments.now) second }
+{
+    moments.start <= second || moments.end <= second
 }
 
-impl Moments {
-    /// Whether the start or the end is at or before a second.
-    pub(crate) fn has_begun(&self, second: i64) -> bool
-        ensures { result ≡ has_begun (moments_shown self.now) second }
-    {
-        self.start <= second || self.end <= second
-    }
+/// Whether the start is at or before a second, and the end after it, or before the start.
+pub(crate) fn is_saved(moments: &Moments, second: i64) -> bool
+    ensures { result ≡ saved_by (moments_shown moments.now) second }
+{
+    moments.start <= second && (second < moments.end || moments.end < moments.start)
+}
 
-    /// Whether the start is at or before a second, and the end after it, or before the start.
-    pub(crate) fn is_saved(&self, second: i64) -> bool
-        ensures { result ≡ is_saved (moments_shown self.now) second }
-    {
-        self.start <= second && (second < self.end || self.end < self.start)
-    }
-
-    /// Whether the year ends daylight saving time before it starts it.
-    pub(crate) fn is_reversed(&self) -> bool
-        ensures { result ≡ int_lt (moments_shown self.now).1 (moments_shown self.now).0 }
-    {
-        self.end < self.start
-    }
+/// Whether the year ends daylight saving time before it starts it.
+pub(crate) fn is_reversed(moments: &Moments) -> bool
+    ensures { result ≡ int_lt (moments_shown moments.now).1 (moments_shown moments.now).0 }
+{
+    moments.end < moments.start
 }
 
 /// The year after, as far as years are counted.

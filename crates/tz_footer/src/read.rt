@@ -1,72 +1,12 @@
 //! The reader: a whole footer to its value.
 ghost use Rattle.std.specs.Prelude.{◌≡◌, option_map, MatchOption};
-ghost use Rattle.tz_footer.specs.Reading.{moment_at, rule_in, saving_in, footer_in};
-ghost use Rattle.tz_footer.specs.Shown.{saving_shown, text_shown};
+ghost use Rattle.tz_footer.specs.Shown.{text_shown};
 ghost use Rattle.tz_footer.specs.Spells.{SpellsFooter};
-ghost use Rattle.tz_footer.specs.Values.{FooterValue};
-ghost use Rattle.tz_posix_core.specs.Reading.{read_as};
+ghost use Rattle.tz_footer.specs.Values.{FooterValue, footer_in};
+ghost use Rattle.tz_posix_core.specs.Shown.{tz_shown};
 
 use crate::values::{FooterRule, FooterText, Saving};
-use text_parts::after_mark;
-use tz_posix_core::parts::{date, name, offset, own_offset};
-use tz_posix_core::{Date, Offset, Std};
-
-/// A date and maybe a time, and the rest.
-#[tactic(auto, unfolding(crate::specs::Reading::moment_at))]
-fn moment(text: &str) -> Option<((Date, Option<Offset>), &str)>
-    ensures { read_as (λ moment. moment) result ≡ moment_at text.now }
-{
-    let (date, rest) = date(text)?;
-    match after_mark('/', rest) {
-        Some(rest) => {
-            let (time, rest) = offset(rest)?;
-            Some(((date, Some(time)), rest))
-        }
-        None => Some(((date, None), rest)),
-    }
-}
-
-/// The rule that a whole text is.
-#[tactic(auto, unfolding(crate::specs::Reading::rule_in))]
-fn rule(text: &str) -> Option<FooterRule>
-    ensures { result ≡ rule_in text.now }
-{
-    let (start, rest) = moment(after_mark(',', text)?)?;
-    let (end, rest) = moment(after_mark(',', rest)?)?;
-    if rest.is_empty() {
-        Some(FooterRule { start, end })
-    } else {
-        None
-    }
-}
-
-/// The daylight saving time that a whole text is, where there is any text.
-#[tactic(auto, unfolding(crate::specs::Reading::saving_in))]
-fn saving(text: &str) -> Option<Option<Saving<'_>>>
-    ensures { option_map (option_map saving_shown) result ≡ saving_in text.now }
-{
-    if text.is_empty() {
-        return Some(None);
-    }
-    let (name, rest) = name(text)?;
-    let (offset, rest) = own_offset(rest)?;
-    let rule = rule(rest)?;
-    Some(Some(Saving { name, offset, rule }))
-}
-
-/// What a whole footer is read as.
-#[tactic(auto, unfolding(crate::specs::Reading::footer_in))]
-fn whole(text: &str) -> Option<FooterText<'_>>
-    ensures { option_map text_shown result ≡ footer_in text.now }
-{
-    let (name, rest) = name(text)?;
-    let (offset, rest) = offset(rest)?;
-    let dst = saving(rest)?;
-    Some(FooterText {
-        std: Std { name, offset },
-        dst,
-    })
-}
+use tz_posix_core::{Dst, Offset, Tz, value};
 
 /// The value that a whole footer spells. There is none exactly where it spells none.
 ///
@@ -78,5 +18,41 @@ pub fn footer_text(text: &str) -> Option<FooterText<'_>>
     ensures exact { MatchOption result ((value : FooterValue) → ¬ (SpellsFooter text.now value))
         (λ footer. SpellsFooter text.now (text_shown footer)) }
 {
-    whole(text)
+    match value::<Offset>(text) {
+        Some(read) => footer_of(read),
+        None => None,
+    }
+}
+
+/// The footer that a value of the grammar is.
+fn footer_of<'a>(tz: Tz<'a, FooterRule>) -> Option<FooterText<'a>>
+    ensures { option_map text_shown result ≡ footer_in (tz_shown tz.entry) }
+{
+    match tz {
+        Tz::Short(_) => None,
+        Tz::Expanded { std, dst: None } => Some(FooterText { std, dst: None }),
+        Tz::Expanded {
+            std: _,
+            dst: Some(
+                Dst {
+                    name: _,
+                    offset: _,
+                    rule: None,
+                },
+            ),
+        } => None,
+        Tz::Expanded {
+            std,
+            dst: Some(
+                Dst {
+                    name,
+                    offset,
+                    rule: Some(rule),
+                },
+            ),
+        } => Some(FooterText {
+            std,
+            dst: Some(Saving { name, offset, rule }),
+        }),
+    }
 }

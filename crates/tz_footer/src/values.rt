@@ -1,16 +1,10 @@
 //! What a footer is read as.
 
-use tz_posix_core::{Date, Offset, Std};
+use tz_posix_core::{Offset, Rule, Std};
 
 /// When daylight saving time begins and ends in each year: a day, and a time where one is written, which counts from the
 /// day's midnight back after `-`.
-#[derive(Clone, Debug, Drop, PartialEq, Eq)]
-pub struct FooterRule {
-    /// The beginning, read at the standard offset.
-    pub start: (Date, Option<Offset>),
-    /// The end, read at the offset of daylight saving time.
-    pub end: (Date, Option<Offset>),
-}
+pub type FooterRule = Rule<Offset>;
 
 /// Daylight saving time.
 #[derive(Clone, Debug, Drop, PartialEq, Eq)]

@@ -27,25 +27,26 @@ use Rattle.tz_posix_core.specs.Spells.{Spells}
 use Rattle.tz_posix.proofs.NorthernLemmas.{northern_agrees}
 use Rattle.tz_posix.proofs.SouthernLemmas.{southern_agrees}
 use Rattle.tz_posix_core.specs.FoundLaws.{entry_found}
+use Rattle.tz_posix_core.specs.TimeLaws.{day_times_read}
 use Rattle.tz_posix.proofs.MonthPairLemmas.{AreInnerRules, end_inside, northern_apart, northern_order, southern_apart, southern_order, start_inside}
 
 pub new_york_spelled : Spells new_york_text (value_of new_york_value)
 unfolding
     value_in number_at part_at clock_time_at sign_at offset_at letters_at enclosed_at name_at weekday_at date_at moment_at
     rule_in own_offset_at own_rule_in dst_in short_in expanded_in entry_in
-new_york_spelled = entry_found new_york_text _ refl
+new_york_spelled = entry_found day_times_read new_york_text _ refl
 
 pub lord_howe_spelled : Spells lord_howe_text (value_of lord_howe_value)
 unfolding
     value_in number_at part_at clock_time_at sign_at offset_at letters_at enclosed_at name_at weekday_at date_at moment_at
     rule_in own_offset_at own_rule_in dst_in short_in expanded_in entry_in
-lord_howe_spelled = entry_found lord_howe_text _ refl
+lord_howe_spelled = entry_found day_times_read lord_howe_text _ refl
 
 pub moldova_spelled : Spells moldova_text (value_of moldova_value)
 unfolding
     value_in number_at part_at clock_time_at sign_at offset_at letters_at enclosed_at name_at weekday_at date_at moment_at
     rule_in own_offset_at own_rule_in dst_in short_in expanded_in entry_in
-moldova_spelled = entry_found moldova_text _ refl
+moldova_spelled = entry_found day_times_read moldova_text _ refl
 
 -- 2007-01-01, 1997-01-01, and the first Sunday of October 2008
 day_2007 : day (pos 2007) 1 1 ≡ pos 13514

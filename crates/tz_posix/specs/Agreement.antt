@@ -23,6 +23,7 @@ use Rattle.tz_posix_core.specs.Values.{TzValue, expanded}
 use Rattle.tz_posix_core.specs.declared.date.Date.{Date}
 use Rattle.tz_posix_core.specs.declared.date.Date.TheVariants.{M}
 use Rattle.tz_posix_core.specs.declared.time.Offset.{Offset}
+use Rattle.tz_posix_core.specs.declared.time.Time.{Time}
 use Rattle.tz_posix_core.specs.declared.values.Rule.{Rule}
 
 -- a POSIX value with both offsets and a rule written
@@ -31,7 +32,7 @@ pub record RuledValue : Type 0 where
   pub standard : Offset
   pub saving_name : List ℕ
   pub saving : Offset
-  pub rule : Rule
+  pub rule : Rule Time
 
 abbrev pub value_of : RuledValue → TzValue
 value_of q =
@@ -56,7 +57,7 @@ pub data IsSameDay (month : Month) (weekday : Weekday) : DaySpec → Date → Ty
 pub record IsSameTime (rule : RuleInfo) (time : YearlyTime) : Type 0 where
   pub weekday : Weekday
   pub day : IsSameDay rule.month weekday rule.day time.0
-  pub seconds : rule.time ≡ pos time.1
+  pub seconds : rule.time ≡ time.1
 
 -- 0 to 86,399 seconds
 pub record IsTimeOfDay (seconds : ℤ) : Type 0 where

@@ -1,5 +1,4 @@
 mod DateLemmas
-mod EntryLemmas
 mod GivenLemmas
 mod OffsetLemmas
 mod RangeLemmas

@@ -9,10 +9,11 @@ use Rattle.calendar.specs.Days.{day, IsCountedYear, IsDate}
 use Rattle.calendar.specs.SignedLaws.{signed}
 use Rattle.calendar.specs.Weekdays.{weekday_of}
 use Rattle.tz_posix_core.specs.Days.{nth_weekday, rule_day, day_refusal}
-use Rattle.tz_posix_core.specs.InForce.{instant_in, is_saving, is_within, is_year, posix_total, rule_refusal, year_at, yearly_time}
+use Rattle.tz_posix_core.specs.InForce.{instant_in, is_saving, is_within, is_year, moment_of, moments_in, posix_total, rule_refusal, year_at, yearly_time}
 use Rattle.civil_base.specs.Instants.{seconds_of}
 use Rattle.tz_posix_core.specs.PosixZones.{Named, PosixZone, ruled, Given, Gives, posix_refusal}
-use Rattle.tz_posix_core.specs.Seconds.{time_seconds}
+use Rattle.tz_posix_core.specs.Seconds.{offset_seconds, time_seconds}
+use Rattle.tz_posix_core.specs.Spells.{signed_times}
 use Rattle.tz_posix_core.specs.declared.date.Date.TheVariants.{J, N, M}
 use Rattle.tz_posix_core.specs.declared.error.Error.{Error}
 use Rattle.tz_posix_core.specs.declared.error.Error.TheVariants.{ComponentRange, DateTooLarge}
@@ -32,14 +33,14 @@ dates_2024 m d date offset t is = year_is offset t (pos 2024) m d years_2024 dat
 
 -- New York, -5:00 and -4:00, from the second Sunday of March to the first of November, at 02:00
 abbrev new_york : ℤ → ℤ
-new_york t = posix_total (neg_ℤ (pos 18000)) (neg_ℤ (pos 14400)) (M 3 2 0, 7200) (M 11 1 0, 7200) t
+new_york t = posix_total (neg_ℤ (pos 18000)) (neg_ℤ (pos 14400)) (M 3 2 0, pos 7200) (M 11 1 0, pos 7200) t
 
 a_date : (m d : ℕ) → 1 ≤ m → m ≤ 12 → 1 ≤ d → d ≤ days_in_month (pos 2024) m → IsDate (pos 2024) m d
 a_date m d first last one most = record { first_month = first; last_month = last; first_day = one; last_day = most }
 
 -- Sydney, +10:00 and +11:00, from the first Sunday of October at 02:00 to the first of April at 03:00
 abbrev sydney : ℤ → ℤ
-sydney t = posix_total (pos 36000) (pos 39600) (M 10 1 0, 7200) (M 4 1 0, 10800) t
+sydney t = posix_total (pos 36000) (pos 39600) (M 10 1 0, pos 7200) (M 4 1 0, pos 10800) t
 
 new_york_1 : new_york (pos 1710053999) ≡ neg_ℤ (pos 18000)
 unfolding
@@ -99,7 +100,7 @@ sydney_3 =
 
 -- +10:00 and +11:00, from midnight of the first of January to that of the tenth: the year begins before that at Greenwich
 abbrev january : ℤ → ℤ
-january t = posix_total (pos 36000) (pos 39600) (J 1, 0) (J 10, 0) t
+january t = posix_total (pos 36000) (pos 39600) (J 1, pos 0) (J 10, pos 0) t
 
 january_1 : january (pos 1704031200) ≡ pos 39600
 unfolding
@@ -129,9 +130,22 @@ worked_never = refl
 
 -- a time that is not written is two o'clock
 worked_times : yearly_time (J 1, None) ∷ yearly_time (J 1, Some (record { hh = 3; mm = Some 4; ss = None })) ∷ []
-    ≡ (J 1, 7200) ∷ (J 1, 11040) ∷ []
+    ≡ (J 1, pos 7200) ∷ (J 1, pos 11040) ∷ []
 unfolding time_seconds
 worked_times = refl
+
+-- and after `-` it lies before midnight, in a footer
+worked_signed_times : map (moment_of signed_times) ((J 1, None)
+    ∷ (J 1, Some (record { positive = false; time = record { hh = 1; mm = None; ss = None } })) ∷ [])
+    ≡ (J 1, pos 7200) ∷ (J 1, neg_ℤ (pos 3600)) ∷ []
+unfolding offset_seconds time_seconds
+worked_signed_times = refl
+
+-- the start by clocks of standard time, the end by those of daylight saving time
+worked_moments : moments_in (pos 3600) (pos 7200) (N 0, pos 0) (N 1, pos 0) (pos 1970) ≡ (neg_ℤ (pos 3600), pos 79200)
+unfolding
+    instant_in rule_day is_leap days_in_year days_in_month days_after_zero year_start days_through days_into_year day
+worked_moments = refl
 
 -- the last second of 9999, and the first past it where clocks are an hour ahead
 last_year : year_at (pos 0) (pos 253402300799) ≡ pos 9999
@@ -190,7 +204,7 @@ abbrev named : List ℕ → ℤ → Named
 named name total = record { name = name; total = total }
 
 abbrev eastern : PosixZone
-eastern = ruled (named (codes "EST") (neg_ℤ (pos 18000))) (named (codes "EDT") (neg_ℤ (pos 14400))) (M 3 2 0, 7200) (M 11 1 0, 7200)
+eastern = ruled (named (codes "EST") (neg_ℤ (pos 18000))) (named (codes "EDT") (neg_ℤ (pos 14400))) (M 3 2 0, pos 7200) (M 11 1 0, pos 7200)
 
 -- the offset, whether daylight saving time holds, and the abbreviation
 abbrev IsGiven : Given → ℤ → Bool → List ℕ → Type 0
@@ -224,7 +238,7 @@ first_of [] = None
 first_of (refused ∷ others) = refused
 
 refused_by_the_start :
-    posix_refusal (ruled (named (codes "A") (pos 0)) (named (codes "B") (pos 3600)) (M 12 5 0, 0) (N 365, 0)) (pos 253402300799000000000)
+    posix_refusal (ruled (named (codes "A") (pos 0)) (named (codes "B") (pos 3600)) (M 12 5 0, pos 0) (N 365, pos 0)) (pos 253402300799000000000)
     ≡ Some DateTooLarge
 unfolding seconds_of
 refused_by_the_start = ap first_of first_refusals

@@ -1,7 +1,8 @@
 -- Times in seconds and ranges, at worked rows.
 use Rattle.std.proofs.Common.{◌≡◌, refl, ℕ, [], ◌∷◌, map, true, false, Option, Some, None, pos, neg_ℤ}
-use Rattle.tz_posix_core.specs.Ranges.{is_rule_date, is_time, posix_range}
+use Rattle.tz_posix_core.specs.Ranges.{first_miss, is_rule_date, is_time, posix_range, rule_time_miss}
 use Rattle.tz_posix_core.specs.Seconds.{time_seconds, offset_seconds, east_of}
+use Rattle.tz_posix_core.specs.Spells.{day_times, signed_times}
 use Rattle.tz_posix_core.specs.Values.{short, expanded}
 use Rattle.tz_posix_core.specs.declared.date.Date.{Date}
 use Rattle.tz_posix_core.specs.declared.date.Date.TheVariants.{J, N, M}
@@ -33,6 +34,14 @@ worked_times : is_time 23 (hours 23) ∷ is_time 23 (hours 24) ∷ is_time 24 (r
     ≡ true ∷ false ∷ true ∷ false ∷ false ∷ []
 worked_times = refl
 
+-- the hours of rules' times, in a string and in a footer
+worked_hours : map (λ h. rule_time_miss day_times (Some (hours h))) (23 ∷ 24 ∷ []) ≡ None ∷ Some miss.Time ∷ []
+worked_hours = refl
+
+worked_signed_hours : map (λ h. rule_time_miss signed_times (Some (record { positive = false; time = hours h }))) (167 ∷ 168 ∷ [])
+    ≡ None ∷ Some miss.Time ∷ []
+worked_signed_hours = refl
+
 worked_dates : map is_rule_date (J 0 ∷ J 1 ∷ J 365 ∷ J 366 ∷ N 0 ∷ N 365 ∷ N 366 ∷ M 1 1 0 ∷ M 12 5 6 ∷ M 0 1 0 ∷ M 13 1 0 ∷ M 1 0 0 ∷
     M 1 6 0 ∷ M 1 1 7 ∷ [])
     ≡ false ∷ true ∷ true ∷ false ∷ true ∷ true ∷ false ∷ true ∷ true ∷ false ∷ false ∷ false ∷ false ∷ false ∷ []
@@ -50,10 +59,10 @@ ranges_of offset own start end time =
 worked_order : ranges_of 24 24 (J 1) (J 2) 23 ∷ ranges_of 25 24 (J 0) (J 2) 23 ∷ ranges_of 24 25 (J 0) (J 2) 23 ∷
     ranges_of 24 24 (J 1) (J 0) 24 ∷ ranges_of 24 24 (J 0) (J 2) 24 ∷ ranges_of 24 24 (J 1) (J 2) 24 ∷ []
     ≡ None ∷ Some miss.Time ∷ Some miss.Time ∷ Some miss.Date ∷ Some miss.Date ∷ Some miss.Time ∷ []
-unfolding posix_range
+unfolding first_miss
 worked_order = refl
 
 worked_alone : posix_range (short [])
     ∷ posix_range (expanded (record { name = []; offset = west 25 }) None) ∷ [] ≡ None ∷ Some miss.Time ∷ []
-unfolding posix_range
+unfolding first_miss
 worked_alone = refl

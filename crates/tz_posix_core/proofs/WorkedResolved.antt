@@ -11,16 +11,17 @@ use Rattle.tz_posix_core.specs.declared.date.Date.TheVariants.{J}
 use Rattle.tz_posix_core.specs.declared.error.Error.{Error}
 use Rattle.tz_posix_core.specs.declared.error.Error.TheVariants.{ComponentRange}
 use Rattle.tz_posix_core.specs.declared.time.Offset.{Offset}
+use Rattle.tz_posix_core.specs.declared.time.Time.{Time}
 use Rattle.tz_posix_core.specs.declared.values.Rule.{Rule}
 
 abbrev west : ℕ → Offset
 west hours = record { positive = true; time = record { hh = hours; mm = None; ss = None } }
 
-abbrev days : Rule
+abbrev days : Rule Time
 days = record { start = (J 1, None); end = (J 2, Some (record { hh = 3; mm = None; ss = None })) }
 
 -- standard time five hours west, and daylight saving time of this offset and rule
-abbrev west_five : Option Offset → Option Rule → List FixedTimespanSet → Result PosixZone (List ℕ)
+abbrev west_five : Option Offset → Option (Rule Time) → List FixedTimespanSet → Result PosixZone (List ℕ)
 west_five own rule zones =
     resolved zones (expanded (record { name = codes "EST"; offset = west 5 })
     (Some (record { name = codes "EDT"; offset = own; rule = rule })))
@@ -28,9 +29,9 @@ west_five own rule zones =
 -- an hour ahead where no offset is written
 worked_saving : west_five None (Some days) [] ∷ west_five (Some (west 7)) (Some days) [] ∷ []
     ≡ Ok (ruled (record { name = codes "EST"; total = neg_ℤ (pos 18000) }) (record { name = codes "EDT"; total = neg_ℤ (pos 14400) })
-    (J 1, 7200) (J 2, 10800))
+    (J 1, pos 7200) (J 2, pos 10800))
     ∷ Ok (ruled (record { name = codes "EST"; total = neg_ℤ (pos 18000) }) (record { name = codes "EDT"; total = neg_ℤ (pos 25200) })
-    (J 1, 7200) (J 2, 10800)) ∷ []
+    (J 1, pos 7200) (J 2, pos 10800)) ∷ []
 unfolding resolved offset_seconds time_seconds
 worked_saving = refl
 

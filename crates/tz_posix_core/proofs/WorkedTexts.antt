@@ -10,6 +10,7 @@ use Rattle.tz_posix_core.specs.Values.{TzValue, short, expanded}
 use Rattle.tz_posix_core.specs.declared.date.Date.TheVariants.{J, M}
 use Rattle.tz_posix_core.specs.AgainLaws.{entry_again}
 use Rattle.tz_posix_core.specs.FoundLaws.{entry_found}
+use Rattle.tz_posix_core.specs.TimeLaws.{day_times_read}
 
 -- a name in brackets is kept without them
 worked_bracket : Spells (codes "<AB>0") (expanded (record {
@@ -19,13 +20,13 @@ worked_bracket : Spells (codes "<AB>0") (expanded (record {
 unfolding
     value_in number_at part_at clock_time_at sign_at offset_at letters_at enclosed_at name_at weekday_at date_at moment_at
     rule_in own_offset_at own_rule_in dst_in short_in expanded_in entry_in
-worked_bracket = entry_found (codes "<AB>0") _ refl
+worked_bracket = entry_found day_times_read (codes "<AB>0") _ refl
 
 worked_short : Spells (codes ":<A/B>") (short (codes "A/B"))
 unfolding
     value_in number_at part_at clock_time_at sign_at offset_at letters_at enclosed_at name_at weekday_at date_at moment_at
     rule_in own_offset_at own_rule_in dst_in short_in expanded_in entry_in
-worked_short = entry_found (codes ":<A/B>") _ refl
+worked_short = entry_found day_times_read (codes ":<A/B>") _ refl
 
 -- each form of a date, and a time of each length
 worked_rule : Spells (codes "AAA-1:2BBB+1,J60/3,M12.5.6/1:2:3") (expanded (record {
@@ -42,11 +43,11 @@ worked_rule : Spells (codes "AAA-1:2BBB+1,J60/3,M12.5.6/1:2:3") (expanded (recor
 unfolding
     value_in number_at part_at clock_time_at sign_at offset_at letters_at enclosed_at name_at weekday_at date_at moment_at
     rule_in own_offset_at own_rule_in dst_in short_in expanded_in entry_in
-worked_rule = entry_found (codes "AAA-1:2BBB+1,J60/3,M12.5.6/1:2:3") _ refl
+worked_rule = entry_found day_times_read (codes "AAA-1:2BBB+1,J60/3,M12.5.6/1:2:3") _ refl
 
 -- what is read as nothing spells nothing
-spells_none : (text : List ℕ) → entry_in text ≡ None → (value : TzValue) → Spells text value → ⊥
-spells_none text none value spelled = none-some value (sym none ∙ entry_again spelled)
+spells_none : (text : List ℕ) → entry_in clock_time_at text ≡ None → (value : TzValue) → Spells text value → ⊥
+spells_none text none value spelled = none-some value (sym none ∙ entry_again day_times_read spelled)
 
 -- two letters; a slash without brackets; text after the rule; a number past 8 bits
 two_letters : (value : TzValue) → Spells (codes "AB0") value → ⊥
@@ -73,12 +74,25 @@ unfolding
     rule_in own_offset_at own_rule_in dst_in short_in expanded_in entry_in
 past_a_byte = spells_none (codes "AAA256") refl
 
+-- a time of a rule has no sign here
+signed_time : (value : TzValue) → Spells (codes "AAA0BBB,0/-1,1") value → ⊥
+unfolding
+    value_in number_at part_at clock_time_at sign_at offset_at letters_at enclosed_at name_at weekday_at date_at moment_at
+    rule_in own_offset_at own_rule_in dst_in short_in expanded_in entry_in
+signed_time = spells_none (codes "AAA0BBB,0/-1,1") refl
+
+plus_time : (value : TzValue) → Spells (codes "AAA0BBB,0/+1,1") value → ⊥
+unfolding
+    value_in number_at part_at clock_time_at sign_at offset_at letters_at enclosed_at name_at weekday_at date_at moment_at
+    rule_in own_offset_at own_rule_in dst_in short_in expanded_in entry_in
+plus_time = spells_none (codes "AAA0BBB,0/+1,1") refl
+
 -- 16 letters are a name, and a seventeenth is none; brackets hold one byte or more, and no bracket
 sixteen_letters : Spells (codes ":ABCDEFGHIJKLMNOP") (short (codes "ABCDEFGHIJKLMNOP"))
 unfolding
     value_in number_at part_at clock_time_at sign_at offset_at letters_at enclosed_at name_at weekday_at date_at moment_at
     rule_in own_offset_at own_rule_in dst_in short_in expanded_in entry_in
-sixteen_letters = entry_found (codes ":ABCDEFGHIJKLMNOP") _ refl
+sixteen_letters = entry_found day_times_read (codes ":ABCDEFGHIJKLMNOP") _ refl
 
 seventeen_letters : (value : TzValue) → Spells (codes ":ABCDEFGHIJKLMNOPQ") value → ⊥
 unfolding

@@ -1,5 +1,5 @@
 -- What is spelled is read, whatever follows.
-use Rattle.std.proofs.Common.{◌≡◌, ℕ, ◌<◌, ◌^◌, Bool, true, false, ◌||◌, List, [], ◌∷◌, ◌++◌, length, Option, Some, None, refl}
+use Rattle.std.proofs.Common.{◌≡◌, ℕ, ◌<◌, ◌^◌, Bool, true, false, List, [], ◌∷◌, ◌++◌, length, Option, Some, None, refl}
 use Rattle.std.proofs.Common.{arith, nat_eq, nat_le, take_while, lt-ltb, append_assoc, append-nil}
 use Rattle.std.proofs.lemmas.Bool.{and_parts}
 use Rattle.std.proofs.lemmas.Bool.Decides.{nat_tests}
@@ -12,20 +12,16 @@ use Rattle.text_parts.specs.Numbers.{value_in}
 use Rattle.tz_posix_core.specs.Marks.{colon, plus_sign, comma, minus_sign, dot, slash, less, greater, letter_J, letter_M}
 use Rattle.tz_posix_core.specs.Reading.{after_run, number_at, part_at, clock_time_at, offset_at, sign_at, letters_at}
 use Rattle.tz_posix_core.specs.Reading.{enclosed_at, name_at, weekday_at, date_at, moment_at, rule_in, is_over, own_offset_at}
-use Rattle.tz_posix_core.specs.Reading.{own_rule_in, dst_in, short_in, expanded_in, entry_in}
+use Rattle.tz_posix_core.specs.Reading.{own_rule_in, dst_in, short_in, expanded_in, entry_in, AreRead}
 use Rattle.tz_posix_core.specs.Spells.{Optional, absent, present, SpellsNumber, SpellsTime, hours, minutes, seconds, SpellsOffset, bare, plus, minus}
 use Rattle.tz_posix_core.specs.Spells.{is_enclosed, SpellsName, enclosed, letters, SpellsDate, julian, counted, weekday, SpellsMoment, date, timed}
-use Rattle.tz_posix_core.specs.Spells.{SpellsRule, rule, SpellsDst, dst, Spells, short_form, full_form, begins, RunsAreLongest}
-use Rattle.tz_posix_core.specs.Values.{DstPart, TzValue}
+use Rattle.tz_posix_core.specs.Spells.{SpellsRule, rule, SpellsDst, dst, SpellsIn, short_form, full_form, begins, goes_on, RunsAreLongest, TimeRange}
+use Rattle.tz_posix_core.specs.Values.{DstPart, Value}
 use Rattle.tz_posix_core.specs.declared.time.Time.{Time}
 use Rattle.tz_posix_core.specs.declared.time.Offset.{Offset}
 use Rattle.tz_posix_core.specs.declared.date.Date.{Date}
 use Rattle.tz_posix_core.specs.declared.date.Date.TheVariants.{M}
 use Rattle.tz_posix_core.specs.declared.values.Rule.{Rule}
-
--- a byte that could go on with a time or a moment
-abbrev pub goes_on : ℕ → Bool
-goes_on c = is_ascii_digit c || (nat_eq c colon || nat_eq c slash)
 
 pub stop_digit : (rest : List ℕ) → begins goes_on rest ≡ false → begins is_ascii_digit rest ≡ false
 stop_digit [] e = refl
@@ -76,7 +72,7 @@ part_again : {b : List ℕ} {m : ℕ} → SpellsNumber 8 b m → (rest : List �
 unfolding part_at
 part_again m rest stops = rw (number_again m rest stops) refl
 
-time_again : {a : List ℕ} {t : Time} → SpellsTime a t → (rest : List ℕ) → begins goes_on rest ≡ false → clock_time_at (a ++ rest) ≡ Some (t, rest)
+pub time_again : {a : List ℕ} {t : Time} → SpellsTime a t → (rest : List ℕ) → begins goes_on rest ≡ false → clock_time_at (a ++ rest) ≡ Some (t, rest)
 unfolding clock_time_at
 time_again (hours h) rest stops =
     rw (number_again h rest (stop_digit rest stops), part_none rest stops) refl
@@ -193,22 +189,6 @@ date_again (counted n) rest stops =
     ) refl
 date_again (weekday m n d) rest stops = weekday_again m n d rest stops
 
-moment_again : {a : List ℕ} {v : Date × Option Time} → SpellsMoment a v → (rest : List ℕ) → begins goes_on rest ≡ false
-    → moment_at (a ++ rest) ≡ Some (v, rest)
-unfolding moment_at
-moment_again (date d) rest stops = rw (date_again d rest (stop_digit rest stops), no_mark slash rest (stop_slash rest stops)) refl
-moment_again (timed {a} {b} d t) rest stops = rw (append_assoc, date_again d (slash ∷ (b ++ rest)) refl, time_again t rest stops) refl
-
-rule_again : {a : List ℕ} {r : Rule} → SpellsRule a r → rule_in a ≡ Some r
-unfolding rule_in
-rule_again (rule {a} {b} s e) =
-    let last = rw append-nil at (moment_again e [] refl) in
-    rw (moment_again s (comma ∷ b) refl, last) refl
-
-rule_over : {a : List ℕ} {r : Option Rule} → Optional SpellsRule a r → is_over a ≡ true
-rule_over absent = refl
-rule_over (present (rule s e)) = refl
-
 pub over_stops : (rest : List ℕ) → is_over rest ≡ true → (begins goes_on rest ≡ false) × (begins is_ascii_alphabetic rest ≡ false)
 over_stops [] e = (refl, refl)
 over_stops (c ∷ rest) e = (grind (arith, nat_tests), grind (arith, nat_tests))
@@ -226,47 +206,65 @@ own_offset_again absent rest over = rw over refl
 own_offset_again (present o) rest over =
     rw (offset_first is_over false digit_goes (λ cs. refl) (λ cs. refl) o rest, offset_again o rest (over_stops rest over).0) refl
 
-own_rule_again : {a : List ℕ} {r : Option Rule} → Optional SpellsRule a r → own_rule_in a ≡ Some r
-unfolding own_rule_in
-own_rule_again absent = refl
-own_rule_again (present (rule {a} {b} s e)) = rw (rule_again (rule s e), some_text comma (a ++ comma ∷ b)) refl
-
 pub after_name : {a : List ℕ} {o : Option Offset} → Optional SpellsOffset a o → (rest : List ℕ) → is_over rest ≡ true
     → begins is_ascii_alphabetic (a ++ rest) ≡ false
 after_name absent rest over = (over_stops rest over).1
 after_name (present o) rest over = offset_first (begins is_ascii_alphabetic) false digit_no_letter (λ cs. refl) (λ cs. refl) o rest
 
-dst_again : {a : List ℕ} {d : Option DstPart} → Optional SpellsDst a d → dst_in a ≡ Some d
-unfolding dst_in
-dst_again absent = refl
-dst_again (present (dst {a} {b} {c} name o r)) =
-    let over = rule_over r in
-    let some = name_first (λ text. nat_eq (length text) 0) false (λ c cs h. some_text c cs) (some_text less) name (b ++ c) in
-    rw (append_assoc, some, name_again name (b ++ c) (after_name o c over), own_offset_again o c over, own_rule_again r) refl
-
 pub letter_stops : (c : ℕ) (cs : List ℕ) → is_ascii_alphabetic c ≡ true → begins goes_on (c ∷ cs) ≡ false
 letter_stops c cs h = grind (arith, nat_tests)
 
-dst_stops : {a : List ℕ} {d : Option DstPart} → Optional SpellsDst a d → begins goes_on a ≡ false
+rule_over : {T : Type 0} {range : TimeRange T} {a : List ℕ} {r : Option (Rule T)} → Optional (SpellsRule range) a r → is_over a ≡ true
+rule_over absent = refl
+rule_over (present (rule s e)) = refl
+
+dst_stops : {T : Type 0} {range : TimeRange T} {a : List ℕ} {d : Option (DstPart T)} → Optional (SpellsDst range) a d → begins goes_on a ≡ false
 dst_stops absent = refl
 dst_stops (present (dst {a} {b} {c} name o r)) = rw append_assoc (name_first (begins goes_on) false letter_stops (λ cs. refl) name (b ++ c))
 
--- what is spelled is read
-pub entry_again : {text : List ℕ} {value : TzValue} → Spells text value → entry_in text ≡ Some value
-unfolding entry_in short_in expanded_in
-entry_again (short_form name) =
-    let whole = rw append-nil at (name_again name [] refl) in
-    rw whole refl
-entry_again (full_form {a} {b} {c} name o d) =
-    rw (
-      append_assoc,
-      name_first (after_mark colon) None (no_letter_is colon refl) (λ cs. refl) name (b ++ c),
-      name_again name (b ++ c) (offset_first (begins is_ascii_alphabetic) false digit_no_letter (λ cs. refl) (λ cs. refl) o c),
-      offset_again o c (dst_stops d),
-      dst_again d,
-    ) refl
+-- with times that are read so
+module _ {T : Type 0} {range : TimeRange T} {time_at : List ℕ → Option (T × List ℕ)} (reads : AreRead range time_at) where
+  moment_again : {a : List ℕ} {v : Date × Option T} → SpellsMoment range a v → (rest : List ℕ) → begins goes_on rest ≡ false
+      → moment_at time_at (a ++ rest) ≡ Some (v, rest)
+  unfolding moment_at
+  moment_again (date d) rest stops = rw (date_again d rest (stop_digit rest stops), no_mark slash rest (stop_slash rest stops)) refl
+  moment_again (timed {a} {b} d t) rest stops = rw (append_assoc, date_again d (slash ∷ (b ++ rest)) refl, reads.again t rest stops) refl
 
-pub runs_are_longest : RunsAreLongest
+  rule_again : {a : List ℕ} {r : Rule T} → SpellsRule range a r → rule_in time_at a ≡ Some r
+  unfolding rule_in
+  rule_again (rule {a} {b} s e) =
+      let last = rw append-nil at (moment_again e [] refl) in
+      rw (moment_again s (comma ∷ b) refl, last) refl
+
+  own_rule_again : {a : List ℕ} {r : Option (Rule T)} → Optional (SpellsRule range) a r → own_rule_in time_at a ≡ Some r
+  unfolding own_rule_in
+  own_rule_again absent = refl
+  own_rule_again (present (rule {a} {b} s e)) = rw (rule_again (rule s e), some_text comma (a ++ comma ∷ b)) refl
+
+  dst_again : {a : List ℕ} {d : Option (DstPart T)} → Optional (SpellsDst range) a d → dst_in time_at a ≡ Some d
+  unfolding dst_in
+  dst_again absent = refl
+  dst_again (present (dst {a} {b} {c} name o r)) =
+      let over = rule_over r in
+      let some = name_first (λ text. nat_eq (length text) 0) false (λ c cs h. some_text c cs) (some_text less) name (b ++ c) in
+      rw (append_assoc, some, name_again name (b ++ c) (after_name o c over), own_offset_again o c over, own_rule_again r) refl
+
+  -- what is spelled is read
+  pub entry_again : {text : List ℕ} {value : Value T} → SpellsIn range text value → entry_in time_at text ≡ Some value
+  unfolding entry_in short_in expanded_in
+  entry_again (short_form name) =
+      let whole = rw append-nil at (name_again name [] refl) in
+      rw whole refl
+  entry_again (full_form {a} {b} {c} name o d) =
+      rw (
+        append_assoc,
+        name_first (after_mark colon) None (no_letter_is colon refl) (λ cs. refl) name (b ++ c),
+        name_again name (b ++ c) (offset_first (begins is_ascii_alphabetic) false digit_no_letter (λ cs. refl) (λ cs. refl) o c),
+        offset_again o c (dst_stops d),
+        dst_again d,
+      ) refl
+
+pub runs_are_longest : {T : Type 0} {range : TimeRange T} → RunsAreLongest range
 runs_are_longest = record {
   after_standard_name = λ o rest. offset_first (begins is_ascii_alphabetic) false digit_no_letter (λ cs. refl) (λ cs. refl) o rest;
   after_name = λ o r. after_name o _ (rule_over r);

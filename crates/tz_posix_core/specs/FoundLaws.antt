@@ -17,11 +17,11 @@ use Rattle.text_parts.specs.Numbers.{value_in}
 use Rattle.tz_posix_core.specs.Marks.{colon, plus_sign, comma, minus_sign, dot, slash, less, greater, letter_J, letter_M}
 use Rattle.tz_posix_core.specs.Reading.{after_run, number_at, part_at, seconds_at, clock_time_at, offset_at, sign_at}
 use Rattle.tz_posix_core.specs.Reading.{letters_at, enclosed_at, name_at, day_at, weekday_at, date_at, date_time_at, moment_at, rule_in}
-use Rattle.tz_posix_core.specs.Reading.{is_over, own_offset_at, own_rule_in, dst_in, short_in, expanded_in, entry_in}
+use Rattle.tz_posix_core.specs.Reading.{is_over, own_offset_at, own_rule_in, dst_in, short_in, expanded_in, entry_in, AreRead, Takes, takes}
 use Rattle.tz_posix_core.specs.Spells.{Optional, absent, present, SpellsNumber, SpellsTime, hours, minutes, seconds, SpellsOffset, bare, plus, minus}
 use Rattle.tz_posix_core.specs.Spells.{is_enclosed, SpellsName, enclosed, letters, SpellsDate, julian, counted, weekday, SpellsMoment, date, timed}
-use Rattle.tz_posix_core.specs.Spells.{SpellsRule, rule, SpellsDst, dst, Spells, short_form, full_form}
-use Rattle.tz_posix_core.specs.Values.{DstPart, TzValue, short, expanded}
+use Rattle.tz_posix_core.specs.Spells.{SpellsRule, rule, SpellsDst, dst, SpellsIn, TimeRange, short_form, full_form}
+use Rattle.tz_posix_core.specs.Values.{DstPart, Value, short, expanded}
 use Rattle.tz_posix_core.specs.declared.time.Time.{Time}
 use Rattle.tz_posix_core.specs.declared.time.Offset.{Offset}
 use Rattle.tz_posix_core.specs.declared.date.Date.{Date}
@@ -36,10 +36,6 @@ run_passes p (b ∷ text) = rw take_while-cons (by_test (p b) refl (run_passes p
     by_test : (t : Bool) → p b ≡ t → list_all p (take_while p text) ≡ true → list_all p (cond t (b ∷ take_while p text) []) ≡ true
     by_test true e more = rw e more
     by_test false e more = refl
-
--- a text of the value stands at the front, before the rest
-pub data Takes {V : Type 0} (Is : List ℕ → V → Type 0) : List ℕ → V → List ℕ → Type 0 where
-  takes : {front rest : List ℕ} {value : V} → Is front value → Takes Is (front ++ rest) value rest
 
 pub takes_as : {V : Type 0} {Is : List ℕ → V → Type 0} {text : List ℕ} {x y : V × List ℕ} → Some x ≡ Some y → Takes Is text x.0 x.1
     → Takes Is text y.0 y.1
@@ -112,7 +108,7 @@ time_built (takes {front} {value = n} h) (no_part {rest}) y e =
     (takes (hours h))
 time_built (takes h) (a_part {rest = rest} m) y e = time_after h m (part_found rest y e)
 
-time_found : (text : List ℕ) (y : Time × List ℕ) → clock_time_at text ≡ Some y → Takes SpellsTime text y.0 y.1
+pub time_found : (text : List ℕ) (y : Time × List ℕ) → clock_time_at text ≡ Some y → Takes SpellsTime text y.0 y.1
 unfolding clock_time_at
 time_found text y e =
     let h = bind_some _ (number_at 8 text) y e in
@@ -227,43 +223,6 @@ date_found text y e = elim (marked (day_at J) letter_J text _ (Some y) e) [
   ]
 ]
 
-date_alone : {text rest : List ℕ} {d : Date} → Takes SpellsDate text d rest → Takes SpellsMoment text (d, None) rest
-date_alone (takes d) = takes (date d)
-
-date_timed : {text r q rest : List ℕ} {d : Date} {t : Time} → Takes SpellsDate text d r → r ≡ slash ∷ q → Takes SpellsTime q t rest
-    → Takes SpellsMoment text (d, Some t) rest
-date_timed (takes {front = a} d) e (takes {front = b} {rest = rest} t) = rw (e, ← append_assoc a (slash ∷ b) rest) (takes (timed d t))
-
-moment_found : (text : List ℕ) (y : (Date × Option Time) × List ℕ) → moment_at text ≡ Some y → Takes SpellsMoment text y.0 y.1
-unfolding moment_at
-moment_found text y e =
-    let d = bind_some _ (date_at text) y e in
-    let whole = date_found text d.0 d.1 in
-    elim (marked (date_time_at d.0.0) slash d.0.1 _ (Some y) d.2) [
-      | inl found ↦
-          let t = map_some _ (clock_time_at found.0) y found.2 in
-          subst (λ (p : (Date × Option Time) × List ℕ). Takes SpellsMoment text p.0 p.1) t.2
-          (date_timed whole found.1 (time_found found.0 t.0 t.1))
-      | inr other ↦ takes_as other (date_alone whole)
-    ]
-
-rule_built : {whole text p q r : List ℕ} {s e : Date × Option Time} → whole ≡ comma ∷ text → Takes SpellsMoment text s p → p ≡ comma ∷ q
-    → Takes SpellsMoment q e r → r ≡ [] → SpellsRule whole (record { start = s; end = e })
-rule_built start (takes s) first (takes {front = b} e) last = rw (start, first, last, append-nil b) (rule s e)
-
-rule_found : (text : List ℕ) (y : Rule) → rule_in text ≡ Some y → SpellsRule text y
-unfolding rule_in
-rule_found text y e =
-    let first = bind_some _ (after_mark comma text) y e in
-    let s = bind_some _ (moment_at first.0) y first.2 in
-    let second = bind_some _ (after_mark comma s.0.1) y s.2 in
-    let t = bind_some _ (moment_at second.0) y second.2 in
-    let last = cond_some (nat_eq (length t.0.1) 0) _ y t.2 in
-    let empty = nil_from_length t.0.1 (eqb-true _ 0 last.0) in
-    subst (SpellsRule text) last.1
-    (rule_built (mark_found comma text first.0 first.1) (moment_found first.0 s.0 s.1) (mark_found comma s.0.1 second.0 second.1)
-    (moment_found second.0 t.0 t.1) empty)
-
 offset_there : {text rest : List ℕ} {o : Offset} → Takes SpellsOffset text o rest → Takes (Optional SpellsOffset) text (Some o) rest
 offset_there (takes o) = takes (present o)
 
@@ -276,31 +235,6 @@ own_offset_found text y e = elim (chosen (is_over text) _ _ (Some y) e) [
       subst (λ (p : Option Offset × List ℕ). Takes (Optional SpellsOffset) text p.0 p.1) o.2 (offset_there (offset_found text o.0 o.1))
 ]
 
-own_rule_found : (text : List ℕ) (y : Option Rule) → own_rule_in text ≡ Some y → Optional SpellsRule text y
-unfolding own_rule_in
-own_rule_found text y e = elim (chosen (nat_eq (length text) 0) _ _ (Some y) e) [
-  | inl empty ↦ rw (nil_from_length text (eqb-true _ 0 empty.0)) (subst (Optional SpellsRule []) (same_Some _ y empty.1) absent)
-  | inr more ↦
-      let r = map_some _ (rule_in text) y more.1 in
-      subst (Optional SpellsRule text) r.2 (present (rule_found text r.0 r.1))
-]
-
-dst_built : {text p q name : List ℕ} {o : Option Offset} {r : Option Rule} → Takes SpellsName text name p → Takes (Optional SpellsOffset) p o q
-    → Optional SpellsRule q r → SpellsDst text (record { name = name; offset = o; rule = r })
-dst_built (takes {front = a} name) (takes {front = b} {rest = q} o) r = rw (← append_assoc a b q) (dst name o r)
-
-dst_found : (text : List ℕ) (y : Option DstPart) → dst_in text ≡ Some y → Optional SpellsDst text y
-unfolding dst_in
-dst_found text y e = elim (chosen (nat_eq (length text) 0) _ _ (Some y) e) [
-  | inl empty ↦ rw (nil_from_length text (eqb-true _ 0 empty.0)) (subst (Optional SpellsDst []) (same_Some _ y empty.1) absent)
-  | inr more ↦
-      let name = bind_some _ (name_at text) y more.1 in
-      let o = bind_some _ (own_offset_at name.0.1) y name.2 in
-      let r = bind_some _ (own_rule_in o.0.1) y o.2 in
-      subst (Optional SpellsDst text) (same_Some _ y r.2)
-      (present (dst_built (name_found text name.0 name.1) (own_offset_found name.0.1 o.0 o.1) (own_rule_found o.0.1 r.0 r.1)))
-]
-
 short_built : {text name rest : List ℕ} → Takes SpellsName text name rest → rest ≡ [] → SpellsName text name
 short_built (takes {front = a} name) e = rw (e, append-nil a) name
 
@@ -311,25 +245,89 @@ short_found text name e =
     let last = cond_some (nat_eq (length found.0.1) 0) found.0.0 name found.2 in
     subst (SpellsName text) last.1 (short_built (name_found text found.0 found.1) (nil_from_length found.0.1 (eqb-true _ 0 last.0)))
 
-full_built : {text p q name : List ℕ} {o : Offset} {d : Option DstPart} → Takes SpellsName text name p → Takes SpellsOffset p o q
-    → Optional SpellsDst q d → Spells text (expanded (record { name = name; offset = o }) d)
+date_alone : {T : Type 0} {range : TimeRange T} {text rest : List ℕ} {d : Date} → Takes SpellsDate text d rest → Takes (SpellsMoment range) text (d, None) rest
+date_alone (takes d) = takes (date d)
+
+date_timed : {T : Type 0} {range : TimeRange T} {text r q rest : List ℕ} {d : Date} {t : T} → Takes SpellsDate text d r → r ≡ slash ∷ q → Takes range.IsTime q t rest
+    → Takes (SpellsMoment range) text (d, Some t) rest
+date_timed (takes {front = a} d) e (takes {front = b} {rest = rest} t) = rw (e, ← append_assoc a (slash ∷ b) rest) (takes (timed d t))
+
+rule_built : {T : Type 0} {range : TimeRange T} {whole text p q r : List ℕ} {s e : Date × Option T} → whole ≡ comma ∷ text → Takes (SpellsMoment range) text s p → p ≡ comma ∷ q
+    → Takes (SpellsMoment range) q e r → r ≡ [] → SpellsRule range whole (record { start = s; end = e })
+rule_built start (takes s) first (takes {front = b} e) last = rw (start, first, last, append-nil b) (rule s e)
+
+dst_built : {T : Type 0} {range : TimeRange T} {text p q name : List ℕ} {o : Option Offset} {r : Option (Rule T)} → Takes SpellsName text name p → Takes (Optional SpellsOffset) p o q
+    → Optional (SpellsRule range) q r → SpellsDst range text (record { name = name; offset = o; rule = r })
+dst_built (takes {front = a} name) (takes {front = b} {rest = q} o) r = rw (← append_assoc a b q) (dst name o r)
+
+full_built : {T : Type 0} {range : TimeRange T} {text p q name : List ℕ} {o : Offset} {d : Option (DstPart T)} → Takes SpellsName text name p → Takes SpellsOffset p o q
+    → Optional (SpellsDst range) q d → SpellsIn range text (expanded (record { name = name; offset = o }) d)
 full_built (takes {front = a} name) (takes {front = b} {rest = q} o) d = rw (← append_assoc a b q) (full_form name o d)
 
-full_found : (text : List ℕ) (y : TzValue) → expanded_in text ≡ Some y → Spells text y
-unfolding expanded_in
-full_found text y e =
-    let name = bind_some _ (name_at text) y e in
-    let o = bind_some _ (offset_at name.0.1) y name.2 in
-    let d = bind_some _ (dst_in o.0.1) y o.2 in
-    subst (Spells text) (same_Some _ y d.2)
-    (full_built (name_found text name.0 name.1) (offset_found name.0.1 o.0 o.1) (dst_found o.0.1 d.0 d.1))
+-- with times that are read so
+module _ {T : Type 0} {range : TimeRange T} {time_at : List ℕ → Option (T × List ℕ)} (reads : AreRead range time_at) where
+  moment_found : (text : List ℕ) (y : (Date × Option T) × List ℕ) → moment_at time_at text ≡ Some y → Takes (SpellsMoment range) text y.0 y.1
+  unfolding moment_at
+  moment_found text y e =
+      let d = bind_some _ (date_at text) y e in
+      let whole = date_found text d.0 d.1 in
+      elim (marked (date_time_at time_at d.0.0) slash d.0.1 _ (Some y) d.2) [
+        | inl found ↦
+            let t = map_some _ (time_at found.0) y found.2 in
+            subst (λ (p : (Date × Option T) × List ℕ). Takes (SpellsMoment range) text p.0 p.1) t.2
+            (date_timed whole found.1 (reads.found found.0 t.0 t.1))
+        | inr other ↦ takes_as other (date_alone whole)
+      ]
 
--- what is read is spelled
-pub entry_found : (text : List ℕ) (y : TzValue) → entry_in text ≡ Some y → Spells text y
-unfolding entry_in
-entry_found text y e = elim (marked _ colon text (expanded_in text) (Some y) e) [
-  | inl found ↦
-      let name = map_some short (short_in found.0) y found.2 in
-      subst (Spells text) name.2 (rw found.1 (short_form (short_found found.0 name.0 name.1)))
-  | inr other ↦ full_found text y other
-]
+  rule_found : (text : List ℕ) (y : Rule T) → rule_in time_at text ≡ Some y → SpellsRule range text y
+  unfolding rule_in
+  rule_found text y e =
+      let first = bind_some _ (after_mark comma text) y e in
+      let s = bind_some _ (moment_at time_at first.0) y first.2 in
+      let second = bind_some _ (after_mark comma s.0.1) y s.2 in
+      let t = bind_some _ (moment_at time_at second.0) y second.2 in
+      let last = cond_some (nat_eq (length t.0.1) 0) _ y t.2 in
+      let empty = nil_from_length t.0.1 (eqb-true _ 0 last.0) in
+      subst (SpellsRule range text) last.1
+      (rule_built (mark_found comma text first.0 first.1) (moment_found first.0 s.0 s.1) (mark_found comma s.0.1 second.0 second.1)
+      (moment_found second.0 t.0 t.1) empty)
+
+  own_rule_found : (text : List ℕ) (y : Option (Rule T)) → own_rule_in time_at text ≡ Some y → Optional (SpellsRule range) text y
+  unfolding own_rule_in
+  own_rule_found text y e = elim (chosen (nat_eq (length text) 0) _ _ (Some y) e) [
+    | inl empty ↦ rw (nil_from_length text (eqb-true _ 0 empty.0)) (subst (Optional (SpellsRule range) []) (same_Some _ y empty.1) absent)
+    | inr more ↦
+        let r = map_some _ (rule_in time_at text) y more.1 in
+        subst (Optional (SpellsRule range) text) r.2 (present (rule_found text r.0 r.1))
+  ]
+
+  dst_found : (text : List ℕ) (y : Option (DstPart T)) → dst_in time_at text ≡ Some y → Optional (SpellsDst range) text y
+  unfolding dst_in
+  dst_found text y e = elim (chosen (nat_eq (length text) 0) _ _ (Some y) e) [
+    | inl empty ↦ rw (nil_from_length text (eqb-true _ 0 empty.0)) (subst (Optional (SpellsDst range) []) (same_Some _ y empty.1) absent)
+    | inr more ↦
+        let name = bind_some _ (name_at text) y more.1 in
+        let o = bind_some _ (own_offset_at name.0.1) y name.2 in
+        let r = bind_some _ (own_rule_in time_at o.0.1) y o.2 in
+        subst (Optional (SpellsDst range) text) (same_Some _ y r.2)
+        (present (dst_built (name_found text name.0 name.1) (own_offset_found name.0.1 o.0 o.1) (own_rule_found o.0.1 r.0 r.1)))
+  ]
+
+  full_found : (text : List ℕ) (y : Value T) → expanded_in time_at text ≡ Some y → SpellsIn range text y
+  unfolding expanded_in
+  full_found text y e =
+      let name = bind_some _ (name_at text) y e in
+      let o = bind_some _ (offset_at name.0.1) y name.2 in
+      let d = bind_some _ (dst_in time_at o.0.1) y o.2 in
+      subst (SpellsIn range text) (same_Some _ y d.2)
+      (full_built (name_found text name.0 name.1) (offset_found name.0.1 o.0 o.1) (dst_found o.0.1 d.0 d.1))
+
+  -- what is read is spelled
+  pub entry_found : (text : List ℕ) (y : Value T) → entry_in time_at text ≡ Some y → SpellsIn range text y
+  unfolding entry_in
+  entry_found text y e = elim (marked _ colon text (expanded_in time_at text) (Some y) e) [
+    | inl found ↦
+        let name = map_some short (short_in found.0) y found.2 in
+        subst (SpellsIn range text) name.2 (rw found.1 (short_form (short_found found.0 name.0 name.1)))
+    | inr other ↦ full_found text y other
+  ]

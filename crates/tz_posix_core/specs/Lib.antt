@@ -13,12 +13,14 @@ pub mod Seconds
 pub mod Shown
 pub mod Spells
 pub mod Values
+pub mod Yearly
 -- Laws: what a caller may use.
 pub mod AgainLaws
 pub mod DayLaws
+pub mod EntryLaws
 pub mod FoundLaws
 pub mod RangeLaws
+pub mod TimeLaws
 pub mod WeekdayLaws
 -- Words of private clauses.
 pub mod NamedShown
-pub mod Yearly

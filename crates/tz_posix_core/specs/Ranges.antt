@@ -1,7 +1,8 @@
 -- Which parts of a value are in their ranges, and the first that isn't.
 use Rattle.std.specs.Prelude.{ℕ, Bool, ◌&&◌, nat_le, List, [], ◌∷◌, Option, Some, None, option_and_then, if◌then◌else◌}
 use Rattle.tz_posix_core.specs.Seconds.{part}
-use Rattle.tz_posix_core.specs.Values.{TzValue, short, expanded}
+use Rattle.tz_posix_core.specs.Spells.{TimeRange, day_times}
+use Rattle.tz_posix_core.specs.Values.{TzValue, Value, short, expanded}
 use Rattle.tz_posix_core.specs.declared.date.Date.{Date}
 use Rattle.tz_posix_core.specs.declared.date.Date.TheVariants.{J, N, M}
 use Rattle.tz_posix_core.specs.declared.error.RangeError.{RangeError}
@@ -29,8 +30,9 @@ time_miss hours time = if is_time hours time then None else Some miss.Time
 abbrev pub offset_miss : Offset → Option RangeError
 offset_miss offset = time_miss 24 offset.time
 
-abbrev pub rule_time_miss : Option Time → Option RangeError
-rule_time_miss time = option_and_then (time_miss 23) time
+-- of the times of a range
+abbrev pub rule_time_miss : {T : Type 0} → TimeRange T → Option T → Option RangeError
+rule_time_miss range time = option_and_then (λ t. time_miss range.hours (range.size t)) time
 
 abbrev pub date_miss : Date → Option RangeError
 date_miss date = if is_rule_date date then None else Some miss.Date
@@ -41,13 +43,16 @@ first_some [] = None
 first_some (Some x ∷ rest) = Some x
 first_some (None ∷ rest) = first_some rest
 
-abbrev pub rule_range : Rule → Option RangeError
-rule_range rule =
-    first_some (date_miss rule.start.0 ∷ date_miss rule.end.0 ∷ rule_time_miss rule.start.1 ∷ rule_time_miss rule.end.1 ∷ [])
+abbrev pub rule_range : {T : Type 0} → TimeRange T → Rule T → Option RangeError
+rule_range range rule = first_some
+    (date_miss rule.start.0 ∷ date_miss rule.end.0 ∷ rule_time_miss range rule.start.1 ∷ rule_time_miss range rule.end.1 ∷ [])
 
 -- the first miss: of the standard offset, that of daylight saving time, both dates, the start's time and the end's
-unfoldable pub posix_range : TzValue → Option RangeError
-posix_range (short name) = None
-posix_range (expanded std None) = offset_miss std.offset
-posix_range (expanded std (Some dst)) =
-    first_some (offset_miss std.offset ∷ option_and_then offset_miss dst.offset ∷ option_and_then rule_range dst.rule ∷ [])
+unfoldable pub first_miss : {T : Type 0} → TimeRange T → Value T → Option RangeError
+first_miss range (short name) = None
+first_miss range (expanded std None) = offset_miss std.offset
+first_miss range (expanded std (Some dst)) =
+    first_some (offset_miss std.offset ∷ option_and_then offset_miss dst.offset ∷ option_and_then (rule_range range) dst.rule ∷ [])
+
+abbrev pub posix_range : TzValue → Option RangeError
+posix_range = first_miss day_times

@@ -1,5 +1,5 @@
 -- The parts at the front of a text, each with the rest, as the code reads them.
-use Rattle.std.specs.Prelude.{ℕ, Bool, true, false, ◌&&◌, List, [], ◌∷◌, length, take_while, drop, Option, Some, None}
+use Rattle.std.specs.Prelude.{◌≡◌, ℕ, Bool, ◌++◌, true, false, ◌&&◌, List, [], ◌∷◌, length, take_while, drop, Option, Some, None}
 use Rattle.std.specs.Prelude.{option_map, option_and_then, nat_le, nat_eq, if◌then◌else◌, ◌==◌}
 use Rattle.std.specs.Char.{is_ascii_digit, is_ascii_alphabetic}
 use Rattle.std.specs.List.{prefix_len}
@@ -13,8 +13,8 @@ use Rattle.tz_posix_core.specs.declared.date.Date.{Date}
 use Rattle.tz_posix_core.specs.declared.date.Date.TheVariants.{J, N, M}
 use Rattle.tz_posix_core.specs.declared.values.Rule.{Rule}
 use Rattle.tz_posix_core.specs.Marks.{plus_sign, comma, minus_sign, dot, slash, colon, less, greater, letter_J, letter_M}
-use Rattle.tz_posix_core.specs.Spells.{is_enclosed}
-use Rattle.tz_posix_core.specs.Values.{DstPart, TzValue, short, expanded}
+use Rattle.tz_posix_core.specs.Spells.{is_enclosed, TimeRange, begins, goes_on}
+use Rattle.tz_posix_core.specs.Values.{DstPart, Value, short, expanded}
 
 infixl 10 ◌>>=◌
 abbrev pub ◌>>=◌ : {A B : Type 0} → Option A → (A → Option B) → Option B
@@ -91,20 +91,21 @@ day_at kind text = option_map (λ number. (kind number.0, number.1)) (number_at 
 unfoldable pub date_at : List ℕ → Option (Date × List ℕ)
 date_at text = option_map_or (day_at J) (after_mark letter_J text) (option_map_or weekday_at (after_mark letter_M text) (day_at N text))
 
-abbrev pub date_time_at : Date → List ℕ → Option ((Date × Option Time) × List ℕ)
-date_time_at date text = option_map (λ time. ((date, Some time.0), time.1)) (clock_time_at text)
+-- from here on `time_at` reads the time of a rule
+abbrev pub date_time_at : {T : Type 0} → (List ℕ → Option (T × List ℕ)) → Date → List ℕ → Option ((Date × Option T) × List ℕ)
+date_time_at time_at date text = option_map (λ time. ((date, Some time.0), time.1)) (time_at text)
 
-unfoldable pub moment_at : List ℕ → Option ((Date × Option Time) × List ℕ)
-moment_at text = do
+unfoldable pub moment_at : {T : Type 0} → (List ℕ → Option (T × List ℕ)) → List ℕ → Option ((Date × Option T) × List ℕ)
+moment_at time_at text = do
   date ← date_at text
-  option_map_or (date_time_at date.0) (after_mark slash date.1) (Some ((date.0, None), date.1))
+  option_map_or (date_time_at time_at date.0) (after_mark slash date.1) (Some ((date.0, None), date.1))
 
-unfoldable pub rule_in : List ℕ → Option Rule
-rule_in text = do
+unfoldable pub rule_in : {T : Type 0} → (List ℕ → Option (T × List ℕ)) → List ℕ → Option (Rule T)
+rule_in time_at text = do
   first ← after_mark comma text
-  start ← moment_at first
+  start ← moment_at time_at first
   second ← after_mark comma start.1
-  end ← moment_at second
+  end ← moment_at time_at second
   if nat_eq (length end.1) 0 then Some (record { start = start.0; end = end.0 }) else None
 
 -- the end of the text, or a rule
@@ -117,14 +118,14 @@ own_offset_at text =
     if is_over text then Some (None, text)
     else option_map (λ offset. (Some offset.0, offset.1)) (offset_at text)
 
-unfoldable pub own_rule_in : List ℕ → Option (Option Rule)
-own_rule_in text = if nat_eq (length text) 0 then Some None else option_map Some (rule_in text)
+unfoldable pub own_rule_in : {T : Type 0} → (List ℕ → Option (T × List ℕ)) → List ℕ → Option (Option (Rule T))
+own_rule_in time_at text = if nat_eq (length text) 0 then Some None else option_map Some (rule_in time_at text)
 
-unfoldable pub dst_in : List ℕ → Option (Option DstPart)
-dst_in text = if nat_eq (length text) 0 then Some None else (do
+unfoldable pub dst_in : {T : Type 0} → (List ℕ → Option (T × List ℕ)) → List ℕ → Option (Option (DstPart T))
+dst_in time_at text = if nat_eq (length text) 0 then Some None else (do
   name ← name_at text
   offset ← own_offset_at name.1
-  rule ← own_rule_in offset.1
+  rule ← own_rule_in time_at offset.1
   Some (Some (record { name = name.0; offset = offset.0; rule = rule })))
 
 unfoldable pub short_in : List ℕ → Option (List ℕ)
@@ -132,12 +133,21 @@ short_in text = do
   name ← name_at text
   if nat_eq (length name.1) 0 then Some name.0 else None
 
-unfoldable pub expanded_in : List ℕ → Option TzValue
-expanded_in text = do
+unfoldable pub expanded_in : {T : Type 0} → (List ℕ → Option (T × List ℕ)) → List ℕ → Option (Value T)
+expanded_in time_at text = do
   name ← name_at text
   offset ← offset_at name.1
-  dst ← dst_in offset.1
+  dst ← dst_in time_at offset.1
   Some (expanded (record { name = name.0; offset = offset.0 }) dst)
 
-unfoldable pub entry_in : List ℕ → Option TzValue
-entry_in text = option_map_or (λ rest. option_map short (short_in rest)) (after_mark colon text) (expanded_in text)
+unfoldable pub entry_in : {T : Type 0} → (List ℕ → Option (T × List ℕ)) → List ℕ → Option (Value T)
+entry_in time_at text = option_map_or (λ rest. option_map short (short_in rest)) (after_mark colon text) (expanded_in time_at text)
+
+-- a text of the value stands at the front, before the rest
+pub data Takes {V : Type 0} (Is : List ℕ → V → Type 0) : List ℕ → V → List ℕ → Type 0 where
+  takes : {front rest : List ℕ} {value : V} → Is front value → Takes Is (front ++ rest) value rest
+
+-- the times of a range are read so: what is written is read, unless what follows could go on with it, and what is read is written
+pub record AreRead {T : Type 0} (range : TimeRange T) (time_at : List ℕ → Option (T × List ℕ)) : Type 0 where
+  pub again : {a : List ℕ} {t : T} → range.IsTime a t → (rest : List ℕ) → begins goes_on rest ≡ false → time_at (a ++ rest) ≡ Some (t, rest)
+  pub found : (text : List ℕ) (y : T × List ℕ) → time_at text ≡ Some y → Takes range.IsTime text y.0 y.1

@@ -9,13 +9,14 @@ use Rattle.tz_posix_core.specs.InForce.{yearly_time}
 use Rattle.tz_posix_core.specs.PosixZones.{Named, PosixZone, zone, fixed, ruled, borrowed}
 use Rattle.tz_posix_core.specs.Seconds.{east_of}
 use Rattle.tz_posix_core.specs.Values.{StdPart, DstPart, TzValue, short, expanded}
+use Rattle.tz_posix_core.specs.declared.time.Time.{Time}
 use Rattle.tz_posix_core.specs.declared.values.Rule.{Rule}
 
 abbrev pub standard_of : StdPart → Named
 standard_of std = record { name = std.name; total = east_of std.offset }
 
 -- daylight saving time without an offset of its own is an hour ahead of standard time
-abbrev pub saving_of : DstPart → ℤ → Named
+abbrev pub saving_of : DstPart Time → ℤ → Named
 saving_of dst standard = record { name = dst.name; total = option_map_or east_of dst.offset (standard +ℤ pos 3600) }
 
 -- the first zone whose name has the part, and the zone of a name
@@ -34,7 +35,7 @@ made_of make name (Some set) = Ok (make set)
 abbrev pub new_york : List ℕ
 new_york = codes "America/New_York"
 
-abbrev pub by_rule : List FixedTimespanSet → Named → Named → Option Rule → Result PosixZone (List ℕ)
+abbrev pub by_rule : List FixedTimespanSet → Named → Named → Option (Rule Time) → Result PosixZone (List ℕ)
 by_rule zones standard saving (Some rule) = Ok (ruled standard saving (yearly_time rule.start) (yearly_time rule.end))
 by_rule zones standard saving None = made_of (borrowed standard saving) new_york (zone_named zones new_york)
 

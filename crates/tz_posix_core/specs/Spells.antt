@@ -1,12 +1,13 @@
 -- The texts of values, each whole text cut into its parts. No part has to be told apart from the next: what follows a number
 -- is `:`, `.`, `/`, `,`, a name or the end, so a number is the longest run of digits there. What follows a name is an offset,
 -- `,` or the end, so a name without brackets is the longest run of letters there.
-use Rattle.std.specs.Prelude.{◌≡◌, ℕ, ◌<◌, ◌≤◌, ◌^◌, Bool, true, false, ◌&&◌, ◌==◌, not, List, [], ◌∷◌, ◌++◌, length, Option, Some, None}
+use Rattle.std.specs.Prelude.{◌≡◌, ℕ, ◌<◌, ◌≤◌, ◌^◌, Bool, true, false, ◌&&◌, ◌||◌, ◌==◌, nat_eq, not, List, [], ◌∷◌, ◌++◌, length, Option, Some, None, ℤ, pos}
 use Rattle.std.specs.Char.{is_ascii_digit, is_ascii_alphabetic}
 use Rattle.std.specs.List.{list_all}
 use Rattle.std.specs.Str.Parse.{digits_value}
 use Rattle.tz_posix_core.specs.Marks.{plus_sign, comma, minus_sign, dot, slash, colon, less, greater, letter_J, letter_M}
-use Rattle.tz_posix_core.specs.Values.{DstPart, TzValue, short, expanded}
+use Rattle.tz_posix_core.specs.Seconds.{offset_seconds, time_seconds}
+use Rattle.tz_posix_core.specs.Values.{DstPart, TzValue, Value, short, expanded}
 use Rattle.tz_posix_core.specs.declared.time.Time.{Time}
 use Rattle.tz_posix_core.specs.declared.time.Offset.{Offset}
 use Rattle.tz_posix_core.specs.declared.date.Date.{Date}
@@ -55,36 +56,59 @@ pub data SpellsDate : List ℕ → Date → Type 0 where
   weekday : {a b c : List ℕ} {m n d : ℕ} → SpellsNumber 8 a m → SpellsNumber 8 b n → SpellsNumber 8 c d →
       SpellsDate (letter_M ∷ a ++ dot ∷ b ++ dot ∷ c) (M m n d)
 
+-- the times that a rule may have: how they are written, how many hours they may have, either way, and their seconds from midnight
+pub record TimeRange (T : Type 0) : Type 1 where
+  pub IsTime : List ℕ → T → Type 0
+  pub size : T → Time
+  pub hours : ℕ
+  pub seconds : T → ℤ
+
+-- 0 to 23:59:59, as in POSIX TZ strings
+abbrev pub day_times : TimeRange Time
+day_times = record { IsTime = SpellsTime; size = λ time. time; hours = 23; seconds = λ time. pos (time_seconds time) }
+
+-- -167:59:59 to 167:59:59, as in footers
+abbrev pub signed_times : TimeRange Offset
+signed_times = record { IsTime = SpellsOffset; size = λ offset. offset.time; hours = 167; seconds = offset_seconds }
+
 -- a date, or a date, `/` and a time
-pub data SpellsMoment : List ℕ → (Date × Option Time) → Type 0 where
-  date : {a : List ℕ} {d : Date} → SpellsDate a d → SpellsMoment a (d, None)
-  timed : {a b : List ℕ} {d : Date} {t : Time} → SpellsDate a d → SpellsTime b t → SpellsMoment (a ++ slash ∷ b) (d, Some t)
+pub data SpellsMoment {T : Type 0} (range : TimeRange T) : List ℕ → (Date × Option T) → Type 0 where
+  date : {a : List ℕ} {d : Date} → SpellsDate a d → SpellsMoment range a (d, None)
+  timed : {a b : List ℕ} {d : Date} {t : T} → SpellsDate a d → range.IsTime b t → SpellsMoment range (a ++ slash ∷ b) (d, Some t)
 
 -- `,`, the start, `,` and the end
-pub data SpellsRule : List ℕ → Rule → Type 0 where
-  rule : {a b : List ℕ} {s e : Date × Option Time} → SpellsMoment a s → SpellsMoment b e →
-      SpellsRule (comma ∷ a ++ comma ∷ b) (record { start = s; end = e })
+pub data SpellsRule {T : Type 0} (range : TimeRange T) : List ℕ → Rule T → Type 0 where
+  rule : {a b : List ℕ} {s e : Date × Option T} → SpellsMoment range a s → SpellsMoment range b e →
+      SpellsRule range (comma ∷ a ++ comma ∷ b) (record { start = s; end = e })
 
 -- a name, maybe an offset, maybe a rule
-pub data SpellsDst : List ℕ → DstPart → Type 0 where
-  dst : {a b c name : List ℕ} {o : Option Offset} {r : Option Rule} → SpellsName a name → Optional SpellsOffset b o →
-      Optional SpellsRule c r → SpellsDst (a ++ b ++ c) (record { name = name; offset = o; rule = r })
+pub data SpellsDst {T : Type 0} (range : TimeRange T) : List ℕ → DstPart T → Type 0 where
+  dst : {a b c name : List ℕ} {o : Option Offset} {r : Option (Rule T)} → SpellsName a name → Optional SpellsOffset b o →
+      Optional (SpellsRule range) c r → SpellsDst range (a ++ b ++ c) (record { name = name; offset = o; rule = r })
 
 -- `:` and a name, or a name, an offset and maybe daylight saving time
-pub data Spells : List ℕ → TzValue → Type 0 where
-  short_form : {a name : List ℕ} → SpellsName a name → Spells (colon ∷ a) (short name)
-  full_form : {a b c name : List ℕ} {o : Offset} {d : Option DstPart} → SpellsName a name → SpellsOffset b o →
-      Optional SpellsDst c d → Spells (a ++ b ++ c) (expanded (record { name = name; offset = o }) d)
+pub data SpellsIn {T : Type 0} (range : TimeRange T) : List ℕ → Value T → Type 0 where
+  short_form : {a name : List ℕ} → SpellsName a name → SpellsIn range (colon ∷ a) (short name)
+  full_form : {a b c name : List ℕ} {o : Offset} {d : Option (DstPart T)} → SpellsName a name → SpellsOffset b o →
+      Optional (SpellsDst range) c d → SpellsIn range (a ++ b ++ c) (expanded (record { name = name; offset = o }) d)
+
+-- the value of a POSIX TZ string
+abbrev pub Spells : List ℕ → TzValue → Type 0
+Spells = SpellsIn day_times
 
 -- whether the first byte of a text passes
 abbrev pub begins : (ℕ → Bool) → List ℕ → Bool
 begins p [] = false
 begins p (c ∷ rest) = p c
 
+-- a byte that could go on with a time or a moment
+abbrev pub goes_on : ℕ → Bool
+goes_on c = is_ascii_digit c || (nat_eq c colon || nat_eq c slash)
+
 -- what may follow a name or a number doesn't go on with its run
-pub record RunsAreLongest : Type 0 where
+pub record RunsAreLongest {T : Type 0} (range : TimeRange T) : Type 0 where
   pub after_standard_name : {a : List ℕ} {o : Offset} → SpellsOffset a o → (rest : List ℕ) → begins is_ascii_alphabetic (a ++ rest) ≡ false
-  pub after_name : {a b : List ℕ} {o : Option Offset} {r : Option Rule} → Optional SpellsOffset a o → Optional SpellsRule b r →
+  pub after_name : {a b : List ℕ} {o : Option Offset} {r : Option (Rule T)} → Optional SpellsOffset a o → Optional (SpellsRule range) b r →
       begins is_ascii_alphabetic (a ++ b) ≡ false
-  pub after_standard_offset : {a : List ℕ} {d : Option DstPart} → Optional SpellsDst a d → begins is_ascii_digit a ≡ false
-  pub after_offset : {a : List ℕ} {r : Option Rule} → Optional SpellsRule a r → begins is_ascii_digit a ≡ false
+  pub after_standard_offset : {a : List ℕ} {d : Option (DstPart T)} → Optional (SpellsDst range) a d → begins is_ascii_digit a ≡ false
+  pub after_offset : {a : List ℕ} {r : Option (Rule T)} → Optional (SpellsRule range) a r → begins is_ascii_digit a ≡ false

@@ -1,5 +1,5 @@
 //! The days of a rule.
-ghost use Rattle.std.specs.Prelude.{◌≡◌, ◌≤◌, ◌<◌, ◌+◌, ◌-◌, if◌then◌else◌, ◌&&◌, ◌==◌, nat_le, nat_lt, IsTrue, IfOk};
+ghost use Rattle.std.specs.Prelude.{◌≡◌, ◌≤◌, ◌<◌, ◌+◌, ◌-◌, if◌then◌else◌, ◌&&◌, ◌==◌, nat_le, IsTrue, IfOk, None};
 ghost use Rattle.std.specs.Result.{result_err};
 ghost use Rattle.std.specs.Prelude.{pos, neg_ℤ, ◌+ℤ◌, ◌≤ℤ◌};
 ghost use Rattle.calendar.specs.Days.{day as day_of_date, is_leap, days_in_year, IsCountedYear};
@@ -35,8 +35,8 @@ impl Date {
         ensures refused { result_err result ≡ day_refusal self year }
         ensures value { IfOk result (λ date. date ≡ rule_day self year) }
     {
-        let day = self.day_in(year)?;
-        Ok(date_with(day))
+        self.check_in(year)?;
+        Ok(date_with(self.day_number(year)))
     }
 
     /// Whether the date's parts are in their ranges, as `to_date` has them.
@@ -52,11 +52,12 @@ impl Date {
 
     /// The day number of the date in a year of -10000 to 10000, also where `to_date` refuses: `N(365)` of a year of 365 days
     /// is the first day of the next one.
-    #[tactic(auto, unfolding(crate::specs::Days::rule_day))]
+    #[tactic(auto, unfolding(crate::specs::Days::rule_day, crate::specs::Days::day_refusal))]
     pub fn day_number(self, year: i32) -> i32
         requires year { IsCountedYear year }
         requires date { IsTrue (is_rule_date self) }
         ensures value { result ≡ rule_day self year }
+        ensures inside { IsYear year → day_refusal self year ≡ None → IsDay result }
         ensures least { neg_ℤ (pos 5_000_000) ≤ℤ result }
         ensures greatest { result ≤ℤ pos 5_000_000 }
     {
@@ -67,19 +68,17 @@ impl Date {
         }
     }
 
-    /// The day number of the date in a year, refused as by `to_date`.
-    #[tactic(auto, unfolding(crate::specs::Days::rule_day, crate::specs::Days::day_refusal))]
-    pub(crate) fn day_in(self, year: i32) -> Result<i32, Error>
+    /// The refusal of `to_date`.
+    #[tactic(auto, unfolding(crate::specs::Days::day_refusal))]
+    pub(crate) fn check_in(self, year: i32) -> Result<(), Error>
         requires year { IsYear year }
         requires date { IsTrue (is_rule_date self) }
-        ensures refused { result_err result ≡ day_refusal self year }
-        ensures value { IfOk result (λ day. day ≡ rule_day self year) }
-        ensures inside { IfOk result IsDay }
+        ensures { result_err result ≡ day_refusal self year }
     {
         match self {
-            Date::J(n) => Ok(julian_day(year, n)),
-            Date::N(n) => counted_day(year, n),
-            Date::M { m, n, d } => weekday_day(year, m, n, d),
+            Date::J(_) => Ok(()),
+            Date::N(n) => check_counted(year, n),
+            Date::M { m, n, d } => check_weekday(year, m, n, d),
         }
     }
 }
@@ -120,25 +119,23 @@ fn day_after_first(year: i32, n: u16) -> i32
     requires year { IsCountedYear year }
     requires date { IsTrue (is_rule_date (Date.N n)) }
     ensures value { result ≡ day_of_date year 1 1 +ℤ pos n }
+    ensures inside { IsYear year → n < days_in_year year → IsDay result }
     ensures least { neg_ℤ (pos 5_000_000) ≤ℤ result }
     ensures greatest { result ≤ℤ pos 5_000_000 }
 {
     day_number(year, 1, 1) + i32::from(n)
 }
 
-/// The day number of the day n of a year, from 0.
-#[tactic(auto, unfolding(crate::specs::Days::rule_day, crate::specs::Days::day_refusal))]
-fn counted_day(year: i32, n: u16) -> Result<i32, Error>
-    requires year { IsYear year }
-    requires date { IsTrue (is_rule_date (Date.N n)) }
-    ensures refused { result_err result ≡ day_refusal (Date.N n) year }
-    ensures value { IfOk result (λ day. day ≡ rule_day (Date.N n) year) }
-    ensures inside { IfOk result IsDay }
+/// The refusal of the day n of a year, from 0.
+#[tactic(auto, unfolding(crate::specs::Days::day_refusal))]
+fn check_counted(year: i32, n: u16) -> Result<(), Error>
+    ensures { result_err result ≡ day_refusal (Date.N n) year }
 {
     if year_length(year) <= n {
-        return Err(Error::ComponentRange);
+        Err(Error::ComponentRange)
+    } else {
+        Ok(())
     }
-    Ok(day_number(year, 1, 1) + i32::from(n))
 }
 
 fn year_length(year: i32) -> u16
@@ -147,27 +144,26 @@ fn year_length(year: i32) -> u16
     if is_leap_year(year) { 366 } else { 365 }
 }
 
-/// The day number of the nth weekday d of month m.
-#[tactic(auto, unfolding(crate::specs::Days::rule_day, crate::specs::Days::day_refusal))]
-fn weekday_day(year: i32, m: u8, n: u8, d: u8) -> Result<i32, Error>
+/// The refusal of the nth weekday d of month m.
+#[tactic(auto, unfolding(crate::specs::Days::day_refusal))]
+fn check_weekday(year: i32, m: u8, n: u8, d: u8) -> Result<(), Error>
     requires year { IsYear year }
     requires date { IsTrue (is_rule_date (Date.M m n d)) }
-    ensures refused { result_err result ≡ day_refusal (Date.M m n d) year }
-    ensures value { IfOk result (λ day. day ≡ rule_day (Date.M m n d) year) }
-    ensures inside { IfOk result IsDay }
+    ensures { result_err result ≡ day_refusal (Date.M m n d) year }
 {
-    let first = first_weekday(year, m, d);
-    if is_too_large(year, m, n, first) {
-        return Err(Error::DateTooLarge);
+    if is_last_fifth(year, m, n) && 31 < first_weekday(year, m, d) + 28 {
+        Err(Error::DateTooLarge)
+    } else {
+        Ok(())
     }
-    Ok(day_number(year, m, nth_weekday(year, m, n, first)))
 }
 
-/// The day number of the nth weekday d of month m, for every year that is counted.
+/// The day number of the nth weekday d of month m.
 fn nth_day(year: i32, m: u8, n: u8, d: u8) -> i32
     requires year { IsCountedYear year }
     requires date { IsTrue (is_rule_date (Date.M m n d)) }
     ensures value { result ≡ day_of_date year m (nth_in year m n d) }
+    ensures inside { IsYear year → IsDay result }
     ensures least { neg_ℤ (pos 5_000_000) ≤ℤ result }
     ensures greatest { result ≤ℤ pos 5_000_000 }
 {
@@ -175,12 +171,11 @@ fn nth_day(year: i32, m: u8, n: u8, d: u8) -> i32
     day_number(year, m, nth_weekday(year, m, n, first))
 }
 
-/// Whether four weeks after the first weekday would be past all dates.
-fn is_too_large(year: i32, month: u8, n: u8, first: u8) -> bool
-    requires { first ≤ 7 }
-    ensures { result ≡ (is_last_month year month && n == 5 && nat_lt 31 (first + 28)) }
+/// Whether this is the fifth weekday of the last month that dates have.
+fn is_last_fifth(year: i32, month: u8, n: u8) -> bool
+    ensures { result ≡ (is_last_month year month && n == 5) }
 {
-    year == 9999 && month == 12 && n == 5 && 31 < first + 28
+    year == 9999 && month == 12 && n == 5
 }
 
 /// The first day of the month with the weekday.

@@ -1,6 +1,6 @@
 //! Laws of the texts.
 ghost use Rattle.std.specs.Prelude.{◌≡◌, ℕ, List};
-ghost use Rattle.tz_posix_core.specs.Spells.{Spells, RunsAreLongest};
+ghost use Rattle.tz_posix_core.specs.Spells.{Spells, RunsAreLongest, day_times};
 ghost use Rattle.tz_posix_core.specs.Values.{TzValue};
 
 /// A text spells at most one value.
@@ -10,5 +10,5 @@ pub fn one_reading()
 
 /// What may follow a name or a number in a text doesn't go on with its letters or digits, so each is a longest run.
 pub fn longest_runs()
-    ensures { RunsAreLongest }
+    ensures { RunsAreLongest day_times }
 {}

@@ -1,11 +1,13 @@
 //! POSIX TZ strings, such as `EST5EDT,M3.2.0,M11.1.0`: read by a written grammar, and the offset that they give an instant.
 //!
-//! The names are those of the crate `time-tz`. No call takes memory.
+//! The names are those of the crate `time-tz`. Which times a rule may have is an argument of the grammar (`RuleTime`): those of
+//! a day here, and in the footers of compiled files those with a sign. No call takes memory.
 #![tactic(auto)]
 
 mod date;
 mod error;
 pub mod laws;
+mod moments;
 mod offset;
 mod parse;
 pub mod parts;
@@ -13,6 +15,7 @@ mod posix;
 mod range;
 mod read;
 mod rule;
+mod rule_time;
 mod time;
 mod values;
 
@@ -20,6 +23,7 @@ pub use date::Date;
 pub use error::{Error, ParseError, RangeError};
 pub use offset::PosixTzOffset;
 pub use posix::PosixTz;
-pub use read::entry;
+pub use read::{entry, value};
+pub use rule_time::RuleTime;
 pub use time::{Offset, Time};
 pub use values::{Dst, Rule, Std, Tz};

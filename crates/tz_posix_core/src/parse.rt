@@ -5,6 +5,7 @@ ghost use Rattle.tz_posix_core.specs.Parses.{IsParsed, IsResolved, TellsZone};
 ghost use Rattle.tz_posix_core.specs.Ranges.{posix_range, rule_range};
 ghost use Rattle.tz_posix_core.specs.Resolved.{by_rule};
 ghost use Rattle.tz_posix_core.specs.Shown.{tz_shown};
+ghost use Rattle.tz_posix_core.specs.Spells.{day_times};
 
 use crate::error::ParseError;
 use crate::posix::{Kind, Named, PosixTz};
@@ -85,7 +86,7 @@ fn with_saving<'a>(
     rule: &Option<Rule>,
     database: &'a Database,
 ) -> Result<PosixTz<'a>, ParseError<'a>>
-    requires { option_and_then rule_range rule.now ≡ None }
+    requires { option_and_then (rule_range day_times) rule.now ≡ None }
     ensures { TellsZone (by_rule database.now (named_of standard.now) (named_of saving.now) rule.now) result }
 {
     match rule {

@@ -1,17 +1,19 @@
 //! The ranges of a value's parts.
 ghost use Rattle.std.specs.Prelude.{◌≡◌, [], ◌∷◌, option_and_then};
 ghost use Rattle.std.specs.Result.{result_err};
-ghost use Rattle.tz_posix_core.specs.Ranges.{first_some, time_miss, offset_miss, rule_time_miss, date_miss, rule_range, posix_range};
+ghost use Rattle.tz_posix_core.specs.Ranges.{first_some, offset_miss, rule_time_miss, date_miss, rule_range, posix_range};
+ghost use Rattle.tz_posix_core.specs.Spells.{day_times};
 ghost use Rattle.tz_posix_core.specs.Shown.{tz_shown};
 
 use crate::date::Date;
 use crate::error::RangeError;
-use crate::time::{Offset, Time};
+use crate::rule_time::RuleTime;
+use crate::time::Offset;
 use crate::values::{Rule, Tz};
 
 /// The first miss of a value's ranges: of the standard offset, that of daylight saving time, both dates, the start's time
 /// and the end's.
-#[tactic(auto, unfolding(crate::specs::Ranges::posix_range))]
+#[tactic(auto, unfolding(crate::specs::Ranges::first_miss))]
 pub(crate) fn check(tz: &Tz<'_>) -> Result<(), RangeError>
     ensures { result_err result ≡ posix_range (tz_shown tz.now) }
 {
@@ -28,13 +30,14 @@ pub(crate) fn check(tz: &Tz<'_>) -> Result<(), RangeError>
 }
 
 fn check_dst(offset: &Option<Offset>, rule: &Option<Rule>) -> Result<(), RangeError>
-    ensures { result_err result ≡ first_some (option_and_then offset_miss offset.now ∷ option_and_then rule_range rule.now ∷ []) }
+    ensures { result_err result ≡ first_some (option_and_then offset_miss offset.now ∷ option_and_then (rule_range day_times) rule.now ∷ []) }
 {
     check_own_offset(offset)?;
     check_own_rule(rule)
 }
 
-fn check_own_offset(offset: &Option<Offset>) -> Result<(), RangeError>
+/// The miss of an offset, where one is written.
+pub fn check_own_offset(offset: &Option<Offset>) -> Result<(), RangeError>
     ensures { result_err result ≡ option_and_then offset_miss offset.now }
 {
     match offset {
@@ -44,7 +47,7 @@ fn check_own_offset(offset: &Option<Offset>) -> Result<(), RangeError>
 }
 
 fn check_own_rule(rule: &Option<Rule>) -> Result<(), RangeError>
-    ensures { result_err result ≡ option_and_then rule_range rule.now }
+    ensures { result_err result ≡ option_and_then (rule_range day_times) rule.now }
 {
     match rule {
         Some(rule) => check_rule(rule),
@@ -52,8 +55,9 @@ fn check_own_rule(rule: &Option<Rule>) -> Result<(), RangeError>
     }
 }
 
-fn check_rule(rule: &Rule) -> Result<(), RangeError>
-    ensures { result_err result ≡ rule_range rule.now }
+/// The first miss of a rule: of both dates, the start's time and the end's.
+pub fn check_rule<T: RuleTime>(rule: &Rule<T>) -> Result<(), RangeError>
+    ensures { result_err result ≡ rule_range T.range rule.now }
 {
     check_date(rule.start.0)?;
     check_date(rule.end.0)?;
@@ -61,28 +65,24 @@ fn check_rule(rule: &Rule) -> Result<(), RangeError>
     check_rule_time(&rule.end.1)
 }
 
-fn check_offset(offset: &Offset) -> Result<(), RangeError>
+/// The miss of an offset.
+pub fn check_offset(offset: &Offset) -> Result<(), RangeError>
     ensures { result_err result ≡ offset_miss offset.now }
 {
-    check_time(24, &offset.time)
-}
-
-fn check_rule_time(time: &Option<Time>) -> Result<(), RangeError>
-    ensures { result_err result ≡ rule_time_miss time.now }
-{
-    match time {
-        Some(time) => check_time(23, time),
-        None => Ok(()),
-    }
-}
-
-fn check_time(hours: u8, time: &Time) -> Result<(), RangeError>
-    ensures { result_err result ≡ time_miss hours time.now }
-{
-    if time.is_within(hours) {
+    if offset.time.is_within(24) {
         Ok(())
     } else {
         Err(RangeError::Time)
+    }
+}
+
+fn check_rule_time<T: RuleTime>(time: &Option<T>) -> Result<(), RangeError>
+    ensures { result_err result ≡ rule_time_miss T.range time.now }
+{
+    match time {
+        Some(time) if time.is_in_range() => Ok(()),
+        Some(_) => Err(RangeError::Time),
+        None => Ok(()),
     }
 }
 

@@ -1,8 +1,8 @@
 //! The reader: a whole text to its value.
 ghost use Rattle.std.specs.Prelude.{◌≡◌, option_map, MatchOption};
 ghost use Rattle.tz_posix_core.specs.Reading.{read_as, own_offset_at, own_rule_in, dst_in, short_in, expanded_in, entry_in, is_over};
-ghost use Rattle.tz_posix_core.specs.Spells.{Spells};
-ghost use Rattle.tz_posix_core.specs.Values.{TzValue};
+ghost use Rattle.tz_posix_core.specs.Spells.{Spells, SpellsIn};
+ghost use Rattle.tz_posix_core.specs.Values.{TzValue, Value};
 ghost use Rattle.tz_posix_core.specs.Shown.{dst_shown, tz_shown};
 
 pub(crate) mod dates;
@@ -13,7 +13,8 @@ pub(crate) mod times;
 use crate::read::dates::rule;
 use crate::read::names::name;
 use crate::read::times::offset;
-use crate::time::Offset;
+use crate::rule_time::RuleTime;
+use crate::time::{Offset, Time};
 use crate::values::{Dst, Rule, Std, Tz};
 use text_parts::after_mark;
 
@@ -41,8 +42,8 @@ pub fn own_offset(text: &str) -> Option<(Option<Offset>, &str)>
 
 /// The rule that a whole text is, where there is any text.
 #[tactic(auto, unfolding(crate::specs::Reading::own_rule_in))]
-fn own_rule(text: &str) -> Option<Option<Rule>>
-    ensures { result ≡ own_rule_in text.now }
+fn own_rule<T: RuleTime>(text: &str) -> Option<Option<Rule<T>>>
+    ensures { result ≡ own_rule_in T.time_at text.now }
 {
     if text.is_empty() {
         return Some(None);
@@ -52,8 +53,8 @@ fn own_rule(text: &str) -> Option<Option<Rule>>
 
 /// The daylight saving time that a whole text is, where there is any text.
 #[tactic(auto, unfolding(crate::specs::Reading::dst_in))]
-fn dst(text: &str) -> Option<Option<Dst<'_>>>
-    ensures { option_map (option_map dst_shown) result ≡ dst_in text.now }
+fn dst<T: RuleTime>(text: &str) -> Option<Option<Dst<'_, Rule<T>>>>
+    ensures { option_map (option_map dst_shown) result ≡ dst_in T.time_at text.now }
 {
     if text.is_empty() {
         return Some(None);
@@ -75,8 +76,8 @@ fn short(text: &str) -> Option<&str>
 
 /// The standard time and the rest that a whole text is.
 #[tactic(auto, unfolding(crate::specs::Reading::expanded_in))]
-fn expanded(text: &str) -> Option<Tz<'_>>
-    ensures { option_map tz_shown result ≡ expanded_in text.now }
+fn expanded<T: RuleTime>(text: &str) -> Option<Tz<'_, Rule<T>>>
+    ensures { option_map tz_shown result ≡ expanded_in T.time_at text.now }
 {
     let (name, rest) = name(text)?;
     let (offset, rest) = offset(rest)?;
@@ -89,8 +90,8 @@ fn expanded(text: &str) -> Option<Tz<'_>>
 
 /// What a whole text is read as.
 #[tactic(auto, unfolding(crate::specs::Reading::entry_in))]
-fn whole(text: &str) -> Option<Tz<'_>>
-    ensures { option_map tz_shown result ≡ entry_in text.now }
+fn whole<T: RuleTime>(text: &str) -> Option<Tz<'_, Rule<T>>>
+    ensures { option_map tz_shown result ≡ entry_in T.time_at text.now }
 {
     match after_mark(':', text) {
         Some(rest) => Some(Tz::Short(short(rest)?)),
@@ -109,5 +110,15 @@ pub fn entry(input: &str) -> Option<Tz<'_>>
     ensures exact { MatchOption result ((value : TzValue) → ¬ (Spells input.now value))
         (λ tz. Spells input.now (tz_shown tz)) }
 {
-    whole(input)
+    value::<Time>(input)
+}
+
+/// The value that a whole text spells, where a rule has times of this type: of `Time` in POSIX TZ strings, as `entry` reads them,
+/// and of `Offset`, with a sign or without one, in texts whose rules may go by other days too. There is none exactly where it
+/// spells none.
+pub fn value<T: RuleTime>(text: &str) -> Option<Tz<'_, Rule<T>>>
+    ensures exact { MatchOption result ((value : Value T) → ¬ (SpellsIn T.range text.now value))
+        (λ tz. SpellsIn T.range text.now (tz_shown tz)) }
+{
+    whole(text)
 }

@@ -7,13 +7,14 @@ ghost use Rattle.calendar.specs.Dates.{year_of};
 ghost use Rattle.calendar.specs.Days.{IsCountedYear};
 ghost use Rattle.civil_base.specs.Ranges.{far_seconds, IsYear};
 ghost use Rattle.tz_posix_core.specs.Days.{day_refusal};
-ghost use Rattle.tz_posix_core.specs.InForce.{instant_in, is_saving as is_saving_at, is_within as is_between, is_year, rule_refusal};
-ghost use Rattle.tz_posix_core.specs.InForce.{year_at as year_in, yearly_time};
+ghost use Rattle.tz_posix_core.specs.InForce.{instant_in, is_saving as is_saving_at, is_within as is_between, is_year, moment_of};
+ghost use Rattle.tz_posix_core.specs.InForce.{moments_in, rule_refusal, year_at as year_in};
 ghost use Rattle.tz_posix_core.specs.Ranges.{first_some, is_rule_date, rule_range};
 
 use crate::date::Date;
 use crate::error::Error;
-use crate::time::Time;
+use crate::moments::Moments;
+use crate::rule_time::RuleTime;
 use crate::values::Rule;
 use calendar::date_of;
 use civil_base::UtcOffset;
@@ -21,25 +22,24 @@ use civil_base::UtcOffset;
 const SECONDS_PER_DAY: i64 = 86_400;
 
 /// The seconds from midnight to 02:00:00, at which a change comes where the rule has no time.
-const TWO_HOURS: u32 = 7_200;
+const TWO_HOURS: i32 = 7_200;
 
 /// -9999-01-01 00:00:00, and the end of 9999-12-31, in seconds from 1970-01-01 00:00:00.
 const FIRST_SECOND: i64 = -4_371_587 * SECONDS_PER_DAY;
 
 const END: i64 = 2_932_897 * SECONDS_PER_DAY;
 
-/// A day of each year, and the seconds from its midnight.
+/// A day of each year, and the seconds from its midnight, which may be below 0.
 #[derive(Clone, Copy, Debug, PartialEq, Eq)]
-pub(crate) struct YearlyTime {
+pub struct YearlyTime {
     date: Date,
-    seconds: u32,
+    seconds: i32,
     ghost named: { IsTrue (is_rule_date date) },
-    ghost few: { seconds < 1_000_000 },
 }
 
 /// The start and the end of daylight saving time in each year.
 #[derive(Clone, Copy, Debug, PartialEq, Eq)]
-pub(crate) struct YearlyRule {
+pub struct YearlyRule {
     pub(crate) start: YearlyTime,
     pub(crate) end: YearlyTime,
 }
@@ -48,41 +48,53 @@ impl YearlyTime {
     ghost use Rattle.tz_posix_core.specs.Yearly.{time_shown};
 
     /// The day and the time of a rule's start or end.
-    pub(crate) fn new(date: Date, time: &Option<Time>) -> YearlyTime
-        requires { IsTrue (is_rule_date date) }
-        ensures { time_shown result ≡ yearly_time (date, time.now) }
+    fn new<T: RuleTime>(moment: &(Date, Option<T>)) -> YearlyTime
+        requires { IsTrue (is_rule_date moment.now.0) }
+        ensures { time_shown result ≡ moment_of T.range moment.now }
     {
-        let seconds = match time {
-            Some(time) => time.seconds(),
+        let seconds = match &moment.1 {
+            Some(time) => time.from_midnight(),
             None => TWO_HOURS,
         };
-        YearlyTime { date, seconds }
+        YearlyTime {
+            date: moment.0,
+            seconds,
+        }
     }
 
-    /// The second at which clocks at that offset show the time in a year, refused as the date is.
+    /// The second at which clocks at that offset show the time in a year.
     #[tactic(auto, unfolding(crate::specs::InForce::instant_in))]
-    fn in_year(&self, year: i32, offset: UtcOffset) -> Result<i64, Error>
-        requires { IsYear year }
-        ensures refused { result_err result ≡ day_refusal (time_shown self.now).0 year }
-        ensures value { IfOk result (λ second. second ≡ instant_in year offset (time_shown self.now)) }
+    fn in_year(&self, year: i32, offset: UtcOffset) -> i64
+        requires { IsCountedYear year }
+        ensures { result ≡ instant_in year offset (time_shown self.now) }
     {
-        let day = self.date.day_in(year)?;
-        Ok(second_at(day, self.seconds, offset))
+        second_at(self.date.day_number(year), self.seconds, offset)
     }
 }
 
 impl YearlyRule {
-    ghost use Rattle.tz_posix_core.specs.Yearly.{time_shown};
+    ghost use Rattle.tz_posix_core.specs.Yearly.{moments_shown, time_shown};
 
     /// The start and the end of a rule.
-    pub(crate) fn new(rule: &Rule) -> YearlyRule
-        requires { rule_range rule.now ≡ None }
-        ensures start { time_shown result.start ≡ yearly_time rule.now.start }
-        ensures end { time_shown result.end ≡ yearly_time rule.now.end }
+    pub fn new<T: RuleTime>(rule: &Rule<T>) -> YearlyRule
+        requires { rule_range T.range rule.now ≡ None }
+        ensures start { time_shown result.start ≡ moment_of T.range rule.now.start }
+        ensures end { time_shown result.end ≡ moment_of T.range rule.now.end }
     {
         YearlyRule {
-            start: YearlyTime::new(rule.start.0, &rule.start.1),
-            end: YearlyTime::new(rule.end.0, &rule.end.1),
+            start: YearlyTime::new(&rule.start),
+            end: YearlyTime::new(&rule.end),
+        }
+    }
+
+    /// The start and the end in a year of -10000 to 10000, where standard and daylight saving time have these offsets.
+    pub fn moments_in(&self, year: i32, standard: UtcOffset, saving: UtcOffset) -> Moments
+        requires { IsCountedYear year }
+        ensures { moments_shown result ≡ moments_in standard saving (time_shown self.now.start) (time_shown self.now.end) year }
+    {
+        Moments {
+            start: self.start.in_year(year, standard),
+            end: self.end.in_year(year, saving),
         }
     }
 
@@ -120,29 +132,18 @@ impl YearlyRule {
         ensures value { IfOk result (λ holds. holds ≡
             is_between (instant_in year standard (time_shown self.now.start)) (instant_in year saving (time_shown self.now.end)) second) }
     {
-        let start = self.start.in_year(year, standard)?;
-        let end = self.end.in_year(year, saving)?;
-        Ok(is_within(start, end, second))
+        self.start.date.check_in(year)?;
+        self.end.date.check_in(year)?;
+        let moments = self.moments_in(year, standard, saving);
+        Ok(moments.is_within(second))
     }
 }
 
 /// The second at which clocks at that offset show so many seconds from the midnight of a day.
-fn second_at(day: i32, seconds: u32, offset: UtcOffset) -> i64
-    ensures { result ≡ pos 86_400 *ℤ day +ℤ pos seconds -ℤ offset }
+fn second_at(day: i32, seconds: i32, offset: UtcOffset) -> i64
+    ensures { result ≡ pos 86_400 *ℤ day +ℤ seconds -ℤ offset }
 {
     i64::from(day) * SECONDS_PER_DAY + i64::from(seconds) - i64::from(offset.whole_seconds())
-}
-
-/// Whether a second lies from the start up to, without, the end; or, where the end lies before the start, before the end or
-/// from the start on.
-pub fn is_within(start: i64, end: i64, second: i64) -> bool
-    ensures { result ≡ is_between start end second }
-{
-    if end < start {
-        second < end || start <= second
-    } else {
-        start <= second && second < end
-    }
 }
 
 /// The year of the date at a second, where clocks are that far ahead of UTC, if dates have it.

@@ -19,10 +19,10 @@ use Rattle.tz_zone.specs.declared.set.FixedTimespanSet.{FixedTimespanSet}
 use Rattle.tz_posix_core.specs.InForce.{yearly_time}
 use Rattle.tz_posix_core.specs.Marks.{colon, comma, dot, greater, less, letter_M}
 use Rattle.tz_posix_core.specs.PosixZones.{fixed, ruled}
-use Rattle.tz_posix_core.specs.Ranges.{date_miss, first_some, is_time, offset_miss, posix_range, rule_range, rule_time_miss}
+use Rattle.tz_posix_core.specs.Ranges.{date_miss, first_miss, first_some, is_time, offset_miss, posix_range, rule_range, rule_time_miss}
 use Rattle.tz_posix_core.specs.Resolved.{resolved}
 use Rattle.tz_posix_core.specs.Seconds.{east_of, offset_seconds, part, time_seconds}
-use Rattle.tz_posix_core.specs.Spells.{absent, date, dst, enclosed, full_form, hours, is_enclosed, letters, minus, minutes, bare, present, rule, seconds, timed, weekday, SpellsDate, SpellsMoment, SpellsName, SpellsNumber, SpellsOffset, SpellsRule, SpellsTime, Optional, Spells}
+use Rattle.tz_posix_core.specs.Spells.{absent, date, day_times, dst, enclosed, full_form, hours, is_enclosed, letters, minus, minutes, bare, present, rule, seconds, timed, weekday, SpellsDate, SpellsMoment, SpellsName, SpellsNumber, SpellsOffset, SpellsRule, SpellsTime, Optional, Spells}
 use Rattle.tz_posix_core.specs.declared.error.RangeError.TheVariants as miss
 use Rattle.zone_tail_core.specs.Candidates.{IsSoundCandidate}
 use Rattle.zone_tail_core.specs.Ready.{CanBeWritten, IsNamedBy}
@@ -179,44 +179,44 @@ date_spelled change sound =
     subst (λ t. SpellsDate t (date_of change)) (date_text_is (decimal change.month) (decimal change.week) (decimal change.weekday))
     (weekday (number change.month few.0) (number change.week few.1) (number change.weekday few.2))
 
-moment_spelled : (change : Change) → IsChange change → SpellsMoment (change_text change) (moment_value change)
+moment_spelled : (change : Change) → IsChange change → SpellsMoment day_times (change_text change) (moment_value change)
 unfolding change_text
 moment_spelled change sound = by_test (change.second == 7200)
   where
     by_test : (b : Bool)
-        → SpellsMoment (codes "M" ++ decimal change.month ++ codes "." ++ decimal change.week ++ codes "." ++ decimal change.weekday ++ cond b [] (codes "/" ++ time_text change.second))
+        → SpellsMoment day_times (codes "M" ++ decimal change.month ++ codes "." ++ decimal change.week ++ codes "." ++ decimal change.weekday ++ cond b [] (codes "/" ++ time_text change.second))
         (date_of change, cond b None (Some (time_value change.second)))
     by_test true =
-        subst (λ t. SpellsMoment t (date_of change, None)) (sym (append-nil (codes "M" ++ decimal change.month ++ codes "." ++ decimal change.week ++ codes "." ++ decimal change.weekday)))
+        subst (λ t. SpellsMoment day_times t (date_of change, None)) (sym (append-nil (codes "M" ++ decimal change.month ++ codes "." ++ decimal change.week ++ codes "." ++ decimal change.weekday)))
         (date (date_spelled change sound))
     by_test false = timed (date_spelled change sound) (time_spelled change.second (omega (arith, sound.second)))
 
-rule_spelled : (q : YearlyRule) → IsChange q.start → IsChange q.end → SpellsRule (rule_text q) (rule_value q)
+rule_spelled : (q : YearlyRule) → IsChange q.start → IsChange q.end → SpellsRule day_times (rule_text q) (rule_value q)
 unfolding rule_text
 rule_spelled q start end =
-    subst (λ t. SpellsRule t (rule_value q)) (sym (append_assoc (comma ∷ change_text q.start) (comma ∷ []) (change_text q.end)))
+    subst (λ t. SpellsRule day_times t (rule_value q)) (sym (append_assoc (comma ∷ change_text q.start) (comma ∷ []) (change_text q.end)))
     (rule (moment_spelled q.start start) (moment_spelled q.end end))
 
 date_in_range : (change : Change) → IsChange change → date_miss (date_of change) ≡ None
 date_in_range change sound = ap (λ b. cond b None (Some miss.Date)) sound.date
 
-clock_in_range : (change : Change) → IsChange change → rule_time_miss (clock_value change.second) ≡ None
+clock_in_range : (change : Change) → IsChange change → rule_time_miss day_times (clock_value change.second) ≡ None
 clock_in_range change sound = by_test (change.second == 7200)
   where
-    by_test : (b : Bool) → rule_time_miss (cond b None (Some (time_value change.second))) ≡ None
+    by_test : (b : Bool) → rule_time_miss day_times (cond b None (Some (time_value change.second))) ≡ None
     by_test true = refl
     by_test false = ap (λ b. cond b None (Some miss.Time)) (in_clock 23 change.second (let few = sound.second in omega arith))
 
-rule_in_range : (q : YearlyRule) → IsChange q.start → IsChange q.end → rule_range (rule_value q) ≡ None
+rule_in_range : (q : YearlyRule) → IsChange q.start → IsChange q.end → rule_range day_times (rule_value q) ≡ None
 rule_in_range q start end =
     λ i. first_some (date_in_range q.start start i ∷ date_in_range q.end end i ∷ clock_in_range q.start start i ∷ clock_in_range q.end end i ∷ [])
 
 time_is : (change : Change) → yearly_time (moment_value change) ≡ time_of change
 time_is change = ap (λ n. (date_of change, n)) (by_test (change.second == 7200) refl)
   where
-    by_test : (b : Bool) → (change.second == 7200) ≡ b → option_map_or time_seconds (cond b None (Some (time_value change.second))) 7200 ≡ change.second
-    by_test true e = sym (eqb-true change.second 7200 e)
-    by_test false e = seconds_are change.second
+    by_test : (b : Bool) → (change.second == 7200) ≡ b → option_map_or (λ time. pos (time_seconds time)) (cond b None (Some (time_value change.second))) (pos 7200) ≡ pos change.second
+    by_test true e = ap pos (sym (eqb-true change.second 7200 e))
+    by_test false e = ap pos (seconds_are change.second)
 
 -- ---- daylight saving time's own offset
 
@@ -263,7 +263,7 @@ text_spelled standard saving (Ruled q) names written sound =
     (present (dst (name_spelled saving names.1) (saving_spelled q.standard q.saving written.saving) (present (rule_spelled q sound.start sound.end)))))
 
 pub value_in_range : (standard saving : List ℕ) (c : Candidate) → CanBeWritten c → IsSoundCandidate c → posix_range (value_of standard saving c) ≡ None
-unfolding posix_range value_of
+unfolding first_miss value_of
 value_in_range standard saving (Fixed total) written sound = offset_in_range total written
 value_in_range standard saving (Ruled q) written sound =
     λ i. first_some (offset_in_range q.standard written.standard i ∷ saving_in_range q.standard q.saving written.saving i

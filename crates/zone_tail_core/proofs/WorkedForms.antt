@@ -122,8 +122,8 @@ unfolding form standard_of
 at_the_end = refl
 
 -- a year's rule has begun with the earlier of its start and its end: in Madrid on 2099-03-29 at 01:00 UTC, in Sydney on 2099-04-04 at 16:00 UTC
-begun_in_2099 : map (has_begun_in (pos 2099) (pos 3600) (pos 7200) (M 3 5 0, 7200) (M 10 5 0, 10800)) (pos 4078429199 ∷ pos 4078429200 ∷ [])
-    ++ map (has_begun_in (pos 2099) (pos 36000) (pos 39600) (M 10 1 0, 7200) (M 4 1 0, 10800)) (pos 4079001599 ∷ pos 4079001600 ∷ [])
+begun_in_2099 : map (has_begun_in (pos 2099) (pos 3600) (pos 7200) (M 3 5 0, pos 7200) (M 10 5 0, pos 10800)) (pos 4078429199 ∷ pos 4078429200 ∷ [])
+    ++ map (has_begun_in (pos 2099) (pos 36000) (pos 39600) (M 10 1 0, pos 7200) (M 4 1 0, pos 10800)) (pos 4079001599 ∷ pos 4079001600 ∷ [])
     ≡ false ∷ true ∷ false ∷ true ∷ []
 unfolding instant_in rule_day nth_weekday last_with weekday_of is_leap days_in_year days_in_month days_after_zero year_start days_through days_into_year day
 begun_in_2099 = refl

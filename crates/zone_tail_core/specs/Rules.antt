@@ -11,7 +11,7 @@ abbrev pub date_of : Change → Date
 date_of change = M change.month change.week change.weekday
 
 abbrev pub time_of : Change → YearlyTime
-time_of change = (date_of change, change.second)
+time_of change = (date_of change, pos change.second)
 
 -- the seconds east of UTC that a rule gives a second
 unfoldable pub rule_total : YearlyRule → ℤ → ℤ

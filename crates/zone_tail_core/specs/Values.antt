@@ -35,7 +35,7 @@ moment_value change = (date_of change, clock_value change.second)
 abbrev pub saving_value : ℤ → ℤ → Option Offset
 saving_value standard saving = if int_eq saving (standard +ℤ pos 3600) then None else Some (offset_value saving)
 
-abbrev pub rule_value : YearlyRule → Rule
+abbrev pub rule_value : YearlyRule → Rule Time
 rule_value rule = record { start = moment_value rule.start; end = moment_value rule.end }
 
 -- with the names of standard and of daylight saving time

@@ -4,8 +4,7 @@ ghost use Rattle.tz_posix_core.specs.Reading.{read_as, weekday_at, date_at, mome
 
 use crate::date::Date;
 use crate::read::numbers::{large_number, small_number};
-use crate::read::times::time;
-use crate::time::Time;
+use crate::rule_time::RuleTime;
 use crate::values::Rule;
 use text_parts::after_mark;
 
@@ -38,13 +37,13 @@ pub fn date(text: &str) -> Option<(Date, &str)>
 
 /// A date and maybe a time, and the rest.
 #[tactic(auto, unfolding(crate::specs::Reading::moment_at))]
-fn moment(text: &str) -> Option<((Date, Option<Time>), &str)>
-    ensures { read_as (λ moment. moment) result ≡ moment_at text.now }
+fn moment<T: RuleTime>(text: &str) -> Option<((Date, Option<T>), &str)>
+    ensures { read_as (λ moment. moment) result ≡ moment_at T.time_at text.now }
 {
     let (date, rest) = date(text)?;
     match after_mark('/', rest) {
         Some(rest) => {
-            let (time, rest) = time(rest)?;
+            let (time, rest) = T::at_front(rest)?;
             Some(((date, Some(time)), rest))
         }
         None => Some(((date, None), rest)),
@@ -53,8 +52,8 @@ fn moment(text: &str) -> Option<((Date, Option<Time>), &str)>
 
 /// The rule that a whole text is.
 #[tactic(auto, unfolding(crate::specs::Reading::rule_in))]
-pub(crate) fn rule(text: &str) -> Option<Rule>
-    ensures { result ≡ rule_in text.now }
+pub(crate) fn rule<T: RuleTime>(text: &str) -> Option<Rule<T>>
+    ensures { result ≡ rule_in T.time_at text.now }
 {
     let (start, rest) = moment(after_mark(',', text)?)?;
     let (end, rest) = moment(after_mark(',', rest)?)?;

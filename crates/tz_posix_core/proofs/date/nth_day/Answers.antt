@@ -1,6 +1,7 @@
 use Rattle.std.proofs.Common.{arith, to_z-of_z, ap, sym, ◌≡◌, ◌∙◌, w32, to_z, of_z}
 use Rattle.calendar.specs.Days.{day}
 use Rattle.calendar.specs.MonthLaws.{days_in_month-bounds}
+use Rattle.civil_base.specs.DayRangeLaws.{date-inside}
 use Rattle.tz_posix_core.specs.WeekdayLaws.{IsFound, found}
 use Rattle.tz_posix_core.proofs.DateLemmas.{value_is}
 use Rattle.tz_posix_core.proofs.date.nth_day.Goals as goal
@@ -29,3 +30,6 @@ number_is c =
 
 pub returns-clause-value : goal.returns-clause-value
 returns-clause-value c = number_is c ∙ ap (day c.args.year c.args.m) (sym (is_found c).nth)
+
+pub returns-clause-inside : goal.returns-clause-inside
+returns-clause-inside c = λ year. rw (number_is c) (date-inside c.args.year c.args.m c.nth_weekday.result year (is_found c).date)

@@ -2,7 +2,7 @@ use Rattle.std.proofs.Common.{arith, to_z-of_z, ◌≡◌, ◌+ℤ◌, pos, w32,
 use Rattle.calendar.specs.Days.{day}
 use Rattle.calendar.specs.SignedLaws.{signed_casts}
 use Rattle.tz_posix_core.specs.DayLaws.{counted_day-inside}
-use Rattle.tz_posix_core.proofs.date.counted_day.Goals as goal
+use Rattle.tz_posix_core.proofs.date.day_after_first.Goals as goal
 
 sum_is : (c : goal.After-from) → to_z w32 (of_z w32 (to_z w32 (of_z w32 c.day_number.result) +ℤ to_z w32 (of_z w32 c.from.result)))
     ≡ day c.args.year 1 1 +ℤ pos c.args.n
@@ -11,6 +11,4 @@ sum_is c =
     omega (arith, signed_casts, c.day_number.ensures.least, c.day_number.ensures.greatest, first)
 
 pub returns-clause-inside : goal.returns-clause-inside
-returns-clause-inside c =
-    let length = rw (to_z-of_z c.ranges.year) at c.year_length.ensures in
-    rw (sum_is c) (counted_day-inside c.args.year c.args.n c.requires.year (omega arith))
+returns-clause-inside c = λ year few. rw (sum_is c) (counted_day-inside c.args.year c.args.n year few)

@@ -1,8 +1,8 @@
 use Rattle.std.proofs.Common.{◌≡◌, true, false, ℤ, FitsSigned, w32, to_z-of_z, rules, refl, sym, ap, ◌∙◌}
-use Rattle.tz_posix_core.specs.InForce.{year_at}
-use Rattle.tz_footer.specs.InForce.{has_begun, is_footer_saving, is_saved, is_saved_by, is_saved_since, moments_in, year_after, year_before}
-use Rattle.tz_footer.specs.Yearly.{time_shown}
-use Rattle.tz_footer.proofs.rule.YearlyRule.is_saving.Goals as goal
+use Rattle.tz_posix_core.specs.InForce.{moments_in, year_at}
+use Rattle.tz_footer.specs.InForce.{has_begun, is_footer_saving, is_saved, is_saved_by, is_saved_since, year_after, year_before}
+use Rattle.tz_posix_core.specs.Yearly.{time_shown}
+use Rattle.tz_footer.proofs.rule.is_saving.Goals as goal
 
 by_after : (after here before earlier : ℤ × ℤ) (s : ℤ) → has_begun after s ≡ true → is_saved_by after here before earlier s ≡ is_saved after s
 unfolding is_saved_by
@@ -21,14 +21,14 @@ by_neither after here before earlier s later not_yet = rw (later, not_yet) refl
 pub returns-then-has_begun : goal.returns-then-has_begun
 unfolding is_footer_saving
 returns-then-has_begun c =
-    let moments = moments_in c.args.standard c.args.saving (time_shown c.args.self.now.start) (time_shown c.args.self.now.end) in
+    let moments = moments_in c.args.standard c.args.saving (time_shown c.args.rule.now.start) (time_shown c.args.rule.now.end) in
     let y = year_at c.args.standard c.args.second in
     let fits : FitsSigned w32 c.counted_year_at-year.result = search rules in
     let later : FitsSigned w32 c.year_after.result = search rules in
     let second = to_z-of_z c.ranges.second in
     let year = rw second at c.counted_year_at-year.ensures.year in
     let next = (rw (to_z-of_z fits) at c.year_after.ensures.year) ∙ ap year_after year in
-    let after = (rw (to_z-of_z later) at c.in_year-after.ensures) ∙ ap moments next in
+    let after = (rw (to_z-of_z later) at c.moments_in-after.ensures) ∙ ap moments next in
     let begun = sym (λ i. has_begun (after i) (second i)) ∙ sym c.has_begun.ensures ∙ c.if-has_begun.true in
     c.is_saved.ensures
     ∙ (λ i. is_saved (after i) (second i))
@@ -37,15 +37,15 @@ returns-then-has_begun c =
 pub returns-then-has_begun-2 : goal.returns-then-has_begun-2
 unfolding is_footer_saving
 returns-then-has_begun-2 c =
-    let moments = moments_in c.args.standard c.args.saving (time_shown c.args.self.now.start) (time_shown c.args.self.now.end) in
+    let moments = moments_in c.args.standard c.args.saving (time_shown c.args.rule.now.start) (time_shown c.args.rule.now.end) in
     let y = year_at c.args.standard c.args.second in
     let fits : FitsSigned w32 c.counted_year_at-year.result = search rules in
     let later : FitsSigned w32 c.year_after.result = search rules in
     let second = to_z-of_z c.ranges.second in
     let year = rw second at c.counted_year_at-year.ensures.year in
     let next = (rw (to_z-of_z fits) at c.year_after.ensures.year) ∙ ap year_after year in
-    let after = (rw (to_z-of_z later) at c.in_year-after.ensures) ∙ ap moments next in
-    let here = (rw (to_z-of_z fits) at c.in_year-here.ensures) ∙ ap moments year in
+    let after = (rw (to_z-of_z later) at c.moments_in-after.ensures) ∙ ap moments next in
+    let here = (rw (to_z-of_z fits) at c.moments_in-here.ensures) ∙ ap moments year in
     let not_yet = sym (λ i. has_begun (after i) (second i)) ∙ sym c.has_begun.ensures ∙ c.if-has_begun.false in
     let begun = sym (λ i. has_begun (here i) (second i)) ∙ sym c.has_begun-2.ensures ∙ c.if-has_begun-2.true in
     c.is_saved-then-has_begun-2.ensures
@@ -55,7 +55,7 @@ returns-then-has_begun-2 c =
 pub returns : goal.returns
 unfolding is_footer_saving
 returns c =
-    let moments = moments_in c.args.standard c.args.saving (time_shown c.args.self.now.start) (time_shown c.args.self.now.end) in
+    let moments = moments_in c.args.standard c.args.saving (time_shown c.args.rule.now.start) (time_shown c.args.rule.now.end) in
     let y = year_at c.args.standard c.args.second in
     let fits : FitsSigned w32 c.counted_year_at-year.result = search rules in
     let later : FitsSigned w32 c.year_after.result = search rules in
@@ -64,8 +64,8 @@ returns c =
     let year = rw second at c.counted_year_at-year.ensures.year in
     let next = (rw (to_z-of_z fits) at c.year_after.ensures.year) ∙ ap year_after year in
     let last = (rw (to_z-of_z fits) at c.year_before.ensures.year) ∙ ap year_before year in
-    let after = (rw (to_z-of_z later) at c.in_year-after.ensures) ∙ ap moments next in
-    let here = (rw (to_z-of_z fits) at c.in_year-here.ensures) ∙ ap moments year in
+    let after = (rw (to_z-of_z later) at c.moments_in-after.ensures) ∙ ap moments next in
+    let here = (rw (to_z-of_z fits) at c.moments_in-here.ensures) ∙ ap moments year in
     let not_yet = sym (λ i. has_begun (after i) (second i)) ∙ sym c.has_begun.ensures ∙ c.if-has_begun.false in
     let nor_here = sym (λ i. has_begun (here i) (second i)) ∙ sym c.has_begun-2.ensures ∙ c.if-has_begun-2.false in
     c.is_saved_since.ensures
