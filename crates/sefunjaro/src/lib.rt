@@ -43,8 +43,9 @@ pub use posix_names::has_posix_names;
 pub use room::fill;
 pub use source::{OpenFault, OpenSource};
 pub use tz_lookup::{
-    CompactSet, CompactTz, Database, DatabaseFault, Fixed, FixedTimespanSet, InstantsLocal, Offset,
-    OffsetDateTimeExt, OffsetResult, PrimitiveDateTimeExt, TimeZone, Tz, TzFault, ZoneFault,
+    AllInstants, CompactSet, CompactTz, Database, DatabaseFault, Fixed, FixedTimespanSet,
+    InstantsLocal, InstantsOf, Offset, OffsetDateTimeExt, OffsetResult, PrimitiveDateTimeExt,
+    TimeZone, Tz, TzFault, ZoneFault,
 };
 pub use tz_posix_core::PosixTz;
 pub use tz_tzif::{TzifFault, TzifTz};
