@@ -211,6 +211,14 @@ turning-stays lines last place turn =
       kept_there = there ∙ ap (λ l. map entry_on l ++ turn.between) found.1;
     }
 
+-- a cycle later
+pub span-turns : (k : ℕ) (lines : List Line) (last : Line) (place : ℕ) (first : FixedTimespan) (t : ℤ) (turn : IsTurning lines last place)
+    → has_come t turn.second ≡ true
+    → span_in first (sorted_entries_over (k + (place + 400)) (lines ++ (last ∷ []))) (instant_on t)
+    ≡ span_in first (sorted_entries_over (k + place) (lines ++ (last ∷ []))) t
+unfolding cycle_of
+span-turns k lines last place first t turn come = span-repeats lines last place k first first t (cycle_of lines last place turn) come
+
 -- a place some cycles later
 unfoldable pub places_on : ℕ → ℕ → ℕ
 places_on zero place = place

@@ -49,11 +49,11 @@ or_left : (a b : Bool) → a ≡ true → a || b ≡ true
 or_left true b h = refl
 or_left false b h = absurd cc
 
-or_right : (a b : Bool) → b ≡ true → a || b ≡ true
+pub or_right : (a b : Bool) → b ≡ true → a || b ≡ true
 or_right true b h = refl
 or_right false b h = h
 
-or_none : (a b : Bool) → b ≡ false → a || b ≡ a
+pub or_none : (a b : Bool) → b ≡ false → a || b ≡ a
 or_none true b h = refl
 or_none false b h = h
 

@@ -21,11 +21,11 @@ use Rattle.zone_cycle.proofs.SettledLemmas.{and_first, and_second, applies-settl
 abbrev pub are_bounded : List RuleInfo → Bool
 are_bounded rules = list_all is_bounded_rule rules
 
-or_first : (a b : Bool) → a || b ≡ false → a ≡ false
+pub or_first : (a b : Bool) → a || b ≡ false → a ≡ false
 or_first true b h = h
 or_first false b h = refl
 
-or_second : (a b : Bool) → a || b ≡ false → b ≡ false
+pub or_second : (a b : Bool) → a || b ≡ false → b ≡ false
 or_second true b h = absurd cc
 or_second false b h = h
 

@@ -1,5 +1,5 @@
 -- What a zone that goes on is: still, or turning at the end of 2099.
-use Rattle.std.proofs.Common.{◌≡◌, List, [], ◌∷◌, Some, None, ℤ, pos, refl, Bool, ap, ◌∙◌, arith, ◌*ℤ◌, true, false, ◌++◌, sym, not, ◌&&◌, ◌||◌, find, option_map, int_lt, Option, subst, int_eq, append_assoc, ◌<ℤ◌, is_none, is_some}
+use Rattle.std.proofs.Common.{◌≡◌, List, [], ◌∷◌, Some, None, ℤ, pos, refl, Bool, arith, ◌*ℤ◌, true, false, ◌++◌, not, ◌&&◌, ◌||◌, find, option_map, int_lt, Option, subst, int_eq, ◌<ℤ◌, is_none, is_some}
 use Rattle.std.proofs.lemmas.Bool.{and_parts}
 use Rattle.std.specs.List.{list_all, list_any}
 use Rattle.owned.specs.Sorted.{stable_sort}
@@ -11,7 +11,7 @@ use Rattle.zone_spans.specs.Lines.{Line, is_ruled}
 use Rattle.zone_spans.specs.Listing.{start_firing}
 use Rattle.zone_spans.specs.declared.span.FixedTimespan.{FixedTimespan}
 use Rattle.zone_cycle.specs.GoesOn.{are_cycle_later, cycle_entries, ends_by_then, is_apart, is_before_2101, is_in_order, is_still, kept_over, last_goes_on, some_leaves, turns}
-use Rattle.zone_cycle.specs.Later.{begun_entries, first_fired, listed_entries, start_after}
+use Rattle.zone_cycle.specs.Later.{begun_entries, first_fired, start_after}
 use Rattle.zone_cycle.specs.Over.{entries_from_over, sorted_entries_over}
 use Rattle.zone_cycle.specs.Settled.{are_settled, is_lasting}
 use Rattle.zone_cycle.proofs.BackLemmas.{IsApart}
@@ -20,7 +20,7 @@ use Rattle.zone_cycle.proofs.OrderLemmas.{AllTo, AllUnder, StartsUnder}
 use Rattle.zone_cycle.proofs.SortLemmas.{AllAreBelow, AllAreBelow-sorted}
 use Rattle.zone_cycle.proofs.StableLemmas.{NoneHasCome}
 use Rattle.zone_cycle.proofs.TestLemmas.{all_early, all_end, ends_of, kept_of-below, not_true, order_of, some_found}
-use Rattle.zone_cycle.proofs.ZoneLemmas.{AllEnd, IsEndless, entries_from_over-split, entries_of_over-endless}
+use Rattle.zone_cycle.proofs.ZoneLemmas.{AllEnd, IsEndless, entries_from_over-first}
 
 -- what is asked of any last line
 pub record IsGoing (front : List Line) (last : Line) : Type 0 where
@@ -78,16 +78,6 @@ to-front : (high : ℤ) (es gs : List Entry) → AllTo high (es ++ gs) → AllTo
 to-front high [] gs h = tt
 to-front high (e ∷ es) gs h = (h.0, to-front high es gs h.1)
 
--- the entries of the first years
-raw_entries-are : (front : List Line) (last : Line) → AllEnd front → IsEndless last
-    → entries_from_over 300 None (front ++ (last ∷ []))
-    ≡ (entries_from_over 300 None front ++ listed_entries last (start_after None front) 300) ++ begun_entries last (start_after None front) 300
-raw_entries-are front last ended endless =
-    let start = start_after None front in
-    entries_from_over-split 300 None front last (omega arith) ended
-    ∙ ap (λ l. entries_from_over 300 None front ++ l) (entries_of_over-endless 300 last start endless)
-    ∙ sym (append_assoc (entries_from_over 300 None front) (listed_entries last start 300) (begun_entries last start 300))
-
 -- the second of the two latest comes before 2101
 second_early : (front : List Line) (last : Line) (k j : Entry) (ks : List Entry)
     → list_all is_before_2101 (entries_from_over 300 None (front ++ (last ∷ []))) ≡ true
@@ -126,7 +116,7 @@ turned_of front last going not_still h =
     let endless : IsEndless last = record { ruled = ruled_of last not_still; endless = going.endless } in
     let found = some_found (find (λ (f : Firing). int_eq f.rule.time_to_add (pos 0)) (first_fired last 300).0) second.1 in
     let is_order = order_of start (entries_from_over 300 None zone) (cycle_entries last) third.1 in
-    let behind = subst (AllTo is_order.low) (raw_entries-are front last going.ended endless) is_order.behind in
+    let behind = subst (AllTo is_order.low) (entries_from_over-first front last 300 (omega arith) going.ended endless) is_order.behind in
     let both = ends_of (kept_over 700 zone) (kept_over 300 zone) fourth.1 in
     record {
       turn = record {

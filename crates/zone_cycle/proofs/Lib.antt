@@ -19,3 +19,5 @@ pub mod FaultLemmas
 pub mod QuietLemmas
 pub mod TestLemmas
 pub mod GoingLemmas
+pub mod MoreLemmas
+pub mod ForEverLemmas

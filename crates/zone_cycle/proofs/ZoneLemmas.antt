@@ -34,7 +34,7 @@ AllEnd (line ∷ lines) = EndsByThen line.end × AllEnd lines
 fewer : (n a : ℕ) → 300 ≤ n → a ≤ 2099 → min n (a - (1800 - 1)) ≡ min 300 (a - (1800 - 1))
 fewer n a h k = omega arith
 
-years_over-ended : (n : ℕ) (end : Option ChangeTime) → 300 ≤ n → EndsByThen end → years_over n end ≡ years_over 300 end
+pub years_over-ended : (n : ℕ) (end : Option ChangeTime) → 300 ≤ n → EndsByThen end → years_over n end ≡ years_over 300 end
 unfolding years_over
 years_over-ended n None late ended = absurd ended
 years_over-ended n (Some end) late ended = fewer n (nat_abs (year_number (end_year end))) late ended
@@ -114,7 +114,30 @@ pub record AddsBehind (lines : List Line) (last : Line) (place : ℕ) : Type 0 w
       (later_entries last place k)
   pub rise : (k : ℕ) → RiseAbove is_sooner (begun_entries last (start_after None lines) place) (later_entries last place k)
 
--- over more years there are more entries behind those of before
+-- over more years there are more entries, in front of that at the last line's start
+pub entries_from_over-more : (lines : List Line) (last : Line) (place k : ℕ) → AddsBehind lines last place
+    → entries_from_over (k + place) None (lines ++ (last ∷ []))
+    ≡ (entries_from_over 300 None lines ++ listed_entries last (start_after None lines) place)
+    ++ (later_entries last place k ++ begun_entries last (start_after None lines) place)
+entries_from_over-more lines last place k on =
+    let start = start_after None lines in
+    let front = entries_from_over 300 None lines in
+    let xs = listed_entries last start place in
+    entries_from_over-split (k + place) None lines last (omega (arith, on.late)) on.ended
+    ∙ ap (λ l. front ++ l) (entries_of_over-more place k last start on.endless (on.past k) on.ends)
+    ∙ sym (append_assoc front xs (later_entries last place k ++ begun_entries last start place))
+
+pub entries_from_over-first : (lines : List Line) (last : Line) (place : ℕ) → 300 ≤ place → AllEnd lines → IsEndless last
+    → entries_from_over place None (lines ++ (last ∷ []))
+    ≡ (entries_from_over 300 None lines ++ listed_entries last (start_after None lines) place) ++ begun_entries last (start_after None lines) place
+entries_from_over-first lines last place late ended endless =
+    let start = start_after None lines in
+    let front = entries_from_over 300 None lines in
+    entries_from_over-split place None lines last late ended
+    ∙ ap (λ l. front ++ l) (entries_of_over-endless place last start endless)
+    ∙ sym (append_assoc front (listed_entries last start place) (begun_entries last start place))
+
+-- they come behind those of before once all are sorted
 pub sorted_entries_over-more : (lines : List Line) (last : Line) (place k : ℕ) → AddsBehind lines last place
     → sorted_entries_over (k + place) (lines ++ (last ∷ [])) ≡ sorted_entries_over place (lines ++ (last ∷ [])) ++ later_entries last place k
 unfolding sorted_entries_over
@@ -124,18 +147,9 @@ sorted_entries_over-more lines last place k on =
     let xs = listed_entries last start place in
     let ys = begun_entries last start place in
     let gs = later_entries last place k in
-    let more : 300 ≤ k + place = omega (arith, on.late) in
-    let all : entries_from_over (k + place) None (lines ++ (last ∷ [])) ≡ (front ++ xs) ++ (gs ++ ys) =
-    entries_from_over-split (k + place) None lines last more on.ended
-    ∙ ap (λ l. front ++ l) (entries_of_over-more place k last start on.endless (on.past k) on.ends)
-    ∙ sym (append_assoc front xs (gs ++ ys)) in
-    let some : entries_from_over place None (lines ++ (last ∷ [])) ≡ (front ++ xs) ++ ys =
-    entries_from_over-split place None lines last on.late on.ended
-    ∙ ap (λ l. front ++ l) (entries_of_over-endless place last start on.endless)
-    ∙ sym (append_assoc front xs ys) in
-    ap (stable_sort is_sooner) all
+    ap (stable_sort is_sooner) (entries_from_over-more lines last place k on)
     ∙ sorted-more is_sooner (front ++ xs) gs ys (on.precede k) (on.rise k)
-    ∙ ap (λ l. stable_sort is_sooner l ++ gs) (sym some)
+    ∙ ap (λ l. stable_sort is_sooner l ++ gs) (sym (entries_from_over-first lines last place on.late on.ended on.endless))
 
 pub entries_on : (line : Line) (fs : List Firing) → map (entry_of line) (map firing_on fs) ≡ map entry_on (map (entry_of line) fs)
 entries_on line [] = refl

@@ -1,5 +1,5 @@
 -- What a zone shows at any instant: its lines are expanded over as many years as the instant asks for.
-use Rattle.std.specs.Prelude.{◌≡◌, ℕ, zero, suc, ◌+◌, ◌*◌, ◌/◌, Bool, true, not, if◌then◌else◌, List, [], Option, Some, None, Result, Ok, Err, ℤ, pos, neg_ℤ, ◌+ℤ◌, ◌-ℤ◌, ◌*ℤ◌, ◌<ℤ◌, int_lt, unsigned_abs}
+use Rattle.std.specs.Prelude.{◌≡◌, ℕ, zero, suc, ◌+◌, ◌*◌, ◌/◌, Bool, true, not, if◌then◌else◌, List, [], Option, Some, None, Result, Ok, Err, ℤ, pos, neg_ℤ, ◌+ℤ◌, ◌-ℤ◌, ◌*ℤ◌, ◌<ℤ◌, ◌≤ℤ◌, int_lt, unsigned_abs}
 use Rattle.std.specs.List.{list_all}
 use Rattle.std.specs.Option.{option_map_or}
 use Rattle.calendar.specs.Days.{day}
@@ -43,6 +43,10 @@ span_for_ever rulesets infos t = span_told (compiled_over (years_for t) rulesets
 -- none of the entries from 2100 on has come
 unfoldable pub is_before_cycle : List Line → ℤ → Bool
 is_before_cycle lines t = option_map_or (λ last. list_all (λ e. not (has_come t e)) (cycle_entries last)) (last_of lines) true
+
+-- the instant is 2101-01-01 00:00:00 UTC or later
+abbrev pub IsFrom2101 : ℤ → Type 0
+IsFrom2101 t = pos 4133980800000000000 ≤ℤ t
 
 -- an instant some cycles later
 unfoldable pub instants_on : ℕ → ℤ → ℤ

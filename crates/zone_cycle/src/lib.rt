@@ -4,4 +4,5 @@
 #![tactic(auto)]
 
 pub mod days;
+pub mod for_ever;
 pub mod years;

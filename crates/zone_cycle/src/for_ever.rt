@@ -1,0 +1,55 @@
+//! What a zone that goes on shows in any year.
+//!
+//! `GoesOn` says of a zone's lines and rulesets that it does, by tests over one cycle of 400 years; `total_for_ever` and
+//! `span_for_ever` are what its lines show at an instant, in nanoseconds from 1970-01-01 00:00:00 UTC, where they are expanded over
+//! as many years as the instant asks for.
+ghost use Rattle.std.specs.Prelude.{◌≡◌, ℕ, ◌+◌, ◌≤◌, List, true, Ok, Some, ℤ, pos};
+ghost use Rattle.std.specs.Option.{option_map_or};
+ghost use Rattle.zone_cycle.specs.Cycle.{instant_on};
+ghost use Rattle.zone_cycle.specs.ForEver.{AreEnough, IsFrom2101, instants_on, is_before_cycle, span_for_ever, total_for_ever, years_for};
+ghost use Rattle.zone_cycle.specs.GoesOn.{GoesOn};
+ghost use Rattle.zone_cycle.specs.InForce.{span_at};
+ghost use Rattle.zone_spans.specs.Compiled.{compiled};
+ghost use Rattle.zone_spans.specs.Entries.{total};
+ghost use Rattle.zone_spans.specs.Lines.{Rulesets, zone_lines};
+ghost use Rattle.zone_spans.specs.Schedules.{total_at, totals_of};
+ghost use Rattle.zone_spans.specs.declared.span.FixedTimespanSet.{FixedTimespanSet};
+ghost use Rattle.zone_table.specs.declared.zone.ZoneInfo.{ZoneInfo};
+
+/// From 2101 on a zone that goes on, and has a schedule, shows at each instant what it shows 400 years, or 12,622,780,800 seconds,
+/// later: the total offset, and the offset, the saving and the abbreviation.
+pub fn repeats()
+    ensures { (rulesets : Rulesets) (infos : List ZoneInfo) (set : FixedTimespanSet) (t : ℤ) → GoesOn rulesets infos
+        → compiled rulesets infos ≡ Ok set → IsFrom2101 t
+        → (total_for_ever rulesets infos (instant_on t) ≡ total_for_ever rulesets infos t)
+        × (span_for_ever rulesets infos (instant_on t) ≡ span_for_ever rulesets infos t) }
+{}
+
+/// So it does any number of cycles later, and an instant may be brought back by whole cycles to the years 2101 to 2500.
+pub fn repeats_in_each_cycle()
+    ensures { (rulesets : Rulesets) (infos : List ZoneInfo) (set : FixedTimespanSet) (cycles : ℕ) (t : ℤ) → GoesOn rulesets infos
+        → compiled rulesets infos ≡ Ok set → IsFrom2101 t
+        → (total_for_ever rulesets infos (instants_on cycles t) ≡ total_for_ever rulesets infos t)
+        × (span_for_ever rulesets infos (instants_on cycles t) ≡ span_for_ever rulesets infos t) }
+{}
+
+/// Before the first second at which a rule puts something in force from the year 2100 on, and at every instant where no rule lasts,
+/// it shows what the set that `zone_spans` compiles does. That second is no round one: the first rule of 2100 may fire before the
+/// year begins in UTC, or long after.
+pub fn as_before()
+    ensures { (rulesets : Rulesets) (infos : List ZoneInfo) (set : FixedTimespanSet) (t : ℤ) → GoesOn rulesets infos
+        → compiled rulesets infos ≡ Ok set → is_before_cycle (zone_lines rulesets infos) t ≡ true
+        → (total_for_ever rulesets infos t ≡ total_at (totals_of set) t)
+        × (span_for_ever rulesets infos t ≡ Some (span_at set t)) }
+{}
+
+/// The years over which an instant is looked up are 300 or more, and lie two years past its own.
+pub fn years_are_enough()
+    ensures { (t : ℤ) → (300 ≤ years_for t) × AreEnough (years_for t) t }
+{}
+
+/// The total is that of what is in force, and 0 where a zone has no schedule.
+pub fn total_is_of_span()
+    ensures { (rulesets : Rulesets) (infos : List ZoneInfo) (t : ℤ)
+        → total_for_ever rulesets infos t ≡ option_map_or total (span_for_ever rulesets infos t) (pos 0) }
+{}
