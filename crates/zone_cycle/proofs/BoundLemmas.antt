@@ -33,6 +33,7 @@ use Rattle.zone_cycle.proofs.ZoneLemmas.{AddsBehind, sorted_entries_over-more, s
 pub record Fits (y : ℤ) (r : RuleInfo) : Type 0 where
   pub inside : day y 1 1 ≤ℤ named_day r.day y r.month
   pub time : neg_ℤ (pos 1000000) ≤ℤ r.time
+  pub least : neg_ℤ (pos 1000000) ≤ℤ r.time_to_add
   pub saving : r.time_to_add ≤ℤ pos 1000000
 
 abbrev pub AllFit : ℤ → List RuleInfo → Type 0
@@ -80,9 +81,15 @@ earliest-fits y offset saving r (q ∷ qs) fits all =
       | false ↦ (fits, all)
     ]
 
+-- at that second or later, and with a small saving
+pub record IsFiredFrom (low : ℤ) (f : Firing) : Type 0 where
+  pub time : low ≤ℤ f.time
+  pub least : neg_ℤ (pos 1000000) ≤ℤ f.rule.time_to_add
+  pub greatest : f.rule.time_to_add ≤ℤ pos 1000000
+
 abbrev pub FiredFrom : ℤ → List Firing → Type 0
 FiredFrom low [] = Unit {0}
-FiredFrom low (f ∷ fs) = (low ≤ℤ f.time) × FiredFrom low fs
+FiredFrom low (f ∷ fs) = IsFiredFrom low f × FiredFrom low fs
 
 -- firings from a second on, and a small saving after them
 abbrev pub IsLow : ℤ → Fired → Type 0
@@ -97,7 +104,7 @@ fired-from (suc n) y offset saving (r ∷ rs) all h k =
     let next = earliest y offset saving r rs in
     let fits = earliest-fits y offset saving r rs all.0 all.1 in
     let later = fired-from n y offset next.0.time_to_add next.1 fits.1 h fits.0.saving in
-    ((moment-from y offset saving next.0 fits.0 h k, later.0), later.1)
+    ((record { time = moment-from y offset saving next.0 fits.0 h k; least = fits.0.least; greatest = fits.0.saving }, later.0), later.1)
 
 day-rises : (y z : ℤ) → pos 0 ≤ℤ y → y ≤ℤ z → day y 1 1 ≤ℤ day z 1 1
 day-rises y z h k =
@@ -124,7 +131,10 @@ le_join a b c h k = omega (arith, signed)
 
 from-lower : (low high : ℤ) (fs : List Firing) → low ≤ℤ high → FiredFrom high fs → FiredFrom low fs
 from-lower low high [] h from = tt
-from-lower low high (f ∷ fs) h from = (le_join low high f.time h from.0, from-lower low high fs h from.1)
+from-lower low high (f ∷ fs) h from = (
+  record { time = le_join low high f.time h from.0.time; least = from.0.least; greatest = from.0.greatest },
+  from-lower low high fs h from.1,
+)
 
 from-append : (low : ℤ) (fs gs : List Firing) → FiredFrom low fs → FiredFrom low gs → FiredFrom low (fs ++ gs)
 from-append low [] gs h k = k
@@ -154,9 +164,9 @@ firings_from-low place (suc k) offset saving rules settled late fit h s =
       here.1,
     )
 
-entries_from : (line : Line) (low : ℤ) (fs : List Firing) → FiredFrom low fs → AllFrom low (map (entry_of line) fs)
+pub entries_from : (line : Line) (low : ℤ) (fs : List Firing) → FiredFrom low fs → AllFrom low (map (entry_of line) fs)
 entries_from line low [] from = tt
-entries_from line low (f ∷ fs) from = (lt_fail f.time low from.0, entries_from line low fs from.1)
+entries_from line low (f ∷ fs) from = (lt_fail f.time low from.0.time, entries_from line low fs from.1)
 
 apart : (low a x y : ℤ) (t : ℤ) → int_le (a *ℤ pos 1000000000) t ≡ true → t <ℤ ((low -ℤ pos 4000000) *ℤ pos 1000000000)
     → neg_ℤ (pos 2000000) ≤ℤ x → y ≤ℤ pos 2000000 → int_le (low +ℤ x) (a +ℤ y) ≡ false

@@ -160,7 +160,7 @@ pub record IsTwo (es : List Entry) : Type 0 where
   pub others : List Entry
   pub all : es ≡ one ∷ two ∷ others
 
-two_kept : (es : List Entry) (k j : Entry) (ks : List Entry) → IsTwo (kept_of (k ∷ j ∷ ks) es)
+pub two_kept : (es : List Entry) (k j : Entry) (ks : List Entry) → IsTwo (kept_of (k ∷ j ∷ ks) es)
 unfolding kept_of kept_with
 two_kept [] k j ks = record { one = k; two = j; others = ks; all = refl }
 two_kept (e ∷ es) k j ks =

@@ -56,10 +56,10 @@ begins : (k y : ℤ) → is_in_year k y ≡ true → day y 1 1 ≤ℤ k
 unfolding is_in_year
 begins k y h = le_from_pass (day y 1 1) k (and_first (int_le (day y 1 1) k) (int_lt k (day (y +ℤ pos 1) 1 1)) h)
 
-least_of : (s : ℤ) → are_small_seconds s ≡ true → neg_ℤ (pos 1000000) ≤ℤ s
+pub least_of : (s : ℤ) → are_small_seconds s ≡ true → neg_ℤ (pos 1000000) ≤ℤ s
 least_of s h = le_from_pass (neg_ℤ (pos 1000000)) s (and_first (int_le (neg_ℤ (pos 1000000)) s) (int_le s (pos 1000000)) h)
 
-greatest_of : (s : ℤ) → are_small_seconds s ≡ true → s ≤ℤ pos 1000000
+pub greatest_of : (s : ℤ) → are_small_seconds s ≡ true → s ≤ℤ pos 1000000
 greatest_of s h = le_from_pass s (pos 1000000) (and_second (int_le (neg_ℤ (pos 1000000)) s) (int_le s (pos 1000000)) h)
 
 fits-one : (r : RuleInfo) (y : ℤ) → is_settled r ≡ true → is_bounded_rule r ≡ true → some_year (is_outside r) 700 ≡ false
@@ -71,6 +71,7 @@ fits-one r y settled bounded none lasting late =
     record {
       inside = begins (named_day r.day y r.month) y (inside-year r y settled lasting (never_outside r y settled none late) late);
       time = least_of r.time (and_second d t (and_first (d && t) s bounded));
+      least = least_of r.time_to_add (and_second (d && t) s bounded);
       saving = greatest_of r.time_to_add (and_second (d && t) s bounded);
     }
 

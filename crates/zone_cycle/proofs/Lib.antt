@@ -21,3 +21,4 @@ pub mod TestLemmas
 pub mod GoingLemmas
 pub mod MoreLemmas
 pub mod ForEverLemmas
+pub mod EnoughLemmas
