@@ -1,5 +1,5 @@
 -- No firing of a year comes long before the year begins, so what a zone shows before a year does not depend on the years from it on.
-use Rattle.std.proofs.Common.{◌≡◌, List, [], ◌∷◌, None, ℤ, pos, refl, ℕ, zero, suc, ap, ◌∙◌, arith, ◌+ℤ◌, ◌-ℤ◌, ◌*ℤ◌, ◌≤ℤ◌, ◌+◌, ◌≤◌, true, false, ◌++◌, length, map, filter, sym, inl, inr, int_le, subst, cond, neg_ℤ, unsigned_abs, reverse, ◌<ℤ◌}
+use Rattle.std.proofs.Common.{◌≡◌, refl, [], ◌∷◌, map, true, false, pos, neg_ℤ, List, ◌++◌, arith, ◌≤◌, ℤ, ◌+ℤ◌, ◌*ℤ◌, unsigned_abs, ◌∙◌, sym, ℕ, ◌+◌, ◌≤ℤ◌, int_le, None, zero, suc, ap, ◌-ℤ◌, length, filter, inl, inr, subst, cond, reverse, ◌<ℤ◌}
 use Rattle.std.proofs.lemmas.Bool.{cases_Bool}
 use Rattle.calendar.specs.ComparisonLaws.{le_from_pass, le_fail, lt_fail}
 use Rattle.calendar.specs.Days.{day}
@@ -7,7 +7,6 @@ use Rattle.calendar.specs.MonthLaws.{days_through-two}
 use Rattle.calendar.specs.SignedLaws.{signed, natural}
 use Rattle.calendar.specs.YearLaws.{day-cycle, cycle_days-rise}
 use Rattle.zone_values.specs.Days.{named_day}
-use Rattle.zone_values.specs.Ends.{time_type}
 use Rattle.zone_values.specs.Names.{lower}
 use Rattle.zone_values.specs.declared.time.TimeType.{TimeType}
 use Rattle.zone_values.specs.declared.time.TimeType.TheVariants.{Wall, UTC, Standard}
@@ -164,9 +163,9 @@ firings_from-low place (suc k) offset saving rules settled late fit h s =
       here.1,
     )
 
-pub entries_from : (line : Line) (low : ℤ) (fs : List Firing) → FiredFrom low fs → AllFrom low (map (entry_of line) fs)
-entries_from line low [] from = tt
-entries_from line low (f ∷ fs) from = (lt_fail f.time low from.0.time, entries_from line low fs from.1)
+pub entries_fire : (line : Line) (low : ℤ) (fs : List Firing) → FiredFrom low fs → AllFrom low (map (entry_of line) fs)
+entries_fire line low [] from = tt
+entries_fire line low (f ∷ fs) from = (lt_fail f.time low from.0.time, entries_fire line low fs from.1)
 
 apart : (low a x y : ℤ) (t : ℤ) → int_le (a *ℤ pos 1000000000) t ≡ true → t <ℤ ((low -ℤ pos 4000000) *ℤ pos 1000000000)
     → neg_ℤ (pos 2000000) ≤ℤ x → y ≤ℤ pos 2000000 → int_le (low +ℤ x) (a +ℤ y) ≡ false
@@ -200,7 +199,7 @@ span-stable_years lines last place k j first t on fit offset saving latest early
     let so_far = firings_from place o last.rules s k in
     let rest = map (entry_of last) (firings_from (k + place) o last.rules so_far.1 j).0 in
     let saved = (firings_from-low place k o s last.rules on.settled on.late fit offset saving).1 in
-    let from : AllFrom low rest = entries_from last low (firings_from (k + place) o last.rules so_far.1 j).0
+    let from : AllFrom low rest = entries_fire last low (firings_from (k + place) o last.rules so_far.1 j).0
     (firings_from-low (k + place) j o so_far.1 last.rules on.settled (omega (arith, on.late)) fit offset saved).0 in
     let more : sorted_entries_over (j + k + place) zone ≡ sorted_entries_over (k + place) zone ++ rest =
     sorted_entries_over-more lines last place (j + k) on

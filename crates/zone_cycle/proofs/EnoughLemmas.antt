@@ -1,5 +1,5 @@
 -- Over any number of years that lies two years past an instant's, a zone that goes on shows the same there.
-use Rattle.std.proofs.Common.{◌≡◌, List, [], ◌∷◌, Some, None, ℤ, pos, refl, ℕ, zero, suc, Bool, ap, ◌∙◌, arith, ◌+ℤ◌, ◌-ℤ◌, ◌*ℤ◌, ◌≤ℤ◌, ◌+◌, ◌≤◌, true, false, ◌++◌, length, map, filter, sym, ◌-◌, inl, inr, not, ◌&&◌, subst, cond, neg_ℤ, unsigned_abs, reverse, ◌<ℤ◌, Ok, nat_le}
+use Rattle.std.proofs.Common.{◌≡◌, refl, [], ◌∷◌, map, true, false, pos, neg_ℤ, List, ◌++◌, arith, ◌≤◌, ℤ, ◌+ℤ◌, ◌*ℤ◌, unsigned_abs, ◌∙◌, sym, ℕ, ◌+◌, Bool, ◌&&◌, ◌≤ℤ◌, nat_le, Some, None, zero, suc, ap, ◌-ℤ◌, length, filter, ◌-◌, inl, inr, not, subst, cond, reverse, ◌<ℤ◌, Ok}
 use Rattle.std.proofs.lemmas.Bool.{and_parts}
 use Rattle.std.proofs.lemmas.Bool.Decides.{nat_tests}
 use Rattle.std.proofs.lemmas.List.{reverse-append}
@@ -35,11 +35,12 @@ use Rattle.zone_cycle.specs.GoesOn.{GoesOn, cycle_entries}
 use Rattle.zone_cycle.specs.InForce.{has_come}
 use Rattle.zone_cycle.specs.Later.{first_fired, later_entries, later_fired}
 use Rattle.zone_cycle.specs.Over.{compiled_over, schedule_over, sorted_entries_over}
-use Rattle.zone_cycle.proofs.BoundLemmas.{FiredFrom, entries_from, firings_from-low, span-stable_years, year_low}
+use Rattle.zone_cycle.proofs.BoundLemmas.{FiredFrom, entries_fire, firings_from-low, span-stable_years, year_low}
 use Rattle.zone_cycle.proofs.CollapseLemmas.{kept_of-more}
 use Rattle.zone_cycle.proofs.EverLemmas.{adds_behind, two_kept}
 use Rattle.zone_cycle.proofs.FitLemmas.{are_bounded, fit-for_ever, greatest_of, least_of}
 use Rattle.zone_cycle.proofs.ForEverLemmas.{repeats-cycles, total_over-is, years-enough}
+use Rattle.zone_cycle.proofs.ForEverRows.{rulesets, two}
 use Rattle.zone_cycle.proofs.GoingLemmas.{IsGoing}
 use Rattle.zone_cycle.proofs.MoreLemmas.{HasSet, by_kind, set_of_going, set_over, sorted_entries_over-still}
 use Rattle.zone_cycle.proofs.OrderLemmas.{AllFrom}
@@ -348,7 +349,7 @@ before_2100-in rulesets infos set t has bounded early =
     let saving = years-small 300 last.info.offset last.rules (have_small last.rules is_bounded.rules) in
     let fired = (firings_from-low 300 400 last.info.offset (first_fired last 300).1 last.rules has.going.settled (omega arith) fit is_bounded.greatest saving).0 in
     let from = subst (λ low. AllFrom low (cycle_entries last)) begins_2100
-    (entries_from last (year_low (pos (earliest_year + 300))) (later_fired last 300 400) fired) in
+    (entries_fire last (year_low (pos (earliest_year + 300))) (later_fired last 300 400) fired) in
     ap (λ o. option_map_or (λ (l : Line). list_all (λ (e : Entry). not (has_come t e)) (cycle_entries l)) o true) has.last_is
     ∙ none_until t (cycle_entries last) (none_has_come t (pos 4099444800) (cycle_entries last) early from)
 

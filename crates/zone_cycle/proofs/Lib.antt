@@ -22,3 +22,6 @@ pub mod GoingLemmas
 pub mod MoreLemmas
 pub mod ForEverLemmas
 pub mod EnoughLemmas
+mod CycleRows
+mod ForEverRows
+mod GoesOnRows
