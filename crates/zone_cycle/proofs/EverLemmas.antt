@@ -1,5 +1,5 @@
 -- A zone that is tested over one cycle goes on for ever: the total of each later cycle is that of the first.
-use Rattle.std.proofs.Common.{◌≡◌, List, [], ◌∷◌, Some, None, ℤ, pos, refl, ℕ, zero, suc, ap, ◌∙◌, arith, ◌+◌, ◌≤◌, true, false, ◌++◌, map, sym, find, int_lt, Option, subst, cond, int_eq}
+use Rattle.std.proofs.Common.{◌≡◌, refl, [], ◌∷◌, map, true, false, pos, List, ◌++◌, arith, ◌≤◌, ℤ, ◌∙◌, sym, ℕ, ◌+◌, Some, None, ap, find, int_lt, Option, subst, cond, int_eq}
 use Rattle.std.proofs.lemmas.List.{map-append}
 use Rattle.std.proofs.lemmas.List.Folds.{find-append}
 use Rattle.std.specs.Option.{option_or}
@@ -10,17 +10,14 @@ use Rattle.zone_spans.specs.Lines.{Line}
 use Rattle.zone_spans.specs.Listing.{listed_firings}
 use Rattle.zone_spans.specs.declared.span.FixedTimespan.{FixedTimespan}
 use Rattle.zone_cycle.specs.Cycle.{entry_on, instant_on, seconds_on}
-use Rattle.zone_cycle.specs.ForEver.{instants_on}
 use Rattle.zone_cycle.specs.InForce.{has_come}
 use Rattle.zone_cycle.specs.Later.{begun_entries, first_fired, later_entries, later_fired, listed_entries, start_after}
 use Rattle.zone_cycle.specs.Over.{entries_from_over, sorted_entries_over}
 use Rattle.zone_cycle.specs.Settled.{are_settled}
-use Rattle.zone_cycle.proofs.CollapseLemmas.{kept-repeats}
 use Rattle.zone_cycle.proofs.FiringLemmas.{before_on, firings_of_years-split}
 use Rattle.zone_cycle.proofs.OrderLemmas.{AllFrom, AllTo, AllUnder, IsInOrder, Rising, StartsUnder, chain, chain_under, from-on, in_order-for_ever, later_second, past-from, precede-from, rise-from, rising-on}
 use Rattle.zone_cycle.proofs.SeamLemmas.{IsSeam, seam-stays}
-use Rattle.zone_cycle.proofs.SpanLemmas.{has_come-on}
-use Rattle.zone_cycle.proofs.ZoneLemmas.{AddsBehind, AllEnd, EndsSaving, IsCycle, IsEndless, later_entries-repeat, listed-more, sorted_entries_over-more, span-repeats, span_in, start-more}
+use Rattle.zone_cycle.proofs.ZoneLemmas.{AddsBehind, AllEnd, EndsSaving, IsCycle, IsEndless, later_entries-repeat, listed-more, span-repeats, span_in, start-more}
 
 -- what is tested at a place: all of it over lists that are worked out
 pub record IsTested (lines : List Line) (last : Line) (place : ℕ) : Type 0 where
@@ -125,11 +122,6 @@ tested-stays lines last place test =
       begun = subst (AllUnder (seconds_on test.low)) begun (under-higher test.low (seconds_on test.low) _ higher test.begun);
     }
 
-pub tested-low : (lines : List Line) (last : Line) (place : ℕ) (test : IsTested lines last place)
-    → (tested-stays lines last place test).low ≡ seconds_on test.low
-unfolding tested-stays
-tested-low lines last place test = refl
-
 -- ---- a cycle whose ends have the same two entries, a cycle apart
 pub record IsTurning (lines : List Line) (last : Line) (place : ℕ) : Type 0 where
   pub tested : IsTested lines last place
@@ -172,45 +164,6 @@ two_kept (e ∷ es) k j ks =
       ]
     ]
 
--- the first two of a list that begins with them
-two_are : (kept before between : List Entry) (a b : Entry) → IsTwo kept → kept ++ before ≡ a ∷ b ∷ between
-    → (rest : List Entry) × (kept ≡ a ∷ b ∷ rest)
-two_are kept before between a b two is =
-    let whole : two.one ∷ two.two ∷ (two.others ++ before) ≡ a ∷ b ∷ between = sym (ap (λ l. l ++ before) two.all) ∙ is in
-    let first : two.one ≡ a = cc in
-    let second : two.two ≡ b = cc in
-    (two.others, two.all ∙ (λ i. first i ∷ second i ∷ two.others))
-
--- the next cycle turns too
-pub turning-stays : (lines : List Line) (last : Line) (place : ℕ) → IsTurning lines last place → IsTurning lines last (place + 400)
-turning-stays lines last place turn =
-    let zone = lines ++ (last ∷ []) in
-    let test = turn.tested in
-    let gs = later_entries last place 400 in
-    let a = turn.latest in
-    let b = turn.second in
-    let kept = kept_of (a ∷ b ∷ []) gs in
-    let both = kept-repeats (sorted_entries_over place zone) (sorted_entries_over (place + 400) zone) gs a b turn.before turn.between turn.kept_here turn.kept_there in
-    let first : 400 + place ≡ place + 400 = omega arith in
-    let next : 400 + (place + 400) ≡ place + 400 + 400 = omega arith in
-    let here : kept ++ turn.before ≡ entry_on a ∷ entry_on b ∷ turn.between =
-    sym (ap (λ n. kept_of [] (sorted_entries_over n zone)) (sym first)
-    ∙ ap (kept_of []) (sorted_entries_over-more lines last place 400 (adds_behind lines last place test)) ∙ both.0) ∙ turn.kept_there in
-    let there : kept_of [] (sorted_entries_over (place + 400 + 400) zone) ≡ map entry_on kept ++ turn.between =
-    ap (λ n. kept_of [] (sorted_entries_over n zone)) (sym next)
-    ∙ ap (kept_of []) (sorted_entries_over-more lines last (place + 400) 400 (adds_behind lines last (place + 400) (tested-stays lines last place test))
-    ∙ ap (λ l. sorted_entries_over (place + 400) zone ++ l) (later_entries-repeat last place 400 test.settled test.late test.seam)) ∙ both.1 in
-    let found = two_are kept turn.before turn.between (entry_on a) (entry_on b) (two_kept gs a b []) here in
-    record {
-      tested = tested-stays lines last place test;
-      latest = entry_on a;
-      second = entry_on b;
-      before = turn.between;
-      between = map entry_on found.0 ++ turn.between;
-      kept_here = turn.kept_there;
-      kept_there = there ∙ ap (λ l. map entry_on l ++ turn.between) found.1;
-    }
-
 -- a cycle later
 pub span-turns : (k : ℕ) (lines : List Line) (last : Line) (place : ℕ) (first : FixedTimespan) (t : ℤ) (turn : IsTurning lines last place)
     → has_come t turn.second ≡ true
@@ -218,20 +171,3 @@ pub span-turns : (k : ℕ) (lines : List Line) (last : Line) (place : ℕ) (firs
     ≡ span_in first (sorted_entries_over (k + place) (lines ++ (last ∷ []))) t
 unfolding cycle_of
 span-turns k lines last place first t turn come = span-repeats lines last place k first first t (cycle_of lines last place turn) come
-
--- a place some cycles later
-unfoldable pub places_on : ℕ → ℕ → ℕ
-places_on zero place = place
-places_on (suc cycles) place = places_on cycles (place + 400)
-
--- for ever: some cycles later the total is the same
-pub span-for_ever : (cycles k : ℕ) (lines : List Line) (last : Line) (place : ℕ) (first : FixedTimespan) (t : ℤ)
-    (turn : IsTurning lines last place)
-    → has_come t turn.second ≡ true
-    → span_in first (sorted_entries_over (k + places_on cycles place) (lines ++ (last ∷ []))) (instants_on cycles t)
-    ≡ span_in first (sorted_entries_over (k + place) (lines ++ (last ∷ []))) t
-unfolding instants_on places_on turning-stays cycle_of
-span-for_ever zero k lines last place first t turn come = refl
-span-for_ever (suc cycles) k lines last place first t turn come =
-    span-for_ever cycles k lines last (place + 400) first (instant_on t) (turning-stays lines last place turn) (has_come-on t turn.second ∙ come)
-    ∙ span-repeats lines last place k first first t (cycle_of lines last place turn) come

@@ -1,17 +1,13 @@
 -- A day outside its year is met in the first 700 years, or never; and the first span is the same over more years.
-use Rattle.std.proofs.Common.{◌≡◌, List, [], ◌∷◌, Some, ℤ, pos, refl, ℕ, zero, suc, Bool, ap, ◌∙◌, arith, ◌+ℤ◌, ◌≤ℤ◌, ◌+◌, ◌≤◌, true, false, ◌++◌, sym, ◌-◌, ◌*◌, ◌<◌, inl, inr, not, ◌&&◌, ◌||◌, if◌then◌else◌, find, option_map, int_le, int_lt}
+use Rattle.std.proofs.Common.{◌≡◌, refl, true, false, pos, arith, ◌≤◌, ℤ, ◌+ℤ◌, ◌∙◌, sym, ℕ, ◌+◌, ◌*◌, ◌<◌, Bool, ◌&&◌, ◌||◌, ◌≤ℤ◌, int_le, zero, suc, ap, ◌-◌, inl, inr, not, int_lt}
 use Rattle.std.proofs.lemmas.Bool.{cases_lt, cases_Bool}
 use Rattle.std.proofs.lemmas.Int.{ints}
-use Rattle.std.proofs.lemmas.List.Folds.{find-append}
-use Rattle.std.specs.Option.{option_or}
 use Rattle.calendar.specs.Days.{day}
 use Rattle.calendar.specs.SignedLaws.{signed}
 use Rattle.zone_values.specs.Days.{named_day, is_in_year}
 use Rattle.zone_table.specs.Moments.{applies_to_year}
 use Rattle.zone_table.specs.declared.rule.RuleInfo.{RuleInfo}
-use Rattle.zone_spans.specs.Entries.{Entry, first_span, fixed_span, is_standard}
 use Rattle.zone_spans.specs.Faults.{is_outside, some_year}
-use Rattle.zone_spans.specs.Lines.{Line, is_ruled}
 use Rattle.zone_spans.specs.Years.{earliest_year}
 use Rattle.zone_cycle.specs.Cycle.{days_on, next_cycle}
 use Rattle.zone_cycle.specs.Settled.{is_settled}
@@ -98,17 +94,3 @@ some_year-more test repeats (suc n) =
 
 pub outside-more : (rule : RuleInfo) (n : ℕ) → is_settled rule ≡ true → some_year (is_outside rule) (n + 700) ≡ some_year (is_outside rule) 700
 outside-more rule n settled = some_year-more (is_outside rule) (λ y late. is_outside-repeats rule y settled late) n
-
--- ---- what holds before all entries
-by_first : (ruled : Bool) (line : Line) (es gs : List Entry) (e : Entry) → find is_standard es ≡ Some e
-    → (if ruled then option_map (λ (f : Entry). f.1) (find is_standard (es ++ gs)) else Some (fixed_span line))
-    ≡ (if ruled then option_map (λ (f : Entry). f.1) (find is_standard es) else Some (fixed_span line))
-by_first true line es gs e found = ap (option_map (λ (f : Entry). f.1))
-    (find-append is_standard es gs ∙ ap (λ o. option_or o (find is_standard gs)) found ∙ sym found)
-by_first false line es gs e found = refl
-
-pub first_span-more : (lines : List Line) (es gs : List Entry) (e : Entry) → find is_standard es ≡ Some e
-    → first_span lines (es ++ gs) ≡ first_span lines es
-unfolding first_span
-first_span-more [] es gs e found = refl
-first_span-more (line ∷ lines) es gs e found = by_first (is_ruled line.info.saving) line es gs e found

@@ -1,8 +1,7 @@
 -- Where the saving is the same on both sides of a cycle, all that fires later repeats; and rules of one clock see to that.
-use Rattle.std.proofs.Common.{◌≡◌, List, [], ◌∷◌, None, ℤ, pos, refl, ℕ, suc, ap, ◌∙◌, arith, ◌≤ℤ◌, ◌+◌, ◌≤◌, true, false, ◌++◌, length, map, filter, sym, int_lt, cond}
+use Rattle.std.proofs.Common.{◌≡◌, refl, [], ◌∷◌, map, true, false, pos, List, ◌++◌, arith, ◌≤◌, ℤ, ◌∙◌, sym, ℕ, ◌+◌, ◌≤ℤ◌, None, suc, ap, length, filter, int_lt, cond}
 use Rattle.std.proofs.lemmas.Int.{ints}
 use Rattle.calendar.specs.SignedLaws.{signed}
-use Rattle.zone_values.specs.Ends.{time_type}
 use Rattle.zone_values.specs.declared.time.TimeType.{TimeType}
 use Rattle.zone_values.specs.declared.time.TimeType.TheVariants.{Wall, UTC, Standard}
 use Rattle.zone_table.specs.Moments.{instant_of, moment}
@@ -11,7 +10,7 @@ use Rattle.zone_spans.specs.Firings.{earliest, fired, year_firings, Fired, is_ea
 use Rattle.zone_spans.specs.Years.{earliest_year}
 use Rattle.zone_cycle.specs.Cycle.{firing_on, next_cycle}
 use Rattle.zone_cycle.specs.Later.{firings_from}
-use Rattle.zone_cycle.specs.Settled.{are_settled, is_lasting}
+use Rattle.zone_cycle.specs.Settled.{HaveClock, are_settled, is_lasting}
 use Rattle.zone_cycle.proofs.FiringLemmas.{firings_from-repeats, firings_of_years-split, year_firings-repeats, year_firings-settled}
 
 -- the saving in force after the first years up to that place is the same a cycle later
@@ -40,11 +39,6 @@ seam-stays place k offset rules settled late seam =
     ap (λ n. (firings_of_years offset None rules n).1) same
     ∙ ap (λ (f : Fired). f.1) (firings-repeat place k offset rules settled late seam)
     ∙ ap (λ (f : Fired). f.1) (sym (firings_of_years-split place k offset rules))
-
--- all of the rules go by that clock
-abbrev pub HaveClock : TimeType → List RuleInfo → Type 0
-HaveClock clock [] = Unit {0}
-HaveClock clock (r ∷ rs) = (r.time_type ≡ clock) × HaveClock clock rs
 
 order-by_clock : (clock : TimeType) (a b offset s t : ℤ)
     → int_lt (instant_of clock a offset s) (instant_of clock b offset s) ≡ int_lt (instant_of clock a offset t) (instant_of clock b offset t)
@@ -122,5 +116,3 @@ seam-by_clock clock place offset rules settled late have some =
     ∙ ap (λ y. (year_firings y offset None s rules).1) later
     ∙ ap (λ (f : Fired). f.1) (year_firings-repeats year offset s rules settled here)
     ∙ year_saving-by_clock clock year offset s t rules settled here have some
-
--- with no lasting rule nothing fires, and the seam holds as it is

@@ -1,5 +1,5 @@
 -- A zone goes on for ever where its rules do: what is tested of its lines, over one cycle of 400 years from 2100 on.
-use Rattle.std.specs.Prelude.{◌≡◌, ℕ, ◌+ℤ◌, nat_lt, nat_abs, Bool, true, false, not, ◌&&◌, ◌||◌, List, [], ◌∷◌, ◌++◌, find, Option, Some, None, is_some, is_none, ℤ, pos, int_lt}
+use Rattle.std.specs.Prelude.{◌≡◌, ℕ, nat_lt, nat_abs, Bool, true, false, not, ◌&&◌, ◌||◌, List, [], ◌∷◌, ◌++◌, find, Option, Some, None, is_some, is_none, ℤ, pos, int_lt}
 use Rattle.std.specs.List.{list_all, list_any}
 use Rattle.std.specs.Option.{option_map_or}
 use Rattle.std.specs.Ordering.{int_eq}

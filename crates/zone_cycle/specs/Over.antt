@@ -1,5 +1,5 @@
 -- The schedule of a zone over a number of years from 1800 on.
-use Rattle.std.specs.Prelude.{ℕ, ◌+◌, ◌-◌, min, nat_abs, Bool, false, not, ◌&&◌, ◌||◌, if◌then◌else◌, List, [], ◌∷◌, ◌++◌, map, Option, Some, None, option_map, is_none, Result, ℤ}
+use Rattle.std.specs.Prelude.{ℕ, ◌-◌, min, nat_abs, Bool, false, not, ◌&&◌, ◌||◌, if◌then◌else◌, List, [], ◌∷◌, ◌++◌, map, Option, Some, None, option_map, is_none, Result, ℤ}
 use Rattle.std.specs.List.{list_any}
 use Rattle.std.specs.Option.{option_map_or}
 use Rattle.owned.specs.Sorted.{stable_sort}

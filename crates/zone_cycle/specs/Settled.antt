@@ -1,6 +1,7 @@
 -- Rules of which none begins or ends after 2099.
-use Rattle.std.specs.Prelude.{Bool, true, false, ◌&&◌, List, filter, pos, int_le}
+use Rattle.std.specs.Prelude.{◌≡◌, Bool, true, false, ◌&&◌, List, [], ◌∷◌, filter, pos, int_le}
 use Rattle.std.specs.List.{list_all}
+use Rattle.zone_values.specs.declared.time.TimeType.{TimeType}
 use Rattle.zone_values.specs.declared.year.Year.{Year}
 use Rattle.zone_values.specs.declared.year.Year.TheVariants.{Minimum, Maximum, Number}
 use Rattle.zone_table.specs.Moments.{is_at_most, last_year}
@@ -30,3 +31,8 @@ are_settled rules = list_all is_settled rules
 -- those of them that have no last year
 abbrev pub lasting : List RuleInfo → List RuleInfo
 lasting rules = filter is_lasting rules
+
+-- all of the rules go by that clock
+abbrev pub HaveClock : TimeType → List RuleInfo → Type 0
+HaveClock clock [] = Unit {0}
+HaveClock clock (r ∷ rs) = (r.time_type ≡ clock) × HaveClock clock rs
