@@ -40,7 +40,6 @@ use Rattle.zone_cycle.proofs.CollapseLemmas.{kept_of-more}
 use Rattle.zone_cycle.proofs.EverLemmas.{adds_behind, two_kept}
 use Rattle.zone_cycle.proofs.FitLemmas.{are_bounded, fit-for_ever, greatest_of, least_of}
 use Rattle.zone_cycle.proofs.ForEverLemmas.{repeats-cycles, total_over-is, years-enough}
-use Rattle.zone_cycle.proofs.ForEverRows.{rulesets, two}
 use Rattle.zone_cycle.proofs.GoingLemmas.{IsGoing}
 use Rattle.zone_cycle.proofs.MoreLemmas.{HasSet, by_kind, set_of_going, set_over, sorted_entries_over-still}
 use Rattle.zone_cycle.proofs.OrderLemmas.{AllFrom}

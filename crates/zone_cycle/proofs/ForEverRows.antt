@@ -51,15 +51,15 @@ last_sunday month saving letters = record {
   letters = letters;
 }
 
-abbrev pub two : List RuleInfo
+abbrev two : List RuleInfo
 two = last_sunday March (pos 3600) (Some (codes "S")) ∷ last_sunday October (pos 0) None ∷ []
 
 -- `Zone Made/Two 1:00 - CET 2098`, ` 1:00 Two CE%sT`
-abbrev pub made : List ZoneInfo
+abbrev made : List ZoneInfo
 made = record { offset = pos 3600; saving = NoSaving; format = Constant (codes "CET"); end_time = Some (UntilYear (Number (pos 2098))) }
     ∷ record { offset = pos 3600; saving = Multiple (codes "Two"); format = Placeholder (codes "CE%sT"); end_time = None } ∷ []
 
-abbrev pub rulesets : Rulesets
+abbrev rulesets : Rulesets
 rulesets name = Some two
 
 -- an instant in nanoseconds, by its second
