@@ -1,0 +1,8 @@
+-- Definitions: what public clauses say.
+pub mod Cycle
+pub mod Over
+pub mod Settled
+pub mod InForce
+pub mod Later
+pub mod GoesOn
+pub mod ForEver
