@@ -7,9 +7,9 @@ ghost use Rattle.sefunjaro_handles.specs.Statuses.{done};
 
 use crate::fault::{Fault, plain_fault, source_fault};
 use crate::status::{DONE, NO_MEMORY, NO_PLAIN_FORM, TOO_LONG};
+use sefunjaro::{AnySourceFault, OpenSource};
 use sefunjaro_handles::{Handle, Opened};
 use std::alloc::Global;
-use sefunjaro::{AnySourceFault, OpenSource};
 use zone_plain_lines::PlainCause;
 
 /// The number of the cause that a plain form would be too long. It stands behind those of lines.

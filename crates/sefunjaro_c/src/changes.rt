@@ -10,8 +10,8 @@ ghost use Rattle.sefunjaro.specs.Zones.{set_in};
 
 use crate::status::{DONE, NONE_THERE, NOT_KEPT, NOT_OPEN, OUT_OF_RANGE};
 use crate::times::instant_of;
-use sefunjaro_handles::{Opened, View};
 use sefunjaro::{AnyZone, Change, Clock, Reading};
+use sefunjaro_handles::{Opened, View};
 
 /// The saving that is in force at an instant, in seconds. A change lies on a whole second, so the nanosecond only has to be one.
 #[unsafe(no_mangle)]

@@ -5,9 +5,9 @@ ghost use Rattle.sefunjaro_c.specs.Faults.{error_told, join_number, kind_number,
 use crate::status::{
     BAD_JOIN, BAD_LINE, NO_MEMORY, NO_SCHEDULE, NOT_TEXT, OFFSET_RANGE, TOO_LONG, UNKNOWN_ZONE,
 };
+use sefunjaro::OpenFault;
 use tz_lookup::{SpanFault, ZoneFault};
 use zone_line::FaultKind;
-use sefunjaro::OpenFault;
 use zone_source::{BuildKind, SourceError};
 
 /// What a call refuses: its status, and where there is one, the cause and the line of the source.

@@ -9,9 +9,9 @@ ghost use Rattle.sefunjaro.specs.Files.{IsFileOf};
 
 use crate::fault::{Fault, plain_fault};
 use crate::status::{DONE, NO_MEMORY, NOT_READ, NOT_TEXT};
+use sefunjaro::{AnyZone, FileFault, FileZone, PosixFault};
 use sefunjaro_handles::{Handle, Opened};
 use std::alloc::Global;
-use sefunjaro::{AnyZone, FileFault, FileZone, PosixFault};
 use zone_source::text_of;
 
 /// Opens the zone of a compiled file from its bytes. What the handle held before is closed.

@@ -12,9 +12,9 @@ ghost use Rattle.sefunjaro.specs.Sources.{release_in, table_in};
 
 use crate::fault::{Fault, opening_fault, plain_fault, zone_fault};
 use crate::status::{DONE, NO_MEMORY, NONE_THERE, NOT_OPEN, NOT_TEXT};
+use sefunjaro::{AnyZone, OpenSource, fill};
 use sefunjaro_handles::{Handle, Opened, View};
 use std::alloc::Global;
-use sefunjaro::{AnyZone, OpenSource, fill};
 use zone_source::text_of;
 
 /// Opens a source from its text in plain form, and in no other. What the handle held before is closed.

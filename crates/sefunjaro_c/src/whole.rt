@@ -7,9 +7,9 @@ ghost use Rattle.sefunjaro_handles.specs.Statuses.{not_kept, not_open, IfRefused
 
 use crate::fault::{Fault, plain_fault};
 use crate::status::{DONE, NO_MEMORY, NONE_THERE, NOT_KEPT, NOT_OPEN};
+use sefunjaro::{AnyZone, OpenZone, fill, has_posix_names};
 use sefunjaro_handles::{Opened, View};
 use std::alloc::Global;
-use sefunjaro::{AnyZone, OpenZone, fill, has_posix_names};
 use zone_tail_core::TailFault;
 use zone_tzif_set::FileFault;
 

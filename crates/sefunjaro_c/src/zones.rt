@@ -14,9 +14,9 @@ ghost use Rattle.sefunjaro.specs.Rooms.{filled};
 use crate::status::{DONE, NO_MEMORY, NOT_OPEN, OUT_OF_RANGE};
 use crate::times::instant_of;
 use civil_base::{OffsetDateTime, write_zoned};
+use sefunjaro::{AnyZone, Clock, Gap, InForce, Reading, fill};
 use sefunjaro_handles::{Handle, Opened, View};
 use std::alloc::Global;
-use sefunjaro::{AnyZone, Clock, Gap, InForce, Reading, fill};
 
 /// Opens another handle on the same zone, as another thread may need it. What the other held before is closed.
 #[unsafe(no_mangle)]

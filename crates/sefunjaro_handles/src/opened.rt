@@ -1,8 +1,8 @@
 //! What a handle holds.
 
+use sefunjaro::{AnyZone, OpenSource};
 use std::alloc::{AllocError, Global};
 use std::sync::Arc;
-use sefunjaro::{AnyZone, OpenSource};
 
 /// What was opened: a source, or a zone that handles share.
 #[derive(Drop)]
