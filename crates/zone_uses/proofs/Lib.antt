@@ -1,3 +1,4 @@
 pub mod OpenedLemmas
 pub mod RungLemmas
+mod ToldLemmas
 mod WorkedUses

@@ -35,7 +35,7 @@ in_the_years cause = cc (cause)
 
 -- and there want of memory is not told in place of that
 no_want_of_memory : (IsAlarmCause (pos 2932896) 2 error.NoMemory → ⊥) × (IsAlarmCause (pos 2932896) 2 (error.Alarm alarm.NoMemory) → ⊥)
-no_want_of_memory = (λ cause. cc (cause), λ cause. cc (cause))
+no_want_of_memory = (λ cause. cc (cause), λ cause. cause)
 
 -- no call tells a cause of another call
 other_calls : (source name bytes : List ℕ)
