@@ -37,26 +37,34 @@ fn fold(rt: &impl Abort) -> PlainDateTime {
     read_local("2024-11-03 01:30:00.000000000").expect(rt, "no local time")
 }
 
-/// Whether a search that counts its steps finds two offsets at the fold.
-fn finds_two<L: Ledger>(rt: &impl Abort, zone: &Tz<'_>, blank: Blank) -> bool
+/// Whether a search that counts its steps finds two offsets of a local time.
+fn finds_two<L: Ledger>(zone: &Tz<'_>, local: PlainDateTime, blank: Blank) -> bool
     requires name { blank.name ≡ L.name }
     requires parts { blank.parts ≡ L.parts }
     requires some { 0 < L.parts }
 {
     let mut steps: Steps<L> = Steps::new(blank);
-    zone.get_offset_local_counted(&fold(rt).assume_utc(), &mut steps)
+    zone.get_offset_local_counted(&local.assume_utc(), &mut steps)
         .is_ambiguous()
 }
 
 /// The same of a compact set.
-fn finds_two_compactly<L: Ledger>(rt: &impl Abort, zone: &CompactTz<'_>, blank: Blank) -> bool
+fn finds_two_compactly<L: Ledger>(zone: &CompactTz<'_>, local: PlainDateTime, blank: Blank) -> bool
     requires name { blank.name ≡ L.name }
     requires parts { blank.parts ≡ L.parts }
     requires some { 0 < L.parts }
 {
     let mut steps: Steps<L> = Steps::new(blank);
-    zone.get_offset_local_counted(&fold(rt).assume_utc(), &mut steps)
+    zone.get_offset_local_counted(&local.assume_utc(), &mut steps)
         .is_ambiguous()
+}
+
+fn found(zone: &Tz<'_>, local: PlainDateTime) -> bool {
+    finds_two::<Brand>(zone, local, Blank::new(1))
+}
+
+fn found_compactly(compact: &CompactTz<'_>, local: PlainDateTime) -> bool {
+    finds_two_compactly::<Brand>(compact, local, Blank::new(1))
 }
 
 #[test]
@@ -71,8 +79,8 @@ fn a_fold_has_two_offsets(rt: HostRuntime) {
     };
     let compact = CompactTz::new(&set);
     let both = (
-        finds_two::<Brand>(&rt, &zone, Blank::new(1)),
-        finds_two_compactly::<Brand>(&rt, &compact, Blank::new(1)),
+        found(&zone, fold(&rt)),
+        found_compactly(&compact, fold(&rt)),
     );
     same(&rt, &both, &(true, true));
     let later = read_zoned("2024-11-03 01:30:00.000000000 -05:00:00");
