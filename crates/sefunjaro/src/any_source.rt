@@ -2,23 +2,29 @@
 
 use crate::source::{OpenFault, OpenSource};
 use std::alloc::Global;
+use thiserror::Error;
 use zone_line::LineParser;
 use zone_plain::{PlainFault, plain};
 use zone_plain_lines::PlainCause;
 use zone_source::{LIMIT, SourceError};
 
 /// Why a source in any form isn't opened.
-#[derive(Debug, Drop, PartialEq)]
+#[derive(Debug, Drop, PartialEq, Error)]
 pub enum AnySourceFault {
     /// It is longer than 16,777,216 bytes.
+    #[error("the source is longer than 16,777,216 bytes")]
     TooLong,
     /// The line of the source that has no plain form, from 1, and why.
+    #[error("source {0}: {1}")]
     Line(usize, PlainCause),
     /// Its plain form would be longer than 16,777,216 bytes.
+    #[error("the plain form of the source would be longer than 16,777,216 bytes")]
     PlainTooLong,
     /// The first fault of the lines of its plain form, which are counted there.
+    #[error("in the plain form, {0}")]
     Plain(SourceError),
     /// There was no memory for it.
+    #[error("out of memory")]
     NoMemory,
 }
 

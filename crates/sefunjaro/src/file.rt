@@ -12,6 +12,7 @@ use crate::gap::Gap;
 use crate::lent::lent_readings;
 use civil_base::{OffsetDateTime, PlainDateTime, UtcOffset};
 use std::alloc::Global;
+use thiserror::Error;
 use tz_footer::{Footer, footer_text, one_footer};
 use tz_lookup::OffsetDateTimeExt;
 use tz_tzif::{TzifFault, TzifOwner, TzifTz, read_footer};
@@ -26,22 +27,27 @@ pub struct FileZone {
 }
 
 /// Why a file gives no zone.
-#[derive(Clone, Copy, Debug, PartialEq, Eq)]
+#[derive(Clone, Copy, Debug, PartialEq, Eq, Error)]
 pub enum FileFault {
     /// It is no compiled file that is read.
+    #[error("the bytes are no compiled zone file")]
     Refused,
     /// Its footer is neither empty nor a POSIX string of those that are read.
+    #[error("the footer of the compiled zone is no POSIX TZ string that is read")]
     Footer,
     /// There was no memory for the zone.
+    #[error("out of memory")]
     NoMemory,
 }
 
 /// Why a text gives no zone.
-#[derive(Clone, Copy, Debug, PartialEq, Eq)]
+#[derive(Clone, Copy, Debug, PartialEq, Eq, Error)]
 pub enum PosixFault {
     /// It is no POSIX string of those that are read.
+    #[error("the text is no POSIX TZ string that is read")]
     Refused,
     /// There was no memory for the zone.
+    #[error("out of memory")]
     NoMemory,
 }
 

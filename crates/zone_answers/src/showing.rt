@@ -1,5 +1,5 @@
 //! The text that answers a request.
-ghost use Rattle.std.specs.Prelude.{◌≡◌, ◌++◌, ◌∷◌, [], true, false, IfOk, IfNone, IfSome, IsTrue, OnErr, OnOk};
+ghost use Rattle.std.specs.Prelude.{◌≡◌, ◌++◌, ◌∷◌, [], true, false, IfOk, IfNone, IfSome, IsTrue, OnErr, OnOk, length, take};
 ghost use Rattle.tz_lookup.specs.InForce.{all_in_force, in_force, shown_of};
 ghost use Rattle.tz_lookup.specs.CompactZones.{compact_of};
 ghost use Rattle.tz_lookup.specs.Sets.{schedule_of};
@@ -39,7 +39,7 @@ pub(crate) fn show(
 ///
 /// # Errors
 ///
-/// Want of memory alone.
+/// Want of memory alone. The text is as before then.
 pub fn add_instant<T: TimeZone>(
     zone: &T,
     nanoseconds: &i128,
@@ -48,6 +48,8 @@ pub fn add_instant<T: TimeZone>(
     ensures dates { IfOk result (λ has. has ≡ are_in_years nanoseconds.now (T.total_at zone.now nanoseconds.now)) }
     ensures added { IfOk result (λ has. IsTrue has →
         text.new.items ≡ text.old.items ++ answer_text (in_force (T.total_at zone.now) nanoseconds.now ∷ [])) }
+    ensures none { IfOk result (λ has. has ≡ false → text.new.items ≡ text.old.items) }
+    ensures err { OnErr result (text.new.items ≡ text.old.items) }
 {
     match date_time_at(zone, *nanoseconds) {
         Some(shown) => {
@@ -77,13 +79,33 @@ fn date_time_at<T: TimeZone>(zone: &T, nanoseconds: i128) -> Option<OffsetDateTi
 ///
 /// # Errors
 ///
-/// Want of memory alone.
+/// Want of memory alone. The text is as before then.
 pub fn add_instants<T: AllInstants>(
     zone: &T,
     local: &PlainDateTime,
     text: &mut Vec<u8>,
 ) -> Result<(), AllocError>
-    ensures { OnOk result (text.new.items ≡ text.old.items ++ answer_text (all_in_force (T.total_at zone.now) local.now)) }
+    ensures added { OnOk result (text.new.items ≡ text.old.items ++ answer_text (all_in_force (T.total_at zone.now) local.now)) }
+    ensures err { OnErr result (text.new.items ≡ text.old.items) }
+{
+    let before = text.len();
+    match add_each(zone, local, text) {
+        Ok(()) => Ok(()),
+        Err(refused) => {
+            text.truncate(before);
+            Err(refused)
+        }
+    }
+}
+
+/// Adds them, some of them where memory runs out.
+fn add_each<T: AllInstants>(
+    zone: &T,
+    local: &PlainDateTime,
+    text: &mut Vec<u8>,
+) -> Result<(), AllocError>
+    ensures added { OnOk result (text.new.items ≡ text.old.items ++ answer_text (all_in_force (T.total_at zone.now) local.now)) }
+    ensures front { take (length text.old.items) text.new.items ≡ text.old.items }
 {
     let mut is_first = true;
     for date in InstantsOf::new(zone, local) {

@@ -4,20 +4,26 @@ ghost use Rattle.zone_file_answers.specs.Faults.{fault_line, file_refused, reque
 ghost use Rattle.zone_file_answers.specs.Told.{fault_told};
 
 use std::alloc::{AllocError, Global};
+use thiserror::Error;
 use zone_source::{FaultText, write_fault_line};
 
 /// The first fault of a file and its requests. Lines are numbered from 1.
-#[derive(Clone, Copy, Debug, PartialEq, Eq)]
+#[derive(Clone, Copy, Debug, PartialEq, Eq, Error)]
 pub enum FileFault {
     /// The file is no compiled zone that can be looked up.
+    #[error("file: refused")]
     File,
     /// The request line is not UTF-8.
+    #[error("request {0}: not text")]
     NotText(usize),
     /// The request is in no form.
+    #[error("request {0}: request")]
     Request(usize),
     /// The UTC date or the local date of the asked instant lies outside the years -9999 to 9999.
+    #[error("request {0}: range")]
     Range(usize),
     /// Memory ran out.
+    #[error("out of memory")]
     NoMemory,
 }
 

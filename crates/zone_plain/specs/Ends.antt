@@ -1,5 +1,6 @@
 -- How a run ends.
 use Rattle.std.specs.Prelude.{ℕ, List, Option}
+use Rattle.zone_source.specs.OneFile.{file_work}
 use Rattle.zone_source.specs.Runs.{Seen, Work, EndsOf}
 use Rattle.zone_source.specs.declared.status.Status.{Status}
 use Rattle.zone_plain.specs.Causes.{cause, due_bytes}
@@ -7,7 +8,7 @@ use Rattle.zone_plain_base.specs.LineFaults.{Refusal}
 
 -- what the program does with the file that its words name
 abbrev pub work : Work (List ℕ) Refusal
-work = record { file = λ name. name; cause = λ name. cause; due = λ name. due_bytes }
+work = file_work cause due_bytes
 
 -- how a run ended whose words name this file
 abbrev pub Ends : Option (List ℕ) → Seen → Seen → Status → Type 0

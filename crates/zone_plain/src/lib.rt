@@ -9,12 +9,10 @@ mod output;
 mod reading;
 mod respond;
 mod running;
-mod starting;
 mod whole;
 
 pub use laws::{its_own, plain_is_kept, written_is_read};
-pub use running::run_plain;
-pub use starting::start_plain;
+pub use running::{run_plain, start_plain};
 pub use whole::plain;
 pub use zone_plain_base::PlainFault;
 pub use zone_source::{

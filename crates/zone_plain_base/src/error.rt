@@ -3,16 +3,20 @@ ghost use Rattle.std.specs.Prelude.{◌≡◌};
 ghost use Rattle.zone_plain_base.specs.Told.{fault_at};
 
 use std::alloc::AllocError;
+use thiserror::Error;
 use zone_plain_lines::PlainCause;
 
 /// Why a source has no plain form. Lines are numbered from 1.
-#[derive(Clone, Copy, Debug, PartialEq, Eq)]
+#[derive(Clone, Copy, Debug, PartialEq, Eq, Error)]
 pub enum PlainFault {
     /// The line is refused for this. A continuation that isn't there is told as the line after the last.
+    #[error("source {0}: {1}")]
     Line(usize, PlainCause),
     /// More than 16,777,216 bytes would be written.
+    #[error("the plain form of the source would be longer than 16,777,216 bytes")]
     TooLong,
     /// Memory ran out.
+    #[error("out of memory")]
     NoMemory,
 }
 

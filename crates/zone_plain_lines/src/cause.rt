@@ -2,6 +2,8 @@
 ghost use Rattle.std.specs.Prelude.{◌≡◌, ◌≤◌, length};
 ghost use Rattle.zone_plain_lines.specs.Causes.{cause_name};
 
+use std::{error, fmt};
+
 /// Why a line of a source has no plain form.
 #[derive(Clone, Copy, Debug, PartialEq, Eq)]
 pub enum PlainCause {
@@ -80,3 +82,12 @@ impl PlainCause {
         }
     }
 }
+
+/// The name of the cause.
+impl fmt::Display for PlainCause {
+    fn fmt<W: fmt::Write>(&self, f: &mut fmt::Formatter<W>) -> fmt::Result {
+        f.write_str(self.name())
+    }
+}
+
+impl error::Error for PlainCause {}

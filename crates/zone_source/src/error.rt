@@ -1,6 +1,8 @@
 //! Why a source is refused.
 
+use crate::fault_line::FaultText;
 use std::alloc::AllocError;
+use std::{error, fmt};
 
 /// Why a source line does not join those before it.
 #[derive(Clone, Copy, Debug, PartialEq, Eq)]
@@ -37,6 +39,26 @@ impl From<AllocError> for SourceError {
     fn from(_: AllocError) -> SourceError {
         SourceError::NoMemory
     }
+}
+
+/// The line and its cause, as `source 2: line FailedMonthParse`.
+impl fmt::Display for SourceError {
+    fn fmt<W: fmt::Write>(&self, f: &mut fmt::Formatter<W>) -> fmt::Result {
+        match FaultText::of_source(self) {
+            Some(text) => write_text(f, &text),
+            None => f.write_str("out of memory"),
+        }
+    }
+}
+
+impl error::Error for SourceError {}
+
+fn write_text<W: fmt::Write>(f: &mut fmt::Formatter<W>, text: &FaultText) -> fmt::Result {
+    write!(
+        f,
+        "{}{}: {}{}",
+        text.side, text.number, text.group, text.cause
+    )
 }
 
 impl SourceError {

@@ -8,14 +8,12 @@ mod names;
 mod refusal;
 mod respond;
 mod running;
-mod starting;
 mod whole;
 
 pub use laws::names_and_links;
 pub use refusal::{TreeFault, Why};
-pub use running::run_tree;
-pub use starting::start_tree;
-pub use whole::tree;
+pub use running::{run_tree, start_tree};
+pub use whole::{tree, tree_of_table};
 pub use zone_source::{
     Failed, FileShelf, MemShelf, MemSink, Shelf, Sink, Source, Started, Status, StdSink, SureShelf,
     SureSink,

@@ -4,6 +4,7 @@ ghost use Rattle.zone_tzif.specs.Asks.{fault_word};
 
 use owned::Text;
 use std::alloc::AllocError;
+use std::{error, fmt};
 use zone_source::SourceError;
 use zone_spans::SpanFault;
 use zone_tzif_core::WriteFault;
@@ -47,7 +48,7 @@ impl From<AllocError> for NameFault {
 }
 
 /// Why a source has no archive, the first cause.
-#[derive(Debug, Drop)]
+#[derive(Debug, Drop, PartialEq)]
 pub enum TreeFault {
     /// The source is refused for this.
     Source(SourceError),
@@ -66,6 +67,23 @@ impl From<AllocError> for TreeFault {
     fn from(_: AllocError) -> TreeFault {
         TreeFault::NoMemory
     }
+}
+
+/// The line of the source and its cause, or the name and why it has no entry, as `tree A: link`.
+impl fmt::Display for TreeFault {
+    fn fmt<W: fmt::Write>(&self, f: &mut fmt::Formatter<W>) -> fmt::Result {
+        match self {
+            TreeFault::Source(fault) => write!(f, "{fault}"),
+            TreeFault::Refused(name, why) => write_refused(f, name.as_str(), *why),
+            TreeFault::NoMemory => f.write_str("out of memory"),
+        }
+    }
+}
+
+impl error::Error for TreeFault {}
+
+fn write_refused<W: fmt::Write>(f: &mut fmt::Formatter<W>, name: &str, why: Why) -> fmt::Result {
+    write!(f, "tree {name}: {}{}", why.group(), why.word())
 }
 
 impl Why {

@@ -1,54 +1,34 @@
-//! The run of the program.
-ghost use Rattle.std.specs.Prelude.{◌≡◌, option_map};
+//! The program, its run, and the whole of it.
 ghost use Rattle.std.specs.Option.{ForSome};
 ghost use Rattle.zone_source.specs.FileWords.{file_of};
 ghost use Rattle.zone_source.specs.Runs.{seen};
 ghost use Rattle.zone_tree.specs.Ends.{Ends};
+ghost use Rattle.zone_tree.specs.Starts.{StartsTree};
 
 use crate::respond::respond;
 use std::alloc::{AllocError, Global};
 use zone_line::LineParser;
-use zone_source::{FileTask, Response, Shelf, Sink, Status, file_named, run_task};
+use zone_source::{FileProgram, Response, Shelf, Sink, Started, Status, run_file, start_file};
 
-/// A source whose tree is asked for.
-#[derive(Drop)]
-struct TreeTask<'w> {
-    file: &'w str,
-}
+/// The program, over the file that its words name.
+struct TreeProgram;
 
-impl FileTask for TreeTask<'_> {
-    ghost use Rattle.std.specs.Prelude.{ℕ, List};
+impl FileProgram for TreeProgram {
     ghost use Rattle.zone_tree.specs.Trees.{Cause as TreeCause};
-    ghost use Rattle.zone_tree.specs.Ends.{work};
-
-    ghost Asked = { List ℕ };
+    ghost use Rattle.zone_tree.specs.Causes as over_source;
 
     ghost Cause = { TreeCause };
 
-    ghost work = { work };
+    ghost cause = { over_source.cause };
 
-    ghost asked = { λ task. task.file.now };
-
-    fn file(&self) -> &str {
-        self.file
-    }
+    ghost due = { over_source.due_bytes };
 
     fn respond(
-        &self,
         alloc: Global,
         parser: &LineParser,
         source: &[u8],
     ) -> Result<Response, AllocError> {
         respond(alloc, parser, source)
-    }
-}
-
-fn read_task(words: &[String]) -> Option<TreeTask<'_>>
-    ensures { option_map (λ task. task.file.now) result ≡ file_of words.now }
-{
-    match file_named(words) {
-        Some(file) => Some(TreeTask { file }),
-        None => None,
     }
 }
 
@@ -67,5 +47,13 @@ pub fn run_tree<H: Shelf, O: Sink>(
     ensures { Ends (file_of words.now)
         (seen H.Source O.Sink shelf.old output.old) (seen H.Source O.Sink shelf.new output.new) result }
 {
-    run_task(alloc, parser, read_task(words), shelf, output)
+    run_file::<TreeProgram, H, O>(alloc, parser, words, shelf, output)
+}
+
+/// The whole program `zone_tree`: `run_tree` over its words, the files and standard output. The exit status is that of the run;
+/// before it come 7, where the words can't be taken, and 8, where the parser can't be built.
+pub fn start_tree(rt: HostRuntime) -> Started
+    ensures { StartsTree result }
+{
+    start_file::<TreeProgram>(rt)
 }

@@ -16,21 +16,26 @@ use crate::causes::cause_of;
 use crate::convert::from_set;
 use crate::laws::{few_causes, reads_back};
 use std::alloc::{AllocError, Global};
+use thiserror::Error;
 use tz_zone::SpanTable;
 use zone_tail_core::laws::one_tail;
 use zone_tail_core::{TailFault, is_ending_early, is_outlasting, tail};
 use zone_tzif_core::{WriteFault, write_tzif};
 
 /// Why a set has no file, the first cause that holds.
-#[derive(Clone, Copy, Debug, PartialEq, Eq)]
+#[derive(Clone, Copy, Debug, PartialEq, Eq, Error)]
 pub enum FileFault {
     /// The times of its entries don't strictly rise, or are more than 4,294,967,295.
+    #[error("the changes of the zone don't rise, or are too many for a file")]
     Times,
     /// It has more than 256 distinct kinds: offsets with an abbreviation, and whether they are daylight saving time.
+    #[error("the zone has more kinds of time than a file can have")]
     Types,
     /// An abbreviation has a zero byte, or the distinct ones take more than 256 bytes, each with a zero after it.
+    #[error("the abbreviations of the zone don't fit into a file")]
     Names,
     /// There was no memory for the file, of which none of these is a cause.
+    #[error("out of memory")]
     NoMemory,
 }
 
