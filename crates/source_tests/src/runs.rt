@@ -52,6 +52,7 @@ tail zones Lord_Howe~Rule LH 2008 max - Apr Sun>=1 2:00 0 -;Rule LH 2008 max - O
 tail zones Fixed~Zone Fixed 1:30 - TST;~~all TST-1:30;
 tail zones Edge~Zone Edge -24:59:59 - ABC;~~all ABC24:59:59;
 tail zones Fourth~Rule F 2090 max - Mar Sun>=1 2:00 1:00 D;Rule F 2090 max - Oct Sun>=22 3:00 0 S;Zone Fourth -3:30 F F%sT;~~3792375000 FST3:30FDT,M3.1.0,M10.4.0/3;
+plain zones~R odd 1990 o - o 1 23s 1 S;~~Rule odd 1990 only - Oct 1 23:00s 1:00 S;
 tail zones Both~Rule T 2099 only - Mar 25 2:00 1:00 D;Rule T 2099 only - Oct 25 2:00 0 S;Zone Both 0:00 T A%s1;~~4078087200 <AS1>0<AD1>,M3.5.3,M10.5.0;
 ";
 
@@ -102,6 +103,8 @@ alarm zones America/New_York 9999-12-31 00:00:00 2~Rule US 2007 max - Mar Sun>=8
 alarm zones No/Zone 2024-03-09 02:30:00 1~~~alarm: unknown zone;
 list zones Nowhere 0 1~~~list: unknown zone;
 tail zones Nowhere~~~tail: unknown zone;
+plain zones~Nonsense;~~source 1: line LineType;
+tree zones~Zone A 0:00 - A;Link B C;~~tree C: link;
 alarm zones No/Zone 2024-03-09 02:30:00 1~Nonsense;~~source 1: line InvalidLineType;
 alarm zones B 2024-03-09 02:30:00 1~Zone B 0:00 Gone B;~~source 1: build UnknownRuleset;
 alarm zones B 2024-03-09 02:30:00 1~Zone B 0:00 - B 2000; 0:00 Gone B;~~alarm: schedule UnknownRuleset;
