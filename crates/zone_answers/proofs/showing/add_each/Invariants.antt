@@ -1,4 +1,4 @@
-use Rattle.std.proofs.Common.{◌≡◌, ◌×◌, ◌++◌, length, map, take}
+use Rattle.std.proofs.Common.{◌≡◌, ◌++◌, length, map, take}
 use Rattle.tz_lookup.specs.AllLeft.{all_left}
 use Rattle.tz_lookup.specs.InForce.{all_in_force, shown_of}
 use Rattle.zone_answers.specs.Due.{answer_text, text_shown}
