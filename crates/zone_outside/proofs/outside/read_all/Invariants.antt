@@ -1,7 +1,7 @@
 use Rattle.std.proofs.Common.{◌≡◌, ◌+◌, ◌-◌, ◌≤◌, min, length, IfSome, vec_len}
 use Rattle.zone_outside.specs.Outside.{KeepsNames, last_count}
 use Rattle.zone_outside.proofs.Loops.{HasRead}
-use Rattle.zone_outside.proofs.whole.read_all.Given as goal
+use Rattle.zone_outside.proofs.outside.read_all.Given as goal
 
 abbrev pub invariant-reading : goal.invariant-reading
 invariant-reading g l = let S = g.S.Source in record {

@@ -1,7 +1,7 @@
 use Rattle.std.proofs.Common.{arith}
 use Rattle.std.proofs.lemmas.List.{take_rest}
 use Rattle.zone_outside.proofs.Loops.{taken_more}
-use Rattle.zone_outside.proofs.whole.write_all.Goals as goal
+use Rattle.zone_outside.proofs.outside.write_all.Goals as goal
 
 pub writing-preserved : goal.writing-preserved
 writing-preserved g c = record {

@@ -1,5 +1,5 @@
 use Rattle.std.proofs.Common.{◌≡◌, ◌-◌, ◌≤◌, ◌++◌, length, take, Some, IfSome}
-use Rattle.zone_outside.proofs.whole.write_all.Given as goal
+use Rattle.zone_outside.proofs.outside.write_all.Given as goal
 
 abbrev pub invariant-writing : goal.invariant-writing
 invariant-writing g l = let O = g.O.Sink in record {
