@@ -15,8 +15,8 @@ use Rattle.zone_source.specs.Responses.{Responds}
 use Rattle.zone_answers.specs.Summary.{summary, due_summary}
 use Rattle.zone_answers.specs.declared.error.AnswerError.{AnswerError}
 use Rattle.zone_answers.specs.declared.error.AnswerError.TheVariants as errors
-use Rattle.zone_source.specs.declared.text_run.Answered.{Answered}
-use Rattle.zone_source.specs.declared.text_run.Answered.TheVariants.{Done, Fault, Failed, NoMemory}
+use Rattle.zone_source.specs.declared.running.Answered.{Answered}
+use Rattle.zone_source.specs.declared.running.Answered.TheVariants.{Done, Fault, Failed, NoMemory}
 use Rattle.zone_answers.specs.declared.respond.Form.{Form}
 use Rattle.zone_answers.specs.declared.respond.Form.TheVariants as forms
 

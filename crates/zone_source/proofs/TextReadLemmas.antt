@@ -5,7 +5,7 @@ use Rattle.zone_outside.specs.Seen.{InputSeen}
 use Rattle.zone_outside.specs.declared.outside.ReadEnd.{ReadEnd}
 use Rattle.zone_outside.specs.declared.outside.ReadEnd.TheVariants as read
 use Rattle.zone_outside.specs.declared.outside.TheConstants.{LIMIT}
-use Rattle.zone_source.specs.declared.status.Status.TheVariants as status
+use Rattle.zone_source.specs.declared.running.Status.TheVariants as status
 use Rattle.zone_source.specs.Statuses.{IsSilent, IsWritten}
 use Rattle.zone_source.specs.Runs.{Seen}
 

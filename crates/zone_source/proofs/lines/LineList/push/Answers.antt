@@ -1,6 +1,6 @@
 use Rattle.std.proofs.Common.{ap, ◌∙◌, length}
 use Rattle.zone_source.proofs.LineListLemmas.{more_lines, more_ends, long_line}
-use Rattle.zone_source.proofs.line_list.LineList.push.Goals as goal
+use Rattle.zone_source.proofs.lines.LineList.push.Goals as goal
 
 pub invariant_of-self-2 : goal.invariant_of-self-2
 invariant_of-self-2 c =

@@ -1,6 +1,6 @@
 use Rattle.std.proofs.Common.{Err, refl, ap}
 use Rattle.zone_source.proofs.EndLemmas.{done_ends, fault_ends, failed_ends, input_ends}
-use Rattle.zone_source.proofs.text_run.run_over.Goals as goal
+use Rattle.zone_source.proofs.running.run_over.Goals as goal
 
 pub returns-in-Err-read_all : goal.returns-in-Err-read_all
 returns-in-Err-read_all g c =

@@ -1,7 +1,7 @@
 use Rattle.std.proofs.Common.{ap, ◌∙◌, sym}
 use Rattle.zone_source.specs.LineLists.{ended}
 use Rattle.zone_source.proofs.LineListLemmas.{ended_lines}
-use Rattle.zone_source.proofs.line_list.LineList.as_bytes.Goals as goal
+use Rattle.zone_source.proofs.lines.LineList.as_bytes.Goals as goal
 
 pub returns : goal.returns
 returns c =

@@ -1,6 +1,6 @@
 use Rattle.std.proofs.Common.{ap, ◌∙◌, sym, length}
 use Rattle.zone_source.proofs.LineListLemmas.{length_lines}
-use Rattle.zone_source.proofs.line_list.LineList.len.Goals as goal
+use Rattle.zone_source.proofs.lines.LineList.len.Goals as goal
 
 pub returns : goal.returns
 returns c =

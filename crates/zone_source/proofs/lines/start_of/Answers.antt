@@ -1,5 +1,5 @@
 use Rattle.zone_source.proofs.LineListLemmas.{start_first, start_later}
-use Rattle.zone_source.proofs.line_list.start_of.Goals as goal
+use Rattle.zone_source.proofs.lines.start_of.Goals as goal
 
 pub returns-then-i-eq0 : goal.returns-then-i-eq0
 returns-then-i-eq0 c = start_first c.args.ends.now c.args.i c.if-i-eq0.true

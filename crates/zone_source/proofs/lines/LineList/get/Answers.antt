@@ -1,7 +1,7 @@
 use Rattle.std.proofs.Common.{sym, arith, ap, ◌≤◌, ◌<◌, length}
 use Rattle.std.proofs.lemmas.Option.{slice_get_past}
 use Rattle.zone_source.proofs.LineListLemmas.{line_at, lies_within, length_lines}
-use Rattle.zone_source.proofs.line_list.LineList.get.Goals as goal
+use Rattle.zone_source.proofs.lines.LineList.get.Goals as goal
 
 pub returns-then-i-ends : goal.returns-then-i-ends
 returns-then-i-ends c =
