@@ -3,7 +3,7 @@ use Rattle.std.specs.FinMap.{get}
 use Rattle.tz_lookup.specs.Compiles.{compiled_in, IsCompiledAs}
 use Rattle.tz_zone.specs.declared.set.FixedTimespanSet.{FixedTimespanSet}
 use Rattle.zone_answers.proofs.ZoneLemmas.{each_kept, is_there}
-use Rattle.zone_answers.proofs.zones.Zones.open.Goals as goal
+use Rattle.zone_answers.proofs.answering.Zones.open.Goals as goal
 
 pub returns-clause-there : goal.returns-clause-there
 returns-clause-there c =

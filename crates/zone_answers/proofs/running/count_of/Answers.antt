@@ -1,7 +1,7 @@
 use Rattle.std.proofs.Common.{sym, ◌∙◌, ap}
 use Rattle.std.specs.Bool.{then_some}
 use Rattle.zone_answers.proofs.CountLemmas.{count_read}
-use Rattle.zone_answers.proofs.words.count_of.Goals as goal
+use Rattle.zone_answers.proofs.running.count_of.Goals as goal
 
 pub returns-in_err-count : goal.returns-in_err-count
 returns-in_err-count c =

@@ -1,6 +1,6 @@
 use Rattle.std.specs.FinMap.{get-empty}
 use Rattle.owned.specs.Keyed.{text_cmp}
-use Rattle.zone_answers.proofs.zones.Zones.new.Goals as goal
+use Rattle.zone_answers.proofs.answering.Zones.new.Goals as goal
 
 pub returns-clause-opened : goal.returns-clause-opened
 returns-clause-opened c = record {
