@@ -35,10 +35,10 @@ use Rattle.std.proofs.boxed.Box.from_raw.Met.{met}
 use Rattle.sefunjaro_handles.proofs.Destruct++none.drop.Code.{code as nothing_dropped}
 use Rattle.sefunjaro_handles.specs.Handles.{owned_at}
 use Rattle.sefunjaro_handles.proofs.Addresses.{a_box, address_fits, held_there, no_drop, opened, word, word_fits}
-use Rattle.sefunjaro_handles.specs.contracts.held.Held as Held
-use Rattle.sefunjaro_handles.specs.contracts.held.Held.give_back as F
-use Rattle.sefunjaro_handles.proofs.held.Held.give_back.Statement.{statement}
-use Rattle.sefunjaro_handles.proofs.held.Held.give_back.Code as code
+use Rattle.sefunjaro_handles.specs.contracts.handle.Held as Held
+use Rattle.sefunjaro_handles.specs.contracts.handle.Held.give_back as F
+use Rattle.sefunjaro_handles.proofs.handle.Held.give_back.Statement.{statement}
+use Rattle.sefunjaro_handles.proofs.handle.Held.give_back.Code as code
 
 abbrev stays : Stays F.ended.signature.params F.ended.kept
 stays = (stay_dropped (plain (λ _. Held.the_row)) yes, (stay_dropped (plain (λ _. Global.the_row)) yes, tt))

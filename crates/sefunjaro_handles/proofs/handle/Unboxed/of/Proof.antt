@@ -40,10 +40,10 @@ use Rattle.std.specs.contracts.boxed.Box.into_raw as given_out
 use Rattle.std.proofs.boxed.Box.into_raw.Met.{met}
 use Rattle.sefunjaro_handles.proofs.Destruct++none.drop.Code.{code as nothing_dropped}
 use Rattle.sefunjaro_handles.proofs.Addresses.{address_fits, from_heap, made, no_drop, word, word_fits}
-use Rattle.sefunjaro_handles.specs.contracts.unboxed.Unboxed.of as F
-use Rattle.sefunjaro_handles.specs.contracts.unboxed.Unboxed.of.Key.{name as #self}
-use Rattle.sefunjaro_handles.proofs.unboxed.Unboxed.of.Statement.{statement}
-use Rattle.sefunjaro_handles.proofs.unboxed.Unboxed.of.Code as code
+use Rattle.sefunjaro_handles.specs.contracts.handle.Unboxed.of as F
+use Rattle.sefunjaro_handles.specs.contracts.handle.Unboxed.of.Key.{name as #self}
+use Rattle.sefunjaro_handles.proofs.handle.Unboxed.of.Statement.{statement}
+use Rattle.sefunjaro_handles.proofs.handle.Unboxed.of.Code as code
 
 pub of_spec : {M : Type 1} → statement M
 unfolding nothing_dropped

@@ -13,7 +13,7 @@ use Rattle.std_alloc.proofs.SendSync.{lies, quiet}
 use Rattle.sefunjaro_handles.specs.Handles.{owned_at}
 use Rattle.sefunjaro_handles.specs.contracts.opened.Opened as Opened
 use Rattle.sefunjaro_handles.proofs.opened.Opened.TheSendSync.{the_send as a_value}
-use Rattle.sefunjaro_handles.specs.contracts.held.Held as Held
+use Rattle.sefunjaro_handles.specs.contracts.handle.Held as Held
 
 goes : (at : Ptr) (held : Option Opened.the_row.Denot) → Keyless (owned_at at held)
 goes at None = tt

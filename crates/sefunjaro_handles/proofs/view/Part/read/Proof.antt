@@ -19,10 +19,10 @@ use Rattle.std.proofs.raw_atomic.Walks.{proved_at}
 use Rattle.std.specs.Prelude.{is_some}
 use Rattle.sefunjaro_handles.specs.Loans.{loan_owns, part_owns}
 use Rattle.sefunjaro_handles.proofs.Addresses.{address_fits, made, lent_there, opened, word, word_fits}
-use Rattle.sefunjaro_handles.specs.contracts.part.Part as Part
-use Rattle.sefunjaro_handles.specs.contracts.part.Part.read as F
-use Rattle.sefunjaro_handles.proofs.part.Part.read.Statement.{statement}
-use Rattle.sefunjaro_handles.proofs.part.Part.read.Code as code
+use Rattle.sefunjaro_handles.specs.contracts.view.Part as Part
+use Rattle.sefunjaro_handles.specs.contracts.view.Part.read as F
+use Rattle.sefunjaro_handles.proofs.view.Part.read.Statement.{statement}
+use Rattle.sefunjaro_handles.proofs.view.Part.read.Code as code
 
 abbrev stays : Stays F.ended.signature.params F.ended.kept
 stays = (stay_dropped (plain (λ _. Part.the_row)) yes, tt)
