@@ -1,11 +1,89 @@
-//! What a caller in C holds.
-ghost use Rattle.std.specs.Prelude.{◌≡◌, None, Some, is_some, MatchOption, IsSomeAnd};
+//! What a caller in C holds: the address of a value on the heap, which owns it, or nothing.
+ghost use Rattle.std.specs.Prelude.{◌≡◌, None, Some, is_some, MatchOption, IsSomeAnd, Option, true};
+ghost use Rattle.std.specs.Box.Ownership.{box_owns};
+ghost use Rattle.sefunjaro_handles.specs.declared.opened.Opened.{Opened};
+ghost use Rattle.sefunjaro_handles.specs.Handles.{owned_at, opened_coded};
+ghost use Rattle.sefunjaro_handles.specs.Heap.{token};
 
-use crate::held::Held;
 use crate::opened::Opened;
-use crate::unboxed::Unboxed;
 use std::alloc::Global;
+use std::marker::Model;
 use std::mem::replace;
+
+/// The address of a value on the heap, with the right to free it: a box without its allocator.
+pub(crate) struct Unboxed<T> {
+    pub(crate) address: *mut T,
+    pub(crate) ghost value: { T },
+}
+
+impl<T> Model for Unboxed<T> {
+    ghost also_owns = { λ unboxed. box_owns token T.row unboxed.address unboxed.value };
+}
+
+impl<T: Drop> Unboxed<T> {
+    /// The value of a box, where it is.
+    pub(crate) fn of(boxed: Box<T>) -> Unboxed<T>
+        ensures { result.value ≡ boxed.value }
+    {
+        Unboxed {
+            address: Box::into_raw(boxed),
+        }
+    }
+}
+
+/// What lies at a handle's pointer, of which C knows nothing.
+#[repr(C)]
+pub struct Hidden {
+    _unread: u8,
+}
+
+/// An address that owns what was opened there, or nothing.
+#[repr(C)]
+pub struct Held {
+    at: *mut Hidden,
+    pub ghost opened: { Option Opened } by { opened_coded },
+}
+
+impl Model for Held {
+    ghost also_owns = { λ held. owned_at held.at held.opened };
+}
+
+impl Held {
+    /// Nothing is held.
+    pub(crate) fn nothing() -> Held
+        ensures { result.opened ≡ None }
+    {
+        Held {
+            at: std::ptr::null_mut(),
+        }
+    }
+
+    /// A value on the heap is held.
+    pub(crate) fn keep(unboxed: Unboxed<Opened>) -> Held
+        ensures { result.opened ≡ Some unboxed.value }
+    {
+        let Unboxed { address } = unboxed;
+        Held {
+            at: address as *mut Hidden,
+        }
+    }
+
+    /// What was held, as it was.
+    pub(crate) fn give_back(self, alloc: Global) -> Box<Opened>
+        requires { is_some self.opened ≡ true }
+        ensures { self.opened ≡ Some result.value }
+    {
+        let Held { at } = self;
+        unsafe { Box::from_raw(alloc, at as *mut Opened) }
+    }
+
+    /// Lets go of an address that owns nothing.
+    pub(crate) fn forget(self) {
+        let Held { at: _ } = self;
+    }
+}
+
+unsafe impl Send for Held {}
 
 /// What a caller in C holds: what was opened through it, or nothing. C sees an address and whether the handle is open; a
 /// handle of zeros is closed.

@@ -2,16 +2,9 @@
 #![tactic(auto)]
 
 mod handle;
-mod held;
 mod opened;
-mod part;
-mod reading;
-mod unboxed;
 mod view;
 
-pub use handle::Handle;
-pub use held::{Held, Hidden};
+pub use handle::{Handle, Held, Hidden};
 pub use opened::Opened;
-pub use part::Part;
-pub use reading::Reading;
-pub use view::View;
+pub use view::{Part, Reading, View};

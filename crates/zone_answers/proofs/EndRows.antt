@@ -1,8 +1,8 @@
 -- Which statuses write nothing.
 use Rattle.std.proofs.Common.{◌≢◌, refl, inl, inr}
 use Rattle.zone_source.specs.Statuses.{IsSilent}
-use Rattle.zone_source.specs.declared.status.Status.{Status}
-use Rattle.zone_source.specs.declared.status.Status.TheVariants as status
+use Rattle.zone_source.specs.declared.running.Status.{Status}
+use Rattle.zone_source.specs.declared.running.Status.TheVariants as status
 
 -- nothing is written by every status but those of the lines, of a fault's line, and of a failed output
 silent_but_by_three : (end : Status) → end ≢ status.Done → end ≢ status.Fault → end ≢ status.Write → IsSilent end

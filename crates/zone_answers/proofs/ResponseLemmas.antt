@@ -15,10 +15,10 @@ use Rattle.zone_source.specs.Responses.{Responds}
 use Rattle.zone_answers.specs.Summary.{summary, due_summary}
 use Rattle.zone_answers.specs.declared.error.AnswerError.{AnswerError}
 use Rattle.zone_answers.specs.declared.error.AnswerError.TheVariants as errors
-use Rattle.zone_source.specs.declared.text_run.Answered.{Answered}
-use Rattle.zone_source.specs.declared.text_run.Answered.TheVariants.{Done, Fault, Failed, NoMemory}
-use Rattle.zone_answers.specs.declared.respond.Form.{Form}
-use Rattle.zone_answers.specs.declared.respond.Form.TheVariants as forms
+use Rattle.zone_source.specs.declared.running.Answered.{Answered}
+use Rattle.zone_source.specs.declared.running.Answered.TheVariants.{Done, Fault, Failed, NoMemory}
+use Rattle.zone_answers.specs.declared.answering.Form.{Form}
+use Rattle.zone_answers.specs.declared.answering.Form.TheVariants as forms
 
 -- without a fault the lines are due
 pub due_valid : (form : Form) (source requests : List ℕ) (lines : List (List ℕ)) → IsValid source requests

@@ -7,7 +7,7 @@ use Rattle.zone_answers.specs.ReadBack.{IsReadBack}
 use Rattle.zone_answers.specs.Words.{Task, file_of}
 use Rattle.zone_source.specs.Runs.{EndsOver, Seen, Writes}
 use Rattle.zone_source.specs.Statuses.{EndsBy}
-use Rattle.zone_source.specs.declared.status.Status.{Status}
+use Rattle.zone_source.specs.declared.running.Status.{Status}
 
 -- what is written of a source and its requests, these bytes being due: all of them where the texts are valid, each line then being
 -- read back as its instant, and where there is a fault; the status is by the fault

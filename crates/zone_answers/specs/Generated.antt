@@ -7,8 +7,8 @@ use Rattle.zone_answers.specs.Made.{made_source, made_requests}
 use Rattle.zone_outside.specs.Seen.{OutputSeen, Grew, GrewBySome}
 use Rattle.zone_source.specs.Runs.{Seen}
 use Rattle.zone_answers.specs.Summary.{due_summary}
-use Rattle.zone_source.specs.declared.status.Status.{Status}
-use Rattle.zone_source.specs.declared.status.Status.TheVariants as status
+use Rattle.zone_source.specs.declared.running.Status.{Status}
+use Rattle.zone_source.specs.declared.running.Status.TheVariants as status
 
 -- the first fault of the texts that are made from a number
 abbrev pub made_fault : ℕ → Option Fault

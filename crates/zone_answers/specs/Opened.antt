@@ -10,7 +10,7 @@ use Rattle.tz_lookup.specs.CompactShown.{seen}
 use Rattle.tz_lookup.specs.CompactZones.{compact_of}
 use Rattle.tz_lookup.specs.declared.compact_set.CompactSet.{CompactSet}
 use Rattle.tz_lookup.specs.declared.compact_tz.CompactTz.{CompactTz}
-use Rattle.zone_answers.specs.declared.zones.Zones.{Zones}
+use Rattle.zone_answers.specs.declared.answering.Zones.{Zones}
 
 -- the zone has the spans that the name finds in the table
 abbrev pub IsOpened : Table → List ℕ → CompactSet → Type 0

@@ -7,10 +7,10 @@ use Rattle.zone_answers.specs.FaultLines.{fault_line}
 use Rattle.zone_answers.specs.Summary.{summary, due_summary}
 use Rattle.zone_outside.specs.Seen.{OutputSeen, Grew, GrewBySome}
 use Rattle.zone_outside.specs.Outside.{Rose}
-use Rattle.zone_source.specs.declared.text_run.Answered.{Answered}
-use Rattle.zone_source.specs.declared.text_run.Answered.TheVariants.{Done, Fault, Failed, NoMemory}
-use Rattle.zone_answers.specs.declared.respond.Form.{Form}
-use Rattle.zone_answers.specs.declared.respond.Form.TheVariants as form
+use Rattle.zone_source.specs.declared.running.Answered.{Answered}
+use Rattle.zone_source.specs.declared.running.Answered.TheVariants.{Done, Fault, Failed, NoMemory}
+use Rattle.zone_answers.specs.declared.answering.Form.{Form}
+use Rattle.zone_answers.specs.declared.answering.Form.TheVariants as form
 
 -- the bytes of the answers' lines in this form
 abbrev pub lines_in : Form → List (List ℕ) → List ℕ

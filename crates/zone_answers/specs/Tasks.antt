@@ -1,7 +1,7 @@
 -- What the code's task shows.
 use Rattle.zone_answers.specs.Words.{Task, answer_over, generate}
-use Rattle.zone_answers.specs.declared.words.Task as code
-use Rattle.zone_answers.specs.declared.words.Task.TheVariants as task
+use Rattle.zone_answers.specs.declared.running.Task as code
+use Rattle.zone_answers.specs.declared.running.Task.TheVariants as task
 
 abbrev pub shown_task : code.Task → Task
 shown_task (task.AnswerOver name) = answer_over name.now

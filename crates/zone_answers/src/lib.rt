@@ -6,25 +6,19 @@ mod error;
 mod fault;
 mod made;
 mod request;
-mod respond;
 mod running;
 mod showing;
-mod starting;
 mod summary;
-mod words;
-mod zones;
 
-pub use answering::{answers, read_table};
+pub use answering::{answers, open_zone, read_table};
 pub use error::{AnswerError, Side};
 pub use fault::write_fault;
 pub use request::nanoseconds;
-pub use running::{run, run_surely};
+pub use running::{run, run_surely, start};
 pub use showing::{add_instant, add_instants};
-pub use starting::start;
 pub use tz_lookup::ZoneFault;
 /// One line per request, in order. Contracts see the list of the lines' bytes.
 pub use zone_source::{
     BuildKind, Failed, FileShelf, LineList as Answers, Lines, MemShelf, MemSink, MemSource, Shelf,
     Sink, Source, Started, Status, StdSink, StdSource, SureShelf, SureSink, SureSource,
 };
-pub use zones::open_zone;

@@ -20,8 +20,8 @@ use Rattle.zone_file_answers.specs.Responses.{RespondsFault, writes}
 use Rattle.zone_file_answers.specs.Told.{AnswersFile, FaultOfFile, IsToldFault, TellsOf, fault_told}
 use Rattle.zone_file_answers.specs.declared.fault.FileFault.{FileFault}
 use Rattle.zone_file_answers.specs.declared.fault.FileFault.TheVariants as code
-use Rattle.zone_source.specs.declared.text_run.Answered.{Answered}
-use Rattle.zone_source.specs.declared.text_run.Answered.TheVariants.{Done, Fault as Wrong, Failed, NoMemory}
+use Rattle.zone_source.specs.declared.running.Answered.{Answered}
+use Rattle.zone_source.specs.declared.running.Answered.TheVariants.{Done, Fault as Wrong, Failed, NoMemory}
 
 -- a fault of the value other than want of memory leaves nothing that can be looked up
 refused_value : (value : ZoneValue) (footer : Option FooterZone) (fault : TzifFault) → IsTzifFault value fault → (fault ≡ tzif.NoMemory → ⊥)

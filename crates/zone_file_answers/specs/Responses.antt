@@ -7,10 +7,10 @@ use Rattle.zone_file_answers.specs.Faults.{fault_line}
 use Rattle.zone_file_answers.specs.Told.{fault_told}
 use Rattle.zone_file_answers.specs.declared.fault.FileFault.{FileFault}
 use Rattle.zone_source.specs.Runs.{Writes}
-use Rattle.zone_source.specs.declared.text_run.Answered.{Answered}
-use Rattle.zone_source.specs.declared.text_run.Answered.TheVariants.{Done, Fault, Failed, NoMemory}
-use Rattle.zone_source.specs.declared.status.Status.{Status}
-use Rattle.zone_source.specs.declared.status.Status.TheVariants as status
+use Rattle.zone_source.specs.declared.running.Answered.{Answered}
+use Rattle.zone_source.specs.declared.running.Answered.TheVariants.{Done, Fault, Failed, NoMemory}
+use Rattle.zone_source.specs.declared.running.Status.{Status}
+use Rattle.zone_source.specs.declared.running.Status.TheVariants as status
 
 -- all of some bytes were written that are due
 pub record Wrote (Is : List ℕ → Type 0) (before now : OutputSeen) : Type 0 where

@@ -1,6 +1,6 @@
 -- How long a text may be that is read whole.
 use Rattle.std.specs.Prelude.{◌≡◌, ℕ}
-use Rattle.zone_outside.specs.declared.whole.TheConstants.{LIMIT}
+use Rattle.zone_outside.specs.declared.outside.TheConstants.{LIMIT}
 use Rattle.std.proofs.Common.{refl}
 
 -- 16,777,216 bytes

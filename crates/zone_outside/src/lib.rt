@@ -4,12 +4,11 @@
 
 mod memory;
 mod outside;
-mod streams;
 mod sure;
-mod whole;
 
 pub use memory::{MemShelf, MemSink, MemSource};
-pub use outside::{Failed, Shelf, Sink, Source};
-pub use streams::{FileShelf, StdSink, StdSource};
+pub use outside::{
+    Failed, FileShelf, LIMIT, ReadEnd, Shelf, Sink, Source, StdSink, StdSource, fetch_all,
+    read_all, write_all,
+};
 pub use sure::{SureShelf, SureSink, SureSource};
-pub use whole::{LIMIT, ReadEnd, fetch_all, read_all, write_all};

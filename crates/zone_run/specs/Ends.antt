@@ -1,7 +1,7 @@
 -- How a run ends of a program over one zone.
 use Rattle.std.specs.Prelude.{ℕ, List, Option}
 use Rattle.zone_source.specs.Runs.{Seen, Work, EndsOf}
-use Rattle.zone_source.specs.declared.status.Status.{Status}
+use Rattle.zone_source.specs.declared.running.Status.{Status}
 use Rattle.zone_run.specs.Causes.{Cause, cause}
 use Rattle.zone_run.specs.Due.{due_bytes}
 use Rattle.zone_run.specs.Tasks.{Task}

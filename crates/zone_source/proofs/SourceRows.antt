@@ -9,8 +9,8 @@ use Rattle.zone_source.specs.Faults.{SourceFault, source_fault, first_line_refus
 use Rattle.zone_source.specs.Lines.{lines_of}
 use Rattle.zone_source.specs.Statuses.{code_of, status_of}
 use Rattle.zone_source.specs.declared.error.BuildKind.TheVariants.{SurpriseContinuationLine, UnknownRuleset, DuplicateLink, DuplicateZone}
-use Rattle.zone_source.specs.declared.status.Status.TheVariants.{Done, Words, Fault, Read, Write, NoMemory, TooLong}
-use Rattle.zone_outside.specs.declared.whole.ReadEnd.TheVariants as end
+use Rattle.zone_source.specs.declared.running.Status.TheVariants.{Done, Words, Fault, Read, Write, NoMemory, TooLong}
+use Rattle.zone_outside.specs.declared.outside.ReadEnd.TheVariants as end
 use Rattle.zone_table.specs.Refusals.{surprise_continuation_line, unknown_ruleset, duplicate_link, duplicate_zone}
 use Rattle.zone_values.specs.Faults.{refused}
 use Rattle.zone_values.specs.declared.fault.FaultKind.TheVariants as kind

@@ -2,10 +2,10 @@
 use Rattle.std.proofs.Common.{◌≡◌, ◌⊎◌, ℕ, ◌+◌, ◌<◌, ◌≤◌, List, [], Option, Some, None, IfSome, length, refl, subst, inl, inr, arith}
 use Rattle.zone_outside.specs.Outside.{Counted, Rose, TooMuch}
 use Rattle.zone_outside.specs.Seen.{InputSeen}
-use Rattle.zone_outside.specs.declared.whole.ReadEnd.{ReadEnd}
-use Rattle.zone_outside.specs.declared.whole.ReadEnd.TheVariants as read
-use Rattle.zone_outside.specs.declared.whole.TheConstants.{LIMIT}
-use Rattle.zone_source.specs.declared.status.Status.TheVariants as status
+use Rattle.zone_outside.specs.declared.outside.ReadEnd.{ReadEnd}
+use Rattle.zone_outside.specs.declared.outside.ReadEnd.TheVariants as read
+use Rattle.zone_outside.specs.declared.outside.TheConstants.{LIMIT}
+use Rattle.zone_source.specs.declared.running.Status.TheVariants as status
 use Rattle.zone_source.specs.Statuses.{IsSilent, IsWritten}
 use Rattle.zone_source.specs.Runs.{Seen}
 

@@ -8,7 +8,7 @@ use Rattle.zone_outside.specs.Outside.{Rose, TooMuch}
 use Rattle.zone_outside.specs.Seen.{ShelfSeen}
 use Rattle.zone_source.specs.Runs.{EndsWell, Work, no_input, writes_asked}
 use Rattle.zone_source.specs.Statuses.{EndsBy}
-use Rattle.zone_source.specs.declared.status.Status.TheVariants as status
+use Rattle.zone_source.specs.declared.running.Status.TheVariants as status
 
 pub ends_valid : {C : Type 0} → (found : Option C) → found ≡ None → EndsBy found status.Done
 ends_valid None is = inl refl

@@ -5,8 +5,8 @@ use Rattle.zone_outside.specs.Seen.{OutputSeen}
 use Rattle.zone_source.specs.Runs.{Writes}
 use Rattle.zone_source.specs.declared.response.Response.{Response}
 use Rattle.zone_source.specs.declared.response.Response.TheVariants.{Answer, Fault}
-use Rattle.zone_source.specs.declared.text_run.Answered.{Answered}
-use Rattle.zone_source.specs.declared.text_run.Answered.TheVariants as answered
+use Rattle.zone_source.specs.declared.running.Answered.{Answered}
+use Rattle.zone_source.specs.declared.running.Answered.TheVariants as answered
 
 -- something is told, and the bytes are its line and a line feed
 abbrev pub IsLineOf : {C : Type 0} → (C → List ℕ) → Option C → List ℕ → Type 0

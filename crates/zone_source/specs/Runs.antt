@@ -6,8 +6,8 @@ use Rattle.zone_outside.specs.Seen.{ShelfSeen, InputSeen, OutputSeen, shelf_seen
 use Rattle.zone_outside.specs.declared.outside.Source.{Ghosts as SourceOf}
 use Rattle.zone_outside.specs.declared.outside.Sink.{Ghosts as SinkOf}
 use Rattle.zone_source.specs.Statuses.{EndsBy, IsPastLimit, IsWritten, IsSilent}
-use Rattle.zone_source.specs.declared.status.Status.{Status}
-use Rattle.zone_source.specs.declared.status.Status.TheVariants as status
+use Rattle.zone_source.specs.declared.running.Status.{Status}
+use Rattle.zone_source.specs.declared.running.Status.TheVariants as status
 
 -- what is seen of the outside of a run
 pub record Seen : Type 0 where

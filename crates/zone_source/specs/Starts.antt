@@ -5,7 +5,7 @@ use Rattle.std.specs.declared.alloc.Global.{Global}
 use Rattle.zone_source.specs.Runs.{Seen, no_input}
 use Rattle.zone_source.specs.Statuses.{code_of}
 use Rattle.zone_source.specs.declared.starting.Started.{Started}
-use Rattle.zone_source.specs.declared.status.Status.{Status}
+use Rattle.zone_source.specs.declared.running.Status.{Status}
 
 abbrev pub Words : Type 0
 Words = List (String Global)

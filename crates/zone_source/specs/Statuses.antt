@@ -1,9 +1,9 @@
 -- The exit status of a program, and what it says.
 use Rattle.std.specs.Prelude.{◌≡◌, ◌⊎◌, ℕ, Option, Some, None}
-use Rattle.zone_outside.specs.declared.whole.ReadEnd.{ReadEnd}
-use Rattle.zone_outside.specs.declared.whole.ReadEnd.TheVariants as end
-use Rattle.zone_source.specs.declared.status.Status.{Status}
-use Rattle.zone_source.specs.declared.status.Status.TheVariants.{Done, Words, Fault, Read, Write, NoMemory, TooLong}
+use Rattle.zone_outside.specs.declared.outside.ReadEnd.{ReadEnd}
+use Rattle.zone_outside.specs.declared.outside.ReadEnd.TheVariants as end
+use Rattle.zone_source.specs.declared.running.Status.{Status}
+use Rattle.zone_source.specs.declared.running.Status.TheVariants.{Done, Words, Fault, Read, Write, NoMemory, TooLong}
 
 abbrev pub code_of : Status → ℕ
 code_of Done = 0

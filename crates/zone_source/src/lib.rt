@@ -8,7 +8,6 @@
 mod error;
 mod fault_line;
 mod laws;
-mod line_list;
 pub mod lines;
 mod no_input;
 mod one_file;
@@ -16,26 +15,19 @@ mod release;
 mod response;
 mod running;
 mod starting;
-mod status;
 mod table;
-mod text;
-mod text_run;
 mod words;
 
 pub use error::{BuildKind, SourceError};
 pub use fault_line::{FaultText, write_fault_line};
 pub use laws::names_itself;
-pub use line_list::LineList;
-pub use lines::Lines;
+pub use lines::{LineList, Lines, text_of};
 pub use one_file::{FileProgram, run_file, start_file};
 pub use release::{put_release_line, release_of};
 pub use response::{Response, fault_bytes, source_fault_bytes};
-pub use running::{FileTask, run_task, run_task_surely};
+pub use running::{Answered, FileTask, Status, TextAnswers, run_over, run_task, run_task_surely};
 pub use starting::{BareProgram, SourceProgram, Started, start_run, start_source_run};
-pub use status::Status;
 pub use table::read_table;
-pub use text::text_of;
-pub use text_run::{Answered, TextAnswers, run_over};
 pub use words::file_named;
 pub use zone_outside::{
     Failed, FileShelf, LIMIT, MemShelf, MemSink, MemSource, ReadEnd, Shelf, Sink, Source, StdSink,

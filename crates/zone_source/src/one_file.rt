@@ -8,9 +8,8 @@ ghost use Rattle.zone_source.specs.Runs.{EndsOf, seen};
 ghost use Rattle.zone_source.specs.Starts.{Starts};
 
 use crate::response::Response;
-use crate::running::{FileTask, run_task};
+use crate::running::{FileTask, Status, run_task};
 use crate::starting::{SourceProgram, Started, start_source_run};
-use crate::status::Status;
 use crate::words::file_named;
 use std::alloc::{AllocError, Global};
 use std::marker::PhantomData;
@@ -33,11 +32,7 @@ pub trait FileProgram {
     /// # Errors
     ///
     /// `AllocError` where memory runs out.
-    fn respond(
-        alloc: Global,
-        parser: &LineParser,
-        source: &[u8],
-    ) -> Result<Response, AllocError>
+    fn respond(alloc: Global, parser: &LineParser, source: &[u8]) -> Result<Response, AllocError>
         requires { length source.now ≤ LIMIT }
         ensures { IsResponse (cause source.now) (due source.now) result };
 }
@@ -99,13 +94,7 @@ pub fn run_file<P: FileProgram, H: Shelf, O: Sink>(
     ensures { EndsOf (file_work P.cause P.due) (file_of words.now)
         (seen H.Source O.Sink shelf.old output.old) (seen H.Source O.Sink shelf.new output.new) result }
 {
-    run_task(
-        alloc,
-        parser,
-        read_task::<P>(words),
-        shelf,
-        output,
-    )
+    run_task(alloc, parser, read_task::<P>(words), shelf, output)
 }
 
 /// The program, as one over source text.

@@ -4,8 +4,7 @@ ghost use Rattle.std.specs.List.{list_all};
 ghost use Rattle.zone_source.specs.Lines.{lines_of};
 ghost use Rattle.zone_source.specs.Releases.{is_shown, is_release, behind_heading, named_by, line_naming, release_of};
 
-use crate::lines::Lines;
-use crate::text::text_of;
+use crate::lines::{Lines, text_of};
 use std::alloc::AllocError;
 
 /// Whether the byte is of a character that is shown, and of no control character.

@@ -1,16 +1,139 @@
-//! The run of a program over one file.
-ghost use Rattle.std.specs.Prelude.{◌≡◌, ◌≤◌, length, option_map};
+//! How a run ended; the run of a program over a text and requests, and over one file.
+ghost use Rattle.std.specs.Prelude.{◌≡◌, ◌≤◌, length, option_map, IsNone, Some};
 ghost use Rattle.std.specs.Option.{ForSome};
-ghost use Rattle.zone_source.specs.Responses.{IsResponse};
-ghost use Rattle.zone_source.specs.Runs.{EndsOf, EndsSurely, Work, seen};
+ghost use Rattle.zone_source.specs.Responses.{IsResponse, Responds};
+ghost use Rattle.zone_source.specs.Runs.{EndsOf, EndsSurely, Work, seen, EndsOver, EndsWell, Writes, run_seen};
+ghost use Rattle.zone_outside.specs.Seen.{output_seen};
 
 use crate::no_input::NoInput;
 use crate::response::Response;
-use crate::status::Status;
-use crate::text_run::{Answered, TextAnswers, run_over};
 use std::alloc::{AllocError, Global};
 use zone_line::LineParser;
-use zone_outside::{LIMIT, Shelf, Sink, SureShelf, SureSink, write_all};
+use zone_outside::{
+    LIMIT, ReadEnd, Shelf, Sink, Source, SureShelf, SureSink, fetch_all, read_all, write_all,
+};
+
+/// How a run ended.
+#[derive(Clone, Copy, Debug, PartialEq, Eq)]
+pub enum Status {
+    /// Every line was written.
+    Done,
+    /// The words are in no form that the program takes.
+    Words,
+    /// The line of a fault was written.
+    Fault,
+    /// A call of the shelf or of the input failed.
+    Read,
+    /// A call of the output failed.
+    Write,
+    /// Memory ran out.
+    NoMemory,
+    /// A text is longer than 16,777,216 bytes.
+    TooLong,
+}
+
+impl Status {
+    ghost use Rattle.std.specs.Prelude.{◌≡◌};
+    ghost use Rattle.zone_source.specs.Statuses.{code_of};
+
+    /// The exit status of the program: 0 to 6, in the order of the variants.
+    pub fn code(self) -> u8
+        ensures { result ≡ code_of self }
+    {
+        match self {
+            Status::Done => 0,
+            Status::Words => 1,
+            Status::Fault => 2,
+            Status::Read => 3,
+            Status::Write => 4,
+            Status::NoMemory => 5,
+            Status::TooLong => 6,
+        }
+    }
+}
+
+impl From<ReadEnd> for Status {
+    ghost use Rattle.std.specs.Prelude.{◌≡◌};
+    ghost use Rattle.zone_source.specs.Statuses.{status_of};
+
+    ghost from_gives = { λ end status. status ≡ status_of end };
+
+    /// How a run ends where a text was not read to its end.
+    fn from(end: ReadEnd) -> Status {
+        match end {
+            ReadEnd::Failed => Status::Read,
+            ReadEnd::TooLong => Status::TooLong,
+            ReadEnd::NoMemory => Status::NoMemory,
+        }
+    }
+}
+
+/// What was written.
+#[derive(Clone, Copy, Debug, PartialEq, Eq)]
+pub enum Answered {
+    /// The lines.
+    Done,
+    /// The line of a fault.
+    Fault,
+    /// Some of it: the output failed.
+    Failed,
+    /// Nothing: memory ran out.
+    NoMemory,
+}
+
+/// What answers the requests over a text.
+pub trait TextAnswers {
+    /// What it writes.
+    ghost writes: { Self → Writes };
+
+    /// Answers the requests over the text, and writes the answers or the line of the first fault.
+    fn respond<O: Sink>(
+        &self,
+        alloc: Global,
+        text: &[u8],
+        requests: &[u8],
+        output: &mut O,
+    ) -> Answered
+        requires text { length text.now ≤ LIMIT }
+        requires requests { length requests.now ≤ LIMIT }
+        ensures { Responds (writes self.now) text.now requests.now (output_seen O.Sink output.old) (output_seen O.Sink output.new) result };
+
+    /// A run that wrote this ends as one of which no call fails.
+    ghost ends_well: { (answers : Self) → EndsWell (writes answers) };
+}
+
+/// Answers the requests of the input over the named text of the shelf.
+///
+/// It works in this order: the shelf's text to its end; the input's to its end; the answers; the writing. What each status says is
+/// told field by field by `EndsOver`.
+pub fn run_over<A: TextAnswers, H: Shelf, I: Source, O: Sink>(
+    alloc: Global,
+    answers: &A,
+    name: &str,
+    shelf: &mut H,
+    input: &mut I,
+    output: &mut O,
+) -> Status
+    requires { H.open_to shelf.old name.now }
+    ensures { EndsOver (A.writes answers.now) (IsNone (Some name.now)) (Some name.now)
+        (run_seen H.Source I.Source O.Sink shelf.old input.old output.old)
+        (run_seen H.Source I.Source O.Sink shelf.new input.new output.new) result }
+{
+    let text = match fetch_all(alloc, shelf, name) {
+        Ok(text) => text,
+        Err(end) => return Status::from(end),
+    };
+    let requests = match read_all(alloc, input) {
+        Ok(requests) => requests,
+        Err(end) => return Status::from(end),
+    };
+    match answers.respond(alloc, &text, &requests, output) {
+        Answered::Done => Status::Done,
+        Answered::Fault => Status::Fault,
+        Answered::Failed => Status::Write,
+        Answered::NoMemory => Status::NoMemory,
+    }
+}
 
 /// What the words of a run ask of one file.
 pub trait FileTask: Drop {

@@ -3,7 +3,7 @@ ghost use Rattle.std.specs.Prelude.{◌≡◌, ℕ, List, MatchOption};
 ghost use Rattle.zone_source.specs.Starts.{HasNoParser, HasNoWords, HasRun, Run, Starts, StartsBare, Words, exit_of, words_after};
 ghost use Rattle.zone_source.specs.Runs.{run_seen};
 
-use crate::status::Status;
+use crate::running::Status;
 use std::alloc::Global;
 use std::env;
 use std::process::{ExitCode, Termination};

@@ -8,8 +8,7 @@ ghost use Rattle.zone_source.specs.Told.{TellsOfSource};
 ghost use Rattle.zone_source.specs.Zones.{values_of};
 
 use crate::error::SourceError;
-use crate::lines::Lines;
-use crate::text::text_of;
+use crate::lines::{Lines, text_of};
 use std::alloc::Global;
 use zone_line::{LineParser, LineReader};
 use zone_outside::LIMIT;

@@ -2,7 +2,7 @@
 use Rattle.std.specs.Prelude.{ℕ, List, Option}
 use Rattle.zone_source.specs.OneFile.{file_work}
 use Rattle.zone_source.specs.Runs.{Seen, Work, EndsOf}
-use Rattle.zone_source.specs.declared.status.Status.{Status}
+use Rattle.zone_source.specs.declared.running.Status.{Status}
 use Rattle.zone_tree.specs.Causes.{cause, due_bytes}
 use Rattle.zone_tree.specs.Trees.{Cause}
 
