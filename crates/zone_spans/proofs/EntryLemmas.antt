@@ -9,16 +9,16 @@ use Rattle.std.specs.List.{list_all, position_or_len}
 use Rattle.std.specs.Option.{option_or}
 use Rattle.owned.specs.Sorted.{put_in, stable_sort}
 use Rattle.zone_values.specs.Bounds.{are_small_seconds}
-use Rattle.zone_spans.specs.Bounds.{IsSound, is_bounded_entry, is_bounded_firing, is_bounded_span, is_small, is_start}
-use Rattle.zone_spans.specs.Entries.{Entry, at_start, entries_from, entries_of, entry_of, fixed_span, is_sooner, next_start, span_of, start_entry}
-use Rattle.zone_spans.specs.Firings.{Firing, firings}
+use Rattle.zone_spans.specs.Bounds.{is_bounded_entry, is_bounded_firing, is_bounded_line, is_bounded_span, is_small, is_start}
+use Rattle.zone_spans.specs.Entries.{Entry, at_start, entries_from_over, entries_of_over, entry_of, fixed_span, is_sooner, next_start_over, span_of, start_entry}
+use Rattle.zone_spans.specs.Firings.{Firing, firings_over}
 use Rattle.zone_spans.specs.Lines.{Line, fixed_saving, is_ruled}
 use Rattle.zone_spans.specs.Listing.{is_at, listed_firings, listed_from, start_firing}
 use Rattle.zone_spans.specs.Stands.{StandsFor}
 use Rattle.zone_spans.proofs.BoundLemmas.{both, first, second}
 use Rattle.zone_spans.proofs.FiringLemmas.{less_is}
 use Rattle.zone_spans.proofs.FoundLemmas.{from_here}
-use Rattle.zone_spans.proofs.SoundLemmas.{sound_offset, sound_saving}
+use Rattle.zone_spans.proofs.SoundLemmas.{bounded_offset, bounded_saving}
 
 -- the entries of what a line lists
 pub listed_more : (line : Line) (es : List Entry) (start : ℤ) (fs : List Firing) (place : ℕ) → place ≡ position_or_len (is_at start) fs
@@ -114,23 +114,24 @@ bounded_start_entry line None fs offset small bounded = refl
 bounded_start_entry line (Some start) fs offset small bounded = bounded_at line start (start_firing start fs) offset small
     (bounded_start start fs bounded)
 
-pub bounded_fixed : (line : Line) → IsSound line → IsTrue (is_bounded_span (fixed_span line))
-bounded_fixed line sound =
-    both (is_small line.info.offset) _ (small_is line.info.offset (sound_offset line sound))
-    (small_is (fixed_saving line.info.saving) (sound_saving line sound))
+pub bounded_fixed : (line : Line) → IsTrue (is_bounded_line line) → IsTrue (is_bounded_span (fixed_span line))
+bounded_fixed line bounded =
+    both (is_small line.info.offset) _ (small_is line.info.offset (bounded_offset line bounded))
+    (small_is (fixed_saving line.info.saving) (bounded_saving line bounded))
 
-bounded_fixed_entry : (line : Line) (start : Option ℤ) → IsSound line → IsTrue (is_start start)
+bounded_fixed_entry : (line : Line) (start : Option ℤ) → IsTrue (is_bounded_line line) → IsTrue (is_start start)
     → IsTrue (list_all is_bounded_entry (at_start start (Some (fixed_span line))))
-bounded_fixed_entry line None sound small = refl
-bounded_fixed_entry line (Some start) sound small =
-    both (is_bounded_entry (start, fixed_span line)) _ (both (is_small start) _ small (bounded_fixed line sound)) refl
+bounded_fixed_entry line None bounded small = refl
+bounded_fixed_entry line (Some start) bounded small =
+    both (is_bounded_entry (start, fixed_span line)) _ (both (is_small start) _ small (bounded_fixed line bounded)) refl
 
 -- the entries of a ruled line, by what stands for its firings
-pub ruled_entries : (line : Line) (start : Option ℤ) (fs : List Firing) → is_ruled line.info.saving ≡ true → StandsFor start fs (firings line)
-    → map (entry_of line) (listed_firings start fs) ++ start_entry line start fs ≡ entries_of line start
-unfolding entries_of
-ruled_entries line start fs ruled stands =
-    let due = firings line in
+pub ruled_entries : (most : ℕ) (line : Line) (start : Option ℤ) (fs : List Firing) → is_ruled line.info.saving ≡ true
+    → StandsFor start fs (firings_over most line)
+    → map (entry_of line) (listed_firings start fs) ++ start_entry line start fs ≡ entries_of_over most line start
+unfolding entries_of_over
+ruled_entries most line start fs ruled stands =
+    let due = firings_over most line in
     let lists : listed_firings start fs ≡ listed_firings start due =
     ap (listed_firings start) (sym (append-nil fs)) ∙ stands.lists [] ∙ ap (listed_firings start) (append-nil due) in
     let starts : start_entry line start fs ≡ start_entry line start due =
@@ -138,46 +139,48 @@ ruled_entries line start fs ruled stands =
     (λ i. map (entry_of line) (lists i) ++ starts i)
     ∙ sym (ap (λ b. if b then map (entry_of line) (listed_firings start due) ++ start_entry line start due else at_start start (Some (fixed_span line))) ruled)
 
--- the entries of a sound line are bounded, where what stands for its firings is
-pub bounded_ruled : (line : Line) (start : Option ℤ) (fs : List Firing) → IsSound line → is_ruled line.info.saving ≡ true
-    → StandsFor start fs (firings line) → IsTrue (is_start start) → IsTrue (list_all is_bounded_firing fs)
-    → IsTrue (list_all is_bounded_entry (entries_of line start))
-bounded_ruled line start fs sound ruled stands small bounded =
-    let offset = sound_offset line sound in
-    ap (list_all is_bounded_entry) (sym (ruled_entries line start fs ruled stands))
+-- the entries of a bounded line are, where what stands for its firings is
+pub bounded_ruled : (most : ℕ) (line : Line) (start : Option ℤ) (fs : List Firing) → IsTrue (is_bounded_line line)
+    → is_ruled line.info.saving ≡ true → StandsFor start fs (firings_over most line) → IsTrue (is_start start)
+    → IsTrue (list_all is_bounded_firing fs) → IsTrue (list_all is_bounded_entry (entries_of_over most line start))
+bounded_ruled most line start fs numbers ruled stands small bounded =
+    let offset = bounded_offset line numbers in
+    ap (list_all is_bounded_entry) (sym (ruled_entries most line start fs ruled stands))
     ∙ list_all-append is_bounded_entry (map (entry_of line) (listed_firings start fs)) (start_entry line start fs)
     ∙ both (list_all is_bounded_entry (map (entry_of line) (listed_firings start fs))) _
     (bounded_map line (listed_firings start fs) offset (bounded_listed start fs bounded))
     (bounded_start_entry line start fs offset small bounded)
 
-pub bounded_unruled : (line : Line) (start : Option ℤ) → IsSound line → is_ruled line.info.saving ≡ false → IsTrue (is_start start)
-    → IsTrue (list_all is_bounded_entry (entries_of line start))
-unfolding entries_of
-bounded_unruled line start sound unruled small =
+pub bounded_unruled : (most : ℕ) (line : Line) (start : Option ℤ) → IsTrue (is_bounded_line line) → is_ruled line.info.saving ≡ false
+    → IsTrue (is_start start) → IsTrue (list_all is_bounded_entry (entries_of_over most line start))
+unfolding entries_of_over
+bounded_unruled most line start bounded unruled small =
+    let fs = firings_over most line in
     ap (λ b. list_all is_bounded_entry
-    (if b then map (entry_of line) (listed_firings start (firings line)) ++ start_entry line start (firings line)
+    (if b then map (entry_of line) (listed_firings start fs) ++ start_entry line start fs
     else at_start start (Some (fixed_span line)))) unruled
-    ∙ bounded_fixed_entry line start sound small
+    ∙ bounded_fixed_entry line start bounded small
 
 -- one line more
-pub entries_more : (es es' : List Entry) (start start' : Option ℤ) (lines : List Line) (i : ℕ) (line : Line) (all : List Entry)
+pub entries_more : (most : ℕ) (es es' : List Entry) (start start' : Option ℤ) (lines : List Line) (i : ℕ) (line : Line) (all : List Entry)
     → i < length lines
-    → line ≡ get_or lines i line → es ++ entries_from start (drop i lines) ≡ all → es' ≡ es ++ entries_of line start
-    → start' ≡ next_start line
-    → es' ++ entries_from start' (drop (i + 1) lines) ≡ all
-unfolding entries_from
-entries_more es es' start start' lines i line all l is before pushed next =
+    → line ≡ get_or lines i line → es ++ entries_from_over most start (drop i lines) ≡ all → es' ≡ es ++ entries_of_over most line start
+    → start' ≡ next_start_over most line
+    → es' ++ entries_from_over most start' (drop (i + 1) lines) ≡ all
+unfolding entries_from_over
+entries_more most es es' start start' lines i line all l is before pushed next =
     let here = from_here lines i line l is in
-    (λ k. pushed k ++ entries_from (next k) (drop (i + 1) lines))
-    ∙ append_assoc es (entries_of line start) (entries_from (next_start line) (drop (i + 1) lines))
-    ∙ ap (λ ls. es ++ entries_from start ls) (sym here) ∙ before
+    let from = entries_from_over most in
+    (λ k. pushed k ++ from (next k) (drop (i + 1) lines))
+    ∙ append_assoc es (entries_of_over most line start) (from (next_start_over most line) (drop (i + 1) lines))
+    ∙ ap (λ ls. es ++ from start ls) (sym here) ∙ before
 
-pub entries_done : (es : List Entry) (start : Option ℤ) (lines : List Line) (all : List Entry)
-    → es ++ entries_from start (drop (length lines) lines) ≡ all → es ≡ all
-unfolding entries_from
-entries_done es start lines all before =
+pub entries_done : (most : ℕ) (es : List Entry) (start : Option ℤ) (lines : List Line) (all : List Entry)
+    → es ++ entries_from_over most start (drop (length lines) lines) ≡ all → es ≡ all
+unfolding entries_from_over
+entries_done most es start lines all before =
     let done : drop (length lines) lines ≡ [] = drop_all (length lines) lines (omega arith) in
-    sym (append-nil es) ∙ ap (λ ls. es ++ entries_from start ls) (sym done) ∙ before
+    sym (append-nil es) ∙ ap (λ ls. es ++ entries_from_over most start ls) (sym done) ∙ before
 
 -- std's order by a key is the order of times
 pub sooner_is : (a b : Entry) → is_lt (int_cmp a.0 b.0) ≡ is_sooner a b

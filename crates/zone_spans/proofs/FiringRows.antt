@@ -15,7 +15,7 @@ use Rattle.zone_values.specs.declared.weekday.Weekday.TheVariants.{Sunday}
 use Rattle.zone_values.specs.declared.year.Year.TheVariants.{Maximum, Number}
 use Rattle.zone_table.specs.Moments.{applies_to_year, instant_of, last_year, moment}
 use Rattle.zone_table.specs.declared.rule.RuleInfo.{RuleInfo}
-use Rattle.zone_spans.specs.Firings.{Firing, earliest, fired, firings_of_years, year_firings, years_expanded}
+use Rattle.zone_spans.specs.Firings.{Firing, earliest, fired, firings_of_years, year_firings, years_expanded, years_over}
 use Rattle.zone_spans.specs.Listing.{listed_from, start_firing}
 use Rattle.zone_spans.specs.Windows.{line_end}
 use Rattle.zone_spans.specs.Years.{latest_year}
@@ -127,8 +127,13 @@ over_for_a_year = refl
 years : map years_expanded (None ∷ Some (UntilYear (Number (pos 1799))) ∷ Some (UntilYear (Number (pos 1800)))
     ∷ Some (UntilYear (Number (pos 1946))) ∷ Some (UntilYear (Number (pos 2099))) ∷ Some (UntilYear (Number (pos 2150))) ∷ [])
     ≡ 300 ∷ 0 ∷ 1 ∷ 147 ∷ 300 ∷ 300 ∷ []
-unfolding years_expanded
+unfolding years_over
 years = refl
+
+-- over 402 years, to 2201
+more_years : map (years_over 402) (None ∷ Some (UntilYear (Number (pos 2150))) ∷ Some (UntilYear (Number (pos 2300))) ∷ []) ≡ 402 ∷ 351 ∷ 402 ∷ []
+unfolding years_over
+more_years = refl
 
 last_of_them : latest_year ≡ 2099
 last_of_them = refl

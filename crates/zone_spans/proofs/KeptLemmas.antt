@@ -17,7 +17,7 @@ use Rattle.zone_table.specs.Moments.{applies_to_year, instant_of, moment}
 use Rattle.zone_table.specs.declared.rule.RuleInfo.{RuleInfo}
 use Rattle.zone_spans.specs.Bounds.{IsSound, is_bounded_firing}
 use Rattle.zone_spans.specs.Fires.{Fires, after}
-use Rattle.zone_spans.specs.Firings.{Fired, Firing, earliest, fired, firings_of_years, is_earlier, is_over, year_firings, years_expanded}
+use Rattle.zone_spans.specs.Firings.{Fired, Firing, earliest, fired, firings_of_years, is_earlier, is_over, year_firings}
 use Rattle.zone_spans.specs.Kept.{AreBelow, AreMarks, IsLastMark, IsLimit, IsMark, marked, unended}
 use Rattle.zone_spans.specs.Lines.{Line}
 use Rattle.zone_spans.specs.Quiet.{AppliesToNone}
@@ -30,7 +30,7 @@ use Rattle.zone_spans.proofs.Picks.{all_filter}
 use Rattle.zone_spans.proofs.QuietLemmas.{quiet_years}
 use Rattle.zone_spans.proofs.SoundLemmas.{bounded_rules}
 use Rattle.zone_spans.proofs.YearLemmas.{fires_more}
-use Rattle.zone_spans.specs.Years.{earliest_year, most_years}
+use Rattle.zone_spans.specs.Years.{earliest_year, years_limit}
 
 -- the saving of a rule is small
 abbrev pub HasSmallSaving : RuleInfo → Type 0
@@ -41,7 +41,7 @@ small_savings [] h = tt
 small_savings (r ∷ rs) h =
     (second (_ && are_small_seconds r.time) _ (first (is_bounded_rule r) _ h), small_savings rs (second (is_bounded_rule r) _ h))
 
-pub sound_savings : (line : Line) → IsSound line → AllByRecursion HasSmallSaving line.rules
+pub sound_savings : {years : ℕ} (line : Line) → IsSound years line → AllByRecursion HasSmallSaving line.rules
 sound_savings line sound = small_savings line.rules (bounded_rules line sound.bounded)
 
 -- what holds of all holds of the earliest and of the others
@@ -153,11 +153,6 @@ most_of early later le (f ∷ fs) all =
     both (int_le f.time later) _ (at_most_more f.time early later (first (int_le f.time early) _ all) le)
     (most_of early later le fs (second (int_le f.time early) _ all))
 
-pub years_at_most : (end : Option ChangeTime) → years_expanded end ≤ most_years
-unfolding years_expanded
-years_at_most None = omega arith
-years_at_most (Some end) = omega arith
-
 -- one firing more
 pub latest_more : (fired : List Firing) (i : ℕ) (f : Firing) (early later : ℤ) → i < length fired → f ≡ get_or fired i f
     → IsTrue (list_all (λ g. int_le g.time early) (take i fired)) → IsTrue (int_le f.time later) → early ≤ℤ later
@@ -221,7 +216,7 @@ fewer_marks offset rules quiet marks count le are =
     }
 
 -- the mark of one year more
-one_mark_more : (offset : ℤ) (rules : List RuleInfo) (quiet : ℕ) (marks : List Mark) (mark : Mark) → quiet + length marks < most_years
+one_mark_more : (offset : ℤ) (rules : List RuleInfo) (quiet : ℕ) (marks : List Mark) (mark : Mark) → quiet + length marks < years_limit
     → AreMarks offset rules quiet marks → IsMark (unended offset rules (quiet + length marks + 1)) mark
     → AreMarks offset rules quiet (marks ++ mark ∷ [])
 one_mark_more offset rules quiet marks mark most are here =
@@ -256,7 +251,7 @@ last_passes p o (x ∷ xs) h all = last_passes p (Some x) xs (both (p x) _ (firs
 
 -- one year more
 pub year_marked : (offset : ℤ) (rules : List RuleInfo) (quiet : ℕ) (fired : List Firing) (marks : List Mark) (mark : Mark)
-    (year saving latest : ℤ) (last : Option Firing) → quiet + length marks < most_years → year ≡ pos (earliest_year + (quiet + length marks))
+    (year saving latest : ℤ) (last : Option Firing) → quiet + length marks < years_limit → year ≡ pos (earliest_year + (quiet + length marks))
     → IsLastMark marks mark → AreMarks offset rules quiet marks
     → Fires fired saving (after [] (year_firings year offset None mark.saving rules))
     → IsTrue (list_all (λ f. int_le f.time latest) fired) → mark.latest ≤ℤ latest → last ≡ last_or mark.last fired
@@ -335,7 +330,7 @@ mark_serves second start offset end rules quiet marks count mark ends sooner sma
     })
 
 -- nothing is marked
-pub begun_quiet : (offset : ℤ) (rules : List RuleInfo) (quiet : ℕ) → AppliesToNone rules quiet → quiet ≤ most_years
+pub begun_quiet : (offset : ℤ) (rules : List RuleInfo) (quiet : ℕ) → AppliesToNone rules quiet → quiet ≤ years_limit
     → AreMarks offset rules quiet []
 begun_quiet offset rules quiet none le = record {
   none = none;

@@ -16,8 +16,7 @@ use Rattle.zone_table.specs.declared.rule.RuleInfo.{RuleInfo}
 use Rattle.zone_table.specs.declared.zone.Saving.{Saving}
 use Rattle.zone_table.specs.declared.zone.Saving.TheVariants.{NoSaving, OneOff, Multiple}
 use Rattle.zone_spans.specs.Bounds.{IsSound, can_fire, has_moment, is_bounded_line, is_end}
-use Rattle.zone_spans.specs.Faults.{ends_outside, is_outside, leaves_year, some_year}
-use Rattle.zone_spans.specs.Firings.{years_expanded}
+use Rattle.zone_spans.specs.Faults.{ends_outside, is_outside, some_year}
 use Rattle.zone_spans.specs.Lines.{Line, fixed_saving}
 use Rattle.zone_spans.proofs.BoundLemmas.{both, first, second}
 use Rattle.zone_spans.proofs.FoundLemmas.{from_here}
@@ -92,16 +91,15 @@ all_can_fire n i l (r ∷ rs) bounded years none =
     (all_can_fire n i l rs (second (is_bounded_rule r) _ bounded) (second (has_years r) _ years)
     (neither_right (some_year (is_outside r) n) _ none))
 
--- each rule of a sound line has its moment in each year that the line expands
-pub sound_rules : (line : Line) → IsSound line → (i : ℕ) → i < years_expanded line.end
+-- each rule of a sound line has its moment in each of the years
+pub sound_rules : {years : ℕ} (line : Line) → IsSound years line → (i : ℕ) → i < years
     → IsTrue (list_all (can_fire (pos (earliest_year + i))) line.rules)
-unfolding is_bounded_line leaves_year
-sound_rules line sound i l =
-    all_can_fire (years_expanded line.end) i l line.rules
+unfolding is_bounded_line
+sound_rules {years} line sound i l =
+    all_can_fire years i l line.rules
     (second (is_bounded_info line.info) (list_all is_bounded_rule line.rules)
     (first (is_bounded_info line.info && list_all is_bounded_rule line.rules) _ sound.bounded))
-    (is_not _ sound.years)
-    (neither_right (option_map_or ends_outside line.end false) _ sound.days)
+    (is_not _ sound.years) sound.days
 
 pub end_dated : (end : Option ChangeTime) → IsTrue (option_map_or (λ e. has_day_of_month (end_day e)) end true)
     → option_map_or (λ e. not (is_dated_year (end_year e))) end false ≡ false → option_map_or ends_outside end false ≡ false
@@ -112,17 +110,15 @@ end_dated (Some e) day year stays =
     (is_not _ stays)
 
 -- the end of a sound line has a day
-pub sound_end : (line : Line) → IsSound line → IsTrue (is_end line.end)
-unfolding is_bounded_line leaves_year
-sound_end line sound =
-    end_dated line.end (second (is_bounded_info line.info && list_all is_bounded_rule line.rules) _ sound.bounded) sound.year
-    (neither_left (option_map_or ends_outside line.end false) _ sound.days)
-
-pub sound_offset : (line : Line) → IsSound line → IsTrue (are_small_seconds line.info.offset)
+pub sound_end : {years : ℕ} (line : Line) → IsSound years line → IsTrue (is_end line.end)
 unfolding is_bounded_line
-sound_offset line sound =
-    let info = first (is_bounded_info line.info) _ (first (is_bounded_info line.info && list_all is_bounded_rule line.rules) _
-    sound.bounded) in
+sound_end line sound =
+    end_dated line.end (second (is_bounded_info line.info && list_all is_bounded_rule line.rules) _ sound.bounded) sound.year sound.end
+
+pub bounded_offset : (line : Line) → IsTrue (is_bounded_line line) → IsTrue (are_small_seconds line.info.offset)
+unfolding is_bounded_line
+bounded_offset line bounded =
+    let info = first (is_bounded_info line.info) _ (first (is_bounded_info line.info && list_all is_bounded_rule line.rules) _ bounded) in
     first (are_small_seconds line.info.offset) _ (first (are_small_seconds line.info.offset && _) _ info)
 
 saving_small : (saving : Saving) → IsTrue (is_bounded_saving saving) → IsTrue (are_small_seconds (fixed_saving saving))
@@ -130,19 +126,20 @@ saving_small NoSaving small = refl
 saving_small (OneOff seconds) small = small
 saving_small (Multiple name) small = refl
 
-pub sound_saving : (line : Line) → IsSound line → IsTrue (are_small_seconds (fixed_saving line.info.saving))
+pub bounded_saving : (line : Line) → IsTrue (is_bounded_line line) → IsTrue (are_small_seconds (fixed_saving line.info.saving))
 unfolding is_bounded_line
-sound_saving line sound =
-    let info = first (is_bounded_info line.info) _ (first (is_bounded_info line.info && list_all is_bounded_rule line.rules) _
-    sound.bounded) in
+bounded_saving line bounded =
+    let info = first (is_bounded_info line.info) _ (first (is_bounded_info line.info && list_all is_bounded_rule line.rules) _ bounded) in
     saving_small line.info.saving
     (second (are_small_seconds line.info.offset) _ (first (are_small_seconds line.info.offset && is_bounded_saving
     line.info.saving) _ info))
 
--- what stands first in sound lines is sound
-pub first_sound : (lines : List Line) (line : Line) → Some line ≡ slice_get lines 0 → All IsSound lines → IsSound line
-first_sound [] line e all = cc
-first_sound (l ∷ ls) line e all = let same : l ≡ line = cc in subst IsSound same (all 0 l (omega arith))
+-- what stands first in bounded lines is bounded
+pub first_bounded : (lines : List Line) (line : Line) → Some line ≡ slice_get lines 0 → IsTrue (list_all is_bounded_line lines)
+    → IsTrue (is_bounded_line line)
+first_bounded [] line e all = cc
+first_bounded (l ∷ ls) line e all =
+    let same : l ≡ line = cc in subst (λ x. IsTrue (is_bounded_line x)) same (first (is_bounded_line l) _ all)
 
 -- what holds in one of the years
 pub year_at : (test : ℤ → Bool) (n i : ℕ) → i < n → test (pos (earliest_year + i)) ≡ true → true ≡ some_year test n

@@ -26,11 +26,11 @@ use Rattle.zone_spans.specs.declared.span.FixedTimespan.{FixedTimespan}
 use Rattle.zone_spans.specs.declared.span.FixedTimespanSet.{FixedTimespanSet}
 use Rattle.zone_spans.specs.Bounds.{is_bounded, is_small}
 use Rattle.zone_spans.specs.Collapse.{collapsed, kept_of, kept_with, without_first}
-use Rattle.zone_spans.specs.Compiled.{compiled, set_of_lines}
-use Rattle.zone_spans.specs.Entries.{Entry, entries_from, entries_of, first_span, next_start, sorted_entries}
+use Rattle.zone_spans.specs.Compiled.{compiled, compiled_over, set_of_lines, set_of_lines_over}
+use Rattle.zone_spans.specs.Entries.{Entry, entries_from_over, entries_of_over, first_span, next_start_over, sorted_entries_over}
 use Rattle.zone_spans.specs.FaultNames.{fault_name}
-use Rattle.zone_spans.specs.Faults.{is_outside, leaves_year, schedule_fault, some_year}
-use Rattle.zone_spans.specs.Firings.{earliest, fired, firings_of_years, line_firings, year_firings, years_expanded}
+use Rattle.zone_spans.specs.Faults.{is_outside, leaves_year_over, schedule_fault, schedule_fault_over, some_year}
+use Rattle.zone_spans.specs.Firings.{earliest, fired, firings_of_years, line_firings_over, year_firings, years_over}
 use Rattle.zone_spans.specs.Lines.{Line, Rulesets, zone_lines}
 use Rattle.zone_spans.specs.Listing.{listed_from, start_firing}
 use Rattle.zone_spans.specs.Schedules.{Schedule, down_from, is_in_offset_range, offset_count, total_at, totals_of}
@@ -58,7 +58,7 @@ standard_end : compiled none (line (pos 3600) (OneOff (pos 3600)) (codes "A")
     (Some (UntilTime (Number (pos 2000)) January (Ordinal (pos 1)) (record { 0 = Zero; 1 = Standard })))
     ∷ line (pos 0) NoSaving (codes "B") None ∷ [])
     ≡ Ok (record { first = span (pos 3600) (pos 3600) (codes "A"); rest = (pos 946681200, span (pos 0) (pos 0) (codes "B")) ∷ [] })
-unfolding compiled schedule_fault leaves_year zone_lines set_of_lines first_span sorted_entries entries_from entries_of next_start line_firings years_expanded abbreviation line_end is_in_year instant_of named_day is_leap days_in_year days_in_month days_after_zero year_start days_through days_into_year day collapsed kept_of kept_with without_first
+unfolding compiled_over schedule_fault_over leaves_year_over zone_lines set_of_lines_over first_span sorted_entries_over entries_from_over entries_of_over next_start_over line_firings_over years_over abbreviation line_end is_in_year instant_of named_day is_leap days_in_year days_in_month days_after_zero year_start days_through days_into_year day collapsed kept_of kept_with without_first
 standard_end = refl
 
 -- `Zone Test/Knot 10:00 - A 2000`, ` 5:00 - B 1999 Dec 31 20:00`, ` 0:00 - C`: both stay, though the second began before the local
@@ -71,14 +71,14 @@ knot : compiled none (line (pos 36000) NoSaving (codes "A") (Some (UntilYear (Nu
       first = span (pos 36000) (pos 0) (codes "A");
       rest = (pos 946648800, span (pos 18000) (pos 0) (codes "B")) ∷ (pos 946652400, span (pos 0) (pos 0) (codes "C")) ∷ [];
     })
-unfolding compiled schedule_fault leaves_year zone_lines set_of_lines first_span sorted_entries entries_from entries_of next_start line_firings years_expanded abbreviation line_end is_in_year instant_of named_day is_leap days_in_year days_in_month days_after_zero year_start days_through days_into_year day collapsed kept_of kept_with without_first
+unfolding compiled_over schedule_fault_over leaves_year_over zone_lines set_of_lines_over first_span sorted_entries_over entries_from_over entries_of_over next_start_over line_firings_over years_over abbreviation line_end is_in_year instant_of named_day is_leap days_in_year days_in_month days_after_zero year_start days_through days_into_year day collapsed kept_of kept_with without_first
 knot = refl
 
 -- `Zone Test/Wall 1:00 1:00 A 2000`, ` 0:00 - B`: the wall's clock is two hours ahead at the end, since the line's own saving is in force there
 wall_end : compiled none (line (pos 3600) (OneOff (pos 3600)) (codes "A") (Some (UntilYear (Number (pos 2000))))
     ∷ line (pos 0) NoSaving (codes "B") None ∷ [])
     ≡ Ok (record { first = span (pos 3600) (pos 3600) (codes "A"); rest = (pos 946677600, span (pos 0) (pos 0) (codes "B")) ∷ [] })
-unfolding compiled schedule_fault leaves_year zone_lines set_of_lines first_span sorted_entries entries_from entries_of next_start line_firings years_expanded abbreviation line_end is_in_year instant_of named_day is_leap days_in_year days_in_month days_after_zero year_start days_through days_into_year day collapsed kept_of kept_with without_first
+unfolding compiled_over schedule_fault_over leaves_year_over zone_lines set_of_lines_over first_span sorted_entries_over entries_from_over entries_of_over next_start_over line_firings_over years_over abbreviation line_end is_in_year instant_of named_day is_leap days_in_year days_in_month days_after_zero year_start days_through days_into_year day collapsed kept_of kept_with without_first
 wall_end = refl
 
 -- `Zone Test/Second 0:00 - A 2000`, ` 1:00 - B 2000 Jan 1 1:00`, ` 2:00 - C`: the last two begin at one second, and the later line has the last word
@@ -89,7 +89,7 @@ one_second : compiled none (line (pos 0) NoSaving (codes "A") (Some (UntilYear (
       first = span (pos 0) (pos 0) (codes "A");
       rest = (pos 946684800, span (pos 3600) (pos 0) (codes "B")) ∷ (pos 946684800, span (pos 7200) (pos 0) (codes "C")) ∷ [];
     })
-unfolding compiled schedule_fault leaves_year zone_lines set_of_lines first_span sorted_entries entries_from entries_of next_start line_firings years_expanded abbreviation line_end is_in_year instant_of named_day is_leap days_in_year days_in_month days_after_zero year_start days_through days_into_year day collapsed kept_of kept_with without_first
+unfolding compiled_over schedule_fault_over leaves_year_over zone_lines set_of_lines_over first_span sorted_entries_over entries_from_over entries_of_over next_start_over line_firings_over years_over abbreviation line_end is_in_year instant_of named_day is_leap days_in_year days_in_month days_after_zero year_start days_through days_into_year day collapsed kept_of kept_with without_first
 one_second = refl
 
 -- a rule of these years that fires at 0:00 of the wall's clock
@@ -123,7 +123,7 @@ madrid : compiled (all spain) (line (negsuc 883) NoSaving (codes "LMT")
       rest = (negsuc 2177452799, span (pos 0) (pos 0) (codes "WET")) ∷ (negsuc 1631926799, span (pos 0) (pos 3600) (codes "WEST"))
           ∷ (negsuc 1616889599, span (pos 0) (pos 0) (codes "WET")) ∷ (negsuc 1609459199, span (pos 3600) (pos 0) (codes "CET")) ∷ [];
     })
-unfolding compiled schedule_fault leaves_year some_year is_outside zone_lines set_of_lines first_span sorted_entries entries_from entries_of next_start listed_from start_firing line_firings years_expanded firings_of_years year_firings fired earliest applies_to_year last_year moment abbreviation filled line_end is_in_year instant_of named_day is_leap days_in_year days_in_month days_after_zero year_start days_through days_into_year day collapsed kept_of kept_with without_first
+unfolding compiled_over schedule_fault_over leaves_year_over some_year is_outside zone_lines set_of_lines_over first_span sorted_entries_over entries_from_over entries_of_over next_start_over listed_from start_firing line_firings_over years_over firings_of_years year_firings fired earliest applies_to_year last_year moment abbreviation filled line_end is_in_year instant_of named_day is_leap days_in_year days_in_month days_after_zero year_start days_through days_into_year day collapsed kept_of kept_with without_first
 madrid = refl
 
 -- a ruled first line begins with its first entry of no saving, which here comes second
@@ -142,7 +142,7 @@ standard_first : set_of_lines (record {
       first = span (pos 0) (pos 0) (codes "B");
       rest = (negsuc 5364662399, span (pos 0) (pos 3600) (codes "A")) ∷ (negsuc 5333129999, span (pos 0) (pos 0) (codes "B")) ∷ [];
     })
-unfolding set_of_lines first_span sorted_entries entries_from entries_of next_start line_firings years_expanded firings_of_years year_firings fired earliest applies_to_year last_year moment abbreviation filled instant_of named_day is_leap days_in_year days_in_month days_after_zero year_start days_through days_into_year day collapsed kept_of kept_with without_first
+unfolding set_of_lines_over first_span sorted_entries_over entries_from_over entries_of_over next_start_over line_firings_over years_over firings_of_years year_firings fired earliest applies_to_year last_year moment abbreviation filled instant_of named_day is_leap days_in_year days_in_month days_after_zero year_start days_through days_into_year day collapsed kept_of kept_with without_first
 standard_first = refl
 
 -- and with the one that comes first in time, be it of the last line
@@ -164,7 +164,7 @@ first_name (Ok set) = set.first.name
 first_name (Err fault) = fault_name fault
 
 first_in_time : first_name (set_of_lines turned_lines) ≡ codes "D"
-unfolding set_of_lines first_span sorted_entries entries_from entries_of next_start listed_from start_firing line_firings years_expanded firings_of_years year_firings fired earliest applies_to_year last_year moment abbreviation filled line_end instant_of named_day is_leap days_in_year days_in_month days_after_zero year_start days_through days_into_year day collapsed kept_of kept_with without_first
+unfolding set_of_lines_over first_span sorted_entries_over entries_from_over entries_of_over next_start_over listed_from start_firing line_firings_over years_over firings_of_years year_firings fired earliest applies_to_year last_year moment abbreviation filled line_end instant_of named_day is_leap days_in_year days_in_month days_after_zero year_start days_through days_into_year day collapsed kept_of kept_with without_first
 first_in_time = refl
 
 -- a saving below 0 is one: `IST` comes before all, though `GMT` is the first entry; and where each entry has a saving nothing does
@@ -185,7 +185,7 @@ saving_stays : compiled (all (at_midnight (pos 1800) (pos 1800) (pos 3600) None 
       first = span (pos 0) (pos 0) (codes "B");
       rest = (negsuc 5364662399, span (pos 0) (pos 3600) (codes "A")) ∷ (negsuc 5333129999, span (pos 0) (pos 0) (codes "B")) ∷ [];
     })
-unfolding compiled schedule_fault leaves_year some_year is_outside zone_lines set_of_lines first_span sorted_entries entries_from entries_of next_start listed_from start_firing line_firings years_expanded firings_of_years year_firings fired earliest applies_to_year last_year moment abbreviation filled line_end is_in_year instant_of named_day is_leap days_in_year days_in_month days_after_zero year_start days_through days_into_year day collapsed kept_of kept_with without_first
+unfolding compiled_over schedule_fault_over leaves_year_over some_year is_outside zone_lines set_of_lines_over first_span sorted_entries_over entries_from_over entries_of_over next_start_over listed_from start_firing line_firings_over years_over firings_of_years year_firings fired earliest applies_to_year last_year moment abbreviation filled line_end is_in_year instant_of named_day is_leap days_in_year days_in_month days_after_zero year_start days_through days_into_year day collapsed kept_of kept_with without_first
 saving_stays = refl
 
 -- a fixed line's saving decides its name, and its format is given no letters
@@ -194,7 +194,7 @@ one_off : map (λ (l : ZoneInfo). compiled none (l ∷ []))
     ∷ record (line (pos 0) NoSaving [] None) { format = Placeholder (codes "X%sT") } ∷ [])
     ≡ Ok (record { first = span (pos 0) (pos 3600) (codes "BST"); rest = [] })
     ∷ Ok (record { first = span (pos 0) (pos 0) (codes "XT"); rest = [] }) ∷ []
-unfolding compiled schedule_fault leaves_year zone_lines set_of_lines first_span sorted_entries entries_from entries_of next_start line_firings years_expanded abbreviation filled collapsed kept_of kept_with without_first
+unfolding compiled_over schedule_fault_over leaves_year_over zone_lines set_of_lines_over first_span sorted_entries_over entries_from_over entries_of_over next_start_over line_firings_over years_over abbreviation filled collapsed kept_of kept_with without_first
 one_off = refl
 
 -- the last firing before a line's start gives the saving and the name there, and firings are read with the line's own offset
@@ -206,7 +206,7 @@ start_saving : compiled (all (at_midnight (pos 1800) (pos 1800) (pos 3600) (Some
       first = span (pos 0) (pos 0) (codes "A");
       rest = (negsuc 5333126399, span (pos 3600) (pos 3600) (codes "XS")) ∷ (negsuc 5301597599, span (pos 3600) (pos 0) (codes "X")) ∷ [];
     })
-unfolding compiled schedule_fault leaves_year some_year is_outside zone_lines set_of_lines first_span sorted_entries entries_from entries_of next_start listed_from start_firing line_firings years_expanded firings_of_years year_firings fired earliest applies_to_year last_year moment abbreviation filled line_end is_in_year instant_of named_day is_leap days_in_year days_in_month days_after_zero year_start days_through days_into_year day collapsed kept_of kept_with without_first
+unfolding compiled_over schedule_fault_over leaves_year_over some_year is_outside zone_lines set_of_lines_over first_span sorted_entries_over entries_from_over entries_of_over next_start_over listed_from start_firing line_firings_over years_over firings_of_years year_firings fired earliest applies_to_year last_year moment abbreviation filled line_end is_in_year instant_of named_day is_leap days_in_year days_in_month days_after_zero year_start days_through days_into_year day collapsed kept_of kept_with without_first
 start_saving = refl
 
 -- ---- faults
@@ -225,12 +225,12 @@ unfolding is_outside applies_to_year last_year is_in_year named_day first_from l
 rules_outside = refl
 
 -- the same rule of 1802 alone, which began on a Friday, leaves a line's years only where the line expands 1802
-outside_late : map (λ year. leaves_year (record {
+outside_late : map (λ year. leaves_year_over 300 (record {
   info = plain None;
   rules = record outside { from_year = Number (pos 1802); to_year = None } ∷ [];
   end = Some (UntilYear (Number year));
 })) (pos 1801 ∷ pos 1802 ∷ []) ≡ false ∷ true ∷ []
-unfolding leaves_year some_year years_expanded is_outside applies_to_year last_year is_in_year named_day first_from last_with weekday_of is_leap days_in_year days_in_month days_after_zero year_start days_through days_into_year day
+unfolding leaves_year_over some_year years_over is_outside applies_to_year last_year is_in_year named_day first_from last_with weekday_of is_leap days_in_year days_in_month days_after_zero year_start days_through days_into_year day
 outside_late = refl
 
 -- 300 years from 1800 on
@@ -260,7 +260,7 @@ faults : schedule_fault none (ruled None ∷ saving ∷ [])
     ∷ schedule_fault (all (outside ∷ [])) (ruled in_1800 ∷ saving ∷ [])
     ∷ schedule_fault (all []) (ruled in_1800 ∷ saving ∷ []) ∷ []
     ≡ map Some (UnknownRuleset ∷ MissingUntil ∷ YearRange ∷ RuleYears ∷ DayRange ∷ NoStandardSpan ∷ [])
-unfolding schedule_fault leaves_year some_year is_outside zone_lines entries_from entries_of next_start listed_from start_firing line_firings years_expanded firings_of_years year_firings fired earliest applies_to_year last_year moment abbreviation line_end is_in_year instant_of named_day first_from last_with weekday_of is_leap days_in_year days_in_month days_after_zero year_start days_through days_into_year day
+unfolding schedule_fault_over leaves_year_over some_year is_outside zone_lines entries_from_over entries_of_over next_start_over listed_from start_firing line_firings_over years_over firings_of_years year_firings fired earliest applies_to_year last_year moment abbreviation line_end is_in_year instant_of named_day first_from last_with weekday_of is_leap days_in_year days_in_month days_after_zero year_start days_through days_into_year day
 faults = refl
 
 -- each is a fault of a later line too: an unknown ruleset of the last one as well, and of the middle one no end, an end in no year, a rule
@@ -271,25 +271,25 @@ later_faults : schedule_fault none (plain in_1800 ∷ ruled None ∷ [])
     ∷ schedule_fault (all (yearless ∷ [])) (plain in_1800 ∷ ruled in_1800 ∷ saving ∷ [])
     ∷ schedule_fault (all (outside ∷ [])) (plain in_1800 ∷ ruled in_1800 ∷ saving ∷ []) ∷ []
     ≡ map Some (UnknownRuleset ∷ MissingUntil ∷ YearRange ∷ RuleYears ∷ DayRange ∷ [])
-unfolding schedule_fault leaves_year some_year is_outside zone_lines entries_from entries_of next_start listed_from start_firing line_firings years_expanded firings_of_years year_firings fired earliest applies_to_year last_year moment abbreviation line_end is_in_year instant_of named_day first_from last_with weekday_of is_leap days_in_year days_in_month days_after_zero year_start days_through days_into_year day
+unfolding schedule_fault_over leaves_year_over some_year is_outside zone_lines entries_from_over entries_of_over next_start_over listed_from start_firing line_firings_over years_over firings_of_years year_firings fired earliest applies_to_year last_year moment abbreviation line_end is_in_year instant_of named_day first_from last_with weekday_of is_leap days_in_year days_in_month days_after_zero year_start days_through days_into_year day
 later_faults = refl
 
 -- a rule without years is one also where its line expands no year
 rule_without_years : schedule_fault (all (yearless ∷ [])) (ruled (Some (UntilYear (Number (pos 1799)))) ∷ plain None ∷ []) ≡ Some RuleYears
-unfolding schedule_fault leaves_year some_year is_outside zone_lines entries_from entries_of next_start listed_from start_firing line_firings years_expanded firings_of_years year_firings fired earliest applies_to_year last_year moment abbreviation line_end is_in_year instant_of named_day first_from last_with weekday_of is_leap days_in_year days_in_month days_after_zero year_start days_through days_into_year day
+unfolding schedule_fault_over leaves_year_over some_year is_outside zone_lines entries_from_over entries_of_over next_start_over listed_from start_firing line_firings_over years_over firings_of_years year_firings fired earliest applies_to_year last_year moment abbreviation line_end is_in_year instant_of named_day first_from last_with weekday_of is_leap days_in_year days_in_month days_after_zero year_start days_through days_into_year day
 rule_without_years = refl
 
 -- no line; an end in the year 0; an end whose day is of 1799
 more_faults : schedule_fault none [] ∷ schedule_fault none (plain (Some (UntilYear (Number (pos 0)))) ∷ saving ∷ [])
     ∷ schedule_fault none (plain (Some (UntilDay (Number (pos 1800)) January (LastOnOrBefore Sunday (pos 1)))) ∷ saving ∷ []) ∷ []
     ≡ map Some (NoStandardSpan ∷ YearRange ∷ DayRange ∷ [])
-unfolding schedule_fault leaves_year zone_lines entries_from entries_of next_start listed_from start_firing line_firings years_expanded abbreviation line_end is_in_year instant_of named_day first_from last_with weekday_of is_leap days_in_year days_in_month days_after_zero year_start days_through days_into_year day
+unfolding schedule_fault_over leaves_year_over zone_lines entries_from_over entries_of_over next_start_over listed_from start_firing line_firings_over years_over abbreviation line_end is_in_year instant_of named_day first_from last_with weekday_of is_leap days_in_year days_in_month days_after_zero year_start days_through days_into_year day
 more_faults = refl
 
 -- the end of the last line has no part in anything, and a fixed first line needs no entry without a saving
 no_faults : schedule_fault none (plain (Some (UntilYear Minimum)) ∷ []) ∷ schedule_fault none (plain in_1800 ∷ saving ∷ [])
     ∷ [] ≡ None ∷ None ∷ []
-unfolding schedule_fault leaves_year zone_lines entries_from entries_of next_start line_firings years_expanded abbreviation line_end is_in_year instant_of named_day is_leap days_in_year days_in_month days_after_zero year_start days_through days_into_year day
+unfolding schedule_fault_over leaves_year_over zone_lines entries_from_over entries_of_over next_start_over line_firings_over years_over abbreviation line_end is_in_year instant_of named_day is_leap days_in_year days_in_month days_after_zero year_start days_through days_into_year day
 no_faults = refl
 
 names_of_faults : map fault_name (UnknownRuleset ∷ MissingUntil ∷ YearRange ∷ RuleYears ∷ DayRange ∷ NoStandardSpan ∷ NoMemory ∷ [])

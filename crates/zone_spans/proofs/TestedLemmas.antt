@@ -3,6 +3,8 @@ use Rattle.std.proofs.Common.{◌≡◌, ℕ, zero, suc, ◌+◌, ◌≤◌, inl
 use Rattle.std.proofs.Math.Nat.{eq-or-lt_of_le}
 use Rattle.zone_table.specs.declared.rule.RuleInfo.{RuleInfo}
 use Rattle.zone_spans.specs.Faults.{is_outside, some_year}
+use Rattle.zone_spans.specs.Bounds.{IsSound}
+use Rattle.zone_spans.specs.Lines.{Line}
 use Rattle.zone_spans.specs.Tested.{NoneLeaves}
 use Rattle.zone_spans.proofs.SoundLemmas.{neither_left, neither_right, no_years}
 use Rattle.zone_spans.specs.Years.{earliest_year}
@@ -23,6 +25,16 @@ fewer_leave (r ∷ rs) k n le none =
     let here = fewer_years (is_outside r) k n le (neither_left (some_year (is_outside r) n) _ none) in
     let behind = fewer_leave rs k n le (neither_right (some_year (is_outside r) n) _ none) in
     λ i. here i || behind i
+
+-- so is a line that is sound over more years sound over fewer
+pub fewer_sound : (line : Line) (k n : ℕ) → k ≤ n → IsSound n line → IsSound k line
+fewer_sound line k n le sound = record {
+  bounded = sound.bounded;
+  year = sound.year;
+  years = sound.years;
+  end = sound.end;
+  days = fewer_leave line.rules k n le sound.days;
+}
 
 pub none_leaves_yet : (rules : List RuleInfo) → NoneLeaves rules 0
 none_leaves_yet [] = refl

@@ -10,9 +10,10 @@ use Rattle.zone_table.specs.Bounds.{is_bounded_info, is_bounded_rule}
 use Rattle.zone_table.specs.Moments.{has_years}
 use Rattle.zone_table.specs.declared.rule.RuleInfo.{RuleInfo}
 use Rattle.zone_spans.specs.Entries.{Entry}
-use Rattle.zone_spans.specs.Faults.{ends_in_no_year, is_outside, lacks_years, leaves_year}
-use Rattle.zone_spans.specs.Firings.{Firing}
+use Rattle.zone_spans.specs.Faults.{ends_in_no_year, ends_outside, is_outside, lacks_years}
+use Rattle.zone_spans.specs.Firings.{Firing, years_over}
 use Rattle.zone_spans.specs.Lines.{Line}
+use Rattle.zone_spans.specs.Tested.{NoneLeaves}
 use Rattle.zone_spans.specs.declared.span.FixedTimespan.{FixedTimespan}
 use Rattle.zone_spans.specs.declared.span.FixedTimespanSet.{FixedTimespanSet}
 
@@ -68,9 +69,14 @@ has_moment year rule = is_bounded_rule rule && is_in_year (named_day rule.day ye
 unfoldable pub can_fire : ℤ → RuleInfo → Bool
 can_fire year rule = is_bounded_rule rule && has_years rule && not (is_outside rule year)
 
--- what a line has to be to be expanded
-pub record IsSound (line : Line) : Type 0 where
+-- what a line has to be to be expanded over so many years
+pub record IsSound (count : ℕ) (line : Line) : Type 0 where
   pub bounded : IsTrue (is_bounded_line line)
   pub year : ends_in_no_year line ≡ false
   pub years : lacks_years line ≡ false
-  pub days : leaves_year line ≡ false
+  pub end : option_map_or ends_outside line.end false ≡ false
+  pub days : NoneLeaves line.rules count
+
+-- over those of so many that it expands
+abbrev pub IsSoundOver : ℕ → Line → Type 0
+IsSoundOver most line = IsSound (years_over most line.end) line

@@ -1,12 +1,13 @@
 -- The entries of a zone.
-use Rattle.std.specs.Prelude.{Bool, List, [], ◌∷◌, ◌++◌, map, find, Option, Some, None, option_map, ℤ, pos, ◌+ℤ◌, int_lt, if◌then◌else◌}
+use Rattle.std.specs.Prelude.{ℕ, Bool, List, [], ◌∷◌, ◌++◌, map, find, Option, Some, None, option_map, ℤ, pos, ◌+ℤ◌, int_lt, if◌then◌else◌}
 use Rattle.std.specs.Ordering.{int_eq}
 use Rattle.zone_table.specs.Formats.{abbreviation}
 use Rattle.owned.specs.Sorted.{stable_sort}
 use Rattle.zone_spans.specs.Windows.{line_end}
 use Rattle.zone_spans.specs.Lines.{Line, is_ruled, fixed_saving}
-use Rattle.zone_spans.specs.Firings.{Firing, firings, last_saving}
+use Rattle.zone_spans.specs.Firings.{Firing, firings_over, last_saving_over}
 use Rattle.zone_spans.specs.Listing.{listed_firings, start_firing}
+use Rattle.zone_spans.specs.Years.{most_years}
 use Rattle.zone_spans.specs.declared.span.FixedTimespan.{FixedTimespan}
 
 -- a second from 1970 on, and what is in force from then on
@@ -45,30 +46,41 @@ start_entry line None fs = []
 start_entry line (Some start) fs = at_start (Some start) (option_map (span_of line) (start_firing start fs))
 
 -- of a line with that start: the firings that it lists, and then the entry at its start
-unfoldable pub entries_of : Line → Option ℤ → List Entry
-entries_of line start =
+unfoldable pub entries_of_over : ℕ → Line → Option ℤ → List Entry
+entries_of_over most line start =
     if is_ruled line.info.saving
-    then map (entry_of line) (listed_firings start (firings line)) ++ start_entry line start (firings line)
+    then map (entry_of line) (listed_firings start (firings_over most line)) ++ start_entry line start (firings_over most line)
     else at_start start (Some (fixed_span line))
 
 -- where the next line starts
-unfoldable pub next_start : Line → Option ℤ
-next_start line = option_map (λ end. line_end end line.info.offset (last_saving line)) line.end
+unfoldable pub next_start_over : ℕ → Line → Option ℤ
+next_start_over most line = option_map (λ end. line_end end line.info.offset (last_saving_over most line)) line.end
 
 -- line by line
-unfoldable pub entries_from : Option ℤ → List Line → List Entry
-entries_from start [] = []
-entries_from start (line ∷ lines) = entries_of line start ++ entries_from (next_start line) lines
+unfoldable pub entries_from_over : ℕ → Option ℤ → List Line → List Entry
+entries_from_over most start [] = []
+entries_from_over most start (line ∷ lines) =
+    entries_of_over most line start ++ entries_from_over most (next_start_over most line) lines
 
-abbrev pub raw_entries : List Line → List Entry
-raw_entries lines = entries_from None lines
+abbrev pub raw_entries_over : ℕ → List Line → List Entry
+raw_entries_over most lines = entries_from_over most None lines
 
 abbrev pub is_sooner : Entry → Entry → Bool
 is_sooner a b = int_lt a.0 b.0
 
 -- in order of time; those of one time stay as they are
-unfoldable pub sorted_entries : List Line → List Entry
-sorted_entries lines = stable_sort is_sooner (raw_entries lines)
+unfoldable pub sorted_entries_over : ℕ → List Line → List Entry
+sorted_entries_over most lines = stable_sort is_sooner (raw_entries_over most lines)
+
+-- over the years to the latest
+abbrev pub entries_of : Line → Option ℤ → List Entry
+entries_of line start = entries_of_over most_years line start
+
+abbrev pub raw_entries : List Line → List Entry
+raw_entries lines = raw_entries_over most_years lines
+
+abbrev pub sorted_entries : List Line → List Entry
+sorted_entries lines = sorted_entries_over most_years lines
 
 abbrev pub is_standard : Entry → Bool
 is_standard e = int_eq e.1.dst_offset (pos 0)

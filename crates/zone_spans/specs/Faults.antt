@@ -9,11 +9,11 @@ use Rattle.zone_table.specs.Moments.{has_years, applies_to_year}
 use Rattle.zone_table.specs.declared.rule.RuleInfo.{RuleInfo}
 use Rattle.zone_table.specs.declared.zone.ZoneInfo.{ZoneInfo}
 use Rattle.zone_spans.specs.Lines.{Line, Rulesets, is_known, is_ruled, zone_lines}
-use Rattle.zone_spans.specs.Firings.{years_expanded}
-use Rattle.zone_spans.specs.Entries.{raw_entries, is_standard}
+use Rattle.zone_spans.specs.Firings.{years_over}
+use Rattle.zone_spans.specs.Entries.{raw_entries_over, is_standard}
 use Rattle.zone_spans.specs.declared.fault.SpanFault.{SpanFault}
 use Rattle.zone_spans.specs.declared.fault.SpanFault.TheVariants.{UnknownRuleset, MissingUntil, YearRange, RuleYears, DayRange, NoStandardSpan}
-use Rattle.zone_spans.specs.Years.{earliest_year}
+use Rattle.zone_spans.specs.Years.{earliest_year, most_years}
 
 -- the fault of the first test that is met
 abbrev pub first_met : List (Bool × SpanFault) → Option SpanFault
@@ -46,10 +46,10 @@ abbrev pub ends_outside : ChangeTime → Bool
 ends_outside end = not (is_in_year (day_of_end end) (year_number (end_year end)))
 
 -- the day of the line's end lies in another year, or that of a rule in a year that the line expands
-unfoldable pub leaves_year : Line → Bool
-leaves_year line =
+unfoldable pub leaves_year_over : ℕ → Line → Bool
+leaves_year_over most line =
     option_map_or ends_outside line.end false
-    || list_any (λ rule. some_year (is_outside rule) (years_expanded line.end)) line.rules
+    || list_any (λ rule. some_year (is_outside rule) (years_over most line.end)) line.rules
 
 -- there is no line, or the first is ruled
 abbrev pub begins_ruled : List Line → Bool
@@ -57,22 +57,26 @@ begins_ruled [] = true
 begins_ruled (line ∷ lines) = is_ruled line.info.saving
 
 -- the tests that take nothing but a zone's lines, in their order
-abbrev pub line_tests : List ZoneInfo → List Line → List (Bool × SpanFault)
-line_tests infos lines =
+abbrev pub line_tests : ℕ → List ZoneInfo → List Line → List (Bool × SpanFault)
+line_tests most infos lines =
     (list_any (λ info. is_none info.end_time) (all_but_last infos), MissingUntil)
     ∷ (list_any ends_in_no_year lines, YearRange)
     ∷ (list_any lacks_years lines, RuleYears)
-    ∷ (list_any leaves_year lines, DayRange)
+    ∷ (list_any (leaves_year_over most) lines, DayRange)
     ∷ []
 
 -- the test of the entries
-abbrev pub entry_test : List Line → Bool × SpanFault
-entry_test lines = (begins_ruled lines && not (list_any is_standard (raw_entries lines)), NoStandardSpan)
+abbrev pub entry_test : ℕ → List Line → Bool × SpanFault
+entry_test most lines = (begins_ruled lines && not (list_any is_standard (raw_entries_over most lines)), NoStandardSpan)
 
-unfoldable pub line_fault : List ZoneInfo → List Line → Option SpanFault
-line_fault infos lines = first_met (line_tests infos lines)
+unfoldable pub line_fault : ℕ → List ZoneInfo → List Line → Option SpanFault
+line_fault most infos lines = first_met (line_tests most infos lines)
 
-unfoldable pub schedule_fault : Rulesets → List ZoneInfo → Option SpanFault
-schedule_fault rulesets infos =
+unfoldable pub schedule_fault_over : ℕ → Rulesets → List ZoneInfo → Option SpanFault
+schedule_fault_over most rulesets infos =
     let lines = zone_lines rulesets infos in
-    first_met ((list_any (is_unknown rulesets) infos, UnknownRuleset) ∷ (line_tests infos lines ++ entry_test lines ∷ []))
+    first_met ((list_any (is_unknown rulesets) infos, UnknownRuleset) ∷ (line_tests most infos lines ++ entry_test most lines ∷ []))
+
+-- over the years to the latest
+abbrev pub schedule_fault : Rulesets → List ZoneInfo → Option SpanFault
+schedule_fault rulesets infos = schedule_fault_over most_years rulesets infos

@@ -56,20 +56,30 @@ firings_of_years offset end rules (suc n) =
     let here = year_firings (pos (earliest_year + n)) offset end before.1 rules in
     (before.0 ++ here.0, here.1)
 
--- how many years from the earliest on a line expands: to the latest, or to the year of its end
-unfoldable pub years_expanded : Option ChangeTime → ℕ
-years_expanded None = most_years
-years_expanded (Some end) = min most_years (nat_abs (year_number (end_year end)) - (earliest_year - 1))
+-- how many of so many years from the earliest on a line expands: all of them, or those up to the year of its end
+unfoldable pub years_over : ℕ → Option ChangeTime → ℕ
+years_over most None = most
+years_over most (Some end) = min most (nat_abs (year_number (end_year end)) - (earliest_year - 1))
 
 -- a line that is not ruled has no firing
-unfoldable pub line_firings : Line → Fired
-line_firings line =
+unfoldable pub line_firings_over : ℕ → Line → Fired
+line_firings_over most line =
     if is_ruled line.info.saving
-    then firings_of_years line.info.offset line.end line.rules (years_expanded line.end)
+    then firings_of_years line.info.offset line.end line.rules (years_over most line.end)
     else ([], fixed_saving line.info.saving)
 
-abbrev pub firings : Line → List Firing
-firings line = (line_firings line).0
+abbrev pub firings_over : ℕ → Line → List Firing
+firings_over most line = (line_firings_over most line).0
 
-abbrev pub last_saving : Line → ℤ
-last_saving line = (line_firings line).1
+abbrev pub last_saving_over : ℕ → Line → ℤ
+last_saving_over most line = (line_firings_over most line).1
+
+-- over the years to the latest
+abbrev pub years_expanded : Option ChangeTime → ℕ
+years_expanded end = years_over most_years end
+
+abbrev pub line_firings : Line → Fired
+line_firings line = line_firings_over most_years line
+
+abbrev pub firings : Line → List Firing
+firings line = firings_over most_years line

@@ -9,7 +9,7 @@ use Rattle.zone_spans.specs.Bounds.{is_bounded_firing}
 use Rattle.zone_spans.specs.Firings.{Fired, firings_of_years, is_over}
 use Rattle.zone_spans.specs.Quiet.{AppliesToNone}
 use Rattle.zone_spans.specs.declared.kept.Mark.{Mark}
-use Rattle.zone_spans.specs.Years.{most_years}
+use Rattle.zone_spans.specs.Years.{years_limit}
 
 -- of the first n years, cut by no end
 abbrev pub unended : ℤ → List RuleInfo → ℕ → Fired
@@ -25,7 +25,7 @@ pub record IsMark (due : Fired) (mark : Mark) : Type 0 where
 -- one mark for each year after the first ones, in which no rule applies
 pub record AreMarks (offset : ℤ) (rules : List RuleInfo) (quiet : ℕ) (marks : List Mark) : Type 0 where
   pub none : AppliesToNone rules quiet
-  pub most : quiet + length marks ≤ most_years
+  pub most : quiet + length marks ≤ years_limit
   pub each : (i : ℕ) (d : Mark) → i < length marks → IsMark (unended offset rules (quiet + suc i)) (slice_index_or marks i d)
 
 -- the last of the marks, or the mark of no firings where there is none

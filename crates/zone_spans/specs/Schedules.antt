@@ -5,7 +5,7 @@ use Rattle.std.specs.Ordering.{int_eq}
 use Rattle.civil_base.specs.Instants.{instant_at}
 use Rattle.civil_base.specs.Ranges.{greatest_offset, is_offset}
 use Rattle.zone_table.specs.declared.zone.ZoneInfo.{ZoneInfo}
-use Rattle.zone_spans.specs.Compiled.{compiled}
+use Rattle.zone_spans.specs.Compiled.{compiled, compiled_over}
 use Rattle.zone_spans.specs.Entries.{total}
 use Rattle.zone_spans.specs.Lines.{Rulesets}
 use Rattle.zone_spans.specs.declared.fault.SpanFault.{SpanFault}
@@ -31,6 +31,10 @@ totals_told (Err fault) = fixed (pos 0)
 -- the schedule of a zone with these lines; no offset where there is a fault
 unfoldable pub schedule_of_lines : Rulesets → List ZoneInfo → Schedule
 schedule_of_lines rulesets lines = totals_told (compiled rulesets lines)
+
+-- where its lines expand so many years
+unfoldable pub schedule_over : ℕ → Rulesets → List ZoneInfo → Schedule
+schedule_over most rulesets lines = totals_told (compiled_over most rulesets lines)
 
 abbrev pub last_total : ℤ → List (ℤ × ℤ) → ℤ
 last_total total [] = total

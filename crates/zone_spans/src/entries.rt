@@ -5,7 +5,7 @@ ghost use Rattle.std.specs.Option.{option_map_or};
 ghost use Rattle.owned.specs.Sorted.{stable_sort};
 ghost use Rattle.zone_values.specs.Bounds.{are_small_seconds};
 ghost use Rattle.zone_table.specs.Formats.{abbreviation};
-ghost use Rattle.zone_spans.specs.Bounds.{IsSound, is_bounded_entry, is_bounded_firing, is_bounded_span, is_small, is_start};
+ghost use Rattle.zone_spans.specs.Bounds.{IsSoundOver, is_bounded_entry, is_bounded_firing, is_bounded_line, is_bounded_span, is_end, is_small, is_start};
 ghost use Rattle.zone_spans.specs.Entries.{
   Entry,
   span_of,
@@ -13,20 +13,19 @@ ghost use Rattle.zone_spans.specs.Entries.{
   fixed_span,
   at_start,
   start_entry,
-  entries_of,
-  next_start,
-  entries_from,
-  raw_entries,
+  entries_of_over,
+  next_start_over,
+  raw_entries_over,
   is_sooner,
-  sorted_entries,
+  sorted_entries_over,
   is_standard,
   first_span,
 };
-ghost use Rattle.zone_spans.specs.Firings.{firings};
 ghost use Rattle.zone_spans.specs.KeptFor.{IsKept};
 ghost use Rattle.zone_spans.specs.Several.{AreAll};
 ghost use Rattle.zone_spans.specs.Windows.{line_end};
 ghost use Rattle.zone_spans.specs.Listing.{is_at, listed_firings, listed_from, start_firing};
+ghost use Rattle.zone_spans.specs.Years.{years_limit};
 
 use crate::firing::Firing;
 use crate::kept::{Kept, fire_line};
@@ -197,8 +196,9 @@ fn push_fixed(
     Ok(())
 }
 
-/// Adds the entries of a line with that start, and gives the start of the next line. What it fires goes into `fired`.
-#[tactic(auto, unfolding(crate::specs::Entries::entries_of, crate::specs::Entries::next_start, crate::specs::Firings::line_firings))]
+/// Adds the entries of a line with that start over so many years, and gives the start of the next line. What it fires goes into
+/// `fired`.
+#[tactic(auto, unfolding(crate::specs::Entries::entries_of_over, crate::specs::Entries::next_start_over, crate::specs::Firings::line_firings_over))]
 fn push_line<'a>(
     entries: &mut Entries,
     alloc: Global,
@@ -206,16 +206,18 @@ fn push_line<'a>(
     fired: &mut Vec<Firing<'a>>,
     line: &Line<'a>,
     start: Option<i64>,
+    most: u16,
 ) -> Result<Option<i64>, AllocError>
-    requires line { IsSound line.now }
+    requires line { IsSoundOver most line.now }
+    requires most { most ≤ years_limit }
     requires kept { AreAll IsKept kept.old }
-    ensures entries { IfOk result (λ _. entries.new ≡ entries.old ++ entries_of line.now start) }
-    ensures next { IfOk result (λ next. next ≡ next_start line.now) }
-    ensures bounded { IfOk result (λ next. IsTrue (is_start start) → IsTrue (is_start next) × IsTrue (list_all is_bounded_entry (entries_of line.now start))) }
+    ensures entries { IfOk result (λ _. entries.new ≡ entries.old ++ entries_of_over most line.now start) }
+    ensures next { IfOk result (λ next. next ≡ next_start_over most line.now) }
+    ensures bounded { IfOk result (λ next. IsTrue (is_start start) → IsTrue (is_start next) × IsTrue (list_all is_bounded_entry (entries_of_over most line.now start))) }
     ensures kept { IfOk result (λ _. AreAll IsKept kept.new) }
 {
     if line.is_ruled() {
-        let last_saving = fire_line(kept, fired, alloc, line, start)?;
+        let last_saving = fire_line(kept, fired, alloc, line, start, most)?;
         push_ruled(entries, alloc, line, start, fired)?;
         return Ok(next_start(line, last_saving));
     }
@@ -225,7 +227,8 @@ fn push_line<'a>(
 
 /// Where the next line starts, after that saving.
 fn next_start(line: &Line<'_>, last_saving: i64) -> Option<i64>
-    requires sound { IsSound line.now }
+    requires bounded { IsTrue (is_bounded_line line.now) }
+    requires end { IsTrue (is_end line.now.end) }
     requires saving { IsTrue (are_small_seconds last_saving) }
     ensures value { result ≡ option_map (λ end. line_end end line.now.info.offset last_saving) line.now.end }
     ensures bounded { IsTrue (is_start result) }
@@ -236,10 +239,11 @@ fn next_start(line: &Line<'_>, last_saving: i64) -> Option<i64>
     }
 }
 
-/// The entries of a zone, line by line.
-fn raw_entries<'a>(alloc: Global, lines: &[Line<'a>]) -> Result<Entries, AllocError>
-    requires { All IsSound lines.now }
-    ensures raw { IfOk result (λ entries. entries ≡ raw_entries lines.now) }
+/// The entries of a zone over so many years, line by line.
+fn raw_entries<'a>(alloc: Global, lines: &[Line<'a>], most: u16) -> Result<Entries, AllocError>
+    requires lines { All (IsSoundOver most) lines.now }
+    requires most { most ≤ years_limit }
+    ensures raw { IfOk result (λ entries. entries ≡ raw_entries_over most lines.now) }
     ensures bounded { IfOk result (λ entries. IsTrue (list_all is_bounded_entry entries)) }
 {
     let mut entries = Items::new(alloc);
@@ -247,19 +251,32 @@ fn raw_entries<'a>(alloc: Global, lines: &[Line<'a>]) -> Result<Entries, AllocEr
     let mut fired = Vec::new(alloc);
     let mut start = None;
     for line in lines {
-        start = push_line(&mut entries, alloc, &mut kept, &mut fired, line, start)?;
+        start = push_line(
+            &mut entries,
+            alloc,
+            &mut kept,
+            &mut fired,
+            line,
+            start,
+            most,
+        )?;
     }
     Ok(entries)
 }
 
-/// The entries of a zone in order of time. Entries of one time keep their order.
-#[tactic(auto, unfolding(crate::specs::Entries::sorted_entries))]
-pub(crate) fn sorted_entries(alloc: Global, lines: &[Line<'_>]) -> Result<Entries, AllocError>
-    requires { All IsSound lines.now }
-    ensures sorted { IfOk result (λ entries. entries ≡ sorted_entries lines.now) }
+/// The entries of a zone over so many years in order of time. Entries of one time keep their order.
+#[tactic(auto, unfolding(crate::specs::Entries::sorted_entries_over))]
+pub(crate) fn sorted_entries(
+    alloc: Global,
+    lines: &[Line<'_>],
+    most: u16,
+) -> Result<Entries, AllocError>
+    requires lines { All (IsSoundOver most) lines.now }
+    requires most { most ≤ years_limit }
+    ensures sorted { IfOk result (λ entries. entries ≡ sorted_entries_over most lines.now) }
     ensures bounded { IfOk result (λ entries. IsTrue (list_all is_bounded_entry entries)) }
 {
-    let mut entries = raw_entries(alloc, lines)?;
+    let mut entries = raw_entries(alloc, lines, most)?;
     sort(&mut entries)?;
     Ok(entries)
 }
@@ -282,7 +299,7 @@ pub(crate) fn first_span(
     lines: &[Line<'_>],
     entries: &Entries,
 ) -> Result<Option<FixedTimespan>, AllocError>
-    requires lines { All IsSound lines.now }
+    requires lines { IsTrue (list_all is_bounded_line lines.now) }
     requires entries { IsTrue (list_all is_bounded_entry entries.now) }
     ensures first { IfOk result (λ first. first ≡ first_span lines.now entries.now) }
     ensures bounded { IfOk result (λ first. IfSome first (λ span. IsTrue (is_bounded_span span))) }

@@ -1,9 +1,10 @@
 //! What keeps a zone from having a schedule.
-ghost use Rattle.std.specs.Prelude.{◌≡◌, IfOk, IsTrue, false, is_none};
+ghost use Rattle.std.specs.Prelude.{◌≡◌, ◌≤◌, IfOk, IsTrue, false, is_none};
 ghost use Rattle.std.specs.List.{list_all, list_any};
 ghost use Rattle.zone_table.specs.Moments.{has_years};
 ghost use Rattle.zone_spans.specs.Bounds.{is_bounded_line};
-ghost use Rattle.zone_spans.specs.Faults.{all_but_last, lacks_years, line_fault, ends_in_no_year, leaves_year};
+ghost use Rattle.zone_spans.specs.Faults.{all_but_last, lacks_years, line_fault, ends_in_no_year, leaves_year_over};
+ghost use Rattle.zone_spans.specs.Years.{years_limit};
 
 use crate::line::Line;
 use crate::several::Several;
@@ -62,15 +63,17 @@ impl SpanFault {
     }
 }
 
-/// The first fault that keeps known lines from being expanded.
+/// The first fault that keeps known lines from being expanded over so many years.
 #[tactic(auto, unfolding(crate::specs::Faults::line_fault))]
 pub(crate) fn line_fault(
     alloc: Global,
     infos: &[ZoneInfo],
     lines: &[Line<'_>],
+    most: u16,
 ) -> Result<Option<SpanFault>, AllocError>
-    requires { IsTrue (list_all is_bounded_line lines.now) }
-    ensures { IfOk result (λ fault. fault ≡ line_fault infos.now lines.now) }
+    requires bounded { IsTrue (list_all is_bounded_line lines.now) }
+    requires most { most ≤ years_limit }
+    ensures { IfOk result (λ fault. fault ≡ line_fault most infos.now lines.now) }
 {
     if misses_end(infos) {
         return Ok(Some(SpanFault::MissingUntil));
@@ -81,7 +84,7 @@ pub(crate) fn line_fault(
     if some_lacks_years(lines) {
         return Ok(Some(SpanFault::RuleYears));
     }
-    if some_leaves_year(alloc, lines)? {
+    if some_leaves_year(alloc, lines, most)? {
         return Ok(Some(SpanFault::DayRange));
     }
     Ok(None)
@@ -121,15 +124,16 @@ fn some_lacks_years(lines: &[Line<'_>]) -> bool
     lines.iter().any(lacks_years)
 }
 
-fn some_leaves_year<'a>(alloc: Global, lines: &[Line<'a>]) -> Result<bool, AllocError>
+fn some_leaves_year<'a>(alloc: Global, lines: &[Line<'a>], most: u16) -> Result<bool, AllocError>
+    requires most { most ≤ years_limit }
     requires bounded { IsTrue (list_all is_bounded_line lines.now) }
     requires year { list_any ends_in_no_year lines.now ≡ false }
     requires years { list_any lacks_years lines.now ≡ false }
-    ensures { IfOk result (λ leaves. leaves ≡ list_any leaves_year lines.now) }
+    ensures { IfOk result (λ leaves. leaves ≡ list_any (leaves_year_over most) lines.now) }
 {
     let mut tested = Several::new(alloc, Tested::new("", &[]));
     for line in lines {
-        if leaves_year(&mut tested, line)? {
+        if leaves_year(&mut tested, line, most)? {
             return Ok(true);
         }
     }

@@ -4,22 +4,22 @@ ghost use Rattle.std.specs.Prelude.{◌≡◌, ◌+◌, ◌<◌, ◌≤◌, ◌�
 ghost use Rattle.std.specs.List.{last_or, list_all};
 ghost use Rattle.std.specs.Option.{option_to_list};
 ghost use Rattle.zone_values.specs.Bounds.{are_small_seconds};
-ghost use Rattle.zone_spans.specs.Bounds.{IsSound, is_bounded_firing, is_end};
-ghost use Rattle.zone_spans.specs.Firings.{Firing, firings, firings_of_years, last_saving, years_expanded};
+ghost use Rattle.zone_spans.specs.Bounds.{IsSound, IsSoundOver, is_bounded_firing, is_end};
+ghost use Rattle.zone_spans.specs.Firings.{Firing, firings_of_years, firings_over, last_saving_over};
 ghost use Rattle.zone_spans.specs.Kept.{AreBelow, AreMarks, IsLastMark, IsLimit};
 ghost use Rattle.zone_spans.specs.KeptFor.{IsFor, IsKept};
 ghost use Rattle.zone_spans.specs.Lines.{is_ruled};
 ghost use Rattle.zone_spans.specs.Quiet.{AppliesToNone};
 ghost use Rattle.zone_spans.specs.Several.{AreAll};
 ghost use Rattle.zone_spans.specs.Stands.{StandsFor};
-ghost use Rattle.zone_spans.specs.Years.{most_years};
+ghost use Rattle.zone_spans.specs.Years.{years_limit};
 
 use crate::firing::Firing;
 use crate::front::Applying;
 use crate::line::Line;
 use crate::quiet::years_before_all;
 use crate::several::{Serve, Several};
-use crate::year::{EARLIEST_YEAR, fire_year, fire_years, line_end, years_expanded};
+use crate::year::{EARLIEST_YEAR, fire_year, fire_years, line_end, years_over};
 use std::alloc::{AllocError, Global};
 use zone_table::RuleInfo;
 use zone_values::ChangeTime;
@@ -146,9 +146,9 @@ fn keep_year<'a>(
     quiet: u16,
     count: u16,
 ) -> Result<(), AllocError>
-    requires line { IsSound line.now }
+    requires line { IsSound (count + 1) line.now }
+    requires most { count < years_limit }
     requires count { count ≡ quiet + length marks.old.items }
-    requires years { count < years_expanded line.now.end }
     requires marks { AreMarks line.now.info.offset line.now.rules quiet marks.old.items }
     ensures marks { IfOk result (λ _. AreMarks line.now.info.offset line.now.rules quiet marks.new.items) }
     ensures more { IfOk result (λ _. length marks.new.items ≡ length marks.old.items + 1) }
@@ -178,8 +178,8 @@ fn keep_years<'a>(
     years: u16,
     second: i64,
 ) -> Result<(), AllocError>
-    requires line { IsSound line.now }
-    requires years { years ≡ years_expanded line.now.end }
+    requires line { IsSound years line.now }
+    requires years { years ≤ years_limit }
     requires marks { AreMarks line.now.info.offset line.now.rules quiet marks.old.items }
     ensures { IfOk result (λ _. AreMarks line.now.info.offset line.now.rules quiet marks.new.items) }
 {
@@ -194,31 +194,33 @@ fn keep_years<'a>(
 }
 
 /// Puts into `fired` a firing that stands for those of the first years of a line, where there is one, and what the line fires
-/// after these years, which end with that saving. Gives the saving after all.
+/// after these years, which end with that saving, up to so many years. Gives the saving after all.
 fn fire_after<'a>(
     alloc: Global,
     fired: &mut Vec<Firing<'a>>,
     left: &mut Vec<Applying<'a>>,
     line: &Line<'a>,
     first: u16,
+    years: u16,
     last: Option<Firing<'a>>,
     saving: i64,
 ) -> Result<i64, AllocError>
-    requires line { IsSound line.now }
-    requires first { first ≤ years_expanded line.now.end }
+    requires line { IsSound years line.now }
+    requires first { first ≤ years }
+    requires years { years ≤ years_limit }
     requires saving { saving ≡ (firings_of_years line.now.info.offset line.now.end line.now.rules first).1 }
     requires small { IsTrue (are_small_seconds saving) }
     requires bounded { IsTrue (list_all is_bounded_firing (option_to_list last)) }
     ensures stands { IfOk result (λ _. (start : Option ℤ)
         → StandsFor start (option_to_list last.entry) (firings_of_years line.now.info.offset line.now.end line.now.rules first).0
-        → StandsFor start fired.new.items (firings_of_years line.now.info.offset line.now.end line.now.rules (years_expanded line.now.end)).0) }
+        → StandsFor start fired.new.items (firings_of_years line.now.info.offset line.now.end line.now.rules years).0) }
     ensures saving { IfOk result (λ after. after
-        ≡ (firings_of_years line.now.info.offset line.now.end line.now.rules (years_expanded line.now.end)).1) }
+        ≡ (firings_of_years line.now.info.offset line.now.end line.now.rules years).1) }
     ensures small { IfOk result (λ after. IsTrue (are_small_seconds after)) }
     ensures bounded { IfOk result (λ _. IsTrue (list_all is_bounded_firing fired.new.items)) }
 {
     put_only(fired, last)?;
-    let after = fire_years(alloc, fired, left, line, first, saving)?;
+    let after = fire_years(alloc, fired, left, line, first, years, saving)?;
     Ok(after)
 }
 
@@ -233,25 +235,28 @@ fn put_only<'a>(fired: &mut Vec<Firing<'a>>, only: Option<Firing<'a>>) -> Result
     Ok(())
 }
 
-/// Puts what a line fires into `fired`, from the first year on in which a rule applies, and gives the saving after it.
+/// Puts what a line fires in so many years into `fired`, from the first year on in which a rule applies, and gives the saving after
+/// it.
 fn fire_all<'a>(
     alloc: Global,
     fired: &mut Vec<Firing<'a>>,
     line: &Line<'a>,
     quiet: u16,
+    years: u16,
 ) -> Result<i64, AllocError>
-    requires line { IsSound line.now }
-    requires most { quiet ≤ years_expanded line.now.end }
+    requires line { IsSound years line.now }
+    requires most { quiet ≤ years }
+    requires years { years ≤ years_limit }
     requires quiet { AppliesToNone line.now.rules quiet }
     ensures stands { IfOk result (λ _. (start : Option ℤ) → StandsFor start fired.new.items
-        (firings_of_years line.now.info.offset line.now.end line.now.rules (years_expanded line.now.end)).0) }
+        (firings_of_years line.now.info.offset line.now.end line.now.rules years).0) }
     ensures saving { IfOk result (λ after. after
-        ≡ (firings_of_years line.now.info.offset line.now.end line.now.rules (years_expanded line.now.end)).1) }
+        ≡ (firings_of_years line.now.info.offset line.now.end line.now.rules years).1) }
     ensures small { IfOk result (λ after. IsTrue (are_small_seconds after)) }
     ensures bounded { IfOk result (λ _. IsTrue (list_all is_bounded_firing fired.new.items)) }
 {
     let mut left = Vec::new(alloc);
-    let after = fire_after(alloc, fired, &mut left, line, quiet, None, 0)?;
+    let after = fire_after(alloc, fired, &mut left, line, quiet, years, None, 0)?;
     Ok(after)
 }
 
@@ -266,15 +271,15 @@ fn fire_from_marks<'a>(
     years: u16,
     start: i64,
 ) -> Result<i64, AllocError>
-    requires line { IsSound line.now }
-    requires years { years ≡ years_expanded line.now.end }
+    requires line { IsSound years line.now }
+    requires years { years ≤ years_limit }
     requires quiet { quiet ≤ years }
     requires marks { AreMarks line.now.info.offset line.now.rules quiet marks.old.items }
     ensures marks { IfOk result (λ _. AreMarks line.now.info.offset line.now.rules quiet marks.new.items) }
     ensures stands { IfOk result (λ _. StandsFor (Some start) fired.new.items
-        (firings_of_years line.now.info.offset line.now.end line.now.rules (years_expanded line.now.end)).0) }
+        (firings_of_years line.now.info.offset line.now.end line.now.rules years).0) }
     ensures saving { IfOk result (λ after. after
-        ≡ (firings_of_years line.now.info.offset line.now.end line.now.rules (years_expanded line.now.end)).1) }
+        ≡ (firings_of_years line.now.info.offset line.now.end line.now.rules years).1) }
     ensures small { IfOk result (λ after. IsTrue (are_small_seconds after)) }
     ensures bounded { IfOk result (λ _. IsTrue (list_all is_bounded_firing fired.new.items)) }
 {
@@ -285,7 +290,16 @@ fn fire_from_marks<'a>(
     let count = marks_below(marks, second, usize::from(years - quiet));
     let mark = last_mark(&marks[..count]);
     let first = quiet + count as u16;
-    let after = fire_after(alloc, fired, &mut left, line, first, mark.last, mark.saving)?;
+    let after = fire_after(
+        alloc,
+        fired,
+        &mut left,
+        line,
+        first,
+        years,
+        mark.last,
+        mark.saving,
+    )?;
     Ok(after)
 }
 
@@ -316,7 +330,7 @@ impl<'a> Kept<'a> {
 
     /// Nothing of the line is fired yet.
     fn begun(alloc: Global, line: &Line<'a>, years: u16) -> Kept<'a>
-        requires { years ≤ most_years }
+        requires { years ≤ years_limit }
         ensures kept { IsKept result }
         ensures serves { IsFor line.now years result }
     {
@@ -329,9 +343,8 @@ impl<'a> Kept<'a> {
         }
     }
 
-    /// Puts into `fired` what stands for the firings of a ruled line with that start, for which this is, and gives the saving
-    /// after them.
-    #[tactic(auto, unfolding(crate::specs::Firings::line_firings))]
+    /// Puts into `fired` what stands for the firings of a line with that start, which expands so many years and for which this is,
+    /// and gives the saving after them.
     fn fire(
         &mut self,
         alloc: Global,
@@ -340,14 +353,15 @@ impl<'a> Kept<'a> {
         start: Option<i64>,
         years: u16,
     ) -> Result<i64, AllocError>
-        requires line { IsSound line.now }
-        requires ruled { is_ruled line.now.info.saving ≡ true }
-        requires years { years ≡ years_expanded line.now.end }
+        requires line { IsSound years line.now }
+        requires years { years ≤ years_limit }
         requires serves { IsFor line.now years self.old }
         requires kept { IsKept self.old }
         ensures kept { IfOk result (λ _. IsKept self.new) }
-        ensures stands { IfOk result (λ _. StandsFor start fired.new.items (firings line.now)) }
-        ensures saving { IfOk result (λ after. after ≡ last_saving line.now) }
+        ensures stands { IfOk result (λ _. StandsFor start fired.new.items
+            (firings_of_years line.now.info.offset line.now.end line.now.rules years).0) }
+        ensures saving { IfOk result (λ after. after
+            ≡ (firings_of_years line.now.info.offset line.now.end line.now.rules years).1) }
         ensures small { IfOk result (λ after. IsTrue (are_small_seconds after)) }
         ensures bounded { IfOk result (λ _. IsTrue (list_all is_bounded_firing fired.new.items)) }
     {
@@ -365,7 +379,7 @@ impl<'a> Kept<'a> {
                 Ok(after)
             }
             None => {
-                let after = fire_all(alloc, fired, line, self.quiet)?;
+                let after = fire_all(alloc, fired, line, self.quiet, years)?;
                 Ok(after)
             }
         }
@@ -395,7 +409,7 @@ fn take_for<'a>(
     line: &Line<'a>,
     years: u16,
 ) -> Result<(), AllocError>
-    requires years { years ≤ most_years }
+    requires years { years ≤ years_limit }
     requires kept { AreAll IsKept kept.old }
     ensures kept { IfOk result (λ _. AreAll IsKept kept.new) }
     ensures serves { IfOk result (λ _. IsFor line.now years kept.new.current) }
@@ -407,24 +421,27 @@ fn take_for<'a>(
     Ok(())
 }
 
-/// Puts into `fired` what stands for the firings of a ruled line with that start, and gives the saving after them.
+/// Puts into `fired` what stands for the firings of a ruled line with that start over so many years, and gives the saving after them.
+#[tactic(auto, unfolding(crate::specs::Firings::line_firings_over))]
 pub(crate) fn fire_line<'a>(
     kept: &mut Several<Kept<'a>>,
     fired: &mut Vec<Firing<'a>>,
     alloc: Global,
     line: &Line<'a>,
     start: Option<i64>,
+    most: u16,
 ) -> Result<i64, AllocError>
-    requires line { IsSound line.now }
+    requires line { IsSoundOver most line.now }
+    requires most { most ≤ years_limit }
     requires ruled { is_ruled line.now.info.saving ≡ true }
     requires kept { AreAll IsKept kept.old }
     ensures kept { IfOk result (λ _. AreAll IsKept kept.new) }
-    ensures stands { IfOk result (λ _. StandsFor start fired.new.items (firings line.now)) }
-    ensures saving { IfOk result (λ after. after ≡ last_saving line.now) }
+    ensures stands { IfOk result (λ _. StandsFor start fired.new.items (firings_over most line.now)) }
+    ensures saving { IfOk result (λ after. after ≡ last_saving_over most line.now) }
     ensures small { IfOk result (λ after. IsTrue (are_small_seconds after)) }
     ensures bounded { IfOk result (λ _. IsTrue (list_all is_bounded_firing fired.new.items)) }
 {
-    let years = years_expanded(line.end);
+    let years = years_over(most, line.end);
     take_for(kept, alloc, line, years)?;
     let after = kept.current.fire(alloc, fired, line, start, years)?;
     Ok(after)

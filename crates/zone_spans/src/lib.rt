@@ -22,4 +22,4 @@ pub use collapsing::collapse;
 pub use fault::SpanFault;
 pub use span::{FixedTimespan, FixedTimespanSet, GREATEST_SECOND};
 pub use transitions::TableTransitions;
-pub use year::{EARLIEST_YEAR, MOST_YEARS};
+pub use year::{EARLIEST_YEAR, MOST_YEARS, YEARS_LIMIT};

@@ -8,16 +8,16 @@ ghost use Rattle.zone_values.specs.Ends.{end_day, end_year, is_dated_year};
 ghost use Rattle.zone_table.specs.Bounds.{is_bounded_rule};
 ghost use Rattle.zone_table.specs.Moments.{has_years};
 ghost use Rattle.zone_spans.specs.Bounds.{is_bounded_line};
-ghost use Rattle.zone_spans.specs.Faults.{ends_in_no_year, ends_outside, is_outside, lacks_years, leaves_year, some_year};
+ghost use Rattle.zone_spans.specs.Faults.{ends_in_no_year, ends_outside, is_outside, lacks_years, leaves_year_over, some_year};
 ghost use Rattle.zone_spans.specs.Several.{AreAll};
 ghost use Rattle.zone_spans.specs.Tested.{NoneLeaves};
 ghost use Rattle.zone_spans.specs.TestedFor.{HasRulesOf, IsTested};
-ghost use Rattle.zone_spans.specs.Years.{most_years};
+ghost use Rattle.zone_spans.specs.Years.{years_limit};
 
 use crate::line::Line;
 use crate::quiet::years_before;
 use crate::several::{Serve, Several};
-use crate::year::{EARLIEST_YEAR, years_expanded};
+use crate::year::{EARLIEST_YEAR, years_over};
 use std::alloc::AllocError;
 use zone_table::RuleInfo;
 use zone_values::ChangeTime;
@@ -47,7 +47,7 @@ impl<'a> Tested<'a> {
     fn leaves_year(&mut self, years: u16) -> bool
         requires bounded { IsTrue (list_all is_bounded_rule self.old.rules.now) }
         requires years { IsTrue (list_all has_years self.old.rules.now) }
-        requires most { years ≤ most_years }
+        requires most { years ≤ years_limit }
         requires tested { IsTested self.old }
         ensures value { result ≡ list_any (λ rule. some_year (is_outside rule) years) self.old.rules.now }
         ensures tested { IsTested self.new }
@@ -93,23 +93,25 @@ fn take_for<'a>(
     Ok(())
 }
 
-/// Whether the day of the line's end lies in another year, or that of a rule in a year that the line expands.
-#[tactic(auto, unfolding(crate::specs::Faults::leaves_year))]
+/// Whether the day of the line's end lies in another year, or that of a rule in one of so many years that the line expands.
+#[tactic(auto, unfolding(crate::specs::Faults::leaves_year_over))]
 pub(crate) fn leaves_year<'a>(
     tested: &mut Several<Tested<'a>>,
     line: &Line<'a>,
+    most: u16,
 ) -> Result<bool, AllocError>
+    requires most { most ≤ years_limit }
     requires bounded { IsTrue (is_bounded_line line.now) }
     requires year { ends_in_no_year line.now ≡ false }
     requires years { lacks_years line.now ≡ false }
     requires tested { AreAll IsTested tested.old }
-    ensures value { IfOk result (λ leaves. leaves ≡ leaves_year line.now) }
+    ensures value { IfOk result (λ leaves. leaves ≡ leaves_year_over most line.now) }
     ensures tested { IfOk result (λ _. AreAll IsTested tested.new) }
 {
     if ends_outside(line.end) {
         return Ok(true);
     }
-    let years = years_expanded(line.end);
+    let years = years_over(most, line.end);
     take_for(tested, line, years)?;
     let leaves = tested.current.leaves_year(years);
     Ok(leaves)
@@ -134,7 +136,7 @@ fn any_outside(rules: &[RuleInfo], tested: u16, count: u16) -> bool
     requires years { IsTrue (list_all has_years rules.now) }
     requires tested { NoneLeaves rules.now tested }
     requires more { tested ≤ count }
-    requires most { count ≤ most_years }
+    requires most { count ≤ years_limit }
     ensures { result ≡ list_any (λ rule. some_year (is_outside rule) count) rules.now }
 {
     for rule in rules {
@@ -152,7 +154,7 @@ fn is_outside_in_some_year(rule: &RuleInfo, tested: u16, count: u16) -> bool
     requires years { IsTrue (has_years rule.now) }
     requires tested { some_year (is_outside rule.now) tested ≡ false }
     requires more { tested ≤ count }
-    requires most { count ≤ most_years }
+    requires most { count ≤ years_limit }
     ensures { result ≡ some_year (is_outside rule.now) count }
 {
     let first = first_untested(rule, tested, count);
@@ -169,7 +171,7 @@ fn is_outside_in_some_year(rule: &RuleInfo, tested: u16, count: u16) -> bool
 fn first_untested(rule: &RuleInfo, tested: u16, count: u16) -> u16
     requires tested { some_year (is_outside rule.now) tested ≡ false }
     requires more { tested ≤ count }
-    requires most { count ≤ most_years }
+    requires most { count ≤ years_limit }
     ensures tested { some_year (is_outside rule.now) result ≡ false }
     ensures most { result ≤ count }
 {

@@ -1,23 +1,25 @@
 //! The spans of a table's zones.
-ghost use Rattle.std.specs.Prelude.{◌≡◌, ℕ, All, IfErr, IfOk, IfSome, IsTrue, List, Ok, Option, Some, None, find, option_map};
+ghost use Rattle.std.specs.Prelude.{◌≡◌, ◌≤◌, ℕ, All, IfErr, IfOk, IfSome, IsTrue, List, Ok, Option, Some, None, find, option_map};
 ghost use Rattle.std.specs.FinMap.{get};
 ghost use Rattle.std.specs.List.{list_all};
 ghost use Rattle.zone_table.specs.BoundedTables.{IsBoundedTable};
 ghost use Rattle.zone_table.specs.Bounds.{is_bounded_info};
 ghost use Rattle.zone_table.specs.Resolved.{resolved_in};
 ghost use Rattle.zone_table.specs.declared.zone.ZoneInfo.{ZoneInfo};
-ghost use Rattle.zone_spans.specs.Bounds.{IsSound, is_bounded, is_bounded_entry, is_bounded_span};
+ghost use Rattle.zone_spans.specs.Bounds.{IsSoundOver, is_bounded, is_bounded_entry, is_bounded_line, is_bounded_span};
 ghost use Rattle.zone_spans.specs.Causes.{IsDue};
 ghost use Rattle.zone_spans.specs.Collapse.{LocalEndsRise, EntryTimesDontFall};
-ghost use Rattle.zone_spans.specs.Compiled.{TellsCompiled, compiled, set_of_lines};
+ghost use Rattle.zone_spans.specs.Compiled.{TellsCompiled, compiled, compiled_over, set_of_lines_over};
 ghost use Rattle.zone_spans.specs.Entries.{first_span, is_standard};
 ghost use Rattle.zone_spans.specs.Lines.{Rulesets};
+ghost use Rattle.zone_spans.specs.Years.{years_limit};
 
 use crate::collapsing::collapse;
 use crate::entries::{first_span, sorted_entries};
 use crate::fault::{SpanFault, line_fault};
 use crate::line::{Line, zone_lines};
 use crate::span::FixedTimespanSet;
+use crate::year::MOST_YEARS;
 use std::alloc::Global;
 use zone_table::{Table, ZoneInfo};
 
@@ -57,6 +59,25 @@ pub trait TableTransitions {
         ensures bounded { IfOk result (λ found. IfSome found (λ set. IsTrue (is_bounded set))) }
         ensures times { IfOk result (λ found. IfSome found (λ set. EntryTimesDontFall set.rest)) }
         ensures law { IfOk result (λ found. IfSome found (λ set. LocalEndsRise set.rest)) };
+
+    /// The same, but that a line with a ruleset expands so many years from 1800 on, or those to the year of its end: 1,000 at most,
+    /// as `YEARS_LIMIT` says.
+    ///
+    /// # Errors
+    ///
+    /// As of `timespans`; the day of a rule that lies in another year is a fault in each of these years.
+    fn timespans_over(
+        &self,
+        alloc: Global,
+        zone_name: &str,
+        years: u16,
+    ) -> Result<Option<FixedTimespanSet>, SpanFault>
+        requires bounded { IsBounded self.now }
+        requires years { years ≤ years_limit }
+        ensures told { TellsCompiled result (option_map (compiled_over years (rulesets self.now)) (zones self.now zone_name.now)) }
+        ensures bounded { IfOk result (λ found. IfSome found (λ set. IsTrue (is_bounded set))) }
+        ensures times { IfOk result (λ found. IfSome found (λ set. EntryTimesDontFall set.rest)) }
+        ensures law { IfOk result (λ found. IfSome found (λ set. LocalEndsRise set.rest)) };
 }
 
 impl TableTransitions for Table {
@@ -71,8 +92,17 @@ impl TableTransitions for Table {
         alloc: Global,
         zone_name: &str,
     ) -> Result<Option<FixedTimespanSet>, SpanFault> {
+        self.timespans_over(alloc, zone_name, MOST_YEARS)
+    }
+
+    fn timespans_over(
+        &self,
+        alloc: Global,
+        zone_name: &str,
+        years: u16,
+    ) -> Result<Option<FixedTimespanSet>, SpanFault> {
         match self.get_zoneset(zone_name) {
-            Some(lines) => match compile(alloc, self, lines) {
+            Some(lines) => match compile(alloc, self, lines, years) {
                 Ok(set) => Ok(Some(set)),
                 Err(fault) => Err(fault),
             },
@@ -81,38 +111,46 @@ impl TableTransitions for Table {
     }
 }
 
-/// The spans of a zone with these lines.
-#[tactic(auto, unfolding(crate::specs::Compiled::compiled))]
-fn compile(alloc: Global, table: &Table, infos: &[ZoneInfo]) -> Result<FixedTimespanSet, SpanFault>
+/// The spans of a zone with these lines over so many years.
+#[tactic(auto, unfolding(crate::specs::Compiled::compiled_over))]
+fn compile(
+    alloc: Global,
+    table: &Table,
+    infos: &[ZoneInfo],
+    years: u16,
+) -> Result<FixedTimespanSet, SpanFault>
+    requires years { years ≤ years_limit }
     requires table { IsBoundedTable table.now }
     requires lines { IsTrue (list_all is_bounded_info infos.now) }
-    ensures ok { IfOk result (λ set. compiled (get table.now.rulesets) infos.now ≡ Ok set) }
-    ensures err { IfErr result (λ fault. IsDue fault (compiled (get table.now.rulesets) infos.now)) }
+    ensures ok { IfOk result (λ set. compiled_over years (get table.now.rulesets) infos.now ≡ Ok set) }
+    ensures err { IfErr result (λ fault. IsDue fault (compiled_over years (get table.now.rulesets) infos.now)) }
     ensures bounded { IfOk result (λ set. IsTrue (is_bounded set)) }
     ensures times { IfOk result (λ set. EntryTimesDontFall set.rest) }
     ensures law { IfOk result (λ set. LocalEndsRise set.rest) }
 {
     match zone_lines(alloc, table, infos) {
-        Ok(lines) => match line_fault(alloc, infos, lines.as_slice()) {
+        Ok(lines) => match line_fault(alloc, infos, lines.as_slice(), years) {
             Ok(Some(fault)) => Err(fault),
-            Ok(None) => expand(alloc, lines.as_slice()),
+            Ok(None) => expand(alloc, lines.as_slice(), years),
             Err(refused) => Err(SpanFault::from(refused)),
         },
         Err(fault) => Err(fault),
     }
 }
 
-/// The spans of lines that have no fault of their own.
-#[tactic(auto, unfolding(crate::specs::Compiled::set_of_lines))]
-fn expand(alloc: Global, lines: &[Line<'_>]) -> Result<FixedTimespanSet, SpanFault>
-    requires { All IsSound lines.now }
-    ensures ok { IfOk result (λ set. set_of_lines lines.now ≡ Ok set) }
-    ensures err { IfErr result (λ fault. IsDue fault (set_of_lines lines.now)) }
+/// The spans of lines that have no fault of their own over so many years.
+#[tactic(auto, unfolding(crate::specs::Compiled::set_of_lines_over))]
+fn expand(alloc: Global, lines: &[Line<'_>], years: u16) -> Result<FixedTimespanSet, SpanFault>
+    requires bounded { IsTrue (list_all is_bounded_line lines.now) }
+    requires sound { All (IsSoundOver years) lines.now }
+    requires years { years ≤ years_limit }
+    ensures ok { IfOk result (λ set. set_of_lines_over years lines.now ≡ Ok set) }
+    ensures err { IfErr result (λ fault. IsDue fault (set_of_lines_over years lines.now)) }
     ensures bounded { IfOk result (λ set. IsTrue (is_bounded set)) }
     ensures times { IfOk result (λ set. EntryTimesDontFall set.rest) }
     ensures law { IfOk result (λ set. LocalEndsRise set.rest) }
 {
-    let entries = sorted_entries(alloc, lines)?;
+    let entries = sorted_entries(alloc, lines, years)?;
     match first_span(alloc, lines, &entries)? {
         Some(first) => {
             let mut set = FixedTimespanSet {

@@ -5,11 +5,11 @@ ghost use Rattle.zone_values.specs.Bounds.{are_small_seconds};
 ghost use Rattle.zone_table.specs.Moments.{applies_to_year, has_years, moment};
 ghost use Rattle.zone_spans.specs.Bounds.{IsSound, can_fire, has_moment, is_bounded_firing, is_end, is_small};
 ghost use Rattle.zone_spans.specs.Fires.{Fires, after};
-ghost use Rattle.zone_spans.specs.Firings.{fired, firings_of_years, is_earlier, is_over, year_firings, years_expanded};
+ghost use Rattle.zone_spans.specs.Firings.{fired, firings_of_years, is_earlier, is_over, year_firings, years_over};
 ghost use Rattle.zone_spans.specs.Fronts.{IsSmallPlaced, front_firings};
 ghost use Rattle.zone_spans.specs.Stands.{StandsFor};
 ghost use Rattle.zone_spans.specs.Windows.{line_end};
-ghost use Rattle.zone_spans.specs.Years.{earliest_year, most_years};
+ghost use Rattle.zone_spans.specs.Years.{earliest_year, years_limit};
 
 use crate::firing::Firing;
 use crate::front::{Applying, Placed, first_of, front_of, left_of};
@@ -23,6 +23,9 @@ pub const EARLIEST_YEAR: u16 = 1_800;
 
 /// How many years a line expands at most: one without an end expands so many, and 2099 is the last of them.
 pub const MOST_YEARS: u16 = 300;
+
+/// How many years may be asked for in place of these: 2799 is the last of them.
+pub const YEARS_LIMIT: u16 = 1_000;
 
 /// When a line ends, under an offset and a saving.
 #[tactic(auto, unfolding(crate::specs::Windows::line_end))]
@@ -50,32 +53,33 @@ fn is_over(end: Option<ChangeTime>, offset: i64, saving: i64, time: i64) -> bool
     }
 }
 
-/// How many years from the earliest on a line expands: to the latest, 2099, or to the year of its end.
-#[tactic(auto, unfolding(crate::specs::Firings::years_expanded))]
-pub(crate) fn years_expanded(end: Option<ChangeTime>) -> u16
-    requires { IsTrue (is_end end) }
-    ensures value { result ≡ years_expanded end }
-    ensures most { result ≤ most_years }
+/// How many of so many years from the earliest on a line expands: all of them, or those up to the year of its end.
+#[tactic(auto, unfolding(crate::specs::Firings::years_over))]
+pub(crate) fn years_over(most: u16, end: Option<ChangeTime>) -> u16
+    requires most { most ≤ years_limit }
+    requires end { IsTrue (is_end end) }
+    ensures value { result ≡ years_over most end }
+    ensures most { result ≤ years_limit }
 {
     match end {
-        Some(end) => years_to(end.year()),
-        None => MOST_YEARS,
+        Some(end) => years_to(most, end.year()),
+        None => most,
     }
 }
 
-/// How many years there are from the earliest to that one, at most as many as a line expands.
-fn years_to(year: i64) -> u16
+/// How many years there are from the earliest to that one, so many at most.
+fn years_to(most: u16, year: i64) -> u16
     requires first { pos 1 ≤ℤ year }
     requires last { year ≤ℤ pos 9999 }
-    ensures value { result ≡ min most_years (nat_abs year - (earliest_year - 1)) }
+    ensures value { result ≡ min most (nat_abs year - (earliest_year - 1)) }
 {
     let earliest = i64::from(EARLIEST_YEAR);
     if year < earliest {
         0
-    } else if year < earliest + i64::from(MOST_YEARS) {
+    } else if year < earliest + i64::from(most) {
         (year - earliest + 1) as u16
     } else {
-        MOST_YEARS
+        most
     }
 }
 
@@ -208,32 +212,33 @@ pub(crate) fn fire_year<'a>(
     Ok(last)
 }
 
-/// Adds the firings of the years that a line expands, those after the first ones, which end with that saving, and gives the
-/// saving after them. What stood for the firings of the first years then stands for those of all.
+/// Adds the firings of so many years of a line, those after the first ones, which end with that saving, and gives the saving
+/// after them. What stood for the firings of the first years then stands for those of all.
 pub(crate) fn fire_years<'a>(
     alloc: Global,
     fired: &mut Vec<Firing<'a>>,
     left: &mut Vec<Applying<'a>>,
     line: &Line<'a>,
     first: u16,
+    years: u16,
     saving: i64,
 ) -> Result<i64, AllocError>
-    requires line { IsSound line.now }
-    requires first { first ≤ years_expanded line.now.end }
+    requires line { IsSound years line.now }
+    requires first { first ≤ years }
+    requires years { years ≤ years_limit }
     requires saving { saving ≡ (firings_of_years line.now.info.offset line.now.end line.now.rules first).1 }
     requires small { IsTrue (are_small_seconds saving) }
     requires bounded { IsTrue (list_all is_bounded_firing fired.old.items) }
     ensures stands { IfOk result (λ _. (start : Option ℤ)
         → StandsFor start fired.old.items (firings_of_years line.now.info.offset line.now.end line.now.rules first).0
-        → StandsFor start fired.new.items (firings_of_years line.now.info.offset line.now.end line.now.rules (years_expanded line.now.end)).0) }
+        → StandsFor start fired.new.items (firings_of_years line.now.info.offset line.now.end line.now.rules years).0) }
     ensures saving { IfOk result (λ last. last
-        ≡ (firings_of_years line.now.info.offset line.now.end line.now.rules (years_expanded line.now.end)).1) }
+        ≡ (firings_of_years line.now.info.offset line.now.end line.now.rules years).1) }
     ensures small { IfOk result (λ last. IsTrue (are_small_seconds last)) }
     ensures bounded { IfOk result (λ _. IsTrue (list_all is_bounded_firing fired.new.items)) }
 {
     let mut last_saving = saving;
-    let count = years_expanded(line.end);
-    for i in first..count {
+    for i in first..years {
         let year = i64::from(EARLIEST_YEAR + i);
         last_saving = fire_year(alloc, fired, left, line, line.end, year, last_saving)?;
     }

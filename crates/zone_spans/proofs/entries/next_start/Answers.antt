@@ -4,17 +4,17 @@ use Rattle.zone_values.specs.Bounds.{are_small_seconds}
 use Rattle.zone_values.specs.declared.change.ChangeTime.{ChangeTime}
 use Rattle.zone_spans.specs.Bounds.{is_end}
 use Rattle.zone_spans.specs.Lines.{Line}
-use Rattle.zone_spans.proofs.SoundLemmas.{sound_end, sound_offset}
+use Rattle.zone_spans.proofs.SoundLemmas.{bounded_offset}
 use Rattle.zone_spans.proofs.entries.next_start.Goals as goal
 
 pub line_end-requires-clause-end : goal.line_end-requires-clause-end
 line_end-requires-clause-end c =
     subst (λ (e : Option ChangeTime). IsTrue (is_end e)) (ap (λ (l : Line). l.end) (sym c.line.view_is) ∙ c.in-Some.is)
-    (sound_end c.args.line.now c.requires.sound)
+    c.requires.end
 
 pub line_end-requires-clause-offset : goal.line_end-requires-clause-offset
 line_end-requires-clause-offset c =
     let fits : SFits w64 c.line.inside.info.now.offset = search rules in
     subst (λ s. IsTrue (are_small_seconds s)) (ap (λ (l : Line). l.info.offset) (sym c.line.view_is)
     ∙ sym (to_z-of_z w64 c.line.inside.info.now.offset fits))
-    (sound_offset c.args.line.now c.requires.sound)
+    (bounded_offset c.args.line.now c.requires.bounded)

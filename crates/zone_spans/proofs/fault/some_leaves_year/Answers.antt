@@ -1,17 +1,17 @@
 use Rattle.std.proofs.Common.{◌≡◌, length, drop, sym, ◌∙◌, subst, arith}
 use Rattle.std.specs.List.{list_any}
-use Rattle.zone_spans.specs.Faults.{leaves_year}
+use Rattle.zone_spans.specs.Faults.{leaves_year_over}
 use Rattle.zone_spans.proofs.SoundLemmas.{any_here, any_behind, any_nowhere}
 use Rattle.zone_spans.proofs.fault.some_leaves_year.Goals as goal
 
 pub returns-then-branch : goal.returns-then-branch
 returns-then-branch c =
-    any_here leaves_year c.args.lines.now c.loop-line.line-index c.line-item.result (omega arith) c.line-item.is c.loop-line.invariant.behind
+    any_here (leaves_year_over c.args.most) c.args.lines.now c.loop-line.line-index c.line-item.result (omega arith) c.line-item.is c.loop-line.invariant.behind
     (sym c.in_ok-leaves_year.ensures.value ∙ c.if-branch.true)
 
 pub loop-line-preserved : goal.loop-line-preserved
 loop-line-preserved c = record {
-  behind = any_behind leaves_year c.args.lines.now c.loop-line.line-index c.line-item.result (omega arith) c.line-item.is
+  behind = any_behind (leaves_year_over c.args.most) c.args.lines.now c.loop-line.line-index c.line-item.result (omega arith) c.line-item.is
       c.loop-line.invariant.behind (sym c.in_ok-leaves_year.ensures.value ∙ c.if-branch.false);
   tested = c.in_ok-leaves_year.ensures.tested;
 }
@@ -20,4 +20,5 @@ pub returns : goal.returns
 returns c =
     let lines = c.args.lines.now in
     let end : c.loop-line.line-index ≡ length lines = omega arith in
-    any_nowhere leaves_year lines (subst (λ n. list_any leaves_year (drop n lines) ≡ list_any leaves_year lines) end c.loop-line.invariant.behind)
+    let leaves = leaves_year_over c.args.most in
+    any_nowhere leaves lines (subst (λ n. list_any leaves (drop n lines) ≡ list_any leaves lines) end c.loop-line.invariant.behind)

@@ -1,12 +1,12 @@
 use Rattle.std.proofs.Common.{◌≡◌, drop}
 use Rattle.std.specs.List.{list_any}
-use Rattle.zone_spans.specs.Faults.{leaves_year}
+use Rattle.zone_spans.specs.Faults.{leaves_year_over}
 use Rattle.zone_spans.specs.Several.{AreAll}
 use Rattle.zone_spans.specs.TestedFor.{IsTested}
 use Rattle.zone_spans.proofs.fault.some_leaves_year.Given as goal
 
 abbrev pub invariant-loop-line : goal.invariant-loop-line
 invariant-loop-line l = record {
-  behind : list_any leaves_year (drop l.line-index l.lines) ≡ list_any leaves_year l.lines;
+  behind : list_any (leaves_year_over l.most) (drop l.line-index l.lines) ≡ list_any (leaves_year_over l.most) l.lines;
   tested : AreAll IsTested l.tested;
 }

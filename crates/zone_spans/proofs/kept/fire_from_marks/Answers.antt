@@ -7,7 +7,7 @@ use Rattle.zone_spans.specs.Kept.{AreBelow, AreMarks, IsLastMark, IsLimit}
 use Rattle.zone_spans.specs.Lines.{Line}
 use Rattle.zone_spans.specs.declared.kept.Mark.{Mark}
 use Rattle.zone_spans.proofs.KeptLemmas.{Serves, mark_serves, sooner_limit, sound_savings}
-use Rattle.zone_spans.proofs.SoundLemmas.{sound_end, sound_offset}
+use Rattle.zone_spans.proofs.SoundLemmas.{bounded_offset, sound_end}
 use Rattle.zone_spans.proofs.kept.fire_from_marks.Goals as goal
 
 pub limit_of-requires-clause-end : goal.limit_of-requires-clause-end
@@ -20,11 +20,11 @@ limit_of-requires-clause-offset c =
     let fits : SFits w64 c.line.inside.info.now.offset = search rules in
     subst (λ s. IsTrue (are_small_seconds s)) (ap (λ (l : Line). l.info.offset) (sym c.line.view_is)
     ∙ sym (to_z-of_z w64 c.line.inside.info.now.offset fits))
-    (sound_offset c.args.line.now c.requires.line)
+    (bounded_offset c.args.line.now c.requires.line.bounded)
 
 -- the mark that is taken serves the line as it was passed
-taken : (line inside : Line) (given limit limit' second second' start start' : ℤ) (quiet : ℕ) (marks ones : List Mark) (count : ℕ) (mark : Mark)
-    → IsSound line → inside ≡ line → given ≡ inside.info.offset → IsLimit inside.end given limit → limit' ≡ limit → second' ≡ second
+taken : {years : ℕ} (line inside : Line) (given limit limit' second second' start start' : ℤ) (quiet : ℕ) (marks ones : List Mark) (count : ℕ) (mark : Mark)
+    → IsSound years line → inside ≡ line → given ≡ inside.info.offset → IsLimit inside.end given limit → limit' ≡ limit → second' ≡ second
     → start' ≡ start → second ≤ℤ start' → second ≤ℤ limit' → AreMarks line.info.offset line.rules quiet marks → ones ≡ marks
     → count ≤ length ones → AreBelow second' count ones → IsLastMark (take count ones) mark
     → Serves start line.info.offset line.end line.rules (quiet + count) mark

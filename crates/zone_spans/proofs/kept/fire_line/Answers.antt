@@ -5,7 +5,7 @@ use Rattle.zone_spans.specs.Lines.{Line}
 use Rattle.zone_spans.proofs.SoundLemmas.{sound_end}
 use Rattle.zone_spans.proofs.kept.fire_line.Goals as goal
 
-pub years_expanded-years-requires : goal.years_expanded-years-requires
-years_expanded-years-requires c =
+pub years_over-years-requires-clause-end : goal.years_over-years-requires-clause-end
+years_over-years-requires-clause-end c =
     subst (λ (e : Option ChangeTime). IsTrue (is_end e)) (ap (λ (l : Line). l.end) (sym c.line.view_is))
     (sound_end c.args.line.now c.requires.line)

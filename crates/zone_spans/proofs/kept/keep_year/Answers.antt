@@ -6,8 +6,8 @@ use Rattle.zone_spans.specs.Bounds.{can_fire}
 use Rattle.zone_spans.specs.Firings.{Firing, year_firings}
 use Rattle.zone_spans.specs.Kept.{AreMarks, IsLastMark}
 use Rattle.zone_spans.specs.declared.kept.Mark.{Mark}
-use Rattle.zone_spans.proofs.KeptLemmas.{last_is, sound_savings, unended_small, year_marked, years_at_most}
-use Rattle.zone_spans.proofs.SoundLemmas.{sound_offset, sound_rules}
+use Rattle.zone_spans.proofs.KeptLemmas.{last_is, sound_savings, unended_small, year_marked}
+use Rattle.zone_spans.proofs.SoundLemmas.{bounded_offset, sound_rules}
 use Rattle.zone_spans.proofs.kept.keep_year.Goals as goal
 use Rattle.zone_spans.specs.Years.{earliest_year}
 
@@ -16,10 +16,10 @@ fire_year-requires-clause-rules c =
     let f : SFits w64 c.from-year.result = search rules in
     let year_is = to_z-of_z w64 c.from-year.result f ∙ c.from-year.ensures in
     subst (λ y. IsTrue (list_all (can_fire y) c.args.line.now.rules)) (sym year_is)
-    (sound_rules c.args.line.now c.requires.line c.args.count c.requires.years)
+    (sound_rules c.args.line.now c.requires.line c.args.count (omega arith))
 
 pub fire_year-requires-clause-offset : goal.fire_year-requires-clause-offset
-fire_year-requires-clause-offset c = sound_offset c.args.line.now c.requires.line
+fire_year-requires-clause-offset c = bounded_offset c.args.line.now c.requires.line.bounded
 
 pub fire_year-requires-clause-saving : goal.fire_year-requires-clause-saving
 fire_year-requires-clause-saving c =
@@ -54,7 +54,7 @@ returns-clause-marks c =
     let here = c.in_ok-saving.ensures.fired in
     subst (λ (ms : List Mark). AreMarks offset line.rules quiet ms) (sym c.in_ok-push.ensures.items)
     (year_marked offset line.rules quiet fired marks mark year (to_z w64 (of_z w64 c.in_ok-saving.saving)) latest c.last_of-last.result
-    (omega (arith, c.requires.count, c.requires.years, years_at_most line.end))
+    (omega (arith, c.requires.count, c.requires.most))
     (to_z-of_z w64 c.from-year.result f ∙ c.from-year.ensures ∙ ap (λ n. pos (earliest_year + n)) c.requires.count) last c.requires.marks
     (record {
       firings = here.firings ∙ (λ i. c.clear.ensures.items i ++ (year_firings year offset None (saving_is i) line.rules).0);

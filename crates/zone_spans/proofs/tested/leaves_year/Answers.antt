@@ -17,8 +17,8 @@ ends_outside-requires-clause-day c =
     subst (λ (e : Option ChangeTime). IsTrue (option_map_or (λ end. has_day_of_month (end_day end)) e true))
     (ap (λ (l : Line). l.end) (sym c.line.view_is)) (bounded_day c.args.line.now c.requires.bounded)
 
-pub years_expanded-years-requires : goal.years_expanded-years-requires
-years_expanded-years-requires c =
+pub years_over-years-requires-clause-end : goal.years_over-years-requires-clause-end
+years_over-years-requires-clause-end c =
     let end_is = ap (λ (l : Line). l.end) c.line.view_is in
     let stays = ap (λ e. option_map_or ends_outside e false) (sym end_is) ∙ sym c.ends_outside.ensures ∙ c.if-ends_outside.false in
     subst (λ (e : Option ChangeTime). IsTrue (is_end e)) (sym end_is)

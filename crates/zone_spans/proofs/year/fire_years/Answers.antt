@@ -1,28 +1,22 @@
-use Rattle.std.proofs.Common.{◌<◌, ◌++◌, Option, sym, ap, ◌∙◌, subst, rules, to_z, of_z, w64, SFits, IsTrue}
+use Rattle.std.proofs.Common.{◌++◌, Option, sym, ap, ◌∙◌, subst, rules, to_z, of_z, w64, SFits, IsTrue}
 use Rattle.std.specs.List.{list_all}
 use Rattle.std.proofs.lemmas.Int.{to_z-of_z}
 use Rattle.zone_values.specs.Bounds.{are_small_seconds}
 use Rattle.zone_values.specs.declared.change.ChangeTime.{ChangeTime}
 use Rattle.zone_spans.specs.Bounds.{can_fire, is_end}
 use Rattle.zone_spans.specs.Fires.{Fires, after}
-use Rattle.zone_spans.specs.Firings.{year_firings, years_expanded}
+use Rattle.zone_spans.specs.Firings.{year_firings}
 use Rattle.zone_spans.specs.Lines.{Line}
-use Rattle.zone_spans.proofs.SoundLemmas.{sound_end, sound_offset, sound_rules}
+use Rattle.zone_spans.proofs.SoundLemmas.{bounded_offset, sound_end, sound_rules}
 use Rattle.zone_spans.proofs.YearLemmas.{saving_year, stands_year}
 use Rattle.zone_spans.proofs.year.fire_years.Goals as goal
-
-pub years_expanded-count-requires : goal.years_expanded-count-requires
-years_expanded-count-requires c =
-    subst (λ (e : Option ChangeTime). IsTrue (is_end e)) (ap (λ (l : Line). l.end) (sym c.line.view_is))
-    (sound_end c.args.line.now c.requires.line)
 
 pub fire_year-requires-clause-rules : goal.fire_year-requires-clause-rules
 fire_year-requires-clause-rules c =
     let f : SFits w64 c.from-year.result = search rules in
     let year_is = to_z-of_z w64 c.from-year.result f ∙ c.from-year.ensures in
-    let count = c.years_expanded-count.ensures.value ∙ ap (λ (l : Line). years_expanded l.end) c.line.view_is in
     subst (λ y. IsTrue (list_all (can_fire y) c.args.line.now.rules)) (sym year_is)
-    (sound_rules c.args.line.now c.requires.line c.loop-i.i (subst (λ n. c.loop-i.i < n) count c.loop-i-test.true))
+    (sound_rules c.args.line.now c.requires.line c.loop-i.i c.loop-i-test.true)
 
 pub fire_year-requires-clause-end : goal.fire_year-requires-clause-end
 fire_year-requires-clause-end c =
@@ -30,7 +24,7 @@ fire_year-requires-clause-end c =
     (sound_end c.args.line.now c.requires.line)
 
 pub fire_year-requires-clause-offset : goal.fire_year-requires-clause-offset
-fire_year-requires-clause-offset c = sound_offset c.args.line.now c.requires.line
+fire_year-requires-clause-offset c = bounded_offset c.args.line.now c.requires.line.bounded
 
 pub loop-i-preserved : goal.loop-i-preserved
 loop-i-preserved c =
