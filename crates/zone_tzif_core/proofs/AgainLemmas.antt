@@ -1,17 +1,17 @@
 -- What a file denotes is read from it.
-use Rattle.std.proofs.Common.{◌≡◌, ℕ, ◌+◌, ◌-◌, ◌*◌, ℤ, true, not, List, [], ◌∷◌, ◌++◌, length, take, get_or, Some, slice_get, slice_range, refl, ap, ◌∙◌, arith, nat_eq, nat_le, nat_lt, append_assoc, length-append}
+use Rattle.std.proofs.Common.{◌≡◌, ℕ, ◌+◌, ◌-◌, ◌*◌, ℤ, Bool, true, false, not, List, [], ◌∷◌, ◌++◌, length, take, get_or, Some, option_and_then, slice_get, slice_range, refl, sym, ap, ◌∙◌, arith, nat_eq, nat_le, nat_lt, append_assoc, append-nil, length-append}
 use Rattle.std.proofs.lemmas.Bool.{and_parts}
 use Rattle.std.proofs.lemmas.Bool.Decides.{nat_tests}
 use Rattle.std.proofs.lemmas.List.{take_at, drop_at}
+use Rattle.std.proofs.Math.Nat.{mul-suc, mul-zero}
 use Rattle.std.proofs.Math.Seq.{get_or-append_seam}
 use Rattle.std.proofs.lemmas.Str.{is_utf8-from_IsUtf8}
 use Rattle.std.specs.List.{list_all, prefix_len}
 use Rattle.std.specs.Str.{IsUtf8}
 use Rattle.zone_tzif_core.specs.Zones.{KindValue, ZoneValue, rises}
-use Rattle.zone_tzif_core.specs.Numbers.{eight_of}
-use Rattle.zone_tzif_core.specs.Format.{is_one_line}
-use Rattle.zone_tzif_core.specs.Reading.{Cuts, cut, header_at, text_in, between, footer_in, before_zero, name_in, kind_in, kinds_in, shifts_in, second_in, parts_in, joined_in, zone_in}
-use Rattle.zone_tzif_core.specs.Denotes.{IsHeader, IsName, IsKind, AreKinds, no_kind, a_kind, AreShifts, no_shift, a_shift, IsBlock, IsZoneFile}
+use Rattle.zone_tzif_core.specs.Format.{is_one_line, is_only, suits}
+use Rattle.zone_tzif_core.specs.Reading.{cut, header_at, text_in, between, end_in, footer_in, before_zero, name_in, kind_in, kinds_in, shifts_in, block_in, second_in, parts_in, said_parts, joined_in, said_in, time_of, time_size, zone_in}
+use Rattle.zone_tzif_core.specs.Denotes.{IsHeader, IsName, IsKind, AreKinds, no_kind, a_kind, AreShifts, no_shift, a_shift, IsBlock, IsZoneFile, Says, zone_file, old_file}
 use Rattle.zone_tzif_core.specs.declared.header.Header.{Header}
 
 pub cut_again : (n : ℕ) (front rest : List ℕ) → length front ≡ n → cut n (front ++ rest) ≡ Some (front, rest)
@@ -58,11 +58,12 @@ kinds_again no_kind = refl
 kinds_again {names} (a_kind {bytes} {records} {kind} {kinds} is are) =
     rw (take_at bytes records 6 is.long, drop_at bytes records 6 is.long, kind_again names bytes kind is, kinds_again are) refl
 
-shifts_again : {kinds : List KindValue} {times numbers : List ℕ} {shifts : List (ℤ × KindValue)} → AreShifts 8 eight_of kinds times numbers shifts → shifts_in kinds times numbers ≡ Some shifts
+shifts_again : (wide : Bool) {kinds : List KindValue} {times numbers : List ℕ} {shifts : List (ℤ × KindValue)}
+    → AreShifts (time_size wide) (time_of wide) kinds times numbers shifts → shifts_in wide kinds times numbers ≡ Some shifts
 unfolding shifts_in
-shifts_again no_shift = refl
-shifts_again (a_shift time {times} long found are) =
-    rw (take_at time times 8 long, drop_at time times 8 long, found, shifts_again are) refl
+shifts_again wide no_shift = refl
+shifts_again wide (a_shift time {times} long found are) =
+    rw (take_at time times (time_size wide) long, drop_at time times (time_size wide) long, found, shifts_again wide are) refl
 
 footer_again : (footer : List ℕ) → is_one_line footer ≡ true → IsUtf8 footer → footer_in (10 ∷ footer ++ 10 ∷ []) ≡ Some footer
 unfolding footer_in between
@@ -76,34 +77,88 @@ footer_again footer one text =
     let enough : nat_le 2 (length bytes) ≡ true = grind (arith, nat_tests, long) in
     rw (enough, last, inner, one) (text_again footer text)
 
-pub kinds_long : {names records : List ℕ} {kinds : List KindValue} → AreKinds names records kinds → length records ≡ 6 * length kinds
+kinds_long : {names records : List ℕ} {kinds : List KindValue} → AreKinds names records kinds → length records ≡ 6 * length kinds
 kinds_long no_kind = refl
 kinds_long (a_kind {bytes} {records} is are) = omega (arith, length-append bytes records, is.long, kinds_long are)
 
-shifts_long : {kinds : List KindValue} {times numbers : List ℕ} {shifts : List (ℤ × KindValue)} → AreShifts 8 eight_of kinds times numbers shifts → length times ≡ 8 * length numbers
-shifts_long no_shift = refl
-shifts_long (a_shift time {times} long found are) = omega (arith, length-append time times, long, shifts_long are)
+shifts_long : {size : ℕ} {time_of : List ℕ → ℤ} {kinds : List KindValue} {times numbers : List ℕ} {shifts : List (ℤ × KindValue)}
+    → AreShifts size time_of kinds times numbers shifts → length times ≡ size * length numbers
+shifts_long {size} no_shift = sym (mul-zero size)
+shifts_long {size} (a_shift time {times} {numbers} long found are) =
+    omega (arith, length-append time times, long, shifts_long are, mul-suc size (length numbers))
 
-pub cuts_of : {says : Header} {block : List ℕ} {kinds : List KindValue} {shifts : List (ℤ × KindValue)} → IsBlock 8 eight_of says block kinds shifts → List ℕ → Cuts
-cuts_of {says} is footer = record { kinds = says.kind; times = is.times; numbers = is.numbers; records = is.records; names = is.names; footer = footer }
+-- a block with a value, and what follows it
+pub record IsRead (wide : Bool) (says : Header) (bytes : List ℕ) (zone : ZoneValue) : Type 0 where
+  pub block : List ℕ
+  pub end : List ℕ
+  pub kinds : List KindValue
+  pub whole : bytes ≡ block ++ end
+  pub block_is : IsBlock (time_size wide) (time_of wide) says block kinds zone.rest
+  pub ends : end_in wide end ≡ Some zone.footer
+  pub rising : rises zone.rest ≡ true
+  pub first_kind : slice_get kinds 0 ≡ Some zone.first
 
-pub second_again : (says : Header) (block rest footer : List ℕ) (kinds : List KindValue) (shifts : List (ℤ × KindValue)) (is : IsBlock 8 eight_of says block kinds shifts) → footer_in rest ≡ Some footer → second_in says (block ++ rest) ≡ Some (cuts_of is footer)
-unfolding second_in cuts_of
-second_again says block rest footer kinds shifts is ends =
-    let times : length is.times ≡ 8 * says.time = omega (arith, shifts_long is.are_shifts, is.time_count) in
-    let records : length is.records ≡ 6 * says.kind = omega (arith, kinds_long is.are_kinds, is.kind_count) in
-    rw (is.whole, append_assoc, append_assoc, append_assoc, append_assoc) (rw (cut_again _ is.times _ times, cut_again _ is.numbers _ is.time_count, cut_again _ is.records _ records, cut_again _ is.names _ is.char_count, cut_again _ is.flags _ is.flag_count, ends) refl)
+pub value_again : (wide : Bool) (says : Header) (bytes : List ℕ) (zone : ZoneValue) → IsRead wide says bytes zone
+    → option_and_then joined_in (block_in wide says bytes) ≡ Some zone
+unfolding block_in joined_in
+value_again wide says bytes zone is =
+    let b = is.block_is in
+    let times : length b.times ≡ time_size wide * says.time = shifts_long b.are_shifts ∙ ap (λ n. time_size wide * n) b.time_count in
+    let records : length b.records ≡ 6 * says.kind = omega (arith, kinds_long b.are_kinds, b.kind_count) in
+    rw (is.whole, b.whole, append_assoc, append_assoc, append_assoc, append_assoc)
+    (rw (cut_again _ b.times _ times, cut_again _ b.numbers _ b.time_count, cut_again _ b.records _ records, cut_again _ b.names _ b.char_count, cut_again _ b.flags _ b.flag_count, is.ends)
+    (rw (← b.kind_count, kinds_again b.are_kinds, is.first_kind, shifts_again wide b.are_shifts, is.rising) refl))
 
-pub joined_again : (says : Header) (block footer : List ℕ) (kinds : List KindValue) (zone : ZoneValue) (is : IsBlock 8 eight_of says block kinds zone.rest) → footer ≡ zone.footer → slice_get kinds 0 ≡ Some zone.first → rises zone.rest ≡ true → joined_in (cuts_of is footer) ≡ Some zone
-unfolding joined_in cuts_of
-joined_again says block footer kinds zone is end first rising =
-    rw (← is.kind_count, kinds_again is.are_kinds, first, shifts_again is.are_shifts, rising, end) refl
+-- what two headers say is read
+two_again : (last : ℕ) (bytes : List ℕ) (zone : ZoneValue) (is : IsZoneFile last bytes zone)
+    → (header_at bytes ≡ Some (is.first_says, is.skipped ++ (is.second_head ++ (is.block ++ (10 ∷ zone.footer ++ 10 ∷ [])))))
+    × (option_and_then joined_in (second_in last is.first_says (is.skipped ++ (is.second_head ++ (is.block ++ (10 ∷ zone.footer ++ 10 ∷ []))))) ≡ Some zone)
+unfolding second_in
+two_again last bytes zone is =
+    let tail : List ℕ = 10 ∷ zone.footer ++ 10 ∷ [] in
+    let value = value_again true is.says (is.block ++ tail) zone (record {
+      block = is.block;
+      end = tail;
+      kinds = is.kinds;
+      whole = refl;
+      block_is = is.block_is;
+      ends = footer_again zone.footer is.one_line is.text;
+      rising = is.rising;
+      first_kind = is.first_kind;
+    }) in (
+      rw (is.whole, append_assoc, append_assoc, append_assoc, append_assoc) (header_again is.head (is.skipped ++ (is.second_head ++ (is.block ++ tail))) is.first_says is.first_header),
+      rw (cut_again _ is.skipped (is.second_head ++ (is.block ++ tail)) is.first_length, header_again is.second_head (is.block ++ tail) is.says is.second_header, is.suited) value,
+    )
 
 -- what a file denotes is read from it
 pub denoted_again : (last : ℕ) (bytes : List ℕ) (zone : ZoneValue) → IsZoneFile last bytes zone → zone_in last bytes ≡ Some zone
 unfolding zone_in parts_in
-denoted_again last bytes zone is =
-    let ends = footer_again zone.footer is.one_line is.text in
-    let tail = 10 ∷ zone.footer ++ 10 ∷ [] in
-    let second = second_again is.says is.block tail zone.footer is.kinds zone.rest is.block_is ends in
-    rw (is.whole, append_assoc, append_assoc, append_assoc, append_assoc) (rw (header_again is.head (is.skipped ++ (is.second_head ++ (is.block ++ tail))) is.first_says is.first_header, cut_again _ is.skipped (is.second_head ++ (is.block ++ tail)) is.first_length, header_again is.second_head (is.block ++ tail) is.says is.second_header, is.suited, second) (joined_again is.says is.block zone.footer is.kinds zone is.block_is refl is.first_kind is.rising))
+denoted_again last bytes zone is = let two = two_again last bytes zone is in rw two.0 two.1
+
+-- a header that has a second one after it is not the only one
+not_only : (last : ℕ) (first says : Header) → suits last first.version says ≡ true → is_only first ≡ false
+unfolding suits is_only
+not_only last first says suited = by_test (nat_eq first.version 0) refl
+  where
+    by_test : (t : Bool) → nat_eq first.version 0 ≡ t → is_only first ≡ false
+    by_test true e = absurd (grind (arith, nat_tests, suited, e))
+    by_test false e = rw e refl
+
+-- and what a file of any version says
+pub said_again : (bytes : List ℕ) (zone : ZoneValue) → Says bytes zone → said_in bytes ≡ Some zone
+unfolding said_in said_parts
+said_again bytes zone (zone_file is) =
+    let two = two_again 255 bytes zone is in
+    rw (two.0, not_only 255 is.first_says is.says is.suited) two.1
+said_again bytes zone (old_file is) =
+    let value = value_again false is.says is.block zone (record {
+      block = is.block;
+      end = [];
+      kinds = is.kinds;
+      whole = sym (append-nil is.block);
+      block_is = is.block_is;
+      ends = ap Some (sym is.no_footer);
+      rising = is.rising;
+      first_kind = is.first_kind;
+    }) in
+    rw (is.whole, header_again is.head is.block is.says is.header, is.only) value

@@ -12,7 +12,6 @@ use Rattle.zone_tzif_core.specs.ZoneFiles.{change_with, changes_with, file_with,
 use Rattle.zone_tzif_core.specs.Zones.{KindValue, ZoneValue, go_up, rises}
 use Rattle.zone_tzif_core.specs.declared.stored.Stored.{Stored}
 use Rattle.zone_tzif_core.proofs.FoundLemmas.{named_found}
-use Rattle.zone_tzif_core.proofs.JoinedLemmas.{falls, joined}
 
 -- the item at a place, and none past the end
 pub some_at : {A : Type 0} (xs : List A) (n : ℕ) (d : A) → n < length xs → slice_get xs n ≡ Some (get_or xs n d)
@@ -71,20 +70,18 @@ unfolding joined_in
 no_zone parts [] found none = rw (← found) refl
 no_zone parts (kind ∷ kinds) found none = absurd (omega (arith, none))
 
--- nor where a change has no kind
-pub no_changes : (parts : Cuts) (kinds : List KindValue) → Some kinds ≡ kinds_in parts.names parts.kinds parts.records → 0 < length kinds
-    → None ≡ shifts_in kinds parts.times parts.numbers → None ≡ joined_in parts
-unfolding joined_in
-no_changes parts kinds found some none = rw (← found, ← numbered_is kinds 0 some, ← none) refl
+-- the parts have these kinds, one at least
+module _ (parts : Cuts) (kinds : List KindValue) (found : Some kinds ≡ kinds_in parts.names parts.kinds parts.records) (some : 0 < length kinds) where
+  -- nor is there one where a change has no kind
+  pub no_changes : None ≡ shifts_in parts.wide kinds parts.times parts.numbers → None ≡ joined_in parts
+  unfolding joined_in
+  no_changes none = rw (← found, ← numbered_is kinds 0 some, ← none) refl
 
-pub falling : (parts : Cuts) (kinds : List KindValue) (changes : List (ℤ × ℕ)) → Some kinds ≡ kinds_in parts.names parts.kinds parts.records
-    → 0 < length kinds → Some (changes_with kinds changes) ≡ shifts_in kinds parts.times parts.numbers
-    → false ≡ go_up (map (λ change. change.0) changes) → None ≡ joined_in parts
-falling parts kinds changes found some shifts rise =
-    falls parts kinds (kind_numbered kinds 0) (changes_with kinds changes) found (numbered_is kinds 0 some) shifts (rise ∙ times_are kinds changes)
+  module _ (changes : List (ℤ × ℕ)) (shifts : Some (changes_with kinds changes) ≡ shifts_in parts.wide kinds parts.times parts.numbers) where
+    pub falling : false ≡ go_up (map (λ change. change.0) changes) → None ≡ joined_in parts
+    unfolding joined_in
+    falling fall = rw (← found, ← numbered_is kinds 0 some, ← shifts, ← (fall ∙ times_are kinds changes)) refl
 
-pub rising : (parts : Cuts) (kinds : List KindValue) (changes : List (ℤ × ℕ)) (zone : ZoneValue) → Some kinds ≡ kinds_in parts.names parts.kinds parts.records
-    → 0 < length kinds → Some (changes_with kinds changes) ≡ shifts_in kinds parts.times parts.numbers
-    → true ≡ go_up (map (λ change. change.0) changes) → zone ≡ file_with kinds changes parts.footer → Some zone ≡ joined_in parts
-rising parts kinds changes zone found some shifts rise is =
-    joined parts kinds (kind_numbered kinds 0) (changes_with kinds changes) zone found (numbered_is kinds 0 some) shifts (rise ∙ times_are kinds changes) is
+    pub rising : (zone : ZoneValue) → true ≡ go_up (map (λ change. change.0) changes) → zone ≡ file_with kinds changes parts.footer → Some zone ≡ joined_in parts
+    unfolding joined_in
+    rising zone rise is = rw (← found, ← numbered_is kinds 0 some, ← shifts, ← (rise ∙ times_are kinds changes), is) refl

@@ -1,19 +1,21 @@
 -- What is read from a file is what it denotes.
-use Rattle.std.proofs.Common.{◌≡◌, ℕ, zero, suc, ◌+◌, ◌-◌, ◌*◌, ◌<◌, ◌≤◌, ℤ, Bool, true, false, cond, not, ◌&&◌, List, [], ◌∷◌, ◌++◌, length, take, drop, get_or, Option, Some, None, option_map, option_and_then, slice_get, slice_range, refl, sym, ap, subst, ◌∙◌, arith, nat_eq, nat_le, nat_lt, append_assoc, ltb-true, length-drop, take_while}
+use Rattle.std.proofs.Common.{◌≡◌, ℕ, zero, suc, ◌+◌, ◌-◌, ◌*◌, ◌<◌, ◌≤◌, ℤ, Bool, true, false, cond, not, ◌&&◌, List, [], ◌∷◌, ◌++◌, length, take, drop, get_or, Option, Some, None, option_map, option_and_then, slice_get, slice_range, refl, sym, ap, subst, ◌∙◌, arith, nat_eq, nat_le, nat_lt, append_assoc, append-nil, ltb-true, length-drop, take_while}
 use Rattle.std.proofs.lemmas.Bool.{and_parts}
 use Rattle.std.proofs.lemmas.Bool.Decides.{nat_tests}
 use Rattle.std.proofs.lemmas.List.{take-append-drop, length-take-le, nil_from_length, drop_more, drop_all}
 use Rattle.std.proofs.lemmas.List.Sums.{prefix_len_stops, take_while-cons}
 use Rattle.std.proofs.lemmas.Option.{cond_some, same_Some}
 use Rattle.std.proofs.lemmas.Str.{IsUtf8-from_is_utf8}
+use Rattle.std.proofs.Math.Nat.{mul-zero}
 use Rattle.std.specs.List.{list_all, prefix_len}
 use Rattle.std.specs.Str.{IsUtf8, is_utf8}
 use Rattle.zone_tzif_core.specs.Zones.{KindValue, ZoneValue, is_small, rises}
-use Rattle.zone_tzif_core.specs.Numbers.{four_of, eight_of}
-use Rattle.zone_tzif_core.specs.Format.{begins_well, block_len, suits, is_one_line}
-use Rattle.zone_tzif_core.specs.Reading.{Cuts, cut, header_at, text_in, between, footer_in, before_zero, name_in, kind_in, kinds_in, shifts_in, second_in, parts_in, joined_in, zone_in}
-use Rattle.zone_tzif_core.specs.Denotes.{IsHeader, IsName, IsKind, AreKinds, no_kind, a_kind, AreShifts, no_shift, a_shift, IsZoneFile}
+use Rattle.zone_tzif_core.specs.Numbers.{four_of}
+use Rattle.zone_tzif_core.specs.Format.{begins_well, block_len, is_only, suits, is_one_line}
+use Rattle.zone_tzif_core.specs.Reading.{Cuts, cut, header_at, text_in, between, end_in, footer_in, before_zero, name_in, kind_in, kinds_in, shifts_in, block_in, second_in, parts_in, said_parts, joined_in, said_in, time_of, time_size, zone_in}
+use Rattle.zone_tzif_core.specs.Denotes.{IsHeader, IsName, IsKind, AreKinds, no_kind, a_kind, AreShifts, no_shift, a_shift, IsZoneFile, Says, zone_file, old_file}
 use Rattle.zone_tzif_core.specs.declared.header.Header.{Header}
+use Rattle.zone_tzif_core.proofs.AgainLemmas.{IsRead}
 
 pub bind_some : {A B : Type 0} (f : A → Option B) (o : Option A) (y : B) → option_and_then f o ≡ Some y → (x : A) × (o ≡ Some x) × (f x ≡ Some y)
 bind_some f (Some x) y e = (x, refl, e)
@@ -125,7 +127,7 @@ kind_found names bytes kind long e =
       named = named_found names bytes kind e;
     }
 
-pub kinds_found : (names : List ℕ) (n : ℕ) (records : List ℕ) (kinds : List KindValue) → length records ≡ 6 * n → kinds_in names n records ≡ Some kinds → AreKinds names records kinds × (length kinds ≡ n)
+kinds_found : (names : List ℕ) (n : ℕ) (records : List ℕ) (kinds : List KindValue) → length records ≡ 6 * n → kinds_in names n records ≡ Some kinds → AreKinds names records kinds × (length kinds ≡ n)
 unfolding kinds_in
 kinds_found names zero records kinds long e =
     let none = same_Some [] kinds e in
@@ -142,19 +144,28 @@ kinds_found names (suc n) records kinds long e =
     let size : length (kind.0 ∷ more.0) ≡ suc n = omega (arith, rest.1) in
     (subst (λ l. AreKinds names records l) same all, ap length (sym same) ∙ size)
 
-shifts_found : (kinds : List KindValue) (times numbers : List ℕ) (shifts : List (ℤ × KindValue)) → length times ≡ 8 * length numbers → shifts_in kinds times numbers ≡ Some shifts → AreShifts 8 eight_of kinds times numbers shifts
+-- the bytes of the first of times, and those of the others
+first_time : (wide : Bool) (n long : ℕ) → long ≡ time_size wide * suc n → (time_size wide ≤ long) × (long - time_size wide ≡ time_size wide * n)
+first_time true n long e = (omega (arith, e), omega (arith, e))
+first_time false n long e = (omega (arith, e), omega (arith, e))
+
+shifts_found : (wide : Bool) (kinds : List KindValue) (times numbers : List ℕ) (shifts : List (ℤ × KindValue)) → length times ≡ time_size wide * length numbers
+    → shifts_in wide kinds times numbers ≡ Some shifts → AreShifts (time_size wide) (time_of wide) kinds times numbers shifts
 unfolding shifts_in
-shifts_found kinds times [] shifts long e =
-    subst (λ l. AreShifts 8 eight_of kinds l [] shifts) (sym (nil_from_length times long)) (subst (λ l. AreShifts 8 eight_of kinds [] [] l) (same_Some [] shifts e) no_shift)
-shifts_found kinds times (number ∷ numbers) shifts long e =
+shifts_found wide kinds times [] shifts long e =
+    subst (λ l. AreShifts (time_size wide) (time_of wide) kinds l [] shifts) (sym (nil_from_length times (long ∙ mul-zero (time_size wide))))
+    (subst (λ l. AreShifts (time_size wide) (time_of wide) kinds [] [] l) (same_Some [] shifts e) no_shift)
+shifts_found wide kinds times (number ∷ numbers) shifts long e =
+    let size = time_size wide in
     let kind = bind_some _ (slice_get kinds number) shifts e in
-    let more = bind_some _ (shifts_in kinds (drop 8 times) numbers) shifts kind.2 in
-    let same = same_Some ((eight_of (take 8 times), kind.0) ∷ more.0) shifts more.2 in
-    let enough : 8 ≤ length times = omega (arith, long) in
-    let left : length (drop 8 times) ≡ 8 * length numbers = omega (arith, long, length-drop 8 times) in
-    let rest = shifts_found kinds (drop 8 times) numbers more.0 left more.1 in
-    let all : AreShifts 8 eight_of kinds times (number ∷ numbers) ((eight_of (take 8 times), kind.0) ∷ more.0) = subst (λ l. AreShifts 8 eight_of kinds l (number ∷ numbers) ((eight_of (take 8 times), kind.0) ∷ more.0)) (take-append-drop 8 times) (a_shift (take 8 times) (length-take-le 8 times enough) kind.1 rest) in
-    subst (λ l. AreShifts 8 eight_of kinds times (number ∷ numbers) l) same all
+    let more = bind_some _ (shifts_in wide kinds (drop size times) numbers) shifts kind.2 in
+    let same = same_Some ((time_of wide (take size times), kind.0) ∷ more.0) shifts more.2 in
+    let fits = first_time wide (length numbers) (length times) long in
+    let rest = shifts_found wide kinds (drop size times) numbers more.0 (length-drop size times ∙ fits.1) more.1 in
+    let all : AreShifts size (time_of wide) kinds times (number ∷ numbers) ((time_of wide (take size times), kind.0) ∷ more.0) =
+    subst (λ l. AreShifts size (time_of wide) kinds l (number ∷ numbers) ((time_of wide (take size times), kind.0) ∷ more.0)) (take-append-drop size times)
+    (a_shift (take size times) (length-take-le size times fits.0) kind.1 rest) in
+    subst (λ l. AreShifts size (time_of wide) kinds times (number ∷ numbers) l) same all
 
 two_ends : (bytes : List ℕ) → 2 ≤ length bytes → get_or bytes 0 0 ≡ 10 → get_or bytes (length bytes - 1) 0 ≡ 10 → bytes ≡ 10 ∷ slice_range bytes 1 (length bytes - 1) ++ 10 ∷ []
 two_ends [] some first last = absurd (omega arith)
@@ -192,86 +203,73 @@ footer_found bytes footer e =
 joined : (front next rest : List ℕ) {bytes left : List ℕ} → bytes ≡ front ++ left → left ≡ next ++ rest → bytes ≡ (front ++ next) ++ rest
 joined front next rest a b = a ∙ ap (λ l. front ++ l) b ∙ sym (append_assoc front next rest)
 
--- the parts of a second block, and the footer after it
-pub record Second (says : Header) (bytes : List ℕ) (cuts : Cuts) : Type 0 where
+-- the parts of a block, and what follows it
+pub record IsCut (says : Header) (bytes : List ℕ) (cuts : Cuts) : Type 0 where
   pub flags : List ℕ
-  pub whole : bytes ≡ (cuts.times ++ cuts.numbers ++ cuts.records ++ cuts.names ++ flags) ++ (10 ∷ cuts.footer ++ 10 ∷ [])
+  pub end : List ℕ
+  pub whole : bytes ≡ (cuts.times ++ cuts.numbers ++ cuts.records ++ cuts.names ++ flags) ++ end
+  pub ends : end_in cuts.wide end ≡ Some cuts.footer
   pub count : cuts.kinds ≡ says.kind
-  pub time_long : length cuts.times ≡ 8 * says.time
+  pub time_long : length cuts.times ≡ time_size cuts.wide * says.time
   pub time_count : length cuts.numbers ≡ says.time
   pub kind_long : length cuts.records ≡ 6 * says.kind
   pub char_count : length cuts.names ≡ says.char
   pub flag_count : length flags ≡ says.isstd + says.isut
-  pub one_line : is_one_line cuts.footer ≡ true
-  pub text : IsUtf8 cuts.footer
 
-pub second_found : (says : Header) (bytes : List ℕ) (cuts : Cuts) → second_in says bytes ≡ Some cuts → Second says bytes cuts
-unfolding second_in
-second_found says bytes cuts e =
-    let times = bind_some _ (cut (8 * says.time) bytes) cuts e in
+block_found : (wide : Bool) (says : Header) (bytes : List ℕ) (cuts : Cuts) → block_in wide says bytes ≡ Some cuts → IsCut says bytes cuts × (cuts.wide ≡ wide)
+unfolding block_in
+block_found wide says bytes cuts e =
+    let times = bind_some _ (cut (time_size wide * says.time) bytes) cuts e in
     let numbers = bind_some _ (cut says.time times.0.1) cuts times.2 in
     let records = bind_some _ (cut (6 * says.kind) numbers.0.1) cuts numbers.2 in
     let names = bind_some _ (cut says.char records.0.1) cuts records.2 in
     let flags = bind_some _ (cut (says.isstd + says.isut) names.0.1) cuts names.2 in
-    let footer = bind_some _ (footer_in flags.0.1) cuts flags.2 in
-    let same = same_Some _ cuts footer.2 in
+    let footer = bind_some _ (end_in wide flags.0.1) cuts flags.2 in
     let a = cut_found _ bytes times.0 times.1 in
     let b = cut_found _ times.0.1 numbers.0 numbers.1 in
     let c = cut_found _ numbers.0.1 records.0 records.1 in
     let d = cut_found _ records.0.1 names.0 names.1 in
     let f = cut_found _ names.0.1 flags.0 flags.1 in
-    let g = footer_found flags.0.1 footer.0 footer.1 in
-    subst (Second says bytes) same (record {
-      flags = flags.0.0;
-      whole = joined _ _ _ (joined _ _ _ (joined _ _ _ (joined _ _ _ a.0 b.0) c.0) d.0) f.0 ∙ ap (λ l. (times.0.0 ++ numbers.0.0 ++ records.0.0 ++ names.0.0 ++ flags.0.0) ++ l) g.0;
-      count = refl;
-      time_long = a.1;
-      time_count = b.1;
-      kind_long = c.1;
-      char_count = d.1;
-      flag_count = f.1;
-      one_line = g.1;
-      text = g.2;
-    })
+    subst (λ (cuts : Cuts). IsCut says bytes cuts × (cuts.wide ≡ wide)) (same_Some _ cuts footer.2) (
+      record {
+        flags = flags.0.0;
+        end = flags.0.1;
+        whole = joined _ _ _ (joined _ _ _ (joined _ _ _ (joined _ _ _ a.0 b.0) c.0) d.0) f.0;
+        ends = footer.1;
+        count = refl;
+        time_long = a.1;
+        time_count = b.1;
+        kind_long = c.1;
+        char_count = d.1;
+        flag_count = f.1;
+      },
+      refl,
+    )
 
--- what is read is denoted
-pub denoted_found : (last : ℕ) (bytes : List ℕ) (zone : ZoneValue) → zone_in last bytes ≡ Some zone → IsZoneFile last bytes zone
-unfolding zone_in parts_in joined_in
-denoted_found last bytes zone e =
-    let cuts = bind_some _ (parts_in last bytes) zone e in
-    let first = bind_some _ (header_at bytes) cuts.0 cuts.1 in
-    let skipped = bind_some _ (cut (block_len first.0.0) first.0.1) cuts.0 first.2 in
-    let second = bind_some _ (header_at skipped.0.1) cuts.0 skipped.2 in
-    let suited = chosen (suits last first.0.0.version second.0.0) _ cuts.0 second.2 in
-    let a = header_found bytes first.0 first.1 in
-    let b = cut_found (block_len first.0.0) first.0.1 skipped.0 skipped.1 in
-    let c = header_found skipped.0.1 second.0 second.1 in
-    let d = second_found second.0.0 second.0.1 cuts.0 suited.1 in
-    let kinds = bind_some _ (kinds_in cuts.0.names cuts.0.kinds cuts.0.records) zone cuts.2 in
+-- a block whose parts have a value
+pub value_found : (wide : Bool) (says : Header) (bytes : List ℕ) (cuts : Cuts) (zone : ZoneValue) → block_in wide says bytes ≡ Some cuts
+    → joined_in cuts ≡ Some zone → IsRead wide says bytes zone
+unfolding joined_in
+value_found wide says bytes cuts zone e value =
+    let both = block_found wide says bytes cuts e in
+    let d = both.0 in
+    let kinds = bind_some _ (kinds_in cuts.names cuts.kinds cuts.records) zone value in
     let front = bind_some _ (slice_get kinds.0 0) zone kinds.2 in
-    let shifts = bind_some _ (shifts_in kinds.0 cuts.0.times cuts.0.numbers) zone front.2 in
+    let shifts = bind_some _ (shifts_in cuts.wide kinds.0 cuts.times cuts.numbers) zone front.2 in
     let rising = cond_some (rises shifts.0) _ zone shifts.2 in
-    let records : length cuts.0.records ≡ 6 * cuts.0.kinds = omega (arith, d.kind_long, d.count) in
-    let times : length cuts.0.times ≡ 8 * length cuts.0.numbers = omega (arith, d.time_long, d.time_count) in
-    let are = kinds_found cuts.0.names cuts.0.kinds cuts.0.records kinds.0 records kinds.1 in
-    subst (IsZoneFile last bytes) rising.1 (record {
-      head = a.0;
-      skipped = skipped.0.0;
-      second_head = c.0;
-      block = cuts.0.times ++ cuts.0.numbers ++ cuts.0.records ++ cuts.0.names ++ d.flags;
-      first_says = first.0.0;
-      says = second.0.0;
+    let records : length cuts.records ≡ 6 * cuts.kinds = omega (arith, d.kind_long, d.count) in
+    let times = d.time_long ∙ ap (λ n. time_size cuts.wide * n) (sym d.time_count) in
+    let are = kinds_found cuts.names cuts.kinds cuts.records kinds.0 records kinds.1 in
+    subst (λ w. IsRead w says bytes zone) both.1 (subst (IsRead cuts.wide says bytes) rising.1 (record {
+      block = cuts.times ++ cuts.numbers ++ cuts.records ++ cuts.names ++ d.flags;
+      end = d.end;
       kinds = kinds.0;
-      whole = joined _ _ _ (joined _ _ _ (joined _ _ _ a.1 b.0) c.1) d.whole ∙ sym (append_assoc (a.0 ++ skipped.0.0 ++ c.0 ++ (cuts.0.times ++ cuts.0.numbers ++ cuts.0.records ++ cuts.0.names ++ d.flags)) (10 ∷ cuts.0.footer) (10 ∷ []));
-      first_header = a.2;
-      first_length = b.1;
-      second_header = c.2;
-      suited = suited.0;
+      whole = d.whole;
       block_is = record {
-        times = cuts.0.times;
-        numbers = cuts.0.numbers;
-        records = cuts.0.records;
-        names = cuts.0.names;
+        times = cuts.times;
+        numbers = cuts.numbers;
+        records = cuts.records;
+        names = cuts.names;
         flags = d.flags;
         whole = refl;
         time_count = d.time_count;
@@ -279,10 +277,84 @@ denoted_found last bytes zone e =
         char_count = d.char_count;
         flag_count = d.flag_count;
         are_kinds = are.0;
-        are_shifts = shifts_found kinds.0 cuts.0.times cuts.0.numbers shifts.0 times shifts.1;
+        are_shifts = shifts_found cuts.wide kinds.0 cuts.times cuts.numbers shifts.0 times shifts.1;
       };
+      ends = d.ends;
       rising = rising.0;
       first_kind = front.1;
-      one_line = d.one_line;
-      text = d.text;
-    })
+    }))
+
+-- what is read of two headers is denoted
+two_found : (last : ℕ) (head bytes rest : List ℕ) (first : Header) (cuts : Cuts) (zone : ZoneValue) → bytes ≡ head ++ rest → IsHeader head first
+    → second_in last first rest ≡ Some cuts → joined_in cuts ≡ Some zone → IsZoneFile last bytes zone
+unfolding second_in
+two_found last head bytes rest first cuts zone split is e value =
+    let skipped = bind_some _ (cut (block_len first) rest) cuts e in
+    let second = bind_some _ (header_at skipped.0.1) cuts skipped.2 in
+    let suited = chosen (suits last first.version second.0.0) _ cuts second.2 in
+    let b = cut_found (block_len first) rest skipped.0 skipped.1 in
+    let c = header_found skipped.0.1 second.0 second.1 in
+    let d = value_found true second.0.0 second.0.1 cuts zone suited.1 value in
+    let f = footer_found d.end zone.footer d.ends in
+    record {
+      head = head;
+      skipped = skipped.0.0;
+      second_head = c.0;
+      block = d.block;
+      first_says = first;
+      says = second.0.0;
+      kinds = d.kinds;
+      whole = joined _ _ _ (joined _ _ _ (joined _ _ _ split b.0) c.1) d.whole ∙ ap (λ l. (head ++ skipped.0.0 ++ c.0 ++ d.block) ++ l) f.0
+          ∙ sym (append_assoc (head ++ skipped.0.0 ++ c.0 ++ d.block) (10 ∷ zone.footer) (10 ∷ []));
+      first_header = is;
+      first_length = b.1;
+      second_header = c.2;
+      suited = suited.0;
+      block_is = d.block_is;
+      rising = d.rising;
+      first_kind = d.first_kind;
+      one_line = f.1;
+      text = f.2;
+    }
+
+pub denoted_found : (last : ℕ) (bytes : List ℕ) (zone : ZoneValue) → zone_in last bytes ≡ Some zone → IsZoneFile last bytes zone
+unfolding zone_in parts_in
+denoted_found last bytes zone e =
+    let cuts = bind_some _ (parts_in last bytes) zone e in
+    let first = bind_some _ (header_at bytes) cuts.0 cuts.1 in
+    let a = header_found bytes first.0 first.1 in
+    two_found last a.0 bytes first.0.1 first.0.0 cuts.0 zone a.1 a.2 first.2 cuts.2
+
+-- nothing follows the block of a file of version 1
+nothing_after : (end footer : List ℕ) → end_in false end ≡ Some footer → (end ≡ []) × (footer ≡ [])
+nothing_after [] footer e = (refl, sym (same_Some [] footer e))
+nothing_after (c ∷ end) footer e = absurd cc
+
+-- what is read of a file of any version is said
+pub said_found : (bytes : List ℕ) (zone : ZoneValue) → said_in bytes ≡ Some zone → Says bytes zone
+unfolding said_in said_parts
+said_found bytes zone e =
+    let cuts = bind_some _ (said_parts bytes) zone e in
+    let first = bind_some _ (header_at bytes) cuts.0 cuts.1 in
+    let a = header_found bytes first.0 first.1 in
+    by_test first.0.0 first.0.1 a.0 a.1 a.2 cuts.0 cuts.2 (is_only first.0.0) refl first.2
+  where
+    by_test : (says : Header) (rest head : List ℕ) → bytes ≡ head ++ rest → IsHeader head says → (cuts : Cuts) → joined_in cuts ≡ Some zone → (t : Bool) → is_only says ≡ t
+        → cond t (block_in false says rest) (second_in 255 says rest) ≡ Some cuts → Says bytes zone
+    by_test says rest head split is cuts value false only e = zone_file (two_found 255 head bytes rest says cuts zone split is e value)
+    by_test says rest head split is cuts value true only e =
+        let d = value_found false says rest cuts zone e value in
+        let none = nothing_after d.end zone.footer d.ends in
+        old_file (record {
+          head = head;
+          block = d.block;
+          says = says;
+          kinds = d.kinds;
+          whole = split ∙ ap (λ l. head ++ l) (d.whole ∙ ap (λ l. d.block ++ l) none.0 ∙ append-nil d.block);
+          header = is;
+          only = only;
+          block_is = d.block_is;
+          rising = d.rising;
+          first_kind = d.first_kind;
+          no_footer = none.1;
+        })

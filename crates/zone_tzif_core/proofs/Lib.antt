@@ -4,12 +4,9 @@ mod DistinctLemmas
 mod ExactLemmas
 mod FileLemmas
 mod FoundLemmas
-mod JoinedLemmas
 mod LoopLemmas
 mod NameLemmas
-mod NarrowLemmas
 mod PassLemmas
-mod OldLemmas
 mod ProfileLemmas
 mod PutLemmas
 mod SmallLemmas

@@ -1,9 +1,10 @@
 -- What the loops read so far, and what is left.
-use Rattle.std.proofs.Common.{◌≡◌, ℕ, suc, ◌+◌, ◌-◌, ◌*◌, ◌<◌, ◌≤◌, ℤ, int_lt, true, false, ◌&&◌, List, [], ◌∷◌, ◌++◌, length, map, take, drop, get_or, Option, Some, None, option_map, option_and_then, slice_get, refl, sym, ap, ◌∙◌, arith, append_assoc, append-nil, length-drop}
+use Rattle.std.proofs.Common.{◌≡◌, ℕ, suc, ◌+◌, ◌-◌, ◌*◌, ◌<◌, ◌≤◌, ℤ, int_lt, Bool, true, false, ◌&&◌, List, [], ◌∷◌, ◌++◌, length, map, take, drop, get_or, Option, Some, None, option_map, option_and_then, slice_get, refl, sym, ap, ◌∙◌, arith, add-one, append_assoc, append-nil, length-drop}
 use Rattle.std.proofs.lemmas.List.{map-append, drop_more, drop-drop, get_or-map, length-map}
+use Rattle.std.proofs.Math.Nat.{mul-suc}
 use Rattle.zone_tzif_core.specs.Zones.{KindValue, go_up}
-use Rattle.zone_tzif_core.specs.Numbers.{eight_of}
-use Rattle.zone_tzif_core.specs.Reading.{kind_in, kinds_in, shifts_in}
+use Rattle.zone_tzif_core.specs.ZoneFiles.{change_with, changes_with, kind_numbered}
+use Rattle.zone_tzif_core.specs.Reading.{kind_in, kinds_in, shifts_in, time_of, time_size}
 use Rattle.zone_tzif_core.specs.Shown.{Faults}
 use Rattle.zone_tzif_core.specs.declared.values.ReadFault.{ReadFault}
 use Rattle.zone_tzif_core.specs.declared.values.ReadFault.TheVariants.{Refused, NoMemory}
@@ -25,17 +26,25 @@ pub kinds_end : (names : List ℕ) (n : ℕ) (bytes : List ℕ) (so_far : List K
 unfolding kinds_in
 kinds_end names n bytes so_far whole count is = let e : kinds_in names n bytes ≡ Some [] = rw count refl in ap Some (sym (append-nil so_far)) ∙ sym (ap (option_map (λ more. so_far ++ more)) e) ∙ is
 
-pub shifts_more : (kinds : List KindValue) (times later numbers left : List ℕ) (number : ℕ) (so_far : List (ℤ × KindValue)) (kind : KindValue) → left ≡ number ∷ numbers → later ≡ drop 8 times → Some kind ≡ slice_get kinds number → option_map (λ more. so_far ++ more) (shifts_in kinds times left) ≡ option_map (λ more. (so_far ++ (eight_of (take 8 times), kind) ∷ []) ++ more) (shifts_in kinds later numbers)
+shifts_more : (wide : Bool) (kinds : List KindValue) (times later numbers left : List ℕ) (number : ℕ) (so_far : List (ℤ × KindValue)) (kind : KindValue)
+    → left ≡ number ∷ numbers → later ≡ drop (time_size wide) times → Some kind ≡ slice_get kinds number
+    → option_map (λ more. so_far ++ more) (shifts_in wide kinds times left)
+    ≡ option_map (λ more. (so_far ++ (time_of wide (take (time_size wide) times), kind) ∷ []) ++ more) (shifts_in wide kinds later numbers)
 unfolding shifts_in
-shifts_more kinds times later numbers left number so_far kind front time found = rw (front, ← found, time) (moved so_far (eight_of (take 8 times), kind) (shifts_in kinds (drop 8 times) numbers))
+shifts_more wide kinds times later numbers left number so_far kind front time found =
+    rw (front, ← found, time) (moved so_far (time_of wide (take (time_size wide) times), kind) (shifts_in wide kinds (drop (time_size wide) times) numbers))
 
-pub shifts_none : (kinds : List KindValue) (times numbers left : List ℕ) (number : ℕ) (so_far : List (ℤ × KindValue)) (whole : Option (List (ℤ × KindValue))) → left ≡ number ∷ numbers → option_map (λ more. so_far ++ more) (shifts_in kinds times left) ≡ whole → None ≡ slice_get kinds number → None ≡ whole
+shifts_none : (wide : Bool) (kinds : List KindValue) (times numbers left : List ℕ) (number : ℕ) (so_far : List (ℤ × KindValue)) (whole : Option (List (ℤ × KindValue)))
+    → left ≡ number ∷ numbers → option_map (λ more. so_far ++ more) (shifts_in wide kinds times left) ≡ whole → None ≡ slice_get kinds number → None ≡ whole
 unfolding shifts_in
-shifts_none kinds times numbers left number so_far whole front is refused = let e : shifts_in kinds times left ≡ None = rw (front, ← refused) refl in ap (option_map (λ more. so_far ++ more)) (sym e) ∙ is
+shifts_none wide kinds times numbers left number so_far whole front is refused =
+    let e : shifts_in wide kinds times left ≡ None = rw (front, ← refused) refl in ap (option_map (λ more. so_far ++ more)) (sym e) ∙ is
 
-pub shifts_end : (kinds : List KindValue) (times left : List ℕ) (so_far : List (ℤ × KindValue)) (whole : Option (List (ℤ × KindValue))) → left ≡ [] → option_map (λ more. so_far ++ more) (shifts_in kinds times left) ≡ whole → Some so_far ≡ whole
+pub shifts_end : (wide : Bool) (kinds : List KindValue) (times left : List ℕ) (so_far : List (ℤ × KindValue)) (whole : Option (List (ℤ × KindValue)))
+    → left ≡ [] → option_map (λ more. so_far ++ more) (shifts_in wide kinds times left) ≡ whole → Some so_far ≡ whole
 unfolding shifts_in
-shifts_end kinds times left so_far whole over is = let e : shifts_in kinds times left ≡ Some [] = rw over refl in ap Some (sym (append-nil so_far)) ∙ sym (ap (option_map (λ more. so_far ++ more)) e) ∙ is
+shifts_end wide kinds times left so_far whole over is =
+    let e : shifts_in wide kinds times left ≡ Some [] = rw over refl in ap Some (sym (append-nil so_far)) ∙ sym (ap (option_map (λ more. so_far ++ more)) e) ∙ is
 
 -- a fault that a step tells is the whole's
 pub fault_passes : {W X : Type 0} (fault : ReadFault) (step : Option W) (whole : Option X) → Faults fault step → (None ≡ step → None ≡ whole) → Faults fault whole
@@ -64,22 +73,28 @@ kinds_refused shown names count records i kinds within is refused =
     kinds_none names (count - i) (count - (i + 1)) (drop (6 * i) records) (map shown kinds) _ left is (refused ∙ ap (λ n. kind_in names (take n (drop (6 * i) records))) six)
 
 -- the times so far and those that are left make those of all numbers
-abbrev pub ShiftsSoFar : {C : Type 0} → (C → ℤ × KindValue) → List KindValue → List ℕ → List ℕ → ℕ → List C → Type 0
-ShiftsSoFar shown kinds times numbers i shifts = option_map (λ more. map shown shifts ++ more) (shifts_in kinds (drop (8 * i) times) (drop i numbers)) ≡ shifts_in kinds times numbers
+abbrev pub ShiftsSoFar : Bool → List KindValue → List ℕ → List ℕ → ℕ → List (ℤ × ℕ) → Type 0
+ShiftsSoFar wide kinds times numbers i shifts =
+    option_map (λ more. changes_with kinds shifts ++ more) (shifts_in wide kinds (drop (time_size wide * i) times) (drop i numbers)) ≡ shifts_in wide kinds times numbers
 
-pub shifts_kept : {C : Type 0} (shown : C → ℤ × KindValue) (kinds : List KindValue) (times numbers : List ℕ) (i : ℕ) (shifts grown : List C) (shift : C) (kind : KindValue) (time : ℤ) → i < length numbers → grown ≡ shifts ++ shift ∷ [] → shown shift ≡ (time, kind) → time ≡ eight_of (take (8 * i + 8 - 8 * i) (drop (8 * i) times)) → Some kind ≡ slice_get kinds (get_or numbers i 0) → ShiftsSoFar shown kinds times numbers i shifts → ShiftsSoFar shown kinds times numbers (i + 1) grown
-shifts_kept shown kinds times numbers i shifts grown shift kind time within items seen read told is =
-    let next : 8 * i + 8 ≡ 8 * (i + 1) = omega arith in
-    let rest : drop (8 * (i + 1)) times ≡ drop 8 (drop (8 * i) times) = sym (drop-drop 8 (8 * i) times ∙ ap (λ n. drop n times) next) in
-    let eight : 8 * i + 8 - 8 * i ≡ 8 = omega arith in
-    let clock : time ≡ eight_of (take 8 (drop (8 * i) times)) = read ∙ ap (λ n. eight_of (take n (drop (8 * i) times))) eight in
-    let all : map shown grown ≡ map shown shifts ++ (eight_of (take 8 (drop (8 * i) times)), kind) ∷ [] = ap (map shown) items ∙ map-append shown shifts (shift ∷ []) ∙ ap (λ s. map shown shifts ++ s ∷ []) (seen ∙ ap (λ t. (t, kind)) clock) in
-    ap (λ front. option_map (λ more. front ++ more) (shifts_in kinds (drop (8 * (i + 1)) times) (drop (i + 1) numbers))) all
-    ∙ sym (shifts_more kinds (drop (8 * i) times) (drop (8 * (i + 1)) times) (drop (i + 1) numbers) (drop i numbers) (get_or numbers i 0) (map shown shifts) kind (drop_more numbers i 0 within) rest told) ∙ is
+pub shifts_kept : (wide : Bool) (kinds : List KindValue) (times numbers : List ℕ) (i : ℕ) (shifts grown : List (ℤ × ℕ)) (shift : ℤ × ℕ) → i < length numbers
+    → grown ≡ shifts ++ shift ∷ [] → shift.0 ≡ time_of wide (take (time_size wide) (drop (time_size wide * i) times))
+    → Some (kind_numbered kinds shift.1) ≡ slice_get kinds (get_or numbers i 0)
+    → ShiftsSoFar wide kinds times numbers i shifts → ShiftsSoFar wide kinds times numbers (i + 1) grown
+shifts_kept wide kinds times numbers i shifts grown shift within items read told is =
+    let size = time_size wide in
+    let here = drop (size * i) times in
+    let next : size * i + size ≡ size * (i + 1) = sym (mul-suc size i) ∙ ap (λ n. size * n) (sym (add-one i)) in
+    let rest : drop (size * (i + 1)) times ≡ drop size here = sym (drop-drop size (size * i) times ∙ ap (λ n. drop n times) next) in
+    let all : changes_with kinds grown ≡ changes_with kinds shifts ++ (time_of wide (take size here), kind_numbered kinds shift.1) ∷ [] =
+    ap (changes_with kinds) items ∙ map-append (change_with kinds) shifts (shift ∷ []) ∙ ap (λ t. changes_with kinds shifts ++ (t, kind_numbered kinds shift.1) ∷ []) read in
+    ap (λ front. option_map (λ more. front ++ more) (shifts_in wide kinds (drop (size * (i + 1)) times) (drop (i + 1) numbers))) all
+    ∙ sym (shifts_more wide kinds here (drop (size * (i + 1)) times) (drop (i + 1) numbers) (drop i numbers) (get_or numbers i 0) (changes_with kinds shifts) (kind_numbered kinds shift.1) (drop_more numbers i 0 within) rest told) ∙ is
 
-pub shifts_refused : {C : Type 0} (shown : C → ℤ × KindValue) (kinds : List KindValue) (times numbers : List ℕ) (i : ℕ) (shifts : List C) → i < length numbers → ShiftsSoFar shown kinds times numbers i shifts → None ≡ slice_get kinds (get_or numbers i 0) → None ≡ shifts_in kinds times numbers
-shifts_refused shown kinds times numbers i shifts within is refused =
-    shifts_none kinds (drop (8 * i) times) (drop (i + 1) numbers) (drop i numbers) (get_or numbers i 0) (map shown shifts) _ (drop_more numbers i 0 within) is refused
+pub shifts_refused : (wide : Bool) (kinds : List KindValue) (times numbers : List ℕ) (i : ℕ) (shifts : List (ℤ × ℕ)) → i < length numbers
+    → ShiftsSoFar wide kinds times numbers i shifts → None ≡ slice_get kinds (get_or numbers i 0) → None ≡ shifts_in wide kinds times numbers
+shifts_refused wide kinds times numbers i shifts within is refused =
+    shifts_none wide kinds (drop (time_size wide * i) times) (drop (i + 1) numbers) (drop i numbers) (get_or numbers i 0) (changes_with kinds shifts) _ (drop_more numbers i 0 within) is refused
 
 -- two neighbours, and the rest
 up_pair : (times : List ℤ) (x y : ℤ) (rest : List ℤ) → times ≡ x ∷ y ∷ rest → go_up times ≡ (int_lt x y && go_up (y ∷ rest))

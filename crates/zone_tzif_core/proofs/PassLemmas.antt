@@ -4,10 +4,11 @@ use Rattle.std.proofs.lemmas.Bool.Decides.{nat_tests}
 use Rattle.std.proofs.lemmas.List.{drop-drop}
 use Rattle.std.proofs.lemmas.Option.{cond_some, same_Some}
 use Rattle.std.specs.List.{list_all}
-use Rattle.zone_tzif_core.specs.Check.{passes, time_of, time_size, times_in}
-use Rattle.zone_tzif_core.specs.Numbers.{eight_of}
-use Rattle.zone_tzif_core.specs.Reading.{Cuts, kind_in, kinds_in, shifts_in, joined_in, parts_in, zone_in}
+use Rattle.zone_tzif_core.specs.Check.{passes, times_in}
+use Rattle.zone_tzif_core.specs.Reading.{Cuts, kind_in, kinds_in, shifts_in, joined_in, said_in, said_parts, time_of, time_size}
+use Rattle.zone_tzif_core.specs.Shown.{FaultsExactly}
 use Rattle.zone_tzif_core.specs.Zones.{KindValue, ZoneValue, go_up, rises}
+use Rattle.zone_tzif_core.specs.declared.values.ReadFault.TheVariants.{Refused, NoMemory}
 use Rattle.zone_tzif_core.proofs.FoundLemmas.{bind_some}
 use Rattle.zone_tzif_core.proofs.LoopLemmas.{RiseFrom, up_short, up_step}
 
@@ -21,13 +22,6 @@ both f None b = refl
 pub seen : {A B : Type 0} (f : A → B) (o : Option A) (shown : Option B) (t : Bool) → option_map f o ≡ shown → is_some o ≡ t → t ≡ is_some shown
 seen f (Some x) shown t e is = sym is ∙ ap is_some e
 seen f None shown t e is = sym is ∙ ap is_some e
-
--- two that show the same are both there, or neither
-pub both_seen : {A B C : Type 0} (f : A → C) (g : B → C) (o : Option A) (v : Option B) → option_map f o ≡ option_map g v → is_some o ≡ is_some v
-both_seen f g (Some x) (Some y) e = refl
-both_seen f g (Some x) None e = absurd cc
-both_seen f g None (Some y) e = absurd cc
-both_seen f g None None e = refl
 
 -- the kinds of one record more
 kinds_step : (names : List ℕ) (n m : ℕ) (bytes rest : List ℕ) → n ≡ suc m → rest ≡ drop 6 bytes
@@ -138,24 +132,28 @@ got (x ∷ xs) (suc n) = got xs n ∙ next n (length xs)
     next n m = grind (arith, nat_tests)
 
 -- there are changes where each number is that of a kind
-shifts_pass : (kinds : List KindValue) (times numbers : List ℕ) → is_some (shifts_in kinds times numbers) ≡ list_all (λ number. nat_lt number (length kinds)) numbers
+shifts_pass : (wide : Bool) (kinds : List KindValue) (times numbers : List ℕ)
+    → is_some (shifts_in wide kinds times numbers) ≡ list_all (λ number. nat_lt number (length kinds)) numbers
 unfolding shifts_in
-shifts_pass kinds times [] = refl
-shifts_pass kinds times (number ∷ numbers) =
-    let more = shifts_pass kinds (drop 8 times) numbers in
-    both (λ kind shifts. (eight_of (take 8 times), kind) ∷ shifts) (slice_get kinds number) (shifts_in kinds (drop 8 times) numbers)
+shifts_pass wide kinds times [] = refl
+shifts_pass wide kinds times (number ∷ numbers) =
+    let left = drop (time_size wide) times in
+    let more = shifts_pass wide kinds left numbers in
+    both (λ kind shifts. (time_of wide (take (time_size wide) times), kind) ∷ shifts) (slice_get kinds number) (shifts_in wide kinds left numbers)
     ∙ (λ i. got kinds number i && more i)
 
 -- and their times are those of the bytes
-shifts_times : (kinds : List KindValue) (times numbers : List ℕ) (shifts : List (ℤ × KindValue)) → shifts_in kinds times numbers ≡ Some shifts
-    → map (λ shift. shift.0) shifts ≡ times_in true (length numbers) times
+shifts_times : (wide : Bool) (kinds : List KindValue) (times numbers : List ℕ) (shifts : List (ℤ × KindValue)) → shifts_in wide kinds times numbers ≡ Some shifts
+    → map (λ shift. shift.0) shifts ≡ times_in wide (length numbers) times
 unfolding shifts_in times_in
-shifts_times kinds times [] shifts e = ap (map (λ shift. shift.0)) (sym (same_Some [] shifts e))
-shifts_times kinds times (number ∷ numbers) shifts e =
+shifts_times wide kinds times [] shifts e = ap (map (λ shift. shift.0)) (sym (same_Some [] shifts e))
+shifts_times wide kinds times (number ∷ numbers) shifts e =
+    let time = time_of wide (take (time_size wide) times) in
+    let left = drop (time_size wide) times in
     let kind = bind_some _ (slice_get kinds number) shifts e in
-    let more = bind_some _ (shifts_in kinds (drop 8 times) numbers) shifts kind.2 in
-    ap (map (λ shift. shift.0)) (sym (same_Some ((eight_of (take 8 times), kind.0) ∷ more.0) shifts more.2))
-    ∙ ap (λ l. eight_of (take 8 times) ∷ l) (shifts_times kinds (drop 8 times) numbers more.0 more.1)
+    let more = bind_some _ (shifts_in wide kinds left numbers) shifts kind.2 in
+    ap (map (λ shift. shift.0)) (sym (same_Some ((time, kind.0) ∷ more.0) shifts more.2))
+    ∙ ap (λ l. time ∷ l) (shifts_times wide kinds left numbers more.0 more.1)
 
 never : (t : Bool) → (t && false) ≡ false
 never true = refl
@@ -170,12 +168,12 @@ chosen_is true x = refl
 chosen_is false x = refl
 
 -- parts have a value exactly where they pass
-pub joined_passes : (parts : Cuts) → passes true parts ≡ is_some (joined_in parts)
+pub joined_passes : (parts : Cuts) → passes parts ≡ is_some (joined_in parts)
 unfolding joined_in
 joined_passes parts = by_kinds (kinds_in parts.names parts.kinds parts.records) refl
   where
     rise : Bool
-    rise = go_up (times_in true (length parts.numbers) parts.times)
+    rise = go_up (times_in parts.wide (length parts.numbers) parts.times)
 
     value : KindValue → List (ℤ × KindValue) → ZoneValue
     value kind shifts = record { first = kind; rest = shifts; footer = parts.footer }
@@ -184,38 +182,38 @@ joined_passes parts = by_kinds (kinds_in parts.names parts.kinds parts.records) 
     all count = list_all (λ number. nat_lt number count) parts.numbers
 
     by_shifts : (kind : KindValue) (kinds : List KindValue) → kinds_in parts.names parts.kinds parts.records ≡ Some (kind ∷ kinds)
-        → (shifts : Option (List (ℤ × KindValue))) → shifts_in (kind ∷ kinds) parts.times parts.numbers ≡ shifts
-        → passes true parts ≡ is_some (option_and_then (λ s. cond (rises s) (Some (value kind s)) None) shifts)
+        → (shifts : Option (List (ℤ × KindValue))) → shifts_in parts.wide (kind ∷ kinds) parts.times parts.numbers ≡ shifts
+        → passes parts ≡ is_some (option_and_then (λ s. cond (rises s) (Some (value kind s)) None) shifts)
     by_shifts kind kinds e shifts f =
         let count : parts.kinds ≡ suc (length kinds) = sym (kinds_count parts.names parts.kinds parts.records (kind ∷ kinds) e) in
-        let numbers = ap all count ∙ sym (shifts_pass (kind ∷ kinds) parts.times parts.numbers) ∙ ap is_some f in
+        let numbers = ap all count ∙ sym (shifts_pass parts.wide (kind ∷ kinds) parts.times parts.numbers) ∙ ap is_some f in
         let some : nat_le 1 parts.kinds ≡ true = grind (arith, nat_tests, count) in
-        let whole : passes true parts ≡ (rise && is_some shifts) =
+        let whole : passes parts ≡ (rise && is_some shifts) =
         (λ i. rise && some i && numbers i && is_some (e i)) ∙ always (rise && true && is_some shifts) ∙ ap (λ t. t && is_some shifts) (always rise) in
         whole ∙ end shifts f
       where
-        end : (shifts : Option (List (ℤ × KindValue))) → shifts_in (kind ∷ kinds) parts.times parts.numbers ≡ shifts
+        end : (shifts : Option (List (ℤ × KindValue))) → shifts_in parts.wide (kind ∷ kinds) parts.times parts.numbers ≡ shifts
             → (rise && is_some shifts) ≡ is_some (option_and_then (λ s. cond (rises s) (Some (value kind s)) None) shifts)
         end None f = never rise
-        end (Some s) f = always rise ∙ ap go_up (sym (shifts_times (kind ∷ kinds) parts.times parts.numbers s f)) ∙ sym (chosen_is (rises s) (value kind s))
+        end (Some s) f = always rise ∙ ap go_up (sym (shifts_times parts.wide (kind ∷ kinds) parts.times parts.numbers s f)) ∙ sym (chosen_is (rises s) (value kind s))
 
-    by_kinds : (kinds : Option (List KindValue)) → kinds_in parts.names parts.kinds parts.records ≡ kinds → passes true parts ≡ is_some (joined_in parts)
+    by_kinds : (kinds : Option (List KindValue)) → kinds_in parts.names parts.kinds parts.records ≡ kinds → passes parts ≡ is_some (joined_in parts)
     by_kinds None e = (λ i. rise && nat_le 1 parts.kinds && all parts.kinds && is_some (e i)) ∙ never (rise && nat_le 1 parts.kinds && all parts.kinds) ∙ rw e refl
     by_kinds (Some []) e =
         let count : parts.kinds ≡ 0 = sym (kinds_count parts.names parts.kinds parts.records [] e) in
         (λ i. rise && nat_le 1 (count i) && all (count i) && is_some (e i)) ∙ always (rise && false && all 0) ∙ ap (λ t. t && all 0) (never rise) ∙ rw e refl
-    by_kinds (Some (kind ∷ kinds)) e = by_shifts kind kinds e (shifts_in (kind ∷ kinds) parts.times parts.numbers) refl ∙ rw e refl
+    by_kinds (Some (kind ∷ kinds)) e = by_shifts kind kinds e (shifts_in parts.wide (kind ∷ kinds) parts.times parts.numbers) refl ∙ rw e refl
 
 footer_kept : (parts : Cuts) (zone : ZoneValue) → joined_in parts ≡ Some zone → zone.footer ≡ parts.footer
 unfolding joined_in
 footer_kept parts zone e =
     let kinds = bind_some _ (kinds_in parts.names parts.kinds parts.records) zone e in
     let first = bind_some _ (slice_get kinds.0 0) zone kinds.2 in
-    let shifts = bind_some _ (shifts_in kinds.0 parts.times parts.numbers) zone first.2 in
+    let shifts = bind_some _ (shifts_in parts.wide kinds.0 parts.times parts.numbers) zone first.2 in
     sym (ap (λ (z : ZoneValue). z.footer) (cond_some (rises shifts.0) _ zone shifts.2).1)
 
 -- and their footer is its footer
-pub joined_footer : (parts : Cuts) (test : Bool) → test ≡ passes true parts → cond test (Some parts.footer) None ≡ option_map (λ zone. zone.footer) (joined_in parts)
+joined_footer : (parts : Cuts) (test : Bool) → test ≡ passes parts → cond test (Some parts.footer) None ≡ option_map (λ zone. zone.footer) (joined_in parts)
 joined_footer parts test is = by_value test (joined_in parts) refl (is ∙ joined_passes parts)
   where
     by_value : (test : Bool) (value : Option ZoneValue) → joined_in parts ≡ value → test ≡ is_some value
@@ -225,11 +223,20 @@ joined_footer parts test is = by_value test (joined_in parts) refl (is ∙ joine
     by_value true None e is = absurd cc
     by_value false None e is = refl
 
-pub zone_footer : (last : ℕ) (bytes : List ℕ) (parts : Cuts) (test : Bool) → Some parts ≡ parts_in last bytes → test ≡ passes true parts
-    → cond test (Some parts.footer) None ≡ option_map (λ zone. zone.footer) (zone_in last bytes)
-unfolding zone_in
-zone_footer last bytes parts test e is = rw (← e) (joined_footer parts test is)
+pub said_footer : (bytes : List ℕ) (parts : Cuts) (test : Bool) → Some parts ≡ said_parts bytes → test ≡ passes parts
+    → cond test (Some parts.footer) None ≡ option_map (λ zone. zone.footer) (said_in bytes)
+unfolding said_in
+said_footer bytes parts test e is = rw (← e) (joined_footer parts test is)
 
-pub zone_none : (last : ℕ) (bytes : List ℕ) → None ≡ parts_in last bytes → None ≡ option_map (λ zone. zone.footer) (zone_in last bytes)
-unfolding zone_in
-zone_none last bytes e = rw (← e) refl
+pub said_none : (bytes : List ℕ) → None ≡ said_parts bytes → None ≡ option_map (λ zone. zone.footer) (said_in bytes)
+unfolding said_in
+said_none bytes e = rw (← e) refl
+
+-- want of memory is told where they have a value
+pub wanting : (parts : Cuts) (test : Bool) → test ≡ passes parts → FaultsExactly (cond test NoMemory Refused) (joined_in parts)
+wanting parts true is = is ∙ joined_passes parts
+wanting parts false is = none_where (joined_in parts) (is ∙ joined_passes parts)
+  where
+    none_where : {A : Type 0} (o : Option A) → false ≡ is_some o → None ≡ o
+    none_where None e = refl
+    none_where (Some x) e = absurd cc

@@ -5,7 +5,7 @@ use Rattle.std.specs.Prelude.{codes}
 use Rattle.std.specs.Str.{is_utf8, chars}
 use Rattle.zone_tzif_core.specs.Format.{header_of, begins_well, block_len, suits}
 use Rattle.zone_tzif_core.specs.Numbers.{count_of, four_of, eight_of, count_bytes, four_bytes, eight_bytes}
-use Rattle.zone_tzif_core.specs.Reading.{cut, header_at, text_in, between, footer_in, second_in, parts_in, before_zero, name_in, kind_in, kinds_in, shifts_in, joined_in, zone_in}
+use Rattle.zone_tzif_core.specs.Reading.{cut, header_at, text_in, between, footer_in, block_in, second_in, parts_in, before_zero, name_in, kind_in, kinds_in, shifts_in, joined_in, zone_in}
 use Rattle.zone_tzif_core.specs.Tzif.{kinds_of, names_of, name_bytes, name_place, kind_number, header_bytes, record_bytes, block_bytes, tzif}
 use Rattle.zone_tzif_core.specs.Zones.{KindValue, ZoneValue}
 
@@ -58,5 +58,5 @@ of_version version = patched (patched fixed_file 4 version) 55 version
 
 read_back : map (zone_in 52) (fixed_file ∷ changing_file ∷ of_version 51 ∷ of_version 52 ∷ patched fixed_file 5 1 ∷ patched fixed_file 44 9 ∷ [])
     ≡ Some fixed ∷ Some changing ∷ Some fixed ∷ Some fixed ∷ Some fixed ∷ Some fixed ∷ []
-unfolding zone_in parts_in joined_in second_in footer_in between text_in header_at cut header_of begins_well block_len suits kinds_in shifts_in kind_in name_in before_zero count_of four_of eight_of is_utf8 chars encode
+unfolding zone_in parts_in joined_in block_in second_in footer_in between text_in header_at cut header_of begins_well block_len suits kinds_in shifts_in kind_in name_in before_zero count_of four_of eight_of is_utf8 chars encode
 read_back = refl

@@ -1,11 +1,11 @@
 -- The parts of a file, as the code cuts them.
-use Rattle.std.specs.Prelude.{ℕ, zero, suc, ℤ, ◌+◌, ◌-◌, ◌*◌, ◌==◌, ◌&&◌, List, [], ◌∷◌, ◌++◌, length, take, drop, Option, Some, None, option_map, option_and_then, nat_le, if◌then◌else◌, slice_index, slice_get, slice_range, position}
+use Rattle.std.specs.Prelude.{◌≡◌, ℕ, zero, suc, ℤ, Bool, true, false, ◌+◌, ◌-◌, ◌*◌, ◌==◌, ◌&&◌, List, [], ◌∷◌, length, take, drop, Option, Some, None, option_map, option_and_then, nat_le, if◌then◌else◌, slice_index, slice_get, slice_range, position}
 use Rattle.std.specs.Str.{is_utf8}
 use Rattle.std.specs.Borrow.{Bor}
 use Rattle.zone_tzif_core.specs.declared.header.Header.{Header}
 use Rattle.zone_tzif_core.specs.declared.parts.Parts.{Parts}
 use Rattle.zone_tzif_core.specs.Format.{begins_well, header_of, block_len, suits, is_only, is_one_line}
-use Rattle.zone_tzif_core.specs.Numbers.{four_of, eight_of, eight_bytes}
+use Rattle.zone_tzif_core.specs.Numbers.{four_of, eight_of}
 use Rattle.zone_tzif_core.specs.Zones.{KindValue, ZoneValue, is_small, rises}
 
 infixl 10 ◌>>=◌
@@ -42,8 +42,18 @@ footer_in bytes = do
   inner ← between bytes
   if is_one_line inner then text_in inner else None
 
--- the parts of the second block, and the footer
+-- the bytes of a time: eight, or four in a file of version 1
+abbrev pub time_size : Bool → ℕ
+time_size true = 8
+time_size false = 4
+
+abbrev pub time_of : Bool → List ℕ → ℤ
+time_of true = eight_of
+time_of false = four_of
+
+-- the parts of a block, and the footer
 pub record Cuts : Type 0 where
+  pub wide : Bool
   pub kinds : ℕ
   pub times : List ℕ
   pub numbers : List ℕ
@@ -52,25 +62,56 @@ pub record Cuts : Type 0 where
   pub footer : List ℕ
 
 abbrev pub parts_shown : Parts → Cuts
-parts_shown p = record { kinds = p.kinds; times = p.times.now; numbers = p.numbers.now; records = p.records.now; names = p.names.now; footer = p.footer.now }
+parts_shown p = record {
+  wide = p.wide;
+  kinds = p.kinds;
+  times = p.times.now;
+  numbers = p.numbers.now;
+  records = p.records.now;
+  names = p.names.now;
+  footer = p.footer.now;
+}
 
-unfoldable pub second_in : Header → List ℕ → Option Cuts
-second_in h bytes = do
-  times ← cut (8 * h.time) bytes
+-- six bytes for each kind, and a time for each number
+pub record AreCounted (parts : Cuts) : Type 0 where
+  pub records : length parts.records ≡ 6 * parts.kinds
+  pub times : length parts.times ≡ time_size parts.wide * length parts.numbers
+
+-- what follows a block: the footer, or nothing in a file of version 1
+abbrev pub end_in : Bool → List ℕ → Option (List ℕ)
+end_in true bytes = footer_in bytes
+end_in false [] = Some []
+end_in false (c ∷ bytes) = None
+
+-- the block of a header, and what follows it
+unfoldable pub block_in : Bool → Header → List ℕ → Option Cuts
+block_in wide h bytes = do
+  times ← cut (time_size wide * h.time) bytes
   numbers ← cut h.time times.1
   records ← cut (6 * h.kind) numbers.1
   names ← cut h.char records.1
   flags ← cut (h.isstd + h.isut) names.1
-  footer ← footer_in flags.1
-  Some (record { kinds = h.kind; times = times.0; numbers = numbers.0; records = records.0; names = names.0; footer = footer })
+  footer ← end_in wide flags.1
+  Some (record { wide = wide; kinds = h.kind; times = times.0; numbers = numbers.0; records = records.0; names = names.0; footer = footer })
 
--- of a whole file, of a version up to the last one
+-- what follows the first of two headers, of a version up to the last one
+unfoldable pub second_in : ℕ → Header → List ℕ → Option Cuts
+second_in last first bytes = do
+  block ← cut (block_len first) bytes
+  second ← header_at block.1
+  if suits last first.version second.0 then block_in true second.0 second.1 else None
+
+-- a whole file of two headers
 unfoldable pub parts_in : ℕ → List ℕ → Option Cuts
 parts_in last bytes = do
   first ← header_at bytes
-  block ← cut (block_len first.0) first.1
-  second ← header_at block.1
-  if suits last first.0.version second.0 then second_in second.0 second.1 else None
+  second_in last first.0 first.1
+
+-- a whole file of any version
+unfoldable pub said_parts : List ℕ → Option Cuts
+said_parts bytes = do
+  first ← header_at bytes
+  if is_only first.0 then block_in false first.0 first.1 else second_in 255 first.0 first.1
 
 -- the bytes before the first zero
 unfoldable pub before_zero : List ℕ → Option (List ℕ)
@@ -99,49 +140,29 @@ kinds_in names (suc n) bytes = do
   Some (kind ∷ kinds)
 
 -- the times with their kinds, by the kinds' numbers
-unfoldable pub shifts_in : List KindValue → List ℕ → List ℕ → Option (List (ℤ × KindValue))
-shifts_in kinds times [] = Some []
-shifts_in kinds times (number ∷ numbers) = do
+unfoldable pub shifts_in : Bool → List KindValue → List ℕ → List ℕ → Option (List (ℤ × KindValue))
+shifts_in wide kinds times [] = Some []
+shifts_in wide kinds times (number ∷ numbers) = do
   kind ← slice_get kinds number
-  shifts ← shifts_in kinds (drop 8 times) numbers
-  Some ((eight_of (take 8 times), kind) ∷ shifts)
+  shifts ← shifts_in wide kinds (drop (time_size wide) times) numbers
+  Some ((time_of wide (take (time_size wide) times), kind) ∷ shifts)
 
 -- the value of the parts
 unfoldable pub joined_in : Cuts → Option ZoneValue
 joined_in parts = do
   kinds ← kinds_in parts.names parts.kinds parts.records
   first ← slice_get kinds 0
-  shifts ← shifts_in kinds parts.times parts.numbers
+  shifts ← shifts_in parts.wide kinds parts.times parts.numbers
   if rises shifts then Some (record { first = first; rest = shifts; footer = parts.footer }) else None
 
--- the value that a whole file is read as
+-- the value that a whole file is read as, of two headers
 unfoldable pub zone_in : ℕ → List ℕ → Option ZoneValue
 zone_in last bytes = do
   parts ← parts_in last bytes
   joined_in parts
 
--- the block of version 2, with an empty footer, that a block with so many times of four bytes is
-unfoldable pub widened : ℕ → List ℕ → List ℕ
-widened zero block = block ++ 10 ∷ 10 ∷ []
-widened (suc n) block = eight_bytes (four_of (take 4 block)) ++ widened n (drop 4 block)
-
--- the header and the block of a file of version 1
-unfoldable pub old_at : List ℕ → Option (Header × List ℕ)
-old_at bytes = do
-  file ← header_at bytes
-  if is_only file.0 && length file.1 == block_len file.0 then Some file else None
-
--- the value that such a block is read as
-unfoldable pub old_in : Header → List ℕ → Option ZoneValue
-old_in h block = do
-  parts ← second_in h (widened h.time block)
-  joined_in parts
-
--- the value of a file, if it is of version 1, or of another one
-abbrev pub said_by : List ℕ → Option (Header × List ℕ) → Option ZoneValue
-said_by bytes (Some file) = old_in file.0 file.1
-said_by bytes None = zone_in 255 bytes
-
--- the value that a whole file of any version is read as
+-- and of any version
 unfoldable pub said_in : List ℕ → Option ZoneValue
-said_in bytes = said_by bytes (old_at bytes)
+said_in bytes = do
+  parts ← said_parts bytes
+  joined_in parts

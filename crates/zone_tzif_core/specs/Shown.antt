@@ -1,6 +1,6 @@
 -- What the values of the code show.
 use Rattle.std.specs.Borrow.{Bor}
-use Rattle.std.specs.Prelude.{◌≡◌, ℕ, ℤ, List, map, Option, Some, None, Result, Ok, Err, string_bytes}
+use Rattle.std.specs.Prelude.{◌≡◌, ℕ, ℤ, true, List, map, Option, Some, None, is_some, Result, Ok, Err, string_bytes}
 use Rattle.zone_tzif_core.specs.Zones.{KindValue, ZoneValue}
 use Rattle.zone_tzif_core.specs.declared.values.Kind.{Kind}
 use Rattle.zone_tzif_core.specs.declared.values.TzifZone.{TzifZone}
@@ -13,19 +13,6 @@ kind_shown kind = record { utoff = kind.utoff; is_dst = kind.is_dst; name = stri
 
 abbrev pub record_shown : Record → KindValue
 record_shown kind = record { utoff = kind.utoff; is_dst = kind.is_dst; name = kind.name.now }
-
-abbrev pub kinds_shown : List Kind → List KindValue
-kinds_shown kinds = map kind_shown kinds
-
-abbrev pub records_shown : List Record → List KindValue
-records_shown kinds = map record_shown kinds
-
--- a change whose kind is still in the file
-abbrev pub found_shown : (ℤ × Record) → ℤ × KindValue
-found_shown shift = (shift.0, record_shown shift.1)
-
-abbrev pub all_found : List (ℤ × Record) → List (ℤ × KindValue)
-all_found shifts = map found_shown shifts
 
 abbrev pub shift_shown : (ℤ × Kind) → ℤ × KindValue
 shift_shown shift = (shift.0, kind_shown shift.1)
@@ -46,11 +33,23 @@ abbrev pub TellsFound : {V W : Type 0} → (V → W) → Result V ReadFault → 
 TellsFound shown (Ok value) answer = Some (shown value) ≡ answer
 TellsFound shown (Err fault) answer = Faults fault answer
 
+-- the same, and it had no memory only where there is something
+abbrev pub FaultsExactly : {W : Type 0} → ReadFault → Option W → Type 0
+FaultsExactly Refused answer = None ≡ answer
+FaultsExactly NoMemory answer = true ≡ is_some answer
+
+abbrev pub TellsExactly : {V W : Type 0} → (V → W) → Result V ReadFault → Option W → Type 0
+TellsExactly shown (Ok value) answer = Some (shown value) ≡ answer
+TellsExactly shown (Err fault) answer = FaultsExactly fault answer
+
 -- the value of the result is what the bytes are, no value is where they are refused, and some value is where memory was wanting
+abbrev pub ReadsAs : {V : Type 0} → (V → ZoneValue) → (ZoneValue → Type 0) → Result V ReadFault → Type 0
+ReadsAs shown Is (Ok zone) = Is (shown zone)
+ReadsAs shown Is (Err Refused) = (zone : ZoneValue) → ¬ (Is zone)
+ReadsAs shown Is (Err NoMemory) = (zone : ZoneValue) × Is zone
+
 abbrev pub Reads : (ZoneValue → Type 0) → Result TzifZone ReadFault → Type 0
-Reads Is (Ok zone) = Is (zone_shown zone)
-Reads Is (Err Refused) = (zone : ZoneValue) → ¬ (Is zone)
-Reads Is (Err NoMemory) = (zone : ZoneValue) × Is zone
+Reads = ReadsAs zone_shown
 
 -- kinds and names that are borrowed
 abbrev pub kinds_seen : List (Bor Kind) → List KindValue

@@ -1,9 +1,9 @@
 -- What is seen of a zone whose kinds are kept once.
-use Rattle.std.specs.Prelude.{◌≡◌, ℕ, ℤ, pos, false, List, [], map, Result, Ok, Err, slice_index_or, string_bytes}
+use Rattle.std.specs.Prelude.{◌≡◌, ℕ, ℤ, pos, false, List, [], map, Result, slice_index_or, string_bytes}
+use Rattle.zone_tzif_core.specs.Shown.{ReadsAs}
 use Rattle.zone_tzif_core.specs.Stored.{stored_kind}
 use Rattle.zone_tzif_core.specs.Zones.{KindValue, ZoneValue}
 use Rattle.zone_tzif_core.specs.declared.values.ReadFault.{ReadFault}
-use Rattle.zone_tzif_core.specs.declared.values.ReadFault.TheVariants.{Refused, NoMemory}
 use Rattle.zone_tzif_core.specs.declared.zone_file.ZoneFile.{ZoneFile}
 
 -- what a number past all kinds would stand for: no change has one
@@ -30,11 +30,9 @@ kinds_kept file = map (stored_kind file.names.items) file.kinds.items
 abbrev pub zone_seen : ZoneFile → ZoneValue
 zone_seen file = file_with (kinds_kept file) file.changes.items (string_bytes file.footer)
 
--- the zone of the result is what the bytes are, none is where they are refused, and some zone is where memory was wanting
+-- a zone of the result is what the bytes are
 abbrev pub ReadsFile : (ZoneValue → Type 0) → Result ZoneFile ReadFault → Type 0
-ReadsFile Is (Ok file) = Is (zone_seen file)
-ReadsFile Is (Err Refused) = (zone : ZoneValue) → ¬ (Is zone)
-ReadsFile Is (Err NoMemory) = (zone : ZoneValue) × Is zone
+ReadsFile = ReadsAs zone_seen
 
 -- a zone that the bytes are has this footer
 pub record HasFooter (Is : ZoneValue → Type 0) (footer : List ℕ) : Type 0 where

@@ -1,28 +1,22 @@
 //! Files as they are looked up.
-ghost use Rattle.std.specs.Prelude.{◌≡◌, ◌*◌, ◌<◌, ◌≤◌, ℕ, List, length, map, IfOk};
+ghost use Rattle.std.specs.Prelude.{◌≡◌, ◌*◌, ◌<◌, ◌≤◌, ℕ, List, length, map, option_and_then, option_map, IfOk, IfSome};
 ghost use Rattle.zone_tzif_core.specs.Denotes.{Says};
 ghost use Rattle.zone_tzif_core.specs.Names.{AreNames};
-ghost use Rattle.zone_tzif_core.specs.Reading.{kind_in, kinds_in, shifts_in, joined_in, old_in, said_in, zone_in, parts_shown};
-ghost use Rattle.zone_tzif_core.specs.Shown.{TellsFound};
+ghost use Rattle.zone_tzif_core.specs.Reading.{joined_in, kind_in, kinds_in, parts_shown, shifts_in, time_size, AreCounted};
+ghost use Rattle.zone_tzif_core.specs.Shown.{TellsExactly, TellsFound};
 ghost use Rattle.zone_tzif_core.specs.Stored.{stored_kind, AreNumbered, AreStored, IsStored};
 ghost use Rattle.zone_tzif_core.specs.ZoneFiles.{changes_with, file_with, zone_seen, ReadsFile};
 ghost use Rattle.zone_tzif_core.specs.Zones.{KindValue};
 
-use crate::check::{said_footer, wanting};
-use crate::header::Header;
+use crate::check::wanting;
 use crate::kinds::kind;
 use crate::names::name_table;
-use crate::numbers::signed_eight;
-use crate::old_file::{old_block, widened};
-use crate::parts::{Parts, cut_parts, second};
+use crate::parts::{Parts, said_parts, time_at};
 use crate::shifts::do_rise;
 use crate::stored::Stored;
 use crate::values::ReadFault;
 use crate::zone_file::ZoneFile;
 use std::alloc::{AllocError, Global};
-
-/// The last version that is taken: a version later than 4 is read as that.
-const LAST_VERSION: u8 = 255;
 
 /// The kind that a record of six bytes is, with the place of its name.
 fn stored<'a>(names: &'a [u8], table: &[Option<&'a str>], bytes: &[u8]) -> Result<Stored, ReadFault>
@@ -64,12 +58,13 @@ fn read_stored<'a>(
 fn read_changes(
     alloc: Global,
     count: usize,
+    wide: bool,
     times: &[u8],
     numbers: &[u8],
 ) -> Result<Vec<(i64, u8)>, ReadFault>
-    requires { length times.now ≡ 8 * length numbers.now }
+    requires { length times.now ≡ time_size wide * length numbers.now }
     ensures told { (kinds : List KindValue) → length kinds ≡ count
-        → TellsFound (λ changes. changes_with kinds changes.items) result (shifts_in kinds times.now numbers.now) }
+        → TellsFound (λ changes. changes_with kinds changes.items) result (shifts_in wide kinds times.now numbers.now) }
     ensures numbered { IfOk result (λ changes. AreNumbered count changes.items) }
 {
     let mut changes = Vec::new(alloc);
@@ -77,7 +72,7 @@ fn read_changes(
         if count <= *number as usize {
             return Err(ReadFault::Refused);
         }
-        changes.push((signed_eight(&times[8 * i..8 * i + 8]), *number))?;
+        changes.push((time_at(wide, times, i), *number))?;
     }
     Ok(changes)
 }
@@ -115,8 +110,7 @@ fn zone_file(
 /// The zone of the parts.
 #[tactic(auto, unfolding(crate::specs::Reading::joined_in))]
 fn joined(alloc: Global, parts: &Parts) -> Result<ZoneFile, ReadFault>
-    requires records { length parts.now.records.now ≡ 6 * parts.now.kinds }
-    requires times { length parts.now.times.now ≡ 8 * length parts.now.numbers.now }
+    requires { AreCounted (parts_shown parts.now) }
     ensures { TellsFound zone_seen result (joined_in (parts_shown parts.now)) }
 {
     let table = name_table(parts.names);
@@ -130,7 +124,8 @@ fn joined(alloc: Global, parts: &Parts) -> Result<ZoneFile, ReadFault>
     if kinds.as_slice().is_empty() {
         return Err(ReadFault::Refused);
     }
-    let changes = read_changes(alloc, kinds.as_slice().len(), parts.times, parts.numbers)?;
+    let count = kinds.as_slice().len();
+    let changes = read_changes(alloc, count, parts.wide, parts.times, parts.numbers)?;
     let rises = do_rise(changes.as_slice());
     if !rises {
         return Err(ReadFault::Refused);
@@ -138,38 +133,18 @@ fn joined(alloc: Global, parts: &Parts) -> Result<ZoneFile, ReadFault>
     Ok(zone_file(alloc, parts.names, kinds, changes, parts.footer)?)
 }
 
-/// The zone that a file is read as.
-#[tactic(auto, unfolding(crate::specs::Reading::zone_in))]
-fn file_in(alloc: Global, bytes: &[u8]) -> Result<ZoneFile, ReadFault>
-    ensures { TellsFound zone_seen result (zone_in 255 bytes.now) }
+/// The zone of the parts of a file, if it has any.
+pub(crate) fn zone_of(alloc: Global, parts: Option<Parts<'_>>) -> Result<ZoneFile, ReadFault>
+    requires { IfSome parts (λ parts. AreCounted (parts_shown parts)) }
+    ensures { TellsExactly zone_seen result (option_and_then joined_in (option_map parts_shown parts.entry)) }
 {
-    match cut_parts(bytes, LAST_VERSION) {
-        Some(parts) => joined(alloc, &parts),
+    match parts {
+        Some(parts) => match joined(alloc, &parts) {
+            Ok(zone) => Ok(zone),
+            Err(ReadFault::Refused) => Err(ReadFault::Refused),
+            Err(ReadFault::NoMemory) => Err(wanting(&parts)),
+        },
         None => Err(ReadFault::Refused),
-    }
-}
-
-/// The zone that the block of a file of version 1 is read as.
-#[tactic(auto, unfolding(crate::specs::Reading::old_in))]
-fn old_file(alloc: Global, header: &Header, block: &[u8]) -> Result<ZoneFile, ReadFault>
-    requires { 4 * header.now.time ≤ length block.now }
-    ensures { TellsFound zone_seen result (old_in header.now block.now) }
-{
-    let wide = widened(alloc, header.time, block)?;
-    match second(header, wide.as_slice()) {
-        Some(parts) => joined(alloc, &parts),
-        None => Err(ReadFault::Refused),
-    }
-}
-
-/// The zone that a file of any version is read as.
-#[tactic(auto, unfolding(crate::specs::Reading::said_in))]
-fn said_in(alloc: Global, bytes: &[u8]) -> Result<ZoneFile, ReadFault>
-    ensures { TellsFound zone_seen result (said_in bytes.now) }
-{
-    match old_block(bytes) {
-        Some((header, block)) => old_file(alloc, &header, block),
-        None => file_in(alloc, bytes),
     }
 }
 
@@ -187,9 +162,5 @@ fn said_in(alloc: Global, bytes: &[u8]) -> Result<ZoneFile, ReadFault>
 pub fn read_file(alloc: Global, bytes: &[u8]) -> Result<ZoneFile, ReadFault>
     ensures exact { ReadsFile (Says bytes.now) result }
 {
-    match said_in(alloc, bytes) {
-        Ok(zone) => Ok(zone),
-        Err(ReadFault::Refused) => Err(ReadFault::Refused),
-        Err(ReadFault::NoMemory) => Err(wanting(said_footer(bytes))),
-    }
+    zone_of(alloc, said_parts(bytes))
 }

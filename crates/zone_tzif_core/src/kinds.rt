@@ -1,14 +1,13 @@
 //! The kinds of a block.
-ghost use Rattle.std.specs.Prelude.{◌≡◌, ◌*◌, ◌≤◌, length, option_map, IfOk, string_bytes};
+ghost use Rattle.std.specs.Prelude.{◌≡◌, ◌≤◌, length, option_map};
 ghost use Rattle.zone_tzif_core.specs.Zones.{is_small};
 ghost use Rattle.zone_tzif_core.specs.Names.{AreNames};
-ghost use Rattle.zone_tzif_core.specs.Reading.{kind_in, kinds_in};
-ghost use Rattle.zone_tzif_core.specs.Shown.{kind_shown, record_shown, records_shown, TellsFound};
+ghost use Rattle.zone_tzif_core.specs.Reading.{kind_in};
+ghost use Rattle.zone_tzif_core.specs.Shown.{record_shown, TellsFound};
 
 use crate::names::name_at;
 use crate::numbers::signed_four;
-use crate::values::{Kind, ReadFault};
-use std::alloc::{AllocError, Global};
+use crate::values::ReadFault;
 
 /// A kind as its record says it. Its name is lent.
 #[derive(Clone, Copy, Debug)]
@@ -55,17 +54,6 @@ pub(crate) fn read_record<'a>(
     })
 }
 
-/// The kind that owns its name.
-pub(crate) fn owned(alloc: Global, kind: Record<'_>) -> Result<Kind, AllocError>
-    ensures { IfOk result (λ owned. kind_shown owned ≡ record_shown kind.entry) }
-{
-    Ok(Kind {
-        utoff: kind.utoff,
-        is_dst: kind.is_dst,
-        name: String::from_str(alloc, kind.name)?,
-    })
-}
-
 /// The kind that a record is, or a refusal.
 pub(crate) fn kind<'a>(
     names: &'a [u8],
@@ -80,24 +68,4 @@ pub(crate) fn kind<'a>(
         Some(record) => Ok(record),
         None => Err(ReadFault::Refused),
     }
-}
-
-/// The kinds that the records are. Their names stay in the file, so that records that no time uses cost no more than their
-/// six bytes.
-pub(crate) fn read_kinds<'a>(
-    alloc: Global,
-    names: &'a [u8],
-    table: &[Option<&'a str>],
-    count: u32,
-    records: &[u8],
-) -> Result<Vec<Record<'a>>, ReadFault>
-    requires records { length records.now ≡ 6 * count }
-    requires names { AreNames names.now table.now }
-    ensures { TellsFound (λ kinds. records_shown kinds.items) result (kinds_in names.now count records.now) }
-{
-    let mut kinds = Vec::new(alloc);
-    for i in 0..count as usize {
-        kinds.push(kind(names, table, &records[6 * i..6 * i + 6])?)?;
-    }
-    Ok(kinds)
 }

@@ -9,7 +9,6 @@ mod kinds;
 mod laws;
 mod names;
 mod numbers;
-mod old_file;
 mod parts;
 mod profile;
 mod reader;

@@ -1,13 +1,19 @@
 //! The parts of a file.
-ghost use Rattle.std.specs.Prelude.{◌≡◌, ◌*◌, length, option_map, IfSome};
+ghost use Rattle.std.specs.Prelude.{◌≡◌, ◌*◌, ◌+◌, ◌≤◌, drop, length, option_map, take, IfSome};
 ghost use Rattle.zone_tzif_core.specs.Format.{is_one_line, is_only, is_sound, block_len, suits};
-ghost use Rattle.zone_tzif_core.specs.Reading.{parts_shown, parts_in, second_in, footer_in, between, text_in};
+ghost use Rattle.zone_tzif_core.specs.Reading.{between, block_in, end_in, footer_in, parts_in, parts_shown, said_parts, second_in, text_in, time_of, time_size, AreCounted};
 
 use crate::header::{Header, cut, read_header};
+use crate::numbers::{signed_eight, signed_four};
 
-/// The parts of the second block, and the footer.
+/// The last version that is taken: a version later than 4 is read as that.
+const LAST_VERSION: u8 = 255;
+
+/// The parts of a block, and the footer.
 #[derive(Drop)]
 pub(crate) struct Parts<'a> {
+    /// Whether a time has eight bytes; in a file of version 1 it has four.
+    pub wide: bool,
     pub kinds: u32,
     pub times: &'a [u8],
     pub numbers: &'a [u8],
@@ -18,7 +24,7 @@ pub(crate) struct Parts<'a> {
 
 /// How many bytes a first block takes.
 #[tactic(auto, unfolding(crate::specs::Format::block_len))]
-pub(crate) fn block_len(header: &Header) -> usize
+fn block_len(header: &Header) -> usize
     ensures { result ≡ block_len header.now }
 {
     let (isut, isstd) = (header.isut as usize, header.isstd as usize);
@@ -40,7 +46,7 @@ fn is_sound(header: &Header) -> bool
 
 /// Whether a header is the only one of its file: that of version 1, whose byte is zero.
 #[tactic(auto, unfolding(crate::specs::Format::is_only))]
-pub(crate) fn is_only(header: &Header) -> bool
+fn is_only(header: &Header) -> bool
     ensures { result ≡ is_only header.now }
 {
     header.version == 0 && is_sound(header)
@@ -94,20 +100,56 @@ fn footer(bytes: &[u8]) -> Option<&str>
     }
 }
 
-/// The parts of a second block and what follows it.
-#[tactic(auto, unfolding(crate::specs::Reading::second_in))]
-pub(crate) fn second<'a>(header: &Header, bytes: &'a [u8]) -> Option<Parts<'a>>
-    ensures parts { option_map parts_shown result ≡ second_in header.now bytes.now }
-    ensures records { IfSome result (λ parts. length parts.records.now ≡ 6 * parts.kinds) }
-    ensures times { IfSome result (λ parts. length parts.times.now ≡ 8 * length parts.numbers.now) }
+/// The footer that the bytes are after a block: in a file of version 1 there is none.
+fn ending(wide: bool, bytes: &[u8]) -> Option<&str>
+    ensures { option_map (λ text. text.now) result ≡ end_in wide bytes.now }
 {
-    let (times, rest) = cut(bytes, 8 * header.time as usize)?;
+    if wide {
+        footer(bytes)
+    } else if bytes.is_empty() {
+        Some("")
+    } else {
+        None
+    }
+}
+
+/// How many bytes so many times take.
+fn times_len(wide: bool, count: u32) -> usize
+    ensures { result ≡ time_size wide * count }
+{
+    if wide {
+        8 * count as usize
+    } else {
+        4 * count as usize
+    }
+}
+
+/// The time at a place.
+pub(crate) fn time_at(wide: bool, times: &[u8], place: usize) -> i64
+    requires { time_size wide * place + time_size wide ≤ length times.now }
+    ensures { result ≡ time_of wide (take (time_size wide) (drop (time_size wide * place) times.now)) }
+{
+    if wide {
+        signed_eight(&times[8 * place..8 * place + 8])
+    } else {
+        signed_four(&times[4 * place..4 * place + 4]) as i64
+    }
+}
+
+/// The parts of the block of a header, and of what follows it.
+#[tactic(auto, unfolding(crate::specs::Reading::block_in))]
+fn block<'a>(wide: bool, header: &Header, bytes: &'a [u8]) -> Option<Parts<'a>>
+    ensures parts { option_map parts_shown result ≡ block_in wide header.now bytes.now }
+    ensures counted { IfSome result (λ parts. AreCounted (parts_shown parts)) }
+{
+    let (times, rest) = cut(bytes, times_len(wide, header.time))?;
     let (numbers, rest) = cut(rest, header.time as usize)?;
     let (records, rest) = cut(rest, 6 * header.kind as usize)?;
     let (names, rest) = cut(rest, header.char as usize)?;
     let (_, rest) = cut(rest, header.isstd as usize + header.isut as usize)?;
-    let footer = footer(rest)?;
+    let footer = ending(wide, rest)?;
     Some(Parts {
+        wide,
         kinds: header.kind,
         times,
         numbers,
@@ -117,18 +159,41 @@ pub(crate) fn second<'a>(header: &Header, bytes: &'a [u8]) -> Option<Parts<'a>>
     })
 }
 
-/// The parts of a whole file, of a version up to the last one.
+/// The parts of what follows the first of two headers, of a version up to the last one.
+#[tactic(auto, unfolding(crate::specs::Reading::second_in))]
+fn second<'a>(last: u8, first: &Header, bytes: &'a [u8]) -> Option<Parts<'a>>
+    ensures parts { option_map parts_shown result ≡ second_in last first.now bytes.now }
+    ensures counted { IfSome result (λ parts. AreCounted (parts_shown parts)) }
+{
+    let (_, rest) = cut(bytes, block_len(first))?;
+    let (header, rest) = read_header(rest)?;
+    if suits(last, first.version, &header) {
+        block(true, &header, rest)
+    } else {
+        None
+    }
+}
+
+/// The parts of a whole file of two headers, of a version up to the last one.
 #[tactic(auto, unfolding(crate::specs::Reading::parts_in))]
 pub(crate) fn cut_parts(bytes: &[u8], last: u8) -> Option<Parts<'_>>
     ensures parts { option_map parts_shown result ≡ parts_in last bytes.now }
-    ensures records { IfSome result (λ parts. length parts.records.now ≡ 6 * parts.kinds) }
-    ensures times { IfSome result (λ parts. length parts.times.now ≡ 8 * length parts.numbers.now) }
+    ensures counted { IfSome result (λ parts. AreCounted (parts_shown parts)) }
 {
     let (first, rest) = read_header(bytes)?;
-    let (_, rest) = cut(rest, block_len(&first))?;
-    let (header, rest) = read_header(rest)?;
-    if !suits(last, first.version, &header) {
-        return None;
+    second(last, &first, rest)
+}
+
+/// The parts of a whole file of any version.
+#[tactic(auto, unfolding(crate::specs::Reading::said_parts))]
+pub(crate) fn said_parts(bytes: &[u8]) -> Option<Parts<'_>>
+    ensures parts { option_map parts_shown result ≡ said_parts bytes.now }
+    ensures counted { IfSome result (λ parts. AreCounted (parts_shown parts)) }
+{
+    let (first, rest) = read_header(bytes)?;
+    if is_only(&first) {
+        block(false, &first, rest)
+    } else {
+        second(LAST_VERSION, &first, rest)
     }
-    second(&header, rest)
 }

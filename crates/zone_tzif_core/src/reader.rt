@@ -1,66 +1,57 @@
 //! Files as other compilers write them.
-ghost use Rattle.std.specs.Prelude.{◌≡◌, ◌*◌, length, IfOk, string_bytes};
+ghost use Rattle.std.specs.Prelude.{◌≡◌, ◌<◌, pos, length, slice_index_or, IfOk};
 ghost use Rattle.zone_tzif_core.specs.Denotes.{Denotes};
-ghost use Rattle.zone_tzif_core.specs.Reading.{zone_in, joined_in, parts_shown};
-ghost use Rattle.zone_tzif_core.specs.Shown.{record_shown, all_found, zone_shown, TellsFound, Reads};
+ghost use Rattle.zone_tzif_core.specs.Shown.{kind_shown, record_shown, shift_shown, shifts_shown, zone_shown, Reads};
+ghost use Rattle.zone_tzif_core.specs.ZoneFiles.{change_with, kinds_kept, zone_seen};
 
-use crate::check::{wanting, zone_footer};
-use crate::kinds::{Record, owned, read_kinds};
-use crate::names::name_table;
-use crate::parts::{Parts, cut_parts};
-use crate::shifts::{found_rise, numbered, owned_shifts, read_shifts};
-use crate::values::{ReadFault, TzifZone};
+use crate::file_reader::zone_of;
+use crate::kinds::Record;
+use crate::parts::cut_parts;
+use crate::values::{Kind, ReadFault, TzifZone};
+use crate::zone_file::ZoneFile;
 use std::alloc::{AllocError, Global};
 
-/// The zone of a first kind, changes and a footer that are still in the file.
-fn owned_zone(
-    alloc: Global,
-    first: Record<'_>,
-    shifts: &[(i64, Record<'_>)],
-    footer: &str,
-) -> Result<TzifZone, AllocError>
-    ensures { IfOk result (λ zone. zone_shown zone ≡ record { first = record_shown first.entry; rest = all_found shifts.now; footer = footer.now }) }
+/// The kind that owns its name.
+fn owned(alloc: Global, kind: Record<'_>) -> Result<Kind, AllocError>
+    ensures { IfOk result (λ owned. kind_shown owned ≡ record_shown kind.entry) }
 {
-    Ok(TzifZone {
-        first: owned(alloc, first)?,
-        rest: owned_shifts(alloc, shifts)?,
-        footer: String::from_str(alloc, footer)?,
+    Ok(Kind {
+        utoff: kind.utoff,
+        is_dst: kind.is_dst,
+        name: String::from_str(alloc, kind.name)?,
     })
 }
 
-/// The zone of the parts. Names are copied only where the times were found to rise.
-#[tactic(auto, unfolding(crate::specs::Reading::joined_in))]
-fn joined(alloc: Global, parts: &Parts) -> Result<TzifZone, ReadFault>
-    requires records { length parts.now.records.now ≡ 6 * parts.now.kinds }
-    requires times { length parts.now.times.now ≡ 8 * length parts.now.numbers.now }
-    ensures { TellsFound zone_shown result (joined_in (parts_shown parts.now)) }
+/// The change at a place, with a kind that owns its name.
+fn owned_change(alloc: Global, file: &ZoneFile, place: usize) -> Result<(i64, Kind), AllocError>
+    requires { place < length file.now.changes.items }
+    ensures { IfOk result (λ change.
+        shift_shown change ≡ change_with (kinds_kept file.now) (slice_index_or file.now.changes.items place (pos 0, 0))) }
 {
-    let table = name_table(parts.names);
-    let kinds = read_kinds(
-        alloc,
-        parts.names,
-        table.as_slice(),
-        parts.kinds,
-        parts.records,
-    )?;
-    let first = numbered(kinds.as_slice(), 0)?;
-    let shifts = read_shifts(alloc, kinds.as_slice(), parts.times, parts.numbers)?;
-    let rises = found_rise(shifts.as_slice());
-    if !rises {
-        return Err(ReadFault::Refused);
-    }
-    Ok(owned_zone(alloc, first, shifts.as_slice(), parts.footer)?)
+    let (time, number) = file.changes[place];
+    Ok((time, owned(alloc, file.kind(number))?))
 }
 
-/// The zone that a file is read as.
-#[tactic(auto, unfolding(crate::specs::Reading::zone_in))]
-fn zone_of(alloc: Global, bytes: &[u8]) -> Result<TzifZone, ReadFault>
-    ensures { TellsFound zone_shown result (zone_in 52 bytes.now) }
+/// The changes with kinds that own their names.
+fn owned_changes(alloc: Global, file: &ZoneFile) -> Result<Vec<(i64, Kind)>, AllocError>
+    ensures { IfOk result (λ changes. shifts_shown changes.items ≡ (zone_seen file.now).rest) }
 {
-    match cut_parts(bytes, b'4') {
-        Some(parts) => joined(alloc, &parts),
-        None => Err(ReadFault::Refused),
+    let mut changes = Vec::new(alloc);
+    for place in 0..file.change_count() {
+        changes.push(owned_change(alloc, file, place)?)?;
     }
+    Ok(changes)
+}
+
+/// The zone that owns a name for each change.
+fn owned_zone(alloc: Global, file: &ZoneFile) -> Result<TzifZone, AllocError>
+    ensures { IfOk result (λ zone. zone_shown zone ≡ zone_seen file.now) }
+{
+    Ok(TzifZone {
+        first: owned(alloc, file.first())?,
+        rest: owned_changes(alloc, file)?,
+        footer: String::from_str(alloc, file.footer())?,
+    })
 }
 
 /// The zone that a file of RFC 8536 denotes, as any compiler writes it, of version 2 to 4 without leap seconds. Nothing
@@ -76,9 +67,8 @@ fn zone_of(alloc: Global, bytes: &[u8]) -> Result<TzifZone, ReadFault>
 pub fn read_any(alloc: Global, bytes: &[u8]) -> Result<TzifZone, ReadFault>
     ensures exact { Reads (Denotes bytes.now) result }
 {
-    match zone_of(alloc, bytes) {
-        Ok(zone) => Ok(zone),
-        Err(ReadFault::Refused) => Err(ReadFault::Refused),
-        Err(ReadFault::NoMemory) => Err(wanting(zone_footer(bytes, b'4'))),
+    match zone_of(alloc, cut_parts(bytes, b'4')) {
+        Ok(file) => Ok(owned_zone(alloc, &file)?),
+        Err(fault) => Err(fault),
     }
 }

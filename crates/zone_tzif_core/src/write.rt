@@ -29,7 +29,7 @@ fn put_four(into: &mut Vec<u8>, number: i32) -> Result<(), AllocError>
 
 /// Puts the eight bytes of a signed number at the end.
 #[tactic(auto, unfolding(crate::specs::Numbers::eight_bytes))]
-pub(crate) fn put_eight(into: &mut Vec<u8>, number: i64) -> Result<(), AllocError>
+fn put_eight(into: &mut Vec<u8>, number: i64) -> Result<(), AllocError>
     ensures { OnOk result (into.new.items ≡ into.old.items ++ eight_bytes number) }
 {
     into.extend_from_slice(&number.to_be_bytes())

@@ -82,7 +82,7 @@ impl ZoneFile {
     }
 
     /// The kind with a number.
-    fn kind(&self, number: u8) -> Record<'_>
+    pub(crate) fn kind(&self, number: u8) -> Record<'_>
         requires { number < length self.now.kinds.items }
         ensures { record_shown result ≡ kind_numbered (kinds_kept self.now) number }
     {

@@ -24,7 +24,7 @@ returns-in_err-changes c =
     let items = c.in_ok-kinds.kinds.items in
     let kinds = map (stored_kind parts.names) items in
     let long : length kinds ≡ length items = length-map items (stored_kind parts.names) in
-    let count = long ∙ sym (ap length c.as_slice-3.ensures.value) in
+    let count = long ∙ sym (ap length c.as_slice-count.ensures.value) in
     let some : 0 < length kinds = grind (arith, nat_tests, c.if-is_empty.ensures, long, ap length c.as_slice-2.ensures.value) in
     let p = err_from_is_err_and c.from_residual-in_err-changes.result c.from_residual-in_err-changes.ensures.1 in
     rw (p.1, p.2) (fault_passes c.in_err-changes.field-0.0 _ _ (c.in_err-changes.ensures.told kinds count)
@@ -36,10 +36,10 @@ returns-then-not-rises c =
     let items = c.in_ok-kinds.kinds.items in
     let kinds = map (stored_kind parts.names) items in
     let long : length kinds ≡ length items = length-map items (stored_kind parts.names) in
-    let count = long ∙ sym (ap length c.as_slice-3.ensures.value) in
+    let count = long ∙ sym (ap length c.as_slice-count.ensures.value) in
     let some : 0 < length kinds = grind (arith, nat_tests, c.if-is_empty.ensures, long, ap length c.as_slice-2.ensures.value) in
-    falling parts kinds c.in_ok-changes.changes.items c.in_ok-kinds.ensures.told some (c.in_ok-changes.ensures.told kinds count)
-    (c.if-not-rises.ensures ∙ ap (λ l. go_up (map (λ change. change.0) l)) c.as_slice-4.ensures.value)
+    falling parts kinds c.in_ok-kinds.ensures.told some c.in_ok-changes.changes.items (c.in_ok-changes.ensures.told kinds count)
+    (c.if-not-rises.ensures ∙ ap (λ l. go_up (map (λ change. change.0) l)) c.as_slice-3.ensures.value)
 
 pub returns : goal.returns
 returns c =
@@ -47,8 +47,7 @@ returns c =
     let items = c.in_ok-kinds.kinds.items in
     let kinds = map (stored_kind parts.names) items in
     let long : length kinds ≡ length items = length-map items (stored_kind parts.names) in
-    let count = long ∙ sym (ap length c.as_slice-3.ensures.value) in
+    let count = long ∙ sym (ap length c.as_slice-count.ensures.value) in
     let some : 0 < length kinds = grind (arith, nat_tests, c.if-is_empty.ensures, long, ap length c.as_slice-2.ensures.value) in
-    rising parts kinds c.in_ok-changes.changes.items (zone_seen c.in_ok-zone_file.field-0) c.in_ok-kinds.ensures.told some
-    (c.in_ok-changes.ensures.told kinds count)
-    (c.if-not-rises.ensures ∙ ap (λ l. go_up (map (λ change. change.0) l)) c.as_slice-4.ensures.value) c.in_ok-zone_file.ensures
+    rising parts kinds c.in_ok-kinds.ensures.told some c.in_ok-changes.changes.items (c.in_ok-changes.ensures.told kinds count)
+    (zone_seen c.in_ok-zone_file.field-0) (c.if-not-rises.ensures ∙ ap (λ l. go_up (map (λ change. change.0) l)) c.as_slice-3.ensures.value) c.in_ok-zone_file.ensures

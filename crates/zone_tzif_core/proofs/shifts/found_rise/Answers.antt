@@ -1,8 +1,0 @@
-use Rattle.std.proofs.Common.{◌∙◌, ap, sym, ℤ}
-use Rattle.std.proofs.lemmas.Simd.{map-map}
-use Rattle.zone_tzif_core.specs.Shown.{found_shown}
-use Rattle.zone_tzif_core.specs.Zones.{KindValue, go_up}
-use Rattle.zone_tzif_core.proofs.shifts.found_rise.Goals as goal
-
-pub returns : goal.returns
-returns c = c.do_rise.ensures ∙ ap go_up (sym (map-map (λ (shift : ℤ × KindValue). shift.0) found_shown c.args.shifts.now))
