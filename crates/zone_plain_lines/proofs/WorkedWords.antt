@@ -27,9 +27,9 @@ first_words : map line_word (codes "R" ∷ codes "ruLE" ∷ codes "z" ∷ codes 
 unfolding line_word meant
 first_words = refl
 
--- a word in full, the first that the text is; else the only one that it begins; in any case on both sides
+-- the only word that the text begins, in any case on both sides
 of_words : map (meant {A = ℕ} ((codes "ab", 1) ∷ (codes "ABC", 2) ∷ (codes "Ab", 3) ∷ (codes "b", 4) ∷ [])) (codes "aB" ∷ codes "Abc" ∷ codes "B" ∷ codes "a" ∷ codes "" ∷ codes "abcd" ∷ codes "bc" ∷ codes "c" ∷ [])
-    ≡ Some 1 ∷ Some 2 ∷ Some 4 ∷ None ∷ None ∷ None ∷ None ∷ None ∷ []
+    ≡ None ∷ Some 2 ∷ Some 4 ∷ None ∷ None ∷ None ∷ None ∷ None ∷ []
 unfolding meant
 of_words = refl
 

@@ -1,6 +1,6 @@
--- Words in any case, in full or abbreviated to a beginning that fits one word of their list alone.
-use Rattle.std.specs.Prelude.{ℕ, List, [], ◌∷◌, drop, length, take, Bool, ◌&&◌, Option, Some, None, option_map, Result, ok_or, codes, bytes_eq, nat_le, filter, find, if◌then◌else◌}
-use Rattle.std.specs.Option.{option_or}
+-- Words in any case, in full or abbreviated to a beginning that fits one word of their list alone; a word in full is such a beginning, since no
+-- word of a list begins another.
+use Rattle.std.specs.Prelude.{ℕ, List, [], ◌∷◌, drop, length, take, Bool, ◌&&◌, Option, Some, None, Result, ok_or, codes, bytes_eq, nat_le, filter, if◌then◌else◌}
 use Rattle.std.specs.Borrow.{Bor}
 use Rattle.zone_values.specs.Names.{lower}
 use Rattle.zone_values.specs.declared.month.Month.{Month}
@@ -27,13 +27,9 @@ use Rattle.zone_plain_lines.specs.declared.cause.PlainCause.TheVariants as cause
 use Rattle.zone_plain_lines.specs.declared.words.LineWord.{LineWord}
 use Rattle.zone_plain_lines.specs.declared.words.LineWord.TheVariants.{Rule, Zone, Link}
 
--- the text is the word, in any case
-abbrev pub is_word : List ℕ → List ℕ → Bool
-is_word text word = bytes_eq (lower text) (lower word)
-
 -- the text is a beginning of the word, in any case
 abbrev pub begins : List ℕ → List ℕ → Bool
-begins text word = nat_le (length text) (length word) && is_word text (take (length text) word)
+begins text word = nat_le (length text) (length word) && bytes_eq (lower text) (lower (take (length text) word))
 
 -- a word, and what it stands for
 abbrev pub Word : Type 0 → Type 0
@@ -45,17 +41,9 @@ alone [] = None
 alone (word ∷ []) = Some word.1
 alone (word ∷ other ∷ more) = None
 
--- what the word that the text is stands for
-abbrev pub in_full : {A : Type 0} → List (Word A) → List ℕ → Option A
-in_full words text = option_map (λ word. word.1) (find (λ word. is_word text word.0) words)
-
--- what the only word that the text begins stands for
-abbrev pub abbreviated : {A : Type 0} → List (Word A) → List ℕ → Option A
-abbreviated words text = alone (filter (λ word. begins text word.0) words)
-
--- a word in full, or else an abbreviation
+-- what the only word that the text begins stands for; a word in full is its own beginning
 unfoldable pub meant : {A : Type 0} → List (Word A) → List ℕ → Option A
-meant words text = option_or (in_full words text) (abbreviated words text)
+meant words text = alone (filter (λ word. begins text word.0) words)
 
 -- a word as the code has it
 abbrev pub shown : {A : Type 0} → Bor (List ℕ) × A → Word A

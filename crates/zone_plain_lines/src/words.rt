@@ -1,6 +1,6 @@
-//! Words in any case, in full or abbreviated.
+//! Words in any case, each in full or abbreviated to a beginning that no other word of its list has.
 ghost use Rattle.std.specs.Prelude.{◌≡◌, map, codes};
-ghost use Rattle.zone_plain_lines.specs.Words.{is_word, begins, in_full, abbreviated, meant, shown, line_word, month_word, month_of, weekday_of, last_weekday_of, from_word, to_word};
+ghost use Rattle.zone_plain_lines.specs.Words.{begins, meant, shown, line_word, month_word, month_of, weekday_of, last_weekday_of, from_word, to_word};
 
 use crate::cause::PlainCause;
 use zone_values::{Month, Weekday, Year};
@@ -16,13 +16,6 @@ pub enum LineWord {
     Link,
 }
 
-/// Whether the text is the word, in any case.
-fn is_word(text: &[u8], word: &str) -> bool
-    ensures { result ≡ is_word text.now word.now }
-{
-    text.eq_ignore_ascii_case(word.as_bytes())
-}
-
 /// Whether the text is a beginning of the word, in any case.
 fn begins(text: &[u8], word: &str) -> bool
     ensures { result ≡ begins text.now word.now }
@@ -30,22 +23,10 @@ fn begins(text: &[u8], word: &str) -> bool
     text.len() <= word.len() && text.eq_ignore_ascii_case(&word.as_bytes()[..text.len()])
 }
 
-/// What the word that the text is stands for.
-fn in_full<T: Copy>(text: &[u8], words: &[(&str, T)]) -> Option<T>
-    ensures { result ≡ in_full (map shown words.now) text.now }
-{
-    for entry in words {
-        let (word, meaning) = entry;
-        if is_word(text, word) {
-            return Some(*meaning);
-        }
-    }
-    None
-}
-
 /// What the only word that the text begins stands for.
-fn abbreviated<T: Copy>(text: &[u8], words: &[(&str, T)]) -> Option<T>
-    ensures { result ≡ abbreviated (map shown words.now) text.now }
+#[tactic(auto, unfolding(crate::specs::Words::meant))]
+fn meant<T: Copy>(text: &[u8], words: &[(&str, T)]) -> Option<T>
+    ensures { result ≡ meant (map shown words.now) text.now }
 {
     let mut found = None;
     for entry in words {
@@ -58,17 +39,6 @@ fn abbreviated<T: Copy>(text: &[u8], words: &[(&str, T)]) -> Option<T>
         }
     }
     found
-}
-
-/// What a word stands for, in full or else abbreviated to a beginning that no other word of the list has.
-#[tactic(auto, unfolding(crate::specs::Words::meant))]
-fn meant<T: Copy>(text: &[u8], words: &[(&str, T)]) -> Option<T>
-    ensures { result ≡ meant (map shown words.now) text.now }
-{
-    match in_full(text, words) {
-        Some(meaning) => Some(meaning),
-        None => abbreviated(text, words),
-    }
 }
 
 /// What a line is by its first word.
