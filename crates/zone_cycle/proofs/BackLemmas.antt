@@ -1,9 +1,8 @@
 -- What a set of one cycle past the place says of every instant after it: brought back by whole cycles, the total is that of the set.
 use Rattle.std.proofs.Common.{◌≡◌, [], ◌∷◌, false, pos, List, ◌++◌, ℤ, ◌+ℤ◌, ◌*ℤ◌, ℕ, ◌+◌, int_le, ◌<ℤ◌}
-use Rattle.zone_spans.specs.Entries.{total}
+use Rattle.zone_spans.specs.Entries.{total, sorted_entries_over}
 use Rattle.zone_spans.specs.Lines.{Line}
 use Rattle.zone_spans.specs.declared.span.FixedTimespan.{FixedTimespan}
-use Rattle.zone_cycle.specs.Over.{sorted_entries_over}
 use Rattle.zone_cycle.proofs.EverLemmas.{IsTurning}
 use Rattle.zone_cycle.proofs.StableLemmas.{span-stable}
 use Rattle.zone_cycle.proofs.ZoneLemmas.{span_in}

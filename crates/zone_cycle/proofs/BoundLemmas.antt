@@ -13,14 +13,13 @@ use Rattle.zone_values.specs.declared.time.TimeType.TheVariants.{Wall, UTC, Stan
 use Rattle.zone_table.specs.Moments.{instant_of, moment}
 use Rattle.zone_table.specs.declared.rule.RuleInfo.{RuleInfo}
 use Rattle.zone_spans.specs.Collapse.{kept_of}
-use Rattle.zone_spans.specs.Entries.{entry_of, Entry, total}
+use Rattle.zone_spans.specs.Entries.{entry_of, Entry, total, sorted_entries_over}
 use Rattle.zone_spans.specs.Firings.{earliest, fired, year_firings, Fired, Firing, is_earlier}
 use Rattle.zone_spans.specs.Lines.{Line}
 use Rattle.zone_spans.specs.Years.{earliest_year}
 use Rattle.zone_spans.specs.declared.span.FixedTimespan.{FixedTimespan}
 use Rattle.zone_cycle.specs.InForce.{has_come, span_by}
 use Rattle.zone_cycle.specs.Later.{firings_from, first_fired, later_entries}
-use Rattle.zone_cycle.specs.Over.{sorted_entries_over}
 use Rattle.zone_cycle.specs.Settled.{are_settled, is_lasting}
 use Rattle.zone_cycle.proofs.CollapseLemmas.{kept_of-more}
 use Rattle.zone_cycle.proofs.FiringLemmas.{year_firings-settled}

@@ -22,11 +22,11 @@ use Rattle.zone_table.specs.declared.rule.RuleInfo.{RuleInfo}
 use Rattle.zone_table.specs.declared.zone.ZoneInfo.{ZoneInfo}
 use Rattle.zone_spans.specs.Bounds.{is_bounded_line, is_bounded}
 use Rattle.zone_spans.specs.Collapse.{is_no_later, is_same_span, kept_of, kept_with, collapsed, without_first}
-use Rattle.zone_spans.specs.Compiled.{compiled}
-use Rattle.zone_spans.specs.Entries.{entry_of, Entry, total}
+use Rattle.zone_spans.specs.Compiled.{compiled, compiled_over}
+use Rattle.zone_spans.specs.Entries.{entry_of, Entry, total, sorted_entries_over}
 use Rattle.zone_spans.specs.Firings.{earliest, fired, year_firings, Firing, is_earlier, firings_of_years}
 use Rattle.zone_spans.specs.Lines.{Line, Rulesets, zone_lines}
-use Rattle.zone_spans.specs.Schedules.{totals_of, total_at, is_in_offset_range}
+use Rattle.zone_spans.specs.Schedules.{totals_of, total_at, is_in_offset_range, schedule_over}
 use Rattle.zone_spans.specs.Years.{earliest_year}
 use Rattle.zone_spans.specs.declared.span.FixedTimespan.{FixedTimespan}
 use Rattle.zone_spans.specs.declared.span.FixedTimespanSet.{FixedTimespanSet}
@@ -34,7 +34,6 @@ use Rattle.zone_cycle.specs.ForEver.{AreEnough, IsFrom2101, instants_on, is_befo
 use Rattle.zone_cycle.specs.GoesOn.{GoesOn, cycle_entries}
 use Rattle.zone_cycle.specs.InForce.{has_come}
 use Rattle.zone_cycle.specs.Later.{first_fired, later_entries, later_fired}
-use Rattle.zone_cycle.specs.Over.{compiled_over, schedule_over, sorted_entries_over}
 use Rattle.zone_cycle.proofs.BoundLemmas.{FiredFrom, entries_fire, firings_from-low, span-stable_years, year_low}
 use Rattle.zone_cycle.proofs.CollapseLemmas.{kept_of-more}
 use Rattle.zone_cycle.proofs.EverLemmas.{adds_behind, two_kept}

@@ -4,7 +4,7 @@ use Rattle.std.proofs.lemmas.List.{map-append}
 use Rattle.std.proofs.lemmas.List.Folds.{find-append}
 use Rattle.std.specs.Option.{option_or}
 use Rattle.zone_spans.specs.Collapse.{is_no_later, is_same_span, kept_of, kept_with}
-use Rattle.zone_spans.specs.Entries.{entry_of, start_entry, Entry}
+use Rattle.zone_spans.specs.Entries.{entry_of, start_entry, Entry, entries_from_over, sorted_entries_over}
 use Rattle.zone_spans.specs.Firings.{Fired, Firing}
 use Rattle.zone_spans.specs.Lines.{Line}
 use Rattle.zone_spans.specs.Listing.{listed_firings}
@@ -12,7 +12,6 @@ use Rattle.zone_spans.specs.declared.span.FixedTimespan.{FixedTimespan}
 use Rattle.zone_cycle.specs.Cycle.{entry_on, instant_on, seconds_on}
 use Rattle.zone_cycle.specs.InForce.{has_come}
 use Rattle.zone_cycle.specs.Later.{begun_entries, first_fired, later_entries, later_fired, listed_entries, start_after}
-use Rattle.zone_cycle.specs.Over.{entries_from_over, sorted_entries_over}
 use Rattle.zone_cycle.specs.Settled.{are_settled}
 use Rattle.zone_cycle.proofs.FiringLemmas.{before_on, firings_of_years-split}
 use Rattle.zone_cycle.proofs.OrderLemmas.{AllFrom, AllTo, AllUnder, IsInOrder, Rising, StartsUnder, chain, chain_under, from-on, in_order-for_ever, later_second, past-from, precede-from, rise-from, rising-on}

@@ -12,10 +12,10 @@ use Rattle.calendar.specs.SignedLaws.{signed, natural}
 use Rattle.calendar.specs.YearLaws.{day-cycle}
 use Rattle.zone_table.specs.declared.zone.ZoneInfo.{ZoneInfo}
 use Rattle.zone_spans.specs.Collapse.{kept_of}
-use Rattle.zone_spans.specs.Compiled.{compiled}
-use Rattle.zone_spans.specs.Entries.{is_sooner, Entry, total}
+use Rattle.zone_spans.specs.Compiled.{compiled, compiled_over}
+use Rattle.zone_spans.specs.Entries.{is_sooner, Entry, total, entries_from_over, sorted_entries_over}
 use Rattle.zone_spans.specs.Lines.{Line, Rulesets, zone_lines}
-use Rattle.zone_spans.specs.Schedules.{totals_of, total_at, totals_told}
+use Rattle.zone_spans.specs.Schedules.{totals_of, total_at, totals_told, schedule_over}
 use Rattle.zone_spans.specs.Years.{earliest_year}
 use Rattle.zone_spans.specs.declared.fault.SpanFault.{SpanFault}
 use Rattle.zone_spans.specs.declared.span.FixedTimespan.{FixedTimespan}
@@ -24,7 +24,6 @@ use Rattle.zone_cycle.specs.Cycle.{instant_on, next_cycle}
 use Rattle.zone_cycle.specs.ForEver.{AreEnough, IsFrom2101, cycles_at, instants_on, is_before_cycle, span_for_ever, span_told, total_for_ever, years_for}
 use Rattle.zone_cycle.specs.GoesOn.{GoesOn, cycle_entries, last_of}
 use Rattle.zone_cycle.specs.InForce.{has_come, span_at, span_by}
-use Rattle.zone_cycle.specs.Over.{compiled_over, entries_from_over, schedule_over, sorted_entries_over}
 use Rattle.zone_cycle.proofs.BackLemmas.{span-as_before}
 use Rattle.zone_cycle.proofs.DayLemmas.{day-repeats}
 use Rattle.zone_cycle.proofs.EverLemmas.{span-turns}

@@ -20,13 +20,13 @@ use Rattle.zone_table.specs.declared.rule.RuleInfo.{RuleInfo}
 use Rattle.zone_table.specs.declared.zone.Saving.TheVariants.{NoSaving, Multiple}
 use Rattle.zone_table.specs.declared.zone.ZoneInfo.{ZoneInfo}
 use Rattle.zone_spans.specs.Collapse.{kept_of, kept_with, collapsed, without_first}
-use Rattle.zone_spans.specs.Compiled.{compiled, set_of_lines}
-use Rattle.zone_spans.specs.Entries.{first_span, entries_from, entries_of, next_start, sorted_entries}
-use Rattle.zone_spans.specs.Faults.{is_outside, some_year, leaves_year, schedule_fault}
-use Rattle.zone_spans.specs.Firings.{earliest, fired, year_firings, firings_of_years, line_firings, years_expanded}
+use Rattle.zone_spans.specs.Compiled.{compiled, compiled_over, set_of_lines_over}
+use Rattle.zone_spans.specs.Entries.{first_span, entries_from_over, entries_of_over, next_start_over, sorted_entries_over}
+use Rattle.zone_spans.specs.Faults.{is_outside, some_year, leaves_year_over, schedule_fault_over}
+use Rattle.zone_spans.specs.Firings.{earliest, fired, year_firings, firings_of_years, line_firings_over, years_over}
 use Rattle.zone_spans.specs.Lines.{Rulesets, zone_lines}
 use Rattle.zone_spans.specs.Listing.{listed_from, start_firing}
-use Rattle.zone_spans.specs.Schedules.{totals_of, total_at}
+use Rattle.zone_spans.specs.Schedules.{totals_of, total_at, schedule_over}
 use Rattle.zone_spans.specs.Windows.{line_end}
 use Rattle.zone_spans.specs.declared.span.FixedTimespan.{FixedTimespan}
 use Rattle.zone_spans.specs.declared.span.FixedTimespanSet.{FixedTimespanSet}
@@ -34,7 +34,6 @@ use Rattle.zone_cycle.specs.Cycle.{instant_on}
 use Rattle.zone_cycle.specs.ForEver.{IsFrom2101, cycles_at, is_before_cycle, total_for_ever, years_for}
 use Rattle.zone_cycle.specs.GoesOn.{GoesOn, dont_fall, front_of, goes_on, is_in_order, last_goes_on, last_of, turns}
 use Rattle.zone_cycle.specs.Later.{firings_from, start_after}
-use Rattle.zone_cycle.specs.Over.{compiled_over, entries_from_over, entries_of_over, leaves_year_over, line_firings_over, next_start_over, schedule_fault_over, schedule_over, set_of_lines_over, sorted_entries_over, years_over}
 use Rattle.zone_cycle.specs.Settled.{is_lasting, is_settled}
 use Rattle.zone_cycle.proofs.ForEverLemmas.{repeats-at}
 
@@ -80,7 +79,7 @@ made_set = record {
 }
 
 made_compiles : compiled rulesets made ≡ Ok made_set
-unfolding compiled schedule_fault leaves_year some_year is_outside is_in_year zone_lines set_of_lines first_span sorted_entries entries_from entries_of next_start listed_from start_firing line_firings years_expanded firings_of_years year_firings fired earliest applies_to_year last_year moment abbreviation filled line_end instant_of named_day first_from weekday_of last_with is_leap days_in_year days_in_month days_after_zero year_start days_through days_into_year day collapsed kept_of kept_with without_first
+unfolding compiled_over schedule_fault_over leaves_year_over some_year is_outside is_in_year zone_lines set_of_lines_over first_span sorted_entries_over entries_from_over entries_of_over next_start_over listed_from start_firing line_firings_over years_over firings_of_years year_firings fired earliest applies_to_year last_year moment abbreviation filled line_end instant_of named_day first_from weekday_of last_with is_leap days_in_year days_in_month days_after_zero year_start days_through days_into_year day collapsed kept_of kept_with without_first
 made_compiles = refl
 
 -- it turns

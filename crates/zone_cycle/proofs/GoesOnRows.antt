@@ -17,17 +17,17 @@ use Rattle.zone_table.specs.declared.rule.RuleInfo.{RuleInfo}
 use Rattle.zone_table.specs.declared.zone.Saving.TheVariants.{NoSaving, Multiple}
 use Rattle.zone_table.specs.declared.zone.ZoneInfo.{ZoneInfo}
 use Rattle.zone_spans.specs.Collapse.{kept_of, kept_with, collapsed, without_first}
-use Rattle.zone_spans.specs.Entries.{first_span}
-use Rattle.zone_spans.specs.Faults.{is_outside, some_year}
-use Rattle.zone_spans.specs.Firings.{earliest, fired, year_firings, firings_of_years}
+use Rattle.zone_spans.specs.Compiled.{compiled_over, set_of_lines_over}
+use Rattle.zone_spans.specs.Entries.{first_span, entries_from_over, entries_of_over, next_start_over, sorted_entries_over}
+use Rattle.zone_spans.specs.Faults.{is_outside, some_year, leaves_year_over, schedule_fault_over}
+use Rattle.zone_spans.specs.Firings.{earliest, fired, year_firings, firings_of_years, line_firings_over, years_over}
 use Rattle.zone_spans.specs.Lines.{Rulesets, zone_lines}
 use Rattle.zone_spans.specs.Listing.{listed_from, start_firing}
-use Rattle.zone_spans.specs.Schedules.{totals_of, total_at}
+use Rattle.zone_spans.specs.Schedules.{totals_of, total_at, schedule_over}
 use Rattle.zone_spans.specs.Windows.{line_end}
 use Rattle.zone_spans.specs.declared.fault.SpanFault.TheVariants.{DayRange}
 use Rattle.zone_cycle.specs.GoesOn.{dont_fall, front_of, goes_on, is_in_order, last_goes_on, last_of, turns}
 use Rattle.zone_cycle.specs.Later.{firings_from, start_after}
-use Rattle.zone_cycle.specs.Over.{compiled_over, entries_from_over, entries_of_over, leaves_year_over, line_firings_over, next_start_over, schedule_fault_over, schedule_over, set_of_lines_over, sorted_entries_over, years_over}
 use Rattle.zone_cycle.specs.Settled.{is_lasting, is_settled}
 use Rattle.zone_cycle.proofs.ForEverRows.{last_sunday}
 

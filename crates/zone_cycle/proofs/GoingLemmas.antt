@@ -5,14 +5,13 @@ use Rattle.std.specs.List.{list_all, list_any}
 use Rattle.owned.specs.Sorted.{stable_sort}
 use Rattle.calendar.specs.ComparisonLaws.{eq_from_pass}
 use Rattle.zone_values.specs.declared.change.ChangeTime.{ChangeTime}
-use Rattle.zone_spans.specs.Entries.{is_sooner, start_entry, Entry, fixed_span, at_start, span_of}
+use Rattle.zone_spans.specs.Entries.{is_sooner, start_entry, Entry, fixed_span, at_start, span_of, entries_from_over, sorted_entries_over}
 use Rattle.zone_spans.specs.Firings.{Firing}
 use Rattle.zone_spans.specs.Lines.{Line, is_ruled}
 use Rattle.zone_spans.specs.Listing.{start_firing}
 use Rattle.zone_spans.specs.declared.span.FixedTimespan.{FixedTimespan}
 use Rattle.zone_cycle.specs.GoesOn.{are_cycle_later, cycle_entries, ends_by_then, is_apart, is_before_2101, is_in_order, is_still, kept_over, last_goes_on, some_leaves, turns}
 use Rattle.zone_cycle.specs.Later.{begun_entries, first_fired, start_after}
-use Rattle.zone_cycle.specs.Over.{entries_from_over, sorted_entries_over}
 use Rattle.zone_cycle.specs.Settled.{are_settled, is_lasting}
 use Rattle.zone_cycle.proofs.BackLemmas.{IsApart}
 use Rattle.zone_cycle.proofs.EverLemmas.{IsTurning}

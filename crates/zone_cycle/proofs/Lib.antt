@@ -6,7 +6,6 @@ pub mod SeamLemmas
 pub mod ListingLemmas
 pub mod SortLemmas
 pub mod CollapseLemmas
-pub mod OverLemmas
 pub mod ZoneLemmas
 pub mod SpanLemmas
 pub mod OrderLemmas

@@ -8,9 +8,10 @@ use Rattle.owned.specs.Sorted.{stable_sort}
 use Rattle.zone_table.specs.declared.rule.RuleInfo.{RuleInfo}
 use Rattle.zone_table.specs.declared.zone.ZoneInfo.{ZoneInfo}
 use Rattle.zone_spans.specs.Collapse.{collapsed}
-use Rattle.zone_spans.specs.Compiled.{compiled, set_of, unless}
-use Rattle.zone_spans.specs.Entries.{is_sooner, Entry, first_span, fixed_span, is_standard}
-use Rattle.zone_spans.specs.Faults.{is_outside, some_year, all_but_last, begins_ruled, ends_in_no_year, ends_outside, first_met, is_unknown, lacks_years}
+use Rattle.zone_spans.specs.Compiled.{compiled, set_of, unless, compiled_over, set_of_lines_over}
+use Rattle.zone_spans.specs.Entries.{is_sooner, Entry, first_span, fixed_span, is_standard, entries_from_over, sorted_entries_over}
+use Rattle.zone_spans.specs.Faults.{is_outside, some_year, all_but_last, begins_ruled, ends_in_no_year, ends_outside, first_met, is_unknown, lacks_years, leaves_year_over, schedule_fault_over}
+use Rattle.zone_spans.specs.Firings.{years_over}
 use Rattle.zone_spans.specs.Lines.{Line, is_ruled, Rulesets, zone_lines}
 use Rattle.zone_spans.specs.Years.{earliest_year}
 use Rattle.zone_spans.specs.declared.fault.SpanFault.{SpanFault}
@@ -19,13 +20,11 @@ use Rattle.zone_spans.specs.declared.span.FixedTimespan.{FixedTimespan}
 use Rattle.zone_spans.specs.declared.span.FixedTimespanSet.{FixedTimespanSet}
 use Rattle.zone_cycle.specs.GoesOn.{GoesOn, front_of, goes_on, is_still, last_goes_on, last_of, some_leaves, turns}
 use Rattle.zone_cycle.specs.Later.{begun_entries, later_entries, listed_entries, start_after}
-use Rattle.zone_cycle.specs.Over.{compiled_over, entries_from_over, leaves_year_over, schedule_fault_over, set_of_lines_over, sorted_entries_over, years_over}
 use Rattle.zone_cycle.specs.Settled.{are_settled, is_settled}
 use Rattle.zone_cycle.proofs.EverLemmas.{adds_behind}
 use Rattle.zone_cycle.proofs.FaultLemmas.{or_right, outside-more}
 use Rattle.zone_cycle.proofs.FitLemmas.{or_first, or_second}
 use Rattle.zone_cycle.proofs.GoingLemmas.{IsGoing, IsTurned, going_of, turned_of}
-use Rattle.zone_cycle.proofs.OverLemmas.{compiled-now}
 use Rattle.zone_cycle.proofs.QuietLemmas.{entries_from_over-still}
 use Rattle.zone_cycle.proofs.TestLemmas.{is_split}
 use Rattle.zone_cycle.proofs.ZoneLemmas.{AllEnd, EndsByThen, entries_from_over-first, entries_from_over-more, sorted_entries_over-more, years_over-ended}
@@ -270,8 +269,7 @@ pub has_set : (rulesets : Rulesets) (infos : List ZoneInfo) (set : FixedTimespan
 unfolding compiled_over set_of_lines_over
 has_set rulesets infos set front last last_is is going ok =
     let zone = front ++ (last ∷ []) in
-    let both = unless_ok (schedule_fault_over 300 rulesets infos) (set_of_lines_over 300 (zone_lines rulesets infos)) set
-    (compiled-now rulesets infos ∙ ok) in
+    let both = unless_ok (schedule_fault_over 300 rulesets infos) (set_of_lines_over 300 (zone_lines rulesets infos)) set ok in
     let here : set_of (first_span zone (sorted_entries_over 300 zone)) (sorted_entries_over 300 zone) ≡ Ok set =
     sym (ap (λ l. set_of (first_span l (sorted_entries_over 300 l)) (sorted_entries_over 300 l)) is) ∙ both.1 in
     let given = set_given (first_span zone (sorted_entries_over 300 zone)) (sorted_entries_over 300 zone) set here in

@@ -4,14 +4,13 @@ use Rattle.std.proofs.lemmas.Bool.{cases_Bool}
 use Rattle.std.specs.List.{list_any}
 use Rattle.calendar.specs.SignedLaws.{signed}
 use Rattle.zone_table.specs.declared.rule.RuleInfo.{RuleInfo}
-use Rattle.zone_spans.specs.Entries.{entry_of, start_entry}
+use Rattle.zone_spans.specs.Entries.{entry_of, start_entry, entries_from_over, entries_of_over}
 use Rattle.zone_spans.specs.Firings.{fired, year_firings, Fired}
 use Rattle.zone_spans.specs.Lines.{Line, is_ruled}
 use Rattle.zone_spans.specs.Listing.{listed_firings}
 use Rattle.zone_spans.specs.Years.{earliest_year}
 use Rattle.zone_cycle.specs.GoesOn.{is_still}
 use Rattle.zone_cycle.specs.Later.{firings_from, first_fired, start_after}
-use Rattle.zone_cycle.specs.Over.{entries_from_over, entries_of_over}
 use Rattle.zone_cycle.specs.Settled.{are_settled, is_lasting}
 use Rattle.zone_cycle.proofs.FiringLemmas.{firings_of_years-split, year_firings-settled}
 use Rattle.zone_cycle.proofs.FitLemmas.{or_first, or_second}

@@ -5,12 +5,11 @@ use Rattle.std.proofs.lemmas.List.{reverse-append}
 use Rattle.calendar.specs.ComparisonLaws.{le_fail, lt_from_fail}
 use Rattle.calendar.specs.SignedLaws.{signed}
 use Rattle.zone_spans.specs.Collapse.{is_no_later, is_same_span, kept_of, kept_with}
-use Rattle.zone_spans.specs.Entries.{Entry, total}
+use Rattle.zone_spans.specs.Entries.{Entry, total, sorted_entries_over}
 use Rattle.zone_spans.specs.Lines.{Line}
 use Rattle.zone_spans.specs.declared.span.FixedTimespan.{FixedTimespan}
 use Rattle.zone_cycle.specs.InForce.{has_come, span_by}
 use Rattle.zone_cycle.specs.Later.{later_entries}
-use Rattle.zone_cycle.specs.Over.{sorted_entries_over}
 use Rattle.zone_cycle.proofs.CollapseLemmas.{kept_of-more}
 use Rattle.zone_cycle.proofs.EverLemmas.{IsTested, adds_behind}
 use Rattle.zone_cycle.proofs.OrderLemmas.{AllFrom, in_order-for_ever}

@@ -5,15 +5,14 @@ use Rattle.owned.specs.Sorted.{stable_sort}
 use Rattle.zone_values.specs.Ends.{end_year, year_number}
 use Rattle.zone_values.specs.declared.change.ChangeTime.{ChangeTime}
 use Rattle.zone_spans.specs.Collapse.{kept_of, collapsed}
-use Rattle.zone_spans.specs.Entries.{entry_of, is_sooner, start_entry, Entry}
-use Rattle.zone_spans.specs.Firings.{Fired, Firing}
+use Rattle.zone_spans.specs.Entries.{entry_of, is_sooner, start_entry, Entry, entries_from_over, entries_of_over, next_start_over, sorted_entries_over}
+use Rattle.zone_spans.specs.Firings.{Fired, Firing, line_firings_over, years_over}
 use Rattle.zone_spans.specs.Lines.{Line, is_ruled}
 use Rattle.zone_spans.specs.Listing.{listed_firings}
 use Rattle.zone_spans.specs.declared.span.FixedTimespan.{FixedTimespan}
 use Rattle.zone_cycle.specs.Cycle.{entry_on, firing_on, instant_on}
 use Rattle.zone_cycle.specs.InForce.{has_come, span_at, span_by}
 use Rattle.zone_cycle.specs.Later.{begun_entries, firings_from, first_fired, later_entries, later_fired, listed_entries, start_after}
-use Rattle.zone_cycle.specs.Over.{entries_from_over, entries_of_over, line_firings_over, next_start_over, sorted_entries_over, years_over}
 use Rattle.zone_cycle.specs.Settled.{are_settled}
 use Rattle.zone_cycle.proofs.CollapseLemmas.{kept-repeats, kept_of-on}
 use Rattle.zone_cycle.proofs.FiringLemmas.{firings_from-repeats, firings_of_years-split}

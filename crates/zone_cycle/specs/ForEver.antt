@@ -4,8 +4,9 @@ use Rattle.std.specs.List.{list_all}
 use Rattle.std.specs.Option.{option_map_or}
 use Rattle.calendar.specs.Days.{day}
 use Rattle.zone_table.specs.declared.zone.ZoneInfo.{ZoneInfo}
+use Rattle.zone_spans.specs.Compiled.{compiled_over}
 use Rattle.zone_spans.specs.Lines.{Line, Rulesets}
-use Rattle.zone_spans.specs.Schedules.{total_at}
+use Rattle.zone_spans.specs.Schedules.{total_at, schedule_over}
 use Rattle.zone_spans.specs.Years.{earliest_year}
 use Rattle.zone_spans.specs.declared.fault.SpanFault.{SpanFault}
 use Rattle.zone_spans.specs.declared.span.FixedTimespan.{FixedTimespan}
@@ -13,7 +14,6 @@ use Rattle.zone_spans.specs.declared.span.FixedTimespanSet.{FixedTimespanSet}
 use Rattle.zone_cycle.specs.Cycle.{instant_on}
 use Rattle.zone_cycle.specs.GoesOn.{cycle_entries, last_of}
 use Rattle.zone_cycle.specs.InForce.{has_come, span_at}
-use Rattle.zone_cycle.specs.Over.{compiled_over, schedule_over}
 
 -- the whole cycles from 1699-01-01 00:00:00 UTC to an instant in nanoseconds, so none before 2099
 unfoldable pub cycles_at : ℤ → ℕ

@@ -8,12 +8,11 @@ use Rattle.zone_values.specs.declared.change.ChangeTime.{ChangeTime}
 use Rattle.zone_table.specs.declared.rule.RuleInfo.{RuleInfo}
 use Rattle.zone_table.specs.declared.zone.ZoneInfo.{ZoneInfo}
 use Rattle.zone_spans.specs.Collapse.{is_no_later, is_same_span, kept_of}
-use Rattle.zone_spans.specs.Entries.{Entry, is_sooner}
+use Rattle.zone_spans.specs.Entries.{Entry, is_sooner, entries_from_over, sorted_entries_over}
 use Rattle.zone_spans.specs.Faults.{is_outside, some_year}
 use Rattle.zone_spans.specs.Lines.{Line, Rulesets, is_ruled, zone_lines}
 use Rattle.zone_cycle.specs.Cycle.{seconds_on}
 use Rattle.zone_cycle.specs.Later.{first_fired, later_entries, start_after}
-use Rattle.zone_cycle.specs.Over.{entries_from_over, sorted_entries_over}
 use Rattle.zone_cycle.specs.Settled.{are_settled, is_lasting}
 
 -- the lines but the last

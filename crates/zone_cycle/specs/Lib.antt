@@ -1,6 +1,5 @@
 -- Definitions: what public clauses say.
 pub mod Cycle
-pub mod Over
 pub mod Settled
 pub mod InForce
 pub mod Later

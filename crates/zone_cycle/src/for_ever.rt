@@ -10,12 +10,11 @@ ghost use Rattle.zone_cycle.specs.Cycle.{instant_on};
 ghost use Rattle.zone_cycle.specs.ForEver.{AreEnough, IsFrom2101, instants_on, is_before_cycle, span_for_ever, span_told, total_for_ever, years_for};
 ghost use Rattle.zone_cycle.specs.GoesOn.{GoesOn};
 ghost use Rattle.zone_cycle.specs.InForce.{span_at};
-ghost use Rattle.zone_cycle.specs.Over.{compiled_over, schedule_over};
 ghost use Rattle.zone_spans.specs.Bounds.{is_bounded_line};
-ghost use Rattle.zone_spans.specs.Compiled.{compiled};
+ghost use Rattle.zone_spans.specs.Compiled.{compiled, compiled_over};
 ghost use Rattle.zone_spans.specs.Entries.{total};
 ghost use Rattle.zone_spans.specs.Lines.{Rulesets, zone_lines};
-ghost use Rattle.zone_spans.specs.Schedules.{is_in_offset_range, total_at, totals_of};
+ghost use Rattle.zone_spans.specs.Schedules.{is_in_offset_range, total_at, totals_of, schedule_over};
 ghost use Rattle.zone_spans.specs.declared.span.FixedTimespanSet.{FixedTimespanSet};
 ghost use Rattle.zone_table.specs.declared.zone.ZoneInfo.{ZoneInfo};
 

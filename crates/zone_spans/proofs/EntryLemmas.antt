@@ -11,7 +11,7 @@ use Rattle.owned.specs.Sorted.{put_in, stable_sort}
 use Rattle.zone_values.specs.Bounds.{are_small_seconds}
 use Rattle.zone_spans.specs.Bounds.{is_bounded_entry, is_bounded_firing, is_bounded_line, is_bounded_span, is_small, is_start}
 use Rattle.zone_spans.specs.Entries.{Entry, at_start, entries_from_over, entries_of_over, entry_of, fixed_span, is_sooner, next_start_over, span_of, start_entry}
-use Rattle.zone_spans.specs.Firings.{Firing, firings_over}
+use Rattle.zone_spans.specs.Firings.{Firing, line_firings_over}
 use Rattle.zone_spans.specs.Lines.{Line, fixed_saving, is_ruled}
 use Rattle.zone_spans.specs.Listing.{is_at, listed_firings, listed_from, start_firing}
 use Rattle.zone_spans.specs.Stands.{StandsFor}
@@ -127,11 +127,11 @@ bounded_fixed_entry line (Some start) bounded small =
 
 -- the entries of a ruled line, by what stands for its firings
 pub ruled_entries : (most : ℕ) (line : Line) (start : Option ℤ) (fs : List Firing) → is_ruled line.info.saving ≡ true
-    → StandsFor start fs (firings_over most line)
+    → StandsFor start fs (line_firings_over most line).0
     → map (entry_of line) (listed_firings start fs) ++ start_entry line start fs ≡ entries_of_over most line start
 unfolding entries_of_over
 ruled_entries most line start fs ruled stands =
-    let due = firings_over most line in
+    let due = (line_firings_over most line).0 in
     let lists : listed_firings start fs ≡ listed_firings start due =
     ap (listed_firings start) (sym (append-nil fs)) ∙ stands.lists [] ∙ ap (listed_firings start) (append-nil due) in
     let starts : start_entry line start fs ≡ start_entry line start due =
@@ -141,7 +141,7 @@ ruled_entries most line start fs ruled stands =
 
 -- the entries of a bounded line are, where what stands for its firings is
 pub bounded_ruled : (most : ℕ) (line : Line) (start : Option ℤ) (fs : List Firing) → IsTrue (is_bounded_line line)
-    → is_ruled line.info.saving ≡ true → StandsFor start fs (firings_over most line) → IsTrue (is_start start)
+    → is_ruled line.info.saving ≡ true → StandsFor start fs (line_firings_over most line).0 → IsTrue (is_start start)
     → IsTrue (list_all is_bounded_firing fs) → IsTrue (list_all is_bounded_entry (entries_of_over most line start))
 bounded_ruled most line start fs numbers ruled stands small bounded =
     let offset = bounded_offset line numbers in
@@ -155,7 +155,7 @@ pub bounded_unruled : (most : ℕ) (line : Line) (start : Option ℤ) → IsTrue
     → IsTrue (is_start start) → IsTrue (list_all is_bounded_entry (entries_of_over most line start))
 unfolding entries_of_over
 bounded_unruled most line start bounded unruled small =
-    let fs = firings_over most line in
+    let fs = (line_firings_over most line).0 in
     ap (λ b. list_all is_bounded_entry
     (if b then map (entry_of line) (listed_firings start fs) ++ start_entry line start fs
     else at_start start (Some (fixed_span line)))) unruled

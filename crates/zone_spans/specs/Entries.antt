@@ -5,7 +5,7 @@ use Rattle.zone_table.specs.Formats.{abbreviation}
 use Rattle.owned.specs.Sorted.{stable_sort}
 use Rattle.zone_spans.specs.Windows.{line_end}
 use Rattle.zone_spans.specs.Lines.{Line, is_ruled, fixed_saving}
-use Rattle.zone_spans.specs.Firings.{Firing, firings_over, last_saving_over}
+use Rattle.zone_spans.specs.Firings.{Firing, line_firings_over}
 use Rattle.zone_spans.specs.Listing.{listed_firings, start_firing}
 use Rattle.zone_spans.specs.Years.{most_years}
 use Rattle.zone_spans.specs.declared.span.FixedTimespan.{FixedTimespan}
@@ -49,12 +49,12 @@ start_entry line (Some start) fs = at_start (Some start) (option_map (span_of li
 unfoldable pub entries_of_over : ℕ → Line → Option ℤ → List Entry
 entries_of_over most line start =
     if is_ruled line.info.saving
-    then map (entry_of line) (listed_firings start (firings_over most line)) ++ start_entry line start (firings_over most line)
+    then map (entry_of line) (listed_firings start (line_firings_over most line).0) ++ start_entry line start (line_firings_over most line).0
     else at_start start (Some (fixed_span line))
 
 -- where the next line starts
 unfoldable pub next_start_over : ℕ → Line → Option ℤ
-next_start_over most line = option_map (λ end. line_end end line.info.offset (last_saving_over most line)) line.end
+next_start_over most line = option_map (λ end. line_end end line.info.offset (line_firings_over most line).1) line.end
 
 -- line by line
 unfoldable pub entries_from_over : ℕ → Option ℤ → List Line → List Entry

@@ -68,12 +68,6 @@ line_firings_over most line =
     then firings_of_years line.info.offset line.end line.rules (years_over most line.end)
     else ([], fixed_saving line.info.saving)
 
-abbrev pub firings_over : ℕ → Line → List Firing
-firings_over most line = (line_firings_over most line).0
-
-abbrev pub last_saving_over : ℕ → Line → ℤ
-last_saving_over most line = (line_firings_over most line).1
-
 -- over the years to the latest
 abbrev pub years_expanded : Option ChangeTime → ℕ
 years_expanded end = years_over most_years end
@@ -82,4 +76,4 @@ abbrev pub line_firings : Line → Fired
 line_firings line = line_firings_over most_years line
 
 abbrev pub firings : Line → List Firing
-firings line = firings_over most_years line
+firings line = (line_firings line).0

@@ -5,7 +5,7 @@ ghost use Rattle.std.specs.List.{last_or, list_all};
 ghost use Rattle.std.specs.Option.{option_to_list};
 ghost use Rattle.zone_values.specs.Bounds.{are_small_seconds};
 ghost use Rattle.zone_spans.specs.Bounds.{IsSound, IsSoundOver, is_bounded_firing, is_end};
-ghost use Rattle.zone_spans.specs.Firings.{Firing, firings_of_years, firings_over, last_saving_over};
+ghost use Rattle.zone_spans.specs.Firings.{Firing, firings_of_years, line_firings_over};
 ghost use Rattle.zone_spans.specs.Kept.{AreBelow, AreMarks, IsLastMark, IsLimit};
 ghost use Rattle.zone_spans.specs.KeptFor.{IsFor, IsKept};
 ghost use Rattle.zone_spans.specs.Lines.{is_ruled};
@@ -436,8 +436,8 @@ pub(crate) fn fire_line<'a>(
     requires ruled { is_ruled line.now.info.saving ≡ true }
     requires kept { AreAll IsKept kept.old }
     ensures kept { IfOk result (λ _. AreAll IsKept kept.new) }
-    ensures stands { IfOk result (λ _. StandsFor start fired.new.items (firings_over most line.now)) }
-    ensures saving { IfOk result (λ after. after ≡ last_saving_over most line.now) }
+    ensures stands { IfOk result (λ _. StandsFor start fired.new.items (line_firings_over most line.now).0) }
+    ensures saving { IfOk result (λ after. after ≡ (line_firings_over most line.now).1) }
     ensures small { IfOk result (λ after. IsTrue (are_small_seconds after)) }
     ensures bounded { IfOk result (λ _. IsTrue (list_all is_bounded_firing fired.new.items)) }
 {
