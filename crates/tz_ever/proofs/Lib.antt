@@ -4,3 +4,4 @@ pub mod NearLemmas
 pub mod TotalLemmas
 pub mod AnswerLemmas
 pub mod ForEverLemmas
+mod EverRows
