@@ -7,7 +7,6 @@ use Rattle.calendar.specs.MonthLaws.{days_through-two}
 use Rattle.calendar.specs.SignedLaws.{signed, natural}
 use Rattle.calendar.specs.YearLaws.{day-cycle, cycle_days-rise}
 use Rattle.zone_values.specs.Days.{named_day}
-use Rattle.zone_values.specs.Names.{lower}
 use Rattle.zone_values.specs.declared.time.TimeType.{TimeType}
 use Rattle.zone_values.specs.declared.time.TimeType.TheVariants.{Wall, UTC, Standard}
 use Rattle.zone_table.specs.Moments.{instant_of, moment}

@@ -20,7 +20,7 @@ use Rattle.zone_table.specs.Bounds.{is_bounded_rule, is_bounded_info, is_bounded
 use Rattle.zone_table.specs.Moments.{applies_to_year}
 use Rattle.zone_table.specs.declared.rule.RuleInfo.{RuleInfo}
 use Rattle.zone_table.specs.declared.zone.ZoneInfo.{ZoneInfo}
-use Rattle.zone_spans.specs.Bounds.{is_bounded_line, is_bounded}
+use Rattle.zone_spans.specs.Bounds.{is_bounded_line}
 use Rattle.zone_spans.specs.Collapse.{is_no_later, is_same_span, kept_of, kept_with, collapsed, without_first}
 use Rattle.zone_spans.specs.Compiled.{compiled, compiled_over}
 use Rattle.zone_spans.specs.Entries.{entry_of, Entry, total, sorted_entries_over}

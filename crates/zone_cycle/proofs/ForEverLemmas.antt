@@ -24,13 +24,13 @@ use Rattle.zone_cycle.specs.Cycle.{instant_on, next_cycle}
 use Rattle.zone_cycle.specs.ForEver.{AreEnough, IsFrom2101, cycles_at, instants_on, is_before_cycle, span_for_ever, span_told, total_for_ever, years_for}
 use Rattle.zone_cycle.specs.GoesOn.{GoesOn, cycle_entries, last_of}
 use Rattle.zone_cycle.specs.InForce.{has_come, span_at, span_by}
+use Rattle.zone_cycle.specs.InForceLaws.{total_at-is}
 use Rattle.zone_cycle.proofs.BackLemmas.{span-as_before}
 use Rattle.zone_cycle.proofs.DayLemmas.{day-repeats}
 use Rattle.zone_cycle.proofs.EverLemmas.{span-turns}
 use Rattle.zone_cycle.proofs.GoingLemmas.{IsGoing}
 use Rattle.zone_cycle.proofs.MoreLemmas.{HasSet, by_kind, set_of_going, sorted_entries_over-still}
 use Rattle.zone_cycle.proofs.SortLemmas.{AllAreBelow, AllAreBelow-sorted}
-use Rattle.zone_cycle.proofs.SpanLemmas.{total_at-is}
 use Rattle.zone_cycle.proofs.StableLemmas.{NoneHasCome}
 use Rattle.zone_cycle.proofs.TestLemmas.{all_early, kept_of-below, not_true}
 use Rattle.zone_cycle.proofs.ZoneLemmas.{span_in, span_in-is}

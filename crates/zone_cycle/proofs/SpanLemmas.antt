@@ -1,5 +1,5 @@
 -- The total in force at an instant of a later cycle is that a cycle before it.
-use Rattle.std.proofs.Common.{◌≡◌, List, [], ◌∷◌, ℤ, pos, refl, ℕ, Bool, ap, ◌∙◌, arith, ◌*ℤ◌, true, false, ◌++◌, map, filter, sym, ◌&&◌, if◌then◌else◌, int_le, cond, int_eq, reverse, eqb-true, nat_eq}
+use Rattle.std.proofs.Common.{◌≡◌, List, [], ◌∷◌, ℤ, pos, refl, ℕ, Bool, ap, ◌∙◌, arith, ◌*ℤ◌, true, false, ◌++◌, map, sym, ◌&&◌, if◌then◌else◌, int_le, cond, int_eq, reverse, eqb-true, nat_eq}
 use Rattle.std.proofs.lemmas.Bool.{and_parts}
 use Rattle.std.proofs.lemmas.Int.{ints}
 use Rattle.std.proofs.lemmas.List.{reverse-append}
@@ -7,12 +7,10 @@ use Rattle.owned.specs.Bytes.{are_same_bytes}
 use Rattle.calendar.specs.ComparisonLaws.{eq_from_pass}
 use Rattle.calendar.specs.SignedLaws.{signed}
 use Rattle.zone_spans.specs.Collapse.{is_no_later, is_same_span, kept_of, kept_with, without_first}
-use Rattle.zone_spans.specs.Entries.{Entry, total}
-use Rattle.zone_spans.specs.Schedules.{totals_of, total_at, last_total}
+use Rattle.zone_spans.specs.Entries.{Entry}
 use Rattle.zone_spans.specs.declared.span.FixedTimespan.{FixedTimespan}
-use Rattle.zone_spans.specs.declared.span.FixedTimespanSet.{FixedTimespanSet}
 use Rattle.zone_cycle.specs.Cycle.{entry_on, instant_on, seconds_on}
-use Rattle.zone_cycle.specs.InForce.{has_come, span_at, span_by}
+use Rattle.zone_cycle.specs.InForce.{has_come, span_by}
 use Rattle.zone_cycle.proofs.CollapseLemmas.{kept_of-behind}
 use Rattle.zone_cycle.proofs.SettledLemmas.{and_first, and_second}
 
@@ -42,26 +40,6 @@ pub span_by-begun : (e : Entry) (es : List Entry) (first other : FixedTimespan) 
     → span_by first (e ∷ es) t ≡ span_by other (e ∷ es) t
 unfolding span_by
 span_by-begun e es first other t come = rw come
-
--- the words of a schedule say its total
-pub total_by-is : (es : List Entry) (first : FixedTimespan) (t : ℤ)
-    → last_total (total first) (filter (λ (shift : ℤ × ℤ). int_le (shift.0 *ℤ pos 1000000000) t) (map (λ (e : Entry). (e.0, total e.1)) es))
-    ≡ total (span_by first es t)
-unfolding span_by
-total_by-is [] first t = refl
-total_by-is (e ∷ es) first t =
-    elim (has_come t e) as (λ b. last_total (total first) (cond b ((e.0, total e.1) ∷ shown es) (shown es))
-    ≡ total (span_by (cond b e.1 first) es t)) [
-      | true ↦ total_by-is es e.1 t
-      | false ↦ total_by-is es first t
-    ]
-  where
-    shown : List Entry → List (ℤ × ℤ)
-    shown fs = filter (λ (shift : ℤ × ℤ). int_le (shift.0 *ℤ pos 1000000000) t) (map (λ (e : Entry). (e.0, total e.1)) fs)
-
-pub total_at-is : (set : FixedTimespanSet) (t : ℤ) → total_at (totals_of set) t ≡ total (span_at set t)
-unfolding total_at totals_of
-total_at-is set t = total_by-is set.rest set.first t
 
 same_bytes : (a b : List ℕ) → are_same_bytes a b ≡ true → a ≡ b
 same_bytes [] [] h = refl

@@ -5,3 +5,5 @@ pub mod InForce
 pub mod Later
 pub mod GoesOn
 pub mod ForEver
+-- Laws: what a caller may use.
+pub mod InForceLaws

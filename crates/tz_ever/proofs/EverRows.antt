@@ -1,0 +1,144 @@
+-- The zone of New York's last line in years far off, by what Python's zoneinfo says of America/New_York.
+use Rattle.std.proofs.Common.{◌≡◌, refl, [], ◌∷◌, map, true, false, pos, List, codes, ℤ, ◌+ℤ◌, ◌-ℤ◌, ◌*ℤ◌, Bool, ℕ, ◌*◌, Some, None, Result, Ok, Err, is_ok}
+use Rattle.std.specs.Ordering.{int_eq}
+use Rattle.calendar.specs.Dates.{last_with}
+use Rattle.calendar.specs.Days.{days_after_zero, year_start, days_through, days_into_year, day, is_leap, days_in_year, days_in_month}
+use Rattle.calendar.specs.Weekdays.{weekday_of}
+use Rattle.civil_base.specs.Instants.{instant_at}
+use Rattle.zone_values.specs.Days.{named_day, first_from, is_in_year}
+use Rattle.zone_values.specs.declared.day.DaySpec.TheVariants.{FirstOnOrAfter}
+use Rattle.zone_values.specs.declared.month.Month.{Month}
+use Rattle.zone_values.specs.declared.month.Month.TheVariants.{March, November}
+use Rattle.zone_values.specs.declared.time.TimeType.TheVariants.{Wall}
+use Rattle.zone_values.specs.declared.weekday.Weekday.TheVariants.{Sunday}
+use Rattle.zone_values.specs.declared.year.Year.TheVariants.{Maximum, Number}
+use Rattle.zone_table.specs.Formats.{abbreviation, filled}
+use Rattle.zone_table.specs.Moments.{applies_to_year, instant_of, last_year, moment}
+use Rattle.zone_table.specs.declared.format.Format.TheVariants.{Placeholder}
+use Rattle.zone_table.specs.declared.rule.RuleInfo.{RuleInfo}
+use Rattle.zone_table.specs.declared.zone.Saving.TheVariants.{Multiple}
+use Rattle.zone_table.specs.declared.zone.ZoneInfo.{ZoneInfo}
+use Rattle.zone_spans.specs.Bounds.{is_bounded_line}
+use Rattle.zone_spans.specs.Collapse.{kept_of, kept_with, collapsed, without_first}
+use Rattle.zone_spans.specs.Compiled.{compiled, set_of_lines, compiled_over, set_of_lines_over}
+use Rattle.zone_spans.specs.Entries.{first_span, entries_from, entries_of, next_start, sorted_entries, entries_from_over, entries_of_over, next_start_over, sorted_entries_over}
+use Rattle.zone_spans.specs.Faults.{is_outside, some_year, leaves_year, schedule_fault, leaves_year_over, schedule_fault_over}
+use Rattle.zone_spans.specs.Firings.{earliest, fired, year_firings, firings_of_years, line_firings, years_expanded, line_firings_over, years_over}
+use Rattle.zone_spans.specs.Lines.{Rulesets, zone_lines}
+use Rattle.zone_spans.specs.Listing.{listed_from, start_firing}
+use Rattle.zone_spans.specs.Schedules.{totals_of, total_at}
+use Rattle.zone_spans.specs.Windows.{line_end}
+use Rattle.zone_spans.specs.declared.fault.SpanFault.{SpanFault}
+use Rattle.zone_spans.specs.declared.span.FixedTimespan.{FixedTimespan}
+use Rattle.zone_spans.specs.declared.span.FixedTimespanSet as spans
+use Rattle.zone_cycle.specs.GoesOn.{GoesOn, dont_fall, front_of, goes_on, is_in_order, last_goes_on, last_of, turns}
+use Rattle.zone_cycle.specs.InForce.{span_by}
+use Rattle.zone_cycle.specs.Later.{firings_from, start_after}
+use Rattle.zone_cycle.specs.Settled.{is_lasting, is_settled}
+use Rattle.tz_zone.specs.declared.set.FixedTimespanSet.{FixedTimespanSet}
+use Rattle.tz_ever.specs.Ever.{ever_span, ever_total}
+use Rattle.tz_ever.specs.ForEver.{IsForEver, ever_years}
+use Rattle.tz_ever.specs.Seam.{brought_back, cycles_past, next_seam, seam}
+
+-- ---- the seam and its cycles: 2501-12-31 24:00 is 2102-01-01, and so is that of 2901; before it nothing moves
+brought : map brought_back (
+    pos 0 ∷ (seam -ℤ pos 1) ∷ seam ∷ (next_seam -ℤ pos 1) ∷ next_seam ∷ (next_seam +ℤ pos 1)
+    ∷ (next_seam +ℤ pos 12622780799999999999) ∷ (next_seam +ℤ pos 12622780800000000000) ∷ []
+    ) ≡ (pos 0 ∷ (seam -ℤ pos 1) ∷ seam ∷ (next_seam -ℤ pos 1) ∷ seam ∷ (seam +ℤ pos 1) ∷ (next_seam -ℤ pos 1) ∷ seam ∷ [])
+unfolding brought_back cycles_past
+brought = refl
+
+-- `Rule US 2007 max - Mar Sun>=8 2:00 1:00 D` and `Rule US 2007 max - Nov Sun>=1 2:00 0 S`
+abbrev sunday : Month → ℤ → ℤ → List ℕ → RuleInfo
+sunday month from saving letters = record {
+  from_year = Number (pos 2007);
+  to_year = Some Maximum;
+  month = month;
+  day = FirstOnOrAfter Sunday from;
+  time = pos 7200;
+  time_type = Wall;
+  time_to_add = saving;
+  letters = Some letters;
+}
+
+abbrev rulesets : Rulesets
+rulesets name = Some (sunday March (pos 8) (pos 3600) (codes "D") ∷ sunday November (pos 1) (pos 0) (codes "S") ∷ [])
+
+-- `Zone Made/York -5:00 US E%sT`
+abbrev york : List ZoneInfo
+york = record { offset = pos 0 -ℤ pos 18000; saving = Multiple (codes "US"); format = Placeholder (codes "E%sT"); end_time = None } ∷ []
+
+abbrev est : FixedTimespan
+est = record { utc_offset = pos 0 -ℤ pos 18000; dst_offset = pos 0; name = codes "EST" }
+
+abbrev edt : FixedTimespan
+edt = record { utc_offset = pos 0 -ℤ pos 18000; dst_offset = pos 3600; name = codes "EDT" }
+
+abbrev told : Result spans.FixedTimespanSet SpanFault → spans.FixedTimespanSet
+told (Ok set) = set
+told (Err fault) = record { first = est; rest = [] }
+
+is_told : (due : Result spans.FixedTimespanSet SpanFault) → is_ok due ≡ true → due ≡ Ok (told due)
+is_told (Ok set) h = refl
+is_told (Err fault) h = cc
+
+abbrev made : FixedTimespanSet
+made = record {
+  name = codes "Made/York";
+  first = (told (compiled_over ever_years rulesets york)).first;
+  others = (told (compiled_over ever_years rulesets york)).rest;
+}
+
+-- an instant in nanoseconds, by its second
+abbrev at : ℤ → ℤ
+at second = second *ℤ pos 1000000000
+
+-- at both sides of the changes of 2099 to 2102, 2501, 2502 and 9999, and of the ends of 2099, 2100, 2101, 2501 and 2901
+totals : map (λ t. ever_total made (at t)) (
+    pos 4070908799 ∷ pos 4076636399 ∷ pos 4076636400 ∷ pos 4097195999 ∷ pos 4097196000 ∷ pos 4102444799 ∷ pos 4102444800
+    ∷ pos 4108690799 ∷ pos 4108690800 ∷ pos 4129250399 ∷ pos 4129250400 ∷ pos 4133980799 ∷ pos 4133980800
+    ∷ pos 4140140399 ∷ pos 4140140400 ∷ pos 4160699999 ∷ pos 4160700000 ∷ pos 4165516799 ∷ pos 4165516800
+    ∷ pos 16762921199 ∷ pos 16762921200 ∷ pos 16783480799 ∷ pos 16783480800 ∷ pos 16788297599 ∷ pos 16788297600
+    ∷ pos 16794370799 ∷ pos 16794370800 ∷ pos 16814930399 ∷ pos 16814930400 ∷ pos 29411078399 ∷ pos 29411078400
+    ∷ pos 253377010799 ∷ pos 253377010800 ∷ pos 253397570399 ∷ pos 253397570400 ∷ []
+    ) ≡ map (λ hours. pos 0 -ℤ pos (hours * 3600)) (
+    5 ∷ 5 ∷ 4 ∷ 4 ∷ 5 ∷ 5 ∷ 5
+    ∷ 5 ∷ 4 ∷ 4 ∷ 5 ∷ 5 ∷ 5
+    ∷ 5 ∷ 4 ∷ 4 ∷ 5 ∷ 5 ∷ 5
+    ∷ 5 ∷ 4 ∷ 4 ∷ 5 ∷ 5 ∷ 5
+    ∷ 5 ∷ 4 ∷ 4 ∷ 5 ∷ 5 ∷ 5
+    ∷ 5 ∷ 4 ∷ 4 ∷ 5 ∷ []
+    )
+unfolding ever_total brought_back cycles_past compiled_over schedule_fault_over leaves_year_over some_year is_outside is_in_year zone_lines set_of_lines_over first_span sorted_entries_over entries_from_over entries_of_over next_start_over listed_from start_firing line_firings_over years_over firings_of_years year_firings fired earliest applies_to_year last_year moment abbreviation filled line_end instant_of named_day first_from weekday_of last_with is_leap days_in_year days_in_month days_after_zero year_start days_through days_into_year day collapsed kept_of kept_with without_first total_at totals_of
+totals = refl
+
+-- in the summer and the winter of 9999
+names : map (λ t. ever_span made (at t)) (pos 253377010800 ∷ pos 253397570400 ∷ []) ≡ (edt ∷ est ∷ [])
+unfolding ever_span brought_back cycles_past span_by compiled_over schedule_fault_over leaves_year_over some_year is_outside is_in_year zone_lines set_of_lines_over first_span sorted_entries_over entries_from_over entries_of_over next_start_over listed_from start_firing line_firings_over years_over firings_of_years year_firings fired earliest applies_to_year last_year moment abbreviation filled line_end instant_of named_day first_from weekday_of last_with is_leap days_in_year days_in_month days_after_zero year_start days_through days_into_year day collapsed kept_of kept_with without_first total_at totals_of
+names = refl
+
+-- the offsets of 5 and of 4 hours at which local times are read: 02:30 on 9999-03-14 is none, 01:30 on 9999-11-07 is read at both,
+-- and noon of 9999-12-31 is read at the first
+abbrev is_read : ℤ → ℤ → Bool
+is_read x o = int_eq (ever_total made (instant_at x o)) o
+
+locals : map {B = Bool × Bool} (λ x. (is_read (at x) (pos 0 -ℤ pos 14400), is_read (at x) (pos 0 -ℤ pos 18000))) (pos 253376994600 ∷ pos 253397554200 ∷ pos 253402257600 ∷ [])
+    ≡ ((false, false) ∷ (true, true) ∷ (false, true) ∷ [])
+unfolding ever_total brought_back cycles_past compiled_over schedule_fault_over leaves_year_over some_year is_outside is_in_year zone_lines set_of_lines_over first_span sorted_entries_over entries_from_over entries_of_over next_start_over listed_from start_firing line_firings_over years_over firings_of_years year_firings fired earliest applies_to_year last_year moment abbreviation filled line_end instant_of named_day first_from weekday_of last_with is_leap days_in_year days_in_month days_after_zero year_start days_through days_into_year day collapsed kept_of kept_with without_first total_at totals_of
+locals = refl
+
+-- it goes on, so the laws hold of it
+goes : GoesOn rulesets york
+unfolding goes_on last_goes_on turns front_of last_of is_in_order dont_fall is_settled is_lasting start_after firings_from compiled_over schedule_fault_over leaves_year_over some_year is_outside is_in_year zone_lines set_of_lines_over first_span sorted_entries_over entries_from_over entries_of_over next_start_over listed_from start_firing line_firings_over years_over firings_of_years year_firings fired earliest applies_to_year last_year moment abbreviation filled line_end instant_of named_day first_from weekday_of last_with is_leap days_in_year days_in_month days_after_zero year_start days_through days_into_year day collapsed kept_of kept_with without_first total_at totals_of
+goes = refl
+
+zone : IsForEver rulesets york made
+unfolding is_bounded_line compiled schedule_fault leaves_year set_of_lines sorted_entries entries_from entries_of next_start line_firings years_expanded compiled_over schedule_fault_over leaves_year_over some_year is_outside is_in_year zone_lines set_of_lines_over first_span sorted_entries_over entries_from_over entries_of_over next_start_over listed_from start_firing line_firings_over years_over firings_of_years year_firings fired earliest applies_to_year last_year moment abbreviation filled line_end instant_of named_day first_from weekday_of last_with is_leap days_in_year days_in_month days_after_zero year_start days_through days_into_year day collapsed kept_of kept_with without_first total_at totals_of
+zone = record {
+  goes_on = goes;
+  bounded = refl;
+  today = told (compiled rulesets york);
+  compiles = is_told (compiled rulesets york) refl;
+  range = refl;
+  set_is = is_told (compiled_over ever_years rulesets york) refl;
+}

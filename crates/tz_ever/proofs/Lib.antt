@@ -1,0 +1,7 @@
+pub mod SeamLemmas
+pub mod CutLemmas
+pub mod NearLemmas
+pub mod TotalLemmas
+pub mod AnswerLemmas
+pub mod ForEverLemmas
+mod EverRows

@@ -1,0 +1,131 @@
+-- Whole cycles past the seam, by their bounds.
+use Rattle.std.proofs.Common.{◌≡◌, arith, ℕ, zero, suc, ◌+◌, ◌*◌, ◌/◌, ◌%◌, ◌≤◌, ◌<◌, ℤ, pos, ◌+ℤ◌, ◌-ℤ◌, ◌*ℤ◌, ◌≤ℤ◌, ◌<ℤ◌, int_lt, Bool, true, false, not, unsigned_abs, inl, inr, refl, sym, ap, ◌∙◌}
+use Rattle.std.proofs.lemmas.Bool.{cases_Bool}
+use Rattle.calendar.specs.ComparisonLaws.{lt_from_fail, lt_from_pass, lt_pass}
+use Rattle.calendar.specs.SignedLaws.{signed, natural}
+use Rattle.civil_base.specs.Clock.{nanos_per_day}
+use Rattle.civil_base.specs.Layout.{day_part, time_part}
+use Rattle.civil_base.specs.PartLaws.{parts-joined, time_part-inside}
+use Rattle.tz_ever.specs.Seam.{brought_back, cycles_past, next_seam, next_seam_day, seam, seam_day}
+
+-- so many whole cycles lie between the seam and x
+pub record ArePast (x : ℤ) (k : ℕ) : Type 0 where
+  pub begun : 0 < k → (seam +ℤ pos (k * 12622780800000000000)) ≤ℤ x
+  pub not_over : x <ℤ (seam +ℤ pos (suc k * 12622780800000000000))
+
+whole_of : (a : ℕ) → a / 12622780800000000000 * 12622780800000000000 ≤ a
+whole_of a = omega arith
+
+next_of : (a : ℕ) → a < suc (a / 12622780800000000000) * 12622780800000000000
+next_of a = omega arith
+
+between : (x : ℤ) (a k : ℕ) → x -ℤ seam ≡ pos a → k * 12622780800000000000 ≤ a → a < suc k * 12622780800000000000 → ArePast x k
+between x a k e low high = record {
+  begun = λ _. omega (arith, signed);
+  not_over = omega (arith, signed);
+}
+
+early : (x : ℤ) → x <ℤ seam → ArePast x 0
+early x h = record {
+  begun = λ p. absurd (omega arith);
+  not_over = omega (arith, signed);
+}
+
+pub cycles_past-are : (x : ℤ) → ArePast x (cycles_past x)
+unfolding cycles_past
+cycles_past-are x =
+    let a = unsigned_abs (x -ℤ seam) in
+    elim (cases_Bool (int_lt x seam)) [
+      | inl before ↦ rw before (early x (lt_from_pass x seam before))
+      | inr after ↦
+          let from : seam ≤ℤ x = lt_from_fail x seam after in
+          let is : x -ℤ seam ≡ pos a = natural (x -ℤ seam) (omega (arith, signed)) in
+          rw after (between x a (a / 12622780800000000000) is (whole_of a) (next_of a))
+    ]
+
+-- there is one such number
+only : (x : ℤ) (k j : ℕ) → ArePast x k → ArePast x j → k ≤ j
+only x zero j h g = omega arith
+only x (suc k) j h g =
+    let begun = h.begun (omega arith) in
+    omega (arith, signed, begun, g.not_over)
+
+le_le : (k j : ℕ) → k ≤ j → j ≤ k → k ≡ j
+le_le k j h g = omega arith
+
+pub one_number : (x : ℤ) (k : ℕ) → ArePast x k → cycles_past x ≡ k
+one_number x k h = le_le (cycles_past x) k (only x (cycles_past x) k (cycles_past-are x) h) (only x k (cycles_past x) h (cycles_past-are x))
+
+pub back_by : (x : ℤ) (k : ℕ) → ArePast x k → brought_back x ≡ x -ℤ pos (k * 12622780800000000000)
+unfolding brought_back
+back_by x k h = ap (λ n. x -ℤ pos (n * 12622780800000000000)) (one_number x k h)
+
+none_is : (x : ℤ) → x -ℤ pos (0 * 12622780800000000000) ≡ x
+none_is x = omega (arith, signed)
+
+-- before the next seam nothing changes
+pub back_is : (x : ℤ) → int_lt x next_seam ≡ true → brought_back x ≡ x
+back_is x h =
+    let early : x <ℤ next_seam = lt_from_pass x next_seam h in
+    back_by x 0 (record { begun = λ p. absurd (omega arith); not_over = omega (arith, signed, early) }) ∙ none_is x
+
+-- ---- days
+by_parts : (d : ℤ) (q r : ℕ) → d -ℤ seam_day ≡ pos (q * 146097 + r) → r < 146097
+    → (seam_day +ℤ pos r) *ℤ pos nanos_per_day ≡ brought_back (d *ℤ pos nanos_per_day)
+by_parts d q r e h =
+    let past : ArePast (d *ℤ pos nanos_per_day) q = record { begun = λ _. omega (arith, signed); not_over = omega (arith, signed) } in
+    let same : (seam_day +ℤ pos r) *ℤ pos nanos_per_day ≡ d *ℤ pos nanos_per_day -ℤ pos (q * 12622780800000000000) = omega (arith, signed) in
+    same ∙ sym (back_by (d *ℤ pos nanos_per_day) q past)
+
+parts_of : (a : ℕ) → a ≡ a / 146097 * 146097 + a % 146097
+parts_of a = omega arith
+
+pub day_back : (d : ℤ) (a : ℕ) → d -ℤ seam_day ≡ pos a
+    → (seam_day +ℤ pos (a % 146097)) *ℤ pos nanos_per_day ≡ brought_back (d *ℤ pos nanos_per_day)
+day_back d a e = by_parts d (a / 146097) (a % 146097) (e ∙ ap (λ n. pos n) (parts_of a)) (omega arith)
+
+same_cycles : (d : ℤ) (t k : ℕ) → t < nanos_per_day → ArePast (d *ℤ pos nanos_per_day) k → ArePast (d *ℤ pos nanos_per_day +ℤ pos t) k
+same_cycles d t k h past = record {
+  begun = λ some. let begun = past.begun some in omega (arith, signed);
+  not_over = let not_over = past.not_over in omega (arith, signed);
+}
+
+earlier : (x t : ℤ) (k : ℕ) → (x -ℤ pos (k * 12622780800000000000)) +ℤ t ≡ (x +ℤ t) -ℤ pos (k * 12622780800000000000)
+earlier x t k = omega (arith, signed)
+
+-- the time of day stays
+pub at_time : (d : ℤ) (t : ℕ) → t < nanos_per_day
+    → brought_back (d *ℤ pos nanos_per_day) +ℤ pos t ≡ brought_back (d *ℤ pos nanos_per_day +ℤ pos t)
+at_time d t h =
+    let k = cycles_past (d *ℤ pos nanos_per_day) in
+    let past = cycles_past-are (d *ℤ pos nanos_per_day) in
+    ap (λ z. z +ℤ pos t) (back_by (d *ℤ pos nanos_per_day) k past) ∙ earlier (d *ℤ pos nanos_per_day) (pos t) k
+    ∙ sym (back_by (d *ℤ pos nanos_per_day +ℤ pos t) k (same_cycles d t k h past))
+
+by_day : (x d : ℤ) (t : ℕ) → d *ℤ pos nanos_per_day +ℤ pos t ≡ x → t < nanos_per_day → next_seam ≤ℤ x → seam_day ≤ℤ d
+by_day x d t e h from = omega (arith, signed)
+
+pub day_begun : (x : ℤ) → next_seam ≤ℤ x → seam_day ≤ℤ day_part x
+day_begun x h = by_day x (day_part x) (time_part x) (parts-joined x) (time_part-inside x) h
+
+-- ---- the test
+past_from : (b : Bool) → not b ≡ true → b ≡ false
+past_from true h = cc
+past_from false h = refl
+
+early_from : (b : Bool) → not b ≡ false → b ≡ true
+early_from true h = refl
+early_from false h = cc
+
+from_day : (x d : ℤ) (t : ℕ) → d *ℤ pos nanos_per_day +ℤ pos t ≡ x → next_seam_day ≤ℤ d → next_seam ≤ℤ x
+from_day x d t e h = omega (arith, signed)
+
+before_day : (x d : ℤ) (t : ℕ) → d *ℤ pos nanos_per_day +ℤ pos t ≡ x → t < nanos_per_day → d <ℤ next_seam_day → x <ℤ next_seam
+before_day x d t e b h = omega (arith, signed)
+
+pub is_past : (x : ℤ) → not (int_lt (day_part x) next_seam_day) ≡ true → next_seam ≤ℤ x
+is_past x h = from_day x (day_part x) (time_part x) (parts-joined x) (lt_from_fail _ _ (past_from _ h))
+
+pub is_early : (x : ℤ) → not (int_lt (day_part x) next_seam_day) ≡ false → brought_back x ≡ x
+is_early x h =
+    back_is x (lt_pass x next_seam (before_day x (day_part x) (time_part x) (parts-joined x) (time_part-inside x) (lt_from_pass _ _ (early_from _ h))))

@@ -1,0 +1,19 @@
+use Rattle.std.proofs.Common.{◌≡◌, arith, pos, ◌-ℤ◌, ◌+ℤ◌, ◌*ℤ◌, ◌≤ℤ◌, to_z, of_z, w32, unsigned_abs, ap, ◌∙◌, ◌%◌}
+use Rattle.calendar.specs.SignedLaws.{signed, signed_casts, natural}
+use Rattle.civil_base.specs.Clock.{nanos_per_day}
+use Rattle.civil_base.specs.Julian.{day_of_julian}
+use Rattle.tz_ever.specs.Seam.{seam_day}
+use Rattle.tz_ever.proofs.SeamLemmas.{day_back}
+use Rattle.tz_ever.proofs.bring.julian_in_cycle.Goals as goal
+
+pub returns-clause-value : goal.returns-clause-value
+returns-clause-value c =
+    let d = day_of_julian c.args.day in
+    let begun : seam_day ≤ℤ d = c.requires.begun in
+    let a = unsigned_abs (d -ℤ seam_day) in
+    let is : d -ℤ seam_day ≡ pos a = natural (d -ℤ seam_day) (omega (arith, signed)) in
+    let left : to_z w32 (of_z w32 (to_z w32 (of_z w32 c.args.day) -ℤ pos 2488800)) ≡ d -ℤ seam_day = omega (arith, signed_casts) in
+    let rest : c.day_of_cycle.result ≡ pos (a % 146097) = c.day_of_cycle.ensures ∙ ap (λ z. pos (unsigned_abs z % 146097)) left in
+    let day : day_of_julian (to_z w32 (of_z w32 (pos 2488800 +ℤ to_z w32 (of_z w32 c.day_of_cycle.result)))) ≡ seam_day +ℤ pos (a % 146097) =
+    omega (arith, signed_casts, rest) in
+    ap (λ z. z *ℤ pos nanos_per_day) day ∙ day_back d a is

@@ -1,0 +1,35 @@
+-- What a set of spans shows for ever, where the cycle stands for each later one.
+use Rattle.std.specs.Prelude.{◌≡◌, ℕ, Bool, List, map, ℤ, pos, int_lt}
+use Rattle.civil_base.specs.DateTimes.{at_offset, offset_of}
+use Rattle.civil_base.specs.declared.offset_date_time.OffsetDateTime.{OffsetDateTime}
+use Rattle.zone_spans.specs.Schedules.{total_at}
+use Rattle.zone_spans.specs.declared.span.FixedTimespan.{FixedTimespan}
+use Rattle.zone_cycle.specs.Cycle.{instant_on}
+use Rattle.zone_cycle.specs.InForce.{span_at}
+use Rattle.tz_zone.specs.Compiles.{spans_of}
+use Rattle.tz_zone.specs.Cursors.{cursor_left}
+use Rattle.tz_zone.specs.Sets.{schedule_of}
+use Rattle.tz_zone.specs.declared.cursor.SpanCursor.{SpanCursor}
+use Rattle.tz_zone.specs.declared.set.FixedTimespanSet.{FixedTimespanSet}
+use Rattle.tz_ever.specs.Seam.{IsAtSeam, brought_back}
+
+-- at the seam the set shows what it shows a cycle later
+abbrev pub IsRepeating : FixedTimespanSet → Type 0
+IsRepeating set = (t : ℤ) → IsAtSeam t → span_at (spans_of set) (instant_on t) ≡ span_at (spans_of set) t
+
+-- what is in force at any instant
+unfoldable pub ever_span : FixedTimespanSet → ℤ → FixedTimespan
+ever_span set t = span_at (spans_of set) (brought_back t)
+
+-- the total in force
+unfoldable pub ever_total : FixedTimespanSet → ℤ → ℤ
+ever_total set t = total_at (schedule_of set) (brought_back t)
+
+-- what is in force has this abbreviation, and its saving is above 0 or not
+pub record GivesEver (set : FixedTimespanSet) (t : ℤ) (name : List ℕ) (saving : Bool) : Type 0 where
+  pub named : name ≡ (ever_span set t).name
+  pub saves : saving ≡ int_lt (pos 0) (ever_span set t).dst_offset
+
+-- what is still to give of the date-times of a local time: those of the local time brought back, each at its own offset
+unfoldable pub ever_left : FixedTimespanSet → ℤ → SpanCursor → List OffsetDateTime
+ever_left set local found = map (λ date. at_offset local (offset_of date)) (cursor_left set found)

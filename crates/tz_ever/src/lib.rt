@@ -1,0 +1,11 @@
+//! A zone that goes on for ever: the calendar repeats after 400 years, so a set of spans over 704 years says what is in force at any
+//! instant.
+#![tactic(auto)]
+
+mod bring;
+mod ever_set;
+mod ever_tz;
+pub mod laws;
+
+pub use ever_set::{EVER_YEARS, EverSet};
+pub use ever_tz::{EverCursor, EverTz};
