@@ -1,5 +1,6 @@
 -- What rules give at instants that are known from outside.
-use Rattle.std.proofs.Common.{◌≡◌, refl, arith, ◌∙◌, ap, ℕ, ◌≤◌, Bool, List, [], ◌∷◌, map, true, false, Option, Some, None, ℤ, pos, neg_ℤ, ◌+ℤ◌}
+use Rattle.std.proofs.Common.{◌≡◌, refl, arith, ◌∙◌, ap, ℕ, Bool, ◌&&◌, nat_le, List, [], ◌∷◌, map, true, false, Option, Some, None, ℤ, pos, neg_ℤ, ◌+ℤ◌}
+use Rattle.std.proofs.lemmas.Bool.{and_parts, leb-true}
 use Rattle.std.specs.Int.{int_div_euclid}
 use Rattle.std.specs.Prelude.{codes}
 use Rattle.calendar.specs.Dates.{last_with, year_of}
@@ -19,101 +20,62 @@ use Rattle.tz_posix_core.specs.declared.error.Error.{Error}
 use Rattle.tz_posix_core.specs.declared.error.Error.TheVariants.{ComponentRange, DateTooLarge}
 use Rattle.tz_posix_core.proofs.WorkedDates.{julian_is}
 
-year_is : (offset t y : ℤ) (m d : ℕ) → IsCountedYear y → IsDate y m d → int_div_euclid (t +ℤ offset) (pos 86400) ≡ day y m d
-    → year_at offset t ≡ y
+-- a second of a day of a year lies in that year
+in_year : (y : ℤ) → IsCountedYear y → (m d : ℕ) → (nat_le 1 m && nat_le m 12 && nat_le 1 d && nat_le d (days_in_month y m)) ≡ true → (offset t : ℤ)
+    → int_div_euclid (t +ℤ offset) (pos 86400) ≡ day y m d → year_at offset t ≡ y
 unfolding year_at
-year_is offset t y m d years date is = ap year_of is ∙ year_of-day y m d years date
+in_year y years m d date offset t is =
+    let b = and_parts (nat_le 1 m && nat_le m 12 && nat_le 1 d) _ date in
+    let c = and_parts (nat_le 1 m && nat_le m 12) _ b.0 in
+    let e = and_parts (nat_le 1 m) _ c.0 in
+    ap year_of is ∙ year_of-day y m d years
+    (record { first_month = leb-true _ _ e.0; last_month = leb-true _ _ e.1; first_day = leb-true _ _ c.1; last_day = leb-true _ _ b.1 })
 
 years_2024 : IsCountedYear (pos 2024)
 years_2024 = record { first = omega (arith, signed); last = omega (arith, signed) }
-
-dates_2024 : (m d : ℕ) → IsDate (pos 2024) m d → (offset t : ℤ) → int_div_euclid (t +ℤ offset) (pos 86400) ≡ day (pos 2024) m d
-    → year_at offset t ≡ pos 2024
-dates_2024 m d date offset t is = year_is offset t (pos 2024) m d years_2024 date is
 
 -- New York, -5:00 and -4:00, from the second Sunday of March to the first of November, at 02:00
 abbrev new_york : ℤ → ℤ
 new_york t = posix_total (neg_ℤ (pos 18000)) (neg_ℤ (pos 14400)) (M 3 2 0, pos 7200) (M 11 1 0, pos 7200) t
 
-a_date : (m d : ℕ) → 1 ≤ m → m ≤ 12 → 1 ≤ d → d ≤ days_in_month (pos 2024) m → IsDate (pos 2024) m d
-a_date m d first last one most = record { first_month = first; last_month = last; first_day = one; last_day = most }
+new_york_2024 : map new_york (pos 1710053999 ∷ pos 1710054000 ∷ pos 1730613599 ∷ pos 1730613600 ∷ [])
+    ≡ neg_ℤ (pos 18000) ∷ neg_ℤ (pos 14400) ∷ neg_ℤ (pos 14400) ∷ neg_ℤ (pos 18000) ∷ []
+unfolding
+    posix_total is_saving instant_in rule_day nth_weekday last_with weekday_of
+    is_leap days_in_year days_in_month days_after_zero year_start days_through days_into_year day
+new_york_2024 = rw (
+  in_year (pos 2024) years_2024 3 10 refl (neg_ℤ (pos 18000)) (pos 1710053999) refl,
+  in_year (pos 2024) years_2024 3 10 refl (neg_ℤ (pos 18000)) (pos 1710054000) refl,
+  in_year (pos 2024) years_2024 11 3 refl (neg_ℤ (pos 18000)) (pos 1730613599) refl,
+  in_year (pos 2024) years_2024 11 3 refl (neg_ℤ (pos 18000)) (pos 1730613600) refl,
+) refl
 
 -- Sydney, +10:00 and +11:00, from the first Sunday of October at 02:00 to the first of April at 03:00
 abbrev sydney : ℤ → ℤ
 sydney t = posix_total (pos 36000) (pos 39600) (M 10 1 0, pos 7200) (M 4 1 0, pos 10800) t
 
-new_york_1 : new_york (pos 1710053999) ≡ neg_ℤ (pos 18000)
+sydney_2024 : map sydney (pos 1704067200 ∷ pos 1712419199 ∷ pos 1712419200 ∷ []) ≡ pos 39600 ∷ pos 39600 ∷ pos 36000 ∷ []
 unfolding
     posix_total is_saving instant_in rule_day nth_weekday last_with weekday_of
     is_leap days_in_year days_in_month days_after_zero year_start days_through days_into_year day
-new_york_1 =
-    let date : IsDate (pos 2024) 3 10 = a_date 3 10 (omega arith) (omega arith) (omega arith) (omega arith) in
-    rw (dates_2024 3 10 date (neg_ℤ (pos 18000)) (pos 1710053999) refl) refl
-
-new_york_2 : new_york (pos 1710054000) ≡ neg_ℤ (pos 14400)
-unfolding
-    posix_total is_saving instant_in rule_day nth_weekday last_with weekday_of
-    is_leap days_in_year days_in_month days_after_zero year_start days_through days_into_year day
-new_york_2 =
-    let date : IsDate (pos 2024) 3 10 = a_date 3 10 (omega arith) (omega arith) (omega arith) (omega arith) in
-    rw (dates_2024 3 10 date (neg_ℤ (pos 18000)) (pos 1710054000) refl) refl
-
-new_york_3 : new_york (pos 1730613599) ≡ neg_ℤ (pos 14400)
-unfolding
-    posix_total is_saving instant_in rule_day nth_weekday last_with weekday_of
-    is_leap days_in_year days_in_month days_after_zero year_start days_through days_into_year day
-new_york_3 =
-    let date : IsDate (pos 2024) 11 3 = a_date 11 3 (omega arith) (omega arith) (omega arith) (omega arith) in
-    rw (dates_2024 11 3 date (neg_ℤ (pos 18000)) (pos 1730613599) refl) refl
-
-new_york_4 : new_york (pos 1730613600) ≡ neg_ℤ (pos 18000)
-unfolding
-    posix_total is_saving instant_in rule_day nth_weekday last_with weekday_of
-    is_leap days_in_year days_in_month days_after_zero year_start days_through days_into_year day
-new_york_4 =
-    let date : IsDate (pos 2024) 11 3 = a_date 11 3 (omega arith) (omega arith) (omega arith) (omega arith) in
-    rw (dates_2024 11 3 date (neg_ℤ (pos 18000)) (pos 1730613600) refl) refl
-
-sydney_1 : sydney (pos 1704067200) ≡ pos 39600
-unfolding
-    posix_total is_saving instant_in rule_day nth_weekday last_with weekday_of
-    is_leap days_in_year days_in_month days_after_zero year_start days_through days_into_year day
-sydney_1 =
-    let date : IsDate (pos 2024) 1 1 = a_date 1 1 (omega arith) (omega arith) (omega arith) (omega arith) in
-    rw (dates_2024 1 1 date (pos 36000) (pos 1704067200) refl) refl
-
-sydney_2 : sydney (pos 1712419199) ≡ pos 39600
-unfolding
-    posix_total is_saving instant_in rule_day nth_weekday last_with weekday_of
-    is_leap days_in_year days_in_month days_after_zero year_start days_through days_into_year day
-sydney_2 =
-    let date : IsDate (pos 2024) 4 7 = a_date 4 7 (omega arith) (omega arith) (omega arith) (omega arith) in
-    rw (dates_2024 4 7 date (pos 36000) (pos 1712419199) refl) refl
-
-sydney_3 : sydney (pos 1712419200) ≡ pos 36000
-unfolding
-    posix_total is_saving instant_in rule_day nth_weekday last_with weekday_of
-    is_leap days_in_year days_in_month days_after_zero year_start days_through days_into_year day
-sydney_3 =
-    let date : IsDate (pos 2024) 4 7 = a_date 4 7 (omega arith) (omega arith) (omega arith) (omega arith) in
-    rw (dates_2024 4 7 date (pos 36000) (pos 1712419200) refl) refl
+sydney_2024 = rw (
+  in_year (pos 2024) years_2024 1 1 refl (pos 36000) (pos 1704067200) refl,
+  in_year (pos 2024) years_2024 4 7 refl (pos 36000) (pos 1712419199) refl,
+  in_year (pos 2024) years_2024 4 7 refl (pos 36000) (pos 1712419200) refl,
+) refl
 
 -- +10:00 and +11:00, from midnight of the first of January to that of the tenth: the year begins before that at Greenwich
-abbrev january : ℤ → ℤ
-january t = posix_total (pos 36000) (pos 39600) (J 1, pos 0) (J 10, pos 0) t
-
-january_1 : january (pos 1704031200) ≡ pos 39600
+january : posix_total (pos 36000) (pos 39600) (J 1, pos 0) (J 10, pos 0) (pos 1704031200) ≡ pos 39600
 unfolding
     posix_total is_saving instant_in rule_day
     is_leap days_in_year days_in_month days_after_zero year_start days_through days_into_year day
-january_1 =
-    let date : IsDate (pos 2024) 1 1 = a_date 1 1 (omega arith) (omega arith) (omega arith) (omega arith) in
+january =
     let first : IsDate (pos 1970) 1 1 =
     record { first_month = omega arith; last_month = omega arith; first_day = omega arith; last_day = omega arith } in
     let tenth : IsDate (pos 1970) 1 10 =
     record { first_month = omega arith; last_month = omega arith; first_day = omega arith; last_day = omega arith } in
     rw (
-      dates_2024 1 1 date (pos 36000) (pos 1704031200) refl,
+      in_year (pos 2024) years_2024 1 1 refl (pos 36000) (pos 1704031200) refl,
       julian_is (pos 2024) 1 1 1 first refl,
       julian_is (pos 2024) 1 10 10 tenth refl,
     ) refl
@@ -152,15 +114,13 @@ last_year : year_at (pos 0) (pos 253402300799) ≡ pos 9999
 unfolding is_leap days_in_year days_in_month days_after_zero year_start days_through days_into_year day
 last_year =
     let years : IsCountedYear (pos 9999) = record { first = omega (arith, signed); last = omega (arith, signed) } in
-    year_is (pos 0) (pos 253402300799) (pos 9999) 12 31 years
-    (record { first_month = omega arith; last_month = omega arith; first_day = omega arith; last_day = omega arith }) refl
+    in_year (pos 9999) years 12 31 refl (pos 0) (pos 253402300799) refl
 
 next_year : year_at (pos 3600) (pos 253402300799) ≡ pos 10000
 unfolding is_leap days_in_year days_in_month days_after_zero year_start days_through days_into_year day
 next_year =
     let years : IsCountedYear (pos 10000) = record { first = omega (arith, signed); last = omega (arith, signed) } in
-    year_is (pos 3600) (pos 253402300799) (pos 10000) 1 1 years
-    (record { first_month = omega arith; last_month = omega arith; first_day = omega arith; last_day = omega arith }) refl
+    in_year (pos 10000) years 1 1 refl (pos 3600) (pos 253402300799) refl
 
 -- the start before the end
 first_refusals : rule_refusal (pos 0) (M 12 5 0) (N 365) (pos 253402300799) ∷ rule_refusal (pos 0) (N 365) (M 12 5 0) (pos 253402300799)
@@ -184,15 +144,13 @@ first_year : year_at (pos 0) (neg_ℤ (pos 377705116800)) ≡ neg_ℤ (pos 9999)
 unfolding is_leap days_in_year days_in_month days_after_zero days_before_zero year_start days_through days_into_year day
 first_year =
     let years : IsCountedYear (neg_ℤ (pos 9999)) = record { first = omega (arith, signed); last = omega (arith, signed) } in
-    year_is (pos 0) (neg_ℤ (pos 377705116800)) (neg_ℤ (pos 9999)) 1 1 years
-    (record { first_month = omega arith; last_month = omega arith; first_day = omega arith; last_day = omega arith }) refl
+    in_year (neg_ℤ (pos 9999)) years 1 1 refl (pos 0) (neg_ℤ (pos 377705116800)) refl
 
 year_before : year_at (neg_ℤ (pos 3600)) (neg_ℤ (pos 377705116800)) ≡ neg_ℤ (pos 10000)
 unfolding is_leap days_in_year days_in_month days_after_zero days_before_zero year_start days_through days_into_year day
 year_before =
     let years : IsCountedYear (neg_ℤ (pos 10000)) = record { first = omega (arith, signed); last = omega (arith, signed) } in
-    year_is (neg_ℤ (pos 3600)) (neg_ℤ (pos 377705116800)) (neg_ℤ (pos 10000)) 12 31 years
-    (record { first_month = omega arith; last_month = omega arith; first_day = omega arith; last_day = omega arith }) refl
+    in_year (neg_ℤ (pos 10000)) years 12 31 refl (neg_ℤ (pos 3600)) (neg_ℤ (pos 377705116800)) refl
 
 first_second : rule_refusal (pos 0) (J 1) (J 2) (neg_ℤ (pos 377705116800)) ∷ rule_refusal (neg_ℤ (pos 3600)) (J 1) (J 2) (neg_ℤ (pos 377705116800)) ∷ []
     ≡ None ∷ Some ComponentRange ∷ []
@@ -216,10 +174,9 @@ unfolding
     posix_total is_saving instant_in rule_day nth_weekday last_with weekday_of
     is_leap days_in_year days_in_month days_after_zero year_start days_through days_into_year day
 standard_given given gives =
-    let date : IsDate (pos 2024) 3 10 = a_date 3 10 (omega arith) (omega arith) (omega arith) (omega arith) in
-    let year = dates_2024 3 10 date (neg_ℤ (pos 18000)) (pos 1710053999) refl in
-    let saves : given.saving ≡ false = gives.saves ∙ (rw (year) refl) in
-    (gives.total ∙ (rw (year) refl), saves, gives.named ∙ (rw (saves) refl))
+    let year = in_year (pos 2024) years_2024 3 10 refl (neg_ℤ (pos 18000)) (pos 1710053999) refl in
+    let saves : given.saving ≡ false = gives.saves ∙ rw year refl in
+    (gives.total ∙ rw year refl, saves, gives.named ∙ rw saves refl)
 
 saving_given : (given : Given) → Gives eastern (pos 1710054000000000000) given → IsGiven given (neg_ℤ (pos 14400)) true (codes "EDT")
 unfolding
@@ -227,10 +184,9 @@ unfolding
     posix_total is_saving instant_in rule_day nth_weekday last_with weekday_of
     is_leap days_in_year days_in_month days_after_zero year_start days_through days_into_year day
 saving_given given gives =
-    let date : IsDate (pos 2024) 3 10 = a_date 3 10 (omega arith) (omega arith) (omega arith) (omega arith) in
-    let year = dates_2024 3 10 date (neg_ℤ (pos 18000)) (pos 1710054000) refl in
-    let saves : given.saving ≡ true = gives.saves ∙ (rw (year) refl) in
-    (gives.total ∙ (rw (year) refl), saves, gives.named ∙ (rw (saves) refl))
+    let year = in_year (pos 2024) years_2024 3 10 refl (neg_ℤ (pos 18000)) (pos 1710054000) refl in
+    let saves : given.saving ≡ true = gives.saves ∙ rw year refl in
+    (gives.total ∙ rw year refl, saves, gives.named ∙ rw saves refl)
 
 -- a zone with a rule is refused by the start's day before the end's
 abbrev first_of : List (Option Error) → Option Error

@@ -47,6 +47,14 @@ pub struct YearlyRule {
 impl YearlyTime {
     ghost use Rattle.tz_posix_core.specs.Yearly.{time_shown};
 
+    /// So many seconds from the midnight of a day that a rule may have.
+    pub fn at(date: Date, seconds: i32) -> YearlyTime
+        requires { IsTrue (is_rule_date date) }
+        ensures { time_shown result ≡ (date, seconds) }
+    {
+        YearlyTime { date, seconds }
+    }
+
     /// The day and the time of a rule's start or end.
     fn new<T: RuleTime>(moment: &(Date, Option<T>)) -> YearlyTime
         requires { IsTrue (is_rule_date moment.now.0) }
@@ -56,15 +64,12 @@ impl YearlyTime {
             Some(time) => time.from_midnight(),
             None => TWO_HOURS,
         };
-        YearlyTime {
-            date: moment.0,
-            seconds,
-        }
+        YearlyTime::at(moment.0, seconds)
     }
 
-    /// The second at which clocks at that offset show the time in a year.
+    /// The second at which clocks at that offset show the time in a year of -10000 to 10000.
     #[tactic(auto, unfolding(crate::specs::InForce::instant_in))]
-    fn in_year(&self, year: i32, offset: UtcOffset) -> i64
+    pub fn in_year(&self, year: i32, offset: UtcOffset) -> i64
         requires { IsCountedYear year }
         ensures { result ≡ instant_in year offset (time_shown self.now) }
     {
