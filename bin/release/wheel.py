@@ -11,6 +11,8 @@ from checkout import PROCESSOR, epoch, glibc, read, read_bytes
 from layout import shared_object
 
 LICENSES = ["LICENSE-MIT", "LICENSE-APACHE", "NOTICES"]
+# The least version of the GNU C library that a tag can name on this processor.
+LEAST = (2, 5)
 GENERATOR = "Wheel-Version: 1.0\nGenerator: sefunjaro\nRoot-Is-Purelib: false\nTag: {tag}\n"
 
 
@@ -68,7 +70,7 @@ def zipped(files):
 def wheel(library):
     """The wheel's name and its bytes, over the shared object of a folder."""
     shared = os.path.join(library, shared_object())
-    tag = "py3-none-manylinux_{}_{}_x86_64".format(*glibc(shared))
+    tag = "py3-none-manylinux_{}_{}_x86_64".format(*max(glibc(shared), LEAST))
     files = {**module(), f"sefunjaro/{shared_object()}": read_bytes(shared)}
     files.update({f"{info()}/{name}": read(name).encode() for name in LICENSES})
     files[f"{info()}/METADATA"] = metadata().encode()
