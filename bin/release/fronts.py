@@ -19,7 +19,7 @@ def front(program):
     if not SHARED.search(program.lines):
         return f'#!/bin/sh\n{START}exec "$inside/{program.name}" "$@"\n'
     lines = OF_CHECKOUT.sub("", SHARED.sub("", program.lines))
-    lines = re.sub(r"^#!.*\n", "#!/bin/sh\n", lines).replace("bin/", "")
+    lines = re.sub(r"^#!.*\n", "#!/bin/sh\n", re.sub(r"(?<![/\w])bin/", "", lines))
     return f'{lines}{START}. "$inside/front"\n'
 
 
