@@ -11,6 +11,8 @@ ALWAYS = ["man-db", "python3-venv", "python3-pip"]
 TOOLS = ["gcc", "libc6-dev", "pkg-config"]
 # Where the system keeps lists of its own, whatever is installed: their bytes change.
 KEPT = ("var/lib/dpkg/", "var/log/", "var/cache/", "etc/ld.so.cache", "proc/", "dev/", "tmp/")
+# How long a command may take.
+SECONDS = 300
 PLACES = "/opt/sefunjaro/bin:/usr/sbin:/usr/bin:/sbin:/bin"
 
 
@@ -33,7 +35,7 @@ class Root:
         alone = ["unshare", "--net", "--mount", "--pid", "--fork", "--kill-child", f"--mount-proc={self.path}/proc"]
         clean = ["env", "-i", "HOME=/root", f"PATH={PLACES}", "LC_ALL=C.UTF-8", "DEBIAN_FRONTEND=noninteractive", *(f"{key}={word}" for key, word in settings.items())]
         done = subprocess.run([*alone, "chroot", self.path, *clean, "bash", "-c", command], stdin=subprocess.DEVNULL, stdout=subprocess.PIPE,
-                              stderr=subprocess.STDOUT, encoding="utf-8", errors="replace", timeout=600)
+                              stderr=subprocess.STDOUT, encoding="utf-8", errors="replace", timeout=SECONDS)
         return done.stdout, done.returncode
 
     def ask(self, command, **settings):
