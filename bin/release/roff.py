@@ -14,7 +14,9 @@ def escaped(text, is_code=False):
 
 
 def code(text):
-    return f"\\fB{escaped(text, True)}\\fR"
+    """Code, in bold; a word of it isn't parted at a line's end."""
+    unparted = "" if " " in text else "\\%"
+    return f"\\fB{unparted}{escaped(text, True)}\\fR"
 
 
 def inline(text):

@@ -68,18 +68,18 @@ def answers(root):
     due("the requests of README.md", lines, root.ask(f"cd /tmp && zone_plain {MACHINE} > zones.txt && {command}"))
 
 
-def page(root, name, section=1):
-    """The manual's page of a name."""
-    told = root.ask(f"man -P cat {section} {name}", MANWIDTH="100")
-    for title in ("NAME", "SYNOPSIS", "DESCRIPTION", "EXAMPLES", "SEE ALSO"):
-        if not re.search(rf"^{title}$", re.sub(".\b", "", told), re.M):
+def page(root, name, section):
+    """The manual's page of a name, with the parts that are due in its section."""
+    told = re.sub(".\x08", "", root.ask(f"man -P cat {section} {name}", MANWIDTH="100"))
+    for title in ("NAME", "DESCRIPTION", "SEE ALSO", *(() if section == 7 else ("SYNOPSIS", "EXAMPLES"))):
+        if not re.search(rf"^{title}$", told, re.M):
             raise Stop(f"the page of {name} has no {title}:\n{told[:500]}")
 
 
 def pages(root):
     """The examples of each program's page, run where the programs are installed, and the page itself."""
     for name, commands in all_examples().items():
-        page(root, name)
+        page(root, name, 1)
         root.ask("rm -rf /tmp/page && mkdir /tmp/page")
         for command, lines in commands:
             told = root.ask(f"cd /tmp/page && {command}")
@@ -98,10 +98,19 @@ def words(root):
     due("a link to a front", root.ask("zone_tree --version"), root.ask("ln -s $(command -v zone_tree) /tmp/linked && /tmp/linked --version"))
 
 
-def installed_whole(root):
+def completed(root, prefix):
+    """The names of zones that bash completes."""
+    words = "COMP_WORDS=(zone_list zones.txt Europe/Par) COMP_CWORD=2"
+    told = root.ask(f"cd /tmp && . {prefix}/share/bash-completion/completions/zone_list && {words} && _zone_list && echo ${{COMPREPLY[*]}}")
+    due("what bash completes", "Europe/Paris\n", told)
+
+
+def installed_whole(root, prefix):
     answers(root)
     words(root)
+    completed(root, prefix)
     pages(root)
+    page(root, "sefunjaro", 7)
 
 
 def left(root, before):
@@ -170,6 +179,11 @@ def upgraded(root, release, folder):
     due("the packages over older ones", "", "\n".join(sorted(no_bytecode(new) ^ no_bytecode(fresh))))
     purge(root, PROGRAMS)
     left(root, before)
+
+
+def lintian(release):
+    """That lintian finds no error."""
+    run("lintian", "--fail-on", "error", "--tag-display-limit", "0", "--allow-root", *release.packages([*PROGRAMS, "libsefunjaro-dev"]))
 
 
 def no_bytecode(listing):
