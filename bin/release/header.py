@@ -7,6 +7,9 @@ from checkout import read
 HEAD = re.compile(r"/\*(.*?)\*/\n#ifndef", re.S)
 # A comment, and what it stands before: a struct, an enum or a call, up to its end.
 ITEM = re.compile(r"^/\* (.*?) \*/\n((?:struct|enum|static inline|uint32_t|void)\b.*?(?:^\}.*?;|\);|^\}$))", re.S | re.M)
+ANSWERED = ("Each call but `sefunjaro_version` and `sefunjaro_close` answers a status of `enum sefunjaro_status`, of which 0, "
+            "`SEFUNJARO_DONE`, says that all was written.")
+SHOWN = "A source is opened, a zone of it, which is asked both ways, and both are closed:"
 INSIDE = re.compile(r"^#ifdef __cplusplus\n.*?^#endif\n", re.S | re.M)
 
 
@@ -17,7 +20,8 @@ def joined(words):
 
 def items():
     """Each declaration of the header with its comment, but those by which a handle's copy is passed."""
-    return [(joined(words), declared) for words, declared in ITEM.findall(INSIDE.sub("", read("include", "sefunjaro.h"))) if "_by(struct" not in declared.split("{")[0]]
+    text = INSIDE.sub("", read("include", "sefunjaro.h"))
+    return [(joined(words), declared) for words, declared in ITEM.findall(text) if "_by(struct" not in declared.partition("{")[0]]
 
 
 def prototype(declared):
@@ -52,6 +56,11 @@ def told(words, shown):
     return f".TP\n{shown}\n{roff.paragraph(words)}"
 
 
+def as_it_stands(text):
+    """Code in C, line by line."""
+    return roff.listing([roff.escaped(line, True) for line in text.split("\n")])
+
+
 def example():
     text = read("callers", "example.c")
     return re.sub(r"^/\*.*?\*/\n", "", text, flags=re.S).rstrip("\n")
@@ -61,15 +70,15 @@ def parts():
     """The sections of the page, but the last."""
     found = items()
     shown = [prototype(declared) for _, declared in found if is_call(declared)]
-    synopsis = roff.listing(["\\fB#include <sefunjaro.h>\\fR", "", *(roff.code(line) for line in shown), "", "Link with \\fBpkg\\-config \\-\\-cflags \\-\\-libs sefunjaro\\fR."])
-    kinds = "".join(roff.text(words) + roff.listing([roff.escaped(line, True) for line in declared.split("\n")]) for words, declared in found if not is_call(declared))
+    linked = f"Link with {roff.code('pkg-config --cflags --libs sefunjaro')}."
+    synopsis = roff.listing([roff.code("#include <sefunjaro.h>"), "", *map(roff.code, shown), "", linked])
+    kinds = "".join(roff.text(words) + as_it_stands(declared) for words, declared in found if not is_call(declared))
     answers = "".join(told(words, f"\\fB{name_of(declared)}\\fR()") for words, declared in found if is_call(declared))
     return [
         ("NAME", ", ".join(["sefunjaro", *calls()]) + " \\- the zones of the tz database, by a proved library\n"),
         ("LIBRARY", "Sefunjaro (\\fIlibsefunjaro\\fR, \\fI\\-lsefunjaro\\fR)\n"),
         ("SYNOPSIS", synopsis),
         ("DESCRIPTION", f"{description()}.SS Calls\n{answers}.SS Types\n{kinds}"),
-        ("OPTIONS", ""),
-        ("RETURN VALUE", roff.text("Each call but `sefunjaro_version` and `sefunjaro_close` answers a status of `enum sefunjaro_status`, of which 0, `SEFUNJARO_DONE`, says that all was written.")),
-        ("EXAMPLES", roff.text("A source is opened, a zone of it, which is asked both ways, and both are closed:") + roff.listing([roff.escaped(line, True) for line in example().split("\n")])),
+        ("RETURN VALUE", roff.text(ANSWERED)),
+        ("EXAMPLES", roff.text(SHOWN) + as_it_stands(example())),
     ]

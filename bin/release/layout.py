@@ -19,7 +19,8 @@ Cflags: -I${{includedir}}
 Libs: -L${{libdir}} -lsefunjaro
 """
 # What of the repository stands in share/doc/sefunjaro, where the pages for users lead.
-DOCUMENTS = ["NOTICES", "LICENSE-MIT", "LICENSE-APACHE", "CHANGELOG.md", *(f"docs/{name}.md" for name in ("PROGRAMS", "DIFFERENCES", "DECISIONS", "GLOSSARY", "VERSIONS"))]
+PAGES = ["PROGRAMS.md", "DIFFERENCES.md", "DECISIONS.md", "GLOSSARY.md", "VERSIONS.md"]
+DOCUMENTS = ["NOTICES", "LICENSE-MIT", "LICENSE-APACHE", "CHANGELOG.md", *(f"docs/{name}" for name in PAGES)]
 DOC = "share/doc/sefunjaro"
 
 
@@ -64,7 +65,7 @@ def wants(library):
 
 def of_pages(library):
     """Pages for users, manual pages and completions."""
-    readme = read("bin", "release", "installed.md").replace("{version}", version()).replace("{glibc}", wants(library)).replace("{name}", name())
+    readme = read("bin", "release", "installed.in").format(version=version(), glibc=wants(library), name=name())
     found = {f"{DOC}/README.md": plain(readme)}
     found.update({f"{DOC}/{os.path.basename(path)}": plain(read(path)) for path in DOCUMENTS})
     found.update({f"share/man/{path}": plain(text) for path, text in manual.pages().items()})

@@ -108,7 +108,7 @@ def examples(found, name):
 def statuses():
     """The table of statuses, without that of a program that couldn't be built, and what stands behind it."""
     table, *others = markdown.sections(read("docs", "PROGRAMS.md"))["Statuses"]
-    rows = [[row[0], row[1].partition("; where their number")[0]] for row in table.rows if row[0] != BUILT_HERE]
+    rows = [row for row in table.rows if row[0] != BUILT_HERE]
     said = [block.text.partition(" `--help`")[0].replace("The script", "The program's front") for block in others]
     return roff.items(rows) + "".join(map(roff.text, said))
 

@@ -33,9 +33,13 @@ class Root:
     def run(self, command, **settings):
         """What a command prints, on both streams, and its status."""
         alone = ["unshare", "--net", "--mount", "--pid", "--fork", "--kill-child", f"--mount-proc={self.path}/proc"]
-        clean = ["env", "-i", "HOME=/root", f"PATH={PLACES}", "LC_ALL=C.UTF-8", "DEBIAN_FRONTEND=noninteractive", *(f"{key}={word}" for key, word in settings.items())]
-        done = subprocess.run([*alone, "chroot", self.path, *clean, "bash", "-c", command], stdin=subprocess.DEVNULL, stdout=subprocess.PIPE,
-                              stderr=subprocess.STDOUT, encoding="utf-8", errors="replace", timeout=SECONDS)
+        chosen = (f"{key}={word}" for key, word in settings.items())
+        clean = ["env", "-i", "HOME=/root", f"PATH={PLACES}", "LC_ALL=C.UTF-8", "DEBIAN_FRONTEND=noninteractive", *chosen]
+        try:
+            done = subprocess.run([*alone, "chroot", self.path, *clean, "bash", "-c", command], stdin=subprocess.DEVNULL, stdout=subprocess.PIPE,
+                                  stderr=subprocess.STDOUT, encoding="utf-8", errors="replace", timeout=SECONDS)
+        except subprocess.TimeoutExpired:
+            raise Stop(f"{command}: no end after {SECONDS} s") from None
         return done.stdout, done.returncode
 
     def ask(self, command, **settings):
