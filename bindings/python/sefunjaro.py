@@ -8,7 +8,7 @@
     datetime(2024, 7, 14, 21, 15, tzinfo=paris).isoformat()      # '2024-07-14T21:15:00+02:00'
     paris.instants(datetime(2024, 10, 27, 2, 30))                # both instants of a local time that clocks show twice
 
-One file over ctypes. It loads libsefunjaro.so, which `bin/make_library` makes: the file that the environment variable
+One file over ctypes. It loads libsefunjaro.so.2, which `bin/make_library` makes: the file that the environment variable
 SEFUNJARO_LIBRARY names, else the one beside this module, else the one that the system's loader finds.
 
 Instants are given as seconds from 1970-01-01 00:00:00 UTC and nanoseconds, offsets as seconds east of UTC. Any number of threads may
@@ -283,7 +283,7 @@ _EPOCH_DAY = _EPOCH.toordinal()
 
 
 def _load() -> ctypes.CDLL:
-    file = "libsefunjaro.so"
+    file = "libsefunjaro.so.2"
     named = os.environ.get("SEFUNJARO_LIBRARY")
     beside = os.path.join(os.path.dirname(os.path.abspath(__file__)), file)
     try:

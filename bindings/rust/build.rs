@@ -1,15 +1,40 @@
-//! Links `libsefunjaro.a` of the folder that the environment variable SEFUNJARO_FOLDER names: the one that `bin/make_library` made.
+//! Finds the library: `libsefunjaro.a` of the folder that the environment variable SEFUNJARO_FOLDER names, as the one that
+//! `bin/make_library` made, or else what pkg-config knows as `sefunjaro`.
 
 use std::env;
 use std::path::Path;
+use std::process::Command;
+
+/// The major version of the library whose calls the crate declares.
+const OLDEST: &str = "sefunjaro >= 2.0.0";
+const NEXT: &str = "sefunjaro < 3";
 
 fn main() {
-    println!("cargo:rerun-if-env-changed=SEFUNJARO_FOLDER");
+    for variable in ["SEFUNJARO_FOLDER", "PKG_CONFIG", "PKG_CONFIG_PATH"] {
+        println!("cargo:rerun-if-env-changed={variable}");
+    }
     println!("cargo:rerun-if-changed=build.rs");
-    let folder = env::var("SEFUNJARO_FOLDER").expect("SEFUNJARO_FOLDER names the folder that bin/make_library made");
-    let archive = Path::new(&folder).join("libsefunjaro.a");
+    match env::var("SEFUNJARO_FOLDER") {
+        Ok(folder) => link_archive(&folder),
+        Err(_) => link_packaged(),
+    }
+}
+
+fn link_archive(folder: &str) {
+    let archive = Path::new(folder).join("libsefunjaro.a");
     assert!(archive.is_file(), "there is no {}: bin/make_library makes it", archive.display());
     println!("cargo:rerun-if-changed={}", archive.display());
     println!("cargo:rustc-link-search=native={folder}");
     println!("cargo:rustc-link-lib=static=sefunjaro");
+}
+
+fn link_packaged() {
+    let program = env::var("PKG_CONFIG").unwrap_or_else(|_| String::from("pkg-config"));
+    let told = Command::new(&program).args(["--libs-only-L", OLDEST, NEXT]).output();
+    let told = told.unwrap_or_else(|error| panic!("{program}: {error}; SEFUNJARO_FOLDER may name the library's folder instead"));
+    assert!(told.status.success(), "{}SEFUNJARO_FOLDER may name the library's folder instead", String::from_utf8_lossy(&told.stderr));
+    for folder in String::from_utf8_lossy(&told.stdout).split_whitespace().filter_map(|word| word.strip_prefix("-L")) {
+        println!("cargo:rustc-link-search=native={folder}");
+    }
+    println!("cargo:rustc-link-lib=sefunjaro");
 }

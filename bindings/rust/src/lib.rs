@@ -1,6 +1,6 @@
-//! The zones of the tz database, asked at instants and at local times, by the proved engine of `libsefunjaro.a`.
+//! The zones of the tz database, asked at instants and at local times, by the proved engine of `libsefunjaro`.
 //!
-//! The environment variable `SEFUNJARO_FOLDER` names the folder that `bin/make_library` made.
+//! The library is the archive in the folder that the environment variable `SEFUNJARO_FOLDER` names, or else the one that pkg-config knows.
 //!
 //! ```
 //! use sefunjaro::{Clock, Source};

@@ -1,0 +1,90 @@
+"""The files of a release below a prefix."""
+import os
+
+import completions
+import fronts
+import manual
+import tree
+from checkout import ARCHITECTURE, Stop, commit, glibc, major, programs, read, read_bytes, run, sum_of, version
+from tree import link, plain
+
+PKG_CONFIG = """prefix={prefix}
+libdir={libdir}
+includedir=${{prefix}}/include
+
+Name: sefunjaro
+Description: a verified time-zone engine
+Version: {version}
+Cflags: -I${{includedir}}
+Libs: -L${{libdir}} -lsefunjaro
+"""
+# What of the repository stands in share/doc/sefunjaro, where the pages for users lead.
+PAGES = ["PROGRAMS.md", "DIFFERENCES.md", "DECISIONS.md", "GLOSSARY.md", "VERSIONS.md"]
+DOCUMENTS = ["NOTICES", "LICENSE-MIT", "LICENSE-APACHE", "CHANGELOG.md", *(f"docs/{name}" for name in PAGES)]
+DOC = "share/doc/sefunjaro"
+
+
+def name():
+    return f"sefunjaro-{version()}-{ARCHITECTURE}"
+
+
+def shared_object():
+    return f"libsefunjaro.so.{major()}"
+
+
+def pkg_config(prefix, libdir):
+    return PKG_CONFIG.format(prefix=prefix, libdir=libdir, version=version())
+
+
+def of_programs():
+    """The programs as they are, and their fronts."""
+    found = {"libexec/sefunjaro/front": plain(fronts.shared())}
+    for program in programs():
+        if not os.path.exists(program.path):
+            raise Stop(f"there is no {program.path}")
+        found[f"libexec/sefunjaro/{program.name}"] = plain(read_bytes(program.path), 0o755)
+        found[f"bin/{program.name}"] = plain(fronts.front(program), 0o755)
+    return found
+
+
+def of_library(library):
+    """The library that bin/make_library left in a folder."""
+    return {
+        "include/sefunjaro.h": plain(read("include", "sefunjaro.h")),
+        "lib/libsefunjaro.a": plain(read_bytes(os.path.join(library, "libsefunjaro.a"))),
+        f"lib/{shared_object()}": plain(read_bytes(os.path.join(library, shared_object()))),
+        "lib/libsefunjaro.so": link(shared_object()),
+        "lib/pkgconfig/sefunjaro.pc": plain(pkg_config("${pcfiledir}/../..", "${prefix}/lib")),
+    }
+
+
+def wants(library):
+    """The least version of the C library that programs and library want, as a text."""
+    return "{}.{}".format(*glibc(*(program.path for program in programs()), os.path.join(library, shared_object())))
+
+
+def of_pages(library):
+    """Pages for users, manual pages and completions."""
+    readme = read("bin", "release", "installed.in").format(version=version(), glibc=wants(library), name=name())
+    found = {f"{DOC}/README.md": plain(readme)}
+    found.update({f"{DOC}/{os.path.basename(path)}": plain(read(path)) for path in DOCUMENTS})
+    found.update({f"share/man/{path}": plain(text) for path, text in manual.pages().items()})
+    found.update({f"share/{path}": plain(text) for path, text in completions.completions().items()})
+    return found
+
+
+def proved(files, gate):
+    """What was proved, and a checksum of each file, in the form that sha256sum reads."""
+    head = [f"# sefunjaro {version()}", f"# commit {commit()}", f"# kit {run('rt', 'version').strip()}", f"# gate {gate}"]
+    return "\n".join([*head, *(f"{sum_of(tree.bytes_of(files, path))}  {path}" for path in sorted(files))]) + "\n"
+
+
+def files(library, gate):
+    """All files of a release by their paths below its prefix."""
+    found = {**of_programs(), **of_library(library), **of_pages(library)}
+    found[f"{DOC}/PROVED"] = plain(proved(found, gate))
+    return found
+
+
+def archive(found, epoch):
+    return tree.packed(found, name(), epoch)

@@ -1,0 +1,205 @@
+"""What a release has to do where it is installed: each trial raises Stop where it doesn't."""
+import glob
+import os
+import re
+import subprocess
+import tarfile
+
+import deb
+import markdown
+import tree
+from checkout import ROOT, Stop, run
+from manual import MACHINE, all_examples
+from tree import File, plain
+
+PREFIX = "/opt/sefunjaro"
+OLDER = "1.99.0-1"
+# What stands in each package of the older version alone.
+STALE = {"usr/share/doc/{name}/older": plain("older\n")}
+TESTS = "test_sefunjaro"
+PROGRAMS = ["sefunjaro", "libsefunjaro2", "python3-sefunjaro"]
+FOR_C = ["libsefunjaro2", "libsefunjaro-dev"]
+
+
+class Release:
+    """What bin/make_release left in a folder."""
+
+    def __init__(self, folder):
+        self.folder = folder
+        self.archive, self.wheel, self.crate = (self.one(pattern) for pattern in ("*.tar.gz", "*.whl", "*.crate"))
+
+    def one(self, pattern):
+        found = glob.glob(os.path.join(self.folder, pattern))
+        if len(found) != 1:
+            raise Stop(f"{self.folder} has {len(found)} files {pattern}, where there is one in a release")
+        return found[0]
+
+    def packages(self, names):
+        return [self.one(f"{name}_*.deb") for name in names]
+
+    def files(self):
+        """The files of the archive, by their paths below its prefix."""
+        found = {}
+        with tarfile.open(self.archive) as archive:
+            for entry in archive:
+                path = entry.name.partition("/")[2]
+                if entry.issym():
+                    found[path] = tree.link(entry.linkname)
+                elif entry.isfile():
+                    found[path] = File(archive.extractfile(entry).read(), entry.mode)
+        return found
+
+
+def due(what, wanted, got):
+    if wanted != got:
+        raise Stop(f"{what}\n  due:\n{wanted}\n  got:\n{got}")
+
+
+def requests():
+    """The command of the requests with which README.md begins, where the programs are installed, and the lines that are due."""
+    command, lines = next(found for found in markdown.of_page("README.md") if "bin/zone_answers" in found.command)
+    command = re.sub(r"bin/zone_answers \S+$", "zone_answers zones.txt", command.replace("\\\n", ""))
+    return command, "\n".join(lines) + "\n"
+
+
+def answers(root):
+    """The README's requests over the root's own source."""
+    command, lines = requests()
+    due("the requests of README.md", lines, root.ask(f"cd /tmp && zone_plain {MACHINE} > zones.txt && {command}"))
+
+
+def page(root, name, section):
+    """The manual's page of a name, with the parts that are due in its section."""
+    told = re.sub(".\x08", "", root.ask(f"man -P cat {section} {name}", MANWIDTH="100"))
+    for title in ("NAME", "DESCRIPTION", "SEE ALSO", *(() if section == 7 else ("SYNOPSIS", "EXAMPLES"))):
+        if not re.search(rf"^{title}$", told, re.M):
+            raise Stop(f"the page of {name} has no {title}:\n{told[:500]}")
+
+
+def pages(root):
+    """The examples of each program's page, run where the programs are installed, and the page itself."""
+    for name, commands in all_examples().items():
+        page(root, name, 1)
+        root.ask("rm -rf /tmp/page && mkdir /tmp/page")
+        for command, lines in commands:
+            told = root.ask(f"cd /tmp/page && {command}")
+            if not markdown.fits(lines, [line.rstrip() for line in told.splitlines()]):
+                due(f"{name}: {command}", "\n".join(lines), told)
+
+
+def words(root):
+    """What the fronts say by themselves: the usage, the version and the meaning of a status."""
+    for name in all_examples():
+        if f"usage: {name}" not in root.ask(f"{name} --help") or not re.search(r"\d+\.\d+\.\d+", root.ask(f"{name} --version")):
+            raise Stop(f"{name} doesn't know --help or --version")
+        told, status = root.run(name)
+        due(f"{name} without a word", (True, 1), (told.startswith(f"usage: {name}"), status))
+    due("a file that isn't there", ("zone_tree: there is no file /none\n", 3), root.run("zone_tree /none"))
+    due("a link to a front", root.ask("zone_tree --version"), root.ask("ln -s $(command -v zone_tree) /tmp/linked && /tmp/linked --version"))
+
+
+def completed(root, prefix):
+    """The names of zones that bash completes."""
+    words = "COMP_WORDS=(zone_list zones.txt Europe/Par) COMP_CWORD=2"
+    told = root.ask(f"cd /tmp && . {prefix}/share/bash-completion/completions/zone_list && {words} && _zone_list && echo ${{COMPREPLY[*]}}")
+    due("what bash completes", "Europe/Paris\n", told)
+
+
+def installed_whole(root, prefix):
+    answers(root)
+    words(root)
+    completed(root, prefix)
+    pages(root)
+    page(root, "sefunjaro", 7)
+
+
+def left(root, before):
+    """That nothing is left of what was installed."""
+    root.clear()
+    after = root.listing()
+    if before != after:
+        told = "\n".join([*(f"+ {path}" for path in sorted(after - before)), *(f"- {path}" for path in sorted(before - after))])
+        raise Stop(f"what is removed leaves:\n{told[:3000]}")
+
+
+def unpack(root, release):
+    place = root.put(release.archive)
+    root.ask(f"mkdir {PREFIX} && tar -xzf {place} -C {PREFIX} --strip-components=1")
+
+
+def remove(root):
+    root.ask(f"rm -r {PREFIX}")
+
+
+def install(root, paths):
+    root.ask(f"dpkg -i {root.put(*paths)}")
+
+
+def purge(root, names):
+    root.ask(f"dpkg -P {' '.join(reversed(names))}")
+
+
+def compiled(root, flags, **settings):
+    """The first caller in C, built in the root."""
+    root.put(os.path.join(ROOT, "callers", "example.c"))
+    root.ask(f"cd /tmp && gcc -std=c99 -Wall -Wextra -Wpedantic -Werror example.c -o example {flags}", **settings)
+    due("the caller in C", requests()[1], root.ask(f"/tmp/example {MACHINE}"))
+
+
+def python_tests(root, python):
+    """The tests of the module by an interpreter that has it."""
+    root.put(os.path.join(ROOT, "bindings", "python", f"{TESTS}.py"))
+    told = root.ask(f"cd /tmp && PYTHONDONTWRITEBYTECODE=1 {python} -m unittest {TESTS}")
+    if not re.search(r"^OK\b", told, re.M):
+        raise Stop(told[-2000:])
+
+
+def older(release, folder):
+    """Packages of an older version, each with a file that the release doesn't have."""
+    depends = run("dpkg-deb", "-f", *release.packages(["sefunjaro"]), "Depends")
+    made = deb.packages(release.files(), re.search(r"libc6 \(>= ([\d.]+)\)", depends)[1], OLDER, STALE)
+    for name, data in made.items():
+        with open(os.path.join(folder, name), "wb") as file:
+            file.write(data)
+    return [os.path.join(folder, f"{name}_{OLDER}_amd64.deb") for name in PROGRAMS]
+
+
+def upgraded(root, release, folder):
+    """That packages installed over older ones leave what they leave in a fresh root."""
+    before = root.listing()
+    install(root, release.packages(PROGRAMS))
+    fresh = root.listing()
+    purge(root, PROGRAMS)
+    install(root, older(release, folder))
+    old = root.listing()
+    install(root, release.packages(PROGRAMS))
+    new = root.listing()
+    if old == new or not any("/older " in path for path in old):
+        raise Stop("the older packages differ in nothing")
+    due("the packages over older ones", "", "\n".join(sorted(no_bytecode(new) ^ no_bytecode(fresh))))
+    purge(root, PROGRAMS)
+    left(root, before)
+
+
+def lintian(release):
+    """That lintian finds no error."""
+    run("lintian", "--fail-on", "error", "--tag-display-limit", "0", "--allow-root", *release.packages([*PROGRAMS, "libsefunjaro-dev"]))
+
+
+def no_bytecode(listing):
+    """A listing without the times at which the system compiled modules."""
+    return {path.split(" ")[0] if "__pycache__" in path else path for path in listing}
+
+
+def crate(release, folder):
+    """The first caller in Rust over the crate, which finds the library by pkg-config."""
+    prefix = os.path.join(folder, "prefix")
+    os.mkdir(prefix)
+    run("tar", "-xzf", release.archive, "-C", prefix, "--strip-components=1")
+    run("tar", "-xzf", release.crate, "-C", folder)
+    copy = os.path.join(folder, os.path.basename(release.crate).removesuffix(".crate"))
+    settings = {**os.environ, "PKG_CONFIG_PATH": f"{prefix}/lib/pkgconfig", "LD_LIBRARY_PATH": f"{prefix}/lib", "CARGO_TARGET_DIR": f"{folder}/target"}
+    settings.pop("SEFUNJARO_FOLDER", None)
+    done = subprocess.run(["cargo", "run", "-q", "--offline", "--example", "first", "--", os.path.join(ROOT, "crates", "zone_answers_real", "data", "tz.txt")],
+                          cwd=copy, env=settings, stdout=subprocess.PIPE, encoding="utf-8")
+    due("the caller in Rust", requests()[1].replace(" | ", "\n"), done.stdout)

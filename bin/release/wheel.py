@@ -1,0 +1,78 @@
+"""The module for Python as it is installed: a package with the shared object inside, as a wheel, and its metadata."""
+import base64
+import hashlib
+import io
+import os
+import re
+import time
+import zipfile
+
+from checkout import PROCESSOR, epoch, glibc, read, read_bytes
+from layout import shared_object
+
+LICENSES = ["LICENSE-MIT", "LICENSE-APACHE", "NOTICES"]
+# The least version of the GNU C library that a tag can name on this processor.
+LEAST = (2, 5)
+GENERATOR = "Wheel-Version: 1.0\nGenerator: sefunjaro\nRoot-Is-Purelib: false\nTag: {tag}\n"
+
+
+def project(name):
+    """A field of bindings/python/pyproject.toml."""
+    return re.search(rf'^{name} = (?:\{{text = )?"([^"]*)"', read("bindings", "python", "pyproject.toml"), re.M)[1]
+
+
+def info():
+    """The folder of the metadata."""
+    return f"{project('name')}-{project('version')}.dist-info"
+
+
+def description():
+    """What the module's own docstring says."""
+    return re.match(r'"""(.*?)"""', read("bindings", "python", "sefunjaro.py"), re.S)[1].strip()
+
+
+def metadata():
+    fields = [
+        "Metadata-Version: 2.1", f"Name: {project('name')}", f"Version: {project('version')}", f"Summary: {project('description')}",
+        f"License: {project('license')}", *(f"License-File: {name}" for name in LICENSES), "Classifier: Typing :: Typed",
+        "Classifier: Operating System :: POSIX :: Linux", f"Requires-Python: {project('requires-python')}",
+        "Description-Content-Type: text/plain",
+    ]
+    return "\n".join(fields) + f"\n\n{description()}\n\nWith the shared object inside it wants a processor of {PROCESSOR}.\n"
+
+
+def module():
+    """The files of the package without the shared object, by their paths."""
+    return {"sefunjaro/__init__.py": read("bindings", "python", "sefunjaro.py").encode(), "sefunjaro/py.typed": b""}
+
+
+def with_record(files):
+    """The files, and the list of them with their checksums."""
+    lines = []
+    for path, data in files.items():
+        digest = base64.urlsafe_b64encode(hashlib.sha256(data).digest()).rstrip(b"=").decode()
+        lines.append(f"{path},sha256={digest},{len(data)}")
+    record = f"{info()}/RECORD"
+    return {**files, record: "".join(f"{line}\n" for line in [*lines, f"{record},,"]).encode()}
+
+
+def zipped(files):
+    """A zip archive of the files, with the one time."""
+    made, moment = io.BytesIO(), time.gmtime(epoch())[:6]
+    with zipfile.ZipFile(made, "w", zipfile.ZIP_DEFLATED) as archive:
+        for path, data in files.items():
+            entry = zipfile.ZipInfo(path, moment)
+            entry.external_attr, entry.compress_type, entry.create_system = 0o100644 << 16, zipfile.ZIP_DEFLATED, 3
+            archive.writestr(entry, data, compresslevel=9)
+    return made.getvalue()
+
+
+def wheel(library):
+    """The wheel's name and its bytes, over the shared object of a folder."""
+    shared = os.path.join(library, shared_object())
+    tag = "py3-none-manylinux_{}_{}_x86_64".format(*max(glibc(shared), LEAST))
+    files = {**module(), f"sefunjaro/{shared_object()}": read_bytes(shared)}
+    files.update({f"{info()}/{name}": read(name).encode() for name in LICENSES})
+    files[f"{info()}/METADATA"] = metadata().encode()
+    files[f"{info()}/WHEEL"] = GENERATOR.format(tag=tag).encode()
+    return f"{project('name')}-{project('version')}-{tag}.whl", zipped(with_record(files))
