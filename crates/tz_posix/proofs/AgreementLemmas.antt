@@ -8,7 +8,7 @@ use Rattle.zone_values.specs.declared.year.Year.TheVariants.{Maximum, Number}
 use Rattle.zone_table.specs.Moments.{has_last_year, is_number, moment}
 use Rattle.zone_table.specs.declared.rule.RuleInfo.{RuleInfo}
 use Rattle.zone_table.specs.declared.zone.ZoneInfo.{ZoneInfo}
-use Rattle.zone_spans.specs.Compiled.{compiled, set_of_lines, unless}
+use Rattle.zone_spans.specs.Compiled.{compiled, compiled_over, set_of_lines, unless}
 use Rattle.zone_spans.specs.Faults.{schedule_fault}
 use Rattle.zone_spans.specs.Lines.{Line, Rulesets, is_known, is_ruled, rules_named, zone_lines}
 use Rattle.zone_spans.specs.Schedules.{schedule_of_lines, totals_told, total_at, totals_of}
@@ -36,7 +36,7 @@ line_of rulesets info = record { info = info; rules = rules_named rulesets info.
 
 pub compiled_line : (rulesets : Rulesets) (info : ZoneInfo) (set : FixedTimespanSet) → compiled rulesets (info ∷ []) ≡ Ok set
     → set_of_lines (line_of rulesets info ∷ []) ≡ Ok set
-unfolding compiled zone_lines
+unfolding compiled_over zone_lines
 compiled_line rulesets info set h = same_set (schedule_fault rulesets (info ∷ [])) _ set h
 
 pub schedule-is : (rulesets : Rulesets) (infos : List ZoneInfo) (set : FixedTimespanSet) → compiled rulesets infos ≡ Ok set → (t : ℤ)

@@ -6,7 +6,7 @@ use Rattle.calendar.specs.ComparisonLaws.{lt_fail}
 use Rattle.owned.specs.Sorted.{put_in, stable_sort}
 use Rattle.zone_table.specs.declared.rule.RuleInfo.{RuleInfo}
 use Rattle.zone_spans.specs.Collapse.{is_same_span, is_no_later, kept_with, kept_of, EntryTimesDontFall}
-use Rattle.zone_spans.specs.Entries.{Entry, entry_of, entries_of, entries_from, fixed_span, at_start, is_sooner, raw_entries, sorted_entries, start_entry}
+use Rattle.zone_spans.specs.Entries.{Entry, entry_of, entries_of, entries_of_over, entries_from_over, fixed_span, at_start, is_sooner, raw_entries, sorted_entries, sorted_entries_over, start_entry}
 use Rattle.zone_spans.specs.Firings.{Firing, firings}
 use Rattle.zone_spans.specs.Lines.{Line}
 use Rattle.zone_spans.specs.Listing.{listed_firings}
@@ -131,7 +131,7 @@ module _ (line : Line) (f g : RuleInfo) (m n : ℕ) (has : HasTwoRules line f g 
       (turns.rise (suc i) (omega arith), (turns.rise_next i (omega arith), times_fall (suc i) (omega arith)))
 
   raw_is : raw_entries (line ∷ []) ≡ map (entry_of line) (reverse (latest offset f g m n))
-  unfolding entries_from entries_of
+  unfolding entries_from_over entries_of_over
   raw_is =
       append-nil (entries_of line None)
       ∙ ap (λ b. cond b (map (entry_of line) (listed_firings None (firings line)) ++ start_entry line None (firings line)) (at_start None (Some (fixed_span line)))) has.ruled
@@ -143,7 +143,7 @@ module _ (line : Line) (f g : RuleInfo) (m n : ℕ) (has : HasTwoRules line f g 
 
   -- the entries are those of the firings, in order
   pub sorted_is : sorted_entries (line ∷ []) ≡ reverse (entries line f g m n)
-  unfolding sorted_entries
+  unfolding sorted_entries_over
   sorted_is =
       ap (stable_sort is_sooner) raw_is_entries
       ∙ sorted_stays (reverse (entries line f g m n)) (rise_reversed (entries line f g m n) (times_fall n (omega arith)))

@@ -5,7 +5,7 @@ use Rattle.std.proofs.lemmas.List.{reverse-append}
 use Rattle.zone_values.specs.declared.time.TimeType.TheVariants.{Wall}
 use Rattle.zone_table.specs.Moments.{applies_to_year, instant_of, moment}
 use Rattle.zone_table.specs.declared.rule.RuleInfo.{RuleInfo}
-use Rattle.zone_spans.specs.Firings.{Firing, Fired, earliest, fired, firings_of_years, is_earlier, line_firings, year_firings, years_expanded}
+use Rattle.zone_spans.specs.Firings.{Firing, Fired, earliest, fired, firings_of_years, is_earlier, line_firings, line_firings_over, year_firings, years_expanded, years_over}
 use Rattle.zone_spans.specs.Lines.{Line, fixed_saving}
 use Rattle.tz_posix.specs.TwoRules.{AreBoth, HasTwoRules, AreInTurn, first_at, saving_before, second_at, written, year_from}
 
@@ -134,11 +134,11 @@ module _ (line : Line) (f g : RuleInfo) (m n : ℕ) (has : HasTwoRules line f g 
       (sym (reverse-append (second_at offset f g m k ∷ first_at offset f g m k ∷ []) (latest offset f g m k)))
 
   all_years : years_expanded line.end ≡ m + n
-  unfolding years_expanded
+  unfolding years_over
   all_years = ap years_expanded has.no_end ∙ sym has.years
 
   pub two_rules_fire : (line_firings line).0 ≡ reverse (latest offset f g m n)
-  unfolding line_firings
+  unfolding line_firings_over
   two_rules_fire =
       ap (λ b. (cond b (firings_of_years offset line.end line.rules (years_expanded line.end)) ([], fixed_saving line.info.saving)).0) has.ruled
       ∙ (λ i. (firings_of_years offset (has.no_end i) line.rules (all_years i)).0)

@@ -9,10 +9,10 @@ use Rattle.zone_table.specs.Moments.{has_years}
 use Rattle.zone_table.specs.declared.rule.RuleInfo.{RuleInfo}
 use Rattle.zone_table.specs.declared.zone.ZoneInfo.{ZoneInfo}
 use Rattle.zone_spans.specs.Collapse.{collapsed}
-use Rattle.zone_spans.specs.Compiled.{compiled, set_of, set_of_lines, unless}
+use Rattle.zone_spans.specs.Compiled.{compiled, compiled_over, set_of, set_of_lines, set_of_lines_over, unless}
 use Rattle.zone_spans.specs.Entries.{Entry, first_span, fixed_span, is_standard, raw_entries, sorted_entries}
-use Rattle.zone_spans.specs.Faults.{schedule_fault, first_met, is_outside, leaves_year, some_year}
-use Rattle.zone_spans.specs.Firings.{years_expanded}
+use Rattle.zone_spans.specs.Faults.{schedule_fault, schedule_fault_over, first_met, is_outside, leaves_year_over, some_year}
+use Rattle.zone_spans.specs.Firings.{years_over}
 use Rattle.zone_spans.specs.Lines.{Line, Rulesets, is_known, is_ruled, rules_named, zone_lines}
 use Rattle.tz_posix.specs.TwoRules.{AreInTurn, HasTwoRules, IsCompiled}
 use Rattle.tz_posix.proofs.TwoRuleEntryLemmas.{first_entry, second_entry, entries, raw_is_entries, sorted_is}
@@ -65,7 +65,7 @@ module _ (line : Line) (f g : RuleInfo) (m n : ℕ) (has : HasTwoRules line f g 
   raw_standard = ap (list_any is_standard) (raw_is_entries line f g m n has turns) ∙ some_standard n some
 
   pub has_set : (set : FixedTimespanSet) × (set_of_lines (line ∷ []) ≡ Ok set)
-  unfolding set_of_lines first_span
+  unfolding set_of_lines_over first_span
   has_set =
       let sorted = sorted_entries (line ∷ []) in
       let found = some_found is_standard sorted (ap (list_any is_standard) (sorted_is line f g m n has turns) ∙ some_standard n some) in (
@@ -101,7 +101,7 @@ module _ (rulesets : Rulesets) (info : ZoneInfo) (f g : RuleInfo) (m n : ℕ) wh
   pub two_rules_compile : HasTwoRules only f g m n → AreInTurn info.offset f g m n → 0 < n
       → (f.time_to_add ≡ pos 0) ⊎ (g.time_to_add ≡ pos 0) → is_known rulesets info.saving ≡ true
       → IsExpandable f → IsExpandable g → IsCompiled rulesets (info ∷ [])
-  unfolding compiled schedule_fault zone_lines leaves_year years_expanded
+  unfolding compiled_over schedule_fault_over zone_lines leaves_year_over years_over
   two_rules_compile has turns some standard known a b =
       let set = has_set only f g m n has turns some standard in
       let outside = λ (r : RuleInfo). some_year (is_outside r) 300 in

@@ -9,7 +9,7 @@ use Rattle.calendar.specs.ComparisonLaws.{le_fail, le_pass, lt_le}
 use Rattle.civil_base.specs.Instants.{seconds_of}
 use Rattle.zone_table.specs.declared.rule.RuleInfo.{RuleInfo}
 use Rattle.zone_spans.specs.Collapse.{is_same_span, collapsed, kept_of, without_first}
-use Rattle.zone_spans.specs.Compiled.{set_of, set_of_lines}
+use Rattle.zone_spans.specs.Compiled.{set_of, set_of_lines, set_of_lines_over}
 use Rattle.zone_spans.specs.Entries.{Entry, total, entry_of, first_span, fixed_span, is_standard, sorted_entries}
 use Rattle.zone_spans.specs.Firings.{Firing}
 use Rattle.zone_spans.specs.Lines.{Line}
@@ -178,7 +178,7 @@ module _ (line : Line) (f g : RuleInfo) (m n : ℕ) (has : HasTwoRules line f g 
   pub two_rules_total : (set : FixedTimespanSet) → set_of_lines (line ∷ []) ≡ Ok set → (t : ℤ) (i : ℕ) → i < n
       → IsInYear line.info.offset f g m n i (seconds_of t)
       → total_at (totals_of set) t ≡ line.info.offset +ℤ saving_in line.info.offset f g m i (seconds_of t)
-  unfolding set_of_lines
+  unfolding set_of_lines_over
   two_rules_total set is t i l inside = by_first (first_span (line ∷ []) sorted) refl is
     where
       by_first : (o : Option FixedTimespan) → first_span (line ∷ []) sorted ≡ o → set_of o sorted ≡ Ok set

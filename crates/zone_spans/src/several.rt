@@ -7,8 +7,8 @@ use crate::line::Line;
 use std::alloc::{AllocError, Global};
 use std::mem;
 
-/// How many values are kept besides the one in use: some 20 MB of marks at most over 300 years. A line looks at the offset and the name of each of
-/// them, and at the rules only where these are its own.
+/// How many values are kept besides the one in use: over 300 years some 20 MB of marks at most. A line looks at the offset and the name
+/// of each of them, and at the rules only where these are its own.
 const MOST_OTHERS: usize = 1_023;
 
 /// What is found for one line, and serves others.
