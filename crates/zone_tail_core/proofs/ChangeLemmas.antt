@@ -152,13 +152,18 @@ comes local k second n at is few names =
     by_day : (offset d : ℤ) → d ≡ k → pos 86400 *ℤ d +ℤ pos second -ℤ offset ≡ local -ℤ offset
     by_day offset d e = omega (arith, signed, e, is)
 
+dated_at : (local : ℤ) → year_begin ≤ℤ local → local <ℤ year_end → IsDated (int_div_euclid local (pos 86400))
+dated_at local low high =
+    let parts = floored local 86400 (omega arith) in
+    dated (int_div_euclid local (pos 86400)) (omega (arith, signed, parts.0, parts.1, parts.2, low)) (omega (arith, signed, parts.0, parts.1, parts.2, high))
+
 pub all_come : (local : ℤ) → year_begin ≤ℤ local → local <ℤ year_end → All (Comes local) (changes_at local)
 unfolding changes_at
 all_come local low high =
     let k = int_div_euclid local (pos 86400) in
     let second = unsigned_abs (int_rem_euclid local (pos 86400)) in
     let parts = floored local 86400 (omega arith) in
-    let at = dated k (omega (arith, signed, parts.0, parts.1, parts.2, low)) (omega (arith, signed, parts.0, parts.1, parts.2, high)) in
+    let at = dated_at local low high in
     let all = all_weeks (pos 2099) (month_of k) (day_of k) last_counted at.date in
     subst (λ y. All (Comes local) (map (change_with k second) (weeks (days_in_month y (month_of k)) (day_of k)))) (sym at.year)
     (All-map (Comes local) (change_with k second) _ (All-weaker (Names (pos 2099) (month_of k) (day_of k)) (λ n. Comes local (change_with k second n)) (λ n names. comes local k second n at (omega (arith, signed, parts.0, parts.1, parts.2)) (omega (arith, signed, parts.1, parts.2)) names) _ all))
@@ -177,8 +182,7 @@ unfolding changes_at
 changes_some local low high =
     let k = int_div_euclid local (pos 86400) in
     let second = unsigned_abs (int_rem_euclid local (pos 86400)) in
-    let parts = floored local 86400 (omega arith) in
-    let at = dated k (omega (arith, signed, parts.0, parts.1, parts.2, low)) (omega (arith, signed, parts.0, parts.1, parts.2, high)) in
+    let at = dated_at local low high in
     let some = weeks_some (days_in_month (pos 2099) (month_of k)) (day_of k) at.date.first_day at.date.last_day (days_in_month-bounds (pos 2099) (month_of k)).1 in
     let all = subst (λ y. 0 < length (weeks (days_in_month y (month_of k)) (day_of k))) (sym at.year) some in
     omega (arith, all, length-map (weeks (days_in_month (year_of k) (month_of k)) (day_of k)) (change_with k second))

@@ -83,21 +83,11 @@ clock_clean s = either (s == 7200) [] (codes "/" ++ time_text s) refl (both (cod
 
 change_clean : (change : Change) → IsClean (change_text change)
 unfolding change_text
-change_clean change =
-    let month = both (codes "M") (decimal change.month) refl (number_clean change.month) in
-    let week = both (codes "M" ++ decimal change.month ++ codes ".") (decimal change.week)
-    (both (codes "M" ++ decimal change.month) (codes ".") month refl) (number_clean change.week) in
-    let day = both (codes "M" ++ decimal change.month ++ codes "." ++ decimal change.week ++ codes ".") (decimal change.weekday)
-    (both (codes "M" ++ decimal change.month ++ codes "." ++ decimal change.week) (codes ".") week refl) (number_clean change.weekday) in
-    both (codes "M" ++ decimal change.month ++ codes "." ++ decimal change.week ++ codes "." ++ decimal change.weekday) (clock_text change.second)
-    day (clock_clean change.second)
+change_clean change = search (both, number_clean, clock_clean) depth 12
 
 rule_clean : (rule : YearlyRule) → IsClean (rule_text rule)
 unfolding rule_text
-rule_clean rule =
-    let start = both (codes ",") (change_text rule.start) refl (change_clean rule.start) in
-    both (codes "," ++ change_text rule.start ++ codes ",") (change_text rule.end)
-    (both (codes "," ++ change_text rule.start) (codes ",") start refl) (change_clean rule.end)
+rule_clean rule = search (both, change_clean) depth 12
 
 -- ---- texts
 
@@ -110,10 +100,7 @@ text_clean : (standard saving : List ℕ) (candidate : Candidate) → IsClean st
 unfolding text_of
 text_clean standard saving (Fixed east) clean _ = both (name_text standard) (offset_text east) (name_clean standard clean) (offset_clean east)
 text_clean standard saving (Ruled rule) clean clean_saving =
-    let a = both (name_text standard) (offset_text rule.standard) (name_clean standard clean) (offset_clean rule.standard) in
-    let b = both (name_text standard ++ offset_text rule.standard) (name_text saving) a (name_clean saving clean_saving) in
-    let c = both (name_text standard ++ offset_text rule.standard ++ name_text saving) (saving_text rule.standard rule.saving) b (saving_clean rule.standard rule.saving) in
-    both (name_text standard ++ offset_text rule.standard ++ name_text saving ++ saving_text rule.standard rule.saving) (rule_text rule) c (rule_clean rule)
+    search (both, name_clean standard clean, name_clean saving clean_saving, offset_clean, saving_clean, rule_clean) depth 12
 
 -- ---- names
 

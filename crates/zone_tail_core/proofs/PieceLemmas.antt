@@ -5,7 +5,8 @@ use Rattle.std.proofs.lemmas.Int.{ints}
 use Rattle.calendar.specs.Days.{day}
 use Rattle.tz_posix_core.specs.InForce.{instant_in, is_saving, is_within, posix_total, year_at}
 use Rattle.zone_tail_core.specs.declared.rule.YearlyRule.{YearlyRule}
-use Rattle.zone_tail_core.specs.Rules.{IsReach, IsSmall, rule_total, time_of}
+use Rattle.civil_base.specs.Ranges.{IsOffset}
+use Rattle.zone_tail_core.specs.Rules.{IsReach, rule_total, time_of}
 use Rattle.zone_tail_core.proofs.YearLemmas.{IsInYear, year_at-in, year_at-is, year_near}
 
 same_le : (a s t n : ℤ) → s ≤ℤ t → t <ℤ n → (s <ℤ a → n ≤ℤ a) → int_le a t ≡ int_le a s
@@ -34,7 +35,7 @@ later_in_year : (y s t n o : ℤ) (e : ℤ) → IsInYear o y s → e ≡ pos 864
 later_in_year y s t n o e h is k l m = record { begun = omega (arith, ints, h.begun); not_over = omega (arith, ints, is) }
 
 -- n: a second after s up to which no moment of the year of s comes, and no other year begins
-pub constant_up_to : (q : YearlyRule) (s n : ℤ) → IsSmall q.standard → IsReach s
+pub constant_up_to : (q : YearlyRule) (s n : ℤ) → IsOffset q.standard → IsReach s
     → n ≤ℤ (pos 86400 *ℤ day (year_at q.standard s +ℤ pos 1) 1 1 -ℤ q.standard)
     → (s <ℤ instant_in (year_at q.standard s) q.standard (time_of q.start) → n ≤ℤ instant_in (year_at q.standard s) q.standard (time_of q.start))
     → (s <ℤ instant_in (year_at q.standard s) q.saving (time_of q.end) → n ≤ℤ instant_in (year_at q.standard s) q.saving (time_of q.end))

@@ -8,6 +8,7 @@ use Rattle.std.proofs.lemmas.List.Elements.{All-append, All-cons, All-get_or, Al
 use Rattle.calendar.specs.ComparisonLaws.{eq_from_pass, le_le, le_same, lt_from_fail, lt_from_pass, lt_le}
 use Rattle.civil_base.specs.Ranges.{is_offset}
 use Rattle.civil_base.specs.RangeLaws.{offset_greatest, offset_least}
+use Rattle.civil_base.specs.Ranges.{IsOffset}
 use Rattle.zone_spans.specs.Entries.{Entry, total}
 use Rattle.tz_zone.specs.Sets.{IsAccepted, IsSpanTime, schedule_of, shift_of, shifts_of, span_in, total_of_span}
 use Rattle.tz_zone.specs.Spans.{Shift, shift_at}
@@ -19,7 +20,7 @@ use Rattle.zone_tail_core.specs.Changes.{changes_at}
 use Rattle.zone_tail_core.specs.Choices.{candidate_at, IsChoice}
 use Rattle.zone_tail_core.specs.LastYear.{Form, form, is_end, is_start, second_week, standard_of, year_begin, year_end}
 use Rattle.zone_tail_core.specs.Ready.{CanBeWritten, IsChosen, IsNamedBy, IsReady, IsReadyList}
-use Rattle.zone_tail_core.specs.Rules.{IsSmall, time_of}
+use Rattle.zone_tail_core.specs.Rules.{time_of}
 use Rattle.zone_tail_core.specs.Settled.{Settles}
 use Rattle.zone_tail_core.specs.Shapes.{entry_in, IsForm}
 use Rattle.zone_tail_core.specs.Tails.{can_be_written, candidates, candidates_of, end_of_last_year, ends_early, fault_of, is_ending_early, is_name, named_or, names_of, rule_with, rules_with, tail_fault}
@@ -198,17 +199,11 @@ module _ (set : FixedTimespanSet) (accepted : IsAccepted (schedule_of set)) (sta
   standard_is : total b.1 ≡ off
   standard_is = omega (arith, ints, eq_from_pass b.1.utc_offset off stops.0, eq_from_pass b.1.dst_offset (pos 0) stops.1)
 
-  saving_small : IsSmall (total a.1)
-  saving_small = record {
-    least = omega (arith, ints, offset_least (total a.1) (one_offset start start_one));
-    greatest = omega (arith, ints, offset_greatest (total a.1) (one_offset start start_one));
-  }
+  saving_small : IsOffset (total a.1)
+  saving_small = one_offset start start_one
 
-  pub standard_small : IsSmall off
-  standard_small = record {
-    least = omega (arith, ints, offset_least (total b.1) (one_offset end end_one), standard_is);
-    greatest = omega (arith, ints, offset_greatest (total b.1) (one_offset end end_one), standard_is);
-  }
+  pub standard_small : IsOffset off
+  standard_small = subst IsOffset standard_is (one_offset end end_one)
 
   pub start_low : year_begin ≤ℤ (a.0 +ℤ off)
   start_low = omega (arith, ints, one_begun start start_one)
@@ -283,12 +278,12 @@ module _ (set : FixedTimespanSet) (accepted : IsAccepted (schedule_of set)) (sta
       (come_e.late (not_early early))
 
   reaches : neg_ℤ (pos 5364662400) ≤ℤ (shift_at (shifts_of set) first).0
-  reaches = omega (arith, ints, h.1.begins.after first (omega arith) (one_inside first (record { from = omega arith; to = omega arith })), standard_small.greatest)
+  reaches = omega (arith, ints, h.1.begins.after first (omega arith) (one_inside first (record { from = omega arith; to = omega arith })), offset_greatest off standard_small)
 
   good : (s e : Change) → Comes (a.0 +ℤ off) s → Comes (b.0 +ℤ total a.1) e → IsGood (Ruled (rule_with off (total a.1) s e))
   good s e come_s come_e = record {
     sound = record { standard = standard_small; saving = saving_small; start = come_s.sound; end = come_e.sound };
-    ends = omega (arith, ints, standard_small.least);
+    ends = omega (arith, ints, offset_least off standard_small);
     settles = settles s e come_s come_e;
     allowed = (one_inside first (record { from = omega arith; to = omega arith }), reaches);
     agrees = candidate_agrees (rule_with off (total a.1) s e) (schedule_of set) first (given s e come_s come_e) accepted.times;

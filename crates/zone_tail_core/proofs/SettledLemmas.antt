@@ -15,7 +15,9 @@ use Rattle.tz_posix_core.specs.Days.{nth_weekday, rule_day}
 use Rattle.tz_posix_core.specs.InForce.{instant_in}
 use Rattle.tz_posix_core.specs.WeekdayLaws.{first_weekday-is, nth_weekday-is, weekday_parts}
 use Rattle.zone_tail_core.specs.LastYear.{year_begin, year_end}
-use Rattle.zone_tail_core.specs.Rules.{date_of, IsChange, IsSmall, time_of}
+use Rattle.civil_base.specs.RangeLaws.{offset_greatest, offset_least}
+use Rattle.civil_base.specs.Ranges.{IsOffset}
+use Rattle.zone_tail_core.specs.Rules.{date_of, IsChange, time_of}
 use Rattle.zone_tail_core.specs.Settled.{IsOfLastYear}
 use Rattle.zone_tail_core.specs.declared.rule.Change.{Change}
 use Rattle.zone_tail_core.proofs.TotalLemmas.{in_last_year}
@@ -97,7 +99,7 @@ begun_entry d (e ∷ es) s zero h l = le_from_pass e.0 s (and_parts (int_le e.0 
 begun_entry d (e ∷ es) s (suc i) h l = begun_entry d es s i (and_parts (int_le e.0 s) _ h).1 (omega arith)
 
 module _ (standard saving : ℤ) (start end : Change) (s : ℤ) (is_start : IsChange start) (is_end : IsChange end)
-    (standard_small : IsSmall standard) (saving_small : IsSmall saving) (not_over : s <ℤ (year_end -ℤ standard)) where
+    (standard_small : IsOffset standard) (saving_small : IsOffset saving) (not_over : s <ℤ (year_end -ℤ standard)) where
   next_start : int_le (instant_in (pos 2100) standard (time_of start)) s ≡ false
   unfolding instant_in
   next_start = le_fail _ s (omega (arith, ints, (from (pos 2100) start counted_next is_start).begun, day-2100))
@@ -105,7 +107,7 @@ module _ (standard saving : ℤ) (start end : Change) (s : ℤ) (is_start : IsCh
   next_end : 3 ≤ end.month + end.week → int_le (instant_in (pos 2100) saving (time_of end)) s ≡ false
   unfolding instant_in
   next_end late =
-      le_fail _ s (omega (arith, ints, (from (pos 2100) end counted_next is_end).later late, day-2100, standard_small.least, saving_small.greatest))
+      le_fail _ s (omega (arith, ints, (from (pos 2100) end counted_next is_end).later late, day-2100, offset_least standard standard_small, offset_greatest saving saving_small))
 
   neither : (a b : Bool) → a ≡ false → b ≡ false → (a || b) ≡ false
   neither a b e f = λ i. e i || f i

@@ -9,7 +9,9 @@ use Rattle.calendar.specs.MonthLaws.{days_through-two}
 use Rattle.calendar.specs.SignedLaws.{signed, natural}
 use Rattle.calendar.specs.YearLaws.{cycle_days-rise, day-cycle}
 use Rattle.tz_posix_core.specs.InForce.{year_at}
-use Rattle.zone_tail_core.specs.Rules.{IsNearYear, IsReach, IsSmall}
+use Rattle.civil_base.specs.RangeLaws.{offset_greatest, offset_least}
+use Rattle.civil_base.specs.Ranges.{IsOffset}
+use Rattle.zone_tail_core.specs.Rules.{IsNearYear, IsReach}
 
 -- a second of a year
 pub record IsInYear (offset y second : ℤ) : Type 0 where
@@ -45,20 +47,20 @@ in_year : (offset second k y : ℤ) → k ≡ int_div_euclid (second +ℤ offset
 in_year offset second k y is begun next = record { begun = omega (arith, signed, is); not_over = omega (arith, signed, is) }
 
 -- the day of a second that is near
-pub day_near : (offset second : ℤ) → IsSmall offset → IsReach second → (neg_ℤ (pos 69446) ≤ℤ int_div_euclid (second +ℤ offset) (pos 86400))
+pub day_near : (offset second : ℤ) → IsOffset offset → IsReach second → (neg_ℤ (pos 69446) ≤ℤ int_div_euclid (second +ℤ offset) (pos 86400))
     × (int_div_euclid (second +ℤ offset) (pos 86400) ≤ℤ pos 69446)
 day_near offset second small reach = (
-  omega (arith, signed, small.least, reach.least),
-  omega (arith, signed, small.greatest, reach.greatest),
+  omega (arith, signed, offset_least offset small, reach.least),
+  omega (arith, signed, offset_greatest offset small, reach.greatest),
 )
 
-pub day_of_reach : (offset second : ℤ) → IsSmall offset → IsReach second → IsYearOf (year_of (int_div_euclid (second +ℤ offset) (pos 86400))) (int_div_euclid (second +ℤ offset) (pos 86400))
+pub day_of_reach : (offset second : ℤ) → IsOffset offset → IsReach second → IsYearOf (year_of (int_div_euclid (second +ℤ offset) (pos 86400))) (int_div_euclid (second +ℤ offset) (pos 86400))
 day_of_reach offset second small reach =
     let near = day_near offset second small reach in
     year_of-is (int_div_euclid (second +ℤ offset) (pos 86400)) (omega (arith, signed, near.0)) (omega (arith, signed, near.1))
 
 -- it lies in its year
-pub year_at-in : (offset second : ℤ) → IsSmall offset → IsReach second → IsInYear offset (year_at offset second) second
+pub year_at-in : (offset second : ℤ) → IsOffset offset → IsReach second → IsInYear offset (year_at offset second) second
 unfolding year_at
 year_at-in offset second small reach =
     let year = day_of_reach offset second small reach in
@@ -93,7 +95,7 @@ year_at-is offset second y near inside =
     omega (arith, signed, one_year offset second _ _ year.counted here there inside, one_year offset second _ _ here year.counted inside there)
 
 -- and it is near
-pub year_near : (offset second : ℤ) → IsSmall offset → IsReach second → IsNearYear (year_at offset second)
+pub year_near : (offset second : ℤ) → IsOffset offset → IsReach second → IsNearYear (year_at offset second)
 unfolding year_at
 year_near offset second small reach =
     let near = day_near offset second small reach in

@@ -1,5 +1,6 @@
 -- Rules of each year, and the totals that they give seconds from 1970-01-01 00:00 UTC on.
 use Rattle.std.specs.Prelude.{◌<◌, IsTrue, ℤ, pos, neg_ℤ, ◌≤ℤ◌}
+use Rattle.civil_base.specs.Ranges.{IsOffset}
 use Rattle.tz_posix_core.specs.InForce.{YearlyTime, posix_total}
 use Rattle.tz_posix_core.specs.Ranges.{is_rule_date}
 use Rattle.tz_posix_core.specs.declared.date.Date.{Date}
@@ -22,14 +23,9 @@ pub record IsChange (change : Change) : Type 0 where
   pub date : IsTrue (is_rule_date (date_of change))
   pub second : change.second < 86400
 
--- at most 100,000 seconds in size
-pub record IsSmall (offset : ℤ) : Type 0 where
-  pub least : neg_ℤ (pos 100000) ≤ℤ offset
-  pub greatest : offset ≤ℤ pos 100000
-
 pub record IsSound (rule : YearlyRule) : Type 0 where
-  pub standard : IsSmall rule.standard
-  pub saving : IsSmall rule.saving
+  pub standard : IsOffset rule.standard
+  pub saving : IsOffset rule.saving
   pub start : IsChange rule.start
   pub end : IsChange rule.end
 

@@ -1,8 +1,8 @@
 //! The candidates of a set.
-ghost use Rattle.std.specs.Prelude.{◌≡◌, ◌++◌, ◌∷◌, [], OnOk, IfOk, map, None};
+ghost use Rattle.std.specs.Prelude.{◌≡◌, ◌++◌, ◌∷◌, [], OnOk, IfOk, map, None, ◌+ℤ◌, ◌≤ℤ◌, ◌<ℤ◌};
 ghost use Rattle.tz_zone.specs.Sets.{IsAccepted, schedule_of};
-ghost use Rattle.zone_tail_core.specs.Changes.{changes_shown};
-ghost use Rattle.zone_tail_core.specs.LastYear.{standard_of};
+ghost use Rattle.zone_tail_core.specs.Changes.{changes_at, changes_shown};
+ghost use Rattle.zone_tail_core.specs.LastYear.{standard_of, year_begin, year_end};
 ghost use Rattle.zone_tail_core.specs.Shapes.{IsForm};
 ghost use Rattle.zone_tail_core.specs.Tails.{candidates, rule_with, rules_with, tail_fault};
 ghost use Rattle.zone_tail_core.specs.declared.candidate.Candidate.TheVariants.{Ruled};
@@ -54,9 +54,18 @@ fn yearly_candidates<S: SpanTable>(
     ensures { IfOk result (λ list. list.items ≡ candidates (S.seen set.now)) }
 {
     let saving = total_of(set, start + 1);
-    let starts = changes_at(entry_time(set, start) + offset);
-    let ends = changes_at(entry_time(set, end) + saving);
+    let starts = changes_from(entry_time(set, start), offset);
+    let ends = changes_from(entry_time(set, end), saving);
     rules(alloc, offset, saving, &starts, &ends)
+}
+
+/// The changes that come at a second of the last year, by clocks so many seconds ahead of UTC.
+fn changes_from(second: i64, offset: i64) -> Changes
+    requires begun { year_begin ≤ℤ (second +ℤ offset) }
+    requires not_over { (second +ℤ offset) <ℤ year_end }
+    ensures { changes_shown result ≡ changes_at (second +ℤ offset) }
+{
+    changes_at(second + offset)
 }
 
 /// The rules of each start with each end.

@@ -1,18 +1,14 @@
 //! Rules of each year: the totals that they give, and when these may change.
-ghost use Rattle.std.specs.Prelude.{◌≡◌, ℤ, pos, neg_ℤ, ◌-ℤ◌, ◌*ℤ◌, ◌≤ℤ◌, ◌<ℤ◌};
-ghost use Rattle.calendar.specs.Days.{day as day_at};
-ghost use Rattle.civil_base.specs.Ranges.{IsDay};
-ghost use Rattle.tz_posix_core.specs.Days.{rule_day};
-ghost use Rattle.tz_posix_core.specs.InForce.{instant_in, is_within as is_between, year_at};
-ghost use Rattle.zone_tail_core.specs.Rules.{IsChange, IsNearYear, IsReach, IsSound, date_of, rule_total, time_of};
+ghost use Rattle.std.specs.Prelude.{◌≡◌, ℤ, pos, ◌-ℤ◌, ◌*ℤ◌, ◌≤ℤ◌, ◌<ℤ◌};
+ghost use Rattle.calendar.specs.Days.{day as day_at, IsCountedYear};
+ghost use Rattle.civil_base.specs.Ranges.{IsOffset};
+ghost use Rattle.tz_posix_core.specs.InForce.{moments_in, year_at};
+ghost use Rattle.tz_posix_core.specs.Yearly.{moments_shown, time_shown};
+ghost use Rattle.zone_tail_core.specs.Rules.{IsChange, IsNearYear, IsReach, IsSound, rule_total, time_of};
 
-use calendar::day_number;
+use civil_base::UtcOffset;
 use tz_posix_core::Date;
-
-const SECONDS_PER_DAY: i64 = 86_400;
-
-/// The Julian day of 1970-01-01.
-const JULIAN_EPOCH: i32 = 2_440_588;
+use tz_posix_core::parts::{Moments, YearlyTime, counted_year_at};
 
 /// When a change comes in each year.
 #[derive(Clone, Copy, Debug, PartialEq, Eq)]
@@ -41,60 +37,62 @@ pub(crate) struct YearlyRule {
 }
 
 impl Change {
-    /// The day number in a year.
-    fn day_in(&self, year: i32) -> i32
-        requires change { IsChange self.now }
-        requires year { IsNearYear year }
-        ensures value { result ≡ rule_day (date_of self.now) year }
-        ensures inside { IsDay result }
+    /// When it comes in each year.
+    fn time(&self) -> YearlyTime
+        requires { IsChange self.now }
+        ensures { time_shown result ≡ time_of self.now }
     {
         let date = Date::M {
             m: self.month,
             n: self.week,
             d: self.weekday,
         };
-        match date.to_date(year) {
-            Ok(date) => date.to_julian_day() - JULIAN_EPOCH,
-            Err(_) => unreachable!(),
-        }
-    }
-
-    /// The second in a year, by clocks so many seconds ahead of UTC.
-    #[tactic(auto, unfolding(tz_posix_core::specs::InForce::instant_in))]
-    fn instant_in(&self, year: i32, offset: i64) -> i64
-        requires change { IsChange self.now }
-        requires year { IsNearYear year }
-        requires least { neg_ℤ (pos 100_000) ≤ℤ offset }
-        requires greatest { offset ≤ℤ pos 100_000 }
-        ensures { result ≡ instant_in year offset (time_of self.now) }
-    {
-        let day = self.day_in(year);
-        i64::from(day) * SECONDS_PER_DAY + i64::from(self.second) - offset
+        YearlyTime::at(date, self.second as i32)
     }
 }
 
 impl YearlyRule {
     /// The year of the date at a second, by clocks of standard time.
-    #[tactic(auto, unfolding(tz_posix_core::specs::InForce::year_at))]
     fn year_at(&self, second: i64) -> i32
         requires sound { IsSound self.now }
         requires reach { IsReach second }
         ensures year { result ≡ year_at self.now.standard second }
         ensures near { IsNearYear result }
     {
-        calendar::date_of((second + self.standard).div_euclid(SECONDS_PER_DAY) as i32).year
+        counted_year_at(offset_of(self.standard), second)
+    }
+
+    /// The second at which a year begins, by clocks of standard time.
+    #[tactic(auto, unfolding(tz_posix_core::specs::InForce::instant_in, tz_posix_core::specs::Days::rule_day))]
+    fn first_second(&self, year: i32) -> i64
+        requires standard { IsOffset self.now.standard }
+        requires year { IsCountedYear year }
+        ensures { result ≡ pos 86_400 *ℤ day_at year 1 1 -ℤ self.now.standard }
+    {
+        let begin = YearlyTime::at(Date::N(0), 0);
+        begin.in_year(year, offset_of(self.standard))
+    }
+
+    /// The start and the end in a year.
+    fn moments_in(&self, year: i32) -> Moments
+        requires sound { IsSound self.now }
+        requires year { IsCountedYear year }
+        ensures { moments_shown result ≡ moments_in self.now.standard self.now.saving (time_of self.now.start) (time_of self.now.end) year }
+    {
+        let start = self.start.time().in_year(year, offset_of(self.standard));
+        let end = self.end.time().in_year(year, offset_of(self.saving));
+        Moments { start, end }
     }
 
     /// The total at a second.
+    #[tactic(auto, unfolding(crate::specs::Rules::rule_total, tz_posix_core::specs::InForce::posix_total, tz_posix_core::specs::InForce::is_saving))]
     pub(crate) fn total(&self, second: i64) -> i64
         requires sound { IsSound self.now }
         requires reach { IsReach second }
         ensures { result ≡ rule_total self.now second }
     {
-        let year = self.year_at(second);
-        let start = self.start.instant_in(year, self.standard);
-        let end = self.end.instant_in(year, self.saving);
-        if is_within(start, end, second) {
+        let moments = self.moments_in(self.year_at(second));
+        if moments.is_within(second) {
             self.saving
         } else {
             self.standard
@@ -109,34 +107,23 @@ impl YearlyRule {
         ensures same { (t : ℤ) → second ≤ℤ t → t <ℤ result → rule_total self.now t ≡ rule_total self.now second }
     {
         let year = self.year_at(second);
-        let next_year = first_second(year + 1, self.standard);
-        let end = self.end.instant_in(year, self.saving);
-        let start = self.start.instant_in(year, self.standard);
-        sooner(second, start, sooner(second, end, next_year))
+        let next_year = self.first_second(year + 1);
+        let moments = self.moments_in(year);
+        sooner(
+            second,
+            moments.start,
+            sooner(second, moments.end, next_year),
+        )
     }
 }
 
-/// The second at which a year begins, by clocks so many seconds ahead of UTC.
-fn first_second(year: i32, offset: i64) -> i64
-    requires low { pos 1700 ≤ℤ year }
-    requires high { year ≤ℤ pos 2301 }
-    requires least { neg_ℤ (pos 100_000) ≤ℤ offset }
-    requires greatest { offset ≤ℤ pos 100_000 }
-    ensures { result ≡ pos 86_400 *ℤ day_at year 1 1 -ℤ offset }
+/// The offset of so many seconds.
+#[tactic(auto, using(civil_base::specs::RangeLaws::ranges))]
+fn offset_of(seconds: i64) -> UtcOffset
+    requires { IsOffset seconds }
+    ensures { result ≡ seconds }
 {
-    i64::from(day_number(year, 1, 1)) * SECONDS_PER_DAY - offset
-}
-
-/// Whether a second lies from the start up to, without, the end; or, where the end lies before the start, before the end or
-/// from the start on.
-fn is_within(start: i64, end: i64, second: i64) -> bool
-    ensures { result ≡ is_between start end second }
-{
-    if end < start {
-        second < end || start <= second
-    } else {
-        start <= second && second < end
-    }
+    UtcOffset::from_whole_seconds(seconds as i32).unwrap()
 }
 
 /// The change where it comes after a second and before what comes next.

@@ -2,15 +2,16 @@ use Rattle.std.proofs.Common.{◌≡◌, ℤ, pos, ◌-ℤ◌, w64, to_z, of_z, 
 use Rattle.std.proofs.lemmas.Int.{ints}
 use Rattle.zone_tail_core.specs.LastYear.{standard_of, year_end}
 use Rattle.zone_tail_core.specs.Ready.{IsReady}
-use Rattle.zone_tail_core.specs.Rules.{IsSmall}
+use Rattle.civil_base.specs.RangeLaws.{offset_greatest, offset_least}
+use Rattle.civil_base.specs.Ranges.{IsOffset}
 use Rattle.zone_tail_core.proofs.ReadyLemmas.{ready_before_entry, ready_far, standard_small, yearly_ready}
 use Rattle.zone_tail_core.proofs.call.last_second.Goals as goal
 
-difference : (o p : ℤ) → FitsSigned w64 o → o ≡ p → IsSmall p → FitsSigned w64 (pos 4102444800 -ℤ to_z w64 (of_z w64 o))
-difference o p fits is small = omega (arith, ints, is, small.least, small.greatest)
+difference : (o p : ℤ) → FitsSigned w64 o → o ≡ p → IsOffset p → FitsSigned w64 (pos 4102444800 -ℤ to_z w64 (of_z w64 o))
+difference o p fits is small = omega (arith, ints, is, offset_least p small, offset_greatest p small)
 
-difference_is : (o p : ℤ) → FitsSigned w64 o → o ≡ p → IsSmall p → to_z w64 (of_z w64 (pos 4102444800 -ℤ to_z w64 (of_z w64 o))) ≡ year_end -ℤ p
-difference_is o p fits is small = omega (arith, ints, is, small.least, small.greatest)
+difference_is : (o p : ℤ) → FitsSigned w64 o → o ≡ p → IsOffset p → to_z w64 (of_z w64 (pos 4102444800 -ℤ to_z w64 (of_z w64 o))) ≡ year_end -ℤ p
+difference_is o p fits is small = omega (arith, ints, is, offset_least p small, offset_greatest p small)
 
 pub overflow_sub-result : goal.overflow_sub-result
 overflow_sub-result g c =
