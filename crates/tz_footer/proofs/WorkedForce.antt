@@ -1,14 +1,15 @@
 -- What rules give at instants that are known from outside, where they fire past their year's edges; and which year decides.
-use Rattle.std.proofs.Common.{◌≡◌, refl, arith, ◌∙◌, ap, cond, ℕ, ◌≤◌, [], ◌∷◌, map, true, false, ℤ, pos, neg_ℤ, ◌+ℤ◌, Bool, codes}
+use Rattle.std.proofs.Common.{◌≡◌, refl, arith, ◌∙◌, ap, cond, ℕ, ◌&&◌, nat_le, [], ◌∷◌, ◌++◌, map, true, false, ℤ, pos, neg_ℤ, ◌+ℤ◌, Bool, codes}
+use Rattle.std.proofs.lemmas.Bool.{and_parts, leb-true}
 use Rattle.std.specs.Int.{int_div_euclid}
 use Rattle.calendar.specs.Dates.{last_with, year_of}
 use Rattle.calendar.specs.DateLaws.{year_of-day}
 use Rattle.calendar.specs.Days.{is_leap, days_in_year, days_in_month, days_after_zero, year_start, days_through, days_into_year}
-use Rattle.calendar.specs.Days.{day, IsCountedYear, IsDate}
+use Rattle.calendar.specs.Days.{day, IsCountedYear}
 use Rattle.calendar.specs.SignedLaws.{signed}
 use Rattle.calendar.specs.Weekdays.{weekday_of}
 use Rattle.tz_posix_core.specs.Days.{nth_weekday, rule_day}
-use Rattle.tz_posix_core.specs.InForce.{instant_in, year_at}
+use Rattle.tz_posix_core.specs.InForce.{YearlyTime, instant_in, year_at}
 use Rattle.tz_posix_core.specs.declared.date.Date.TheVariants.{M, N}
 use Rattle.zone_tzif_core.specs.Zones.{KindValue}
 use Rattle.tz_footer.specs.InForce.{is_saved_by, is_footer_saving, year_after, year_before}
@@ -65,67 +66,43 @@ first_edges = refl
 years_2024 : IsCountedYear (pos 2024)
 years_2024 = record { first = omega (arith, signed); last = omega (arith, signed) }
 
-year_is : (offset t : ℤ) (m d : ℕ) → IsDate (pos 2024) m d → int_div_euclid (t +ℤ offset) (pos 86400) ≡ day (pos 2024) m d → year_at offset t ≡ pos 2024
+-- a second of a day of 2024, five hours behind UTC, lies in that year
+in_2024 : (m d : ℕ) → (nat_le 1 m && nat_le m 12 && nat_le 1 d && nat_le d (days_in_month (pos 2024) m)) ≡ true → (t : ℤ)
+    → int_div_euclid (t +ℤ neg_ℤ (pos 18000)) (pos 86400) ≡ day (pos 2024) m d → year_at (neg_ℤ (pos 18000)) t ≡ pos 2024
 unfolding year_at
-year_is offset t m d date is = ap year_of is ∙ year_of-day (pos 2024) m d years_2024 date
+in_2024 m d date t is =
+    let b = and_parts (nat_le 1 m && nat_le m 12 && nat_le 1 d) _ date in
+    let c = and_parts (nat_le 1 m && nat_le m 12) _ b.0 in
+    let e = and_parts (nat_le 1 m) _ c.0 in
+    ap year_of is ∙ year_of-day (pos 2024) m d years_2024
+    (record { first_month = leb-true _ _ e.0; last_month = leb-true _ _ e.1; first_day = leb-true _ _ c.1; last_day = leb-true _ _ b.1 })
 
-a_date : (m d : ℕ) → 1 ≤ m → m ≤ 12 → 1 ≤ d → d ≤ days_in_month (pos 2024) m → IsDate (pos 2024) m d
-a_date m d first last one most = record { first_month = first; last_month = last; first_day = one; last_day = most }
+abbrev saves : YearlyTime → YearlyTime → ℤ → Bool
+saves = is_footer_saving (neg_ℤ (pos 18000)) (neg_ℤ (pos 14400))
 
 -- five hours behind UTC, daylight saving time from 150 hours into the last Sunday of December to the second Sunday of March at 02:00: the
 -- start of 2023 lies on 6 January 2024 at 06:00
-abbrev late_start : ℤ → Bool
-late_start s = is_footer_saving (neg_ℤ (pos 18000)) (neg_ℤ (pos 14400)) (M 12 5 0, pos 540000) (M 3 2 0, pos 7200) s
-
-before_start : late_start (pos 1704538799) ≡ false
+late_start : map (saves (M 12 5 0, pos 540000) (M 3 2 0, pos 7200)) (pos 1704538799 ∷ pos 1704538800 ∷ []) ≡ false ∷ true ∷ []
 unfolding
     is_footer_saving is_saved_by instant_in rule_day nth_weekday last_with weekday_of
     is_leap days_in_year days_in_month days_after_zero year_start days_through days_into_year day
-before_start =
-    let date : IsDate (pos 2024) 1 6 = a_date 1 6 (omega arith) (omega arith) (omega arith) (omega arith) in
-    rw (year_is (neg_ℤ (pos 18000)) (pos 1704538799) 1 6 date refl) refl
-
-at_start : late_start (pos 1704538800) ≡ true
-unfolding
-    is_footer_saving is_saved_by instant_in rule_day nth_weekday last_with weekday_of
-    is_leap days_in_year days_in_month days_after_zero year_start days_through days_into_year day
-at_start =
-    let date : IsDate (pos 2024) 1 6 = a_date 1 6 (omega arith) (omega arith) (omega arith) (omega arith) in
-    rw (year_is (neg_ℤ (pos 18000)) (pos 1704538800) 1 6 date refl) refl
+late_start = rw (in_2024 1 6 refl (pos 1704538799) refl, in_2024 1 6 refl (pos 1704538800) refl) refl
 
 -- the same offsets, from 150 hours before the first Sunday of January to the first of April: the start of 2025 lies on 29 December 2024
-abbrev early_start : ℤ → Bool
-early_start s = is_footer_saving (neg_ℤ (pos 18000)) (neg_ℤ (pos 14400)) (M 1 1 0, neg_ℤ (pos 540000)) (M 4 1 0, pos 7200) s
-
-before_early : early_start (pos 1735513199) ≡ false
+early_start : map (saves (M 1 1 0, neg_ℤ (pos 540000)) (M 4 1 0, pos 7200)) (pos 1735513199 ∷ pos 1735513200 ∷ []) ≡ false ∷ true ∷ []
 unfolding
     is_footer_saving is_saved_by instant_in rule_day nth_weekday last_with weekday_of
     is_leap days_in_year days_in_month days_after_zero year_start days_through days_into_year day
-before_early =
-    let date : IsDate (pos 2024) 12 29 = a_date 12 29 (omega arith) (omega arith) (omega arith) (omega arith) in
-    rw (year_is (neg_ℤ (pos 18000)) (pos 1735513199) 12 29 date refl) refl
-
-at_early : early_start (pos 1735513200) ≡ true
-unfolding
-    is_footer_saving is_saved_by instant_in rule_day nth_weekday last_with weekday_of
-    is_leap days_in_year days_in_month days_after_zero year_start days_through days_into_year day
-at_early =
-    let date : IsDate (pos 2024) 12 29 = a_date 12 29 (omega arith) (omega arith) (omega arith) (omega arith) in
-    rw (year_is (neg_ℤ (pos 18000)) (pos 1735513200) 12 29 date refl) refl
+early_start = rw (in_2024 12 29 refl (pos 1735513199) refl, in_2024 12 29 refl (pos 1735513200) refl) refl
 
 -- the same offsets, from 50 hours into the 365th day to 72 hours into the last Sunday of December. The end of 2022 lies on 28 December, before
 -- its start, on 2 January 2023; the start of 2023 lies on 2 January 2024 at 02:00, before its end. So noon of 1 January 2024, before both, is
 -- daylight saving time, as it has been since 2 January 2023.
-abbrev over_edges : ℤ → Bool
-over_edges s = is_footer_saving (neg_ℤ (pos 18000)) (neg_ℤ (pos 14400)) (N 364, pos 180000) (M 12 5 0, pos 259200) s
-
-new_year : over_edges (pos 1704128400) ≡ true
+over_edges : saves (N 364, pos 180000) (M 12 5 0, pos 259200) (pos 1704128400) ≡ true
 unfolding
     is_footer_saving is_saved_by instant_in rule_day nth_weekday last_with weekday_of
     is_leap days_in_year days_in_month days_after_zero year_start days_through days_into_year day
-new_year =
-    let date : IsDate (pos 2024) 1 1 = a_date 1 1 (omega arith) (omega arith) (omega arith) (omega arith) in
-    rw (year_is (neg_ℤ (pos 18000)) (pos 1704128400) 1 1 date refl) refl
+over_edges = rw (in_2024 1 1 refl (pos 1704128400) refl) refl
 
 -- what these hold: daylight saving time from the start on and standard time before it, and one kind for good
 abbrev est : KindValue
@@ -137,13 +114,9 @@ edt = record { utoff = neg_ℤ (pos 14400); is_dst = true; name = codes "EDT" }
 abbrev late : FooterZone
 late = yearly est edt (M 12 5 0, pos 540000) (M 3 2 0, pos 7200)
 
-held_before : held_at late (pos 1704538799) ≡ est
+held : map (held_at late) (pos 1704538799 ∷ pos 1704538800 ∷ []) ≡ est ∷ edt ∷ []
 unfolding held_at
-held_before = ap (λ b. cond b edt est) before_start
-
-held_from : held_at late (pos 1704538800) ≡ edt
-unfolding held_at
-held_from = ap (λ b. cond b edt est) at_start
+held = ap (map (λ b. cond b edt est)) late_start
 
 held_always : map (held_at (fixed est)) (pos 0 ∷ pos 1704538800 ∷ []) ≡ est ∷ est ∷ []
 unfolding held_at
@@ -159,30 +132,9 @@ saving_totals = refl
 abbrev early : FooterZone
 early = yearly est edt (M 1 1 0, neg_ℤ (pos 540000)) (M 4 1 0, pos 7200)
 
-one_year_always : is_of_one_year (fixed est) (pos 0) ≡ true
-unfolding is_of_one_year
-one_year_always = refl
-
-not_yet_its_own : is_of_one_year late (pos 1704538800) ≡ false
+own_years : map (is_of_one_year late) (pos 1704538800 ∷ []) ++ map (is_of_one_year early) (pos 1735513199 ∷ pos 1735513200 ∷ [])
+    ++ map (is_of_one_year (fixed est)) (pos 0 ∷ []) ≡ false ∷ true ∷ false ∷ true ∷ []
 unfolding
     is_of_one_year instant_in rule_day nth_weekday last_with weekday_of
     is_leap days_in_year days_in_month days_after_zero year_start days_through days_into_year day
-not_yet_its_own =
-    let date : IsDate (pos 2024) 1 6 = a_date 1 6 (omega arith) (omega arith) (omega arith) (omega arith) in
-    rw (year_is (neg_ℤ (pos 18000)) (pos 1704538800) 1 6 date refl) refl
-
-still_its_own : is_of_one_year early (pos 1735513199) ≡ true
-unfolding
-    is_of_one_year instant_in rule_day nth_weekday last_with weekday_of
-    is_leap days_in_year days_in_month days_after_zero year_start days_through days_into_year day
-still_its_own =
-    let date : IsDate (pos 2024) 12 29 = a_date 12 29 (omega arith) (omega arith) (omega arith) (omega arith) in
-    rw (year_is (neg_ℤ (pos 18000)) (pos 1735513199) 12 29 date refl) refl
-
-no_more_its_own : is_of_one_year early (pos 1735513200) ≡ false
-unfolding
-    is_of_one_year instant_in rule_day nth_weekday last_with weekday_of
-    is_leap days_in_year days_in_month days_after_zero year_start days_through days_into_year day
-no_more_its_own =
-    let date : IsDate (pos 2024) 12 29 = a_date 12 29 (omega arith) (omega arith) (omega arith) (omega arith) in
-    rw (year_is (neg_ℤ (pos 18000)) (pos 1735513200) 12 29 date refl) refl
+own_years = rw (in_2024 1 6 refl (pos 1704538800) refl, in_2024 12 29 refl (pos 1735513199) refl, in_2024 12 29 refl (pos 1735513200) refl) refl

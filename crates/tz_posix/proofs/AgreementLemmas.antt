@@ -148,33 +148,26 @@ module _ (rulesets : Rulesets) (zone : TwoRuleZone) (q : RuledValue) (c : SaysTh
   other_way : AreBoth zone.end zone.start (rules_named rulesets zone.line.saving)
   other_way = ⊎_elim (λ e. inr e) (λ e. inl e) both_rules
 
-  pub start_first : HasTwoRules line zone.start zone.end m n
-  start_first = record {
+  has_two : (f g : RuleInfo) → AreBoth f g (rules_named rulesets zone.line.saving) → f.time_type ≡ Wall → g.time_type ≡ Wall
+      → f.from_year ≡ Number zone.from → g.from_year ≡ Number zone.from → f.to_year ≡ Some Maximum → g.to_year ≡ Some Maximum → HasTwoRules line f g m n
+  has_two f g both f_wall g_wall f_from g_from f_to g_to = record {
     ruled = ruled_line;
     no_end = refl;
-    both = both_rules;
+    both = both;
     years = at.all;
-    f_wall = c.start_wall;
-    g_wall = c.end_wall;
-    f_not_before = not_before zone.from m n at zone.start c.start_from c.start_to_max;
-    g_not_before = not_before zone.from m n at zone.end c.end_from c.end_to_max;
-    f_applies = applies_from zone.from m n at zone.start c.start_from c.start_to_max;
-    g_applies = applies_from zone.from m n at zone.end c.end_from c.end_to_max;
+    f_wall = f_wall;
+    g_wall = g_wall;
+    f_not_before = not_before zone.from m n at f f_from f_to;
+    g_not_before = not_before zone.from m n at g g_from g_to;
+    f_applies = applies_from zone.from m n at f f_from f_to;
+    g_applies = applies_from zone.from m n at g g_from g_to;
   }
 
+  pub start_first : HasTwoRules line zone.start zone.end m n
+  start_first = has_two zone.start zone.end both_rules c.start_wall c.end_wall c.start_from c.end_from c.start_to_max c.end_to_max
+
   pub end_first : HasTwoRules line zone.end zone.start m n
-  end_first = record {
-    ruled = ruled_line;
-    no_end = refl;
-    both = other_way;
-    years = at.all;
-    f_wall = c.end_wall;
-    g_wall = c.start_wall;
-    f_not_before = not_before zone.from m n at zone.end c.end_from c.end_to_max;
-    g_not_before = not_before zone.from m n at zone.start c.start_from c.start_to_max;
-    f_applies = applies_from zone.from m n at zone.end c.end_from c.end_to_max;
-    g_applies = applies_from zone.from m n at zone.start c.start_from c.start_to_max;
-  }
+  end_first = has_two zone.end zone.start other_way c.end_wall c.start_wall c.end_from c.start_from c.end_to_max c.start_to_max
 
   pub differ : (int_eq p zone.end.time_to_add ≡ false) × (int_eq zone.end.time_to_add p ≡ false)
   differ = savings_differ p zone.end.time_to_add c.saving c.no_saving

@@ -1,5 +1,5 @@
 -- A string gives an instant one total.
-use Rattle.std.proofs.Common.{◌≡◌, ℕ, ◌<◌, Bool, true, cond, List, Option, Some, None, is_some, ℤ, pos, ◌<ℤ◌, int_lt, inl, inr, refl, sym, ap, ◌∙◌, arith}
+use Rattle.std.proofs.Common.{◌≡◌, ℕ, ◌<◌, Bool, true, List, Option, None, is_some, ℤ, pos, int_lt, inl, inr, sym, ap, ◌∙◌, arith}
 use Rattle.std.proofs.lemmas.Bool.{cases_lt}
 use Rattle.std.proofs.lemmas.Int.{ints}
 use Rattle.tz_lookup.specs.InForce.{GivesAt}

@@ -1,5 +1,5 @@
 -- Three pairs of yearly rules of the tz database meet each condition.
-use Rattle.std.proofs.Common.{◌≡◌, ℕ, List, [], ◌∷◌, Option, inl, inr, refl, sym, ap, ◌∙◌, arith, ℤ, pos, neg_ℤ, ◌+ℤ◌, ◌-ℤ◌, ◌*ℤ◌, ◌≤ℤ◌, ◌<ℤ◌}
+use Rattle.std.proofs.Common.{◌≡◌, ℕ, List, [], ◌∷◌, Option, inl, inr, refl, sym, ap, ◌∙◌, ◌⊎◌, arith, ℤ, pos, neg_ℤ, ◌+ℤ◌, ◌-ℤ◌, ◌*ℤ◌, ◌≤ℤ◌, ◌<ℤ◌}
 use Rattle.text_parts.specs.Numbers.{value_in}
 use Rattle.calendar.specs.Dates.{last_with}
 use Rattle.calendar.specs.Days.{is_leap, days_in_year, days_in_month, days_after_zero, year_start, days_through, days_into_year, day}
@@ -7,28 +7,33 @@ use Rattle.calendar.specs.SignedLaws.{signed}
 use Rattle.calendar.specs.Weekdays.{weekday_of}
 use Rattle.civil_base.specs.Instants.{seconds_of}
 use Rattle.zone_values.specs.Days.{first_from, named_day}
-use Rattle.zone_values.specs.declared.day.DaySpec.TheVariants.{FirstOnOrAfter}
-use Rattle.zone_values.specs.declared.month.Month.TheVariants.{October}
+use Rattle.zone_values.specs.Months.{month_number}
+use Rattle.zone_values.specs.declared.day.DaySpec.{DaySpec}
+use Rattle.zone_values.specs.declared.day.DaySpec.TheVariants.{FirstOnOrAfter, Last}
+use Rattle.zone_values.specs.declared.month.Month.{Month}
+use Rattle.zone_values.specs.declared.month.Month.TheVariants.{March, April, October, November}
 use Rattle.zone_values.specs.declared.weekday.Weekday.TheVariants.{Sunday}
 use Rattle.zone_table.specs.declared.zone.ZoneInfo.{ZoneInfo}
 use Rattle.zone_spans.specs.Lines.{Rulesets}
 use Rattle.zone_spans.specs.Schedules.{schedule_of_lines, total_at}
 use Rattle.tz_posix.proofs.TwoRuleFiringLemmas.{wall_moment}
-use Rattle.tz_posix.specs.Agreement.{IsNorthern, IsSouthern, SaysTheSame, start_in, value_of, value_total}
+use Rattle.tz_posix.specs.Agreement.{IsChange, IsNorthern, IsSameDay, IsSameTime, IsSouthern, IsTimeOfDay, RuledValue, SaysTheSame, TwoRuleZone, start_in, value_of, value_total}
 use Rattle.tz_posix.specs.Agreement.{from_first, from_eighth, last_of_month}
 use Rattle.tz_posix_core.specs.DayLaws.{day-2100}
 use Rattle.tz_posix_core.specs.Reading.{number_at, part_at, clock_time_at, sign_at, offset_at, letters_at, enclosed_at, name_at}
 use Rattle.tz_posix_core.specs.Reading.{weekday_at, date_at, moment_at, rule_in, own_offset_at, own_rule_in, dst_in, short_in}
 use Rattle.tz_posix_core.specs.Reading.{expanded_in, entry_in}
-use Rattle.tz_posix.specs.RealPairs.{IsRuledBy, lord_howe_rules, lord_howe_text, lord_howe_value}
+use Rattle.tz_posix.specs.RealPairs.{IsRuledBy, on_the_wall, lord_howe_rules, lord_howe_text, lord_howe_value}
 use Rattle.tz_posix.specs.RealPairs.{moldova_rules, moldova_text, moldova_value, new_york_text, new_york_value, us_rules}
-use Rattle.tz_posix_core.specs.Seconds.{offset_seconds, time_seconds}
+use Rattle.tz_posix_core.specs.InForce.{yearly_time}
+use Rattle.tz_posix_core.specs.Seconds.{IsWritten, east_of, offset_seconds, time_seconds}
+use Rattle.tz_posix_core.specs.declared.date.Date.{Date}
 use Rattle.tz_posix_core.specs.Spells.{Spells}
 use Rattle.tz_posix.proofs.NorthernLemmas.{northern_agrees}
 use Rattle.tz_posix.proofs.SouthernLemmas.{southern_agrees}
 use Rattle.tz_posix_core.specs.FoundLaws.{entry_found}
 use Rattle.tz_posix_core.specs.TimeLaws.{day_times_read}
-use Rattle.tz_posix.proofs.MonthPairLemmas.{AreInnerRules, end_inside, northern_apart, northern_order, southern_apart, southern_order, start_inside}
+use Rattle.tz_posix.proofs.MonthPairLemmas.{AreInnerRules, IsInner, end_inside, northern_apart, northern_order, southern_apart, southern_order, start_inside}
 
 pub new_york_spelled : Spells new_york_text (value_of new_york_value)
 unfolding
@@ -61,63 +66,85 @@ sunday_2008 : named_day (FirstOnOrAfter Sunday (pos 1)) (pos 2008) October ≡ p
 unfolding named_day first_from last_with weekday_of is_leap days_in_year days_in_month days_after_zero year_start days_through days_into_year day
 sunday_2008 = refl
 
+-- two rules of Sundays by the wall's clock
+module _ (line : ZoneInfo) (from : ℤ) (m n : Month) (day other : DaySpec) (time late saving : ℤ) (d s : Option (List ℕ)) where
+  abbrev rules : TwoRuleZone
+  rules = record { line = line; start = on_the_wall from m day time saving d; end = on_the_wall from n other late (pos 0) s; from = from }
+
+  inner_of : {a b : Date} → IsSameDay m Sunday day a → IsSameDay n Sunday other b → IsInner (month_number m) → IsInner (month_number n)
+      → IsTimeOfDay time → IsTimeOfDay late → from ≤ℤ pos 2099 → pos 0 <ℤ saving → saving ≤ℤ pos 86400 → AreInnerRules rules
+  inner_of {a} {b} is is_other inner inner_other early later at_most some small = record {
+    start_weekday = Sunday;
+    start_date = a;
+    start_day = is;
+    end_weekday = Sunday;
+    end_date = b;
+    end_day = is_other;
+    start_month = inner;
+    end_month = inner_other;
+    start_wall = refl;
+    end_wall = refl;
+    start_time = early;
+    end_time = later;
+    from_at_most = at_most;
+    saving = some;
+    saving_small = small;
+  }
+
+  module _ (rulesets : Rulesets) (offset : ℤ) (is : IsRuledBy rulesets offset rules) (q : RuledValue) (inner : AreInnerRules rules) where
+    same_of : IsNorthern rules ⊎ IsSouthern rules
+        → ((s t : ℤ) → IsChange rules s → IsChange rules t → s <ℤ t → (s +ℤ saving) <ℤ t)
+        → IsWritten line.offset → IsWritten (line.offset +ℤ saving) → east_of q.standard ≡ offset → east_of q.saving ≡ offset +ℤ saving
+        → IsSameTime rules.start (yearly_time q.rule.start) → IsSameTime rules.end (yearly_time q.rule.end) → SaysTheSame rulesets rules q
+    same_of order apart standard ahead same_standard same_saving same_start same_end = record {
+      ruleset_name = is.ruleset_name;
+      ruled = is.ruled;
+      rules = is.rules;
+      found = is.found;
+      exactly_two = is.exactly_two;
+      start_from = refl;
+      end_from = refl;
+      from_at_most = inner.from_at_most;
+      start_to_max = refl;
+      end_to_max = refl;
+      saving = inner.saving;
+      no_saving = refl;
+      standard_small = standard;
+      saving_small = ahead;
+      start_wall = refl;
+      end_wall = refl;
+      start_time = inner.start_time;
+      end_time = inner.end_time;
+      start_inside = start_inside rules inner;
+      end_inside = end_inside rules inner;
+      order = order;
+      apart = apart;
+      same_standard = same_standard ∙ sym is.offset_is;
+      same_saving = same_saving ∙ sym (ap (λ o. o +ℤ saving) is.offset_is);
+      same_start = same_start;
+      same_end = same_end;
+    }
+
 -- ---- the United States, -5:00
 
 module _ (rulesets : Rulesets) (line : ZoneInfo) (d s : Option (List ℕ)) (is : IsRuledBy rulesets (neg_ℤ (pos 18000)) (us_rules line d s)) where
-  us_inner : AreInnerRules (us_rules line d s)
-  us_inner = record {
-    start_weekday = Sunday;
-    start_date = _;
-    start_day = from_eighth;
-    end_weekday = Sunday;
-    end_date = _;
-    end_day = from_first;
-    start_month = record { first = omega arith; last = omega arith };
-    end_month = record { first = omega arith; last = omega arith };
-    start_wall = refl;
-    end_wall = refl;
-    start_time = record { least = omega (arith, signed); greatest = omega (arith, signed) };
-    end_time = record { least = omega (arith, signed); greatest = omega (arith, signed) };
-    from_at_most = omega (arith, signed);
-    saving = omega (arith, signed);
-    saving_small = omega (arith, signed);
-  }
+  new_york_inner : AreInnerRules (us_rules line d s)
+  new_york_inner = inner_of line (pos 2007) March November (FirstOnOrAfter Sunday (pos 8)) (FirstOnOrAfter Sunday (pos 1)) (pos 7200) (pos 7200) (pos 3600) d s from_eighth from_first
+      (record { first = omega arith; last = omega arith }) (record { first = omega arith; last = omega arith })
+      (record { least = omega (arith, signed); greatest = omega (arith, signed) }) (record { least = omega (arith, signed); greatest = omega (arith, signed) })
+      (omega (arith, signed)) (omega (arith, signed)) (omega (arith, signed))
 
   pub new_york_north : IsNorthern (us_rules line d s)
-  new_york_north = northern_order (us_rules line d s) us_inner (omega arith)
+  new_york_north = northern_order (us_rules line d s) new_york_inner (omega arith)
 
   pub new_york_same : SaysTheSame rulesets (us_rules line d s) new_york_value
   unfolding offset_seconds time_seconds
   new_york_same =
       let offset = is.offset_is in
-      record {
-        ruleset_name = is.ruleset_name;
-        ruled = is.ruled;
-        rules = is.rules;
-        found = is.found;
-        exactly_two = is.exactly_two;
-        start_from = refl;
-        end_from = refl;
-        from_at_most = us_inner.from_at_most;
-        start_to_max = refl;
-        end_to_max = refl;
-        saving = us_inner.saving;
-        no_saving = refl;
-        standard_small = record { least = omega (arith, signed); greatest = omega (arith, signed) };
-        saving_small = record { least = omega (arith, signed); greatest = omega (arith, signed) };
-        start_wall = refl;
-        end_wall = refl;
-        start_time = us_inner.start_time;
-        end_time = us_inner.end_time;
-        start_inside = start_inside (us_rules line d s) us_inner;
-        end_inside = end_inside (us_rules line d s) us_inner;
-        order = inl new_york_north;
-        apart = northern_apart (us_rules line d s) us_inner (omega arith);
-        same_standard = sym offset;
-        same_saving = sym (ap (λ o. o +ℤ pos 3600) offset);
-        same_start = record { weekday = Sunday; day = from_eighth; seconds = refl };
-        same_end = record { weekday = Sunday; day = from_first; seconds = refl };
-      }
+      same_of line (pos 2007) March November (FirstOnOrAfter Sunday (pos 8)) (FirstOnOrAfter Sunday (pos 1)) (pos 7200) (pos 7200) (pos 3600) d s rulesets (neg_ℤ (pos 18000)) is new_york_value new_york_inner
+      (inl new_york_north) (northern_apart (us_rules line d s) new_york_inner (omega arith))
+      (record { least = omega (arith, signed); greatest = omega (arith, signed) }) (record { least = omega (arith, signed); greatest = omega (arith, signed) })
+      refl refl (record { weekday = Sunday; day = from_eighth; seconds = refl }) (record { weekday = Sunday; day = from_first; seconds = refl })
 
   pub new_york_agrees : (t : ℤ) → pos 1167627600 ≤ℤ seconds_of t → seconds_of t <ℤ pos 4102462800
       → total_at (schedule_of_lines rulesets (line ∷ [])) t ≡ value_total new_york_value (seconds_of t)
@@ -130,23 +157,10 @@ module _ (rulesets : Rulesets) (line : ZoneInfo) (d s : Option (List ℕ)) (is :
 
 module _ (rulesets : Rulesets) (line : ZoneInfo) (d s : Option (List ℕ)) (is : IsRuledBy rulesets (pos 37800) (lord_howe_rules line d s)) where
   lord_howe_inner : AreInnerRules (lord_howe_rules line d s)
-  lord_howe_inner = record {
-    start_weekday = Sunday;
-    start_date = _;
-    start_day = from_first;
-    end_weekday = Sunday;
-    end_date = _;
-    end_day = from_first;
-    start_month = record { first = omega arith; last = omega arith };
-    end_month = record { first = omega arith; last = omega arith };
-    start_wall = refl;
-    end_wall = refl;
-    start_time = record { least = omega (arith, signed); greatest = omega (arith, signed) };
-    end_time = record { least = omega (arith, signed); greatest = omega (arith, signed) };
-    from_at_most = omega (arith, signed);
-    saving = omega (arith, signed);
-    saving_small = omega (arith, signed);
-  }
+  lord_howe_inner = inner_of line (pos 2008) October April (FirstOnOrAfter Sunday (pos 1)) (FirstOnOrAfter Sunday (pos 1)) (pos 7200) (pos 7200) (pos 1800) d s from_first from_first
+      (record { first = omega arith; last = omega arith }) (record { first = omega arith; last = omega arith })
+      (record { least = omega (arith, signed); greatest = omega (arith, signed) }) (record { least = omega (arith, signed); greatest = omega (arith, signed) })
+      (omega (arith, signed)) (omega (arith, signed)) (omega (arith, signed))
 
   pub lord_howe_south : IsSouthern (lord_howe_rules line d s)
   lord_howe_south = southern_order (lord_howe_rules line d s) lord_howe_inner (omega arith)
@@ -155,34 +169,10 @@ module _ (rulesets : Rulesets) (line : ZoneInfo) (d s : Option (List ℕ)) (is :
   unfolding offset_seconds time_seconds
   lord_howe_same =
       let offset = is.offset_is in
-      record {
-        ruleset_name = is.ruleset_name;
-        ruled = is.ruled;
-        rules = is.rules;
-        found = is.found;
-        exactly_two = is.exactly_two;
-        start_from = refl;
-        end_from = refl;
-        from_at_most = lord_howe_inner.from_at_most;
-        start_to_max = refl;
-        end_to_max = refl;
-        saving = lord_howe_inner.saving;
-        no_saving = refl;
-        standard_small = record { least = omega (arith, signed); greatest = omega (arith, signed) };
-        saving_small = record { least = omega (arith, signed); greatest = omega (arith, signed) };
-        start_wall = refl;
-        end_wall = refl;
-        start_time = lord_howe_inner.start_time;
-        end_time = lord_howe_inner.end_time;
-        start_inside = start_inside (lord_howe_rules line d s) lord_howe_inner;
-        end_inside = end_inside (lord_howe_rules line d s) lord_howe_inner;
-        order = inr lord_howe_south;
-        apart = southern_apart (lord_howe_rules line d s) lord_howe_inner (omega arith);
-        same_standard = sym offset;
-        same_saving = sym (ap (λ o. o +ℤ pos 1800) offset);
-        same_start = record { weekday = Sunday; day = from_first; seconds = refl };
-        same_end = record { weekday = Sunday; day = from_first; seconds = refl };
-      }
+      same_of line (pos 2008) October April (FirstOnOrAfter Sunday (pos 1)) (FirstOnOrAfter Sunday (pos 1)) (pos 7200) (pos 7200) (pos 1800) d s rulesets (pos 37800) is lord_howe_value lord_howe_inner
+      (inr lord_howe_south) (southern_apart (lord_howe_rules line d s) lord_howe_inner (omega arith))
+      (record { least = omega (arith, signed); greatest = omega (arith, signed) }) (record { least = omega (arith, signed); greatest = omega (arith, signed) })
+      refl refl (record { weekday = Sunday; day = from_first; seconds = refl }) (record { weekday = Sunday; day = from_first; seconds = refl })
 
   first_start : start_in (lord_howe_rules line d s) (pos 2008) ≡ pos 1223134200
   first_start =
@@ -202,23 +192,10 @@ module _ (rulesets : Rulesets) (line : ZoneInfo) (d s : Option (List ℕ)) (is :
 
 module _ (rulesets : Rulesets) (line : ZoneInfo) (d s : Option (List ℕ)) (is : IsRuledBy rulesets (pos 7200) (moldova_rules line d s)) where
   moldova_inner : AreInnerRules (moldova_rules line d s)
-  moldova_inner = record {
-    start_weekday = Sunday;
-    start_date = _;
-    start_day = last_of_month;
-    end_weekday = Sunday;
-    end_date = _;
-    end_day = last_of_month;
-    start_month = record { first = omega arith; last = omega arith };
-    end_month = record { first = omega arith; last = omega arith };
-    start_wall = refl;
-    end_wall = refl;
-    start_time = record { least = omega (arith, signed); greatest = omega (arith, signed) };
-    end_time = record { least = omega (arith, signed); greatest = omega (arith, signed) };
-    from_at_most = omega (arith, signed);
-    saving = omega (arith, signed);
-    saving_small = omega (arith, signed);
-  }
+  moldova_inner = inner_of line (pos 1997) March October (Last Sunday) (Last Sunday) (pos 7200) (pos 10800) (pos 3600) d s last_of_month last_of_month
+      (record { first = omega arith; last = omega arith }) (record { first = omega arith; last = omega arith })
+      (record { least = omega (arith, signed); greatest = omega (arith, signed) }) (record { least = omega (arith, signed); greatest = omega (arith, signed) })
+      (omega (arith, signed)) (omega (arith, signed)) (omega (arith, signed))
 
   pub moldova_north : IsNorthern (moldova_rules line d s)
   moldova_north = northern_order (moldova_rules line d s) moldova_inner (omega arith)
@@ -227,34 +204,10 @@ module _ (rulesets : Rulesets) (line : ZoneInfo) (d s : Option (List ℕ)) (is :
   unfolding offset_seconds time_seconds
   moldova_same =
       let offset = is.offset_is in
-      record {
-        ruleset_name = is.ruleset_name;
-        ruled = is.ruled;
-        rules = is.rules;
-        found = is.found;
-        exactly_two = is.exactly_two;
-        start_from = refl;
-        end_from = refl;
-        from_at_most = moldova_inner.from_at_most;
-        start_to_max = refl;
-        end_to_max = refl;
-        saving = moldova_inner.saving;
-        no_saving = refl;
-        standard_small = record { least = omega (arith, signed); greatest = omega (arith, signed) };
-        saving_small = record { least = omega (arith, signed); greatest = omega (arith, signed) };
-        start_wall = refl;
-        end_wall = refl;
-        start_time = moldova_inner.start_time;
-        end_time = moldova_inner.end_time;
-        start_inside = start_inside (moldova_rules line d s) moldova_inner;
-        end_inside = end_inside (moldova_rules line d s) moldova_inner;
-        order = inl moldova_north;
-        apart = northern_apart (moldova_rules line d s) moldova_inner (omega arith);
-        same_standard = sym offset;
-        same_saving = sym (ap (λ o. o +ℤ pos 3600) offset);
-        same_start = record { weekday = Sunday; day = last_of_month; seconds = refl };
-        same_end = record { weekday = Sunday; day = last_of_month; seconds = refl };
-      }
+      same_of line (pos 1997) March October (Last Sunday) (Last Sunday) (pos 7200) (pos 10800) (pos 3600) d s rulesets (pos 7200) is moldova_value moldova_inner
+      (inl moldova_north) (northern_apart (moldova_rules line d s) moldova_inner (omega arith))
+      (record { least = omega (arith, signed); greatest = omega (arith, signed) }) (record { least = omega (arith, signed); greatest = omega (arith, signed) })
+      refl refl (record { weekday = Sunday; day = last_of_month; seconds = refl }) (record { weekday = Sunday; day = last_of_month; seconds = refl })
 
   pub moldova_agrees : (t : ℤ) → pos 852069600 ≤ℤ seconds_of t → seconds_of t <ℤ pos 4102437600
       → total_at (schedule_of_lines rulesets (line ∷ [])) t ≡ value_total moldova_value (seconds_of t)

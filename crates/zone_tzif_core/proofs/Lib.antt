@@ -7,11 +7,7 @@ mod FoundLemmas
 mod LoopLemmas
 mod NameLemmas
 mod PassLemmas
-mod ProfileLemmas
 mod PutLemmas
-mod SmallLemmas
-mod TextLemmas
-mod ValueLemmas
 mod WorkedFaults
 mod WorkedFiles
 mod WorkedFormat

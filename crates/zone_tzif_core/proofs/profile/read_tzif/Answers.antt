@@ -1,9 +1,31 @@
-use Rattle.std.proofs.Common.{subst, Ok}
+-- The one spelling of a value.
+use Rattle.std.proofs.Common.{ℕ, List, Err, subst, Ok}
+use Rattle.zone_tzif_core.specs.Denotes.{Denotes}
+use Rattle.zone_tzif_core.specs.Profile.{Compares, ReadsWritten}
+use Rattle.zone_tzif_core.specs.Shown.{Reads, zone_shown}
+use Rattle.zone_tzif_core.specs.Tzif.{IsTzif}
+use Rattle.zone_tzif_core.specs.Zones.{ZoneValue}
+use Rattle.zone_tzif_core.specs.declared.values.ReadFault.{ReadFault}
+use Rattle.zone_tzif_core.specs.declared.values.ReadFault.TheVariants.{Refused, NoMemory}
+use Rattle.zone_tzif_core.proofs.ExactLemmas.{one_reading}
+use Rattle.zone_tzif_core.proofs.WrittenLemmas.{written_denotes}
 use Rattle.std.proofs.lemmas.Result.{err_from_is_err_and}
-use Rattle.zone_tzif_core.specs.Profile.{Compares}
-use Rattle.zone_tzif_core.specs.Shown.{zone_shown}
-use Rattle.zone_tzif_core.proofs.ProfileLemmas.{not_compared, read_refused, other_file}
 use Rattle.zone_tzif_core.proofs.profile.read_tzif.Goals as goal
+
+-- where nothing is denoted, nothing is written
+read_refused : (bytes : List ℕ) (fault : ReadFault) → Reads (Denotes bytes) (Err fault) → ReadsWritten bytes (Err fault)
+read_refused bytes Refused none = λ zone is. none zone (written_denotes bytes zone is)
+read_refused bytes NoMemory some = some
+
+-- what is written for another value is another file
+other_file : (bytes : List ℕ) (zone : ZoneValue) → Denotes bytes zone → ¬ (IsTzif bytes zone) → (other : ZoneValue) → ¬ (IsTzif bytes other)
+other_file bytes zone denoted differs other is =
+    differs (subst (IsTzif bytes) (one_reading bytes other zone (written_denotes bytes other is) denoted) is)
+
+-- what can't be compared was read
+not_compared : (bytes : List ℕ) (zone : ZoneValue) (fault : ReadFault) → Denotes bytes zone → Compares bytes zone (Err fault) → ReadsWritten bytes (Err fault)
+not_compared bytes zone Refused denoted none = absurd none
+not_compared bytes zone NoMemory denoted none = (zone, denoted)
 
 pub returns-in_err-zone : goal.returns-in_err-zone
 returns-in_err-zone c =
