@@ -92,6 +92,9 @@ def of_programs(files, wants):
     # The programs stay the bytes that were proved and tried.
     found["usr/share/lintian/overrides/sefunjaro"] = plain("sefunjaro: unstripped-binary-or-object [usr/libexec/sefunjaro/*]\n")
     found = {**found, **manual(files, 1), **manual(files, 7)}
+    # What was proved, with the checksums of this package's files, where they are.
+    told = found.pop("usr/share/doc/sefunjaro/PROVED").data.decode()
+    found["usr/share/doc/sefunjaro/PROVED"] = plain("".join(re.findall(r"^#.*\n", told, re.M)) + layout.sums(found))
     own = "Here are the programs, which answer requests and write zone files, strings\n and plain sources."
     return Package("sefunjaro", "utils", f"libc6 (>= {wants})", "proved time-zone programs", own, found, more={"Recommends": "tzdata"})
 

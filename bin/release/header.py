@@ -1,9 +1,11 @@
 """The manual page of the library: its text is that of include/sefunjaro.h and of the first caller in callers/."""
 import re
+import textwrap
 
 import roff
 from checkout import read
 
+WIDTH = 72
 HEAD = re.compile(r"/\*(.*?)\*/\n#ifndef", re.S)
 # A comment, and what it stands before: a struct, an enum or a call, up to its end.
 ITEM = re.compile(r"^/\* (.*?) \*/\n((?:struct|enum|static inline|uint32_t|void)\b.*?(?:^\}.*?;|\);|^\}$))", re.S | re.M)
@@ -25,8 +27,9 @@ def items():
 
 
 def prototype(declared):
-    """A call as it is declared, on one line."""
-    return re.sub(r"\s+", " ", re.sub(r"^static inline ", "", declared).partition("{")[0]).strip().rstrip(";") + ";"
+    """A call as it is declared, in lines of a page's width."""
+    words = re.sub(r"^static inline ", "", declared).partition("{")[0].strip().rstrip(";")
+    return textwrap.wrap(f"{words};", WIDTH, subsequent_indent=" " * 8, break_on_hyphens=False)
 
 
 def is_call(declared):
@@ -69,7 +72,7 @@ def example():
 def parts():
     """The sections of the page, but the last."""
     found = items()
-    shown = [prototype(declared) for _, declared in found if is_call(declared)]
+    shown = [line for _, declared in found if is_call(declared) for line in prototype(declared)]
     linked = f"Link with {roff.code('pkg-config --cflags --libs sefunjaro')}."
     synopsis = roff.listing([roff.code("#include <sefunjaro.h>"), "", *map(roff.code, shown), "", linked])
     kinds = "".join(roff.text(words) + as_it_stands(declared) for words, declared in found if not is_call(declared))

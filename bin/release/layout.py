@@ -73,16 +73,20 @@ def of_pages(library):
     return found
 
 
-def proved(files, gate):
-    """What was proved, and a checksum of each file, in the form that sha256sum reads."""
-    head = [f"# sefunjaro {version()}", f"# commit {commit()}", f"# kit {run('rt', 'version').strip()}", f"# gate {gate}"]
-    return "\n".join([*head, *(f"{sum_of(tree.bytes_of(files, path))}  {path}" for path in sorted(files))]) + "\n"
+def proved(gate):
+    """What was proved, in lines that sha256sum takes for comments."""
+    return f"# sefunjaro {version()}\n# commit {commit()}\n# kit {run('rt', 'version').strip()}\n# gate {gate}\n"
+
+
+def sums(files):
+    """A checksum of each file, in the form that sha256sum reads."""
+    return "".join(f"{sum_of(tree.bytes_of(files, path))}  {path}\n" for path in sorted(files))
 
 
 def files(library, gate):
     """All files of a release by their paths below its prefix."""
     found = {**of_programs(), **of_library(library), **of_pages(library)}
-    found[f"{DOC}/PROVED"] = plain(proved(found, gate))
+    found[f"{DOC}/PROVED"] = plain(proved(gate) + sums(found))
     return found
 
 
