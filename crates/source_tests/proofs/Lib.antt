@@ -1,1 +1,2 @@
 pub mod AgreedLemmas
+pub mod SteadyLemmas

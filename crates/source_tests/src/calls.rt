@@ -1,16 +1,24 @@
 //! The happy path of public calls that nothing else names. Values are those of the calendar, of the tz database for New York, and of
 //! Python's `zoneinfo`.
 ghost use Rattle.std.specs.Prelude.{◌≡◌, ◌<◌};
+ghost use Rattle.tz_ever.specs.Ever.{IsRepeating};
 
 use crate::checks::same;
 use crate::fixtures::{NEW_YORK, at, database_of, parser, table_of};
 use civil_base::{OffsetDateTime, PlainDateTime, UtcOffset, read_local, read_zoned};
+use owned::{Items, Text};
+use std::alloc::Global;
 use std::marker::Brand;
 use std::process::Abort;
 use std::sync::ledger::{Blank, Ledger};
-use tz_lookup::{CompactTz, OffsetDateTimeExt, OffsetResult, PrimitiveDateTimeExt, Steps, Tz};
+use tz_ever::{EverSet, EverTz};
+use tz_lookup::{
+    CompactTz, FixedTimespanSet, Offset, OffsetDateTimeExt, OffsetResult, PrimitiveDateTimeExt,
+    Steps, TimeZone, Tz,
+};
 use tz_posix::{PosixTz, Time};
 use zone_answers::open_zone;
+use zone_spans::FixedTimespan;
 use zone_tail_core::laws::both_offsets;
 use zone_uses::{Moved, next_change, zone_of_source};
 use zone_values::{DaySpec, Month, Weekday, Year};
@@ -146,4 +154,33 @@ fn callers_answer(rt: HostRuntime) {
     let moved = Moved::new("Moved", &at(&rt, 0), UtcOffset::UTC, hour);
     let first = read_zoned("1970-01-01 01:00:00.000000000 +01:00:00");
     same(&rt, &at(&rt, 0).to_timezone(&moved), &first);
+}
+
+/// The spans of a zone without changes.
+fn steady(rt: &impl Abort, alloc: Global) -> FixedTimespanSet
+    ensures { IsRepeating result }
+{
+    let name = Text::new(alloc, "Asia/Kolkata").expect(rt, "memory");
+    let first = FixedTimespan {
+        utc_offset: 19_800,
+        dst_offset: 0,
+        name: Text::new(alloc, "IST").expect(rt, "memory"),
+    };
+    FixedTimespanSet {
+        name,
+        first,
+        others: Items::new(alloc),
+    }
+}
+
+#[test]
+fn a_zone_without_changes_goes_on_for_ever(rt: HostRuntime) {
+    let set = steady(&rt, rt.alloc());
+    let Ok(ever) = EverSet::build(rt.alloc(), &set) else {
+        panic!(&rt; "no memory");
+    };
+    let offset = EverTz::new(&ever)
+        .get_offset_utc(&at(&rt, 100_000_000_000))
+        .to_utc();
+    same(&rt, &offset.whole_seconds(), &19_800);
 }
