@@ -1,7 +1,11 @@
 -- What a chosen candidate's text is read as, and that its zone gives the set's offset.
-use Rattle.std.proofs.Common.{◌≡◌, ℕ, zero, suc, true, false, cond, List, [], ◌∷◌, Option, Some, None, ℤ, pos, neg_ℤ, ◌<ℤ◌, refl, sym, ◌∙◌, subst, arith}
-use Rattle.std.proofs.lemmas.Bool.{and_from}
+use Rattle.std.proofs.Common.{◌≡◌, false, None, ℤ, pos, refl, arith, ℕ, zero, suc, true, cond, List, [], ◌∷◌, Option, Some, neg_ℤ, ◌<ℤ◌, sym, ◌∙◌, subst}
+use Rattle.std.specs.Ordering.{int_eq}
 use Rattle.std.proofs.lemmas.Int.{ints}
+use Rattle.tz_posix_core.specs.Days.{day_refusal}
+use Rattle.zone_tail_core.specs.Rules.{IsNearYear, date_of, IsReach, rule_total}
+use Rattle.zone_tail_core.specs.declared.rule.Change.{Change}
+use Rattle.std.proofs.lemmas.Bool.{and_from}
 use Rattle.calendar.specs.ComparisonLaws.{le_pass}
 use Rattle.civil_base.specs.Instants.{seconds_of}
 use Rattle.tz_zone.specs.Sets.{schedule_of, shifts_of}
@@ -16,7 +20,6 @@ use Rattle.zone_tail_core.specs.Agreement.{Agrees}
 use Rattle.zone_tail_core.specs.Candidates.{candidate_total, IsAllowed, IsLast, IsSoundCandidate}
 use Rattle.zone_tail_core.specs.Carried.{CarriesOn, IsCovered, IsFrom}
 use Rattle.zone_tail_core.specs.Ready.{CanBeWritten, IsNamedBy}
-use Rattle.zone_tail_core.specs.Rules.{IsNearYear, IsReach, rule_total}
 use Rattle.zone_tail_core.specs.Settled.{IsPastChanges, IsSettled, Settles}
 use Rattle.zone_tail_core.specs.Tails.{beginning, end_of_last_year, is_ending_early}
 use Rattle.zone_tail_core.specs.Texts.{text_of}
@@ -24,9 +27,16 @@ use Rattle.zone_tail_core.specs.Totals.{HasBegun}
 use Rattle.zone_tail_core.specs.Values.{value_of, zone_of}
 use Rattle.zone_tail_core.specs.declared.candidate.Candidate.{Candidate}
 use Rattle.zone_tail_core.specs.declared.candidate.Candidate.TheVariants.{Fixed, Ruled}
-use Rattle.zone_tail_core.proofs.DateLemmas.{never_refused}
 use Rattle.zone_tail_core.proofs.ReadLemmas.{text_spelled, value_in_range, value_stands}
 use Rattle.zone_tail_core.proofs.YearLemmas.{year_near}
+
+not_last : (y : ℤ) → IsNearYear y → int_eq y (pos 9999) ≡ false
+not_last y near = grind (arith, ints, near.last)
+
+-- only the last year that dates have lacks one
+never_refused : (change : Change) (y : ℤ) → IsNearYear y → day_refusal (date_of change) y ≡ None
+unfolding day_refusal
+never_refused change y near = rw (not_last y near) refl
 
 -- there is a rule
 abbrev IsRuled : Candidate → Type 0

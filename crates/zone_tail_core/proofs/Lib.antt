@@ -1,5 +1,4 @@
 pub mod YearLemmas
-pub mod DateLemmas
 pub mod PieceLemmas
 pub mod CandidateLemmas
 pub mod SecondLemmas
@@ -14,7 +13,6 @@ pub mod FormLemmas
 pub mod ReadyLemmas
 pub mod ReadLemmas
 pub mod CarryLemmas
-pub mod OneLemmas
 pub mod FoundLemmas
 pub mod LineLemmas
 pub mod WorkedTexts

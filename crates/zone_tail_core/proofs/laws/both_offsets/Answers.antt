@@ -1,10 +1,25 @@
-use Rattle.std.proofs.Common.{Some, ap, sym, subst, ◌∙◌}
+-- What a set's string is parsed as is the zone that it stands for.
+use Rattle.std.proofs.Common.{◌≡◌, ℕ, List, Option, Ok, ℤ, sym, ap, ◌∙◌, Some, subst}
+use Rattle.tz_zone.specs.declared.set.FixedTimespanSet.{FixedTimespanSet}
+use Rattle.tz_posix_core.specs.Parses.{IsParsed}
+use Rattle.tz_posix_core.specs.PosixShown.{posix_of}
+use Rattle.tz_posix_core.specs.Resolved.{resolved}
+use Rattle.tz_posix_core.specs.Spells.{Spells}
+use Rattle.tz_posix_core.specs.Values.{TzValue}
+use Rattle.tz_posix_core.specs.declared.posix.PosixTz.{PosixTz}
+use Rattle.zone_tail_core.specs.Carried.{CarriesOn}
 use Rattle.civil_base.specs.DateTimes.{instant}
 use Rattle.tz_zone.specs.Zones.{set_of}
 use Rattle.tz_posix_core.specs.Offsets.{given_of}
 use Rattle.tz_posix_core.specs.PosixZones.{Gives, posix_refusal}
-use Rattle.zone_tail_core.proofs.OneLemmas.{one_zone}
 use Rattle.zone_tail_core.proofs.laws.both_offsets.Goals as goal
+
+one_zone : (set : FixedTimespanSet) (from : Option ℤ) (text : List ℕ) (zones : List FixedTimespanSet) (posix : PosixTz) (carries : CarriesOn set from text)
+    → IsParsed text zones (Ok posix) → ((text : List ℕ) (x y : TzValue) → Spells text x → Spells text y → x ≡ y) → posix_of posix ≡ carries.zone
+one_zone set from text zones posix carries parsed one =
+    let same = one text parsed.0 carries.value parsed.1.spelled carries.spelled in
+    let both = sym parsed.2 ∙ ap (resolved zones) same ∙ carries.stands_for zones in
+    cc
 
 pub returns-in-Ok-clause-same : goal.returns-in-Ok-clause-same
 returns-in-Ok-clause-same c from text zones carries parsed covered =
