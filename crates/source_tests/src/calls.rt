@@ -16,7 +16,7 @@ use tz_lookup::{
     CompactTz, FixedTimespanSet, Offset, OffsetDateTimeExt, OffsetResult, PrimitiveDateTimeExt,
     Steps, TimeZone, Tz,
 };
-use tz_posix::{PosixTz, Time};
+use tz_posix::{Date, PosixTz, Time};
 use zone_answers::open_zone;
 use zone_spans::FixedTimespan;
 use zone_tail_core::laws::both_offsets;
@@ -122,6 +122,18 @@ fn a_string_moves_an_instant(rt: HostRuntime) {
         &Some(time.to_time()),
         &civil_base::Time::from_hms(2, 30, 0).ok(),
     );
+}
+
+#[test]
+fn a_day_of_a_rule_has_a_date(rt: HostRuntime) {
+    let day = Date::M { m: 3, n: 2, d: 0 };
+    if !day.is_in_range() {
+        panic!(&rt; "out of range");
+    }
+    let Ok(date) = day.to_date(2024) else {
+        panic!(&rt; "no date");
+    };
+    same(&rt, &(date.year(), date.ordinal()), &(2024, 70));
 }
 
 #[test]
