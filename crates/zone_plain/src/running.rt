@@ -23,11 +23,7 @@ impl FileProgram for PlainProgram {
 
     ghost due = { over_source.due_bytes };
 
-    fn respond(
-        alloc: Global,
-        parser: &LineParser,
-        source: &[u8],
-    ) -> Result<Response, AllocError> {
+    fn respond(alloc: Global, parser: &LineParser, source: &[u8]) -> Result<Response, AllocError> {
         respond(alloc, parser, source)
     }
 }
