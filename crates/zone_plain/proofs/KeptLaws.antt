@@ -5,7 +5,7 @@ use Rattle.std.proofs.lemmas.List.Elements.{All-head, All-tail}
 use Rattle.zone_line.specs.Fields.{is_ruleset_name}
 use Rattle.zone_outside.specs.Limit.{text_limit}
 use Rattle.zone_source.specs.Lines.{lines_of}
-use Rattle.zone_values.specs.Values.{SavingValue, no_saving, one_off, multiple, LineValue, space, zone, continuation, rule, link}
+use Rattle.zone_values.specs.Values.{SavingValue, multiple, LineValue, zone, continuation, rule}
 use Rattle.zone_values.specs.Results.{◌>>=◌}
 use Rattle.zone_plain_lines.specs.declared.cause.PlainCause.{PlainCause}
 use Rattle.zone_plain_lines.specs.declared.cause.PlainCause.TheVariants as cause
@@ -16,7 +16,7 @@ use Rattle.zone_plain_base.specs.NameLaws.{stays_so}
 use Rattle.zone_plain_base.specs.Renamed.{saved_by, ruleset_of, saving_by, under, renamed}
 use Rattle.zone_plain_links.specs.Needs.{IsPlain}
 use Rattle.zone_plain_links.specs.Settled.{settled}
-use Rattle.zone_plain_links.specs.SettledLaws.{plain_stays}
+use Rattle.zone_plain_links.specs.CleanLaws.{plain_stays}
 use Rattle.zone_plain_offsets.specs.Made.{changed_by, changed, is_changed_said, name_in, made_for, made}
 use Rattle.zone_plain_offsets.specs.Pairs.{Pair, joined_by, pairs_from}
 use Rattle.zone_plain_offsets.specs.WrittenOut.{made_size, refused_from, written_unless, written_out}
@@ -57,19 +57,17 @@ out_stays values none =
     ∙ ap Ok ((λ i. all_stay (name_in values) values none i ++ none_made values none i) ∙ append-nil values)
 
 saving_stays : (mark : List ℕ) (saving : SavingValue) → is_ruleset_name (saved_by saving) ≡ true → saving_by saving (said_name mark (saved_by saving)) ≡ saving
-saving_stays mark no_saving said = refl
-saving_stays mark (one_off amount) said = refl
 saving_stays mark (multiple name) said = ap multiple (stays_so mark name said)
+saving_stays mark _ said = refl
 
 -- a line whose ruleset has a name that can be said stays
 name_stays : (mark : List ℕ) (v : LineValue) → is_ruleset_name (ruleset_of v) ≡ true → renamed mark v ≡ v
-name_stays mark space said = refl
 name_stays mark (zone name info) said =
     ap (λ s. zone name (record { utc_offset = info.utc_offset; saving = s; format = info.format; time = info.time })) (saving_stays mark info.saving said)
 name_stays mark (continuation info) said =
     ap (λ s. continuation (record { utc_offset = info.utc_offset; saving = s; format = info.format; time = info.time })) (saving_stays mark info.saving said)
 name_stays mark (rule r) said = ap (under (rule r)) (stays_so mark r.name said)
-name_stays mark (link existing new) said = refl
+name_stays mark _ said = refl
 
 named_stays : (mark : List ℕ) (v : LineValue) → IsSaidAsMeant v → named mark v ≡ Ok v
 named_stays mark v said = ap if_said (name_stays mark v said.name) ∙ ap (λ b. cond b (Ok v) (Err cause.Unsayable)) said.said

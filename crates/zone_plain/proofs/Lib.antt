@@ -10,6 +10,7 @@ pub mod KeptLaws
 pub mod MeansLaws
 pub mod NamedLaws
 pub mod OwnLaws
+pub mod PartLemmas
 pub mod PartLaws
 pub mod Placed
 pub mod PlacedLaws

@@ -5,17 +5,17 @@ use Rattle.zone_values.specs.declared.line.Line.{Line}
 use Rattle.zone_values.specs.Results.{◌>>=◌}
 use Rattle.zone_plain_lines.specs.declared.cause.PlainCause.TheVariants as cause
 use Rattle.zone_plain_base.specs.Said.{is_said, if_said}
-use Rattle.zone_plain_base.specs.Told.{IsToldBy}
+use Rattle.zone_plain_base.specs.Told.{IsToldBy, IsRefused}
 use Rattle.zone_plain_base.specs.declared.error.Refused.{Refused}
 use Rattle.zone_plain_base.specs.declared.error.Refused.TheVariants.{Cause, NoMemory}
 use Rattle.zone_plain_base.specs.Names.{said_name}
 use Rattle.zone_plain_base.specs.Renamed.{ruleset_of, under, renamed}
 use Rattle.zone_plain.specs.LineValues.{line_meaning, named}
-use Rattle.zone_plain.specs.Told.{IsRefusedLine, added_line}
+use Rattle.zone_plain.specs.Told.{added_line}
 
 -- the cause that was told of a line
 pub told_refused : (mark : List ℕ) (is_open : Bool) (line : List ℕ) (r : Refused) → IsToldBy {A = Line} line_value (Err r) (line_meaning is_open line)
-    → IsRefusedLine mark is_open line r
+    → IsRefused (added_line mark is_open line) r
 told_refused mark is_open line (Cause c) h = ap (λ m. ◌>>=◌ m (named mark)) h
 told_refused mark is_open line NoMemory h = tt
 

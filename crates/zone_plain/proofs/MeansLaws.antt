@@ -39,24 +39,20 @@ means_itself is_open v said e = ap (λ b. line_meaning b (plain_text v)) (sym e)
 pub texts_mean : (is_open : Bool) (n : ℕ) (values : List LineValue) → All IsSaid values → are_followed is_open values ≡ true
     → values_from Ok is_open n (map plain_text values) ≡ Ok values
 unfolding plain_text
-texts_mean true n [] said h = absurd (both_ways false refl h)
 texts_mean false n [] said h = unfold values_from in refl
 texts_mean is_open n (space ∷ values) said h =
     step is_open n [] space (map plain_text values) (blank_means is_open)
     ∙ ap (onto space) (texts_mean is_open (suc n) values (All-tail IsSaid space values said) h)
-texts_mean true n (zone name info ∷ values) said h = absurd (both_ways false refl h)
 texts_mean false n (zone name info ∷ values) said h =
     step false n _ (zone name info) (map plain_text values) (means_itself false (zone name info) (All-head IsSaid (zone name info) values said) refl)
     ∙ ap (onto (zone name info)) (texts_mean (is_some info.time) (suc n) values (All-tail IsSaid (zone name info) values said) h)
 texts_mean true n (continuation info ∷ values) said h =
     step true n _ (continuation info) (map plain_text values) (means_itself true (continuation info) (All-head IsSaid (continuation info) values said) refl)
     ∙ ap (onto (continuation info)) (texts_mean (is_some info.time) (suc n) values (All-tail IsSaid (continuation info) values said) h)
-texts_mean false n (continuation info ∷ values) said h = absurd (both_ways false refl h)
-texts_mean true n (rule r ∷ values) said h = absurd (both_ways false refl h)
 texts_mean false n (rule r ∷ values) said h =
     step false n _ (rule r) (map plain_text values) (means_itself false (rule r) (All-head IsSaid (rule r) values said) refl)
     ∙ ap (onto (rule r)) (texts_mean false (suc n) values (All-tail IsSaid (rule r) values said) h)
-texts_mean true n (link existing new ∷ values) said h = absurd (both_ways false refl h)
 texts_mean false n (link existing new ∷ values) said h =
     step false n _ (link existing new) (map plain_text values) (means_itself false (link existing new) (All-head IsSaid (link existing new) values said) refl)
     ∙ ap (onto (link existing new)) (texts_mean false (suc n) values (All-tail IsSaid (link existing new) values said) h)
+texts_mean _ n _ said h = absurd (both_ways false refl h)

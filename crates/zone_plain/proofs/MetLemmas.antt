@@ -1,18 +1,16 @@
 -- The names of the lines that were met, and the lines that are left.
-use Rattle.std.proofs.Common.{◌≡◌, ℕ, suc, ◌+◌, List, [], ◌∷◌, ◌++◌, map, take, Some, Bool, true, false, Ok, Err, refl, sym, ap, ◌∙◌, append-nil}
-use Rattle.std.proofs.lemmas.Grind.{flat_map-append, take_at_read}
+use Rattle.std.proofs.Common.{◌≡◌, ℕ, suc, List, [], ◌∷◌, ◌++◌, map, Bool, true, false, Result, Ok, Err, refl, sym, ap, ◌∙◌, append-nil}
+use Rattle.std.proofs.lemmas.Grind.{flat_map-append}
 use Rattle.std.proofs.lemmas.List.{map-append}
-use Rattle.std.proofs.lemmas.Option.{get_or_from_slice_get, slice_get_within}
-use Rattle.std.specs.List.{slice_get}
 use Rattle.zone_source.specs.Lines.{lines_of}
+use Rattle.zone_values.specs.Results.{◌>>=◌}
 use Rattle.zone_values.specs.Values.{LineValue}
 use Rattle.zone_plain_lines.specs.declared.cause.PlainCause.{PlainCause}
-use Rattle.zone_plain_lines.specs.declared.cause.PlainCause.TheVariants as cause
-use Rattle.zone_plain_base.specs.LineFaults.{at, onto}
+use Rattle.zone_plain_base.specs.LineFaults.{LineFault}
 use Rattle.zone_plain_base.specs.Marks.{behind, tails, mark_behind}
 use Rattle.zone_plain_base.specs.Renamed.{ruleset_of, mark_of}
 use Rattle.zone_plain.specs.LineValues.{line_meaning, is_open_after, values_from, meant_in, known, mark_in}
-use Rattle.zone_plain.proofs.ReadingLemmas.{before, before_none, before_one}
+use Rattle.zone_plain.proofs.ReadingLemmas.{before, before_none, taken_on, refused_at, left_out, all_taken}
 
 -- what stands behind the `_` in the names of these lines
 abbrev pub names_of : List LineValue → List (List ℕ)
@@ -37,53 +35,35 @@ one_name values v =
 pub one_met : (source : List ℕ) (old new : List (List ℕ)) (is_open is_open_now : Bool) (line : List ℕ) (left : List (List ℕ)) (v : LineValue)
     → HasMet source old is_open (line ∷ left) → line_meaning is_open line ≡ Ok v → new ≡ old ++ behind 95 (ruleset_of v)
     → is_open_now ≡ is_open_after is_open v → HasMet source new is_open_now left
-unfolding values_from
 one_met source old new is_open is_open_now line left v so_far meant added open_now = record {
   values = so_far.values ++ v ∷ [];
   number = suc so_far.number;
   met = added ∙ ap (λ names. names ++ behind 95 (ruleset_of v)) so_far.met ∙ sym (one_name so_far.values v);
   goes_on = ap (λ o. before (so_far.values ++ v ∷ []) (values_from Ok o (suc so_far.number) left)) open_now
-      ∙ sym (before_one so_far.values v (values_from Ok (is_open_after is_open v) (suc so_far.number) left))
-      ∙ ap (before so_far.values) (sym (step so_far.number meant)) ∙ so_far.goes_on;
+      ∙ sym (taken_on Ok so_far.values is_open so_far.number line left v v meant refl) ∙ so_far.goes_on;
 }
-  where
-    step : (n : ℕ) → line_meaning is_open line ≡ Ok v → values_from Ok is_open n (line ∷ left) ≡ onto v (values_from Ok (is_open_after is_open v) (suc n) left)
-    step n e = rw e refl
+
+-- what was found of a source, by the names of what it means
+asked : (source : List ℕ) (whole found : Result (List LineValue) LineFault) → whole ≡ meant_in source → whole ≡ found
+    → names_of (known found) ≡ names_of (known (meant_in source))
+asked source whole found is e = ap (λ r. names_of (known r)) (sym e ∙ is)
 
 -- of a source that is refused nothing is asked
 pub none_met : (source : List ℕ) (old : List (List ℕ)) (is_open : Bool) (line : List ℕ) (left : List (List ℕ)) (c : PlainCause)
     → HasMet source old is_open (line ∷ left) → line_meaning is_open line ≡ Err c → [] ≡ names_of (known (meant_in source))
-unfolding values_from
 none_met source old is_open line left c so_far e =
-    sym (ap (λ r. names_of (known r)) (sym so_far.goes_on ∙ ap (before so_far.values) (step so_far.number e)))
-  where
-    step : (n : ℕ) → line_meaning is_open line ≡ Err c → values_from Ok is_open n (line ∷ left) ≡ Err (at n c)
-    step n e = rw e refl
+    asked source _ _ so_far.goes_on
+    (refused_at Ok so_far.values is_open so_far.number line left c (ap (λ r. ◌>>=◌ r Ok) e))
 
 pub open_met : (source : List ℕ) (old : List (List ℕ)) (is_open : Bool) → HasMet source old is_open [] → is_open ≡ true
     → [] ≡ names_of (known (meant_in source))
-unfolding values_from
 open_met source old is_open so_far e =
-    sym (ap (λ r. names_of (known r)) (sym so_far.goes_on ∙ ap (before so_far.values) (step so_far.number e)))
-  where
-    step : (n : ℕ) → is_open ≡ true → values_from Ok is_open n [] ≡ Err (at n cause.Continuation)
-    step n e = rw e refl
+    asked source _ _ so_far.goes_on (left_out Ok so_far.values is_open so_far.number e)
 
 pub all_met : (source : List ℕ) (names : List (List ℕ)) (is_open : Bool) → HasMet source names is_open [] → is_open ≡ false
     → names ≡ names_of (known (meant_in source))
-unfolding values_from
 all_met source names is_open so_far e =
-    so_far.met ∙ ap names_of (sym (append-nil so_far.values))
-    ∙ sym (ap (λ r. names_of (known r)) (sym so_far.goes_on ∙ ap (before so_far.values) (step so_far.number e)))
-  where
-    step : (n : ℕ) → is_open ≡ false → values_from Ok is_open n [] ≡ Ok []
-    step n e = rw e refl
-
--- one line more
-pub one_slice : (lines : List (List ℕ)) (i : ℕ) (line : List ℕ) → Some line ≡ slice_get lines i → take (i + 1) lines ≡ take i lines ++ line ∷ []
-one_slice lines i line e =
-    (take_at_read lines i [] (slice_get_within lines i line (sym e))).1
-    ∙ ap (λ l. take i lines ++ l ∷ []) (get_or_from_slice_get lines i line [] (sym e))
+    so_far.met ∙ asked source _ _ so_far.goes_on (all_taken Ok so_far.values is_open so_far.number e)
 
 -- the mark by the names
 pub mark_is : (source : List ℕ) (names slices : List (List ℕ)) (mark : List ℕ) → names ≡ names_of (known (meant_in source)) → slices ≡ names

@@ -1,12 +1,12 @@
 -- What is written of a source is its own plain form.
-use Rattle.std.proofs.Common.{◌≡◌, ℕ, ◌<◌, ◌≤◌, List, [], ◌∷◌, ◌++◌, All, Bool, true, false, cond, not, filter, flat_map, map, length, Option, Some, None, Result, Ok, Err, refl, sym, ap, ◌∙◌, subst, append-nil, arith, rules}
-use Rattle.std.specs.Prelude.{bytes_eq, ◌||◌, slice_get, option_and_then}
-use Rattle.std.specs.List.{cons_option, sum_by}
+use Rattle.std.proofs.Common.{◌≡◌, ℕ, ◌<◌, ◌≤◌, List, [], ◌∷◌, ◌++◌, All, Bool, true, false, cond, not, filter, flat_map, map, length, Option, Some, None, Result, Ok, Err, refl, sym, ap, ◌∙◌, subst, arith, rules}
+use Rattle.std.specs.Prelude.{bytes_eq, ◌||◌, option_to_list, slice_get, option_and_then}
+use Rattle.std.specs.List.{sum_by}
 use Rattle.std.specs.Option.{option_map_or}
 use Rattle.std.specs.Str.{is_utf8}
 use Rattle.std.proofs.lemmas.Bool.{both_ways, or_left, or_right}
 use Rattle.std.proofs.lemmas.List.{length-append}
-use Rattle.std.proofs.lemmas.List.Elements.{All-nil, All-cons, All-head, All-tail, All-append, All-weaker, filter-append}
+use Rattle.std.proofs.lemmas.List.Elements.{All-nil, All-cons, All-head, All-tail, All-append, All-weaker}
 use Rattle.std.proofs.lemmas.List.Folds.{list_any-append}
 use Rattle.std.proofs.lemmas.List.Sums.{sum_by-cons}
 use Rattle.std.proofs.lemmas.Slice.Eq.{bytes_eq-Decides}
@@ -43,6 +43,7 @@ use Rattle.zone_plain.proofs.KeptLaws.{names_stay, kept_by}
 use Rattle.zone_plain.specs.LineValues.{is_open_after, values_from, mark_in, named, values_in}
 use Rattle.zone_plain.proofs.MeansLaws.{heading_means}
 use Rattle.zone_plain.specs.Named.{IsSaid, IsSaidAsMeant, named_lines}
+use Rattle.zone_plain.proofs.PartLemmas.{parts_give}
 use Rattle.zone_plain.proofs.PartLaws.{parts_zones, parts_links, parts_rules, out_zones, out_links, out_rules}
 use Rattle.zone_plain.specs.Plain.{plain_of}
 use Rattle.zone_plain.proofs.ReadBackLaws.{IsPlaced, read_as_meant}
@@ -72,10 +73,7 @@ some_rules (rule r ∷ values) name h = by (bytes_eq r.name name) h (some_rules 
         → 0 < length (cond b (r ∷ rules_named values name) (rules_named values name))
     by true h more = omega arith
     by false h more = more h
-some_rules (space ∷ values) name h = some_rules values name h
-some_rules (zone z info ∷ values) name h = some_rules values name h
-some_rules (continuation info ∷ values) name h = some_rules values name h
-some_rules (link existing new ∷ values) name h = some_rules values name h
+some_rules (_ ∷ values) name h = some_rules values name h
 
 made_has : (values : List LineValue) (pair : Pair) (pairs : List Pair) → has_ruleset values pair.rules ≡ true → is_among pair pairs ≡ true
     → has (names_by ruleset_name (made_for values pairs)) (name_in values pair) ≡ true
@@ -114,15 +112,13 @@ record HasAll (source linked all : List LineValue) : Type 0 where
 
 still_there : (source linked all : List LineValue) → HasAll source linked all → (saving : SavingValue) → lacks_rules source saving ≡ false
     → lacks_rules all saving ≡ false
-still_there source linked all there no_saving h = refl
-still_there source linked all there (one_off amount) h = refl
 still_there source linked all there (multiple name) h = ap not (there.rulesets name (not_false (has_ruleset source name) h))
+still_there source linked all there _ h = refl
 
 -- the ruleset of the pair that a line asks for
 rules_in : Asked → List ℕ
-rules_in nothing = []
-rules_in (total parts t) = []
 rules_in (under parts pair) = pair.rules
+rules_in _ = []
 
 no_pair : {X : Type 0} (parts : Around) (pair : Pair) → ◌≡◌ {A = Asked} nothing (under parts pair) → X
 no_pair parts pair e = search rules
@@ -160,8 +156,6 @@ all_ask pairs (v ∷ values) =
 
 line_sound : (source linked all : List LineValue) → HasAll source linked all → (v : LineValue) → IsSound source v → AsksAmong (pairs_of linked) v
     → IsSound all (changed (name_in linked) v)
-line_sound source linked all there space sound asks = tt
-line_sound source linked all there (rule r) sound asks = tt
 line_sound source linked all there (link existing new) sound asks =
     record { to_zone = there.zones existing ∙ sound.to_zone; no_zone = there.zones new ∙ sound.no_zone; said = sound.said }
 line_sound source linked all there (zone name info) sound asks = by (asked_by info) refl
@@ -176,6 +170,7 @@ line_sound source linked all there (continuation info) sound asks = by (asked_by
     by nothing e = still_there source linked all there info.saving sound
     by (total parts t) e = still_there source linked all there info.saving sound
     by (under parts pair) e = ap not (there.made_too pair (asked_there source info parts pair sound e) (asks parts pair e))
+line_sound source linked all there _ sound asks = tt
 
 lines_sound : (source linked all : List LineValue) → HasAll source linked all → (values : List LineValue) → All (IsSound source) values
     → All (AsksAmong (pairs_of linked)) values → All (IsSound all) (map (changed (name_in linked)) values)
@@ -205,7 +200,7 @@ behind release out = head_values release ++ in_parts out
 same_behind : (naming : LineValue → Option (List ℕ)) → naming space ≡ None → (release : Option (List ℕ)) (out : List LineValue)
     → names_by naming (behind release out) ≡ names_by naming (in_parts out)
 same_behind naming none None out = refl
-same_behind naming none (Some release) out = ap (λ o. cons_option o (names_by naming (in_parts out))) none
+same_behind naming none (Some release) out = ap (λ o. option_to_list o ++ names_by naming (in_parts out)) none
 
 record AreStages (source linked out : List LineValue) : Type 0 where
   led : settled source ≡ Ok linked
@@ -258,11 +253,8 @@ all_clean source linked out release s =
 -- ---- how long its links are
 
 link_within : (v : LineValue) → link_size v ≤ length (plain_text v ++ 10 ∷ [])
-link_within space = omega arith
-link_within (zone name info) = omega arith
-link_within (continuation info) = omega arith
-link_within (rule r) = omega arith
 link_within (link existing new) = omega (arith, length-append (plain_text (link existing new)) (10 ∷ []))
+link_within _ = omega arith
 
 links_within : (values : List LineValue) → sum_by link_size values ≤ length (flat_map (λ v. plain_text v ++ 10 ∷ []) values)
 links_within [] = omega arith
@@ -292,95 +284,23 @@ all_none [] none = tt
 all_none (v ∷ values) none =
     (All-head (λ v. asked v ≡ nothing) v values none, all_none values (All-tail (λ v. asked v ≡ nothing) v values none))
 
-same_part : (part : Part) (values : List LineValue) → filter (is_in part) (filter (is_in part) values) ≡ filter (is_in part) values
-same_part part [] = refl
-same_part part (v ∷ values) = by (is_in part v) refl (same_part part values)
+part_is : (part : Part) (values : List LineValue) → filter (is_in part) values ≡ flat_map (λ v. cond (is_in part v) (v ∷ []) []) values
+part_is part [] = refl
+part_is part (v ∷ values) = by (is_in part v) (part_is part values)
   where
-    by : (b : Bool) → is_in part v ≡ b → filter (is_in part) (filter (is_in part) values) ≡ filter (is_in part) values
-        → filter (is_in part) (cond b (v ∷ filter (is_in part) values) (filter (is_in part) values)) ≡ cond b (v ∷ filter (is_in part) values) (filter (is_in part) values)
-    by true e more =
-        ap (λ b. cond b (v ∷ filter (is_in part) (filter (is_in part) values)) (filter (is_in part) (filter (is_in part) values))) e ∙ ap (λ vs. v ∷ vs) more
-    by false e more = more
-
-other_part : (part other : Part) → ((v : LineValue) → is_in other v ≡ true → is_in part v ≡ false) → (values : List LineValue)
-    → filter (is_in part) (filter (is_in other) values) ≡ []
-other_part part other apart [] = refl
-other_part part other apart (v ∷ values) = by (is_in other v) refl (other_part part other apart values)
-  where
-    by : (b : Bool) → is_in other v ≡ b → filter (is_in part) (filter (is_in other) values) ≡ []
-        → filter (is_in part) (cond b (v ∷ filter (is_in other) values) (filter (is_in other) values)) ≡ []
-    by true e more =
-        ap (λ b. cond b (v ∷ filter (is_in part) (filter (is_in other) values)) (filter (is_in part) (filter (is_in other) values))) (apart v e) ∙ more
-    by false e more = more
-
-zones_no_rules : (v : LineValue) → is_in Zones v ≡ true → is_in Rules v ≡ false
-zones_no_rules space h = refl
-zones_no_rules (zone name info) h = refl
-zones_no_rules (continuation info) h = refl
-zones_no_rules (rule r) h = absurd (both_ways false refl h)
-zones_no_rules (link existing new) h = refl
-
-links_no_rules : (v : LineValue) → is_in Links v ≡ true → is_in Rules v ≡ false
-links_no_rules space h = refl
-links_no_rules (zone name info) h = refl
-links_no_rules (continuation info) h = refl
-links_no_rules (rule r) h = absurd (both_ways false refl h)
-links_no_rules (link existing new) h = refl
-
-rules_no_zones : (v : LineValue) → is_in Rules v ≡ true → is_in Zones v ≡ false
-rules_no_zones space h = refl
-rules_no_zones (zone name info) h = absurd (both_ways false refl h)
-rules_no_zones (continuation info) h = absurd (both_ways false refl h)
-rules_no_zones (rule r) h = refl
-rules_no_zones (link existing new) h = refl
-
-links_no_zones : (v : LineValue) → is_in Links v ≡ true → is_in Zones v ≡ false
-links_no_zones space h = refl
-links_no_zones (zone name info) h = absurd (both_ways false refl h)
-links_no_zones (continuation info) h = absurd (both_ways false refl h)
-links_no_zones (rule r) h = refl
-links_no_zones (link existing new) h = refl
-
-rules_no_links : (v : LineValue) → is_in Rules v ≡ true → is_in Links v ≡ false
-rules_no_links space h = refl
-rules_no_links (zone name info) h = refl
-rules_no_links (continuation info) h = refl
-rules_no_links (rule r) h = refl
-rules_no_links (link existing new) h = absurd (both_ways false refl h)
-
-zones_no_links : (v : LineValue) → is_in Zones v ≡ true → is_in Links v ≡ false
-zones_no_links space h = refl
-zones_no_links (zone name info) h = refl
-zones_no_links (continuation info) h = refl
-zones_no_links (rule r) h = refl
-zones_no_links (link existing new) h = absurd (both_ways false refl h)
-
-part_of_parts : (part : Part) (values : List LineValue) → filter (is_in part) (in_parts values)
-    ≡ (filter (is_in part) (filter (is_in Rules) values) ++ filter (is_in part) (filter (is_in Zones) values)) ++ filter (is_in part) (filter (is_in Links) values)
-part_of_parts part values =
-    filter-append (is_in part) (filter (is_in Rules) values ++ filter (is_in Zones) values) (filter (is_in Links) values)
-    ∙ ap (λ vs. vs ++ filter (is_in part) (filter (is_in Links) values)) (filter-append (is_in part) (filter (is_in Rules) values) (filter (is_in Zones) values))
+    by : (b : Bool) → filter (is_in part) values ≡ flat_map (λ v. cond (is_in part v) (v ∷ []) []) values
+        → cond b (v ∷ filter (is_in part) values) (filter (is_in part) values) ≡ cond b (v ∷ []) [] ++ flat_map (λ v. cond (is_in part v) (v ∷ []) []) values
+    by true e = ap (λ vs. v ∷ vs) e
+    by false e = e
 
 -- the parts of what stands in parts are its parts
 parts_again : (values : List LineValue) → in_parts (in_parts values) ≡ in_parts values
-parts_again values = (λ i. (rules i ++ zones i) ++ links i)
+parts_again values = λ i. (one Rules i ++ one Zones i) ++ one Links i
   where
-    rules : filter (is_in Rules) (in_parts values) ≡ filter (is_in Rules) values
-    rules =
-        part_of_parts Rules values
-        ∙ (λ i. (same_part Rules values i ++ other_part Rules Zones zones_no_rules values i) ++ other_part Rules Links links_no_rules values i)
-        ∙ append-nil (filter (is_in Rules) values ++ []) ∙ append-nil (filter (is_in Rules) values)
-
-    zones : filter (is_in Zones) (in_parts values) ≡ filter (is_in Zones) values
-    zones =
-        part_of_parts Zones values
-        ∙ (λ i. (other_part Zones Rules rules_no_zones values i ++ same_part Zones values i) ++ other_part Zones Links links_no_zones values i)
-        ∙ append-nil (filter (is_in Zones) values)
-
-    links : filter (is_in Links) (in_parts values) ≡ filter (is_in Links) values
-    links =
-        part_of_parts Links values
-        ∙ (λ i. (other_part Links Rules rules_no_links values i ++ other_part Links Zones zones_no_links values i) ++ same_part Links values i)
+    one : (part : Part) → filter (is_in part) (in_parts values) ≡ filter (is_in part) values
+    one part =
+        part_is part (in_parts values)
+        ∙ parts_give (λ v. cond (is_in part v) (v ∷ []) []) part (λ v e. ap (λ b. cond b (v ∷ []) []) e) values ∙ sym (part_is part values)
 
 written_again : (release : Option (List ℕ)) (out : List LineValue) → written (behind release out) ≡ written out
 written_again release out =

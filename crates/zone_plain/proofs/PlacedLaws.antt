@@ -1,21 +1,15 @@
 -- The lines of zones that are written stand in their places, each where one has to follow.
-use Rattle.std.proofs.Common.{◌≡◌, ℕ, suc, ◌+◌, List, [], ◌∷◌, ◌++◌, map, length, filter, Bool, true, false, cond, not, Option, Some, None, Result, Ok, Err, IfOk, refl, nat_lt}
-use Rattle.std.specs.Prelude.{◌==◌, is_some}
-use Rattle.std.specs.Str.{is_utf8}
+use Rattle.std.proofs.Common.{◌≡◌, ℕ, suc, ◌+◌, List, [], ◌∷◌, ◌++◌, map, filter, Bool, true, false, cond, not, Option, Some, None, Result, Ok, Err, IfOk, refl, nat_lt}
+use Rattle.std.specs.Prelude.{is_some}
 use Rattle.std.proofs.lemmas.Bool.{both_ways, and_parts, and_from}
 use Rattle.zone_outside.specs.Limit.{text_limit}
-use Rattle.zone_values.specs.Values.{InfoValue, RuleValue, LineValue, space, zone, continuation, rule, link}
+use Rattle.zone_values.specs.Values.{RuleValue, LineValue, space, zone, continuation, rule, link}
 use Rattle.zone_source.specs.Lines.{lines_of}
-use Rattle.zone_plain_lines.specs.Meanings.{rule_of, info_of, link_of, by_word, first_line_of, meaning}
-use Rattle.zone_plain_lines.specs.Columns.{column, zone_name}
-use Rattle.zone_plain_lines.specs.Quotes.{fields, laid_out}
 use Rattle.zone_values.specs.Results.{◌>>=◌}
-use Rattle.zone_plain_lines.specs.Words.{line_word}
 use Rattle.zone_plain_lines.specs.declared.cause.PlainCause.{PlainCause}
 use Rattle.zone_plain_lines.specs.declared.cause.PlainCause.TheVariants as cause
-use Rattle.zone_plain_lines.specs.declared.words.LineWord.{LineWord}
-use Rattle.zone_plain_lines.specs.declared.words.LineWord.TheVariants as word
 use Rattle.zone_plain_base.specs.LineFaults.{LineFault, Refusal, too_long, numbered, by_line, onto}
+use Rattle.zone_plain_base.specs.MeantLaws.{holds, either}
 use Rattle.zone_plain_base.specs.Said.{is_said, if_said}
 use Rattle.zone_plain_base.specs.Renamed.{renamed}
 use Rattle.zone_plain_links.specs.Named.{has_zone, target_of}
@@ -24,7 +18,7 @@ use Rattle.zone_plain_links.specs.Settled.{lacks_rules, link_to, link_after, set
 use Rattle.zone_plain_offsets.specs.Made.{changed_by, changed, made_rule, name_in, rules_named, made_for, made}
 use Rattle.zone_plain_offsets.specs.Pairs.{Pair, Asked, nothing, total, under, asked, pairs_of}
 use Rattle.zone_plain_offsets.specs.WrittenOut.{refused_from, written_unless, written_out}
-use Rattle.zone_plain.specs.LineValues.{meant_by, line_meaning, is_open_after, values_from, mark_in, named, values_in}
+use Rattle.zone_plain.specs.LineValues.{line_meaning, is_open_after, values_from, mark_in, named, values_in}
 use Rattle.zone_plain.proofs.Followed.{are_followed}
 use Rattle.zone_plain.proofs.Placed.{are_placed}
 use Rattle.zone_plain.specs.Written.{Rules, Zones, Links, is_in}
@@ -34,10 +28,8 @@ use Rattle.zone_plain.specs.WrittenLines.{in_parts}
 placed_more : (b : Bool) (values : List LineValue) → are_placed false values ≡ true → are_placed b values ≡ true
 placed_more b [] h = refl
 placed_more b (space ∷ values) h = placed_more b values h
-placed_more b (zone name info ∷ values) h = h
 placed_more b (continuation info ∷ values) h = absurd (both_ways false refl h)
-placed_more b (rule r ∷ values) h = h
-placed_more b (link existing new ∷ values) h = h
+placed_more b (_ ∷ values) h = h
 
 placed_behind : (b : Bool) (values : List LineValue) → are_placed b values ≡ true → are_placed true values ≡ true
 placed_behind true values h = h
@@ -52,8 +44,7 @@ followed_placed b (zone name info ∷ values) h =
 followed_placed b (continuation info ∷ values) h =
     let both = and_parts b (are_followed (is_some info.time) values) h in
     and_from b _ both.0 (placed_behind (is_some info.time) values (followed_placed (is_some info.time) values both.1))
-followed_placed b (rule r ∷ values) h = followed_placed false values (and_parts (not b) (are_followed false values) h).1
-followed_placed b (link existing new ∷ values) h = followed_placed false values (and_parts (not b) (are_followed false values) h).1
+followed_placed b (_ ∷ values) h = followed_placed false values (and_parts (not b) (are_followed false values) h).1
 
 -- ---- what a source means
 
@@ -62,86 +53,39 @@ abbrev IsFirst : LineValue → Type 0
 IsFirst (continuation info) = ⊥
 IsFirst v = Unit {0}
 
-first_by : (w : LineWord) (found : List (List ℕ)) → IfOk (by_word w found) IsFirst
-unfolding link_of
-first_by word.Rule found = by (rule_of found)
-  where
-    by : (r : Result RuleValue PlainCause) → IfOk (◌>>=◌ r (λ read. Ok (rule read))) IsFirst
-    by (Err e) = tt
-    by (Ok read) = tt
-first_by word.Zone found = by (info_of found 2) (zone_name (column found 1))
-  where
-    by : (r : Result InfoValue PlainCause) (n : Result (List ℕ) PlainCause)
-        → IfOk (◌>>=◌ r (λ info. ◌>>=◌ n (λ name. Ok (zone name info)))) IsFirst
-    by (Err e) n = tt
-    by (Ok info) (Err e) = tt
-    by (Ok info) (Ok name) = tt
-first_by word.Link found = first_link (not (length found == 3)) (zone_name (column found 2))
-  where
-    first_link : (b : Bool) (n : Result (List ℕ) PlainCause)
-        → IfOk (cond b (Err cause.FieldCount) (◌>>=◌ n (λ name. Ok (link (column found 1) name)))) IsFirst
-    first_link true n = tt
-    first_link false (Err e) = tt
-    first_link false (Ok name) = tt
-
-first_line : (found : List (List ℕ)) → IfOk (first_line_of found) IsFirst
-unfolding first_line_of
-first_line found = by (line_word (column found 0))
-  where
-    by : (r : Result LineWord PlainCause) → IfOk (◌>>=◌ r (λ w. by_word w found)) IsFirst
-    by (Err e) = tt
-    by (Ok w) = first_by w found
-
 -- where one has to follow, only a line of a zone is read
 abbrev IsNext : LineValue → Type 0
 IsNext space = Unit {0}
-IsNext (zone name info) = ⊥
 IsNext (continuation info) = Unit {0}
-IsNext (rule r) = ⊥
-IsNext (link existing new) = ⊥
+IsNext _ = ⊥
 
 abbrev StandsIn : Bool → LineValue → Type 0
 StandsIn true v = IsNext v
 StandsIn false v = IsFirst v
 
-stands : (is_open : Bool) (found : List (List ℕ)) → IfOk (meaning is_open found) (StandsIn is_open)
-unfolding meaning
-stands false found = by (length found == 0)
-  where
-    by : (b : Bool) → IfOk (cond b (Ok space) (first_line_of found)) IsFirst
-    by true = tt
-    by false = first_line found
-stands true found = by (length found == 0) (info_of found 0)
-  where
-    by : (b : Bool) (r : Result InfoValue PlainCause) → IfOk (cond b (Ok space) (◌>>=◌ r (λ info. Ok (continuation info)))) IsNext
-    by true r = tt
-    by false (Err e) = tt
-    by false (Ok info) = tt
-
 stands_meant : (is_open : Bool) (line : List ℕ) → IfOk (line_meaning is_open line) (StandsIn is_open)
-unfolding line_meaning
-stands_meant is_open line = by (is_utf8 line) (fields line)
-  where
-    laid : (b : Bool) (found : List (List ℕ)) → IfOk (cond b (meaning is_open found) (Err cause.NotText)) (StandsIn is_open)
-    laid false found = tt
-    laid true found = stands is_open found
-
-    by : (b : Bool) (r : Result (List (List ℕ)) PlainCause) → IfOk (cond b (◌>>=◌ r (meant_by is_open line)) (Err cause.NotText)) (StandsIn is_open)
-    by false r = tt
-    by true (Err e) = tt
-    by true (Ok found) = laid (is_utf8 (laid_out line)) found
+stands_meant true line = holds IsNext true (record {
+  blank = tt;
+  next = λ info e good. tt;
+  first = λ name info e good. absurd (both_ways true e refl);
+  rules = λ r e. absurd (both_ways true e refl);
+  links = λ existing new e. absurd (both_ways true e refl);
+}) line
+stands_meant false line = holds IsFirst false (record {
+  blank = tt;
+  next = λ info e good. absurd (both_ways false refl e);
+  first = λ name info e good. tt;
+  rules = λ r e. tt;
+  links = λ existing new e. tt;
+}) line
 
 followed_on : (mark : List ℕ) (is_open : Bool) (v : LineValue) (values : List LineValue) → StandsIn is_open v
     → are_followed (is_open_after is_open v) values ≡ true → are_followed is_open (renamed mark v ∷ values) ≡ true
-followed_on mark is_open space values kind h = h
 followed_on mark true (zone name info) values kind h = absurd kind
-followed_on mark false (zone name info) values kind h = h
-followed_on mark true (continuation info) values kind h = h
 followed_on mark false (continuation info) values kind h = absurd kind
 followed_on mark true (rule r) values kind h = absurd kind
-followed_on mark false (rule r) values kind h = h
 followed_on mark true (link existing new) values kind h = absurd kind
-followed_on mark false (link existing new) values kind h = h
+followed_on mark _ _ values kind h = h
 
 followed_from : (mark : List ℕ) (is_open : Bool) (n : ℕ) (lines : List (List ℕ))
     → IfOk (values_from (named mark) is_open n lines) (λ values. are_followed is_open values ≡ true)
@@ -189,14 +133,11 @@ Stays v w = (vs ws : List LineValue) → StaysFollowed vs ws → StaysFollowed (
 
 same_stays : (v : LineValue) → Stays v v
 same_stays space vs ws rest b h = rest b h
-same_stays (zone name info) vs ws rest true h = absurd (both_ways false refl h)
 same_stays (zone name info) vs ws rest false h = rest (is_some info.time) h
 same_stays (continuation info) vs ws rest true h = rest (is_some info.time) h
-same_stays (continuation info) vs ws rest false h = absurd (both_ways false refl h)
-same_stays (rule r) vs ws rest true h = absurd (both_ways false refl h)
 same_stays (rule r) vs ws rest false h = rest false h
-same_stays (link existing new) vs ws rest true h = absurd (both_ways false refl h)
 same_stays (link existing new) vs ws rest false h = rest false h
+same_stays _ vs ws rest _ h = absurd (both_ways false refl h)
 
 link_stays : (existing new other more : List ℕ) → Stays (link existing new) (link other more)
 link_stays existing new other more vs ws rest true h = absurd (both_ways false refl h)
@@ -207,11 +148,7 @@ link_goes existing new vs ws rest true h = absurd (both_ways false refl h)
 link_goes existing new vs ws rest false h = rest false h
 
 link_said : (existing new : List ℕ) (w : LineValue) → Stays (link existing new) w → IfOk (if_said w) (Stays (link existing new))
-link_said existing new w kind = by (is_said w)
-  where
-    by : (b : Bool) → IfOk (cond b (Ok w) (Err cause.Unsayable)) (Stays (link existing new))
-    by true = kind
-    by false = tt
+link_said existing new w kind = either (Stays (link existing new)) (is_said w) (Ok w) (Err cause.Unsayable) (λ _. kind) (λ _. tt)
 
 link_kind : (values before : List LineValue) (existing new : List ℕ) → IfOk (settled_link values before existing new) (Stays (link existing new))
 unfolding settled_link
@@ -233,20 +170,13 @@ link_kind values before existing new = by (has_zone values new) (target_of befor
 
 line_kind : (values before : List LineValue) (v : LineValue) → IfOk (settled_line values before v) (Stays v)
 unfolding settled_line
-line_kind values before space = same_stays space
-line_kind values before (rule r) = same_stays (rule r)
-line_kind values before (continuation info) = by (lacks_rules values info.saving)
-  where
-    by : (b : Bool) → IfOk (cond b (Err cause.UnknownRuleset) (Ok (continuation info))) (Stays (continuation info))
-    by true = tt
-    by false = same_stays (continuation info)
-line_kind values before (zone name info) = by (lacks_rules values info.saving) (has_zone before name)
-  where
-    by : (b c : Bool) → IfOk (cond b (Err cause.UnknownRuleset) (cond c (Err cause.DuplicateZone) (Ok (zone name info)))) (Stays (zone name info))
-    by true c = tt
-    by false true = tt
-    by false false = same_stays (zone name info)
+line_kind values before (continuation info) =
+    either (Stays (continuation info)) (lacks_rules values info.saving) _ _ (λ _. tt) (λ _. same_stays (continuation info))
+line_kind values before (zone name info) =
+    either (Stays (zone name info)) (lacks_rules values info.saving) _ _ (λ _. tt)
+    (λ _. either (Stays (zone name info)) (has_zone before name) _ _ (λ _. tt) (λ _. same_stays (zone name info)))
 line_kind values before (link existing new) = link_kind values before existing new
+line_kind values before v = same_stays v
 
 settled_on : (values before : List LineValue) (n size : ℕ) (vs : List LineValue) → IfOk (settled_from values before n size vs) (StaysFollowed vs)
 unfolding settled_from
@@ -277,29 +207,18 @@ settled_followed values = settled_on values [] 1 0 values
 changed_stays : (name_of : Pair → List ℕ) (a : Asked) (v : LineValue) → Stays v (changed_by name_of a v)
 changed_stays name_of nothing v = same_stays v
 changed_stays name_of (total parts t) space = same_stays space
-changed_stays name_of (total parts t) (zone name info) = same_stays (zone name info)
-changed_stays name_of (total parts t) (continuation info) = same_stays (continuation info)
-changed_stays name_of (total parts t) (rule r) = same_stays (rule r)
-changed_stays name_of (total parts t) (link existing new) = same_stays (link existing new)
 changed_stays name_of (under parts pair) space = same_stays space
-changed_stays name_of (under parts pair) (zone name info) = same_stays (zone name info)
-changed_stays name_of (under parts pair) (continuation info) = same_stays (continuation info)
-changed_stays name_of (under parts pair) (rule r) = same_stays (rule r)
-changed_stays name_of (under parts pair) (link existing new) = same_stays (link existing new)
+changed_stays name_of _ v = same_stays v
 
 -- lines that are followed, and behind them others
 followed_more : (b : Bool) (vs more : List LineValue) → are_followed b vs ≡ true → are_followed false more ≡ true → are_followed b (vs ++ more) ≡ true
-followed_more true [] more h m = absurd (both_ways false refl h)
 followed_more false [] more h m = m
 followed_more b (space ∷ vs) more h m = followed_more b vs more h m
-followed_more true (zone name info ∷ vs) more h m = absurd (both_ways false refl h)
 followed_more false (zone name info ∷ vs) more h m = followed_more (is_some info.time) vs more h m
 followed_more true (continuation info ∷ vs) more h m = followed_more (is_some info.time) vs more h m
-followed_more false (continuation info ∷ vs) more h m = absurd (both_ways false refl h)
-followed_more true (rule r ∷ vs) more h m = absurd (both_ways false refl h)
 followed_more false (rule r ∷ vs) more h m = followed_more false vs more h m
-followed_more true (link existing new ∷ vs) more h m = absurd (both_ways false refl h)
 followed_more false (link existing new ∷ vs) more h m = followed_more false vs more h m
+followed_more _ _ more h m = absurd (both_ways false refl h)
 
 changed_followed : (name_of : Pair → List ℕ) (vs : List LineValue) → StaysFollowed vs (map (changed name_of) vs)
 changed_followed name_of [] = λ b h. h
@@ -331,30 +250,21 @@ out_followed values = by (refused_from text_limit values 1 [] values)
 zones_followed : (b : Bool) (vs : List LineValue) → are_followed b vs ≡ true → are_followed b (filter (is_in Zones) vs) ≡ true
 zones_followed b [] h = h
 zones_followed b (space ∷ vs) h = zones_followed b vs h
-zones_followed true (zone name info ∷ vs) h = absurd (both_ways false refl h)
 zones_followed false (zone name info ∷ vs) h = zones_followed (is_some info.time) vs h
 zones_followed true (continuation info ∷ vs) h = zones_followed (is_some info.time) vs h
-zones_followed false (continuation info ∷ vs) h = absurd (both_ways false refl h)
-zones_followed true (rule r ∷ vs) h = absurd (both_ways false refl h)
 zones_followed false (rule r ∷ vs) h = zones_followed false vs h
-zones_followed true (link existing new ∷ vs) h = absurd (both_ways false refl h)
 zones_followed false (link existing new ∷ vs) h = zones_followed false vs h
+zones_followed _ (_ ∷ vs) h = absurd (both_ways false refl h)
 
 rules_before : (vs more : List LineValue) → are_followed false more ≡ true → are_followed false (filter (is_in Rules) vs ++ more) ≡ true
 rules_before [] more m = m
 rules_before (space ∷ vs) more m = rules_before vs more m
-rules_before (zone name info ∷ vs) more m = rules_before vs more m
-rules_before (continuation info ∷ vs) more m = rules_before vs more m
-rules_before (rule r ∷ vs) more m = rules_before vs more m
-rules_before (link existing new ∷ vs) more m = rules_before vs more m
+rules_before (_ ∷ vs) more m = rules_before vs more m
 
 links_followed : (vs : List LineValue) → are_followed false (filter (is_in Links) vs) ≡ true
 links_followed [] = refl
 links_followed (space ∷ vs) = links_followed vs
-links_followed (zone name info ∷ vs) = links_followed vs
-links_followed (continuation info ∷ vs) = links_followed vs
-links_followed (rule r ∷ vs) = links_followed vs
-links_followed (link existing new ∷ vs) = links_followed vs
+links_followed (_ ∷ vs) = links_followed vs
 
 -- the parts of lines that are followed are followed
 pub parts_followed : (vs : List LineValue) → are_followed false vs ≡ true → are_followed false (in_parts vs) ≡ true

@@ -1,11 +1,11 @@
 -- Each line that is written is read as it is meant.
-use Rattle.std.proofs.Common.{◌≡◌, ℕ, List, ◌++◌, ◌≤◌, All, Bool, true, false, cond, Result, Ok, Err, IfOk, refl, sym, subst, length, nat_lt, ap, ◌∙◌}
+use Rattle.std.proofs.Common.{◌≡◌, ℕ, List, ◌++◌, ◌≤◌, All, true, false, Result, Ok, Err, IfOk, refl, sym, subst, length, nat_lt, ap, ◌∙◌}
 use Rattle.std.proofs.lemmas.Bool.{ltb-false}
 use Rattle.std.proofs.lemmas.List.Elements.{All-weaker}
 use Rattle.zone_outside.specs.Limit.{text_limit}
 use Rattle.zone_values.specs.Values.{LineValue}
-use Rattle.zone_values.specs.Results.{◌>>=◌}
-use Rattle.zone_plain_base.specs.LineFaults.{LineFault, Refusal, too_long, by_line}
+use Rattle.zone_plain_base.specs.LineFaults.{LineFault, by_line}
+use Rattle.zone_plain_base.specs.MeantLaws.{then_ok, either}
 use Rattle.zone_plain_base.specs.SaidLaws.{read_back, one_line}
 use Rattle.zone_plain_links.specs.SaidLaws.{settled_said}
 use Rattle.zone_plain_links.specs.Settled.{settled}
@@ -17,7 +17,7 @@ use Rattle.zone_plain.specs.Named.{IsSaid, named_lines}
 use Rattle.zone_plain.proofs.NamedLaws.{is_named}
 use Rattle.zone_plain.proofs.Followed.{are_followed}
 use Rattle.zone_plain.proofs.PlacedLaws.{StaysFollowed, source_followed, settled_followed, out_followed}
-use Rattle.zone_plain.specs.Plain.{if_short, plain_of}
+use Rattle.zone_plain.specs.Plain.{plain_of}
 use Rattle.zone_plain.specs.ReadBack.{IsReadAsMeant, IsReadBack}
 use Rattle.zone_plain.specs.Written.{written}
 
@@ -74,37 +74,24 @@ back_of source head values linked out s short =
       followed = of_ok (StaysFollowed linked) s.spelled (out_followed linked) false (of_ok (StaysFollowed values) s.led (settled_followed values) false followed);
     }
 
+itself : {A E : Type 0} (r : Result A E) → IfOk r (λ a. r ≡ Ok a)
+itself (Ok a) = refl
+itself (Err e) = tt
+
+itself_by_line : {A : Type 0} (r : Result A LineFault) → IfOk (by_line r) (λ a. r ≡ Ok a)
+itself_by_line (Ok a) = refl
+itself_by_line (Err e) = tt
+
 read_of : (source : List ℕ) → IfOk (plain_of source) (IsPlaced source)
 unfolding plain_of
-read_of source = by (head_of source) refl
-  where
-    by_out : (head : List ℕ) (values linked : List LineValue) (r : Result (List LineValue) Refusal) → head_of source ≡ Ok head → values_in source ≡ Ok values
-        → settled values ≡ Ok linked → written_out linked ≡ r → IfOk (◌>>=◌ r (λ out. if_short (head ++ written out))) (IsPlaced source)
-    by_out head values linked (Err e) heads meant led spelled = tt
-    by_out head values linked (Ok out) heads meant led spelled = short (nat_lt text_limit (length (head ++ written out))) refl
-      where
-        short : (b : Bool) → nat_lt text_limit (length (head ++ written out)) ≡ b → IfOk (cond b (Err too_long) (Ok (head ++ written out))) (IsPlaced source)
-        short true e = tt
-        short false e =
-            back_of source head values linked out (record { heads = heads; meant = meant; led = led; spelled = spelled })
-            (ltb-false text_limit (length (head ++ written out)) e)
-
-    by_linked : (head : List ℕ) (values : List LineValue) (r : Result (List LineValue) Refusal) → head_of source ≡ Ok head → values_in source ≡ Ok values
-        → settled values ≡ r → IfOk (◌>>=◌ r (λ linked. ◌>>=◌ (written_out linked) (λ out. if_short (head ++ written out)))) (IsPlaced source)
-    by_linked head values (Err e) heads meant led = tt
-    by_linked head values (Ok linked) heads meant led = by_out head values linked (written_out linked) heads meant led refl
-
-    by_values : (head : List ℕ) (r : Result (List LineValue) LineFault) → head_of source ≡ Ok head → values_in source ≡ r
-        → IfOk (◌>>=◌ (by_line r) (λ values. ◌>>=◌ (settled values) (λ linked. ◌>>=◌ (written_out linked) (λ out. if_short (head ++ written out)))))
-        (IsPlaced source)
-    by_values head (Err e) heads meant = tt
-    by_values head (Ok values) heads meant = by_linked head values (settled values) heads meant refl
-
-    by : (r : Result (List ℕ) LineFault) → head_of source ≡ r
-        → IfOk (◌>>=◌ (by_line r) (λ head. ◌>>=◌ (by_line (values_in source)) (λ values. ◌>>=◌ (settled values) (λ linked.
-        ◌>>=◌ (written_out linked) (λ out. if_short (head ++ written out)))))) (IsPlaced source)
-    by (Err e) heads = tt
-    by (Ok head) heads = by_values head (values_in source) heads refl
+read_of source =
+    then_ok (λ head. head_of source ≡ Ok head) (IsPlaced source) (by_line (head_of source)) _ (itself_by_line (head_of source)) (λ head heads.
+    then_ok (λ values. values_in source ≡ Ok values) (IsPlaced source) (by_line (values_in source)) _ (itself_by_line (values_in source)) (λ values meant.
+    then_ok (λ linked. settled values ≡ Ok linked) (IsPlaced source) (settled values) _ (itself (settled values)) (λ linked led.
+    then_ok (λ out. written_out linked ≡ Ok out) (IsPlaced source) (written_out linked) _ (itself (written_out linked)) (λ out spelled.
+    either (IsPlaced source) (nat_lt text_limit (length (head ++ written out))) _ _ (λ _. tt) (λ e.
+    back_of source head values linked out (record { heads = heads; meant = meant; led = led; spelled = spelled })
+    (ltb-false text_limit (length (head ++ written out)) e))))))
 
 -- each line that is written of a source is read as it is meant, and each line of a zone stands in its place
 pub read_as_meant : (source bytes : List ℕ) → plain_of source ≡ Ok bytes → IsPlaced source bytes

@@ -11,7 +11,7 @@ use Rattle.zone_source.specs.ReleaseLaws.{release_line}
 use Rattle.zone_source.specs.Releases.{line_naming, named_by, release_of}
 use Rattle.zone_source.specs.Lines.{lines_of}
 use Rattle.zone_source.specs.Zones.{source_value, values_of}
-use Rattle.zone_values.specs.Values.{LineValue, space, zone, continuation, rule, link}
+use Rattle.zone_values.specs.Values.{LineValue, space}
 use Rattle.zone_plain_lines.specs.declared.cause.PlainCause.TheVariants as cause
 use Rattle.zone_plain_base.specs.LineFaults.{at, onto}
 use Rattle.zone_plain_base.specs.Said.{is_read_as}
@@ -66,10 +66,7 @@ silent_text line h = (and_parts (is_utf8 line) (is_read_as space (value line)) h
 nameless : (v : LineValue) → named_by (plain_text v) ≡ None
 unfolding named_by plain_text info_text stretch_text rule_text years_text
 nameless space = refl
-nameless (zone name info) = refl
-nameless (continuation info) = refl
-nameless (rule r) = refl
-nameless (link existing new) = refl
+nameless _ = refl
 
 none_named : (values : List LineValue) → option_and_then named_by (slice_get (map plain_text values) 0) ≡ None
 none_named [] = refl

@@ -13,6 +13,5 @@ answered source bytes e = (ap refusal_in e, sym (ap bytes_for e))
 pub refused : (source : List ℕ) (f : PlainFault) (line : List ℕ) → IsFaultOf (plain_of source) f → IsFaultLine f line
     → IsSome (cause source) × (line ≡ due_bytes source)
 unfolding cause due_bytes
-refused source (fault.Line n c) line e h = (subst (λ r. IsSome (refusal_in r)) (sym e) refl, h ∙ sym (ap bytes_for e))
-refused source fault.TooLong line e h = (subst (λ r. IsSome (refusal_in r)) (sym e) refl, h ∙ sym (ap bytes_for e))
 refused source fault.NoMemory line e h = elim h [ ]
+refused source _ line e h = (subst (λ r. IsSome (refusal_in r)) (sym e) refl, h ∙ sym (ap bytes_for e))

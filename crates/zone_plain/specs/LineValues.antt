@@ -1,6 +1,6 @@
 -- The values of the lines of a source, each in its place.
 use Rattle.std.specs.Prelude.{ℕ, suc, List, [], ◌∷◌, Bool, false, is_some, Result, Ok, Err, if◌then◌else◌}
-use Rattle.zone_values.specs.Values.{LineValue, space, zone, continuation, rule, link}
+use Rattle.zone_values.specs.Values.{LineValue, space, zone, continuation}
 use Rattle.zone_values.specs.Results.{◌>>=◌}
 use Rattle.zone_plain_lines.specs.declared.cause.PlainCause.{PlainCause}
 use Rattle.zone_plain_lines.specs.declared.cause.PlainCause.TheVariants as cause
@@ -16,8 +16,7 @@ abbrev pub is_open_after : Bool → LineValue → Bool
 is_open_after is_open space = is_open
 is_open_after is_open (zone name info) = is_some info.time
 is_open_after is_open (continuation info) = is_some info.time
-is_open_after is_open (rule r) = false
-is_open_after is_open (link existing new) = false
+is_open_after is_open _ = false
 
 -- the values of lines from the nth on, as each is taken; a line that isn't there is told as the one after the last
 unfoldable pub values_from : (LineValue → Result LineValue PlainCause) → Bool → ℕ → List (List ℕ) → Result (List LineValue) LineFault

@@ -6,8 +6,6 @@ use Rattle.zone_plain_base.specs.LineFaults.{LineFault, at}
 use Rattle.zone_plain_base.specs.Said.{is_said}
 use Rattle.zone_plain_base.specs.declared.error.PlainFault.{PlainFault}
 use Rattle.zone_plain_base.specs.declared.error.PlainFault.TheVariants as fault
-use Rattle.zone_plain_base.specs.declared.error.Refused.{Refused}
-use Rattle.zone_plain_base.specs.declared.error.Refused.TheVariants.{Cause, NoMemory}
 use Rattle.zone_values.specs.Results.{◌>>=◌}
 use Rattle.zone_plain_lines.specs.declared.cause.PlainCause.{PlainCause}
 use Rattle.zone_plain_base.specs.Renamed.{renamed}
@@ -26,11 +24,6 @@ pub record IsReadLine (old new : List (List ℕ)) (mark : List ℕ) (is_open : B
   pub said : is_said (renamed mark value) ≡ true
   pub added : new ≡ old ++ plain_text (renamed mark value) ∷ []
   pub open_now : is_open_now ≡ is_open_after is_open value
-
--- why a line isn't read
-abbrev pub IsRefusedLine : List ℕ → Bool → List ℕ → Refused → Type 0
-IsRefusedLine mark is_open line (Cause c) = added_line mark is_open line ≡ Err c
-IsRefusedLine mark is_open line NoMemory = Unit {0}
 
 -- the error tells the line's fault, or memory ran out
 abbrev pub IsLineFault : {A : Type 0} → Result A LineFault → PlainFault → Type 0

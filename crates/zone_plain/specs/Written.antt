@@ -1,6 +1,6 @@
 -- What is written of the values of a source's lines.
 use Rattle.std.specs.Prelude.{ℕ, List, [], ◌∷◌, ◌++◌, Bool, true, false, flat_map, if◌then◌else◌}
-use Rattle.zone_values.specs.Values.{LineValue, space, zone, continuation, rule, link}
+use Rattle.zone_values.specs.Values.{LineValue, zone, continuation, rule, link}
 use Rattle.zone_plain_base.specs.PlainTexts.{plain_text}
 
 -- the parts of what is written
@@ -12,19 +12,11 @@ pub data Part : Type 0 where
 
 -- a value of that part
 abbrev pub is_in : Part → LineValue → Bool
-is_in part space = false
 is_in Rules (rule r) = true
-is_in Rules (zone name info) = false
-is_in Rules (continuation info) = false
-is_in Rules (link existing new) = false
-is_in Zones (rule r) = false
 is_in Zones (zone name info) = true
 is_in Zones (continuation info) = true
-is_in Zones (link existing new) = false
-is_in Links (rule r) = false
-is_in Links (zone name info) = false
-is_in Links (continuation info) = false
 is_in Links (link existing new) = true
+is_in _ _ = false
 
 -- its plain text and a line feed, or nothing
 abbrev pub part_text : Part → LineValue → List ℕ

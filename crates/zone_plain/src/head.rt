@@ -4,8 +4,8 @@ ghost use Rattle.zone_plain.specs.Heads.{is_silent, head_with, head_of};
 ghost use Rattle.zone_plain.specs.Told.{IsLineFault};
 
 use std::alloc::{AllocError, Global};
-use zone_line::{Error, Line, LineParser};
-use zone_plain_base::{PlainFault, same_line};
+use zone_line::{Line, LineParser};
+use zone_plain_base::{PlainFault, is_read};
 use zone_plain_lines::PlainCause;
 use zone_source::{put_release_line, release_of, text_of};
 
@@ -17,11 +17,9 @@ fn is_silent(alloc: Global, parser: &LineParser, line: &[u8]) -> Result<bool, Al
     let Some(text) = text_of(line) else {
         return Ok(false);
     };
-    match parser.parse_str(alloc, text) {
-        Ok(read) => Ok(same_line(&read, &Line::Space)),
-        Err(Error::NoMemory) => Err(AllocError),
-        Err(_) => Ok(false),
-    }
+    let mut reader = parser.reader(alloc)?;
+    let is_read = is_read(alloc, &mut reader, &Line::Space, text)?;
+    Ok(is_read)
 }
 
 /// The line that names a release, with its line feed.

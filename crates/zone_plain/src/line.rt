@@ -2,7 +2,8 @@
 ghost use Rattle.std.specs.Prelude.{◌≡◌, IfOk, IfErr};
 ghost use Rattle.zone_values.specs.Values.{line_value};
 ghost use Rattle.zone_plain.specs.LineValues.{is_open_after};
-ghost use Rattle.zone_plain.specs.Told.{IsReadLine, IsRefusedLine};
+ghost use Rattle.zone_plain.specs.Told.{IsReadLine, added_line};
+ghost use Rattle.zone_plain_base.specs.Told.{IsRefused};
 
 use std::alloc::Global;
 use zone_line::{Line, LineReader};
@@ -35,7 +36,7 @@ pub(crate) fn read_line(
     lines: &mut LineList,
 ) -> Result<bool, Refused>
     ensures ok { IfOk result (IsReadLine lines.old lines.new mark.now is_open line.now) }
-    ensures err { IfErr result (IsRefusedLine mark.now is_open line.now) }
+    ensures err { IfErr result (IsRefused (added_line mark.now is_open line.now)) }
 {
     let meant = match line_meant(alloc, is_open, line, laid) {
         Ok(meant) => meant,

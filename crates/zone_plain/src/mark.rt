@@ -8,7 +8,7 @@ ghost use Rattle.zone_plain.specs.LineValues.{known, mark_in, meant_in};
 use crate::line::is_open_after;
 use std::alloc::{AllocError, Global};
 use zone_line::Line;
-use zone_plain_base::{Refused, behind_underscore, line_meant, mark_behind};
+use zone_plain_base::{Refused, behind_underscore, line_at, line_meant, mark_behind};
 use zone_source::{LIMIT, LineList, Lines};
 
 /// Adds what stands behind the `_` in the name of the ruleset that a line is of or names, if it begins with one.
@@ -51,10 +51,7 @@ fn slices(alloc: Global, lines: &LineList) -> Result<Vec<&[u8]>, AllocError>
 {
     let mut slices = Vec::new(alloc);
     for place in 0..lines.len() {
-        let Some(line) = lines.get(place) else {
-            unreachable!();
-        };
-        slices.push(line)?;
+        slices.push(line_at(lines, place))?;
     }
     Ok(slices)
 }

@@ -11,6 +11,7 @@ pub mod Said
 pub mod LinesAt
 -- Laws: what a caller may use.
 pub mod SameLaws
+pub mod MeantLaws
 pub mod MarkLaws
 pub mod NameLaws
 pub mod SaidLaws

@@ -60,13 +60,12 @@ half names = by_test (nat_lt (length (tails 97 names)) (length (tails 95 names))
 -- no name goes on with its ending
 ends : (count : ℕ) (names : List (List ℕ)) (rest : List ℕ) → length names ≤ count → is_among names (ending_within count names ++ rest) ≡ true → ⊥
 unfolding ending_within
-ends zero [] rest few among = absurd (both_ways false refl among)
 ends zero (name ∷ names) rest few among = absurd (omega (arith, few))
-ends (suc count) [] rest few among = absurd (both_ways false refl among)
 ends (suc count) (name ∷ names) rest few among =
     let left = half (name ∷ names) in
     ends count (tails (rarer (name ∷ names)) (name ∷ names)) rest (omega (arith, few, left))
     (among_tails (rarer (name ∷ names)) (name ∷ names) (ending_within count (tails (rarer (name ∷ names)) (name ∷ names)) ++ rest) among)
+ends _ [] rest few among = absurd (both_ways false refl among)
 
 -- no name begins with the mark
 no_mark_among : (names : List (List ℕ)) (rest : List ℕ) → is_among names (mark names ++ rest) ≡ true → ⊥
@@ -88,13 +87,12 @@ no_mark values rest among =
 -- each letter halves the names
 ending_short : (count : ℕ) (names : List (List ℕ)) → 2 ^ length (ending_within count names) ≤ max 1 (2 * length names)
 unfolding ending_within
-ending_short zero names = omega arith
-ending_short (suc count) [] = omega arith
 ending_short (suc count) (name ∷ names) =
     let left = half (name ∷ names) in
     let rest = ending_short count (tails (rarer (name ∷ names)) (name ∷ names)) in
     let double = pow-succ' 2 (length (ending_within count (tails (rarer (name ∷ names)) (name ∷ names)))) in
     omega (arith, left, rest, double)
+ending_short _ _ = omega arith
 
 -- a mark has at most two bytes more than the number of lines has halves
 pub short_mark : (values : List LineValue) → 2 ^ length (mark_of values) ≤ max 2 (4 * length values)
@@ -110,16 +108,13 @@ short_mark values =
 -- as many letters as there are names are enough
 enough : (m n : ℕ) (names : List (List ℕ)) → length names ≤ m → length names ≤ n → ending_within m names ≡ ending_within n names
 unfolding ending_within
-enough zero zero names p q = refl
-enough zero (suc n) [] p q = refl
 enough zero (suc n) (name ∷ names) p q = absurd (omega (arith, p))
-enough (suc m) zero [] p q = refl
 enough (suc m) zero (name ∷ names) p q = absurd (omega (arith, q))
-enough (suc m) (suc n) [] p q = refl
 enough (suc m) (suc n) (name ∷ names) p q =
     let left = half (name ∷ names) in
     ap (λ letters. rarer (name ∷ names) ∷ letters)
     (enough m n (tails (rarer (name ∷ names)) (name ∷ names)) (omega (arith, left, p)) (omega (arith, left, q)))
+enough _ _ _ p q = refl
 
 -- an ending, letter by letter
 pub next_letter : (name : List ℕ) (names : List (List ℕ))

@@ -2,7 +2,7 @@
 use Rattle.std.specs.Prelude.{ℕ, List, Bool, true, false, Result, Err, if◌then◌else◌}
 use Rattle.std.specs.Str.{is_utf8}
 use Rattle.zone_values.specs.Results.{◌>>=◌}
-use Rattle.zone_values.specs.Values.{LineValue, space, zone, continuation, rule, link}
+use Rattle.zone_values.specs.Values.{LineValue, continuation}
 use Rattle.zone_plain_lines.specs.Meanings.{meaning}
 use Rattle.zone_plain_lines.specs.Quotes.{fields, laid_out}
 use Rattle.zone_plain_lines.specs.declared.cause.PlainCause.{PlainCause}
@@ -20,8 +20,5 @@ line_meaning is_continued line = if is_utf8 line then (do
 
 -- it stands where a line of a zone has to follow
 abbrev pub is_next : LineValue → Bool
-is_next space = false
-is_next (zone name info) = false
 is_next (continuation info) = true
-is_next (rule r) = false
-is_next (link existing new) = false
+is_next _ = false

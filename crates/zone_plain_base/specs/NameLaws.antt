@@ -117,11 +117,10 @@ rarer_said names rest e = by_test (nat_lt (length (tails 97 names)) (length (tai
 -- RULES can say a mark before what it can say
 ending_said : (count : ℕ) (names : List (List ℕ)) (rest : List ℕ) → is_ruleset_name rest ≡ true → is_ruleset_name (ending_within count names ++ rest) ≡ true
 unfolding ending_within
-ending_said zero names rest e = e
-ending_said (suc count) [] rest e = e
 ending_said (suc count) (name ∷ names) rest e =
     rarer_said (name ∷ names) (ending_within count (tails (rarer (name ∷ names)) (name ∷ names)) ++ rest)
     (ending_said count (tails (rarer (name ∷ names)) (name ∷ names)) rest e)
+ending_said _ _ rest e = e
 
 mark_said : (values : List LineValue) (rest : List ℕ) → is_ruleset_name rest ≡ true → is_ruleset_name (mark_of values ++ rest) ≡ true
 unfolding mark_of

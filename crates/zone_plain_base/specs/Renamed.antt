@@ -7,17 +7,15 @@ use Rattle.zone_plain_base.specs.Names.{said_name}
 
 -- the ruleset in RULES, or nothing
 abbrev pub saved_by : SavingValue → List ℕ
-saved_by no_saving = []
-saved_by (one_off amount) = []
 saved_by (multiple name) = name
+saved_by _ = []
 
 -- the ruleset that a line is of or names, or nothing
 abbrev pub ruleset_of : LineValue → List ℕ
-ruleset_of space = []
 ruleset_of (zone name info) = saved_by info.saving
 ruleset_of (continuation info) = saved_by info.saving
 ruleset_of (rule r) = r.name
-ruleset_of (link existing new) = []
+ruleset_of _ = []
 
 -- a line of a source is of that ruleset or names it
 abbrev pub has_name : List LineValue → List ℕ → Bool

@@ -12,36 +12,25 @@ use Rattle.zone_values.specs.contracts.change.ChangeTimePartialEq.TheImpl as of_
 abbrev pub same_option : {A : Type 0} → (A → A → Bool) → Option A → Option A → Bool
 same_option same None None = true
 same_option same (Some a) (Some b) = same a b
-same_option same None (Some b) = false
-same_option same (Some a) None = false
+same_option same _ _ = false
 
-unfoldable pub same_saving : SavingValue → SavingValue → Bool
+abbrev pub same_saving : SavingValue → SavingValue → Bool
 same_saving no_saving no_saving = true
 same_saving (one_off a) (one_off b) = of_time.ghosts.eq a b
 same_saving (multiple a) (multiple b) = bytes_eq a b
 same_saving _ _ = false
 
-unfoldable pub same_info : InfoValue → InfoValue → Bool
+abbrev pub same_info : InfoValue → InfoValue → Bool
 same_info a b =
     of_time.ghosts.eq a.utc_offset b.utc_offset
-    && same_saving a.saving b.saving
-    && bytes_eq a.format b.format
-    && same_option of_end.ghosts.eq a.time b.time
+    && (same_saving a.saving b.saving && (bytes_eq a.format b.format && same_option of_end.ghosts.eq a.time b.time))
 
-unfoldable pub same_years : RuleValue → RuleValue → Bool
-same_years a b = of_year.ghosts.eq a.from_year b.from_year && same_option of_year.ghosts.eq a.to_year b.to_year
-
-unfoldable pub same_moment : RuleValue → RuleValue → Bool
-same_moment a b =
-    of_month.ghosts.eq a.month b.month && of_day.ghosts.eq a.day b.day && of_marked_time.ghosts.eq a.time b.time
-
-unfoldable pub same_rule : RuleValue → RuleValue → Bool
+abbrev pub same_rule : RuleValue → RuleValue → Bool
 same_rule a b =
     bytes_eq a.name b.name
-    && same_years a b
-    && same_moment a b
-    && of_time.ghosts.eq a.time_to_add b.time_to_add
-    && same_option bytes_eq a.letters b.letters
+    && (of_year.ghosts.eq a.from_year b.from_year && (same_option of_year.ghosts.eq a.to_year b.to_year
+    && (of_month.ghosts.eq a.month b.month && (of_day.ghosts.eq a.day b.day && (of_marked_time.ghosts.eq a.time b.time
+    && (of_time.ghosts.eq a.time_to_add b.time_to_add && same_option bytes_eq a.letters b.letters))))))
 
 unfoldable pub same_line : LineValue → LineValue → Bool
 same_line space space = true

@@ -11,8 +11,12 @@ abbrev pub fault_at : ℕ → Refused → PlainFault
 fault_at n (Cause c) = fault.Line n c
 fault_at n NoMemory = fault.NoMemory
 
+-- why a value is refused, or memory ran out
+abbrev pub IsRefused : {A : Type 0} → Result A PlainCause → Refused → Type 0
+IsRefused found (Cause c) = found ≡ Err c
+IsRefused found NoMemory = Unit {0}
+
 -- the value, its cause, or want of memory
 abbrev pub IsToldBy : {A B : Type 0} → (A → B) → Result A Refused → Result B PlainCause → Type 0
 IsToldBy shown (Ok x) expected = expected ≡ Ok (shown x)
-IsToldBy shown (Err (Cause c)) expected = expected ≡ Err c
-IsToldBy shown (Err NoMemory) expected = Unit {0}
+IsToldBy shown (Err refused) expected = IsRefused expected refused

@@ -1,6 +1,6 @@
-//! What the stages of the plain form share: the plain text of a line, the one form that is written for what the line means, and whether
-//! two lines mean the same; rulesets whose names the plain form can't say, and the names that stand for these; the stages' faults; and
-//! lines that are written and read back.
+//! What the stages of the plain form share: the plain text of a line, the one form that is written for what the line means; rulesets
+//! whose names the plain form can't say, and the names that stand for these; the stages' faults; and lines that are written and read
+//! back.
 #![tactic(auto)]
 
 mod error;
@@ -11,7 +11,6 @@ mod name;
 mod reading;
 mod renamed;
 mod said;
-mod same;
 mod text;
 
 pub use error::{PlainFault, Refused, fault_at};
@@ -19,8 +18,7 @@ pub use laws::said_names;
 pub use mark::mark_behind;
 pub use meant::line_meant;
 pub use name::said_name;
-pub use reading::lines_read;
+pub use reading::{keep_line, line_at, lines_read};
 pub use renamed::{behind_underscore, has_said_name, mark_of, said_name_of, under};
-pub use said::write_said;
-pub use same::same_line;
+pub use said::{is_read, write_said};
 pub use text::put_plain;

@@ -1,7 +1,8 @@
 //! The lines of a list, each read once.
-ghost use Rattle.std.specs.Prelude.{◌≡◌, ◌<◌, [], map, length, slice_index_or, IfOk};
+ghost use Rattle.std.specs.Prelude.{◌≡◌, ◌<◌, ◌++◌, [], ◌∷◌, map, length, slice_index_or, IfOk, OnOk};
 ghost use Rattle.zone_source.specs.Zones.{source_value};
 ghost use Rattle.zone_values.specs.Values.{line_value};
+ghost use Rattle.zone_plain_base.specs.LinesAt.{value_at};
 
 use std::alloc::{AllocError, Global};
 use zone_line::{Error, Line, LineReader};
@@ -30,8 +31,8 @@ fn line_of<'t>(
     }
 }
 
-/// The line at a place.
-fn bytes_at(lines: &LineList, place: usize) -> &[u8]
+/// The line at a place, which counts from 0.
+pub fn line_at(lines: &LineList, place: usize) -> &[u8]
     requires { place < length lines.now }
     ensures { result.now ≡ slice_index_or lines.now place [] }
 {
@@ -39,6 +40,19 @@ fn bytes_at(lines: &LineList, place: usize) -> &[u8]
         Some(bytes) => bytes,
         None => unreachable!(),
     }
+}
+
+/// Adds the line at a place of another list, which counts from 0.
+///
+/// # Errors
+///
+/// Want of memory alone.
+pub fn keep_line(into: &mut LineList, lines: &LineList, place: usize) -> Result<(), AllocError>
+    requires { place < length lines.now }
+    ensures { OnOk result (map source_value into.new ≡ map source_value into.old ++ value_at lines.now place ∷ []) }
+{
+    into.push(line_at(lines, place))?;
+    Ok(())
 }
 
 /// What the lines of a list say, in order. One that doesn't read says nothing.
@@ -55,7 +69,7 @@ pub fn lines_read<'t>(
 {
     let mut read = Vec::with_capacity(alloc, lines.len())?;
     for place in 0..lines.len() {
-        let line = line_of(alloc, reader, bytes_at(lines, place))?;
+        let line = line_of(alloc, reader, line_at(lines, place))?;
         read.push(line)?;
     }
     Ok(read)

@@ -3,12 +3,12 @@ ghost use Rattle.std.specs.Prelude.{◌≡◌, IfOk};
 ghost use Rattle.zone_values.specs.Values.{line_value};
 ghost use Rattle.zone_plain_base.specs.PlainTexts.{plain_text};
 ghost use Rattle.zone_plain_base.specs.Meant.{line_meaning, is_next};
-ghost use Rattle.zone_plain_base.specs.Said.{ends_returned, is_one_line, is_meant_as, is_read_by_both, is_said_by, is_said};
+ghost use Rattle.zone_line.specs.LineValues.{value};
+ghost use Rattle.zone_plain_base.specs.Said.{ends_returned, is_one_line, is_read_as, is_meant_as, is_read_by_both, is_said_by, is_said};
 
 use crate::error::Refused;
 use crate::meant::{is_next, line_meant};
 use crate::renamed::has_said_name;
-use crate::same::same_line;
 use crate::text::put_plain;
 use std::alloc::{AllocError, Global};
 use zone_line::{Error, Line, LineReader};
@@ -33,14 +33,35 @@ fn is_one_line(text: &[u8]) -> bool
 }
 
 /// Whether the text means this, as a line of a source in any form in its place.
+#[tactic(auto, unfolding(crate::specs::Same::same_line))]
 fn is_meant(alloc: Global, meant: &Line<'_>, text: &[u8]) -> Result<bool, AllocError>
     ensures { IfOk result (λ same. same ≡ is_meant_as (line_value meant.now) (line_meaning (is_next (line_value meant.now)) text.now)) }
 {
     let mut laid = Vec::new(alloc);
     match line_meant(alloc, is_next(meant), text, &mut laid) {
-        Ok(read) => Ok(same_line(&read, meant)),
+        Ok(read) => Ok(read == *meant),
         Err(Refused::Cause(_)) => Ok(false),
         Err(Refused::NoMemory) => Err(AllocError),
+    }
+}
+
+/// Whether the text is read as this in the plain form.
+///
+/// # Errors
+///
+/// Want of memory alone.
+pub fn is_read(
+    alloc: Global,
+    reader: &mut LineReader<'_>,
+    meant: &Line<'_>,
+    text: &str,
+) -> Result<bool, AllocError>
+    ensures { IfOk result (λ same. same ≡ is_read_as (line_value meant.now) (value text.now)) }
+{
+    match reader.parse_str(alloc, text) {
+        Ok(read) => Ok(read == *meant),
+        Err(Error::NoMemory) => Err(AllocError),
+        Err(_) => Ok(false),
     }
 }
 
@@ -54,12 +75,7 @@ fn is_read_by_both(
 ) -> Result<bool, AllocError>
     ensures { IfOk result (λ read. read ≡ is_read_by_both (line_value meant.now) text.now) }
 {
-    let is_read = match reader.parse_str(alloc, text) {
-        Ok(read) => same_line(&read, meant),
-        Err(Error::NoMemory) => return Err(AllocError),
-        Err(_) => false,
-    };
-    if !is_read {
+    if !is_read(alloc, reader, meant, text)? {
         return Ok(false);
     }
     is_meant(alloc, meant, text.as_bytes())

@@ -13,7 +13,8 @@ use Rattle.zone_plain_links.proofs.NameLemmas.{declares-more, declares-other, co
 use Rattle.zone_plain_links.specs.NamedLaws.{target-other}
 use Rattle.zone_plain_links.specs.Named.{zone_name, has_zone, target_by, target_of}
 use Rattle.zone_plain_links.specs.Settled.{lacks_rules, link_to, link_after, link_size, settled_link, settled_line}
-use Rattle.zone_plain_links.specs.Stands.{IsPlaced, IsDeclared, IsKnown, AddsTarget, LeadsTo, IsAt, IsRefused, IsWritten, line_at_place}
+use Rattle.zone_plain_links.specs.Stands.{IsPlaced, IsDeclared, IsKnown, AddsTarget, LeadsTo, IsAt, IsWritten, line_at_place}
+use Rattle.zone_plain_base.specs.Told.{IsRefused}
 use Rattle.zone_plain_links.specs.declared.names.Declared.{Declared}
 use Rattle.zone_plain_links.specs.declared.names.Seen.{Seen}
 

@@ -1,5 +1,5 @@
 -- The lines that were settled, and those that are left.
-use Rattle.std.proofs.Common.{◌≡◌, ℕ, zero, suc, ◌+◌, ◌-◌, ◌≤◌, ◌<◌, List, [], ◌∷◌, ◌++◌, map, length, take, drop, get_or, true, false, nat_lt, Some, Result, Ok, Err, refl, sym, ap, ◌∙◌, subst, arith, append_assoc, append-nil, rules, slice_get, unwrap_or}
+use Rattle.std.proofs.Common.{◌≡◌, ℕ, suc, ◌+◌, ◌-◌, ◌≤◌, ◌<◌, List, [], ◌∷◌, ◌++◌, map, length, take, drop, get_or, true, false, nat_lt, Result, Ok, Err, refl, sym, ap, ◌∙◌, subst, arith, append_assoc, append-nil}
 use Rattle.std.specs.Prelude.{is_some}
 use Rattle.std.specs.FinMap.{get, empty, get-empty}
 use Rattle.std.proofs.lemmas.List.{drop_all, drop_more, get_or-map, length-map, map-append, take_more}
@@ -15,14 +15,13 @@ use Rattle.zone_plain_base.specs.PlainTexts.{plain_text}
 use Rattle.zone_plain_base.specs.Said.{is_said}
 use Rattle.zone_plain_base.specs.SaidLaws.{source_value_is}
 use Rattle.zone_plain_base.specs.LineFaults.{Refusal, bad_line, too_long, at, onto, IsFaultOf}
-use Rattle.zone_plain_base.specs.LinesAt.{value_at}
-use Rattle.zone_plain_base.specs.Told.{fault_at}
+use Rattle.zone_plain_base.specs.Told.{fault_at, IsRefused}
 use Rattle.zone_plain_base.specs.declared.error.PlainFault.{PlainFault}
 use Rattle.zone_plain_base.specs.declared.error.PlainFault.TheVariants as fault
 use Rattle.zone_plain_base.specs.declared.error.Refused.{Refused}
 use Rattle.zone_plain_base.specs.declared.error.Refused.TheVariants.{Cause, NoMemory}
 use Rattle.zone_plain_links.specs.Settled.{link_size, settled_line, settled_from, settled}
-use Rattle.zone_plain_links.specs.Stands.{IsDeclared, IsKept, IsAt, IsWritten, IsRefused, Adds, Overflows, IsPast}
+use Rattle.zone_plain_links.specs.Stands.{IsDeclared, IsKept, IsAt, IsWritten, Adds, Overflows, IsPast}
 use Rattle.zone_plain_links.specs.declared.names.Declared.{Declared}
 use Rattle.zone_plain_links.specs.declared.names.Seen.{Seen}
 
@@ -37,16 +36,6 @@ first_at d s values limit zones targets known declared few = record {
     known = λ name. subst (IsKept d.names values name) (sym (ap (λ m. get m name) known ∙ get-empty text_cmp name)) tt;
   };
 }
-
-pub line_kept : (old new lines : List (List ℕ)) (place : ℕ) (line : List ℕ) → Some line ≡ slice_get lines place → new ≡ old ++ line ∷ []
-    → map source_value new ≡ map source_value old ++ value_at lines place ∷ []
-line_kept old new lines place line found added =
-    ap (map source_value) added ∙ map-append source_value old (line ∷ []) ∙ ap (λ v. map source_value old ++ v ∷ []) (here lines place found)
-  where
-    here : (ls : List (List ℕ)) (n : ℕ) → Some line ≡ slice_get ls n → source_value line ≡ value_at ls n
-    here [] n e = search rules
-    here (l ∷ ls) zero e = ap (λ o. source_value (unwrap_or o [])) e
-    here (l ∷ ls) (suc n) e = here ls n e
 
 pub line_written : (old new : List (List ℕ)) (text : List ℕ) (v : LineValue) → new ≡ old ++ text ∷ [] → text ≡ plain_text v → is_said v ≡ true
     → map source_value new ≡ map source_value old ++ v ∷ []

@@ -1,7 +1,7 @@
 -- Lines of which each needs nothing where it stands.
-use Rattle.std.specs.Prelude.{◌≡◌, ℕ, List, [], ◌∷◌, ◌++◌, Bool, true, false, Option, Some, None, bytes_eq}
-use Rattle.std.specs.List.{list_any, filter_map}
-use Rattle.zone_values.specs.Values.{LineValue, space, zone, continuation, rule, link}
+use Rattle.std.specs.Prelude.{◌≡◌, ℕ, List, [], ◌∷◌, ◌++◌, Bool, true, false, Option, Some, None, bytes_eq, flat_map, option_to_list}
+use Rattle.std.specs.List.{list_any}
+use Rattle.zone_values.specs.Values.{LineValue, zone, continuation, link}
 use Rattle.zone_plain_base.specs.Said.{is_said}
 use Rattle.zone_plain_links.specs.Named.{has_zone}
 use Rattle.zone_plain_links.specs.Needs.{NeedsNothing}
@@ -9,15 +9,12 @@ use Rattle.zone_plain_links.specs.Settled.{lacks_rules}
 
 -- the new name that a link gives
 abbrev pub new_name : LineValue → Option (List ℕ)
-new_name space = None
-new_name (zone name info) = None
-new_name (continuation info) = None
-new_name (rule r) = None
 new_name (link existing new) = Some new
+new_name _ = None
 
 -- the names that lines give
 abbrev pub names_by : (LineValue → Option (List ℕ)) → List LineValue → List (List ℕ)
-names_by name_of values = filter_map name_of values
+names_by name_of values = flat_map (λ v. option_to_list (name_of v)) values
 
 abbrev pub has : List (List ℕ) → List ℕ → Bool
 has names name = list_any (λ other. bytes_eq other name) names
@@ -35,11 +32,10 @@ pub record IsSoundLink (all : List LineValue) (existing new : List ℕ) : Type 0
 
 -- what a line needs of its source, apart from the lines before it
 abbrev pub IsSound : List LineValue → LineValue → Type 0
-IsSound all space = Unit {0}
-IsSound all (rule r) = Unit {0}
 IsSound all (continuation info) = lacks_rules all info.saving ≡ false
 IsSound all (zone name info) = lacks_rules all info.saving ≡ false
 IsSound all (link existing new) = IsSoundLink all existing new
+IsSound all _ = Unit {0}
 
 -- each line needs nothing behind those before it
 abbrev pub AreClean : List LineValue → List LineValue → List LineValue → Type 0

@@ -1,14 +1,15 @@
--- Lines that need nothing stay, and those of a source that isn't refused need nothing of it.
-use Rattle.std.proofs.Common.{◌≡◌, ℕ, suc, ◌+◌, ◌≤◌, List, [], ◌∷◌, ◌++◌, All, Bool, true, false, cond, Option, Some, None, Result, Ok, Err, IfOk, refl, sym, ap, ◌∙◌, subst, append-nil, nat_lt, arith, rules}
-use Rattle.std.specs.Prelude.{bytes_eq, unwrap_or, ◌||◌}
-use Rattle.std.specs.List.{cons_option, sum_by}
+-- A source that needs nothing stays as it is, and the lines of a source that isn't refused need nothing of it.
+use Rattle.std.proofs.Common.{◌≡◌, ℕ, suc, ◌+◌, ◌≤◌, List, [], ◌∷◌, ◌++◌, All, Bool, true, false, cond, Option, Some, None, Result, Ok, Err, IfOk, refl, sym, ap, ◌∙◌, subst, append_assoc, append-nil, nat_lt, arith, rules}
+use Rattle.std.specs.Prelude.{bytes_eq, option_to_list, unwrap_or, ◌||◌}
+use Rattle.std.specs.List.{sum_by}
+use Rattle.std.proofs.lemmas.Grind.{flat_map-append}
 use Rattle.std.specs.Option.{option_or}
 use Rattle.std.proofs.lemmas.Bool.{le-ltb, or_parts}
 use Rattle.std.proofs.lemmas.List.Elements.{All-nil, All-cons, All-head, All-tail}
 use Rattle.std.proofs.lemmas.List.Folds.{list_any-append}
 use Rattle.std.proofs.lemmas.List.Sums.{sum_by-cons}
 use Rattle.zone_outside.specs.Limit.{text_limit}
-use Rattle.zone_values.specs.Values.{InfoValue, LineValue, space, zone, continuation, rule, link}
+use Rattle.zone_values.specs.Values.{InfoValue, LineValue, zone, continuation, link}
 use Rattle.zone_values.specs.Results.{◌>>=◌}
 use Rattle.zone_plain_lines.specs.declared.cause.PlainCause.{PlainCause}
 use Rattle.zone_plain_lines.specs.declared.cause.PlainCause.TheVariants as cause
@@ -17,11 +18,18 @@ use Rattle.zone_plain_base.specs.Said.{is_said, if_said}
 use Rattle.zone_plain_links.specs.Clean.{new_name, names_by, has, AreFresh, IsSound, AreClean}
 use Rattle.zone_plain_links.specs.LeadsLaws.{is_zone_behind}
 use Rattle.zone_plain_links.specs.Named.{zone_name, ruleset_name, is_that, declares, has_zone, target_of}
+use Rattle.zone_plain_links.specs.Needs.{NeedsNothing, IsPlain}
 use Rattle.zone_plain_links.specs.SaidLaws.{if_said_is}
 use Rattle.zone_plain_links.specs.Settled.{lacks_rules, link_after, settled_link, settled_line, link_size, settled_from, settled}
 use Rattle.zone_plain_links.specs.SettledLaws.{ok_is, no_ok, Becomes, as_link, as_nothing, becomes, continuation_is, zone_is, Steps, steps, line_stays, step_stays}
 
 -- ---- names
+
+no_some : {X : Type 0} (name : List ℕ) → ◌≡◌ {A = Option (List ℕ)} None (Some name) → X
+no_some name e = search rules
+
+some_same : (a b : List ℕ) → Some a ≡ Some b → a ≡ b
+some_same a b e = ap (λ o. unwrap_or o a) e
 
 -- some line declares a name exactly where it is among those that the lines give
 pub declares_is : (name_of : LineValue → Option (List ℕ)) (values : List LineValue) (name : List ℕ)
@@ -30,41 +38,29 @@ declares_is name_of [] name = refl
 declares_is name_of (v ∷ values) name = by (name_of v) (declares_is name_of values name)
   where
     by : (o : Option (List ℕ)) → declares name_of values name ≡ has (names_by name_of values) name
-        → (is_that o name || declares name_of values name) ≡ has (cons_option o (names_by name_of values)) name
+        → (is_that o name || declares name_of values name) ≡ has (option_to_list o ++ names_by name_of values) name
     by None e = e
     by (Some other) e = ap (λ b. bytes_eq other name || b) e
 
 pub names_append : (name_of : LineValue → Option (List ℕ)) (xs ys : List LineValue) → names_by name_of (xs ++ ys) ≡ names_by name_of xs ++ names_by name_of ys
-names_append name_of [] ys = refl
-names_append name_of (v ∷ xs) ys = by (name_of v) (names_append name_of xs ys)
-  where
-    by : (o : Option (List ℕ)) → names_by name_of (xs ++ ys) ≡ names_by name_of xs ++ names_by name_of ys
-        → cons_option o (names_by name_of (xs ++ ys)) ≡ cons_option o (names_by name_of xs) ++ names_by name_of ys
-    by None e = e
-    by (Some name) e = ap (λ names. name ∷ names) e
+names_append name_of xs ys = flat_map-append (λ v. option_to_list (name_of v)) xs ys
 
 target_absent : (values : List LineValue) (name : List ℕ) → has (names_by new_name values) name ≡ false → target_of values name ≡ None
 target_absent [] name h = refl
-target_absent (space ∷ values) name h = target_absent values name h
-target_absent (zone z info ∷ values) name h = target_absent values name h
-target_absent (continuation info ∷ values) name h = target_absent values name h
-target_absent (rule r ∷ values) name h = target_absent values name h
 target_absent (link existing new ∷ values) name h =
     let both = or_parts (bytes_eq new name) (has (names_by new_name values) name) h in
     ap (λ b. option_or (cond b (Some existing) None) (target_of values name)) both.0 ∙ target_absent values name both.1
+target_absent (_ ∷ values) name h = target_absent values name h
 
 absent_target : (values : List LineValue) (name : List ℕ) → target_of values name ≡ None → has (names_by new_name values) name ≡ false
 absent_target [] name h = refl
-absent_target (space ∷ values) name h = absent_target values name h
-absent_target (zone z info ∷ values) name h = absent_target values name h
-absent_target (continuation info ∷ values) name h = absent_target values name h
-absent_target (rule r ∷ values) name h = absent_target values name h
 absent_target (link existing new ∷ values) name h = by (bytes_eq new name) h (absent_target values name)
   where
     by : (b : Bool) → option_or (cond b (Some existing) None) (target_of values name) ≡ None
         → (target_of values name ≡ None → has (names_by new_name values) name ≡ false) → (b || has (names_by new_name values) name) ≡ false
     by true h more = search rules
     by false h more = more h
+absent_target (_ ∷ values) name h = absent_target values name h
 
 -- ---- clean lines stay
 
@@ -90,50 +86,51 @@ clean_stays values clean short = stay_from values [] 1 0 values clean (from_noth
     from_nothing : (m : ℕ) → m ≤ text_limit → 0 + m ≤ text_limit
     from_nothing m short = omega (arith, short)
 
+-- lines that need nothing behind those before them are clean
+clean_behind : (values before vs : List LineValue)
+    → ((earlier after : List LineValue) (v : LineValue) → values ≡ earlier ++ v ∷ after → NeedsNothing values earlier v)
+    → values ≡ before ++ vs → AreClean values before vs
+clean_behind values before [] needs whole = tt
+clean_behind values before (v ∷ vs) needs whole =
+    (needs before vs v whole, clean_behind values (before ++ v ∷ []) vs needs (whole ∙ sym (append_assoc before (v ∷ []) vs)))
+
+-- a source that needs nothing stays as it is
+pub plain_stays : (values : List LineValue) → IsPlain values → settled values ≡ Ok values
+plain_stays values plain = clean_stays values (clean_behind values [] values plain.lines refl) plain.short
+
 -- ---- sound lines of fresh names are clean
 
 -- behind one line more
-kept : (name_of : LineValue → Option (List ℕ)) (before : List LineValue) (v : LineValue) (names : List (List ℕ))
-    → AreFresh (names_by name_of before ++ names_by name_of (v ∷ [])) names → AreFresh (names_by name_of (before ++ v ∷ [])) names
-kept name_of before v names fresh = subst (λ ns. AreFresh ns names) (sym (names_append name_of before (v ∷ []))) fresh
+more : (name_of : LineValue → Option (List ℕ)) (before : List LineValue) (v : LineValue) (names : List (List ℕ))
+    → AreFresh (names_by name_of before ++ option_to_list (name_of v)) names → AreFresh (names_by name_of (before ++ v ∷ [])) names
+more name_of before v names fresh =
+    subst (λ ns. AreFresh ns names)
+    (sym (names_append name_of before (v ∷ []) ∙ ap (λ ns. names_by name_of before ++ ns) (append-nil (option_to_list (name_of v))))) fresh
 
--- behind a line that gives no name
-passed : (before names : List (List ℕ)) → AreFresh before names → AreFresh (before ++ []) names
-passed before names fresh = subst (λ ns. AreFresh ns names) (sym (append-nil before)) fresh
+-- a name that may be there before fresh names is fresh
+fresh_off : (o : Option (List ℕ)) (before names : List (List ℕ)) → AreFresh before (option_to_list o ++ names)
+    → ((name : List ℕ) → o ≡ Some name → has before name ≡ false) × AreFresh (before ++ option_to_list o) names
+fresh_off None before names fresh = (λ name e. no_some name e, subst (λ ns. AreFresh ns names) (sym (append-nil before)) fresh)
+fresh_off (Some x) before names fresh = (λ name e. ap (has before) (sym (some_same x name e)) ∙ fresh.0, fresh.1)
+
+needs : (all before : List LineValue) (v : LineValue) → IsSound all v → ((name : List ℕ) → zone_name v ≡ Some name → has_zone before name ≡ false)
+    → ((name : List ℕ) → new_name v ≡ Some name → target_of before name ≡ None) → NeedsNothing all before v
+needs all before (continuation info) sound zones links = sound
+needs all before (zone name info) sound zones links = (sound, zones name refl)
+needs all before (link existing new) sound zones links =
+    record { to_zone = sound.to_zone; no_zone = sound.no_zone; first = links new refl; said = sound.said }
+needs all before _ sound zones links = tt
 
 pub clean_from : (all before values : List LineValue) → All (IsSound all) values → AreFresh (names_by zone_name before) (names_by zone_name values)
     → AreFresh (names_by new_name before) (names_by new_name values) → AreClean all before values
 clean_from all before [] sound zones links = tt
-clean_from all before (space ∷ values) sound zones links = (
-  tt,
-  clean_from all (before ++ space ∷ []) values (All-tail (IsSound all) space values sound)
-      (kept zone_name before space (names_by zone_name values) (passed (names_by zone_name before) (names_by zone_name values) zones))
-      (kept new_name before space (names_by new_name values) (passed (names_by new_name before) (names_by new_name values) links)),
-)
-clean_from all before (rule r ∷ values) sound zones links = (
-  tt,
-  clean_from all (before ++ rule r ∷ []) values (All-tail (IsSound all) (rule r) values sound)
-      (kept zone_name before (rule r) (names_by zone_name values) (passed (names_by zone_name before) (names_by zone_name values) zones))
-      (kept new_name before (rule r) (names_by new_name values) (passed (names_by new_name before) (names_by new_name values) links)),
-)
-clean_from all before (continuation info ∷ values) sound zones links = (
-  All-head (IsSound all) (continuation info) values sound,
-  clean_from all (before ++ continuation info ∷ []) values (All-tail (IsSound all) (continuation info) values sound)
-      (kept zone_name before (continuation info) (names_by zone_name values) (passed (names_by zone_name before) (names_by zone_name values) zones))
-      (kept new_name before (continuation info) (names_by new_name values) (passed (names_by new_name before) (names_by new_name values) links)),
-)
-clean_from all before (zone name info ∷ values) sound zones links = (
-  (All-head (IsSound all) (zone name info) values sound, declares_is zone_name before name ∙ zones.0),
-  clean_from all (before ++ zone name info ∷ []) values (All-tail (IsSound all) (zone name info) values sound)
-      (kept zone_name before (zone name info) (names_by zone_name values) zones.1)
-      (kept new_name before (zone name info) (names_by new_name values) (passed (names_by new_name before) (names_by new_name values) links)),
-)
-clean_from all before (link existing new ∷ values) sound zones links =
-    let here = All-head (IsSound all) (link existing new) values sound in (
-      record { to_zone = here.to_zone; no_zone = here.no_zone; first = target_absent before new links.0; said = here.said },
-      clean_from all (before ++ link existing new ∷ []) values (All-tail (IsSound all) (link existing new) values sound)
-          (kept zone_name before (link existing new) (names_by zone_name values) (passed (names_by zone_name before) (names_by zone_name values) zones))
-          (kept new_name before (link existing new) (names_by new_name values) links.1),
+clean_from all before (v ∷ values) sound zones links =
+    let of_zone = fresh_off (zone_name v) (names_by zone_name before) (names_by zone_name values) zones in
+    let of_link = fresh_off (new_name v) (names_by new_name before) (names_by new_name values) links in (
+      needs all before v (All-head (IsSound all) v values sound) (λ name e. declares_is zone_name before name ∙ of_zone.0 name e)
+          (λ name e. target_absent before name (of_link.0 name e)),
+      clean_from all (before ++ v ∷ []) values (All-tail (IsSound all) v values sound)
+          (more zone_name before v (names_by zone_name values) of_zone.1) (more new_name before v (names_by new_name values) of_link.1),
     )
 
 -- ---- what became of a source's lines is sound, and its names are fresh
@@ -146,9 +143,6 @@ record IsKept (values before : List LineValue) (v w : LineValue) : Type 0 where
   pub new_zone : (name : List ℕ) → zone_name w ≡ Some name → has_zone before name ≡ false
   pub new_link : (name : List ℕ) → new_name w ≡ Some name → target_of before name ≡ None
   pub no_more : (name : List ℕ) → has (names_by new_name (v ∷ [])) name ≡ false → has (names_by new_name (w ∷ [])) name ≡ false
-
-no_some : {X : Type 0} (name : List ℕ) → ◌≡◌ {A = Option (List ℕ)} None (Some name) → X
-no_some name e = search rules
 
 -- a line that gives no name to a zone or by a link
 plain_kept : (values before : List LineValue) (v w : LineValue) → v ≡ w → IsSound values v → zone_name v ≡ None → new_name v ≡ None → IsKept values before v w
@@ -184,9 +178,6 @@ zone_needs values before name info w h = by (lacks_rules values info.saving) (ha
     by false true p q h = no_ok h
     by false false p q h = (p, q)
 
-some_same : (a b : List ℕ) → Some a ≡ Some b → a ≡ b
-some_same a b e = ap (λ o. unwrap_or o a) e
-
 zone_kept : (values before : List LineValue) (name : List ℕ) (info : InfoValue) (w : LineValue) → settled_line values before (zone name info) ≡ Ok w
     → IsKept values before (zone name info) w
 zone_kept values before name info w h =
@@ -211,9 +202,8 @@ link_needs values before existing new w h = by (has_zone values new) (link_after
 
     by : (b : Bool) (r : Result LineValue PlainCause) → has_zone values new ≡ b → cond b (Err cause.LinkIsZone) (◌>>=◌ r if_said) ≡ Ok w
         → (has_zone values new ≡ false) × (is_said w ≡ true)
-    by true r e h = no_ok h
-    by false (Err c) e h = no_ok h
     by false (Ok found) e h = (e, tested found h)
+    by _ _ e h = no_ok h
 
 link_kept : (values before : List LineValue) (existing new : List ℕ) (w : LineValue) → (has_zone values new ≡ false) × (is_said w ≡ true)
     → Becomes values before existing new w → IsKept values before (link existing new) w
@@ -236,12 +226,11 @@ link_kept values before existing new w needs (as_nothing t later e) = record {
 
 line_kept : (values before : List LineValue) (v w : LineValue) → settled_line values before v ≡ Ok w → IsKept values before v w
 unfolding settled_line
-line_kept values before space w h = plain_kept values before space w (ok_is h) tt refl refl
-line_kept values before (rule r) w h = plain_kept values before (rule r) w (ok_is h) tt refl refl
 line_kept values before (continuation info) w h = continuation_kept values before info w h
 line_kept values before (zone name info) w h = zone_kept values before name info w h
 line_kept values before (link existing new) w h =
     link_kept values before existing new w (link_needs values before existing new w h) (becomes values before existing new w h)
+line_kept values before v w h = plain_kept values before v w (ok_is h) tt refl refl
 
 -- what became of lines behind what became of those before them
 pub record AreSettled (values before out : List LineValue) : Type 0 where
@@ -251,7 +240,7 @@ pub record AreSettled (values before out : List LineValue) : Type 0 where
 
 -- a name that may be there, and is fresh, before fresh names
 fresh_on : (o : Option (List ℕ)) (before names : List (List ℕ)) → ((name : List ℕ) → o ≡ Some name → has before name ≡ false)
-    → AreFresh (before ++ cons_option o []) names → AreFresh before (cons_option o names)
+    → AreFresh (before ++ (option_to_list o ++ [])) names → AreFresh before (option_to_list o ++ names)
 fresh_on None before names here fresh = subst (λ ns. AreFresh ns names) (append-nil before) fresh
 fresh_on (Some name) before names here fresh = (here name refl, fresh)
 
@@ -290,7 +279,7 @@ settled_on values before became n size (v ∷ vs) ws h zones links =
 
         zones_now : names_by zone_name (became ++ s.line ∷ []) ≡ names_by zone_name (before ++ v ∷ [])
         zones_now =
-            names_append zone_name became (s.line ∷ []) ∙ (λ i. zones i ++ cons_option (is_kept.zone_stays i) [])
+            names_append zone_name became (s.line ∷ []) ∙ (λ i. zones i ++ (option_to_list (is_kept.zone_stays i) ++ []))
             ∙ sym (names_append zone_name before (v ∷ []))
 
         links_now : (name : List ℕ) → has (names_by new_name (before ++ v ∷ [])) name ≡ false
@@ -321,7 +310,7 @@ rules_from values before n size (v ∷ vs) ws h =
         → names_by ruleset_name ws ≡ names_by ruleset_name (v ∷ vs)
     by s more =
         ap (names_by ruleset_name) s.is
-        ∙ (λ i. cons_option ((line_kept values before v s.line s.here).rules_stay i) (more s.line s.lines s.on i))
+        ∙ (λ i. option_to_list ((line_kept values before v s.line s.here).rules_stay i) ++ more s.line s.lines s.on i)
 
 -- its rulesets stay
 pub rulesets_stay : (values out : List LineValue) → settled values ≡ Ok out → names_by ruleset_name out ≡ names_by ruleset_name values

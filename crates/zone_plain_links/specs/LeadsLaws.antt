@@ -5,17 +5,13 @@ use Rattle.std.specs.Option.{option_or}
 use Rattle.std.specs.Cmp.Lexicographic.{bytes_decides}
 use Rattle.std.proofs.lemmas.Option.{same_Some}
 use Rattle.zone_values.specs.LogicLaws.{no_case}
-use Rattle.zone_values.specs.Values.{LineValue, space, zone, continuation, rule, link}
+use Rattle.zone_values.specs.Values.{LineValue, space, link}
+use Rattle.zone_plain_links.specs.Clean.{new_name, names_by, has}
 use Rattle.zone_plain_links.specs.Named.{has_zone, target_of}
 use Rattle.zone_plain_links.specs.Leads.{leads, leads_to, zone_behind}
 
 no_some : {A : Type 0} {x : List ℕ} → None ≡ Some x → A
 no_some h = search rules
-
--- some text of the list is that one
-abbrev is_in : List (List ℕ) → List ℕ → Bool
-is_in [] x = false
-is_in (y ∷ ys) x = bytes_eq y x || is_in ys x
 
 -- the others of a list
 abbrev others : List ℕ → List (List ℕ) → List (List ℕ)
@@ -26,14 +22,14 @@ others x (y ∷ ys) = cond (bytes_eq x y) (others x ys) (y ∷ others x ys)
 abbrev cut : List ℕ → (List ℕ → Option (List ℕ)) → List ℕ → Option (List ℕ)
 cut gone target x = cond (bytes_eq gone x) None (target x)
 
-is_in-others : (x : List ℕ) (ys : List (List ℕ)) (q : List ℕ) → bytes_eq x q ≡ false → is_in ys q ≡ true → is_in (others x ys) q ≡ true
-is_in-others x [] q apart h = h
-is_in-others x (y ∷ ys) q apart h =
-    elim (bytes_eq x y) as (λ b. bytes_eq x y ≡ b → is_in (cond b (others x ys) (y ∷ others x ys)) q ≡ true) [
-      | true ↦ λ same. is_in-others x ys q apart (sym (ap (λ b. b || is_in ys q) (ap (λ t. bytes_eq t q) (sym ((bytes_decides x y).0 same)) ∙ apart)) ∙ h)
-      | false ↦ λ other. elim (bytes_eq y q) as (λ b. (b || is_in ys q) ≡ true → (b || is_in (others x ys) q) ≡ true) [
+has-others : (x : List ℕ) (ys : List (List ℕ)) (q : List ℕ) → bytes_eq x q ≡ false → has ys q ≡ true → has (others x ys) q ≡ true
+has-others x [] q apart h = h
+has-others x (y ∷ ys) q apart h =
+    elim (bytes_eq x y) as (λ b. bytes_eq x y ≡ b → has (cond b (others x ys) (y ∷ others x ys)) q ≡ true) [
+      | true ↦ λ same. has-others x ys q apart (sym (ap (λ b. b || has ys q) (ap (λ t. bytes_eq t q) (sym ((bytes_decides x y).0 same)) ∙ apart)) ∙ h)
+      | false ↦ λ other. elim (bytes_eq y q) as (λ b. (b || has ys q) ≡ true → (b || has (others x ys) q) ≡ true) [
         | true ↦ λ _. refl
-        | false ↦ λ more. is_in-others x ys q apart more
+        | false ↦ λ more. has-others x ys q apart more
       ] h
     ] refl
 
@@ -46,7 +42,7 @@ length-others x (y ∷ ys) =
       | false ↦ omega (arith, fewer)
     ]
 
-fewer-others : (x : List ℕ) (ys : List (List ℕ)) → is_in ys x ≡ true → length (others x ys) < length ys
+fewer-others : (x : List ℕ) (ys : List (List ℕ)) → has ys x ≡ true → length (others x ys) < length ys
 fewer-others x [] h = no_case h
 fewer-others x (y ∷ ys) h =
     let fewer = length-others x ys in
@@ -58,9 +54,9 @@ fewer-others x (y ∷ ys) h =
     turned : bytes_eq x y ≡ false → bytes_eq y x ≡ true → ⊥
     turned apart same = no_case (sym apart ∙ (bytes_decides x y).1 (sym ((bytes_decides y x).0 same)))
 
-    on : bytes_eq x y ≡ false → (is_in ys x ≡ true → length (others x ys) < length ys) → length (y ∷ others x ys) < suc (length ys)
+    on : bytes_eq x y ≡ false → (has ys x ≡ true → length (others x ys) < length ys) → length (y ∷ others x ys) < suc (length ys)
     on apart less =
-        let rest = less (elim (bytes_eq y x) as (λ b. bytes_eq y x ≡ b → (b || is_in ys x) ≡ true → is_in ys x ≡ true) [
+        let rest = less (elim (bytes_eq y x) as (λ b. bytes_eq y x ≡ b → (b || has ys x) ≡ true → has ys x ≡ true) [
           | true ↦ λ same _. absurd (turned apart same)
           | false ↦ λ _ more. more
         ] refl h) in
@@ -201,15 +197,15 @@ module _ (is_zone : List ℕ → Bool) where
 
   -- the names from which something points on are all in the list
   abbrev Covers : List (List ℕ) → (List ℕ → Option (List ℕ)) → Type 0
-  Covers names target = (x t : List ℕ) → target x ≡ Some t → is_in names x ≡ true
+  Covers names target = (x t : List ℕ) → target x ≡ Some t → has names x ≡ true
 
   covers_others : (names : List (List ℕ)) (target : List ℕ → Option (List ℕ)) (gone : List ℕ) → Covers names target
       → Covers (others gone names) (cut gone target)
   covers_others names target gone covers x t e = by (bytes_eq gone x) refl e
     where
-      by : (b : Bool) → bytes_eq gone x ≡ b → cond b None (target x) ≡ Some t → is_in (others gone names) x ≡ true
+      by : (b : Bool) → bytes_eq gone x ≡ b → cond b None (target x) ≡ Some t → has (others gone names) x ≡ true
       by true same e = no_some e
-      by false apart e = is_in-others gone names x apart (covers x t e)
+      by false apart e = has-others gone names x apart (covers x t e)
 
   -- as many links as there are names are enough
   enough_by : (bound : ℕ) (names : List (List ℕ)) (target : List ℕ → Option (List ℕ)) → length names ≤ bound → Covers names target
@@ -235,7 +231,7 @@ module _ (is_zone : List ℕ → Bool) where
       last m less is t points p =
           rises target (suc m) (length names) name z (omega (arith, less)) (followed target m name t is points ∙ p)
 
-      by : is_zone name ≡ false → Once target name z → (is_in names name ≡ true → length (others name names) < length names)
+      by : is_zone name ≡ false → Once target name z → (has names name ≡ true → length (others name names) < length names)
           → (length (others name names) ≤ bound → (t : List ℕ) (m : ℕ) → leads is_zone (cut name target) m t ≡ Some z
           → leads is_zone (cut name target) (length (others name names)) t ≡ Some z)
           → leads is_zone target (length names) name ≡ Some z
@@ -271,33 +267,22 @@ module _ (is_zone : List ℕ → Bool) where
 
 -- the new names of links
 abbrev new_names : List LineValue → List (List ℕ)
-new_names [] = []
-new_names (space ∷ vs) = new_names vs
-new_names (zone name info ∷ vs) = new_names vs
-new_names (continuation info ∷ vs) = new_names vs
-new_names (rule r ∷ vs) = new_names vs
-new_names (link existing new ∷ vs) = new ∷ new_names vs
+new_names = names_by new_name
 
 few_names : (values : List LineValue) → length (new_names values) ≤ length values
 few_names [] = omega arith
 few_names (space ∷ vs) = let few = few_names vs in omega (arith, few)
-few_names (zone name info ∷ vs) = let few = few_names vs in omega (arith, few)
-few_names (continuation info ∷ vs) = let few = few_names vs in omega (arith, few)
-few_names (rule r ∷ vs) = let few = few_names vs in omega (arith, few)
-few_names (link existing new ∷ vs) = let few = few_names vs in omega (arith, few)
+few_names (_ ∷ vs) = let few = few_names vs in omega (arith, few)
 
-named : (values : List LineValue) (x t : List ℕ) → target_of values x ≡ Some t → is_in (new_names values) x ≡ true
+named : (values : List LineValue) (x t : List ℕ) → target_of values x ≡ Some t → has (new_names values) x ≡ true
 named [] x t e = no_some e
-named (space ∷ vs) x t e = named vs x t e
-named (zone name info ∷ vs) x t e = named vs x t e
-named (continuation info ∷ vs) x t e = named vs x t e
-named (rule r ∷ vs) x t e = named vs x t e
 named (link existing new ∷ vs) x t e = by (bytes_eq new x) e (named vs x t)
   where
     by : (b : Bool) → option_or (cond b (Some existing) None) (target_of vs x) ≡ Some t
-        → (target_of vs x ≡ Some t → is_in (new_names vs) x ≡ true) → (b || is_in (new_names vs) x) ≡ true
+        → (target_of vs x ≡ Some t → has (new_names vs) x ≡ true) → (b || has (new_names vs) x) ≡ true
     by true e more = refl
     by false e more = more e
+named (_ ∷ vs) x t e = named vs x t e
 
 -- where a name leads by any number of links, that zone is behind it
 pub is_behind : (values : List LineValue) (n : ℕ) (name z : List ℕ) → leads_to values n name ≡ Some z → zone_behind values name ≡ Some z

@@ -1,21 +1,15 @@
 -- The names that lines declare: zones, rulesets and links.
 use Rattle.std.specs.Prelude.{ℕ, List, [], ◌∷◌, Bool, false, ◌||◌, Option, Some, None, bytes_eq, if◌then◌else◌}
 use Rattle.std.specs.Option.{option_or}
-use Rattle.zone_values.specs.Values.{LineValue, space, zone, continuation, rule, link}
+use Rattle.zone_values.specs.Values.{LineValue, zone, rule, link}
 
 abbrev pub zone_name : LineValue → Option (List ℕ)
-zone_name space = None
 zone_name (zone name info) = Some name
-zone_name (continuation info) = None
-zone_name (rule r) = None
-zone_name (link existing new) = None
+zone_name _ = None
 
 abbrev pub ruleset_name : LineValue → Option (List ℕ)
-ruleset_name space = None
-ruleset_name (zone name info) = None
-ruleset_name (continuation info) = None
 ruleset_name (rule r) = Some r.name
-ruleset_name (link existing new) = None
+ruleset_name _ = None
 
 abbrev pub is_that : Option (List ℕ) → List ℕ → Bool
 is_that None name = false
@@ -36,11 +30,8 @@ has_ruleset = declares ruleset_name
 
 -- the target of a line that links that new name
 abbrev pub target_by : LineValue → List ℕ → Option (List ℕ)
-target_by space name = None
-target_by (zone zone_name info) name = None
-target_by (continuation info) name = None
-target_by (rule r) name = None
 target_by (link existing new) name = if bytes_eq new name then Some existing else None
+target_by _ name = None
 
 -- the target of the first link with that new name
 abbrev pub target_of : List LineValue → List ℕ → Option (List ℕ)

@@ -2,18 +2,15 @@
 use Rattle.std.specs.Prelude.{◌≡◌, ◌≤◌, ℕ, List, ◌∷◌, ◌++◌, Bool, true, false, None}
 use Rattle.std.specs.List.{list_all, sum_by}
 use Rattle.zone_outside.specs.Limit.{text_limit}
-use Rattle.zone_values.specs.Values.{LineValue, space, zone, continuation, rule, link}
+use Rattle.zone_values.specs.Values.{LineValue, zone, continuation, link}
 use Rattle.zone_plain_base.specs.Said.{is_said}
 use Rattle.zone_plain_links.specs.Named.{has_zone, target_of}
 use Rattle.zone_plain_links.specs.Settled.{lacks_rules, link_size}
 
 -- it is no link, or a link to a zone
 abbrev pub is_to_zone : (List ℕ → Bool) → LineValue → Bool
-is_to_zone is_zone space = true
-is_to_zone is_zone (zone name info) = true
-is_to_zone is_zone (continuation info) = true
-is_to_zone is_zone (rule r) = true
 is_to_zone is_zone (link existing new) = is_zone existing
+is_to_zone is_zone _ = true
 
 -- the target of each link of a source is one of its zones
 abbrev pub has_zones_as_targets : List LineValue → Bool
@@ -28,11 +25,10 @@ pub record IsPlainLink (values before : List LineValue) (existing new : List ℕ
 
 -- a line that needs nothing, in a source of these values and after those before it
 abbrev pub NeedsNothing : List LineValue → List LineValue → LineValue → Type 0
-NeedsNothing values before space = Unit {0}
-NeedsNothing values before (rule r) = Unit {0}
 NeedsNothing values before (continuation info) = lacks_rules values info.saving ≡ false
 NeedsNothing values before (zone name info) = (lacks_rules values info.saving ≡ false) × (has_zone before name ≡ false)
 NeedsNothing values before (link existing new) = IsPlainLink values before existing new
+NeedsNothing values before _ = Unit {0}
 
 -- a source whose lines need nothing, with links that may be written
 pub record IsPlain (values : List LineValue) : Type 0 where

@@ -1,11 +1,12 @@
 -- What becomes of lines that can be said can be said.
-use Rattle.std.proofs.Common.{◌≡◌, ℕ, suc, ◌+◌, List, [], ◌∷◌, ◌++◌, All, Bool, true, false, cond, Result, Ok, Err, IfOk, nat_lt, refl}
+use Rattle.std.proofs.Common.{◌≡◌, ℕ, suc, ◌+◌, List, [], ◌∷◌, ◌++◌, All, Bool, true, false, cond, Result, Ok, Err, IfOk, nat_lt}
 use Rattle.std.proofs.lemmas.List.Elements.{All-nil, All-cons, All-head, All-tail}
 use Rattle.zone_outside.specs.Limit.{text_limit}
-use Rattle.zone_values.specs.Values.{LineValue, space, zone, continuation, rule, link}
+use Rattle.zone_values.specs.Values.{LineValue, zone, continuation, link}
 use Rattle.zone_values.specs.Results.{◌>>=◌}
 use Rattle.zone_plain_lines.specs.declared.cause.PlainCause.{PlainCause}
 use Rattle.zone_plain_lines.specs.declared.cause.PlainCause.TheVariants as cause
+use Rattle.zone_plain_base.specs.MeantLaws.{then_ok, any_ok, either}
 use Rattle.zone_plain_base.specs.LineFaults.{too_long, numbered, by_line, onto}
 use Rattle.zone_plain_base.specs.Said.{is_said, if_said}
 use Rattle.zone_plain_links.specs.Named.{has_zone, target_of}
@@ -16,10 +17,7 @@ IsSaid v = is_said v ≡ true
 
 -- what passes the test of it is said
 pub if_said_is : (v : LineValue) → IfOk (if_said v) IsSaid
-if_said_is v = elim (is_said v) as (λ b. is_said v ≡ b → IfOk (cond b (Ok v) (Err cause.Unsayable)) IsSaid) [
-  | true ↦ λ h. h
-  | false ↦ λ h. tt
-] refl
+if_said_is v = either IsSaid (is_said v) (Ok v) (Err cause.Unsayable) (λ said. said) (λ _. tt)
 
 -- a value that is said, before others
 pub onto_said : {E : Type 0} (v : LineValue) (r : Result (List LineValue) E) → IsSaid v → IfOk r (All IsSaid) → IfOk (onto v r) (All IsSaid)
@@ -28,29 +26,17 @@ onto_said v (Err e) said all = tt
 
 link_said : (values before : List LineValue) (existing new : List ℕ) → IfOk (settled_link values before existing new) IsSaid
 unfolding settled_link
-link_said values before existing new = by (has_zone values new) (link_after values (target_of before new) existing new)
-  where
-    by : (b : Bool) (r : Result LineValue PlainCause) → IfOk (cond b (Err cause.LinkIsZone) (◌>>=◌ r if_said)) IsSaid
-    by true r = tt
-    by false (Err e) = tt
-    by false (Ok found) = if_said_is found
+link_said values before existing new =
+    either IsSaid (has_zone values new) _ _ (λ _. tt)
+    (λ _. then_ok _ IsSaid (link_after values (target_of before new) existing new) if_said (any_ok _) (λ found _. if_said_is found))
 
 line_said : (values before : List LineValue) (v : LineValue) → IsSaid v → IfOk (settled_line values before v) IsSaid
 unfolding settled_line
-line_said values before space said = said
-line_said values before (rule r) said = said
-line_said values before (continuation info) said = by (lacks_rules values info.saving)
-  where
-    by : (b : Bool) → IfOk (cond b (Err cause.UnknownRuleset) (Ok (continuation info))) IsSaid
-    by true = tt
-    by false = said
-line_said values before (zone name info) said = by (lacks_rules values info.saving) (has_zone before name)
-  where
-    by : (b c : Bool) → IfOk (cond b (Err cause.UnknownRuleset) (cond c (Err cause.DuplicateZone) (Ok (zone name info)))) IsSaid
-    by true c = tt
-    by false true = tt
-    by false false = said
+line_said values before (continuation info) said = either IsSaid (lacks_rules values info.saving) _ _ (λ _. tt) (λ _. said)
+line_said values before (zone name info) said =
+    either IsSaid (lacks_rules values info.saving) _ _ (λ _. tt) (λ _. either IsSaid (has_zone before name) _ _ (λ _. tt) (λ _. said))
 line_said values before (link existing new) said = link_said values before existing new
+line_said values before _ said = said
 
 said_from : (values before : List LineValue) (n size : ℕ) (vs : List LineValue) → All IsSaid vs
     → IfOk (settled_from values before n size vs) (All IsSaid)

@@ -2,7 +2,7 @@
 use Rattle.std.specs.Prelude.{ℕ, suc, ◌+◌, List, [], ◌∷◌, ◌++◌, Bool, false, not, Option, Some, None}
 use Rattle.std.specs.Prelude.{Result, Ok, Err, length, nat_lt, bytes_eq, if◌then◌else◌}
 use Rattle.zone_outside.specs.Limit.{text_limit}
-use Rattle.zone_values.specs.Values.{SavingValue, no_saving, one_off, multiple, LineValue, space, zone, continuation, rule, link}
+use Rattle.zone_values.specs.Values.{SavingValue, multiple, LineValue, space, zone, continuation, link}
 use Rattle.zone_values.specs.Results.{◌>>=◌}
 use Rattle.zone_plain_lines.specs.declared.cause.PlainCause.{PlainCause}
 use Rattle.zone_plain_lines.specs.declared.cause.PlainCause.TheVariants as cause
@@ -14,9 +14,8 @@ use Rattle.zone_plain_links.specs.Leads.{zone_behind}
 
 -- RULES names a ruleset of which there is no rule
 abbrev pub lacks_rules : List LineValue → SavingValue → Bool
-lacks_rules values no_saving = false
-lacks_rules values (one_off amount) = false
 lacks_rules values (multiple name) = not (has_ruleset values name)
+lacks_rules values _ = false
 
 -- a link to the zone behind its target
 abbrev pub link_to : Option (List ℕ) → List ℕ → Result LineValue PlainCause
@@ -37,8 +36,6 @@ settled_link values before existing new =
 
 -- what becomes of a line, in a source of these values and after those before it
 unfoldable pub settled_line : List LineValue → List LineValue → LineValue → Result LineValue PlainCause
-settled_line values before space = Ok space
-settled_line values before (rule r) = Ok (rule r)
 settled_line values before (continuation info) =
     if lacks_rules values info.saving then Err cause.UnknownRuleset else Ok (continuation info)
 settled_line values before (zone name info) =
@@ -46,14 +43,12 @@ settled_line values before (zone name info) =
     else if has_zone before name then Err cause.DuplicateZone
     else Ok (zone name info)
 settled_line values before (link existing new) = settled_link values before existing new
+settled_line values before v = Ok v
 
 -- how many bytes a link takes with its line feed
 abbrev pub link_size : LineValue → ℕ
-link_size space = 0
-link_size (zone name info) = 0
-link_size (continuation info) = 0
-link_size (rule r) = 0
 link_size (link existing new) = length (plain_text (link existing new)) + 1
+link_size _ = 0
 
 -- what becomes of the lines from the nth on, where the links before them take so many bytes
 unfoldable pub settled_from : List LineValue → List LineValue → ℕ → ℕ → List LineValue → Result (List LineValue) Refusal

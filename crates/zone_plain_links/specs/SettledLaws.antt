@@ -1,14 +1,12 @@
 -- What becomes of a source as a whole: each link leads to a zone, and what needs nothing stays.
-use Rattle.std.proofs.Common.{◌≡◌, ℕ, suc, ◌+◌, ◌≤◌, List, [], ◌∷◌, ◌++◌, Bool, true, false, cond, Option, Some, None, Result, Ok, Err, refl, sym, ap, ◌∙◌, subst, append_assoc, nat_lt, arith, rules}
+use Rattle.std.proofs.Common.{◌≡◌, ℕ, suc, ◌+◌, List, [], ◌∷◌, ◌++◌, Bool, true, false, cond, Option, Some, None, Result, Ok, Err, refl, sym, ap, ◌∙◌, subst, nat_lt, rules}
 use Rattle.std.specs.Prelude.{bytes_eq, ◌&&◌, ◌||◌, is_some, option_and_then}
 use Rattle.std.specs.Result.{result_unwrap_or}
 use Rattle.std.specs.Cmp.Lexicographic.{bytes_decides}
-use Rattle.std.specs.List.{list_all, sum_by}
+use Rattle.std.specs.List.{list_all}
 use Rattle.std.specs.Option.{option_or}
-use Rattle.std.proofs.lemmas.Bool.{le-ltb}
-use Rattle.std.proofs.lemmas.List.Sums.{sum_by-cons}
 use Rattle.zone_outside.specs.Limit.{text_limit}
-use Rattle.zone_values.specs.Values.{LineValue, InfoValue, space, zone, continuation, rule, link}
+use Rattle.zone_values.specs.Values.{LineValue, InfoValue, space, zone, continuation, link}
 use Rattle.zone_values.specs.Results.{◌>>=◌}
 use Rattle.zone_plain_lines.specs.declared.cause.PlainCause.{PlainCause}
 use Rattle.zone_plain_lines.specs.declared.cause.PlainCause.TheVariants as cause
@@ -18,7 +16,7 @@ use Rattle.zone_plain_links.specs.Named.{zone_name, is_that, has_zone, target_by
 use Rattle.zone_plain_links.specs.NamedLaws.{target-more, or_none}
 use Rattle.zone_plain_links.specs.Leads.{zone_behind}
 use Rattle.zone_plain_links.specs.LeadsLaws.{is_zone_behind, behind_itself}
-use Rattle.zone_plain_links.specs.Needs.{is_to_zone, has_zones_as_targets, NeedsNothing, IsPlain}
+use Rattle.zone_plain_links.specs.Needs.{is_to_zone, has_zones_as_targets, NeedsNothing}
 use Rattle.zone_plain_links.specs.Settled.{lacks_rules, link_to, link_after, settled_link, settled_line, link_size, settled_from, settled}
 
 pub ok_is : {A E : Type 0} {a b : A} → ◌≡◌ {A = Result A E} (Ok a) (Ok b) → a ≡ b
@@ -101,11 +99,10 @@ zone_is values before name info w h = by (lacks_rules values info.saving) (has_z
 
 led : (values before : List LineValue) (v w : LineValue) → settled_line values before v ≡ Ok w → IsLed values v w
 unfolding settled_line
-led values before space w h = no_link_led values space w refl (ok_is h)
-led values before (rule r) w h = no_link_led values (rule r) w refl (ok_is h)
 led values before (continuation info) w h = no_link_led values (continuation info) w refl (continuation_is values before info w h)
 led values before (zone name info) w h = no_link_led values (zone name info) w refl (zone_is values before name info w h)
 led values before (link existing new) w h = link_led values before existing new w (becomes values before existing new w h)
+led values before v w h = no_link_led values v w refl (ok_is h)
 
 -- the first line that isn't refused, and what becomes of the others
 pub record Steps (values before : List LineValue) (n size : ℕ) (v : LineValue) (vs ws : List LineValue) : Type 0 where
@@ -173,11 +170,8 @@ targets_from values before n size (v ∷ vs) ws h =
         ∙ more s.line s.lines s.on
 
 to_same : (p q : List ℕ → Bool) → ((name : List ℕ) → p name ≡ q name) → (v : LineValue) → is_to_zone p v ≡ is_to_zone q v
-to_same p q same space = refl
-to_same p q same (zone name info) = refl
-to_same p q same (continuation info) = refl
-to_same p q same (rule r) = refl
 to_same p q same (link existing new) = same existing
+to_same p q same _ = refl
 
 all_to_same : (p q : List ℕ → Bool) → ((name : List ℕ) → p name ≡ q name) → (vs : List LineValue)
     → list_all (is_to_zone p) vs ≡ list_all (is_to_zone q) vs
@@ -218,19 +212,18 @@ link_target values before existing new w name true same (as_nothing t later e) =
 line_target : (values before : List LineValue) (v w : LineValue) (name : List ℕ) → settled_line values before v ≡ Ok w
     → IsTarget (zone_behind values) (target_of before name) (target_by v name) (target_by w name)
 unfolding settled_line
-line_target values before space w name h = ap (λ u. target_by u name) (sym (ok_is h))
-line_target values before (rule r) w name h = ap (λ u. target_by u name) (sym (ok_is h))
 line_target values before (continuation info) w name h = ap (λ u. target_by u name) (sym (continuation_is values before info w h))
 line_target values before (zone z info) w name h = ap (λ u. target_by u name) (sym (zone_is values before z info w h))
 line_target values before (link existing new) w name h =
     link_target values before existing new w name (bytes_eq new name) refl (becomes values before existing new w h)
+line_target values before _ w name h = ap (λ u. target_by u name) (sym (ok_is h))
 
 target_on : (behind : List ℕ → Option (List ℕ)) (earlier was now rest : Option (List ℕ)) → IsTarget behind earlier was now
     → option_or now (cond (is_some (option_or earlier was)) None (option_and_then behind rest))
     ≡ cond (is_some earlier) None (option_and_then behind (option_or was rest))
 target_on behind None None now rest e = ap (λ o. option_or o (option_and_then behind rest)) e
-target_on behind (Some s) None now rest e = ap (λ o. option_or o None) e
 target_on behind None (Some t) now rest e = or_none now ∙ e
+target_on behind (Some s) None now rest e = ap (λ o. option_or o None) e
 target_on behind (Some s) (Some t) now rest e = ap (λ o. option_or o None) e
 
 either_way : (b : Bool) (o : Option (List ℕ)) → o ≡ cond b o o
@@ -264,40 +257,14 @@ names_lead values out h name = names_from values [] 1 0 values out h name
 -- a line that needs nothing stays
 pub line_stays : (values before : List LineValue) (v : LineValue) → NeedsNothing values before v → settled_line values before v ≡ Ok v
 unfolding settled_line settled_link
-line_stays values before space needs = refl
-line_stays values before (rule r) needs = refl
 line_stays values before (continuation info) needs = rw needs refl
 line_stays values before (zone name info) needs = rw (needs.0, needs.1) refl
 line_stays values before (link existing new) needs =
     rw (needs.no_zone, needs.first, behind_itself values existing needs.to_zone, needs.said) refl
+line_stays values before _ needs = refl
 
 pub step_stays : (values before : List LineValue) (n size : ℕ) (v : LineValue) (vs : List LineValue) → settled_line values before v ≡ Ok v
     → nat_lt text_limit (size + link_size v) ≡ false
     → settled_from values before n size (v ∷ vs) ≡ onto v (settled_from values (before ++ v ∷ []) (suc n) (size + link_size v) vs)
 unfolding settled_from
 step_stays values before n size v vs is small = rw (is, small) refl
-
-stay_from : (values before : List LineValue) (n size : ℕ) (vs : List LineValue)
-    → ((earlier after : List LineValue) (v : LineValue) → values ≡ earlier ++ v ∷ after → NeedsNothing values earlier v)
-    → values ≡ before ++ vs → size + sum_by link_size vs ≤ text_limit → settled_from values before n size vs ≡ Ok vs
-unfolding settled_from
-stay_from values before n size [] needs whole short = refl
-stay_from values before n size (v ∷ vs) needs whole short =
-    let short_on = subst (λ m. size + m ≤ text_limit) (sum_by-cons link_size v vs) short in
-    step_stays values before n size v vs (line_stays values before v (needs before vs v whole)) (few size (link_size v) (sum_by link_size vs) short_on)
-    ∙ ap (onto v) (stay_from values (before ++ v ∷ []) (suc n) (size + link_size v) vs needs
-    (whole ∙ sym (append_assoc before (v ∷ []) vs)) (later size (link_size v) (sum_by link_size vs) short_on))
-  where
-    few : (a b c : ℕ) → a + (b + c) ≤ text_limit → nat_lt text_limit (a + b) ≡ false
-    few a b c short = le-ltb text_limit (a + b) (omega (arith, short))
-
-    later : (a b c : ℕ) → a + (b + c) ≤ text_limit → (a + b) + c ≤ text_limit
-    later a b c short = omega (arith, short)
-
--- a source that needs nothing stays as it is
-pub plain_stays : (values : List LineValue) → IsPlain values → settled values ≡ Ok values
-unfolding settled
-plain_stays values plain = stay_from values [] 1 0 values plain.lines refl (from_nothing (sum_by link_size values) plain.short)
-  where
-    from_nothing : (m : ℕ) → m ≤ text_limit → 0 + m ≤ text_limit
-    from_nothing m short = omega (arith, short)

@@ -1,5 +1,5 @@
 -- What the code's maps stand for, and what its answers tell.
-use Rattle.std.specs.Prelude.{◌≡◌, ℕ, List, [], ◌∷◌, ◌++◌, Bool, true, false, Option, Some, None, Result, Ok, Err, length, slice_get, unwrap_or, nat_lt, ◌+◌}
+use Rattle.std.specs.Prelude.{◌≡◌, ℕ, List, [], ◌∷◌, ◌++◌, Bool, true, false, Option, Some, None, Result, Ok, length, slice_get, unwrap_or, nat_lt, ◌+◌}
 use Rattle.zone_outside.specs.Limit.{text_limit}
 use Rattle.zone_plain_base.specs.declared.error.PlainFault.{PlainFault}
 use Rattle.zone_plain_base.specs.declared.error.PlainFault.TheVariants as fault
@@ -9,8 +9,6 @@ use Rattle.zone_values.specs.Values.{LineValue, space, link}
 use Rattle.zone_plain_lines.specs.declared.cause.PlainCause.{PlainCause}
 use Rattle.zone_plain_base.specs.PlainTexts.{plain_text}
 use Rattle.zone_plain_base.specs.Said.{is_said}
-use Rattle.zone_plain_base.specs.declared.error.Refused.{Refused}
-use Rattle.zone_plain_base.specs.declared.error.Refused.TheVariants.{Cause, NoMemory}
 use Rattle.zone_plain_links.specs.Named.{has_zone, has_ruleset, target_of}
 use Rattle.zone_plain_links.specs.Leads.{zone_behind}
 use Rattle.zone_plain_links.specs.Settled.{link_size}
@@ -85,11 +83,6 @@ pub record IsWritten (found : Result LineValue PlainCause) (text : List ℕ) (si
 abbrev pub IsOutcome : Result LineValue PlainCause → LineValue → List ℕ → Outcome → Type 0
 IsOutcome found v text Kept = (found ≡ Ok v) × (link_size v ≡ 0)
 IsOutcome found v text (Written size) = IsWritten found text size
-
--- why a line is refused
-abbrev pub IsRefused : {A : Type 0} → Result A PlainCause → Refused → Type 0
-IsRefused found (Cause c) = found ≡ Err c
-IsRefused found NoMemory = Unit {0}
 
 -- a list got what a line became, and links take so many bytes now
 pub record Adds (found : Result LineValue PlainCause) (old new : List LineValue) (size size_now : ℕ) : Type 0 where

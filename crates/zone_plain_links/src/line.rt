@@ -7,7 +7,8 @@ ghost use Rattle.zone_values.specs.declared.line.Line.TheVariants as kind;
 ghost use Rattle.zone_plain_base.specs.PlainTexts.{plain_text};
 ghost use Rattle.zone_plain_links.specs.Named.{has_zone, target_of};
 ghost use Rattle.zone_plain_links.specs.Settled.{lacks_rules, link_size, link_after, settled_line, settled_link};
-ghost use Rattle.zone_plain_links.specs.Stands.{IsDeclared, IsAt, IsOutcome, IsRefused, line_at_place};
+ghost use Rattle.zone_plain_links.specs.Stands.{IsDeclared, IsAt, IsOutcome, line_at_place};
+ghost use Rattle.zone_plain_base.specs.Told.{IsRefused};
 
 use crate::lead::{keep, zone_place};
 use crate::names::{Declared, Seen, add_target};

@@ -12,9 +12,9 @@ ghost use Rattle.zone_plain_links.specs.Settled.{settled};
 use crate::line::{Outcome, settle_line};
 use crate::names::{Seen, declared_by};
 use owned::TextMap;
-use std::alloc::{AllocError, Global};
+use std::alloc::Global;
 use zone_line::{Line, LineParser, LineReader};
-use zone_plain_base::{PlainFault, fault_at, lines_read};
+use zone_plain_base::{PlainFault, fault_at, keep_line, lines_read};
 use zone_source::{LIMIT, LineList};
 
 /// Nothing that was seen.
@@ -26,18 +26,6 @@ fn nothing_seen(alloc: Global) -> Seen
         targets: TextMap::new(alloc),
         known: TextMap::new(alloc),
     }
-}
-
-/// Adds the line at a place of another list.
-fn keep_line(into: &mut LineList, lines: &LineList, place: usize) -> Result<(), AllocError>
-    requires { place < length lines.now }
-    ensures { OnOk result (each source_value into.new ≡ each source_value into.old ++ value_at lines.now place ∷ []) }
-{
-    let Some(line) = lines.get(place) else {
-        unreachable!();
-    };
-    into.push(line)?;
-    Ok(())
 }
 
 /// Adds what a line became, after links of so many bytes. Answers how many bytes they take then.

@@ -1,20 +1,13 @@
 -- Lines that are added to others.
-use Rattle.std.proofs.Common.{◌≡◌, All, ℕ, zero, suc, ◌+◌, ◌<◌, ◌≤◌, List, [], ◌∷◌, ◌++◌, length, map, get_or, drop, Some, slice_get, unwrap_or, true, false, refl, sym, ap, ◌∙◌, append_assoc, append-nil, rules}
+use Rattle.std.proofs.Common.{◌≡◌, All, ℕ, ◌+◌, ◌<◌, ◌≤◌, List, [], ◌∷◌, ◌++◌, length, map, get_or, drop, true, false, refl, sym, ap, ◌∙◌, append_assoc, append-nil}
 use Rattle.std.proofs.lemmas.List.{drop_all, drop_more, map_push}
 use Rattle.std.proofs.lemmas.List.Elements.{All-head, All-tail}
 use Rattle.zone_source.specs.Zones.{source_value}
 use Rattle.zone_values.specs.Values.{LineValue, space}
-use Rattle.zone_plain_base.specs.LinesAt.{value_at}
 use Rattle.zone_plain_base.specs.Said.{is_said}
 use Rattle.zone_plain_base.specs.SaidLaws.{source_value_is}
 use Rattle.zone_plain_base.specs.PlainTexts.{plain_text}
 use Rattle.zone_plain_offsets.specs.Told.{IsAdded}
-
--- a line that was found at a place says what stands there
-pub value_of_found : (lines : List (List ℕ)) (i : ℕ) (bytes : List ℕ) → Some bytes ≡ slice_get lines i → source_value bytes ≡ value_at lines i
-value_of_found [] i bytes e = search rules
-value_of_found (l ∷ lines) zero bytes e = ap (λ o. source_value (unwrap_or o [])) e
-value_of_found (l ∷ lines) (suc i) bytes e = value_of_found lines i bytes e
 
 -- the values so far, and those that are left
 pub record HasCopied (values old now : List LineValue) (i : ℕ) : Type 0 where

@@ -5,7 +5,7 @@ use Rattle.std.proofs.lemmas.List.{drop_all, drop_more}
 use Rattle.owned.specs.Keyed.{text_cmp}
 use Rattle.owned.specs.KeyedLaws.{appended}
 use Rattle.owned.specs.Listed.{listed}
-use Rattle.zone_values.specs.Values.{LineValue, space, zone, continuation, rule, link}
+use Rattle.zone_values.specs.Values.{LineValue, space, rule}
 use Rattle.zone_plain_offsets.specs.Told.{is_named, places_from, IsGrouped, with_place}
 
 -- the map has the places of the rules so far, and those that are left make all
@@ -20,10 +20,7 @@ nothing_grouped values = record { so_far = λ name. []; each = λ name. get-empt
 placed : (groups : FinMap text_cmp (List ℕ)) (v : LineValue) (at : ℕ) (so_far : List ℕ → List ℕ) → ((name : List ℕ) → get groups name ≡ listed (so_far name))
     → (name : List ℕ) → get (with_place groups v at) name ≡ listed (so_far name ++ cond (is_named name v) (at ∷ []) [])
 placed groups (rule r) at so_far each name = appended groups so_far r.name at each name
-placed groups space at so_far each name = each name ∙ ap listed (sym (append-nil (so_far name)))
-placed groups (zone z info) at so_far each name = each name ∙ ap listed (sym (append-nil (so_far name)))
-placed groups (continuation info) at so_far each name = each name ∙ ap listed (sym (append-nil (so_far name)))
-placed groups (link x y) at so_far each name = each name ∙ ap listed (sym (append-nil (so_far name)))
+placed groups _ at so_far each name = each name ∙ ap listed (sym (append-nil (so_far name)))
 
 pub one_grouped : (values : List LineValue) (groups : FinMap text_cmp (List ℕ)) (i : ℕ) → i < length values → HasGrouped values groups i
     → HasGrouped values (with_place groups (get_or values i space) i) (i + 1)

@@ -7,7 +7,7 @@ use Rattle.std.specs.FinMap.{FinMap, get}
 use Rattle.owned.specs.Keyed.{text_cmp}
 use Rattle.owned.specs.Listed.{listed}
 use Rattle.zone_plain_base.specs.PlainTexts.{plain_text}
-use Rattle.zone_values.specs.Values.{RuleValue, LineValue, space, zone, continuation, rule, link}
+use Rattle.zone_values.specs.Values.{RuleValue, LineValue, space, rule}
 use Rattle.zone_plain_offsets.specs.Pairs.{Pair}
 use Rattle.zone_plain_offsets.specs.Made.{rules_named, made_rule, is_rule_said, rules_for, are_rules_said}
 use Rattle.zone_plain_offsets.specs.Told.{value_in, places_from, IsGrouped, AreAdded, made_lines, is_made_said}
@@ -33,10 +33,7 @@ at_places (rule r ∷ values) at name f e =
         → map f (cond b (at ∷ []) [] ++ places_from (suc at) values name) ≡ map rule (cond b (r ∷ rules_named values name) (rules_named values name))
     here true rest first = λ i. first i ∷ rest i
     here false rest first = rest
-at_places (space ∷ values) at name f e = at_places values (suc at) name f (λ k. ap f (shifted at k) ∙ e (suc k))
-at_places (zone z info ∷ values) at name f e = at_places values (suc at) name f (λ k. ap f (shifted at k) ∙ e (suc k))
-at_places (continuation info ∷ values) at name f e = at_places values (suc at) name f (λ k. ap f (shifted at k) ∙ e (suc k))
-at_places (link x y ∷ values) at name f e = at_places values (suc at) name f (λ k. ap f (shifted at k) ∙ e (suc k))
+at_places (_ ∷ values) at name f e = at_places values (suc at) name f (λ k. ap f (shifted at k) ∙ e (suc k))
 
 made_of_rules : (rules : List RuleValue) (name : List ℕ) (offset : ℤ)
     → flat_map (made_lines name offset) (map rule rules) ≡ map (λ r. rule (made_rule name offset r)) rules

@@ -32,9 +32,8 @@ minutes_are m n e = by_tests (m == 0) (n == 0) refl refl e
     by_tests : (a b : Bool) → (m == 0) ≡ a → (n == 0) ≡ b
         → cond a [] (two_digits (m / 60) ++ seconds_text (m % 60)) ≡ cond b [] (two_digits (n / 60) ++ seconds_text (n % 60)) → m ≡ n
     by_tests true true p q e = zero_is m p ∙ sym (zero_is n q)
-    by_tests true false p q e = absurd (cc)
-    by_tests false true p q e = absurd (cc)
     by_tests false false p q e = both e
+    by_tests _ _ p q e = absurd (cc)
 
 size_is : (m n : ℕ) (s t : ℕ) → (s ∷ two_digits (m / 3600)) ++ minutes_text (m % 3600) ≡ (t ∷ two_digits (n / 3600)) ++ minutes_text (n % 3600) → m ≡ n
 size_is m n s t e =

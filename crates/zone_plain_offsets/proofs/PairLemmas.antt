@@ -6,7 +6,7 @@ use Rattle.std.proofs.lemmas.List.{map-append}
 use Rattle.indexmap.specs.IndexSet.{insert_key}
 use Rattle.zone_values.specs.Values.{LineValue}
 use Rattle.zone_plain_offsets.specs.PairLaws.{pair_itself, among_joined}
-use Rattle.zone_plain_offsets.specs.Pairs.{Pair, Asked, nothing, total, under, asked, is_same, is_among, with_pair, number_of, joined_by, pairs_from}
+use Rattle.zone_plain_offsets.specs.Pairs.{Pair, Asked, under, asked, is_same, is_among, with_pair, number_of, joined_by, pairs_from}
 use Rattle.zone_plain_offsets.specs.Shown.{pair_shown}
 use Rattle.zone_plain_offsets.specs.declared.pairs.Pair as code
 use Rattle.zone_plain_offsets.specs.contracts.pairs.PairPartialEq.TheImpl as same
@@ -67,9 +67,8 @@ number_with_more pairs more pair e = by_test (is_among more pairs)
     by_test false = stays pairs (more ∷ []) pair e
 
 number_joined : (a : Asked) (pairs : List Pair) (pair : Pair) → is_among pair pairs ≡ true → number_of (joined_by a pairs) pair ≡ number_of pairs pair
-number_joined nothing pairs pair e = refl
-number_joined (total parts t) pairs pair e = refl
 number_joined (under parts more) pairs pair e = number_with_more pairs more pair e
+number_joined _ pairs pair e = refl
 
 -- a pair that is among them has its number for good
 pub number_kept : (values : List LineValue) (pairs : List Pair) (pair : Pair) → is_among pair pairs ≡ true

@@ -16,7 +16,7 @@ use Rattle.zone_plain_base.specs.PlainTexts.{plain_text}
 use Rattle.zone_plain_base.specs.Said.{is_said}
 use Rattle.zone_plain_base.specs.Renamed.{mark_of}
 use Rattle.zone_plain_offsets.specs.Names.{made_name}
-use Rattle.zone_plain_offsets.specs.Pairs.{Pair, Asked, nothing, total, under, asked, is_same, is_among, with_pair, number_of, joined_by, pairs_from, pairs_of}
+use Rattle.zone_plain_offsets.specs.Pairs.{Pair, Asked, under, asked, is_same, is_among, with_pair, number_of, joined_by, pairs_from, pairs_of}
 use Rattle.zone_plain_offsets.specs.Made.{rules_for, are_rules_said, changed_by, changed, is_changed_said, named_in, name_in, made}
 use Rattle.zone_plain_offsets.specs.WrittenOut.{line_size, made_size, refused_from, written_unless, written_out}
 use Rattle.zone_plain_offsets.specs.SaidLaws.{made_said}
@@ -51,8 +51,6 @@ test_is : (values left : List LineValue) (mark : List ℕ) (pairs : List Pair) (
     → pairs_from (joined_by a pairs) left ≡ pairs_of values
     → ((pair : Pair) → is_among pair pairs ≡ true → are_rules_said values (name_in values pair) pair ≡ true)
     → is_asked_said values mark pairs a v ≡ is_changed_said values (name_in values) a v
-test_is values left mark pairs nothing v mark_is go said = refl
-test_is values left mark pairs (total parts t) v mark_is go said = refl
 test_is values left mark pairs (under parts pair) v mark_is go said =
     ap (λ name. cond (is_among pair pairs) true (are_rules_said values name pair) && is_said (changed_by (λ p. name) (under parts pair) v)) name
     ∙ ap (λ b. b && is_said (changed_by (name_in values) (under parts pair) v)) (by_test (is_among pair pairs) refl)
@@ -64,19 +62,17 @@ test_is values left mark pairs (under parts pair) v mark_is go said =
         → cond b true (are_rules_said values (name_in values pair) pair) ≡ are_rules_said values (name_in values pair) pair
     by_test true e = sym (said pair e)
     by_test false e = refl
+test_is values left mark pairs _ v mark_is go said = refl
 
 changed_is : (values left : List LineValue) (mark : List ℕ) (pairs : List Pair) (a : Asked) (v : LineValue) → mark ≡ mark_of values
     → pairs_from (joined_by a pairs) left ≡ pairs_of values → changed_by (named_in mark (joined_by a pairs)) a v ≡ changed_by (name_in values) a v
-changed_is values left mark pairs nothing v mark_is go = refl
-changed_is values left mark pairs (total parts t) v mark_is go = refl
 changed_is values left mark pairs (under parts pair) v mark_is go =
     ap (λ name. changed_by (λ p. name) (under parts pair) v) (name_is values left mark pairs pair mark_is go)
+changed_is values left mark pairs _ v mark_is go = refl
 
 rules_more : (values left : List LineValue) (mark : List ℕ) (pairs : List Pair) (a : Asked) → mark ≡ mark_of values
     → pairs_from (joined_by a pairs) left ≡ pairs_of values
     → flat_map (rules_of values) pairs ++ asked_rules values mark pairs a ≡ flat_map (rules_of values) (joined_by a pairs)
-rules_more values left mark pairs nothing mark_is go = append-nil _
-rules_more values left mark pairs (total parts t) mark_is go = append-nil _
 rules_more values left mark pairs (under parts pair) mark_is go =
     ap (λ name. flat_map (rules_of values) pairs ++ cond (is_among pair pairs) [] (rules_for values name pair))
     (name_is values left mark pairs pair mark_is go)
@@ -86,14 +82,13 @@ rules_more values left mark pairs (under parts pair) mark_is go =
     by_test true = append-nil _
     by_test false = sym (flat_map-append (rules_of values) pairs (pair ∷ [])
         ∙ ap (λ vs. flat_map (rules_of values) pairs ++ vs) (append-nil (rules_of values pair)))
+rules_more values left mark pairs _ mark_is go = append-nil _
 
 -- the rules of all pairs so far can be said
 said_more : (values : List LineValue) (pairs : List Pair) (a : Asked) (v : LineValue)
     → ((pair : Pair) → is_among pair pairs ≡ true → are_rules_said values (name_in values pair) pair ≡ true)
     → is_changed_said values (name_in values) a v ≡ true
     → (pair : Pair) → is_among pair (joined_by a pairs) ≡ true → are_rules_said values (name_in values pair) pair ≡ true
-said_more values pairs nothing v said is_yes pair e = said pair e
-said_more values pairs (total parts t) v said is_yes pair e = said pair e
 said_more values pairs (under parts more) v said is_yes pair e = by_test (is_among more pairs) e
   where
     here : are_rules_said values (name_in values more) more ≡ true
@@ -106,6 +101,7 @@ said_more values pairs (under parts more) v said is_yes pair e = by_test (is_amo
     by_test : (b : Bool) → is_among pair (cond b pairs (pairs ++ more ∷ [])) ≡ true → are_rules_said values (name_in values pair) pair ≡ true
     by_test true e = said pair e
     by_test false e = by_case (or_cases (is_among pair pairs) (is_same pair more) (sym (among_more pair more pairs) ∙ e))
+said_more values pairs _ v said is_yes pair e = said pair e
 
 next_line : (limit : ℕ) (values left : List LineValue) (n : ℕ) (pairs : List Pair) (v : LineValue) (said long : Bool)
     → is_changed_said values (name_in values) (asked v) v ≡ said → nat_lt limit (made_size values (joined_by (asked v) pairs)) ≡ long

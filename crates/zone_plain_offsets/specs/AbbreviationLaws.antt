@@ -14,7 +14,7 @@ use Rattle.std.proofs.lemmas.List.Sums.{split_at_first, passes_at_first}
 use Rattle.zone_values.specs.Seconds.{seconds_of}
 use Rattle.zone_table.specs.Joined.{rules_of}
 use Rattle.zone_table.specs.declared.rule.RuleInfo.{RuleInfo}
-use Rattle.zone_values.specs.Values.{SavingValue, no_saving, one_off, multiple, InfoValue, LineValue, space, zone, continuation, rule, link}
+use Rattle.zone_values.specs.Values.{SavingValue, no_saving, one_off, multiple, InfoValue, LineValue, space, zone, continuation}
 use Rattle.zone_table.specs.Formats.{is_slash, is_placeholder, has_placeholder, format_of, filled, abbreviation}
 use Rattle.zone_table.specs.declared.format.Format.TheVariants.{Constant, Alternate, Placeholder}
 use Rattle.zone_plain_base.specs.PlainTexts.{two_digits}
@@ -64,11 +64,10 @@ placed (c ∷ before) after = placed_on c (before ++ codes "%s" ++ after) (place
 
 not_placed : (text : List ℕ) → has_byte 37 text ≡ false → has_placeholder text ≡ false
 unfolding has_placeholder
-not_placed [] e = refl
-not_placed (c ∷ []) e = refl
 not_placed (c ∷ d ∷ text) e =
     let both = or_parts (c == 37) (has_byte 37 (d ∷ text)) e in
     (λ i. (both.0 i && (d == 115)) || not_placed (d ∷ text) both.1 i)
+not_placed _ e = refl
 
 -- a text without such a byte, and one more behind it
 pub clean_append : (mark : ℕ) (xs ys : List ℕ) → has_byte mark xs ≡ false → has_byte mark ys ≡ false → has_byte mark (xs ++ ys) ≡ false
@@ -248,41 +247,33 @@ asked_alone (multiple name) amount offset parts e = absurd (cc)
 asked_of : (v : LineValue) (info : InfoValue) (parts : Around) → info_in v ≡ Some info → around_mark info.format ≡ Some parts
     → asked v ≡ asked_under info.saving (seconds_of info.utc_offset) parts
 unfolding asked_by
-asked_of space info parts is mark = absurd (cc)
 asked_of (zone z w) info parts is mark =
     let same : w ≡ info = cc in
     ap asked_by same ∙ ap (λ o. option_map_or (asked_under info.saving (seconds_of info.utc_offset)) o nothing) mark
 asked_of (continuation w) info parts is mark =
     let same : w ≡ info = cc in
     ap asked_by same ∙ ap (λ o. option_map_or (asked_under info.saving (seconds_of info.utc_offset)) o nothing) mark
-asked_of (rule q) info parts is mark = absurd (cc)
-asked_of (link x y) info parts is mark = absurd (cc)
+asked_of _ info parts is mark = absurd (cc)
 
 -- a line with another format has the abbreviations of that
 by_format : (v : LineValue) (info : InfoValue) (format : List ℕ) (saving : ℤ) (text : List ℕ) → info_in v ≡ Some info
     → abbreviation (format_of format) saving None ≡ text → own_abbreviation saving (with_format v format) ≡ Some text
-by_format space info format saving text is e = absurd (cc)
 by_format (zone z w) info format saving text is e = ap (λ t. Some t) e
 by_format (continuation w) info format saving text is e = ap (λ t. Some t) e
-by_format (rule q) info format saving text is e = absurd (cc)
-by_format (link x y) info format saving text is e = absurd (cc)
+by_format _ info format saving text is e = absurd (cc)
 
 -- also under another ruleset
 by_ruleset : (v : LineValue) (info : InfoValue) (format name : List ℕ) (r : RuleInfo) (text : List ℕ) → info_in v ≡ Some info
     → abbreviation (format_of format) r.time_to_add r.letters ≡ text → abbreviation_under r (with_ruleset (with_format v format) name) ≡ Some text
-by_ruleset space info format name r text is e = absurd (cc)
 by_ruleset (zone z w) info format name r text is e = ap (λ t. Some t) e
 by_ruleset (continuation w) info format name r text is e = ap (λ t. Some t) e
-by_ruleset (rule q) info format name r text is e = absurd (cc)
-by_ruleset (link x y) info format name r text is e = absurd (cc)
+by_ruleset _ info format name r text is e = absurd (cc)
 
 -- which it names
 by_name : (v : LineValue) (info : InfoValue) (format name : List ℕ) → info_in v ≡ Some info → ruleset_in (with_ruleset (with_format v format) name) ≡ Some name
-by_name space info format name is = absurd (cc)
 by_name (zone z w) info format name is = refl
 by_name (continuation w) info format name is = refl
-by_name (rule q) info format name is = absurd (cc)
-by_name (link x y) info format name is = absurd (cc)
+by_name _ info format name is = absurd (cc)
 
 -- a pair for which a line asks is one of the pairs
 pub among_stays : (pair : Pair) (values : List LineValue) (pairs : List Pair) → is_among pair pairs ≡ true → is_among pair (pairs_from pairs values) ≡ true

@@ -2,7 +2,7 @@
 use Rattle.std.specs.Prelude.{◌≡◌, ℕ, ℤ, pos, ◌+ℤ◌, ◌++◌, List, All, map, reverse, Option, Some, None, option_map}
 use Rattle.std.specs.Option.{option_and_then}
 use Rattle.zone_values.specs.Seconds.{seconds_of}
-use Rattle.zone_values.specs.Values.{SavingValue, no_saving, one_off, multiple, InfoValue, LineValue, space, zone, continuation, rule, link}
+use Rattle.zone_values.specs.Values.{SavingValue, no_saving, one_off, multiple, InfoValue, LineValue, zone, continuation}
 use Rattle.zone_table.specs.Formats.{abbreviation}
 use Rattle.zone_table.specs.Joined.{rules_of}
 use Rattle.zone_table.specs.Owned.{owned_info}
@@ -12,17 +12,14 @@ use Rattle.zone_plain_offsets.specs.OffsetTexts.{offset_text}
 
 -- what a line says of a stretch of time
 abbrev pub info_in : LineValue → Option InfoValue
-info_in space = None
 info_in (zone name info) = Some info
 info_in (continuation info) = Some info
-info_in (rule r) = None
-info_in (link existing new) = None
+info_in _ = None
 
 -- the ruleset in RULES
 abbrev pub named_by : SavingValue → Option (List ℕ)
-named_by no_saving = None
-named_by (one_off amount) = None
 named_by (multiple name) = Some name
+named_by _ = None
 
 abbrev pub ruleset_in : LineValue → Option (List ℕ)
 ruleset_in v = option_and_then (λ info. named_by info.saving) (info_in v)

@@ -15,10 +15,7 @@ use Rattle.zone_plain_offsets.specs.Pairs.{Pair, Asked, nothing, total, under, a
 unfoldable pub rules_named : List LineValue → List ℕ → List RuleValue
 rules_named [] name = []
 rules_named (rule r ∷ values) name = if bytes_eq r.name name then r ∷ rules_named values name else rules_named values name
-rules_named (space ∷ values) name = rules_named values name
-rules_named (zone zone_name info ∷ values) name = rules_named values name
-rules_named (continuation info ∷ values) name = rules_named values name
-rules_named (link existing new ∷ values) name = rules_named values name
+rules_named (_ ∷ values) name = rules_named values name
 
 -- the offset with a rule's saving
 abbrev pub total_of : ℤ → RuleValue → ℤ

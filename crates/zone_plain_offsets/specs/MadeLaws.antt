@@ -6,11 +6,11 @@ use Rattle.std.proofs.lemmas.Bool.{or_right}
 use Rattle.std.proofs.lemmas.Grind.{flat_map-append}
 use Rattle.std.proofs.lemmas.Slice.Eq.{bytes_eq-Decides}
 use Rattle.zone_outside.specs.Limit.{text_limit}
-use Rattle.zone_values.specs.Values.{RuleValue, LineValue, space, zone, continuation, rule, link}
+use Rattle.zone_values.specs.Values.{RuleValue, LineValue, zone, continuation, rule}
 use Rattle.zone_plain_base.specs.Renamed.{mark_of}
 use Rattle.zone_plain_offsets.specs.NameLaws.{name_is_new, one_name}
 use Rattle.zone_plain_offsets.specs.PairLaws.{same_pair, pair_itself, among_more}
-use Rattle.zone_plain_offsets.specs.Pairs.{Pair, Asked, nothing, total, under, asked, asked_by, is_same, is_among, with_pair, joined_by, number_of, pairs_from, pairs_of}
+use Rattle.zone_plain_offsets.specs.Pairs.{Pair, Asked, nothing, under, asked, asked_by, is_same, is_among, with_pair, joined_by, number_of, pairs_from, pairs_of}
 use Rattle.zone_plain_offsets.specs.Made.{rules_named, made_rule, rules_for, changed_by, changed, name_in, made}
 use Rattle.zone_plain_offsets.specs.WrittenOut.{refused_from, written_unless, written_out}
 
@@ -24,24 +24,19 @@ rules_append (rule r ∷ xs) ys name = by_test (bytes_eq r.name name) (rules_app
         ≡ cond b (r ∷ rules_named xs name) (rules_named xs name) ++ rules_named ys name
     by_test true e = ap (λ rs. r ∷ rs) e
     by_test false e = e
-rules_append (space ∷ xs) ys name = rules_append xs ys name
-rules_append (zone z info ∷ xs) ys name = rules_append xs ys name
-rules_append (continuation info ∷ xs) ys name = rules_append xs ys name
-rules_append (link x y ∷ xs) ys name = rules_append xs ys name
+rules_append (_ ∷ xs) ys name = rules_append xs ys name
 
 zone_stays : (name_of : Pair → List ℕ) (a : Asked) (z : List ℕ) (info : _) (values : List LineValue) (name : List ℕ)
     → rules_named (changed_by name_of a (zone z info) ∷ values) name ≡ rules_named values name
 unfolding rules_named
 zone_stays name_of nothing z info values name = refl
-zone_stays name_of (total parts t) z info values name = refl
-zone_stays name_of (under parts pair) z info values name = refl
+zone_stays name_of _ z info values name = refl
 
 continuation_stays : (name_of : Pair → List ℕ) (a : Asked) (info : _) (values : List LineValue) (name : List ℕ)
     → rules_named (changed_by name_of a (continuation info) ∷ values) name ≡ rules_named values name
 unfolding rules_named
 continuation_stays name_of nothing info values name = refl
-continuation_stays name_of (total parts t) info values name = refl
-continuation_stays name_of (under parts pair) info values name = refl
+continuation_stays name_of _ info values name = refl
 
 -- what becomes of the lines leaves the rules of the source
 pub rules_stay : (name_of : Pair → List ℕ) (values : List LineValue) (name : List ℕ)
@@ -49,12 +44,11 @@ pub rules_stay : (name_of : Pair → List ℕ) (values : List LineValue) (name :
 unfolding rules_named
 rules_stay name_of [] name = refl
 rules_stay name_of (rule r ∷ values) name = ap (λ rs. cond (bytes_eq r.name name) (r ∷ rs) rs) (rules_stay name_of values name)
-rules_stay name_of (space ∷ values) name = rules_stay name_of values name
 rules_stay name_of (zone z info ∷ values) name =
     zone_stays name_of (asked_by info) z info (map (changed name_of) values) name ∙ rules_stay name_of values name
 rules_stay name_of (continuation info ∷ values) name =
     continuation_stays name_of (asked_by info) info (map (changed name_of) values) name ∙ rules_stay name_of values name
-rules_stay name_of (link x y ∷ values) name = rules_stay name_of values name
+rules_stay name_of (_ ∷ values) name = rules_stay name_of values name
 
 made_under : (rules : List RuleValue) (given name : List ℕ) (offset : _)
     → rules_named (map (λ r. rule (made_rule given offset r)) rules) name ≡ cond (bytes_eq given name) (map (made_rule given offset) rules) []
@@ -123,9 +117,8 @@ picked_more of pair more pairs e = by_test (is_among more pairs) refl
 picked_joined : {A : Type 0} (of : Pair → List A) (pair : Pair) (a : Asked) (pairs : List Pair)
     → flat_map (pick of pair) pairs ≡ cond (is_among pair pairs) (of pair) []
     → flat_map (pick of pair) (joined_by a pairs) ≡ cond (is_among pair (joined_by a pairs)) (of pair) []
-picked_joined of pair nothing pairs e = e
-picked_joined of pair (total parts t) pairs e = e
 picked_joined of pair (under parts more) pairs e = picked_more of pair more pairs e
+picked_joined of pair _ pairs e = e
 
 picked_all : {A : Type 0} (of : Pair → List A) (pair : Pair) (values : List LineValue) (pairs : List Pair)
     → flat_map (pick of pair) pairs ≡ cond (is_among pair pairs) (of pair) []

@@ -7,7 +7,7 @@ use Rattle.std.specs.Prelude.{◌||◌, decimal, bytes_eq}
 use Rattle.std.specs.Char.{digit_value}
 use Rattle.std.specs.Str.Parse.{AllDigits}
 use Rattle.std.proofs.lemmas.Fmt.{decimal_injective, decimal_is_IsNumeral}
-use Rattle.zone_values.specs.Values.{LineValue, space, zone, continuation, rule, link}
+use Rattle.zone_values.specs.Values.{LineValue, rule}
 use Rattle.zone_plain_base.specs.MarkLaws.{no_mark}
 use Rattle.zone_plain_base.specs.Renamed.{has_name, mark_of}
 use Rattle.zone_plain_offsets.specs.Names.{letter, made_name}
@@ -23,10 +23,7 @@ none_named (rule r ∷ values) name new = by_test (bytes_eq r.name name) new (λ
         → cond b (r ∷ rules_named values name) (rules_named values name) ≡ []
     by_test true new rest = absurd (new refl)
     by_test false new rest = rest new
-none_named (space ∷ values) name new = none_named values name (λ h. new (or_right _ _ h))
-none_named (zone z info ∷ values) name new = none_named values name (λ h. new (or_right _ _ h))
-none_named (continuation info ∷ values) name new = none_named values name (λ h. new (or_right _ _ h))
-none_named (link x y ∷ values) name new = none_named values name (λ h. new (or_right _ _ h))
+none_named (_ ∷ values) name new = none_named values name (λ h. new (or_right _ _ h))
 
 -- no rule of the source has the name of a ruleset that is made
 pub name_is_new : (values : List LineValue) (number : ℕ) → rules_named values (made_name (mark_of values) number) ≡ []
@@ -51,12 +48,11 @@ digit_is c d p q e =
 
 letters_same : (xs ys : List ℕ) → AllDigits 10 xs → AllDigits 10 ys → map letter xs ≡ map letter ys → xs ≡ ys
 letters_same [] [] p q e = refl
-letters_same [] (y ∷ ys) p q e = absurd (cc)
-letters_same (x ∷ xs) [] p q e = absurd (cc)
 letters_same (x ∷ xs) (y ∷ ys) p q e =
     let first = digit_is x y p.0 q.0 (ap (λ l. get_or l 0 0) e) in
     let rest = letters_same xs ys p.1 q.1 (ap (drop 1) e) in
     (λ i. first i ∷ rest i)
+letters_same _ _ p q e = absurd (cc)
 
 -- two numbers of 64 bits give two names
 pub one_name : (mark : List ℕ) (m n : ℕ) → m < 2 ^ 64 → n < 2 ^ 64 → made_name mark m ≡ made_name mark n → m ≡ n

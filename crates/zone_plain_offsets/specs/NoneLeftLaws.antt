@@ -1,26 +1,17 @@
 -- Of what is written out no line asks for `%z`.
-use Rattle.std.proofs.Common.{◌≡◌, ℕ, suc, ◌+◌, ◌-◌, ◌≤◌, Bool, true, false, cond, not, nat_lt, List, [], ◌∷◌, ◌++◌, All, length, map, drop, Option, Some, None, option_map, Result, Ok, Err, IfOk, refl, sym, ap, ◌∙◌, subst, arith}
-use Rattle.std.specs.Prelude.{◌==◌, ◌||◌, codes}
+use Rattle.std.proofs.Common.{◌≡◌, ℕ, suc, ◌+◌, ◌≤◌, Bool, true, false, cond, not, nat_lt, List, [], ◌∷◌, ◌++◌, All, length, map, drop, Option, Some, None, option_map, Ok, IfOk, refl, sym, ap, ◌∙◌, subst, arith}
+use Rattle.std.specs.Prelude.{◌==◌, codes}
 use Rattle.std.specs.List.{position_or_len, before_first, after_first}
 use Rattle.std.specs.Option.{option_map_or, option_and_then}
-use Rattle.std.specs.Str.{is_utf8}
 use Rattle.std.proofs.lemmas.Bool.{le-ltb, or_parts}
 use Rattle.std.proofs.lemmas.List.Elements.{All-nil, All-cons, All-head, All-tail, All-append}
 use Rattle.text_parts.specs.Marks.{after_mark}
-use Rattle.zone_values.specs.Results.{◌>>=◌}
 use Rattle.zone_values.specs.Seconds.{seconds_of}
-use Rattle.zone_values.specs.Values.{SavingValue, no_saving, one_off, multiple, InfoValue, RuleValue, LineValue, space, zone, continuation, rule, link}
-use Rattle.zone_values.specs.declared.change.ChangeTime.{ChangeTime}
-use Rattle.zone_values.specs.declared.time.TimeSpec.{TimeSpec}
-use Rattle.zone_plain_lines.specs.Columns.{column, has_byte, is_format, saving_of, zone_name}
-use Rattle.zone_plain_lines.specs.Meanings.{offset_of, end_of, is_ruled, if_format, info_of, rule_of, link_of, by_word, first_line_of, meaning}
-use Rattle.zone_plain_lines.specs.Quotes.{fields, laid_out}
-use Rattle.zone_plain_lines.specs.Words.{line_word}
-use Rattle.zone_plain_lines.specs.declared.cause.PlainCause.{PlainCause}
-use Rattle.zone_plain_lines.specs.declared.cause.PlainCause.TheVariants as cause
-use Rattle.zone_plain_lines.specs.declared.words.LineWord.{LineWord}
-use Rattle.zone_plain_lines.specs.declared.words.LineWord.TheVariants as word
-use Rattle.zone_plain_base.specs.Meant.{meant_by, line_meaning, is_next}
+use Rattle.zone_values.specs.Values.{SavingValue, multiple, InfoValue, RuleValue, LineValue, zone, continuation, rule}
+use Rattle.zone_plain_lines.specs.Columns.{has_byte}
+use Rattle.zone_plain_lines.specs.Meanings.{is_ruled}
+use Rattle.zone_plain_base.specs.Meant.{is_next}
+use Rattle.zone_plain_base.specs.MeantLaws.{HasFormat, holds}
 use Rattle.zone_plain_base.specs.Said.{is_said}
 use Rattle.zone_plain_base.specs.SaidLaws.{meant_back}
 use Rattle.zone_plain_base.specs.PlainTexts.{plain_text}
@@ -29,7 +20,7 @@ use Rattle.zone_plain_offsets.specs.Formats.{Around, around, around_z, around_ma
 use Rattle.zone_plain_offsets.specs.Made.{made_rule, rules_named, rules_for, around_text, changed_by, changed, name_in, made_for, made}
 use Rattle.zone_plain_offsets.specs.MadeLaws.{written_is}
 use Rattle.zone_plain_offsets.specs.OffsetTexts.{offset_text}
-use Rattle.zone_plain_offsets.specs.Pairs.{Pair, pair_of, nothing, asked_under, asked_by, asked, pairs_of}
+use Rattle.zone_plain_offsets.specs.Pairs.{Pair, Asked, pair_of, nothing, total, under, asked_under, asked_by, asked, pairs_of}
 use Rattle.zone_plain_offsets.specs.WrittenOut.{written_out}
 
 -- ---- texts without `%z`
@@ -72,96 +63,21 @@ lettered before after e = by (nat_lt (position_or_len (λ c. c == 37) text) (len
 
 -- ---- lines that can be said have formats
 
-abbrev HasFormat : InfoValue → Type 0
-HasFormat info = is_format (is_ruled info.saving) info.format ≡ true
-
 abbrev pub IsFormed : LineValue → Type 0
-IsFormed space = Unit {0}
 IsFormed (zone name info) = HasFormat info
 IsFormed (continuation info) = HasFormat info
-IsFormed (rule r) = Unit {0}
-IsFormed (link existing new) = Unit {0}
-
-info_formed : (found : List (List ℕ)) (from : ℕ) → IfOk (info_of found from) HasFormat
-unfolding info_of
-info_formed found from =
-    by (nat_lt (length found) (from + 3) || nat_lt (from + 7) (length found)) (offset_of (column found from)) (saving_of (column found (from + 1)))
-  where
-    text : List ℕ
-    text = column found (from + 2)
-
-    end : Result (Option ChangeTime) PlainCause
-    end = end_of found (from + 3) (length found - (from + 3))
-
-    ended : (offset : TimeSpec) (added : SavingValue) (r : Result (Option ChangeTime) PlainCause) → is_format (is_ruled added) text ≡ true
-        → IfOk (◌>>=◌ r (λ e. Ok (record { utc_offset = offset; saving = added; format = text; time = e }))) HasFormat
-    ended offset added (Err c) h = tt
-    ended offset added (Ok e) h = h
-
-    formed : (offset : TimeSpec) (added : SavingValue) (b : Bool) → is_format (is_ruled added) text ≡ b
-        → IfOk (◌>>=◌ (cond b (Ok text) (Err cause.Format))
-        (λ format. ◌>>=◌ end (λ e. Ok (record { utc_offset = offset; saving = added; format = format; time = e })))) HasFormat
-    formed offset added true h = ended offset added end h
-    formed offset added false h = tt
-
-    by : (b : Bool) (o : Result TimeSpec PlainCause) (s : Result SavingValue PlainCause)
-        → IfOk (cond b (Err cause.FieldCount) (◌>>=◌ o (λ offset. ◌>>=◌ s (λ saving. ◌>>=◌ (if_format saving text)
-        (λ format. ◌>>=◌ end (λ e. Ok (record { utc_offset = offset; saving = saving; format = format; time = e }))))))) HasFormat
-    by true o s = tt
-    by false (Err c) s = tt
-    by false (Ok offset) (Err c) = tt
-    by false (Ok offset) (Ok saving) = formed offset saving (is_format (is_ruled saving) text) refl
-
-first_formed : (w : LineWord) (found : List (List ℕ)) → IfOk (by_word w found) IsFormed
-unfolding link_of
-first_formed word.Rule found = by (rule_of found)
-  where
-    by : (r : Result RuleValue PlainCause) → IfOk (◌>>=◌ r (λ read. Ok (rule read))) IsFormed
-    by (Err e) = tt
-    by (Ok read) = tt
-first_formed word.Zone found = by (info_of found 2) (zone_name (column found 1)) (info_formed found 2)
-  where
-    by : (r : Result InfoValue PlainCause) (n : Result (List ℕ) PlainCause) → IfOk r HasFormat
-        → IfOk (◌>>=◌ r (λ info. ◌>>=◌ n (λ name. Ok (zone name info)))) IsFormed
-    by (Err e) n h = tt
-    by (Ok info) (Err e) h = tt
-    by (Ok info) (Ok name) h = h
-first_formed word.Link found = by (not (length found == 3)) (zone_name (column found 2))
-  where
-    by : (b : Bool) (n : Result (List ℕ) PlainCause)
-        → IfOk (cond b (Err cause.FieldCount) (◌>>=◌ n (λ name. Ok (link (column found 1) name)))) IsFormed
-    by true n = tt
-    by false (Err e) = tt
-    by false (Ok name) = tt
-
-meaning_formed : (is_open : Bool) (found : List (List ℕ)) → IfOk (meaning is_open found) IsFormed
-unfolding meaning first_line_of
-meaning_formed is_open found = by (length found == 0) is_open (info_of found 0) (line_word (column found 0)) (info_formed found 0)
-  where
-    by : (b c : Bool) (i : Result InfoValue PlainCause) (w : Result LineWord PlainCause) → IfOk i HasFormat
-        → IfOk (cond b (Ok space) (cond c (◌>>=◌ i (λ info. Ok (continuation info))) (◌>>=◌ w (λ word. by_word word found)))) IsFormed
-    by true c i w h = tt
-    by false true (Err e) w h = tt
-    by false true (Ok info) w h = h
-    by false false i (Err e) h = tt
-    by false false i (Ok w) h = first_formed w found
-
-line_formed : (is_open : Bool) (line : List ℕ) → IfOk (line_meaning is_open line) IsFormed
-unfolding line_meaning
-line_formed is_open line = by (is_utf8 line) (fields line)
-  where
-    laid : (b : Bool) (found : List (List ℕ)) → IfOk (cond b (meaning is_open found) (Err cause.NotText)) IsFormed
-    laid false found = tt
-    laid true found = meaning_formed is_open found
-
-    by : (b : Bool) (r : Result (List (List ℕ)) PlainCause) → IfOk (cond b (◌>>=◌ r (meant_by is_open line)) (Err cause.NotText)) IsFormed
-    by false r = tt
-    by true (Err e) = tt
-    by true (Ok found) = laid (is_utf8 (laid_out line)) found
+IsFormed _ = Unit {0}
 
 -- a line that can be said has a format of the manual's
 pub formed : (v : LineValue) → is_said v ≡ true → IsFormed v
-formed v said = subst (λ r. IfOk r IsFormed) (meant_back v said) (line_formed (is_next v) (plain_text v))
+formed v said =
+    subst (λ r. IfOk r IsFormed) (meant_back v said) (holds IsFormed (is_next v) (record {
+      blank = tt;
+      next = λ info is_open good. good;
+      first = λ name info is_open good. good;
+      rules = λ r is_open. tt;
+      links = λ existing new is_open. tt;
+    }) (plain_text v))
 
 -- ---- what becomes of them
 
@@ -189,41 +105,28 @@ zone_done name_of name info good = by (around_mark info.format) refl
 
     saved : (parts : Around) (s : SavingValue) → AreClean parts.before parts.after
         → AsksNothing (changed_by name_of (asked_under s (seconds_of info.utc_offset) parts) (zone name info))
-    saved parts no_saving clean = put_back info.saving _ (with_total parts _ clean)
-    saved parts (one_off amount) clean = put_back info.saving _ (with_total parts _ clean)
     saved parts (multiple rules) clean = put_back (multiple (name_of (pair_of rules (seconds_of info.utc_offset)))) _ (lettered parts.before parts.after clean.before_marks)
+    saved parts _ clean = put_back info.saving _ (with_total parts _ clean)
 
     by : (o : Option Around) → around_mark info.format ≡ o
         → AsksNothing (changed_by name_of (option_map_or (asked_under info.saving (seconds_of info.utc_offset)) o nothing) (zone name info))
     by None e = asks_none info e
     by (Some parts) e = saved parts info.saving (clean_parts (is_ruled info.saving) info.format parts.before parts.after good e)
 
+-- so is a further line of the zone
 continuation_done : (name_of : Pair → List ℕ) (info : InfoValue) → HasFormat info
     → AsksNothing (changed_by name_of (asked_by info) (continuation info))
-unfolding asked_by
-continuation_done name_of info good = by (around_mark info.format) refl
+continuation_done name_of info good = by (asked_by info) (zone_done name_of [] info good)
   where
-    put_back : (s : SavingValue) (format : List ℕ) → around_mark format ≡ None
-        → asked_by (record { utc_offset = info.utc_offset; saving = s; format = format; time = info.time }) ≡ nothing
-    put_back s format e = ap (λ o. option_map_or (asked_under s (seconds_of info.utc_offset)) o nothing) e
-
-    saved : (parts : Around) (s : SavingValue) → AreClean parts.before parts.after
-        → AsksNothing (changed_by name_of (asked_under s (seconds_of info.utc_offset) parts) (continuation info))
-    saved parts no_saving clean = put_back info.saving _ (with_total parts _ clean)
-    saved parts (one_off amount) clean = put_back info.saving _ (with_total parts _ clean)
-    saved parts (multiple rules) clean = put_back (multiple (name_of (pair_of rules (seconds_of info.utc_offset)))) _ (lettered parts.before parts.after clean.before_marks)
-
-    by : (o : Option Around) → around_mark info.format ≡ o
-        → AsksNothing (changed_by name_of (option_map_or (asked_under info.saving (seconds_of info.utc_offset)) o nothing) (continuation info))
-    by None e = asks_none info e
-    by (Some parts) e = saved parts info.saving (clean_parts (is_ruled info.saving) info.format parts.before parts.after good e)
+    by : (a : Asked) → AsksNothing (changed_by name_of a (zone [] info)) → AsksNothing (changed_by name_of a (continuation info))
+    by nothing h = h
+    by (total parts t) h = h
+    by (under parts pair) h = h
 
 line_done : (name_of : Pair → List ℕ) (v : LineValue) → IsFormed v → AsksNothing (changed name_of v)
-line_done name_of space good = refl
 line_done name_of (zone name info) good = zone_done name_of name info good
 line_done name_of (continuation info) good = continuation_done name_of info good
-line_done name_of (rule r) good = refl
-line_done name_of (link existing new) good = refl
+line_done name_of _ good = refl
 
 lines_done : (name_of : Pair → List ℕ) (values : List LineValue) → All (λ v. is_said v ≡ true) values → All AsksNothing (map (changed name_of) values)
 lines_done name_of [] said = All-nil AsksNothing

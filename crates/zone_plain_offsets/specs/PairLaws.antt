@@ -7,7 +7,7 @@ use Rattle.std.proofs.lemmas.Bool.{and_parts}
 use Rattle.std.proofs.lemmas.Bool.Decides.{Decides-int_eq}
 use Rattle.std.proofs.lemmas.List.Folds.{list_any-append}
 use Rattle.std.proofs.lemmas.Slice.Eq.{bytes_eq-Decides}
-use Rattle.zone_plain_offsets.specs.Pairs.{Pair, Asked, nothing, total, under, is_same, is_among, with_pair, joined_by}
+use Rattle.zone_plain_offsets.specs.Pairs.{Pair, Asked, under, is_same, is_among, with_pair, joined_by}
 
 -- two pairs that are the same are one
 pub same_pair : (a b : Pair) → is_same a b ≡ true → a ≡ b
@@ -34,10 +34,9 @@ among_with pairs pair = by_test (is_among pair pairs) refl
 
 -- and those that were stay among them
 pub among_joined : (pair : Pair) (a : Asked) (pairs : List Pair) → is_among pair pairs ≡ true → is_among pair (joined_by a pairs) ≡ true
-among_joined pair nothing pairs e = e
-among_joined pair (total parts t) pairs e = e
 among_joined pair (under parts more) pairs e = by_test (is_among more pairs)
   where
     by_test : (b : Bool) → is_among pair (cond b pairs (pairs ++ more ∷ [])) ≡ true
     by_test true = e
     by_test false = among_more pair more pairs ∙ ap (λ b. b || is_same pair more) e
+among_joined pair _ pairs e = e

@@ -4,7 +4,7 @@ use Rattle.std.specs.List.{list_any, position_or_len}
 use Rattle.std.specs.Ordering.{int_eq}
 use Rattle.std.specs.Option.{option_map_or}
 use Rattle.zone_values.specs.Seconds.{seconds_of}
-use Rattle.zone_values.specs.Values.{SavingValue, no_saving, one_off, multiple, InfoValue, LineValue, space, zone, continuation, rule, link}
+use Rattle.zone_values.specs.Values.{SavingValue, no_saving, one_off, multiple, InfoValue, LineValue, zone, continuation}
 use Rattle.zone_plain_offsets.specs.Formats.{Around, around_mark}
 
 -- a ruleset, by its name, and a standard offset in seconds
@@ -32,11 +32,9 @@ unfoldable pub asked_by : InfoValue → Asked
 asked_by info = option_map_or (asked_under info.saving (seconds_of info.utc_offset)) (around_mark info.format) nothing
 
 abbrev pub asked : LineValue → Asked
-asked space = nothing
 asked (zone name info) = asked_by info
 asked (continuation info) = asked_by info
-asked (rule r) = nothing
-asked (link existing new) = nothing
+asked _ = nothing
 
 abbrev pub is_same : Pair → Pair → Bool
 is_same a b = int_eq a.offset b.offset && bytes_eq a.rules b.rules
@@ -55,9 +53,8 @@ number_of pairs pair = position_or_len (is_same pair) pairs
 
 -- these pairs, with the one that a line asks for
 abbrev pub joined_by : Asked → List Pair → List Pair
-joined_by nothing pairs = pairs
-joined_by (total parts t) pairs = pairs
 joined_by (under parts pair) pairs = with_pair pairs pair
+joined_by _ pairs = pairs
 
 unfoldable pub pairs_from : List Pair → List LineValue → List Pair
 pairs_from pairs [] = pairs

@@ -56,13 +56,12 @@ changed_said all n pairs (v ∷ values) said none =
 
 joined_said : (all : List LineValue) (a : Asked) (v : LineValue) (pairs : List Pair) → is_changed_said all (name_in all) a v ≡ true
     → All (AreMadeSaid all) pairs → All (AreMadeSaid all) (joined_by a pairs)
-joined_said all nothing v pairs h said = said
-joined_said all (total parts t) v pairs h said = said
 joined_said all (under parts pair) v pairs h said = by (list_any (is_same pair) pairs)
   where
     by : (b : Bool) → All (AreMadeSaid all) (cond b pairs (pairs ++ pair ∷ []))
     by true = said
     by false = All-push (AreMadeSaid all) pairs pair said (and_parts (are_rules_said all (name_in all pair) pair) _ h).0
+joined_said all _ v pairs h said = said
 
 pairs_said : (all : List LineValue) (n : ℕ) (values : List LineValue) (pairs : List Pair) → refused_from text_limit all n pairs values ≡ None
     → All (AreMadeSaid all) pairs → All (AreMadeSaid all) (pairs_from pairs values)

@@ -2,7 +2,7 @@
 use Rattle.std.proofs.Common.{◌≡◌, ℕ, ◌<◌, ◌^◌, ℤ, Bool, true, false, cond, List, [], ◌∷◌, ◌++◌, length, map, reverse, Ok, refl, sym, ap, ◌∙◌, append_assoc, append-nil}
 use Rattle.std.specs.Prelude.{bytes_eq}
 use Rattle.std.proofs.lemmas.List.{reverse-append}
-use Rattle.zone_values.specs.Values.{RuleValue, LineValue, space, zone, continuation, rule, link}
+use Rattle.zone_values.specs.Values.{RuleValue, LineValue, rule}
 use Rattle.zone_table.specs.Joined.{rules_of}
 use Rattle.zone_table.specs.Owned.{owned_rule}
 use Rattle.zone_plain_offsets.specs.Made.{rules_named, made_rule, made_info, name_in}
@@ -18,10 +18,7 @@ table_append [] ys name = sym (append-nil (rules_of ys name))
 table_append (rule r ∷ xs) ys name =
     ap (λ rs. rs ++ cond (bytes_eq r.name name) (owned_rule r ∷ []) []) (table_append xs ys name)
     ∙ append_assoc (rules_of ys name) (rules_of xs name) (cond (bytes_eq r.name name) (owned_rule r ∷ []) [])
-table_append (space ∷ xs) ys name = table_append xs ys name
-table_append (zone z info ∷ xs) ys name = table_append xs ys name
-table_append (continuation info ∷ xs) ys name = table_append xs ys name
-table_append (link x y ∷ xs) ys name = table_append xs ys name
+table_append (_ ∷ xs) ys name = table_append xs ys name
 
 -- a line before all others
 table_on : (v : LineValue) (values : List LineValue) (name : List ℕ)
@@ -38,10 +35,7 @@ table_has (rule r ∷ values) name = table_on (rule r) values name ∙ by_test (
         → cond b (owned_rule r ∷ []) [] ++ rules_of (reverse values) name ≡ map owned_rule (cond b (r ∷ rules_named values name) (rules_named values name))
     by_test true rest = ap (λ rs. owned_rule r ∷ rs) rest
     by_test false rest = rest
-table_has (space ∷ values) name = table_on space values name ∙ table_has values name
-table_has (zone z info ∷ values) name = table_on (zone z info) values name ∙ table_has values name
-table_has (continuation info ∷ values) name = table_on (continuation info) values name ∙ table_has values name
-table_has (link x y ∷ values) name = table_on (link x y) values name ∙ table_has values name
+table_has (v ∷ values) name = table_on v values name ∙ table_has values name
 
 made_owned : (name : List ℕ) (offset : ℤ) (rules : List RuleValue)
     → map owned_rule (map (made_rule name offset) rules) ≡ map (made_info offset) (map owned_rule rules)

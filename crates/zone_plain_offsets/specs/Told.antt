@@ -4,7 +4,7 @@ use Rattle.std.specs.FinMap.{FinMap, get, insert}
 use Rattle.owned.specs.Keyed.{text_cmp}
 use Rattle.owned.specs.Listed.{listed}
 use Rattle.zone_source.specs.Zones.{source_value}
-use Rattle.zone_values.specs.Values.{LineValue, space, zone, continuation, rule, link}
+use Rattle.zone_values.specs.Values.{LineValue, space, rule}
 use Rattle.zone_plain_offsets.specs.Pairs.{Pair, Asked, nothing, total, under, is_among, with_pair, joined_by, asked}
 use Rattle.zone_plain_base.specs.PlainTexts.{plain_text}
 use Rattle.zone_plain_base.specs.Said.{is_said}
@@ -18,10 +18,7 @@ value_in values place = slice_index_or values place space
 -- it is a rule of that name
 abbrev pub is_named : List ℕ → LineValue → Bool
 is_named name (rule r) = bytes_eq r.name name
-is_named name space = false
-is_named name (zone zone_name info) = false
-is_named name (continuation info) = false
-is_named name (link existing new) = false
+is_named name _ = false
 
 -- where the rules of that name stand, of lines that begin at a place
 unfoldable pub places_from : ℕ → List LineValue → List ℕ → List ℕ
@@ -35,10 +32,7 @@ IsGrouped values groups = (name : List ℕ) → get groups name ≡ listed (plac
 -- the map with the place of a line among those of its ruleset, if it is a rule
 abbrev pub with_place : FinMap text_cmp (List ℕ) → LineValue → ℕ → FinMap text_cmp (List ℕ)
 with_place groups (rule r) place = insert groups r.name (unwrap_or (get groups r.name) [] ++ place ∷ [])
-with_place groups space place = groups
-with_place groups (zone name info) place = groups
-with_place groups (continuation info) place = groups
-with_place groups (link existing new) place = groups
+with_place groups _ place = groups
 
 -- a line was added where it can be said
 pub record IsAdded (old new : List (List ℕ)) (v : LineValue) (said : Bool) : Type 0 where
@@ -53,18 +47,12 @@ pub record AreAdded (old new : List (List ℕ)) (values : List LineValue) (are_s
 -- what is made of a line, if it is a rule
 abbrev pub made_lines : List ℕ → ℤ → LineValue → List LineValue
 made_lines name offset (rule r) = rule (made_rule name offset r) ∷ []
-made_lines name offset space = []
-made_lines name offset (zone zone_name info) = []
-made_lines name offset (continuation info) = []
-made_lines name offset (link existing new) = []
+made_lines name offset _ = []
 
 -- it has its text and can be said
 abbrev pub is_made_said : List ℕ → ℤ → LineValue → Bool
 is_made_said name offset (rule r) = is_rule_said name offset r
-is_made_said name offset space = true
-is_made_said name offset (zone zone_name info) = true
-is_made_said name offset (continuation info) = true
-is_made_said name offset (link existing new) = true
+is_made_said name offset _ = true
 
 -- the ruleset that is made for a pair, the first time that a line asks for it
 abbrev pub new_rules : List LineValue → List ℕ → List Pair → Pair → List LineValue
@@ -77,9 +65,8 @@ are_new_said values mark pairs pair =
 
 -- the same of what a line asks for
 abbrev pub asked_rules : List LineValue → List ℕ → List Pair → Asked → List LineValue
-asked_rules values mark pairs nothing = []
-asked_rules values mark pairs (total parts t) = []
 asked_rules values mark pairs (under parts pair) = new_rules values mark pairs pair
+asked_rules values mark pairs _ = []
 
 abbrev pub is_asked_said : List LineValue → List ℕ → List Pair → Asked → LineValue → Bool
 is_asked_said values mark pairs nothing v = true

@@ -24,7 +24,7 @@ use crate::size::size_from;
 use owned::{Items, TextMap};
 use std::alloc::{AllocError, Global};
 use zone_line::{Line, LineParser, LineReader};
-use zone_plain_base::{PlainFault, lines_read, mark_of};
+use zone_plain_base::{PlainFault, keep_line, lines_read, mark_of};
 use zone_plain_lines::PlainCause;
 use zone_source::LineList;
 
@@ -140,18 +140,6 @@ fn name_pair<'t>(
     Ok((name, is_said))
 }
 
-/// Adds the line at a place as it stands.
-fn add_as_it_stands(lines: &LineList, place: usize, out: &mut LineList) -> Result<(), AllocError>
-    requires { place < length lines.now }
-    ensures { OnOk result (map source_value out.new ≡ map source_value out.old ++ value_at lines.now place ∷ []) }
-{
-    let Some(line) = lines.get(place) else {
-        unreachable!();
-    };
-    out.push(line)?;
-    Ok(())
-}
-
 /// Adds what becomes of the line at a place, and the ruleset that it asks for, if no line has asked for it yet. Answers whether each
 /// of these lines has its text and can be said.
 fn write_line<'t>(
@@ -174,7 +162,7 @@ fn write_line<'t>(
     let line = line_in(lines, place);
     match asked_of(&line) {
         Asked::Nothing => {
-            add_as_it_stands(texts, place, out)?;
+            keep_line(out, texts, place)?;
             Ok(true)
         }
         Asked::Total(parts, total) => {
@@ -199,7 +187,7 @@ fn add_all(lines: &LineList, out: &mut LineList) -> Result<(), AllocError>
     ensures { OnOk result (map source_value out.new ≡ map source_value out.old ++ map source_value lines.now) }
 {
     for place in 0..lines.len() {
-        add_as_it_stands(lines, place, out)?;
+        keep_line(out, lines, place)?;
     }
     Ok(())
 }

@@ -9,4 +9,4 @@ loop-place-preserved c =
     let inside : c.loop-place.place < length c.args.lines.now = omega (arith, c.loop-place-test.true, c.len-place-end.ensures) in
     ap (map line_value) c.in_ok-push.ensures.items
     ∙ one_read c.args.lines.now c.loop-place.read.items c.in_ok-line.line c.loop-place.place inside c.loop-place.invariant
-    (c.in_ok-line.ensures ∙ ap source_value c.bytes_at.ensures)
+    (c.in_ok-line.ensures ∙ ap source_value c.line_at.ensures)

@@ -1,6 +1,6 @@
 use Rattle.std.proofs.Common.{sym, ◌∙◌, ap, subst, Some}
 use Rattle.zone_plain_links.specs.Settled.{link_after}
-use Rattle.zone_plain_links.specs.Stands.{IsRefused}
+use Rattle.zone_plain_base.specs.Told.{IsRefused}
 use Rattle.zone_plain_links.proofs.LineLemmas.{none_before, same_before}
 use Rattle.zone_plain_links.proofs.line.link_place.Goals as goal
 

@@ -1,6 +1,7 @@
 use Rattle.std.proofs.Common.{sym, ◌∙◌, refl, subst}
 use Rattle.zone_values.specs.Values.{link}
-use Rattle.zone_plain_links.specs.Stands.{IsOutcome, IsRefused}
+use Rattle.zone_plain_links.specs.Stands.{IsOutcome}
+use Rattle.zone_plain_base.specs.Told.{IsRefused}
 use Rattle.zone_plain_links.proofs.LineLemmas.{space_stays, rule_stays, continuation_lacks, continuation_stays, plain_more, link_is}
 use Rattle.zone_plain_links.proofs.line.settle_line.Goals as goal
 

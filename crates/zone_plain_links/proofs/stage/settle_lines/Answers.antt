@@ -3,7 +3,8 @@ use Rattle.std.proofs.lemmas.List.{length-map}
 use Rattle.zone_source.specs.Zones.{source_value}
 use Rattle.zone_values.specs.Values.{space}
 use Rattle.zone_plain_links.specs.Settled.{settled, settled_line}
-use Rattle.zone_plain_links.specs.Stands.{IsDeclared, IsRefused, IsAt, IsOutcome}
+use Rattle.zone_plain_links.specs.Stands.{IsDeclared, IsAt, IsOutcome}
+use Rattle.zone_plain_base.specs.Told.{IsRefused}
 use Rattle.zone_plain_base.specs.LineFaults.{IsFaultOf}
 use Rattle.zone_plain_links.proofs.StageLemmas.{as_many, read_at, nothing_settled, refused_here, past_here, added_here, all_settled}
 use Rattle.zone_plain_links.proofs.stage.settle_lines.Goals as goal

@@ -11,7 +11,7 @@ pub loop-place-preserved : goal.loop-place-preserved
 loop-place-preserved c =
     let inside : c.loop-place.place < length (map source_value c.args.lines.now) =
     omega (arith, length_values c.args.lines.now, c.loop-place-test.true, c.len-place-end.ensures) in
-    rw c.in_ok-add_as_it_stands.ensures (one_copied _ _ _ _ inside c.loop-place.invariant)
+    rw c.in_ok-keep_line.ensures (one_copied _ _ _ _ inside c.loop-place.invariant)
 
 pub returns : goal.returns
 returns c =
