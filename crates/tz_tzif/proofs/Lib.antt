@@ -1,11 +1,6 @@
-mod CutLemmas
-mod FileLemmas
 mod GivenLemmas
-mod HeldLemmas
 mod InstantLemmas
 mod KindLemmas
-mod NextLemmas
 mod OffsetLemmas
-mod OwnerLemmas
 mod ReadLemmas
 mod WorkedKinds

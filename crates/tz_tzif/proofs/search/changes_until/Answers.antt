@@ -1,12 +1,77 @@
-use Rattle.std.proofs.Common.{◌≡◌, ◌≤◌, rules, of_calls, int_le, nat_eq, length, take, subst, arith}
+-- A search among changes whose times rise gives those that are at or before a second.
+use Rattle.std.proofs.Common.{◌≡◌, ℕ, zero, suc, ◌≤◌, ◌<◌, Bool, true, false, cond, List, [], ◌∷◌, length, map, take, get_or, ℤ, ◌≤ℤ◌, int_lt, int_le, nat_eq, refl, sym, ap, ◌∙◌, subst, arith, rules, of_calls}
 use Rattle.std.specs.List.{filter, list_all}
+use Rattle.std.proofs.lemmas.Bool.{and_parts}
+use Rattle.std.proofs.lemmas.Bool.Decides.{nat_tests}
+use Rattle.std.proofs.lemmas.Int.{ints}
+use Rattle.std.proofs.lemmas.Simd.{map-map}
+use Rattle.calendar.specs.ComparisonLaws.{le_itself}
+use Rattle.zone_tzif_core.specs.ZoneFiles.{change_with, changes_with, kinds_kept}
+use Rattle.zone_tzif_core.specs.Zones.{KindValue, go_up, rises}
 use Rattle.std.proofs.lemmas.Fn.{always_returns_same}
 use Rattle.std.proofs.lemmas.List.{length-map}
-use Rattle.zone_tzif_core.specs.ZoneFiles.{change_with, kinds_kept}
-use Rattle.zone_tzif_core.specs.Zones.{rises}
-use Rattle.tz_tzif.proofs.CutLemmas.{front, all_front, parted}
 use Rattle.tz_tzif.proofs.search.changes_until.Goals as goal
-use Rattle.std.proofs.Common.{true, sym}
+
+-- where the first i items pass a test and no others do, they are what passes
+front : {X Y : Type 0} (f : X → Y) (p : Y → Bool) (xs : List X) (i : ℕ) → i ≤ length xs
+    → ((j : ℕ) (d : X) → j < i → p (f (get_or xs j d)) ≡ true) → ((j : ℕ) (d : X) → i ≤ j → j < length xs → p (f (get_or xs j d)) ≡ false)
+    → take i (map f xs) ≡ filter p (map f xs)
+front f p [] zero l before after = refl
+front f p [] (suc i) l before after = absurd (omega (arith, l))
+front f p (x ∷ xs) zero l before after =
+    let rest = filter p (map f xs) in
+    front f p xs zero (omega arith) (λ j d m. absurd (omega (arith, m))) (λ j d m n. after (suc j) d (omega arith) (omega (arith, n)))
+    ∙ sym (ap (λ b. cond b (f x ∷ rest) rest) (after 0 x (omega arith) (omega arith)))
+front f p (x ∷ xs) (suc i) l before after =
+    let rest = filter p (map f xs) in
+    ap (λ ys. f x ∷ ys) (front f p xs i (omega (arith, l)) (λ j d m. before (suc j) d (omega (arith, m)))
+    (λ j d m n. after (suc j) d (omega (arith, m)) (omega (arith, n))))
+    ∙ sym (ap (λ b. cond b (f x ∷ rest) rest) (before 0 x (omega arith)))
+
+-- all pass exactly where there are i of them
+all_front : {X Y : Type 0} (f : X → Y) (p : Y → Bool) (xs : List X) (i : ℕ) → i ≤ length xs
+    → ((j : ℕ) (d : X) → j < i → p (f (get_or xs j d)) ≡ true) → ((j : ℕ) (d : X) → i ≤ j → j < length xs → p (f (get_or xs j d)) ≡ false)
+    → list_all p (map f xs) ≡ nat_eq i (length xs)
+all_front f p [] zero l before after = refl
+all_front f p [] (suc i) l before after = absurd (omega (arith, l))
+all_front f p (x ∷ xs) zero l before after =
+    let fails = after 0 x (omega arith) (omega arith) in
+    let some : nat_eq 0 (length (x ∷ xs)) ≡ false = grind (arith, nat_tests) in
+    rw (fails, some) refl
+all_front f p (x ∷ xs) (suc i) l before after =
+    let passes = before 0 x (omega arith) in
+    let more = all_front f p xs i (omega (arith, l)) (λ j d m. before (suc j) d (omega (arith, m)))
+    (λ j d m n. after (suc j) d (omega (arith, m)) (omega (arith, n))) in
+    let same : nat_eq (suc i) (length (x ∷ xs)) ≡ nat_eq i (length xs) = grind (arith, nat_tests) in
+    rw (passes, same) more
+
+lt_le : (a b c : ℤ) → int_lt a b ≡ true → b ≤ℤ c → a ≤ℤ c
+lt_le a b c h k = grind (arith, ints)
+
+later : {X : Type 0} (f : X → ℤ) (xs : List X) → go_up (map f xs) ≡ true → (i j : ℕ) (d : X) → i ≤ j → j < length xs
+    → f (get_or xs i d) ≤ℤ f (get_or xs j d)
+later f [] h i j d l m = absurd (omega (arith, m))
+later f (x ∷ xs) h zero zero d l m = le_itself (f x)
+later f (x ∷ []) h zero (suc j) d l m = absurd (omega (arith, m))
+later f (x ∷ y ∷ xs) h zero (suc j) d l m =
+    let both = and_parts (int_lt (f x) (f y)) _ h in
+    lt_le (f x) (f y) _ both.0 (later f (y ∷ xs) both.1 zero j d (omega arith) (omega (arith, m)))
+later f (x ∷ xs) h (suc i) zero d l m = absurd (omega (arith, l))
+later f (x ∷ []) h (suc i) (suc j) d l m = absurd (omega (arith, m))
+later f (x ∷ y ∷ xs) h (suc i) (suc j) d l m =
+    let both = and_parts (int_lt (f x) (f y)) _ h in
+    later f (y ∷ xs) both.1 i j d (omega (arith, l)) (omega (arith, m))
+
+before_too : (a b s : ℤ) → a ≤ℤ b → int_le b s ≡ true → int_le a s ≡ true
+before_too a b s h k = grind (arith, ints)
+
+-- what the search asks for
+parted : (kinds : List KindValue) (changes : List (ℤ × ℕ)) (s : ℤ) → rises (changes_with kinds changes) ≡ true → (i j : ℕ) (d : ℤ × ℕ) → i ≤ j
+    → j < length changes → int_le (get_or changes j d).0 s ≡ true → int_le (get_or changes i d).0 s ≡ true
+parted kinds changes s h i j d l m passes =
+    let up : go_up (map (λ (c : ℤ × ℕ). c.0) changes) ≡ true =
+    subst (λ ts. go_up ts ≡ true) (map-map (λ (shift : ℤ × KindValue). shift.0) (change_with kinds) changes) h in
+    before_too _ _ s (later (λ (c : ℤ × ℕ). c.0) changes up i j d l m) passes
 
 pub returns-clause-within : goal.returns-clause-within
 returns-clause-within c =
