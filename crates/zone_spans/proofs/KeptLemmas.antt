@@ -1,4 +1,4 @@
--- Firings that no end cuts are those of a line up to its end, and marks stand for them.
+-- Firings that no end cuts are those of a line up to its end, and summaries stand for them.
 use Rattle.std.proofs.Common.{◌≡◌, ℕ, zero, suc, ◌+◌, ◌<◌, ◌≤◌, ◌≤ℤ◌, inl, inr, Bool, true, false, ◌&&◌, cond, if◌then◌else◌, List, [], ◌∷◌, ◌++◌, length, take, filter, Option, Some, None, ℤ, pos, int_le, int_lt, get_or, IsTrue, refl, sym, ap, ◌∙◌, subst, arith}
 use Rattle.std.proofs.Math.Nat.{eq-or-lt_of_le}
 use Rattle.std.proofs.Math.Seq.{get_or-append_seam}
@@ -18,12 +18,12 @@ use Rattle.zone_table.specs.declared.rule.RuleInfo.{RuleInfo}
 use Rattle.zone_spans.specs.Bounds.{IsSound, is_bounded_firing}
 use Rattle.zone_spans.specs.Fires.{Fires, after}
 use Rattle.zone_spans.specs.Firings.{Fired, Firing, earliest, fired, firings_of_years, is_earlier, is_over, year_firings}
-use Rattle.zone_spans.specs.Kept.{AreBelow, AreMarks, IsLastMark, IsLimit, IsMark, marked, unended}
+use Rattle.zone_spans.specs.Kept.{AreBelow, AreSummaries, IsLastSummary, IsLimit, IsSummary, summed, unended}
 use Rattle.zone_spans.specs.Lines.{Line}
 use Rattle.zone_spans.specs.Quiet.{AppliesToNone}
 use Rattle.zone_spans.specs.Stands.{StandsFor}
 use Rattle.zone_spans.specs.Windows.{line_end}
-use Rattle.zone_spans.specs.declared.kept.Mark.{Mark}
+use Rattle.zone_spans.specs.declared.kept.Summary.{Summary}
 use Rattle.zone_spans.proofs.BoundLemmas.{both, first, second}
 use Rattle.zone_spans.proofs.ListingLemmas.{last_stands, stands_same}
 use Rattle.zone_spans.proofs.Picks.{all_filter}
@@ -117,8 +117,8 @@ unended_below offset end limit rules (suc n) ends all below =
     ∙ ap (λ (l : Fired). (before.0 ++ l.0, l.1)) here
 
 -- an end under the greatest saving is the first
-first_end : (mark : TimeType) (local offset saving : ℤ) → IsTrue (are_small_seconds saving)
-    → instant_of mark local offset (pos 1000000) ≤ℤ instant_of mark local offset saving
+first_end : (summary : TimeType) (local offset saving : ℤ) → IsTrue (are_small_seconds saving)
+    → instant_of summary local offset (pos 1000000) ≤ℤ instant_of summary local offset saving
 unfolding instant_of
 first_end UTC local offset saving small = omega (arith, ints)
 first_end Standard local offset saving small = omega (arith, ints)
@@ -163,79 +163,79 @@ latest_more fired i f early later l is before here le =
     ∙ both (list_all test (take i fired)) _ (most_of early later le (take i fired) before) (subst (λ g. IsTrue (test g)) is here)
 
 -- nothing fires in the first years
-pub nothing_fires : (offset : ℤ) (end : Option ChangeTime) (rules : List RuleInfo) (quiet : ℕ) (marks : List Mark)
-    → AppliesToNone rules quiet → length marks ≡ 0 → firings_of_years offset end rules (quiet + length marks) ≡ ([], pos 0)
-nothing_fires offset end rules quiet marks quiet_ones none =
-    let years : quiet + length marks ≡ quiet = omega (arith, none) in
+pub nothing_fires : (offset : ℤ) (end : Option ChangeTime) (rules : List RuleInfo) (quiet : ℕ) (summaries : List Summary)
+    → AppliesToNone rules quiet → length summaries ≡ 0 → firings_of_years offset end rules (quiet + length summaries) ≡ ([], pos 0)
+nothing_fires offset end rules quiet summaries quiet_ones none =
+    let years : quiet + length summaries ≡ quiet = omega (arith, none) in
     ap (firings_of_years offset end rules) years ∙ quiet_years offset end rules quiet quiet_ones
 
--- the last mark is that of all years that have one
-pub last_is : (offset : ℤ) (rules : List RuleInfo) (quiet : ℕ) (marks : List Mark) (mark : Mark) → AreMarks offset rules quiet marks
-    → IsLastMark marks mark → IsMark (marked offset rules quiet marks) mark
-last_is offset rules quiet marks mark are last = at (length marks) refl
+-- the last summary is that of all years that have one
+pub last_is : (offset : ℤ) (rules : List RuleInfo) (quiet : ℕ) (summaries : List Summary) (summary : Summary) → AreSummaries offset rules quiet summaries
+    → IsLastSummary summaries summary → IsSummary (summed offset rules quiet summaries) summary
+last_is offset rules quiet summaries summary are last = at (length summaries) refl
   where
-    at : (n : ℕ) → length marks ≡ n → IsMark (marked offset rules quiet marks) mark
+    at : (n : ℕ) → length summaries ≡ n → IsSummary (summed offset rules quiet summaries) summary
     at zero none =
-        let is : marked offset rules quiet marks ≡ ([], pos 0) = nothing_fires offset None rules quiet marks are.none none in
+        let is : summed offset rules quiet summaries ≡ ([], pos 0) = nothing_fires offset None rules quiet summaries are.none none in
         let no_last = (last.none none).1 in
         record {
           saving = (last.none none).0 ∙ sym (ap (λ (l : Fired). l.1) is);
-          latest = ap (λ (l : Fired). list_all (λ f. int_le f.time mark.latest) l.0) is;
+          latest = ap (λ (l : Fired). list_all (λ f. int_le f.time summary.latest) l.0) is;
           last = no_last ∙ sym (ap (λ (l : Fired). last_or None l.0) is);
           bounded = ap (λ (o : Option Firing). list_all is_bounded_firing (option_to_list o)) no_last;
         }
     at (suc j) some =
-        let here : IsMark (unended offset rules (quiet + suc j)) (get_or marks j mark) = are.each j mark (omega (arith, some)) in
-        let years : quiet + suc j ≡ quiet + length marks = omega (arith, some) in
-        subst (λ m. IsMark (marked offset rules quiet marks) m) (sym (last.some j some))
-        (subst (λ n. IsMark (unended offset rules n) (get_or marks j mark)) years here)
+        let here : IsSummary (unended offset rules (quiet + suc j)) (get_or summaries j summary) = are.each j summary (omega (arith, some)) in
+        let years : quiet + suc j ≡ quiet + length summaries = omega (arith, some) in
+        subst (λ m. IsSummary (summed offset rules quiet summaries) m) (sym (last.some j some))
+        (subst (λ n. IsSummary (unended offset rules n) (get_or summaries j summary)) years here)
 
--- and its firings are before the limit, where each mark is
-last_below : (limit offset : ℤ) (rules : List RuleInfo) (quiet : ℕ) (marks : List Mark) (mark : Mark) → AreMarks offset rules quiet marks
-    → AreBelow limit (length marks) marks → IsTrue (list_all (λ f. int_lt f.time limit) (marked offset rules quiet marks).0)
-last_below limit offset rules quiet marks mark are below = at (length marks) refl
+-- and its firings are before the limit, where each summary is
+last_below : (limit offset : ℤ) (rules : List RuleInfo) (quiet : ℕ) (summaries : List Summary) (summary : Summary) → AreSummaries offset rules quiet summaries
+    → AreBelow limit (length summaries) summaries → IsTrue (list_all (λ f. int_lt f.time limit) (summed offset rules quiet summaries).0)
+last_below limit offset rules quiet summaries summary are below = at (length summaries) refl
   where
-    at : (n : ℕ) → length marks ≡ n → IsTrue (list_all (λ f. int_lt f.time limit) (marked offset rules quiet marks).0)
+    at : (n : ℕ) → length summaries ≡ n → IsTrue (list_all (λ f. int_lt f.time limit) (summed offset rules quiet summaries).0)
     at zero none =
-        ap (λ (l : Fired). list_all (λ f. int_lt f.time limit) l.0) (nothing_fires offset None rules quiet marks are.none none)
+        ap (λ (l : Fired). list_all (λ f. int_lt f.time limit) l.0) (nothing_fires offset None rules quiet summaries are.none none)
     at (suc j) some =
-        let here : IsMark (unended offset rules (quiet + suc j)) (get_or marks j mark) = are.each j mark (omega (arith, some)) in
-        let years : quiet + suc j ≡ quiet + length marks = omega (arith, some) in
+        let here : IsSummary (unended offset rules (quiet + suc j)) (get_or summaries j summary) = are.each j summary (omega (arith, some)) in
+        let years : quiet + suc j ≡ quiet + length summaries = omega (arith, some) in
         subst (λ n. IsTrue (list_all (λ f. int_lt f.time limit) (unended offset rules n).0)) years
-        (below_of (get_or marks j mark).latest limit (below j mark (omega (arith, some))) (unended offset rules (quiet + suc j)).0 here.latest)
+        (below_of (get_or summaries j summary).latest limit (below j summary (omega (arith, some))) (unended offset rules (quiet + suc j)).0 here.latest)
 
-fewer_marks : (offset : ℤ) (rules : List RuleInfo) (quiet : ℕ) (marks : List Mark) (count : ℕ) → count ≤ length marks
-    → AreMarks offset rules quiet marks → AreMarks offset rules quiet (take count marks)
-fewer_marks offset rules quiet marks count le are =
-    let len : length (take count marks) ≡ count = length-take-le count marks le in
+fewer_summaries : (offset : ℤ) (rules : List RuleInfo) (quiet : ℕ) (summaries : List Summary) (count : ℕ) → count ≤ length summaries
+    → AreSummaries offset rules quiet summaries → AreSummaries offset rules quiet (take count summaries)
+fewer_summaries offset rules quiet summaries count le are =
+    let len : length (take count summaries) ≡ count = length-take-le count summaries le in
     record {
       none = are.none;
       most = omega (arith, are.most, le, len);
-      each = λ i d l. subst (λ m. IsMark (unended offset rules (quiet + suc i)) m)
-          (sym (get_or-take count marks i d (omega (arith, l, len)))) (are.each i d (omega (arith, l, len, le)));
+      each = λ i d l. subst (λ m. IsSummary (unended offset rules (quiet + suc i)) m)
+          (sym (get_or-take count summaries i d (omega (arith, l, len)))) (are.each i d (omega (arith, l, len, le)));
     }
 
--- the mark of one year more
-one_mark_more : (offset : ℤ) (rules : List RuleInfo) (quiet : ℕ) (marks : List Mark) (mark : Mark) → quiet + length marks < years_limit
-    → AreMarks offset rules quiet marks → IsMark (unended offset rules (quiet + length marks + 1)) mark
-    → AreMarks offset rules quiet (marks ++ mark ∷ [])
-one_mark_more offset rules quiet marks mark most are here =
-    let len : length (marks ++ mark ∷ []) ≡ length marks + 1 = length-append marks (mark ∷ []) in
+-- the summary of one year more
+one_summary_more : (offset : ℤ) (rules : List RuleInfo) (quiet : ℕ) (summaries : List Summary) (summary : Summary) → quiet + length summaries < years_limit
+    → AreSummaries offset rules quiet summaries → IsSummary (unended offset rules (quiet + length summaries + 1)) summary
+    → AreSummaries offset rules quiet (summaries ++ summary ∷ [])
+one_summary_more offset rules quiet summaries summary most are here =
+    let len : length (summaries ++ summary ∷ []) ≡ length summaries + 1 = length-append summaries (summary ∷ []) in
     record {
       none = are.none;
       most = omega (arith, most, len);
       each = λ i d l. at i d (omega (arith, l, len));
     }
   where
-    at : (i : ℕ) (d : Mark) → i < suc (length marks) → IsMark (unended offset rules (quiet + suc i)) (get_or (marks ++ mark ∷ []) i d)
+    at : (i : ℕ) (d : Summary) → i < suc (length summaries) → IsSummary (unended offset rules (quiet + suc i)) (get_or (summaries ++ summary ∷ []) i d)
     at i d l =
-        elim (eq-or-lt_of_le {n = i} {m = length marks} (omega (arith, l))) [
+        elim (eq-or-lt_of_le {n = i} {m = length summaries} (omega (arith, l))) [
           | inl same ↦
-              let years : quiet + length marks + 1 ≡ quiet + suc i = omega (arith, same) in
-              let put : get_or (marks ++ mark ∷ []) i d ≡ mark = ap (λ n. get_or (marks ++ mark ∷ []) n d) same ∙ get_or-append_seam marks mark [] d in
-              subst (λ m. IsMark (unended offset rules (quiet + suc i)) m) (sym put)
-              (subst (λ n. IsMark (unended offset rules n) mark) years here)
-          | inr less ↦ subst (λ m. IsMark (unended offset rules (quiet + suc i)) m) (sym (get_or_append_left marks (mark ∷ []) d i less))
+              let years : quiet + length summaries + 1 ≡ quiet + suc i = omega (arith, same) in
+              let put : get_or (summaries ++ summary ∷ []) i d ≡ summary = ap (λ n. get_or (summaries ++ summary ∷ []) n d) same ∙ get_or-append_seam summaries summary [] d in
+              subst (λ m. IsSummary (unended offset rules (quiet + suc i)) m) (sym put)
+              (subst (λ n. IsSummary (unended offset rules n) summary) years here)
+          | inr less ↦ subst (λ m. IsSummary (unended offset rules (quiet + suc i)) m) (sym (get_or_append_left summaries (summary ∷ []) d i less))
               (are.each i d less)
         ]
 
@@ -250,30 +250,30 @@ last_passes p o [] h all = h
 last_passes p o (x ∷ xs) h all = last_passes p (Some x) xs (both (p x) _ (first (p x) _ all) refl) (second (p x) _ all)
 
 -- one year more
-pub year_marked : (offset : ℤ) (rules : List RuleInfo) (quiet : ℕ) (fired : List Firing) (marks : List Mark) (mark : Mark)
-    (year saving latest : ℤ) (last : Option Firing) → quiet + length marks < years_limit → year ≡ pos (earliest_year + (quiet + length marks))
-    → IsLastMark marks mark → AreMarks offset rules quiet marks
-    → Fires fired saving (after [] (year_firings year offset None mark.saving rules))
-    → IsTrue (list_all (λ f. int_le f.time latest) fired) → mark.latest ≤ℤ latest → last ≡ last_or mark.last fired
+pub year_summed : (offset : ℤ) (rules : List RuleInfo) (quiet : ℕ) (fired : List Firing) (summaries : List Summary) (summary : Summary)
+    (year saving latest : ℤ) (last : Option Firing) → quiet + length summaries < years_limit → year ≡ pos (earliest_year + (quiet + length summaries))
+    → IsLastSummary summaries summary → AreSummaries offset rules quiet summaries
+    → Fires fired saving (after [] (year_firings year offset None summary.saving rules))
+    → IsTrue (list_all (λ f. int_le f.time latest) fired) → summary.latest ≤ℤ latest → last ≡ last_or summary.last fired
     → IsTrue (list_all is_bounded_firing fired)
-    → AreMarks offset rules quiet (marks ++ record { saving = saving; latest = latest; last = last } ∷ [])
-year_marked offset rules quiet fired marks mark year saving latest last most year_is is_last are fires here later last_here bounded =
-    let n = quiet + length marks in
+    → AreSummaries offset rules quiet (summaries ++ record { saving = saving; latest = latest; last = last } ∷ [])
+year_summed offset rules quiet fired summaries summary year saving latest last most year_is is_last are fires here later last_here bounded =
+    let n = quiet + length summaries in
     let so_far = (unended offset rules n).0 in
-    let before = last_is offset rules quiet marks mark are is_last in
+    let before = last_is offset rules quiet summaries summary are is_last in
     let test : Firing → Bool = λ f. int_le f.time latest in
     let due : Fires (so_far ++ fired) saving (unended offset rules (n + 1)) =
-    fires_more offset None rules n so_far (so_far ++ fired) year mark.saving saving year_is
+    fires_more offset None rules n so_far (so_far ++ fired) year summary.saving saving year_is
     (record { firings = refl; saving = before.saving })
     (record { firings = ap (λ xs. so_far ++ xs) fires.firings; saving = fires.saving }) in
-    one_mark_more offset rules quiet marks _ most are (record {
+    one_summary_more offset rules quiet summaries _ most are (record {
       saving = due.saving;
       latest = ap (list_all test) (sym due.firings) ∙ list_all-append test so_far fired
-          ∙ both (list_all test so_far) _ (most_of mark.latest latest later so_far before.latest) here;
+          ∙ both (list_all test so_far) _ (most_of summary.latest latest later so_far before.latest) here;
       last = last_here ∙ ap (λ (o : Option Firing). last_or o fired) before.last ∙ sym (last_after None so_far fired)
           ∙ ap (last_or None) due.firings;
       bounded = subst (λ (o : Option Firing). IsTrue (list_all is_bounded_firing (option_to_list o))) (sym last_here)
-          (last_passes is_bounded_firing mark.last fired before.bounded bounded);
+          (last_passes is_bounded_firing summary.last fired before.bounded bounded);
     })
 
 -- one firing more
@@ -296,42 +296,42 @@ all_sooner sooner start le (f ∷ fs) all =
     both (int_lt f.time start) _ (sooner_below f.time sooner start (first (int_lt f.time sooner) _ all) le)
     (all_sooner sooner start le fs (second (int_lt f.time sooner) _ all))
 
--- what a mark has of the first n years of a line with that start
-pub record Serves (start offset : ℤ) (end : Option ChangeTime) (rules : List RuleInfo) (n : ℕ) (mark : Mark) : Type 0 where
-  pub stands : StandsFor (Some start) (option_to_list mark.last) (firings_of_years offset end rules n).0
-  pub saving : mark.saving ≡ (firings_of_years offset end rules n).1
-  pub small : IsTrue (are_small_seconds mark.saving)
-  pub bounded : IsTrue (list_all is_bounded_firing (option_to_list mark.last))
+-- what a summary has of the first n years of a line with that start
+pub record Serves (start offset : ℤ) (end : Option ChangeTime) (rules : List RuleInfo) (n : ℕ) (summary : Summary) : Type 0 where
+  pub stands : StandsFor (Some start) (option_to_list summary.last) (firings_of_years offset end rules n).0
+  pub saving : summary.saving ≡ (firings_of_years offset end rules n).1
+  pub small : IsTrue (are_small_seconds summary.saving)
+  pub bounded : IsTrue (list_all is_bounded_firing (option_to_list summary.last))
 
--- the last of marks that are before the start and the limit serves a line with that start
-pub mark_serves : (second start offset : ℤ) (end : Option ChangeTime) (rules : List RuleInfo) (quiet : ℕ) (marks : List Mark) (count : ℕ)
-    (mark : Mark) → IsLimit end offset second → second ≤ℤ start → AllByRecursion HasSmallSaving rules → AreMarks offset rules quiet marks
-    → count ≤ length marks → AreBelow second count marks → IsLastMark (take count marks) mark
-    → Serves start offset end rules (quiet + count) mark
-mark_serves second start offset end rules quiet marks count mark ends sooner small are le below last =
-    let len : length (take count marks) ≡ count = length-take-le count marks le in
-    let ones = take count marks in
-    let fewer = fewer_marks offset rules quiet marks count le are in
-    let here = last_is offset rules quiet ones mark fewer last in
-    let all = last_below second offset rules quiet ones mark fewer
-    (λ i d l. subst (λ (m : Mark). IsTrue (int_lt m.latest second)) (sym (get_or-take count marks i d (omega (arith, l, len))))
+-- the last of summaries that are before the start and the limit serves a line with that start
+pub summary_serves : (second start offset : ℤ) (end : Option ChangeTime) (rules : List RuleInfo) (quiet : ℕ) (summaries : List Summary) (count : ℕ)
+    (summary : Summary) → IsLimit end offset second → second ≤ℤ start → AllByRecursion HasSmallSaving rules → AreSummaries offset rules quiet summaries
+    → count ≤ length summaries → AreBelow second count summaries → IsLastSummary (take count summaries) summary
+    → Serves start offset end rules (quiet + count) summary
+summary_serves second start offset end rules quiet summaries count summary ends sooner small are le below last =
+    let len : length (take count summaries) ≡ count = length-take-le count summaries le in
+    let ones = take count summaries in
+    let fewer = fewer_summaries offset rules quiet summaries count le are in
+    let here = last_is offset rules quiet ones summary fewer last in
+    let all = last_below second offset rules quiet ones summary fewer
+    (λ i d l. subst (λ (m : Summary). IsTrue (int_lt m.latest second)) (sym (get_or-take count summaries i d (omega (arith, l, len))))
     (below i d (omega (arith, l, len)))) in
     let n = quiet + length ones in
     let same : unended offset rules n ≡ firings_of_years offset end rules n = sym (unended_below offset end second rules n ends small all) in
     let due = (unended offset rules n).0 in
-    let stands : StandsFor (Some start) (option_to_list mark.last) due =
+    let stands : StandsFor (Some start) (option_to_list summary.last) due =
     subst (λ (o : Option Firing). StandsFor (Some start) (option_to_list o) due) (sym here.last)
     (last_stands start None due refl (all_sooner second start sooner due all)) in
-    subst (λ k. Serves start offset end rules (quiet + k) mark) len (record {
-      stands = subst (λ (l : Fired). StandsFor (Some start) (option_to_list mark.last) l.0) same stands;
+    subst (λ k. Serves start offset end rules (quiet + k) summary) len (record {
+      stands = subst (λ (l : Fired). StandsFor (Some start) (option_to_list summary.last) l.0) same stands;
       saving = here.saving ∙ ap (λ (l : Fired). l.1) same;
       small = subst (λ s. IsTrue (are_small_seconds s)) (sym here.saving) (unended_small offset rules n small);
       bounded = here.bounded;
     })
 
--- nothing is marked
+-- nothing is summed
 pub begun_quiet : (offset : ℤ) (rules : List RuleInfo) (quiet : ℕ) → AppliesToNone rules quiet → quiet ≤ years_limit
-    → AreMarks offset rules quiet []
+    → AreSummaries offset rules quiet []
 begun_quiet offset rules quiet none le = record {
   none = none;
   most = omega (arith, le);

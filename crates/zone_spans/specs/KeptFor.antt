@@ -1,12 +1,12 @@
 -- What is kept for lines of a ruleset under an offset.
 use Rattle.std.specs.Prelude.{◌≡◌, ℕ, ◌≤◌}
-use Rattle.zone_spans.specs.Kept.{AreMarks}
+use Rattle.zone_spans.specs.Kept.{AreSummaries}
 use Rattle.zone_spans.specs.Lines.{Line}
 use Rattle.zone_spans.specs.declared.kept.Kept.{Kept}
 
--- its marks are those of its rules under its offset
+-- its summaries are those of its rules under its offset
 abbrev pub IsKept : Kept → Type 0
-IsKept kept = AreMarks kept.offset kept.rules.now kept.quiet kept.marks.items
+IsKept kept = AreSummaries kept.offset kept.rules.now kept.quiet kept.summaries.items
 
 -- the line, which expands so many years, has its rules and its offset
 pub record IsFor (line : Line) (years : ℕ) (kept : Kept) : Type 0 where

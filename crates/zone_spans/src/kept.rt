@@ -1,12 +1,12 @@
 //! What the first years of a ruleset fire under an offset, cut by no end: it is the same for each line of them. Of the firings
-//! before a line's start only the last one matters, so a mark of each year takes their place.
+//! before a line's start only the last one matters, so a summary of each year takes their place.
 ghost use Rattle.std.specs.Prelude.{◌≡◌, ◌+◌, ◌<◌, ◌≤◌, ◌≤ℤ◌, Option, None, ℤ, true, IfOk, IsTrue, Some, length, int_le, pos};
 ghost use Rattle.std.specs.List.{last_or, list_all};
 ghost use Rattle.std.specs.Option.{option_to_list};
 ghost use Rattle.zone_values.specs.Bounds.{are_small_seconds};
 ghost use Rattle.zone_spans.specs.Bounds.{IsSound, IsSoundOver, is_bounded_firing, is_end};
 ghost use Rattle.zone_spans.specs.Firings.{Firing, firings_of_years, line_firings_over};
-ghost use Rattle.zone_spans.specs.Kept.{AreBelow, AreMarks, IsLastMark, IsLimit};
+ghost use Rattle.zone_spans.specs.Kept.{AreBelow, AreSummaries, IsLastSummary, IsLimit};
 ghost use Rattle.zone_spans.specs.KeptFor.{IsFor, IsKept};
 ghost use Rattle.zone_spans.specs.Lines.{is_ruled};
 ghost use Rattle.zone_spans.specs.Quiet.{AppliesToNone};
@@ -27,22 +27,22 @@ use zone_values::ChangeTime;
 /// What the years up to one fire, cut by no end: the saving after them, a second that none of their firings is after, and the
 /// last of their firings.
 #[derive(Drop)]
-pub(crate) struct Mark<'a> {
+pub(crate) struct Summary<'a> {
     saving: i64,
     latest: i64,
     last: Option<Firing<'a>>,
 }
 
-impl<'a> Mark<'a> {
-    /// The same mark.
-    fn copied(&self) -> Mark<'a>
+impl<'a> Summary<'a> {
+    /// The same summary.
+    fn copied(&self) -> Summary<'a>
         ensures { result ≡ self.now }
     {
         let last = match &self.last {
             Some(firing) => Some(firing.copied()),
             None => None,
         };
-        Mark {
+        Summary {
             saving: self.saving,
             latest: self.latest,
             last,
@@ -105,41 +105,41 @@ fn last_of<'a>(before: Option<Firing<'a>>, fired: &[Firing<'a>]) -> Option<Firin
     last
 }
 
-/// The last of the marks, or the mark of no firings where there is none.
-fn last_mark<'a>(marks: &[Mark<'a>]) -> Mark<'a>
-    ensures { IsLastMark marks.now result }
+/// The last of the summaries, or the summary of no firings where there is none.
+fn last_summary<'a>(summaries: &[Summary<'a>]) -> Summary<'a>
+    ensures { IsLastSummary summaries.now result }
 {
-    if marks.is_empty() {
-        Mark {
+    if summaries.is_empty() {
+        Summary {
             saving: 0,
             latest: i64::MIN,
             last: None,
         }
     } else {
-        marks[marks.len() - 1].copied()
+        summaries[summaries.len() - 1].copied()
     }
 }
 
-/// How many of the first marks have their firings before the second, so many at most.
-fn marks_below(marks: &[Mark<'_>], second: i64, most: usize) -> usize
-    ensures len { result ≤ length marks.now }
+/// How many of the first summaries have their firings before the second, so many at most.
+fn summaries_below(summaries: &[Summary<'_>], second: i64, most: usize) -> usize
+    ensures len { result ≤ length summaries.now }
     ensures most { result ≤ most }
-    ensures below { AreBelow second result marks.now }
+    ensures below { AreBelow second result summaries.now }
 {
-    let count = most.min(marks.len());
+    let count = most.min(summaries.len());
     for i in 0..count {
-        let mark = &marks[i];
-        if mark.latest >= second {
+        let summary = &summaries[i];
+        if summary.latest >= second {
             return i;
         }
     }
     count
 }
 
-/// Adds the mark of one year more.
+/// Adds the summary of one year more.
 fn keep_year<'a>(
     alloc: Global,
-    marks: &mut Vec<Mark<'a>>,
+    summaries: &mut Vec<Summary<'a>>,
     fired: &mut Vec<Firing<'a>>,
     left: &mut Vec<Applying<'a>>,
     line: &Line<'a>,
@@ -148,18 +148,18 @@ fn keep_year<'a>(
 ) -> Result<(), AllocError>
     requires line { IsSound (count + 1) line.now }
     requires most { count < years_limit }
-    requires count { count ≡ quiet + length marks.old.items }
-    requires marks { AreMarks line.now.info.offset line.now.rules quiet marks.old.items }
-    ensures marks { IfOk result (λ _. AreMarks line.now.info.offset line.now.rules quiet marks.new.items) }
-    ensures more { IfOk result (λ _. length marks.new.items ≡ length marks.old.items + 1) }
+    requires count { count ≡ quiet + length summaries.old.items }
+    requires summaries { AreSummaries line.now.info.offset line.now.rules quiet summaries.old.items }
+    ensures summaries { IfOk result (λ _. AreSummaries line.now.info.offset line.now.rules quiet summaries.new.items) }
+    ensures more { IfOk result (λ _. length summaries.new.items ≡ length summaries.old.items + 1) }
 {
-    let mark = last_mark(marks);
+    let summary = last_summary(summaries);
     let year = i64::from(EARLIEST_YEAR + count);
     fired.clear();
-    let saving = fire_year(alloc, fired, left, line, None, year, mark.saving)?;
-    let latest = latest_of(mark.latest, fired);
-    let last = last_of(mark.last, fired);
-    marks.push(Mark {
+    let saving = fire_year(alloc, fired, left, line, None, year, summary.saving)?;
+    let latest = latest_of(summary.latest, fired);
+    let last = last_of(summary.last, fired);
+    summaries.push(Summary {
         saving,
         latest,
         last,
@@ -167,10 +167,10 @@ fn keep_year<'a>(
     Ok(())
 }
 
-/// Adds marks of further years, up to so many years, or to one that has a firing at or after the second.
+/// Adds summaries of further years, up to so many years, or to one that has a firing at or after the second.
 fn keep_years<'a>(
     alloc: Global,
-    marks: &mut Vec<Mark<'a>>,
+    summaries: &mut Vec<Summary<'a>>,
     fired: &mut Vec<Firing<'a>>,
     left: &mut Vec<Applying<'a>>,
     line: &Line<'a>,
@@ -180,15 +180,15 @@ fn keep_years<'a>(
 ) -> Result<(), AllocError>
     requires line { IsSound years line.now }
     requires years { years ≤ years_limit }
-    requires marks { AreMarks line.now.info.offset line.now.rules quiet marks.old.items }
-    ensures { IfOk result (λ _. AreMarks line.now.info.offset line.now.rules quiet marks.new.items) }
+    requires summaries { AreSummaries line.now.info.offset line.now.rules quiet summaries.old.items }
+    ensures { IfOk result (λ _. AreSummaries line.now.info.offset line.now.rules quiet summaries.new.items) }
 {
-    let first = quiet + marks.as_slice().len() as u16;
+    let first = quiet + summaries.as_slice().len() as u16;
     for count in first..years {
-        if last_mark(marks).latest >= second {
+        if last_summary(summaries).latest >= second {
             break;
         }
-        keep_year(alloc, marks, fired, left, line, quiet, count)?;
+        keep_year(alloc, summaries, fired, left, line, quiet, count)?;
     }
     Ok(())
 }
@@ -261,11 +261,11 @@ fn fire_all<'a>(
 }
 
 /// Puts into `fired` what stands for the firings of a line with that start: the last of the first years, as far as these are
-/// marked and all before the start, and those of the years after them. Gives the saving after all.
-fn fire_from_marks<'a>(
+/// summed up and all before the start, and those of the years after them. Gives the saving after all.
+fn fire_from_summaries<'a>(
     alloc: Global,
     fired: &mut Vec<Firing<'a>>,
-    marks: &mut Vec<Mark<'a>>,
+    summaries: &mut Vec<Summary<'a>>,
     line: &Line<'a>,
     quiet: u16,
     years: u16,
@@ -274,8 +274,8 @@ fn fire_from_marks<'a>(
     requires line { IsSound years line.now }
     requires years { years ≤ years_limit }
     requires quiet { quiet ≤ years }
-    requires marks { AreMarks line.now.info.offset line.now.rules quiet marks.old.items }
-    ensures marks { IfOk result (λ _. AreMarks line.now.info.offset line.now.rules quiet marks.new.items) }
+    requires summaries { AreSummaries line.now.info.offset line.now.rules quiet summaries.old.items }
+    ensures summaries { IfOk result (λ _. AreSummaries line.now.info.offset line.now.rules quiet summaries.new.items) }
     ensures stands { IfOk result (λ _. StandsFor (Some start) fired.new.items
         (firings_of_years line.now.info.offset line.now.end line.now.rules years).0) }
     ensures saving { IfOk result (λ after. after
@@ -285,10 +285,12 @@ fn fire_from_marks<'a>(
 {
     let mut left = Vec::new(alloc);
     let second = sooner_of(start, limit_of(line.end, line.info.offset));
-    keep_years(alloc, marks, fired, &mut left, line, quiet, years, second)?;
-    let marks = marks.as_slice();
-    let count = marks_below(marks, second, usize::from(years - quiet));
-    let mark = last_mark(&marks[..count]);
+    keep_years(
+        alloc, summaries, fired, &mut left, line, quiet, years, second,
+    )?;
+    let summaries = summaries.as_slice();
+    let count = summaries_below(summaries, second, usize::from(years - quiet));
+    let summary = last_summary(&summaries[..count]);
     let first = quiet + count as u16;
     let after = fire_after(
         alloc,
@@ -297,8 +299,8 @@ fn fire_from_marks<'a>(
         line,
         first,
         years,
-        mark.last,
-        mark.saving,
+        summary.last,
+        summary.saving,
     )?;
     Ok(after)
 }
@@ -311,7 +313,7 @@ pub(crate) struct Kept<'a> {
     rules: &'a [RuleInfo],
     offset: i64,
     quiet: u16,
-    marks: Vec<Mark<'a>>,
+    summaries: Vec<Summary<'a>>,
 }
 
 impl<'a> Kept<'a> {
@@ -324,7 +326,7 @@ impl<'a> Kept<'a> {
             rules: &[],
             offset: 0,
             quiet: 0,
-            marks: Vec::new(alloc),
+            summaries: Vec::new(alloc),
         }
     }
 
@@ -339,7 +341,7 @@ impl<'a> Kept<'a> {
             rules: line.rules,
             offset: line.info.offset,
             quiet: years_before_all(line.rules, years),
-            marks: Vec::new(alloc),
+            summaries: Vec::new(alloc),
         }
     }
 
@@ -367,10 +369,10 @@ impl<'a> Kept<'a> {
     {
         match start {
             Some(start) => {
-                let after = fire_from_marks(
+                let after = fire_from_summaries(
                     alloc,
                     fired,
-                    &mut self.marks,
+                    &mut self.summaries,
                     line,
                     self.quiet,
                     years,

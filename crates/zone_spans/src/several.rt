@@ -7,7 +7,7 @@ use crate::line::Line;
 use std::alloc::{AllocError, Global};
 use std::mem;
 
-/// How many values are kept besides the one in use: over 300 years some 20 MB of marks at most. A line looks at the offset and the name
+/// How many values are kept besides the one in use: over 300 years some 20 MB of summaries at most. A line looks at the offset and the name
 /// of each of them, and at the rules only where these are its own.
 const MOST_OTHERS: usize = 1_023;
 

@@ -1,7 +1,7 @@
 use Rattle.std.proofs.Common.{List, subst, sym, arith, rules, w64, SFits}
 use Rattle.std.proofs.lemmas.Int.{to_z-of_z}
-use Rattle.zone_spans.specs.Kept.{AreMarks}
-use Rattle.zone_spans.specs.declared.kept.Mark.{Mark}
+use Rattle.zone_spans.specs.Kept.{AreSummaries}
+use Rattle.zone_spans.specs.declared.kept.Summary.{Summary}
 use Rattle.zone_spans.proofs.KeptLemmas.{begun_quiet}
 use Rattle.zone_spans.proofs.kept.Kept.begun.Goals as goal
 
@@ -12,6 +12,6 @@ returns-clause-kept c =
     let fits : SFits w64 offset = search rules in
     let quiet = c.years_before_all.result in
     let none = c.years_before_all.ensures.before in
-    subst (λ o. AreMarks o its quiet c.new.result.items) (sym (to_z-of_z w64 offset fits))
-    (subst (λ (ms : List Mark). AreMarks offset its quiet ms) (sym c.new.ensures.items)
+    subst (λ o. AreSummaries o its quiet c.new.result.items) (sym (to_z-of_z w64 offset fits))
+    (subst (λ (ms : List Summary). AreSummaries offset its quiet ms) (sym c.new.ensures.items)
     (begun_quiet offset its quiet none (omega (arith, c.years_before_all.ensures.most, c.requires))))
