@@ -2,7 +2,6 @@
 import glob
 import os
 import re
-import subprocess
 import tarfile
 
 import deb
@@ -198,8 +197,9 @@ def crate(release, folder):
     run("tar", "-xzf", release.archive, "-C", prefix, "--strip-components=1")
     run("tar", "-xzf", release.crate, "-C", folder)
     copy = os.path.join(folder, os.path.basename(release.crate).removesuffix(".crate"))
-    settings = {**os.environ, "PKG_CONFIG_PATH": f"{prefix}/lib/pkgconfig", "LD_LIBRARY_PATH": f"{prefix}/lib", "CARGO_TARGET_DIR": f"{folder}/target"}
+    library = f"{prefix}/lib"
+    settings = {**os.environ, "PKG_CONFIG_PATH": f"{library}/pkgconfig", "LD_LIBRARY_PATH": library, "CARGO_TARGET_DIR": f"{folder}/target"}
     settings.pop("SEFUNJARO_FOLDER", None)
-    done = subprocess.run(["cargo", "run", "-q", "--offline", "--example", "first", "--", os.path.join(ROOT, "crates", "zone_answers_real", "data", "tz.txt")],
-                          cwd=copy, env=settings, stdout=subprocess.PIPE, encoding="utf-8")
-    due("the caller in Rust", requests()[1].replace(" | ", "\n"), done.stdout)
+    source = os.path.join(ROOT, "crates", "zone_answers_real", "data", "tz.txt")
+    told = run("cargo", "run", "-q", "--offline", "--example", "first", "--", source, cwd=copy, env=settings)
+    due("the caller in Rust", requests()[1].replace(" | ", "\n"), told)
