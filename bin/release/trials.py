@@ -7,7 +7,7 @@ import tarfile
 import deb
 import markdown
 import tree
-from checkout import ROOT, Stop, run
+from checkout import ROOT, Stop, major, run
 from manual import MACHINE, all_examples
 from tree import File, plain
 
@@ -16,8 +16,9 @@ OLDER = "1.99.0-1"
 # What stands in each package of the older version alone.
 STALE = {"usr/share/doc/{name}/older": plain("older\n")}
 TESTS = "test_sefunjaro"
-PROGRAMS = ["sefunjaro", "libsefunjaro2", "python3-sefunjaro"]
-FOR_C = ["libsefunjaro2", "libsefunjaro-dev"]
+LIBRARY = f"libsefunjaro{major()}"
+PROGRAMS = ["sefunjaro", LIBRARY, "python3-sefunjaro"]
+FOR_C = [LIBRARY, "libsefunjaro-dev"]
 
 
 class Release:
