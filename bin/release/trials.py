@@ -192,7 +192,7 @@ def no_bytecode(listing):
 
 
 def crate(release, folder):
-    """The first caller in Rust over the crate, which finds the library by pkg-config."""
+    """The first caller in Rust over the crate, which finds the library by pkg-config; and the layouts of what it passes."""
     prefix = os.path.join(folder, "prefix")
     os.mkdir(prefix)
     run("tar", "-xzf", release.archive, "-C", prefix, "--strip-components=1")
@@ -204,3 +204,4 @@ def crate(release, folder):
     source = os.path.join(ROOT, "crates", "zone_answers_real", "data", "tz.txt")
     told = run("cargo", "run", "-q", "--offline", "--example", "first", "--", source, cwd=copy, env=settings)
     due("the caller in Rust", requests()[1].replace(" | ", "\n"), told)
+    run("cargo", "test", "-q", "--offline", "--lib", cwd=copy, env=settings)
