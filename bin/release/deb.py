@@ -14,6 +14,9 @@ from tree import link, plain, zipped
 MULTIARCH = "x86_64-linux-gnu"
 LIBRARY = f"usr/lib/{MULTIARCH}"
 REVISION = "1"
+EITHER = """\
+The licence is that of MIT, below, or Apache-2.0, as you choose; on Debian systems the latter stands in
+/usr/share/common-licenses/Apache-2.0."""
 ABOUT = f"""\
  Sefunjaro reads the source text of the tz database, works out when each zone
  changes its offset, and converts both ways between instants and local times,
@@ -36,7 +39,8 @@ class Package:
         size = sum(-(-len(file.data) // 1024) for file in self.files.values()) + len(tree.folders(self.files))
         fields = {
             "Package": self.name, "Source": "sefunjaro", "Version": release, "Architecture": "amd64", "Maintainer": maintainer(),
-            "Installed-Size": size, "Depends": self.depends, **self.more, "Section": self.section, "Priority": "optional", "Description": self.summary,
+            "Installed-Size": size, "Depends": self.depends, **self.more, "Section": self.section, "Priority": "optional",
+            "Description": self.summary,
         }
         if fields["Source"] == self.name:
             del fields["Source"]
@@ -64,8 +68,7 @@ def manual(files, section):
 
 def copyright_text():
     """What a package has to say of the licences."""
-    either = "The licence is that of MIT, below, or Apache-2.0, as you choose; on Debian systems the latter stands in\n/usr/share/common-licenses/Apache-2.0."
-    return f"{either}\n\n{read('LICENSE-MIT')}\n{read('NOTICES')}"
+    return f"{EITHER}\n\n{read('LICENSE-MIT')}\n{read('NOTICES')}"
 
 
 def changelog(release):
@@ -138,7 +141,7 @@ def packed(package, release):
     control.update({name: plain(text, 0o755 if text.startswith("#!") else 0o644) for name, text in package.beside.items()})
     with tempfile.TemporaryDirectory(prefix="package") as folder:
         root, made = os.path.join(folder, "root"), os.path.join(folder, "made.deb")
-        os.mkdir(root, 0o755)
+        os.mkdir(root)
         tree.put({**files, **{f"DEBIAN/{name}": file for name, file in control.items()}}, root, epoch())
         run("dpkg-deb", "--root-owner-group", "-Zxz", "--threads-max=1", "--build", root, made, env={**os.environ, "SOURCE_DATE_EPOCH": str(epoch())})
         return read_bytes(made)

@@ -65,7 +65,7 @@ def wants(library):
 
 def of_pages(library):
     """Pages for users, manual pages and completions."""
-    readme = read("bin", "release", "installed.in").format(version=version(), glibc=wants(library), name=name())
+    readme = read("bin", "release", "installed.in").format(version=version(), major=major(), glibc=wants(library), name=name())
     found = {f"{DOC}/README.md": plain(readme)}
     found.update({f"{DOC}/{os.path.basename(path)}": plain(read(path)) for path in DOCUMENTS})
     found.update({f"share/man/{path}": plain(text) for path, text in manual.pages().items()})

@@ -11,6 +11,8 @@ MACHINE = "/usr/share/zoneinfo/tzdata.zi"
 # What makes the file that most examples are over.
 SOURCE = markdown.Command(f"zone_plain {MACHINE} > zones.txt", [])
 OUTSIDE = ["tzfile(5)", "zdump(8)", "zic(8)"]
+ELSEWHERE = "What goes for all programs, and what each fault line means, stands in `sefunjaro(7)`."
+SHIPPED = "The source of the tz database, as most systems have it; `zone_plain(1)` writes it in plain form."
 BUILT_HERE = "9"
 # A word of a command that may be a file in the folder.
 READ = re.compile(r"(?:^|\s|\$PWD/)([\w.]+)(?=\s|$)")
@@ -119,7 +121,7 @@ def of_program(found, name):
     parts = [
         ("NAME", f"{name} \\- {section.summary()}\n"),
         ("SYNOPSIS", f"{synopsis}\n"),
-        ("DESCRIPTION", "".join(section.description) + roff.text("What goes for all programs, and what each fault line means, stands in `sefunjaro(7)`.")),
+        ("DESCRIPTION", "".join(section.description) + roff.text(ELSEWHERE)),
         ("OPTIONS", roff.items([*section.options, *COMMON])),
         ("EXIT STATUS", statuses()),
         ("EXAMPLES", roff.example(examples(found, name))),
@@ -139,7 +141,7 @@ def of_all():
         ("PROGRAMS", roff.items([(f"`{name}(1)`", section.does) for name, section in sorted(described.items())])),
         ("EXIT STATUS", statuses()),
         ("FAULT LINES", faults),
-        ("FILES", roff.items([(f"`{MACHINE}`", "The source of the tz database, as most systems have it; `zone_plain(1)` writes it in plain form.")])),
+        ("FILES", roff.items([(f"`{MACHINE}`", SHIPPED)])),
         ("SEE ALSO", see("", *pages_of_programs(), "sefunjaro(3)", *OUTSIDE)),
     ]
     return page("sefunjaro", 7, parts)

@@ -12,7 +12,7 @@ TOOLS = ["gcc", "libc6-dev", "pkg-config"]
 # Where the system keeps lists of its own, whatever is installed: their bytes change.
 KEPT = ("var/lib/dpkg/", "var/log/", "var/cache/", "etc/ld.so.cache", "proc/", "dev/", "tmp/")
 # How long a command may take.
-SECONDS = 300
+SECONDS = 900
 PLACES = "/opt/sefunjaro/bin:/usr/sbin:/usr/bin:/sbin:/bin"
 
 

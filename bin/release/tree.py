@@ -53,7 +53,9 @@ def packed(files, top, epoch):
 def put(files, folder, epoch):
     """Writes the files below a folder, each with the one time."""
     for path in folders(files):
-        os.makedirs(os.path.join(folder, path), mode=0o755, exist_ok=True)
+        os.mkdir(os.path.join(folder, path))
+    for path in [".", *folders(files)]:
+        os.chmod(os.path.join(folder, path), 0o755)
     for path, file in files.items():
         place = os.path.join(folder, path)
         if file.target is not None:

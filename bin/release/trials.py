@@ -2,13 +2,12 @@
 import glob
 import os
 import re
-import subprocess
 import tarfile
 
 import deb
 import markdown
 import tree
-from checkout import ROOT, Stop, run
+from checkout import ROOT, Stop, major, run
 from manual import MACHINE, all_examples
 from tree import File, plain
 
@@ -17,8 +16,9 @@ OLDER = "1.99.0-1"
 # What stands in each package of the older version alone.
 STALE = {"usr/share/doc/{name}/older": plain("older\n")}
 TESTS = "test_sefunjaro"
-PROGRAMS = ["sefunjaro", "libsefunjaro2", "python3-sefunjaro"]
-FOR_C = ["libsefunjaro2", "libsefunjaro-dev"]
+LIBRARY = f"libsefunjaro{major()}"
+PROGRAMS = ["sefunjaro", LIBRARY, "python3-sefunjaro"]
+FOR_C = [LIBRARY, "libsefunjaro-dev"]
 
 
 class Release:
@@ -192,14 +192,16 @@ def no_bytecode(listing):
 
 
 def crate(release, folder):
-    """The first caller in Rust over the crate, which finds the library by pkg-config."""
+    """The first caller in Rust over the crate, which finds the library by pkg-config; and the layouts of what it passes."""
     prefix = os.path.join(folder, "prefix")
     os.mkdir(prefix)
     run("tar", "-xzf", release.archive, "-C", prefix, "--strip-components=1")
     run("tar", "-xzf", release.crate, "-C", folder)
     copy = os.path.join(folder, os.path.basename(release.crate).removesuffix(".crate"))
-    settings = {**os.environ, "PKG_CONFIG_PATH": f"{prefix}/lib/pkgconfig", "LD_LIBRARY_PATH": f"{prefix}/lib", "CARGO_TARGET_DIR": f"{folder}/target"}
+    library = f"{prefix}/lib"
+    settings = {**os.environ, "PKG_CONFIG_PATH": f"{library}/pkgconfig", "LD_LIBRARY_PATH": library, "CARGO_TARGET_DIR": f"{folder}/target"}
     settings.pop("SEFUNJARO_FOLDER", None)
-    done = subprocess.run(["cargo", "run", "-q", "--offline", "--example", "first", "--", os.path.join(ROOT, "crates", "zone_answers_real", "data", "tz.txt")],
-                          cwd=copy, env=settings, stdout=subprocess.PIPE, encoding="utf-8")
-    due("the caller in Rust", requests()[1].replace(" | ", "\n"), done.stdout)
+    source = os.path.join(ROOT, "crates", "zone_answers_real", "data", "tz.txt")
+    told = run("cargo", "run", "-q", "--offline", "--example", "first", "--", source, cwd=copy, env=settings)
+    due("the caller in Rust", requests()[1].replace(" | ", "\n"), told)
+    run("cargo", "test", "-q", "--offline", "--lib", cwd=copy, env=settings)

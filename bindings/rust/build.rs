@@ -5,9 +5,8 @@ use std::env;
 use std::path::Path;
 use std::process::Command;
 
-/// The major version of the library whose calls the crate declares.
-const OLDEST: &str = "sefunjaro >= 2.0.0";
-const NEXT: &str = "sefunjaro < 3";
+/// The least version of the library that has all the calls which the crate declares.
+const LEAST: &str = concat!("sefunjaro >= ", env!("CARGO_PKG_VERSION"));
 
 fn main() {
     for variable in ["SEFUNJARO_FOLDER", "PKG_CONFIG", "PKG_CONFIG_PATH"] {
@@ -30,7 +29,9 @@ fn link_archive(folder: &str) {
 
 fn link_packaged() {
     let program = env::var("PKG_CONFIG").unwrap_or_else(|_| String::from("pkg-config"));
-    let told = Command::new(&program).args(["--libs-only-L", OLDEST, NEXT]).output();
+    let major: u32 = env!("CARGO_PKG_VERSION_MAJOR").parse().expect("a major version is a number");
+    let next = format!("sefunjaro < {}", major + 1);
+    let told = Command::new(&program).args(["--libs-only-L", LEAST, next.as_str()]).output();
     let told = told.unwrap_or_else(|error| panic!("{program}: {error}; SEFUNJARO_FOLDER may name the library's folder instead"));
     assert!(told.status.success(), "{}SEFUNJARO_FOLDER may name the library's folder instead", String::from_utf8_lossy(&told.stderr));
     for folder in String::from_utf8_lossy(&told.stdout).split_whitespace().filter_map(|word| word.strip_prefix("-L")) {

@@ -174,6 +174,6 @@ mod tests {
             layout!("Change", Change: second offset saving name_length differs),
             layout!("Instant", RawInstant: second nanosecond offset),
         ];
-        assert_eq!(all.concat(), include_str!(concat!(env!("CARGO_MANIFEST_DIR"), "/../layouts.txt")));
+        assert_eq!(all.concat(), include_str!(concat!(env!("CARGO_MANIFEST_DIR"), "/layouts.txt")));
     }
 }
