@@ -20,10 +20,10 @@ use Rattle.zone_table.specs.declared.zone.Saving.TheVariants.{Multiple}
 use Rattle.zone_table.specs.declared.zone.ZoneInfo.{ZoneInfo}
 use Rattle.zone_spans.specs.Bounds.{is_bounded_line}
 use Rattle.zone_spans.specs.Collapse.{kept_of, kept_with, collapsed, without_first}
-use Rattle.zone_spans.specs.Compiled.{compiled, set_of_lines, compiled_over, set_of_lines_over}
-use Rattle.zone_spans.specs.Entries.{first_span, entries_from, entries_of, next_start, sorted_entries, entries_from_over, entries_of_over, next_start_over, sorted_entries_over}
-use Rattle.zone_spans.specs.Faults.{is_outside, some_year, leaves_year, schedule_fault, leaves_year_over, schedule_fault_over}
-use Rattle.zone_spans.specs.Firings.{earliest, fired, year_firings, firings_of_years, line_firings, years_expanded, line_firings_over, years_over}
+use Rattle.zone_spans.specs.Compiled.{compiled, compiled_over, set_of_lines_over}
+use Rattle.zone_spans.specs.Entries.{first_span, entries_from_over, entries_of_over, next_start_over, sorted_entries_over}
+use Rattle.zone_spans.specs.Faults.{is_outside, some_year, leaves_year_over, schedule_fault_over}
+use Rattle.zone_spans.specs.Firings.{earliest, fired, year_firings, firings_of_years, line_firings_over, years_over}
 use Rattle.zone_spans.specs.Lines.{Rulesets, zone_lines}
 use Rattle.zone_spans.specs.Listing.{listed_from, start_firing}
 use Rattle.zone_spans.specs.Schedules.{totals_of, total_at}
@@ -133,7 +133,7 @@ unfolding goes_on last_goes_on turns front_of last_of is_in_order dont_fall is_s
 goes = refl
 
 zone : IsForEver rulesets york made
-unfolding is_bounded_line compiled schedule_fault leaves_year set_of_lines sorted_entries entries_from entries_of next_start line_firings years_expanded compiled_over schedule_fault_over leaves_year_over some_year is_outside is_in_year zone_lines set_of_lines_over first_span sorted_entries_over entries_from_over entries_of_over next_start_over listed_from start_firing line_firings_over years_over firings_of_years year_firings fired earliest applies_to_year last_year moment abbreviation filled line_end instant_of named_day first_from weekday_of last_with is_leap days_in_year days_in_month days_after_zero year_start days_through days_into_year day collapsed kept_of kept_with without_first total_at totals_of
+unfolding is_bounded_line compiled_over schedule_fault_over leaves_year_over some_year is_outside is_in_year zone_lines set_of_lines_over first_span sorted_entries_over entries_from_over entries_of_over next_start_over listed_from start_firing line_firings_over years_over firings_of_years year_firings fired earliest applies_to_year last_year moment abbreviation filled line_end instant_of named_day first_from weekday_of last_with is_leap days_in_year days_in_month days_after_zero year_start days_through days_into_year day collapsed kept_of kept_with without_first total_at totals_of
 zone = record {
   goes_on = goes;
   bounded = refl;

@@ -11,7 +11,7 @@ use Rattle.zone_spans.specs.Bounds.{is_bounded_line}
 use Rattle.zone_spans.specs.Compiled.{compiled, compiled_over}
 use Rattle.zone_spans.specs.Entries.{total}
 use Rattle.zone_spans.specs.Lines.{Rulesets, zone_lines}
-use Rattle.zone_spans.specs.Schedules.{is_in_offset_range, total_at, totals_of, schedule_over}
+use Rattle.zone_spans.specs.Schedules.{is_in_offset_range, schedule_over, total_at, totals_of}
 use Rattle.zone_spans.specs.Years.{earliest_year}
 use Rattle.zone_spans.specs.declared.span.FixedTimespan.{FixedTimespan}
 use Rattle.zone_spans.specs.declared.span.FixedTimespanSet as spans
