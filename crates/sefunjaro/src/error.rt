@@ -12,7 +12,6 @@ use zone_line::NotBuilt;
 use zone_list::ListFault;
 use zone_plain_lines::PlainCause;
 use zone_tail_core::TailFault;
-use zone_tree::TreeFault;
 use zone_tzif_core::ReadFault;
 use zone_tzif_set::FileFault;
 
@@ -46,8 +45,6 @@ pub enum Error {
     Tail(TailFault),
     /// A zone has no TZif file.
     Tzif(FileFault),
-    /// A zone or a link of a source has no entry in an archive: the first, with its name, and why.
-    Tree(TreeFault),
     /// Bytes are no compiled zone file.
     File(ReadFault),
     /// A compiled zone file can't be asked.
@@ -228,21 +225,6 @@ impl From<FileFault> for Error {
             FileFault::Types => Error::Tzif(FileFault::Types),
             FileFault::Names => Error::Tzif(FileFault::Names),
             FileFault::NoMemory => Error::NoMemory,
-        }
-    }
-}
-
-impl From<TreeFault> for Error {
-    ghost use Rattle.std.specs.Prelude.{◌≡◌};
-    ghost use Rattle.sefunjaro.specs.Errors.{of_tree};
-
-    ghost from_gives = { λ fault error. error ≡ of_tree fault };
-
-    fn from(fault: TreeFault) -> Error {
-        match fault {
-            TreeFault::Source(fault) => Error::from(fault),
-            TreeFault::Refused(name, why) => Error::Tree(TreeFault::Refused(name, why)),
-            TreeFault::NoMemory => Error::NoMemory,
         }
     }
 }

@@ -56,5 +56,4 @@ pub use zone_list::{ListFault, Listing, list_lines};
 pub use zone_source::SourceError;
 pub use zone_table::Table;
 pub use zone_tail_core::{Tail, TailFault, tail};
-pub use zone_tree::TreeFault;
 pub use zone_tzif_core::{ReadFault, TzifZone, ZoneFile, read_any, read_file};

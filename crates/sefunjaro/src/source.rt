@@ -15,7 +15,6 @@ use tz_lookup::{ZoneFault, compile_zone};
 use zone_line::LineParser;
 use zone_source::{LIMIT, SourceError, read_table, release_of};
 use zone_table::Table;
-use zone_tree::{TreeFault, tree_of_table};
 
 /// The zones of a source, with their names in byte order, and its release, or nothing where it names none.
 #[derive(Drop)]
@@ -53,7 +52,7 @@ pub enum OpenFault {
 }
 
 impl OpenSource {
-    ghost use Rattle.std.specs.Prelude.{◌≡◌, ◌≤◌, IfOk, IfErr, OnOk, None, Ok, length};
+    ghost use Rattle.std.specs.Prelude.{◌≡◌, ◌≤◌, IfOk, IfErr, OnOk, None, length};
     ghost use Rattle.std.specs.List.{slice_get};
     ghost use Rattle.std.specs.Option.{option_copied};
     ghost use Rattle.tz_lookup.specs.Databases.{names_of};
@@ -67,9 +66,6 @@ impl OpenSource {
     ghost use Rattle.zone_source.specs.Releases.{release_of};
     ghost use Rattle.sefunjaro.specs.Zones.{set_in, IsOpened};
     ghost use Rattle.tz_zone.specs.Sets.{schedule_of, IsAccepted};
-    ghost use Rattle.zone_tree.specs.Names.{finds_in_table};
-    ghost use Rattle.zone_tree.specs.Told.{IsFirst};
-    ghost use Rattle.zone_tree.specs.Trees.{tree_by};
     ghost use Rattle.sefunjaro.specs.declared.source.OpenFault.TheVariants.{NoMemory};
 
     /// Opens a source from its text in plain form, and in no other.
@@ -160,18 +156,6 @@ impl OpenSource {
             Some(name) => Some(name.as_str()),
             None => None,
         }
-    }
-
-    /// Every zone and link as a compiled file in a tar archive, after the file of the release, as `zone_tree` writes it.
-    ///
-    /// # Errors
-    ///
-    /// `Refused` with the first name in the archive's order that has no entry, and why; `NoMemory`.
-    pub fn tree(&self, alloc: Global) -> Result<Vec<u8>, TreeFault>
-        ensures ok { IfOk result (λ bytes. tree_by (release_in self.now) (finds_in_table (table_in self.now)) ≡ Ok bytes.items) }
-        ensures err { IfErr result (IsFirst (tree_by (release_in self.now) (finds_in_table (table_in self.now)))) }
-    {
-        tree_of_table(alloc, self.release(), &self.table)
     }
 
     /// The zone that a name finds. It needs no more of the source.

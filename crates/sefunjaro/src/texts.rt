@@ -16,7 +16,6 @@ impl fmt::Display for Error {
             Error::Plain(fault) => write!(f, "in the plain form, {fault}"),
             Error::Line(line, cause) => write!(f, "source {line}: {cause}"),
             Error::Database(fault) => write_database_fault(f, fault),
-            Error::Tree(fault) => write!(f, "{fault}"),
             Error::Tzif(fault) => write!(f, "{fault}"),
             Error::FileZone(fault) => write!(f, "{fault}"),
             error => f.write_str(text_of(error)),

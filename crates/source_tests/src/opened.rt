@@ -36,9 +36,6 @@ fn expect_new_york(rt: &impl Abort, alloc: Global, zone: &OpenZone) {
     same(rt, &file.len(), &1813);
 }
 
-/// The bytes of an archive of one file of 1813: its header, four blocks, and the two of the end.
-const ARCHIVE: usize = 3584;
-
 /// Asserts that a zone is held by two.
 fn expect_shared(rt: &impl Abort, alloc: Global, zone: OpenZone) {
     let Ok(zone) = Arc::new(alloc, AnyZone::Source(zone)) else {
@@ -58,10 +55,6 @@ fn a_source_in_plain_form_is_opened(rt: HostRuntime) {
         &(source.name_count(), source.name(0)),
         &(1, Some("America/New_York")),
     );
-    let Ok(tree) = source.tree(alloc) else {
-        panic!(rt; "no tree");
-    };
-    same(&rt, &tree.len(), &ARCHIVE);
     let Ok(zone) = source.zone(alloc, "America/New_York") else {
         panic!(rt; "no zone");
     };
