@@ -3,14 +3,6 @@
 //! Each function is fast, and is proved to give what counting by the lengths of years and months gives.
 #![tactic(auto)]
 
-mod cycles;
-pub mod dates;
-pub mod days;
-mod months;
-pub mod weekdays;
-pub mod years;
+mod days;
 
-pub use dates::{CalendarDate, date_of};
-pub use days::day_number;
-pub use weekdays::weekday;
-pub use years::{is_leap_year, month_length};
+pub use days::{CalendarDate, date_of, day_number, is_leap_year, month_length, weekday};

@@ -4,7 +4,6 @@
 #![tactic(auto)]
 
 pub mod date;
-mod instants;
 pub mod offset_date_time;
 pub mod plain_date_time;
 mod read;
@@ -12,7 +11,6 @@ pub mod time;
 pub mod timestamp;
 pub mod utc_date_time;
 pub mod utc_offset;
-mod write;
 
 pub use civil_parts::{
     ComponentRange, ConversionRange, Duration, InvalidVariant, Month, SignedDuration, StdDuration,
@@ -21,9 +19,8 @@ pub use civil_parts::{
 pub use date::Date;
 pub use offset_date_time::OffsetDateTime;
 pub use plain_date_time::{PlainDateTime, PrimitiveDateTime};
-pub use read::{read_local, read_zoned};
+pub use read::{read_local, read_zoned, write_local, write_zoned};
 pub use time::Time;
 pub use timestamp::Timestamp;
 pub use utc_date_time::UtcDateTime;
 pub use utc_offset::{GREATEST_OFFSET, UtcOffset};
-pub use write::{write_local, write_zoned};

@@ -3,7 +3,7 @@ ghost use Rattle.std.specs.Prelude.{◌≡◌, ◌*◌, ◌≤◌, ◌&&◌, pos
 ghost use Rattle.civil_base.specs.Instants.{nanos_of};
 ghost use Rattle.civil_base.specs.Ranges.{is_in_years, IsInYears, far_seconds};
 
-use crate::instants::nanos_of;
+use crate::offset_date_time::nanos_of;
 use crate::{ComponentRange, PlainDateTime};
 use std::marker::Model;
 

@@ -5,7 +5,7 @@ ghost use Rattle.civil_base.specs.DateTimes.{instant, offset_of};
 ghost use Rattle.civil_base.specs.Instants.{local_at, nanos_of, seconds_of};
 ghost use Rattle.civil_base.specs.Ranges.{is_in_years, IsInYears, far_seconds};
 
-use crate::instants::{nanos_of, seconds_of};
+use crate::offset_date_time::{nanos_of, seconds_of};
 use crate::{ComponentRange, Date, OffsetDateTime, PlainDateTime, Time, UtcOffset};
 use std::marker::Model;
 

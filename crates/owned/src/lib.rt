@@ -5,10 +5,6 @@
 //! memory for that.
 #![tactic(auto)]
 
-mod items;
 mod map;
-mod text;
 
-pub use items::Items;
-pub use map::TextMap;
-pub use text::Text;
+pub use map::{Items, Text, TextMap};

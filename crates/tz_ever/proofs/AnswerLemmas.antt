@@ -10,9 +10,9 @@ use Rattle.tz_zone.specs.Cursors.{cursor_left}
 use Rattle.tz_zone.specs.InForce.{GivesAt, all_in_force, shown_of, totals_at}
 use Rattle.tz_zone.specs.Sets.{schedule_of}
 use Rattle.tz_zone.specs.Zones.{IsGivenFor, span_shown, total_shown}
-use Rattle.tz_zone.specs.declared.cursor.SpanCursor.{SpanCursor}
-use Rattle.tz_zone.specs.declared.result.OffsetResult.{OffsetResult}
-use Rattle.tz_zone.specs.declared.result.OffsetResult.TheVariants.{Some, Ambiguous, None}
+use Rattle.tz_zone.specs.declared.time_zone.SpanCursor.{SpanCursor}
+use Rattle.tz_zone.specs.declared.time_zone.OffsetResult.{OffsetResult}
+use Rattle.tz_zone.specs.declared.time_zone.OffsetResult.TheVariants.{Some, Ambiguous, None}
 use Rattle.tz_zone.specs.declared.set.FixedTimespanSet.{FixedTimespanSet}
 use Rattle.tz_zone.specs.declared.tz.TzOffset.{TzOffset}
 use Rattle.tz_ever.specs.Ever.{GivesEver, IsRepeating, ever_left, ever_total}

@@ -9,7 +9,7 @@ use Rattle.zone_cycle.specs.InForce.{span_at}
 use Rattle.tz_zone.specs.Compiles.{spans_of}
 use Rattle.tz_zone.specs.Cursors.{cursor_left}
 use Rattle.tz_zone.specs.Sets.{schedule_of}
-use Rattle.tz_zone.specs.declared.cursor.SpanCursor.{SpanCursor}
+use Rattle.tz_zone.specs.declared.time_zone.SpanCursor.{SpanCursor}
 use Rattle.tz_zone.specs.declared.set.FixedTimespanSet.{FixedTimespanSet}
 use Rattle.tz_ever.specs.Seam.{IsAtSeam, brought_back}
 

@@ -8,8 +8,8 @@ use Rattle.zone_spans.specs.declared.span.FixedTimespan.{FixedTimespan}
 use Rattle.tz_lookup.specs.Kinds.{is_same_kind, kind_in, with_kind}
 use Rattle.tz_lookup.proofs.KindLaws.{same_kind}
 use Rattle.tz_lookup.specs.KindShown.{kind_shown}
-use Rattle.tz_lookup.specs.declared.kinds.Kind.{Kind}
-use Rattle.tz_lookup.specs.contracts.kinds.KindPartialEq.TheImpl as same
+use Rattle.tz_lookup.specs.declared.compact_set.Kind.{Kind}
+use Rattle.tz_lookup.specs.contracts.compact_set.KindPartialEq.TheImpl as same
 
 same_shown : (a b : Kind) → same.ghosts.eq a b ≡ is_same_kind (kind_shown a) (kind_shown b)
 same_shown a b = refl

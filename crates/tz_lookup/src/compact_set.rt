@@ -1,23 +1,271 @@
-//! A zone's spans, kept compactly.
-ghost use Rattle.std.specs.Prelude.{◌≡◌, ◌+◌, ◌-◌, ◌*◌, ◌^◌, ℕ, ℤ, ◌<◌, ◌≤◌, ◌↔◌, IsTrue, MatchResult, IfOk, OnOk, List, length, slice_index_or, pos, [], ◌∷◌, ◌++◌};
+//! A zone's spans, kept compactly, with an index by year.
+ghost use Rattle.std.specs.Prelude.{◌≡◌, ◌≤◌, ◌<◌, length, IfOk, unsigned_abs, pos, negsuc, ◌+◌, ◌+ℤ◌, ◌*ℤ◌, ◌-ℤ◌, ◌≤ℤ◌, ◌<ℤ◌, ◌++◌, ◌∷◌, [], OnOk, slice_index_or, map, ◌-◌, ◌*◌, ◌^◌, ℕ, ℤ, ◌↔◌, IsTrue, MatchResult, List};
+ghost use Rattle.zone_spans.specs.Years.{earliest_year, latest_year, most_years};
+ghost use Rattle.tz_lookup.specs.Years.{year_second, HaveBegun, IsWithinYear};
+ghost use Rattle.tz_lookup.specs.YearSeconds.{rules_begin, rules_end};
+ghost use Rattle.tz_lookup.specs.YearCounts.{AreBefore, AreYearCounts};
+ghost use Rattle.tz_zone.specs.Sets.{schedule_of, shifts_of, IsAccepted, total_of_span, IsOrderlyZone};
+ghost use Rattle.tz_zone.specs.Spans.{IsCut};
+ghost use Rattle.tz_lookup.specs.Kinds.{kind_in, with_kind, kinds_of};
 ghost use Rattle.civil_base.specs.Instants.{seconds_of};
 ghost use Rattle.civil_base.specs.Ranges.{IsOffset};
 ghost use Rattle.zone_spans.specs.Entries.{Entry};
 ghost use Rattle.zone_spans.specs.Schedules.{instants, total_at};
 ghost use Rattle.zone_spans.specs.declared.span.FixedTimespan.{FixedTimespan};
-ghost use Rattle.tz_zone.specs.Sets.{schedule_of, shifts_of, total_of_span, IsAccepted, IsOrderlyZone};
-ghost use Rattle.tz_zone.specs.Spans.{IsCut};
-ghost use Rattle.tz_lookup.specs.Kinds.{kinds_of};
 ghost use Rattle.tz_lookup.specs.Compact.{set_seen, HaveKinds, StandFor};
-ghost use Rattle.tz_lookup.specs.YearCounts.{AreYearCounts};
 
-use crate::kinds::Kinds;
-use crate::numbers::Numbers;
-use crate::years::{YEARS, year_counts, years_begun};
+use calendar::{date_of, day_number};
+use indexmap::IndexSet;
 use owned::{Items, Text};
 use std::alloc::{AllocError, Global};
+use std::marker::Model;
 use std::sync::ledger::Ledger;
 use tz_zone::{FixedTimespan, FixedTimespanSet, SpanTable, Steps, Tz, TzFault, span_between};
+use zone_spans::{EARLIEST_YEAR, MOST_YEARS};
+
+/// How many years are counted: those from 1800 to 2100, the years in which rules fire and the one after them.
+pub(crate) const YEARS: usize = MOST_YEARS as usize + 1;
+
+/// 1800-01-01 00:00:00 UTC, in seconds from 1970-01-01 00:00:00 UTC: before it no rule fires.
+pub const RULES_BEGIN: i64 = -5_364_662_400;
+
+/// 2099-01-01 00:00:00 UTC, in seconds from 1970-01-01 00:00:00 UTC: the last year in which rules fire begins.
+pub const LAST_YEAR_BEGIN: i64 = 4_070_908_800;
+
+/// 2100-01-01 00:00:00 UTC, in seconds from 1970-01-01 00:00:00 UTC: from it on no rule fires.
+pub const RULES_END: i64 = 4_102_444_800;
+
+/// How many of the years from 1800 to 2100 have begun at a second: none before 1800, and all from 2100 on.
+pub(crate) fn years_begun(second: i64) -> usize
+    ensures { HaveBegun result second }
+{
+    if second < RULES_BEGIN {
+        0
+    } else if second >= RULES_END {
+        YEARS
+    } else {
+        year_number(utc_year(second))
+    }
+}
+
+/// The UTC year of a second of the years 1800 to 2099.
+fn utc_year(second: i64) -> i32
+    requires first { rules_begin ≤ℤ second }
+    requires last { second <ℤ rules_end }
+    ensures { IsWithinYear result second }
+{
+    date_of(day_of(second)).year
+}
+
+/// The day of a second of the years 1800 to 2099.
+fn day_of(second: i64) -> i32
+    requires first { rules_begin ≤ℤ second }
+    requires last { second <ℤ rules_end }
+    ensures begun { (pos 86400 *ℤ result) ≤ℤ second }
+    ensures lasts { second <ℤ (pos 86400 *ℤ result +ℤ pos 86400) }
+    ensures least { negsuc 62090 ≤ℤ result }
+    ensures greatest { result ≤ℤ pos 47481 }
+{
+    second.div_euclid(86_400) as i32
+}
+
+/// The number of a year, where 1800 is number 1.
+fn year_number(year: i32) -> usize
+    requires first { pos earliest_year ≤ℤ year }
+    requires last { year ≤ℤ pos latest_year }
+    ensures value { pos result ≡ year -ℤ pos earliest_year +ℤ pos 1 }
+    ensures bound { result ≤ most_years }
+{
+    (year - i32::from(EARLIEST_YEAR) + 1) as usize
+}
+
+/// The second at which the year 1800 + `place` begins.
+fn year_second(place: usize) -> i64
+    requires { place ≤ most_years }
+    ensures value { result ≡ year_second place }
+    ensures bound { unsigned_abs result < 200000000000000 }
+{
+    second_of(day_number(year_at(place), 1, 1))
+}
+
+/// The year 1800 + `place`.
+fn year_at(place: usize) -> i32
+    requires { place ≤ most_years }
+    ensures { result ≡ pos (earliest_year + place) }
+{
+    i32::from(EARLIEST_YEAR) + place as i32
+}
+
+/// The second at which a day begins.
+fn second_of(day: i32) -> i64
+    ensures value { result ≡ pos 86400 *ℤ day }
+    ensures bound { unsigned_abs result < 200000000000000 }
+{
+    i64::from(day) * 86_400
+}
+
+/// How many entries lie before the beginning of the year 1800 + `place`, where the first `from` do.
+fn entries_before(set: &FixedTimespanSet, place: usize, from: usize) -> usize
+    requires accepted { IsAccepted (schedule_of set.now) }
+    requires year { place ≤ most_years }
+    requires within { from ≤ length set.now.others }
+    requires before { AreBefore (shifts_of set.now) from (year_second place) }
+    ensures { IsCut (shifts_of set.now) result (year_second place -ℤ pos 1) }
+{
+    let start = year_second(place);
+    for index in from..set.entry_count() {
+        if set.time(index) >= start {
+            return index;
+        }
+    }
+    set.entry_count()
+}
+
+/// How many entries lie before the beginning of each year.
+pub(crate) fn year_counts(alloc: Global, set: &FixedTimespanSet) -> Result<Numbers, AllocError>
+    requires { IsAccepted (schedule_of set.now) }
+    ensures { IfOk result (AreYearCounts (shifts_of set.now)) }
+{
+    let mut counts = Numbers::with_room(alloc, YEARS)?;
+    let mut before = 0;
+    for place in 0..YEARS {
+        before = entries_before(set, place, before);
+        counts.push(before)?;
+    }
+    Ok(counts)
+}
+
+/// A list of numbers of which most are small. The numbers up to the first one past 65,535 take two bytes each, and those
+/// from it on eight. Contracts see the numbers in order.
+#[derive(Debug, Drop)]
+pub(crate) struct Numbers {
+    small: Items<u16>,
+    rest: Items<usize>,
+}
+
+impl Model for Numbers {
+    ghost use Rattle.std.specs.Prelude.{ℕ, List, ◌++◌};
+
+    ghost Value = { List ℕ };
+
+    ghost view = { λ numbers. numbers.small ++ numbers.rest };
+}
+
+impl Numbers {
+    /// A list of nothing, with room for so many small numbers.
+    pub(crate) fn with_room(alloc: Global, count: usize) -> Result<Numbers, AllocError>
+        ensures { IfOk result (λ numbers. numbers ≡ []) }
+    {
+        Ok(Numbers {
+            small: Items::from_vec(Vec::with_capacity(alloc, count)?),
+            rest: Items::new(alloc),
+        })
+    }
+
+    /// Puts a number at the end.
+    pub(crate) fn push(&mut self, number: usize) -> Result<(), AllocError>
+        ensures { OnOk result (self.new ≡ self.old ++ number ∷ []) }
+    {
+        if number <= 65_535 && self.rest.is_empty() {
+            self.small.push(number as u16)
+        } else {
+            self.rest.push(number)
+        }
+    }
+
+    /// The number at a place, which counts from 0.
+    pub(crate) fn get(&self, place: usize) -> usize
+        requires { place < length self.now }
+        ensures { result ≡ slice_index_or self.now place 0 }
+    {
+        let count = self.small.len();
+        if place < count {
+            usize::from(self.small[place])
+        } else {
+            self.rest[place - count]
+        }
+    }
+}
+
+/// A pair of offsets with a name: what is in force in a span.
+#[derive(Clone, Copy, PartialEq, Eq, Hash, Drop)]
+pub(crate) struct Kind<'a> {
+    utc_offset: i64,
+    dst_offset: i64,
+    name: &'a str,
+}
+
+impl<'a> Kind<'a> {
+    ghost use Rattle.tz_lookup.specs.KindShown.{kind_shown};
+
+    fn of(span: &'a FixedTimespan) -> Kind<'a>
+        ensures { kind_shown result ≡ span.now }
+    {
+        Kind {
+            utc_offset: span.utc_offset,
+            dst_offset: span.dst_offset,
+            name: span.name.as_str(),
+        }
+    }
+
+    fn owned(&self, alloc: Global) -> Result<FixedTimespan, AllocError>
+        ensures { IfOk result (λ span. span ≡ kind_shown self.now) }
+    {
+        Ok(FixedTimespan {
+            utc_offset: self.utc_offset,
+            dst_offset: self.dst_offset,
+            name: Text::new(alloc, self.name)?,
+        })
+    }
+}
+
+/// The kinds that were met so far, in the order in which they came. Contracts see them in that order.
+#[derive(Drop)]
+pub(crate) struct Kinds<'a> {
+    met: IndexSet<Kind<'a>>,
+}
+
+impl<'a> Model for Kinds<'a> {
+    ghost use Rattle.std.specs.Prelude.{List, map};
+    ghost use Rattle.zone_spans.specs.declared.span.FixedTimespan.{FixedTimespan};
+    ghost use Rattle.tz_lookup.specs.KindShown.{kind_shown};
+
+    ghost Value = { List FixedTimespan };
+
+    ghost view = { λ kinds. map kind_shown kinds.met.keys };
+}
+
+impl<'a> Kinds<'a> {
+    /// No kind was met yet.
+    pub(crate) fn new(alloc: Global) -> Kinds<'a>
+        ensures { result ≡ [] }
+    {
+        Kinds {
+            met: IndexSet::new(alloc),
+        }
+    }
+
+    /// The number of a span's kind, which joins the others where it wasn't met before. Numbers count from 0.
+    pub(crate) fn number(&mut self, span: &'a FixedTimespan) -> Result<usize, AllocError>
+        ensures kinds { OnOk result (self.new ≡ with_kind self.old span.now) }
+        ensures within { IfOk result (λ number. number < length self.new) }
+        ensures kind { IfOk result (λ number. kind_in self.new number ≡ span.now) }
+    {
+        let (number, _) = self.met.insert_full(Kind::of(span))?;
+        Ok(number)
+    }
+
+    /// The kinds, copied.
+    pub(crate) fn owned(&self, alloc: Global) -> Result<Items<FixedTimespan>, AllocError>
+        ensures { IfOk result (λ kinds. kinds ≡ self.now) }
+    {
+        let mut kinds = Items::new(alloc);
+        for kind in self.met.as_slice() {
+            kinds.push(kind.owned(alloc)?)?;
+        }
+        Ok(kinds)
+    }
+}
 
 /// Why a set has no compact form.
 #[derive(Clone, Copy, Debug, PartialEq, Eq)]

@@ -6,11 +6,8 @@
 mod compact_set;
 mod compact_tz;
 mod database;
-mod kinds;
-mod numbers;
-mod years;
 
-pub use compact_set::{CompactFault, CompactSet};
+pub use compact_set::{CompactFault, CompactSet, LAST_YEAR_BEGIN, RULES_BEGIN, RULES_END};
 pub use compact_tz::{CompactInstants, CompactOffset, CompactTz};
 pub use database::{Database, DatabaseFault, DatabaseIter, names_in_order};
 pub use tz_zone::{
@@ -19,4 +16,3 @@ pub use tz_zone::{
     Steps, TimeZone, Tz, TzFault, TzOffset, ZoneFault, binary_search, compile_zone, is_orderly,
     local_spans, local_spans_counted,
 };
-pub use years::{LAST_YEAR_BEGIN, RULES_BEGIN, RULES_END};

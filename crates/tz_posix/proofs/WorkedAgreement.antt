@@ -9,7 +9,7 @@ use Rattle.zone_values.specs.declared.day.DaySpec.TheVariants.{FirstOnOrAfter, L
 use Rattle.zone_values.specs.declared.month.Month.TheVariants.{March, April, October, November}
 use Rattle.zone_values.specs.declared.weekday.Weekday.TheVariants.{Sunday, Thursday, Saturday}
 use Rattle.zone_table.specs.Moments.{instant_of, moment}
-use Rattle.zone_table.specs.declared.format.Format.{Format}
+use Rattle.zone_table.specs.declared.zone.Format.{Format}
 use Rattle.zone_table.specs.declared.zone.Saving.TheVariants.{Multiple}
 use Rattle.zone_table.specs.declared.zone.ZoneInfo.{ZoneInfo}
 use Rattle.tz_posix.specs.Agreement.{IsInRuleYears, IsRuleYear, IsSameDay, IsTimeOfDay, end_in, first_year, start_in}

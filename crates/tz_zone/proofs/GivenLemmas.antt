@@ -6,8 +6,8 @@ use Rattle.tz_zone.specs.Answers.{EachOf, IsUpTo}
 use Rattle.tz_zone.specs.InForce.{IsInForce, AreRead}
 use Rattle.tz_zone.specs.Sets.{schedule_of, shifts_of, IsAccepted, order_of, total_of_span}
 use Rattle.tz_zone.specs.Spans.{IsCut}
-use Rattle.tz_zone.specs.declared.result.OffsetResult.{OffsetResult}
-use Rattle.tz_zone.specs.declared.result.OffsetResult.TheVariants.{Some, Ambiguous, None}
+use Rattle.tz_zone.specs.declared.time_zone.OffsetResult.{OffsetResult}
+use Rattle.tz_zone.specs.declared.time_zone.OffsetResult.TheVariants.{Some, Ambiguous, None}
 use Rattle.tz_zone.specs.declared.set.FixedTimespanSet.{FixedTimespanSet}
 use Rattle.tz_zone.proofs.OrderLemmas.{in_order}
 use Rattle.tz_zone.proofs.SetLemmas.{count_same}

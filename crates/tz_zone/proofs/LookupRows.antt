@@ -4,9 +4,9 @@ use Rattle.std.specs.Prelude.{Bool, Option, Some, None, Ok, Err, codes, int_lt}
 use Rattle.std.proofs.lemmas.Int.{ints}
 use Rattle.civil_base.specs.Instants.{seconds_of}
 use Rattle.zone_spans.specs.Schedules.{Schedule, total_at, totals_of, is_in_offset_range}
-use Rattle.tz_zone.specs.declared.accept.TzFault.TheVariants.{OffsetRange, Falling, Bound}
-use Rattle.tz_zone.specs.declared.result.OffsetResult.{OffsetResult}
-use Rattle.tz_zone.specs.declared.result.OffsetResult.TheVariants as found
+use Rattle.tz_zone.specs.declared.set.TzFault.TheVariants.{OffsetRange, Falling, Bound}
+use Rattle.tz_zone.specs.declared.time_zone.OffsetResult.{OffsetResult}
+use Rattle.tz_zone.specs.declared.time_zone.OffsetResult.TheVariants as found
 use Rattle.tz_zone.specs.declared.set.FixedTimespanSet.{FixedTimespanSet}
 use Rattle.tz_zone.specs.Answers.{listed, AreAdjacent, AreMapped, EachOf}
 use Rattle.tz_zone.specs.Compiles.{IsZoneFault}

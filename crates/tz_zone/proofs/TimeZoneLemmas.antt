@@ -13,8 +13,8 @@ use Rattle.tz_zone.specs.InForce.{in_force, all_in_force, totals_at, shown_of}
 use Rattle.tz_zone.specs.InForceLaws.{shown_at_offset}
 use Rattle.tz_zone.specs.RisingLaws.{contains_head, contains_more}
 use Rattle.tz_zone.specs.InstantLaws.{from_reading, instants_are, instants_one}
-use Rattle.tz_zone.specs.declared.result.OffsetResult.TheVariants.{Some, Ambiguous, None}
-use Rattle.tz_zone.specs.declared.result.OffsetResult.{OffsetResult}
+use Rattle.tz_zone.specs.declared.time_zone.OffsetResult.TheVariants.{Some, Ambiguous, None}
+use Rattle.tz_zone.specs.declared.time_zone.OffsetResult.{OffsetResult}
 
 -- one total at all times
 reads_fixed : (x t o : ℤ) → instant_at x o ≡ t → (t +ℤ pos 1000000000 *ℤ o) ≡ x

@@ -1,8 +1,8 @@
 -- What is left to give of the date-times of a local time in any zone.
 use Rattle.std.specs.Prelude.{List}
 use Rattle.civil_base.specs.declared.offset_date_time.OffsetDateTime.{OffsetDateTime}
-use Rattle.tz_zone.specs.declared.all_instants.AllInstants.{Ghosts}
-use Rattle.tz_zone.specs.declared.all_instants.InstantsOf.{InstantsOf}
+use Rattle.tz_zone.specs.declared.time_zone.AllInstants.{Ghosts}
+use Rattle.tz_zone.specs.declared.time_zone.InstantsOf.{InstantsOf}
 use Rattle.tz_zone.specs.declared.time_zone.Offset.{Ghosts as OffsetGhosts}
 use Rattle.tz_zone.specs.declared.time_zone.TimeZone.{Ghosts as ZoneGhosts}
 

@@ -3,9 +3,9 @@ use Rattle.std.specs.Prelude.{List}
 use Rattle.civil_base.specs.declared.offset_date_time.OffsetDateTime.{OffsetDateTime}
 use Rattle.tz_zone.specs.Answers.{listed}
 use Rattle.tz_zone.specs.Dates.{dates_from}
-use Rattle.tz_zone.specs.declared.cursor.SpanCursor.{SpanCursor}
-use Rattle.tz_zone.specs.declared.cursor.SpanCursor.TheVariants.{Found, Sought}
-use Rattle.tz_zone.specs.declared.cursor.SpanScan.{SpanScan}
+use Rattle.tz_zone.specs.declared.time_zone.SpanCursor.{SpanCursor}
+use Rattle.tz_zone.specs.declared.time_zone.SpanCursor.TheVariants.{Found, Sought}
+use Rattle.tz_zone.specs.declared.time_zone.SpanScan.{SpanScan}
 use Rattle.tz_zone.specs.declared.set.FixedTimespanSet.{FixedTimespanSet}
 
 -- those at the spans that contain the local second, from the next one on

@@ -1,8 +1,8 @@
 -- Why a set can't be looked up.
 use Rattle.std.specs.Prelude.{IsTrue}
 use Rattle.zone_spans.specs.Schedules.{Schedule, is_in_offset_range}
-use Rattle.tz_zone.specs.declared.accept.TzFault.{TzFault}
-use Rattle.tz_zone.specs.declared.accept.TzFault.TheVariants.{OffsetRange, Falling, Bound}
+use Rattle.tz_zone.specs.declared.set.TzFault.{TzFault}
+use Rattle.tz_zone.specs.declared.set.TzFault.TheVariants.{OffsetRange, Falling, Bound}
 use Rattle.tz_zone.specs.Spans.{TimesDontFall}
 use Rattle.tz_zone.specs.Sets.{AreSpanTimes}
 

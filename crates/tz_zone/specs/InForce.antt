@@ -7,7 +7,7 @@ use Rattle.zone_spans.specs.Schedules.{instants}
 use Rattle.tz_zone.specs.Answers.{EachOf}
 use Rattle.tz_zone.specs.Sets.{shifts_of, span_in, total_of_span}
 use Rattle.tz_zone.specs.Spans.{IsCut}
-use Rattle.tz_zone.specs.declared.result.OffsetResult.{OffsetResult}
+use Rattle.tz_zone.specs.declared.time_zone.OffsetResult.{OffsetResult}
 use Rattle.tz_zone.specs.declared.set.FixedTimespanSet.{FixedTimespanSet}
 
 -- an instant, and the total in force at it

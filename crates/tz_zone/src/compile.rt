@@ -4,8 +4,7 @@ ghost use Rattle.zone_table.specs.BoundedTables.{IsBoundedTable};
 ghost use Rattle.tz_zone.specs.Compiles.{compiled_in, IsCompiledAs, IsZoneFault};
 ghost use Rattle.tz_zone.specs.Sets.{schedule_of, IsAccepted};
 
-use crate::accept::has_offsets;
-use crate::set::FixedTimespanSet;
+use crate::set::{FixedTimespanSet, has_offsets};
 use std::alloc::{AllocError, Global};
 use zone_spans::{SpanFault, TableTransitions};
 use zone_table::Table;

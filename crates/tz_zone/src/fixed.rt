@@ -4,10 +4,7 @@ ghost use Rattle.civil_base.specs.Ranges.{IsOffset};
 ghost use Rattle.zone_spans.specs.Schedules.{instants};
 ghost use Rattle.tz_zone.specs.Answers.{listed};
 
-use crate::all_instants::AllInstants;
-use crate::extensions::PrimitiveDateTimeExt;
-use crate::result::OffsetResult;
-use crate::time_zone::{Offset, TimeZone};
+use crate::time_zone::{AllInstants, Offset, OffsetResult, PrimitiveDateTimeExt, TimeZone};
 use civil_base::{OffsetDateTime, PlainDateTime, UtcOffset};
 
 /// A zone that has one offset for good, which is no saving.

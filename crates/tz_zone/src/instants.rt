@@ -1,9 +1,9 @@
 //! Every instant that a set of spans reads as one local time, one after another, by looking at each span.
 ghost use Rattle.tz_zone.specs.Sets.{schedule_of, IsAccepted};
 
-use crate::cursor::SpanScan;
+use crate::lookups::SpanTable;
 use crate::set::FixedTimespanSet;
-use crate::table::SpanTable;
+use crate::time_zone::SpanScan;
 use civil_base::{OffsetDateTime, PlainDateTime};
 
 /// The date-times that a zone reads as one local time, the earliest first, each once: at most one for each span. It takes

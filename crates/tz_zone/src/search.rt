@@ -1,12 +1,12 @@
-//! A search by halves over indices whose order is known by asking.
+//! A search by halves over indices whose order is known by asking, and the steps that it counts.
 ghost use Rattle.std.specs.Prelude.{◌≡◌, ◌≢◌, ℕ, ◌+◌, ◌-◌, ◌*◌, ◌^◌, ◌<◌, ◌≤◌, MatchOption};
 ghost use Rattle.std.specs.declared.cmp.Ordering.{Ordering};
 ghost use Rattle.std.specs.declared.cmp.Ordering.TheVariants.{Equal};
 ghost use Rattle.tz_zone.specs.Search.{GoesUp};
 
-use crate::steps::Steps;
 use std::cmp::Ordering;
-use std::sync::ledger::Ledger;
+use std::marker::Model;
+use std::sync::ledger::{Blank, Book, Ledger, Share};
 
 /// Indices that lie before, at or after what is looked for.
 pub trait Probe {
@@ -101,4 +101,41 @@ fn halve<L: Ledger, P: ProbeBy<L>>(
         }
     }
     None
+}
+
+/// How many steps a search has taken. It takes no bytes at run time, and only a step changes it.
+#[derive(Drop)]
+pub struct Steps<L: Ledger> {
+    book: Book<L>,
+    share: Share<L>,
+}
+
+impl<L: Ledger> Model for Steps<L> {
+    ghost use Rattle.std.specs.Prelude.{ℕ, ◌<◌};
+
+    ghost Value = { ℕ };
+
+    ghost view = { λ steps. steps.book.total };
+
+    ghost invariant = { λ steps. 0 < steps.share.parts };
+}
+
+impl<L: Ledger> Steps<L> {
+    /// No step yet, in a ledger that begins here.
+    pub fn new(blank: Blank) -> Steps<L>
+        requires name { blank.name ≡ L.name }
+        requires parts { blank.parts ≡ L.parts }
+        requires some { 0 < L.parts }
+        ensures { result ≡ 0 }
+    {
+        let (book, share) = blank.open();
+        Steps { book, share }
+    }
+
+    /// One step more.
+    pub fn tick(&mut self)
+        ensures { self.new ≡ self.old + 1 }
+    {
+        self.book.add(&mut self.share, 1);
+    }
 }

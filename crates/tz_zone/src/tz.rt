@@ -8,19 +8,13 @@ ghost use Rattle.tz_zone.specs.Cursors.{cursor_left};
 ghost use Rattle.tz_zone.specs.InForce.{GivesAt};
 ghost use Rattle.tz_zone.specs.Sets.{schedule_of, IsAccepted, IsOrderlyZone};
 
-use crate::accept::{TzFault, accept};
-use crate::all_instants::AllInstants;
-use crate::cursor::{SpanCursor, SpanScan};
-use crate::extensions::PrimitiveDateTimeExt;
 use crate::instants::{InstantsIn, InstantsLocal};
-use crate::lookups::{local_spans, local_spans_counted, span_in_force};
-use crate::offsets::offset_of;
-use crate::orderly::is_orderly;
-use crate::result::OffsetResult;
-use crate::set::FixedTimespanSet;
-use crate::steps::Steps;
-use crate::table::SpanTable;
-use crate::time_zone::{Offset, TimeZone};
+use crate::lookups::{SpanTable, local_spans, local_spans_counted, offset_of, span_in_force};
+use crate::search::Steps;
+use crate::set::{FixedTimespanSet, TzFault, accept, is_orderly};
+use crate::time_zone::{
+    AllInstants, Offset, OffsetResult, PrimitiveDateTimeExt, SpanCursor, SpanScan, TimeZone,
+};
 use civil_base::{OffsetDateTime, PlainDateTime, UtcOffset};
 use std::sync::ledger::Ledger;
 use zone_spans::FixedTimespan;

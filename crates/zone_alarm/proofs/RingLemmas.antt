@@ -7,8 +7,8 @@ use Rattle.civil_base.specs.declared.offset_date_time.OffsetDateTime.{OffsetDate
 use Rattle.tz_lookup.specs.Answers.{listed}
 use Rattle.tz_lookup.specs.InForce.{shown_of}
 use Rattle.tz_lookup.specs.Results.{first_in}
-use Rattle.tz_zone.specs.declared.result.OffsetResult.{OffsetResult}
-use Rattle.tz_zone.specs.declared.result.OffsetResult.TheVariants.{Some, Ambiguous, None}
+use Rattle.tz_zone.specs.declared.time_zone.OffsetResult.{OffsetResult}
+use Rattle.tz_zone.specs.declared.time_zone.OffsetResult.TheVariants.{Some, Ambiguous, None}
 use Rattle.zone_alarm.specs.Rings.{day_ring, rings}
 
 head_listed : (answer : OffsetResult OffsetDateTime) → option_map shown_of (first_in answer) ≡ slice_get (map shown_of (listed answer)) 0

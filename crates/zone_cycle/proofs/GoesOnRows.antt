@@ -12,7 +12,7 @@ use Rattle.zone_values.specs.declared.year.Year.{Year}
 use Rattle.zone_values.specs.declared.year.Year.TheVariants.{Maximum, Number, Minimum}
 use Rattle.zone_table.specs.Formats.{abbreviation, filled}
 use Rattle.zone_table.specs.Moments.{applies_to_year, instant_of, last_year, moment}
-use Rattle.zone_table.specs.declared.format.Format.TheVariants.{Constant}
+use Rattle.zone_table.specs.declared.zone.Format.TheVariants.{Constant}
 use Rattle.zone_table.specs.declared.rule.RuleInfo.{RuleInfo}
 use Rattle.zone_table.specs.declared.zone.Saving.TheVariants.{NoSaving, Multiple}
 use Rattle.zone_table.specs.declared.zone.ZoneInfo.{ZoneInfo}

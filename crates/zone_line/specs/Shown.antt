@@ -10,8 +10,8 @@ use Rattle.zone_line.specs.declared.columns.RuleColumns.{RuleColumns}
 use Rattle.zone_line.specs.declared.columns.LinkColumns.{LinkColumns}
 use Rattle.zone_line.specs.declared.columns.DayColumns.{DayColumns}
 use Rattle.zone_line.specs.declared.columns.ClockColumns.{ClockColumns}
-use Rattle.zone_line.specs.declared.kind.Kind as code
-use Rattle.zone_line.specs.declared.kind.Kind.TheVariants as kind
+use Rattle.zone_line.specs.declared.columns.Kind as code
+use Rattle.zone_line.specs.declared.columns.Kind.TheVariants as kind
 
 abbrev pub info_shown : InfoColumns → InfoTexts
 info_shown c = record {

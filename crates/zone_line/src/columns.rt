@@ -1,9 +1,19 @@
-//! The texts of the columns of a line.
+//! A line's kind, and the texts of its columns.
 ghost use Rattle.std.specs.Prelude.{◌≡◌, ℕ, List, Option, option_map};
-ghost use Rattle.zone_line.specs.Patterns.{captured};
+ghost use Rattle.zone_line.specs.Patterns.{captured, Searches, found_in};
 
-use crate::patterns::part;
-use regex::Captures;
+use crate::parser::{part, search};
+use regex::{Captures, Matcher};
+
+/// A line's kind, with the texts of its columns.
+#[derive(Clone, Copy)]
+pub(crate) enum Kind<'a> {
+    Space,
+    Zone(ZoneColumns<'a>),
+    Continuation(InfoColumns<'a>),
+    Rule(RuleColumns<'a>),
+    Link(LinkColumns<'a>),
+}
 
 /// The columns of a Zone line.
 #[derive(Clone, Copy)]
@@ -249,4 +259,12 @@ impl<'a> Columns<'a> for SecondClock<'a> {
             flag: part(captures, "flag"),
         }))
     }
+}
+
+/// The columns of a line, or the parts of a text, that the matcher of their pattern finds.
+pub(crate) fn found<'a, C: Columns<'a>>(matcher: &mut Matcher<'_>, line: &'a str) -> Option<C>
+    ensures found { (pattern : List ℕ) → Searches pattern matcher.old → option_map C.shown result ≡ found_in C.texts_of pattern line.now }
+    ensures kept { (pattern : List ℕ) → Searches pattern matcher.old → Searches pattern matcher.new }
+{
+    C::of(&search(matcher, line)?)
 }

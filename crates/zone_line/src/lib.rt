@@ -6,14 +6,8 @@
 
 mod columns;
 mod fields;
-mod kind;
-mod number;
 mod parser;
-mod patterns;
 mod reader;
-mod searches;
-mod texts;
-mod time_texts;
 
 pub use parser::{LineParser, NotBuilt};
 pub use reader::LineReader;

@@ -1,22 +1,81 @@
-//! The compiled patterns.
-ghost use Rattle.zone_line.specs.Patterns.{IsBuiltFrom};
-ghost use Rattle.zone_line.specs.Texts.{
-  empty_text,
-  zone_text,
-  continuation_text,
-  rule_text,
-  link_text,
-  day_text,
-  hm_text,
-  hms_text,
-};
+//! The patterns, their texts in the syntax of the crate `regex`, and searches for them.
+ghost use Rattle.std.specs.Prelude.{◌≡◌, ℕ, List, None, Some, option_map, MatchOption, IfOk};
+ghost use Rattle.zone_line.specs.Patterns.{captured, IsBuiltFrom, match_in, group_in, Searches};
+ghost use Rattle.std.specs.Borrow.{sem};
+ghost use Rattle.regex.specs.Lending.{KeepsTextPattern};
+ghost use Rattle.zone_line.specs.Texts.{empty_text, zone_text, continuation_text, rule_text, link_text, day_text, hm_text, hms_text};
 
-use crate::patterns::compile;
 use crate::reader::LineReader;
-use crate::texts;
-use regex::Regex;
+use regex::{Captures, Matcher, Regex};
 use std::alloc::{AllocError, Global};
 use zone_values::{Error, Line};
+
+/// A blank line, or a comment.
+pub(crate) const EMPTY: &str = r"^\s*(#.*)?$";
+
+/// A Zone line: the first line of a zone.
+pub(crate) const ZONE: &str =
+    r"^Zone\s+(?P<name>[A-Za-z0-9/_+-]+)\s+(?P<gmtoff>\S+)\s+(?P<rulessave>\S+)\s+(?P<format>\S+)\s*(?P<year>[0-9]+)?\s*(?P<month>[A-Za-z]+)?\s*(?P<day>[A-Za-z0-9><=]+)?\s*(?P<time>[0-9:]+[suwz]?)?\s*(#.*)?$";
+
+/// A further line of a zone.
+pub(crate) const CONTINUATION: &str =
+    r"^\s+(?P<gmtoff>\S+)\s+(?P<rulessave>\S+)\s+(?P<format>\S+)\s*(?P<year>[0-9]+)?\s*(?P<month>[A-Za-z]+)?\s*(?P<day>[A-Za-z0-9><=]+)?\s*(?P<time>[0-9:]+[suwz]?)?\s*(#.*)?$";
+
+/// A Rule line.
+pub(crate) const RULE: &str =
+    r"^Rule\s+(?P<name>\S+)\s+(?P<from>\S+)\s+(?P<to>\S+)\s+(?P<type>\S+)\s+(?P<in>\S+)\s+(?P<on>\S+)\s+(?P<at>\S+)\s+(?P<save>\S+)\s+(?P<letters>\S+)\s*(#.*)?$";
+
+/// A Link line.
+pub(crate) const LINK: &str = r"^Link\s+(?P<target>\S+)\s+(?P<name>\S+)\s*(#.*)?$";
+
+/// A weekday on one side of a day of the month.
+pub(crate) const DAY: &str = r"^(?P<weekday>\w+)(?P<sign>[<>]=)(?P<day>\d+)$";
+
+/// A time of hours and minutes.
+pub(crate) const HM: &str = r"^(?P<sign>-?)(?P<hour>\d{1,2}):(?P<minute>\d{2})(?P<flag>[wsugz])?$";
+
+/// A time of hours, minutes and seconds.
+pub(crate) const HMS: &str =
+    r"^(?P<sign>-?)(?P<hour>\d{1,2}):(?P<minute>\d{2}):(?P<second>\d{2})(?P<flag>[wsugz])?$";
+
+/// Compiles a pattern. It lies on the heap, so that what holds eight of them is small.
+pub(crate) fn compile(alloc: Global, text: &str) -> Result<Box<Regex>, NotBuilt>
+    ensures { IfOk result (λ regex. IsBuiltFrom text.now regex.value) }
+{
+    let Ok(regex) = Regex::new(alloc, text) else {
+        return Err(NotBuilt);
+    };
+    let Ok(regex) = Box::new(alloc, regex) else {
+        return Err(NotBuilt);
+    };
+    Ok(regex)
+}
+
+/// A matcher of a compiled pattern, on the heap too.
+pub(crate) fn matcher(alloc: Global, regex: &Regex) -> Result<Box<Matcher<'_>>, AllocError>
+    ensures { (text : List ℕ) → IsBuiltFrom text regex.now → IfOk result (λ matcher. Searches text matcher.value) }
+{
+    Ok(Box::new(alloc, regex.matcher(alloc)?)?)
+}
+
+/// The part that the group of that name took, if it took part.
+pub(crate) fn part<'h>(captures: &Captures<'_, 'h>, name: &str) -> Option<&'h str>
+    ensures { option_map (λ t. t.now) result ≡ captured captures.now name.now }
+{
+    Some(captures.name(name)?.as_str())
+}
+
+/// The leftmost-first match of the matcher's pattern in a line.
+pub(crate) fn search<'r, 'm, 'h>(
+    matcher: &'m mut Matcher<'r>,
+    line: &'h str,
+) -> Option<Captures<'m, 'h>>
+    ensures found { (text : List ℕ) → Searches text matcher.old → MatchOption result (match_in text line.now ≡ None)
+        (λ c. (m : _) × (match_in text line.now ≡ Some m) × ((name : List ℕ) → captured c name ≡ group_in text line.now m name)) }
+    ensures* same { sem 𝓛 (KeepsTextPattern matcher.entry) }
+{
+    matcher.captures(line)
+}
 
 /// A pattern couldn't be compiled: the crate `regex` refused it for its size, or memory ran out.
 #[derive(Clone, Copy, Debug, PartialEq, Eq)]
@@ -63,14 +122,14 @@ impl LineParser {
     /// what can differ from one call to the next is the memory alone.
     pub fn new(alloc: Global) -> Result<LineParser, NotBuilt> {
         Ok(LineParser {
-            empty: compile(alloc, texts::EMPTY)?,
-            zone: compile(alloc, texts::ZONE)?,
-            continuation: compile(alloc, texts::CONTINUATION)?,
-            rule: compile(alloc, texts::RULE)?,
-            link: compile(alloc, texts::LINK)?,
-            day: compile(alloc, texts::DAY)?,
-            hm: compile(alloc, texts::HM)?,
-            hms: compile(alloc, texts::HMS)?,
+            empty: compile(alloc, EMPTY)?,
+            zone: compile(alloc, ZONE)?,
+            continuation: compile(alloc, CONTINUATION)?,
+            rule: compile(alloc, RULE)?,
+            link: compile(alloc, LINK)?,
+            day: compile(alloc, DAY)?,
+            hm: compile(alloc, HM)?,
+            hms: compile(alloc, HMS)?,
         })
     }
 

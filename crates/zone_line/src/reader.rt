@@ -1,29 +1,29 @@
-//! The patterns' matchers, for many lines in turn.
-ghost use Rattle.std.specs.Prelude.{◌≡◌, option_map};
+//! The patterns' matchers, for many lines in turn, and the values of the lines and columns that they match.
+ghost use Rattle.std.specs.Prelude.{◌≡◌, option_map, IfOk, IsTrue};
 ghost use Rattle.zone_line.specs.Patterns.{Searches};
-ghost use Rattle.zone_line.specs.Texts.{
-  empty_text,
-  zone_text,
-  continuation_text,
-  rule_text,
-  link_text,
-  day_text,
-  hm_text,
-  hms_text,
-};
-
-mod lines;
-mod matched_fields;
+ghost use Rattle.zone_line.specs.Texts.{empty_text, zone_text, continuation_text, rule_text, link_text, day_text, hm_text, hms_text};
+ghost use Rattle.zone_values.specs.Faults.{told};
+ghost use Rattle.zone_line.specs.Fields.{sided, sided_day, last_weekday};
+ghost use Rattle.zone_line.specs.LineValues.{one_off_of};
+ghost use Rattle.zone_values.specs.Values.{saving_value};
+ghost use Rattle.zone_line.specs.Shown.{clock_shown, day_shown};
 
 use crate::columns::{
-    ClockColumns, DayColumns, InfoColumns, LinkColumns, MinuteClock, RuleColumns, SecondClock,
-    ZoneColumns,
+    ClockColumns, DayColumns, InfoColumns, Kind, LinkColumns, MinuteClock, RuleColumns,
+    SecondClock, ZoneColumns, found,
 };
-use crate::parser::LineParser;
-use crate::patterns::matcher;
-use crate::searches::found;
+use crate::fields::{
+    after_last, clock_time, clock_type, day_numbered, day_of_month, hours_alone, if_wall,
+    is_ruleset_name, letters_of, no_time, to_field, type_field,
+};
+use crate::parser::{LineParser, matcher};
 use regex::Matcher;
 use std::alloc::{AllocError, Global};
+use text_parts::is_numeral;
+use zone_values::{
+    ChangeTime, DaySpec, Error, Fault, FaultKind, Line, Link, Month, Rule, Saving, TimeSpec,
+    TimeSpecAndType, Weekday, Year, Zone, ZoneInfo, value_or_fault,
+};
 
 /// Reads lines with matchers that are made once, by `LineParser::reader`.
 #[derive(Drop)]
@@ -138,5 +138,327 @@ impl<'p> LineReader<'p> {
     {
         let found: SecondClock<'a> = found(&mut self.hms, text)?;
         Some(found.0)
+    }
+}
+
+impl LineReader<'_> {
+    ghost use Rattle.zone_values.specs.Bounds.{is_bounded_line};
+    ghost use Rattle.zone_values.specs.Faults.{Tells, told};
+    ghost use Rattle.zone_line.specs.Kinds.{kind_of};
+    ghost use Rattle.zone_line.specs.LineValues.{value, value_of_kind, info_of, end_of, until, rule_of};
+    ghost use Rattle.zone_values.specs.Values.{line_value, info_value, rule_value};
+    ghost use Rattle.zone_line.specs.Shown.{info_shown, rule_shown, zone_shown, kind_shown};
+
+    /// Reads one line, as `LineParser::parse_str` does.
+    ///
+    /// # Errors
+    ///
+    /// Those of `LineParser::parse_str`.
+    pub fn parse_str<'a>(&mut self, alloc: Global, input: &'a str) -> Result<Line<'a>, Error>
+        ensures value { Tells line_value result (value input.now) }
+        ensures bounded { IfOk result (λ line. IsTrue (is_bounded_line (line_value line))) }
+    {
+        match self.value(input) {
+            Ok(line) => Ok(line),
+            Err(fault) => Err(fault.error(alloc)),
+        }
+    }
+
+    /// The value of a line.
+    #[tactic(auto, unfolding(crate::specs::LineValues::value))]
+    fn value<'a>(&mut self, line: &'a str) -> Result<Line<'a>, Fault<'a>>
+        ensures { told line_value result ≡ value line.now }
+    {
+        match self.kind(line) {
+            Some(kind) => self.value_of_kind(line, &kind),
+            None => Err(Fault {
+                kind: FaultKind::InvalidLineType,
+                text: line,
+            }),
+        }
+    }
+
+    /// The kind of a line, with the texts of its columns.
+    #[tactic(auto, unfolding(crate::specs::Kinds::kind_of))]
+    fn kind<'a>(&mut self, line: &'a str) -> Option<Kind<'a>>
+        ensures { option_map kind_shown result ≡ kind_of line.now }
+    {
+        if self.is_blank(line) {
+            return Some(Kind::Space);
+        }
+        if let Some(columns) = self.zone_columns(line) {
+            return Some(Kind::Zone(columns));
+        }
+        if let Some(columns) = self.continuation_columns(line) {
+            return Some(Kind::Continuation(columns));
+        }
+        if let Some(columns) = self.rule_columns(line) {
+            return Some(Kind::Rule(columns));
+        }
+        let columns = self.link_columns(line)?;
+        Some(Kind::Link(columns))
+    }
+
+    /// The value of a line of that kind.
+    #[tactic(auto, unfolding(crate::specs::LineValues::value_of_kind))]
+    fn value_of_kind<'a>(&mut self, line: &'a str, kind: &Kind<'a>) -> Result<Line<'a>, Fault<'a>>
+        ensures { told line_value result ≡ value_of_kind line.now (kind_shown kind.now) }
+    {
+        match kind {
+            Kind::Space => Ok(Line::Space),
+            Kind::Zone(columns) => {
+                let info = self.info(line, &columns.info)?;
+                Ok(Line::Zone(Zone {
+                    name: columns.name,
+                    info,
+                }))
+            }
+            Kind::Continuation(columns) => {
+                let info = self.info(line, columns)?;
+                Ok(Line::Continuation(info))
+            }
+            Kind::Rule(columns) => {
+                let rule = self.rule(columns)?;
+                Ok(Line::Rule(rule))
+            }
+            Kind::Link(columns) => {
+                Ok(Line::Link(Link {
+                    existing: columns.target,
+                    new: columns.name,
+                }))
+            }
+        }
+    }
+
+    /// What a zone line or a continuation says of a stretch of time.
+    #[tactic(auto, unfolding(crate::specs::LineValues::info_of))]
+    fn info<'a>(
+        &mut self,
+        line: &'a str,
+        columns: &InfoColumns<'a>,
+    ) -> Result<ZoneInfo<'a>, Fault<'a>>
+        ensures { told info_value result ≡ info_of line.now (info_shown columns.now) }
+    {
+        let utc_offset = self.wall_field(columns.gmtoff)?;
+        let saving = self.saving_field(columns.rules)?;
+        let time = self.end(line, columns)?;
+        Ok(ZoneInfo {
+            utc_offset,
+            saving,
+            format: columns.format,
+            time,
+        })
+    }
+
+    /// The end of a zone line or a continuation, where it has one.
+    #[tactic(auto, unfolding(crate::specs::LineValues::end_of, crate::specs::LineValues::some_end))]
+    fn end<'a>(
+        &mut self,
+        line: &'a str,
+        columns: &InfoColumns<'a>,
+    ) -> Result<Option<ChangeTime>, Fault<'a>>
+        ensures { told (λ end. end) result ≡ end_of line.now (info_shown columns.now) }
+    {
+        match columns.year {
+            Some(year) => {
+                let end = self.until(year, columns)?;
+                Ok(Some(end))
+            }
+            None if columns.has_yearless_end() => Err(Fault {
+                kind: FaultKind::InvalidLineType,
+                text: line,
+            }),
+            None => Ok(None),
+        }
+    }
+
+    /// An end with a year.
+    #[tactic(auto, unfolding(crate::specs::LineValues::until))]
+    fn until<'a>(
+        &mut self,
+        year: &'a str,
+        columns: &InfoColumns<'a>,
+    ) -> Result<ChangeTime, Fault<'a>>
+        ensures { let shown = info_shown columns.now in
+            told (λ end. end) result ≡ until year.now shown.month shown.day shown.time }
+    {
+        let year = Year::read(year)?;
+        let Some(month) = columns.month else {
+            return Ok(ChangeTime::UntilYear(year));
+        };
+        let month = Month::read(month)?;
+        let Some(day) = columns.day else {
+            return Ok(ChangeTime::UntilMonth(year, month));
+        };
+        let day = self.day_field(day)?;
+        let Some(time) = columns.time else {
+            return Ok(ChangeTime::UntilDay(year, month, day));
+        };
+        let time = self.time_field(time)?;
+        Ok(ChangeTime::UntilTime(year, month, day, time))
+    }
+
+    /// A rule.
+    #[tactic(auto, unfolding(crate::specs::LineValues::rule_of))]
+    fn rule<'a>(&mut self, columns: &RuleColumns<'a>) -> Result<Rule<'a>, Fault<'a>>
+        ensures { told rule_value result ≡ rule_of (rule_shown columns.now) }
+    {
+        let from_year = Year::read(columns.from)?;
+        let to_year = to_field(columns.to)?;
+        type_field(columns.kind)?;
+        let month = Month::read(columns.month)?;
+        let day = self.day_field(columns.on)?;
+        let time = self.time_field(columns.at)?;
+        let time_to_add = self.wall_field(columns.save)?;
+        let letters = letters_of(columns.letters);
+        let name = columns.name;
+        Ok(Rule {
+            name,
+            from_year,
+            to_year,
+            month,
+            day,
+            time,
+            time_to_add,
+            letters,
+        })
+    }
+}
+
+impl LineReader<'_> {
+    ghost use Rattle.zone_line.specs.Clocks.{clock_in};
+    ghost use Rattle.zone_values.specs.Faults.{told};
+    ghost use Rattle.zone_line.specs.Fields.{time_field, wall_field, day_field};
+    ghost use Rattle.zone_line.specs.LineValues.{saving_field};
+    ghost use Rattle.zone_line.specs.Times.{time_of};
+    ghost use Rattle.zone_values.specs.Values.{saving_value};
+    ghost use Rattle.zone_line.specs.Shown.{clock_shown};
+
+    /// The parts of a time with one colon or two.
+    fn clock<'a>(&mut self, text: &'a str) -> Option<ClockColumns<'a>>
+        ensures { option_map clock_shown result ≡ clock_in text.now }
+    {
+        match self.minute_clock(text) {
+            Some(parts) => Some(parts),
+            None => self.second_clock(text),
+        }
+    }
+
+    /// The time that a text is.
+    #[tactic(auto, unfolding(crate::specs::Times::time_of))]
+    fn time(&mut self, text: &str) -> Option<TimeSpecAndType>
+        ensures { result ≡ time_of text.now }
+    {
+        if let Some(time) = no_time(text) {
+            return Some(time);
+        }
+        if let Some(time) = hours_alone(text) {
+            return Some(time);
+        }
+        let parts = self.clock(text)?;
+        Some(clock_time(&parts)?.with_type(clock_type(parts.flag)))
+    }
+
+    /// A time with its clock.
+    pub(crate) fn time_field<'a>(&mut self, text: &'a str) -> Result<TimeSpecAndType, Fault<'a>>
+        ensures { told (λ time. time) result ≡ time_field text.now }
+    {
+        value_or_fault(self.time(text), FaultKind::InvalidTimeSpecAndType, text)
+    }
+
+    /// A time that has to be the wall's.
+    #[tactic(auto, unfolding(crate::specs::Fields::wall_field))]
+    pub(crate) fn wall_field<'a>(&mut self, text: &'a str) -> Result<TimeSpec, Fault<'a>>
+        ensures { told (λ time. time) result ≡ wall_field text.now }
+    {
+        let time = self.time_field(text)?;
+        value_or_fault(if_wall(time), FaultKind::NonWallClockInTimeSpec, text)
+    }
+
+    /// The RULES column: a hyphen, the name of a ruleset, or an amount of time.
+    #[tactic(auto, unfolding(crate::specs::LineValues::saving_field))]
+    pub(crate) fn saving_field<'a>(&mut self, text: &'a str) -> Result<Saving<'a>, Fault<'a>>
+        ensures { told saving_value result ≡ saving_field text.now }
+    {
+        if text == "-" {
+            return Ok(Saving::NoSaving);
+        }
+        if is_ruleset_name(text) {
+            return Ok(Saving::Multiple(text));
+        }
+        match self.minute_clock(text) {
+            Some(parts) => one_off(text, &parts),
+            None => Err(Fault {
+                kind: FaultKind::CouldNotParseSaving,
+                text,
+            }),
+        }
+    }
+
+    /// A day of a month: a number, `last` and a weekday, or a weekday on one side of a number.
+    #[tactic(auto, unfolding(crate::specs::Fields::day_field))]
+    pub(crate) fn day_field<'a>(&mut self, text: &'a str) -> Result<DaySpec, Fault<'a>>
+        ensures { told (λ day. day) result ≡ day_field text.now }
+    {
+        if is_numeral(text) {
+            return match day_numbered(text) {
+                Some(number) => Ok(DaySpec::Ordinal(number)),
+                None => Err(Fault {
+                    kind: FaultKind::InvalidDaySpec,
+                    text,
+                }),
+            };
+        }
+        if let Some(weekday) = after_last(text) {
+            return last_day(weekday);
+        }
+        match self.day_columns(text) {
+            Some(columns) => sided_day(text, &columns),
+            None => Err(Fault {
+                kind: FaultKind::InvalidDaySpec,
+                text,
+            }),
+        }
+    }
+}
+
+/// A saving that holds as long as the line: hours and minutes by the wall's clock.
+#[tactic(auto, unfolding(crate::specs::LineValues::one_off_of))]
+fn one_off<'a>(text: &'a str, parts: &ClockColumns<'a>) -> Result<Saving<'a>, Fault<'a>>
+    ensures { told saving_value result ≡ one_off_of text.now (clock_shown parts.now) }
+{
+    let time = value_or_fault(clock_time(parts), FaultKind::InvalidTimeSpecAndType, text)?;
+    let amount = if_wall(time.with_type(clock_type(parts.flag)));
+    let amount = value_or_fault(amount, FaultKind::NonWallClockInTimeSpec, text)?;
+    Ok(Saving::OneOff(amount))
+}
+
+/// The last such weekday of a month.
+#[tactic(auto, unfolding(crate::specs::Fields::last_weekday))]
+fn last_day(weekday: &str) -> Result<DaySpec, Fault<'_>>
+    ensures { told (λ day. day) result ≡ last_weekday weekday.now }
+{
+    let weekday = Weekday::read(weekday)?;
+    Ok(DaySpec::Last(weekday))
+}
+
+/// A weekday on one side of a number; the weekday is read before the number.
+#[tactic(auto, unfolding(crate::specs::Fields::sided_day))]
+fn sided_day<'a>(text: &'a str, columns: &DayColumns<'a>) -> Result<DaySpec, Fault<'a>>
+    ensures { told (λ day. day) result ≡ sided_day text.now (day_shown columns.now) }
+{
+    let weekday = Weekday::read(columns.weekday)?;
+    let number = value_or_fault(day_of_month(columns.day), FaultKind::InvalidDaySpec, text)?;
+    Ok(sided(columns.sign, weekday, number))
+}
+
+/// The day on or before or the day on or after, by the sign.
+fn sided(sign: &str, weekday: Weekday, number: i8) -> DaySpec
+    ensures { result ≡ sided sign.now weekday number }
+{
+    if sign == "<=" {
+        DaySpec::LastOnOrBefore(weekday, number)
+    } else {
+        DaySpec::FirstOnOrAfter(weekday, number)
     }
 }

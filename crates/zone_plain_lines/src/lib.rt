@@ -6,11 +6,8 @@
 
 mod cause;
 mod clock;
-mod columns;
-mod day;
 mod fields;
 mod lines;
-mod number;
 mod quotes;
 mod words;
 

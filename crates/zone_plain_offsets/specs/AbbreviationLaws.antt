@@ -16,7 +16,7 @@ use Rattle.zone_table.specs.Joined.{rules_of}
 use Rattle.zone_table.specs.declared.rule.RuleInfo.{RuleInfo}
 use Rattle.zone_values.specs.Values.{SavingValue, no_saving, one_off, multiple, InfoValue, LineValue, space, zone, continuation}
 use Rattle.zone_table.specs.Formats.{is_slash, is_placeholder, has_placeholder, format_of, filled, abbreviation}
-use Rattle.zone_table.specs.declared.format.Format.TheVariants.{Constant, Alternate, Placeholder}
+use Rattle.zone_table.specs.declared.zone.Format.TheVariants.{Constant, Alternate, Placeholder}
 use Rattle.zone_plain_base.specs.PlainTexts.{two_digits}
 use Rattle.zone_plain_lines.specs.Columns.{has_byte, is_letter, is_filled, is_format}
 use Rattle.text_parts.specs.Marks.{cut}

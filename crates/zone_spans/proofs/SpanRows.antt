@@ -15,7 +15,7 @@ use Rattle.zone_values.specs.declared.weekday.Weekday.TheVariants.{Sunday}
 use Rattle.zone_values.specs.declared.year.Year.TheVariants.{Minimum, Number}
 use Rattle.zone_table.specs.Formats.{abbreviation, filled}
 use Rattle.zone_table.specs.Moments.{applies_to_year, instant_of, last_year, moment}
-use Rattle.zone_table.specs.declared.format.Format.TheVariants.{Alternate, Constant, Placeholder}
+use Rattle.zone_table.specs.declared.zone.Format.TheVariants.{Alternate, Constant, Placeholder}
 use Rattle.zone_table.specs.declared.rule.RuleInfo.{RuleInfo}
 use Rattle.zone_table.specs.declared.zone.Saving.{Saving}
 use Rattle.zone_table.specs.declared.zone.Saving.TheVariants.{NoSaving, OneOff, Multiple}

@@ -1,38 +1,23 @@
-//! The entries of a zone.
-ghost use Rattle.std.specs.Prelude.{◌≡◌, ◌≤◌, ◌++◌, List, All, IfOk, IfSome, IsTrue, Some, pos, filter, find, int_lt, length, map, None, option_map, take};
+//! The entries of a zone, and those that a line lists.
+ghost use Rattle.std.specs.Prelude.{◌≡◌, ◌≤◌, ◌++◌, List, All, IfOk, IfSome, IsTrue, Some, pos, filter, find, int_lt, length, map, None, option_map, take, reverse};
 ghost use Rattle.std.specs.List.{list_all, position_or_len};
-ghost use Rattle.std.specs.Option.{option_map_or};
+ghost use Rattle.std.specs.Option.{option_map_or, option_copied};
 ghost use Rattle.owned.specs.Sorted.{stable_sort};
 ghost use Rattle.zone_values.specs.Bounds.{are_small_seconds};
 ghost use Rattle.zone_table.specs.Formats.{abbreviation};
 ghost use Rattle.zone_spans.specs.Bounds.{IsSoundOver, is_bounded_entry, is_bounded_firing, is_bounded_line, is_bounded_span, is_end, is_small, is_start};
-ghost use Rattle.zone_spans.specs.Entries.{
-  Entry,
-  span_of,
-  entry_of,
-  fixed_span,
-  at_start,
-  start_entry,
-  entries_of_over,
-  next_start_over,
-  raw_entries_over,
-  is_sooner,
-  sorted_entries_over,
-  is_standard,
-  first_span,
-};
+ghost use Rattle.zone_spans.specs.Entries.{Entry, span_of, entry_of, fixed_span, at_start, start_entry, entries_of_over, next_start_over, raw_entries_over, is_sooner, sorted_entries_over, is_standard, first_span};
 ghost use Rattle.zone_spans.specs.KeptFor.{IsKept};
 ghost use Rattle.zone_spans.specs.Several.{AreAll};
 ghost use Rattle.zone_spans.specs.Windows.{line_end};
 ghost use Rattle.zone_spans.specs.Listing.{is_at, listed_firings, listed_from, start_firing};
 ghost use Rattle.zone_spans.specs.Years.{years_limit};
+ghost use Rattle.std.specs.Ordering.{int_eq};
 
-use crate::firing::Firing;
-use crate::kept::{Kept, fire_line};
-use crate::line::Line;
-use crate::listing::{place_at, start_firing};
-use crate::several::Several;
+use crate::front::Firing;
+use crate::kept::{Kept, Several, fire_line};
 use crate::span::FixedTimespan;
+use crate::transitions::Line;
 use crate::year::line_end;
 use owned::{Items, Text};
 use std::alloc::{AllocError, Global};
@@ -331,4 +316,50 @@ fn is_standard(entry: &(i64, FixedTimespan)) -> bool
     ensures { result ≡ is_standard entry.now }
 {
     entry.1.dst_offset == 0
+}
+
+/// The place of the first firing at the start, or how many firings there are.
+pub(crate) fn place_at(start: i64, fired: &[Firing<'_>]) -> usize
+    ensures place { result ≡ position_or_len (is_at start) fired.now }
+    ensures most { result ≤ length fired.now }
+{
+    for i in 0..fired.len() {
+        if fired[i].is_at(start) {
+            return i;
+        }
+    }
+    fired.len()
+}
+
+/// The last firing below the start.
+fn last_below<'f, 'a>(start: i64, fired: &'f [Firing<'a>]) -> Option<&'f Firing<'a>>
+    ensures { option_copied result ≡ find (λ f. int_lt f.time start) (reverse fired.now) }
+{
+    fired.iter().rev().find(|firing| firing.is_below(start))
+}
+
+/// The first firing that ends a saving.
+fn first_standard_firing<'f, 'a>(fired: &'f [Firing<'a>]) -> Option<&'f Firing<'a>>
+    ensures { option_copied result ≡ find (λ f. int_eq f.rule.time_to_add (pos 0)) fired.now }
+{
+    fired.iter().find(|firing| firing.is_standard())
+}
+
+/// The firing whose saving and name the line's start takes, where that is the place of the first firing at the start.
+#[tactic(auto, unfolding(crate::specs::Listing::start_firing))]
+pub(crate) fn start_firing<'f, 'a>(
+    start: i64,
+    place: usize,
+    fired: &'f [Firing<'a>],
+) -> Option<&'f Firing<'a>>
+    requires { place ≡ position_or_len (is_at start) fired.now }
+    ensures { option_copied result ≡ start_firing start fired.now }
+{
+    if place < fired.len() {
+        return None;
+    }
+    match last_below(start, fired) {
+        Some(firing) => Some(firing),
+        None => first_standard_firing(fired),
+    }
 }

@@ -1,5 +1,5 @@
-//! Rules by their places, and what is first of several fronts.
-ghost use Rattle.std.specs.Prelude.{◌≡◌, All, IfOk, IfSome, IsTrue, filter, pos, neg_ℤ, ◌≤ℤ◌};
+//! Rules by their places, what is first of several fronts, and what fires.
+ghost use Rattle.std.specs.Prelude.{◌≡◌, All, IfOk, IfSome, IsTrue, filter, pos, neg_ℤ, ◌≤ℤ◌, int_lt};
 ghost use Rattle.std.specs.List.{AllByRecursion};
 ghost use Rattle.owned.specs.Sorted.{stable_sort};
 ghost use Rattle.zone_values.specs.Bounds.{are_small_seconds};
@@ -7,6 +7,8 @@ ghost use Rattle.zone_table.specs.Moments.{moment};
 ghost use Rattle.zone_spans.specs.Bounds.{has_moment, is_small};
 ghost use Rattle.zone_spans.specs.Fronts.{IsSmallPlaced, first_of, front, has_mark, head_of, is_below, fires_sooner, left_of, placed_from, same_mark, sooner, tail_of, time_of};
 ghost use Rattle.std.specs.Option.{option_copied};
+ghost use Rattle.std.specs.Ordering.{int_eq};
+ghost use Rattle.zone_spans.specs.Listing.{is_at};
 
 use owned::Items;
 use std::alloc::{AllocError, Global};
@@ -223,4 +225,56 @@ pub(crate) fn first_of<'b, 'a>(
 {
     let later = sooner(head_of(standard), head_of(utc), offset, saving);
     sooner(head_of(wall), later, offset, saving)
+}
+
+/// When a rule fires, in seconds from 1970-01-01 00:00 UTC, and the rule.
+#[derive(Drop)]
+pub(crate) struct Firing<'a> {
+    pub(crate) time: i64,
+    pub(crate) rule: &'a RuleInfo,
+}
+
+impl<'a> Model for Firing<'a> {
+    ghost use Rattle.zone_spans.specs.Firings.{Firing};
+
+    ghost Value = { Firing };
+
+    ghost view = { λ firing. record { time = firing.time; rule = firing.rule.now } };
+}
+
+impl<'a> Firing<'a> {
+    /// The same firing.
+    pub(crate) fn copied(&self) -> Firing<'a>
+        ensures { result ≡ self.now }
+    {
+        Firing {
+            time: self.time,
+            rule: self.rule,
+        }
+    }
+
+    pub(crate) fn is_at(&self, start: i64) -> bool
+        ensures { result ≡ is_at start self.now }
+    {
+        self.time == start
+    }
+
+    pub(crate) fn is_above(&self, start: i64) -> bool
+        ensures { result ≡ int_lt start self.now.time }
+    {
+        start < self.time
+    }
+
+    pub(crate) fn is_below(&self, start: i64) -> bool
+        ensures { result ≡ int_lt self.now.time start }
+    {
+        self.time < start
+    }
+
+    /// Whether no saving is in force from then on.
+    pub(crate) fn is_standard(&self) -> bool
+        ensures { result ≡ int_eq self.now.rule.time_to_add (pos 0) }
+    {
+        self.rule.time_to_add == 0
+    }
 }

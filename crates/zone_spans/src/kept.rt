@@ -1,6 +1,6 @@
 //! What the first years of a ruleset fire under an offset, cut by no end: it is the same for each line of them. Of the firings
 //! before a line's start only the last one matters, so a summary of each year takes their place.
-ghost use Rattle.std.specs.Prelude.{◌≡◌, ◌+◌, ◌<◌, ◌≤◌, ◌≤ℤ◌, Option, None, ℤ, true, IfOk, IsTrue, Some, length, int_le, pos};
+ghost use Rattle.std.specs.Prelude.{◌≡◌, ◌+◌, ◌<◌, ◌≤◌, ◌≤ℤ◌, Option, None, ℤ, true, IfOk, IsTrue, Some, length, int_le, pos, ℕ, IfSome, slice_index_or};
 ghost use Rattle.std.specs.List.{last_or, list_all};
 ghost use Rattle.std.specs.Option.{option_to_list};
 ghost use Rattle.zone_values.specs.Bounds.{are_small_seconds};
@@ -8,19 +8,18 @@ ghost use Rattle.zone_spans.specs.Bounds.{IsSound, IsSoundOver, is_bounded_firin
 ghost use Rattle.zone_spans.specs.Firings.{Firing, firings_of_years, line_firings_over};
 ghost use Rattle.zone_spans.specs.Kept.{AreBelow, AreSummaries, IsLastSummary, IsLimit};
 ghost use Rattle.zone_spans.specs.KeptFor.{IsFor, IsKept};
-ghost use Rattle.zone_spans.specs.Lines.{is_ruled};
+ghost use Rattle.zone_spans.specs.Lines.{is_ruled, Line};
 ghost use Rattle.zone_spans.specs.Quiet.{AppliesToNone};
 ghost use Rattle.zone_spans.specs.Several.{AreAll};
 ghost use Rattle.zone_spans.specs.Stands.{StandsFor};
 ghost use Rattle.zone_spans.specs.Years.{years_limit};
 
-use crate::firing::Firing;
-use crate::front::Applying;
-use crate::line::Line;
-use crate::quiet::years_before_all;
-use crate::several::{Serve, Several};
+use crate::fault::years_before_all;
+use crate::front::{Applying, Firing};
+use crate::transitions::Line;
 use crate::year::{EARLIEST_YEAR, fire_year, fire_years, line_end, years_over};
 use std::alloc::{AllocError, Global};
+use std::mem;
 use zone_table::RuleInfo;
 use zone_values::ChangeTime;
 
@@ -447,4 +446,100 @@ pub(crate) fn fire_line<'a>(
     take_for(kept, alloc, line, years)?;
     let after = kept.current.fire(alloc, fired, line, start, years)?;
     Ok(after)
+}
+
+/// How many values are kept besides the one in use: over 300 years some 20 MB of summaries at most. A line looks at the offset and the name
+/// of each of them, and at the rules only where these are its own.
+const MOST_OTHERS: usize = 1_023;
+
+/// What is found for one line, and serves others.
+pub(crate) trait Serve: Drop {
+    /// What is true of each.
+    ghost Holds: { Self → Type 0 };
+
+    /// It is for a line that expands so many years.
+    ghost Suits: { Line → ℕ → Self → Type 0 };
+
+    /// Whether it is for the line, which expands so many years.
+    fn serves(&self, line: &Line<'_>, years: u16) -> bool
+        ensures { IsTrue result → Suits line.now years self.now };
+}
+
+/// A value that is in use, and others that were. The one that was in use last stands last.
+#[derive(Drop)]
+pub(crate) struct Several<T> {
+    pub(crate) current: T,
+    others: Vec<T>,
+}
+
+impl<T: Serve> Several<T> {
+    /// One value, and no others.
+    pub(crate) fn new(alloc: Global, current: T) -> Several<T>
+        requires { T.Holds current }
+        ensures { AreAll T.Holds result }
+    {
+        Several {
+            current,
+            others: Vec::new(alloc),
+        }
+    }
+
+    /// Takes one into use that is for the line, which expands so many years, and says whether there is one.
+    pub(crate) fn find_for(&mut self, line: &Line<'_>, years: u16) -> Result<bool, AllocError>
+        requires { AreAll T.Holds self.old }
+        ensures kept { IfOk result (λ _. AreAll T.Holds self.new) }
+        ensures serves { IfOk result (λ found. IsTrue found → T.Suits line.now years self.new.current) }
+    {
+        if self.current.serves(line, years) {
+            return Ok(true);
+        }
+        match place_for(self.others.as_slice(), line, years) {
+            Some(place) => {
+                let next = self.others.remove(place);
+                self.put_in_use(next)?;
+                Ok(true)
+            }
+            None => Ok(false),
+        }
+    }
+
+    /// Takes a new one into use. Of the others the one that was in use longest ago is let go, where there are as many as may
+    /// be.
+    pub(crate) fn begin(&mut self, next: T) -> Result<(), AllocError>
+        requires kept { AreAll T.Holds self.old }
+        requires next { T.Holds next }
+        ensures kept { IfOk result (λ _. AreAll T.Holds self.new) }
+        ensures current { IfOk result (λ _. self.new.current ≡ next) }
+    {
+        if self.others.len() >= MOST_OTHERS {
+            drop(self.others.remove(0));
+        }
+        self.put_in_use(next)?;
+        Ok(())
+    }
+
+    /// Takes a value into use. The one that was goes behind the others.
+    fn put_in_use(&mut self, next: T) -> Result<(), AllocError>
+        requires kept { AreAll T.Holds self.old }
+        requires next { T.Holds next }
+        ensures kept { IfOk result (λ _. AreAll T.Holds self.new) }
+        ensures current { IfOk result (λ _. self.new.current ≡ next) }
+    {
+        let used = mem::replace(&mut self.current, next);
+        self.others.push(used)?;
+        Ok(())
+    }
+}
+
+/// The place of the first that is for the line, which expands so many years.
+fn place_for<T: Serve>(others: &[T], line: &Line<'_>, years: u16) -> Option<usize>
+    ensures len { IfSome result (λ place. place < length others.now) }
+    ensures serves { IfSome result (λ place. (d : T) → T.Suits line.now years (slice_index_or others.now place d)) }
+{
+    for i in 0..others.len() {
+        if others[i].serves(line, years) {
+            return Some(i);
+        }
+    }
+    None
 }

@@ -1,27 +1,29 @@
-//! The spans of a table's zones.
-ghost use Rattle.std.specs.Prelude.{◌≡◌, ◌≤◌, ℕ, All, IfErr, IfOk, IfSome, IsTrue, List, Ok, Option, Some, None, find, option_map};
+//! The spans of a table's zones, line by line.
+ghost use Rattle.std.specs.Prelude.{◌≡◌, ◌≤◌, ℕ, All, IfErr, IfOk, IfSome, IsTrue, List, Ok, Option, Some, None, find, option_map, ◌<◌, drop, false, length, not};
 ghost use Rattle.std.specs.FinMap.{get};
-ghost use Rattle.std.specs.List.{list_all};
+ghost use Rattle.std.specs.List.{list_all, list_any};
 ghost use Rattle.zone_table.specs.BoundedTables.{IsBoundedTable};
-ghost use Rattle.zone_table.specs.Bounds.{is_bounded_info};
+ghost use Rattle.zone_table.specs.Bounds.{is_bounded_info, is_bounded_rule};
 ghost use Rattle.zone_table.specs.Resolved.{resolved_in};
 ghost use Rattle.zone_table.specs.declared.zone.ZoneInfo.{ZoneInfo};
 ghost use Rattle.zone_spans.specs.Bounds.{IsSoundOver, is_bounded, is_bounded_entry, is_bounded_line, is_bounded_span};
-ghost use Rattle.zone_spans.specs.Causes.{IsDue};
+ghost use Rattle.zone_spans.specs.Causes.{IsDue, IsUnknown};
 ghost use Rattle.zone_spans.specs.Collapse.{LocalEndsRise, EntryTimesDontFall};
 ghost use Rattle.zone_spans.specs.Compiled.{TellsCompiled, compiled, compiled_over, set_of_lines_over};
 ghost use Rattle.zone_spans.specs.Entries.{first_span, is_standard};
-ghost use Rattle.zone_spans.specs.Lines.{Rulesets};
+ghost use Rattle.zone_spans.specs.Lines.{Rulesets, end_before, fixed_saving, is_known, is_ruled, rules_named, zone_lines};
 ghost use Rattle.zone_spans.specs.Years.{years_limit};
+ghost use Rattle.zone_spans.specs.Faults.{is_unknown};
 
-use crate::collapsing::collapse;
 use crate::entries::{first_span, sorted_entries};
 use crate::fault::{SpanFault, line_fault};
-use crate::line::{Line, zone_lines};
-use crate::span::FixedTimespanSet;
+use crate::span::{FixedTimespanSet, collapse};
 use crate::year::MOST_YEARS;
+use owned::Items;
 use std::alloc::Global;
-use zone_table::{Table, ZoneInfo};
+use std::marker::Model;
+use zone_table::{RuleInfo, Saving, Table, ZoneInfo};
+use zone_values::ChangeTime;
 
 /// What has rulesets and zones by their names.
 pub trait TableTransitions {
@@ -162,4 +164,113 @@ fn expand(alloc: Global, lines: &[Line<'_>], years: u16) -> Result<FixedTimespan
         }
         None => Err(SpanFault::NoStandardSpan),
     }
+}
+
+/// A line with the rules that it names, and its end where it is not the last.
+#[derive(Drop)]
+pub(crate) struct Line<'a> {
+    pub(crate) info: &'a ZoneInfo,
+    pub(crate) rules: &'a [RuleInfo],
+    pub(crate) end: Option<ChangeTime>,
+}
+
+impl<'a> Model for Line<'a> {
+    ghost use Rattle.zone_spans.specs.Lines.{Line};
+
+    ghost Value = { Line };
+
+    ghost view = { λ line. record { info = line.info.now; rules = line.rules.now; end = line.end } };
+}
+
+impl<'a> Line<'a> {
+    /// The line's saving is that of rules.
+    pub(crate) fn is_ruled(&self) -> bool
+        ensures { result ≡ is_ruled self.now.info.saving }
+    {
+        match self.info.saving {
+            Saving::Multiple(_) => true,
+            Saving::NoSaving | Saving::OneOff(_) => false,
+        }
+    }
+
+    /// The name of the line's ruleset, or an empty text where it has none.
+    pub(crate) fn ruleset_name(&self) -> &'a str {
+        match &self.info.saving {
+            Saving::Multiple(name) => name.as_str(),
+            Saving::NoSaving | Saving::OneOff(_) => "",
+        }
+    }
+
+    /// What is added for as long as the line holds, where no rules say it.
+    pub(crate) fn fixed_saving(&self) -> i64
+        ensures { result ≡ fixed_saving self.now.info.saving }
+    {
+        match self.info.saving {
+            Saving::OneOff(seconds) => seconds,
+            Saving::NoSaving | Saving::Multiple(_) => 0,
+        }
+    }
+}
+
+/// The rules that a saving names: none where it names none.
+///
+/// # Errors
+///
+/// `UnknownRuleset` where the table lacks the ruleset.
+fn rules_named<'a>(table: &'a Table, saving: &Saving) -> Result<&'a [RuleInfo], SpanFault>
+    requires { IsBoundedTable table.now }
+    ensures ok { IfOk result (λ rules. rules.now ≡ rules_named (get table.now.rulesets) saving.now) }
+    ensures known { IfOk result (λ _. IsTrue (is_known (get table.now.rulesets) saving.now)) }
+    ensures bounded { IfOk result (λ rules. IsTrue (list_all is_bounded_rule rules.now)) }
+    ensures err { IfErr result (λ fault. IsUnknown fault (not (is_known (get table.now.rulesets) saving.now))) }
+{
+    match saving {
+        Saving::NoSaving | Saving::OneOff(_) => Ok(&[]),
+        Saving::Multiple(name) => table
+            .get_ruleset(name.as_str())
+            .ok_or(SpanFault::UnknownRuleset),
+    }
+}
+
+/// The end of the line at an index, where it is not the last.
+fn end_at(infos: &[ZoneInfo], index: usize) -> Option<ChangeTime>
+    requires { index < length infos.now }
+    ensures { result ≡ end_before (drop index infos.now) }
+{
+    if index + 1 < infos.len() {
+        infos[index].end_time
+    } else {
+        None
+    }
+}
+
+/// The lines of a zone, each with the rules that it names.
+///
+/// # Errors
+///
+/// `UnknownRuleset` where the table lacks a ruleset that a line names, or `NoMemory`.
+#[tactic(auto, unfolding(crate::specs::Lines::zone_lines))]
+pub(crate) fn zone_lines<'a>(
+    alloc: Global,
+    table: &'a Table,
+    infos: &'a [ZoneInfo],
+) -> Result<Items<Line<'a>>, SpanFault>
+    requires table { IsBoundedTable table.now }
+    requires lines { IsTrue (list_all is_bounded_info infos.now) }
+    ensures ok { IfOk result (λ lines. lines ≡ zone_lines (get table.now.rulesets) infos.now) }
+    ensures known { IfOk result (λ _. list_any (is_unknown (get table.now.rulesets)) infos.now ≡ false) }
+    ensures bounded { IfOk result (λ lines. IsTrue (list_all is_bounded_line lines)) }
+    ensures err { IfErr result (λ fault. IsUnknown fault (list_any (is_unknown (get table.now.rulesets)) infos.now)) }
+{
+    let mut lines = Items::new(alloc);
+    for i in 0..infos.len() {
+        let info = &infos[i];
+        let rules = rules_named(table, &info.saving)?;
+        lines.push(Line {
+            info,
+            rules,
+            end: end_at(infos, i),
+        })?;
+    }
+    Ok(lines)
 }

@@ -11,9 +11,8 @@ ghost use Rattle.zone_spans.specs.Stands.{StandsFor};
 ghost use Rattle.zone_spans.specs.Windows.{line_end};
 ghost use Rattle.zone_spans.specs.Years.{earliest_year, years_limit};
 
-use crate::firing::Firing;
-use crate::front::{Applying, Placed, first_of, front_of, left_of};
-use crate::line::Line;
+use crate::front::{Applying, Firing, Placed, first_of, front_of, left_of};
+use crate::transitions::Line;
 use std::alloc::{AllocError, Global};
 use zone_table::{RuleInfo, instant_of};
 use zone_values::{ChangeTime, TimeType};

@@ -11,7 +11,7 @@ use Rattle.zone_values.specs.Values.{no_saving, one_off, multiple, InfoValue, Ru
 use Rattle.zone_table.specs.Bounds.{is_bounded_rule, is_bounded_info}
 use Rattle.zone_table.specs.Formats.{format_of, has_placeholder}
 use Rattle.zone_table.specs.Owned.{owned_rule, owned_info, owned_saving}
-use Rattle.zone_table.specs.declared.format.Format.TheVariants.{Placeholder}
+use Rattle.zone_table.specs.declared.zone.Format.TheVariants.{Placeholder}
 use Rattle.zone_table.specs.declared.rule.RuleInfo.{RuleInfo}
 use Rattle.zone_table.specs.declared.zone.Saving.TheVariants as saving
 use Rattle.zone_table.specs.declared.zone.ZoneInfo.{ZoneInfo}

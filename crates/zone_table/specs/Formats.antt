@@ -2,8 +2,8 @@
 use Rattle.std.specs.Prelude.{ℕ, ◌==◌, ℤ, pos, Bool, true, false, ◌&&◌, ◌||◌, List, [], ◌∷◌, ◌++◌, Option, unwrap_or, if◌then◌else◌}
 use Rattle.std.specs.Ordering.{int_eq}
 use Rattle.std.specs.List.{before_first, after_first, list_any}
-use Rattle.zone_table.specs.declared.format.Format.{Format}
-use Rattle.zone_table.specs.declared.format.Format.TheVariants.{Constant, Alternate, Placeholder}
+use Rattle.zone_table.specs.declared.zone.Format.{Format}
+use Rattle.zone_table.specs.declared.zone.Format.TheVariants.{Constant, Alternate, Placeholder}
 
 abbrev pub is_slash : ℕ → Bool
 is_slash byte = byte == 47

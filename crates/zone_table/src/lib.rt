@@ -5,20 +5,14 @@
 #![tactic(auto)]
 
 mod bounds;
-mod builder;
 mod error;
-mod format;
-mod moment;
 mod rule;
 mod structure;
 mod table;
 mod zone;
 
-pub use builder::TableBuilder;
 pub use error::Error;
-pub use format::Format;
-pub use moment::instant_of;
-pub use rule::RuleInfo;
+pub use rule::{RuleInfo, instant_of};
 pub use structure::{Child, Iter, Structure, TableStructure, TableStructureEntry};
-pub use table::Table;
-pub use zone::{Saving, ZoneInfo};
+pub use table::{Table, TableBuilder};
+pub use zone::{Format, Saving, ZoneInfo};

@@ -1,20 +1,27 @@
-//! The table.
-ghost use Rattle.std.specs.Prelude.{◌≡◌, ◌↔◌, IsTrue, IfSome, [], List, reverse};
+//! The table, and how one is built from lines.
+ghost use Rattle.std.specs.Prelude.{◌≡◌, ◌↔◌, IsTrue, IfSome, [], List, reverse, OnOk, OnErr, IfErr};
 ghost use Rattle.std.specs.FinMap.{get};
-ghost use Rattle.std.specs.List.{list_all};
+ghost use Rattle.std.specs.List.{list_all, AllPass};
 ghost use Rattle.std.specs.Option.{option_copied};
-ghost use Rattle.zone_values.specs.Values.{LineValue};
+ghost use Rattle.zone_values.specs.Values.{LineValue, line_value};
 ghost use Rattle.owned.specs.Keyed.{EachPasses};
 ghost use Rattle.zone_table.specs.BoundedTables.{IsBoundedTable};
 ghost use Rattle.zone_table.specs.Bounds.{is_bounded_rule, is_bounded_info};
 ghost use Rattle.zone_table.specs.Resolved.{resolved, resolved_in};
 ghost use Rattle.zone_table.specs.Tables.{IsTableOf};
+ghost use Rattle.zone_values.specs.Bounds.{is_bounded_line};
+ghost use Rattle.zone_values.specs.declared.line.Line.TheVariants as kind;
+ghost use Rattle.zone_table.specs.Built.{StandsFor, Joins, IsCause};
+ghost use Rattle.zone_table.specs.declared.error.Error.TheVariants.{NoMemory};
 
 use crate::bounds::{are_bounded_lines, are_bounded_rules};
+use crate::error::Error;
 use crate::rule::RuleInfo;
 use crate::zone::ZoneInfo;
 use owned::{Items, Text, TextMap};
 use std::alloc::Global;
+use std::marker::Model;
+use zone_values::{Line, Link, Rule, Saving, Zone};
 
 /// Rulesets, zones and links by their names.
 #[derive(Drop)]
@@ -86,5 +93,153 @@ impl Table {
         self.zonesets
             .values()
             .all(|lines| are_bounded_lines(lines.as_slice()))
+    }
+}
+
+/// A table that is built line by line. Contracts see the table so far and the name of the zone that is open, if one is:
+/// the zone to which a continuation would be appended.
+#[derive(Drop)]
+pub struct TableBuilder {
+    table: Table,
+    open_zone: Option<Text>,
+    alloc: Global,
+}
+
+impl Model for TableBuilder {
+    ghost use Rattle.zone_table.specs.Built.{Built, built_code};
+    ghost use Rattle.zone_table.specs.contracts.table.Table as stored;
+
+    ghost Value = { Built };
+
+    ghost coded = { built_code stored.the_row.coded };
+
+    ghost view = { λ builder. record { table = builder.table; open_zone = builder.open_zone } };
+}
+
+impl TableBuilder {
+    /// A builder of an empty table, with no zone open. It takes no memory.
+    pub fn new(alloc: Global) -> TableBuilder
+        ensures { StandsFor result [] }
+    {
+        TableBuilder {
+            table: Table::new(alloc),
+            open_zone: None,
+            alloc,
+        }
+    }
+
+    /// Adds a line of any kind. A blank line changes nothing, and leaves an open zone open.
+    ///
+    /// # Errors
+    ///
+    /// Those of the call for that kind of line.
+    pub fn add_line(&mut self, line: Line<'_>) -> Result<(), Error>
+        ensures ok { OnOk result (Joins self.old self.new (line_value line.entry)) }
+        ensures err { OnErr result (self.new ≡ self.old) }
+        ensures cause { IfErr result (IsCause self.old (line_value line.entry)) }
+    {
+        match line {
+            Line::Space => Ok(()),
+            Line::Zone(zone) => self.add_zone_line(zone),
+            Line::Continuation(info) => self.add_continuation_line(info),
+            Line::Rule(rule) => self.add_rule_line(rule),
+            Line::Link(link) => self.add_link_line(link),
+        }
+    }
+
+    /// Begins a zone with its first line, and opens it.
+    ///
+    /// # Errors
+    ///
+    /// [`Error::UnknownRuleset`] with the name of the ruleset that the line names and no earlier line defines; else
+    /// [`Error::DuplicateZone`] where an earlier zone has the name; [`Error::NoMemory`].
+    pub fn add_zone_line(&mut self, zone_line: Zone<'_>) -> Result<(), Error>
+        ensures ok { OnOk result (Joins self.old self.new (line_value (kind.Zone zone_line.entry))) }
+        ensures err { OnErr result (self.new ≡ self.old) }
+        ensures cause { IfErr result (IsCause self.old (line_value (kind.Zone zone_line.entry))) }
+    {
+        if let Saving::Multiple(name) = zone_line.info.saving {
+            if !self.table.rulesets.contains_key(name) {
+                return Err(Error::UnknownRuleset(String::from_str(self.alloc, name)?));
+            }
+        }
+        if self.table.zonesets.contains_key(zone_line.name) {
+            return Err(Error::DuplicateZone);
+        }
+        let info = ZoneInfo::from_line(self.alloc, zone_line.info)?;
+        let name = Text::new(self.alloc, zone_line.name)?;
+        self.table
+            .zonesets
+            .append(self.alloc, zone_line.name, info)?;
+        self.open_zone = Some(name);
+        Ok(())
+    }
+
+    /// Appends a line to the open zone. The ruleset that it names may be unknown.
+    ///
+    /// # Errors
+    ///
+    /// [`Error::SurpriseContinuationLine`] where no zone is open; [`Error::NoMemory`].
+    pub fn add_continuation_line(
+        &mut self,
+        continuation_line: zone_values::ZoneInfo<'_>,
+    ) -> Result<(), Error>
+        ensures ok { OnOk result (Joins self.old self.new (line_value (kind.Continuation continuation_line.entry))) }
+        ensures err { OnErr result (self.new ≡ self.old) }
+        ensures cause { IfErr result (IsCause self.old (line_value (kind.Continuation continuation_line.entry))) }
+    {
+        let Some(name) = &self.open_zone else {
+            return Err(Error::SurpriseContinuationLine);
+        };
+        let info = ZoneInfo::from_line(self.alloc, continuation_line)?;
+        self.table.zonesets.append(self.alloc, name.as_str(), info)?;
+        Ok(())
+    }
+
+    /// Appends a rule to its ruleset, and closes the zone that is open.
+    ///
+    /// # Errors
+    ///
+    /// [`Error::NoMemory`] alone.
+    pub fn add_rule_line(&mut self, rule_line: Rule<'_>) -> Result<(), Error>
+        ensures ok { OnOk result (Joins self.old self.new (line_value (kind.Rule rule_line.entry))) }
+        ensures err { OnErr result (self.new ≡ self.old) }
+        ensures cause { IfErr result (λ error. error ≡ NoMemory) }
+    {
+        let name = rule_line.name;
+        let info = RuleInfo::from_line(self.alloc, rule_line)?;
+        self.table.rulesets.append(self.alloc, name, info)?;
+        self.open_zone = None;
+        Ok(())
+    }
+
+    /// Adds a link from a new name to one that stands, and closes the zone that is open. A zone may have the new name.
+    ///
+    /// # Errors
+    ///
+    /// [`Error::DuplicateLink`] with the new name where an earlier link has it; [`Error::NoMemory`].
+    pub fn add_link_line(&mut self, link_line: Link<'_>) -> Result<(), Error>
+        ensures ok { OnOk result (Joins self.old self.new (line_value (kind.Link link_line.entry))) }
+        ensures err { OnErr result (self.new ≡ self.old) }
+        ensures cause { IfErr result (IsCause self.old (line_value (kind.Link link_line.entry))) }
+    {
+        if self.table.links.contains_key(link_line.new) {
+            return Err(Error::DuplicateLink(String::from_str(self.alloc, link_line.new)?));
+        }
+        let name = link_line.new;
+        let existing = Text::new(self.alloc, link_line.existing)?;
+        self.table.links.insert(self.alloc, name, existing)?;
+        self.open_zone = None;
+        Ok(())
+    }
+
+    /// The table of the lines that were accepted. It takes no memory.
+    pub fn build(self) -> Table
+        ensures table { result ≡ self.table }
+        ensures joined { (values : List LineValue) → StandsFor self values → IsTableOf result values }
+        ensures bounded { (values : List LineValue) → StandsFor self values →
+            AllPass is_bounded_line values → IsBoundedTable result }
+    {
+        self.table
     }
 }

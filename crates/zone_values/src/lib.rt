@@ -10,7 +10,6 @@ mod error;
 mod fault;
 mod line;
 mod month;
-mod names;
 mod time;
 mod weekday;
 mod year;

@@ -5,7 +5,7 @@ ghost use Rattle.zone_values.specs.Months.{month_number, month_numbered, month_f
 
 use crate::error::Error;
 use crate::fault::{Fault, FaultKind, or_error, value_or_fault};
-use crate::names::month_named;
+use crate::year::month_named;
 use std::alloc::Global;
 
 /// A month of the year.

@@ -5,7 +5,7 @@ ghost use Rattle.zone_values.specs.Weekdays.{weekday_number, weekday_field};
 
 use crate::error::Error;
 use crate::fault::{Fault, FaultKind, or_error, value_or_fault};
-use crate::names::weekday_named;
+use crate::year::weekday_named;
 use std::alloc::Global;
 
 /// A day of the week.

@@ -1,0 +1,8 @@
+use Rattle.tz_zone.specs.Sets.{shifts_of}
+use Rattle.tz_lookup.specs.YearCounts.{AreBefore}
+use Rattle.tz_lookup.specs.Years.{year_second}
+use Rattle.tz_lookup.proofs.compact_set.entries_before.Given as goal
+
+-- the entries so far lie before the year
+abbrev pub invariant-loop-index : goal.invariant-loop-index
+invariant-loop-index l = AreBefore (shifts_of l.set) l.index (year_second l.place)

@@ -1,7 +1,0 @@
-use Rattle.std.proofs.Common.{sym, ap, ◌∙◌}
-use Rattle.zone_spans.specs.Lines.{Line}
-use Rattle.zone_spans.proofs.RuleLemmas.{rules_are}
-use Rattle.zone_spans.proofs.tested.TestedServe.serves.Goals as goal
-
-pub returns : goal.returns
-returns c is_same = rules_are _ _ (sym c.eq.ensures ∙ is_same) ∙ ap (λ (l : Line). l.rules) c.line.view_is
