@@ -8,8 +8,8 @@ use Rattle.tz_zone.specs.InForce.{all_in_force, in_force, shown_of}
 use Rattle.sefunjaro.specs.Asked.{reading_of, IsNamed}
 use Rattle.sefunjaro.specs.Gaps.{IsSkippedBy}
 use Rattle.sefunjaro.specs.Rooms.{filled}
-use Rattle.sefunjaro.specs.declared.asking.InForce.{InForce}
-use Rattle.sefunjaro.specs.declared.asking.Reading.{Reading}
+use Rattle.sefunjaro.specs.declared.zone.InForce.{InForce}
+use Rattle.sefunjaro.specs.declared.zone.Reading.{Reading}
 use Rattle.sefunjaro.specs.declared.gap.Gap.{Gap}
 
 -- what is in force at an instant, where each instant has a total, and gives abbreviations

@@ -3,8 +3,8 @@ use Rattle.std.specs.Prelude.{ℕ, ℤ, Bool, List}
 use Rattle.tz_tzif.specs.InForce.{told_total_at}
 use Rattle.sefunjaro.specs.Files.{file_value, given_at, SaysOf}
 use Rattle.sefunjaro.specs.Zones.{given_in, total_in}
-use Rattle.sefunjaro.specs.declared.any.AnyZone.{AnyZone}
-use Rattle.sefunjaro.specs.declared.any.AnyZone.TheVariants.{Source, File}
+use Rattle.sefunjaro.specs.declared.zone.AnyZone.{AnyZone}
+use Rattle.sefunjaro.specs.declared.zone.AnyZone.TheVariants.{Source, File}
 use Rattle.sefunjaro.specs.declared.file.FileZone.{FileZone}
 use Rattle.sefunjaro.specs.declared.zone.OpenZone.{OpenZone}
 

@@ -7,9 +7,10 @@ ghost use Rattle.sefunjaro.specs.Files.{IsFileFault};
 ghost use Rattle.sefunjaro.specs.Posix.{IsPosixFault, IsStandardOf};
 ghost use Rattle.sefunjaro.specs.declared.file.PosixFault.TheVariants.{NoMemory as NoPosixMemory};
 
-use crate::asking::{InForce, Reading, first_reading, in_force, offset_at, reading_of};
 use crate::gap::Gap;
-use crate::lent::lent_readings;
+use crate::zone::{
+    InForce, Reading, first_reading, in_force, lent_readings, offset_at, reading_of,
+};
 use civil_base::{OffsetDateTime, PlainDateTime, UtcOffset};
 use std::alloc::Global;
 use thiserror::Error;

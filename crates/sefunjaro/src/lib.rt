@@ -8,16 +8,12 @@
 //! and proved. One [`Error`] has the cause of each call, typed and with a text, and `?` reaches it from each.
 #![tactic(auto)]
 
-mod any;
 mod any_source;
-mod asking;
 mod changes;
 mod clock;
 mod error;
 mod file;
 mod gap;
-mod lent;
-mod names;
 mod opening;
 mod posix_names;
 mod room;
@@ -26,9 +22,7 @@ mod texts;
 mod whole;
 mod zone;
 
-pub use any::AnyZone;
 pub use any_source::AnySourceFault;
-pub use asking::{InForce, Reading};
 pub use changes::Change;
 pub use civil_base::{
     Date, Month, OffsetDateTime, PlainDateTime, SignedDuration, Time, UtcOffset, Weekday,
@@ -49,7 +43,7 @@ pub use tz_lookup::{
 };
 pub use tz_posix_core::PosixTz;
 pub use tz_tzif::{TzifFault, TzifTz};
-pub use zone::OpenZone;
+pub use zone::{AnyZone, InForce, OpenZone, Reading};
 pub use zone_alarm::{AlarmFault, Ring, alarms};
 pub use zone_line::LineParser;
 pub use zone_list::{ListFault, Listing, list_lines};

@@ -1,20 +1,31 @@
-//! A source that is kept open.
-ghost use Rattle.std.specs.Prelude.{◌≡◌};
-ghost use Rattle.std.proofs.Props.{props};
+//! A source that is kept open, and its names in order.
+ghost use Rattle.std.specs.Prelude.{◌≡◌, IfOk};
 ghost use Rattle.tz_lookup.specs.Databases.{names_of};
+ghost use Rattle.std.proofs.Props.{props};
 ghost use Rattle.zone_table.specs.BoundedTables.{IsBoundedTable};
 ghost use Rattle.sefunjaro.specs.Releases.{if_some, release_text};
 ghost use Rattle.zone_source.specs.Releases.{release_of};
 
-use crate::names::names_of;
 use crate::zone::OpenZone;
 use owned::{Items, Text};
-use std::alloc::Global;
+use std::alloc::{AllocError, Global};
 use thiserror::Error;
-use tz_lookup::{ZoneFault, compile_zone};
+use tz_lookup::{ZoneFault, compile_zone, names_in_order};
 use zone_line::LineParser;
 use zone_source::{LIMIT, SourceError, read_table, release_of};
 use zone_table::Table;
+
+/// Every name of a table that finds a zone, in byte order, each once.
+pub(crate) fn names_of(alloc: Global, table: &Table) -> Result<Items<Text>, AllocError>
+    ensures { IfOk result (λ names. names ≡ names_of table.now) }
+{
+    let in_order = names_in_order(alloc, table)?;
+    let mut names = Items::new(alloc);
+    for name in in_order.iter() {
+        names.push(Text::new(alloc, name)?)?;
+    }
+    Ok(names)
+}
 
 /// The zones of a source, with their names in byte order, and its release, or nothing where it names none.
 #[derive(Drop)]

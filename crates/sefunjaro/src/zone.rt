@@ -1,10 +1,205 @@
-//! A zone that is kept open.
-use crate::asking::{InForce, Reading, first_reading, in_force, offset_at, reading_of, readings};
+//! A zone of any kind that is kept open, and what it is asked.
+ghost use Rattle.std.specs.Prelude.{◌≡◌, ◌<◌, length, map, option_map};
+ghost use Rattle.tz_tzif.specs.InForce.{told_total_at};
+ghost use Rattle.tz_tzif.specs.Zones.{value_of, says_of};
+ghost use Rattle.sefunjaro.specs.Answered.{AreReadings};
+ghost use Rattle.std.specs.List.{slice_get};
+ghost use Rattle.civil_base.specs.DateTimes.{instant};
+ghost use Rattle.tz_lookup.specs.InForce.{all_in_force, shown_of};
+ghost use Rattle.sefunjaro.specs.Asked.{reading_of, IsNamed};
+ghost use Rattle.sefunjaro.specs.Rooms.{filled};
+ghost use Rattle.sefunjaro.specs.Zones.{total_in};
+
 use crate::changes::{Change, changes, next_change, saving_at};
+use crate::file::FileZone;
 use crate::gap::{Gap, find_gap};
+use crate::room::{fill, put};
 use civil_base::{OffsetDateTime, PlainDateTime};
 use std::alloc::{AllocError, Global};
-use tz_lookup::{CompactFault, CompactSet, CompactTz, FixedTimespanSet, OffsetDateTimeExt};
+use tz_lookup::{
+    AllInstants, CompactFault, CompactSet, CompactTz, FixedTimespanSet, InstantsOf, Offset,
+    OffsetDateTimeExt, PrimitiveDateTimeExt, TimeZone,
+};
+use tz_tzif::TzifTz;
+
+/// The readings of a zone, or the change that skips a local time.
+pub(crate) fn lent_readings(
+    zone: &TzifTz<'_>,
+    local: &PlainDateTime,
+    room: &mut [Reading],
+    gap: &mut Gap,
+) -> usize
+    ensures answer { AreReadings (told_total_at (value_of zone.now) (says_of zone.now)) local.now room.old room.new result gap.new }
+    ensures gap { 0 < result → gap.new ≡ gap.old }
+{
+    let count = readings(zone, local, room);
+    if count == 0 {
+        *gap = find_gap(zone, local);
+    }
+    count
+}
+
+/// What is in force in a zone.
+#[derive(Clone, Copy, Debug, PartialEq, Eq)]
+#[repr(C)]
+pub struct InForce {
+    /// The seconds east of UTC.
+    pub offset: i32,
+    /// Whether it is daylight saving time.
+    pub is_saving: bool,
+    /// How many bytes the abbreviation has.
+    pub name_length: usize,
+}
+
+/// An instant at which clocks show a local time.
+#[derive(Clone, Copy, Debug, PartialEq, Eq)]
+#[repr(C)]
+pub struct Reading {
+    /// The seconds from 1970-01-01 00:00:00 UTC, rounded down.
+    pub second: i64,
+    /// The seconds east of UTC that are in force then.
+    pub offset: i32,
+}
+
+/// The seconds east of UTC that a zone has in force at an instant.
+pub(crate) fn offset_at<T: TimeZone>(zone: &T, at: &OffsetDateTime) -> i32
+    ensures { result ≡ T.total_at zone.now (instant at.now) }
+{
+    zone.get_offset_utc(at).to_utc().whole_seconds()
+}
+
+/// What a zone has in force at an instant. The abbreviation goes into the room, as far as it fits.
+pub(crate) fn in_force<T: TimeZone>(zone: &T, at: &OffsetDateTime, room: &mut [u8]) -> InForce
+    ensures offset { result.offset ≡ T.total_at zone.now (instant at.now) }
+    ensures name { IsNamed (T.gives zone.now (instant at.now)) result room.old room.new }
+{
+    let offset = zone.get_offset_utc(at);
+    let name_length = fill(offset.name().as_bytes(), room);
+    InForce {
+        offset: offset.to_utc().whole_seconds(),
+        is_saving: offset.is_dst(),
+        name_length,
+    }
+}
+
+/// All instants at which the clocks of a zone show a local time, by time, as far as they fit, and how many there are.
+pub(crate) fn readings<T: AllInstants>(
+    zone: &T,
+    local: &PlainDateTime,
+    room: &mut [Reading],
+) -> usize
+    ensures room { room.new ≡ filled (map reading_of (all_in_force (T.total_at zone.now) local.now)) room.old }
+    ensures count { result ≡ length (all_in_force (T.total_at zone.now) local.now) }
+{
+    let mut count = 0;
+    for date in InstantsOf::new(zone, local) {
+        put(reading_of(&date), count, room);
+        count += 1;
+    }
+    count
+}
+
+/// A date-time as a reading.
+pub(crate) fn reading_of(date: &OffsetDateTime) -> Reading
+    ensures { result ≡ reading_of (shown_of date.now) }
+{
+    Reading {
+        second: date.unix_timestamp(),
+        offset: date.offset().whole_seconds(),
+    }
+}
+
+/// The first of the instants at which the clocks of a zone show a local time, or none where they skip it.
+pub(crate) fn first_reading<T: TimeZone>(zone: &T, local: &PlainDateTime) -> Option<OffsetDateTime>
+    ensures { option_map shown_of result ≡ slice_get (all_in_force (T.total_at zone.now) local.now) 0 }
+{
+    local.assume_timezone(zone).take_first()
+}
+
+/// A zone of any kind, which is asked the same.
+#[derive(Debug, Drop)]
+pub enum AnyZone {
+    /// The zone of a name in a source.
+    Source(OpenZone),
+    /// The zone of a compiled file, or of a POSIX string.
+    File(FileZone),
+}
+
+impl AnyZone {
+    ghost use Rattle.civil_base.specs.DateTimes.{instant};
+    ghost use Rattle.sefunjaro.specs.Answered.{first_of, IsInForce, IsShown};
+    ghost use Rattle.sefunjaro.specs.Any.{Seen};
+
+    /// The seconds east of UTC that are in force at an instant.
+    pub fn offset_at(&self, at: &OffsetDateTime) -> i32
+        ensures { Seen self.now (λ total _. result ≡ total (instant at.now)) }
+    {
+        match self {
+            AnyZone::Source(zone) => zone.offset_at(at),
+            AnyZone::File(zone) => zone.offset_at(at),
+        }
+    }
+
+    /// What is in force at an instant. The abbreviation goes into the room, as far as it fits.
+    pub fn in_force(&self, at: &OffsetDateTime, room: &mut [u8]) -> InForce
+        ensures { Seen self.now (λ total gives. IsInForce total gives (instant at.now) result room.old room.new) }
+    {
+        match self {
+            AnyZone::Source(zone) => zone.in_force(at, room),
+            AnyZone::File(zone) => zone.in_force(at, room),
+        }
+    }
+
+    /// The instant at the offset in force. There is none exactly where the local date lies outside the years -9999 to 9999.
+    pub fn shown_at(&self, at: &OffsetDateTime) -> Option<OffsetDateTime>
+        ensures { Seen self.now (λ total _. IsShown total (instant at.now) result) }
+    {
+        match self {
+            AnyZone::Source(zone) => zone.shown_at(at),
+            AnyZone::File(zone) => zone.shown_at(at),
+        }
+    }
+
+    /// All instants at which clocks show a local time, by time, as far as they fit in the room, and how many there are. Where
+    /// there is none, the change that skips the local time is told.
+    pub fn readings(&self, local: &PlainDateTime, room: &mut [Reading], gap: &mut Gap) -> usize
+        ensures answer { Seen self.now (λ total _. AreReadings total local.now room.old room.new result gap.new) }
+        ensures gap { 0 < result → gap.new ≡ gap.old }
+    {
+        match self {
+            AnyZone::Source(zone) => source_readings(zone, local, room, gap),
+            AnyZone::File(zone) => zone.readings(local, room, gap),
+        }
+    }
+
+    /// The ring of a daily alarm on the day and at the time of day of a local time: the first of the instants at which clocks
+    /// show it, or none where they skip it.
+    pub fn ring(&self, local: &PlainDateTime) -> Option<Reading>
+        ensures { Seen self.now (λ total _. result ≡ first_of total local.now) }
+    {
+        match self {
+            AnyZone::Source(zone) => zone.ring(local),
+            AnyZone::File(zone) => zone.ring(local),
+        }
+    }
+}
+
+/// The readings of a zone of a source, or the change that skips a local time.
+fn source_readings(
+    zone: &OpenZone,
+    local: &PlainDateTime,
+    room: &mut [Reading],
+    gap: &mut Gap,
+) -> usize
+    ensures answer { AreReadings (total_in zone.now) local.now room.old room.new result gap.new }
+    ensures gap { 0 < result → gap.new ≡ gap.old }
+{
+    let count = zone.readings(local, room);
+    if count == 0 {
+        *gap = zone.gap(local);
+    }
+    count
+}
 
 /// A zone that owns all that it is asked for.
 #[derive(Debug, Drop)]

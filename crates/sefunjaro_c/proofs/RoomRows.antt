@@ -8,7 +8,7 @@ use Rattle.sefunjaro.specs.Changes.{window}
 use Rattle.sefunjaro.specs.Clocks.{IsClock}
 use Rattle.sefunjaro.specs.Rooms.{filled}
 use Rattle.sefunjaro.specs.Zones.{set_in}
-use Rattle.sefunjaro.specs.declared.asking.Reading.{Reading}
+use Rattle.sefunjaro.specs.declared.zone.Reading.{Reading}
 use Rattle.sefunjaro.specs.declared.changes.Change.{Change}
 use Rattle.sefunjaro.specs.declared.clock.Clock.{Clock}
 use Rattle.sefunjaro.specs.declared.gap.Gap.{Gap}

@@ -8,8 +8,8 @@ use Rattle.civil_base.specs.declared.offset_date_time.OffsetDateTime.{OffsetDate
 use Rattle.tz_zone.specs.InForce.{in_force, shown_of}
 use Rattle.sefunjaro.specs.Answered.{IsShown}
 use Rattle.sefunjaro.specs.Any.{Seen}
-use Rattle.sefunjaro.specs.declared.any.AnyZone.{AnyZone}
-use Rattle.sefunjaro.specs.declared.any.AnyZone.TheVariants.{Source, File}
+use Rattle.sefunjaro.specs.declared.zone.AnyZone.{AnyZone}
+use Rattle.sefunjaro.specs.declared.zone.AnyZone.TheVariants.{Source, File}
 use Rattle.sefunjaro_c.specs.Answers.{is_shown, IsShownAs, Where}
 
 -- what follows from what is seen, whatever zone it is

@@ -10,7 +10,7 @@ use Rattle.sefunjaro_handles.specs.Statuses.{done, not_read}
 use Rattle.sefunjaro.specs.Clocks.{clock_at}
 use Rattle.sefunjaro.specs.declared.clock.Clock.{Clock}
 use Rattle.sefunjaro_c.specs.Times.{nanos_at}
-use Rattle.sefunjaro_c.specs.declared.times.Instant.{Instant}
+use Rattle.sefunjaro_c.specs.declared.zones.Instant.{Instant}
 
 -- the local time that a text names, if it is UTF-8
 unfoldable pub local_in : List ℕ → Option ℤ

@@ -5,8 +5,7 @@ ghost use Rattle.sefunjaro_c.specs.Faults.{plain, IsRefused};
 ghost use Rattle.sefunjaro_handles.specs.Held.{IsSource};
 ghost use Rattle.sefunjaro_handles.specs.Statuses.{done};
 
-use crate::fault::{Fault, plain_fault, source_fault};
-use crate::status::{DONE, NO_MEMORY, NO_PLAIN_FORM, TOO_LONG};
+use crate::fault::{DONE, Fault, NO_MEMORY, NO_PLAIN_FORM, TOO_LONG, plain_fault, source_fault};
 use sefunjaro::{AnySourceFault, OpenSource};
 use sefunjaro_handles::{Handle, Opened};
 use std::alloc::Global;

@@ -8,8 +8,8 @@ ghost use Rattle.sefunjaro_handles.specs.Statuses.{IfRefused};
 ghost use Rattle.sefunjaro.specs.Changes.{next_after, saving_at};
 ghost use Rattle.sefunjaro.specs.Zones.{set_in};
 
-use crate::status::{DONE, NONE_THERE, NOT_KEPT, NOT_OPEN, OUT_OF_RANGE};
-use crate::times::instant_of;
+use crate::fault::{DONE, NONE_THERE, NOT_KEPT, NOT_OPEN, OUT_OF_RANGE};
+use crate::zones::instant_of;
 use sefunjaro::{AnyZone, Change, Clock, Reading};
 use sefunjaro_handles::{Opened, View};
 

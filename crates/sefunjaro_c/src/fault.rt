@@ -1,14 +1,56 @@
-//! Why a source or a zone isn't opened, in numbers.
+//! Statuses, and why a source or a zone isn't opened, in numbers.
 ghost use Rattle.std.specs.Prelude.{◌≡◌};
 ghost use Rattle.sefunjaro_c.specs.Faults.{error_told, join_number, kind_number, opening_told, schedule_number, zone_told};
 
-use crate::status::{
-    BAD_JOIN, BAD_LINE, NO_MEMORY, NO_SCHEDULE, NOT_TEXT, OFFSET_RANGE, TOO_LONG, UNKNOWN_ZONE,
-};
 use sefunjaro::OpenFault;
 use tz_lookup::{SpanFault, ZoneFault};
 use zone_line::FaultKind;
 use zone_source::{BuildKind, SourceError};
+
+/// The call did what it says.
+pub(crate) const DONE: u32 = 0;
+
+/// The handle holds nothing, or nothing of the kind that is asked.
+pub(crate) const NOT_OPEN: u32 = 1;
+
+/// There was no memory.
+pub(crate) const NO_MEMORY: u32 = 2;
+
+/// The source is longer than 16,777,216 bytes.
+pub(crate) const TOO_LONG: u32 = 3;
+
+/// A line of the source, or a zone's name, is not UTF-8.
+pub(crate) const NOT_TEXT: u32 = 4;
+
+/// A line of the source can't be read.
+pub(crate) const BAD_LINE: u32 = 5;
+
+/// A line of the source reads, and may not follow those before it.
+pub(crate) const BAD_JOIN: u32 = 6;
+
+/// The name finds no zone.
+pub(crate) const UNKNOWN_ZONE: u32 = 7;
+
+/// The zone has no schedule.
+pub(crate) const NO_SCHEDULE: u32 = 8;
+
+/// Some offset of the zone is 26 hours or more in size.
+pub(crate) const OFFSET_RANGE: u32 = 9;
+
+/// A time is none, or its date lies outside the years -9999 to 9999.
+pub(crate) const OUT_OF_RANGE: u32 = 10;
+
+/// There is none of what is asked for.
+pub(crate) const NONE_THERE: u32 = 11;
+
+/// The text is none of those that are read.
+pub(crate) const NOT_READ: u32 = 12;
+
+/// A zone of a file, or of a POSIX string, doesn't keep what is asked.
+pub(crate) const NOT_KEPT: u32 = 13;
+
+/// The source, in any form, has no plain form.
+pub(crate) const NO_PLAIN_FORM: u32 = 14;
 
 /// What a call refuses: its status, and where there is one, the cause and the line of the source.
 #[derive(Clone, Copy, Debug, PartialEq, Eq)]

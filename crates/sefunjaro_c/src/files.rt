@@ -7,8 +7,7 @@ ghost use Rattle.sefunjaro_handles.specs.Statuses.{done};
 ghost use Rattle.sefunjaro.specs.Any.{IsOfFile};
 ghost use Rattle.sefunjaro.specs.Files.{IsFileOf};
 
-use crate::fault::{Fault, plain_fault};
-use crate::status::{DONE, NO_MEMORY, NOT_READ, NOT_TEXT};
+use crate::fault::{DONE, Fault, NO_MEMORY, NOT_READ, NOT_TEXT, plain_fault};
 use sefunjaro::{AnyZone, FileFault, FileZone, PosixFault};
 use sefunjaro_handles::{Handle, Opened};
 use std::alloc::Global;

@@ -8,8 +8,6 @@ mod changes;
 mod fault;
 mod files;
 mod sources;
-mod status;
-mod times;
 mod version;
 mod whole;
 mod zones;

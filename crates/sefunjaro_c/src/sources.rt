@@ -10,8 +10,9 @@ ghost use Rattle.sefunjaro_handles.specs.Statuses.{done, not_open, IfRefused};
 ghost use Rattle.sefunjaro.specs.Any.{IsOfSource};
 ghost use Rattle.sefunjaro.specs.Sources.{release_in, table_in};
 
-use crate::fault::{Fault, opening_fault, plain_fault, zone_fault};
-use crate::status::{DONE, NO_MEMORY, NONE_THERE, NOT_OPEN, NOT_TEXT};
+use crate::fault::{
+    DONE, Fault, NO_MEMORY, NONE_THERE, NOT_OPEN, NOT_TEXT, opening_fault, plain_fault, zone_fault,
+};
 use sefunjaro::{AnyZone, OpenSource, fill};
 use sefunjaro_handles::{Handle, Opened, View};
 use std::alloc::Global;

@@ -5,8 +5,7 @@ ghost use Rattle.sefunjaro_c.specs.Whole.{tzif_told, none_for, tail_told, IsFile
 ghost use Rattle.sefunjaro_handles.specs.Held.{OfKept, OfZone, OnZone};
 ghost use Rattle.sefunjaro_handles.specs.Statuses.{not_kept, not_open, IfRefused};
 
-use crate::fault::{Fault, plain_fault};
-use crate::status::{DONE, NO_MEMORY, NONE_THERE, NOT_KEPT, NOT_OPEN};
+use crate::fault::{DONE, Fault, NO_MEMORY, NONE_THERE, NOT_KEPT, NOT_OPEN, plain_fault};
 use sefunjaro::{AnyZone, OpenZone, fill, has_posix_names};
 use sefunjaro_handles::{Opened, View};
 use std::alloc::Global;

@@ -1,8 +1,8 @@
 -- What is asked of a handle that holds a source or a zone.
 use Rattle.std.specs.Prelude.{◌≡◌, ℕ, Option, Some, None}
 use Rattle.std.specs.Arc.{arc_value}
-use Rattle.sefunjaro.specs.declared.any.AnyZone.{AnyZone}
-use Rattle.sefunjaro.specs.declared.any.AnyZone.TheVariants.{Source as OfName, File as OfBytes}
+use Rattle.sefunjaro.specs.declared.zone.AnyZone.{AnyZone}
+use Rattle.sefunjaro.specs.declared.zone.AnyZone.TheVariants.{Source as OfName, File as OfBytes}
 use Rattle.sefunjaro.specs.declared.source.OpenSource.{OpenSource}
 use Rattle.sefunjaro.specs.declared.zone.OpenZone.{OpenZone}
 use Rattle.sefunjaro_handles.specs.Statuses.{not_kept, not_open}

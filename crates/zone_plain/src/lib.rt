@@ -3,10 +3,7 @@
 
 mod head;
 mod laws;
-mod line;
 mod mark;
-mod output;
-mod reading;
 mod respond;
 mod running;
 mod whole;

@@ -5,7 +5,7 @@ ghost use Rattle.zone_plain_base.specs.Marks.{behind, tails};
 ghost use Rattle.zone_plain_base.specs.Renamed.{ruleset_of};
 ghost use Rattle.zone_plain.specs.LineValues.{known, mark_in, meant_in};
 
-use crate::line::is_open_after;
+use crate::whole::is_open_after;
 use std::alloc::{AllocError, Global};
 use zone_line::Line;
 use zone_plain_base::{Refused, behind_underscore, line_at, line_meant, mark_behind};

@@ -1,21 +1,201 @@
-//! The plain form of a source.
-ghost use Rattle.std.specs.Prelude.{◌≡◌, ◌≤◌, Ok, length, IfOk, IfErr};
+//! The plain form of a source: its lines, read, led through the stages and written out.
+ghost use Rattle.std.specs.Prelude.{◌≡◌, IfOk, IfErr, ◌≤◌, Ok, map, length, ◌++◌, [], ◌∷◌, flat_map, OnOk};
+ghost use Rattle.zone_values.specs.Values.{line_value};
+ghost use Rattle.zone_plain.specs.LineValues.{is_open_after, mark_in, values_in};
+ghost use Rattle.zone_plain.specs.Told.{IsReadLine, added_line, IsLineFault};
+ghost use Rattle.zone_plain_base.specs.Told.{IsRefused};
 ghost use Rattle.zone_source.specs.Zones.{source_value};
-ghost use Rattle.std.specs.Prelude.{map};
+ghost use Rattle.zone_plain_base.specs.PlainTexts.{plain_text};
+ghost use Rattle.zone_plain.specs.Written.{Rules, Zones, Links, part_text, written};
 ghost use Rattle.zone_plain_base.specs.LineFaults.{IsFaultOf};
 ghost use Rattle.zone_plain.specs.Plain.{plain_of};
 ghost use Rattle.zone_plain.specs.Rebuilt.{IsRebuilt};
-ghost use Rattle.zone_plain.specs.Written.{written};
 
 use crate::head::head_of;
-use crate::output::written;
-use crate::reading::read_lines;
+use crate::mark::mark_in;
 use std::alloc::{AllocError, Global};
-use zone_line::LineParser;
-use zone_plain_base::{PlainFault, lines_read};
+use zone_line::{Line, LineParser, LineReader};
+use zone_plain_base::{
+    PlainFault, Refused, fault_at, line_meant, lines_read, put_plain, said_name_of, under,
+    write_said,
+};
+use zone_plain_lines::PlainCause;
 use zone_plain_links::settle;
 use zone_plain_offsets::write_out;
-use zone_source::{LIMIT, LineList};
+use zone_source::{LIMIT, LineList, Lines};
+
+/// Whether a line of the zone has to follow, where one had to before.
+pub(crate) fn is_open_after(is_open: bool, line: &Line<'_>) -> bool
+    ensures { result ≡ is_open_after is_open (line_value line.now) }
+{
+    match line {
+        Line::Space => is_open,
+        Line::Zone(zone) => zone.info.time.is_some(),
+        Line::Continuation(info) => info.time.is_some(),
+        Line::Rule(_) | Line::Link(_) => false,
+    }
+}
+
+/// Reads a line in its place, and adds its plain text to the lines, with its ruleset by its name in the plain form of a source of that
+/// mark. Answers whether a line of the zone has to follow.
+pub(crate) fn read_line(
+    alloc: Global,
+    reader: &mut LineReader<'_>,
+    mark: &str,
+    is_open: bool,
+    line: &[u8],
+    laid: &mut Vec<u8>,
+    plain: &mut Vec<u8>,
+    lines: &mut LineList,
+) -> Result<bool, Refused>
+    ensures ok { IfOk result (IsReadLine lines.old lines.new mark.now is_open line.now) }
+    ensures err { IfErr result (IsRefused (added_line mark.now is_open line.now)) }
+{
+    let meant = match line_meant(alloc, is_open, line, laid) {
+        Ok(meant) => meant,
+        Err(refused) => return Err(refused),
+    };
+    let name = said_name_of(alloc, mark, &meant)?;
+    if !write_said(alloc, reader, &under(&meant, name.as_str()), plain)? {
+        return Err(Refused::Cause(PlainCause::Unsayable));
+    }
+    lines.push(plain.as_slice())?;
+    Ok(is_open_after(is_open, &meant))
+}
+
+/// The plain texts of a source's lines, each as it stands, or the first line that is refused.
+pub(crate) fn read_lines(
+    alloc: Global,
+    parser: &LineParser,
+    source: &[u8],
+) -> Result<LineList, PlainFault>
+    requires { length source.now ≤ LIMIT }
+    ensures ok { IfOk result (λ lines. values_in source.now ≡ Ok (map source_value lines)) }
+    ensures err { IfErr result (IsLineFault (values_in source.now)) }
+{
+    let mark = mark_in(alloc, source)?;
+    read_named(alloc, parser, source, mark.as_str())
+}
+
+/// The same of a source of that mark.
+fn read_named(
+    alloc: Global,
+    parser: &LineParser,
+    source: &[u8],
+    mark: &str,
+) -> Result<LineList, PlainFault>
+    requires length { length source.now ≤ LIMIT }
+    requires mark { mark.now ≡ mark_in source.now }
+    ensures ok { IfOk result (λ lines. values_in source.now ≡ Ok (map source_value lines)) }
+    ensures err { IfErr result (IsLineFault (values_in source.now)) }
+{
+    let mut reader = parser.reader(alloc)?;
+    let mut laid = Vec::new(alloc);
+    let mut plain = Vec::new(alloc);
+    let mut lines = LineList::new(alloc);
+    let mut is_open = false;
+    let mut number = 1;
+    for line in Lines::new(source) {
+        match read_line(
+            alloc,
+            &mut reader,
+            mark,
+            is_open,
+            line,
+            &mut laid,
+            &mut plain,
+            &mut lines,
+        ) {
+            Ok(open_now) => is_open = open_now,
+            Err(refused) => return Err(fault_at(number, refused)),
+        }
+        number += 1;
+    }
+    if is_open {
+        return Err(PlainFault::Line(number, PlainCause::Continuation));
+    }
+    Ok(lines)
+}
+
+/// What is written, by its parts.
+#[derive(Drop)]
+struct Parts {
+    /// The rules.
+    rules: Vec<u8>,
+    /// The zones, with their continuations.
+    zones: Vec<u8>,
+    /// The links.
+    links: Vec<u8>,
+}
+
+/// Writes a line.
+#[tactic(auto, using(std::proofs::Common::append_assoc))]
+fn put_line(into: &mut Vec<u8>, line: &Line<'_>) -> Result<(), AllocError>
+    ensures { OnOk result (into.new.items ≡ into.old.items ++ (plain_text (line_value line.now) ++ 10 ∷ [])) }
+{
+    put_plain(into, line)?;
+    into.extend_from_slice(b"\n")?;
+    Ok(())
+}
+
+/// Writes a line in its part, if it belongs to one.
+fn put_in_part(parts: &mut Parts, line: &Line<'_>) -> Result<(), AllocError>
+    ensures rules { OnOk result (parts.new.rules.items ≡ parts.old.rules.items ++ part_text Rules (line_value line.now)) }
+    ensures zones { OnOk result (parts.new.zones.items ≡ parts.old.zones.items ++ part_text Zones (line_value line.now)) }
+    ensures links { OnOk result (parts.new.links.items ≡ parts.old.links.items ++ part_text Links (line_value line.now)) }
+{
+    match line {
+        Line::Space => Ok(()),
+        Line::Zone(_) => {
+            put_line(&mut parts.zones, line)?;
+            Ok(())
+        }
+        Line::Continuation(_) => {
+            put_line(&mut parts.zones, line)?;
+            Ok(())
+        }
+        Line::Rule(_) => {
+            put_line(&mut parts.rules, line)?;
+            Ok(())
+        }
+        Line::Link(_) => {
+            put_line(&mut parts.links, line)?;
+            Ok(())
+        }
+    }
+}
+
+/// The parts of what is written of the lines.
+fn parts_of(alloc: Global, lines: &[Line<'_>]) -> Result<Parts, AllocError>
+    ensures rules { IfOk result (λ parts. parts.rules.items ≡ flat_map (part_text Rules) (map line_value lines.now)) }
+    ensures zones { IfOk result (λ parts. parts.zones.items ≡ flat_map (part_text Zones) (map line_value lines.now)) }
+    ensures links { IfOk result (λ parts. parts.links.items ≡ flat_map (part_text Links) (map line_value lines.now)) }
+{
+    let mut parts = Parts {
+        rules: Vec::new(alloc),
+        zones: Vec::new(alloc),
+        links: Vec::new(alloc),
+    };
+    for line in lines {
+        put_in_part(&mut parts, line)?;
+    }
+    Ok(parts)
+}
+
+/// What is written of the lines: the rules, then the zones, then the links.
+#[tactic(auto, unfolding(crate::specs::Written::written))]
+pub(crate) fn written(alloc: Global, lines: &[Line<'_>]) -> Result<Vec<u8>, AllocError>
+    ensures { IfOk result (λ bytes. bytes.items ≡ written (map line_value lines.now)) }
+{
+    let Parts {
+        rules: mut bytes,
+        zones,
+        links,
+    } = parts_of(alloc, lines)?;
+    bytes.extend_from_slice(zones.as_slice())?;
+    bytes.extend_from_slice(links.as_slice())?;
+    Ok(bytes)
+}
 
 /// The plain form of a source in any form that `zic` reads: the line of its release, if its first line names one, as `# version 2026b`;
 /// then its rules, then its zones, then its links, each in the order of the source, a line each, with `%z` written out and each link led

@@ -5,20 +5,16 @@
 
 mod error;
 mod laws;
-mod mark;
 mod meant;
-mod name;
-mod reading;
 mod renamed;
 mod said;
 mod text;
 
 pub use error::{PlainFault, Refused, fault_at};
 pub use laws::said_names;
-pub use mark::mark_behind;
 pub use meant::line_meant;
-pub use name::said_name;
-pub use reading::{keep_line, line_at, lines_read};
-pub use renamed::{behind_underscore, has_said_name, mark_of, said_name_of, under};
-pub use said::{is_read, write_said};
+pub use renamed::{
+    behind_underscore, has_said_name, mark_behind, mark_of, said_name, said_name_of, under,
+};
+pub use said::{is_read, keep_line, line_at, lines_read, write_said};
 pub use text::put_plain;

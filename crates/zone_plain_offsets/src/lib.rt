@@ -2,14 +2,11 @@
 #![tactic(auto)]
 
 mod asked;
-mod format;
-mod group;
 mod laws;
 mod made;
 mod name;
 mod offset;
 mod pairs;
-mod size;
 mod stage;
 
 pub use laws::{abbreviations, made_names, made_rulesets, one_total};

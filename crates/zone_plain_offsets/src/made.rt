@@ -5,8 +5,8 @@ ghost use Rattle.zone_values.specs.Values.{line_value, rule_value, rule};
 ghost use Rattle.zone_plain_offsets.specs.Made.{made_rule, is_rule_said, renamed};
 ghost use Rattle.zone_plain_offsets.specs.Told.{IsAdded, AreAdded, value_in, made_lines, is_made_said};
 
-use crate::group::line_in;
 use crate::offset::{named_total, offset_text};
+use crate::stage::line_in;
 use std::alloc::{AllocError, Global};
 use zone_line::{Line, LineReader, Rule};
 use zone_plain_base::write_said;

@@ -1,7 +1,11 @@
 //! The lines of a source with `%z` written out.
-ghost use Rattle.std.specs.Prelude.{◌≡◌, ◌<◌, [], ◌∷◌, ◌++◌, ◌&&◌, Ok, length, map, codes, string_bytes, IfOk, IfErr, OnOk};
-ghost use Rattle.zone_source.specs.Zones.{source_value};
+ghost use Rattle.std.specs.Prelude.{◌≡◌, [], map, unwrap_or, IfOk, OnOk, ◌≤◌, ◌<◌, ◌+◌, drop, length, slice_index_or, ◌∷◌, ◌++◌, ◌&&◌, Ok, codes, string_bytes, IfErr};
+ghost use Rattle.std.specs.FinMap.{get};
 ghost use Rattle.zone_values.specs.Values.{line_value};
+ghost use Rattle.zone_plain_offsets.specs.Told.{IsGrouped, value_in, with_place, within, IsAdded, AreAdded, IsWrittenOut, new_rules, are_new_said};
+ghost use Rattle.std.specs.List.{sum_by};
+ghost use Rattle.zone_plain_offsets.specs.WrittenOut.{line_size, written_out};
+ghost use Rattle.zone_source.specs.Zones.{source_value};
 ghost use Rattle.zone_plain_base.specs.LineFaults.{IsFaultOf};
 ghost use Rattle.zone_plain_base.specs.LinesAt.{value_at};
 ghost use Rattle.zone_plain_base.specs.Said.{is_said};
@@ -10,23 +14,96 @@ ghost use Rattle.zone_plain_offsets.specs.Pairs.{with_pair};
 ghost use Rattle.zone_plain_base.specs.Renamed.{mark_of};
 ghost use Rattle.zone_plain_offsets.specs.OffsetTexts.{offset_text, has_text};
 ghost use Rattle.zone_plain_offsets.specs.Shown.{parts_shown, pair_shown};
-ghost use Rattle.zone_plain_offsets.specs.Told.{IsGrouped, IsAdded, AreAdded, IsWrittenOut, new_rules, are_new_said};
-ghost use Rattle.zone_plain_offsets.specs.WrittenOut.{written_out};
 
-use crate::asked::{Asked, asked_of, with_format, with_ruleset};
-use crate::format::{Around, around_text};
-use crate::group::{line_in, places_by_name, places_of};
+use crate::asked::{Around, Asked, around_text, asked_of, with_format, with_ruleset};
 use crate::made::{add_rules, add_said};
 use crate::name::made_name;
 use crate::offset::{has_text, offset_text};
 use crate::pairs::{Pair, Pairs, offset_of};
-use crate::size::size_from;
 use owned::{Items, TextMap};
 use std::alloc::{AllocError, Global};
 use zone_line::{Line, LineParser, LineReader};
 use zone_plain_base::{PlainFault, keep_line, lines_read, mark_of};
 use zone_plain_lines::PlainCause;
-use zone_source::LineList;
+use zone_source::{LIMIT, LineList};
+
+/// The line at a place, which counts from 0; nothing past the end.
+pub(crate) fn line_in<'t>(lines: &[Line<'t>], place: usize) -> Line<'t>
+    ensures { line_value result ≡ value_in (map line_value lines.now) place }
+{
+    match lines.get(place) {
+        Some(line) => *line,
+        None => Line::Space,
+    }
+}
+
+/// Adds the place of a line to its ruleset, if it is a rule.
+fn add_place(
+    alloc: Global,
+    groups: &mut TextMap<Items<usize>>,
+    line: &Line<'_>,
+    place: usize,
+) -> Result<(), AllocError>
+    ensures { OnOk result (groups.new ≡ with_place groups.old (line_value line.now) place) }
+{
+    match line {
+        Line::Rule(rule) => groups.append(alloc, rule.name, place),
+        Line::Space | Line::Zone(_) | Line::Continuation(_) | Line::Link(_) => Ok(()),
+    }
+}
+
+/// The places of the rules of each ruleset, in order, by the ruleset's name.
+pub(crate) fn places_by_name(
+    alloc: Global,
+    lines: &[Line<'_>],
+) -> Result<TextMap<Items<usize>>, AllocError>
+    ensures { IfOk result (λ groups. IsGrouped (map line_value lines.now) groups) }
+{
+    let mut groups = TextMap::new(alloc);
+    for place in 0..lines.len() {
+        let line = line_in(lines, place);
+        add_place(alloc, &mut groups, &line, place)?;
+    }
+    Ok(groups)
+}
+
+/// The places of the rules of a ruleset, in order.
+pub(crate) fn places_of<'g>(groups: &'g TextMap<Items<usize>>, name: &str) -> &'g [usize]
+    ensures { result.now ≡ unwrap_or (get groups.now name.now) [] }
+{
+    match groups.get(name) {
+        Some(places) => places.as_slice(),
+        None => &[],
+    }
+}
+
+/// How many bytes the line at a place takes with its line feed.
+fn size_at(lines: &LineList, place: usize) -> usize
+    requires { place < length lines.now }
+    ensures { result ≡ line_size (slice_index_or lines.now place []) }
+{
+    match lines.get(place) {
+        Some(line) => line.len() + 1,
+        None => unreachable!(),
+    }
+}
+
+/// How many bytes the lines from a place on take, each with its line feed, together with so many others; nothing past the limit of
+/// 16,777,216.
+pub(crate) fn size_from(lines: &LineList, from: usize, size: usize) -> Option<usize>
+    requires { size ≤ LIMIT }
+    ensures { result ≡ within LIMIT (size + sum_by line_size (drop from lines.now)) }
+{
+    let mut total = size;
+    for place in from..lines.len() {
+        let added = size_at(lines, place);
+        if added > LIMIT - total {
+            return None;
+        }
+        total += added;
+    }
+    Some(total)
+}
 
 /// Adds a line with another format. Answers whether it can be said.
 fn add_with_format<'a>(

@@ -4,7 +4,7 @@ use Rattle.std.specs.Arc.{arc_value}
 use Rattle.sefunjaro.specs.Answered.{first_of}
 use Rattle.sefunjaro.specs.Any.{Seen}
 use Rattle.sefunjaro.specs.Clocks.{clock_shown}
-use Rattle.sefunjaro.specs.declared.asking.Reading.{Reading}
+use Rattle.sefunjaro.specs.declared.zone.Reading.{Reading}
 use Rattle.sefunjaro_handles.specs.declared.opened.Opened.TheVariants.{Zone}
 use Rattle.sefunjaro_c.specs.Changes.{IsFound, IsRing}
 use Rattle.sefunjaro_c.proofs.AskedLemmas.{of_zone}

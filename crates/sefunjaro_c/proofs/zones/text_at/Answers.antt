@@ -2,7 +2,7 @@ use Rattle.std.proofs.Common.{◌≡◌, ◌∙◌, to_z-of_z, ℤ, true, ap, su
 use Rattle.std.specs.Arc.{arc_value}
 use Rattle.civil_base.specs.DateTimes.{instant}
 use Rattle.sefunjaro.specs.Any.{Seen}
-use Rattle.sefunjaro.specs.declared.any.AnyZone.{AnyZone}
+use Rattle.sefunjaro.specs.declared.zone.AnyZone.{AnyZone}
 use Rattle.sefunjaro_handles.specs.declared.opened.Opened.TheVariants.{Zone}
 use Rattle.sefunjaro_c.specs.Answers.{is_shown, IsTextIn, Where, Within}
 use Rattle.sefunjaro_c.specs.Times.{is_instant, nanos_at}
