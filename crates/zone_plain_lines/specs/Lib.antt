@@ -3,6 +3,7 @@ pub mod Causes
 pub mod Steps
 pub mod Quotes
 pub mod Words
+pub mod WordLaws
 pub mod Numbers
 pub mod Clocks
 pub mod Columns
