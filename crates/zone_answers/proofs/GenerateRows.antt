@@ -8,11 +8,11 @@ use Rattle.zone_source.specs.Faults.{source_fault}
 use Rattle.zone_source.specs.Lines.{lines_of}
 use Rattle.zone_source.specs.LineLists.{ended}
 use Rattle.zone_answers.specs.Counts.{count_in}
-use Rattle.zone_answers.specs.Due.{answer_lines, due_bytes}
-use Rattle.zone_answers.specs.Faults.{fault, request_refusal}
+use Rattle.zone_answers.specs.Due.{answer_lines_with, due_bytes, due_bytes_with}
+use Rattle.zone_answers.specs.Faults.{fault_with, request_refusal}
 use Rattle.zone_answers.specs.Made.{numbers_to, zone_line, at_line, local_line, made_source, made_requests}
-use Rattle.zone_answers.specs.Requests.{request_of}
-use Rattle.zone_answers.specs.Summary.{summary, due_summary}
+use Rattle.zone_answers.specs.Requests.{request_of, request_with}
+use Rattle.zone_answers.specs.Summary.{summary, due_summary, due_summary_with}
 use Rattle.zone_answers.specs.Words.{answer_over, generate, task_in}
 
 -- numbers from 1 to 1000, and none of 0, of more, of leading zeros, of signs, spaces or letters
@@ -69,10 +69,10 @@ summaries = refl
 
 -- what is due over no source: for no request, and for one in no form
 due : map (due_summary []) ([] ∷ codes "what" ∷ []) ≡ (codes "lines 0 bytes 0 sum 0" ++ 10 ∷ []) ∷ (codes "request 1: request" ++ 10 ∷ []) ∷ []
-unfolding due_summary summary answer_lines fault source_fault request_refusal request_of lines_of is_utf8 chars encode digits
+unfolding due_summary_with summary answer_lines_with fault_with source_fault request_refusal request_of request_with lines_of is_utf8 chars encode digits
 due = refl
 
 -- and in full: no line for no request, or the fault's line, which ends
 due_in_full : map (due_bytes []) ([] ∷ codes "what" ∷ []) ≡ [] ∷ (codes "request 1: request" ++ 10 ∷ []) ∷ []
-unfolding due_bytes answer_lines fault source_fault request_refusal request_of lines_of is_utf8 chars encode digits
+unfolding due_bytes_with answer_lines_with fault_with source_fault request_refusal request_of request_with lines_of is_utf8 chars encode digits
 due_in_full = refl

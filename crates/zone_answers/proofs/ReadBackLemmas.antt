@@ -1,27 +1,24 @@
--- Over valid input each instant that is shown is read back.
-use Rattle.std.proofs.Common.{◌≡◌, ℕ, zero, suc, Bool, true, false, cond, List, [], ◌∷◌, length, map, filter, Option, Some, None, option_map, Ok, Err, refl, sym, ap, ◌∙◌, arith, ℤ}
+-- Each instant that is shown of a request that is not refused is read back.
+use Rattle.std.proofs.Common.{◌≡◌, ℕ, zero, suc, Bool, true, false, cond, List, [], ◌∷◌, length, map, filter, Option, Some, None, option_map, Ok, refl, sym, ap, ◌∙◌, subst, arith, ℤ}
 use Rattle.std.specs.Prelude.{All, bytes_eq, codes, nat_lt}
 use Rattle.std.specs.List.{before_first, after_first, flat_map}
-use Rattle.std.specs.Option.{option_or, option_map_or}
 use Rattle.std.specs.Ordering.{int_eq}
-use Rattle.std.specs.Str.{is_utf8}
 use Rattle.std.proofs.lemmas.Bool.{and_parts}
 use Rattle.std.proofs.lemmas.Bool.Decides.{Decides-int_eq}
 use Rattle.std.proofs.lemmas.Int.{ints}
 use Rattle.std.proofs.lemmas.List.Elements.{All-append}
-use Rattle.std.proofs.lemmas.Option.{none-some}
 use Rattle.civil_base.specs.Instants.{instant_at, local_at}
 use Rattle.civil_base.specs.LocalTimes.{is_text_of, time_with, local_time_in}
 use Rattle.civil_base.specs.Ranges.{is_in_years, is_offset}
 use Rattle.civil_base.specs.ReadAsLaws.{zoned_text-read}
-use Rattle.zone_source.specs.Lines.{lines_of}
-use Rattle.zone_spans.specs.Schedules.{Schedule, totals_of, total_at, offsets, instants, is_in_offset_range}
-use Rattle.zone_spans.specs.ScheduleLaws.{total_is_offset}
+use Rattle.zone_spans.specs.Schedules.{offsets, instants}
 use Rattle.tz_lookup.specs.InForce.{in_force, all_in_force}
-use Rattle.zone_answers.specs.Requests.{Request, at, local, name_of, is_space, nanoseconds_in, request_of}
-use Rattle.zone_answers.specs.Found.{Found, schedule_found, found_in}
-use Rattle.zone_answers.specs.Faults.{Fault, request_not_text, bad_request, offset_range, range, has_dates, schedule_refusal, found_refusal, request_refusal, first_refused, source_refusal, fault, IsValid}
-use Rattle.zone_answers.specs.Due.{shown_at, shown_for, shown}
+use Rattle.zone_answers.specs.Requests.{Request, at, local, name_of, is_space, nanoseconds_in, request_of, request_with}
+use Rattle.zone_answers.specs.AskedLaws.{Asks}
+use Rattle.zone_answers.specs.Due.{shown_at, shown_for}
+use Rattle.zone_answers.specs.Faults.{has_dates}
+use Rattle.zone_answers.specs.Found.{Found}
+use Rattle.zone_answers.proofs.RefusalLemmas.{shown_is}
 use Rattle.zone_answers.specs.ReadBack.{IsReadBack}
 
 -- the local time of a request lies in the years
@@ -44,7 +41,7 @@ at_years name None = tt
 at_years name (Some x) = tt
 
 request_years : (line : List ℕ) → HasYears (request_of line)
-unfolding HasYears request_of
+unfolding HasYears request_of request_with
 request_years line = by_name (nat_lt 0 (length name))
   where
     rest : List ℕ
@@ -81,7 +78,7 @@ one_back : (shown : ℤ × ℤ) → IsReadBack shown → All IsReadBack (shown �
 one_back shown back zero d within = back
 one_back shown back (suc k) d within = absurd (omega arith)
 
-none_back : All IsReadBack []
+pub none_back : All IsReadBack []
 none_back k d within = absurd (omega arith)
 
 -- each instant of a local time
@@ -101,67 +98,25 @@ each_back total x years small (o ∷ os) = by_test (int_eq (total (instant_at x 
         (one_back (in_force total (instant_at x o))
         (read_at total x o years (small (instant_at x o)) ((Decides-int_eq (total (instant_at x o)) o).0 is))) rest
 
-all_in_force_back : (schedule : Schedule) (x : ℤ) → is_in_years x ≡ true → is_in_offset_range schedule ≡ true
-    → All IsReadBack (all_in_force (total_at schedule) x)
-unfolding all_in_force instants
-all_in_force_back schedule x years small = each_back (total_at schedule) x years (λ t. total_is_offset schedule t small) offsets
+-- what answers a request at a zone whose totals are offsets, where it has its dates
+at_zone : (request : Request) (total : ℤ → ℤ) → HasYears (Some request) → ((t : ℤ) → is_offset (total t) ≡ true)
+    → has_dates total request ≡ true → All IsReadBack (shown_at total request)
+unfolding HasYears shown_at has_dates all_in_force instants
+at_zone (at name instant) total years small dates =
+    one_back _ (zoned_text-read instant (total instant) (and_parts (is_in_years instant) _ dates).1 (small instant))
+at_zone (local name time) total years small dates = each_back total time years small offsets
 
--- what answers a request that a zone of this schedule doesn't refuse
-at_schedule : (n : ℕ) (request : Request) (schedule : Schedule) → HasYears (Some request) → schedule_refusal n request schedule ≡ None →
-    All IsReadBack (shown_at schedule request)
-unfolding HasYears shown_at has_dates
-at_schedule n request schedule years accepted = by_range request (is_in_offset_range schedule) refl years accepted
-  where
-    by_dates : (request : Request) (b : Bool) → is_in_offset_range schedule ≡ true → has_dates schedule request ≡ b
-        → HasYears (Some request) →
-        cond b None (Some (range n)) ≡ None → All IsReadBack (shown_at schedule request)
-    by_dates request false small dates years refused = absurd (none-some _ (sym refused))
-    by_dates (at name instant) true small dates years accepted_is =
-        one_back _ (zoned_text-read instant (total_at schedule instant) (and_parts (is_in_years instant) _ dates).1 (total_is_offset schedule instant small))
-    by_dates (local name time) true small dates years accepted_is = all_in_force_back schedule time years small
+-- what is shown by a line that asks it
+pub line_back : (names : List ℕ → Found) (line : List ℕ) (request : Request) (total : ℤ → ℤ) → Asks request_of line request
+    → names (name_of request) ≡ Ok total → ((t : ℤ) → is_offset (total t) ≡ true) → has_dates total request ≡ true
+    → All IsReadBack (shown_for names line)
+line_back names line request total is found small dates =
+    rw (shown_is names line request total is found)
+    (at_zone request total (subst HasYears is.reads (request_years line)) small dates)
 
-    by_range : (request : Request) (b : Bool) → is_in_offset_range schedule ≡ b → HasYears (Some request) →
-        cond b (cond (has_dates schedule request) None (Some (range n))) (Some (offset_range n)) ≡ None
-        → All IsReadBack (shown_at schedule request)
-    by_range request false is years refused = absurd (none-some _ (sym refused))
-    by_range request true is years accepted_is = by_dates request (has_dates schedule request) is refl years accepted_is
-
-line_back : (names : List ℕ → Found) (n : ℕ) (line : List ℕ) → request_refusal names n line ≡ None → All IsReadBack (shown_for names line)
-unfolding request_refusal shown_for
-line_back names n line accepted = by_text (is_utf8 line) accepted
-  where
-    by_found : (request : Request) (found : Found) → HasYears (Some request) → found_refusal n request found ≡ None →
-        All IsReadBack (shown_at (schedule_found found) request)
-    by_found request None years refused = absurd (none-some _ (sym refused))
-    by_found request (Some (Err fault)) years refused = absurd (none-some _ (sym refused))
-    by_found request (Some (Ok set)) years accepted_is = at_schedule n request (totals_of set) years accepted_is
-
-    by_form : (o : Option Request) → HasYears o
-        → option_map_or (λ request. found_refusal n request (names (name_of request))) o (Some (bad_request n)) ≡ None →
-        All IsReadBack (option_map_or (λ request. shown_at (schedule_found (names (name_of request))) request) o [])
-    by_form None years refused = absurd (none-some _ (sym refused))
-    by_form (Some request) years accepted_is = by_found request (names (name_of request)) years accepted_is
-
-    by_text : (b : Bool)
-        → cond b (option_map_or (λ request. found_refusal n request (names (name_of request))) (request_of line) (Some (bad_request n)))
-        (Some (request_not_text n)) ≡ None →
-        All IsReadBack (option_map_or (λ request. shown_at (schedule_found (names (name_of request))) request) (request_of line) [])
-    by_text false refused = absurd (none-some _ (sym refused))
-    by_text true accepted_is = by_form (request_of line) (request_years line) accepted_is
-
-both_none : (o p : Option Fault) → option_or o p ≡ None → (o ≡ None) × (p ≡ None)
-both_none None p h = (refl, h)
-both_none (Some x) p h = absurd (none-some _ (sym h))
-
-all_back : (names : List ℕ → Found) (n : ℕ) (lines : List (List ℕ)) → first_refused names n lines ≡ None
-    → All IsReadBack (flat_map (shown_for names) lines)
-all_back names n [] h = none_back
-all_back names n (line ∷ lines) h =
-    let both = both_none (request_refusal names n line) _ h in
-    All-append IsReadBack (shown_for names line) (flat_map (shown_for names) lines) (line_back names n line both.0)
-    (all_back names (suc n) lines both.1)
-
--- all that is shown over valid input
-pub shown_back : (source requests : List ℕ) → IsValid source requests → All IsReadBack (shown source requests)
-unfolding fault shown
-shown_back source requests valid = all_back (found_in source) 1 (lines_of requests) (both_none (source_refusal source) _ valid).1
+-- what lines show is read back where the first one's is and the others' are
+pub lines_back : (names : List ℕ → Found) (line : List ℕ) (left rest : List (List ℕ)) → left ≡ line ∷ rest
+    → All IsReadBack (shown_for names line) → All IsReadBack (flat_map (shown_for names) rest) → All IsReadBack (flat_map (shown_for names) left)
+lines_back names line left rest is first others =
+    subst (λ lines. All IsReadBack (flat_map (shown_for names) lines)) (sym is)
+    (All-append IsReadBack (shown_for names line) (flat_map (shown_for names) rest) first others)

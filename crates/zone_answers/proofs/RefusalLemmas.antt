@@ -1,23 +1,16 @@
 -- Why a request line is refused, and the line that answers one that is not.
-use Rattle.std.proofs.Common.{◌≡◌, ◌≢◌, ℕ, List, [], Bool, true, false, cond, Option, Some, None, Ok, refl, sym, ap, ◌∙◌}
+use Rattle.std.proofs.Common.{◌≡◌, ℕ, ℤ, List, [], true, false, cond, Option, Some, None, MatchOption, Ok, Err, sym, ap, ◌∙◌}
 use Rattle.std.specs.Option.{option_map_or}
-use Rattle.std.specs.Prelude.{IsTrue}
 use Rattle.std.specs.Str.{is_utf8}
-use Rattle.zone_spans.specs.Schedules.{totals_of, is_in_offset_range}
-use Rattle.zone_spans.specs.declared.fault.SpanFault.{SpanFault}
-use Rattle.zone_spans.specs.declared.fault.SpanFault.TheVariants as span
-use Rattle.tz_lookup.specs.Compiles.{spans_of, IsZoneFault}
-use Rattle.tz_lookup.specs.Sets.{schedule_of}
-use Rattle.tz_zone.specs.declared.compile.ZoneFault.{ZoneFault}
-use Rattle.tz_zone.specs.declared.compile.ZoneFault.TheVariants as zone
-use Rattle.tz_zone.specs.declared.set.FixedTimespanSet.{FixedTimespanSet}
+use Rattle.std.proofs.lemmas.Option.{none-some}
 use Rattle.zone_answers.specs.AskedLaws.{Asks}
-use Rattle.zone_answers.specs.Due.{answer_line, answer_text, shown_at, shown_for}
-use Rattle.zone_answers.specs.Faults.{bad_request, offset_range, range, request_not_text, has_dates, found_refusal, request_refusal}
-use Rattle.zone_answers.specs.Found.{Found, schedule_found}
+use Rattle.zone_answers.specs.Due.{answer_line, answer_text, shown_at, shown_for, shown_found}
+use Rattle.zone_answers.specs.Faults.{Fault, bad_request, request_not_text, dates_refusal, found_refusal, request_refusal, zone_refusal}
+use Rattle.zone_answers.specs.Found.{Found}
 use Rattle.zone_answers.specs.Requests.{Request, name_of, request_of}
-use Rattle.zone_answers.specs.Told.{span_told, RefusesZone, TellsOf}
+use Rattle.zone_answers.specs.Told.{TellsOf, fault_told}
 use Rattle.zone_answers.specs.declared.error.AnswerError.{AnswerError}
+use Rattle.zone_answers.specs.declared.error.AnswerError.TheVariants.{NoMemory}
 
 pub not_text_refused : (names : List ℕ → Found) (n : ℕ) (line : List ℕ) → is_utf8 line ≡ false
     → request_refusal names n line ≡ Some (request_not_text n)
@@ -44,38 +37,28 @@ pub refusal_is : (names : List ℕ → Found) (n : ℕ) (line : List ℕ) (reque
     request_refusal names n line ≡ found_refusal n request (names (name_of request))
 refusal_is names n line request is = refusal_read names n line (Some request) is.text is.reads
 
-pub line_is : (names : List ℕ → Found) (line : List ℕ) (request : Request) → Asks request_of line request →
-    answer_line names line ≡ answer_text (shown_at (schedule_found (names (name_of request))) request)
-unfolding shown_for
-line_is names line request is =
-    ap (λ o. answer_text (option_map_or (λ request. shown_at (schedule_found (names (name_of request))) request) o [])) is.reads
+-- at a zone that was found it is that of the dates
+pub dates_are : (names : List ℕ → Found) (n : ℕ) (line : List ℕ) (request : Request) (total : ℤ → ℤ) → Asks request_of line request
+    → names (name_of request) ≡ Ok total → request_refusal names n line ≡ dates_refusal n request total
+dates_are names n line request total is found = refusal_is names n line request is ∙ ap (found_refusal n request) found
 
-span_is_told : (fault : SpanFault) → fault ≢ span.NoMemory → span_told fault ≡ Some fault
-span_is_told span.UnknownRuleset other = refl
-span_is_told span.MissingUntil other = refl
-span_is_told span.YearRange other = refl
-span_is_told span.RuleYears other = refl
-span_is_told span.DayRange other = refl
-span_is_told span.NoStandardSpan other = refl
-span_is_told span.NoMemory other = absurd (other refl)
+pub shown_is : (names : List ℕ → Found) (line : List ℕ) (request : Request) (total : ℤ → ℤ) → Asks request_of line request
+    → names (name_of request) ≡ Ok total → shown_for names line ≡ shown_at total request
+unfolding shown_for
+shown_is names line request total is found =
+    ap (λ o. option_map_or (λ request. shown_found request (names (name_of request))) o []) is.reads ∙ ap (shown_found request) found
+
+pub line_is : (names : List ℕ → Found) (line : List ℕ) (request : Request) (total : ℤ → ℤ) → Asks request_of line request
+    → names (name_of request) ≡ Ok total → answer_line names line ≡ answer_text (shown_at total request)
+line_is names line request total is found = ap answer_text (shown_is names line request total is found)
 
 -- why a zone can't be asked is why the request is refused
-pub zone_refusal : (found : Found) (n : ℕ) (request : Request) (fault : ZoneFault) (error : AnswerError) → IsZoneFault found fault
-    → RefusesZone n fault error →
-    TellsOf (found_refusal n request found) error
-zone_refusal found n request zone.UnknownZone error is refused = rw (is, refused) refl
-zone_refusal found n request (zone.Schedule fault) error is refused = rw (is.0, refused, span_is_told fault is.1) refl
-zone_refusal found n request zone.OffsetRange error is refused = rw (is.is_found, refused, is.far) refl
-zone_refusal found n request zone.NoMemory error is refused = rw refused refl
-
--- a zone whose offsets are offsets refuses by the dates alone
-pub dates_refusal : (found : Found) (n : ℕ) (request : Request) (set : FixedTimespanSet) (b : Bool) → found ≡ Some (Ok (spans_of set))
-    → IsTrue (is_in_offset_range (schedule_of set)) →
-    b ≡ has_dates (schedule_of set) request → found_refusal n request found ≡ cond b None (Some (range n))
-unfolding totals_of
-dates_refusal found n request set b is small dates =
-    ap (found_refusal n request) is ∙ (λ i. cond (small i) (cond (sym dates i) None (Some (range n))) (Some (offset_range n)))
-
-pub schedule_is : (found : Found) (set : FixedTimespanSet) → found ≡ Some (Ok (spans_of set)) → schedule_found found ≡ schedule_of set
-unfolding totals_of
-schedule_is found set is = ap schedule_found is
+pub zone_refused : (found : Found) (n : ℕ) (request : Request) (error : AnswerError) → TellsOf (zone_refusal n found) error
+    → TellsOf (found_refusal n request found) error
+zone_refused (Err cause) n request error tells = tells
+zone_refused (Ok total) n request error tells = by_told (fault_told error) tells
+  where
+    by_told : (told : Option Fault) → MatchOption told (error ≡ NoMemory) (λ f. None ≡ Some f)
+        → MatchOption told (error ≡ NoMemory) (λ f. dates_refusal n request total ≡ Some f)
+    by_told None is = is
+    by_told (Some f) is = absurd (none-some _ is)

@@ -3,16 +3,17 @@ use Rattle.std.proofs.Common.{◌≡◌, ℕ, List, [], ◌∷◌, ◌++◌, Opt
 use Rattle.std.specs.Option.{option_map_or}
 use Rattle.zone_outside.specs.Outside.{GrewByPrefix}
 use Rattle.zone_source.specs.LineLists.{ended}
-use Rattle.zone_answers.specs.Due.{answer_lines, due_bytes}
-use Rattle.zone_answers.specs.Faults.{IsValid, fault}
+use Rattle.zone_answers.specs.Due.{answer_lines_with, due_bytes_with}
+use Rattle.zone_answers.specs.Faults.{IsValidWith, fault_with}
 use Rattle.zone_answers.specs.Faults as faults
 use Rattle.zone_answers.specs.FaultLines.{fault_line}
+use Rattle.zone_answers.specs.Found.{Reading}
 use Rattle.zone_answers.specs.Told.{fault_told, TellsOf}
 use Rattle.zone_outside.specs.Seen.{OutputSeen, Grew, GrewBySome}
-use Rattle.zone_answers.specs.Ends.{writes_of}
+use Rattle.zone_answers.specs.Ends.{writes_with}
 use Rattle.zone_answers.specs.Responses.{RespondsError, due_in, lines_in}
 use Rattle.zone_source.specs.Responses.{Responds}
-use Rattle.zone_answers.specs.Summary.{summary, due_summary}
+use Rattle.zone_answers.specs.Summary.{summary, due_summary_with}
 use Rattle.zone_answers.specs.declared.error.AnswerError.{AnswerError}
 use Rattle.zone_answers.specs.declared.error.AnswerError.TheVariants as errors
 use Rattle.zone_source.specs.declared.running.Answered.{Answered}
@@ -21,23 +22,23 @@ use Rattle.zone_answers.specs.declared.answering.Form.{Form}
 use Rattle.zone_answers.specs.declared.answering.Form.TheVariants as forms
 
 -- without a fault the lines are due
-pub due_valid : (form : Form) (source requests : List ℕ) (lines : List (List ℕ)) → IsValid source requests
-    → lines ≡ answer_lines source requests → lines_in form lines ≡ due_in form source requests
-unfolding due_bytes due_summary
-due_valid forms.Lines source requests lines valid is =
-    ap ended is ∙ ap (λ o. option_map_or (λ f. fault_line f ++ 10 ∷ []) o (ended (answer_lines source requests))) (sym valid)
-due_valid forms.Summary source requests lines valid is =
+pub due_valid : (read : Reading) (form : Form) (source requests : List ℕ) (lines : List (List ℕ)) → IsValidWith read source requests
+    → lines ≡ answer_lines_with read source requests → lines_in form lines ≡ due_in read form source requests
+unfolding due_bytes_with due_summary_with
+due_valid read forms.Lines source requests lines valid is =
+    ap ended is ∙ ap (λ o. option_map_or (λ f. fault_line f ++ 10 ∷ []) o (ended (answer_lines_with read source requests))) (sym valid)
+due_valid read forms.Summary source requests lines valid is =
     ap (λ l. summary l ++ 10 ∷ []) is
-    ∙ ap (λ o. option_map_or fault_line o (summary (answer_lines source requests)) ++ 10 ∷ []) (sym valid)
+    ∙ ap (λ o. option_map_or fault_line o (summary (answer_lines_with read source requests)) ++ 10 ∷ []) (sym valid)
 
 -- with one, its line is
-due_fault : (form : Form) (source requests : List ℕ) (f : faults.Fault) → fault source requests ≡ Some f
-    → fault_line f ++ 10 ∷ [] ≡ due_in form source requests
-unfolding due_bytes due_summary
-due_fault forms.Lines source requests f is =
-    ap (λ o. option_map_or (λ f. fault_line f ++ 10 ∷ []) o (ended (answer_lines source requests))) (sym is)
-due_fault forms.Summary source requests f is =
-    ap (λ o. option_map_or fault_line o (summary (answer_lines source requests)) ++ 10 ∷ []) (sym is)
+due_fault : (read : Reading) (form : Form) (source requests : List ℕ) (f : faults.Fault) → fault_with read source requests ≡ Some f
+    → fault_line f ++ 10 ∷ [] ≡ due_in read form source requests
+unfolding due_bytes_with due_summary_with
+due_fault read forms.Lines source requests f is =
+    ap (λ o. option_map_or (λ f. fault_line f ++ 10 ∷ []) o (ended (answer_lines_with read source requests))) (sym is)
+due_fault read forms.Summary source requests f is =
+    ap (λ o. option_map_or fault_line o (summary (answer_lines_with read source requests)) ++ 10 ∷ []) (sym is)
 
 grew_told : (taken now : Option (List ℕ)) (bytes due : List ℕ) → bytes ≡ due → IfSome taken (λ had. now ≡ Some (had ++ bytes))
     → IfSome taken (λ had. now ≡ Some (had ++ due))
@@ -56,18 +57,18 @@ pub wrote_some : (bytes due : List ℕ) (before now : OutputSeen) → bytes ≡ 
 wrote_some bytes due before now is h = grew_some_told before.taken now.taken bytes due is h
 
 -- an error's answer is an answer
-pub error_response : (form : Form) (source requests : List ℕ) (error : AnswerError) (before now : OutputSeen) (result : Answered) →
-    TellsOf (fault source requests) error → RespondsError (fault_told error) before now result
-    → Responds (writes_of (due_in form)) source requests before now result
-error_response form source requests error before now result tells h = by_told (fault_told error) result tells h
+pub error_response : (read : Reading) (form : Form) (source requests : List ℕ) (error : AnswerError) (before now : OutputSeen) (result : Answered) →
+    TellsOf (fault_with read source requests) error → RespondsError (fault_told error) before now result
+    → Responds (writes_with read (due_in read form)) source requests before now result
+error_response read form source requests error before now result tells h = by_told (fault_told error) result tells h
   where
     by_told : (told : Option faults.Fault) (result : Answered)
-        → MatchOption told (error ≡ errors.NoMemory) (λ f. fault source requests ≡ Some f) →
-        RespondsError told before now result → Responds (writes_of (due_in form)) source requests before now result
+        → MatchOption told (error ≡ errors.NoMemory) (λ f. fault_with read source requests ≡ Some f) →
+        RespondsError told before now result → Responds (writes_with read (due_in read form)) source requests before now result
     by_told told Done is h = absurd h
     by_told None Fault is h = absurd h
     by_told (Some f) Fault is h =
-        (λ none. let no = sym is ∙ none in absurd (cc), wrote _ _ before now (due_fault form source requests f is) h)
+        (λ none. let no = sym is ∙ none in absurd (cc), wrote _ _ before now (due_fault read form source requests f is) h)
     by_told None Failed is h = absurd h.1
-    by_told (Some f) Failed is h = (h.0, wrote_some _ _ before now (due_fault form source requests f is) h.1)
+    by_told (Some f) Failed is h = (h.0, wrote_some _ _ before now (due_fault read form source requests f is) h.1)
     by_told told NoMemory is h = h

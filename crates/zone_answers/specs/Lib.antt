@@ -17,6 +17,7 @@ pub mod Generated
 pub mod Starts
 -- Laws: what a caller may use.
 pub mod AskedLaws
+pub mod FoundLaws
 pub mod EndLaws
 -- Words of private clauses.
 pub mod Tasks

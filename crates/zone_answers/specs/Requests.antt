@@ -34,14 +34,15 @@ nanoseconds_in text =
     let size = pos (digits_value 10 (without_minus text)) in
     if is_number (without_minus text) then Some (if is_negative text then neg_ℤ size else size) else None
 
+-- what the word `at` or `local` asks of a zone by its value
+unfoldable pub request_with : List ℕ → List ℕ → List ℕ → Option Request
+request_with word name value =
+    if bytes_eq word (codes "at") then option_map (at name) (nanoseconds_in value)
+    else (if bytes_eq word (codes "local") then option_map (local name) (local_time_in value) else None)
+
 -- `at NAME N` or `local NAME TEXT`, with one space at each gap, the name being one or more characters other than space
 unfoldable pub request_of : List ℕ → Option Request
 request_of line =
-    let word = before_first is_space line in
     let rest = after_first is_space line in
     let name = before_first is_space rest in
-    let value = after_first is_space rest in
-    if nat_lt 0 (length name)
-    then (if bytes_eq word (codes "at") then option_map (at name) (nanoseconds_in value)
-    else (if bytes_eq word (codes "local") then option_map (local name) (local_time_in value) else None))
-    else None
+    if nat_lt 0 (length name) then request_with (before_first is_space line) name (after_first is_space rest) else None

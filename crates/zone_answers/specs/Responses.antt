@@ -1,10 +1,11 @@
 -- What was written of the due bytes.
 use Rattle.std.specs.Prelude.{◌≡◌, ℕ, List, ◌++◌, Option, IsSomeAnd, [], ◌∷◌}
 use Rattle.zone_source.specs.LineLists.{ended}
-use Rattle.zone_answers.specs.Due.{due_bytes}
+use Rattle.zone_answers.specs.Due.{due_bytes_with}
 use Rattle.zone_answers.specs.Faults as faults
 use Rattle.zone_answers.specs.FaultLines.{fault_line}
-use Rattle.zone_answers.specs.Summary.{summary, due_summary}
+use Rattle.zone_answers.specs.Found.{Reading}
+use Rattle.zone_answers.specs.Summary.{summary, due_summary_with}
 use Rattle.zone_outside.specs.Seen.{OutputSeen, Grew, GrewBySome}
 use Rattle.zone_outside.specs.Outside.{Rose}
 use Rattle.zone_source.specs.declared.running.Answered.{Answered}
@@ -17,10 +18,10 @@ abbrev pub lines_in : Form → List (List ℕ) → List ℕ
 lines_in form.Lines lines = ended lines
 lines_in form.Summary lines = summary lines ++ 10 ∷ []
 
--- the bytes that are due in this form
-abbrev pub due_in : Form → List ℕ → List ℕ → List ℕ
-due_in form.Lines source requests = due_bytes source requests
-due_in form.Summary source requests = due_summary source requests
+-- the bytes that are due in this form where zones are read in this way
+abbrev pub due_in : Reading → Form → List ℕ → List ℕ → List ℕ
+due_in read form.Lines = due_bytes_with read
+due_in read form.Summary = due_summary_with read
 
 -- what was written of an error, which tells a fault or want of memory
 abbrev pub RespondsError : Option faults.Fault → OutputSeen → OutputSeen → Answered → Type 0

@@ -2,8 +2,9 @@
 use Rattle.std.specs.Prelude.{ℕ, List, [], ◌∷◌, ◌++◌, length, sum, codes, decimal}
 use Rattle.std.specs.List.{concat}
 use Rattle.std.specs.Option.{option_map_or}
-use Rattle.zone_answers.specs.Due.{answer_lines}
-use Rattle.zone_answers.specs.Faults.{fault}
+use Rattle.zone_answers.specs.Due.{answer_lines_with}
+use Rattle.zone_answers.specs.Faults.{fault_with}
+use Rattle.zone_answers.specs.Found.{Reading, to_2099}
 use Rattle.zone_answers.specs.FaultLines.{fault_line}
 
 -- `lines 2 bytes 78 sum 3783`: how many lines, how many bytes in them, and the sum of these
@@ -12,6 +13,11 @@ summary lines =
     codes "lines " ++ decimal (length lines) ++ codes " bytes " ++ decimal (length (concat lines))
     ++ codes " sum " ++ decimal (sum (concat lines))
 
--- the summary of the answers, or the line of the fault, followed by a line feed
-unfoldable pub due_summary : List ℕ → List ℕ → List ℕ
-due_summary source requests = option_map_or fault_line (fault source requests) (summary (answer_lines source requests)) ++ 10 ∷ []
+-- the summary of the answers, or the line of the fault, followed by a line feed, where zones are read in this way
+unfoldable pub due_summary_with : Reading → List ℕ → List ℕ → List ℕ
+due_summary_with read source requests =
+    option_map_or fault_line (fault_with read source requests) (summary (answer_lines_with read source requests)) ++ 10 ∷ []
+
+-- to 2099
+abbrev pub due_summary : List ℕ → List ℕ → List ℕ
+due_summary = due_summary_with to_2099

@@ -8,7 +8,8 @@ use Rattle.zone_spans.specs.declared.fault.SpanFault.{SpanFault}
 use Rattle.zone_spans.specs.declared.fault.SpanFault.TheVariants as span_fault
 use Rattle.tz_zone.specs.declared.compile.ZoneFault.{ZoneFault}
 use Rattle.tz_zone.specs.declared.compile.ZoneFault.TheVariants as zone_fault
-use Rattle.zone_answers.specs.Faults.{Fault, of_source, request_not_text, bad_request, unknown_zone, bad_schedule, offset_range, range}
+use Rattle.zone_answers.specs.Faults.{Fault, of_source, request_not_text, bad_request, bad_zone, range}
+use Rattle.zone_answers.specs.Found.{unknown_zone, bad_schedule, offset_range, rules_end}
 use Rattle.zone_answers.specs.declared.error.AnswerError.{AnswerError}
 use Rattle.zone_answers.specs.declared.error.AnswerError.TheVariants as error
 use Rattle.zone_answers.specs.declared.error.Side.{Side}
@@ -28,9 +29,10 @@ fault_told (error.NotText side n) = Some (not_text side n)
 fault_told (error.Line n e) = option_map (λ f. of_source (source.bad_line n f)) (fault_of e)
 fault_told (error.Build n kind) = Some (of_source (source.bad_join n kind))
 fault_told (error.Request n) = Some (bad_request n)
-fault_told (error.UnknownZone n) = Some (unknown_zone n)
-fault_told (error.Schedule n fault) = option_map (bad_schedule n) (span_told fault)
-fault_told (error.OffsetRange n) = Some (offset_range n)
+fault_told (error.UnknownZone n) = Some (bad_zone n unknown_zone)
+fault_told (error.Schedule n fault) = option_map (λ told. bad_zone n (bad_schedule told)) (span_told fault)
+fault_told (error.OffsetRange n) = Some (bad_zone n offset_range)
+fault_told (error.RulesEnd n) = Some (bad_zone n rules_end)
 fault_told (error.Range n) = Some (range n)
 fault_told error.NoMemory = None
 

@@ -1,20 +1,18 @@
-//! The zones that requests name, kept compactly; the answers to the requests over a source, and these written to an output.
+//! The answers to the requests over a source, and these written to an output.
 ghost use Rattle.std.specs.Prelude.{◌≡◌, ◌≤◌, None, All, IfErr, IfOk, OnOk, length, map, OnErr};
+ghost use Rattle.std.specs.List.{flat_map};
 ghost use Rattle.zone_source.specs.Faults.{source_fault};
 ghost use Rattle.zone_source.specs.Lines.{lines_of};
 ghost use Rattle.zone_source.specs.Zones.{values_of};
 ghost use Rattle.zone_table.specs.BoundedTables.{IsBoundedTable};
 ghost use Rattle.zone_table.specs.Tables.{IsTableOf};
-ghost use Rattle.zone_answers.specs.Due.{answer_line, answer_lines, shown};
-ghost use Rattle.zone_answers.specs.Faults.{IsValid, fault, first_refused, request_refusal, source_refusal};
+ghost use Rattle.zone_answers.specs.Due.{answer_line, answer_lines, answer_lines_with, shown, shown_for, shown_with};
+ghost use Rattle.zone_answers.specs.Faults.{IsValid, IsValidWith, fault, fault_with, first_refused, request_refusal, source_refusal};
 ghost use Rattle.zone_answers.specs.Found.{found_in_table};
 ghost use Rattle.zone_answers.specs.Opened.{table_of, AreOpened};
 ghost use Rattle.zone_answers.specs.ReadBack.{IsReadBack};
 ghost use Rattle.zone_answers.specs.Told.{TellsOf, fault_told};
-ghost use Rattle.tz_lookup.specs.Compiles.{compiled_in, IsCompiledAs, IsZoneFault};
-ghost use Rattle.tz_lookup.specs.CompactShown.{seen};
-ghost use Rattle.tz_lookup.specs.Sets.{schedule_of, IsAccepted};
-ghost use Rattle.zone_answers.specs.Ends.{writes_of};
+ghost use Rattle.zone_answers.specs.Ends.{writes_with};
 ghost use Rattle.zone_answers.specs.Responses.{RespondsError, due_in, lines_in};
 ghost use Rattle.zone_source.specs.Responses.{Responds};
 ghost use Rattle.zone_outside.specs.Outside.{Rose};
@@ -22,103 +20,17 @@ ghost use Rattle.zone_outside.specs.Seen.{Grew, GrewBySome, output_seen};
 
 use crate::error::{AnswerError, Side};
 use crate::fault::write_fault;
+use crate::opened::{OpenedZone, Zones};
 use crate::request::Request;
-use crate::showing::show;
 use crate::summary::summary_line;
-use owned::TextMap;
-use std::alloc::{AllocError, Global};
-use tz_lookup::{CompactFault, CompactSet, CompactTz, FixedTimespanSet, ZoneFault, compile_zone};
+use std::alloc::Global;
+use std::marker::PhantomData;
+use tz_lookup::CompactSet;
 use zone_line::LineParser;
 use zone_source::{
     Answered, Failed, LIMIT, LineList, Lines, Sink, TextAnswers, text_of, write_all,
 };
 use zone_table::Table;
-
-/// The spans of the zone that a name finds in a table, under that name. They can be looked up. The table is bounded.
-///
-/// # Errors
-///
-/// In this order: `UnknownZone` exactly where the name finds no zone; `Schedule` with the zone's first fault, which is
-/// never want of memory; `OffsetRange` exactly where some span has an offset of 26 hours or more; `NoMemory`.
-pub fn open_zone(alloc: Global, table: &Table, name: &str) -> Result<FixedTimespanSet, ZoneFault>
-    requires { IsBoundedTable table.now }
-    ensures ok { IfOk result (λ set. (set.name ≡ name.now) × IsCompiledAs set (compiled_in table.now name.now)) }
-    ensures accepted { IfOk result (λ set. IsAccepted (schedule_of set)) }
-    ensures err { IfErr result (IsZoneFault (compiled_in table.now name.now)) }
-{
-    compile_zone(alloc, table, name)
-}
-
-/// The compact form of a set that can be looked up.
-fn compact(alloc: Global, set: &FixedTimespanSet) -> Result<CompactSet, AllocError>
-    requires { IsAccepted (schedule_of set.now) }
-    ensures { IfOk result (λ compact. seen compact ≡ set.now) }
-{
-    match CompactSet::build(alloc, set) {
-        Ok(compact) => Ok(compact),
-        Err(CompactFault::NoMemory) => Err(AllocError),
-        Err(CompactFault::OffsetRange | CompactFault::Falling | CompactFault::Bound) =>
-            unreachable!(),
-    }
-}
-
-/// The zones that were asked for so far, kept compactly and found again by their names.
-#[derive(Drop)]
-pub(crate) struct Zones<'t> {
-    alloc: Global,
-    table: &'t Table,
-    opened: TextMap<CompactSet>,
-}
-
-impl<'t> Zones<'t> {
-    ghost use Rattle.std.specs.Prelude.{◌≡◌, true, is_some, IfErr, OnOk};
-    ghost use Rattle.std.specs.FinMap.{get};
-    ghost use Rattle.zone_table.specs.BoundedTables.{IsBoundedTable};
-    ghost use Rattle.tz_lookup.specs.Compiles.{compiled_in, IsZoneFault};
-    ghost use Rattle.zone_answers.specs.Opened.{table_of, AreOpened, HasSpans};
-
-    /// No zone of this table was asked for yet.
-    pub(crate) fn new(alloc: Global, table: &'t Table) -> Zones<'t>
-        requires { IsBoundedTable table.now }
-        ensures table { table_of result ≡ table.now }
-        ensures opened { AreOpened result }
-    {
-        Zones {
-            alloc,
-            table,
-            opened: TextMap::new(alloc),
-        }
-    }
-
-    /// Compiles the zone that a name finds, where it is asked for the first time. On an error the zones are as before.
-    pub(crate) fn open(&mut self, name: &str) -> Result<(), ZoneFault>
-        requires { AreOpened self.old }
-        ensures there { OnOk result (is_some (get self.new.opened name.now) ≡ true) }
-        ensures err { IfErr result (IsZoneFault (compiled_in (table_of self.old) name.now)) }
-        ensures same { table_of self.new ≡ table_of self.old }
-        ensures opened { AreOpened self.new }
-    {
-        if self.opened.contains_key(name) {
-            return Ok(());
-        }
-        let set = open_zone(self.alloc, self.table, name)?;
-        let compact = compact(self.alloc, &set)?;
-        self.opened.insert(self.alloc, name, compact)?;
-        Ok(())
-    }
-
-    /// The opened zone that a name finds.
-    pub(crate) fn find(&self, name: &str) -> CompactTz<'_>
-        requires opened { AreOpened self.now }
-        requires there { is_some (get self.now.opened name.now) ≡ true }
-        ensures { HasSpans (compiled_in (table_of self.now) name.now) result }
-    {
-        match self.opened.get(name) {
-            Some(opened) => CompactTz::new(opened),
-            None => unreachable!(),
-        }
-    }
-}
 
 /// The table that the lines of a source join to. Lines end at an LF, a CR before it is dropped, and they are numbered from
 /// 1. The source is at most 16,777,216 bytes long.
@@ -155,19 +67,41 @@ pub fn answers(
     ensures read_back { OnOk result (All IsReadBack (shown source.now requests.now)) }
     ensures err { IfErr result (TellsOf (fault source.now requests.now)) }
 {
+    answers_with::<CompactSet>(alloc, parser, source, requests)
+}
+
+/// The same where zones are opened in another way.
+pub fn answers_with<Z: OpenedZone>(
+    alloc: Global,
+    parser: &LineParser,
+    source: &[u8],
+    requests: &[u8],
+) -> Result<LineList, AnswerError>
+    requires source { length source.now ≤ LIMIT }
+    requires requests { length requests.now ≤ LIMIT }
+    ensures valid { OnOk result (IsValidWith Z.read source.now requests.now) }
+    ensures lines { IfOk result (λ lines. lines ≡ answer_lines_with Z.read source.now requests.now) }
+    ensures read_back { OnOk result (All IsReadBack (shown_with Z.read source.now requests.now)) }
+    ensures err { IfErr result (TellsOf (fault_with Z.read source.now requests.now)) }
+{
     let table = read_table(alloc, parser, source)?;
-    answer_all(alloc, &table, requests)
+    answer_all::<Z>(alloc, &table, requests)
 }
 
 /// Answers each request at the zones of the table.
-fn answer_all(alloc: Global, table: &Table, requests: &[u8]) -> Result<LineList, AnswerError>
+fn answer_all<Z: OpenedZone>(
+    alloc: Global,
+    table: &Table,
+    requests: &[u8],
+) -> Result<LineList, AnswerError>
     requires bounded { IsBoundedTable table.now }
     requires limit { length requests.now ≤ LIMIT }
-    ensures valid { OnOk result (first_refused (found_in_table table.now) 1 (lines_of requests.now) ≡ None) }
-    ensures lines { IfOk result (λ lines. lines ≡ map (answer_line (found_in_table table.now)) (lines_of requests.now)) }
-    ensures err { IfErr result (TellsOf (first_refused (found_in_table table.now) 1 (lines_of requests.now))) }
+    ensures valid { OnOk result (first_refused (found_in_table Z.read table.now) 1 (lines_of requests.now) ≡ None) }
+    ensures lines { IfOk result (λ lines. lines ≡ map (answer_line (found_in_table Z.read table.now)) (lines_of requests.now)) }
+    ensures read_back { OnOk result (All IsReadBack (flat_map (shown_for (found_in_table Z.read table.now)) (lines_of requests.now))) }
+    ensures err { IfErr result (TellsOf (first_refused (found_in_table Z.read table.now) 1 (lines_of requests.now))) }
 {
-    let mut zones = Zones::new(alloc, table);
+    let mut zones = Zones::<Z>::new(alloc, table);
     let mut answers = LineList::new(alloc);
     let mut text = Vec::new(alloc);
     let mut number = 1;
@@ -180,18 +114,19 @@ fn answer_all(alloc: Global, table: &Table, requests: &[u8]) -> Result<LineList,
 }
 
 /// Puts the line of the nth request into the text, in place of what is there.
-fn answer(
-    zones: &mut Zones<'_>,
+fn answer<Z: OpenedZone>(
+    zones: &mut Zones<'_, Z>,
     number: usize,
     line: &[u8],
     text: &mut Vec<u8>,
 ) -> Result<(), AnswerError>
-    requires { AreOpened zones.old }
-    ensures accepted { OnOk result (request_refusal (found_in_table (table_of zones.old)) number line.now ≡ None) }
-    ensures text { OnOk result (text.new.items ≡ answer_line (found_in_table (table_of zones.old)) line.now) }
+    requires { AreOpened Z.OpenedZone zones.old }
+    ensures accepted { OnOk result (request_refusal (found_in_table Z.read (table_of zones.old)) number line.now ≡ None) }
+    ensures text { OnOk result (text.new.items ≡ answer_line (found_in_table Z.read (table_of zones.old)) line.now) }
+    ensures read_back { OnOk result (All IsReadBack (shown_for (found_in_table Z.read (table_of zones.old)) line.now)) }
     ensures same { table_of zones.new ≡ table_of zones.old }
-    ensures opened { AreOpened zones.new }
-    ensures err { IfErr result (TellsOf (request_refusal (found_in_table (table_of zones.old)) number line.now)) }
+    ensures opened { AreOpened Z.OpenedZone zones.new }
+    ensures err { IfErr result (TellsOf (request_refusal (found_in_table Z.read (table_of zones.old)) number line.now)) }
 {
     let Some(asked) = text_of(line) else {
         return Err(AnswerError::NotText(Side::Requests, number));
@@ -199,12 +134,10 @@ fn answer(
     let Some(request) = Request::read(asked) else {
         return Err(AnswerError::Request(number));
     };
-    if let Err(fault) = zones.open(request.name()) {
-        return Err(AnswerError::of_zone(number, fault));
-    }
+    zones.open(request.name(), number)?;
     let zone = zones.find(request.name());
     text.clear();
-    match show(&zone, &request, text) {
+    match zone.show(&request, text) {
         Ok(true) => Ok(()),
         Ok(false) => Err(AnswerError::Range(number)),
         Err(_) => Err(AnswerError::NoMemory),
@@ -220,18 +153,29 @@ pub(crate) enum Form {
     Summary,
 }
 
-/// The answers to requests over a source.
+/// The answers to requests over a source, where zones are opened in this way.
 #[derive(Drop)]
-pub(crate) struct SourceAnswers<'p> {
-    pub(crate) parser: &'p LineParser,
+pub struct SourceAnswers<'p, Z> {
+    parser: &'p LineParser,
+    zones: PhantomData<Z>,
 }
 
-impl TextAnswers for SourceAnswers<'_> {
-    ghost use Rattle.zone_answers.specs.Due.{due_bytes};
-    ghost use Rattle.zone_answers.specs.EndLaws as laws;
-    ghost use Rattle.zone_answers.specs.Ends.{writes_of};
+impl<'p, Z> SourceAnswers<'p, Z> {
+    /// Those that this parser reads.
+    pub fn new(parser: &'p LineParser) -> SourceAnswers<'p, Z> {
+        SourceAnswers {
+            parser,
+            zones: PhantomData,
+        }
+    }
+}
 
-    ghost writes = { λ _. writes_of due_bytes };
+impl<Z: OpenedZone> TextAnswers for SourceAnswers<'_, Z> {
+    ghost use Rattle.zone_answers.specs.Due.{due_bytes_with};
+    ghost use Rattle.zone_answers.specs.EndLaws as laws;
+    ghost use Rattle.zone_answers.specs.Ends.{writes_with};
+
+    ghost writes = { λ _. writes_with Z.read (due_bytes_with Z.read) };
 
     fn respond<O: Sink>(
         &self,
@@ -240,14 +184,14 @@ impl TextAnswers for SourceAnswers<'_> {
         requests: &[u8],
         output: &mut O,
     ) -> Answered {
-        respond(alloc, self.parser, source, requests, Form::Lines, output)
+        respond::<Z, O>(alloc, self.parser, source, requests, Form::Lines, output)
     }
 
-    ghost ends_well = { λ _. laws.ends_well due_bytes };
+    ghost ends_well = { λ _. laws.ends_well Z.read (due_bytes_with Z.read) };
 }
 
 /// Answers the requests over the source, and writes the answers in the form, or the first fault.
-pub(crate) fn respond<O: Sink>(
+pub(crate) fn respond<Z: OpenedZone, O: Sink>(
     alloc: Global,
     parser: &LineParser,
     source: &[u8],
@@ -257,9 +201,9 @@ pub(crate) fn respond<O: Sink>(
 ) -> Answered
     requires source { length source.now ≤ LIMIT }
     requires requests { length requests.now ≤ LIMIT }
-    ensures { Responds (writes_of (due_in form)) source.now requests.now (output_seen O.Sink output.old) (output_seen O.Sink output.new) result }
+    ensures { Responds (writes_with Z.read (due_in Z.read form)) source.now requests.now (output_seen O.Sink output.old) (output_seen O.Sink output.new) result }
 {
-    match answers(alloc, parser, source, requests) {
+    match answers_with::<Z>(alloc, parser, source, requests) {
         Ok(lines) => match write_lines(output, &lines, form) {
             Ok(()) => Answered::Done,
             Err(_) => Answered::Failed,

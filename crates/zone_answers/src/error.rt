@@ -30,6 +30,8 @@ pub enum AnswerError {
     Schedule(usize, SpanFault),
     /// The named zone has an offset of 26 hours or more.
     OffsetRange(usize),
+    /// The named zone doesn't go on for ever; never where zones are read to 2099.
+    RulesEnd(usize),
     /// The UTC date or the local date of the asked instant lies outside the years -9999 to 9999.
     Range(usize),
     /// Memory ran out.
@@ -71,7 +73,7 @@ impl AnswerError {
     ghost use Rattle.zone_answers.specs.Told.{fault_told, RefusesZone};
 
     /// Why the zone that the nth request names can't be asked, or want of memory.
-    pub(crate) fn of_zone(number: usize, fault: ZoneFault) -> AnswerError
+    pub fn of_zone(number: usize, fault: ZoneFault) -> AnswerError
         ensures { RefusesZone number fault result }
     {
         match fault {

@@ -32,6 +32,7 @@ fn fault_text(fault: &AnswerError) -> FaultText
         AnswerError::UnknownZone(number) => request_text(*number, "", "unknown zone"),
         AnswerError::Schedule(number, fault) => { request_text(*number, "schedule ", fault.name()) }
         AnswerError::OffsetRange(number) => request_text(*number, "", "offset range"),
+        AnswerError::RulesEnd(number) => request_text(*number, "", "rules end"),
         AnswerError::Range(number) => request_text(*number, "", "range"),
         AnswerError::NoMemory => unreachable!(),
     }

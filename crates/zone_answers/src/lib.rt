@@ -5,17 +5,21 @@ mod answering;
 mod error;
 mod fault;
 mod made;
+mod opened;
 mod request;
 mod running;
 mod showing;
 mod summary;
+mod to_2099;
 
-pub use answering::{answers, open_zone, read_table};
+pub use answering::{SourceAnswers, answers, answers_with, read_table};
 pub use error::{AnswerError, Side};
 pub use fault::write_fault;
-pub use request::nanoseconds;
+pub use opened::OpenedZone;
+pub use request::{Request, cut_at_space, nanoseconds};
 pub use running::{run, run_surely, start};
-pub use showing::{add_instant, add_instants};
+pub use showing::{add_instant, add_instants, show};
+pub use to_2099::open_zone;
 pub use tz_lookup::ZoneFault;
 /// One line per request, in order. Contracts see the list of the lines' bytes.
 pub use zone_source::{

@@ -3,7 +3,7 @@ ghost use Rattle.std.specs.Prelude.{◌≡◌, option_map};
 ghost use Rattle.std.specs.Char.{is_digit};
 ghost use Rattle.std.specs.List.{before_first, after_first, list_all};
 ghost use Rattle.civil_base.specs.LocalTimes.{local_time_in};
-ghost use Rattle.zone_answers.specs.Requests.{request_of, nanoseconds_in, is_number, is_space, name_of, without_minus};
+ghost use Rattle.zone_answers.specs.Requests.{request_of, request_with, nanoseconds_in, is_number, is_space, name_of, without_minus};
 
 use civil_base::{PlainDateTime, read_local};
 
@@ -12,7 +12,7 @@ const MOST_DIGITS: usize = 30;
 
 /// What a request line asks.
 #[derive(Clone, Copy, Debug, PartialEq)]
-pub(crate) enum Request<'a> {
+pub enum Request<'a> {
     /// The local time of an instant: the zone's name, and nanoseconds from 1970-01-01 00:00:00 UTC.
     At(&'a str, i128),
     /// The instants that a zone reads as a local time.
@@ -23,7 +23,7 @@ impl<'a> Request<'a> {
     ghost use Rattle.zone_answers.specs.Asked.{asked};
 
     /// The name of the zone.
-    pub(crate) fn name(&self) -> &'a str
+    pub fn name(&self) -> &'a str
         ensures { result.now ≡ name_of (asked self.now) }
     {
         match self {
@@ -34,7 +34,7 @@ impl<'a> Request<'a> {
 
     /// Reads `at NAME N`, N being an optional `-` and 1 to 30 digits, or `local NAME TEXT`, TEXT being a local text.
     #[tactic(auto, unfolding(crate::specs::Requests::request_of))]
-    pub(crate) fn read(text: &'a str) -> Option<Request<'a>>
+    pub fn read(text: &'a str) -> Option<Request<'a>>
         ensures { option_map asked result ≡ request_of text.now }
     {
         let (word, rest) = cut_at_space(text);
@@ -42,6 +42,14 @@ impl<'a> Request<'a> {
         if name.is_empty() {
             return None;
         }
+        Request::of_words(word, name, value)
+    }
+
+    /// What the word `at` or `local` asks of the zone of that name by its value, if it is one.
+    #[tactic(auto, unfolding(crate::specs::Requests::request_with))]
+    pub fn of_words(word: &str, name: &'a str, value: &str) -> Option<Request<'a>>
+        ensures { option_map asked result ≡ request_with word.now name.now value.now }
+    {
         match word {
             "at" => Some(Request::At(name, nanoseconds(value)?)),
             "local" => Some(Request::Local(name, local_time(value)?)),
@@ -50,8 +58,8 @@ impl<'a> Request<'a> {
     }
 }
 
-/// The text before the first space, and the text after it.
-fn cut_at_space(text: &str) -> (&str, &str)
+/// The text before the first space, and the text after it: none where there is no space.
+pub fn cut_at_space(text: &str) -> (&str, &str)
     ensures front { result.0.now ≡ before_first is_space text.now }
     ensures back { result.1.now ≡ after_first is_space text.now }
 {

@@ -14,6 +14,7 @@ use crate::answering::{Form, SourceAnswers, respond};
 use crate::made::{made_requests, made_source};
 use itoa::Buffer;
 use std::alloc::Global;
+use tz_lookup::CompactSet;
 use zone_line::LineParser;
 use zone_source::{
     Answered, LIMIT, Shelf, Sink, Source, SourceProgram, Started, Status, SureShelf, SureSink,
@@ -100,7 +101,7 @@ pub fn run<H: Shelf, I: Source, O: Sink>(
 {
     match Task::read(words) {
         Some(Task::AnswerOver(name)) => {
-            let answers = SourceAnswers { parser };
+            let answers = SourceAnswers::<CompactSet>::new(parser);
             run_over(alloc, &answers, name, shelf, input, output)
         }
         Some(Task::Generate(count)) => run_made(alloc, parser, count, output),
@@ -119,7 +120,7 @@ fn run_made<O: Sink>(alloc: Global, parser: &LineParser, count: u64, output: &mu
     let Ok(requests) = made_requests(alloc, count) else {
         return Status::NoMemory;
     };
-    match respond(alloc, parser, &source, &requests, Form::Summary, output) {
+    match respond::<CompactSet, O>(alloc, parser, &source, &requests, Form::Summary, output) {
         Answered::Done => Status::Done,
         Answered::Fault => Status::Fault,
         Answered::Failed => Status::Write,

@@ -1,9 +1,7 @@
 //! The text that answers a request.
-ghost use Rattle.std.specs.Prelude.{◌≡◌, ◌++◌, ◌∷◌, [], true, false, IfOk, IfNone, IfSome, IsTrue, OnErr, OnOk, length, take};
+ghost use Rattle.std.specs.Prelude.{◌≡◌, ◌++◌, ◌∷◌, [], ℤ, true, false, IfOk, IfNone, IfSome, IsTrue, OnErr, OnOk, length, take};
 ghost use Rattle.tz_lookup.specs.InForce.{all_in_force, in_force, shown_of};
-ghost use Rattle.tz_lookup.specs.CompactZones.{compact_of};
-ghost use Rattle.tz_lookup.specs.Sets.{schedule_of};
-ghost use Rattle.zone_spans.specs.Schedules.{total_at};
+ghost use Rattle.civil_base.specs.Ranges.{IsOffset};
 ghost use Rattle.zone_answers.specs.Asked.{asked};
 ghost use Rattle.zone_answers.specs.Due.{answer_text, shown_at, text_shown};
 ghost use Rattle.zone_answers.specs.Faults.{are_in_years, has_dates};
@@ -11,19 +9,20 @@ ghost use Rattle.zone_answers.specs.Faults.{are_in_years, has_dates};
 use crate::request::Request;
 use civil_base::{OffsetDateTime, PlainDateTime, write_zoned};
 use std::alloc::AllocError;
-use tz_lookup::{AllInstants, CompactTz, InstantsOf, OffsetDateTimeExt, TimeZone};
+use tz_lookup::{AllInstants, InstantsOf, OffsetDateTimeExt, TimeZone};
 
 /// Adds the line of a request of the zone to a text, without its LF. It adds none and answers no where the UTC date or the local
 /// date of an asked instant lies outside the years -9999 to 9999.
 #[tactic(auto, unfolding(crate::specs::Due::shown_at, crate::specs::Faults::has_dates))]
-pub(crate) fn show(
-    zone: &CompactTz<'_>,
+pub fn show<T: AllInstants>(
+    zone: &T,
     request: &Request<'_>,
     text: &mut Vec<u8>,
 ) -> Result<bool, AllocError>
-    ensures dates { IfOk result (λ has. has ≡ has_dates (schedule_of (compact_of zone.now)) (asked request.now)) }
+    ensures dates { IfOk result (λ has. has ≡ has_dates (T.total_at zone.now) (asked request.now)) }
     ensures line { IfOk result (λ has. IsTrue has →
-        text.new.items ≡ text.old.items ++ answer_text (shown_at (schedule_of (compact_of zone.now)) (asked request.now))) }
+        text.new.items ≡ text.old.items ++ answer_text (shown_at (T.total_at zone.now) (asked request.now))) }
+    ensures range { (t : ℤ) → IsOffset (T.total_at zone.now t) }
 {
     match request {
         Request::At(_, nanoseconds) => Ok(add_instant(zone, nanoseconds, text)?),

@@ -5,11 +5,12 @@ use Rattle.std.specs.Prelude.{codes, unwrap_or}
 use Rattle.std.specs.Str.{is_utf8, chars}
 use lib.Utf8.{encode}
 use Rattle.civil_base.specs.LocalTimes.{local_time_in}
-use Rattle.zone_answers.specs.Requests.{nanoseconds_in}
+use Rattle.zone_answers.specs.Faults.{has_dates}
+use Rattle.zone_answers.specs.Requests.{at, local, nanoseconds_in, request_with}
 use Rattle.zone_source.specs.Lines.{lines_of}
-use Rattle.zone_file_answers.specs.Due.{IsRefused, shown_at}
-use Rattle.zone_file_answers.specs.Faults.{Fault, bad_request, fault_line, file, first_refused, has_dates, not_text, range, request_refusal}
-use Rattle.zone_file_answers.specs.Requests.{at, local, request_of}
+use Rattle.zone_file_answers.specs.Due.{IsRefused}
+use Rattle.zone_file_answers.specs.Faults.{Fault, bad_request, fault_line, file, first_refused, not_text, range, request_refusal}
+use Rattle.zone_file_answers.specs.Requests.{request_of}
 use Rattle.zone_file_answers.specs.Told.{fault_told, FaultOfFile, TellsOf}
 use Rattle.zone_file_answers.specs.declared.fault.FileFault.TheVariants as of_code
 use Rattle.zone_file_answers.specs.declared.fault.FileFault.TheVariants.{NoMemory}
@@ -18,18 +19,18 @@ use Rattle.zone_tzif_core.specs.Zones.{ZoneValue}
 
 -- of two faults the first is told, with the number of its line
 first_of_two : first_refused (λ t. pos 0) 1 (codes "at 0" ∷ codes "what" ∷ (255 ∷ []) ∷ []) ≡ Some (bad_request 2)
-unfolding request_refusal is_utf8 chars encode request_of nanoseconds_in has_dates
+unfolding request_refusal is_utf8 chars encode request_of request_with nanoseconds_in has_dates
 first_of_two = refl
 
 -- a request that is no text, one in no form, and one whose date leaves the years
 each_fault : map (request_refusal (λ t. pos 0) 7) ((97 ∷ 255 ∷ []) ∷ codes "at" ∷ codes "at A 0" ∷ codes "at 253402300800000000000" ∷ codes "at 0" ∷ [])
     ≡ Some (not_text 7) ∷ Some (bad_request 7) ∷ Some (bad_request 7) ∷ Some (range 7) ∷ None ∷ []
-unfolding request_refusal is_utf8 chars encode request_of nanoseconds_in has_dates
+unfolding request_refusal is_utf8 chars encode request_of request_with nanoseconds_in has_dates
 each_fault = refl
 
 -- the first request has the number 1, whatever the file
 first_number : (source : List ℕ) (fault : Fault) → IsRefused source (codes "what") fault → bad_request 1 ≡ fault
-unfolding request_refusal is_utf8 chars encode request_of lines_of
+unfolding request_refusal is_utf8 chars encode request_of request_with lines_of
 first_number source fault is = ap (λ (o : Option Fault). unwrap_or o fault) is.first
 
 lines_of_faults : map fault_line (file ∷ not_text 1 ∷ bad_request 2 ∷ range 10 ∷ [])
@@ -37,31 +38,21 @@ lines_of_faults : map fault_line (file ∷ not_text 1 ∷ bad_request 2 ∷ rang
 unfolding digits
 lines_of_faults = refl
 
--- a local time is never refused for its date
-far_local_time : has_dates (λ t. pos 0) (local (pos 999999999999999999999999999999)) ≡ true
-unfolding has_dates
-far_local_time = refl
-
 -- instants, and words that ask nothing
 instants : map request_of (codes "at -5" ∷ codes "at 007" ∷ codes "at +5" ∷ codes "at  5" ∷ codes "at 5 " ∷ codes "At 5" ∷ codes " at 5" ∷ [])
-    ≡ Some (at (negsuc 4)) ∷ Some (at (pos 7)) ∷ None ∷ None ∷ None ∷ None ∷ None ∷ []
-unfolding request_of nanoseconds_in
+    ≡ Some (at [] (negsuc 4)) ∷ Some (at [] (pos 7)) ∷ None ∷ None ∷ None ∷ None ∷ None ∷ []
+unfolding request_of request_with nanoseconds_in
 instants = refl
 
 -- whatever text stands where a local time is wanted
 module _ (text : List ℕ) where
-  locals : request_of (codes "local " ++ text) ≡ option_map local (local_time_in text)
-  unfolding request_of
+  locals : request_of (codes "local " ++ text) ≡ option_map (local []) (local_time_in text)
+  unfolding request_of request_with
   locals = refl
 
   other_words : map request_of ((codes "Local " ++ text) ∷ (codes "locals " ++ text) ∷ (codes "loca " ++ text) ∷ []) ≡ None ∷ None ∷ None ∷ []
-  unfolding request_of
+  unfolding request_of request_with
   other_words = refl
-
--- an instant is shown at the offset in force
-at_an_instant : shown_at (λ t. pos 3600) (at (pos 5)) ≡ (pos 5, pos 3600) ∷ []
-unfolding shown_at
-at_an_instant = refl
 
 -- the code's faults, each with its own fault and number; want of memory is none
 told : map fault_told (of_code.File ∷ of_code.NotText 1 ∷ of_code.Request 2 ∷ of_code.Range 3 ∷ of_code.NoMemory ∷ [])

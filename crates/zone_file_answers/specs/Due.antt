@@ -1,18 +1,12 @@
 -- The bytes that are due for a file and its requests.
 use Rattle.std.specs.Prelude.{◌≡◌, ℕ, ℤ, List, [], ◌∷◌, ◌++◌, map, Some, None}
 use Rattle.std.specs.Option.{option_map_or}
-use Rattle.tz_zone.specs.InForce.{in_force, all_in_force}
-use Rattle.zone_answers.specs.Due.{answer_text}
+use Rattle.zone_answers.specs.Due.{answer_text, shown_at}
 use Rattle.zone_source.specs.LineLists.{ended}
 use Rattle.zone_source.specs.Lines.{lines_of}
 use Rattle.zone_file_answers.specs.Faults.{Fault, file, fault_line, first_refused}
 use Rattle.zone_file_answers.specs.Files.{IsFile, IsNoFile}
-use Rattle.zone_file_answers.specs.Requests.{Request, at, local, request_of}
-
--- the instants that answer a request at a zone of these totals, by time, each at the offset in force
-unfoldable pub shown_at : (ℤ → ℤ) → Request → List (ℤ × ℤ)
-shown_at total (at instant) = in_force total instant ∷ []
-shown_at total (local time) = all_in_force total time
+use Rattle.zone_file_answers.specs.Requests.{request_of}
 
 -- the line of a request that is not refused
 unfoldable pub answer_line : (ℤ → ℤ) → List ℕ → List ℕ

@@ -1,10 +1,11 @@
 -- Why a file or a request is refused, with the number of its line.
-use Rattle.std.specs.Prelude.{ℕ, suc, Bool, true, ℤ, List, [], ◌∷◌, Option, Some, None, codes, if◌then◌else◌}
+use Rattle.std.specs.Prelude.{ℕ, suc, ℤ, List, [], ◌∷◌, Option, Some, None, codes, if◌then◌else◌}
 use Rattle.std.specs.Option.{option_or, option_map_or}
 use Rattle.std.specs.Str.{is_utf8}
 use Rattle.zone_answers.specs.FaultLines as answers
-use Rattle.zone_answers.specs.Faults.{are_in_years}
-use Rattle.zone_file_answers.specs.Requests.{Request, at, local, request_of}
+use Rattle.zone_answers.specs.Faults.{has_dates}
+use Rattle.zone_answers.specs.Requests.{Request}
+use Rattle.zone_file_answers.specs.Requests.{request_of}
 
 -- a file that is no zone; a request that is no text, one in no form, and one whose date leaves the years -9999 to 9999
 pub data Fault : Type 0 where
@@ -12,11 +13,6 @@ pub data Fault : Type 0 where
   not_text : ℕ → Fault
   bad_request : ℕ → Fault
   range : ℕ → Fault
-
--- an asked instant has both dates
-unfoldable pub has_dates : (ℤ → ℤ) → Request → Bool
-has_dates total (local time) = true
-has_dates total (at instant) = are_in_years instant (total instant)
 
 abbrev pub dates_refusal : (ℤ → ℤ) → ℕ → Request → Option Fault
 dates_refusal total n request = if has_dates total request then None else Some (range n)

@@ -1,5 +1,4 @@
 -- Definitions: what public clauses say.
-pub mod Asked
 pub mod Due
 pub mod Ends
 pub mod Starts

@@ -8,10 +8,10 @@ ghost use Rattle.zone_file_answers.specs.Faults.{first_refused, request_refusal}
 ghost use Rattle.zone_file_answers.specs.Told.{AnswersFile, FaultOfFile, TellsOf};
 
 use crate::fault::FileFault;
-use crate::request::Request;
-use crate::showing::show;
+use crate::request::read_request;
 use std::alloc::Global;
 use tz_tzif::{TzifFault, TzifTz, read_footer};
+use zone_answers::show;
 use zone_source::{LIMIT, LineList, Lines, text_of};
 use zone_tzif_core::{ReadFault, one_saying, read_file, said_bounds, said_footer};
 
@@ -88,7 +88,7 @@ fn answer(
     let Some(asked) = text_of(line) else {
         return Err(FileFault::NotText(number));
     };
-    let Some(request) = Request::read(asked) else {
+    let Some(request) = read_request(asked) else {
         return Err(FileFault::Request(number));
     };
     text.clear();

@@ -6,7 +6,6 @@ mod fault;
 mod request;
 mod respond;
 mod running;
-mod showing;
 mod starting;
 
 pub use answering::answers;

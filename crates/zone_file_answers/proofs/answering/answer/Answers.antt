@@ -1,9 +1,8 @@
 use Rattle.std.proofs.Common.{◌++◌, cond, None, Some, sym, ap, ◌∙◌}
 use Rattle.tz_tzif.specs.InForce.{told_total_at}
 use Rattle.tz_tzif.specs.Zones.{value_of, says_of}
-use Rattle.zone_answers.specs.Due.{answer_text}
-use Rattle.zone_file_answers.specs.Asked.{asked}
-use Rattle.zone_file_answers.specs.Due.{shown_at}
+use Rattle.zone_answers.specs.Asked.{asked}
+use Rattle.zone_answers.specs.Due.{answer_text, shown_at}
 use Rattle.zone_file_answers.specs.Faults.{range}
 use Rattle.zone_answers.specs.AskedLaws.{asks}
 use Rattle.zone_file_answers.specs.Requests.{request_of}
@@ -13,24 +12,24 @@ use Rattle.zone_file_answers.proofs.answering.answer.Goals as goal
 pub returns-in_default-clause-err : goal.returns-in_default-clause-err
 returns-in_default-clause-err c = not_text_refused _ c.args.number c.args.line.now c.in_default.ensures.none
 
-pub returns-in_default-read-clause-err : goal.returns-in_default-read-clause-err
-returns-in_default-read-clause-err c =
+pub returns-in_default-read_request-clause-err : goal.returns-in_default-read_request-clause-err
+returns-in_default-read_request-clause-err c =
     let text = c.in-Some.ensures.text in
-    bad_request_refused _ c.args.number c.args.line.now c.in-Some.asked.now text.1 text.0 c.in_default-read.ensures
+    bad_request_refused _ c.args.number c.args.line.now c.in-Some.asked.now text.1 text.0 c.in_default-read_request.ensures
 
 pub returns-in-Ok-true-clause-accepted : goal.returns-in-Ok-true-clause-accepted
 returns-in-Ok-true-clause-accepted c =
     let text = c.in-Some.ensures.text in
-    let request = c.in-Some-read.request in
-    let reads = asks request_of c.args.line.now c.in-Some.asked.now (asked request) text.1 text.0 c.in-Some-read.ensures in
+    let request = c.in-Some-read_request.request in
+    let reads = asks request_of c.args.line.now c.in-Some.asked.now (asked request) text.1 text.0 c.in-Some-read_request.ensures in
     refusal_is (told_total_at (value_of c.args.zone.now) (says_of c.args.zone.now)) c.args.number c.args.line.now (asked request) reads
     ∙ ap (λ b. cond b None (Some (range c.args.number))) (sym c.in-Ok-true.ensures.dates ∙ c.in-Ok-true.field-0-test)
 
 pub returns-in-Ok-true-clause-text : goal.returns-in-Ok-true-clause-text
 returns-in-Ok-true-clause-text c =
     let text = c.in-Some.ensures.text in
-    let request = c.in-Some-read.request in
-    let reads = asks request_of c.args.line.now c.in-Some.asked.now (asked request) text.1 text.0 c.in-Some-read.ensures in
+    let request = c.in-Some-read_request.request in
+    let reads = asks request_of c.args.line.now c.in-Some.asked.now (asked request) text.1 text.0 c.in-Some-read_request.ensures in
     c.in-Ok-true.ensures.line c.in-Ok-true.field-0-test
     ∙ ap (λ text. text ++ answer_text (shown_at (told_total_at (value_of c.args.zone.now) (says_of c.args.zone.now)) (asked request))) c.clear.ensures.items
     ∙ sym (line_is (told_total_at (value_of c.args.zone.now) (says_of c.args.zone.now)) c.args.line.now (asked request) reads)
@@ -38,7 +37,7 @@ returns-in-Ok-true-clause-text c =
 pub returns-in-Ok-false-clause-err : goal.returns-in-Ok-false-clause-err
 returns-in-Ok-false-clause-err c =
     let text = c.in-Some.ensures.text in
-    let request = c.in-Some-read.request in
-    let reads = asks request_of c.args.line.now c.in-Some.asked.now (asked request) text.1 text.0 c.in-Some-read.ensures in
+    let request = c.in-Some-read_request.request in
+    let reads = asks request_of c.args.line.now c.in-Some.asked.now (asked request) text.1 text.0 c.in-Some-read_request.ensures in
     refusal_is (told_total_at (value_of c.args.zone.now) (says_of c.args.zone.now)) c.args.number c.args.line.now (asked request) reads
     ∙ ap (λ b. cond b None (Some (range c.args.number))) (sym c.in-Ok-false.ensures.dates ∙ c.in-Ok-false.field-0-test)

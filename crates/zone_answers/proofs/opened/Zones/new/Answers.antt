@@ -1,9 +1,9 @@
 use Rattle.std.specs.FinMap.{get-empty}
 use Rattle.owned.specs.Keyed.{text_cmp}
-use Rattle.zone_answers.proofs.answering.Zones.new.Goals as goal
+use Rattle.zone_answers.proofs.opened.Zones.new.Goals as goal
 
 pub returns-clause-opened : goal.returns-clause-opened
-returns-clause-opened c = record {
+returns-clause-opened g c = record {
   bounded = c.requires;
   each = λ name. rw (c.new.ensures, get-empty text_cmp name) tt;
 }
