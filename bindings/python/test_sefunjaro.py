@@ -2,22 +2,27 @@
 import base64
 import copy
 import ctypes
+import enum
+import inspect
 import io
 import os
 import pathlib
 import pickle
 import resource
 import signal
+import subprocess
+import sys
 import tempfile
 import threading
 import time as clock
 import unittest
 import warnings
+import weakref
 import zoneinfo
 from datetime import date, datetime, time, timedelta, timezone
 
 import sefunjaro
-from sefunjaro import Change, Clock, Gap, Instant, Source, Status
+from sefunjaro import Change, Clock, Gap, Instant, Source, Status, Zone
 
 SOURCE = """\
 Rule Mid 1900 only - Jan 1 0:00 0 -
@@ -45,6 +50,41 @@ SKIPPED, TWICE = datetime(2024, 3, 31, 2, 30), datetime(2024, 10, 27, 2, 30)
 
 def hours(number):
     return timedelta(hours=number)
+
+
+def pickled(value):
+    """A value as it is read from its pickle, by each protocol."""
+    return [pickle.loads(pickle.dumps(value, protocol)) for protocol in range(pickle.HIGHEST_PROTOCOL + 1)]
+
+
+def in_child(asks):
+    """Whether a child of fork finds something so, and doesn't hang."""
+    with warnings.catch_warnings():
+        warnings.simplefilter("ignore", DeprecationWarning)
+        process = os.fork()
+    if not process:
+        try:
+            os._exit(0 if asks() else 1)
+        finally:
+            os._exit(2)
+    for _ in range(2000):
+        ended, status = os.waitpid(process, os.WNOHANG)
+        if ended:
+            return status == 0
+        clock.sleep(0.01)
+    os.kill(process, signal.SIGKILL)
+    os.waitpid(process, 0)
+    return False
+
+
+class OfOther(Zone):
+    """A class of zones that takes other words."""
+
+    def __new__(cls, one, other, more):
+        raise AssertionError
+
+    def __init__(self, one, other, more):
+        raise AssertionError
 
 
 class Zones(unittest.TestCase):
@@ -242,9 +282,289 @@ class Zones(unittest.TestCase):
         moment = TWICE.replace(tzinfo=self.zone)
         self.assertIs(copy.copy(self.zone), self.zone)
         self.assertIs(copy.deepcopy(moment).tzinfo, self.zone)
-        for value in (self.zone, moment, self.source):
-            with self.assertRaisesRegex(TypeError, "pickle"):
-                pickle.dumps(value)
+
+    def test_pickles(self):
+        # A source by its text, a zone by that and its name; zones of one pickle are one object as they were.
+        for source in (self.source, Source(SOURCE, plain=True)):
+            for again in pickled(source):
+                self.assertIsNot(again, source)
+                self.assertEqual(list(again), list(source))
+            zone = source.zone("There/Middle")
+            for again in [*pickled(zone), *pickled(zone.share())]:
+                self.assertIsNot(again, zone)
+                self.assertEqual((again.name, again.key, again.changes(0, SPRING)), ("There/Middle", "There/Middle", zone.changes(0, SPRING)))
+            for moment, other in pickled([TWICE.replace(tzinfo=zone, fold=1), SKIPPED.replace(tzinfo=zone)]):
+                self.assertIs(moment.tzinfo, other.tzinfo)
+                self.assertEqual((moment.fold, moment.utcoffset()), (1, hours(1)))
+        self.assertIs(type(pickled(OfOther._of(self.source, "Here/Middle"))[0]), OfOther)
+        zone = self.source.zone("Here/Middle")
+        zone.close()
+        with self.assertRaises(sefunjaro.NotOpen):
+            pickle.dumps(zone)
+
+    def test_objects(self):
+        zone, other = self.source.zone("Here/Middle"), self.source.zone("Here/Middle")
+        self.assertNotEqual(zone, other)
+        self.assertEqual(len({zone, other, copy.copy(zone)}), 2)
+        self.assertIs(weakref.ref(zone)(), zone)
+        with self.assertRaises(AttributeError):
+            zone.key = "Here/Far"
+        shared = OfOther._of(self.source, "Here/Middle").share()
+        self.assertIs(type(shared), OfOther)
+        self.assertRegex(repr(shared), "OfOther 'Here/Middle'")
+
+    def test_always(self):
+        # Where nothing ever changes a time of day without a date has an offset, as zoneinfo has it.
+        def asked(zone):
+            noon = time(12, tzinfo=zone)
+            return noon.utcoffset(), noon.tzname(), noon.dst()
+
+        source = Source(SOURCE + "Zone Here/Saving 1:00 1:00 SAV\nZone Here/Again 1:00 - AGN 2000\n 1:00 - AGN\n")
+        none, file = (None, None, None), Zone.from_file
+        self.assertEqual(asked(source.zone("Here/Saving")), (hours(2), "SAV", hours(1)))
+        self.assertEqual(asked(source.zone("Here/Again")), (hours(1), "AGN", hours(0)))
+        self.assertEqual([asked(source.zone(name)) for name in ("Here/Middle", "Here/Twice")], [none, none])
+        self.assertEqual(asked(Zone.from_posix("<+03>-3")), (hours(3), "+03", None))
+        self.assertEqual([asked(Zone.from_posix(string)) for string in (Files.STRING, "<+03>-3<+04>,J60,J300")], [none, none])
+        self.assertEqual(asked(file(source.zone("Here/Long").to_tzif())), (hours(1), "AbbreviationOfTwentySix", None))
+        self.assertEqual([asked(file(told)) for told in (Files.FILE, source.zone("Here/Twice").to_tzif())], [none, none])
+        with self.assertRaises(sefunjaro.OffsetTooLarge):
+            time(12, tzinfo=source.zone("Here/Far")).utcoffset()
+
+    def test_other_zones(self):
+        # A datetime of another zone names another local time.
+        zone, utc = self.zone, TWICE.replace(tzinfo=timezone.utc)
+        self.assertEqual(zone.instants(TWICE.replace(tzinfo=zone, fold=1)), zone.instants(TWICE))
+        for ask in (zone.instants, zone.gap, zone.ring):
+            for moment in (utc, TWICE.replace(tzinfo=zone.share())):
+                with self.assertRaisesRegex(ValueError, "another zone"):
+                    ask(moment)
+        self.assertEqual(zone.instants(utc.astimezone(zone)), [(AUTUMN + 5400, 0, 3600)])
+
+    def test_not_text(self):
+        # A lone surrogate.
+        rows = [
+            (lambda: self.source.zone("Here/\ud800Middle"), sefunjaro.UnknownZone, Status.NOT_TEXT),
+            (lambda: Zone.from_posix("<\ud800\ud800\ud800>0"), sefunjaro.NotRead, Status.NOT_TEXT),
+            (lambda: sefunjaro.read_local("\ud800"), sefunjaro.NotRead, Status.NOT_READ),
+            (lambda: sefunjaro.read_zoned("\ud800"), sefunjaro.NotRead, Status.NOT_READ),
+            (lambda: Source("\n#\ud800\n"), sefunjaro.NoPlainForm, Status.NO_PLAIN_FORM),
+            (lambda: Source("\n#\ud800\n", plain=True), sefunjaro.SourceError, Status.NOT_TEXT),
+        ]
+        for ask, kind, status in rows:
+            with self.assertRaises(kind) as raised:
+                ask()
+            self.assertEqual((type(raised.exception), raised.exception.status), (kind, status))
+
+    def test_mutating_datetimes(self):
+        class Same(datetime):
+            def __add__(self, other):
+                return self if other == timedelta(0) else super().__add__(other)
+
+        zone = Source("Rule E 1981 max - Mar lastSun 1:00u 1:00 S\nRule E 1996 max - Oct lastSun 1:00u 0 -\nZone London 0 E GMT/BST\n").zone("London")
+        moment = Same(2024, 10, 27, 1, 30, tzinfo=zone)
+        self.assertEqual((zone.fromutc(moment).fold, moment.fold, type(zone.fromutc(moment))), (1, 0, Same))
+
+
+class Public(unittest.TestCase):
+    def test_words(self):
+        """What is public has a docstring, and hints of all that it takes and gives."""
+        found = [(name, getattr(sefunjaro, name)) for name in sefunjaro.__all__]
+        found += [(f"{name}.{word}", item) for name, kind in found if inspect.isclass(kind) and not issubclass(kind, enum.Enum)
+                  for word, item in vars(kind).items() if not word.startswith("_")]
+        for name, item in found:
+            item = item.fget if isinstance(item, property) else getattr(item, "__func__", item)
+            if inspect.isclass(item) or inspect.isfunction(item):
+                self.assertTrue(inspect.getdoc(item), name)
+            if inspect.isfunction(item) and item.__name__ != "<lambda>" and not name.endswith(("_make", "_replace", "_asdict")):
+                hints = inspect.signature(item)
+                taken = [word for word in hints.parameters.values() if word.name not in ("self", "cls")]
+                self.assertNotIn(inspect.Parameter.empty, [hints.return_annotation, *(word.annotation for word in taken)], name)
+
+
+class Named(unittest.TestCase):
+    """Zones of the machine's own source, which the environment names."""
+
+    @classmethod
+    def setUpClass(cls):
+        cls.folder = tempfile.TemporaryDirectory()
+        cls.path = os.path.join(cls.folder.name, "tzdata.zi")
+        pathlib.Path(cls.path).write_text("# version 2026b\n" + SOURCE)
+        cls.before = os.environ.get("SEFUNJARO_TZDATA")
+        cls.use(cls.path)
+
+    @classmethod
+    def tearDownClass(cls):
+        cls.use(cls.before)
+        cls.folder.cleanup()
+
+    @staticmethod
+    def use(path):
+        """Makes a file the machine's source, which this process hasn't read."""
+        os.environ.pop("SEFUNJARO_TZDATA", None)
+        if path is not None:
+            os.environ["SEFUNJARO_TZDATA"] = path
+        sefunjaro._machine.clear()
+        Zone.clear_cache()
+
+    def test_source(self):
+        self.assertEqual(sefunjaro.available_zones(), set(Source(SOURCE)))
+        source = sefunjaro.machine_source()
+        self.assertEqual(source.version, "2026b")
+        source.close()
+        self.assertEqual(source.zone("Here/Middle").offset_at(SPRING), 7200)
+        for again in [sefunjaro.machine_source(), *pickled(source)]:
+            self.assertIs(again, source)
+        self.assertEqual(pickled(source.zone("Here/Middle"))[0].offset_at(SPRING), 7200)
+        # It is read once.
+        os.environ["SEFUNJARO_TZDATA"] = "/nowhere"
+        self.assertIs(sefunjaro.machine_source(), source)
+        os.environ["SEFUNJARO_TZDATA"] = self.path
+
+    def test_one_object(self):
+        zone = sefunjaro.zone("Here/Middle")
+        self.assertEqual((zone.key, zone.name, str(zone)), ("Here/Middle",) * 3)
+        for again in (sefunjaro.zone("Here/Middle"), Zone.named("Here/Middle"), copy.copy(zone), copy.deepcopy(zone), *pickled(zone)):
+            self.assertIs(again, zone)
+        self.assertIsNot(sefunjaro.zone("There/Middle"), zone)
+        self.assertIs(sefunjaro.zone("Here/Long"), sefunjaro.zone("Here/Long"))
+        # In one zone datetime compares and subtracts local times, and leaves the folds aside.
+        first, second = TWICE.replace(tzinfo=zone), TWICE.replace(tzinfo=sefunjaro.zone("Here/Middle"), fold=1)
+        self.assertEqual((first, second - first), (second, timedelta(0)))
+        with zone:
+            zone.close()
+        self.assertEqual(zone.offset_at(SPRING), 7200)
+        shared = zone.share()
+        self.assertEqual([again.offset_at(SPRING) for again in pickled(shared)], [7200] * 6)
+        shared.close()
+        self.assertEqual(zone.offset_at(SPRING), 7200)
+
+    def test_own_objects(self):
+        zone, own = sefunjaro.zone("Here/Middle"), Zone.no_cache("Here/Middle")
+        self.assertIsNot(zone, own)
+        for again in pickled(own):
+            self.assertNotIn(again, (own, zone))
+            self.assertEqual(again.offset_at(SPRING), 7200)
+        own.close()
+        with self.assertRaises(sefunjaro.NotOpen):
+            own.offset_at(0)
+
+    def test_cleared(self):
+        def objects():
+            return [sefunjaro.zone(name) for name in ("Here/Middle", "Here/Long", "There/Middle")]
+
+        def same(one, other):
+            return [first is second for first, second in zip(one, other)]
+
+        zones = objects()
+        Zone.clear_cache(only_keys=["Here/Middle", "Here/Long", "None"])
+        later = objects()
+        self.assertEqual(same(zones, later), [False, False, True])
+        Zone.clear_cache(only_keys=None)
+        self.assertEqual(same(later, objects()), [False] * 3)
+        self.assertEqual(zones[0].offset_at(SPRING), 7200)
+        with self.assertRaises(TypeError):
+            Zone.clear_cache(["Here/Middle"])
+        self.assertIs(pickled(zones[0])[0], sefunjaro.zone("Here/Middle"))
+
+    def test_subclasses(self):
+        zone, other = sefunjaro.zone("Here/Middle"), OfOther.named("Here/Middle")
+        self.assertEqual((type(zone), type(other)), (Zone, OfOther))
+        for again in pickled(other):
+            self.assertIs(again, other)
+        OfOther.clear_cache()
+        self.assertIsNot(OfOther.named("Here/Middle"), other)
+        self.assertIs(sefunjaro.zone("Here/Middle"), zone)
+        self.assertIs(type(OfOther.no_cache("Here/Middle")), OfOther)
+
+    def test_names(self):
+        for name in ("Here/Nowhere", "", "here/middle", "../Here/Middle", "/Here/Middle", "Here/Middle/", "Ä", "\ud800", "Here/Middle\0"):
+            for call in (sefunjaro.zone, Zone.no_cache):
+                with self.assertRaises(KeyError) as raised:
+                    call(name)
+                self.assertIs(type(raised.exception), sefunjaro.UnknownZone)
+                self.assertIn(repr(name), str(raised.exception))
+        self.assertIn("zero byte", str(raised.exception))
+        for name in (None, 5, b"Here/Middle"):
+            with self.assertRaises(TypeError):
+                sefunjaro.zone(name)
+
+    def test_no_source(self):
+        try:
+            for path, kind, words in ((f"{self.folder.name}/none", sefunjaro.NoTzdata, "which SEFUNJARO_TZDATA names"),
+                                      (self.folder.name, sefunjaro.NoTzdata, "which SEFUNJARO_TZDATA names"),
+                                      (__file__, sefunjaro.NoPlainForm, "LINE_TYPE")):
+                self.use(path)
+                for call in (sefunjaro.available_zones, sefunjaro.machine_source, lambda: sefunjaro.zone("Here/Middle")):
+                    with self.assertRaises(kind) as raised:
+                        call()
+                    self.assertIn(path, str(raised.exception))
+                    self.assertIn(words, str(raised.exception))
+                    self.assertEqual(isinstance(raised.exception.__cause__, OSError), kind is sefunjaro.NoTzdata)
+            self.use("")
+            place, sefunjaro._TZDATA = sefunjaro._TZDATA, f"{self.folder.name}/none"
+            try:
+                with self.assertRaisesRegex(sefunjaro.NoTzdata, f"'{sefunjaro._TZDATA}', and SEFUNJARO_TZDATA names no other"):
+                    sefunjaro.zone("Here/Middle")
+            finally:
+                sefunjaro._TZDATA = place
+            # What couldn't be read is looked for again.
+            os.environ["SEFUNJARO_TZDATA"] = self.path
+            self.assertEqual(sefunjaro.zone("Here/Middle").offset_at(SPRING), 7200)
+        finally:
+            self.use(self.path)
+
+    @unittest.skipUnless(os.path.exists(sefunjaro._TZDATA), "the machine has no source")
+    def test_machine(self):
+        try:
+            self.use(None)
+            paris = sefunjaro.zone("Europe/Paris")
+            self.assertEqual(TWICE.replace(tzinfo=paris, fold=1).isoformat(), "2024-10-27T02:30:00+01:00")
+            self.assertLessEqual({"Europe/Paris", "America/New_York", "UTC"}, sefunjaro.available_zones())
+            self.assertEqual(time(12, tzinfo=sefunjaro.zone("UTC")).utcoffset(), hours(0))
+        finally:
+            self.use(self.path)
+
+    def test_processes(self):
+        """A pickle of a zone by name goes to another process, of which that is the one object."""
+        code = "import pickle, sys, sefunjaro; zone = pickle.load(sys.stdin.buffer); print(zone is sefunjaro.zone('Here/Middle'), zone.offset_at(0))"
+        told = subprocess.run([sys.executable, "-c", code], input=pickle.dumps(sefunjaro.zone("Here/Middle")), stdout=subprocess.PIPE, check=True)
+        self.assertEqual(told.stdout, b"True 3600\n")
+
+    def test_threads(self):
+        for _ in range(50):
+            sefunjaro._machine.clear()
+            Zone.clear_cache()
+            barrier, found = threading.Barrier(8), []
+
+            def ask():
+                barrier.wait()
+                found.append((sefunjaro.zone("Here/Middle"), sefunjaro.machine_source()))
+
+            threads = [threading.Thread(target=ask) for _ in range(8)]
+            for thread in threads:
+                thread.start()
+            for thread in threads:
+                thread.join()
+            self.assertEqual((len(found), len(set(found))), (8, 1))
+
+    def test_fork(self):
+        ends = threading.Event()
+
+        def ask():
+            while not ends.is_set():
+                sefunjaro._machine.clear()
+                Zone.clear_cache()
+                sefunjaro.zone("Here/Middle")
+
+        threads = [threading.Thread(target=ask) for _ in range(4)]
+        for thread in threads:
+            thread.start()
+        children = [in_child(lambda: sefunjaro.zone("Here/Middle").offset_at(SPRING) == 7200 and Zone.no_cache("Here/Long")) for _ in range(20)]
+        ends.set()
+        for thread in threads:
+            thread.join()
+        self.assertEqual(children, [True] * 20)
 
 
 class Files(unittest.TestCase):
@@ -285,9 +605,20 @@ class Files(unittest.TestCase):
             path.write_bytes(self.FILE)
             self.assertEqual([sefunjaro.Zone.from_file(named).name for named in (path, str(path))], [str(path)] * 2)
             self.assertEqual(sefunjaro.Zone.from_file(path, "Paris").name, "Paris")
-        self.assertEqual(sefunjaro.Zone.from_posix("UTC0").name, "UTC0")
+            self.assertIsNone(sefunjaro.Zone.from_file(path).key)
+            with open(path, "rb") as file:
+                self.assertEqual(sefunjaro.Zone.from_file(file, "Paris").key, "Paris")
+        zone = sefunjaro.Zone.from_posix("UTC0")
+        self.assertEqual((zone.name, zone.key), ("UTC0", None))
         with self.assertRaises(FileNotFoundError):
             sefunjaro.Zone.from_file(path)
+
+    def test_pickles(self):
+        # By the bytes of the file and its name, or by the string.
+        for zone in (sefunjaro.Zone.from_file(self.FILE), OfOther.from_file(self.FILE, "Paris"), sefunjaro.Zone.from_posix(self.STRING)):
+            for again in [*pickled(zone), *pickled(zone.share())]:
+                self.assertEqual((type(again), again.name, again.key), (type(zone), zone.name, zone.key))
+                self.assertEqual(again.text_at(13576813200, 5), zone.text_at(13576813200, 5))
 
     def test_faults(self):
         for told, cause in ((b"", sefunjaro.FileCause.REFUSED), (self.FILE[:-1], sefunjaro.FileCause.REFUSED),
@@ -452,21 +783,12 @@ class Lifetimes(unittest.TestCase):
 
     def child(self, zone):
         """Whether a child of fork can ask a zone and close it, and open another."""
-        with warnings.catch_warnings():
-            warnings.simplefilter("ignore", DeprecationWarning)
-            process = os.fork()
-        if not process:
+        def asks():
             asked = zone.offset_at(SPRING) == 7200
             zone.close()
-            os._exit(0 if asked and Source(SOURCE).zone("Here/Middle").offset_at(SPRING) == 7200 else 1)
-        for _ in range(2000):
-            ended, status = os.waitpid(process, os.WNOHANG)
-            if ended:
-                return status == 0
-            clock.sleep(0.01)
-        os.kill(process, signal.SIGKILL)
-        os.waitpid(process, 0)
-        return False
+            return asked and Source(SOURCE).zone("Here/Middle").offset_at(SPRING) == 7200
+
+        return in_child(asks)
 
     def test_fork(self):
         zone, ends = Source(SOURCE).zone("Here/Middle"), threading.Event()
