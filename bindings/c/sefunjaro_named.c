@@ -49,7 +49,8 @@ static uint32_t read_text(FILE *file, struct sefunjaro_fault *fault) {
         errno = 0;
         length += fread(text + length, 1, room - length, file);
     } while (length == room && room <= MOST);
-    uint32_t status = ferror(file) ? refused(SEFUNJARO_NAMED_NO_FILE, (uint32_t)errno, fault) : sefunjaro_source_open(text, length, &machine, fault);
+    uint32_t status = ferror(file) ? refused(SEFUNJARO_NAMED_NO_FILE, (uint32_t)errno, fault)
+                                   : sefunjaro_source_open(text, length, &machine, fault);
     free(text);
     return status;
 }

@@ -19,7 +19,9 @@ static pthread_barrier_t barrier;
 static uint32_t open_length(const char *name, size_t length) { return sefunjaro_named_open((const uint8_t *)name, length, &zone, &fault); }
 static uint32_t open_name(const char *name) { return open_length(name, strlen(name)); }
 static bool is_closed(void) { int32_t offset; return sefunjaro_offset_at(&zone, 0, 0, &offset) == SEFUNJARO_NOT_OPEN; }
-static bool is_fault(uint32_t status, uint32_t cause, size_t line) { return fault.status == status && fault.cause == cause && fault.line == line; }
+static bool is_fault(uint32_t status, uint32_t cause, size_t line) {
+    return fault.status == status && fault.cause == cause && fault.line == line;
+}
 
 /* Names a file of so many bytes as the source, and writes it. */
 static void use(const char *folder, const char *text, size_t length) {

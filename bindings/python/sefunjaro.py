@@ -538,7 +538,7 @@ class _Opened:
     # Whether it is that of the machine, for all who ask for it.
     _is_shared: bool
 
-    def close(self) -> None:
+    def close(self: _Self) -> None:
         """Gives back the memory, after the calls that are under way. What is asked afterwards raises NotOpen; closing again does
         nothing. What others may hold too, a zone that was opened by its name alone or the machine's source, stays open."""
         if not self._is_shared:
@@ -734,6 +734,8 @@ class Zone(datetime.tzinfo, _Opened):
     # Whether nothing ever changes in it, once that was asked.
     _is_fixed: Optional[bool]
     _kept: ClassVar[Dict[str, Any]] = {}
+    # tzinfo has another.
+    __reduce__ = _Opened.__reduce__
 
     def __init_subclass__(cls, **words: Any) -> None:
         super().__init_subclass__(**words)

@@ -72,7 +72,8 @@ fn choices() {
     assert_eq!(seconds(&middle, "2024-03-31 02:30:00.000000000"), [Err(skipped); 3]);
     assert_eq!(skipped.to_string(), "clocks skip the local time: from 3600 to 7200 at 1711846800");
     let thrice = seconds(&zone("Here/Twice"), "2000-01-01 01:15:00.000000000");
-    assert!(matches!(thrice, [Ok(first), Ok(last), Err(Error::Repeated { first: one, last: other })] if (first, last) == (one, other) && first + 7200 == last));
+    let [Ok(first), Ok(last), Err(refused)] = thrice else { panic!("{thrice:?}") };
+    assert_eq!((last - first, refused), (7200, Error::Repeated { first, last }));
     let instant = middle.instant(&local("2024-07-01 12:00:00.000000007"), Choice::Only).unwrap();
     assert_eq!((instant.nanosecond, instant.offset), (7, 7200));
     assert_eq!(middle.instant(&Clock { month: 13, ..local("2024-07-01 12:00:00.000000000") }, Choice::Later), Err(Error::OutOfRange));
@@ -106,7 +107,8 @@ fn texts() {
 
 #[test]
 fn system_times() {
-    let rows = [(0, 0), (0, 1), (-1, 999_999_999), (-1, 0), (1711846800, 5), (-62_135_596_800, 500_000_000), (i64::MAX, 999_999_999), (i64::MIN, 0)];
+    let far = [(-62_135_596_800, 500_000_000), (i64::MAX, 999_999_999), (i64::MIN, 0)];
+    let rows = [(0, 0), (0, 1), (-1, 999_999_999), (-1, 0), (1711846800, 5)].into_iter().chain(far);
     for (second, nanosecond) in rows {
         let instant = Instant { second, nanosecond, offset: 0 };
         let time = SystemTime::try_from(instant).unwrap();
