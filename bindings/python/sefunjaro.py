@@ -38,7 +38,9 @@ import os
 import struct
 import threading
 import weakref
-from typing import Any, Callable, ClassVar, Dict, IO, Iterable, Iterator, List, NamedTuple, NoReturn, Optional, Set, Tuple, Type, TypeVar, Union
+from typing import (
+    IO, Any, Callable, ClassVar, Dict, Iterable, Iterator, List, NamedTuple, NoReturn, Optional, Set, Tuple, Type, TypeVar, Union,
+)
 
 __all__ = [
     "BadJoin", "BadLine", "Change", "Clock", "Error", "FileCause", "FIRST_YEAR", "Gap", "InForce", "Instant", "JoinCause", "LAST_YEAR",
@@ -1033,16 +1035,13 @@ class Zone(datetime.tzinfo, _Opened):
             return reading.offset, reading.second, clock.nanosecond
         return (gap.after, gap.second, 0) if local.fold else (gap.before, gap.second - 1, 0)
 
-    def _when(self, dt: Optional[datetime.datetime]) -> Optional[Tuple[int, int, int]]:
-        """The same; without a local time, as a `datetime.time` asks, of any instant where nothing ever changes, and else None."""
-        if dt is not None:
-            return self._chosen(dt)
-        if self._is_fixed is None:
-            self._is_fixed = self._never_changes()
-        return (self.offset_at(0), 0, 0) if self._is_fixed else None
-
     def _never_changes(self) -> bool:
-        """Whether nothing ever changes in the zone."""
+        """Whether nothing ever changes in the zone, so that it has an offset without a date."""
+        if self._is_fixed is None:
+            self._is_fixed = self._has_no_change()
+        return self._is_fixed
+
+    def _has_no_change(self) -> bool:
         second = -(2**63)
         try:
             while True:
@@ -1058,21 +1057,23 @@ class Zone(datetime.tzinfo, _Opened):
     def utcoffset(self, dt: Optional[datetime.datetime]) -> Optional[datetime.timedelta]:
         """The offset of a local time; of None, as a `datetime.time` asks, that of a zone in which nothing ever changes, or else None.
         Raises OffsetTooLarge."""
-        when = self._when(dt)
-        return None if when is None else _delta(when[0])
+        if dt is not None:
+            return _delta(self._chosen(dt)[0])
+        return _delta(self.offset_at(0)) if self._never_changes() else None
 
     def tzname(self, dt: Optional[datetime.datetime]) -> Optional[str]:
         """The abbreviation of a local time, and of None as `utcoffset`."""
-        when = self._when(dt)
-        return None if when is None else self.in_force(*when[1:]).name
+        if dt is None:
+            return self.in_force(0).name if self._never_changes() else None
+        _, second, nanosecond = self._chosen(dt)
+        return self.in_force(second, nanosecond).name
 
     def dst(self, dt: Optional[datetime.datetime]) -> Optional[datetime.timedelta]:
         """The saving of a local time: how much of the offset it is, and of None as `utcoffset`; None in a zone of a file or of a POSIX
         string, which has none. Raises OffsetTooLarge."""
-        when = self._when(dt)
-        if when is None:
+        if dt is None and not self._never_changes():
             return None
-        _, second, nanosecond = when
+        _, second, nanosecond = (0, 0, 0) if dt is None else self._chosen(dt)
         try:
             return _delta(self.saving_at(second, nanosecond))
         except NotKept:

@@ -160,9 +160,10 @@ class Named(unittest.TestCase):
 
     def test_processes(self):
         """A pickle of a zone by name goes to another process, of which that is the one object."""
-        code = "import pickle, sys, sefunjaro; zone = pickle.load(sys.stdin.buffer); print(zone is sefunjaro.zone('Here/Middle'), zone.offset_at(0))"
-        told = subprocess.run([sys.executable, "-c", code], input=pickle.dumps(sefunjaro.zone("Here/Middle")), stdout=subprocess.PIPE, check=True)
-        self.assertEqual(told.stdout, b"True 3600\n")
+        code = "import pickle, sys, sefunjaro; print(pickle.load(sys.stdin.buffer) is sefunjaro.zone('Here/Middle'))"
+        pickle_of_zone = pickle.dumps(sefunjaro.zone("Here/Middle"))
+        told = subprocess.run([sys.executable, "-c", code], input=pickle_of_zone, stdout=subprocess.PIPE, check=True)
+        self.assertEqual(told.stdout, b"True\n")
 
     def test_threads(self):
         for _ in range(50):
@@ -193,7 +194,7 @@ class Named(unittest.TestCase):
         threads = [threading.Thread(target=ask) for _ in range(4)]
         for thread in threads:
             thread.start()
-        children = [in_child(lambda: sefunjaro.zone("Here/Middle").offset_at(SPRING) == 7200 and Zone.no_cache("Here/Long")) for _ in range(20)]
+        children = [in_child(lambda: sefunjaro.zone("Here/Middle").offset_at(SPRING) == 7200) for _ in range(20)]
         ends.set()
         for thread in threads:
             thread.join()

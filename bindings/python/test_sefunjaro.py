@@ -290,7 +290,8 @@ class Zones(unittest.TestCase):
             zone = source.zone("There/Middle")
             for again in [*pickled(zone), *pickled(zone.share())]:
                 self.assertIsNot(again, zone)
-                self.assertEqual((again.name, again.key, again.changes(0, SPRING)), ("There/Middle", "There/Middle", zone.changes(0, SPRING)))
+                self.assertEqual((again.name, again.key), ("There/Middle", "There/Middle"))
+                self.assertEqual(again.changes(0, SPRING), zone.changes(0, SPRING))
             moment, other = pickle.loads(pickle.dumps([TWICE.replace(tzinfo=zone, fold=1), SKIPPED.replace(tzinfo=zone)]))
             self.assertIs(moment.tzinfo, other.tzinfo)
             self.assertEqual((moment.fold, moment.utcoffset()), (1, hours(1)))
