@@ -112,7 +112,8 @@ def of_library(files, wants):
 
 
 def of_development(files, release):
-    found = {**moved(files, {"include/": "usr/include/"}), **manual(files, 3)}
+    places = {"include/": "usr/include/", f"{layout.DATA}/": f"usr/{layout.DATA}/"}
+    found = {**moved(files, places), **manual(files, 3)}
     found[f"{LIBRARY}/libsefunjaro.a"] = files["lib/libsefunjaro.a"]
     found[f"{LIBRARY}/libsefunjaro.so"] = files["lib/libsefunjaro.so"]
     found[f"{LIBRARY}/pkgconfig/sefunjaro.pc"] = plain(layout.pkg_config("/usr", f"${{prefix}}/lib/{MULTIARCH}"))

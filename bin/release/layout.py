@@ -8,9 +8,12 @@ import tree
 from checkout import ARCHITECTURE, Stop, commit, glibc, major, programs, read, read_bytes, run, sum_of, version
 from tree import link, plain
 
+# Where C files stand that are compiled with a program.
+DATA = "share/sefunjaro"
 PKG_CONFIG = """prefix={prefix}
 libdir={libdir}
 includedir=${{prefix}}/include
+pkgdatadir=${{prefix}}/{DATA}
 
 Name: sefunjaro
 Description: a verified time-zone engine
@@ -33,7 +36,7 @@ def shared_object():
 
 
 def pkg_config(prefix, libdir):
-    return PKG_CONFIG.format(prefix=prefix, libdir=libdir, version=version())
+    return PKG_CONFIG.format(prefix=prefix, libdir=libdir, version=version(), DATA=DATA)
 
 
 def of_programs():
@@ -48,9 +51,11 @@ def of_programs():
 
 
 def of_library(library):
-    """The library that bin/make_library left in a folder."""
+    """The library that bin/make_library left in a folder, and what stands beside it for zones by name."""
     return {
         "include/sefunjaro.h": plain(read("include", "sefunjaro.h")),
+        "include/sefunjaro_named.h": plain(read("bindings", "c", "sefunjaro_named.h")),
+        f"{DATA}/sefunjaro_named.c": plain(read("bindings", "c", "sefunjaro_named.c")),
         "lib/libsefunjaro.a": plain(read_bytes(os.path.join(library, "libsefunjaro.a"))),
         f"lib/{shared_object()}": plain(read_bytes(os.path.join(library, shared_object()))),
         "lib/libsefunjaro.so": link(shared_object()),

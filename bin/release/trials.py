@@ -15,7 +15,7 @@ PREFIX = "/opt/sefunjaro"
 OLDER = "1.99.0-1"
 # What stands in each package of the older version alone.
 STALE = {"usr/share/doc/{name}/older": plain("older\n")}
-TESTS = "test_sefunjaro"
+TESTS = ["test_sefunjaro", "test_named"]
 LIBRARY = f"libsefunjaro{major()}"
 PROGRAMS = ["sefunjaro", LIBRARY, "python3-sefunjaro"]
 FOR_C = [LIBRARY, "libsefunjaro-dev"]
@@ -146,10 +146,19 @@ def compiled(root, flags, **settings):
     due("the caller in C", requests()[1], root.ask(f"/tmp/example {MACHINE}"))
 
 
+def named(root, **settings):
+    """The calls for zones by name, compiled with the root's own file, by their test over the root's own source."""
+    root.put(os.path.join(ROOT, "bindings", "c", "test_named.c"))
+    file = "$(pkg-config --variable=pkgdatadir sefunjaro)/sefunjaro_named.c"
+    root.ask(f"cd /tmp && gcc -Wall -Wextra -Werror test_named.c {file} -o test_named $(pkg-config --cflags sefunjaro) "
+             "$(pkg-config --variable=libdir sefunjaro)/libsefunjaro.a", **settings)
+    root.ask(f"mkdir -p /tmp/named && /tmp/test_named /tmp/named {MACHINE}")
+
+
 def python_tests(root, python):
     """The tests of the module by an interpreter that has it."""
-    root.put(os.path.join(ROOT, "bindings", "python", f"{TESTS}.py"))
-    told = root.ask(f"cd /tmp && PYTHONDONTWRITEBYTECODE=1 {python} -m unittest {TESTS}")
+    root.put(*(os.path.join(ROOT, "bindings", "python", f"{name}.py") for name in TESTS))
+    told = root.ask(f"cd /tmp && PYTHONDONTWRITEBYTECODE=1 {python} -m unittest {' '.join(TESTS)}")
     if not re.search(r"^OK\b", told, re.M):
         raise Stop(told[-2000:])
 

@@ -1,12 +1,16 @@
 """Sefunjaro for Python: the zones of the tz database, as `datetime.tzinfo` and asked both ways.
 
     from datetime import datetime
-    from sefunjaro import Source
+    import sefunjaro
 
-    source = Source.from_path("tzdata.zi")
-    paris = source.zone("Europe/Paris")
+    paris = sefunjaro.zone("Europe/Paris")
     datetime(2024, 7, 14, 21, 15, tzinfo=paris).isoformat()      # '2024-07-14T21:15:00+02:00'
     paris.instants(datetime(2024, 10, 27, 2, 30))                # both instants of a local time that clocks show twice
+    sefunjaro.Source.from_path("tzdata.zi").zone("Europe/Paris") # the same of a source of one's own
+
+`zone` takes the machine's own source: the file that the environment variable SEFUNJARO_TZDATA names, or else
+/usr/share/zoneinfo/tzdata.zi, in any form that zic reads. It is read once in a process. Such a zone is one object for each name, as
+`zoneinfo.ZoneInfo` is, pickled by its name, and stays open: `close` leaves it as it is.
 
 One file over ctypes. It loads libsefunjaro.so.2, which `bin/make_library` makes: the file that the environment variable
 SEFUNJARO_LIBRARY names, else the one beside this module, else the one that the system's loader finds.
@@ -14,6 +18,14 @@ SEFUNJARO_LIBRARY names, else the one beside this module, else the one that the 
 Instants are given as seconds from 1970-01-01 00:00:00 UTC and nanoseconds, offsets as seconds east of UTC. Any number of threads may
 ask one source or one zone at once; `close` waits for the calls that are under way, and a call after it raises NotOpen. A child of fork
 may go on with what was open: it asks without a lock, and waits for no thread that it doesn't have.
+
+What `zoneinfo` does otherwise, besides what only one of the two has:
+- `dst` of a zone of a file or of a POSIX string is None, since a file doesn't say the saving; zoneinfo guesses it.
+- A name is looked up in the source and is no path, so "../Europe/Paris" raises UnknownZone, a KeyError, and no ValueError.
+- Zones are kept by their names until `clear_cache`, and not only the last eight and those in use.
+- A zone of a file can be pickled: with the file's bytes.
+- `str` of a zone of a file without a name is "file", and `close` is there: `str` of a datetime in a closed zone raises NotOpen, as all
+  that asks it.
 """
 from __future__ import annotations
 
@@ -23,15 +35,18 @@ import enum
 import functools
 import operator
 import os
+import struct
 import threading
 import weakref
-from typing import Iterator, List, NamedTuple, Optional, Tuple, Union
+from typing import (
+    IO, Any, Callable, ClassVar, Dict, Iterable, Iterator, List, NamedTuple, NoReturn, Optional, Set, Tuple, Type, TypeVar, Union,
+)
 
 __all__ = [
     "BadJoin", "BadLine", "Change", "Clock", "Error", "FileCause", "FIRST_YEAR", "Gap", "InForce", "Instant", "JoinCause", "LAST_YEAR",
-    "LineCause", "NoPlainForm", "NoSchedule", "NoTail", "NotKept", "NotOpen", "NotRead", "NoTzif", "OffsetRange", "OffsetTooLarge",
-    "OutOfRange", "PlainCause", "PosixTail", "ScheduleCause", "Source", "SourceError", "Status", "TailCause", "TzifCause", "UnknownZone", "VERSION",
-    "Zone", "ZoneError", "read_local", "read_zoned",
+    "LineCause", "NoPlainForm", "NoSchedule", "NoTail", "NotKept", "NotOpen", "NotRead", "NoTzdata", "NoTzif", "OffsetRange",
+    "OffsetTooLarge", "OutOfRange", "PlainCause", "PosixTail", "ScheduleCause", "Source", "SourceError", "Status", "TailCause", "TzifCause",
+    "UnknownZone", "VERSION", "Zone", "ZoneError", "available_zones", "machine_source", "read_local", "read_zoned", "zone",
 ]
 
 
@@ -83,9 +98,13 @@ TzifCause = enum.IntEnum("TzifCause", "TIMES TYPES NAMES", module=__name__)
 class Error(Exception):
     """What the library refuses: its `status`, and the `cause` and the `line` of the source (from 1), or None where there is none."""
 
-    status = Status.DONE
+    status: Status = Status.DONE
+    cause: Optional[enum.IntEnum]
+    line: Optional[int]
 
-    def __init__(self, words: str, *, status: Optional[Status] = None, cause: Optional[enum.IntEnum] = None, line: Optional[int] = None):
+    def __init__(
+        self, words: str, *, status: Optional[Status] = None, cause: Optional[enum.IntEnum] = None, line: Optional[int] = None
+    ) -> None:
         super().__init__(words)
         if status is not None:
             self.status = status
@@ -129,7 +148,7 @@ class ZoneError(Error):
 
 
 class UnknownZone(ZoneError, KeyError):
-    """The name is that of no zone, and of no link to one."""
+    """The name is that of no zone, and of no link to one. Where it can't be, since it is not UTF-8, the status is NOT_TEXT."""
 
     status = Status.UNKNOWN_ZONE
 
@@ -166,7 +185,8 @@ class OutOfRange(Error, ValueError):
 
 
 class NotRead(Error, ValueError):
-    """The text is none of those that are read; of a compiled file, `cause` is a FileCause."""
+    """The text is none of those that are read; of a compiled file, `cause` is a FileCause. Where it is not UTF-8, the status may be
+    NOT_TEXT."""
 
     status = Status.NOT_READ
 
@@ -175,6 +195,10 @@ class NotKept(Error):
     """The zone is that of a file or of a POSIX string, of which this is not asked."""
 
     status = Status.NOT_KEPT
+
+
+class NoTzdata(Error):
+    """The machine has no source of the tz database where one is looked for; the text names the place. Its `__cause__` is the OSError."""
 
 
 class OffsetTooLarge(Error, ValueError):
@@ -251,7 +275,7 @@ class InForce(NamedTuple):
     name: str
 
 
-def _struct(name: str, **fields) -> type:
+def _struct(name: str, **fields: Any) -> Any:
     """A struct of the header, by its fields in order."""
     return type(name, (ctypes.Structure,), {"_fields_": list(fields.items())})
 
@@ -292,11 +316,12 @@ def _load() -> ctypes.CDLL:
         raise ImportError(f"{error}; SEFUNJARO_LIBRARY names the file {file} that bin/make_library makes") from error
 
 
-def _function(name: str, *arguments, answer=ctypes.c_uint32):
-    found = getattr(_library, name)
+def _function(name: str, *arguments: Any, answer: Any = ctypes.c_uint32) -> Callable[..., int]:
+    found: Any = getattr(_library, name)
     found.argtypes = arguments
     found.restype = answer
-    return found
+    function: Callable[..., int] = found
+    return function
 
 
 _library = _load()
@@ -338,7 +363,7 @@ VERSION, FIRST_YEAR, LAST_YEAR = _version_of_library()
 """The version of the library's calls, and the first and the last year in which the rules of a source fire."""
 
 
-def _raise(status: int, of: str, fault: Optional[_RawFault] = None) -> None:
+def _raise(status: int, of: str, fault: Any = None) -> NoReturn:
     """Raises what a status other than DONE stands for; `of` names what was asked."""
     line = fault.line or None if fault is not None else None
     cause = fault.cause if fault is not None else 0
@@ -380,6 +405,11 @@ def _within(value: int, low: int, high: int) -> int:
     return value
 
 
+def _utf8(text: str) -> bytes:
+    """A text as it is passed. What can't be UTF-8, a lone surrogate, is passed as bytes that are not, for the library to refuse."""
+    return text.encode("utf-8", "surrogatepass")
+
+
 def _second(value: int) -> int:
     return _within(value, -(2**63), 2**63 - 1)
 
@@ -388,14 +418,14 @@ def _nanosecond(value: int) -> int:
     return _within(value, 0, 999_999_999)
 
 
-def _raw_clock(local: Union[datetime.datetime, Clock]) -> _RawClock:
+def _raw_clock(local: Union[datetime.datetime, Clock]) -> Any:
     if isinstance(local, datetime.datetime):
         return _RawClock(local.year, local.month, local.day, local.hour, local.minute, local.second, local.microsecond * 1000)
     year, *parts, nanosecond = local
     return _RawClock(_within(year, -(2**31), 2**31 - 1), *(_within(part, 0, 255) for part in parts), _within(nanosecond, 0, 2**32 - 1))
 
 
-def _clock(raw: _RawClock) -> Clock:
+def _clock(raw: Any) -> Clock:
     return Clock(raw.year, raw.month, raw.day, raw.hour, raw.minute, raw.second, raw.nanosecond)
 
 
@@ -416,8 +446,8 @@ class _Handle:
     __slots__ = ("raw", "calls", "is_closing", "is_left", "ended", "__weakref__")
 
     def __init__(self) -> None:
-        self.raw = _RawHandle()
-        self.calls = {}
+        self.raw: Any = _RawHandle()
+        self.calls: Dict[int, int] = {}
         self.is_closing = False
         # Whether the last call that is under way closes the handle.
         self.is_left = False
@@ -425,11 +455,11 @@ class _Handle:
         _handles.add(self)
 
     @property
-    def at(self):
+    def at(self) -> Any:
         """Where a call opens it, while nobody else has it."""
         return ctypes.byref(self.raw)
 
-    def ask(self, call, *arguments) -> int:
+    def ask(self, call: Callable[..., int], *arguments: Any) -> int:
         """The status of a call that reads the handle."""
         thread, calls = threading.get_ident(), self.calls
         outer = calls.get(thread, 0)
@@ -476,13 +506,13 @@ class _Handle:
                 del self.calls[other]
         self.ended = threading.Condition()
 
-    def __del__(self, close=_close) -> None:
+    def __del__(self, close: Callable[..., int] = _close) -> None:
         # Nobody else has the handle any more, so there is nothing to wait for.
         if hasattr(self, "raw"):
             close(ctypes.byref(self.raw))
 
 
-_handles = weakref.WeakSet()
+_handles: weakref.WeakSet[_Handle] = weakref.WeakSet()
 
 
 def _forked() -> None:
@@ -494,30 +524,45 @@ def _forked() -> None:
 os.register_at_fork(after_in_child=_forked)
 
 
+_Text = Union[bytes, bytearray, memoryview, str]
+_Self = TypeVar("_Self", bound="_Opened")
+_OfZone = TypeVar("_OfZone", bound="Zone")
+
+
 class _Opened:
     """What sources and zones have in common."""
 
     __slots__ = ()
 
-    def close(self) -> None:
-        """Gives back the memory, after the calls that are under way. What is asked afterwards raises NotOpen; closing again does
-        nothing."""
-        self._handle.close()
+    _handle: _Handle
+    # What it is opened from, as pickle takes it: a call, and what it is given. None where it was closed.
+    _origin: Optional[Tuple[Callable[..., Any], Tuple[Any, ...]]]
+    # Whether it is that of the machine, for all who ask for it.
+    _is_shared: bool
 
-    def __enter__(self):
+    def close(self: _Self) -> None:
+        """Gives back the memory, after the calls that are under way. What is asked afterwards raises NotOpen; closing again does
+        nothing. What others may hold too, a zone that was opened by its name alone or the machine's source, stays open."""
+        if not self._is_shared:
+            self._origin = None
+            self._handle.close()
+
+    def __enter__(self: _Self) -> _Self:
         return self
 
-    def __exit__(self, *_exception) -> None:
+    def __exit__(self, *_exception: object) -> None:
         self.close()
 
-    def __copy__(self):
+    def __copy__(self: _Self) -> _Self:
         return self
 
-    def __deepcopy__(self, _memo):
+    def __deepcopy__(self: _Self, _memo: object) -> _Self:
         return self
 
-    def __reduce_ex__(self, _protocol):
-        raise TypeError(f"a {type(self).__name__} can't be pickled: pickle the name of the zone, and open it from its source again")
+    def __reduce__(self) -> Tuple[Callable[..., Any], Tuple[Any, ...]]:
+        if self._origin is None:
+            raise NotOpen(f"{self!r} is closed, and can't be pickled")
+        return self._origin
 
 
 class Source(_Opened):
@@ -526,16 +571,20 @@ class Source(_Opened):
 
     Raises SourceError where the text has more than 16,777,216 bytes, and NoPlainForm with the first line that is refused and the cause;
     what BadLine, BadJoin and SourceError of a line say is of the plain form that is made of the text, and so is their line. With `plain`
-    they are of the text: SourceError where a line is not UTF-8, BadLine and BadJoin with the first line that is refused and the cause."""
+    they are of the text: SourceError where a line is not UTF-8, BadLine and BadJoin with the first line that is refused and the cause.
 
-    __slots__ = ("_handle", "__weakref__")
+    It is pickled with its text, and keeps that until it is closed."""
 
-    def __init__(self, text: Union[bytes, bytearray, memoryview, str], *, plain: bool = False) -> None:
+    __slots__ = ("_handle", "_origin", "_is_shared", "__weakref__")
+
+    def __init__(self, text: _Text, *, plain: bool = False) -> None:
         self._handle = _Handle()
+        self._is_shared = False
         if isinstance(text, str):
-            text = text.encode()
+            text = _utf8(text)
         elif not isinstance(text, bytes):
             text = memoryview(text).tobytes()
+        self._origin = (_opened_source, (type(self), text, plain))
         fault = _RawFault()
         open_text = _source_open_plain if plain else _source_open
         status = open_text(text, len(text), self._handle.at, ctypes.byref(fault))
@@ -544,7 +593,7 @@ class Source(_Opened):
             _raise(status, _FORM if of_form else "source", fault)
 
     @classmethod
-    def from_path(cls, path: Union[str, os.PathLike], *, plain: bool = False) -> "Source":
+    def from_path(cls, path: Union[str, os.PathLike[str]], *, plain: bool = False) -> "Source":
         """The source that a file holds. OSError where it can't be read."""
         with open(path, "rb") as file:
             return cls(file.read(), plain=plain)
@@ -587,7 +636,7 @@ class Source(_Opened):
             _raise(status, "source")
         return name
 
-    def _text(self, call, *asked) -> Tuple[int, str]:
+    def _text(self, call: Callable[..., int], *asked: Any) -> Tuple[int, str]:
         """The status of a call, and what it puts into a room, which grows as it has to."""
         whole, room = ctypes.c_size_t(), 64
         while True:
@@ -603,63 +652,209 @@ class Source(_Opened):
         return f"<sefunjaro.Source at {id(self):#x}>"
 
 
+def _opened_source(kind: Type[Source], text: bytes, plain: bool) -> Source:
+    return kind(text, plain=plain)
+
+
+# Zones of one source that are read from pickles one by one share it.
+_last_source = functools.lru_cache(maxsize=1)(_opened_source)
+
+
+def _opened_zone(kind: Type[_OfZone], source: Tuple[Type[Source], bytes, bool], name: str) -> _OfZone:
+    return kind._of(_last_source(*source), name)
+
+
+_TZDATA = "/usr/share/zoneinfo/tzdata.zi"
+# The machine's source by no name, once it was read. A step of a dictionary is whole, so no lock is held that a child of fork waits for.
+_machine: Dict[None, Source] = {}
+
+
+def machine_source() -> Source:
+    """The machine's own source of the tz database: the file that the environment variable SEFUNJARO_TZDATA names, or else
+    /usr/share/zoneinfo/tzdata.zi, in any form that zic reads. It is read once in a process, stays open, and is pickled as the machine's.
+
+    Raises NoTzdata where there is no such file that can be read, and what `Source` raises."""
+    found = _machine.get(None)
+    return _machine.setdefault(None, _read_machine()) if found is None else found
+
+
+def _read_machine() -> Source:
+    named = os.environ.get("SEFUNJARO_TZDATA")
+    try:
+        source = Source.from_path(named or _TZDATA)
+    except OSError as error:
+        place = f"{named!r}, which SEFUNJARO_TZDATA names" if named else f"{_TZDATA!r}, and SEFUNJARO_TZDATA names no other file"
+        raise NoTzdata(f"no source of the tz database: {error.strerror}: {place}") from error
+    except Error as error:
+        error.args = (f"{named or _TZDATA}: {error}",)
+        raise
+    source._is_shared = True
+    source._origin = (machine_source, ())
+    return source
+
+
+def available_zones() -> Set[str]:
+    """The names that find a zone of the machine's source. Raises as `machine_source`."""
+    return set(machine_source())
+
+
+def zone(name: str) -> "Zone":
+    """The zone of a name in the machine's source, one object for each name: `Zone.named`."""
+    return Zone.named(name)
+
+
+def _is_rule(string: str) -> bool:
+    """Whether a POSIX string that was read has daylight saving time, and so a rule, behind its last name."""
+    return "," in string.rpartition(">")[2]
+
+
+def _kinds_of_file(file: bytes) -> Tuple[int, str]:
+    """How many kinds of time a compiled file that was read has, and its footer."""
+    start, width = 0, 4
+    while True:
+        utc, standard, leaps, times, kinds, letters = struct.unpack_from(">6I", file, start + 20)
+        end = start + 44 + times * (width + 1) + kinds * 6 + letters + leaps * (width + 4) + standard + utc
+        if width == 8 or file[4:5] == b"\0":
+            return kinds, file[end:].decode("latin-1") if width == 8 else ""
+        start, width = end, 8
+
+
 class Zone(datetime.tzinfo, _Opened):
     """A zone, as `datetime.tzinfo`, and with calls of its own.
 
     As tzinfo it follows PEP 495. Of a local time that clocks show twice, `fold` 0 is the first instant and 1 the second. A local time
     that clocks skip has the offset before the change where `fold` is 0, and that after it where it is 1. Where the offset is 24 hours
-    or more, which `datetime` can't hold, OffsetTooLarge is raised."""
+    or more, which `datetime` can't hold, OffsetTooLarge is raised.
 
-    __slots__ = ("_handle", "_name", "__weakref__")
+    Two zones are equal where they are one object. A zone is pickled by what it was opened from: its name, its source's text and its name,
+    the string, or the bytes of the file; a copy is the same object."""
+
+    __slots__ = ("_handle", "_name", "_key", "_is_fixed", "_origin", "_is_shared", "__weakref__")
+
+    _name: str
+    _key: Optional[str]
+    # Whether nothing ever changes in it, once that was asked.
+    _is_fixed: Optional[bool]
+    _kept: ClassVar[Dict[str, Any]] = {}
+    # tzinfo has another.
+    __reduce__ = _Opened.__reduce__
+
+    def __init_subclass__(cls, **words: Any) -> None:
+        super().__init_subclass__(**words)
+        cls._kept = {}
 
     def __init__(self, source: Source, name: str) -> None:
-        self._handle = _Handle()
-        self._name = name
-        told = name.encode()
-        fault = _RawFault()
+        self._begin(name, name)
+        told, fault, origin = _utf8(name), _RawFault(), source._origin
         status = source._handle.ask(_zone_open, told, len(told), self._handle.at, ctypes.byref(fault))
-        if status:
-            _raise(status, "source" if status == Status.NOT_OPEN else repr(name), fault)
+        if status == Status.NOT_TEXT:
+            raise UnknownZone(f"{name!r} is no zone of the source: it is not UTF-8", status=Status.NOT_TEXT)
+        if status or origin is None:
+            _raise(status or Status.NOT_OPEN, "source" if status in (Status.DONE, Status.NOT_OPEN) else repr(name), fault)
+        self._origin = (type(self).no_cache, (name,)) if source._is_shared else (_opened_zone, (type(self), origin[1], name))
+
+    def _begin(self, name: str, key: Optional[str]) -> None:
+        """What each zone has before it is opened."""
+        self._handle = _Handle()
+        self._name, self._key = name, key
+        self._is_fixed, self._is_shared, self._origin = None, False, None
 
     @classmethod
-    def from_file(cls, file: Union[bytes, bytearray, memoryview, str, os.PathLike], name: Optional[str] = None) -> "Zone":
-        """The zone of a compiled file (TZif, as below /usr/share/zoneinfo), from its bytes or its path, with what its footer says from
-        its last change on. It has no changes and no saving: `dst` is None, and `changes`, `next_change`, `saving_at`, `posix_tail` and
-        `to_tzif` raise NotKept.
-
-        Raises NotRead with its cause, and OSError where the file can't be read."""
-        if isinstance(file, (str, os.PathLike)):
-            path = os.fspath(file)
-            with open(path, "rb") as opened:
-                return cls._opened(_file_open, opened.read(), name or str(path))
-        return cls._opened(_file_open, memoryview(file).tobytes(), name or "file")
-
-    @classmethod
-    def from_posix(cls, text: str) -> "Zone":
-        """The zone that a POSIX string stands for at all times, as "CET-1CEST,M3.5.0,M10.5.0/3"; its name is the string. It has no
-        changes and no saving, as the zone of a file. Raises NotRead."""
-        return cls._opened(_posix_open, text.encode(), text)
-
-    @classmethod
-    def _opened(cls, call, told: bytes, name: str) -> "Zone":
-        zone = cls.__new__(cls)
-        zone._handle = _Handle()
-        zone._name = name
-        fault = _RawFault()
-        status = call(told, len(told), zone._handle.at, ctypes.byref(fault))
-        if status:
-            _raise(status, repr(name), fault)
+    def _of(cls: Type[_OfZone], source: Source, name: str) -> _OfZone:
+        """The zone of a name, also where a subclass takes other arguments."""
+        zone = datetime.tzinfo.__new__(cls)
+        Zone.__init__(zone, source, name)
         return zone
 
-    def share(self) -> "Zone":
+    @classmethod
+    def named(cls: Type[_OfZone], name: str) -> _OfZone:
+        """The zone of a name in the machine's source (`machine_source`). It is one object for each name and class, also for many
+        threads, until `clear_cache`; it is pickled by its name, and `close` leaves it open.
+
+        Raises UnknownZone, also where the name has a zero byte, NoTzdata where the machine has no source, and what `Source` and
+        `Source.zone` raise."""
+        found: Optional[_OfZone] = cls._kept.get(name)
+        if found is None:
+            zone = cls.no_cache(name)
+            zone._is_shared, zone._origin = True, (cls.named, (name,))
+            kept: _OfZone = cls._kept.setdefault(name, zone)
+            return kept
+        return found
+
+    @classmethod
+    def no_cache(cls: Type[_OfZone], name: str) -> _OfZone:
+        """The same as an object of its own, which can be closed; so it is when it is read from a pickle."""
+        if not isinstance(name, str):
+            raise TypeError(f"a zone's name is a str, not {type(name).__name__}")
+        if "\0" in name:
+            raise UnknownZone(f"{name!r} is no zone: it has a zero byte")
+        return cls._of(machine_source(), name)
+
+    @classmethod
+    def clear_cache(cls, *, only_keys: Optional[Iterable[str]] = None) -> None:
+        """Forgets the zones that `named` keeps for this class, all or those of some names: it opens them anew. Those that someone holds
+        stay as they are. The source isn't read again."""
+        if only_keys is None:
+            cls._kept.clear()
+        else:
+            for key in only_keys:
+                cls._kept.pop(key, None)
+
+    @classmethod
+    def from_file(
+        cls: Type[_OfZone], file: Union[bytes, bytearray, memoryview, str, os.PathLike[str], IO[bytes]], name: Optional[str] = None
+    ) -> _OfZone:
+        """The zone of a compiled file (TZif, as below /usr/share/zoneinfo), from its bytes, its path or the file that is open, with what
+        its footer says from its last change on. It has no changes and no saving: `dst` is None, and `changes`, `next_change`,
+        `saving_at`, `posix_tail` and `to_tzif` raise NotKept.
+
+        Raises NotRead with its cause, and OSError where the file can't be read."""
+        path = None
+        if isinstance(file, (str, os.PathLike)):
+            path = str(os.fspath(file))
+            with open(path, "rb") as opened:
+                told = opened.read()
+        else:
+            told = memoryview(file if isinstance(file, (bytes, bytearray, memoryview)) else file.read()).tobytes()
+        return cls._of_file(told, name or path or "file", name)
+
+    @classmethod
+    def _of_file(cls: Type[_OfZone], told: bytes, name: str, key: Optional[str]) -> _OfZone:
+        return cls._opened(_file_open, told, name, key, (cls._of_file, (told, name, key)))
+
+    @classmethod
+    def from_posix(cls: Type[_OfZone], text: str) -> _OfZone:
+        """The zone that a POSIX string stands for at all times, as "CET-1CEST,M3.5.0,M10.5.0/3"; its name is the string. It has no
+        changes and no saving, as the zone of a file. Raises NotRead."""
+        return cls._opened(_posix_open, _utf8(text), text, None, (cls.from_posix, (text,)))
+
+    @classmethod
+    def _opened(cls: Type[_OfZone], call: Callable[..., int], told: bytes, name: str, key: Optional[str], origin: Any) -> _OfZone:
+        zone = datetime.tzinfo.__new__(cls)
+        zone._begin(name, key)
+        fault = _RawFault()
+        status = call(told, len(told), zone._handle.at, ctypes.byref(fault))
+        if status == Status.NOT_TEXT:
+            raise NotRead(f"{name!r}: not UTF-8", status=Status.NOT_TEXT)
+        if status:
+            _raise(status, repr(name), fault)
+        zone._origin = origin
+        return zone
+
+    def share(self: _OfZone) -> _OfZone:
         """Another object on the same zone, which is closed by itself. The zone itself is there once, until its last object is closed."""
-        other = Zone.__new__(Zone)
-        other._handle = _Handle()
-        other._name = self._name
+        other = datetime.tzinfo.__new__(type(self))
+        other._begin(self._name, self._key)
         status = self._handle.ask(_share, other._handle.at)
         if status:
             _raise(status, repr(self._name))
+        other._origin = (type(self).no_cache, (self._name,)) if self._is_shared else self._origin
         return other
+
+    @property
+    def key(self) -> Optional[str]:
+        """The name by which the zone was opened from a source, or that a file was given; else None."""
+        return self._key
 
     @property
     def name(self) -> str:
@@ -670,13 +865,14 @@ class Zone(datetime.tzinfo, _Opened):
         """The offset in force at an instant. Raises OutOfRange more than 93,599 seconds outside the years -9999 to 9999."""
         return self._number_at(_offset_at, ctypes.c_int32(), second, nanosecond)
 
-    def _number_at(self, call, number, second: int, nanosecond: int) -> int:
+    def _number_at(self, call: Callable[..., int], number: Any, second: int, nanosecond: int) -> int:
         """The number that a call tells of an instant."""
         handle, second, nanosecond = self._handle, _second(second), _nanosecond(nanosecond)
         status = handle.ask(call, second, nanosecond, ctypes.byref(number))
         if status:
             _raise(status, repr(self._name))
-        return number.value
+        value: int = number.value
+        return value
 
     def in_force(self, second: int, nanosecond: int = 0) -> InForce:
         """The offset, whether there is daylight saving time, and the abbreviation at an instant. Raises OutOfRange as `offset_at`."""
@@ -727,7 +923,7 @@ class Zone(datetime.tzinfo, _Opened):
             _raise(status, repr(self._name))
         return self._change(change)
 
-    def _change(self, raw: _RawChange) -> Change:
+    def _change(self, raw: Any) -> Change:
         """A change with its abbreviation."""
         return Change(raw.second, raw.offset, raw.saving, self.in_force(raw.second).name, raw.differs)
 
@@ -762,7 +958,7 @@ class Zone(datetime.tzinfo, _Opened):
             raise NoTzif(f"{self._name!r}: no file, {TzifCause(cause).name}", cause=TzifCause(cause))
         return told
 
-    def _whole(self, call, room: int, *answers) -> Tuple[bytes, int]:
+    def _whole(self, call: Callable[..., int], room: int, *answers: Any) -> Tuple[bytes, int]:
         """What a call puts into a room, which grows as it has to, or the number of the cause that there is none. Its other answers go to
         the places that are given."""
         whole, fault, handle = ctypes.c_size_t(), _RawFault(), self._handle
@@ -779,8 +975,8 @@ class Zone(datetime.tzinfo, _Opened):
 
     def ring(self, local: Union[datetime.datetime, Clock]) -> Optional[Instant]:
         """When a daily alarm rings on the day and at the time of day of a local time: the first instant at which clocks show it, or
-        None where they skip it. Raises OutOfRange as `instants`."""
-        clock, reading, handle = _raw_clock(local), _RawReading(), self._handle
+        None where they skip it. Raises OutOfRange and ValueError as `instants`."""
+        clock, reading, handle = self._asked(local), _RawReading(), self._handle
         status = handle.ask(_ring, ctypes.byref(clock), ctypes.byref(reading))
         if status == Status.NONE:
             return None
@@ -796,19 +992,28 @@ class Zone(datetime.tzinfo, _Opened):
             yield date, self.ring(datetime.datetime.combine(date, at.replace(tzinfo=None)))
 
     def instants(self, local: Union[datetime.datetime, Clock]) -> List[Instant]:
-        """All instants at which clocks show a local time, by time. A datetime's own zone and fold are left aside. Raises OutOfRange
-        where the parts are no date or no time, or the year is outside -9999 to 9999."""
-        clock = _raw_clock(local)
+        """All instants at which clocks show a local time, by time. A datetime's fold is left aside.
+
+        Raises OutOfRange where the parts are no date or no time, or the year is outside -9999 to 9999, and ValueError where the datetime
+        is attached to another zone, in which its parts are another local time: `replace(tzinfo=None)` leaves that aside, and
+        `astimezone` converts."""
+        clock = self._asked(local)
         readings, count, _ = self._read(clock)
         nanosecond = clock.nanosecond
         return [Instant(reading.second, nanosecond, reading.offset) for reading in readings[:count]]
 
     def gap(self, local: Union[datetime.datetime, Clock]) -> Optional[Gap]:
-        """The change by which clocks skip a local time, or None where they show it. Raises OutOfRange as `instants`."""
-        _, count, gap = self._read(_raw_clock(local))
+        """The change by which clocks skip a local time, or None where they show it. Raises OutOfRange and ValueError as `instants`."""
+        _, count, gap = self._read(self._asked(local))
         return None if count else Gap(gap.second, gap.before, gap.after)
 
-    def _read(self, clock: _RawClock):
+    def _asked(self, local: Union[datetime.datetime, Clock]) -> Any:
+        """A local time of this zone, as it is passed."""
+        if isinstance(local, datetime.datetime) and local.tzinfo is not None and local.tzinfo is not self:
+            raise ValueError(f"{local!r} is a local time of another zone than {self._name!r}")
+        return _raw_clock(local)
+
+    def _read(self, clock: Any) -> Tuple[Any, int, Any]:
         """All readings of a local time, how many there are, and the gap where there are none."""
         readings, room, count, gap = _TwoReadings(), 2, ctypes.c_size_t(), _RawGap()
         handle = self._handle
@@ -830,23 +1035,45 @@ class Zone(datetime.tzinfo, _Opened):
             return reading.offset, reading.second, clock.nanosecond
         return (gap.after, gap.second, 0) if local.fold else (gap.before, gap.second - 1, 0)
 
+    def _never_changes(self) -> bool:
+        """Whether nothing ever changes in the zone, so that it has an offset without a date."""
+        if self._is_fixed is None:
+            self._is_fixed = self._has_no_change()
+        return self._is_fixed
+
+    def _has_no_change(self) -> bool:
+        second = -(2**63)
+        try:
+            while True:
+                change = self.next_change(second)
+                if change is None or change.differs:
+                    return change is None
+                second = change.second
+        except NotKept:
+            told = self._origin[1][0] if self._origin else ""
+            kinds, string = (1, told) if isinstance(told, str) else _kinds_of_file(told)
+            return kinds == 1 and not _is_rule(string) and self.in_force(-(2**37)) == self.in_force(2**37)
+
     def utcoffset(self, dt: Optional[datetime.datetime]) -> Optional[datetime.timedelta]:
-        """The offset of a local time. Raises OffsetTooLarge."""
-        return None if dt is None else _delta(self._chosen(dt)[0])
+        """The offset of a local time; of None, as a `datetime.time` asks, that of a zone in which nothing ever changes, or else None.
+        Raises OffsetTooLarge."""
+        if dt is not None:
+            return _delta(self._chosen(dt)[0])
+        return _delta(self.offset_at(0)) if self._never_changes() else None
 
     def tzname(self, dt: Optional[datetime.datetime]) -> Optional[str]:
-        """The abbreviation of a local time."""
+        """The abbreviation of a local time, and of None as `utcoffset`."""
         if dt is None:
-            return None
+            return self.in_force(0).name if self._never_changes() else None
         _, second, nanosecond = self._chosen(dt)
         return self.in_force(second, nanosecond).name
 
     def dst(self, dt: Optional[datetime.datetime]) -> Optional[datetime.timedelta]:
-        """The saving of a local time: how much of the offset it is; None in a zone of a file or of a POSIX string, which has none.
-        Raises OffsetTooLarge."""
-        if dt is None:
+        """The saving of a local time: how much of the offset it is, and of None as `utcoffset`; None in a zone of a file or of a POSIX
+        string, which has none. Raises OffsetTooLarge."""
+        if dt is None and not self._never_changes():
             return None
-        _, second, nanosecond = self._chosen(dt)
+        _, second, nanosecond = (0, 0, 0) if dt is None else self._chosen(dt)
         try:
             return _delta(self.saving_at(second, nanosecond))
         except NotKept:
@@ -865,7 +1092,7 @@ class Zone(datetime.tzinfo, _Opened):
         return local if readings[0].second == second else local.replace(fold=1)
 
     def __repr__(self) -> str:
-        return f"<sefunjaro.Zone {self._name!r}>"
+        return f"<{type(self).__module__}.{type(self).__qualname__} {self._name!r}>"
 
     def __str__(self) -> str:
         return self._name
@@ -873,7 +1100,7 @@ class Zone(datetime.tzinfo, _Opened):
 
 def read_local(text: str) -> Clock:
     """The local time that a text `YYYY-MM-DD hh:mm:ss.nnnnnnnnn` names. Raises NotRead."""
-    told = text.encode()
+    told = _utf8(text)
     clock = _RawClock()
     status = _read_local(told, len(told), ctypes.byref(clock))
     if status:
@@ -884,7 +1111,7 @@ def read_local(text: str) -> Clock:
 def read_zoned(text: str) -> Instant:
     """The instant and the offset that a text `YYYY-MM-DD hh:mm:ss.nnnnnnnnn +hh:mm:ss` names, as `Zone.text_at` writes it. Raises
     NotRead."""
-    told = text.encode()
+    told = _utf8(text)
     instant = _RawInstant()
     status = _read_zoned(told, len(told), ctypes.byref(instant))
     if status:

@@ -2,6 +2,8 @@
 import base64
 import copy
 import ctypes
+import enum
+import inspect
 import io
 import os
 import pathlib
@@ -13,11 +15,12 @@ import threading
 import time as clock
 import unittest
 import warnings
+import weakref
 import zoneinfo
 from datetime import date, datetime, time, timedelta, timezone
 
 import sefunjaro
-from sefunjaro import Change, Clock, Gap, Instant, Source, Status
+from sefunjaro import Change, Clock, Gap, Instant, Source, Status, Zone
 
 SOURCE = """\
 Rule Mid 1900 only - Jan 1 0:00 0 -
@@ -45,6 +48,41 @@ SKIPPED, TWICE = datetime(2024, 3, 31, 2, 30), datetime(2024, 10, 27, 2, 30)
 
 def hours(number):
     return timedelta(hours=number)
+
+
+def pickled(value):
+    """A value as it is read from its pickle, by each protocol."""
+    return [pickle.loads(pickle.dumps(value, protocol)) for protocol in range(pickle.HIGHEST_PROTOCOL + 1)]
+
+
+def in_child(asks):
+    """Whether a child of fork finds something so, and doesn't hang."""
+    with warnings.catch_warnings():
+        warnings.simplefilter("ignore", DeprecationWarning)
+        process = os.fork()
+    if not process:
+        try:
+            os._exit(0 if asks() else 1)
+        finally:
+            os._exit(2)
+    for _ in range(2000):
+        ended, status = os.waitpid(process, os.WNOHANG)
+        if ended:
+            return status == 0
+        clock.sleep(0.01)
+    os.kill(process, signal.SIGKILL)
+    os.waitpid(process, 0)
+    return False
+
+
+class OfOther(Zone):
+    """A class of zones that takes other words."""
+
+    def __new__(cls, one, other, more):
+        raise AssertionError
+
+    def __init__(self, one, other, more):
+        raise AssertionError
 
 
 class Zones(unittest.TestCase):
@@ -242,9 +280,105 @@ class Zones(unittest.TestCase):
         moment = TWICE.replace(tzinfo=self.zone)
         self.assertIs(copy.copy(self.zone), self.zone)
         self.assertIs(copy.deepcopy(moment).tzinfo, self.zone)
-        for value in (self.zone, moment, self.source):
-            with self.assertRaisesRegex(TypeError, "pickle"):
-                pickle.dumps(value)
+
+    def test_pickles(self):
+        # A source by its text, a zone by that and its name; zones of one pickle are one object as they were.
+        for source in (self.source, Source(SOURCE, plain=True)):
+            for again in pickled(source):
+                self.assertIsNot(again, source)
+                self.assertEqual(list(again), list(source))
+            zone = source.zone("There/Middle")
+            for again in [*pickled(zone), *pickled(zone.share())]:
+                self.assertIsNot(again, zone)
+                self.assertEqual((again.name, again.key), ("There/Middle", "There/Middle"))
+                self.assertEqual(again.changes(0, SPRING), zone.changes(0, SPRING))
+            moment, other = pickle.loads(pickle.dumps([TWICE.replace(tzinfo=zone, fold=1), SKIPPED.replace(tzinfo=zone)]))
+            self.assertIs(moment.tzinfo, other.tzinfo)
+            self.assertEqual((moment.fold, moment.utcoffset()), (1, hours(1)))
+        self.assertIs(type(pickled(OfOther._of(self.source, "Here/Middle"))[0]), OfOther)
+        zone = self.source.zone("Here/Middle")
+        zone.close()
+        with self.assertRaises(sefunjaro.NotOpen):
+            pickle.dumps(zone)
+
+    def test_objects(self):
+        zone, other = self.source.zone("Here/Middle"), self.source.zone("Here/Middle")
+        self.assertNotEqual(zone, other)
+        self.assertEqual(len({zone, other, copy.copy(zone)}), 2)
+        self.assertIs(weakref.ref(zone)(), zone)
+        with self.assertRaises(AttributeError):
+            zone.key = "Here/Far"
+        shared = OfOther._of(self.source, "Here/Middle").share()
+        self.assertIs(type(shared), OfOther)
+        self.assertRegex(repr(shared), "OfOther 'Here/Middle'")
+
+    def test_always(self):
+        # Where nothing ever changes a time of day without a date has an offset, as zoneinfo has it.
+        def asked(zone):
+            noon = time(12, tzinfo=zone)
+            return noon.utcoffset(), noon.tzname(), noon.dst()
+
+        source = Source(SOURCE + "Zone Here/Saving 1:00 1:00 SAV\nZone Here/Again 1:00 - AGN 2000\n 1:00 - AGN\n")
+        none, file = (None, None, None), Zone.from_file
+        self.assertEqual(asked(source.zone("Here/Saving")), (hours(2), "SAV", hours(1)))
+        self.assertEqual(asked(source.zone("Here/Again")), (hours(1), "AGN", hours(0)))
+        self.assertEqual([asked(source.zone(name)) for name in ("Here/Middle", "Here/Twice")], [none, none])
+        self.assertEqual(asked(Zone.from_posix("<+03>-3")), (hours(3), "+03", None))
+        self.assertEqual([asked(Zone.from_posix(string)) for string in (Files.STRING, "<+03>-3<+04>,J60,J300")], [none, none])
+        self.assertEqual(asked(file(source.zone("Here/Long").to_tzif())), (hours(1), "AbbreviationOfTwentySix", None))
+        self.assertEqual([asked(file(told)) for told in (Files.FILE, source.zone("Here/Twice").to_tzif())], [none, none])
+        with self.assertRaises(sefunjaro.OffsetTooLarge):
+            time(12, tzinfo=source.zone("Here/Far")).utcoffset()
+
+    def test_other_zones(self):
+        # A datetime of another zone names another local time.
+        zone, utc = self.zone, TWICE.replace(tzinfo=timezone.utc)
+        self.assertEqual(zone.instants(TWICE.replace(tzinfo=zone, fold=1)), zone.instants(TWICE))
+        for ask in (zone.instants, zone.gap, zone.ring):
+            for moment in (utc, TWICE.replace(tzinfo=zone.share())):
+                with self.assertRaisesRegex(ValueError, "another zone"):
+                    ask(moment)
+        self.assertEqual(zone.instants(utc.astimezone(zone)), [(AUTUMN + 5400, 0, 3600)])
+
+    def test_not_text(self):
+        # A lone surrogate.
+        rows = [
+            (lambda: self.source.zone("Here/\ud800Middle"), sefunjaro.UnknownZone, Status.NOT_TEXT),
+            (lambda: Zone.from_posix("<\ud800\ud800\ud800>0"), sefunjaro.NotRead, Status.NOT_TEXT),
+            (lambda: sefunjaro.read_local("\ud800"), sefunjaro.NotRead, Status.NOT_READ),
+            (lambda: sefunjaro.read_zoned("\ud800"), sefunjaro.NotRead, Status.NOT_READ),
+            (lambda: Source("\n#\ud800\n"), sefunjaro.NoPlainForm, Status.NO_PLAIN_FORM),
+            (lambda: Source("\n#\ud800\n", plain=True), sefunjaro.SourceError, Status.NOT_TEXT),
+        ]
+        for ask, kind, status in rows:
+            with self.assertRaises(kind) as raised:
+                ask()
+            self.assertEqual((type(raised.exception), raised.exception.status), (kind, status))
+
+    def test_mutating_datetimes(self):
+        class Same(datetime):
+            def __add__(self, other):
+                return self if other == timedelta(0) else super().__add__(other)
+
+        zone = Source(SOURCE + "Zone London 0 Mid GMT/BST\n").zone("London")
+        moment = Same(2024, 10, 27, 1, 30, tzinfo=zone)
+        self.assertEqual((zone.fromutc(moment).fold, moment.fold, type(zone.fromutc(moment))), (1, 0, Same))
+
+
+class Public(unittest.TestCase):
+    def test_words(self):
+        """What is public has a docstring, and hints of all that it takes and gives."""
+        found = [(name, getattr(sefunjaro, name)) for name in sefunjaro.__all__]
+        found += [(f"{name}.{word}", item) for name, kind in found if inspect.isclass(kind) and not issubclass(kind, enum.Enum)
+                  for word, item in vars(kind).items() if not word.startswith("_")]
+        for name, item in found:
+            item = item.fget if isinstance(item, property) else getattr(item, "__func__", item)
+            if inspect.isclass(item) or inspect.isfunction(item):
+                self.assertTrue(inspect.getdoc(item), name)
+            if inspect.isfunction(item) and item.__name__ != "<lambda>" and not name.endswith(("_make", "_replace", "_asdict")):
+                hints = inspect.signature(item)
+                taken = [word for word in hints.parameters.values() if word.name not in ("self", "cls")]
+                self.assertNotIn(inspect.Parameter.empty, [hints.return_annotation, *(word.annotation for word in taken)], name)
 
 
 class Files(unittest.TestCase):
@@ -285,9 +419,20 @@ class Files(unittest.TestCase):
             path.write_bytes(self.FILE)
             self.assertEqual([sefunjaro.Zone.from_file(named).name for named in (path, str(path))], [str(path)] * 2)
             self.assertEqual(sefunjaro.Zone.from_file(path, "Paris").name, "Paris")
-        self.assertEqual(sefunjaro.Zone.from_posix("UTC0").name, "UTC0")
+            self.assertIsNone(sefunjaro.Zone.from_file(path).key)
+            with open(path, "rb") as file:
+                self.assertEqual(sefunjaro.Zone.from_file(file, "Paris").key, "Paris")
+        zone = sefunjaro.Zone.from_posix("UTC0")
+        self.assertEqual((zone.name, zone.key), ("UTC0", None))
         with self.assertRaises(FileNotFoundError):
             sefunjaro.Zone.from_file(path)
+
+    def test_pickles(self):
+        # By the bytes of the file and its name, or by the string.
+        for zone in (sefunjaro.Zone.from_file(self.FILE), OfOther.from_file(self.FILE, "Paris"), sefunjaro.Zone.from_posix(self.STRING)):
+            for again in [*pickled(zone), *pickled(zone.share())]:
+                self.assertEqual((type(again), again.name, again.key), (type(zone), zone.name, zone.key))
+                self.assertEqual(again.text_at(13576813200, 5), zone.text_at(13576813200, 5))
 
     def test_faults(self):
         for told, cause in ((b"", sefunjaro.FileCause.REFUSED), (self.FILE[:-1], sefunjaro.FileCause.REFUSED),
@@ -452,21 +597,12 @@ class Lifetimes(unittest.TestCase):
 
     def child(self, zone):
         """Whether a child of fork can ask a zone and close it, and open another."""
-        with warnings.catch_warnings():
-            warnings.simplefilter("ignore", DeprecationWarning)
-            process = os.fork()
-        if not process:
+        def asks():
             asked = zone.offset_at(SPRING) == 7200
             zone.close()
-            os._exit(0 if asked and Source(SOURCE).zone("Here/Middle").offset_at(SPRING) == 7200 else 1)
-        for _ in range(2000):
-            ended, status = os.waitpid(process, os.WNOHANG)
-            if ended:
-                return status == 0
-            clock.sleep(0.01)
-        os.kill(process, signal.SIGKILL)
-        os.waitpid(process, 0)
-        return False
+            return asked and Source(SOURCE).zone("Here/Middle").offset_at(SPRING) == 7200
+
+        return in_child(asks)
 
     def test_fork(self):
         zone, ends = Source(SOURCE).zone("Here/Middle"), threading.Event()

@@ -9,10 +9,14 @@ use std::process::Command;
 const LEAST: &str = concat!("sefunjaro >= ", env!("CARGO_PKG_VERSION"));
 
 fn main() {
-    for variable in ["SEFUNJARO_FOLDER", "PKG_CONFIG", "PKG_CONFIG_PATH"] {
+    for variable in ["DOCS_RS", "SEFUNJARO_FOLDER", "PKG_CONFIG", "PKG_CONFIG_PATH"] {
         println!("cargo:rerun-if-env-changed={variable}");
     }
     println!("cargo:rerun-if-changed=build.rs");
+    // The docs are built where there is no library: nothing is linked for them.
+    if env::var_os("DOCS_RS").is_some() {
+        return;
+    }
     match env::var("SEFUNJARO_FOLDER") {
         Ok(folder) => link_archive(&folder),
         Err(_) => link_packaged(),

@@ -82,6 +82,12 @@ impl Zone {
     }
 
     /// The same, with the changes that change nothing.
+    ///
+    /// ```
+    /// let zone = sefunjaro::Source::open(b"Zone A 1:00 - A 2000 Jan 1\n 1:00 - A\n")?.zone("A")?;
+    /// assert_eq!((zone.changes(0, i64::MAX).count(), zone.every_change(0, i64::MAX).count()), (0, 1));
+    /// # Ok::<(), sefunjaro::Error>(())
+    /// ```
     pub fn every_change(&self, from: i64, to: i64) -> Changes<'_> {
         // `next_change` tells what is after a second; none is at the least one.
         Changes { zone: self, after: from.checked_sub(1).unwrap_or(from), to, every: true }

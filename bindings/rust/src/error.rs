@@ -4,6 +4,7 @@ use crate::raw::{
     RawFault, BAD_JOIN, BAD_LINE, NONE, NOT_KEPT, NOT_OPEN, NOT_READ, NOT_TEXT, NO_MEMORY, NO_PLAIN_FORM, NO_SCHEDULE, OFFSET_RANGE,
     OUT_OF_RANGE, TOO_LONG, UNKNOWN_ZONE,
 };
+use crate::Gap;
 use std::fmt;
 
 /// Why a call was refused. A `line` is that of the source, from 1; of [`Source::open`](crate::Source::open) it is that of the text where
@@ -44,6 +45,10 @@ pub enum Error {
     File { cause: FileCause },
     /// The zone is that of a file or of a POSIX string, of which this is not asked.
     NotKept,
+    /// Clocks skip the local time of which an instant was to be chosen.
+    Skipped { gap: Gap },
+    /// Clocks show the local time again, of which the only instant was to be chosen; the first and the last second at which they do.
+    Repeated { first: i64, last: i64 },
     /// The library answered a status, or told a cause, that this crate doesn't know: the archive is of another version.
     Unexpected { status: u32, cause: u32 },
 }
@@ -271,6 +276,8 @@ impl fmt::Display for Error {
             Error::OutOfRange => write!(out, "out of range"),
             Error::NotRead => write!(out, "not a text that is read"),
             Error::File { cause } => write!(out, "no compiled file that is read: {cause:?}"),
+            Error::Skipped { gap } => write!(out, "clocks skip the local time: from {} to {} at {}", gap.before, gap.after, gap.second),
+            Error::Repeated { first, last } => write!(out, "clocks show the local time again: {first}, {last}"),
             Error::NotKept => write!(out, "of a zone of a file or of a POSIX string this is not asked"),
             Error::Unexpected { status, cause } => write!(out, "the library answered status {status} with cause {cause}"),
         }

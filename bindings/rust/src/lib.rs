@@ -3,20 +3,20 @@
 //! The library is the archive in the folder that the environment variable `SEFUNJARO_FOLDER` names, or else the one that pkg-config knows.
 //!
 //! ```
-//! use sefunjaro::{Clock, Source};
+//! # std::env::set_var("SEFUNJARO_TZDATA", "tests/small.zi");
+//! use sefunjaro::{Clock, Zone};
 //!
-//! let text = "Rule EU 1981 max - Mar lastSun 1:00u 1:00 S
-//! Rule EU 1996 max - Oct lastSun 1:00u 0 -
-//! Zone Europe/Paris 1:00 EU CE%sT
-//! ";
-//! let paris = Source::open(text.as_bytes())?.zone("Europe/Paris")?;
+//! let paris = Zone::named("Europe/Paris")?;
 //! assert_eq!(paris.offset_at(1711846800, 0)?, 7200);
 //!
 //! let twice = Clock { year: 2024, month: 10, day: 27, hour: 2, minute: 30, second: 0, nanosecond: 0 };
 //! let offsets: Vec<i32> = paris.instants(&twice)?.map(|instant| instant.offset).collect();
 //! assert_eq!(offsets, [7200, 3600]);
-//! # Ok::<(), sefunjaro::Error>(())
+//! # Ok::<(), Box<dyn std::error::Error>>(())
 //! ```
+//!
+//! [`Zone::named`] takes the machine's own source, as that of the package tzdata, [`Source::open`] one of your own, in any form that zic
+//! reads; [`Zone::from_tzif`] takes a compiled file, and [`Zone::from_posix`] a POSIX string.
 //!
 //! Instants are seconds from 1970-01-01 00:00:00 UTC and nanoseconds, from 0 to 999,999,999; offsets are seconds east of UTC, at most
 //! 93,599 to either side. Any number of threads may ask one value at once (it is [`Send`] and [`Sync`]); [`Zone::share`] gives a thread a
@@ -26,6 +26,8 @@
 
 mod changes;
 mod error;
+mod instant;
+mod named;
 mod raw;
 mod source;
 mod whole;
@@ -33,9 +35,11 @@ mod zone;
 
 pub use changes::{Change, Changes};
 pub use error::{Error, FileCause, JoinCause, LineCause, PlainCause, ScheduleCause, TailCause, TzifCause};
+pub use instant::Instant;
+pub use named::{machine_source, NamedError};
 pub use source::{Names, Source};
 pub use whole::PosixTail;
-pub use zone::{InForce, Instant, Instants, LocalTime, Zone};
+pub use zone::{Choice, InForce, Instants, LocalTime, Zone};
 
 use raw::{RawHandle, DONE};
 use std::ops::RangeInclusive;
@@ -88,29 +92,6 @@ pub struct Gap {
     pub before: i32,
     /// The offset in force from it on.
     pub after: i32,
-}
-
-/// The instant and the offset that a text `YYYY-MM-DD hh:mm:ss.nnnnnnnnn +hh:mm:ss` names, as [`Zone::text_at`] writes it.
-///
-/// # Errors
-///
-/// [`Error::NotRead`] for any other text.
-///
-/// ```
-/// let read: sefunjaro::Instant = "1969-12-31 18:59:59.000000005 -05:00:00".parse()?;
-/// assert_eq!((read.second, read.nanosecond, read.offset), (-1, 5, -18000));
-/// assert_eq!("1969-12-31".parse::<sefunjaro::Instant>(), Err(sefunjaro::Error::NotRead));
-/// # Ok::<(), sefunjaro::Error>(())
-/// ```
-impl FromStr for Instant {
-    type Err = Error;
-
-    fn from_str(text: &str) -> Result<Instant, Error> {
-        let mut read = raw::RawInstant::default();
-        // SAFETY: the text is never null, and nothing overlaps.
-        done(unsafe { raw::sefunjaro_read_zoned(text.as_ptr(), text.len(), &mut read) })?;
-        Ok(Instant { second: read.second, nanosecond: read.nanosecond, offset: read.offset })
-    }
 }
 
 /// The version of the library's calls, as `SEFUNJARO_VERSION` of its header.

@@ -85,7 +85,7 @@ impl Source {
         let status =
             unsafe { raw::sefunjaro_zone_open_by(&mut self.handle.copy(), name.as_ptr(), name.len(), handle.at(), &mut fault) };
         if status == DONE {
-            Ok(Zone::of(handle))
+            Ok(Zone::of(handle, name))
         } else {
             Err(Error::of_fault(status, &fault))
         }
@@ -111,13 +111,39 @@ impl Source {
         Ok(Names { source: self, places: 0..count })
     }
 
-    /// The name at a place below the count.
-    fn name(&self, place: usize) -> Option<String> {
+    /// The same without a `String` for each: every name in turn, in one room.
+    ///
+    /// # Errors
+    ///
+    /// None that a caller can bring about.
+    ///
+    /// ```
+    /// use sefunjaro::Source;
+    ///
+    /// let mut bytes = 0;
+    /// Source::open(b"Zone Bb 1:00 - B\nLink Bb A\n")?.each_name(|name| bytes += name.len())?;
+    /// assert_eq!(bytes, 3);
+    /// # Ok::<(), sefunjaro::Error>(())
+    /// ```
+    pub fn each_name(&self, mut each: impl FnMut(&str)) -> Result<(), Error> {
+        let mut room = String::new();
+        for place in self.names()?.places {
+            room = self.name_in(place, room)?.unwrap_or_default();
+            each(&room);
+        }
+        Ok(())
+    }
+
+    /// The name at a place below the count, in a room that goes again.
+    fn name_in(&self, place: usize, room: String) -> Result<Option<String>, Error> {
         // SAFETY: the copy serves this call alone, and the room is as long as is said.
-        let name = told(|room, whole| unsafe {
+        told(room, |room, whole| unsafe {
             raw::sefunjaro_name_by(&mut self.handle.copy(), place, room.as_mut_ptr(), room.len(), whole)
-        });
-        name.ok().flatten()
+        })
+    }
+
+    fn name(&self, place: usize) -> Option<String> {
+        self.name_in(place, String::new()).ok().flatten()
     }
 
     /// The release that the source names by its first line, as `2026b` in `# version 2026b`, or none where it names none.
@@ -135,15 +161,16 @@ impl Source {
     /// ```
     pub fn version(&self) -> Result<Option<String>, Error> {
         // SAFETY: the copy serves this call alone, and the room is as long as is said.
-        told(|room, whole| unsafe {
+        told(String::new(), |room, whole| unsafe {
             raw::sefunjaro_source_version_by(&mut self.handle.copy(), room.as_mut_ptr(), room.len(), whole)
         })
     }
 }
 
 /// What a call puts into a room, which grows as it has to, and of which it tells the whole length, or none where there is none.
-fn told(mut call: impl FnMut(&mut [u8], &mut usize) -> u32) -> Result<Option<String>, Error> {
-    let mut text = vec![0; 64];
+fn told(room: String, mut call: impl FnMut(&mut [u8], &mut usize) -> u32) -> Result<Option<String>, Error> {
+    let mut text = room.into_bytes();
+    text.resize(text.capacity().max(64), 0);
     loop {
         let mut whole = 0;
         match call(&mut text, &mut whole) {

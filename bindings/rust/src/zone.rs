@@ -1,9 +1,10 @@
 //! A zone.
 
 use crate::raw::{self, RawFault, RawHandle, RawInForce, RawReading, DONE};
-use crate::{done, Clock, Error, Gap, Handle};
+use crate::{done, Clock, Error, Gap, Handle, Instant};
 use std::fmt;
 use std::iter::FusedIterator;
+use std::time::SystemTime;
 
 /// A zone of the tz database.
 ///
@@ -23,6 +24,8 @@ use std::iter::FusedIterator;
 /// ```
 pub struct Zone {
     handle: Handle,
+    /// The name by which it was opened from a source.
+    name: Option<Box<str>>,
 }
 
 /// What is in force in a zone.
@@ -35,14 +38,6 @@ pub struct InForce {
     pub name: String,
 }
 
-/// An instant, and an offset: of an instant at which clocks show a local time, the one in force then.
-#[derive(Clone, Copy, Debug, PartialEq, Eq, Hash)]
-pub struct Instant {
-    pub second: i64,
-    pub nanosecond: u32,
-    pub offset: i32,
-}
-
 /// What a zone makes of a local time: its instants, or the change that skips it.
 #[derive(Clone, Debug)]
 pub enum LocalTime {
@@ -50,9 +45,20 @@ pub enum LocalTime {
     Skipped(Gap),
 }
 
+/// Which instant of a local time is taken.
+#[derive(Clone, Copy, Debug, PartialEq, Eq, Hash)]
+pub enum Choice {
+    /// The first at which clocks show it.
+    Earlier,
+    /// The last.
+    Later,
+    /// The one, where there is no other; else it is refused.
+    Only,
+}
+
 impl Zone {
-    pub(crate) fn of(handle: Handle) -> Zone {
-        Zone { handle }
+    pub(crate) fn of(handle: Handle, name: &str) -> Zone {
+        Zone { handle, name: Some(name.into()) }
     }
 
     pub(crate) fn handle(&self) -> &Handle {
@@ -102,9 +108,21 @@ impl Zone {
         let mut fault = RawFault::default();
         // SAFETY: the bytes are never null, nobody writes them during the call, and nothing overlaps.
         match unsafe { open(told.as_ptr(), told.len(), handle.at(), &mut fault) } {
-            DONE => Ok(Zone { handle }),
+            DONE => Ok(Zone { handle, name: None }),
             status => Err(Error::of_fault(status, &fault)),
         }
+    }
+
+    /// The name by which the zone was opened from a source; of a file or of a POSIX string, none.
+    ///
+    /// ```
+    /// let zone = sefunjaro::Source::open(b"Zone A 1:00 - A\n")?.zone("A")?;
+    /// assert_eq!(zone.name(), Some("A"));
+    /// assert_eq!(sefunjaro::Zone::from_posix("AAA0")?.name(), None);
+    /// # Ok::<(), sefunjaro::Error>(())
+    /// ```
+    pub fn name(&self) -> Option<&str> {
+        self.name.as_deref()
     }
 
     /// Another value on the same zone, for a thread that outlives this one. The zone itself is there once.
@@ -112,18 +130,52 @@ impl Zone {
     /// # Errors
     ///
     /// [`Error::NoMemory`].
+    ///
+    /// ```
+    /// let zone = sefunjaro::Source::open(b"Zone A 1:00 - A\n")?.zone("A")?;
+    /// let other = zone.share()?;
+    /// drop(zone);
+    /// assert_eq!(other.offset_at(0, 0), Ok(3600));
+    /// # Ok::<(), sefunjaro::Error>(())
+    /// ```
     pub fn share(&self) -> Result<Zone, Error> {
         let mut handle = Handle::closed();
         // SAFETY: the copy serves this call alone, and the two handles are not one.
         done(unsafe { raw::sefunjaro_share_by(&mut self.handle.copy(), handle.at()) })?;
-        Ok(Zone { handle })
+        Ok(Zone { handle, name: self.name.clone() })
+    }
+
+    /// The system's time as an instant, with the offset in force.
+    ///
+    /// # Errors
+    ///
+    /// As [`Zone::offset_at`].
+    ///
+    /// ```
+    /// use std::time::{SystemTime, UNIX_EPOCH};
+    ///
+    /// let zone = sefunjaro::Source::open(b"Zone A 1:00 - A\n")?.zone("A")?;
+    /// assert_eq!(zone.instant_at(UNIX_EPOCH)?.to_string(), "1970-01-01 01:00:00.000000000 +01:00:00");
+    /// println!("{}", zone.instant_at(SystemTime::now())?);
+    /// # Ok::<(), sefunjaro::Error>(())
+    /// ```
+    pub fn instant_at(&self, time: SystemTime) -> Result<Instant, Error> {
+        let instant = Instant::try_from(time)?;
+        Ok(Instant { offset: self.offset_at(instant.second, instant.nanosecond)?, ..instant })
     }
 
     /// The offset in force at an instant.
     ///
     /// # Errors
     ///
-    /// [`Error::OutOfRange`] where the UTC date lies outside the years -9999 to 9999, or the nanosecond is a second or more.
+    /// [`Error::OutOfRange`] more than 93,599 seconds outside the years -9999 to 9999, or where the nanosecond is a second or more.
+    ///
+    /// ```
+    /// let zone = sefunjaro::Source::open(b"Zone A 1:00 - A\n")?.zone("A")?;
+    /// assert_eq!(zone.offset_at(1711846800, 0), Ok(3600));
+    /// assert_eq!(zone.offset_at(i64::MAX, 0), Err(sefunjaro::Error::OutOfRange));
+    /// # Ok::<(), sefunjaro::Error>(())
+    /// ```
     #[inline]
     pub fn offset_at(&self, second: i64, nanosecond: u32) -> Result<i32, Error> {
         let mut offset = 0;
@@ -165,7 +217,14 @@ impl Zone {
     ///
     /// # Errors
     ///
-    /// [`Error::OutOfRange`] as [`Zone::offset_at`], and where the local date lies outside the years -9999 to 9999.
+    /// [`Error::OutOfRange`] where the local date lies outside the years -9999 to 9999, or the nanosecond is a second or more.
+    ///
+    /// ```
+    /// let zone = sefunjaro::Source::open(b"Zone A 1:00 - A\n")?.zone("A")?;
+    /// let (clock, offset) = zone.clock_at(0, 5)?;
+    /// assert_eq!((clock.to_string().as_str(), offset), ("1970-01-01 01:00:00.000000005", 3600));
+    /// # Ok::<(), sefunjaro::Error>(())
+    /// ```
     #[inline]
     pub fn clock_at(&self, second: i64, nanosecond: u32) -> Result<(Clock, i32), Error> {
         let (mut clock, mut offset) = (Clock::default(), 0);
@@ -202,6 +261,13 @@ impl Zone {
     /// # Errors
     ///
     /// [`Error::OutOfRange`] where the parts are no date or no time, or the year lies outside -9999 to 9999.
+    ///
+    /// ```
+    /// let zone = sefunjaro::Source::open(b"Zone A 2:00 - A 2000\n 1:00 - B\n")?.zone("A")?;
+    /// let instants = zone.instants(&"1999-12-31 23:30:00.000000000".parse()?)?;
+    /// assert_eq!(instants.map(|instant| instant.second).collect::<Vec<_>>(), [946675800, 946679400]);
+    /// # Ok::<(), sefunjaro::Error>(())
+    /// ```
     pub fn instants(&self, local: &Clock) -> Result<Instants, Error> {
         Ok(self.read(local)?.0)
     }
@@ -223,6 +289,35 @@ impl Zone {
     pub fn local_time(&self, local: &Clock) -> Result<LocalTime, Error> {
         let (instants, gap) = self.read(local)?;
         Ok(if instants.len() == 0 { LocalTime::Skipped(gap) } else { LocalTime::Shown(instants) })
+    }
+
+    /// One instant of a local time, as it is chosen.
+    ///
+    /// # Errors
+    ///
+    /// [`Error::Skipped`] with the change where clocks skip it, [`Error::Repeated`] where they show it again and the choice is
+    /// [`Choice::Only`], and as [`Zone::instants`].
+    ///
+    /// ```
+    /// use sefunjaro::{Choice, Error, Source};
+    ///
+    /// let zone = Source::open(b"Zone A 2:00 - A 2000\n 1:00 - B\n")?.zone("A")?;
+    /// let twice = "1999-12-31 23:30:00.000000000".parse()?;
+    /// let (earlier, later) = (zone.instant(&twice, Choice::Earlier)?, zone.instant(&twice, Choice::Later)?);
+    /// assert_eq!((earlier.offset, later.offset), (7200, 3600));
+    /// assert_eq!(zone.instant(&twice, Choice::Only), Err(Error::Repeated { first: 946675800, last: 946679400 }));
+    /// # Ok::<(), sefunjaro::Error>(())
+    /// ```
+    pub fn instant(&self, local: &Clock, choice: Choice) -> Result<Instant, Error> {
+        let (instants, gap) = self.read(local)?;
+        let (Some(first), Some(last)) = (instants.at(0), instants.at(instants.count.wrapping_sub(1))) else {
+            return Err(Error::Skipped { gap });
+        };
+        match choice {
+            Choice::Only if first != last => Err(Error::Repeated { first: first.second, last: last.second }),
+            Choice::Later => Ok(last),
+            Choice::Earlier | Choice::Only => Ok(first),
+        }
     }
 
     fn read(&self, local: &Clock) -> Result<(Instants, Gap), Error> {
@@ -248,7 +343,7 @@ impl Zone {
 
 impl fmt::Debug for Zone {
     fn fmt(&self, out: &mut fmt::Formatter<'_>) -> fmt::Result {
-        out.debug_struct("Zone").finish_non_exhaustive()
+        out.debug_struct("Zone").field("name", &self.name).finish_non_exhaustive()
     }
 }
 
@@ -263,14 +358,21 @@ pub struct Instants {
     nanosecond: u32,
 }
 
+impl Instants {
+    fn at(&self, place: usize) -> Option<Instant> {
+        let all = if self.more.is_empty() { &self.two[..self.count] } else { &self.more[..] };
+        let found = all.get(place)?;
+        Some(Instant { second: found.second, nanosecond: self.nanosecond, offset: found.offset })
+    }
+}
+
 impl Iterator for Instants {
     type Item = Instant;
 
     fn next(&mut self) -> Option<Instant> {
-        let all = if self.more.is_empty() { &self.two[..self.count] } else { &self.more[..] };
-        let found = all.get(self.next)?;
+        let found = self.at(self.next)?;
         self.next += 1;
-        Some(Instant { second: found.second, nanosecond: self.nanosecond, offset: found.offset })
+        Some(found)
     }
 
     fn size_hint(&self) -> (usize, Option<usize>) {

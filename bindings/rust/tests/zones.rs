@@ -1,9 +1,10 @@
 //! Each call, each error, threads and memory, over a small source.
 
 use sefunjaro::{
-    Change, Clock, Error, FileCause, Gap, Instant, JoinCause, LineCause, LocalTime, PlainCause, ScheduleCause, Source, TailCause,
+    Change, Choice, Clock, Error, FileCause, Gap, Instant, JoinCause, LineCause, LocalTime, PlainCause, ScheduleCause, Source, TailCause,
     TzifCause, Zone,
 };
+use std::time::{Duration, SystemTime, UNIX_EPOCH};
 use std::{fs, thread};
 
 const SOURCE: &str = "\
@@ -47,7 +48,96 @@ fn names() {
     assert_eq!(Source::open(b"").unwrap().names().unwrap().count(), 0);
     let long = "A".repeat(1000);
     let source = Source::open(format!("Zone {long} 1:00 - A\n").as_bytes()).unwrap();
-    assert_eq!(source.names().unwrap().collect::<Vec<_>>(), [long]);
+    assert_eq!(source.names().unwrap().collect::<Vec<_>>(), [long.as_str()]);
+    let mut found = Vec::new();
+    let source = Source::open(format!("Zone {long} 1:00 - A\nLink {long} B\nLink {long} A/C\n").as_bytes()).unwrap();
+    source.each_name(|name| found.push(name.to_owned())).unwrap();
+    assert_eq!(found, ["A/C", long.as_str(), "B"]);
+    Source::open(b"").unwrap().each_name(|name| panic!("{name}")).unwrap();
+    assert_eq!(zone("There/Middle").name(), Some("There/Middle"));
+    assert_eq!((Zone::from_posix(STRING).unwrap().name(), Zone::from_tzif(FILE).unwrap().name()), (None, None));
+}
+
+/// One instant of a local time, or why there is none.
+#[test]
+fn choices() {
+    let seconds = |zone: &Zone, text: &str| {
+        [Choice::Earlier, Choice::Later, Choice::Only].map(|choice| zone.instant(&local(text), choice).map(|instant| instant.second))
+    };
+    let middle = zone("Here/Middle");
+    assert_eq!(seconds(&middle, "2024-07-01 12:00:00.000000000"), [Ok(1719828000); 3]);
+    let (first, last) = (AUTUMN - 1800, AUTUMN + 1800);
+    assert_eq!(seconds(&middle, "2024-10-27 02:30:00.000000000"), [Ok(first), Ok(last), Err(Error::Repeated { first, last })]);
+    let skipped = Error::Skipped { gap: Gap { second: SPRING, before: 3600, after: 7200 } };
+    assert_eq!(seconds(&middle, "2024-03-31 02:30:00.000000000"), [Err(skipped); 3]);
+    assert_eq!(skipped.to_string(), "clocks skip the local time: from 3600 to 7200 at 1711846800");
+    let thrice = seconds(&zone("Here/Twice"), "2000-01-01 01:15:00.000000000");
+    let [Ok(first), Ok(last), Err(refused)] = thrice else { panic!("{thrice:?}") };
+    assert_eq!((last - first, refused), (7200, Error::Repeated { first, last }));
+    let instant = middle.instant(&local("2024-07-01 12:00:00.000000007"), Choice::Only).unwrap();
+    assert_eq!((instant.nanosecond, instant.offset), (7, 7200));
+    assert_eq!(middle.instant(&Clock { month: 13, ..local("2024-07-01 12:00:00.000000000") }, Choice::Later), Err(Error::OutOfRange));
+}
+
+/// What is written is what the library writes, and what is read again; all over the years, at each offset.
+#[test]
+fn texts() {
+    let names = ["-25:59:59", "-12", "-0:00:01", "0", "5:45", "25:59:59"];
+    let text: String = names.iter().map(|offset| format!("Zone Z{offset} {offset} - Z\n")).collect();
+    let source = Source::open(text.as_bytes()).unwrap();
+    let (least, most) = (-377_705_116_800, 253_402_300_799_i64);
+    for offset in names {
+        let zone = source.zone(&format!("Z{offset}")).unwrap();
+        let edges = [least, least + 1, most, most - 1].map(|second| second - i64::from(zone.offset_at(0, 0).unwrap()));
+        let days = (least + 100_000..most - 100_000).step_by(86_400 * 97 + 12_345);
+        for (turn, second) in edges.into_iter().chain(days).enumerate() {
+            let nanosecond = turn as u32 * 7919 % 1_000_000_000;
+            let (clock, offset) = zone.clock_at(second, nanosecond).unwrap();
+            let instant = Instant { second, nanosecond, offset };
+            let text = zone.text_at(second, nanosecond).unwrap();
+            assert_eq!((instant.to_string(), text.parse()), (text.clone(), Ok(instant)));
+            assert_eq!((clock.to_string().as_str(), clock.to_string().parse()), (&text[..text.len() - 10], Ok(clock)));
+        }
+    }
+    let far = Instant { second: i64::MAX, nanosecond: 999_999_999, offset: 93_599 };
+    assert_eq!(far.to_string(), "292277026596-12-05 17:30:06.999999999 +25:59:59");
+    let far = Instant { second: i64::MIN, nanosecond: 0, offset: i32::MIN };
+    assert!(far.to_string().starts_with("-292277022"));
+}
+
+#[test]
+fn system_times() {
+    let far = [(-62_135_596_800, 500_000_000), (i64::MAX, 999_999_999), (i64::MIN, 0)];
+    let rows = [(0, 0), (0, 1), (-1, 999_999_999), (-1, 0), (1711846800, 5)].into_iter().chain(far);
+    for (second, nanosecond) in rows {
+        let instant = Instant { second, nanosecond, offset: 0 };
+        let time = SystemTime::try_from(instant).unwrap();
+        assert_eq!((Instant::try_from(time), SystemTime::try_from(Instant { offset: 3600, ..instant })), (Ok(instant), Ok(time)));
+    }
+    assert_eq!(SystemTime::try_from(Instant { second: 0, nanosecond: 1_000_000_000, offset: 0 }), Err(Error::OutOfRange));
+    let zone = zone("Here/Middle");
+    let spring = UNIX_EPOCH + Duration::new(SPRING as u64, 0);
+    assert_eq!(zone.instant_at(spring), Ok(Instant { second: SPRING, nanosecond: 0, offset: 7200 }));
+    let before = Instant { second: SPRING - 1, nanosecond: 999_999_999, offset: 3600 };
+    assert_eq!(zone.instant_at(spring - Duration::from_nanos(1)), Ok(before));
+    let far = SystemTime::try_from(Instant { second: i64::MAX, nanosecond: 0, offset: 0 }).unwrap();
+    assert_eq!(zone.instant_at(far), Err(Error::OutOfRange));
+}
+
+/// Each public call has an example, and every value may go to another thread.
+#[test]
+fn public() {
+    fn goes<T: Send + Sync>() {}
+    goes::<(Source, Zone, Error, sefunjaro::NamedError, LocalTime, sefunjaro::Names<'_>, sefunjaro::Changes<'_>)>();
+    let folder = concat!(env!("CARGO_MANIFEST_DIR"), "/src");
+    for entry in fs::read_dir(folder).unwrap() {
+        let path = entry.unwrap().path();
+        let text = fs::read_to_string(&path).unwrap();
+        for (place, _) in text.match_indices("pub fn ").filter(|_| !path.ends_with("raw.rs")) {
+            let above = text[..place].rsplit("\n\n").next().unwrap();
+            assert!(above.contains("/// ```\n"), "{}: {}", path.display(), text[place..].lines().next().unwrap());
+        }
+    }
 }
 
 #[test]
