@@ -56,7 +56,7 @@ TotalLaw = (rulesets : Rulesets) (infos : List ZoneInfo) (t : ℤ)
 begins_2503 : day (pos (earliest_year + ever_years) -ℤ pos 1) 1 1 ≡ pos 194674
 begins_2503 = omega (arith, signed, day-cycle (pos 2503) 1 1 14502 refl, days_through-two (pos 2503))
 
-are_enough : (t : ℤ) → t <ℤ pos 16819833600000000000 → AreEnough ever_years t
+pub are_enough : (t : ℤ) → t <ℤ pos 16819833600000000000 → AreEnough ever_years t
 are_enough t h = subst (λ d. t <ℤ (pos 86400 *ℤ d *ℤ pos 1000000000)) (sym begins_2503) (omega (arith, signed, h))
 
 shows_within : EnoughLaw → (rulesets : Rulesets) (infos : List ZoneInfo) (set : FixedTimespanSet) (t : ℤ) → IsForEver rulesets infos set
