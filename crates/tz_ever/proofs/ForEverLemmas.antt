@@ -15,9 +15,9 @@ use Rattle.zone_spans.specs.Schedules.{is_in_offset_range, schedule_over, total_
 use Rattle.zone_spans.specs.Years.{earliest_year}
 use Rattle.zone_spans.specs.declared.span.FixedTimespan.{FixedTimespan}
 use Rattle.zone_spans.specs.declared.span.FixedTimespanSet as spans
-use Rattle.zone_cycle.specs.Cycle.{instant_on}
+use Rattle.zone_spans.specs.Cycle.{instant_on}
 use Rattle.zone_cycle.specs.ForEver.{AreEnough, IsFrom2101, instants_on, span_for_ever, span_told, total_for_ever}
-use Rattle.zone_cycle.specs.GoesOn.{GoesOn}
+use Rattle.zone_spans.specs.GoesOn.{GoesOn}
 use Rattle.zone_cycle.specs.InForce.{span_at}
 use Rattle.tz_zone.specs.Compiles.{spans_of}
 use Rattle.tz_zone.specs.declared.set.FixedTimespanSet.{FixedTimespanSet}
@@ -56,7 +56,7 @@ TotalLaw = (rulesets : Rulesets) (infos : List ZoneInfo) (t : ℤ)
 begins_2503 : day (pos (earliest_year + ever_years) -ℤ pos 1) 1 1 ≡ pos 194674
 begins_2503 = omega (arith, signed, day-cycle (pos 2503) 1 1 14502 refl, days_through-two (pos 2503))
 
-are_enough : (t : ℤ) → t <ℤ pos 16819833600000000000 → AreEnough ever_years t
+pub are_enough : (t : ℤ) → t <ℤ pos 16819833600000000000 → AreEnough ever_years t
 are_enough t h = subst (λ d. t <ℤ (pos 86400 *ℤ d *ℤ pos 1000000000)) (sym begins_2503) (omega (arith, signed, h))
 
 shows_within : EnoughLaw → (rulesets : Rulesets) (infos : List ZoneInfo) (set : FixedTimespanSet) (t : ℤ) → IsForEver rulesets infos set

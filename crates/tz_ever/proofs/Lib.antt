@@ -4,4 +4,5 @@ pub mod NearLemmas
 pub mod TotalLemmas
 pub mod AnswerLemmas
 pub mod ForEverLemmas
+pub mod OpenLemmas
 mod EverRows

@@ -7,7 +7,7 @@ use Rattle.civil_base.specs.Ranges.{IsOffset}
 use Rattle.zone_spans.specs.Entries.{total}
 use Rattle.zone_spans.specs.Schedules.{total_at}
 use Rattle.zone_spans.specs.declared.span.FixedTimespan.{FixedTimespan}
-use Rattle.zone_cycle.specs.Cycle.{instant_on}
+use Rattle.zone_spans.specs.Cycle.{instant_on}
 use Rattle.zone_cycle.specs.InForce.{span_at}
 use Rattle.zone_cycle.specs.InForceLaws.{total_at-is}
 use Rattle.tz_zone.specs.CompileLaws.{totals_same}

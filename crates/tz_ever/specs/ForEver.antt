@@ -7,7 +7,7 @@ use Rattle.zone_spans.specs.Compiled.{compiled, compiled_over}
 use Rattle.zone_spans.specs.Lines.{Rulesets, zone_lines}
 use Rattle.zone_spans.specs.Schedules.{is_in_offset_range, totals_of}
 use Rattle.zone_spans.specs.declared.span.FixedTimespanSet as spans
-use Rattle.zone_cycle.specs.GoesOn.{GoesOn}
+use Rattle.zone_spans.specs.GoesOn.{GoesOn}
 use Rattle.tz_zone.specs.Compiles.{spans_of}
 use Rattle.tz_zone.specs.declared.set.FixedTimespanSet.{FixedTimespanSet}
 

@@ -4,3 +4,4 @@ pub mod Ever
 pub mod ForEver
 pub mod EverShown
 pub mod EverZones
+pub mod Opens

@@ -6,6 +6,8 @@ mod bring;
 mod ever_set;
 mod ever_tz;
 pub mod laws;
+mod open;
 
 pub use ever_set::{EVER_YEARS, EverSet};
 pub use ever_tz::{EverCursor, EverTz};
+pub use open::EverFault;

@@ -1,8 +1,9 @@
 -- What is compiled under a name.
 use Rattle.std.specs.Prelude.{◌≡◌, ◌≢◌, ℕ, List, option_map, false, Option, Some, None, Result, Ok, Err}
 use Rattle.std.specs.FinMap.{get}
-use Rattle.zone_spans.specs.Compiled.{compiled}
+use Rattle.zone_spans.specs.Compiled.{compiled_over}
 use Rattle.zone_spans.specs.Schedules.{is_in_offset_range, totals_of}
+use Rattle.zone_spans.specs.Years.{most_years}
 use Rattle.zone_spans.specs.declared.fault.SpanFault.{SpanFault}
 use Rattle.zone_spans.specs.declared.fault.SpanFault.TheVariants as span_fault
 use Rattle.zone_spans.specs.declared.span.FixedTimespanSet as spans
@@ -12,9 +13,13 @@ use Rattle.tz_zone.specs.declared.compile.ZoneFault.{ZoneFault}
 use Rattle.tz_zone.specs.declared.compile.ZoneFault.TheVariants.{UnknownZone, Schedule, OffsetRange, NoMemory}
 use Rattle.tz_zone.specs.declared.set.FixedTimespanSet.{FixedTimespanSet}
 
--- what a name finds in a table: nothing, or its zone's spans or why it has none
+-- what a name finds in a table: nothing, or its zone's spans over so many years or why it has none
+abbrev pub compiled_in_over : ℕ → Table → List ℕ → Option (Result spans.FixedTimespanSet SpanFault)
+compiled_in_over years table name = option_map (compiled_over years (get table.rulesets)) (resolved_in table name)
+
+-- over the years to the latest
 abbrev pub compiled_in : Table → List ℕ → Option (Result spans.FixedTimespanSet SpanFault)
-compiled_in table name = option_map (compiled (get table.rulesets)) (resolved_in table name)
+compiled_in table name = compiled_in_over most_years table name
 
 -- the spans of a set, without its name
 abbrev pub spans_of : FixedTimespanSet → spans.FixedTimespanSet

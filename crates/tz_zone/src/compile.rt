@@ -1,12 +1,13 @@
 //! A zone compiled under a name.
-ghost use Rattle.std.specs.Prelude.{◌≡◌, IfOk, IfErr, Some, Ok};
+ghost use Rattle.std.specs.Prelude.{◌≡◌, ◌≤◌, IfOk, IfErr, Some, Ok};
+ghost use Rattle.zone_spans.specs.Years.{years_limit};
 ghost use Rattle.zone_table.specs.BoundedTables.{IsBoundedTable};
-ghost use Rattle.tz_zone.specs.Compiles.{compiled_in, IsCompiledAs, IsZoneFault};
+ghost use Rattle.tz_zone.specs.Compiles.{compiled_in, compiled_in_over, IsCompiledAs, IsZoneFault};
 ghost use Rattle.tz_zone.specs.Sets.{schedule_of, IsAccepted};
 
 use crate::set::{FixedTimespanSet, has_offsets};
 use std::alloc::{AllocError, Global};
-use zone_spans::{SpanFault, TableTransitions};
+use zone_spans::{MOST_YEARS, SpanFault, TableTransitions};
 use zone_table::Table;
 
 /// Why a name has no set of spans that can be looked up.
@@ -45,7 +46,27 @@ pub fn compile_zone(alloc: Global, table: &Table, name: &str) -> Result<FixedTim
     ensures accepted { IfOk result (λ set. IsAccepted (schedule_of set)) }
     ensures err { IfErr result (IsZoneFault (compiled_in table.now name.now)) }
 {
-    let compiled = match table.timespans(alloc, name) {
+    compile_zone_over(alloc, table, name, MOST_YEARS)
+}
+
+/// The same over so many years from 1800 on, 1,000 at most.
+///
+/// # Errors
+///
+/// As of `compile_zone`, over these years.
+pub fn compile_zone_over(
+    alloc: Global,
+    table: &Table,
+    name: &str,
+    years: u16,
+) -> Result<FixedTimespanSet, ZoneFault>
+    requires table { IsBoundedTable table.now }
+    requires years { years ≤ years_limit }
+    ensures ok { IfOk result (λ set. (set.name ≡ name.now) × IsCompiledAs set (compiled_in_over years table.now name.now)) }
+    ensures accepted { IfOk result (λ set. IsAccepted (schedule_of set)) }
+    ensures err { IfErr result (IsZoneFault (compiled_in_over years table.now name.now)) }
+{
+    let compiled = match table.timespans_over(alloc, name, years) {
         Ok(Some(compiled)) => compiled,
         Ok(None) => return Err(ZoneFault::UnknownZone),
         Err(SpanFault::NoMemory) => return Err(ZoneFault::NoMemory),

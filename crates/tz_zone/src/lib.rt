@@ -12,7 +12,7 @@ mod set;
 mod time_zone;
 mod tz;
 
-pub use compile::{ZoneFault, compile_zone};
+pub use compile::{ZoneFault, compile_zone, compile_zone_over};
 pub use fixed::{Fixed, FixedOffset};
 pub use instants::{InstantsIn, InstantsLocal};
 pub use lookups::{

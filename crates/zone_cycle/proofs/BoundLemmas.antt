@@ -18,8 +18,8 @@ use Rattle.zone_spans.specs.Lines.{Line}
 use Rattle.zone_spans.specs.Years.{earliest_year}
 use Rattle.zone_spans.specs.declared.span.FixedTimespan.{FixedTimespan}
 use Rattle.zone_cycle.specs.InForce.{has_come, span_by}
-use Rattle.zone_cycle.specs.Later.{firings_from, first_fired, later_entries}
-use Rattle.zone_cycle.specs.Settled.{are_settled, is_lasting}
+use Rattle.zone_spans.specs.Later.{firings_from, first_fired, later_entries}
+use Rattle.zone_spans.specs.Settled.{are_settled, is_lasting}
 use Rattle.zone_cycle.proofs.CollapseLemmas.{kept_of-more}
 use Rattle.zone_cycle.proofs.FiringLemmas.{year_firings-settled}
 use Rattle.zone_cycle.proofs.OrderLemmas.{AllFrom, later_entries-front}

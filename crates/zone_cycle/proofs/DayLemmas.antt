@@ -6,7 +6,7 @@ use Rattle.calendar.specs.Days.{days_through, day, is_leap, days_in_month}
 use Rattle.calendar.specs.SignedLaws.{signed, natural, floored}
 use Rattle.calendar.specs.Weekdays.{weekday_of}
 use Rattle.calendar.specs.YearLaws.{day-cycle}
-use Rattle.zone_cycle.specs.Cycle.{days_on, next_cycle}
+use Rattle.zone_spans.specs.Cycle.{days_on, next_cycle}
 
 leap_later : (n : ℕ) → is_leap (pos (n + 400)) ≡ is_leap (pos n)
 unfolding is_leap

@@ -31,9 +31,9 @@ use Rattle.zone_spans.specs.Years.{earliest_year}
 use Rattle.zone_spans.specs.declared.span.FixedTimespan.{FixedTimespan}
 use Rattle.zone_spans.specs.declared.span.FixedTimespanSet.{FixedTimespanSet}
 use Rattle.zone_cycle.specs.ForEver.{AreEnough, IsFrom2101, instants_on, is_before_cycle, span_for_ever, span_told, total_for_ever, years_for}
-use Rattle.zone_cycle.specs.GoesOn.{GoesOn, cycle_entries}
+use Rattle.zone_spans.specs.GoesOn.{GoesOn, cycle_entries}
 use Rattle.zone_cycle.specs.InForce.{has_come}
-use Rattle.zone_cycle.specs.Later.{first_fired, later_entries, later_fired}
+use Rattle.zone_spans.specs.Later.{first_fired, later_entries, later_fired}
 use Rattle.zone_cycle.proofs.BoundLemmas.{FiredFrom, entries_fire, firings_from-low, span-stable_years, year_low}
 use Rattle.zone_cycle.proofs.CollapseLemmas.{kept_of-more}
 use Rattle.zone_cycle.proofs.EverLemmas.{adds_behind, two_kept}

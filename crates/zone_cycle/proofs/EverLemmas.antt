@@ -9,11 +9,12 @@ use Rattle.zone_spans.specs.Firings.{Fired, Firing}
 use Rattle.zone_spans.specs.Lines.{Line}
 use Rattle.zone_spans.specs.Listing.{listed_firings}
 use Rattle.zone_spans.specs.declared.span.FixedTimespan.{FixedTimespan}
-use Rattle.zone_cycle.specs.Cycle.{entry_on, instant_on, seconds_on}
+use Rattle.zone_spans.specs.Cycle.{entry_on, instant_on, seconds_on}
 use Rattle.zone_cycle.specs.InForce.{has_come}
-use Rattle.zone_cycle.specs.Later.{begun_entries, first_fired, later_entries, later_fired, listed_entries, start_after}
-use Rattle.zone_cycle.specs.Settled.{are_settled}
-use Rattle.zone_cycle.proofs.FiringLemmas.{before_on, firings_of_years-split}
+use Rattle.zone_spans.specs.Later.{begun_entries, first_fired, later_entries, later_fired, listed_entries, start_after}
+use Rattle.zone_spans.specs.Settled.{are_settled}
+use Rattle.zone_spans.specs.LaterLaws.{firings_of_years-split}
+use Rattle.zone_cycle.proofs.FiringLemmas.{before_on}
 use Rattle.zone_cycle.proofs.OrderLemmas.{AllFrom, AllTo, AllUnder, IsInOrder, Rising, StartsUnder, chain, chain_under, from-on, in_order-for_ever, later_second, past-from, precede-from, rise-from, rising-on}
 use Rattle.zone_cycle.proofs.SeamLemmas.{IsSeam, seam-stays}
 use Rattle.zone_cycle.proofs.ZoneLemmas.{AddsBehind, AllEnd, EndsSaving, IsCycle, IsEndless, later_entries-repeat, listed-more, span-repeats, span_in, start-more}

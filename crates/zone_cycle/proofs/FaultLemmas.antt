@@ -9,8 +9,8 @@ use Rattle.zone_table.specs.Moments.{applies_to_year}
 use Rattle.zone_table.specs.declared.rule.RuleInfo.{RuleInfo}
 use Rattle.zone_spans.specs.Faults.{is_outside, some_year}
 use Rattle.zone_spans.specs.Years.{earliest_year}
-use Rattle.zone_cycle.specs.Cycle.{days_on, next_cycle}
-use Rattle.zone_cycle.specs.Settled.{is_settled}
+use Rattle.zone_spans.specs.Cycle.{days_on, next_cycle}
+use Rattle.zone_spans.specs.Settled.{is_settled}
 use Rattle.zone_cycle.proofs.DayLemmas.{day-repeats}
 use Rattle.zone_cycle.proofs.MomentLemmas.{named_day-repeats}
 use Rattle.zone_cycle.proofs.SettledLemmas.{applies-settled}

@@ -7,9 +7,9 @@ use Rattle.zone_table.specs.Moments.{moment}
 use Rattle.zone_table.specs.declared.rule.RuleInfo.{RuleInfo}
 use Rattle.zone_spans.specs.Firings.{earliest, fired, year_firings, Fired, is_earlier, firings_of_years}
 use Rattle.zone_spans.specs.Years.{earliest_year}
-use Rattle.zone_cycle.specs.Cycle.{fired_on, firing_on, next_cycle, seconds_on}
-use Rattle.zone_cycle.specs.Later.{firings_from}
-use Rattle.zone_cycle.specs.Settled.{are_settled, is_lasting}
+use Rattle.zone_spans.specs.Cycle.{fired_on, firing_on, next_cycle, seconds_on}
+use Rattle.zone_spans.specs.Later.{firings_from}
+use Rattle.zone_spans.specs.Settled.{are_settled, is_lasting}
 use Rattle.zone_cycle.proofs.MomentLemmas.{moment-repeats}
 use Rattle.zone_cycle.proofs.SettledLemmas.{applying-settled}
 
@@ -56,28 +56,6 @@ year_firings-repeats y offset saving rules settled late =
     year_firings-settled (next_cycle y) offset saving rules settled (omega (arith, signed))
     ∙ fired-repeats (length rs) y offset saving rs (omega (arith, signed))
     ∙ ap fired_on (sym (year_firings-settled y offset saving rules settled late))
-
-after_firings : Fired → Fired → Fired
-after_firings a b = (a.0 ++ b.0, b.1)
-
--- more years are those years after the first
-pub firings_of_years-split : (place k : ℕ) (offset : ℤ) (rules : List RuleInfo)
-    → firings_of_years offset None rules (k + place) ≡ (
-      (firings_of_years offset None rules place).0 ++
-          (firings_from place offset rules (firings_of_years offset None rules place).1 k).0,
-      (firings_from place offset rules (firings_of_years offset None rules place).1 k).1,
-    )
-unfolding firings_from firings_of_years
-firings_of_years-split place zero offset rules =
-    let same : 0 + place ≡ place = omega arith in
-    let begun = firings_of_years offset None rules place in
-    ap (firings_of_years offset None rules) same ∙ (λ i. (sym (append-nil begun.0) i, begun.1))
-firings_of_years-split place (suc k) offset rules =
-    let next : suc k + place ≡ suc (k + place) = omega arith in
-    let begun = firings_of_years offset None rules place in
-    let more = firings_from place offset rules begun.1 k in
-    let here = year_firings (pos (earliest_year + (k + place))) offset None more.1 rules in
-    rw (next, firings_of_years-split place k offset rules) (λ i. (append_assoc begun.0 more.0 here.0 i, here.1))
 
 -- from the year 2100 on, which is the 300th place, the firings of any number of years repeat in the next cycle
 pub firings_from-repeats : (place k : ℕ) (offset saving : ℤ) (rules : List RuleInfo) → are_settled rules ≡ true → 300 ≤ place

@@ -12,8 +12,8 @@ use Rattle.zone_table.specs.Moments.{applies_to_year}
 use Rattle.zone_table.specs.declared.rule.RuleInfo.{RuleInfo}
 use Rattle.zone_spans.specs.Faults.{is_outside, some_year}
 use Rattle.zone_spans.specs.Years.{earliest_year}
-use Rattle.zone_cycle.specs.GoesOn.{some_leaves}
-use Rattle.zone_cycle.specs.Settled.{are_settled, is_lasting, is_settled, lasting}
+use Rattle.zone_spans.specs.GoesOn.{some_leaves}
+use Rattle.zone_spans.specs.Settled.{are_settled, is_lasting, is_settled, lasting}
 use Rattle.zone_cycle.proofs.BoundLemmas.{AllFit, FitForEver, Fits}
 use Rattle.zone_cycle.proofs.FaultLemmas.{found_in_first, is_outside-repeats}
 use Rattle.zone_cycle.proofs.SettledLemmas.{and_first, and_second, applies-settled}

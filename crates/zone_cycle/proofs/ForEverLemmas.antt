@@ -20,9 +20,9 @@ use Rattle.zone_spans.specs.Years.{earliest_year}
 use Rattle.zone_spans.specs.declared.fault.SpanFault.{SpanFault}
 use Rattle.zone_spans.specs.declared.span.FixedTimespan.{FixedTimespan}
 use Rattle.zone_spans.specs.declared.span.FixedTimespanSet.{FixedTimespanSet}
-use Rattle.zone_cycle.specs.Cycle.{instant_on, next_cycle}
+use Rattle.zone_spans.specs.Cycle.{instant_on, next_cycle}
 use Rattle.zone_cycle.specs.ForEver.{AreEnough, IsFrom2101, cycles_at, instants_on, is_before_cycle, span_for_ever, span_told, total_for_ever, years_for}
-use Rattle.zone_cycle.specs.GoesOn.{GoesOn, cycle_entries, last_of}
+use Rattle.zone_spans.specs.GoesOn.{GoesOn, cycle_entries, last_of}
 use Rattle.zone_cycle.specs.InForce.{has_come, span_at, span_by}
 use Rattle.zone_cycle.specs.InForceLaws.{total_at-is}
 use Rattle.zone_cycle.proofs.BackLemmas.{span-as_before}

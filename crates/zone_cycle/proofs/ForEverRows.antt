@@ -30,11 +30,11 @@ use Rattle.zone_spans.specs.Schedules.{totals_of, total_at, schedule_over}
 use Rattle.zone_spans.specs.Windows.{line_end}
 use Rattle.zone_spans.specs.declared.span.FixedTimespan.{FixedTimespan}
 use Rattle.zone_spans.specs.declared.span.FixedTimespanSet.{FixedTimespanSet}
-use Rattle.zone_cycle.specs.Cycle.{instant_on}
+use Rattle.zone_spans.specs.Cycle.{instant_on}
 use Rattle.zone_cycle.specs.ForEver.{IsFrom2101, cycles_at, is_before_cycle, total_for_ever, years_for}
-use Rattle.zone_cycle.specs.GoesOn.{GoesOn, dont_fall, front_of, goes_on, is_in_order, last_goes_on, last_of, turns}
-use Rattle.zone_cycle.specs.Later.{firings_from, start_after}
-use Rattle.zone_cycle.specs.Settled.{is_lasting, is_settled}
+use Rattle.zone_spans.specs.GoesOn.{GoesOn, dont_fall, front_of, goes_on, is_in_order, last_goes_on, last_of, turns}
+use Rattle.zone_spans.specs.Later.{firings_from, start_after}
+use Rattle.zone_spans.specs.Settled.{is_lasting, is_settled}
 use Rattle.zone_cycle.proofs.ForEverLemmas.{repeats-at}
 
 -- `Rule Two 2098 max - Mar lastSun 1:00u 1:00 S` and `Rule Two 2098 max - Oct lastSun 1:00u 0 -`

@@ -26,9 +26,9 @@ use Rattle.zone_spans.specs.Listing.{listed_from, start_firing}
 use Rattle.zone_spans.specs.Schedules.{totals_of, total_at, schedule_over}
 use Rattle.zone_spans.specs.Windows.{line_end}
 use Rattle.zone_spans.specs.declared.fault.SpanFault.TheVariants.{DayRange}
-use Rattle.zone_cycle.specs.GoesOn.{dont_fall, front_of, goes_on, is_in_order, last_goes_on, last_of, turns}
-use Rattle.zone_cycle.specs.Later.{firings_from, start_after}
-use Rattle.zone_cycle.specs.Settled.{is_lasting, is_settled}
+use Rattle.zone_spans.specs.GoesOn.{dont_fall, front_of, goes_on, is_in_order, last_goes_on, last_of, turns}
+use Rattle.zone_spans.specs.Later.{firings_from, start_after}
+use Rattle.zone_spans.specs.Settled.{is_lasting, is_settled}
 use Rattle.zone_cycle.proofs.ForEverRows.{last_sunday}
 
 abbrev ruled : ZoneInfo

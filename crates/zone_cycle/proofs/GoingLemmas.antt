@@ -10,9 +10,9 @@ use Rattle.zone_spans.specs.Firings.{Firing}
 use Rattle.zone_spans.specs.Lines.{Line, is_ruled}
 use Rattle.zone_spans.specs.Listing.{start_firing}
 use Rattle.zone_spans.specs.declared.span.FixedTimespan.{FixedTimespan}
-use Rattle.zone_cycle.specs.GoesOn.{are_cycle_later, cycle_entries, ends_by_then, is_apart, is_before_2101, is_in_order, is_still, kept_over, last_goes_on, some_leaves, turns}
-use Rattle.zone_cycle.specs.Later.{begun_entries, first_fired, start_after}
-use Rattle.zone_cycle.specs.Settled.{are_settled, is_lasting}
+use Rattle.zone_spans.specs.GoesOn.{are_cycle_later, cycle_entries, ends_by_then, is_apart, is_before_2101, is_in_order, is_still, kept_over, last_goes_on, some_leaves, turns}
+use Rattle.zone_spans.specs.Later.{begun_entries, first_fired, start_after}
+use Rattle.zone_spans.specs.Settled.{are_settled, is_lasting}
 use Rattle.zone_cycle.proofs.BackLemmas.{IsApart}
 use Rattle.zone_cycle.proofs.EverLemmas.{IsTurning}
 use Rattle.zone_cycle.proofs.OrderLemmas.{AllTo, AllUnder, StartsUnder}

@@ -14,7 +14,7 @@ use Rattle.zone_values.specs.declared.time.TimeType.{TimeType}
 use Rattle.zone_values.specs.declared.time.TimeType.TheVariants.{Wall, UTC, Standard}
 use Rattle.zone_table.specs.Moments.{instant_of, moment}
 use Rattle.zone_table.specs.declared.rule.RuleInfo.{RuleInfo}
-use Rattle.zone_cycle.specs.Cycle.{days_on, next_cycle, seconds_on}
+use Rattle.zone_spans.specs.Cycle.{days_on, next_cycle, seconds_on}
 use Rattle.zone_cycle.proofs.DayLemmas.{day-repeats, days_in_month-repeats, weekday_of-repeats}
 
 last_with-same : (p q : ℕ → Bool) → ((n : ℕ) → p n ≡ q n) → (n : ℕ) → last_with p n ≡ last_with q n

@@ -18,16 +18,17 @@ use Rattle.zone_spans.specs.declared.fault.SpanFault.{SpanFault}
 use Rattle.zone_spans.specs.declared.fault.SpanFault.TheVariants.{UnknownRuleset, MissingUntil, YearRange, RuleYears, DayRange, NoStandardSpan}
 use Rattle.zone_spans.specs.declared.span.FixedTimespan.{FixedTimespan}
 use Rattle.zone_spans.specs.declared.span.FixedTimespanSet.{FixedTimespanSet}
-use Rattle.zone_cycle.specs.GoesOn.{GoesOn, front_of, goes_on, is_still, last_goes_on, last_of, some_leaves, turns}
-use Rattle.zone_cycle.specs.Later.{begun_entries, later_entries, listed_entries, start_after}
-use Rattle.zone_cycle.specs.Settled.{are_settled, is_settled}
+use Rattle.zone_spans.specs.GoesOn.{GoesOn, front_of, goes_on, is_still, last_goes_on, last_of, some_leaves, turns}
+use Rattle.zone_spans.specs.Later.{begun_entries, later_entries, listed_entries, start_after}
+use Rattle.zone_spans.specs.Settled.{are_settled, is_settled}
 use Rattle.zone_cycle.proofs.EverLemmas.{adds_behind}
 use Rattle.zone_cycle.proofs.FaultLemmas.{or_right, outside-more}
 use Rattle.zone_cycle.proofs.FitLemmas.{or_first, or_second}
 use Rattle.zone_cycle.proofs.GoingLemmas.{IsGoing, IsTurned, going_of, turned_of}
 use Rattle.zone_cycle.proofs.QuietLemmas.{entries_from_over-still}
 use Rattle.zone_cycle.proofs.TestLemmas.{is_split}
-use Rattle.zone_cycle.proofs.ZoneLemmas.{AllEnd, EndsByThen, entries_from_over-first, entries_from_over-more, sorted_entries_over-more, years_over-ended}
+use Rattle.zone_cycle.proofs.ZoneLemmas.{AllEnd, entries_from_over-first, entries_from_over-more, sorted_entries_over-more}
+use Rattle.zone_spans.specs.LaterLaws.{EndsByThen, years_over-ended}
 
 -- what stands before 2100 stays, and entries come behind it
 pub record Extends (front : List Line) (last : Line) (k : ℕ) : Type 0 where

@@ -6,10 +6,11 @@ use Rattle.std.proofs.lemmas.List.{map-append}
 use Rattle.zone_spans.specs.Entries.{entry_of, is_sooner, Entry}
 use Rattle.zone_spans.specs.Firings.{Fired, Firing}
 use Rattle.zone_spans.specs.Lines.{Line}
-use Rattle.zone_cycle.specs.Cycle.{entry_on, seconds_on}
-use Rattle.zone_cycle.specs.Later.{firings_from, first_fired, later_entries, later_fired}
-use Rattle.zone_cycle.specs.Settled.{are_settled}
-use Rattle.zone_cycle.proofs.FiringLemmas.{before_on, firings_from-repeats, firings_from-split, firings_of_years-split}
+use Rattle.zone_spans.specs.Cycle.{entry_on, seconds_on}
+use Rattle.zone_spans.specs.Later.{firings_from, first_fired, later_entries, later_fired}
+use Rattle.zone_spans.specs.Settled.{are_settled}
+use Rattle.zone_spans.specs.LaterLaws.{firings_of_years-split}
+use Rattle.zone_cycle.proofs.FiringLemmas.{before_on, firings_from-repeats, firings_from-split}
 use Rattle.zone_cycle.proofs.SeamLemmas.{IsSeam}
 use Rattle.zone_cycle.proofs.SortLemmas.{AllAreBelow, NoneIsBelow, Precede, RiseAbove}
 use Rattle.zone_cycle.proofs.ZoneLemmas.{ArePast, entries_on}

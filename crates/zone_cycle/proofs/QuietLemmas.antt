@@ -9,10 +9,11 @@ use Rattle.zone_spans.specs.Firings.{fired, year_firings, Fired}
 use Rattle.zone_spans.specs.Lines.{Line, is_ruled}
 use Rattle.zone_spans.specs.Listing.{listed_firings}
 use Rattle.zone_spans.specs.Years.{earliest_year}
-use Rattle.zone_cycle.specs.GoesOn.{is_still}
-use Rattle.zone_cycle.specs.Later.{firings_from, first_fired, start_after}
-use Rattle.zone_cycle.specs.Settled.{are_settled, is_lasting}
-use Rattle.zone_cycle.proofs.FiringLemmas.{firings_of_years-split, year_firings-settled}
+use Rattle.zone_spans.specs.GoesOn.{is_still}
+use Rattle.zone_spans.specs.Later.{firings_from, first_fired, start_after}
+use Rattle.zone_spans.specs.Settled.{are_settled, is_lasting}
+use Rattle.zone_spans.specs.LaterLaws.{firings_of_years-split}
+use Rattle.zone_cycle.proofs.FiringLemmas.{year_firings-settled}
 use Rattle.zone_cycle.proofs.FitLemmas.{or_first, or_second}
 use Rattle.zone_cycle.proofs.TestLemmas.{not_true}
 use Rattle.zone_cycle.proofs.ZoneLemmas.{AllEnd, IsEndless, entries_from_over-split, entries_of_over-endless}

@@ -8,10 +8,11 @@ use Rattle.zone_table.specs.Moments.{instant_of, moment}
 use Rattle.zone_table.specs.declared.rule.RuleInfo.{RuleInfo}
 use Rattle.zone_spans.specs.Firings.{earliest, fired, year_firings, Fired, is_earlier, firings_of_years}
 use Rattle.zone_spans.specs.Years.{earliest_year}
-use Rattle.zone_cycle.specs.Cycle.{firing_on, next_cycle}
-use Rattle.zone_cycle.specs.Later.{firings_from}
-use Rattle.zone_cycle.specs.Settled.{HaveClock, are_settled, is_lasting}
-use Rattle.zone_cycle.proofs.FiringLemmas.{firings_from-repeats, firings_of_years-split, year_firings-repeats, year_firings-settled}
+use Rattle.zone_spans.specs.Cycle.{firing_on, next_cycle}
+use Rattle.zone_spans.specs.Later.{firings_from}
+use Rattle.zone_spans.specs.Settled.{HaveClock, are_settled, is_lasting}
+use Rattle.zone_spans.specs.LaterLaws.{firings_of_years-split}
+use Rattle.zone_cycle.proofs.FiringLemmas.{firings_from-repeats, year_firings-repeats, year_firings-settled}
 
 -- the saving in force after the first years up to that place is the same a cycle later
 abbrev pub IsSeam : ℤ → List RuleInfo → ℕ → Type 0

@@ -9,7 +9,7 @@ use Rattle.calendar.specs.SignedLaws.{signed}
 use Rattle.zone_spans.specs.Collapse.{is_no_later, is_same_span, kept_of, kept_with, without_first}
 use Rattle.zone_spans.specs.Entries.{Entry}
 use Rattle.zone_spans.specs.declared.span.FixedTimespan.{FixedTimespan}
-use Rattle.zone_cycle.specs.Cycle.{entry_on, instant_on, seconds_on}
+use Rattle.zone_spans.specs.Cycle.{entry_on, instant_on, seconds_on}
 use Rattle.zone_cycle.specs.InForce.{has_come, span_by}
 use Rattle.zone_cycle.proofs.CollapseLemmas.{kept_of-behind}
 use Rattle.zone_cycle.proofs.SettledLemmas.{and_first, and_second}

@@ -9,7 +9,7 @@ use Rattle.zone_spans.specs.Entries.{Entry, total, sorted_entries_over}
 use Rattle.zone_spans.specs.Lines.{Line}
 use Rattle.zone_spans.specs.declared.span.FixedTimespan.{FixedTimespan}
 use Rattle.zone_cycle.specs.InForce.{has_come, span_by}
-use Rattle.zone_cycle.specs.Later.{later_entries}
+use Rattle.zone_spans.specs.Later.{later_entries}
 use Rattle.zone_cycle.proofs.CollapseLemmas.{kept_of-more}
 use Rattle.zone_cycle.proofs.EverLemmas.{IsTested, adds_behind}
 use Rattle.zone_cycle.proofs.OrderLemmas.{AllFrom, in_order-for_ever}

@@ -11,14 +11,15 @@ use Rattle.zone_values.specs.Ends.{end_year, year_number}
 use Rattle.zone_values.specs.declared.change.ChangeTime.{ChangeTime}
 use Rattle.zone_spans.specs.Collapse.{is_no_later, is_same_span, kept_of, kept_with}
 use Rattle.zone_spans.specs.Entries.{is_sooner, Entry, total}
+use Rattle.zone_spans.specs.LaterLaws.{ends-by}
 use Rattle.zone_spans.specs.Lines.{Line}
-use Rattle.zone_cycle.specs.Cycle.{entry_on, seconds_on}
-use Rattle.zone_cycle.specs.GoesOn.{are_cycle_later, dont_fall, ends_by_then, front_of, is_apart, is_cycle_later, is_in_order, last_of}
+use Rattle.zone_spans.specs.Cycle.{entry_on, seconds_on}
+use Rattle.zone_spans.specs.GoesOn.{are_cycle_later, dont_fall, ends_by_then, front_of, is_apart, is_cycle_later, is_in_order, last_of}
 use Rattle.zone_cycle.proofs.OrderLemmas.{AllFrom, AllTo, Rising, StartsUnder, from-lower, none_below-from}
 use Rattle.zone_cycle.proofs.SortLemmas.{AllAreBelow}
 use Rattle.zone_cycle.proofs.SpanLemmas.{same_span}
 use Rattle.zone_cycle.proofs.StableLemmas.{NoneHasCome}
-use Rattle.zone_cycle.proofs.ZoneLemmas.{AllEnd, EndsByThen}
+use Rattle.zone_cycle.proofs.ZoneLemmas.{AllEnd}
 
 pub not_true : (b : Bool) → not b ≡ true → b ≡ false
 not_true true h = absurd cc
@@ -34,13 +35,6 @@ unfolding last_of front_of
 is_split [] last is = absurd cc
 is_split (line ∷ []) last is = let same : line ≡ last = cc in (λ i. same i ∷ [])
 is_split (line ∷ next ∷ lines) last is = ap (λ l. line ∷ l) (is_split (next ∷ lines) last is)
-
-ended_by : (n : ℕ) → nat_lt n 2100 ≡ true → n ≤ 2099
-ended_by n h = grind (arith, nat_tests)
-
-ends-by : (end : Option ChangeTime) → ends_by_then end ≡ true → EndsByThen end
-ends-by None h = absurd cc
-ends-by (Some end) h = ended_by (nat_abs (year_number (end_year end))) h
 
 pub all_end : (lines : List Line) → list_all (λ (line : Line). ends_by_then line.end) lines ≡ true → AllEnd lines
 all_end [] h = tt

@@ -10,33 +10,22 @@ use Rattle.zone_spans.specs.Firings.{Fired, Firing, line_firings_over, years_ove
 use Rattle.zone_spans.specs.Lines.{Line, is_ruled}
 use Rattle.zone_spans.specs.Listing.{listed_firings}
 use Rattle.zone_spans.specs.declared.span.FixedTimespan.{FixedTimespan}
-use Rattle.zone_cycle.specs.Cycle.{entry_on, firing_on, instant_on}
+use Rattle.zone_spans.specs.Cycle.{entry_on, firing_on, instant_on}
 use Rattle.zone_cycle.specs.InForce.{has_come, span_at, span_by}
-use Rattle.zone_cycle.specs.Later.{begun_entries, firings_from, first_fired, later_entries, later_fired, listed_entries, start_after}
-use Rattle.zone_cycle.specs.Settled.{are_settled}
+use Rattle.zone_spans.specs.Later.{begun_entries, firings_from, first_fired, later_entries, later_fired, listed_entries, start_after}
+use Rattle.zone_spans.specs.Settled.{are_settled}
 use Rattle.zone_cycle.proofs.CollapseLemmas.{kept-repeats, kept_of-on}
-use Rattle.zone_cycle.proofs.FiringLemmas.{firings_from-repeats, firings_of_years-split}
+use Rattle.zone_spans.specs.LaterLaws.{EndsByThen, firings_of_years-split, years_over-ended}
+use Rattle.zone_cycle.proofs.FiringLemmas.{firings_from-repeats}
 use Rattle.zone_cycle.proofs.ListingLemmas.{are_past, listed_from-more, start_firing-more}
 use Rattle.zone_cycle.proofs.SeamLemmas.{IsSeam}
 use Rattle.zone_cycle.proofs.SortLemmas.{Precede, RiseAbove, sorted-more}
 use Rattle.zone_cycle.proofs.SpanLemmas.{has_come-on, span_by-kept, span_by-on, span_by-without_first}
 
 -- ---- lines that end in 2099 or before
-abbrev pub EndsByThen : Option ChangeTime → Type 0
-EndsByThen None = ⊥
-EndsByThen (Some end) = nat_abs (year_number (end_year end)) ≤ 2099
-
 abbrev pub AllEnd : List Line → Type 0
 AllEnd [] = Unit {0}
 AllEnd (line ∷ lines) = EndsByThen line.end × AllEnd lines
-
-fewer : (n a : ℕ) → 300 ≤ n → a ≤ 2099 → min n (a - (1800 - 1)) ≡ min 300 (a - (1800 - 1))
-fewer n a h k = omega arith
-
-pub years_over-ended : (n : ℕ) (end : Option ChangeTime) → 300 ≤ n → EndsByThen end → years_over n end ≡ years_over 300 end
-unfolding years_over
-years_over-ended n None late ended = absurd ended
-years_over-ended n (Some end) late ended = fewer n (nat_abs (year_number (end_year end))) late ended
 
 pub line_firings_over-ended : (n : ℕ) (line : Line) → 300 ≤ n → EndsByThen line.end → line_firings_over n line ≡ line_firings_over 300 line
 unfolding line_firings_over

@@ -11,8 +11,8 @@ use Rattle.zone_spans.specs.Years.{earliest_year}
 use Rattle.zone_spans.specs.declared.fault.SpanFault.{SpanFault}
 use Rattle.zone_spans.specs.declared.span.FixedTimespan.{FixedTimespan}
 use Rattle.zone_spans.specs.declared.span.FixedTimespanSet.{FixedTimespanSet}
-use Rattle.zone_cycle.specs.Cycle.{instant_on}
-use Rattle.zone_cycle.specs.GoesOn.{cycle_entries, last_of}
+use Rattle.zone_spans.specs.Cycle.{instant_on}
+use Rattle.zone_spans.specs.GoesOn.{cycle_entries, last_of}
 use Rattle.zone_cycle.specs.InForce.{has_come, span_at}
 
 -- the whole cycles from 1699-01-01 00:00:00 UTC to an instant in nanoseconds, so none before 2099

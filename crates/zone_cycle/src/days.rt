@@ -2,7 +2,7 @@
 ghost use Rattle.std.specs.Prelude.{◌≡◌, ℕ, ℤ, pos, ◌≤ℤ◌};
 ghost use Rattle.calendar.specs.Days.{day};
 ghost use Rattle.calendar.specs.Weekdays.{weekday_of};
-ghost use Rattle.zone_cycle.specs.Cycle.{days_on, next_cycle, seconds_on};
+ghost use Rattle.zone_spans.specs.Cycle.{days_on, next_cycle, seconds_on};
 ghost use Rattle.zone_table.specs.Moments.{moment};
 ghost use Rattle.zone_table.specs.declared.rule.RuleInfo.{RuleInfo};
 

@@ -6,9 +6,9 @@
 ghost use Rattle.std.specs.Prelude.{◌≡◌, ℕ, ◌≤◌, List, true, Ok, Some, ℤ, pos, ◌*ℤ◌, ◌<ℤ◌};
 ghost use Rattle.std.specs.List.{list_all};
 ghost use Rattle.std.specs.Option.{option_map_or};
-ghost use Rattle.zone_cycle.specs.Cycle.{instant_on};
+ghost use Rattle.zone_spans.specs.Cycle.{instant_on};
 ghost use Rattle.zone_cycle.specs.ForEver.{AreEnough, IsFrom2101, instants_on, is_before_cycle, span_for_ever, span_told, total_for_ever, years_for};
-ghost use Rattle.zone_cycle.specs.GoesOn.{GoesOn};
+ghost use Rattle.zone_spans.specs.GoesOn.{GoesOn};
 ghost use Rattle.zone_cycle.specs.InForce.{span_at};
 ghost use Rattle.zone_spans.specs.Bounds.{is_bounded_line};
 ghost use Rattle.zone_spans.specs.Compiled.{compiled, compiled_over};

@@ -1,7 +1,7 @@
 //! The schedule over a number of years, and rules that are settled by 2099.
 ghost use Rattle.std.specs.Prelude.{◌≡◌, ℕ, suc, ◌+◌, ◌≤◌, true, List, length, None, ℤ, pos, ◌≤ℤ◌};
-ghost use Rattle.zone_cycle.specs.Cycle.{fired_on, next_cycle};
-ghost use Rattle.zone_cycle.specs.Settled.{HaveClock, are_settled, lasting};
+ghost use Rattle.zone_spans.specs.Cycle.{fired_on, next_cycle};
+ghost use Rattle.zone_spans.specs.Settled.{HaveClock, are_settled, lasting};
 ghost use Rattle.zone_spans.specs.Compiled.{compiled, compiled_over};
 ghost use Rattle.zone_spans.specs.Firings.{firings_of_years, year_firings};
 ghost use Rattle.zone_spans.specs.Lines.{Rulesets};

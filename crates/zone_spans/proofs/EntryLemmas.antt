@@ -44,7 +44,7 @@ bounded_entry_of line f offset bounded =
     (both (is_small line.info.offset) _ (small_is line.info.offset offset)
     (small_is f.rule.time_to_add (second (is_small f.time) _ bounded)))
 
-bounded_map : (line : Line) (fs : List Firing) → IsTrue (are_small_seconds line.info.offset) → IsTrue (list_all is_bounded_firing fs)
+pub bounded_map : (line : Line) (fs : List Firing) → IsTrue (are_small_seconds line.info.offset) → IsTrue (list_all is_bounded_firing fs)
     → IsTrue (list_all is_bounded_entry (map (entry_of line) fs))
 bounded_map line [] offset bounded = refl
 bounded_map line (f ∷ fs) offset bounded =

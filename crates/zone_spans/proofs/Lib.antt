@@ -14,6 +14,7 @@ pub mod KeptLemmas
 pub mod ListingLemmas
 pub mod TestedLemmas
 pub mod CompiledLemmas
+pub mod GoesOnLemmas
 pub mod FiringRows
 mod SpanRows
 pub mod Picks

@@ -18,7 +18,7 @@ put_latest : (xs ys : List Entry) (n p i : ℕ) (e : Entry) → n ≡ p + 1 → 
 put_latest xs ys n p i e at put = ap (λ k. reverse (take k ys)) at ∙ ap reverse put.front ∙ reverse-append (take p xs) (e ∷ [])
 
 -- the kept list with its latest two written out
-two_latest : (xs : List Entry) (n p q : ℕ) (d : Entry) → n ≡ p + 1 → p ≡ q + 1 → p < length xs
+pub two_latest : (xs : List Entry) (n p q : ℕ) (d : Entry) → n ≡ p + 1 → p ≡ q + 1 → p < length xs
     → reverse (take n xs) ≡ get_or xs p d ∷ get_or xs q d ∷ reverse (take q xs)
 two_latest xs n p q d e f l = latest xs n p d e l ∙ ap (λ ks. get_or xs p d ∷ ks) (latest xs p q d f (omega arith))
 

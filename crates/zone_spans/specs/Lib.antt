@@ -11,8 +11,13 @@ pub mod FaultNames
 pub mod Compiled
 pub mod Bounds
 pub mod Schedules
+pub mod Cycle
+pub mod Settled
+pub mod Later
+pub mod GoesOn
 -- Laws: what a caller may use.
 pub mod ScheduleLaws
+pub mod LaterLaws
 -- Words of private clauses.
 pub mod Fires
 pub mod Fronts
@@ -25,3 +30,4 @@ pub mod Places
 pub mod Tested
 pub mod TestedFor
 pub mod Causes
+pub mod Cuts

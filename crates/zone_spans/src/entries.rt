@@ -64,7 +64,7 @@ fn fixed_span(alloc: Global, line: &Line<'_>) -> Result<FixedTimespan, AllocErro
 }
 
 /// Adds an entry for each of the firings.
-fn push_all(
+pub(crate) fn push_all(
     entries: &mut Entries,
     alloc: Global,
     line: &Line<'_>,
@@ -211,7 +211,7 @@ fn push_line<'a>(
 }
 
 /// Where the next line starts, after that saving.
-fn next_start(line: &Line<'_>, last_saving: i64) -> Option<i64>
+pub(crate) fn next_start(line: &Line<'_>, last_saving: i64) -> Option<i64>
     requires bounded { IsTrue (is_bounded_line line.now) }
     requires end { IsTrue (is_end line.now.end) }
     requires saving { IsTrue (are_small_seconds last_saving) }
@@ -225,7 +225,11 @@ fn next_start(line: &Line<'_>, last_saving: i64) -> Option<i64>
 }
 
 /// The entries of a zone over so many years, line by line.
-fn raw_entries<'a>(alloc: Global, lines: &[Line<'a>], most: u16) -> Result<Entries, AllocError>
+pub(crate) fn raw_entries<'a>(
+    alloc: Global,
+    lines: &[Line<'a>],
+    most: u16,
+) -> Result<Entries, AllocError>
     requires lines { All (IsSoundOver most) lines.now }
     requires most { most ≤ years_limit }
     ensures raw { IfOk result (λ entries. entries ≡ raw_entries_over most lines.now) }
@@ -267,7 +271,7 @@ pub(crate) fn sorted_entries(
 }
 
 /// Sorts by time. Entries of one time keep their order.
-fn sort(entries: &mut Entries) -> Result<(), AllocError>
+pub(crate) fn sort(entries: &mut Entries) -> Result<(), AllocError>
     requires { IsTrue (list_all is_bounded_entry entries.old) }
     ensures sorted { IfOk result (λ _. entries.new ≡ stable_sort is_sooner entries.old) }
     ensures bounded { IfOk result (λ _. IsTrue (list_all is_bounded_entry entries.new)) }
@@ -339,7 +343,7 @@ fn last_below<'f, 'a>(start: i64, fired: &'f [Firing<'a>]) -> Option<&'f Firing<
 }
 
 /// The first firing that ends a saving.
-fn first_standard_firing<'f, 'a>(fired: &'f [Firing<'a>]) -> Option<&'f Firing<'a>>
+pub(crate) fn first_standard_firing<'f, 'a>(fired: &'f [Firing<'a>]) -> Option<&'f Firing<'a>>
     ensures { option_copied result ≡ find (λ f. int_eq f.rule.time_to_add (pos 0)) fired.now }
 {
     fired.iter().find(|firing| firing.is_standard())

@@ -232,7 +232,7 @@ impl<'a> Tested<'a> {
     }
 
     /// Whether the day of a rule lies in another year, in one of so many years from the earliest on.
-    fn leaves_year(&mut self, years: u16) -> bool
+    pub(crate) fn leaves_year(&mut self, years: u16) -> bool
         requires bounded { IsTrue (list_all is_bounded_rule self.old.rules.now) }
         requires years { IsTrue (list_all has_years self.old.rules.now) }
         requires most { years ≤ years_limit }

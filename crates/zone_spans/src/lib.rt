@@ -6,9 +6,11 @@
 mod entries;
 mod fault;
 mod front;
+mod goes_on;
 mod kept;
 mod span;
 mod transitions;
+mod turns;
 mod year;
 
 pub use fault::SpanFault;

@@ -89,7 +89,7 @@ fn is_small(number: i64) -> bool
     -GREATEST_SECOND <= number && number <= GREATEST_SECOND
 }
 
-fn is_same_span(a: &FixedTimespan, b: &FixedTimespan) -> bool
+pub(crate) fn is_same_span(a: &FixedTimespan, b: &FixedTimespan) -> bool
     ensures { result ≡ is_same_span a.now b.now }
 {
     a.utc_offset == b.utc_offset && a.dst_offset == b.dst_offset && a.name == b.name
@@ -105,7 +105,7 @@ fn local_time(entry: &(i64, FixedTimespan), before: &(i64, FixedTimespan)) -> i6
 }
 
 /// Whether the entry comes no later by its local time than `last`, which began when `before` was in force.
-fn is_no_later(
+pub(crate) fn is_no_later(
     entry: &(i64, FixedTimespan),
     last: &(i64, FixedTimespan),
     before: &(i64, FixedTimespan),
@@ -164,7 +164,7 @@ fn step(rest: &mut Entries, kept: usize, from: usize) -> usize
 }
 
 /// Leaves of the entries what the collapse keeps.
-fn keep_kept(rest: &mut Entries)
+pub(crate) fn keep_kept(rest: &mut Entries)
     requires { IsTrue (list_all is_bounded_entry rest.old) }
     ensures kept { rest.new ≡ reverse (kept_of [] rest.old) }
     ensures bounded { IsTrue (list_all is_bounded_entry rest.new) }

@@ -1,5 +1,5 @@
 //! The spans of a table's zones, line by line.
-ghost use Rattle.std.specs.Prelude.{◌≡◌, ◌≤◌, ℕ, All, IfErr, IfOk, IfSome, IsTrue, List, Ok, Option, Some, None, find, option_map, ◌<◌, drop, false, length, not};
+ghost use Rattle.std.specs.Prelude.{◌≡◌, ◌≤◌, ℕ, All, IfErr, IfOk, IfSome, IsTrue, List, Ok, Option, Some, None, find, option_map, ◌<◌, drop, false, length, not, true};
 ghost use Rattle.std.specs.FinMap.{get};
 ghost use Rattle.std.specs.List.{list_all, list_any};
 ghost use Rattle.zone_table.specs.BoundedTables.{IsBoundedTable};
@@ -11,12 +11,14 @@ ghost use Rattle.zone_spans.specs.Causes.{IsDue, IsUnknown};
 ghost use Rattle.zone_spans.specs.Collapse.{LocalEndsRise, EntryTimesDontFall};
 ghost use Rattle.zone_spans.specs.Compiled.{TellsCompiled, compiled, compiled_over, set_of_lines_over};
 ghost use Rattle.zone_spans.specs.Entries.{first_span, is_standard};
+ghost use Rattle.zone_spans.specs.GoesOn.{TellsGoing, goes_on};
 ghost use Rattle.zone_spans.specs.Lines.{Rulesets, end_before, fixed_saving, is_known, is_ruled, rules_named, zone_lines};
 ghost use Rattle.zone_spans.specs.Years.{years_limit};
 ghost use Rattle.zone_spans.specs.Faults.{is_unknown};
 
 use crate::entries::{first_span, sorted_entries};
 use crate::fault::{SpanFault, line_fault};
+use crate::goes_on::goes_on;
 use crate::span::{FixedTimespanSet, collapse};
 use crate::year::MOST_YEARS;
 use owned::Items;
@@ -80,6 +82,18 @@ pub trait TableTransitions {
         ensures bounded { IfOk result (λ found. IfSome found (λ set. IsTrue (is_bounded set))) }
         ensures times { IfOk result (λ found. IfSome found (λ set. EntryTimesDontFall set.rest)) }
         ensures law { IfOk result (λ found. IfSome found (λ set. LocalEndsRise set.rest)) };
+
+    /// Whether the zone that a name finds goes on for ever, or none where it finds none: its rules of 2100 are those of each later
+    /// year, so what it shows from 2101 on repeats after 400 years. The cost is that of expanding its lines over 700 years.
+    ///
+    /// # Errors
+    ///
+    /// As of `timespans`, but that `NoStandardSpan` is not looked for.
+    fn goes_on(&self, alloc: Global, zone_name: &str) -> Result<Option<bool>, SpanFault>
+        requires { IsBounded self.now }
+        ensures told { TellsGoing result (rulesets self.now) (zones self.now zone_name.now) }
+        ensures bounded { IfOk result (λ _. (infos : List ZoneInfo) → zones self.now zone_name.now ≡ Some infos
+            → list_all is_bounded_line (zone_lines (rulesets self.now) infos) ≡ true) };
 }
 
 impl TableTransitions for Table {
@@ -111,10 +125,50 @@ impl TableTransitions for Table {
             None => Ok(None),
         }
     }
+
+    fn goes_on(&self, alloc: Global, zone_name: &str) -> Result<Option<bool>, SpanFault> {
+        match self.get_zoneset(zone_name) {
+            Some(lines) => match going(alloc, self, lines) {
+                Ok(goes) => Ok(Some(goes)),
+                Err(fault) => Err(fault),
+            },
+            None => Ok(None),
+        }
+    }
+}
+
+/// The lines of a zone, where none of them has a fault of its own over so many years.
+///
+/// # Errors
+///
+/// The first fault, but for the one that no entry has no saving.
+#[tactic(auto, unfolding(crate::specs::Compiled::compiled_over))]
+fn sound_lines<'a>(
+    alloc: Global,
+    table: &'a Table,
+    infos: &'a [ZoneInfo],
+    years: u16,
+) -> Result<Items<Line<'a>>, SpanFault>
+    requires years { years ≤ years_limit }
+    requires table { IsBoundedTable table.now }
+    requires lines { IsTrue (list_all is_bounded_info infos.now) }
+    ensures lines { IfOk result (λ lines. lines ≡ zone_lines (get table.now.rulesets) infos.now) }
+    ensures bounded { IfOk result (λ lines. IsTrue (list_all is_bounded_line lines)) }
+    ensures sound { IfOk result (λ lines. All (IsSoundOver years) lines) }
+    ensures due { IfOk result (λ lines. compiled_over years (get table.now.rulesets) infos.now ≡ set_of_lines_over years lines) }
+    ensures err { IfErr result (λ fault. IsDue fault (compiled_over years (get table.now.rulesets) infos.now)) }
+{
+    match zone_lines(alloc, table, infos) {
+        Ok(lines) => match line_fault(alloc, infos, lines.as_slice(), years) {
+            Ok(Some(fault)) => Err(fault),
+            Ok(None) => Ok(lines),
+            Err(refused) => Err(SpanFault::from(refused)),
+        },
+        Err(fault) => Err(fault),
+    }
 }
 
 /// The spans of a zone with these lines over so many years.
-#[tactic(auto, unfolding(crate::specs::Compiled::compiled_over))]
 fn compile(
     alloc: Global,
     table: &Table,
@@ -130,14 +184,22 @@ fn compile(
     ensures times { IfOk result (λ set. EntryTimesDontFall set.rest) }
     ensures law { IfOk result (λ set. LocalEndsRise set.rest) }
 {
-    match zone_lines(alloc, table, infos) {
-        Ok(lines) => match line_fault(alloc, infos, lines.as_slice(), years) {
-            Ok(Some(fault)) => Err(fault),
-            Ok(None) => expand(alloc, lines.as_slice(), years),
-            Err(refused) => Err(SpanFault::from(refused)),
-        },
-        Err(fault) => Err(fault),
-    }
+    let lines = sound_lines(alloc, table, infos, years)?;
+    let set = expand(alloc, lines.as_slice(), years)?;
+    Ok(set)
+}
+
+/// Whether a zone with these lines goes on for ever.
+fn going(alloc: Global, table: &Table, infos: &[ZoneInfo]) -> Result<bool, SpanFault>
+    requires table { IsBoundedTable table.now }
+    requires lines { IsTrue (list_all is_bounded_info infos.now) }
+    ensures ok { IfOk result (λ goes. goes ≡ goes_on (zone_lines (get table.now.rulesets) infos.now)) }
+    ensures err { IfErr result (λ fault. IsDue fault (compiled (get table.now.rulesets) infos.now)) }
+    ensures bounded { IfOk result (λ _. IsTrue (list_all is_bounded_line (zone_lines (get table.now.rulesets) infos.now))) }
+{
+    let lines = sound_lines(alloc, table, infos, MOST_YEARS)?;
+    let goes = goes_on(alloc, lines.as_slice())?;
+    Ok(goes)
 }
 
 /// The spans of lines that have no fault of their own over so many years.

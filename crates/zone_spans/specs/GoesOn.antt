@@ -1,5 +1,5 @@
 -- A zone goes on for ever where its rules do: what is tested of its lines, over one cycle of 400 years from 2100 on.
-use Rattle.std.specs.Prelude.{◌≡◌, ℕ, nat_lt, nat_abs, Bool, true, false, not, ◌&&◌, ◌||◌, List, [], ◌∷◌, ◌++◌, find, Option, Some, None, is_some, is_none, ℤ, pos, int_lt}
+use Rattle.std.specs.Prelude.{◌≡◌, ℕ, nat_lt, nat_abs, Bool, true, false, not, ◌&&◌, ◌||◌, List, [], ◌∷◌, ◌++◌, find, Option, Some, None, option_map, Result, Ok, Err, is_some, is_none, ℤ, pos, int_lt}
 use Rattle.std.specs.List.{list_all, list_any}
 use Rattle.std.specs.Option.{option_map_or}
 use Rattle.std.specs.Ordering.{int_eq}
@@ -8,12 +8,15 @@ use Rattle.zone_values.specs.declared.change.ChangeTime.{ChangeTime}
 use Rattle.zone_table.specs.declared.rule.RuleInfo.{RuleInfo}
 use Rattle.zone_table.specs.declared.zone.ZoneInfo.{ZoneInfo}
 use Rattle.zone_spans.specs.Collapse.{is_no_later, is_same_span, kept_of}
+use Rattle.zone_spans.specs.Compiled.{compiled}
 use Rattle.zone_spans.specs.Entries.{Entry, is_sooner, entries_from_over, sorted_entries_over}
 use Rattle.zone_spans.specs.Faults.{is_outside, some_year}
 use Rattle.zone_spans.specs.Lines.{Line, Rulesets, is_ruled, zone_lines}
-use Rattle.zone_cycle.specs.Cycle.{seconds_on}
-use Rattle.zone_cycle.specs.Later.{first_fired, later_entries, start_after}
-use Rattle.zone_cycle.specs.Settled.{are_settled, is_lasting}
+use Rattle.zone_spans.specs.Cycle.{seconds_on}
+use Rattle.zone_spans.specs.Later.{first_fired, later_entries, start_after}
+use Rattle.zone_spans.specs.Settled.{are_settled, is_lasting}
+use Rattle.zone_spans.specs.declared.fault.SpanFault.{SpanFault}
+use Rattle.zone_spans.specs.declared.fault.SpanFault.TheVariants.{NoMemory}
 
 -- the lines but the last
 unfoldable pub front_of : List Line → List Line
@@ -92,20 +95,32 @@ turns front last =
     && are_cycle_later (kept_over 700 lines) (kept_over 300 lines)
     && is_apart (kept_over 300 lines) (cycle_entries last)
 
--- of a last line with those in front of it
-unfoldable pub last_goes_on : List Line → Line → Bool
-last_goes_on front last =
+-- each line but the last ends in 2099 or before, and the last has no end; each of its rules begins in 2099 or before, ends there
+-- or never, and stays in its year
+abbrev pub has_settled_lines : List Line → Line → Bool
+has_settled_lines front last =
     list_all (λ line. ends_by_then line.end) front
     && is_none last.end && is_none last.info.end_time
     && are_settled last.rules && not (some_leaves last.rules)
+
+-- so they are, nothing from before 2100 comes after that year, and the last is still or turns
+unfoldable pub last_goes_on : List Line → Line → Bool
+last_goes_on front last =
+    has_settled_lines front last
     && list_all is_before_2101 (entries_from_over 300 None (front ++ (last ∷ [])))
     && (is_still last || turns front last)
 
--- each line but the last ends in 2099 or before, and the last has no end; each of its rules begins in 2099 or before, ends there
--- or never, and stays in its year; and the line is still, or turns
+-- of a zone's lines
 unfoldable pub goes_on : List Line → Bool
 goes_on lines = option_map_or (last_goes_on (front_of lines)) (last_of lines) false
 
 -- of a zone
 abbrev pub GoesOn : Rulesets → List ZoneInfo → Type 0
 GoesOn rulesets infos = goes_on (zone_lines rulesets infos) ≡ true
+
+-- a call's answer beside a zone's lines, where a name finds some; want of memory may come in place of any
+abbrev pub TellsGoing : Result (Option Bool) SpanFault → Rulesets → Option (List ZoneInfo) → Type 0
+TellsGoing (Err NoMemory) rulesets found = Unit {0}
+TellsGoing (Err fault) rulesets found = option_map (compiled rulesets) found ≡ Some (Err fault)
+TellsGoing (Ok None) rulesets found = found ≡ None
+TellsGoing (Ok (Some goes)) rulesets found = option_map (λ infos. goes_on (zone_lines rulesets infos)) found ≡ Some goes

@@ -1,0 +1,73 @@
+-- What a name finds in a table for ever, and why it finds nothing.
+use Rattle.std.specs.Prelude.{◌≡◌, ℕ, List, Option, Some, true, false, Ok, ℤ}
+use Rattle.std.specs.List.{list_all}
+use Rattle.std.specs.FinMap.{get}
+use Rattle.zone_table.specs.Resolved.{resolved_in}
+use Rattle.zone_table.specs.declared.table.Table.{Table}
+use Rattle.zone_table.specs.declared.zone.ZoneInfo.{ZoneInfo}
+use Rattle.zone_spans.specs.Bounds.{is_bounded_line}
+use Rattle.zone_spans.specs.Compiled.{compiled}
+use Rattle.zone_spans.specs.GoesOn.{GoesOn, goes_on}
+use Rattle.zone_spans.specs.Lines.{zone_lines}
+use Rattle.zone_spans.specs.Schedules.{is_in_offset_range, totals_of}
+use Rattle.zone_spans.specs.declared.span.FixedTimespanSet as spans
+use Rattle.zone_cycle.specs.ForEver.{span_for_ever, total_for_ever}
+use Rattle.tz_zone.specs.Compiles.{IsTooFar, IsZoneFault, compiled_in, compiled_in_over}
+use Rattle.tz_zone.specs.declared.compile.ZoneFault.{ZoneFault}
+use Rattle.tz_zone.specs.declared.compile.ZoneFault.TheVariants as zone_fault
+use Rattle.tz_zone.specs.declared.set.FixedTimespanSet.{FixedTimespanSet}
+use Rattle.tz_ever.specs.Ever.{ever_span, ever_total}
+use Rattle.tz_ever.specs.ForEver.{IsForEver, ever_years}
+use Rattle.tz_ever.specs.declared.open.EverFault.{EverFault}
+use Rattle.tz_ever.specs.declared.open.EverFault.TheVariants.{LaterOffset, RulesEnd, Zone}
+
+-- a name finds a zone with these lines, which has a schedule today whose totals are offsets
+pub record IsZoneToday (table : Table) (name : List ℕ) : Type 0 where
+  pub infos : List ZoneInfo
+  pub is_found : resolved_in table name ≡ Some infos
+  pub today : spans.FixedTimespanSet
+  pub compiles : compiled (get table.rulesets) infos ≡ Ok today
+  pub range : is_in_offset_range (totals_of today) ≡ true
+
+-- so it does, and the zone goes on
+pub record IsGoing (table : Table) (name : List ℕ) : Type 0 where
+  pub zone : IsZoneToday table name
+  pub goes_on : GoesOn (get table.rulesets) zone.infos
+  pub bounded : list_all is_bounded_line (zone_lines (get table.rulesets) zone.infos) ≡ true
+
+-- so it does, and the zone doesn't go on
+pub record DoesNotGoOn (table : Table) (name : List ℕ) : Type 0 where
+  pub zone : IsZoneToday table name
+  pub ends : goes_on (zone_lines (get table.rulesets) zone.infos) ≡ false
+
+-- the zone goes on, and has a greater offset over 704 years
+pub record IsTooFarLater (table : Table) (name : List ℕ) : Type 0 where
+  pub zone : IsGoing table name
+  pub far : IsTooFar (compiled_in_over ever_years table name)
+
+-- why a name has no zone for ever; want of memory may come in place of any
+abbrev pub IsEverFault : Table → List ℕ → EverFault → Type 0
+IsEverFault table name (Zone fault) = IsZoneFault (compiled_in table name) fault
+IsEverFault table name RulesEnd = DoesNotGoOn table name
+IsEverFault table name LaterOffset = IsTooFarLater table name
+
+-- a set says all that the zone of a name shows for ever, at each instant in nanoseconds: the total, and the span with its
+-- abbreviation and its saving
+pub record IsFoundForEver (table : Table) (name : List ℕ) (set : FixedTimespanSet) : Type 0 where
+  pub infos : List ZoneInfo
+  pub is_found : resolved_in table name ≡ Some infos
+  pub named : set.name ≡ name
+  pub zone : IsForEver (get table.rulesets) infos set
+  pub total : (t : ℤ) → ever_total set t ≡ total_for_ever (get table.rulesets) infos t
+  pub span : (t : ℤ) → Some (ever_span set t) ≡ span_for_ever (get table.rulesets) infos t
+
+-- a fault of a zone over 704 years that has none over 300
+abbrev pub IsLater : ZoneFault → Type 0
+IsLater zone_fault.UnknownZone = ⊥
+IsLater (zone_fault.Schedule fault) = ⊥
+IsLater zone_fault.OffsetRange = Unit {0}
+IsLater zone_fault.NoMemory = Unit {0}
+
+abbrev pub fault_later : ZoneFault → EverFault
+fault_later zone_fault.OffsetRange = LaterOffset
+fault_later fault = Zone fault

@@ -1,0 +1,135 @@
+//! A zone of a table, opened for ever.
+ghost use Rattle.std.specs.Prelude.{◌≡◌, IfErr, IfOk};
+ghost use Rattle.tz_zone.specs.Sets.{IsAccepted, schedule_of};
+ghost use Rattle.tz_ever.specs.Opens.{IsEverFault, IsFoundForEver, IsGoing, IsLater, fault_later, IsZoneToday};
+ghost use Rattle.tz_lookup.specs.declared.compact_set.CompactFault.TheVariants as compact_fault;
+ghost use Rattle.tz_zone.specs.declared.compile.ZoneFault.TheVariants.{NoMemory};
+ghost use Rattle.tz_ever.specs.declared.open.EverFault.TheVariants.{Zone};
+ghost use Rattle.zone_spans.specs.declared.fault.SpanFault.TheVariants as span_fault;
+ghost use Rattle.zone_table.specs.BoundedTables.{IsBoundedTable};
+
+use crate::ever_set::{EVER_YEARS, EverSet};
+use crate::laws;
+use std::alloc::Global;
+use tz_lookup::{CompactFault, FixedTimespanSet};
+use tz_zone::{ZoneFault, compile_zone, compile_zone_over};
+use zone_cycle::for_ever;
+use zone_spans::{SpanFault, TableTransitions};
+use zone_table::Table;
+
+/// Why a name has no zone for ever.
+#[derive(Clone, Copy, Debug, PartialEq, Eq)]
+pub enum EverFault {
+    /// As of [`compile_zone`]: no zone, no schedule, an offset of 26 hours or more before 2100, or no memory.
+    Zone(ZoneFault),
+    /// The zone doesn't go on: its last line has an end, another line or a rule of the last one begins or ends after 2099, a rule's day
+    /// leaves its year, or what the rules do doesn't come again after 400 years.
+    RulesEnd,
+    /// Some span from 2100 on has an offset of 26 hours or more in size, and none before it.
+    LaterOffset,
+}
+
+impl EverSet {
+    ghost use Rattle.std.specs.Prelude.{IfErr, IfOk};
+    ghost use Rattle.zone_table.specs.BoundedTables.{IsBoundedTable};
+    ghost use Rattle.tz_ever.specs.EverShown.{ever_seen};
+    ghost use Rattle.tz_ever.specs.Opens.{IsEverFault, IsFoundForEver};
+
+    /// The zone that a name finds in a table, for ever: what its lines show at any instant, expanded over as many years as the
+    /// instant asks for. The table is bounded. The cost is that of expanding the lines over some 2,400 years.
+    ///
+    /// # Errors
+    ///
+    /// In this order: those of [`compile_zone`]; `RulesEnd` exactly where the zone doesn't go on; `LaterOffset` exactly where some
+    /// span of the years from 2100 on has an offset of 26 hours or more in size.
+    pub fn open(alloc: Global, table: &Table, name: &str) -> Result<EverSet, EverFault>
+        requires { IsBoundedTable table.now }
+        ensures ok { IfOk result (λ ever. IsFoundForEver table.now name.now (ever_seen ever)) }
+        ensures err { IfErr result (IsEverFault table.now name.now) }
+    {
+        test_today(alloc, table, name)?;
+        test_going(alloc, table, name)?;
+        let set = later_set(alloc, table, name)?;
+        laws::repeats_at_the_seam();
+        match EverSet::build(alloc, &set) {
+            Ok(ever) => Ok(ever),
+            Err(fault) => Err(no_room(fault)),
+        }
+    }
+}
+
+/// Whether the zone has a schedule today.
+fn test_today(alloc: Global, table: &Table, name: &str) -> Result<(), EverFault>
+    requires { IsBoundedTable table.now }
+    ensures ok { IfOk result (λ _. IsZoneToday table.now name.now) }
+    ensures err { IfErr result (IsEverFault table.now name.now) }
+{
+    let today = match compile_zone(alloc, table, name) {
+        Ok(today) => today,
+        Err(fault) => return Err(EverFault::Zone(fault)),
+    };
+    drop(today);
+    Ok(())
+}
+
+/// Whether such a zone goes on.
+fn test_going(alloc: Global, table: &Table, name: &str) -> Result<(), EverFault>
+    requires table { IsBoundedTable table.now }
+    requires today { IsZoneToday table.now name.now }
+    ensures ok { IfOk result (λ _. IsGoing table.now name.now) }
+    ensures err { IfErr result (IsEverFault table.now name.now) }
+{
+    match table.goes_on(alloc, name) {
+        Ok(Some(true)) => Ok(()),
+        Ok(Some(false)) => Err(EverFault::RulesEnd),
+        Ok(None) => unreachable!(),
+        Err(fault) => Err(no_memory(fault)),
+    }
+}
+
+fn no_memory(fault: SpanFault) -> EverFault
+    requires { fault ≡ span_fault.NoMemory }
+    ensures { result ≡ Zone NoMemory }
+{
+    let _ = fault;
+    EverFault::Zone(ZoneFault::NoMemory)
+}
+
+/// The spans over 704 years of a zone that goes on.
+fn later_set(alloc: Global, table: &Table, name: &str) -> Result<FixedTimespanSet, EverFault>
+    requires table { IsBoundedTable table.now }
+    requires going { IsGoing table.now name.now }
+    ensures ok { IfOk result (IsFoundForEver table.now name.now) }
+    ensures accepted { IfOk result (λ set. IsAccepted (schedule_of set)) }
+    ensures err { IfErr result (IsEverFault table.now name.now) }
+{
+    for_ever::before_2100();
+    for_ever::as_before();
+    for_ever::shows_over_enough_years();
+    laws::shows_for_ever();
+    match compile_zone_over(alloc, table, name, EVER_YEARS) {
+        Ok(set) => Ok(set),
+        Err(fault) => Err(later_fault(fault)),
+    }
+}
+
+/// What a fault of the later years is.
+fn later_fault(fault: ZoneFault) -> EverFault
+    requires { IsLater fault }
+    ensures { result ≡ fault_later fault }
+{
+    match fault {
+        ZoneFault::OffsetRange => EverFault::LaterOffset,
+        ZoneFault::NoMemory => EverFault::Zone(ZoneFault::NoMemory),
+        ZoneFault::UnknownZone => unreachable!(),
+        ZoneFault::Schedule(_) => unreachable!(),
+    }
+}
+
+fn no_room(fault: CompactFault) -> EverFault
+    requires { fault ≡ compact_fault.NoMemory }
+    ensures { result ≡ Zone NoMemory }
+{
+    let _ = fault;
+    EverFault::Zone(ZoneFault::NoMemory)
+}
