@@ -1,0 +1,2 @@
+mod EverLemmas
+mod EverRows

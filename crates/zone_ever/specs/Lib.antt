@@ -1,0 +1,7 @@
+-- Definitions: what public clauses say.
+pub mod Readings
+pub mod Words
+pub mod Ends
+pub mod Starts
+-- Words of private clauses.
+pub mod Refused

@@ -1,0 +1,12 @@
+-- Why a zone can't be asked for ever.
+use Rattle.std.specs.Prelude.{◌≡◌, ℕ}
+use Rattle.tz_ever.specs.declared.open.EverFault.{EverFault}
+use Rattle.tz_ever.specs.declared.open.EverFault.TheVariants.{Zone, RulesEnd, LaterOffset}
+use Rattle.zone_answers.specs.Told.{RefusesZone}
+use Rattle.zone_answers.specs.declared.error.AnswerError.{AnswerError}
+use Rattle.zone_answers.specs.declared.error.AnswerError.TheVariants as error
+
+abbrev pub RefusesEver : ℕ → EverFault → AnswerError → Type 0
+RefusesEver n (Zone fault) e = RefusesZone n fault e
+RefusesEver n RulesEnd e = e ≡ error.RulesEnd n
+RefusesEver n LaterOffset e = e ≡ error.OffsetRange n
