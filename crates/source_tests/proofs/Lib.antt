@@ -1,2 +1,1 @@
 pub mod AgreedLemmas
-pub mod SteadyLemmas

@@ -1,24 +1,24 @@
 //! The happy path of public calls that nothing else names. Values are those of the calendar, of the tz database for New York, and of
 //! Python's `zoneinfo`.
 ghost use Rattle.std.specs.Prelude.{◌≡◌, ◌<◌};
-ghost use Rattle.tz_ever.specs.Ever.{IsRepeating};
+ghost use Rattle.zone_table.specs.BoundedTables.{IsBoundedTable};
 
-use crate::checks::same;
+use crate::checks::{same, same_at};
 use crate::fixtures::{NEW_YORK, at, database_of, parser, table_of};
+use crate::rows::{field, number};
 use civil_base::{OffsetDateTime, PlainDateTime, UtcOffset, read_local, read_zoned};
-use owned::{Items, Text};
 use std::alloc::Global;
 use std::marker::Brand;
 use std::process::Abort;
 use std::sync::ledger::{Blank, Ledger};
-use tz_ever::{EverSet, EverTz};
+use tz_ever::{EverFault, EverSet, EverTz};
 use tz_lookup::{
-    CompactTz, FixedTimespanSet, Offset, OffsetDateTimeExt, OffsetResult, PrimitiveDateTimeExt,
-    Steps, TimeZone, Tz,
+    CompactTz, Offset, OffsetDateTimeExt, OffsetResult, PrimitiveDateTimeExt, Steps, TimeZone, Tz,
 };
 use tz_posix::{Date, PosixTz, Time};
+use tz_zone::ZoneFault;
 use zone_answers::open_zone;
-use zone_spans::FixedTimespan;
+use zone_table::Table;
 use zone_tail_core::laws::both_offsets;
 use zone_uses::{Moved, next_change, zone_of_source};
 use zone_values::{DaySpec, Month, Weekday, Year};
@@ -168,31 +168,81 @@ fn callers_answer(rt: HostRuntime) {
     same(&rt, &at(&rt, 0).to_timezone(&moved), &first);
 }
 
-/// The spans of a zone without changes.
-fn steady(rt: &impl Abort, alloc: Global) -> FixedTimespanSet
-    ensures { IsRepeating result }
+/// Zones that go on: New York's last line, a still one, and one whose saving alternates from year to year. Others that don't: a rule of
+/// them begins in 2100 or ends in 2200, or their last line has an end. And one that has an offset of 26 hours from 2100 on, since each
+/// second rule of March hides the first in 2099.
+const FOR_EVER: &[u8] = b"\
+Rule US 2007 max - Mar Sun>=8 2:00 1:00 D
+Rule US 2007 max - Nov Sun>=1 2:00 0 S
+Zone Made/York -5:00 US E%sT
+Zone Made/Still 5:30 - IST
+Rule Cross 2098 max - Mar 1 2:00 1:00 -
+Rule Cross 2098 max - Mar 1 1:30u 0 -
+Zone Made/Cross 0:00 - GMT 2098
+ 0:00 Cross GMT
+Rule Late 2000 only - Oct 1 2:00 0 -
+Rule Late 2100 max - Mar 1 2:00 1:00 -
+Zone Made/Late 0:00 Late GMT
+Rule Long 2000 2200 - Mar 1 2:00 1:00 -
+Rule Long 2000 2200 - Oct 1 2:00 0 -
+Zone Made/Long 0:00 Long GMT
+Zone Made/Ended 0:00 - GMT 2000
+Rule Far 2000 max - Jul 1 0:00u 1:00 -
+Rule Far 2000 max - Oct 1 0:00u 0 -
+Rule Far 2099 max - Mar 1 0:00u -29:00 -
+Rule Far 2099 max - Mar Sun>=1 0:00u 0 -
+Zone Made/Far 3:00 Far FAR
+";
+
+/// The offset of a zone in force at a second, or why it has none for ever.
+fn offset_for_ever(
+    alloc: Global,
+    table: &Table,
+    name: &str,
+    at: &OffsetDateTime,
+) -> Result<i64, EverFault>
+    requires { IsBoundedTable table.now }
 {
-    let name = Text::new(alloc, "Asia/Kolkata").expect(rt, "memory");
-    let first = FixedTimespan {
-        utc_offset: 19_800,
-        dst_offset: 0,
-        name: Text::new(alloc, "IST").expect(rt, "memory"),
-    };
-    FixedTimespanSet {
-        name,
-        first,
-        others: Items::new(alloc),
+    match EverSet::open(alloc, table, name) {
+        Ok(ever) => {
+            let offset = EverTz::new(&ever).get_offset_utc(at).to_utc();
+            Ok(i64::from(offset.whole_seconds()))
+        }
+        Err(fault) => Err(fault),
+    }
+}
+
+/// At both sides of a change in the year 9999 and in 2151: a name, a second, and the offset from it on.
+const OFFSETS: &str = "\
+Made/York 253377010799 -18000
+Made/York 253377010800 -14400
+Made/Still 253377010800 19800
+Made/Cross 5716920599 3600
+Made/Cross 5716920600 0";
+
+#[test]
+fn zones_are_opened_for_ever(rt: HostRuntime) {
+    let alloc = rt.alloc();
+    let table = table_of(&rt, alloc, FOR_EVER);
+    for row in OFFSETS.lines() {
+        let mut fields = row.split(' ');
+        let name = field(&rt, &mut fields);
+        let second = at(&rt, number(&rt, &mut fields));
+        let offset = offset_for_ever(alloc, &table, name, &second);
+        same_at(&rt, row, &offset, &Ok(number(&rt, &mut fields)));
     }
 }
 
 #[test]
-fn a_zone_without_changes_goes_on_for_ever(rt: HostRuntime) {
-    let set = steady(&rt, rt.alloc());
-    let Ok(ever) = EverSet::build(rt.alloc(), &set) else {
-        panic!(&rt; "no memory");
-    };
-    let offset = EverTz::new(&ever)
-        .get_offset_utc(&at(&rt, 100_000_000_000))
-        .to_utc();
-    same(&rt, &offset.whole_seconds(), &19_800);
+fn other_zones_are_refused(rt: HostRuntime) {
+    let alloc = rt.alloc();
+    let table = table_of(&rt, alloc, FOR_EVER);
+    for name in "Made/Late Made/Long Made/Ended".split(' ') {
+        let ends = offset_for_ever(alloc, &table, name, &at(&rt, 0));
+        same_at(&rt, name, &ends, &Err(EverFault::RulesEnd));
+    }
+    let far = offset_for_ever(alloc, &table, "Made/Far", &at(&rt, 0));
+    same(&rt, &far, &Err(EverFault::LaterOffset));
+    let unknown = offset_for_ever(alloc, &table, "Made/None", &at(&rt, 0));
+    same(&rt, &unknown, &Err(EverFault::Zone(ZoneFault::UnknownZone)));
 }
