@@ -1,6 +1,5 @@
-pub mod WindowLemmas
+pub mod StepLemmas
 pub mod ColumnLemmas
 pub mod WidthLemmas
-pub mod RangeLemmas
 pub mod ListRows
 pub mod WindowLaws

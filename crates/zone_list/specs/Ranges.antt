@@ -2,7 +2,7 @@
 use Rattle.std.specs.Prelude.{Bool, ◌&&◌, List}
 use Rattle.std.specs.List.{list_all}
 use Rattle.civil_base.specs.Instants.{local_at, nanos_of}
-use Rattle.civil_base.specs.Ranges.{is_in_years, is_offset}
+use Rattle.civil_base.specs.Ranges.{is_in_years}
 use Rattle.zone_spans.specs.Entries.{Entry, total}
 
 -- the UTC date of the entry's time and its local date at its own total lie in the years -9999 to 9999
@@ -11,7 +11,3 @@ has_dates entry = is_in_years (nanos_of entry.0) && is_in_years (local_at (nanos
 
 abbrev pub all_have_dates : List Entry → Bool
 all_have_dates entries = list_all has_dates entries
-
--- each total is less than 26 hours in size
-abbrev pub all_have_offsets : List Entry → Bool
-all_have_offsets entries = list_all (λ entry. is_offset (total entry.1)) entries

@@ -8,7 +8,7 @@ mod row_text;
 mod widths;
 mod window;
 
-pub use listing::{ListFault, Listing, list_lines};
+pub use listing::{ListFault, Listing, lines_of, list_lines};
 pub use program::{run_list, start_list};
 pub use zone_run::{
     Failed, FileShelf, MemShelf, MemSink, Shelf, Sink, Source, Started, Status, StdSink, SureShelf,

@@ -1,16 +1,16 @@
 //! The rows of a window.
-ghost use Rattle.std.specs.Prelude.{◌≡◌, IfOk, IsErrOf, IsTrue, OnOk, true, false};
+ghost use Rattle.std.specs.Prelude.{◌≡◌, ◌<◌, [], ◌∷◌, ◌++◌, IfOk, IsErrOf, OnOk, length, true, false};
 ghost use Rattle.tz_zone.specs.Sets.{schedule_of, IsAccepted};
-ghost use Rattle.zone_list.specs.Ranges.{all_have_dates, all_have_offsets};
-ghost use Rattle.zone_list.specs.Rows.{rows};
-ghost use Rattle.zone_list.specs.Windows.{window};
+ghost use Rattle.zone_list.specs.Ranges.{all_have_dates, has_dates};
+ghost use Rattle.zone_list.specs.Rows.{row, rows};
+ghost use Rattle.zone_list.specs.Windows.{entry_at, window};
 
-use crate::row::{date_time_of, write_row};
+use crate::row::{date_time_at, write_row};
 use crate::row_text::RowText;
 use crate::widths::Widths;
-use crate::window::window;
+use crate::window::{Window, is_within};
 use std::alloc::{AllocError, Global};
-use tz_lookup::{FixedTimespan, FixedTimespanSet};
+use tz_lookup::{FixedTimespanSet, SpanTable};
 pub use zone_source::LineList as Listing;
 
 /// Why a window is not listed.
@@ -54,25 +54,75 @@ pub fn list_lines(
     ensures lines { IfOk result (λ listing. listing ≡ rows (window set.now from to)) }
     ensures range { IsErrOf result ListFault.Range → all_have_dates (window set.now from to) ≡ false }
 {
-    list_entries(alloc, window(set, from, to))
+    match lines_of(alloc, set, from, to) {
+        Ok(listing) => Ok(listing),
+        Err(fault) => Err(fault),
+    }
 }
 
-/// The rows of these entries, each of which has an offset.
-fn list_entries(alloc: Global, entries: &[(i64, FixedTimespan)]) -> Result<Listing, ListFault>
-    requires { IsTrue (all_have_offsets entries.now) }
-    ensures ok { OnOk result (all_have_dates entries.now ≡ true) }
-    ensures lines { IfOk result (λ listing. listing ≡ rows entries.now) }
-    ensures range { IsErrOf result ListFault.Range → all_have_dates entries.now ≡ false }
+/// The same of whatever gives spans by number, as a `CompactSet` does.
+///
+/// # Errors
+///
+/// As [`list_lines`].
+pub fn lines_of<S: SpanTable>(
+    alloc: Global,
+    set: &S,
+    from: i64,
+    to: i64,
+) -> Result<Listing, ListFault>
+    requires { IsAccepted (schedule_of (S.seen set.now)) }
+    ensures ok { OnOk result (all_have_dates (window (S.seen set.now) from to) ≡ true) }
+    ensures lines { IfOk result (λ listing. listing ≡ rows (window (S.seen set.now) from to)) }
+    ensures range { IsErrOf result ListFault.Range → all_have_dates (window (S.seen set.now) from to) ≡ false }
 {
-    let widths = Widths::of(entries);
+    match list_window(alloc, set, &Window { from, to }) {
+        Ok(listing) => Ok(listing),
+        Err(fault) => Err(fault),
+    }
+}
+
+/// The rows of a window.
+#[tactic(auto, unfolding(crate::specs::Rows::rows))]
+fn list_window<S: SpanTable>(alloc: Global, set: &S, asked: &Window) -> Result<Listing, ListFault>
+    requires { IsAccepted (schedule_of (S.seen set.now)) }
+    ensures ok { OnOk result (all_have_dates (window (S.seen set.now) asked.now.from asked.now.to) ≡ true) }
+    ensures lines { IfOk result (λ listing. listing ≡ rows (window (S.seen set.now) asked.now.from asked.now.to)) }
+    ensures range { IsErrOf result ListFault.Range → all_have_dates (window (S.seen set.now) asked.now.from asked.now.to) ≡ false }
+{
+    let widths = Widths::of(set, asked);
     let mut listing = Listing::new(alloc);
     let mut text = RowText::new(alloc);
-    for entry in entries {
-        let Some(shown) = date_time_of(entry) else {
-            return Err(ListFault::Range);
-        };
-        write_row(&mut text, widths, entry, &shown)?;
-        listing.push(text.as_bytes())?;
+    for place in 0..set.entry_count() {
+        if is_within(set, place, asked) {
+            match add_row(set, place, widths, &mut text, &mut listing) {
+                Ok(()) => {}
+                Err(fault) => return Err(fault),
+            }
+        } else {}
     }
     Ok(listing)
+}
+
+/// Adds the row of the entry at a place, which counts from 0.
+fn add_row<S: SpanTable>(
+    set: &S,
+    place: usize,
+    widths: Widths,
+    text: &mut RowText,
+    listing: &mut Listing,
+) -> Result<(), ListFault>
+    requires accepted { IsAccepted (schedule_of (S.seen set.now)) }
+    requires within { place < length (S.seen set.now).others }
+    requires bound { place < 18446744073709551615 }
+    ensures ok { OnOk result (has_dates (entry_at (S.seen set.now) place) ≡ true) }
+    ensures row { OnOk result (listing.new ≡ listing.old ++ row widths.times widths.names (entry_at (S.seen set.now) place) ∷ []) }
+    ensures range { IsErrOf result ListFault.Range → has_dates (entry_at (S.seen set.now) place) ≡ false }
+{
+    let Some(shown) = date_time_at(set, place) else {
+        return Err(ListFault::Range);
+    };
+    write_row(text, widths, set, place, &shown)?;
+    listing.push(text.as_bytes())?;
+    Ok(())
 }

@@ -8,6 +8,7 @@ ghost use Rattle.zone_run.specs.Tasks.{task_of};
 ghost use Rattle.zone_list.specs.Starts.{StartsList};
 
 use crate::listing::{ListFault, list_lines};
+use crate::window::Window;
 use std::alloc::Global;
 use tz_lookup::FixedTimespanSet;
 use zone_line::LineParser;
@@ -17,13 +18,6 @@ use zone_run::{
 
 /// The greatest size of FROM and TO, in seconds.
 const MOST_SECONDS: u64 = 9_999_999_999_999;
-
-/// A window of time, in seconds from 1970-01-01 00:00:00 UTC.
-#[derive(Clone, Copy, Debug, PartialEq, Eq)]
-struct Window {
-    from: i64,
-    to: i64,
-}
 
 impl ZoneProgram for Window {
     ghost label = { codes "list" };

@@ -1,67 +1,59 @@
 //! The row of an entry.
-ghost use Rattle.std.specs.Prelude.{◌≡◌, ◌++◌, IsTrue, IfSome, OnOk, is_some};
+ghost use Rattle.std.specs.Prelude.{◌≡◌, ◌<◌, ◌++◌, IfSome, OnOk, is_some, length};
 ghost use Rattle.civil_base.specs.DateTimes.{instant};
 ghost use Rattle.civil_base.specs.DateTimes.{offset_of as offset_shown};
 ghost use Rattle.civil_base.specs.Layout.{zoned_text};
 ghost use Rattle.std.specs.Fmt.{char_count};
-ghost use Rattle.civil_base.specs.Ranges.{is_offset};
 ghost use Rattle.pad_fmt.specs.Padding.{padded};
 ghost use Rattle.pad_fmt.specs.declared.options.Alignment.TheVariants.{Left};
 ghost use Rattle.zone_list.specs.Ranges.{has_dates};
 ghost use Rattle.zone_list.specs.Rows.{on_the_left, on_the_right, row};
 ghost use Rattle.zone_list.specs.Columns.{on_side};
 ghost use Rattle.zone_list.specs.ShownEntries.{IsShownAs};
-ghost use Rattle.zone_spans.specs.Entries.{total};
+ghost use Rattle.zone_list.specs.Windows.{entry_at};
+ghost use Rattle.tz_zone.specs.Sets.{schedule_of, IsAccepted};
 
 use crate::row_text::RowText;
 use crate::widths::Widths;
-use civil_base::{OffsetDateTime, UtcOffset, write_zoned};
+use civil_base::{OffsetDateTime, write_zoned};
 use itoa::Buffer;
 use pad_fmt::{Alignment, FormatterOptions, Full, char_count, pad_with_width};
 use std::alloc::AllocError;
-use tz_lookup::FixedTimespan;
+use tz_lookup::SpanTable;
+use tz_zone::offset_of;
 
-/// The time of an entry at its own total offset, if its UTC date and its local date lie in the years -9999 to 9999.
-pub(crate) fn date_time_of(entry: &(i64, FixedTimespan)) -> Option<OffsetDateTime>
-    requires { IsTrue (is_offset (total entry.now.1)) }
-    ensures dates { is_some result ≡ has_dates entry.now }
-    ensures shown { IfSome result (IsShownAs entry.now) }
+/// The time of the entry at a place, at its own total offset, if its UTC date and its local date lie in the years -9999 to 9999.
+pub(crate) fn date_time_at<S: SpanTable>(set: &S, place: usize) -> Option<OffsetDateTime>
+    requires accepted { IsAccepted (schedule_of (S.seen set.now)) }
+    requires within { place < length (S.seen set.now).others }
+    requires bound { place < 18446744073709551615 }
+    ensures dates { is_some result ≡ has_dates (entry_at (S.seen set.now) place) }
+    ensures shown { IfSome result (IsShownAs (entry_at (S.seen set.now) place)) }
 {
-    match OffsetDateTime::from_unix_timestamp(entry.0) {
-        Ok(at_utc) => at_utc.to_offset(offset_of(&entry.1)),
+    match OffsetDateTime::from_unix_timestamp(set.time(place)) {
+        Ok(at_utc) => at_utc.to_offset(offset_of(set, place + 1)),
         Err(_) => None,
     }
 }
 
-/// The total offset of a span.
-fn offset_of(span: &FixedTimespan) -> UtcOffset
-    requires { IsTrue (is_offset (total span.now)) }
-    ensures { result ≡ total span.now }
-{
-    let Some(total) = span.utc_offset.checked_add(span.dst_offset) else {
-        unreachable!()
-    };
-    match UtcOffset::from_whole_seconds(total as i32) {
-        Ok(offset) => offset,
-        Err(_) => unreachable!(),
-    }
-}
-
-/// Puts the row of an entry, whose time is shown so, into the text, in place of what is there.
+/// Puts the row of the entry at a place, whose time is shown so, into the text, in place of what is there.
 #[tactic(auto, unfolding(crate::specs::Rows::row))]
-pub(crate) fn write_row(
+pub(crate) fn write_row<S: SpanTable>(
     text: &mut RowText,
     widths: Widths,
-    entry: &(i64, FixedTimespan),
+    set: &S,
+    place: usize,
     shown: &OffsetDateTime,
 ) -> Result<(), AllocError>
-    requires { IsShownAs entry.now shown.now }
-    ensures { OnOk result (text.new.text ≡ row widths.times widths.names entry.now) }
+    requires within { place < length (S.seen set.now).others }
+    requires bound { place < 18446744073709551615 }
+    requires shown { IsShownAs (entry_at (S.seen set.now) place) shown.now }
+    ensures { OnOk result (text.new.text ≡ row widths.times widths.names (entry_at (S.seen set.now) place)) }
 {
     text.clear();
-    add_on_the_right(text, widths.times, Buffer::new().format(entry.0))?;
+    add_on_the_right(text, widths.times, Buffer::new().format(set.time(place)))?;
     text.add(b"  ")?;
-    add_on_the_left(text, widths.names, entry.1.name.as_str())?;
+    add_on_the_left(text, widths.names, set.span(place + 1).name.as_str())?;
     text.add(b"  ")?;
     add_date_time(text, shown)
 }

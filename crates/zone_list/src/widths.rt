@@ -1,10 +1,12 @@
 //! How wide the columns are.
-ghost use Rattle.std.specs.Prelude.{◌≡◌, ℕ, map};
+ghost use Rattle.std.specs.Prelude.{◌≡◌, ◌<◌, length, map, max};
 ghost use Rattle.std.specs.Fmt.{char_count, signed_decimal};
 ghost use Rattle.zone_list.specs.Rows.{name_of, time_of, widest};
+ghost use Rattle.zone_list.specs.Windows.{entry_at, window};
 
+use crate::window::{Window, is_within};
 use pad_fmt::{FormatterOptions, char_count, padded_width_of};
-use tz_lookup::FixedTimespan;
+use tz_lookup::SpanTable;
 
 /// The greatest numbers of characters of the times and of the abbreviations.
 #[derive(Clone, Copy, Debug, PartialEq, Eq)]
@@ -14,18 +16,31 @@ pub(crate) struct Widths {
 }
 
 impl Widths {
-    /// Of the texts of these entries.
-    pub(crate) fn of(entries: &[(i64, FixedTimespan)]) -> Widths
-        ensures times { result.times ≡ widest (map time_of entries.now) }
-        ensures names { result.names ≡ widest (map name_of entries.now) }
+    /// Of the texts of the entries of a window.
+    pub(crate) fn of<S: SpanTable>(set: &S, asked: &Window) -> Widths
+        ensures times { result.times ≡ widest (map time_of (window (S.seen set.now) asked.now.from asked.now.to)) }
+        ensures names { result.names ≡ widest (map name_of (window (S.seen set.now) asked.now.from asked.now.to)) }
     {
-        let mut times = 0;
-        let mut names = 0;
-        for entry in entries {
-            times = time_width(entry.0).max(times);
-            names = char_count(entry.1.name.as_str()).max(names);
+        let mut widths = Widths { times: 0, names: 0 };
+        for place in 0..set.entry_count() {
+            if is_within(set, place, asked) {
+                widths = widths.with(set, place);
+            } else {}
         }
-        Widths { times, names }
+        widths
+    }
+
+    /// With the texts of one more entry.
+    fn with<S: SpanTable>(self, set: &S, place: usize) -> Widths
+        requires within { place < length (S.seen set.now).others }
+        requires bound { place < 18446744073709551615 }
+        ensures times { result.times ≡ max (char_count (time_of (entry_at (S.seen set.now) place))) self.times }
+        ensures names { result.names ≡ max (char_count (name_of (entry_at (S.seen set.now) place))) self.names }
+    {
+        Widths {
+            times: time_width(set.time(place)).max(self.times),
+            names: char_count(set.span(place + 1).name.as_str()).max(self.names),
+        }
     }
 }
 

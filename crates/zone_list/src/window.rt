@@ -1,38 +1,21 @@
 //! The entries of a set in a window of time.
-ghost use Rattle.std.specs.Prelude.{◌≡◌, ◌≤◌, length, take, drop, int_lt};
-ghost use Rattle.std.specs.List.{prefix_len};
-ghost use Rattle.tz_zone.specs.Sets.{shifts_of};
-ghost use Rattle.tz_zone.specs.Spans.{TimesDontFall};
-ghost use Rattle.zone_list.specs.Windows.{window};
+ghost use Rattle.std.specs.Prelude.{◌≡◌, ◌<◌, length};
+ghost use Rattle.zone_list.specs.Windows.{entry_at, is_within};
 
-use tz_lookup::{FixedTimespan, FixedTimespanSet};
+use tz_lookup::SpanTable;
 
-/// The entries whose time is at least `from` and below `to`, in their order. The times don't fall.
-pub(crate) fn window(set: &FixedTimespanSet, from: i64, to: i64) -> &[(i64, FixedTimespan)]
-    requires { TimesDontFall (shifts_of set.now) }
-    ensures { result.now ≡ window set.now from to }
-{
-    entries_before(entries_from(set.others.as_slice(), from), to)
+/// A window of time, in seconds from 1970-01-01 00:00:00 UTC: from the first on, and before the other.
+#[derive(Clone, Copy, Debug, PartialEq, Eq)]
+pub(crate) struct Window {
+    pub(crate) from: i64,
+    pub(crate) to: i64,
 }
 
-/// The entries from the first on that is at or after that second.
-fn entries_from(entries: &[(i64, FixedTimespan)], second: i64) -> &[(i64, FixedTimespan)]
-    ensures { result.now ≡ drop (prefix_len (λ entry. int_lt entry.0 second) entries.now) entries.now }
+/// Whether the entry at a place, which counts from 0, lies in a window.
+pub(crate) fn is_within<S: SpanTable>(set: &S, place: usize, asked: &Window) -> bool
+    requires { place < length (S.seen set.now).others }
+    ensures { result ≡ is_within asked.now.from asked.now.to (entry_at (S.seen set.now) place) }
 {
-    &entries[count_before(entries, second)..]
-}
-
-/// The entries before the first that is at or after that second.
-fn entries_before(entries: &[(i64, FixedTimespan)], second: i64) -> &[(i64, FixedTimespan)]
-    ensures { result.now ≡ take (prefix_len (λ entry. int_lt entry.0 second) entries.now) entries.now }
-{
-    &entries[..count_before(entries, second)]
-}
-
-/// How many entries there are before the first that is at or after that second.
-fn count_before(entries: &[(i64, FixedTimespan)], second: i64) -> usize
-    ensures count { result ≡ prefix_len (λ entry. int_lt entry.0 second) entries.now }
-    ensures bound { result ≤ length entries.now }
-{
-    entries.iter().take_while(|entry| entry.0 < second).count()
+    let time = set.time(place);
+    asked.from <= time && time < asked.to
 }
