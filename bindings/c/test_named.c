@@ -1,5 +1,6 @@
 /* test_named FOLDER SOURCE: the calls of sefunjaro_named.h, with each status, eight threads that ask first at once, and children of fork.
-   In FOLDER it writes files; SOURCE is a source with the zone Europe/Paris. It ends with the number of the first check that fails, or 0. */
+   In FOLDER it writes files; SOURCE is a source with the zone Europe/Paris. It ends with the number of the first check that fails, or 0.
+   With REFUSED defined, malloc and realloc being wrapped, it refuses each request for memory in turn instead. */
 #define _GNU_SOURCE
 #include "sefunjaro_named.h"
 #include <errno.h>
@@ -113,8 +114,40 @@ static int with_source(void) {
     return 0;
 }
 
+#ifdef REFUSED
+/* How many requests for memory are still granted before one is refused; below 0 all are. */
+static long granted = -1;
+
+void *__real_malloc(size_t size);
+void *__real_realloc(void *at, size_t size);
+void *__wrap_malloc(size_t size);
+void *__wrap_realloc(void *at, size_t size);
+
+static bool is_refused(void) { return granted >= 0 && granted-- == 0; }
+void *__wrap_malloc(size_t size) { return is_refused() ? NULL : __real_malloc(size); }
+void *__wrap_realloc(void *at, size_t size) { return is_refused() ? NULL : __real_realloc(at, size); }
+
+static int refusing(const char *folder) {
+    static const char small[] = "Zone Europe/Paris 1 - CET\n";
+    uint32_t status = SEFUNJARO_NO_MEMORY;
+    long requests = 0;
+    use(folder, small, sizeof small - 1);
+    for (; status == SEFUNJARO_NO_MEMORY; requests++) {
+        granted = requests;
+        status = open_name("Europe/Paris");
+        granted = -1;
+        if (status == SEFUNJARO_NO_MEMORY && (!is_fault(status, 0, 0) || !is_closed())) return 40;
+    }
+    sefunjaro_close(&zone);
+    return status == SEFUNJARO_DONE && requests > 2 ? 0 : 41;
+}
+#endif
+
 int main(int count, char **words) {
     if (count != 3) return 99;
+#ifdef REFUSED
+    return refusing(words[1]);
+#endif
     int wrong = without_source(words[1]);
     if (wrong) return wrong;
     setenv("SEFUNJARO_TZDATA", words[2], 1);

@@ -123,10 +123,12 @@ class Named(unittest.TestCase):
                 sefunjaro.zone(name)
 
     def test_no_source(self):
+        wrong = os.path.join(self.folder.name, "wrong")
+        pathlib.Path(wrong).write_text("nothing\n")
         try:
             for path, kind, words in ((f"{self.folder.name}/none", sefunjaro.NoTzdata, "which SEFUNJARO_TZDATA names"),
                                       (self.folder.name, sefunjaro.NoTzdata, "which SEFUNJARO_TZDATA names"),
-                                      (__file__, sefunjaro.NoPlainForm, "LINE_TYPE")):
+                                      (wrong, sefunjaro.NoPlainForm, "LINE_TYPE")):
                 self.use(path)
                 for call in (sefunjaro.available_zones, sefunjaro.machine_source, lambda: sefunjaro.zone("Here/Middle")):
                     with self.assertRaises(kind) as raised:
