@@ -9,7 +9,7 @@ use Rattle.zone_table.specs.Joined.{rules_of, owner, is_owner, zone_of, link_of}
 use Rattle.zone_table.specs.Owned.{owned_rule, owned_info}
 use Rattle.zone_table.specs.declared.rule.RuleInfo.{RuleInfo}
 use Rattle.zone_table.specs.declared.zone.ZoneInfo.{ZoneInfo}
-use Rattle.zone_plain_links.specs.NamedLaws.{or_none, or_assoc}
+use Rattle.zone_plain.proofs.TargetLaws.{or_none, or_assoc}
 use Rattle.zone_plain.proofs.PartLemmas.{GivesIn, parts_give}
 use Rattle.zone_plain.proofs.Placed.{are_placed}
 use Rattle.zone_plain.specs.Written.{Rules, Zones, Links, is_in}

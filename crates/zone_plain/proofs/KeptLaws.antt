@@ -14,9 +14,9 @@ use Rattle.zone_plain_base.specs.Said.{if_said}
 use Rattle.zone_plain_base.specs.Names.{said_name}
 use Rattle.zone_plain_base.specs.NameLaws.{stays_so}
 use Rattle.zone_plain_base.specs.Renamed.{saved_by, ruleset_of, saving_by, under, renamed}
-use Rattle.zone_plain_links.specs.Needs.{IsPlain}
-use Rattle.zone_plain_links.specs.Settled.{settled}
-use Rattle.zone_plain_links.specs.CleanLaws.{plain_stays}
+use Rattle.zone_plain.specs.Needs.{IsPlain}
+use Rattle.zone_plain.specs.Settled.{settled}
+use Rattle.zone_plain.proofs.CleanLaws.{plain_stays}
 use Rattle.zone_plain_offsets.specs.Made.{changed_by, changed, is_changed_said, name_in, made_for, made}
 use Rattle.zone_plain_offsets.specs.Pairs.{Pair, joined_by, pairs_from}
 use Rattle.zone_plain_offsets.specs.WrittenOut.{made_size, refused_from, written_unless, written_out}

@@ -3,6 +3,17 @@ pub mod ReadingLemmas
 pub mod MetLemmas
 pub mod OutputLemmas
 pub mod RespondLemmas
+pub mod TargetLaws
+pub mod LeadsLaws
+pub mod SettledLaws
+pub mod SettledSaidLaws
+pub mod Clean
+pub mod CleanLaws
+pub mod NameLemmas
+pub mod LeadLemmas
+pub mod LinkLemmas
+pub mod StageLemmas
+mod WorkedLinks
 mod WorkedWritten
 pub mod Followed
 pub mod JoinedLaws

@@ -23,11 +23,11 @@ use Rattle.zone_plain_base.specs.LineFaults.{LineFault, numbered, onto}
 use Rattle.zone_plain_base.specs.Meant.{line_meaning}
 use Rattle.zone_plain_base.specs.Said.{is_said}
 use Rattle.zone_plain_base.specs.SaidLaws.{name_said, no_text}
-use Rattle.zone_plain_links.specs.Clean.{new_name, names_by, has, AreFresh, IsSound, AreClean}
-use Rattle.zone_plain_links.specs.CleanLaws.{declares_is, names_append, clean_stays, clean_from, are_settled, rulesets_stay}
-use Rattle.zone_plain_links.specs.Named.{zone_name, ruleset_name, has_zone, has_ruleset}
-use Rattle.zone_plain_links.specs.Settled.{lacks_rules, link_size, settled}
-use Rattle.zone_plain_links.specs.SettledLaws.{no_ok, zones_stay}
+use Rattle.zone_plain.proofs.Clean.{new_name, names_by, has, AreFresh, IsSound, AreClean}
+use Rattle.zone_plain.proofs.CleanLaws.{declares_is, names_append, clean_stays, clean_from, are_settled, rulesets_stay}
+use Rattle.zone_plain.specs.Declares.{zone_name, ruleset_name, has_zone, has_ruleset}
+use Rattle.zone_plain.specs.Settled.{lacks_rules, link_size, settled}
+use Rattle.zone_plain.proofs.SettledLaws.{no_ok, zones_stay}
 use Rattle.zone_plain_offsets.specs.AbbreviationLaws.{among_stays}
 use Rattle.zone_plain_offsets.specs.Formats.{Around, around_mark}
 use Rattle.zone_plain_offsets.specs.Made.{made_rule, rules_named, rules_for, changed_by, changed, name_in, made_for, made}

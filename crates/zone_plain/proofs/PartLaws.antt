@@ -3,9 +3,9 @@ use Rattle.std.proofs.Common.{◌≡◌, ℕ, List, [], ◌∷◌, ◌++◌, map
 use Rattle.std.specs.Prelude.{option_to_list}
 use Rattle.std.proofs.lemmas.Bool.{both_ways}
 use Rattle.zone_values.specs.Values.{InfoValue, RuleValue, LineValue, zone, continuation, rule, link}
-use Rattle.zone_plain_links.specs.Clean.{new_name, names_by}
-use Rattle.zone_plain_links.specs.CleanLaws.{names_append}
-use Rattle.zone_plain_links.specs.Named.{zone_name, ruleset_name}
+use Rattle.zone_plain.proofs.Clean.{new_name, names_by}
+use Rattle.zone_plain.proofs.CleanLaws.{names_append}
+use Rattle.zone_plain.specs.Declares.{zone_name, ruleset_name}
 use Rattle.zone_plain_offsets.specs.Made.{made_rule, rules_named, rules_for, changed_by, changed, name_in, made_for, made}
 use Rattle.zone_plain_offsets.specs.MadeLaws.{written_is}
 use Rattle.zone_plain_offsets.specs.Pairs.{Pair, Asked, total, under, asked, pairs_of}

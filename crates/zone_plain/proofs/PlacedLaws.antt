@@ -12,9 +12,9 @@ use Rattle.zone_plain_base.specs.LineFaults.{LineFault, Refusal, too_long, numbe
 use Rattle.zone_plain_base.specs.MeantLaws.{holds, either}
 use Rattle.zone_plain_base.specs.Said.{is_said, if_said}
 use Rattle.zone_plain_base.specs.Renamed.{renamed}
-use Rattle.zone_plain_links.specs.Named.{has_zone, target_of}
-use Rattle.zone_plain_links.specs.Leads.{zone_behind}
-use Rattle.zone_plain_links.specs.Settled.{lacks_rules, link_to, link_after, settled_link, settled_line, link_size, settled_from, settled}
+use Rattle.zone_plain.specs.Declares.{has_zone, target_of}
+use Rattle.zone_plain.specs.Leads.{zone_behind}
+use Rattle.zone_plain.specs.Settled.{lacks_rules, link_to, link_after, settled_link, settled_line, link_size, settled_from, settled}
 use Rattle.zone_plain_offsets.specs.Made.{changed_by, changed, made_rule, name_in, rules_named, made_for, made}
 use Rattle.zone_plain_offsets.specs.Pairs.{Pair, Asked, nothing, total, under, asked, pairs_of}
 use Rattle.zone_plain_offsets.specs.WrittenOut.{refused_from, written_unless, written_out}

@@ -7,8 +7,8 @@ use Rattle.zone_values.specs.Values.{LineValue}
 use Rattle.zone_plain_base.specs.LineFaults.{LineFault, by_line}
 use Rattle.zone_plain_base.specs.MeantLaws.{then_ok, either}
 use Rattle.zone_plain_base.specs.SaidLaws.{read_back, one_line}
-use Rattle.zone_plain_links.specs.SaidLaws.{settled_said}
-use Rattle.zone_plain_links.specs.Settled.{settled}
+use Rattle.zone_plain.proofs.SettledSaidLaws.{settled_said}
+use Rattle.zone_plain.specs.Settled.{settled}
 use Rattle.zone_plain_offsets.specs.SaidLaws.{written_out_said}
 use Rattle.zone_plain_offsets.specs.WrittenOut.{written_out}
 use Rattle.zone_plain.specs.Heads.{head_of}

@@ -2,6 +2,10 @@
 pub mod LineValues
 pub mod Heads
 pub mod Written
+pub mod Declares
+pub mod Leads
+pub mod Settled
+pub mod Needs
 pub mod Plain
 pub mod Named
 pub mod ReadBack
@@ -13,3 +17,4 @@ pub mod Ends
 pub mod Starts
 -- Words of private clauses.
 pub mod Told
+pub mod Stands

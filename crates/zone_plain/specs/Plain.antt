@@ -3,7 +3,7 @@ use Rattle.std.specs.Prelude.{ℕ, List, ◌++◌, Result, Ok, Err, length, nat_
 use Rattle.zone_outside.specs.Limit.{text_limit}
 use Rattle.zone_values.specs.Results.{◌>>=◌}
 use Rattle.zone_plain_base.specs.LineFaults.{Refusal, too_long, by_line}
-use Rattle.zone_plain_links.specs.Settled.{settled}
+use Rattle.zone_plain.specs.Settled.{settled}
 use Rattle.zone_plain_offsets.specs.WrittenOut.{written_out}
 use Rattle.zone_plain.specs.Heads.{head_of}
 use Rattle.zone_plain.specs.LineValues.{values_in}

@@ -4,7 +4,7 @@ use Rattle.std.specs.Str.{is_utf8}
 use Rattle.zone_line.specs.LineValues.{value}
 use Rattle.zone_values.specs.Values.{LineValue}
 use Rattle.zone_plain_base.specs.PlainTexts.{plain_text}
-use Rattle.zone_plain_links.specs.Settled.{settled}
+use Rattle.zone_plain.specs.Settled.{settled}
 use Rattle.zone_plain_offsets.specs.WrittenOut.{written_out}
 use Rattle.zone_plain.specs.Heads.{head_of}
 use Rattle.zone_plain.specs.LineValues.{meant_in}

@@ -1,7 +1,7 @@
 //! Laws of what is written.
-ghost use Rattle.std.specs.Prelude.{◌≡◌, ◌≤◌, ◌++◌, ℕ, All, List, Ok, length};
+ghost use Rattle.std.specs.Prelude.{◌≡◌, ◌≤◌, ◌++◌, ℕ, All, List, Ok, length, option_and_then, true};
 ghost use Rattle.zone_values.specs.Values.{LineValue};
-ghost use Rattle.zone_plain_links.specs.Needs.{IsPlain};
+ghost use Rattle.zone_plain.specs.Needs.{IsPlain, has_zones_as_targets};
 ghost use Rattle.zone_plain.specs.Heads.{head_of};
 ghost use Rattle.zone_plain.specs.Kept.{HasNoOffsets};
 ghost use Rattle.zone_plain.specs.LineValues.{meant_in};
@@ -9,6 +9,9 @@ ghost use Rattle.zone_plain.specs.Named.{IsSaidAsMeant};
 ghost use Rattle.zone_plain.specs.Plain.{plain_of};
 ghost use Rattle.zone_plain.specs.Rebuilt.{IsRebuilt};
 ghost use Rattle.zone_plain.specs.Written.{written};
+ghost use Rattle.zone_plain.specs.Declares.{has_zone, target_of};
+ghost use Rattle.zone_plain.specs.Leads.{zone_behind};
+ghost use Rattle.zone_plain.specs.Settled.{settled};
 
 /// Of a source that needs nothing and whose rulesets have names that RULES can say each rule, each line of a zone and each link is
 /// written, as it was meant, under the source's own names and in the order of its part, behind the line of its release, if it names one,
@@ -30,4 +33,19 @@ pub fn written_is_read()
 /// A plain form is its own plain form: what is written of what was written of a source is the same, byte for byte.
 pub fn its_own()
     ensures { (source bytes : List ℕ) → plain_of source ≡ Ok bytes → plain_of bytes ≡ Ok bytes }
+{}
+
+/// Where a source isn't refused, it has the zones that it had; each name of a link has the zone behind its target as target; and the
+/// target of each link is one of the zones: no link to a link is left.
+pub fn settled_links()
+    ensures zones { (values out : List LineValue) → settled values ≡ Ok out → (name : List ℕ) → has_zone out name ≡ has_zone values name }
+    ensures names { (values out : List LineValue) → settled values ≡ Ok out → (name : List ℕ)
+        → target_of out name ≡ option_and_then (zone_behind values) (target_of values name) }
+    ensures targets { (values out : List LineValue) → settled values ≡ Ok out → has_zones_as_targets out ≡ true }
+{}
+
+/// A source that needs nothing stays as it is: each RULES names a ruleset that has a rule, no two zones have one name, and each link
+/// leads to a zone, under a name that neither a zone nor an earlier link has.
+pub fn plain_stays()
+    ensures { (values : List LineValue) → IsPlain values → settled values ≡ Ok values }
 {}

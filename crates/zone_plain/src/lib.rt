@@ -3,12 +3,13 @@
 
 mod head;
 mod laws;
+mod links;
 mod mark;
 mod respond;
 mod running;
 mod whole;
 
-pub use laws::{its_own, plain_is_kept, written_is_read};
+pub use laws::{its_own, plain_is_kept, plain_stays, settled_links, written_is_read};
 pub use running::{run_plain, start_plain};
 pub use whole::plain;
 pub use zone_plain_base::PlainFault;

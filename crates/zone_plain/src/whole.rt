@@ -12,6 +12,7 @@ ghost use Rattle.zone_plain.specs.Plain.{plain_of};
 ghost use Rattle.zone_plain.specs.Rebuilt.{IsRebuilt};
 
 use crate::head::head_of;
+use crate::links::settle;
 use crate::mark::mark_in;
 use std::alloc::{AllocError, Global};
 use zone_line::{Line, LineParser, LineReader};
@@ -20,7 +21,6 @@ use zone_plain_base::{
     write_said,
 };
 use zone_plain_lines::PlainCause;
-use zone_plain_links::settle;
 use zone_plain_offsets::write_out;
 use zone_source::{LIMIT, LineList, Lines};
 

@@ -1,0 +1,202 @@
+-- The lines that were settled, and those that are left.
+use Rattle.std.proofs.Common.{◌≡◌, ℕ, suc, ◌+◌, ◌-◌, ◌≤◌, ◌<◌, List, [], ◌∷◌, ◌++◌, map, length, take, drop, get_or, true, false, nat_lt, Result, Ok, Err, refl, sym, ap, ◌∙◌, subst, arith, append_assoc, append-nil}
+use Rattle.std.specs.Prelude.{is_some}
+use Rattle.std.specs.FinMap.{get, empty, get-empty}
+use Rattle.std.proofs.lemmas.List.{drop_all, drop_more, get_or-map, length-map, map-append, take_more}
+use Rattle.std.proofs.lemmas.Bool.{ltb-false, le-ltb, lt-ltb}
+use Rattle.owned.specs.Keyed.{text_cmp}
+use Rattle.zone_outside.specs.Limit.{text_limit}
+use Rattle.zone_source.specs.Zones.{source_value}
+use Rattle.zone_values.specs.Values.{LineValue, line_value, space}
+use Rattle.zone_values.specs.declared.line.Line.{Line}
+use Rattle.zone_values.specs.declared.line.Line.TheVariants.{Space}
+use Rattle.zone_plain_lines.specs.declared.cause.PlainCause.{PlainCause}
+use Rattle.zone_plain_base.specs.PlainTexts.{plain_text}
+use Rattle.zone_plain_base.specs.Said.{is_said}
+use Rattle.zone_plain_base.specs.SaidLaws.{source_value_is}
+use Rattle.zone_plain_base.specs.LineFaults.{Refusal, bad_line, too_long, at, onto, IsFaultOf}
+use Rattle.zone_plain_base.specs.Told.{fault_at, IsRefused}
+use Rattle.zone_plain_base.specs.declared.error.PlainFault.{PlainFault}
+use Rattle.zone_plain_base.specs.declared.error.PlainFault.TheVariants as fault
+use Rattle.zone_plain_base.specs.declared.error.Refused.{Refused}
+use Rattle.zone_plain_base.specs.declared.error.Refused.TheVariants.{Cause, NoMemory}
+use Rattle.zone_plain.specs.Settled.{link_size, settled_line, settled_from, settled}
+use Rattle.zone_plain.specs.Stands.{IsDeclared, IsKept, IsAt, IsWritten, Adds, Overflows, IsPast}
+use Rattle.zone_plain.specs.declared.links.Declared.{Declared}
+use Rattle.zone_plain.specs.declared.links.Seen.{Seen}
+
+pub first_at : (d : Declared) (s : Seen) (values : List LineValue) (limit : ℕ) → s.zones ≡ empty → s.targets ≡ empty → s.known ≡ empty
+    → IsDeclared d values → limit ≡ length values → IsAt d s limit values []
+first_at d s values limit zones targets known declared few = record {
+  declared = declared;
+  few = few;
+  seen = record {
+    zones = λ name. ap is_some (ap (λ m. get m name) zones ∙ get-empty text_cmp name);
+    targets = λ name. ap (λ m. get m name) targets ∙ get-empty text_cmp name;
+    known = λ name. subst (IsKept d.names values name) (sym (ap (λ m. get m name) known ∙ get-empty text_cmp name)) tt;
+  };
+}
+
+pub line_written : (old new : List (List ℕ)) (text : List ℕ) (v : LineValue) → new ≡ old ++ text ∷ [] → text ≡ plain_text v → is_said v ≡ true
+    → map source_value new ≡ map source_value old ++ v ∷ []
+line_written old new text v added plain said =
+    ap (map source_value) added ∙ map-append source_value old (text ∷ [])
+    ∙ ap (λ w. map source_value old ++ w ∷ []) (ap source_value plain ∙ source_value_is v said)
+
+-- these values come before those that are found
+abbrev pub prepend : List LineValue → Result (List LineValue) Refusal → Result (List LineValue) Refusal
+prepend ws (Ok vs) = Ok (ws ++ vs)
+prepend ws (Err e) = Err e
+
+prepend_none : (r : Result (List LineValue) Refusal) → prepend [] r ≡ r
+prepend_none (Ok vs) = refl
+prepend_none (Err e) = refl
+
+prepend_one : (ws : List LineValue) (w : LineValue) (r : Result (List LineValue) Refusal) → prepend ws (onto w r) ≡ prepend (ws ++ w ∷ []) r
+prepend_one ws w (Ok vs) = ap Ok (sym (append_assoc ws (w ∷ []) vs))
+prepend_one ws w (Err e) = refl
+
+-- the lines before this place became these
+pub record Settling (d : Declared) (s : Seen) (limit : ℕ) (values ws : List LineValue) (place size : ℕ) : Type 0 where
+  pub here : IsAt d s limit values (take place values)
+  pub goes_on : prepend ws (settled_from values (take place values) (place + 1) size (drop place values)) ≡ settled values
+  pub small : nat_lt text_limit size ≡ false
+
+pub nothing_settled : (d : Declared) (s : Seen) (limit : ℕ) (values : List LineValue) → IsAt d s limit values [] → Settling d s limit values [] 0 0
+unfolding settled
+nothing_settled d s limit values here = record { here = here; goes_on = prepend_none _; small = refl }
+
+goes : (values before : List LineValue) (n size : ℕ) (v w : LineValue) (vs : List LineValue) → settled_line values before v ≡ Ok w
+    → nat_lt text_limit (size + link_size w) ≡ false
+    → settled_from values before n size (v ∷ vs) ≡ onto w (settled_from values (before ++ v ∷ []) (suc n) (size + link_size w) vs)
+unfolding settled_from
+goes values before n size v w vs is small = rw (is, small) refl
+
+pub one_settled : (d : Declared) (s new : Seen) (limit : ℕ) (values ws : List LineValue) (place size size_now : ℕ) (w : LineValue)
+    → place < length values → Settling d s limit values ws place size
+    → settled_line values (take place values) (get_or values place space) ≡ Ok w → size_now ≡ size + link_size w
+    → nat_lt text_limit size_now ≡ false → IsAt d new limit values (take place values ++ get_or values place space ∷ [])
+    → Settling d new limit values (ws ++ w ∷ []) (place + 1) size_now
+one_settled d s new limit values ws place size size_now w inside so_far is sized small here =
+    let taken = take_more values place space inside in
+    let on : settled_from values (take place values) (place + 1) size (drop place values)
+    ≡ onto w (settled_from values (take (place + 1) values) (suc (place + 1)) size_now (drop (place + 1) values)) =
+    ap (settled_from values (take place values) (place + 1) size) (drop_more values place space inside)
+    ∙ goes values (take place values) (place + 1) size (get_or values place space) w (drop (place + 1) values) is
+    (ap (nat_lt text_limit) (sym sized) ∙ small)
+    ∙ (λ i. onto w (settled_from values (sym taken i) (suc (place + 1)) (sym sized i) (drop (place + 1) values))) in
+    record {
+      here = subst (IsAt d new limit values) (sym taken) here;
+      goes_on =
+          ap (λ n. prepend (ws ++ w ∷ []) (settled_from values (take (place + 1) values) n size_now (drop (place + 1) values))) (later place)
+          ∙ sym (prepend_one ws w _) ∙ ap (prepend ws) (sym on) ∙ so_far.goes_on;
+      small = small;
+    }
+  where
+    later : (place : ℕ) → place + 1 + 1 ≡ suc (place + 1)
+    later place = omega arith
+
+stops : (values before : List LineValue) (n size : ℕ) (v : LineValue) (vs : List LineValue) (c : PlainCause) → settled_line values before v ≡ Err c
+    → settled_from values before n size (v ∷ vs) ≡ Err (bad_line (at n c))
+unfolding settled_from
+stops values before n size v vs c is = rw is refl
+
+pub refused_here : (d : Declared) (s : Seen) (limit : ℕ) (values ws : List LineValue) (place size : ℕ) (r : Refused) → place < length values
+    → Settling d s limit values ws place size → IsRefused (settled_line values (take place values) (get_or values place space)) r
+    → IsFaultOf (settled values) (fault_at (place + 1) r)
+refused_here d s limit values ws place size (Cause c) inside so_far is =
+    sym so_far.goes_on
+    ∙ ap (prepend ws) (ap (settled_from values (take place values) (place + 1) size) (drop_more values place space inside)
+    ∙ stops values (take place values) (place + 1) size (get_or values place space) (drop (place + 1) values) c is)
+refused_here d s limit values ws place size NoMemory inside so_far is = tt
+
+overflows : (values before : List LineValue) (n size : ℕ) (v w : LineValue) (vs : List LineValue) → settled_line values before v ≡ Ok w
+    → nat_lt text_limit (size + link_size w) ≡ true → settled_from values before n size (v ∷ vs) ≡ Err too_long
+unfolding settled_from
+overflows values before n size v w vs is large = rw (is, large) refl
+
+pub too_long_here : (d : Declared) (s : Seen) (limit : ℕ) (values ws : List LineValue) (place size : ℕ) (w : LineValue) → place < length values
+    → Settling d s limit values ws place size → settled_line values (take place values) (get_or values place space) ≡ Ok w
+    → nat_lt text_limit (size + link_size w) ≡ true → settled values ≡ Err too_long
+too_long_here d s limit values ws place size w inside so_far is large =
+    sym so_far.goes_on
+    ∙ ap (prepend ws) (ap (settled_from values (take place values) (place + 1) size) (drop_more values place space inside)
+    ∙ overflows values (take place values) (place + 1) size (get_or values place space) w (drop (place + 1) values) is large)
+
+pub all_settled : (d : Declared) (s : Seen) (limit : ℕ) (values ws : List LineValue) (place size : ℕ) → length values ≤ place
+    → Settling d s limit values ws place size → settled values ≡ Ok ws
+unfolding settled_from
+all_settled d s limit values ws place size past so_far =
+    sym so_far.goes_on
+    ∙ ap (λ vs. prepend ws (settled_from values (take place values) (place + 1) size vs)) (drop_all place values past)
+    ∙ ap Ok (append-nil ws)
+
+pub adds_kept : (found : Result LineValue PlainCause) (old new : List LineValue) (v : LineValue) (size : ℕ) → size ≤ 16777216
+    → (found ≡ Ok v) × (link_size v ≡ 0) → new ≡ old ++ v ∷ [] → Adds found old new size size
+adds_kept found old new v size small is added = record {
+  value = v;
+  is = is.0;
+  added = added;
+  sized = omega (arith, is.1);
+  small = not_less size small;
+}
+  where
+    not_less : (n : ℕ) → n ≤ 16777216 → nat_lt 16777216 n ≡ false
+    not_less n few = le-ltb 16777216 n few
+
+pub adds_written : (found : Result LineValue PlainCause) (old new : List (List ℕ)) (text : List ℕ) (size added : ℕ) → size ≤ 16777216
+    → added ≤ 16777216 - size → IsWritten found text added → new ≡ old ++ text ∷ []
+    → Adds found (map source_value old) (map source_value new) size (size + added)
+adds_written found old new text size added few room is put = record {
+  value = is.value;
+  is = is.is;
+  added = line_written old new text is.value put is.plain is.said;
+  sized = ap (λ n. size + n) is.sized;
+  small = not_less size added few room;
+}
+  where
+    not_less : (n m : ℕ) → n ≤ 16777216 → m ≤ 16777216 - n → nat_lt 16777216 (n + m) ≡ false
+    not_less n m few room = le-ltb 16777216 (n + m) (omega (arith, few, room))
+
+pub overflows_written : (found : Result LineValue PlainCause) (text : List ℕ) (size added : ℕ) → size ≤ 16777216
+    → 16777216 - size < added → IsWritten found text added → Overflows found size
+overflows_written found text size added few room is = record {
+  value = is.value;
+  is = is.is;
+  large = subst (λ n. nat_lt 16777216 (size + n) ≡ true) is.sized (more size added few room);
+}
+  where
+    more : (n m : ℕ) → n ≤ 16777216 → 16777216 - n < m → nat_lt 16777216 (n + m) ≡ true
+    more n m few room = lt-ltb 16777216 (n + m) (omega (arith, few, room))
+
+pub size_is_small : (d : Declared) (s : Seen) (limit : ℕ) (values ws : List LineValue) (place size : ℕ)
+    → Settling d s limit values ws place size → size ≤ 16777216
+size_is_small d s limit values ws place size so_far = not_more size so_far.small
+  where
+    not_more : (n : ℕ) → nat_lt 16777216 n ≡ false → n ≤ 16777216
+    not_more n small = ltb-false 16777216 n small
+
+pub added_here : (d : Declared) (s new : Seen) (limit : ℕ) (values ws now : List LineValue) (place size size_now : ℕ)
+    → place < length values → Settling d s limit values ws place size
+    → Adds (settled_line values (take place values) (get_or values place space)) ws now size size_now
+    → IsAt d new limit values (take place values ++ get_or values place space ∷ []) → Settling d new limit values now (place + 1) size_now
+added_here d s new limit values ws now place size size_now inside so_far adds here =
+    subst (λ vs. Settling d new limit values vs (place + 1) size_now) (sym adds.added)
+    (one_settled d s new limit values ws place size size_now adds.value inside so_far adds.is adds.sized adds.small here)
+
+pub past_here : (d : Declared) (s : Seen) (limit : ℕ) (values ws : List LineValue) (place size : ℕ) (f : PlainFault) → place < length values
+    → Settling d s limit values ws place size → IsPast (settled_line values (take place values) (get_or values place space)) size f
+    → IsFaultOf (settled values) f
+past_here d s limit values ws place size (fault.Line n c) inside so_far past = absurd past
+past_here d s limit values ws place size fault.TooLong inside so_far past =
+    too_long_here d s limit values ws place size past.value inside so_far past.is past.large
+past_here d s limit values ws place size fault.NoMemory inside so_far past = tt
+
+-- the lines that were read are as many, and say what the list's lines say
+pub as_many : (lines : List (List ℕ)) (read : List Line) → map line_value read ≡ map source_value lines → length read ≡ length (map source_value lines)
+as_many lines read same = sym (length-map read line_value) ∙ ap length same
+
+pub read_at : (lines : List (List ℕ)) (read : List Line) (place : ℕ) → map line_value read ≡ map source_value lines → place < length read
+    → line_value (get_or read place Space) ≡ get_or (map source_value lines) place space
+read_at lines read place same inside =
+    sym (get_or-map line_value read place Space space inside) ∙ ap (λ vs. get_or vs place space) same

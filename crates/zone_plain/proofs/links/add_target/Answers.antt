@@ -1,0 +1,12 @@
+use Rattle.std.proofs.Common.{sym, ap, ◌∙◌}
+use Rattle.std.specs.FinMap.{insert}
+use Rattle.zone_plain.proofs.NameLemmas.{link_known, link_added}
+use Rattle.zone_plain.proofs.links.add_target.Goals as goal
+
+pub returns-then-contains_key : goal.returns-then-contains_key
+returns-then-contains_key c = link_known _ _ _ (sym c.contains_key.ensures ∙ c.if-contains_key.true)
+
+pub returns : goal.returns
+returns c =
+    link_added _ _ _ _ (sym c.contains_key.ensures ∙ c.if-contains_key.false)
+    (c.in_ok-insert.ensures.ok ∙ ap (insert c.args.targets.now c.args.new.now) c.in_ok-copy.ensures)

@@ -1,0 +1,32 @@
+use Rattle.std.proofs.Common.{sym, ◌∙◌, ap}
+use Rattle.std.specs.Prelude.{Ok}
+use Rattle.zone_values.specs.Values.{line_value}
+use Rattle.zone_plain.proofs.LinkLemmas.{is_declared, link_is_zone, link_refused, link_unsaid, link_written}
+use Rattle.zone_plain.proofs.links.settle_link.Goals as goal
+
+pub returns-then-contains_key-clause-err : goal.returns-then-contains_key-clause-err
+returns-then-contains_key-clause-err c values before here =
+    link_is_zone values before _ _ (sym (is_declared _ values _ _ here.declared c.contains_key.ensures) ∙ c.if-contains_key.true)
+
+pub returns-in-Err-clause-err : goal.returns-in-Err-clause-err
+returns-in-Err-clause-err c values before here =
+    link_refused values before _ _ c.in-Err.refused
+    (sym (is_declared _ values _ _ here.declared c.contains_key.ensures) ∙ c.if-contains_key.false)
+    (c.in-Err.ensures.err values before here)
+
+pub returns-then-not-branch-clause-err : goal.returns-then-not-branch-clause-err
+returns-then-not-branch-clause-err c values before here =
+    link_unsaid values before _ _ (line_value c.line_of-meant.result)
+    (sym (is_declared _ values _ _ here.declared c.contains_key.ensures) ∙ c.if-contains_key.false)
+    ((c.in-Ok.ensures.ok values before here).0 ∙ ap Ok (sym c.line_of-meant.ensures))
+    (sym c.in_ok-write_said.ensures.said ∙ c.if-not-branch.true)
+
+pub returns-clause-ok : goal.returns-clause-ok
+returns-clause-ok c values before here =
+    let found = c.in-Ok.ensures.ok values before here in (
+      link_written values before _ _ (line_value c.line_of-meant.result) _ _
+          (sym (is_declared _ values _ _ here.declared c.contains_key.ensures) ∙ c.if-contains_key.false)
+          (found.0 ∙ ap Ok (sym c.line_of-meant.ensures)) (sym c.in_ok-write_said.ensures.said ∙ c.if-not-branch.false)
+          c.in_ok-write_said.ensures.text c.link_size.ensures,
+      found.1,
+    )

@@ -1,0 +1,496 @@
+//! Links in any order and links to links, each led to its zone; and why a source as a whole is refused.
+ghost use Rattle.std.specs.Prelude.{◌≡◌, ℕ, List, [], ◌∷◌, ◌++◌, map as each, length, IfOk, OnOk, unwrap_or, Ok, None, Some, option_map, bytes_eq, slice_get, IfErr, ◌<◌, ◌≤◌, Result};
+ghost use Rattle.zone_values.specs.Values.{LineValue, line_value, saving_value};
+ghost use Rattle.zone_plain.specs.Stands.{IsDeclared, AddsTarget, IsKnown, IsBehind, LeadsTo, IsAt, IsOutcome, line_at_place, Adds, IsPast};
+ghost use Rattle.std.specs.Option.{option_or};
+ghost use Rattle.zone_plain_base.specs.PlainTexts.{plain_text};
+ghost use Rattle.zone_plain.specs.Declares.{has_zone, target_of};
+ghost use Rattle.zone_plain.specs.Settled.{lacks_rules, link_size, link_after, settled_line, settled_link, settled};
+ghost use Rattle.zone_plain_base.specs.Told.{IsRefused};
+ghost use Rattle.zone_source.specs.Zones.{source_value};
+ghost use Rattle.zone_plain_lines.specs.declared.cause.PlainCause.{PlainCause};
+ghost use Rattle.zone_plain_base.specs.LineFaults.{IsFaultOf};
+ghost use Rattle.zone_plain_base.specs.LinesAt.{value_at};
+ghost use Rattle.zone_plain.specs.declared.links.Declared.{Declared};
+ghost use Rattle.std.specs.FinMap as map;
+ghost use Rattle.zone_values.specs.Values as value;
+ghost use Rattle.zone_values.specs.declared.line.Line.TheVariants as kind;
+
+use owned::{Items, Text, TextMap};
+use std::alloc::{AllocError, Global};
+use zone_line::{Line, LineParser, LineReader};
+use zone_plain_base::{PlainFault, Refused, fault_at, keep_line, lines_read, write_said};
+use zone_plain_lines::PlainCause;
+use zone_source::{LIMIT, LineList};
+use zone_values::{Link, Saving, Zone};
+
+/// The names that a source declares.
+#[derive(Drop)]
+pub(crate) struct Declared {
+    /// The names of its zones.
+    pub names: Items<Text>,
+    /// Where each of them stands among these.
+    pub zones: TextMap<usize>,
+    /// The target of the first link of each new name.
+    pub targets: TextMap<Text>,
+    /// The rulesets that have a rule.
+    pub rulesets: TextMap<()>,
+}
+
+/// What the lines before one declare, and where the names lead that were met there.
+#[derive(Drop)]
+pub(crate) struct Seen {
+    /// The names of the zones.
+    pub zones: TextMap<()>,
+    /// The target of the first link of each new name.
+    pub targets: TextMap<Text>,
+    /// Where the zone to which a name leads stands among the names of zones.
+    pub known: TextMap<usize>,
+}
+
+impl Declared {
+    /// Nothing that is declared.
+    fn new(alloc: Global) -> Declared
+        ensures { IsDeclared result [] }
+    {
+        Declared {
+            names: Items::new(alloc),
+            zones: TextMap::new(alloc),
+            targets: TextMap::new(alloc),
+            rulesets: TextMap::new(alloc),
+        }
+    }
+}
+
+/// Adds a zone's name, and its place among the names.
+fn add_zone(
+    alloc: Global,
+    names: &mut Items<Text>,
+    zones: &mut TextMap<usize>,
+    name: &str,
+) -> Result<(), AllocError>
+    ensures names { OnOk result (names.new ≡ names.old ++ name.now ∷ []) }
+    ensures zones { OnOk result (zones.new ≡ map.insert zones.old name.now (length names.old)) }
+{
+    let place = names.len();
+    let copy = Text::new(alloc, name)?;
+    names.push(copy)?;
+    zones.insert(alloc, name, place)?;
+    Ok(())
+}
+
+/// Adds a link's target, if the link is the first of its new name.
+pub(crate) fn add_target(
+    alloc: Global,
+    targets: &mut TextMap<Text>,
+    existing: &str,
+    new: &str,
+) -> Result<(), AllocError>
+    ensures { OnOk result (AddsTarget targets.old targets.new existing.now new.now) }
+{
+    if targets.contains_key(new) {
+        return Ok(());
+    }
+    let copy = Text::new(alloc, existing)?;
+    targets.insert(alloc, new, copy)?;
+    Ok(())
+}
+
+/// Adds what a line declares.
+fn declare(alloc: Global, declared: &mut Declared, line: &Line<'_>) -> Result<(), AllocError>
+    ensures { OnOk result ((values : List LineValue) → IsDeclared declared.old values
+        → IsDeclared declared.new (values ++ line_value line.now ∷ [])) }
+{
+    match line {
+        Line::Space => Ok(()),
+        Line::Continuation(_) => Ok(()),
+        Line::Zone(zone) => {
+            add_zone(alloc, &mut declared.names, &mut declared.zones, zone.name)?;
+            Ok(())
+        }
+        Line::Rule(rule) => {
+            declared.rulesets.insert(alloc, rule.name, ())?;
+            Ok(())
+        }
+        Line::Link(link) => {
+            add_target(alloc, &mut declared.targets, link.existing, link.new)?;
+            Ok(())
+        }
+    }
+}
+
+/// What the lines declare.
+pub(crate) fn declared_by(alloc: Global, lines: &[Line<'_>]) -> Result<Declared, AllocError>
+    ensures { IfOk result (λ declared. IsDeclared declared (each line_value lines.now)) }
+{
+    let mut declared = Declared::new(alloc);
+    for line in lines {
+        declare(alloc, &mut declared, line)?;
+    }
+    Ok(declared)
+}
+
+/// Where a zone of that name stands among the names, or the zone to which the name is known to lead.
+fn place_of(declared: &Declared, known: &TextMap<usize>, name: &str) -> Option<usize>
+    ensures { result ≡ option_or (map.get declared.now.zones name.now) (map.get known.now name.now) }
+{
+    match declared.zones.get(name) {
+        Some(place) => Some(*place),
+        None => match known.get(name) {
+            Some(place) => Some(*place),
+            None => None,
+        },
+    }
+}
+
+/// Where the zone to which a name leads stands among the names of zones, by way of so many links at most, or none where it
+/// leads to no zone.
+pub(crate) fn zone_place(
+    declared: &Declared,
+    known: &TextMap<usize>,
+    limit: usize,
+    name: &str,
+) -> Option<usize>
+    ensures { (values : List LineValue) → IsDeclared declared.now values → IsKnown declared.now.names values known.now
+        → limit ≡ length values → IsBehind declared.now.names values name.now result }
+{
+    let mut at = name;
+    for step in 0..limit {
+        let place = place_of(declared, known, at);
+        if place.is_some() {
+            return place;
+        }
+        match declared.targets.get(at) {
+            Some(target) => at = target.as_str(),
+            None => return None,
+        }
+    }
+    place_of(declared, known, at)
+}
+
+/// Notes of the names on the way from that one to the zone at a place that they lead there.
+pub(crate) fn keep(
+    alloc: Global,
+    declared: &Declared,
+    known: &mut TextMap<usize>,
+    limit: usize,
+    name: &str,
+    place: usize,
+) -> Result<(), AllocError>
+    ensures { OnOk result ((values : List LineValue) → IsDeclared declared.now values → IsKnown declared.now.names values known.old
+        → LeadsTo declared.now.names values name.now place → IsKnown declared.now.names values known.new) }
+{
+    let mut at = name;
+    for step in 0..limit {
+        if place_of(declared, known, at).is_some() {
+            return Ok(());
+        }
+        known.insert(alloc, at, place)?;
+        match declared.targets.get(at) {
+            Some(target) => at = target.as_str(),
+            None => return Ok(()),
+        }
+    }
+    Ok(())
+}
+
+/// What becomes of a line that isn't refused.
+#[derive(Clone, Copy, Debug, PartialEq, Eq)]
+pub(crate) enum Outcome {
+    /// It stays.
+    Kept,
+    /// The text that was written stands in its place, which takes so many bytes among the links.
+    Written(usize),
+}
+
+/// Whether RULES names a ruleset of which there is no rule.
+fn lacks_rules(declared: &Declared, saving: &Saving<'_>) -> bool
+    ensures { (values : List LineValue) → IsDeclared declared.now values → result ≡ lacks_rules values (saving_value saving.now) }
+{
+    match saving {
+        Saving::NoSaving | Saving::OneOff(_) => false,
+        Saving::Multiple(name) => !declared.rulesets.contains_key(name),
+    }
+}
+
+/// How many bytes a line that was written takes among the links.
+fn link_size(line: &Line<'_>, text: &[u8]) -> usize
+    requires { text.now ≡ plain_text (line_value line.now) }
+    ensures { result ≡ link_size (line_value line.now) }
+{
+    match line {
+        Line::Link(_) => text.len() + 1,
+        Line::Space | Line::Zone(_) | Line::Continuation(_) | Line::Rule(_) => 0,
+    }
+}
+
+/// Whether an earlier link of that new name has this target, or none where there is no such link.
+fn is_same(targets: &TextMap<Text>, existing: &str, new: &str) -> Option<bool>
+    ensures { result ≡ option_map (λ earlier. bytes_eq earlier existing.now) (map.get targets.now new.now) }
+{
+    match targets.get(new) {
+        Some(earlier) => Some(earlier.as_str() == existing),
+        None => None,
+    }
+}
+
+/// Where the zone of a link that is the first of its new name stands among the names.
+fn first_link(
+    alloc: Global,
+    declared: &Declared,
+    seen: &mut Seen,
+    limit: usize,
+    existing: &str,
+    new: &str,
+) -> Result<usize, Refused>
+    ensures ok { IfOk result (λ place. (values before : List LineValue) → IsAt declared.now seen.old limit values before
+        → (link_after values None existing.now new.now ≡ Ok (line_at_place declared.now.names (Some place) new.now))
+        × IsAt declared.now seen.new limit values (before ++ value.link existing.now new.now ∷ [])) }
+    ensures err { IfErr result (λ refused. (values before : List LineValue) → IsAt declared.now seen.old limit values before
+        → IsRefused (link_after values None existing.now new.now) refused) }
+{
+    let Some(place) = zone_place(declared, &seen.known, limit, existing) else {
+        return Err(Refused::Cause(PlainCause::Target));
+    };
+    keep(alloc, declared, &mut seen.known, limit, existing, place)?;
+    add_target(alloc, &mut seen.targets, existing, new)?;
+    Ok(place)
+}
+
+/// Where the zone of a link stands among the names, or none where the same link stands before.
+fn link_place(
+    alloc: Global,
+    declared: &Declared,
+    seen: &mut Seen,
+    limit: usize,
+    existing: &str,
+    new: &str,
+) -> Result<Option<usize>, Refused>
+    ensures ok { IfOk result (λ place. (values before : List LineValue) → IsAt declared.now seen.old limit values before
+        → (link_after values (target_of before new.now) existing.now new.now ≡ Ok (line_at_place declared.now.names place new.now))
+        × IsAt declared.now seen.new limit values (before ++ value.link existing.now new.now ∷ [])) }
+    ensures err { IfErr result (λ refused. (values before : List LineValue) → IsAt declared.now seen.old limit values before
+        → IsRefused (link_after values (target_of before new.now) existing.now new.now) refused) }
+{
+    match is_same(&seen.targets, existing, new) {
+        Some(true) => Ok(None),
+        Some(false) => Err(Refused::Cause(PlainCause::DuplicateLink)),
+        None => match first_link(alloc, declared, seen, limit, existing, new) {
+            Ok(place) => Ok(Some(place)),
+            Err(refused) => Err(refused),
+        },
+    }
+}
+
+/// The name at a place, and no letters past the end.
+fn name_at(names: &Items<Text>, place: usize) -> &str
+    ensures { result.now ≡ unwrap_or (slice_get names.now place) [] }
+{
+    match names.get(place) {
+        Some(name) => name.as_str(),
+        None => "",
+    }
+}
+
+/// A link to the zone at a place among the names, or a blank line.
+fn line_of<'a>(names: &'a Items<Text>, place: Option<usize>, new: &'a str) -> Line<'a>
+    ensures { line_value result ≡ line_at_place names.now place new.now }
+{
+    match place {
+        None => Line::Space,
+        Some(place) => Line::Link(Link {
+            existing: name_at(names, place),
+            new,
+        }),
+    }
+}
+
+/// What becomes of a link.
+fn settle_link(
+    alloc: Global,
+    reader: &mut LineReader<'_>,
+    declared: &Declared,
+    seen: &mut Seen,
+    limit: usize,
+    link: &Link<'_>,
+    text: &mut Vec<u8>,
+) -> Result<Outcome, Refused>
+    ensures ok { IfOk result (λ outcome. (values before : List LineValue) → IsAt declared.now seen.old limit values before
+        → IsOutcome (settled_link values before link.now.existing.now link.now.new.now)
+        (value.link link.now.existing.now link.now.new.now) text.new.items outcome
+        × IsAt declared.now seen.new limit values (before ++ value.link link.now.existing.now link.now.new.now ∷ [])) }
+    ensures err { IfErr result (λ refused. (values before : List LineValue) → IsAt declared.now seen.old limit values before
+        → IsRefused (settled_link values before link.now.existing.now link.now.new.now) refused) }
+{
+    if declared.zones.contains_key(link.new) {
+        return Err(Refused::Cause(PlainCause::LinkIsZone));
+    }
+    let place = match link_place(alloc, declared, seen, limit, link.existing, link.new) {
+        Ok(place) => place,
+        Err(refused) => return Err(refused),
+    };
+    let meant = line_of(&declared.names, place, link.new);
+    if !write_said(alloc, reader, &meant, text)? {
+        return Err(Refused::Cause(PlainCause::Unsayable));
+    }
+    Ok(Outcome::Written(link_size(&meant, text.as_slice())))
+}
+
+/// What becomes of the first line of a zone.
+fn settle_zone(
+    alloc: Global,
+    declared: &Declared,
+    seen: &mut Seen,
+    zone: &Zone<'_>,
+) -> Result<(), Refused>
+    ensures ok { IfOk result (λ _. (limit : ℕ) (values before : List LineValue) → IsAt declared.now seen.old limit values before
+        → (settled_line values before (line_value (kind.Zone zone.now)) ≡ Ok (line_value (kind.Zone zone.now)))
+        × IsAt declared.now seen.new limit values (before ++ line_value (kind.Zone zone.now) ∷ [])) }
+    ensures err { IfErr result (λ refused. (limit : ℕ) (values before : List LineValue) → IsAt declared.now seen.old limit values before
+        → IsRefused (settled_line values before (line_value (kind.Zone zone.now))) refused) }
+{
+    if lacks_rules(declared, &zone.info.saving) {
+        return Err(Refused::Cause(PlainCause::UnknownRuleset));
+    }
+    if seen.zones.contains_key(zone.name) {
+        return Err(Refused::Cause(PlainCause::DuplicateZone));
+    }
+    seen.zones.insert(alloc, zone.name, ())?;
+    Ok(())
+}
+
+/// What becomes of a line.
+pub(crate) fn settle_line(
+    alloc: Global,
+    reader: &mut LineReader<'_>,
+    declared: &Declared,
+    seen: &mut Seen,
+    limit: usize,
+    line: &Line<'_>,
+    text: &mut Vec<u8>,
+) -> Result<Outcome, Refused>
+    ensures ok { IfOk result (λ outcome. (values before : List LineValue) → IsAt declared.now seen.old limit values before
+        → IsOutcome (settled_line values before (line_value line.now)) (line_value line.now) text.new.items outcome
+        × IsAt declared.now seen.new limit values (before ++ line_value line.now ∷ [])) }
+    ensures err { IfErr result (λ refused. (values before : List LineValue) → IsAt declared.now seen.old limit values before
+        → IsRefused (settled_line values before (line_value line.now)) refused) }
+{
+    match line {
+        Line::Space => Ok(Outcome::Kept),
+        Line::Rule(_) => Ok(Outcome::Kept),
+        Line::Continuation(info) => {
+            if lacks_rules(declared, &info.saving) {
+                Err(Refused::Cause(PlainCause::UnknownRuleset))
+            } else {
+                Ok(Outcome::Kept)
+            }
+        }
+        Line::Zone(zone) => match settle_zone(alloc, declared, seen, zone) {
+            Ok(()) => Ok(Outcome::Kept),
+            Err(refused) => Err(refused),
+        },
+        Line::Link(link) => {
+            match settle_link(alloc, reader, declared, seen, limit, link, text) {
+                Ok(outcome) => Ok(outcome),
+                Err(refused) => Err(refused),
+            }
+        }
+    }
+}
+
+/// Nothing that was seen.
+fn nothing_seen(alloc: Global) -> Seen
+    ensures { (d : Declared) (values : List LineValue) (limit : ℕ) → IsDeclared d values → limit ≡ length values → IsAt d result limit values [] }
+{
+    Seen {
+        zones: TextMap::new(alloc),
+        targets: TextMap::new(alloc),
+        known: TextMap::new(alloc),
+    }
+}
+
+/// Adds what a line became, after links of so many bytes. Answers how many bytes they take then.
+fn add_line(
+    into: &mut LineList,
+    lines: &LineList,
+    place: usize,
+    text: &[u8],
+    size: usize,
+    outcome: Outcome,
+) -> Result<usize, PlainFault>
+    requires size { size ≤ LIMIT }
+    requires place { place < length lines.now }
+    ensures ok { IfOk result (λ size_now. (found : Result LineValue PlainCause)
+        → IsOutcome found (value_at lines.now place) text.now outcome
+        → Adds found (each source_value into.old) (each source_value into.new) size size_now) }
+    ensures err { IfErr result (λ fault. (found : Result LineValue PlainCause)
+        → IsOutcome found (value_at lines.now place) text.now outcome → IsPast found size fault) }
+{
+    match outcome {
+        Outcome::Kept => {
+            keep_line(into, lines, place)?;
+            Ok(size)
+        }
+        Outcome::Written(added) => {
+            if added > LIMIT - size {
+                return Err(PlainFault::TooLong);
+            }
+            into.push(text)?;
+            Ok(size + added)
+        }
+    }
+}
+
+/// The lines of a source, each in its place: a link with the zone to which its target leads, over as many links as it takes;
+/// nothing where the same link stood before; and every other line as it is.
+///
+/// # Errors
+///
+/// `Line` tells the first line that can't stand in the source, by its number from 1 on: for a ruleset of which the source has no
+/// rule (`UnknownRuleset`), a zone of a name that an earlier one has (`DuplicateZone`), a link of a name that a zone has
+/// (`LinkIsZone`) or that an earlier link has with another target (`DuplicateLink`), a link that leads to no zone (`Target`), and one
+/// that can't be written (`Unsayable`). `TooLong` comes where the links so far take more than 16,777,216 bytes.
+pub(crate) fn settle(
+    alloc: Global,
+    parser: &LineParser,
+    lines: &LineList,
+) -> Result<LineList, PlainFault>
+    ensures ok { IfOk result (λ new. settled (each source_value lines.now) ≡ Ok (each source_value new)) }
+    ensures err { IfErr result (IsFaultOf (settled (each source_value lines.now))) }
+{
+    let mut reader = parser.reader(alloc)?;
+    let read = lines_read(alloc, &mut reader, lines)?;
+    settle_lines(alloc, &mut reader, lines, read.as_slice())
+}
+
+/// The lines of a source, each in its place, by what they say.
+fn settle_lines(
+    alloc: Global,
+    reader: &mut LineReader<'_>,
+    lines: &LineList,
+    read: &[Line<'_>],
+) -> Result<LineList, PlainFault>
+    requires { each line_value read.now ≡ each source_value lines.now }
+    ensures ok { IfOk result (λ new. settled (each source_value lines.now) ≡ Ok (each source_value new)) }
+    ensures err { IfErr result (IsFaultOf (settled (each source_value lines.now))) }
+{
+    let declared = declared_by(alloc, read)?;
+    let mut seen = nothing_seen(alloc);
+    let mut text = Vec::new(alloc);
+    let mut settled = LineList::new(alloc);
+    let mut size = 0;
+    let count = read.len();
+    for (place, line) in read.iter().enumerate() {
+        let outcome = match settle_line(
+            alloc, reader, &declared, &mut seen, count, line, &mut text,
+        ) {
+            Ok(outcome) => outcome,
+            Err(refused) => return Err(fault_at(place + 1, refused)),
+        };
+        size = match add_line(&mut settled, lines, place, text.as_slice(), size, outcome) {
+            Ok(size) => size,
+            Err(fault) => return Err(fault),
+        };
+    }
+    Ok(settled)
+}

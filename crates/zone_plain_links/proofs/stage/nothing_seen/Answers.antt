@@ -1,5 +1,0 @@
-use Rattle.zone_plain_links.proofs.StageLemmas.{first_at}
-use Rattle.zone_plain_links.proofs.stage.nothing_seen.Goals as goal
-
-pub returns : goal.returns
-returns c d values limit declared few = first_at d _ values limit c.new.ensures c.new-2.ensures c.new-3.ensures declared few
