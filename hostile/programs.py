@@ -49,13 +49,13 @@ class Program:
     def words_for(self, path, name=None):
         """The words for that file, and for that zone in place of the entry's."""
         words = [path if word == FILE else word for word in self.words]
-        if name is not None and self.has_zone():
-            words[1] = name
+        if name is not None:
+            words = [name if word == NEW_YORK else word for word in words]
         return words
 
     def has_zone(self):
         """Whether it is asked for one zone, which its words name."""
-        return len(self.words) > 1
+        return NEW_YORK in self.words
 
     def has_all_zones(self):
         """Whether it takes every zone of a source."""
@@ -68,6 +68,7 @@ ANSWERS = rf"(({ZONED}( \| {ZONED})*|none)\n)*"
 
 PROGRAMS = [
     Program("zone_answers", (FILE,), ANSWERS, r"request \d+", "not text|request|range", has_input=True),
+    Program("zone_ever", ("answers", FILE), ANSWERS, r"request \d+", "not text|request|range|rules end", has_input=True),
     Program("zone_file_answers", (FILE,), ANSWERS, r"request \d+", "not text|request|range", takes=COMPILED, has_input=True),
     Program("zone_plain", (FILE,), r"(# version [^\n]+\n)?((Rule|Zone|Link)? [^\n]*\n)*", "plain", "too long", takes=ANY_SOURCE),
     Program("zone_list", (FILE, NEW_YORK, "1000000000", "4102444800"), rf"( *-?\d+  [^\n]*  {ZONED}\n)*", "list", "range"),

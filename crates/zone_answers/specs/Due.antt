@@ -9,7 +9,7 @@ use Rattle.zone_answers.specs.FaultLines.{fault_line}
 use Rattle.zone_answers.specs.Found.{Found, Reading, found_in, to_2099}
 use Rattle.zone_answers.specs.Requests.{Request, at, local, name_of, request_of}
 use Rattle.zone_source.specs.Lines.{lines_of}
-use Rattle.tz_zone.specs.InForce.{in_force, all_in_force}
+use Rattle.tz_lookup.specs.InForce.{in_force, all_in_force}
 
 -- the instants that answer a request at a zone of these totals, by time, each at the offset in force
 unfoldable pub shown_at : (ℤ → ℤ) → Request → List (ℤ × ℤ)
