@@ -1,5 +1,5 @@
 -- What a name finds in a table for ever, and why it finds nothing.
-use Rattle.std.specs.Prelude.{◌≡◌, ℕ, List, Option, Some, true, false, Ok, ℤ}
+use Rattle.std.specs.Prelude.{◌≡◌, ℕ, List, Bool, Option, Some, true, false, Result, Ok, Err, ℤ}
 use Rattle.std.specs.List.{list_all}
 use Rattle.std.specs.FinMap.{get}
 use Rattle.zone_table.specs.Resolved.{resolved_in}
@@ -10,6 +10,8 @@ use Rattle.zone_spans.specs.Compiled.{compiled}
 use Rattle.zone_spans.specs.GoesOn.{GoesOn, goes_on}
 use Rattle.zone_spans.specs.Lines.{zone_lines}
 use Rattle.zone_spans.specs.Schedules.{is_in_offset_range, totals_of}
+use Rattle.zone_spans.specs.declared.fault.SpanFault.{SpanFault}
+use Rattle.zone_spans.specs.declared.fault.SpanFault.TheVariants.{DayRange}
 use Rattle.zone_spans.specs.declared.span.FixedTimespanSet as spans
 use Rattle.zone_cycle.specs.ForEver.{span_for_ever, total_for_ever}
 use Rattle.tz_zone.specs.Compiles.{IsTooFar, IsZoneFault, compiled_in, compiled_in_over}
@@ -19,7 +21,7 @@ use Rattle.tz_zone.specs.declared.set.FixedTimespanSet.{FixedTimespanSet}
 use Rattle.tz_ever.specs.Ever.{ever_span, ever_total}
 use Rattle.tz_ever.specs.ForEver.{IsForEver, ever_years}
 use Rattle.tz_ever.specs.declared.open.EverFault.{EverFault}
-use Rattle.tz_ever.specs.declared.open.EverFault.TheVariants.{LaterOffset, RulesEnd, Zone}
+use Rattle.tz_ever.specs.declared.open.EverFault.TheVariants.{LaterDay, LaterOffset, RulesEnd, Zone}
 
 -- a name finds a zone with these lines, which has a schedule today whose totals are offsets
 pub record IsZoneToday (table : Table) (name : List ℕ) : Type 0 where
@@ -40,6 +42,15 @@ pub record DoesNotGoOn (table : Table) (name : List ℕ) : Type 0 where
   pub zone : IsZoneToday table name
   pub ends : goes_on (zone_lines (get table.rulesets) zone.infos) ≡ false
 
+-- a day of the lines lies in another year than its own
+abbrev pub leaves_year : Option (Result spans.FixedTimespanSet SpanFault) → Bool
+leaves_year (Some (Err DayRange)) = true
+leaves_year _ = false
+
+-- whether one does in the years to 2503
+abbrev pub leaves_year_later : Table → List ℕ → Bool
+leaves_year_later table name = leaves_year (compiled_in_over ever_years table name)
+
 -- the zone goes on, and has a greater offset over 704 years
 pub record IsTooFarLater (table : Table) (name : List ℕ) : Type 0 where
   pub zone : IsGoing table name
@@ -48,7 +59,8 @@ pub record IsTooFarLater (table : Table) (name : List ℕ) : Type 0 where
 -- why a name has no zone for ever; want of memory may come in place of any
 abbrev pub IsEverFault : Table → List ℕ → EverFault → Type 0
 IsEverFault table name (Zone fault) = IsZoneFault (compiled_in table name) fault
-IsEverFault table name RulesEnd = DoesNotGoOn table name
+IsEverFault table name LaterDay = DoesNotGoOn table name × (leaves_year_later table name ≡ true)
+IsEverFault table name RulesEnd = DoesNotGoOn table name × (leaves_year_later table name ≡ false)
 IsEverFault table name LaterOffset = IsTooFarLater table name
 
 -- a set says all that the zone of a name shows for ever, at each instant in nanoseconds: the total, and the span with its
@@ -67,6 +79,11 @@ IsLater zone_fault.UnknownZone = ⊥
 IsLater (zone_fault.Schedule fault) = ⊥
 IsLater zone_fault.OffsetRange = Unit {0}
 IsLater zone_fault.NoMemory = Unit {0}
+
+-- why lines don't go on that over 704 years have this fault
+abbrev pub ending_by : SpanFault → EverFault
+ending_by DayRange = LaterDay
+ending_by fault = RulesEnd
 
 abbrev pub fault_later : ZoneFault → EverFault
 fault_later zone_fault.OffsetRange = LaterOffset

@@ -1,7 +1,7 @@
 //! A zone of a table, opened for ever.
 ghost use Rattle.std.specs.Prelude.{◌≡◌, IfErr, IfOk};
 ghost use Rattle.tz_zone.specs.Sets.{IsAccepted, schedule_of};
-ghost use Rattle.tz_ever.specs.Opens.{IsEverFault, IsFoundForEver, IsGoing, IsLater, fault_later, IsZoneToday};
+ghost use Rattle.tz_ever.specs.Opens.{DoesNotGoOn, IsEverFault, IsFoundForEver, IsGoing, IsLater, ending_by, fault_later, IsZoneToday};
 ghost use Rattle.tz_lookup.specs.declared.compact_set.CompactFault.TheVariants as compact_fault;
 ghost use Rattle.tz_zone.specs.declared.compile.ZoneFault.TheVariants.{NoMemory};
 ghost use Rattle.tz_ever.specs.declared.open.EverFault.TheVariants.{Zone};
@@ -22,8 +22,10 @@ use zone_table::Table;
 pub enum EverFault {
     /// As of [`compile_zone`]: no zone, no schedule, an offset of 26 hours or more before 2100, or no memory.
     Zone(ZoneFault),
-    /// The zone doesn't go on: its last line has an end, another line or a rule of the last one begins or ends after 2099, a rule's day
-    /// leaves its year, or what the rules do doesn't come again after 400 years.
+    /// The zone doesn't go on, since a day of its lines lies in another year than its own in one of the years 2100 to 2503.
+    LaterDay,
+    /// The zone doesn't go on: its last line has an end, another line or a rule of the last one begins or ends after 2099, or what the
+    /// rules do doesn't come again after 400 years.
     RulesEnd,
     /// Some span from 2100 on has an offset of 26 hours or more in size, and none before it.
     LaterOffset,
@@ -40,8 +42,8 @@ impl EverSet {
     ///
     /// # Errors
     ///
-    /// In this order: those of [`compile_zone`]; `RulesEnd` exactly where the zone doesn't go on; `LaterOffset` exactly where some
-    /// span of the years from 2100 on has an offset of 26 hours or more in size.
+    /// In this order: those of [`compile_zone`]; `LaterDay` and `RulesEnd` exactly where the zone doesn't go on, for a day of 2100 to 2503
+    /// or without one; `LaterOffset` exactly where some span of the years from 2100 on has an offset of 26 hours or more in size.
     pub fn open(alloc: Global, table: &Table, name: &str) -> Result<EverSet, EverFault>
         requires { IsBoundedTable table.now }
         ensures ok { IfOk result (λ ever. IsFoundForEver table.now name.now (ever_seen ever)) }
@@ -81,9 +83,36 @@ fn test_going(alloc: Global, table: &Table, name: &str) -> Result<(), EverFault>
 {
     match table.goes_on(alloc, name) {
         Ok(Some(true)) => Ok(()),
-        Ok(Some(false)) => Err(EverFault::RulesEnd),
+        Ok(Some(false)) => Err(ending(alloc, table, name)),
         Ok(None) => unreachable!(),
         Err(fault) => Err(no_memory(fault)),
+    }
+}
+
+/// Why a zone doesn't go on.
+fn ending(alloc: Global, table: &Table, name: &str) -> EverFault
+    requires table { IsBoundedTable table.now }
+    requires ends { DoesNotGoOn table.now name.now }
+    ensures { IsEverFault table.now name.now result }
+{
+    match compile_zone_over(alloc, table, name, EVER_YEARS) {
+        Ok(later) => {
+            drop(later);
+            EverFault::RulesEnd
+        }
+        Err(ZoneFault::UnknownZone) => EverFault::RulesEnd,
+        Err(ZoneFault::Schedule(fault)) => ending_by(fault),
+        Err(ZoneFault::OffsetRange) => EverFault::RulesEnd,
+        Err(ZoneFault::NoMemory) => EverFault::Zone(ZoneFault::NoMemory),
+    }
+}
+
+fn ending_by(fault: SpanFault) -> EverFault
+    ensures { result ≡ ending_by fault }
+{
+    match fault {
+        SpanFault::DayRange => EverFault::LaterDay,
+        _ => EverFault::RulesEnd,
     }
 }
 
