@@ -55,7 +55,7 @@ class Program:
 
     def has_zone(self):
         """Whether it is asked for one zone, which its words name."""
-        return len(self.words) > 1
+        return len(self.words) > 1 and not self.has_input
 
     def has_all_zones(self):
         """Whether it takes every zone of a source."""
@@ -68,6 +68,7 @@ ANSWERS = rf"(({ZONED}( \| {ZONED})*|none)\n)*"
 
 PROGRAMS = [
     Program("zone_answers", (FILE,), ANSWERS, r"request \d+", "not text|request|range", has_input=True),
+    Program("zone_ever", ("answers", FILE), ANSWERS, r"request \d+", "not text|request|range|rules end", has_input=True),
     Program("zone_file_answers", (FILE,), ANSWERS, r"request \d+", "not text|request|range", takes=COMPILED, has_input=True),
     Program("zone_plain", (FILE,), r"(# version [^\n]+\n)?((Rule|Zone|Link)? [^\n]*\n)*", "plain", "too long", takes=ANY_SOURCE),
     Program("zone_list", (FILE, NEW_YORK, "1000000000", "4102444800"), rf"( *-?\d+  [^\n]*  {ZONED}\n)*", "list", "range"),
