@@ -169,7 +169,7 @@ fn callers_answer(rt: HostRuntime) {
 }
 
 /// Zones that go on: New York's last line, a still one, and one whose saving alternates from year to year. Others that don't: a rule of
-/// them begins in 2100 or ends in 2200, or their last line has an end. And one that has an offset of 26 hours from 2100 on, since each
+/// them begins in 2100 or ends in 2200, their last line has an end, or a Sunday from December 26 on lies in the year after 2101. And one that has an offset of 26 hours from 2100 on, since each
 /// second rule of March hides the first in 2099.
 const FOR_EVER: &[u8] = b"\
 Rule US 2007 max - Mar Sun>=8 2:00 1:00 D
@@ -187,6 +187,9 @@ Rule Long 2000 2200 - Mar 1 2:00 1:00 -
 Rule Long 2000 2200 - Oct 1 2:00 0 -
 Zone Made/Long 0:00 Long GMT
 Zone Made/Ended 0:00 - GMT 2000
+Rule Leap 2000 max - Mar 1 2:00 0 -
+Rule Leap 2098 max - Dec Sun>=26 2:00 1:00 -
+Zone Made/Leap 0:00 Leap GMT
 Rule Far 2000 max - Jul 1 0:00u 1:00 -
 Rule Far 2000 max - Oct 1 0:00u 0 -
 Rule Far 2099 max - Mar 1 0:00u -29:00 -
@@ -241,6 +244,8 @@ fn other_zones_are_refused(rt: HostRuntime) {
         let ends = offset_for_ever(alloc, &table, name, &at(&rt, 0));
         same_at(&rt, name, &ends, &Err(EverFault::RulesEnd));
     }
+    let leaves = offset_for_ever(alloc, &table, "Made/Leap", &at(&rt, 0));
+    same(&rt, &leaves, &Err(EverFault::LaterDay));
     let far = offset_for_ever(alloc, &table, "Made/Far", &at(&rt, 0));
     same(&rt, &far, &Err(EverFault::LaterOffset));
     let unknown = offset_for_ever(alloc, &table, "Made/None", &at(&rt, 0));

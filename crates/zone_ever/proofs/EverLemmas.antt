@@ -16,28 +16,29 @@ use Rattle.tz_zone.specs.Sets.{schedule_of}
 use Rattle.tz_zone.specs.declared.set.FixedTimespanSet.{FixedTimespanSet}
 use Rattle.tz_ever.specs.Ever.{ever_total}
 use Rattle.tz_ever.specs.ForEver.{ever_years}
-use Rattle.tz_ever.specs.Opens.{DoesNotGoOn, IsEverFault, IsFoundForEver, IsTooFarLater, IsZoneToday}
+use Rattle.tz_ever.specs.Opens.{DoesNotGoOn, IsEverFault, IsFoundForEver, IsTooFarLater, IsZoneToday, leaves_year, leaves_year_later}
 use Rattle.tz_ever.specs.declared.open.EverFault.{EverFault}
-use Rattle.tz_ever.specs.declared.open.EverFault.TheVariants.{LaterOffset, RulesEnd, Zone}
+use Rattle.tz_ever.specs.declared.open.EverFault.TheVariants.{LaterDay, LaterOffset, RulesEnd, Zone}
 use Rattle.zone_answers.specs.Faults.{Fault, zone_refusal}
-use Rattle.zone_answers.specs.Found.{Found, found_in_table, found_of, found_under, offset_range, rules_end, to_2099}
+use Rattle.zone_answers.specs.Found.{Found, found_in_table, found_of, found_under, offset_range, to_2099}
 use Rattle.zone_answers.specs.FoundLaws.{open_refused}
 use Rattle.zone_answers.specs.Told.{TellsOf, fault_told}
 use Rattle.zone_answers.specs.declared.error.AnswerError.{AnswerError}
 use Rattle.zone_answers.specs.declared.error.AnswerError.TheVariants.{NoMemory}
-use Rattle.zone_ever.specs.Readings.{for_ever, found_later, found_on}
+use Rattle.zone_ever.specs.Readings.{ending, for_ever, found_later, found_on}
 use Rattle.zone_ever.specs.Refused.{RefusesEver}
 
 -- lines that can be asked to 2099
 module _ (rulesets : Rulesets) (lines : List ZoneInfo) (today : spans.FixedTimespanSet) (compiles : compiled rulesets lines ≡ Ok today)
     (small : is_in_offset_range (totals_of today) ≡ true) where
   -- by whether they go on
-  by_going : (b : Bool) → goes_on (zone_lines rulesets lines) ≡ b → for_ever rulesets lines ≡ cond b (found_later rulesets lines) (Err rules_end)
+  by_going : (b : Bool) → goes_on (zone_lines rulesets lines) ≡ b
+      → for_ever rulesets lines ≡ cond b (found_later rulesets lines) (Err (ending (leaves_year (Some (compiled_over ever_years rulesets lines)))))
   unfolding for_ever to_2099
   by_going b is =
       ap (λ o. found_on rulesets lines (found_of o)) compiles
       ∙ ap (λ b. found_on rulesets lines (cond b (Ok (total_at (totals_of today))) (Err offset_range))) small
-      ∙ ap (λ b. cond b (found_later rulesets lines) (Err rules_end)) is
+      ∙ ap (λ b. cond b (found_later rulesets lines) (Err (ending (leaves_year (Some (compiled_over ever_years rulesets lines)))))) is
 
   -- by the offsets of the later years
   by_range : (set : spans.FixedTimespanSet) (b : Bool) → goes_on (zone_lines rulesets lines) ≡ true
@@ -58,10 +59,12 @@ found_is table name set is small =
     ∙ by_range (get table.rulesets) is.infos is.zone.today is.zone.compiles is.zone.range _ true is.zone.goes_on is.zone.set_is small
     ∙ ap Ok (λ i t. sym (is.total t) i)
 
-ends_is : (table : Table) (name : List ℕ) → DoesNotGoOn table name → found_in_table for_ever table name ≡ Err rules_end
-ends_is table name is =
+ends_is : (table : Table) (name : List ℕ) (leaves : Bool) → DoesNotGoOn table name → leaves_year_later table name ≡ leaves
+    → found_in_table for_ever table name ≡ Err (ending leaves)
+ends_is table name leaves is due =
     ap (found_under for_ever (get table.rulesets)) is.zone.is_found
     ∙ by_going (get table.rulesets) is.zone.infos is.zone.today is.zone.compiles is.zone.range false is.ends
+    ∙ ap (λ b. Err (ending b)) (ap (λ found. leaves_year (option_map (compiled_over ever_years (get table.rulesets)) found)) (sym is.zone.is_found) ∙ due)
 
 far_is : (table : Table) (name : List ℕ) → IsTooFarLater table name → found_in_table for_ever table name ≡ Err offset_range
 far_is table name is =
@@ -98,5 +101,6 @@ pub ever_refused : (table : Table) (name : List ℕ) (n : ℕ) (fault : EverFaul
 ever_refused table name n (Zone fault) error is refused =
     told_for_ever (get table.rulesets) (resolved_in table name) n error
     (open_refused (get table.rulesets) (resolved_in table name) n fault error is refused)
-ever_refused table name n RulesEnd error is refused = rw (ends_is table name is, refused) refl
+ever_refused table name n LaterDay error is refused = rw (ends_is table name true is.0 is.1, refused) refl
+ever_refused table name n RulesEnd error is refused = rw (ends_is table name false is.0 is.1, refused) refl
 ever_refused table name n LaterOffset error is refused = rw (far_is table name is, refused) refl

@@ -2,11 +2,14 @@
 use Rattle.std.proofs.Common.{◌≡◌, ℤ, List, [], ◌∷◌, map, true, false, Some, None, Ok, Err, refl, ap}
 use Rattle.std.specs.Prelude.{codes}
 use Rattle.zone_table.specs.declared.zone.ZoneInfo.{ZoneInfo}
+use Rattle.zone_spans.specs.Compiled.{compiled_over}
 use Rattle.zone_spans.specs.GoesOn.{goes_on}
 use Rattle.zone_spans.specs.Lines.{Rulesets, zone_lines}
 use Rattle.zone_spans.specs.Schedules.{is_in_offset_range, schedule_over}
+use Rattle.zone_spans.specs.declared.fault.SpanFault.TheVariants.{DayRange}
 use Rattle.zone_cycle.specs.ForEver.{total_for_ever}
-use Rattle.zone_answers.specs.Found.{Cause, offset_range, rules_end, to_2099}
+use Rattle.tz_ever.specs.Opens.{leaves_year}
+use Rattle.zone_answers.specs.Found.{Cause, bad_schedule, offset_range, rules_end, to_2099}
 use Rattle.zone_ever.specs.Readings.{for_ever, found_on}
 use Rattle.zone_ever.specs.Words.{file_in}
 
@@ -16,10 +19,17 @@ module _ (rulesets : Rulesets) (lines : List ZoneInfo) (total : ℤ → ℤ) whe
   unfolding for_ever
   cause_first cause is = ap (found_on rulesets lines) is
 
-  -- then that the rules end
-  then_rules_end : to_2099 rulesets lines ≡ Ok total → goes_on (zone_lines rulesets lines) ≡ false → for_ever rulesets lines ≡ Err rules_end
+  -- then, of lines that don't go on, a day of the first 704 years that lies in another year than its own
+  then_days : to_2099 rulesets lines ≡ Ok total → goes_on (zone_lines rulesets lines) ≡ false
+      → compiled_over 704 rulesets lines ≡ Err DayRange → for_ever rulesets lines ≡ Err (bad_schedule DayRange)
   unfolding for_ever
-  then_rules_end is ends = rw (is, ends) refl
+  then_days is ends leaves = rw (is, ends, leaves) refl
+
+  -- else that the rules end
+  then_rules_end : to_2099 rulesets lines ≡ Ok total → goes_on (zone_lines rulesets lines) ≡ false
+      → leaves_year (Some (compiled_over 704 rulesets lines)) ≡ false → for_ever rulesets lines ≡ Err rules_end
+  unfolding for_ever
+  then_rules_end is ends stays = rw (is, ends, stays) refl
 
   -- then an offset of the first 704 years
   then_offsets : to_2099 rulesets lines ≡ Ok total → goes_on (zone_lines rulesets lines) ≡ true

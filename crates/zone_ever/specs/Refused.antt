@@ -1,12 +1,14 @@
 -- Why a zone can't be asked for ever.
 use Rattle.std.specs.Prelude.{◌≡◌, ℕ}
+use Rattle.zone_spans.specs.declared.fault.SpanFault.TheVariants.{DayRange}
 use Rattle.tz_ever.specs.declared.open.EverFault.{EverFault}
-use Rattle.tz_ever.specs.declared.open.EverFault.TheVariants.{Zone, RulesEnd, LaterOffset}
+use Rattle.tz_ever.specs.declared.open.EverFault.TheVariants.{Zone, LaterDay, RulesEnd, LaterOffset}
 use Rattle.zone_answers.specs.Told.{RefusesZone}
 use Rattle.zone_answers.specs.declared.error.AnswerError.{AnswerError}
 use Rattle.zone_answers.specs.declared.error.AnswerError.TheVariants as error
 
 abbrev pub RefusesEver : ℕ → EverFault → AnswerError → Type 0
 RefusesEver n (Zone fault) e = RefusesZone n fault e
+RefusesEver n LaterDay e = e ≡ error.Schedule n DayRange
 RefusesEver n RulesEnd e = e ≡ error.RulesEnd n
 RefusesEver n LaterOffset e = e ≡ error.OffsetRange n

@@ -4,6 +4,7 @@ ghost use Rattle.zone_ever.specs.Refused.{RefusesEver};
 use std::alloc::{AllocError, Global};
 use tz_ever::{EverFault, EverSet, EverTz};
 use zone_answers::{AnswerError, OpenedZone, Request, show};
+use zone_spans::SpanFault;
 use zone_table::Table;
 
 /// A zone that goes on for ever, kept compactly.
@@ -44,6 +45,7 @@ fn refused(number: usize, fault: EverFault) -> AnswerError
 {
     match fault {
         EverFault::Zone(fault) => AnswerError::of_zone(number, fault),
+        EverFault::LaterDay => AnswerError::Schedule(number, SpanFault::DayRange),
         EverFault::RulesEnd => AnswerError::RulesEnd(number),
         EverFault::LaterOffset => AnswerError::OffsetRange(number),
     }

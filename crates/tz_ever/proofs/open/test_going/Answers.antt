@@ -15,8 +15,8 @@ returns-in-Ok-Some-true-clause-ok c =
     here.ensures.told)
     here.ensures.bounded
 
-pub returns-in-Ok-Some-false-clause-err : goal.returns-in-Ok-Some-false-clause-err
-returns-in-Ok-Some-false-clause-err c =
+pub ending-requires-clause-ends : goal.ending-requires-clause-ends
+ending-requires-clause-ends c =
     let table = c.args.table.now in
     let name = c.args.name.now in
     let here = c.in-Ok-Some-false in
