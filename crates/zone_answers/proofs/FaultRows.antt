@@ -1,5 +1,5 @@
 -- Which fault of a request comes first, and which dates leave the years, at worked rows.
-use Rattle.std.proofs.Common.{◌≡◌, ℕ, List, [], ◌∷◌, map, Some, None, Result, Ok, Err, refl, ℤ, pos, negsuc, Bool, true, false, cond}
+use Rattle.std.proofs.Common.{◌≡◌, ℕ, List, [], ◌∷◌, map, Some, None, Result, Ok, Err, refl, ℤ, pos, negsuc, true, false}
 use Rattle.std.specs.Fmt.{digits}
 use Rattle.std.specs.Prelude.{codes}
 use Rattle.std.specs.Str.{is_utf8, chars}
@@ -7,14 +7,15 @@ use lib.Utf8.{encode}
 use Rattle.zone_source.specs.Faults.{not_text, source_fault}
 use Rattle.zone_source.specs.Lines.{lines_of}
 use Rattle.zone_spans.specs.Lines.{Rulesets}
-use Rattle.zone_spans.specs.Schedules.{is_in_offset_range, total_at, totals_of}
+use Rattle.zone_spans.specs.Schedules.{total_at, totals_of}
 use Rattle.zone_spans.specs.declared.fault.SpanFault.{SpanFault}
 use Rattle.zone_spans.specs.declared.fault.SpanFault.TheVariants as span
 use Rattle.zone_spans.specs.declared.span.FixedTimespanSet.{FixedTimespanSet}
 use Rattle.zone_source.specs.LineLists.{ended}
 use Rattle.zone_answers.specs.FaultLines.{fault_line}
-use Rattle.zone_answers.specs.Told.{fault_told}
+use Rattle.zone_answers.specs.Told.{fault_told, reading_told}
 use Rattle.zone_answers.specs.declared.error.AnswerError.TheVariants as error
+use Rattle.zone_answers.specs.declared.error.ReadingError.TheVariants as reading
 use Rattle.zone_answers.specs.declared.error.Side.TheVariants.{Source, Requests}
 use Rattle.zone_answers.specs.Faults.{
   are_in_years,
@@ -69,15 +70,6 @@ local_refusals = refl
 no_lines : (read : Reading) (rulesets : Rulesets) → found_under read rulesets None ≡ Err unknown_zone
 no_lines read rulesets = refl
 
--- no zone's rules end that is read to 2099
-never_ends : (result : Result FixedTimespanSet SpanFault) → found_of result ≡ Err rules_end → ⊥
-never_ends (Err fault) is = absurd cc
-never_ends (Ok set) is = by_range (is_in_offset_range (totals_of set)) is
-  where
-    by_range : (b : Bool) → cond b (Ok (total_at (totals_of set))) (Err offset_range) ≡ Err rules_end → ⊥
-    by_range true is = absurd cc
-    by_range false is = absurd cc
-
 -- a line that is no text, one in no form, and one that names no zone
 before_a_zone_is_found : map (request_refusal (λ name. Err unknown_zone) 7) ((97 ∷ 255 ∷ []) ∷ codes "what A 0" ∷ codes "at A 0" ∷ [])
     ≡ Some (request_not_text 7) ∷ Some (bad_request 7) ∷ Some (bad_zone 7 unknown_zone) ∷ []
@@ -123,8 +115,11 @@ each_line_ends = refl
 -- the code's errors, each with its own fault and number; want of memory is none, a schedule's neither
 errors : map fault_told
     (error.NotText Source 1 ∷ error.NotText Requests 2 ∷ error.Request 3 ∷ error.UnknownZone 4 ∷ error.Schedule 5 span.DayRange
-    ∷ error.Schedule 6 span.NoMemory ∷ error.OffsetRange 7 ∷ error.Range 8 ∷ error.RulesEnd 9 ∷ error.NoMemory ∷ [])
+    ∷ error.Schedule 6 span.NoMemory ∷ error.OffsetRange 7 ∷ error.Range 8 ∷ error.NoMemory ∷ [])
     ≡ Some (of_source (not_text 1)) ∷ Some (request_not_text 2) ∷ Some (bad_request 3)
-    ∷ Some (bad_zone 4 unknown_zone) ∷ Some (bad_zone 5 (bad_schedule span.DayRange)) ∷ None ∷ Some (bad_zone 7 offset_range) ∷ Some (range 8)
-    ∷ Some (bad_zone 9 rules_end) ∷ None ∷ []
+    ∷ Some (bad_zone 4 unknown_zone) ∷ Some (bad_zone 5 (bad_schedule span.DayRange)) ∷ None ∷ Some (bad_zone 7 offset_range) ∷ Some (range 8) ∷ None ∷ []
 errors = refl
+
+readings : map reading_told (reading.Answer (error.Range 8) ∷ reading.Answer error.NoMemory ∷ reading.RulesEnd 9 ∷ [])
+    ≡ Some (range 8) ∷ None ∷ Some (bad_zone 9 rules_end) ∷ []
+readings = refl

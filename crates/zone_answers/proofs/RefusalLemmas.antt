@@ -8,9 +8,10 @@ use Rattle.zone_answers.specs.Due.{answer_line, answer_text, shown_at, shown_for
 use Rattle.zone_answers.specs.Faults.{Fault, bad_request, request_not_text, dates_refusal, found_refusal, request_refusal, zone_refusal}
 use Rattle.zone_answers.specs.Found.{Found}
 use Rattle.zone_answers.specs.Requests.{Request, name_of, request_of}
-use Rattle.zone_answers.specs.Told.{TellsOf, fault_told}
-use Rattle.zone_answers.specs.declared.error.AnswerError.{AnswerError}
+use Rattle.zone_answers.specs.Told.{TellsReading, reading_told}
 use Rattle.zone_answers.specs.declared.error.AnswerError.TheVariants.{NoMemory}
+use Rattle.zone_answers.specs.declared.error.ReadingError.{ReadingError}
+use Rattle.zone_answers.specs.declared.error.ReadingError.TheVariants.{Answer}
 
 pub not_text_refused : (names : List ℕ → Found) (n : ℕ) (line : List ℕ) → is_utf8 line ≡ false
     → request_refusal names n line ≡ Some (request_not_text n)
@@ -53,12 +54,12 @@ pub line_is : (names : List ℕ → Found) (line : List ℕ) (request : Request)
 line_is names line request total is found = ap answer_text (shown_is names line request total is found)
 
 -- why a zone can't be asked is why the request is refused
-pub zone_refused : (found : Found) (n : ℕ) (request : Request) (error : AnswerError) → TellsOf (zone_refusal n found) error
-    → TellsOf (found_refusal n request found) error
+pub zone_refused : (found : Found) (n : ℕ) (request : Request) (error : ReadingError) → TellsReading (zone_refusal n found) error
+    → TellsReading (found_refusal n request found) error
 zone_refused (Err cause) n request error tells = tells
-zone_refused (Ok total) n request error tells = by_told (fault_told error) tells
+zone_refused (Ok total) n request error tells = by_told (reading_told error) tells
   where
-    by_told : (told : Option Fault) → MatchOption told (error ≡ NoMemory) (λ f. None ≡ Some f)
-        → MatchOption told (error ≡ NoMemory) (λ f. dates_refusal n request total ≡ Some f)
+    by_told : (told : Option Fault) → MatchOption told (error ≡ Answer NoMemory) (λ f. None ≡ Some f)
+        → MatchOption told (error ≡ Answer NoMemory) (λ f. dates_refusal n request total ≡ Some f)
     by_told None is = is
     by_told (Some f) is = absurd (none-some _ is)

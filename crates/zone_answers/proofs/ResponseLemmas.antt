@@ -8,13 +8,14 @@ use Rattle.zone_answers.specs.Faults.{IsValidWith, fault_with}
 use Rattle.zone_answers.specs.Faults as faults
 use Rattle.zone_answers.specs.FaultLines.{fault_line}
 use Rattle.zone_answers.specs.Found.{Reading}
-use Rattle.zone_answers.specs.Told.{fault_told, TellsOf}
+use Rattle.zone_answers.specs.Told.{reading_told, TellsReading}
 use Rattle.zone_outside.specs.Seen.{OutputSeen, Grew, GrewBySome}
 use Rattle.zone_answers.specs.Ends.{writes_with}
 use Rattle.zone_answers.specs.Responses.{RespondsError, due_in, lines_in}
 use Rattle.zone_source.specs.Responses.{Responds}
 use Rattle.zone_answers.specs.Summary.{summary, due_summary_with}
-use Rattle.zone_answers.specs.declared.error.AnswerError.{AnswerError}
+use Rattle.zone_answers.specs.declared.error.ReadingError.{ReadingError}
+use Rattle.zone_answers.specs.declared.error.ReadingError.TheVariants.{Answer}
 use Rattle.zone_answers.specs.declared.error.AnswerError.TheVariants as errors
 use Rattle.zone_source.specs.declared.running.Answered.{Answered}
 use Rattle.zone_source.specs.declared.running.Answered.TheVariants.{Done, Fault, Failed, NoMemory}
@@ -57,13 +58,13 @@ pub wrote_some : (bytes due : List ℕ) (before now : OutputSeen) → bytes ≡ 
 wrote_some bytes due before now is h = grew_some_told before.taken now.taken bytes due is h
 
 -- an error's answer is an answer
-pub error_response : (read : Reading) (form : Form) (source requests : List ℕ) (error : AnswerError) (before now : OutputSeen) (result : Answered) →
-    TellsOf (fault_with read source requests) error → RespondsError (fault_told error) before now result
+pub error_response : (read : Reading) (form : Form) (source requests : List ℕ) (error : ReadingError) (before now : OutputSeen) (result : Answered) →
+    TellsReading (fault_with read source requests) error → RespondsError (reading_told error) before now result
     → Responds (writes_with read (due_in read form)) source requests before now result
-error_response read form source requests error before now result tells h = by_told (fault_told error) result tells h
+error_response read form source requests error before now result tells h = by_told (reading_told error) result tells h
   where
     by_told : (told : Option faults.Fault) (result : Answered)
-        → MatchOption told (error ≡ errors.NoMemory) (λ f. fault_with read source requests ≡ Some f) →
+        → MatchOption told (error ≡ Answer errors.NoMemory) (λ f. fault_with read source requests ≡ Some f) →
         RespondsError told before now result → Responds (writes_with read (due_in read form)) source requests before now result
     by_told told Done is h = absurd h
     by_told None Fault is h = absurd h

@@ -16,8 +16,9 @@ use Rattle.zone_spans.specs.declared.span.FixedTimespanSet as spans
 use Rattle.zone_table.specs.declared.zone.ZoneInfo.{ZoneInfo}
 use Rattle.zone_answers.specs.Faults.{zone_refusal}
 use Rattle.zone_answers.specs.Found.{found_of, found_under, offset_range, to_2099, unknown_zone}
-use Rattle.zone_answers.specs.Told.{span_told, RefusesZone, TellsOf}
+use Rattle.zone_answers.specs.Told.{span_told, RefusesZone, TellsReading}
 use Rattle.zone_answers.specs.declared.error.AnswerError.{AnswerError}
+use Rattle.zone_answers.specs.declared.error.ReadingError.TheVariants.{Answer}
 
 -- what is found of lines is found of what they are compiled as
 found_is : (rulesets : Rulesets) (lines : Option (List ZoneInfo)) (result : Result spans.FixedTimespanSet SpanFault)
@@ -51,7 +52,7 @@ span_is_told span.NoMemory other = absurd (other refl)
 -- why there is no set is why the zone can't be asked
 pub open_refused : (rulesets : Rulesets) (lines : Option (List ZoneInfo)) (n : ℕ) (fault : ZoneFault) (error : AnswerError)
     → IsZoneFault (option_map (compiled rulesets) lines) fault → RefusesZone n fault error
-    → TellsOf (zone_refusal n (found_under to_2099 rulesets lines)) error
+    → TellsReading (zone_refusal n (found_under to_2099 rulesets lines)) (Answer error)
 open_refused rulesets lines n zone.UnknownZone error is refused = rw (none_is rulesets lines is, refused) refl
 open_refused rulesets lines n (zone.Schedule fault) error is refused =
     rw (found_is rulesets lines _ is.0, refused, span_is_told fault is.1) refl

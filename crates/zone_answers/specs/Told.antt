@@ -12,6 +12,8 @@ use Rattle.zone_answers.specs.Faults.{Fault, of_source, request_not_text, bad_re
 use Rattle.zone_answers.specs.Found.{unknown_zone, bad_schedule, offset_range, rules_end}
 use Rattle.zone_answers.specs.declared.error.AnswerError.{AnswerError}
 use Rattle.zone_answers.specs.declared.error.AnswerError.TheVariants as error
+use Rattle.zone_answers.specs.declared.error.ReadingError.{ReadingError}
+use Rattle.zone_answers.specs.declared.error.ReadingError.TheVariants as reading
 use Rattle.zone_answers.specs.declared.error.Side.{Side}
 use Rattle.zone_answers.specs.declared.error.Side.TheVariants.{Source, Requests}
 
@@ -32,13 +34,20 @@ fault_told (error.Request n) = Some (bad_request n)
 fault_told (error.UnknownZone n) = Some (bad_zone n unknown_zone)
 fault_told (error.Schedule n fault) = option_map (λ told. bad_zone n (bad_schedule told)) (span_told fault)
 fault_told (error.OffsetRange n) = Some (bad_zone n offset_range)
-fault_told (error.RulesEnd n) = Some (bad_zone n rules_end)
 fault_told (error.Range n) = Some (range n)
 fault_told error.NoMemory = None
 
 -- the error tells the fault that was found, or memory ran out
 abbrev pub TellsOf : Option Fault → AnswerError → Type 0
 TellsOf found e = IsTold fault_told error.NoMemory found e
+
+-- the same where zones are read in any way
+abbrev pub reading_told : ReadingError → Option Fault
+reading_told (reading.Answer e) = fault_told e
+reading_told (reading.RulesEnd n) = Some (bad_zone n rules_end)
+
+abbrev pub TellsReading : Option Fault → ReadingError → Type 0
+TellsReading found e = IsTold reading_told (reading.Answer error.NoMemory) found e
 
 -- it tells the fault of the source
 abbrev pub TellsSame : SourceError → AnswerError → Type 0

@@ -11,15 +11,15 @@ ghost use Rattle.zone_answers.specs.Faults.{IsValid, IsValidWith, fault, fault_w
 ghost use Rattle.zone_answers.specs.Found.{found_in_table};
 ghost use Rattle.zone_answers.specs.Opened.{table_of, AreOpened};
 ghost use Rattle.zone_answers.specs.ReadBack.{IsReadBack};
-ghost use Rattle.zone_answers.specs.Told.{TellsOf, fault_told};
+ghost use Rattle.zone_answers.specs.Told.{TellsOf, TellsReading, reading_told};
 ghost use Rattle.zone_answers.specs.Ends.{writes_with};
 ghost use Rattle.zone_answers.specs.Responses.{RespondsError, due_in, lines_in};
 ghost use Rattle.zone_source.specs.Responses.{Responds};
 ghost use Rattle.zone_outside.specs.Outside.{Rose};
 ghost use Rattle.zone_outside.specs.Seen.{Grew, GrewBySome, output_seen};
 
-use crate::error::{AnswerError, Side};
-use crate::fault::write_fault;
+use crate::error::{AnswerError, ReadingError, Side};
+use crate::fault::write_reading_fault;
 use crate::opened::{OpenedZone, Zones};
 use crate::request::Request;
 use crate::summary::summary_line;
@@ -67,7 +67,11 @@ pub fn answers(
     ensures read_back { OnOk result (All IsReadBack (shown source.now requests.now)) }
     ensures err { IfErr result (TellsOf (fault source.now requests.now)) }
 {
-    answers_with::<CompactSet>(alloc, parser, source, requests)
+    match answers_with::<CompactSet>(alloc, parser, source, requests) {
+        Ok(lines) => Ok(lines),
+        Err(ReadingError::Answer(error)) => Err(error),
+        Err(ReadingError::RulesEnd(_)) => unreachable!(),
+    }
 }
 
 /// The same where zones are opened in another way.
@@ -76,13 +80,13 @@ pub fn answers_with<Z: OpenedZone>(
     parser: &LineParser,
     source: &[u8],
     requests: &[u8],
-) -> Result<LineList, AnswerError>
+) -> Result<LineList, ReadingError>
     requires source { length source.now ≤ LIMIT }
     requires requests { length requests.now ≤ LIMIT }
     ensures valid { OnOk result (IsValidWith Z.read source.now requests.now) }
     ensures lines { IfOk result (λ lines. lines ≡ answer_lines_with Z.read source.now requests.now) }
     ensures read_back { OnOk result (All IsReadBack (shown_with Z.read source.now requests.now)) }
-    ensures err { IfErr result (TellsOf (fault_with Z.read source.now requests.now)) }
+    ensures err { IfErr result (TellsReading (fault_with Z.read source.now requests.now)) }
 {
     let table = read_table(alloc, parser, source)?;
     answer_all::<Z>(alloc, &table, requests)
@@ -93,13 +97,13 @@ fn answer_all<Z: OpenedZone>(
     alloc: Global,
     table: &Table,
     requests: &[u8],
-) -> Result<LineList, AnswerError>
+) -> Result<LineList, ReadingError>
     requires bounded { IsBoundedTable table.now }
     requires limit { length requests.now ≤ LIMIT }
     ensures valid { OnOk result (first_refused (found_in_table Z.read table.now) 1 (lines_of requests.now) ≡ None) }
     ensures lines { IfOk result (λ lines. lines ≡ map (answer_line (found_in_table Z.read table.now)) (lines_of requests.now)) }
     ensures read_back { OnOk result (All IsReadBack (flat_map (shown_for (found_in_table Z.read table.now)) (lines_of requests.now))) }
-    ensures err { IfErr result (TellsOf (first_refused (found_in_table Z.read table.now) 1 (lines_of requests.now))) }
+    ensures err { IfErr result (TellsReading (first_refused (found_in_table Z.read table.now) 1 (lines_of requests.now))) }
 {
     let mut zones = Zones::<Z>::new(alloc, table);
     let mut answers = LineList::new(alloc);
@@ -119,28 +123,28 @@ fn answer<Z: OpenedZone>(
     number: usize,
     line: &[u8],
     text: &mut Vec<u8>,
-) -> Result<(), AnswerError>
+) -> Result<(), ReadingError>
     requires { AreOpened Z.OpenedZone zones.old }
     ensures accepted { OnOk result (request_refusal (found_in_table Z.read (table_of zones.old)) number line.now ≡ None) }
     ensures text { OnOk result (text.new.items ≡ answer_line (found_in_table Z.read (table_of zones.old)) line.now) }
     ensures read_back { OnOk result (All IsReadBack (shown_for (found_in_table Z.read (table_of zones.old)) line.now)) }
     ensures same { table_of zones.new ≡ table_of zones.old }
     ensures opened { AreOpened Z.OpenedZone zones.new }
-    ensures err { IfErr result (TellsOf (request_refusal (found_in_table Z.read (table_of zones.old)) number line.now)) }
+    ensures err { IfErr result (TellsReading (request_refusal (found_in_table Z.read (table_of zones.old)) number line.now)) }
 {
     let Some(asked) = text_of(line) else {
-        return Err(AnswerError::NotText(Side::Requests, number));
+        return Err(ReadingError::Answer(AnswerError::NotText(Side::Requests, number)));
     };
     let Some(request) = Request::read(asked) else {
-        return Err(AnswerError::Request(number));
+        return Err(ReadingError::Answer(AnswerError::Request(number)));
     };
     zones.open(request.name(), number)?;
     let zone = zones.find(request.name());
     text.clear();
     match zone.show(&request, text) {
         Ok(true) => Ok(()),
-        Ok(false) => Err(AnswerError::Range(number)),
-        Err(_) => Err(AnswerError::NoMemory),
+        Ok(false) => Err(ReadingError::Answer(AnswerError::Range(number))),
+        Err(_) => Err(ReadingError::Answer(AnswerError::NoMemory)),
     }
 }
 
@@ -225,14 +229,14 @@ fn write_lines<O: Sink>(output: &mut O, lines: &LineList, form: Form) -> Result<
 }
 
 /// Writes the line of the fault, if the error tells one.
-fn write_error<O: Sink>(output: &mut O, error: &AnswerError) -> Answered
-    ensures { RespondsError (fault_told error.now) (output_seen O.Sink output.old) (output_seen O.Sink output.new) result }
+fn write_error<O: Sink>(output: &mut O, error: &ReadingError) -> Answered
+    ensures { RespondsError (reading_told error.now) (output_seen O.Sink output.old) (output_seen O.Sink output.new) result }
 {
     if !error.is_fault() {
         return Answered::NoMemory;
     }
     let mut line = [0; 64];
-    let end = write_fault(error, &mut line);
+    let end = write_reading_fault(error, &mut line);
     match write_all(output, &line[..end]) {
         Ok(()) => Answered::Fault,
         Err(_) => Answered::Failed,

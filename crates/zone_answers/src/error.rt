@@ -30,8 +30,6 @@ pub enum AnswerError {
     Schedule(usize, SpanFault),
     /// The named zone has an offset of 26 hours or more.
     OffsetRange(usize),
-    /// The named zone doesn't go on for ever; never where zones are read to 2099.
-    RulesEnd(usize),
     /// The UTC date or the local date of the asked instant lies outside the years -9999 to 9999.
     Range(usize),
     /// Memory ran out.
@@ -93,6 +91,53 @@ impl AnswerError {
             AnswerError::Schedule(_, fault) => *fault != SpanFault::NoMemory,
             AnswerError::NoMemory => false,
             _ => true,
+        }
+    }
+}
+
+/// The first fault where zones are read in any way.
+#[derive(Debug, Drop, PartialEq)]
+pub enum ReadingError {
+    /// One that may come where they are read to 2099 too, or want of memory.
+    Answer(AnswerError),
+    /// The zone that this request names doesn't go on for ever.
+    RulesEnd(usize),
+}
+
+impl From<AllocError> for ReadingError {
+    ghost use Rattle.std.specs.Prelude.{◌≡◌};
+    ghost use Rattle.zone_answers.specs.declared.error.AnswerError.TheVariants.{NoMemory};
+    ghost use Rattle.zone_answers.specs.declared.error.ReadingError.TheVariants.{Answer};
+
+    ghost from_gives = { λ _ error. error ≡ Answer NoMemory };
+
+    fn from(_: AllocError) -> ReadingError {
+        ReadingError::Answer(AnswerError::NoMemory)
+    }
+}
+
+impl From<AnswerError> for ReadingError {
+    ghost use Rattle.std.specs.Prelude.{◌≡◌};
+    ghost use Rattle.zone_answers.specs.declared.error.ReadingError.TheVariants.{Answer};
+
+    ghost from_gives = { λ answer error. error ≡ Answer answer };
+
+    fn from(error: AnswerError) -> ReadingError {
+        ReadingError::Answer(error)
+    }
+}
+
+impl ReadingError {
+    ghost use Rattle.std.specs.Prelude.{◌≡◌, is_some};
+    ghost use Rattle.zone_answers.specs.Told.{reading_told};
+
+    /// Whether it is a fault of a text, and not want of memory.
+    pub fn is_fault(&self) -> bool
+        ensures { result ≡ is_some (reading_told self.now) }
+    {
+        match self {
+            ReadingError::Answer(error) => error.is_fault(),
+            ReadingError::RulesEnd(_) => true,
         }
     }
 }

@@ -2,9 +2,9 @@
 ghost use Rattle.std.specs.Prelude.{◌≡◌, ◌+◌, ◌≤◌, [], ◌∷◌, ◌++◌, length, take, IsSome, IfSome};
 ghost use Rattle.zone_source.specs.FaultLines.{line_shown, IsShort};
 ghost use Rattle.zone_answers.specs.FaultLines.{fault_line, request_line};
-ghost use Rattle.zone_answers.specs.Told.{fault_told};
+ghost use Rattle.zone_answers.specs.Told.{fault_told, reading_told};
 
-use crate::error::{AnswerError, Side};
+use crate::error::{AnswerError, ReadingError, Side};
 use zone_source::{FaultText, write_fault_line};
 
 /// Writes the line that tells the fault, with its LF, at the front of the array, and answers its length. Want of memory has
@@ -15,6 +15,20 @@ pub fn write_fault(fault: &AnswerError, into: &mut [u8; 64]) -> usize
     ensures bound { result ≤ 63 }
 {
     write_fault_line(&fault_text(fault), into)
+}
+
+/// The same where zones are read in any way.
+pub(crate) fn write_reading_fault(fault: &ReadingError, into: &mut [u8; 64]) -> usize
+    requires { IsSome (reading_told fault.now) }
+    ensures text { IfSome (reading_told fault.now) (λ f. take result into.new ≡ fault_line f ++ 10 ∷ []) }
+    ensures bound { result ≤ 63 }
+{
+    match fault {
+        ReadingError::Answer(fault) => write_fault(fault, into),
+        ReadingError::RulesEnd(number) => {
+            write_fault_line(&request_text(*number, "", "rules end"), into)
+        }
+    }
 }
 
 /// What the line of the fault says.
@@ -32,7 +46,6 @@ fn fault_text(fault: &AnswerError) -> FaultText
         AnswerError::UnknownZone(number) => request_text(*number, "", "unknown zone"),
         AnswerError::Schedule(number, fault) => { request_text(*number, "schedule ", fault.name()) }
         AnswerError::OffsetRange(number) => request_text(*number, "", "offset range"),
-        AnswerError::RulesEnd(number) => request_text(*number, "", "rules end"),
         AnswerError::Range(number) => request_text(*number, "", "range"),
         AnswerError::NoMemory => unreachable!(),
     }

@@ -13,7 +13,7 @@ mod summary;
 mod to_2099;
 
 pub use answering::{SourceAnswers, answers, answers_with, read_table};
-pub use error::{AnswerError, Side};
+pub use error::{AnswerError, ReadingError, Side};
 pub use fault::write_fault;
 pub use opened::OpenedZone;
 pub use request::{Request, cut_at_space, nanoseconds};

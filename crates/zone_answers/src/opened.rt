@@ -6,9 +6,9 @@ ghost use Rattle.zone_answers.specs.Asked.{asked};
 ghost use Rattle.zone_answers.specs.Due.{answer_text, shown_at};
 ghost use Rattle.zone_answers.specs.Faults.{has_dates, zone_refusal};
 ghost use Rattle.zone_answers.specs.Found.{Reading, found_in_table};
-ghost use Rattle.zone_answers.specs.Told.{TellsOf};
+ghost use Rattle.zone_answers.specs.Told.{TellsReading};
 
-use crate::error::AnswerError;
+use crate::error::ReadingError;
 use crate::request::Request;
 use owned::TextMap;
 use std::alloc::{AllocError, Global};
@@ -27,10 +27,10 @@ pub trait OpenedZone: Drop {
     /// # Errors
     ///
     /// Why the zone that the nth request names can't be asked, or want of memory.
-    fn open(alloc: Global, table: &Table, name: &str, number: usize) -> Result<Self, AnswerError>
+    fn open(alloc: Global, table: &Table, name: &str, number: usize) -> Result<Self, ReadingError>
         requires { IsBoundedTable table.now }
         ensures ok { IfOk result (λ zone. found_in_table read table.now name.now ≡ Ok (total_at zone)) }
-        ensures err { IfErr result (TellsOf (zone_refusal number (found_in_table read table.now name.now))) };
+        ensures err { IfErr result (TellsReading (zone_refusal number (found_in_table read table.now name.now))) };
 
     /// Adds the line of a request of the zone to a text, without its LF. It adds none and answers no where the UTC date or the local
     /// date of an asked instant lies outside the years -9999 to 9999.
@@ -60,7 +60,7 @@ impl<'t, Z: OpenedZone> Zones<'t, Z> {
     ghost use Rattle.zone_answers.specs.Faults.{zone_refusal};
     ghost use Rattle.zone_answers.specs.Found.{found_in_table};
     ghost use Rattle.zone_answers.specs.Opened.{table_of, AreOpened, IsOpened};
-    ghost use Rattle.zone_answers.specs.Told.{TellsOf};
+    ghost use Rattle.zone_answers.specs.Told.{TellsReading};
 
     /// No zone of this table was asked for yet.
     pub(crate) fn new(alloc: Global, table: &'t Table) -> Zones<'t, Z>
@@ -76,10 +76,10 @@ impl<'t, Z: OpenedZone> Zones<'t, Z> {
     }
 
     /// Opens the zone that the nth request names, where it is asked for the first time. On an error the zones are as before.
-    pub(crate) fn open(&mut self, name: &str, number: usize) -> Result<(), AnswerError>
+    pub(crate) fn open(&mut self, name: &str, number: usize) -> Result<(), ReadingError>
         requires { AreOpened Z.OpenedZone self.old }
         ensures there { OnOk result (is_some (get self.new.opened name.now) ≡ true) }
-        ensures err { IfErr result (TellsOf (zone_refusal number (found_in_table Z.read (table_of self.old) name.now))) }
+        ensures err { IfErr result (TellsReading (zone_refusal number (found_in_table Z.read (table_of self.old) name.now))) }
         ensures same { table_of self.new ≡ table_of self.old }
         ensures opened { AreOpened Z.OpenedZone self.new }
     {

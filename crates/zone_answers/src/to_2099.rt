@@ -5,7 +5,7 @@ ghost use Rattle.tz_lookup.specs.CompactShown.{seen};
 ghost use Rattle.tz_lookup.specs.Compiles.{compiled_in, IsCompiledAs, IsZoneFault};
 ghost use Rattle.tz_lookup.specs.Sets.{schedule_of, IsAccepted};
 
-use crate::error::AnswerError;
+use crate::error::{AnswerError, ReadingError};
 use crate::opened::OpenedZone;
 use crate::request::Request;
 use crate::showing::show;
@@ -56,10 +56,10 @@ impl OpenedZone for CompactSet {
         table: &Table,
         name: &str,
         number: usize,
-    ) -> Result<CompactSet, AnswerError> {
+    ) -> Result<CompactSet, ReadingError> {
         match open_zone(alloc, table, name) {
             Ok(set) => Ok(compact(alloc, &set)?),
-            Err(fault) => Err(AnswerError::of_zone(number, fault)),
+            Err(fault) => Err(ReadingError::Answer(AnswerError::of_zone(number, fault))),
         }
     }
 

@@ -22,9 +22,10 @@ use Rattle.tz_ever.specs.declared.open.EverFault.TheVariants.{LaterDay, LaterOff
 use Rattle.zone_answers.specs.Faults.{Fault, zone_refusal}
 use Rattle.zone_answers.specs.Found.{Found, found_in_table, found_of, found_under, offset_range, to_2099}
 use Rattle.zone_answers.specs.FoundLaws.{open_refused}
-use Rattle.zone_answers.specs.Told.{TellsOf, fault_told}
-use Rattle.zone_answers.specs.declared.error.AnswerError.{AnswerError}
+use Rattle.zone_answers.specs.Told.{TellsReading, reading_told}
 use Rattle.zone_answers.specs.declared.error.AnswerError.TheVariants.{NoMemory}
+use Rattle.zone_answers.specs.declared.error.ReadingError.{ReadingError}
+use Rattle.zone_answers.specs.declared.error.ReadingError.TheVariants.{Answer, RulesEnd as Ends}
 use Rattle.zone_ever.specs.Readings.{ending, for_ever, found_later, found_on}
 use Rattle.zone_ever.specs.Refused.{RefusesEver}
 
@@ -78,29 +79,30 @@ far_is table name is =
     zone : IsZoneToday table name
     zone = is.zone.zone
 
-told_of_lines : (rulesets : Rulesets) (lines : List ZoneInfo) (n : ℕ) (error : AnswerError) (found : Found) → TellsOf (zone_refusal n found) error
-    → TellsOf (zone_refusal n (found_on rulesets lines found)) error
+told_of_lines : (rulesets : Rulesets) (lines : List ZoneInfo) (n : ℕ) (error : ReadingError) (found : Found) → TellsReading (zone_refusal n found) error
+    → TellsReading (zone_refusal n (found_on rulesets lines found)) error
 told_of_lines rulesets lines n error (Err cause) tells = tells
-told_of_lines rulesets lines n error (Ok total) tells = by_told (fault_told error) tells
+told_of_lines rulesets lines n error (Ok total) tells = by_told (reading_told error) tells
   where
-    by_told : (told : Option Fault) → MatchOption told (error ≡ NoMemory) (λ f. None ≡ Some f)
-        → MatchOption told (error ≡ NoMemory) (λ f. zone_refusal n (found_on rulesets lines (Ok total)) ≡ Some f)
+    by_told : (told : Option Fault) → MatchOption told (error ≡ Answer NoMemory) (λ f. None ≡ Some f)
+        → MatchOption told (error ≡ Answer NoMemory) (λ f. zone_refusal n (found_on rulesets lines (Ok total)) ≡ Some f)
     by_told None is = is
     by_told (Some f) is = absurd (none-some _ is)
 
 -- what tells why a zone can't be asked to 2099 tells why it can't for ever
-told_for_ever : (rulesets : Rulesets) (lines : Option (List ZoneInfo)) (n : ℕ) (error : AnswerError)
-    → TellsOf (zone_refusal n (found_under to_2099 rulesets lines)) error
-    → TellsOf (zone_refusal n (found_under for_ever rulesets lines)) error
+told_for_ever : (rulesets : Rulesets) (lines : Option (List ZoneInfo)) (n : ℕ) (error : ReadingError)
+    → TellsReading (zone_refusal n (found_under to_2099 rulesets lines)) error
+    → TellsReading (zone_refusal n (found_under for_ever rulesets lines)) error
 unfolding for_ever
 told_for_ever rulesets None n error tells = tells
 told_for_ever rulesets (Some lines) n error tells = told_of_lines rulesets lines n error (to_2099 rulesets lines) tells
 
-pub ever_refused : (table : Table) (name : List ℕ) (n : ℕ) (fault : EverFault) (error : AnswerError) → IsEverFault table name fault
-    → RefusesEver n fault error → TellsOf (zone_refusal n (found_in_table for_ever table name)) error
-ever_refused table name n (Zone fault) error is refused =
-    told_for_ever (get table.rulesets) (resolved_in table name) n error
+pub ever_refused : (table : Table) (name : List ℕ) (n : ℕ) (fault : EverFault) (error : ReadingError) → IsEverFault table name fault
+    → RefusesEver n fault error → TellsReading (zone_refusal n (found_in_table for_ever table name)) error
+ever_refused table name n (Zone fault) (Answer error) is refused =
+    told_for_ever (get table.rulesets) (resolved_in table name) n (Answer error)
     (open_refused (get table.rulesets) (resolved_in table name) n fault error is refused)
+ever_refused table name n (Zone fault) (Ends m) is refused = absurd refused
 ever_refused table name n LaterDay error is refused = rw (ends_is table name true is.0 is.1, refused) refl
 ever_refused table name n RulesEnd error is refused = rw (ends_is table name false is.0 is.1, refused) refl
 ever_refused table name n LaterOffset error is refused = rw (far_is table name is, refused) refl

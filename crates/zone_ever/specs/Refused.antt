@@ -4,11 +4,13 @@ use Rattle.zone_spans.specs.declared.fault.SpanFault.TheVariants.{DayRange}
 use Rattle.tz_ever.specs.declared.open.EverFault.{EverFault}
 use Rattle.tz_ever.specs.declared.open.EverFault.TheVariants.{Zone, LaterDay, RulesEnd, LaterOffset}
 use Rattle.zone_answers.specs.Told.{RefusesZone}
-use Rattle.zone_answers.specs.declared.error.AnswerError.{AnswerError}
-use Rattle.zone_answers.specs.declared.error.AnswerError.TheVariants as error
+use Rattle.zone_answers.specs.declared.error.AnswerError.TheVariants.{OffsetRange, Schedule}
+use Rattle.zone_answers.specs.declared.error.ReadingError.{ReadingError}
+use Rattle.zone_answers.specs.declared.error.ReadingError.TheVariants as error
 
-abbrev pub RefusesEver : ℕ → EverFault → AnswerError → Type 0
-RefusesEver n (Zone fault) e = RefusesZone n fault e
-RefusesEver n LaterDay e = e ≡ error.Schedule n DayRange
+abbrev pub RefusesEver : ℕ → EverFault → ReadingError → Type 0
+RefusesEver n (Zone fault) (error.Answer e) = RefusesZone n fault e
+RefusesEver n (Zone fault) (error.RulesEnd m) = ⊥
+RefusesEver n LaterDay e = e ≡ error.Answer (Schedule n DayRange)
 RefusesEver n RulesEnd e = e ≡ error.RulesEnd n
-RefusesEver n LaterOffset e = e ≡ error.OffsetRange n
+RefusesEver n LaterOffset e = e ≡ error.Answer (OffsetRange n)

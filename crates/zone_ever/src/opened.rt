@@ -3,7 +3,7 @@ ghost use Rattle.zone_ever.specs.Refused.{RefusesEver};
 
 use std::alloc::{AllocError, Global};
 use tz_ever::{EverFault, EverSet, EverTz};
-use zone_answers::{AnswerError, OpenedZone, Request, show};
+use zone_answers::{AnswerError, OpenedZone, ReadingError, Request, show};
 use zone_spans::SpanFault;
 use zone_table::Table;
 
@@ -27,7 +27,7 @@ impl OpenedZone for EverZone {
         table: &Table,
         name: &str,
         number: usize,
-    ) -> Result<EverZone, AnswerError> {
+    ) -> Result<EverZone, ReadingError> {
         match EverSet::open(alloc, table, name) {
             Ok(set) => Ok(EverZone { set }),
             Err(fault) => Err(refused(number, fault)),
@@ -40,13 +40,15 @@ impl OpenedZone for EverZone {
 }
 
 /// Why the zone that the nth request names can't be asked for ever, or want of memory.
-fn refused(number: usize, fault: EverFault) -> AnswerError
+fn refused(number: usize, fault: EverFault) -> ReadingError
     ensures { RefusesEver number fault result }
 {
     match fault {
-        EverFault::Zone(fault) => AnswerError::of_zone(number, fault),
-        EverFault::LaterDay => AnswerError::Schedule(number, SpanFault::DayRange),
-        EverFault::RulesEnd => AnswerError::RulesEnd(number),
-        EverFault::LaterOffset => AnswerError::OffsetRange(number),
+        EverFault::Zone(fault) => ReadingError::Answer(AnswerError::of_zone(number, fault)),
+        EverFault::LaterDay => {
+            ReadingError::Answer(AnswerError::Schedule(number, SpanFault::DayRange))
+        }
+        EverFault::RulesEnd => ReadingError::RulesEnd(number),
+        EverFault::LaterOffset => ReadingError::Answer(AnswerError::OffsetRange(number)),
     }
 }
