@@ -4,7 +4,7 @@ use Rattle.calendar.specs.ComparisonLaws.{le_fail, le_pass}
 use Rattle.civil_base.specs.Instants.{seconds_of}
 use Rattle.zone_spans.specs.Entries.{Entry}
 use Rattle.zone_spans.specs.declared.span.FixedTimespan.{FixedTimespan}
-use Rattle.zone_cycle.specs.InForce.{span_at, span_by}
+use Rattle.tz_ever.specs.InForce.{span_at, span_by}
 use Rattle.tz_zone.specs.Compiles.{spans_of}
 use Rattle.tz_zone.specs.InForce.{IsInForce}
 use Rattle.tz_zone.specs.SecondLaws.{same_test}

@@ -32,7 +32,7 @@ use Rattle.zone_spans.specs.declared.fault.SpanFault.{SpanFault}
 use Rattle.zone_spans.specs.declared.span.FixedTimespan.{FixedTimespan}
 use Rattle.zone_spans.specs.declared.span.FixedTimespanSet as spans
 use Rattle.zone_spans.specs.GoesOn.{GoesOn, dont_fall, front_of, goes_on, is_in_order, last_goes_on, last_of, turns}
-use Rattle.zone_cycle.specs.InForce.{span_by}
+use Rattle.tz_ever.specs.InForce.{span_by}
 use Rattle.zone_spans.specs.Later.{firings_from, start_after}
 use Rattle.zone_spans.specs.Settled.{is_lasting, is_settled}
 use Rattle.tz_zone.specs.declared.set.FixedTimespanSet.{FixedTimespanSet}

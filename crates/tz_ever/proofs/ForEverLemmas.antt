@@ -16,9 +16,9 @@ use Rattle.zone_spans.specs.Years.{earliest_year}
 use Rattle.zone_spans.specs.declared.span.FixedTimespan.{FixedTimespan}
 use Rattle.zone_spans.specs.declared.span.FixedTimespanSet as spans
 use Rattle.zone_spans.specs.Cycle.{instant_on}
-use Rattle.zone_cycle.specs.ForEver.{AreEnough, IsFrom2101, instants_on, span_for_ever, span_told, total_for_ever}
+use Rattle.tz_ever.specs.AnyYear.{AreEnough, IsFrom2101, instants_on, span_for_ever, span_told, total_for_ever}
 use Rattle.zone_spans.specs.GoesOn.{GoesOn}
-use Rattle.zone_cycle.specs.InForce.{span_at}
+use Rattle.tz_ever.specs.InForce.{span_at}
 use Rattle.tz_zone.specs.Compiles.{spans_of}
 use Rattle.tz_zone.specs.declared.set.FixedTimespanSet.{FixedTimespanSet}
 use Rattle.tz_ever.specs.Ever.{IsRepeating, ever_span, ever_total}

@@ -8,8 +8,8 @@ use Rattle.zone_spans.specs.Entries.{total}
 use Rattle.zone_spans.specs.Schedules.{total_at}
 use Rattle.zone_spans.specs.declared.span.FixedTimespan.{FixedTimespan}
 use Rattle.zone_spans.specs.Cycle.{instant_on}
-use Rattle.zone_cycle.specs.InForce.{span_at}
-use Rattle.zone_cycle.specs.InForceLaws.{total_at-is}
+use Rattle.tz_ever.specs.InForce.{span_at}
+use Rattle.tz_ever.specs.InForceLaws.{total_at-is}
 use Rattle.tz_zone.specs.CompileLaws.{totals_same}
 use Rattle.tz_zone.specs.Compiles.{spans_of}
 use Rattle.tz_zone.specs.InForce.{GivesAt}

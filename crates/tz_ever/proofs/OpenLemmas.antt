@@ -14,8 +14,8 @@ use Rattle.zone_spans.specs.Schedules.{is_in_offset_range, total_at, totals_of}
 use Rattle.zone_spans.specs.declared.fault.SpanFault.{SpanFault}
 use Rattle.zone_spans.specs.declared.span.FixedTimespan.{FixedTimespan}
 use Rattle.zone_spans.specs.declared.span.FixedTimespanSet as spans
-use Rattle.zone_cycle.specs.ForEver.{is_before_cycle, span_for_ever, span_told, total_for_ever}
-use Rattle.zone_cycle.specs.InForce.{span_at}
+use Rattle.tz_ever.specs.AnyYear.{is_before_cycle, span_for_ever, span_told, total_for_ever}
+use Rattle.tz_ever.specs.InForce.{span_at}
 use Rattle.tz_zone.specs.Compiles.{IsCompiledAs, IsZoneFault, compiled_in, compiled_in_over, spans_of}
 use Rattle.tz_zone.specs.Sets.{schedule_of}
 use Rattle.tz_zone.specs.declared.compile.ZoneFault.{ZoneFault}

@@ -5,7 +5,7 @@ use Rattle.civil_base.specs.declared.offset_date_time.OffsetDateTime.{OffsetDate
 use Rattle.zone_spans.specs.Schedules.{total_at}
 use Rattle.zone_spans.specs.declared.span.FixedTimespan.{FixedTimespan}
 use Rattle.zone_spans.specs.Cycle.{instant_on}
-use Rattle.zone_cycle.specs.InForce.{span_at}
+use Rattle.tz_ever.specs.InForce.{span_at}
 use Rattle.tz_zone.specs.Compiles.{spans_of}
 use Rattle.tz_zone.specs.Cursors.{cursor_left}
 use Rattle.tz_zone.specs.Sets.{schedule_of}

@@ -1,7 +1,11 @@
 -- Definitions: what public clauses say.
+pub mod InForce
+pub mod AnyYear
 pub mod Seam
 pub mod Ever
 pub mod ForEver
 pub mod EverShown
 pub mod EverZones
 pub mod Opens
+-- Laws: what a caller may use.
+pub mod InForceLaws

@@ -13,7 +13,7 @@ use Rattle.zone_spans.specs.Schedules.{is_in_offset_range, totals_of}
 use Rattle.zone_spans.specs.declared.fault.SpanFault.{SpanFault}
 use Rattle.zone_spans.specs.declared.fault.SpanFault.TheVariants.{DayRange}
 use Rattle.zone_spans.specs.declared.span.FixedTimespanSet as spans
-use Rattle.zone_cycle.specs.ForEver.{span_for_ever, total_for_ever}
+use Rattle.tz_ever.specs.AnyYear.{span_for_ever, total_for_ever}
 use Rattle.tz_zone.specs.Compiles.{IsTooFar, IsZoneFault, compiled_in, compiled_in_over}
 use Rattle.tz_zone.specs.declared.compile.ZoneFault.{ZoneFault}
 use Rattle.tz_zone.specs.declared.compile.ZoneFault.TheVariants as zone_fault

@@ -2,12 +2,12 @@
 ghost use Rattle.std.specs.Prelude.{◌≡◌, List, Some, ℤ};
 ghost use Rattle.zone_table.specs.declared.zone.ZoneInfo.{ZoneInfo};
 ghost use Rattle.zone_spans.specs.Lines.{Rulesets};
-ghost use Rattle.zone_cycle.specs.ForEver.{span_for_ever, total_for_ever};
+ghost use Rattle.tz_ever.specs.AnyYear.{span_for_ever, total_for_ever};
 ghost use Rattle.tz_zone.specs.declared.set.FixedTimespanSet.{FixedTimespanSet};
 ghost use Rattle.tz_ever.specs.Ever.{IsRepeating, ever_span, ever_total};
 ghost use Rattle.tz_ever.specs.ForEver.{IsForEver};
 
-use zone_cycle::for_ever;
+use crate::cycle::for_ever;
 
 /// Where a zone goes on, the set of its spans over 704 years shows at the seam what it shows a cycle later, as
 /// [`EverSet::build`](crate::EverSet::build) asks.

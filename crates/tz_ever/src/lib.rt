@@ -3,6 +3,7 @@
 #![tactic(auto)]
 
 mod bring;
+pub mod cycle;
 mod ever_set;
 mod ever_tz;
 pub mod laws;

@@ -8,12 +8,12 @@ ghost use Rattle.tz_ever.specs.declared.open.EverFault.TheVariants.{Zone};
 ghost use Rattle.zone_spans.specs.declared.fault.SpanFault.TheVariants as span_fault;
 ghost use Rattle.zone_table.specs.BoundedTables.{IsBoundedTable};
 
+use crate::cycle::for_ever;
 use crate::ever_set::{EVER_YEARS, EverSet};
 use crate::laws;
 use std::alloc::Global;
 use tz_lookup::{CompactFault, FixedTimespanSet};
 use tz_zone::{ZoneFault, compile_zone, compile_zone_over};
-use zone_cycle::for_ever;
 use zone_spans::{SpanFault, TableTransitions};
 use zone_table::Table;
 
