@@ -1,5 +1,5 @@
 -- What a name finds for ever, step by step.
-use Rattle.std.proofs.Common.{◌≡◌, ℕ, ◌≤◌, ◌*ℤ◌, ◌<ℤ◌, List, Option, Some, None, option_map, Result, Ok, Err, true, false, ℤ, pos, IsTrue, refl, sym, ap, ◌∙◌, subst, arith}
+use Rattle.std.proofs.Common.{◌≡◌, ℕ, ◌*ℤ◌, ◌<ℤ◌, List, Option, Some, None, option_map, Result, Ok, Err, true, false, ℤ, pos, IsTrue, refl, sym, ap, ◌∙◌, arith}
 use Rattle.std.specs.FinMap.{get}
 use Rattle.std.specs.List.{list_all}
 use Rattle.calendar.specs.SignedLaws.{signed}
@@ -23,7 +23,7 @@ use Rattle.tz_zone.specs.declared.compile.ZoneFault.TheVariants as zone_fault
 use Rattle.tz_zone.specs.declared.set.FixedTimespanSet.{FixedTimespanSet}
 use Rattle.tz_ever.specs.Ever.{ever_span, ever_total}
 use Rattle.tz_ever.specs.ForEver.{IsForEver, ever_years}
-use Rattle.tz_ever.specs.Opens.{DoesNotGoOn, IsEverFault, IsFoundForEver, IsGoing, IsLater, IsTooFarLater, IsZoneToday, fault_later}
+use Rattle.tz_ever.specs.Opens.{DoesNotGoOn, IsEverFault, IsFoundForEver, IsGoing, IsLater, IsZoneToday, fault_later}
 use Rattle.tz_ever.proofs.ForEverLemmas.{EnoughLaw, are_enough}
 
 same_some : {X : Type 0} (a b : X) → Some a ≡ Some b → a ≡ b

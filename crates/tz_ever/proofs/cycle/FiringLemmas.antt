@@ -5,7 +5,7 @@ use Rattle.std.proofs.lemmas.List.{map-append}
 use Rattle.calendar.specs.SignedLaws.{signed}
 use Rattle.zone_table.specs.Moments.{moment}
 use Rattle.zone_table.specs.declared.rule.RuleInfo.{RuleInfo}
-use Rattle.zone_spans.specs.Firings.{earliest, fired, year_firings, Fired, is_earlier, firings_of_years}
+use Rattle.zone_spans.specs.Firings.{earliest, fired, year_firings, is_earlier}
 use Rattle.zone_spans.specs.Years.{earliest_year}
 use Rattle.zone_spans.specs.Cycle.{fired_on, firing_on, next_cycle, seconds_on}
 use Rattle.zone_spans.specs.Later.{firings_from}

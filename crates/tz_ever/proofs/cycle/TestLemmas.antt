@@ -1,14 +1,11 @@
 -- What the tests of a zone that goes on say.
-use Rattle.std.proofs.Common.{◌≡◌, List, [], ◌∷◌, Some, None, ℤ, pos, refl, ℕ, Bool, ap, arith, ◌+ℤ◌, ◌*ℤ◌, nat_abs, ◌≤◌, true, false, ◌++◌, not, ◌&&◌, int_le, int_lt, Option, cond, int_eq, ◌<ℤ◌, nat_lt, is_some}
+use Rattle.std.proofs.Common.{◌≡◌, List, [], ◌∷◌, Some, None, ℤ, pos, refl, Bool, ap, arith, ◌+ℤ◌, ◌*ℤ◌, true, false, ◌++◌, not, ◌&&◌, int_le, int_lt, Option, cond, int_eq, ◌<ℤ◌, is_some}
 use Rattle.std.proofs.lemmas.Bool.{and_parts}
-use Rattle.std.proofs.lemmas.Bool.Decides.{nat_tests}
 use Rattle.std.proofs.lemmas.Int.{ints}
 use Rattle.std.specs.List.{list_all}
 use Rattle.std.specs.Option.{option_map_or}
 use Rattle.calendar.specs.ComparisonLaws.{eq_from_pass}
 use Rattle.calendar.specs.SignedLaws.{signed}
-use Rattle.zone_values.specs.Ends.{end_year, year_number}
-use Rattle.zone_values.specs.declared.change.ChangeTime.{ChangeTime}
 use Rattle.zone_spans.specs.Collapse.{is_no_later, is_same_span, kept_of, kept_with}
 use Rattle.zone_spans.specs.Entries.{is_sooner, Entry, total}
 use Rattle.zone_spans.specs.LaterLaws.{ends-by}
