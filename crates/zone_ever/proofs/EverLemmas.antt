@@ -11,7 +11,7 @@ use Rattle.zone_spans.specs.GoesOn.{goes_on}
 use Rattle.zone_spans.specs.Lines.{Rulesets, zone_lines}
 use Rattle.zone_spans.specs.Schedules.{is_in_offset_range, schedule_over, total_at, totals_of, totals_told}
 use Rattle.zone_spans.specs.declared.span.FixedTimespanSet as spans
-use Rattle.zone_cycle.specs.ForEver.{total_for_ever}
+use Rattle.tz_ever.specs.AnyYear.{total_for_ever}
 use Rattle.tz_zone.specs.Sets.{schedule_of}
 use Rattle.tz_zone.specs.declared.set.FixedTimespanSet.{FixedTimespanSet}
 use Rattle.tz_ever.specs.Ever.{ever_total}

@@ -7,7 +7,7 @@ use Rattle.zone_spans.specs.GoesOn.{goes_on}
 use Rattle.zone_spans.specs.Lines.{Rulesets, zone_lines}
 use Rattle.zone_spans.specs.Schedules.{is_in_offset_range, schedule_over}
 use Rattle.zone_spans.specs.declared.fault.SpanFault.TheVariants.{DayRange}
-use Rattle.zone_cycle.specs.ForEver.{total_for_ever}
+use Rattle.tz_ever.specs.AnyYear.{total_for_ever}
 use Rattle.tz_ever.specs.Opens.{leaves_year}
 use Rattle.zone_answers.specs.Found.{Cause, bad_schedule, offset_range, rules_end, to_2099}
 use Rattle.zone_ever.specs.Readings.{for_ever, found_on}
