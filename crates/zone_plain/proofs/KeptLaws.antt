@@ -25,7 +25,7 @@ use Rattle.zone_plain.specs.Kept.{HasNoOffsets}
 use Rattle.zone_plain.specs.LineValues.{line_meaning, is_open_after, values_from, meant_in, mark_in, named, values_in}
 use Rattle.zone_plain.specs.Named.{IsSaidAsMeant}
 use Rattle.zone_plain.specs.Plain.{plain_of}
-use Rattle.zone_plain.specs.Written.{written}
+use Rattle.zone_plain_offsets.specs.Written.{written}
 
 no_pairs : (pairs : List Pair) (values : List LineValue) → HasNoOffsets values → pairs_from pairs values ≡ pairs
 unfolding pairs_from

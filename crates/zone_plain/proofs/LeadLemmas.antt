@@ -11,7 +11,7 @@ use Rattle.zone_values.specs.Values.{LineValue}
 use Rattle.zone_plain.specs.Declares.{has_zone, target_of}
 use Rattle.zone_plain.specs.Leads.{leads_to, zone_behind}
 use Rattle.zone_plain.proofs.LeadsLaws.{followed, stuck, dead_end, rises, is_behind, behind_itself, behind_link}
-use Rattle.zone_plain.specs.Stands.{IsPlaced, IsDeclared, IsKept, IsKnown, IsBehind, LeadsTo}
+use Rattle.zone_plain.specs.Stands.{names_of, IsPlaced, IsDeclared, IsKept, IsKnown, IsBehind, LeadsTo}
 use Rattle.zone_plain.specs.declared.links.Declared.{Declared}
 
 -- a name leads where another does that is so many links on
@@ -29,15 +29,15 @@ abbrev pub place_in : Declared → FinMap text_cmp ℕ → List ℕ → Option �
 place_in d known name = option_or (get d.zones name) (get known name)
 
 pub met : (d : Declared) (values : List LineValue) (known : FinMap text_cmp ℕ) (name : List ℕ) (place : ℕ) → IsDeclared d values
-    → IsKnown d.names values known → place_in d known name ≡ Some place → LeadsTo d.names values name place
+    → IsKnown (names_of d) values known → place_in d known name ≡ Some place → LeadsTo (names_of d) values name place
 met d values known name place declared known_is e =
     by (get d.zones name) (get known name) (declared.zones name) (known_is name) e
   where
-    by : (a b : Option ℕ) → IsPlaced d.names name (has_zone values name) a → IsKept d.names values name b → option_or a b ≡ Some place
-        → LeadsTo d.names values name place
+    by : (a b : Option ℕ) → IsPlaced (names_of d) name (has_zone values name) a → IsKept (names_of d) values name b → option_or a b ≡ Some place
+        → LeadsTo (names_of d) values name place
     by None None placed kept e = absurd (none-some place e)
-    by None (Some p) placed kept e = subst (LeadsTo d.names values name) (same_Some p place e) kept
-    by (Some p) b placed kept e = subst (LeadsTo d.names values name) (same_Some p place e) (record {
+    by None (Some p) placed kept e = subst (LeadsTo (names_of d) values name) (same_Some p place e) kept
+    by (Some p) b placed kept e = subst (LeadsTo (names_of d) values name) (same_Some p place e) (record {
       zone = name;
       here = placed.1;
       behind = behind_itself values name placed.0;
@@ -47,7 +47,7 @@ pub unmet : (d : Declared) (values : List LineValue) (known : FinMap text_cmp �
     → place_in d known name ≡ None → has_zone values name ≡ false
 unmet d values known name declared e = by (get d.zones name) (get known name) (declared.zones name) e
   where
-    by : (a b : Option ℕ) → IsPlaced d.names name (has_zone values name) a → option_or a b ≡ None → has_zone values name ≡ false
+    by : (a b : Option ℕ) → IsPlaced (names_of d) name (has_zone values name) a → option_or a b ≡ None → has_zone values name ≡ false
     by None b placed e = placed
     by (Some p) b placed e = absurd (none-some p (sym e))
 
@@ -114,20 +114,20 @@ none_met d known at (Some p) e lacks = search rules
 
 -- a place that was found on the way
 pub met_here : (d : Declared) (values : List LineValue) (known : FinMap text_cmp ℕ) (name at : List ℕ) (i : ℕ) (o : Option ℕ)
-    → o ≡ place_in d known at → is_some o ≡ true → AreSteps values name at i → IsDeclared d values → IsKnown d.names values known
-    → IsBehind d.names values name o
+    → o ≡ place_in d known at → is_some o ≡ true → AreSteps values name at i → IsDeclared d values → IsKnown (names_of d) values known
+    → IsBehind (names_of d) values name o
 met_here d values known name at i None e has steps declared known_is = search rules
 met_here d values known name at i (Some p) e has steps declared known_is =
-    found d.names values name at i p steps (met d values known at p declared known_is (sym e))
+    found (names_of d) values name at i p steps (met d values known at p declared known_is (sym e))
 
 -- a place that was looked for after enough steps
 pub met_last : (d : Declared) (values : List LineValue) (known : FinMap text_cmp ℕ) (name at : List ℕ) (i : ℕ) (o : Option ℕ)
-    → o ≡ place_in d known at → length values ≤ i → AreSteps values name at i → IsDeclared d values → IsKnown d.names values known
-    → IsBehind d.names values name o
+    → o ≡ place_in d known at → length values ≤ i → AreSteps values name at i → IsDeclared d values → IsKnown (names_of d) values known
+    → IsBehind (names_of d) values name o
 met_last d values known name at i None e far steps declared known_is =
     too_far values name at i steps far (unmet d values known at declared (sym e))
 met_last d values known name at i (Some p) e far steps declared known_is =
-    found d.names values name at i p steps (met d values known at p declared known_is (sym e))
+    found (names_of d) values name at i p steps (met d values known at p declared known_is (sym e))
 
 -- nothing points on from a name that isn't known
 pub ended : (d : Declared) (values : List LineValue) (known : FinMap text_cmp ℕ) (name at : List ℕ) (i : ℕ) → place_in d known at ≡ None
@@ -144,9 +144,9 @@ stepped d values known name at next target i none to is steps declared =
 
 pub noted : (d : Declared) (values : List LineValue) (known new : FinMap text_cmp ℕ) (at next target : List ℕ) (place : ℕ)
     → place_in d known at ≡ None → Some target ≡ get d.targets at → next ≡ target → new ≡ insert known at place → IsDeclared d values
-    → IsKnown d.names values known × LeadsTo d.names values at place → IsKnown d.names values new × LeadsTo d.names values next place
+    → IsKnown (names_of d) values known × LeadsTo (names_of d) values at place → IsKnown (names_of d) values new × LeadsTo (names_of d) values next place
 noted d values known new at next target place none to is put declared so_far = (
-  known_more d.names values known new at place put so_far.0 so_far.1,
-  on_the_way d.names values at next place (unmet d values known at declared none)
+  known_more (names_of d) values known new at place put so_far.0 so_far.1,
+  on_the_way (names_of d) values at next place (unmet d values known at declared none)
       (sym (declared.targets at) ∙ sym to ∙ ap Some (sym is)) so_far.1,
 )

@@ -1,7 +1,7 @@
 pub mod LineLemmas
 pub mod ReadingLemmas
 pub mod MetLemmas
-pub mod OutputLemmas
+pub mod PlainLemmas
 pub mod RespondLemmas
 pub mod TargetLaws
 pub mod LeadsLaws

@@ -12,8 +12,8 @@ use Rattle.zone_plain_base.specs.declared.error.Refused.TheVariants.{Cause, NoMe
 use Rattle.zone_plain.proofs.NameLemmas.{declares-more, declares-other, contains-inserted, link_known}
 use Rattle.zone_plain.proofs.TargetLaws.{target-other}
 use Rattle.zone_plain.specs.Declares.{zone_name, has_zone, target_by, target_of}
-use Rattle.zone_plain.specs.Settled.{lacks_rules, link_to, link_after, link_size, settled_link, settled_line}
-use Rattle.zone_plain.specs.Stands.{IsPlaced, IsDeclared, IsKnown, AddsTarget, LeadsTo, IsAt, IsWritten, line_at_place}
+use Rattle.zone_plain.specs.Settled.{lacks_rules, link_to, link_after, settled_link, settled_line}
+use Rattle.zone_plain.specs.Stands.{names_of, IsPlaced, IsDeclared, IsKnown, AddsTarget, LeadsTo, IsAt, IsLinkText, line_at_place}
 use Rattle.zone_plain_base.specs.Told.{IsRefused}
 use Rattle.zone_plain.specs.declared.links.Declared.{Declared}
 use Rattle.zone_plain.specs.declared.links.Seen.{Seen}
@@ -26,7 +26,7 @@ pub is_declared : (d : Declared) (values : List LineValue) (name : List ℕ) (ha
     → has ≡ has_zone values name
 is_declared d values name has declared e = e ∙ by (get d.zones name) (declared.zones name)
   where
-    by : (o : Option ℕ) → IsPlaced d.names name (has_zone values name) o → is_some o ≡ has_zone values name
+    by : (o : Option ℕ) → IsPlaced (names_of d) name (has_zone values name) o → is_some o ≡ has_zone values name
     by None placed = sym placed
     by (Some p) placed = sym placed.0
 
@@ -54,12 +54,12 @@ zone_seen d s new limit values before name info zones targets known here = recor
         ap (λ m. contains_key m q) zones ∙ contains-inserted s.zones name q ∙ ap (λ b. b || bytes_eq name q) (here.seen.zones q)
         ∙ sym (declares-more zone_name before (zone name info) q);
     targets = λ q. ap (λ m. get m q) targets ∙ here.seen.targets q ∙ sym (target-other before (zone name info) (λ _. refl) q);
-    known = subst (IsKnown d.names values) (sym known) here.seen.known;
+    known = subst (IsKnown (names_of d) values) (sym known) here.seen.known;
   };
 }
 
 pub link_seen : (d : Declared) (s new : Seen) (limit : ℕ) (values before : List LineValue) (existing name : List ℕ)
-    → new.zones ≡ s.zones → AddsTarget s.targets new.targets existing name → IsKnown d.names values new.known
+    → new.zones ≡ s.zones → AddsTarget s.targets new.targets existing name → IsKnown (names_of d) values new.known
     → IsAt d s limit values before → IsAt d new limit values (before ++ link existing name ∷ [])
 link_seen d s new limit values before existing name zones targets known here = record {
   declared = here.declared;
@@ -158,8 +158,6 @@ pub link_said : (values before : List LineValue) (existing new : List ℕ) (v : 
 unfolding settled_link
 link_said values before existing new v is e said = rw (is, e, said) refl
 
-pub link_written : (values before : List LineValue) (existing new : List ℕ) (v : LineValue) (text : List ℕ) (size : ℕ) → has_zone values new ≡ false
-    → link_after values (target_of before new) existing new ≡ Ok v → is_said v ≡ true → text ≡ plain_text v → size ≡ link_size v
-    → IsWritten (settled_link values before existing new) text size
-link_written values before existing new v text size is e said plain sized =
-    record { value = v; is = link_said values before existing new v is e said; said = said; plain = plain; sized = sized }
+pub link_text : (text : List ℕ) (v : LineValue) → text ≡ plain_text v → IsLinkText text v
+link_text text (link existing new) plain = plain
+link_text text _ plain = tt

@@ -13,7 +13,7 @@ use Rattle.zone_values.specs.declared.line.Line.TheVariants.{Space}
 use Rattle.std.proofs.lemmas.List.{get_or-map, length-map, take_more}
 use Rattle.zone_plain.specs.Declares.{zone_name, ruleset_name, is_that, declares, has_zone, target_by, target_of}
 use Rattle.zone_plain.proofs.TargetLaws.{target-more, or_none, target-other}
-use Rattle.zone_plain.specs.Stands.{IsPlaced, IsDeclared, AddsTarget}
+use Rattle.zone_plain.specs.Stands.{names_of, IsPlaced, IsDeclared, AddsTarget}
 use Rattle.zone_plain.specs.declared.links.Declared.{Declared}
 
 pub declares-more : (name_of : LineValue → Option (List ℕ)) (vs : List LineValue) (v : LineValue) (name : List ℕ)
@@ -88,9 +88,9 @@ placed_here : (names : List (List ℕ)) (y name : List ℕ) (b same : Bool) (o :
 placed_here names y name b false o e h = subst (λ c. IsPlaced (names ++ y ∷ []) name c o) (sym (or-false b)) (more_names names y name b o h)
 placed_here names y name b true o e h = (or-true b, slice_get-last names y ∙ ap Some ((bytes_decides y name).0 e))
 
-pub no_names : (d : Declared) → d.names ≡ [] → d.zones ≡ empty → d.targets ≡ empty → d.rulesets ≡ empty → IsDeclared d []
+pub no_names : (d : Declared) → names_of d ≡ [] → d.zones ≡ empty → d.targets ≡ empty → d.rulesets ≡ empty → IsDeclared d []
 no_names d names zones targets rulesets = record {
-  zones = λ name. subst (λ o. IsPlaced d.names name false o) (sym (ap (λ m. get m name) zones ∙ get-empty text_cmp name)) refl;
+  zones = λ name. subst (λ o. IsPlaced (names_of d) name false o) (sym (ap (λ m. get m name) zones ∙ get-empty text_cmp name)) refl;
   targets = λ name. ap (λ m. get m name) targets ∙ get-empty text_cmp name;
   rulesets = λ name. ap is_some (ap (λ m. get m name) rulesets ∙ get-empty text_cmp name);
 }
@@ -99,13 +99,13 @@ no_names d names zones targets rulesets = record {
 pub nothing_more : (d : Declared) (values : List LineValue) (v : LineValue) → zone_name v ≡ None → ruleset_name v ≡ None
     → ((name : List ℕ) → target_by v name ≡ None) → IsDeclared d values → IsDeclared d (values ++ v ∷ [])
 nothing_more d values v no_zone no_rule no_link h = record {
-  zones = λ name. subst (λ b. IsPlaced d.names name b (get d.zones name)) (sym (declares-other zone_name values v no_zone name)) (h.zones name);
+  zones = λ name. subst (λ b. IsPlaced (names_of d) name b (get d.zones name)) (sym (declares-other zone_name values v no_zone name)) (h.zones name);
   targets = λ name. h.targets name ∙ sym (target-other values v no_link name);
   rulesets = λ name. h.rulesets name ∙ sym (declares-other ruleset_name values v no_rule name);
 }
 
-pub zone_more : (d new : Declared) (values : List LineValue) (name : List ℕ) (info : InfoValue) → new.names ≡ d.names ++ name ∷ []
-    → new.zones ≡ insert d.zones name (length d.names) → new.targets ≡ d.targets → new.rulesets ≡ d.rulesets
+pub zone_more : (d new : Declared) (values : List LineValue) (name : List ℕ) (info : InfoValue) → names_of new ≡ names_of d ++ name ∷ []
+    → new.zones ≡ insert d.zones name (length (names_of d)) → new.targets ≡ d.targets → new.rulesets ≡ d.rulesets
     → IsDeclared d values → IsDeclared new (values ++ zone name info ∷ [])
 zone_more d new values name info names zones targets rulesets h = record {
   zones = λ q. at q;
@@ -113,37 +113,37 @@ zone_more d new values name info names zones targets rulesets h = record {
   rulesets = λ q. ap (λ m. contains_key m q) rulesets ∙ h.rulesets q ∙ sym (declares-other ruleset_name values (zone name info) refl q);
 }
   where
-    here : (q : List ℕ) → IsPlaced (d.names ++ name ∷ []) q (has_zone values q || bytes_eq name q) (cond (bytes_eq name q) (Some (length d.names)) (get d.zones q))
-    here q = placed_here d.names name q (has_zone values q) (bytes_eq name q) (get d.zones q) refl (h.zones q)
+    here : (q : List ℕ) → IsPlaced ((names_of d) ++ name ∷ []) q (has_zone values q || bytes_eq name q) (cond (bytes_eq name q) (Some (length (names_of d))) (get d.zones q))
+    here q = placed_here (names_of d) name q (has_zone values q) (bytes_eq name q) (get d.zones q) refl (h.zones q)
 
-    at : (q : List ℕ) → IsPlaced new.names q (has_zone (values ++ zone name info ∷ []) q) (get new.zones q)
+    at : (q : List ℕ) → IsPlaced (names_of new) q (has_zone (values ++ zone name info ∷ []) q) (get new.zones q)
     at q =
         subst (λ ns. IsPlaced ns q (has_zone (values ++ zone name info ∷ []) q) (get new.zones q)) (sym names)
-        (subst (λ b. IsPlaced (d.names ++ name ∷ []) q b (get new.zones q)) (sym (declares-more zone_name values (zone name info) q))
-        (subst (λ o. IsPlaced (d.names ++ name ∷ []) q (has_zone values q || bytes_eq name q) o)
-        (sym (ap (λ m. get m q) zones ∙ get-inserted d.zones name q (length d.names))) (here q)))
+        (subst (λ b. IsPlaced ((names_of d) ++ name ∷ []) q b (get new.zones q)) (sym (declares-more zone_name values (zone name info) q))
+        (subst (λ o. IsPlaced ((names_of d) ++ name ∷ []) q (has_zone values q || bytes_eq name q) o)
+        (sym (ap (λ m. get m q) zones ∙ get-inserted d.zones name q (length (names_of d)))) (here q)))
 
-pub rule_more : (d new : Declared) (values : List LineValue) (r : RuleValue) → new.names ≡ d.names → new.zones ≡ d.zones
+pub rule_more : (d new : Declared) (values : List LineValue) (r : RuleValue) → names_of new ≡ names_of d → new.zones ≡ d.zones
     → new.targets ≡ d.targets → new.rulesets ≡ insert d.rulesets r.name tt → IsDeclared d values → IsDeclared new (values ++ rule r ∷ [])
 rule_more d new values r names zones targets rulesets h = record {
   zones = λ q.
-      subst (λ b. IsPlaced new.names q b (get new.zones q)) (sym (declares-other zone_name values (rule r) refl q))
+      subst (λ b. IsPlaced (names_of new) q b (get new.zones q)) (sym (declares-other zone_name values (rule r) refl q))
       (subst (λ ns. IsPlaced ns q (has_zone values q) (get new.zones q)) (sym names)
-      (subst (λ m. IsPlaced d.names q (has_zone values q) (get m q)) (sym zones) (h.zones q)));
+      (subst (λ m. IsPlaced (names_of d) q (has_zone values q) (get m q)) (sym zones) (h.zones q)));
   targets = λ q. ap (λ m. get m q) targets ∙ h.targets q ∙ sym (target-other values (rule r) (λ _. refl) q);
   rulesets = λ q.
       ap (λ m. contains_key m q) rulesets ∙ contains-inserted d.rulesets r.name q
       ∙ ap (λ b. b || bytes_eq r.name q) (h.rulesets q) ∙ sym (declares-more ruleset_name values (rule r) q);
 }
 
-pub link_more : (d new : Declared) (values : List LineValue) (existing name : List ℕ) → new.names ≡ d.names → new.zones ≡ d.zones
+pub link_more : (d new : Declared) (values : List LineValue) (existing name : List ℕ) → names_of new ≡ names_of d → new.zones ≡ d.zones
     → AddsTarget d.targets new.targets existing name → new.rulesets ≡ d.rulesets → IsDeclared d values
     → IsDeclared new (values ++ link existing name ∷ [])
 link_more d new values existing name names zones targets rulesets h = record {
   zones = λ q.
-      subst (λ b. IsPlaced new.names q b (get new.zones q)) (sym (declares-other zone_name values (link existing name) refl q))
+      subst (λ b. IsPlaced (names_of new) q b (get new.zones q)) (sym (declares-other zone_name values (link existing name) refl q))
       (subst (λ ns. IsPlaced ns q (has_zone values q) (get new.zones q)) (sym names)
-      (subst (λ m. IsPlaced d.names q (has_zone values q) (get m q)) (sym zones) (h.zones q)));
+      (subst (λ m. IsPlaced (names_of d) q (has_zone values q) (get m q)) (sym zones) (h.zones q)));
   targets = targets values h.targets;
   rulesets = λ q. ap (λ m. contains_key m q) rulesets ∙ h.rulesets q ∙ sym (declares-other ruleset_name values (link existing name) refl q);
 }

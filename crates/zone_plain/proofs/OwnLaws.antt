@@ -49,7 +49,7 @@ use Rattle.zone_plain.specs.Plain.{plain_of}
 use Rattle.zone_plain.proofs.ReadBackLaws.{IsPlaced, read_as_meant}
 use Rattle.zone_plain.proofs.PlacedLaws.{parts_followed}
 use Rattle.zone_plain.proofs.RebuiltLaws.{headed}
-use Rattle.zone_plain.specs.Written.{Part, Rules, Zones, Links, is_in, written}
+use Rattle.zone_plain_offsets.specs.Written.{Part, Rules, Zones, Links, is_in, written}
 use Rattle.zone_plain.specs.WrittenLines.{in_parts}
 use Rattle.zone_plain.proofs.WrittenLinesLaws.{written_is as written_in_parts, in_all_parts}
 

@@ -11,7 +11,7 @@ use Rattle.zone_plain_offsets.specs.MadeLaws.{written_is}
 use Rattle.zone_plain_offsets.specs.Pairs.{Pair, Asked, total, under, asked, pairs_of}
 use Rattle.zone_plain_offsets.specs.WrittenOut.{written_out}
 use Rattle.zone_plain.proofs.PartLemmas.{GivesIn, parts_give}
-use Rattle.zone_plain.specs.Written.{Rules, Zones, Links}
+use Rattle.zone_plain_offsets.specs.Written.{Rules, Zones, Links}
 use Rattle.zone_plain.specs.WrittenLines.{in_parts}
 
 -- what a line gives as a name

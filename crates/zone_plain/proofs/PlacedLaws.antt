@@ -21,7 +21,7 @@ use Rattle.zone_plain_offsets.specs.WrittenOut.{refused_from, written_unless, wr
 use Rattle.zone_plain.specs.LineValues.{line_meaning, is_open_after, values_from, mark_in, named, values_in}
 use Rattle.zone_plain.proofs.Followed.{are_followed}
 use Rattle.zone_plain.proofs.Placed.{are_placed}
-use Rattle.zone_plain.specs.Written.{Rules, Zones, Links, is_in}
+use Rattle.zone_plain_offsets.specs.Written.{Rules, Zones, Links, is_in}
 use Rattle.zone_plain.specs.WrittenLines.{in_parts}
 
 -- lines that follow where they have to follow a line of a zone

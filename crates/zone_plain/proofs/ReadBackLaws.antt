@@ -19,7 +19,7 @@ use Rattle.zone_plain.proofs.Followed.{are_followed}
 use Rattle.zone_plain.proofs.PlacedLaws.{StaysFollowed, source_followed, settled_followed, out_followed}
 use Rattle.zone_plain.specs.Plain.{plain_of}
 use Rattle.zone_plain.specs.ReadBack.{IsReadAsMeant, IsReadBack}
-use Rattle.zone_plain.specs.Written.{written}
+use Rattle.zone_plain_offsets.specs.Written.{written}
 
 -- what can be said is read as it is meant
 pub said_is_read : (v : LineValue) → IsSaid v → IsReadAsMeant v

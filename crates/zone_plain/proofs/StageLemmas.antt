@@ -21,7 +21,7 @@ use Rattle.zone_plain_base.specs.declared.error.PlainFault.TheVariants as fault
 use Rattle.zone_plain_base.specs.declared.error.Refused.{Refused}
 use Rattle.zone_plain_base.specs.declared.error.Refused.TheVariants.{Cause, NoMemory}
 use Rattle.zone_plain.specs.Settled.{link_size, settled_line, settled_from, settled}
-use Rattle.zone_plain.specs.Stands.{IsDeclared, IsKept, IsAt, IsWritten, Adds, Overflows, IsPast}
+use Rattle.zone_plain.specs.Stands.{names_of, IsDeclared, IsKept, IsAt}
 use Rattle.zone_plain.specs.declared.links.Declared.{Declared}
 use Rattle.zone_plain.specs.declared.links.Seen.{Seen}
 
@@ -33,15 +33,9 @@ first_at d s values limit zones targets known declared few = record {
   seen = record {
     zones = λ name. ap is_some (ap (λ m. get m name) zones ∙ get-empty text_cmp name);
     targets = λ name. ap (λ m. get m name) targets ∙ get-empty text_cmp name;
-    known = λ name. subst (IsKept d.names values name) (sym (ap (λ m. get m name) known ∙ get-empty text_cmp name)) tt;
+    known = λ name. subst (IsKept (names_of d) values name) (sym (ap (λ m. get m name) known ∙ get-empty text_cmp name)) tt;
   };
 }
-
-pub line_written : (old new : List (List ℕ)) (text : List ℕ) (v : LineValue) → new ≡ old ++ text ∷ [] → text ≡ plain_text v → is_said v ≡ true
-    → map source_value new ≡ map source_value old ++ v ∷ []
-line_written old new text v added plain said =
-    ap (map source_value) added ∙ map-append source_value old (text ∷ [])
-    ∙ ap (λ w. map source_value old ++ w ∷ []) (ap source_value plain ∙ source_value_is v said)
 
 -- these values come before those that are found
 abbrev pub prepend : List LineValue → Result (List LineValue) Refusal → Result (List LineValue) Refusal
@@ -131,44 +125,6 @@ all_settled d s limit values ws place size past so_far =
     ∙ ap (λ vs. prepend ws (settled_from values (take place values) (place + 1) size vs)) (drop_all place values past)
     ∙ ap Ok (append-nil ws)
 
-pub adds_kept : (found : Result LineValue PlainCause) (old new : List LineValue) (v : LineValue) (size : ℕ) → size ≤ 16777216
-    → (found ≡ Ok v) × (link_size v ≡ 0) → new ≡ old ++ v ∷ [] → Adds found old new size size
-adds_kept found old new v size small is added = record {
-  value = v;
-  is = is.0;
-  added = added;
-  sized = omega (arith, is.1);
-  small = not_less size small;
-}
-  where
-    not_less : (n : ℕ) → n ≤ 16777216 → nat_lt 16777216 n ≡ false
-    not_less n few = le-ltb 16777216 n few
-
-pub adds_written : (found : Result LineValue PlainCause) (old new : List (List ℕ)) (text : List ℕ) (size added : ℕ) → size ≤ 16777216
-    → added ≤ 16777216 - size → IsWritten found text added → new ≡ old ++ text ∷ []
-    → Adds found (map source_value old) (map source_value new) size (size + added)
-adds_written found old new text size added few room is put = record {
-  value = is.value;
-  is = is.is;
-  added = line_written old new text is.value put is.plain is.said;
-  sized = ap (λ n. size + n) is.sized;
-  small = not_less size added few room;
-}
-  where
-    not_less : (n m : ℕ) → n ≤ 16777216 → m ≤ 16777216 - n → nat_lt 16777216 (n + m) ≡ false
-    not_less n m few room = le-ltb 16777216 (n + m) (omega (arith, few, room))
-
-pub overflows_written : (found : Result LineValue PlainCause) (text : List ℕ) (size added : ℕ) → size ≤ 16777216
-    → 16777216 - size < added → IsWritten found text added → Overflows found size
-overflows_written found text size added few room is = record {
-  value = is.value;
-  is = is.is;
-  large = subst (λ n. nat_lt 16777216 (size + n) ≡ true) is.sized (more size added few room);
-}
-  where
-    more : (n m : ℕ) → n ≤ 16777216 → 16777216 - n < m → nat_lt 16777216 (n + m) ≡ true
-    more n m few room = lt-ltb 16777216 (n + m) (omega (arith, few, room))
-
 pub size_is_small : (d : Declared) (s : Seen) (limit : ℕ) (values ws : List LineValue) (place size : ℕ)
     → Settling d s limit values ws place size → size ≤ 16777216
 size_is_small d s limit values ws place size so_far = not_more size so_far.small
@@ -176,27 +132,13 @@ size_is_small d s limit values ws place size so_far = not_more size so_far.small
     not_more : (n : ℕ) → nat_lt 16777216 n ≡ false → n ≤ 16777216
     not_more n small = ltb-false 16777216 n small
 
-pub added_here : (d : Declared) (s new : Seen) (limit : ℕ) (values ws now : List LineValue) (place size size_now : ℕ)
-    → place < length values → Settling d s limit values ws place size
-    → Adds (settled_line values (take place values) (get_or values place space)) ws now size size_now
-    → IsAt d new limit values (take place values ++ get_or values place space ∷ []) → Settling d new limit values now (place + 1) size_now
-added_here d s new limit values ws now place size size_now inside so_far adds here =
-    subst (λ vs. Settling d new limit values vs (place + 1) size_now) (sym adds.added)
-    (one_settled d s new limit values ws place size size_now adds.value inside so_far adds.is adds.sized adds.small here)
+-- the line at a place
+pub line_at : (lines : List Line) (place : ℕ) → place < length lines → line_value (get_or lines place Space) ≡ get_or (map line_value lines) place space
+line_at lines place inside = sym (get_or-map line_value lines place Space space inside)
 
-pub past_here : (d : Declared) (s : Seen) (limit : ℕ) (values ws : List LineValue) (place size : ℕ) (f : PlainFault) → place < length values
-    → Settling d s limit values ws place size → IsPast (settled_line values (take place values) (get_or values place space)) size f
-    → IsFaultOf (settled values) f
-past_here d s limit values ws place size (fault.Line n c) inside so_far past = absurd past
-past_here d s limit values ws place size fault.TooLong inside so_far past =
-    too_long_here d s limit values ws place size past.value inside so_far past.is past.large
-past_here d s limit values ws place size fault.NoMemory inside so_far past = tt
+-- and stay few with others for which there is room, or not
+pub still_small : (size added : ℕ) → size ≤ 16777216 → added ≤ 16777216 - size → nat_lt 16777216 (size + added) ≡ false
+still_small size added few room = le-ltb 16777216 (size + added) (omega (arith, few, room))
 
--- the lines that were read are as many, and say what the list's lines say
-pub as_many : (lines : List (List ℕ)) (read : List Line) → map line_value read ≡ map source_value lines → length read ≡ length (map source_value lines)
-as_many lines read same = sym (length-map read line_value) ∙ ap length same
-
-pub read_at : (lines : List (List ℕ)) (read : List Line) (place : ℕ) → map line_value read ≡ map source_value lines → place < length read
-    → line_value (get_or read place Space) ≡ get_or (map source_value lines) place space
-read_at lines read place same inside =
-    sym (get_or-map line_value read place Space space inside) ∙ ap (λ vs. get_or vs place space) same
+pub large_now : (size added : ℕ) → size ≤ 16777216 → 16777216 - size < added → nat_lt 16777216 (size + added) ≡ true
+large_now size added few past = lt-ltb 16777216 (size + added) (omega (arith, few, past))

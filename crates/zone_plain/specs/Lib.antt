@@ -1,7 +1,6 @@
 -- Definitions: what public clauses say.
 pub mod LineValues
 pub mod Heads
-pub mod Written
 pub mod Declares
 pub mod Leads
 pub mod Settled

@@ -8,7 +8,7 @@ ghost use Rattle.zone_plain.specs.LineValues.{meant_in};
 ghost use Rattle.zone_plain.specs.Named.{IsSaidAsMeant};
 ghost use Rattle.zone_plain.specs.Plain.{plain_of};
 ghost use Rattle.zone_plain.specs.Rebuilt.{IsRebuilt};
-ghost use Rattle.zone_plain.specs.Written.{written};
+ghost use Rattle.zone_plain_offsets.specs.Written.{written};
 ghost use Rattle.zone_plain.specs.Declares.{has_zone, target_of};
 ghost use Rattle.zone_plain.specs.Leads.{zone_behind};
 ghost use Rattle.zone_plain.specs.Settled.{settled};

@@ -1,34 +1,30 @@
 //! Links in any order and links to links, each led to its zone; and why a source as a whole is refused.
-ghost use Rattle.std.specs.Prelude.{◌≡◌, ℕ, List, [], ◌∷◌, ◌++◌, map as each, length, IfOk, OnOk, unwrap_or, Ok, None, Some, option_map, bytes_eq, slice_get, IfErr, ◌<◌, ◌≤◌, Result};
+ghost use Rattle.std.specs.Prelude.{◌≡◌, ℕ, List, [], ◌∷◌, ◌++◌, map as each, length, IfOk, OnOk, unwrap_or, Ok, None, Some, option_map, bytes_eq, slice_get, IfErr};
 ghost use Rattle.zone_values.specs.Values.{LineValue, line_value, saving_value};
-ghost use Rattle.zone_plain.specs.Stands.{IsDeclared, AddsTarget, IsKnown, IsBehind, LeadsTo, IsAt, IsOutcome, line_at_place, Adds, IsPast};
+ghost use Rattle.zone_plain.specs.Stands.{IsDeclared, AddsTarget, IsKnown, IsBehind, LeadsTo, IsAt, IsLinkText, line_at_place, names_of};
 ghost use Rattle.std.specs.Option.{option_or};
-ghost use Rattle.zone_plain_base.specs.PlainTexts.{plain_text};
 ghost use Rattle.zone_plain.specs.Declares.{has_zone, target_of};
 ghost use Rattle.zone_plain.specs.Settled.{lacks_rules, link_size, link_after, settled_line, settled_link, settled};
 ghost use Rattle.zone_plain_base.specs.Told.{IsRefused};
-ghost use Rattle.zone_source.specs.Zones.{source_value};
-ghost use Rattle.zone_plain_lines.specs.declared.cause.PlainCause.{PlainCause};
 ghost use Rattle.zone_plain_base.specs.LineFaults.{IsFaultOf};
-ghost use Rattle.zone_plain_base.specs.LinesAt.{value_at};
 ghost use Rattle.zone_plain.specs.declared.links.Declared.{Declared};
 ghost use Rattle.std.specs.FinMap as map;
 ghost use Rattle.zone_values.specs.Values as value;
 ghost use Rattle.zone_values.specs.declared.line.Line.TheVariants as kind;
 
-use owned::{Items, Text, TextMap};
+use owned::{Text, TextMap};
 use std::alloc::{AllocError, Global};
-use zone_line::{Line, LineParser, LineReader};
-use zone_plain_base::{PlainFault, Refused, fault_at, keep_line, lines_read, write_said};
+use zone_line::{Line, LineReader};
+use zone_plain_base::{PlainFault, Refused, fault_at, write_said};
 use zone_plain_lines::PlainCause;
-use zone_source::{LIMIT, LineList};
+use zone_source::LIMIT;
 use zone_values::{Link, Saving, Zone};
 
 /// The names that a source declares.
 #[derive(Drop)]
-pub(crate) struct Declared {
+pub(crate) struct Declared<'t> {
     /// The names of its zones.
-    pub names: Items<Text>,
+    pub names: Vec<&'t str>,
     /// Where each of them stands among these.
     pub zones: TextMap<usize>,
     /// The target of the first link of each new name.
@@ -48,13 +44,13 @@ pub(crate) struct Seen {
     pub known: TextMap<usize>,
 }
 
-impl Declared {
+impl<'t> Declared<'t> {
     /// Nothing that is declared.
-    fn new(alloc: Global) -> Declared
+    fn new(alloc: Global) -> Declared<'t>
         ensures { IsDeclared result [] }
     {
         Declared {
-            names: Items::new(alloc),
+            names: Vec::new(alloc),
             zones: TextMap::new(alloc),
             targets: TextMap::new(alloc),
             rulesets: TextMap::new(alloc),
@@ -63,24 +59,23 @@ impl Declared {
 }
 
 /// Adds a zone's name, and its place among the names.
-fn add_zone(
+fn add_zone<'t>(
     alloc: Global,
-    names: &mut Items<Text>,
+    names: &mut Vec<&'t str>,
     zones: &mut TextMap<usize>,
-    name: &str,
+    name: &'t str,
 ) -> Result<(), AllocError>
-    ensures names { OnOk result (names.new ≡ names.old ++ name.now ∷ []) }
-    ensures zones { OnOk result (zones.new ≡ map.insert zones.old name.now (length names.old)) }
+    ensures names { OnOk result (each (λ one. one.now) names.new.items ≡ each (λ one. one.now) names.old.items ++ name.now ∷ []) }
+    ensures zones { OnOk result (zones.new ≡ map.insert zones.old name.now (length (each (λ one. one.now) names.old.items))) }
 {
-    let place = names.len();
-    let copy = Text::new(alloc, name)?;
-    names.push(copy)?;
+    let place = names.as_slice().len();
+    names.push(name)?;
     zones.insert(alloc, name, place)?;
     Ok(())
 }
 
 /// Adds a link's target, if the link is the first of its new name.
-pub(crate) fn add_target(
+fn add_target(
     alloc: Global,
     targets: &mut TextMap<Text>,
     existing: &str,
@@ -97,7 +92,11 @@ pub(crate) fn add_target(
 }
 
 /// Adds what a line declares.
-fn declare(alloc: Global, declared: &mut Declared, line: &Line<'_>) -> Result<(), AllocError>
+fn declare<'t>(
+    alloc: Global,
+    declared: &mut Declared<'t>,
+    line: &Line<'t>,
+) -> Result<(), AllocError>
     ensures { OnOk result ((values : List LineValue) → IsDeclared declared.old values
         → IsDeclared declared.new (values ++ line_value line.now ∷ [])) }
 {
@@ -120,7 +119,7 @@ fn declare(alloc: Global, declared: &mut Declared, line: &Line<'_>) -> Result<()
 }
 
 /// What the lines declare.
-pub(crate) fn declared_by(alloc: Global, lines: &[Line<'_>]) -> Result<Declared, AllocError>
+fn declared_by<'t>(alloc: Global, lines: &[Line<'t>]) -> Result<Declared<'t>, AllocError>
     ensures { IfOk result (λ declared. IsDeclared declared (each line_value lines.now)) }
 {
     let mut declared = Declared::new(alloc);
@@ -131,7 +130,7 @@ pub(crate) fn declared_by(alloc: Global, lines: &[Line<'_>]) -> Result<Declared,
 }
 
 /// Where a zone of that name stands among the names, or the zone to which the name is known to lead.
-fn place_of(declared: &Declared, known: &TextMap<usize>, name: &str) -> Option<usize>
+fn place_of(declared: &Declared<'_>, known: &TextMap<usize>, name: &str) -> Option<usize>
     ensures { result ≡ option_or (map.get declared.now.zones name.now) (map.get known.now name.now) }
 {
     match declared.zones.get(name) {
@@ -145,14 +144,14 @@ fn place_of(declared: &Declared, known: &TextMap<usize>, name: &str) -> Option<u
 
 /// Where the zone to which a name leads stands among the names of zones, by way of so many links at most, or none where it
 /// leads to no zone.
-pub(crate) fn zone_place(
-    declared: &Declared,
+fn zone_place(
+    declared: &Declared<'_>,
     known: &TextMap<usize>,
     limit: usize,
     name: &str,
 ) -> Option<usize>
-    ensures { (values : List LineValue) → IsDeclared declared.now values → IsKnown declared.now.names values known.now
-        → limit ≡ length values → IsBehind declared.now.names values name.now result }
+    ensures { (values : List LineValue) → IsDeclared declared.now values → IsKnown (names_of declared.now) values known.now
+        → limit ≡ length values → IsBehind (names_of declared.now) values name.now result }
 {
     let mut at = name;
     for step in 0..limit {
@@ -169,16 +168,16 @@ pub(crate) fn zone_place(
 }
 
 /// Notes of the names on the way from that one to the zone at a place that they lead there.
-pub(crate) fn keep(
+fn keep(
     alloc: Global,
-    declared: &Declared,
+    declared: &Declared<'_>,
     known: &mut TextMap<usize>,
     limit: usize,
     name: &str,
     place: usize,
 ) -> Result<(), AllocError>
-    ensures { OnOk result ((values : List LineValue) → IsDeclared declared.now values → IsKnown declared.now.names values known.old
-        → LeadsTo declared.now.names values name.now place → IsKnown declared.now.names values known.new) }
+    ensures { OnOk result ((values : List LineValue) → IsDeclared declared.now values → IsKnown (names_of declared.now) values known.old
+        → LeadsTo (names_of declared.now) values name.now place → IsKnown (names_of declared.now) values known.new) }
 {
     let mut at = name;
     for step in 0..limit {
@@ -194,17 +193,8 @@ pub(crate) fn keep(
     Ok(())
 }
 
-/// What becomes of a line that isn't refused.
-#[derive(Clone, Copy, Debug, PartialEq, Eq)]
-pub(crate) enum Outcome {
-    /// It stays.
-    Kept,
-    /// The text that was written stands in its place, which takes so many bytes among the links.
-    Written(usize),
-}
-
 /// Whether RULES names a ruleset of which there is no rule.
-fn lacks_rules(declared: &Declared, saving: &Saving<'_>) -> bool
+fn lacks_rules(declared: &Declared<'_>, saving: &Saving<'_>) -> bool
     ensures { (values : List LineValue) → IsDeclared declared.now values → result ≡ lacks_rules values (saving_value saving.now) }
 {
     match saving {
@@ -213,9 +203,9 @@ fn lacks_rules(declared: &Declared, saving: &Saving<'_>) -> bool
     }
 }
 
-/// How many bytes a line that was written takes among the links.
+/// How many bytes a line takes among the links, by its text, if it is one.
 fn link_size(line: &Line<'_>, text: &[u8]) -> usize
-    requires { text.now ≡ plain_text (line_value line.now) }
+    requires { IsLinkText text.now (line_value line.now) }
     ensures { result ≡ link_size (line_value line.now) }
 {
     match line {
@@ -237,14 +227,14 @@ fn is_same(targets: &TextMap<Text>, existing: &str, new: &str) -> Option<bool>
 /// Where the zone of a link that is the first of its new name stands among the names.
 fn first_link(
     alloc: Global,
-    declared: &Declared,
+    declared: &Declared<'_>,
     seen: &mut Seen,
     limit: usize,
     existing: &str,
     new: &str,
 ) -> Result<usize, Refused>
     ensures ok { IfOk result (λ place. (values before : List LineValue) → IsAt declared.now seen.old limit values before
-        → (link_after values None existing.now new.now ≡ Ok (line_at_place declared.now.names (Some place) new.now))
+        → (link_after values None existing.now new.now ≡ Ok (line_at_place (names_of declared.now) (Some place) new.now))
         × IsAt declared.now seen.new limit values (before ++ value.link existing.now new.now ∷ [])) }
     ensures err { IfErr result (λ refused. (values before : List LineValue) → IsAt declared.now seen.old limit values before
         → IsRefused (link_after values None existing.now new.now) refused) }
@@ -260,14 +250,14 @@ fn first_link(
 /// Where the zone of a link stands among the names, or none where the same link stands before.
 fn link_place(
     alloc: Global,
-    declared: &Declared,
+    declared: &Declared<'_>,
     seen: &mut Seen,
     limit: usize,
     existing: &str,
     new: &str,
 ) -> Result<Option<usize>, Refused>
     ensures ok { IfOk result (λ place. (values before : List LineValue) → IsAt declared.now seen.old limit values before
-        → (link_after values (target_of before new.now) existing.now new.now ≡ Ok (line_at_place declared.now.names place new.now))
+        → (link_after values (target_of before new.now) existing.now new.now ≡ Ok (line_at_place (names_of declared.now) place new.now))
         × IsAt declared.now seen.new limit values (before ++ value.link existing.now new.now ∷ [])) }
     ensures err { IfErr result (λ refused. (values before : List LineValue) → IsAt declared.now seen.old limit values before
         → IsRefused (link_after values (target_of before new.now) existing.now new.now) refused) }
@@ -283,18 +273,18 @@ fn link_place(
 }
 
 /// The name at a place, and no letters past the end.
-fn name_at(names: &Items<Text>, place: usize) -> &str
-    ensures { result.now ≡ unwrap_or (slice_get names.now place) [] }
+fn name_at<'t>(names: &[&'t str], place: usize) -> &'t str
+    ensures { result.now ≡ unwrap_or (slice_get (each (λ one. one.now) names.now) place) [] }
 {
     match names.get(place) {
-        Some(name) => name.as_str(),
+        Some(name) => name,
         None => "",
     }
 }
 
 /// A link to the zone at a place among the names, or a blank line.
-fn line_of<'a>(names: &'a Items<Text>, place: Option<usize>, new: &'a str) -> Line<'a>
-    ensures { line_value result ≡ line_at_place names.now place new.now }
+fn line_of<'t>(names: &[&'t str], place: Option<usize>, new: &'t str) -> Line<'t>
+    ensures { line_value result ≡ line_at_place (each (λ one. one.now) names.now) place new.now }
 {
     match place {
         None => Line::Space,
@@ -305,20 +295,20 @@ fn line_of<'a>(names: &'a Items<Text>, place: Option<usize>, new: &'a str) -> Li
     }
 }
 
-/// What becomes of a link.
-fn settle_link(
+/// What becomes of a link, whose text is written.
+fn settle_link<'t>(
     alloc: Global,
     reader: &mut LineReader<'_>,
-    declared: &Declared,
+    declared: &Declared<'t>,
     seen: &mut Seen,
     limit: usize,
-    link: &Link<'_>,
+    link: &Link<'t>,
     text: &mut Vec<u8>,
-) -> Result<Outcome, Refused>
-    ensures ok { IfOk result (λ outcome. (values before : List LineValue) → IsAt declared.now seen.old limit values before
-        → IsOutcome (settled_link values before link.now.existing.now link.now.new.now)
-        (value.link link.now.existing.now link.now.new.now) text.new.items outcome
+) -> Result<Line<'t>, Refused>
+    ensures ok { IfOk result (λ line. (values before : List LineValue) → IsAt declared.now seen.old limit values before
+        → (settled_link values before link.now.existing.now link.now.new.now ≡ Ok (line_value line))
         × IsAt declared.now seen.new limit values (before ++ value.link link.now.existing.now link.now.new.now ∷ [])) }
+    ensures text { IfOk result (λ line. IsLinkText text.new.items (line_value line)) }
     ensures err { IfErr result (λ refused. (values before : List LineValue) → IsAt declared.now seen.old limit values before
         → IsRefused (settled_link values before link.now.existing.now link.now.new.now) refused) }
 {
@@ -329,17 +319,17 @@ fn settle_link(
         Ok(place) => place,
         Err(refused) => return Err(refused),
     };
-    let meant = line_of(&declared.names, place, link.new);
-    if !write_said(alloc, reader, &meant, text)? {
+    let led = line_of(declared.names.as_slice(), place, link.new);
+    if !write_said(alloc, reader, &led, text)? {
         return Err(Refused::Cause(PlainCause::Unsayable));
     }
-    Ok(Outcome::Written(link_size(&meant, text.as_slice())))
+    Ok(led)
 }
 
 /// What becomes of the first line of a zone.
 fn settle_zone(
     alloc: Global,
-    declared: &Declared,
+    declared: &Declared<'_>,
     seen: &mut Seen,
     zone: &Zone<'_>,
 ) -> Result<(), Refused>
@@ -359,39 +349,40 @@ fn settle_zone(
     Ok(())
 }
 
-/// What becomes of a line.
-pub(crate) fn settle_line(
+/// What becomes of a line; the text of a link is written.
+fn settle_line<'t>(
     alloc: Global,
     reader: &mut LineReader<'_>,
-    declared: &Declared,
+    declared: &Declared<'t>,
     seen: &mut Seen,
     limit: usize,
-    line: &Line<'_>,
+    line: &Line<'t>,
     text: &mut Vec<u8>,
-) -> Result<Outcome, Refused>
-    ensures ok { IfOk result (λ outcome. (values before : List LineValue) → IsAt declared.now seen.old limit values before
-        → IsOutcome (settled_line values before (line_value line.now)) (line_value line.now) text.new.items outcome
+) -> Result<Line<'t>, Refused>
+    ensures ok { IfOk result (λ found. (values before : List LineValue) → IsAt declared.now seen.old limit values before
+        → (settled_line values before (line_value line.now) ≡ Ok (line_value found))
         × IsAt declared.now seen.new limit values (before ++ line_value line.now ∷ [])) }
+    ensures text { IfOk result (λ found. IsLinkText text.new.items (line_value found)) }
     ensures err { IfErr result (λ refused. (values before : List LineValue) → IsAt declared.now seen.old limit values before
         → IsRefused (settled_line values before (line_value line.now)) refused) }
 {
     match line {
-        Line::Space => Ok(Outcome::Kept),
-        Line::Rule(_) => Ok(Outcome::Kept),
+        Line::Space => Ok(Line::Space),
+        Line::Rule(rule) => Ok(Line::Rule(*rule)),
         Line::Continuation(info) => {
             if lacks_rules(declared, &info.saving) {
                 Err(Refused::Cause(PlainCause::UnknownRuleset))
             } else {
-                Ok(Outcome::Kept)
+                Ok(Line::Continuation(*info))
             }
         }
         Line::Zone(zone) => match settle_zone(alloc, declared, seen, zone) {
-            Ok(()) => Ok(Outcome::Kept),
+            Ok(()) => Ok(Line::Zone(*zone)),
             Err(refused) => Err(refused),
         },
         Line::Link(link) => {
             match settle_link(alloc, reader, declared, seen, limit, link, text) {
-                Ok(outcome) => Ok(outcome),
+                Ok(found) => Ok(found),
                 Err(refused) => Err(refused),
             }
         }
@@ -409,36 +400,12 @@ fn nothing_seen(alloc: Global) -> Seen
     }
 }
 
-/// Adds what a line became, after links of so many bytes. Answers how many bytes they take then.
-fn add_line(
-    into: &mut LineList,
-    lines: &LineList,
-    place: usize,
-    text: &[u8],
-    size: usize,
-    outcome: Outcome,
-) -> Result<usize, PlainFault>
-    requires size { size ≤ LIMIT }
-    requires place { place < length lines.now }
-    ensures ok { IfOk result (λ size_now. (found : Result LineValue PlainCause)
-        → IsOutcome found (value_at lines.now place) text.now outcome
-        → Adds found (each source_value into.old) (each source_value into.new) size size_now) }
-    ensures err { IfErr result (λ fault. (found : Result LineValue PlainCause)
-        → IsOutcome found (value_at lines.now place) text.now outcome → IsPast found size fault) }
+/// Adds a line.
+fn push<'t>(lines: &mut Vec<Line<'t>>, line: Line<'t>) -> Result<(), AllocError>
+    ensures { OnOk result (each line_value lines.new.items ≡ each line_value lines.old.items ++ line_value line.entry ∷ []) }
 {
-    match outcome {
-        Outcome::Kept => {
-            keep_line(into, lines, place)?;
-            Ok(size)
-        }
-        Outcome::Written(added) => {
-            if added > LIMIT - size {
-                return Err(PlainFault::TooLong);
-            }
-            into.push(text)?;
-            Ok(size + added)
-        }
-    }
+    lines.push(line)?;
+    Ok(())
 }
 
 /// The lines of a source, each in its place: a link with the zone to which its target leads, over as many links as it takes;
@@ -450,47 +417,31 @@ fn add_line(
 /// rule (`UnknownRuleset`), a zone of a name that an earlier one has (`DuplicateZone`), a link of a name that a zone has
 /// (`LinkIsZone`) or that an earlier link has with another target (`DuplicateLink`), a link that leads to no zone (`Target`), and one
 /// that can't be written (`Unsayable`). `TooLong` comes where the links so far take more than 16,777,216 bytes.
-pub(crate) fn settle(
-    alloc: Global,
-    parser: &LineParser,
-    lines: &LineList,
-) -> Result<LineList, PlainFault>
-    ensures ok { IfOk result (λ new. settled (each source_value lines.now) ≡ Ok (each source_value new)) }
-    ensures err { IfErr result (IsFaultOf (settled (each source_value lines.now))) }
-{
-    let mut reader = parser.reader(alloc)?;
-    let read = lines_read(alloc, &mut reader, lines)?;
-    settle_lines(alloc, &mut reader, lines, read.as_slice())
-}
-
-/// The lines of a source, each in its place, by what they say.
-fn settle_lines(
+pub(crate) fn settle<'t>(
     alloc: Global,
     reader: &mut LineReader<'_>,
-    lines: &LineList,
-    read: &[Line<'_>],
-) -> Result<LineList, PlainFault>
-    requires { each line_value read.now ≡ each source_value lines.now }
-    ensures ok { IfOk result (λ new. settled (each source_value lines.now) ≡ Ok (each source_value new)) }
-    ensures err { IfErr result (IsFaultOf (settled (each source_value lines.now))) }
+    lines: &[Line<'t>],
+) -> Result<Vec<Line<'t>>, PlainFault>
+    ensures ok { IfOk result (λ led. settled (each line_value lines.now) ≡ Ok (each line_value led.items)) }
+    ensures err { IfErr result (IsFaultOf (settled (each line_value lines.now))) }
 {
-    let declared = declared_by(alloc, read)?;
+    let declared = declared_by(alloc, lines)?;
     let mut seen = nothing_seen(alloc);
     let mut text = Vec::new(alloc);
-    let mut settled = LineList::new(alloc);
+    let mut led = Vec::new(alloc);
     let mut size = 0;
-    let count = read.len();
-    for (place, line) in read.iter().enumerate() {
-        let outcome = match settle_line(
-            alloc, reader, &declared, &mut seen, count, line, &mut text,
-        ) {
-            Ok(outcome) => outcome,
+    let count = lines.len();
+    for (place, line) in lines.iter().enumerate() {
+        let found = match settle_line(alloc, reader, &declared, &mut seen, count, line, &mut text) {
+            Ok(found) => found,
             Err(refused) => return Err(fault_at(place + 1, refused)),
         };
-        size = match add_line(&mut settled, lines, place, text.as_slice(), size, outcome) {
-            Ok(size) => size,
-            Err(fault) => return Err(fault),
-        };
+        let added = link_size(&found, text.as_slice());
+        if added > LIMIT - size {
+            return Err(PlainFault::TooLong);
+        }
+        size += added;
+        push(&mut led, found)?;
     }
-    Ok(settled)
+    Ok(led)
 }

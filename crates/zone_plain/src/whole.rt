@@ -1,12 +1,10 @@
 //! The plain form of a source: its lines, read, led through the stages and written out.
-ghost use Rattle.std.specs.Prelude.{◌≡◌, IfOk, IfErr, ◌≤◌, Ok, map, length, ◌++◌, [], ◌∷◌, flat_map, OnOk};
+ghost use Rattle.std.specs.Prelude.{◌≡◌, IfOk, IfErr, ◌≤◌, Ok, map, length};
 ghost use Rattle.zone_values.specs.Values.{line_value};
 ghost use Rattle.zone_plain.specs.LineValues.{is_open_after, mark_in, values_in};
 ghost use Rattle.zone_plain.specs.Told.{IsReadLine, added_line, IsLineFault};
 ghost use Rattle.zone_plain_base.specs.Told.{IsRefused};
 ghost use Rattle.zone_source.specs.Zones.{source_value};
-ghost use Rattle.zone_plain_base.specs.PlainTexts.{plain_text};
-ghost use Rattle.zone_plain.specs.Written.{Rules, Zones, Links, part_text, written};
 ghost use Rattle.zone_plain_base.specs.LineFaults.{IsFaultOf};
 ghost use Rattle.zone_plain.specs.Plain.{plain_of};
 ghost use Rattle.zone_plain.specs.Rebuilt.{IsRebuilt};
@@ -14,11 +12,10 @@ ghost use Rattle.zone_plain.specs.Rebuilt.{IsRebuilt};
 use crate::head::head_of;
 use crate::links::settle;
 use crate::mark::mark_in;
-use std::alloc::{AllocError, Global};
+use std::alloc::Global;
 use zone_line::{Line, LineParser, LineReader};
 use zone_plain_base::{
-    PlainFault, Refused, fault_at, line_meant, lines_read, put_plain, said_name_of, under,
-    write_said,
+    PlainFault, Refused, fault_at, line_meant, lines_read, said_name_of, under, write_said,
 };
 use zone_plain_lines::PlainCause;
 use zone_plain_offsets::write_out;
@@ -117,86 +114,6 @@ fn read_named(
     Ok(lines)
 }
 
-/// What is written, by its parts.
-#[derive(Drop)]
-struct Parts {
-    /// The rules.
-    rules: Vec<u8>,
-    /// The zones, with their continuations.
-    zones: Vec<u8>,
-    /// The links.
-    links: Vec<u8>,
-}
-
-/// Writes a line.
-#[tactic(auto, using(std::proofs::Common::append_assoc))]
-fn put_line(into: &mut Vec<u8>, line: &Line<'_>) -> Result<(), AllocError>
-    ensures { OnOk result (into.new.items ≡ into.old.items ++ (plain_text (line_value line.now) ++ 10 ∷ [])) }
-{
-    put_plain(into, line)?;
-    into.extend_from_slice(b"\n")?;
-    Ok(())
-}
-
-/// Writes a line in its part, if it belongs to one.
-fn put_in_part(parts: &mut Parts, line: &Line<'_>) -> Result<(), AllocError>
-    ensures rules { OnOk result (parts.new.rules.items ≡ parts.old.rules.items ++ part_text Rules (line_value line.now)) }
-    ensures zones { OnOk result (parts.new.zones.items ≡ parts.old.zones.items ++ part_text Zones (line_value line.now)) }
-    ensures links { OnOk result (parts.new.links.items ≡ parts.old.links.items ++ part_text Links (line_value line.now)) }
-{
-    match line {
-        Line::Space => Ok(()),
-        Line::Zone(_) => {
-            put_line(&mut parts.zones, line)?;
-            Ok(())
-        }
-        Line::Continuation(_) => {
-            put_line(&mut parts.zones, line)?;
-            Ok(())
-        }
-        Line::Rule(_) => {
-            put_line(&mut parts.rules, line)?;
-            Ok(())
-        }
-        Line::Link(_) => {
-            put_line(&mut parts.links, line)?;
-            Ok(())
-        }
-    }
-}
-
-/// The parts of what is written of the lines.
-fn parts_of(alloc: Global, lines: &[Line<'_>]) -> Result<Parts, AllocError>
-    ensures rules { IfOk result (λ parts. parts.rules.items ≡ flat_map (part_text Rules) (map line_value lines.now)) }
-    ensures zones { IfOk result (λ parts. parts.zones.items ≡ flat_map (part_text Zones) (map line_value lines.now)) }
-    ensures links { IfOk result (λ parts. parts.links.items ≡ flat_map (part_text Links) (map line_value lines.now)) }
-{
-    let mut parts = Parts {
-        rules: Vec::new(alloc),
-        zones: Vec::new(alloc),
-        links: Vec::new(alloc),
-    };
-    for line in lines {
-        put_in_part(&mut parts, line)?;
-    }
-    Ok(parts)
-}
-
-/// What is written of the lines: the rules, then the zones, then the links.
-#[tactic(auto, unfolding(crate::specs::Written::written))]
-pub(crate) fn written(alloc: Global, lines: &[Line<'_>]) -> Result<Vec<u8>, AllocError>
-    ensures { IfOk result (λ bytes. bytes.items ≡ written (map line_value lines.now)) }
-{
-    let Parts {
-        rules: mut bytes,
-        zones,
-        links,
-    } = parts_of(alloc, lines)?;
-    bytes.extend_from_slice(zones.as_slice())?;
-    bytes.extend_from_slice(links.as_slice())?;
-    Ok(bytes)
-}
-
 /// The plain form of a source in any form that `zic` reads: the line of its release, if its first line names one, as `# version 2026b`;
 /// then its rules, then its zones, then its links, each in the order of the source, a line each, with `%z` written out and each link led
 /// to its zone. A ruleset whose name RULES can't say has another name there, and every other one its own. Each line is written so that
@@ -228,22 +145,13 @@ fn plain_of(alloc: Global, parser: &LineParser, source: &[u8]) -> Result<Vec<u8>
 {
     let mut bytes = head_of(alloc, parser, source)?;
     let lines = read_lines(alloc, parser, source)?;
-    let lines = settle(alloc, parser, &lines)?;
-    let lines = write_out(alloc, parser, &lines)?;
-    let body = write_lines(alloc, parser, &lines)?;
+    let mut reader = parser.reader(alloc)?;
+    let read = lines_read(alloc, &mut reader, &lines)?;
+    let led = settle(alloc, &mut reader, read.as_slice())?;
+    let body = write_out(alloc, &mut reader, led.as_slice())?;
     bytes.extend_from_slice(body.as_slice())?;
     if bytes.as_slice().len() > LIMIT {
         return Err(PlainFault::TooLong);
     }
-    Ok(bytes)
-}
-
-/// What is written of the lines.
-fn write_lines(alloc: Global, parser: &LineParser, lines: &LineList) -> Result<Vec<u8>, AllocError>
-    ensures { IfOk result (λ bytes. bytes.items ≡ written (map source_value lines.now)) }
-{
-    let mut reader = parser.reader(alloc)?;
-    let read = lines_read(alloc, &mut reader, lines)?;
-    let bytes = written(alloc, read.as_slice())?;
     Ok(bytes)
 }

@@ -1,12 +1,13 @@
 -- The rules at the places of a ruleset are its rules.
 use Rattle.std.proofs.Common.{◌≡◌, ℕ, zero, suc, ◌+◌, ℤ, Bool, true, false, cond, List, [], ◌∷◌, ◌++◌, length, map, get_or, drop, unwrap_or, ◌<◌, ◌≤◌, refl, sym, ap, ◌∙◌, append_assoc, append-nil, subst, arith}
-use Rattle.std.proofs.lemmas.List.{drop_all, drop_more, length-map, map-append}
+use Rattle.std.proofs.lemmas.Grind.{flat_map-append}
+use Rattle.std.proofs.lemmas.List.{drop_all, drop_more, length-map}
 use Rattle.std.specs.Prelude.{◌&&◌, flat_map, bytes_eq}
 use Rattle.std.specs.List.{list_all}
 use Rattle.std.specs.FinMap.{FinMap, get}
 use Rattle.owned.specs.Keyed.{text_cmp}
 use Rattle.owned.specs.Listed.{listed}
-use Rattle.zone_plain_base.specs.PlainTexts.{plain_text}
+use Rattle.zone_plain_offsets.specs.Written.{line_text}
 use Rattle.zone_values.specs.Values.{RuleValue, LineValue, space, rule}
 use Rattle.zone_plain_offsets.specs.Pairs.{Pair}
 use Rattle.zone_plain_offsets.specs.Made.{rules_named, made_rule, is_rule_said, rules_for, are_rules_said}
@@ -50,7 +51,7 @@ rules_at : (values : List LineValue) (name : List ℕ) (places : List ℕ) → p
 rules_at values name places e = ap (map (value_in values)) e ∙ at_places values 0 name (value_in values) (λ k. ap (value_in values) (from_zero k))
 
 -- what was added of the rules at the places of a ruleset is the ruleset that is made for a pair
-pub ruleset_added : (values : List LineValue) (old new : List (List ℕ)) (name : List ℕ) (pair : Pair) (places : List ℕ) (said : Bool)
+pub ruleset_added : (values : List LineValue) (old new : List ℕ) (name : List ℕ) (pair : Pair) (places : List ℕ) (said : Bool)
     → places ≡ places_from 0 values pair.rules
     → AreAdded old new (flat_map (made_lines name pair.offset) (map (value_in values) places))
     (list_all (is_made_said name pair.offset) (map (value_in values) places)) said
@@ -61,7 +62,7 @@ ruleset_added values old new name pair places said e added =
     record {
       told = added.told ∙ ap (list_all (is_made_said name pair.offset)) found ∙ said_of_rules rules name pair.offset;
       added = λ is_yes. added.added is_yes
-          ∙ ap (λ vs. old ++ map plain_text vs) (ap (flat_map (made_lines name pair.offset)) found ∙ made_of_rules rules name pair.offset);
+          ∙ ap (λ vs. old ++ flat_map line_text vs) (ap (flat_map (made_lines name pair.offset)) found ∙ made_of_rules rules name pair.offset);
     }
 
 unlisted : (xs : List ℕ) → unwrap_or (listed xs) [] ≡ xs
@@ -73,11 +74,11 @@ pub places_are : (values : List LineValue) (groups : FinMap text_cmp (List ℕ))
 places_are values groups name places grouped e = e ∙ ap (λ o. unwrap_or o []) (grouped name) ∙ unlisted (places_from 0 values name)
 
 -- what was made of the first rules, and what is to come
-pub record HasMade (name : List ℕ) (offset : ℤ) (values : List LineValue) (old now : List (List ℕ)) (i : ℕ) : Type 0 where
-  pub goes_on : now ++ map plain_text (flat_map (made_lines name offset) (drop i values)) ≡ old ++ map plain_text (flat_map (made_lines name offset) values)
+pub record HasMade (name : List ℕ) (offset : ℤ) (values : List LineValue) (old now : List ℕ) (i : ℕ) : Type 0 where
+  pub goes_on : now ++ flat_map line_text (flat_map (made_lines name offset) (drop i values)) ≡ old ++ flat_map line_text (flat_map (made_lines name offset) values)
   pub said : list_all (is_made_said name offset) (drop i values) ≡ list_all (is_made_said name offset) values
 
-pub nothing_made : (name : List ℕ) (offset : ℤ) (values : List LineValue) (old : List (List ℕ)) → HasMade name offset values old old 0
+pub nothing_made : (name : List ℕ) (offset : ℤ) (values : List LineValue) (old : List ℕ) → HasMade name offset values old old 0
 nothing_made name offset values old = record { goes_on = refl; said = refl }
 
 value_read : (values : List LineValue) (places : List ℕ) (i : ℕ) → i < length places
@@ -86,7 +87,7 @@ value_read values [] i inside = absurd (omega (arith, inside))
 value_read values (p ∷ places) zero inside = refl
 value_read values (p ∷ places) (suc i) inside = value_read values places i (omega (arith, inside))
 
-pub one_made : (name : List ℕ) (offset : ℤ) (values : List LineValue) (places : List ℕ) (old before now : List (List ℕ)) (i : ℕ) (v : LineValue) (said : Bool)
+pub one_made : (name : List ℕ) (offset : ℤ) (values : List LineValue) (places : List ℕ) (old before now : List ℕ) (i : ℕ) (v : LineValue) (said : Bool)
     → i < length places → v ≡ value_in values (get_or places i 0) → HasMade name offset (map (value_in values) places) old before i
     → AreAdded before now (made_lines name offset v) (is_made_said name offset v) said → said ≡ true
     → HasMade name offset (map (value_in values) places) old now (i + 1)
@@ -97,15 +98,15 @@ one_made name offset values places old before now i v said inside is so_far adde
     drop_more found i space (omega (arith, inside, length-map places (value_in values))) ∙ ap (λ w. w ∷ drop (i + 1) found) (sym here) in
     let fits = sym added.told ∙ is_yes in
     record {
-      goes_on = ap (λ ts. ts ++ map plain_text (flat_map (made_lines name offset) (drop (i + 1) found))) (added.added is_yes)
-          ∙ append_assoc before (map plain_text (made_lines name offset v)) (map plain_text (flat_map (made_lines name offset) (drop (i + 1) found)))
-          ∙ ap (λ ts. before ++ ts) (sym (map-append plain_text (made_lines name offset v) (flat_map (made_lines name offset) (drop (i + 1) found))))
-          ∙ ap (λ vs. before ++ map plain_text (flat_map (made_lines name offset) vs)) (sym left) ∙ so_far.goes_on;
+      goes_on = ap (λ ts. ts ++ flat_map line_text (flat_map (made_lines name offset) (drop (i + 1) found))) (added.added is_yes)
+          ∙ append_assoc before (flat_map line_text (made_lines name offset v)) (flat_map line_text (flat_map (made_lines name offset) (drop (i + 1) found)))
+          ∙ ap (λ ts. before ++ ts) (sym (flat_map-append line_text (made_lines name offset v) (flat_map (made_lines name offset) (drop (i + 1) found))))
+          ∙ ap (λ vs. before ++ flat_map line_text (flat_map (made_lines name offset) vs)) (sym left) ∙ so_far.goes_on;
       said = ap (λ b. b && list_all (is_made_said name offset) (drop (i + 1) found)) (sym fits)
           ∙ ap (list_all (is_made_said name offset)) (sym left) ∙ so_far.said;
     }
 
-pub one_unsaid : (name : List ℕ) (offset : ℤ) (values : List LineValue) (places : List ℕ) (old before now : List (List ℕ)) (i : ℕ) (v : LineValue) (said : Bool)
+pub one_unsaid : (name : List ℕ) (offset : ℤ) (values : List LineValue) (places : List ℕ) (old before now : List ℕ) (i : ℕ) (v : LineValue) (said : Bool)
     → i < length places → v ≡ value_in values (get_or places i 0) → HasMade name offset (map (value_in values) places) old before i
     → AreAdded before now (made_lines name offset v) (is_made_said name offset v) said → said ≡ false
     → AreAdded old now (flat_map (made_lines name offset) (map (value_in values) places)) (list_all (is_made_said name offset) (map (value_in values) places)) false
@@ -120,7 +121,7 @@ one_unsaid name offset values places old before now i v said inside is so_far ad
       added = λ is_yes. absurd (cc);
     }
 
-pub all_made : (name : List ℕ) (offset : ℤ) (values : List LineValue) (places : List ℕ) (old now : List (List ℕ)) (i : ℕ) → length places ≤ i
+pub all_made : (name : List ℕ) (offset : ℤ) (values : List LineValue) (places : List ℕ) (old now : List ℕ) (i : ℕ) → length places ≤ i
     → HasMade name offset (map (value_in values) places) old now i
     → AreAdded old now (flat_map (made_lines name offset) (map (value_in values) places)) (list_all (is_made_said name offset) (map (value_in values) places)) true
 all_made name offset values places old now i past so_far =
@@ -128,10 +129,10 @@ all_made name offset values places old now i past so_far =
     let none = drop_all i found (omega (arith, past, length-map places (value_in values))) in
     record {
       told = ap (list_all (is_made_said name offset)) (sym none) ∙ so_far.said;
-      added = λ is_yes. sym (append-nil now) ∙ ap (λ vs. now ++ map plain_text (flat_map (made_lines name offset) vs)) (sym none) ∙ so_far.goes_on;
+      added = λ is_yes. sym (append-nil now) ∙ ap (λ vs. now ++ flat_map line_text (flat_map (made_lines name offset) vs)) (sym none) ∙ so_far.goes_on;
     }
 
-pub ruleset_named : (values : List LineValue) (old new : List (List ℕ)) (text name : List ℕ) (pair : Pair) (offset : ℤ) (places : List ℕ) (said : Bool) → text ≡ name
+pub ruleset_named : (values : List LineValue) (old new : List ℕ) (text name : List ℕ) (pair : Pair) (offset : ℤ) (places : List ℕ) (said : Bool) → text ≡ name
     → offset ≡ pair.offset → places ≡ places_from 0 values pair.rules
     → AreAdded old new (flat_map (made_lines text offset) (map (value_in values) places))
     (list_all (is_made_said text offset) (map (value_in values) places)) said
@@ -144,7 +145,7 @@ ruleset_named values old new text name pair offset places said same same_offset 
 
 -- the same for an offset that is this one
 
-pub unsaid_at : (name : List ℕ) (given offset : ℤ) (values : List LineValue) (places : List ℕ) (old before now : List (List ℕ)) (i : ℕ) (v : LineValue) (said : Bool)
+pub unsaid_at : (name : List ℕ) (given offset : ℤ) (values : List LineValue) (places : List ℕ) (old before now : List ℕ) (i : ℕ) (v : LineValue) (said : Bool)
     → given ≡ offset → i < length places → v ≡ value_in values (get_or places i 0) → HasMade name given (map (value_in values) places) old before i
     → AreAdded before now (made_lines name given v) (is_made_said name given v) said → said ≡ false
     → AreAdded old now (flat_map (made_lines name offset) (map (value_in values) places)) (list_all (is_made_said name offset) (map (value_in values) places)) false
@@ -153,7 +154,7 @@ unsaid_at name given offset values places old before now i v said same inside is
     (list_all (is_made_said name o) (map (value_in values) places)) false) same
     (one_unsaid name given values places old before now i v said inside is so_far added is_no)
 
-pub all_made_at : (name : List ℕ) (given offset : ℤ) (values : List LineValue) (places : List ℕ) (old now : List (List ℕ)) (i : ℕ) → given ≡ offset
+pub all_made_at : (name : List ℕ) (given offset : ℤ) (values : List LineValue) (places : List ℕ) (old now : List ℕ) (i : ℕ) → given ≡ offset
     → length places ≤ i → HasMade name given (map (value_in values) places) old now i
     → AreAdded old now (flat_map (made_lines name offset) (map (value_in values) places)) (list_all (is_made_said name offset) (map (value_in values) places)) true
 all_made_at name given offset values places old now i same past so_far =

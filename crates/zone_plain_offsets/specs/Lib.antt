@@ -4,6 +4,7 @@ pub mod Names
 pub mod Formats
 pub mod Pairs
 pub mod Made
+pub mod Written
 pub mod WrittenOut
 pub mod Abbreviations
 -- Laws: what a caller may use.

@@ -1,4 +1,7 @@
 -- What the code's values show.
+use Rattle.std.specs.Prelude.{ℕ, List}
+use Rattle.zone_plain_offsets.specs.Written.{Part, Rules, Zones, Links}
+use Rattle.zone_plain_offsets.specs.declared.parts.Parts.{Parts}
 use Rattle.zone_plain_offsets.specs.Formats as of_format
 use Rattle.zone_plain_offsets.specs.Pairs as of_pair
 use Rattle.zone_plain_offsets.specs.declared.asked.Around.{Around}
@@ -16,3 +19,8 @@ abbrev pub asked_shown : Asked → of_pair.Asked
 asked_shown code.Nothing = of_pair.nothing
 asked_shown (code.Total parts total) = of_pair.total (parts_shown parts) total
 asked_shown (code.Under parts pair) = of_pair.under (parts_shown parts) (pair_shown pair)
+
+abbrev pub text_in : Parts → Part → List ℕ
+text_in parts Rules = parts.rules.items
+text_in parts Zones = parts.zones.items
+text_in parts Links = parts.links.items

@@ -1,12 +1,11 @@
 -- What the code's answers tell.
-use Rattle.std.specs.Prelude.{◌≡◌, ℕ, suc, ℤ, List, [], ◌∷◌, ◌++◌, Bool, true, false, ◌&&◌, nat_lt, Option, Some, None, codes, map, slice_index_or, unwrap_or, bytes_eq, if◌then◌else◌}
+use Rattle.std.specs.Prelude.{◌≡◌, ℕ, suc, ℤ, List, [], ◌∷◌, ◌++◌, Bool, true, false, ◌&&◌, codes, flat_map, slice_index_or, unwrap_or, bytes_eq, if◌then◌else◌}
 use Rattle.std.specs.FinMap.{FinMap, get, insert}
 use Rattle.owned.specs.Keyed.{text_cmp}
 use Rattle.owned.specs.Listed.{listed}
-use Rattle.zone_source.specs.Zones.{source_value}
 use Rattle.zone_values.specs.Values.{LineValue, space, rule}
 use Rattle.zone_plain_offsets.specs.Pairs.{Pair, Asked, nothing, total, under, is_among, with_pair, joined_by, asked}
-use Rattle.zone_plain_base.specs.PlainTexts.{plain_text}
+use Rattle.zone_plain_offsets.specs.Written.{Part, line_text, part_text}
 use Rattle.zone_plain_base.specs.Said.{is_said}
 use Rattle.zone_plain_offsets.specs.Made.{named_in, rules_for, are_rules_said, made_rule, is_rule_said, with_format, with_ruleset, around_text, changed_by}
 use Rattle.zone_plain_offsets.specs.OffsetTexts.{offset_text, has_text}
@@ -35,14 +34,14 @@ with_place groups (rule r) place = insert groups r.name (unwrap_or (get groups r
 with_place groups _ place = groups
 
 -- a line was added where it can be said
-pub record IsAdded (old new : List (List ℕ)) (v : LineValue) (said : Bool) : Type 0 where
+pub record IsAdded (old new : List ℕ) (v : LineValue) (said : Bool) : Type 0 where
   pub told : said ≡ is_said v
-  pub added : said ≡ true → new ≡ old ++ plain_text v ∷ []
+  pub added : said ≡ true → new ≡ old ++ line_text v
 
 -- lines were added where each can be said
-pub record AreAdded (old new : List (List ℕ)) (values : List LineValue) (are_said said : Bool) : Type 0 where
+pub record AreAdded (old new : List ℕ) (values : List LineValue) (are_said said : Bool) : Type 0 where
   pub told : said ≡ are_said
-  pub added : said ≡ true → new ≡ old ++ map plain_text values
+  pub added : said ≡ true → new ≡ old ++ flat_map line_text values
 
 -- what is made of a line, if it is a rule
 abbrev pub made_lines : List ℕ → ℤ → LineValue → List LineValue
@@ -75,14 +74,10 @@ is_asked_said values mark pairs (under parts pair) v =
     are_new_said values mark pairs pair
     && is_said (with_ruleset (with_format v (around_text parts (codes "%s"))) (named_in mark (with_pair pairs pair) pair))
 
--- a line was written out, and the ruleset was made that it asks for, if none was yet
-pub record IsWrittenOut (values : List LineValue) (mark : List ℕ) (old_pairs new_pairs : List Pair) (old_made new_made old new : List (List ℕ)) (v : LineValue) (said : Bool)
+-- a line was written out in its part, and the ruleset was made that it asks for, if none was yet
+pub record IsWrittenOut (values : List LineValue) (mark : List ℕ) (old_pairs new_pairs : List Pair) (old_made new_made : List ℕ) (old new : Part → List ℕ) (v : LineValue) (said : Bool)
     : Type 0 where
   pub told : said ≡ is_asked_said values mark old_pairs (asked v) v
   pub pairs : new_pairs ≡ joined_by (asked v) old_pairs
-  pub made : said ≡ true → new_made ≡ old_made ++ map plain_text (asked_rules values mark old_pairs (asked v))
-  pub added : said ≡ true → map source_value new ≡ map source_value old ++ changed_by (named_in mark new_pairs) (asked v) v ∷ []
-
--- a size, where it isn't past a limit
-abbrev pub within : ℕ → ℕ → Option ℕ
-within limit size = if nat_lt limit size then None else Some size
+  pub made : said ≡ true → new_made ≡ old_made ++ flat_map line_text (asked_rules values mark old_pairs (asked v))
+  pub added : said ≡ true → (part : Part) → new part ≡ old part ++ part_text part (changed_by (named_in mark new_pairs) (asked v) v)

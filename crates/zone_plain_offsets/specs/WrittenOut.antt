@@ -1,21 +1,16 @@
 -- A source's lines with `%z` written out, or why they are refused.
-use Rattle.std.specs.Prelude.{ℕ, suc, ◌+◌, List, [], ◌∷◌, ◌++◌, length, map, not, nat_lt, Option, Some, None, Result, Ok, Err, if◌then◌else◌}
-use Rattle.std.specs.List.{sum_by}
+use Rattle.std.specs.Prelude.{◌≡◌, ℕ, suc, List, [], ◌∷◌, ◌++◌, flat_map, length, map, not, nat_lt, Option, Some, None, Result, Ok, Err, if◌then◌else◌}
 use Rattle.zone_outside.specs.Limit.{text_limit}
 use Rattle.zone_values.specs.Values.{LineValue}
 use Rattle.zone_plain_lines.specs.declared.cause.PlainCause.TheVariants as cause
-use Rattle.zone_plain_base.specs.PlainTexts.{plain_text}
 use Rattle.zone_plain_base.specs.LineFaults.{Refusal, at, bad_line, too_long}
 use Rattle.zone_plain_offsets.specs.Pairs.{Pair, asked, joined_by}
+use Rattle.zone_plain_offsets.specs.Written.{line_text, written}
 use Rattle.zone_plain_offsets.specs.Made.{is_changed_said, name_in, changed, made_for, made}
-
--- how many bytes a line takes with its line feed
-abbrev pub line_size : List ℕ → ℕ
-line_size text = length text + 1
 
 -- how many bytes the rules take that are made for pairs
 abbrev pub made_size : List LineValue → List Pair → ℕ
-made_size all pairs = sum_by line_size (map plain_text (made_for all pairs))
+made_size all pairs = length (flat_map line_text (made_for all pairs))
 
 -- why lines are refused, from the nth on and after those that ask for these pairs: the first line that can't be said, or the first with
 -- which the rules that are made take more bytes than the limit
@@ -33,3 +28,9 @@ written_unless values None = Ok (map (changed (name_in values)) values ++ made v
 -- each line with what `%z` stands for, and behind them the rules that are made; or why they are refused
 unfoldable pub written_out : List LineValue → Result (List LineValue) Refusal
 written_out values = written_unless values (refused_from text_limit values 1 [] values)
+
+-- the text is written of the lines with `%z` written out
+pub record IsWrittenAs (values : List LineValue) (text : List ℕ) : Type 0 where
+  pub out : List LineValue
+  pub spelled : written_out values ≡ Ok out
+  pub wrote : text ≡ written out

@@ -7,6 +7,7 @@ mod made;
 mod name;
 mod offset;
 mod pairs;
+mod parts;
 mod stage;
 
 pub use laws::{abbreviations, made_names, made_rulesets, one_total};

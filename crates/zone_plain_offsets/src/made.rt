@@ -6,26 +6,26 @@ ghost use Rattle.zone_plain_offsets.specs.Made.{made_rule, is_rule_said, renamed
 ghost use Rattle.zone_plain_offsets.specs.Told.{IsAdded, AreAdded, value_in, made_lines, is_made_said};
 
 use crate::offset::{named_total, offset_text};
+use crate::parts::put_text;
 use crate::stage::line_in;
 use std::alloc::{AllocError, Global};
 use zone_line::{Line, LineReader, Rule};
 use zone_plain_base::write_said;
-use zone_source::LineList;
 
 /// Adds a line, if it can be said. Answers whether it can.
 pub(crate) fn add_said(
     alloc: Global,
     reader: &mut LineReader<'_>,
     line: &Line<'_>,
-    lines: &mut LineList,
+    into: &mut Vec<u8>,
 ) -> Result<bool, AllocError>
-    ensures { IfOk result (IsAdded lines.old lines.new (line_value line.now)) }
+    ensures { IfOk result (IsAdded into.old.items into.new.items (line_value line.now)) }
 {
     let mut text = Vec::new(alloc);
     if !write_said(alloc, reader, line, &mut text)? {
         return Ok(false);
     }
-    lines.push(text.as_slice())?;
+    put_text(into, text.as_slice())?;
     Ok(true)
 }
 
@@ -52,9 +52,9 @@ fn add_rule(
     old: &Rule<'_>,
     name: &str,
     offset: i64,
-    made: &mut LineList,
+    made: &mut Vec<u8>,
 ) -> Result<bool, AllocError>
-    ensures { IfOk result (AreAdded made.old made.new (rule (made_rule name.now offset (rule_value old.now)) ∷ [])
+    ensures { IfOk result (AreAdded made.old.items made.new.items (rule (made_rule name.now offset (rule_value old.now)) ∷ [])
         (is_rule_said name.now offset (rule_value old.now))) }
 {
     let total = match named_total(offset, old.time_to_add) {
@@ -73,9 +73,9 @@ fn add_line(
     line: &Line<'_>,
     name: &str,
     offset: i64,
-    made: &mut LineList,
+    made: &mut Vec<u8>,
 ) -> Result<bool, AllocError>
-    ensures { IfOk result (AreAdded made.old made.new (made_lines name.now offset (line_value line.now)) (is_made_said name.now offset (line_value line.now))) }
+    ensures { IfOk result (AreAdded made.old.items made.new.items (made_lines name.now offset (line_value line.now)) (is_made_said name.now offset (line_value line.now))) }
 {
     match line {
         Line::Rule(rule) => add_rule(alloc, reader, rule, name, offset, made),
@@ -91,9 +91,9 @@ pub(crate) fn add_rules(
     places: &[usize],
     name: &str,
     offset: i64,
-    made: &mut LineList,
+    made: &mut Vec<u8>,
 ) -> Result<bool, AllocError>
-    ensures { IfOk result (AreAdded made.old made.new (flat_map (made_lines name.now offset) (map (value_in (map line_value lines.now)) places.now))
+    ensures { IfOk result (AreAdded made.old.items made.new.items (flat_map (made_lines name.now offset) (map (value_in (map line_value lines.now)) places.now))
         (list_all (is_made_said name.now offset) (map (value_in (map line_value lines.now)) places.now))) }
 {
     for index in 0..places.len() {

@@ -1,31 +1,29 @@
 //! The lines of a source with `%z` written out.
-ghost use Rattle.std.specs.Prelude.{◌≡◌, [], map, unwrap_or, IfOk, OnOk, ◌≤◌, ◌<◌, ◌+◌, drop, length, slice_index_or, ◌∷◌, ◌++◌, ◌&&◌, Ok, codes, string_bytes, IfErr};
+ghost use Rattle.std.specs.Prelude.{◌≡◌, [], map, unwrap_or, IfOk, OnOk, ◌∷◌, ◌&&◌, codes, string_bytes, IfErr};
 ghost use Rattle.std.specs.FinMap.{get};
 ghost use Rattle.zone_values.specs.Values.{line_value};
-ghost use Rattle.zone_plain_offsets.specs.Told.{IsGrouped, value_in, with_place, within, IsAdded, AreAdded, IsWrittenOut, new_rules, are_new_said};
-ghost use Rattle.std.specs.List.{sum_by};
-ghost use Rattle.zone_plain_offsets.specs.WrittenOut.{line_size, written_out};
-ghost use Rattle.zone_source.specs.Zones.{source_value};
+ghost use Rattle.zone_plain_offsets.specs.Told.{IsGrouped, value_in, with_place, IsAdded, AreAdded, IsWrittenOut, new_rules, are_new_said};
+ghost use Rattle.zone_plain_offsets.specs.WrittenOut.{IsWrittenAs, written_out};
 ghost use Rattle.zone_plain_base.specs.LineFaults.{IsFaultOf};
-ghost use Rattle.zone_plain_base.specs.LinesAt.{value_at};
 ghost use Rattle.zone_plain_base.specs.Said.{is_said};
 ghost use Rattle.zone_plain_offsets.specs.Made.{with_format, with_ruleset, around_text, named_in, rules_for, are_rules_said};
 ghost use Rattle.zone_plain_offsets.specs.Pairs.{with_pair};
 ghost use Rattle.zone_plain_base.specs.Renamed.{mark_of};
 ghost use Rattle.zone_plain_offsets.specs.OffsetTexts.{offset_text, has_text};
-ghost use Rattle.zone_plain_offsets.specs.Shown.{parts_shown, pair_shown};
+ghost use Rattle.zone_plain_offsets.specs.Shown.{parts_shown, pair_shown, text_in};
 
 use crate::asked::{Around, Asked, around_text, asked_of, with_format, with_ruleset};
 use crate::made::{add_rules, add_said};
 use crate::name::made_name;
 use crate::offset::{has_text, offset_text};
 use crate::pairs::{Pair, Pairs, offset_of};
+use crate::parts::{Parts, joined, put_in_part};
 use owned::{Items, TextMap};
 use std::alloc::{AllocError, Global};
-use zone_line::{Line, LineParser, LineReader};
-use zone_plain_base::{PlainFault, keep_line, lines_read, mark_of};
+use zone_line::{Line, LineReader};
+use zone_plain_base::{PlainFault, mark_of};
 use zone_plain_lines::PlainCause;
-use zone_source::{LIMIT, LineList};
+use zone_source::LIMIT;
 
 /// The line at a place, which counts from 0; nothing past the end.
 pub(crate) fn line_in<'t>(lines: &[Line<'t>], place: usize) -> Line<'t>
@@ -77,43 +75,15 @@ pub(crate) fn places_of<'g>(groups: &'g TextMap<Items<usize>>, name: &str) -> &'
     }
 }
 
-/// How many bytes the line at a place takes with its line feed.
-fn size_at(lines: &LineList, place: usize) -> usize
-    requires { place < length lines.now }
-    ensures { result ≡ line_size (slice_index_or lines.now place []) }
-{
-    match lines.get(place) {
-        Some(line) => line.len() + 1,
-        None => unreachable!(),
-    }
-}
-
-/// How many bytes the lines from a place on take, each with its line feed, together with so many others; nothing past the limit of
-/// 16,777,216.
-pub(crate) fn size_from(lines: &LineList, from: usize, size: usize) -> Option<usize>
-    requires { size ≤ LIMIT }
-    ensures { result ≡ within LIMIT (size + sum_by line_size (drop from lines.now)) }
-{
-    let mut total = size;
-    for place in from..lines.len() {
-        let added = size_at(lines, place);
-        if added > LIMIT - total {
-            return None;
-        }
-        total += added;
-    }
-    Some(total)
-}
-
 /// Adds a line with another format. Answers whether it can be said.
 fn add_with_format<'a>(
     alloc: Global,
     reader: &mut LineReader<'_>,
     line: &Line<'a>,
     format: &'a str,
-    out: &mut LineList,
+    out: &mut Vec<u8>,
 ) -> Result<bool, AllocError>
-    ensures { IfOk result (IsAdded out.old out.new (with_format (line_value line.now) format.now)) }
+    ensures { IfOk result (IsAdded out.old.items out.new.items (with_format (line_value line.now) format.now)) }
 {
     add_said(alloc, reader, &with_format(line, format), out)
 }
@@ -125,9 +95,9 @@ fn add_with_ruleset<'a>(
     line: &Line<'a>,
     format: &'a str,
     name: &'a str,
-    out: &mut LineList,
+    out: &mut Vec<u8>,
 ) -> Result<bool, AllocError>
-    ensures { IfOk result (IsAdded out.old out.new (with_ruleset (with_format (line_value line.now) format.now) name.now)) }
+    ensures { IfOk result (IsAdded out.old.items out.new.items (with_ruleset (with_format (line_value line.now) format.now) name.now)) }
 {
     let line = with_format(line, format);
     add_said(alloc, reader, &with_ruleset(&line, name), out)
@@ -140,9 +110,9 @@ fn add_with_total(
     line: &Line<'_>,
     parts: &Around<'_>,
     total: i64,
-    out: &mut LineList,
+    out: &mut Vec<u8>,
 ) -> Result<bool, AllocError>
-    ensures { IfOk result (AreAdded out.old out.new (with_format (line_value line.now) (around_text (parts_shown parts.now) (offset_text total)) ∷ [])
+    ensures { IfOk result (AreAdded out.old.items out.new.items (with_format (line_value line.now) (around_text (parts_shown parts.now) (offset_text total)) ∷ [])
         (has_text total && is_said (with_format (line_value line.now) (around_text (parts_shown parts.now) (offset_text total))))) }
 {
     if !has_text(total) {
@@ -162,9 +132,9 @@ fn add_under(
     line: &Line<'_>,
     parts: &Around<'_>,
     name: &str,
-    out: &mut LineList,
+    out: &mut Vec<u8>,
 ) -> Result<bool, AllocError>
-    ensures { IfOk result (IsAdded out.old out.new (with_ruleset (with_format (line_value line.now) (around_text (parts_shown parts.now) (codes "%s"))) name.now)) }
+    ensures { IfOk result (IsAdded out.old.items out.new.items (with_ruleset (with_format (line_value line.now) (around_text (parts_shown parts.now) (codes "%s"))) name.now)) }
 {
     let format = around_text(alloc, parts, "%s")?;
     let line = *line;
@@ -179,10 +149,10 @@ fn add_ruleset(
     groups: &TextMap<Items<usize>>,
     pair: &Pair<'_>,
     name: &str,
-    made: &mut LineList,
+    made: &mut Vec<u8>,
 ) -> Result<bool, AllocError>
     requires { IsGrouped (map line_value lines.now) groups.now }
-    ensures { IfOk result (AreAdded made.old made.new (rules_for (map line_value lines.now) name.now (pair_shown pair.now))
+    ensures { IfOk result (AreAdded made.old.items made.new.items (rules_for (map line_value lines.now) name.now (pair_shown pair.now))
         (are_rules_said (map line_value lines.now) name.now (pair_shown pair.now))) }
 {
     let places = places_of(groups, pair.rules);
@@ -200,12 +170,12 @@ fn name_pair<'t>(
     mark: &str,
     pair: Pair<'t>,
     pairs: &mut Pairs<'t>,
-    made: &mut LineList,
+    made: &mut Vec<u8>,
 ) -> Result<(String, bool), AllocError>
     requires { IsGrouped (map line_value lines.now) groups.now }
     ensures pairs { OnOk result (pairs.new ≡ with_pair pairs.old (pair_shown pair.entry)) }
     ensures name { IfOk result (λ named. string_bytes named.0 ≡ named_in mark.now (with_pair pairs.old (pair_shown pair.entry)) (pair_shown pair.entry)) }
-    ensures rules { IfOk result (λ named. AreAdded made.old made.new (new_rules (map line_value lines.now) mark.now pairs.old (pair_shown pair.entry))
+    ensures rules { IfOk result (λ named. AreAdded made.old.items made.new.items (new_rules (map line_value lines.now) mark.now pairs.old (pair_shown pair.entry))
         (are_new_said (map line_value lines.now) mark.now pairs.old (pair_shown pair.entry)) named.1) }
 {
     let (number, is_new) = pairs.number(pair)?;
@@ -217,33 +187,31 @@ fn name_pair<'t>(
     Ok((name, is_said))
 }
 
-/// Adds what becomes of the line at a place, and the ruleset that it asks for, if no line has asked for it yet. Answers whether each
-/// of these lines has its text and can be said.
+/// Writes what becomes of the line at a place in its part, and adds the ruleset that it asks for, if no line has asked for it yet. Answers
+/// whether each of these lines has its text and can be said.
 fn write_line<'t>(
     alloc: Global,
     reader: &mut LineReader<'_>,
-    texts: &LineList,
     lines: &[Line<'t>],
     groups: &TextMap<Items<usize>>,
     mark: &str,
     place: usize,
     pairs: &mut Pairs<'t>,
-    made: &mut LineList,
-    out: &mut LineList,
+    made: &mut Vec<u8>,
+    out: &mut Parts,
 ) -> Result<bool, AllocError>
-    requires read { map line_value lines.now ≡ map source_value texts.now }
-    requires grouped { IsGrouped (map line_value lines.now) groups.now }
-    requires place { place < length texts.now }
-    ensures { IfOk result (IsWrittenOut (map line_value lines.now) mark.now pairs.old pairs.new made.old made.new out.old out.new (value_at texts.now place)) }
+    requires { IsGrouped (map line_value lines.now) groups.now }
+    ensures { IfOk result (IsWrittenOut (map line_value lines.now) mark.now pairs.old pairs.new made.old.items made.new.items
+        (text_in out.old) (text_in out.new) (value_in (map line_value lines.now) place)) }
 {
     let line = line_in(lines, place);
     match asked_of(&line) {
         Asked::Nothing => {
-            keep_line(out, texts, place)?;
+            put_in_part(out, &line)?;
             Ok(true)
         }
         Asked::Total(parts, total) => {
-            let is_said = add_with_total(alloc, reader, &line, &parts, total, out)?;
+            let is_said = add_with_total(alloc, reader, &line, &parts, total, &mut out.zones)?;
             Ok(is_said)
         }
         Asked::Under(parts, pair) => {
@@ -253,59 +221,49 @@ fn write_line<'t>(
             if !are_said {
                 return Ok(false);
             }
-            let is_said = add_under(alloc, reader, &line, &parts, name.as_str(), out)?;
+            let name = name.as_str();
+            let is_said = add_under(alloc, reader, &line, &parts, name, &mut out.zones)?;
             Ok(is_said)
         }
     }
 }
 
-/// Adds lines to others.
-fn add_all(lines: &LineList, out: &mut LineList) -> Result<(), AllocError>
-    ensures { OnOk result (map source_value out.new ≡ map source_value out.old ++ map source_value lines.now) }
-{
-    for place in 0..lines.len() {
-        keep_line(out, lines, place)?;
-    }
-    Ok(())
-}
-
-/// The lines with `%z` written out, and behind them the rules that are made; or why they are refused. The rules that a line asks for
-/// are counted as soon as they are made, since a few lines can ask for many times their own size.
+/// What is written of the lines with `%z` written out, and of the rules that are made; or why they are refused. The rules that a line
+/// asks for are counted as soon as they are made, since a few lines can ask for many times their own size.
 fn write_lines(
     alloc: Global,
     reader: &mut LineReader<'_>,
-    texts: &LineList,
     lines: &[Line<'_>],
     groups: &TextMap<Items<usize>>,
     mark: &str,
-) -> Result<LineList, PlainFault>
-    requires read { map line_value lines.now ≡ map source_value texts.now }
+) -> Result<Vec<u8>, PlainFault>
     requires grouped { IsGrouped (map line_value lines.now) groups.now }
     requires mark { mark.now ≡ mark_of (map line_value lines.now) }
-    ensures ok { IfOk result (λ out. written_out (map source_value texts.now) ≡ Ok (map source_value out)) }
-    ensures err { IfErr result (IsFaultOf (written_out (map source_value texts.now))) }
+    ensures ok { IfOk result (λ bytes. IsWrittenAs (map line_value lines.now) bytes.items) }
+    ensures err { IfErr result (IsFaultOf (written_out (map line_value lines.now))) }
 {
     let mut pairs = Pairs::new(alloc);
-    let mut made = LineList::new(alloc);
-    let mut out = LineList::new(alloc);
-    let mut size = 0;
-    for place in 0..texts.len() {
-        let count = made.len();
+    let mut made = Vec::new(alloc);
+    let mut out = Parts {
+        rules: Vec::new(alloc),
+        zones: Vec::new(alloc),
+        links: Vec::new(alloc),
+    };
+    for place in 0..lines.len() {
         if !write_line(
-            alloc, reader, texts, lines, groups, mark, place, &mut pairs, &mut made, &mut out,
+            alloc, reader, lines, groups, mark, place, &mut pairs, &mut made, &mut out,
         )? {
             return Err(PlainFault::Line(place + 1, PlainCause::Unsayable));
         }
-        size = match size_from(&made, count, size) {
-            Some(size) => size,
-            None => return Err(PlainFault::TooLong),
-        };
+        if made.as_slice().len() > LIMIT {
+            return Err(PlainFault::TooLong);
+        }
     }
-    add_all(&made, &mut out)?;
-    Ok(out)
+    let bytes = joined(out, made.as_slice())?;
+    Ok(bytes)
 }
 
-/// The lines of a source, each as it was read and written, with `%z` written out, and behind them the rules that are made.
+/// What is written of a source's lines with `%z` written out: the rules, behind them those that are made, then the zones, then the links.
 ///
 /// # Errors
 ///
@@ -314,16 +272,13 @@ fn write_lines(
 /// feed; the lines after it aren't looked at.
 pub fn write_out(
     alloc: Global,
-    parser: &LineParser,
-    lines: &LineList,
-) -> Result<LineList, PlainFault>
-    ensures ok { IfOk result (λ out. written_out (map source_value lines.now) ≡ Ok (map source_value out)) }
-    ensures err { IfErr result (IsFaultOf (written_out (map source_value lines.now))) }
+    reader: &mut LineReader<'_>,
+    lines: &[Line<'_>],
+) -> Result<Vec<u8>, PlainFault>
+    ensures ok { IfOk result (λ bytes. IsWrittenAs (map line_value lines.now) bytes.items) }
+    ensures err { IfErr result (IsFaultOf (written_out (map line_value lines.now))) }
 {
-    let mut reader = parser.reader(alloc)?;
-    let read = lines_read(alloc, &mut reader, lines)?;
-    let read = read.as_slice();
-    let groups = places_by_name(alloc, read)?;
-    let mark = mark_of(alloc, read)?;
-    write_lines(alloc, &mut reader, lines, read, &groups, mark.as_str())
+    let groups = places_by_name(alloc, lines)?;
+    let mark = mark_of(alloc, lines)?;
+    write_lines(alloc, reader, lines, &groups, mark.as_str())
 }

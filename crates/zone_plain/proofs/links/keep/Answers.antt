@@ -1,11 +1,12 @@
 use Rattle.std.proofs.Common.{sym, ◌∙◌}
 use Rattle.zone_plain.proofs.LeadLemmas.{none_met, known_more, noted}
+use Rattle.zone_plain.specs.Stands.{names_of}
 use Rattle.zone_plain.proofs.links.keep.Goals as goal
 
 pub returns-in-None : goal.returns-in-None
 returns-in-None c values declared known leads =
     let so_far = c.loop-step.invariant.1 values declared known leads in
-    known_more c.args.declared.now.names values c.loop-step.known c.insert.new.self c.loop-step.at.now c.args.place c.in_ok-insert.ensures.ok
+    known_more (names_of c.args.declared.now) values c.loop-step.known c.insert.new.self c.loop-step.at.now c.args.place c.in_ok-insert.ensures.ok
     so_far.0 so_far.1
 
 pub loop-step-preserved : goal.loop-step-preserved

@@ -1,17 +1,15 @@
 use Rattle.std.proofs.Common.{sym, ◌∙◌, refl, subst}
-use Rattle.zone_values.specs.Values.{link}
-use Rattle.zone_plain.specs.Stands.{IsOutcome}
 use Rattle.zone_plain_base.specs.Told.{IsRefused}
 use Rattle.zone_plain.proofs.LinkLemmas.{space_stays, rule_stays, continuation_lacks, continuation_stays, plain_more, link_is}
 use Rattle.zone_plain.proofs.links.settle_line.Goals as goal
 
 pub returns-in-Space-clause-ok : goal.returns-in-Space-clause-ok
 returns-in-Space-clause-ok c values before here =
-    rw c.in-Space.is ((space_stays values before, refl), plain_more _ _ _ values before _ refl (λ _. refl) here)
+    rw c.in-Space.is (space_stays values before, plain_more _ _ _ values before _ refl (λ _. refl) here)
 
 pub returns-in-Rule-clause-ok : goal.returns-in-Rule-clause-ok
 returns-in-Rule-clause-ok c values before here =
-    rw c.in-Rule.is ((rule_stays values before _, refl), plain_more _ _ _ values before _ refl (λ _. refl) here)
+    rw c.in-Rule.is (rule_stays values before _, plain_more _ _ _ values before _ refl (λ _. refl) here)
 
 pub returns-then-lacks_rules-clause-err : goal.returns-then-lacks_rules-clause-err
 returns-then-lacks_rules-clause-err c values before here =
@@ -20,14 +18,14 @@ returns-then-lacks_rules-clause-err c values before here =
 pub returns-else-lacks_rules-clause-ok : goal.returns-else-lacks_rules-clause-ok
 returns-else-lacks_rules-clause-ok c values before here =
     rw c.in-Continuation.is (
-      (continuation_stays values before _ (sym (c.lacks_rules.ensures values here.declared) ∙ c.if-lacks_rules.false), refl),
+      continuation_stays values before _ (sym (c.lacks_rules.ensures values here.declared) ∙ c.if-lacks_rules.false),
       plain_more _ _ _ values before _ refl (λ _. refl) here,
     )
 
 pub returns-in-Ok-clause-ok : goal.returns-in-Ok-clause-ok
 returns-in-Ok-clause-ok c values before here =
     let found = c.in-Ok.ensures.ok c.args.limit values before here in
-    rw c.in-Zone.is ((found.0, refl), found.1)
+    rw c.in-Zone.is found
 
 pub returns-in-Err-clause-err : goal.returns-in-Err-clause-err
 returns-in-Err-clause-err c values before here = rw c.in-Zone.is (c.in-Err.ensures.err c.args.limit values before here)
@@ -37,11 +35,7 @@ returns-in-Ok-settle_link-clause-ok c values before here =
     let existing = c.in-Link.link.existing.now in
     let new = c.in-Link.link.new.now in
     let found = c.in-Ok-settle_link.ensures.ok values before here in
-    rw c.in-Link.is (
-      subst (λ f. IsOutcome f (link existing new) c.settle_link.new.text.items c.in-Ok-settle_link.outcome)
-          (sym (link_is values before existing new)) found.0,
-      found.1,
-    )
+    rw c.in-Link.is (link_is values before existing new ∙ found.0, found.1)
 
 pub returns-in-Err-settle_link-clause-err : goal.returns-in-Err-settle_link-clause-err
 returns-in-Err-settle_link-clause-err c values before here =

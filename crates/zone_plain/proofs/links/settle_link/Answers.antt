@@ -1,7 +1,8 @@
-use Rattle.std.proofs.Common.{sym, ◌∙◌, ap}
+use Rattle.std.proofs.Common.{sym, ◌∙◌, ap, map}
+use Rattle.zone_plain.specs.Stands.{line_at_place}
 use Rattle.std.specs.Prelude.{Ok}
 use Rattle.zone_values.specs.Values.{line_value}
-use Rattle.zone_plain.proofs.LinkLemmas.{is_declared, link_is_zone, link_refused, link_unsaid, link_written}
+use Rattle.zone_plain.proofs.LinkLemmas.{is_declared, link_is_zone, link_refused, link_unsaid, link_said, link_text}
 use Rattle.zone_plain.proofs.links.settle_link.Goals as goal
 
 pub returns-then-contains_key-clause-err : goal.returns-then-contains_key-clause-err
@@ -16,17 +17,21 @@ returns-in-Err-clause-err c values before here =
 
 pub returns-then-not-branch-clause-err : goal.returns-then-not-branch-clause-err
 returns-then-not-branch-clause-err c values before here =
-    link_unsaid values before _ _ (line_value c.line_of-meant.result)
+    link_unsaid values before _ _ (line_value c.line_of-led.result)
     (sym (is_declared _ values _ _ here.declared c.contains_key.ensures) ∙ c.if-contains_key.false)
-    ((c.in-Ok.ensures.ok values before here).0 ∙ ap Ok (sym c.line_of-meant.ensures))
+    ((c.in-Ok.ensures.ok values before here).0 ∙ ap Ok (sym (c.line_of-led.ensures
+    ∙ ap (λ names. line_at_place (map (λ one. one.now) names) c.in-Ok.place c.args.link.now.new.now) c.as_slice.ensures.value)))
     (sym c.in_ok-write_said.ensures.said ∙ c.if-not-branch.true)
 
 pub returns-clause-ok : goal.returns-clause-ok
 returns-clause-ok c values before here =
     let found = c.in-Ok.ensures.ok values before here in (
-      link_written values before _ _ (line_value c.line_of-meant.result) _ _
+      link_said values before _ _ (line_value c.line_of-led.result)
           (sym (is_declared _ values _ _ here.declared c.contains_key.ensures) ∙ c.if-contains_key.false)
-          (found.0 ∙ ap Ok (sym c.line_of-meant.ensures)) (sym c.in_ok-write_said.ensures.said ∙ c.if-not-branch.false)
-          c.in_ok-write_said.ensures.text c.link_size.ensures,
+          (found.0 ∙ ap Ok (sym (c.line_of-led.ensures
+    ∙ ap (λ names. line_at_place (map (λ one. one.now) names) c.in-Ok.place c.args.link.now.new.now) c.as_slice.ensures.value))) (sym c.in_ok-write_said.ensures.said ∙ c.if-not-branch.false),
       found.1,
     )
+
+pub returns-clause-text : goal.returns-clause-text
+returns-clause-text c = link_text _ (line_value c.line_of-led.result) c.in_ok-write_said.ensures.text

@@ -5,4 +5,4 @@ use Rattle.zone_plain_offsets.proofs.MadeLemmas.{HasMade}
 use Rattle.zone_plain_offsets.proofs.made.add_rules.Given as goal
 
 abbrev pub invariant-loop-index : goal.invariant-loop-index
-invariant-loop-index l = HasMade l.fn.name l.fn.offset (map (value_in (map line_value l.fn.lines)) l.fn.places) l.fn.made l.made l.index
+invariant-loop-index l = HasMade l.fn.name l.fn.offset (map (value_in (map line_value l.fn.lines)) l.fn.places) l.fn.made.items l.made.items l.index

@@ -18,9 +18,13 @@ is_in Zones (continuation info) = true
 is_in Links (link existing new) = true
 is_in _ _ = false
 
--- its plain text and a line feed, or nothing
+-- its plain text and a line feed
+abbrev pub line_text : LineValue → List ℕ
+line_text v = plain_text v ++ 10 ∷ []
+
+-- the same, or nothing
 abbrev pub part_text : Part → LineValue → List ℕ
-part_text part v = if is_in part v then plain_text v ++ 10 ∷ [] else []
+part_text part v = if is_in part v then line_text v else []
 
 -- the rules, then the zones, then the links, each in the order of the source
 unfoldable pub written : List LineValue → List ℕ
