@@ -10,10 +10,10 @@ mod respond;
 mod running;
 mod whole;
 
-pub use laws::names_and_links;
+pub use laws::{names_and_links, same_by_table};
 pub use refusal::{TreeFault, Why};
 pub use running::{run_tree, start_tree};
-pub use whole::tree;
+pub use whole::{tree, tree_of_table};
 pub use zone_source::{
     Failed, FileShelf, MemShelf, MemSink, Shelf, Sink, Source, Started, Status, StdSink, SureShelf,
     SureSink,

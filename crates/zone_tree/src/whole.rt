@@ -1,12 +1,12 @@
 //! The archive of a source.
 ghost use Rattle.std.specs.Prelude.{◌≡◌, ◌≤◌, length, map as each, Ok, Some, IfOk, IfErr, OnOk};
 ghost use Rattle.std.specs.FinMap.{keys};
+ghost use Rattle.std.specs.Option.{option_copied};
 ghost use Rattle.tz_lookup.specs.Databases.{name_shown};
 ghost use Rattle.zone_table.specs.BoundedTables.{IsBoundedTable};
 ghost use Rattle.zone_tree.specs.Entries.{entry_of};
 ghost use Rattle.zone_tree.specs.Names.{finds_in_table};
 ghost use Rattle.zone_tree.specs.Told.{ArePut, IsFirst, IsFaultOf};
-ghost use Rattle.zone_source.specs.Releases.{release_of};
 ghost use Rattle.zone_tree.specs.Trees.{entries_of, first_entries, tree_by, tree_of};
 
 use crate::entry::{VERSION_NAME, put_name, put_release};
@@ -33,12 +33,12 @@ fn put_named(alloc: Global, release: &str, into: &mut Vec<u8>) -> Result<(), Tre
     }
 }
 
-/// Puts what comes first at the end: the file of the source's release, if it names one.
-fn put_first(alloc: Global, source: &[u8], into: &mut Vec<u8>) -> Result<(), TreeFault>
-    ensures ok { OnOk result (ArePut into.old.items into.new.items (first_entries (release_of source.now))) }
-    ensures err { IfErr result (IsFirst (first_entries (release_of source.now))) }
+/// Puts what comes first at the end: the file of the release, if there is one.
+fn put_first(alloc: Global, release: Option<&str>, into: &mut Vec<u8>) -> Result<(), TreeFault>
+    ensures ok { OnOk result (ArePut into.old.items into.new.items (first_entries (option_copied release.entry))) }
+    ensures err { IfErr result (IsFirst (first_entries (option_copied release.entry))) }
 {
-    match release_of(source) {
+    match release {
         Some(release) => put_named(alloc, release, into),
         None => Ok(()),
     }
@@ -71,12 +71,21 @@ fn put_names(
     Ok(())
 }
 
-/// The archive of a table, which names a source's release first.
+/// Every zone of a table, and every link, in a tar archive, as [`tree`] has those of a source, with a release if there is one. A table
+/// that `read_table` gives is bounded.
+///
+/// # Errors
+///
+/// `Refused` has the first name in the archive's order that has no entry, and why; `NoMemory`. `Source` never comes.
 #[tactic(auto, unfolding(crate::specs::Trees::tree_by))]
-fn tree_of_table(alloc: Global, source: &[u8], table: &Table) -> Result<Vec<u8>, TreeFault>
+pub fn tree_of_table(
+    alloc: Global,
+    release: Option<&str>,
+    table: &Table,
+) -> Result<Vec<u8>, TreeFault>
     requires { IsBoundedTable table.now }
-    ensures ok { IfOk result (λ bytes. tree_by (release_of source.now) (finds_in_table table.now) ≡ Ok bytes.items) }
-    ensures err { IfErr result (IsFirst (tree_by (release_of source.now) (finds_in_table table.now))) }
+    ensures ok { IfOk result (λ bytes. tree_by (option_copied release.entry) (finds_in_table table.now) ≡ Ok bytes.items) }
+    ensures err { IfErr result (IsFirst (tree_by (option_copied release.entry) (finds_in_table table.now))) }
 {
     let zones = table.zonesets.keys(alloc)?;
     let links = table.links.keys(alloc)?;
@@ -86,7 +95,7 @@ fn tree_of_table(alloc: Global, source: &[u8], table: &Table) -> Result<Vec<u8>,
     };
     let ordered = archive_names(alloc, table, &names)?;
     let mut bytes = Vec::new(alloc);
-    match put_first(alloc, source, &mut bytes) {
+    match put_first(alloc, release, &mut bytes) {
         Ok(()) => {}
         Err(fault) => return Err(fault),
     }
@@ -115,7 +124,7 @@ pub fn tree(alloc: Global, parser: &LineParser, source: &[u8]) -> Result<Vec<u8>
         Ok(table) => table,
         Err(error) => return Err(TreeFault::Source(error)),
     };
-    let bytes = match tree_of_table(alloc, source, &table) {
+    let bytes = match tree_of_table(alloc, release_of(source), &table) {
         Ok(bytes) => bytes,
         Err(fault) => return Err(fault),
     };

@@ -1,5 +1,7 @@
+use Rattle.std.proofs.Common.{ap, sym}
+use Rattle.std.specs.Option.{option_copied}
 use Rattle.zone_tree.proofs.TreeLemmas.{none_first}
 use Rattle.zone_tree.proofs.whole.put_first.Goals as goal
 
 pub returns-in-None-clause-ok : goal.returns-in-None-clause-ok
-returns-in-None-clause-ok c = none_first _ _ c.in-None.ensures
+returns-in-None-clause-ok c = none_first _ _ (ap option_copied (sym c.in-None.is))
