@@ -1,10 +1,14 @@
 -- What zones of every kind answer, by the total in force at each instant.
-use Rattle.std.specs.Prelude.{◌≡◌, ℕ, ℤ, Bool, List, length, map, Option, option_map, IfSome, is_some}
+use Rattle.std.specs.Prelude.{◌≡◌, ℕ, ℤ, Bool, true, All, AllPairs, List, length, map, Option, option_map, IfSome, is_some}
 use Rattle.std.specs.List.{slice_get}
 use Rattle.civil_base.specs.Instants.{local_at}
 use Rattle.civil_base.specs.Ranges.{is_in_years}
 use Rattle.civil_base.specs.declared.offset_date_time.OffsetDateTime.{OffsetDateTime}
 use Rattle.tz_zone.specs.InForce.{all_in_force, in_force, shown_of}
+use Rattle.zone_alarm.specs.Rings.{ends_in_years, rings}
+use Rattle.zone_alarm.specs.RingsOnce.{AreApart, RingsOnce}
+use Rattle.zone_alarm.specs.Shown.{ring_shown}
+use Rattle.zone_alarm.specs.declared.ring.Ring.{Ring}
 use Rattle.sefunjaro.specs.Asked.{reading_of, IsNamed}
 use Rattle.sefunjaro.specs.Gaps.{IsSkippedBy}
 use Rattle.sefunjaro.specs.Rooms.{filled}
@@ -31,3 +35,11 @@ pub record AreReadings (total : ℤ → ℤ) (x : ℤ) (old new : List Reading) 
 -- of the instants of a local time the first, if there is one
 abbrev pub first_of : (ℤ → ℤ) → ℤ → Option Reading
 first_of total x = option_map reading_of (slice_get (all_in_force total x) 0)
+
+-- the rings of an alarm that is set to a time of day, one for each of so many days from the first on: at most one a day, at the first
+-- instant, none in a gap, and never two at one instant
+pub record AreRings (total : ℤ → ℤ) (at : ℕ) (first : ℤ) (days : ℕ) (found : List Ring) : Type 0 where
+  pub in_years : ends_in_years first days ≡ true
+  pub each : map ring_shown found ≡ rings total at first days
+  pub once : All (RingsOnce total at) (map ring_shown found)
+  pub apart : AllPairs AreApart (map ring_shown found)

@@ -1,4 +1,6 @@
 //! One error for all that is asked of a source, of a zone and of a file.
+ghost use Rattle.std.specs.Prelude.{◌≡◌};
+ghost use Rattle.sefunjaro.specs.Errors.{of_source};
 
 use crate::SourceError;
 use crate::any_source::AnySourceFault;
@@ -12,6 +14,7 @@ use zone_line::NotBuilt;
 use zone_list::ListFault;
 use zone_plain_lines::PlainCause;
 use zone_tail_core::TailFault;
+use zone_tree::TreeFault;
 use zone_tzif_core::ReadFault;
 use zone_tzif_set::FileFault;
 
@@ -45,6 +48,8 @@ pub enum Error {
     Tail(TailFault),
     /// A zone has no TZif file.
     Tzif(FileFault),
+    /// A name of a source has no entry in an archive: the first such, with its name and why.
+    Tree(TreeFault),
     /// Bytes are no compiled zone file.
     File(ReadFault),
     /// A compiled zone file can't be asked.
@@ -84,12 +89,19 @@ impl From<SourceError> for Error {
     ghost from_gives = { λ fault error. error ≡ of_source fault };
 
     fn from(fault: SourceError) -> Error {
-        match fault {
-            SourceError::NoMemory => Error::NoMemory,
-            SourceError::NotText(line) => Error::Source(SourceError::NotText(line)),
-            SourceError::Line(line, cause) => Error::Source(SourceError::Line(line, cause)),
-            SourceError::Build(line, kind) => Error::Source(SourceError::Build(line, kind)),
-        }
+        of_source(fault)
+    }
+}
+
+/// What the fault of a source in plain form becomes.
+fn of_source(fault: SourceError) -> Error
+    ensures { result ≡ of_source fault }
+{
+    match fault {
+        SourceError::NoMemory => Error::NoMemory,
+        SourceError::NotText(line) => Error::Source(SourceError::NotText(line)),
+        SourceError::Line(line, cause) => Error::Source(SourceError::Line(line, cause)),
+        SourceError::Build(line, kind) => Error::Source(SourceError::Build(line, kind)),
     }
 }
 
@@ -225,6 +237,21 @@ impl From<FileFault> for Error {
             FileFault::Types => Error::Tzif(FileFault::Types),
             FileFault::Names => Error::Tzif(FileFault::Names),
             FileFault::NoMemory => Error::NoMemory,
+        }
+    }
+}
+
+impl From<TreeFault> for Error {
+    ghost use Rattle.std.specs.Prelude.{◌≡◌};
+    ghost use Rattle.sefunjaro.specs.Errors.{of_tree};
+
+    ghost from_gives = { λ fault error. error ≡ of_tree fault };
+
+    fn from(fault: TreeFault) -> Error {
+        match fault {
+            TreeFault::Source(fault) => of_source(fault),
+            TreeFault::Refused(name, why) => Error::Tree(TreeFault::Refused(name, why)),
+            TreeFault::NoMemory => Error::NoMemory,
         }
     }
 }

@@ -131,7 +131,8 @@ impl FileZone {
         }
     }
 
-    fn zone(&self) -> TzifTz<'_>
+    /// The zone, lent.
+    pub(crate) fn zone(&self) -> TzifTz<'_>
         ensures { IsZoneOf [] (file_value self.now) result }
     {
         self.owner.lend("")

@@ -140,6 +140,14 @@ impl OpenSource {
         }
     }
 
+    /// The table of its lines.
+    pub(crate) fn table(&self) -> &Table
+        ensures same { result.now ≡ table_in self.now }
+        ensures bounded { IsBoundedTable result.now }
+    {
+        &self.table
+    }
+
     /// The release that the source names by its first line, as `2026b` in `# version 2026b`, if it names one.
     pub fn release(&self) -> Option<&str>
         ensures { option_copied result ≡ release_in self.now }

@@ -17,6 +17,7 @@ impl fmt::Display for Error {
             Error::Line(line, cause) => write!(f, "source {line}: {cause}"),
             Error::Database(fault) => write_database_fault(f, fault),
             Error::Tzif(fault) => write!(f, "{fault}"),
+            Error::Tree(fault) => write!(f, "{fault}"),
             Error::FileZone(fault) => write!(f, "{fault}"),
             error => f.write_str(text_of(error)),
         }

@@ -1,11 +1,17 @@
-//! A zone as a whole: the string that carries it on, and its file.
+//! A zone as a whole: the lines of its changes, the string that carries it on, and its file.
+use crate::error::Error;
 use crate::zone::OpenZone;
 use std::alloc::Global;
+use zone_list::{ListFault, Listing, lines_of};
 use zone_tail_core::{Tail, TailFault, tail};
 use zone_tzif_set::{FileFault, consistent_tzif_of};
 
 impl OpenZone {
-    ghost use Rattle.std.specs.Prelude.{◌≡◌, ℤ, IfOk, MatchResult, string_bytes};
+    ghost use Rattle.std.specs.Prelude.{◌≡◌, ℤ, IfErr, IfOk, MatchResult, OnOk, string_bytes, true};
+    ghost use Rattle.zone_list.specs.Ranges.{all_have_dates};
+    ghost use Rattle.zone_list.specs.Rows.{rows};
+    ghost use Rattle.zone_list.specs.Windows.{window};
+    ghost use Rattle.sefunjaro.specs.Causes.{IsListCause};
     ghost use Rattle.zone_spans.specs.Schedules.{total_at as set_total_at};
     ghost use Rattle.tz_zone.specs.Sets.{schedule_of};
     ghost use Rattle.zone_tail_core.specs.Carried.{CarriesOn};
@@ -16,6 +22,24 @@ impl OpenZone {
     ghost use Rattle.zone_tzif_core.specs.Zones.{ZoneValue};
     ghost use Rattle.zone_tzif_set.specs.Files.{consistent_zone, IsCarriedOn, MakesZone};
     ghost use Rattle.sefunjaro.specs.Zones.{set_in};
+
+    /// The lines of the changes from a second on and before another, as [`list_lines`](zone_list::list_lines) has those of a set: the
+    /// second, the abbreviation, and the time by the clocks of the zone, in columns.
+    ///
+    /// # Errors
+    ///
+    /// `List` exactly where the UTC date or the local date of one of these lies outside the years -9999 to 9999; `NoMemory`.
+    pub fn lines(&self, alloc: Global, from: i64, to: i64) -> Result<Listing, Error>
+        ensures ok { OnOk result (all_have_dates (window (set_in self.now) from to) ≡ true) }
+        ensures lines { IfOk result (λ listing. listing ≡ rows (window (set_in self.now) from to)) }
+        ensures err { IfErr result (IsListCause (window (set_in self.now) from to)) }
+    {
+        match lines_of(alloc, self.compact(), from, to) {
+            Ok(listing) => Ok(listing),
+            Err(ListFault::Range) => Err(Error::List(ListFault::Range)),
+            Err(ListFault::NoMemory) => Err(Error::NoMemory),
+        }
+    }
 
     /// The POSIX TZ string that carries the zone on, as [`tail`](zone_tail_core::tail) gives it of the zone's spans. It takes
     /// memory for the string alone.

@@ -243,7 +243,8 @@ impl OpenZone {
         &self.set
     }
 
-    fn zone(&self) -> CompactTz<'_>
+    /// The zone, lent.
+    pub(crate) fn zone(&self) -> CompactTz<'_>
         ensures { compact_of result ≡ set_in self.now }
     {
         CompactTz::new(&self.set)

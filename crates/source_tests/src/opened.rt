@@ -1,9 +1,12 @@
 //! What a program in another language holds: each call that takes memory, with ample memory. The values are those of the tz database for
-//! New York and for the rules of Europe, as Python's `zoneinfo` gives them, and the string is that of `zic -b slim`.
-use crate::checks::{same, same_at};
+//! New York and for the rules of Europe, as Python's `zoneinfo` gives them, the string is that of `zic -b slim`, and the archive that of
+//! Python's `tarfile`.
+use crate::checks::{prints, same, same_at};
 use crate::fixtures::{NEW_YORK, at};
 use crate::runs::bytes_of;
-use sefunjaro::{AnySourceFault, AnyZone, FileZone, OpenFault, OpenSource, OpenZone};
+use sefunjaro::{
+    AnySourceFault, AnyZone, Date, FileZone, Month, OpenFault, OpenSource, OpenZone, Ring, Time,
+};
 use sefunjaro_handles::Opened;
 use std::alloc::Global;
 use std::process::Abort;
@@ -66,12 +69,7 @@ fn a_source_in_plain_form_is_opened(rt: HostRuntime) {
 #[test]
 fn a_source_in_any_form_is_opened(rt: HostRuntime) {
     let alloc = rt.alloc();
-    let Ok(source) = OpenSource::open(alloc, SHORT) else {
-        panic!(rt; "not opened");
-    };
-    let Ok(zone) = source.zone(alloc, "East") else {
-        panic!(rt; "no zone");
-    };
+    let zone = zone_of(&rt, alloc, SHORT, "East");
     expect_new_york(&rt, alloc, &zone);
 }
 
@@ -183,4 +181,129 @@ fn a_file_and_a_string_are_zones(rt: HostRuntime) {
         &Opened::zone(alloc, AnyZone::File(zone)).is_ok(),
         &true,
     );
+}
+
+/// Opens a source in any form, and its zone of that name.
+fn zone_of(rt: &impl Abort, alloc: Global, text: &[u8], name: &str) -> OpenZone {
+    let Ok(source) = OpenSource::open(alloc, text) else {
+        panic!(rt; "not opened");
+    };
+    let Ok(zone) = source.zone(alloc, name) else {
+        panic!(rt; "no zone");
+    };
+    zone
+}
+
+/// Paris by the rules of Europe from 1996 on.
+const PARIS: &[u8] =
+    b"R E 1981 ma - Mar lastSun 1u 1 S\nR E 1996 ma - O lastSun 1u 0 -\nZ Europe/Paris 1 E CE%sT\n";
+
+/// Its changes of 2024.
+const CHANGES: &[u8] =
+    b"1711846800  CEST  2024-03-31 03:00:00.000000000 +02:00:00\n1729990800  CET   2024-10-27 02:00:00.000000000 +01:00:00\n";
+
+#[test]
+fn a_zone_lists_its_changes(rt: HostRuntime) {
+    let alloc = rt.alloc();
+    let zone = zone_of(&rt, alloc, PARIS, "Europe/Paris");
+    let Ok(listing) = zone.lines(alloc, 1_711_846_800, 1_735_689_600) else {
+        panic!(rt; "not listed");
+    };
+    let lines = listing.into_bytes();
+    same(&rt, &lines.as_slice(), &CHANGES);
+    let zone = zone_of(&rt, alloc, b"Z A 0 - A 9999 D 31 99\n1 - B\n", "A");
+    let Err(error) = zone.lines(alloc, 0, 999_999_999_999) else {
+        panic!(rt; "listed");
+    };
+    let wanted = "a change of the window has no date in the years -9999 to 9999";
+    prints(&rt, alloc, &error, wanted);
+}
+
+/// The second of a ring.
+fn second_of(ring: Option<&Ring>) -> Option<i64> {
+    Some(ring?.at?.unix_timestamp())
+}
+
+/// Asserts when an alarm at half past two rings around the change of March 2024 in Europe, and that none rings past all years.
+fn expect_rings(rt: &impl Abort, alloc: Global, zone: &AnyZone) {
+    let time = Time::from_hms(2, 30, 0).expect(rt, "a time");
+    let first = Date::from_calendar_date(2024, Month::March, 30).expect(rt, "a date");
+    let Ok(rings) = zone.alarms(alloc, time, first, 3) else {
+        panic!(rt; "no rings");
+    };
+    let seconds = (
+        second_of(rings.get(0)),
+        second_of(rings.get(1)),
+        second_of(rings.get(2)),
+    );
+    let wanted = (Some(1_711_762_200), None, Some(1_711_931_400));
+    same(rt, &seconds, &wanted);
+    let last = Date::from_calendar_date(9999, Month::December, 31).expect(rt, "a date");
+    let Err(error) = zone.alarms(alloc, time, last, 2) else {
+        panic!(rt; "rings past the years");
+    };
+    prints(
+        rt,
+        alloc,
+        &error,
+        "the last day of the alarm is past 9999-12-31",
+    );
+}
+
+#[test]
+fn an_alarm_rings_in_zones_of_both_kinds(rt: HostRuntime) {
+    let alloc = rt.alloc();
+    let zone = zone_of(&rt, alloc, PARIS, "Europe/Paris");
+    expect_rings(&rt, alloc, &AnyZone::Source(zone));
+    let Ok(zone) = FileZone::read(alloc, FILE) else {
+        panic!(rt; "not read");
+    };
+    expect_rings(&rt, alloc, &AnyZone::File(zone));
+}
+
+/// The source of the archive that is stored beside the program `zone_tree`.
+const TREE: &[u8] = b"\
+# version 2026b
+Rule US 2007 max - Mar Sun>=8 2:00 1:00 D
+Rule US 2007 max - Nov Sun>=1 2:00 0 S
+Link America/New_York US/Eastern
+Zone Etc/UTC 0 - UTC
+Link Etc/UTC Zulu
+Zone America/New_York -5:00 US E%sT
+";
+
+/// The CRC-32 of some bytes.
+fn crc32(bytes: &[u8]) -> u32 {
+    let mut crc = u32::MAX;
+    for byte in bytes {
+        crc ^= u32::from(*byte);
+        for _ in 0..8 {
+            crc = if crc & 1 == 1 {
+                (crc >> 1) ^ 0xEDB8_8320
+            } else {
+                crc >> 1
+            };
+        }
+    }
+    !crc
+}
+
+#[test]
+fn an_open_source_has_an_archive(rt: HostRuntime) {
+    let alloc = rt.alloc();
+    let Ok(source) = OpenSource::open_plain(alloc, TREE) else {
+        panic!(rt; "not opened");
+    };
+    let Ok(archive) = source.tree(alloc) else {
+        panic!(rt; "no archive");
+    };
+    let sum = crc32(archive.as_slice());
+    same(&rt, &(archive.len(), sum), &(6656, 2_971_615_741));
+    let Ok(source) = OpenSource::open_plain(alloc, b"Zone A 0 - A\nLink B C\n") else {
+        panic!(rt; "not opened");
+    };
+    let Err(error) = source.tree(alloc) else {
+        panic!(rt; "an archive");
+    };
+    prints(&rt, alloc, &error, "tree C: link");
 }
