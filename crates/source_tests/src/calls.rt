@@ -18,6 +18,7 @@ use tz_lookup::{
 use tz_posix::{Date, PosixTz, Time};
 use tz_zone::ZoneFault;
 use zone_answers::open_zone;
+use zone_spans::TableTransitions;
 use zone_table::Table;
 use zone_tail_core::laws::both_offsets;
 use zone_uses::{Moved, next_change, zone_of_source};
@@ -233,6 +234,15 @@ fn zones_are_opened_for_ever(rt: HostRuntime) {
         let second = at(&rt, number(&rt, &mut fields));
         let offset = offset_for_ever(alloc, &table, name, &second);
         same_at(&rt, row, &offset, &Ok(number(&rt, &mut fields)));
+    }
+}
+
+#[test]
+fn a_name_has_spans_in_a_table(rt: HostRuntime) {
+    let alloc = rt.alloc();
+    match table_of(&rt, alloc, FOR_EVER).timespans(alloc, "Made/Still") {
+        Ok(Some(spans)) => same(&rt, &spans.first.utc_offset, &19_800),
+        _ => panic!(&rt; "no spans"),
     }
 }
 

@@ -16,5 +16,5 @@ pub use meant::line_meant;
 pub use renamed::{
     behind_underscore, has_said_name, mark_behind, mark_of, said_name, said_name_of, under,
 };
-pub use said::{is_read, keep_line, line_at, lines_read, write_said};
+pub use said::{is_read, line_at, lines_read, write_said};
 pub use text::put_plain;

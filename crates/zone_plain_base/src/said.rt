@@ -1,8 +1,7 @@
 //! What a line means, written and read back, and the lines of a list, each read once.
-ghost use Rattle.std.specs.Prelude.{◌≡◌, ◌<◌, ◌++◌, [], ◌∷◌, map, length, slice_index_or, IfOk, OnOk};
+ghost use Rattle.std.specs.Prelude.{◌≡◌, ◌<◌, [], map, length, slice_index_or, IfOk};
 ghost use Rattle.zone_source.specs.Zones.{source_value};
 ghost use Rattle.zone_values.specs.Values.{line_value};
-ghost use Rattle.zone_plain_base.specs.LinesAt.{value_at};
 ghost use Rattle.zone_plain_base.specs.PlainTexts.{plain_text};
 ghost use Rattle.zone_plain_base.specs.Meant.{line_meaning, is_next};
 ghost use Rattle.zone_line.specs.LineValues.{value};
@@ -48,19 +47,6 @@ pub fn line_at(lines: &LineList, place: usize) -> &[u8]
         Some(bytes) => bytes,
         None => unreachable!(),
     }
-}
-
-/// Adds the line at a place of another list, which counts from 0.
-///
-/// # Errors
-///
-/// Want of memory alone.
-pub fn keep_line(into: &mut LineList, lines: &LineList, place: usize) -> Result<(), AllocError>
-    requires { place < length lines.now }
-    ensures { OnOk result (map source_value into.new ≡ map source_value into.old ++ value_at lines.now place ∷ []) }
-{
-    into.push(line_at(lines, place))?;
-    Ok(())
 }
 
 /// What the lines of a list say, in order. One that doesn't read says nothing.
