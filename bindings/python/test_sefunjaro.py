@@ -324,7 +324,7 @@ class Zones(unittest.TestCase):
         self.assertEqual(asked(source.zone("Here/Again")), (hours(1), "AGN", hours(0)))
         self.assertEqual([asked(source.zone(name)) for name in ("Here/Middle", "Here/Twice")], [none, none])
         self.assertEqual(asked(Zone.from_posix("<+03>-3")), (hours(3), "+03", None))
-        self.assertEqual([asked(Zone.from_posix(string)) for string in (Files.STRING, "<+03>-3<+04>,J60,J300")], [none, none])
+        self.assertEqual([asked(Zone.from_posix(string)) for string in (Files.STRING, "<+03>-3<+04>,M3.5.0,M10.5.0")], [none, none])
         self.assertEqual(asked(file(source.zone("Here/Long").to_tzif())), (hours(1), "AbbreviationOfTwentySix", None))
         self.assertEqual([asked(file(told)) for told in (Files.FILE, source.zone("Here/Twice").to_tzif())], [none, none])
         with self.assertRaises(sefunjaro.OffsetTooLarge):
@@ -347,8 +347,8 @@ class Zones(unittest.TestCase):
             (lambda: Zone.from_posix("<\ud800\ud800\ud800>0"), sefunjaro.NotRead, Status.NOT_TEXT),
             (lambda: sefunjaro.read_local("\ud800"), sefunjaro.NotRead, Status.NOT_READ),
             (lambda: sefunjaro.read_zoned("\ud800"), sefunjaro.NotRead, Status.NOT_READ),
-            (lambda: Source("\n#\ud800\n"), sefunjaro.NoPlainForm, Status.NO_PLAIN_FORM),
-            (lambda: Source("\n#\ud800\n", plain=True), sefunjaro.SourceError, Status.NOT_TEXT),
+            (lambda: Source("\n\ud800\n"), sefunjaro.NoPlainForm, Status.NO_PLAIN_FORM),
+            (lambda: Source("\n\ud800\n", plain=True), sefunjaro.SourceError, Status.NOT_TEXT),
         ]
         for ask, kind, status in rows:
             with self.assertRaises(kind) as raised:
