@@ -29,13 +29,13 @@ loop-place-preserved g c =
     let times = c.of-widths.result.times in
     let names = c.of-widths.result.names in
     elim c.if-is_within.branch [
-      then-is_within+in-Ok w ↦ record {
+      | then-is_within+in-Ok w ↦ record {
         listed = one_listed times names from to set place _ _ _ (omega (arith, c.loop-place-test.true, c.entry_count-place-end.ensures.count))
             (sym c.is_within.ensures ∙ w.if-is_within.true) (w.listing-is ∙ w.in-Ok.ensures.row) so_far.listed;
         dates = one_dated from to set place _ (omega (arith, c.loop-place-test.true, c.entry_count-place-end.ensures.count))
             (sym c.is_within.ensures ∙ w.if-is_within.true) w.in-Ok.ensures.ok so_far.dates;
       }
-    | else-is_within w ↦ record {
+      | else-is_within w ↦ record {
         listed = ap (λ rows. rows ++ map (row times names) (left from to set (place + 1))) w.listing-is
             ∙ none_listed times names from to set place _ _ (omega (arith, c.loop-place-test.true, c.entry_count-place-end.ensures.count))
             (sym c.is_within.ensures ∙ w.if-is_within.false) so_far.listed;

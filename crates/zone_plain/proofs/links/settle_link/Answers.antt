@@ -29,7 +29,7 @@ returns-clause-ok c values before here =
       link_said values before _ _ (line_value c.line_of-led.result)
           (sym (is_declared _ values _ _ here.declared c.contains_key.ensures) ∙ c.if-contains_key.false)
           (found.0 ∙ ap Ok (sym (c.line_of-led.ensures
-    ∙ ap (λ names. line_at_place (map (λ one. one.now) names) c.in-Ok.place c.args.link.now.new.now) c.as_slice.ensures.value))) (sym c.in_ok-write_said.ensures.said ∙ c.if-not-branch.false),
+          ∙ ap (λ names. line_at_place (map (λ one. one.now) names) c.in-Ok.place c.args.link.now.new.now) c.as_slice.ensures.value))) (sym c.in_ok-write_said.ensures.said ∙ c.if-not-branch.false),
       found.1,
     )
 
