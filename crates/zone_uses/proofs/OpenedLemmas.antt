@@ -49,6 +49,7 @@ cause_from source name table (Err (error.List fault)) short valid h cause = absu
 cause_from source name table (Err (error.Alarm fault)) short valid h cause = absurd cause
 cause_from source name table (Err (error.Tail fault)) short valid h cause = absurd cause
 cause_from source name table (Err (error.Tzif fault)) short valid h cause = absurd cause
+cause_from source name table (Err (error.Tree fault)) short valid h cause = absurd cause
 cause_from source name table (Err (error.File fault)) short valid h cause = absurd cause
 cause_from source name table (Err (error.FileZone fault)) short valid h cause = absurd cause
 cause_from source name table (Err error.Posix) short valid h cause = absurd cause
