@@ -1,6 +1,6 @@
 /* test_named FOLDER SOURCE: the calls of sefunjaro_named.h, with each status, eight threads that ask first at once, and children of fork.
    In FOLDER it writes files; SOURCE is a source with the zone Europe/Paris. It ends with the number of the first check that fails, or 0.
-   With REFUSED defined, malloc and realloc being wrapped, it refuses each request for memory in turn instead. */
+   With REFUSED defined, malloc and realloc being wrapped, it refuses each request for memory in turn, and all from it on, instead. */
 #define _GNU_SOURCE
 #include "sefunjaro_named.h"
 #include <errno.h>
@@ -115,7 +115,7 @@ static int with_source(void) {
 }
 
 #ifdef REFUSED
-/* How many requests for memory are still granted before one is refused; below 0 all are. */
+/* How many requests for memory are still granted before all are refused; below 0 none is. */
 static long granted = -1;
 
 void *__real_malloc(size_t size);
@@ -123,7 +123,11 @@ void *__real_realloc(void *at, size_t size);
 void *__wrap_malloc(size_t size);
 void *__wrap_realloc(void *at, size_t size);
 
-static bool is_refused(void) { return granted >= 0 && granted-- == 0; }
+static bool is_refused(void) {
+    if (granted > 0) granted--;
+    else return granted == 0;
+    return false;
+}
 void *__wrap_malloc(size_t size) { return is_refused() ? NULL : __real_malloc(size); }
 void *__wrap_realloc(void *at, size_t size) { return is_refused() ? NULL : __real_realloc(at, size); }
 

@@ -84,8 +84,11 @@ impl Zone {
     /// The same, with the changes that change nothing.
     ///
     /// ```
-    /// let zone = sefunjaro::Source::open(b"Zone A 1:00 - A 2000 Jan 1\n 1:00 - A\n")?.zone("A")?;
-    /// assert_eq!((zone.changes(0, i64::MAX).count(), zone.every_change(0, i64::MAX).count()), (0, 1));
+    /// // The second line says again what the first one's summer of 1996 left in force.
+    /// let rules = "Rule E 1996 max - Mar lastSun 0:00 1:00 -\nRule E 1996 max - Oct lastSun 0:00 0 -\n";
+    /// let lines = "Zone A 4:00 E A 1996 Oct 27\n 4:00 1:00 A 1997 Mar 30\n 4:00 E A 2004\n 4:00 - A\n";
+    /// let zone = sefunjaro::Source::open(format!("{rules}{lines}").as_bytes())?.zone("A")?;
+    /// assert_eq!((zone.changes(0, 1 << 32).count(), zone.every_change(0, 1 << 32).count()), (14, 15));
     /// # Ok::<(), sefunjaro::Error>(())
     /// ```
     pub fn every_change(&self, from: i64, to: i64) -> Changes<'_> {

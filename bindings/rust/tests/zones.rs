@@ -83,11 +83,11 @@ fn choices() {
 #[test]
 fn texts() {
     let names = ["-25:59:59", "-12", "-0:00:01", "0", "5:45", "25:59:59"];
-    let text: String = names.iter().map(|offset| format!("Zone Z{offset} {offset} - Z\n")).collect();
+    let text: String = names.iter().enumerate().map(|(place, offset)| format!("Zone Z{place} {offset} - Z\n")).collect();
     let source = Source::open(text.as_bytes()).unwrap();
     let (least, most) = (-377_705_116_800, 253_402_300_799_i64);
-    for offset in names {
-        let zone = source.zone(&format!("Z{offset}")).unwrap();
+    for place in 0..names.len() {
+        let zone = source.zone(&format!("Z{place}")).unwrap();
         let edges = [least, least + 1, most, most - 1].map(|second| second - i64::from(zone.offset_at(0, 0).unwrap()));
         let days = (least + 100_000..most - 100_000).step_by(86_400 * 97 + 12_345);
         for (turn, second) in edges.into_iter().chain(days).enumerate() {
