@@ -84,7 +84,7 @@ impl Zone {
     /// The same, with the changes that change nothing.
     ///
     /// ```
-    /// // The second line says again what the first one's summer of 1996 left in force.
+    /// // One of these lines begins with what holds already.
     /// let rules = "Rule E 1996 max - Mar lastSun 0:00 1:00 -\nRule E 1996 max - Oct lastSun 0:00 0 -\n";
     /// let lines = "Zone A 4:00 E A 1996 Oct 27\n 4:00 1:00 A 1997 Mar 30\n 4:00 E A 2004\n 4:00 - A\n";
     /// let zone = sefunjaro::Source::open(format!("{rules}{lines}").as_bytes())?.zone("A")?;
