@@ -11,7 +11,13 @@
 #include <sys/wait.h>
 #include <unistd.h>
 
-enum { THREADS = 8, CHILDREN = 20, SUMMER = 1720000000, TOO_MANY = (1 << 24) + 1 };
+/* The address sanitizer has locks of its own, which a child of a process with threads may find taken. */
+#ifdef __SANITIZE_ADDRESS__
+enum { CHILDREN = 0 };
+#else
+enum { CHILDREN = 20 };
+#endif
+enum { THREADS = 8, SUMMER = 1720000000, TOO_MANY = (1 << 24) + 1 };
 
 static struct sefunjaro_handle zone = SEFUNJARO_CLOSED;
 static struct sefunjaro_fault fault;
@@ -75,7 +81,7 @@ static void *first_at_once(void *source) {
 static int at_once(void) {
     const struct sefunjaro_handle *sources[THREADS];
     pthread_t threads[THREADS];
-    pid_t children[CHILDREN];
+    pid_t children[CHILDREN + 1];
     pthread_barrier_init(&barrier, NULL, THREADS + 1);
     for (int thread = 0; thread < THREADS; thread++) {
         if (pthread_create(&threads[thread], NULL, first_at_once, &sources[thread])) return 20;
