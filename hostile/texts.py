@@ -13,6 +13,9 @@ ZONE = b"Zone A 0:00 - AAA\n"
 # What may be due: answers; answers, or that memory ran out; a fault line of the program's own label; no bytes and this status.
 ANSWERS, MAY_RUN_OUT, UNKNOWN = "answers", "answers or 5", "unknown zone"
 
+# The texts whose zone doesn't go on for ever: its last line has an end, a line ends after 2099, or what its rules do doesn't come again.
+ENDING = {"16 MiB: spaces between fields", "16 MiB: continuations", "10,000 rules of all years"}
+
 
 @dataclass(frozen=True)
 class Text:
@@ -235,6 +238,8 @@ def is_due(program, run, due):
 def due_of(program, text):
     """What is due of a program that reads the text as another kind of file, or that looks for no zone A in it."""
     due = text.due
+    if program.name == "zone_ever" and text.name in ENDING:
+        return "rules end"
     if program.name == "zone_plain" and text.due_of_plain is not None:
         return text.due_of_plain
     if program.has_all_zones():
