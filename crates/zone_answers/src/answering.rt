@@ -166,7 +166,9 @@ pub struct SourceAnswers<'p, Z> {
 
 impl<'p, Z> SourceAnswers<'p, Z> {
     /// Those that this parser reads.
-    pub fn new(parser: &'p LineParser) -> SourceAnswers<'p, Z> {
+    pub fn new(parser: &'p LineParser) -> SourceAnswers<'p, Z>
+        ensures { result.parser.now ≡ parser.now }
+    {
         SourceAnswers {
             parser,
             zones: PhantomData,
