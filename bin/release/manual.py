@@ -45,8 +45,8 @@ def installed(command):
 
 
 def is_made_for(words, name):
-    """Whether a text begins with a call of the program by a word of its own, as `zone_answers --generate N`."""
-    return words.startswith(f"`{name} --")
+    """Whether a text begins with a call of the program, as `zone_answers --generate N` or `zone_ever list FILE NAME FROM TO`."""
+    return words.startswith(f"`{name} ")
 
 
 class Section:
@@ -57,7 +57,8 @@ class Section:
         first = blocks[0].text
         self.calls = re.findall(r"^`([^`]*)`", first)
         self.does = re.sub(r"^`[^`]*` ", "", first)
-        for block in blocks:
+        self.description.append(roff.text(first))
+        for block in blocks[1:]:
             self.take(block)
 
     def take(self, block):
