@@ -10,12 +10,12 @@ use Rattle.zone_values.specs.Bounds.{are_small_seconds}
 use Rattle.zone_values.specs.declared.change.ChangeTime.{ChangeTime}
 use Rattle.zone_table.specs.declared.rule.RuleInfo.{RuleInfo}
 use Rattle.zone_spans.specs.Bounds.{IsSound, IsSoundOver, is_bounded_entry, is_bounded_firing}
-use Rattle.zone_spans.specs.Collapse.{is_no_later, kept_of}
+use Rattle.zone_spans.specs.Collapse.{kept_of}
 use Rattle.zone_spans.specs.Cuts.{IsCut}
 use Rattle.zone_spans.specs.Cycle.{seconds_on}
 use Rattle.zone_spans.specs.Entries.{Entry, entry_of, is_sooner, next_start_over, raw_entries_over, sorted_entries_over}
 use Rattle.zone_spans.specs.Firings.{Firing, firings_of_years, years_over}
-use Rattle.zone_spans.specs.GoesOn.{are_cycle_later, dont_fall, ends_by_then, front_of, goes_on, has_settled_lines, is_apart, is_cycle_later, is_in_order, kept_over, last_goes_on, last_of, some_leaves}
+use Rattle.zone_spans.specs.GoesOn.{are_cycle_later, dont_fall, ends_by_then, front_of, goes_on, has_settled_lines, is_cycle_later, is_in_order, kept_over, last_goes_on, last_of, some_leaves}
 use Rattle.zone_spans.specs.Later.{first_fired, later_fired, start_after}
 use Rattle.zone_spans.specs.LaterLaws.{ends-by, firings_of_years-split, years_over-ended}
 use Rattle.zone_spans.specs.Lines.{Line}

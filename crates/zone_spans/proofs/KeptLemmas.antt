@@ -16,7 +16,6 @@ use Rattle.zone_table.specs.Bounds.{is_bounded_rule}
 use Rattle.zone_table.specs.Moments.{applies_to_year, instant_of, moment}
 use Rattle.zone_table.specs.declared.rule.RuleInfo.{RuleInfo}
 use Rattle.zone_spans.specs.Bounds.{IsSound, is_bounded_firing}
-use Rattle.zone_spans.specs.Fires.{Fires, after}
 use Rattle.zone_spans.specs.Firings.{Fired, Firing, earliest, fired, firings_of_years, is_earlier, is_over, year_firings}
 use Rattle.zone_spans.specs.Kept.{AreBelow, AreSummaries, IsLastSummary, IsLimit, IsSummary, summed, unended}
 use Rattle.zone_spans.specs.Lines.{Line}
@@ -29,7 +28,7 @@ use Rattle.zone_spans.proofs.ListingLemmas.{last_stands, stands_same}
 use Rattle.zone_spans.proofs.Picks.{all_filter}
 use Rattle.zone_spans.proofs.QuietLemmas.{quiet_years}
 use Rattle.zone_spans.proofs.SoundLemmas.{bounded_rules}
-use Rattle.zone_spans.proofs.YearLemmas.{fires_more}
+use Rattle.zone_spans.proofs.YearLemmas.{next_year}
 use Rattle.zone_spans.specs.Years.{earliest_year, years_limit}
 
 -- the saving of a rule is small
@@ -253,25 +252,23 @@ last_passes p o (x ∷ xs) h all = last_passes p (Some x) xs (both (p x) _ (firs
 pub year_summed : (offset : ℤ) (rules : List RuleInfo) (quiet : ℕ) (fired : List Firing) (summaries : List Summary) (summary : Summary)
     (year saving latest : ℤ) (last : Option Firing) → quiet + length summaries < years_limit → year ≡ pos (earliest_year + (quiet + length summaries))
     → IsLastSummary summaries summary → AreSummaries offset rules quiet summaries
-    → Fires fired saving (after [] (year_firings year offset None summary.saving rules))
+    → fired ≡ (year_firings year offset None summary.saving rules).0 → saving ≡ (year_firings year offset None summary.saving rules).1
     → IsTrue (list_all (λ f. int_le f.time latest) fired) → summary.latest ≤ℤ latest → last ≡ last_or summary.last fired
     → IsTrue (list_all is_bounded_firing fired)
     → AreSummaries offset rules quiet (summaries ++ record { saving = saving; latest = latest; last = last } ∷ [])
-year_summed offset rules quiet fired summaries summary year saving latest last most year_is is_last are fires here later last_here bounded =
+year_summed offset rules quiet fired summaries summary year saving latest last most year_is is_last are fires saves here later last_here bounded =
     let n = quiet + length summaries in
     let so_far = (unended offset rules n).0 in
     let before = last_is offset rules quiet summaries summary are is_last in
     let test : Firing → Bool = λ f. int_le f.time latest in
-    let due : Fires (so_far ++ fired) saving (unended offset rules (n + 1)) =
-    fires_more offset None rules n so_far (so_far ++ fired) year summary.saving saving year_is
-    (record { firings = refl; saving = before.saving })
-    (record { firings = ap (λ xs. so_far ++ xs) fires.firings; saving = fires.saving }) in
+    let next = sym (next_year offset None rules n year summary.saving year_is before.saving) in
+    let due : so_far ++ fired ≡ (unended offset rules (n + 1)).0 = ap (λ xs. so_far ++ xs) fires ∙ ap (λ (l : Fired). l.0) next in
     one_summary_more offset rules quiet summaries _ most are (record {
-      saving = due.saving;
-      latest = ap (list_all test) (sym due.firings) ∙ list_all-append test so_far fired
+      saving = saves ∙ ap (λ (l : Fired). l.1) next;
+      latest = ap (list_all test) (sym due) ∙ list_all-append test so_far fired
           ∙ both (list_all test so_far) _ (most_of summary.latest latest later so_far before.latest) here;
       last = last_here ∙ ap (λ (o : Option Firing). last_or o fired) before.last ∙ sym (last_after None so_far fired)
-          ∙ ap (last_or None) due.firings;
+          ∙ ap (last_or None) due;
       bounded = subst (λ (o : Option Firing). IsTrue (list_all is_bounded_firing (option_to_list o))) (sym last_here)
           (last_passes is_bounded_firing summary.last fired before.bounded bounded);
     })

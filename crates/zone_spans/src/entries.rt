@@ -14,8 +14,9 @@ ghost use Rattle.zone_spans.specs.Listing.{is_at, listed_firings, listed_from, s
 ghost use Rattle.zone_spans.specs.Years.{years_limit};
 ghost use Rattle.std.specs.Ordering.{int_eq};
 
-use crate::front::Firing;
-use crate::kept::{Kept, Several, fire_line};
+use crate::firing::{Firing, Firings};
+use crate::kept::{Kept, fire_line};
+use crate::several::Several;
 use crate::span::FixedTimespan;
 use crate::transitions::Line;
 use crate::year::line_end;
@@ -182,13 +183,13 @@ fn push_fixed(
 }
 
 /// Adds the entries of a line with that start over so many years, and gives the start of the next line. What it fires goes into
-/// `fired`.
+/// `firings`.
 #[tactic(auto, unfolding(crate::specs::Entries::entries_of_over, crate::specs::Entries::next_start_over, crate::specs::Firings::line_firings_over))]
 fn push_line<'a>(
     entries: &mut Entries,
     alloc: Global,
     kept: &mut Several<Kept<'a>>,
-    fired: &mut Vec<Firing<'a>>,
+    firings: &mut Firings<'a>,
     line: &Line<'a>,
     start: Option<i64>,
     most: u16,
@@ -202,9 +203,9 @@ fn push_line<'a>(
     ensures kept { IfOk result (λ _. AreAll IsKept kept.new) }
 {
     if line.is_ruled() {
-        let last_saving = fire_line(kept, fired, alloc, line, start, most)?;
-        push_ruled(entries, alloc, line, start, fired)?;
-        return Ok(next_start(line, last_saving));
+        fire_line(kept, alloc, firings, line, start, most)?;
+        push_ruled(entries, alloc, line, start, firings.fired.as_slice())?;
+        return Ok(next_start(line, firings.saving));
     }
     push_fixed(entries, alloc, line, start)?;
     Ok(next_start(line, line.fixed_saving()))
@@ -237,14 +238,14 @@ pub(crate) fn raw_entries<'a>(
 {
     let mut entries = Items::new(alloc);
     let mut kept = Several::new(alloc, Kept::new(alloc));
-    let mut fired = Vec::new(alloc);
+    let mut firings = Firings::new(alloc);
     let mut start = None;
     for line in lines {
         start = push_line(
             &mut entries,
             alloc,
             &mut kept,
-            &mut fired,
+            &mut firings,
             line,
             start,
             most,
