@@ -37,36 +37,30 @@ less_ranks offset saving = record {
 lt_less : (a b o : ℤ) → int_lt a b ≡ int_lt (a -ℤ o) (b -ℤ o)
 lt_less a b o = grind (arith, ints)
 
-same_shift : (m m' n : TimeType) (a b offset saving : ℤ) → same_mark n m ≡ true → same_mark n m' ≡ true
-    → int_lt a b ≡ int_lt (instant_of m a offset saving) (instant_of m' b offset saving)
+mark_is : (n m : TimeType) → same_mark n m ≡ true → m ≡ n
+mark_is Wall Wall h = refl
+mark_is Standard Standard h = refl
+mark_is UTC UTC h = refl
+mark_is Wall Standard h = cc
+mark_is Wall UTC h = cc
+mark_is Standard Wall h = cc
+mark_is Standard UTC h = cc
+mark_is UTC Wall h = cc
+mark_is UTC Standard h = cc
+
+same_shift : (mark : TimeType) (a b offset saving : ℤ) → int_lt a b ≡ int_lt (instant_of mark a offset saving) (instant_of mark b offset saving)
 unfolding instant_of
-same_shift Wall Wall n a b offset saving h k = lt_less a b (offset +ℤ saving)
-same_shift Standard Standard n a b offset saving h k = lt_less a b offset
-same_shift UTC UTC n a b offset saving h k = refl
-same_shift Wall Standard Wall a b offset saving h k = cc
-same_shift Wall Standard Standard a b offset saving h k = cc
-same_shift Wall Standard UTC a b offset saving h k = cc
-same_shift Wall UTC Wall a b offset saving h k = cc
-same_shift Wall UTC Standard a b offset saving h k = cc
-same_shift Wall UTC UTC a b offset saving h k = cc
-same_shift Standard Wall Wall a b offset saving h k = cc
-same_shift Standard Wall Standard a b offset saving h k = cc
-same_shift Standard Wall UTC a b offset saving h k = cc
-same_shift Standard UTC Wall a b offset saving h k = cc
-same_shift Standard UTC Standard a b offset saving h k = cc
-same_shift Standard UTC UTC a b offset saving h k = cc
-same_shift UTC Wall Wall a b offset saving h k = cc
-same_shift UTC Wall Standard a b offset saving h k = cc
-same_shift UTC Wall UTC a b offset saving h k = cc
-same_shift UTC Standard Wall a b offset saving h k = cc
-same_shift UTC Standard Standard a b offset saving h k = cc
-same_shift UTC Standard UTC a b offset saving h k = cc
+same_shift Wall a b offset saving = lt_less a b (offset +ℤ saving)
+same_shift Standard a b offset saving = lt_less a b offset
+same_shift UTC a b offset saving = refl
 
 alike : (mark : TimeType) (offset saving : ℤ) (x y : Placed) → has_mark mark x ≡ true → has_mark mark y ≡ true
     → is_below x y ≡ is_less offset saving x y
-alike mark offset saving x y h k = same_shift x.rule.time_type y.rule.time_type mark x.local y.local offset saving h k
+alike mark offset saving x y h k =
+    same_shift mark x.local y.local offset saving
+    ∙ (λ i. int_lt (instant_of (sym (mark_is mark x.rule.time_type h) i) x.local offset saving)
+    (instant_of (sym (mark_is mark y.rule.time_type k) i) y.local offset saving))
 
--- a moment by the local second, which is that of no offset and no saving
 by_local : (mark : TimeType) (local offset saving : ℤ)
     → instant_of mark (instant_of mark local (pos 0) (pos 0)) offset saving ≡ instant_of mark local offset saving
 unfolding instant_of
@@ -250,9 +244,9 @@ some_owed year offset end saving r rs at all =
     map_length : (ps qs : List Placed) → length ps ≡ length qs → length (map (λ p. p.rule) ps) ≡ length (map (λ p. p.rule) qs)
     map_length ps qs same = length-map ps (λ (p : Placed). p.rule) ∙ same ∙ sym (length-map qs (λ (p : Placed). p.rule))
 
--- what has fired of a year, and the fronts of what is left, at most so many rules, make up the whole
-pub record Owes (year offset : ℤ) (end : Option ChangeTime) (count : ℕ) (items : List Firing) (saving : ℤ) (fronts : YearRules) (whole : Fired) : Type 0 where
-  pub rest : List Placed
+-- what has fired of a year, and the fronts of what is left, these at most so many rules, make up the whole
+pub record IsLeft (year offset : ℤ) (end : Option ChangeTime) (count : ℕ) (items : List Firing) (saving : ℤ) (fronts : YearRules) (whole : Fired)
+    (rest : List Placed) : Type 0 where
   pub are : fronts ≡ fronts_of rest
   pub rises : Rises rest
   pub at : AllByRecursion (IsAt year) rest
@@ -260,10 +254,21 @@ pub record Owes (year offset : ℤ) (end : Option ChangeTime) (count : ℕ) (ite
   pub fires : items ++ (owed year offset end saving rest).0 ≡ whole.0
   pub last : (owed year offset end saving rest).1 ≡ whole.1
 
+abbrev pub Owes : ℤ → ℤ → Option ChangeTime → ℕ → List Firing → ℤ → YearRules → Fired → Type 0
+Owes year offset end count items saving fronts whole = (rest : List Placed) × IsLeft year offset end count items saving fronts whole rest
+
 -- what fires where something does
 fires_one : (b : Bool) (f g : Firing) → Some f ≡ cond b None (Some g) → (b ≡ false) × (g ≡ f)
 fires_one true f g h = absurd cc
 fires_one false f g h = (refl, cc)
+
+over : (b : Bool) (g : Firing) (later : Fired) (saving : ℤ) → None ≡ cond b None (Some g) → cond {A = Fired} b ([], saving) later ≡ ([], saving)
+over true g later saving h = refl
+over false g later saving h = absurd cc
+
+done : {items : List Firing} {saving : ℤ} {whole due : Fired} → due ≡ ([], saving) → items ++ due.0 ≡ whole.0 → due.1 ≡ whole.1
+    → (items ≡ whole.0) × (saving ≡ whole.1)
+done {items} is fires last = (sym (append-nil items) ∙ ap (λ (l : Fired). items ++ l.0) (sym is) ∙ fires, ap (λ (l : Fired). l.1) (sym is) ∙ last)
 
 module _ (year offset : ℤ) (end : Option ChangeTime) (whole : Fired) where
   pub owes_begun : (rules : List RuleInfo) (count : ℕ) (items : List Firing) (saving : ℤ) (fronts : YearRules)
@@ -272,76 +277,59 @@ module _ (year offset : ℤ) (end : Option ChangeTime) (whole : Fired) where
       → Owes year offset end count items saving fronts whole
   unfolding year_firings
   owes_begun rules count items saving fronts le are is =
-      let due = ap (λ rs. fired (length rs) year offset end saving rs) (placed_rules year 0 rules) in
-      record {
-        rest = placed_from year 0 rules;
-        are = are;
-        rises = placed_rises year 0 rules;
-        at = all_at year 0 rules;
-        most = omega (arith, le, placed_most year 0 rules);
-        fires = ap (λ (l : Fired). items ++ l.0) due ∙ ap (λ (l : Fired). l.0) (sym is);
-        last = ap (λ (l : Fired). l.1) due ∙ ap (λ (l : Fired). l.1) (sym is);
-      }
+      let due = ap (λ rs. fired (length rs) year offset end saving rs) (placed_rules year 0 rules) in (
+        placed_from year 0 rules,
+        record {
+          are = are;
+          rises = placed_rises year 0 rules;
+          at = all_at year 0 rules;
+          most = omega (arith, le, placed_most year 0 rules);
+          fires = ap (λ (l : Fired). items ++ l.0) due ∙ ap (λ (l : Fired). l.0) (sym is);
+          last = ap (λ (l : Fired). l.1) due ∙ ap (λ (l : Fired). l.1) (sym is);
+        },
+      )
 
   -- one more fires
   pub owes_next : (count count' : ℕ) (items items' : List Firing) (saving saving' : ℤ) (fronts fronts' : YearRules) (f : Firing)
       → Owes year offset end count items saving fronts whole → Some f ≡ next_firing end offset saving fronts → count ≤ count' + 1
       → items' ≡ items ++ f ∷ [] → saving' ≡ f.rule.time_to_add → fronts' ≡ left f.rule.time_type fronts
       → Owes year offset end count' items' saving' fronts' whole
-  owes_next count count' items items' saving saving' fronts fronts' f owes next le items_is saving_is fronts_is =
-      by owes.rest owes.are owes.rises owes.at owes.most owes.fires owes.last
+  owes_next count count' items items' saving saving' fronts fronts' f ([], o) next le items_is saving_is fronts_is =
+      absurd (some_none (next ∙ ap (next_firing end offset saving) o.are))
     where
-      by : (rest : List Placed) → fronts ≡ fronts_of rest → Rises rest → AllByRecursion (IsAt year) rest → length rest ≤ count
-          → items ++ (owed year offset end saving rest).0 ≡ whole.0 → (owed year offset end saving rest).1 ≡ whole.1
-          → Owes year offset end count' items' saving' fronts' whole
-      by [] are up at most fires last = absurd (some_none (next ∙ ap (next_firing end offset saving) are))
-        where
-          some_none : Some f ≡ None → ⊥
-          some_none h = cc
-      by (r ∷ rs) are up at most fires last =
-          let picked = pick (is_less offset saving) r rs in
-          let x = picked.0 in
-          let g : Firing = record { time = time_of offset saving x; rule = x.rule } in
-          let is = fires_one (is_over end offset saving g.time) f g
-          (next ∙ ap (next_firing end offset saving) are ∙ ap (firing_of end offset saving) (first_is offset saving r rs up)) in
-          let it : f ≡ g = sym is.1 in
-          let later = owed year offset end x.rule.time_to_add picked.1 in
-          let due : owed year offset end saving (r ∷ rs) ≡ (g ∷ later.0, later.1) =
-          some_owed year offset end saving r rs at.0 at.1 ∙ ap (λ b. cond {A = Fired} b ([], saving) (g ∷ later.0, later.1)) is.0 in
-          let then : owed year offset end saving' picked.1 ≡ later = ap (λ s. owed year offset end s picked.1) (saving_is ∙ ap (λ (h : Firing). h.rule.time_to_add) it) in
-          record {
-            rest = picked.1;
-            are = fronts_is ∙ (λ i. left (it i).rule.time_type (are i)) ∙ front_left offset saving r rs;
-            rises = rises_others offset saving r rs up;
-            at = (pick_others (is_less offset saving) (IsAt year) r rs at.0 at.1).1;
-            most = omega (arith, most, le, pick_length (is_less offset saving) r rs);
-            fires = (λ i. (items_is ∙ ap (λ h. items ++ h ∷ []) it) i ++ (then i).0) ∙ append_assoc items (g ∷ []) later.0
-                ∙ ap (λ (l : Fired). items ++ l.0) (sym due) ∙ fires;
-            last = ap (λ (l : Fired). l.1) then ∙ ap (λ (l : Fired). l.1) (sym due) ∙ last;
-          }
+      some_none : Some f ≡ None → ⊥
+      some_none h = cc
+  owes_next count count' items items' saving saving' fronts fronts' f (r ∷ rs, o) next le items_is saving_is fronts_is =
+      let picked = pick (is_less offset saving) r rs in
+      let x = picked.0 in
+      let g : Firing = record { time = time_of offset saving x; rule = x.rule } in
+      let is = fires_one (is_over end offset saving g.time) f g
+      (next ∙ ap (next_firing end offset saving) o.are ∙ ap (firing_of end offset saving) (first_is offset saving r rs o.rises)) in
+      let it : f ≡ g = sym is.1 in
+      let later = owed year offset end x.rule.time_to_add picked.1 in
+      let due : owed year offset end saving (r ∷ rs) ≡ (g ∷ later.0, later.1) =
+      some_owed year offset end saving r rs o.at.0 o.at.1 ∙ ap (λ b. cond {A = Fired} b ([], saving) (g ∷ later.0, later.1)) is.0 in
+      let then : owed year offset end saving' picked.1 ≡ later = ap (λ s. owed year offset end s picked.1) (saving_is ∙ ap (λ (h : Firing). h.rule.time_to_add) it) in (
+        picked.1,
+        record {
+          are = fronts_is ∙ (λ i. left (it i).rule.time_type (o.are i)) ∙ front_left offset saving r rs;
+          rises = rises_others offset saving r rs o.rises;
+          at = (pick_others (is_less offset saving) (IsAt year) r rs o.at.0 o.at.1).1;
+          most = omega (arith, o.most, le, pick_length (is_less offset saving) r rs);
+          fires = (λ i. (items_is ∙ ap (λ h. items ++ h ∷ []) it) i ++ (then i).0) ∙ append_assoc items (g ∷ []) later.0
+              ∙ ap (λ (l : Fired). items ++ l.0) (sym due) ∙ o.fires;
+          last = ap (λ (l : Fired). l.1) then ∙ ap (λ (l : Fired). l.1) (sym due) ∙ o.last;
+        },
+      )
 
   -- nothing fires any more
   pub owes_none : (count : ℕ) (items : List Firing) (saving : ℤ) (fronts : YearRules)
       → Owes year offset end count items saving fronts whole → (count ≡ 0) ⊎ (None ≡ next_firing end offset saving fronts)
       → (items ≡ whole.0) × (saving ≡ whole.1)
-  owes_none count items saving fronts owes none = by owes.rest owes.are owes.rises owes.at owes.most owes.fires owes.last none
-    where
-      done : (ps : List Placed) → owed year offset end saving ps ≡ ([], saving) → items ++ (owed year offset end saving ps).0 ≡ whole.0
-          → (owed year offset end saving ps).1 ≡ whole.1 → (items ≡ whole.0) × (saving ≡ whole.1)
-      done ps is fires last =
-          (sym (append-nil items) ∙ ap (λ (l : Fired). items ++ l.0) (sym is) ∙ fires, ap (λ (l : Fired). l.1) (sym is) ∙ last)
-
-      over : (b : Bool) (g : Firing) (later : Fired) → None ≡ cond b None (Some g) → cond {A = Fired} b ([], saving) later ≡ ([], saving)
-      over true g later h = refl
-      over false g later h = absurd cc
-
-      by : (rest : List Placed) → fronts ≡ fronts_of rest → Rises rest → AllByRecursion (IsAt year) rest → length rest ≤ count
-          → items ++ (owed year offset end saving rest).0 ≡ whole.0 → (owed year offset end saving rest).1 ≡ whole.1
-          → (count ≡ 0) ⊎ (None ≡ next_firing end offset saving fronts) → (items ≡ whole.0) × (saving ≡ whole.1)
-      by [] are up at most fires last none = done [] (none_owed year offset end saving) fires last
-      by (r ∷ rs) are up at most fires last (inl no_more) = absurd (omega (arith, most, no_more))
-      by (r ∷ rs) are up at most fires last (inr none) =
-          let x = (pick (is_less offset saving) r rs).0 in
-          done (r ∷ rs) (some_owed year offset end saving r rs at.0 at.1
-          ∙ over (is_over end offset saving (time_of offset saving x)) (record { time = time_of offset saving x; rule = x.rule }) _
-          (none ∙ ap (next_firing end offset saving) are ∙ ap (firing_of end offset saving) (first_is offset saving r rs up))) fires last
+  owes_none count items saving fronts ([], o) none = done (none_owed year offset end saving) o.fires o.last
+  owes_none count items saving fronts (r ∷ rs, o) (inl no_more) = absurd (omega (arith, o.most, no_more))
+  owes_none count items saving fronts (r ∷ rs, o) (inr none) =
+      let x = (pick (is_less offset saving) r rs).0 in
+      done (some_owed year offset end saving r rs o.at.0 o.at.1
+      ∙ over (is_over end offset saving (time_of offset saving x)) (record { time = time_of offset saving x; rule = x.rule }) _ saving
+      (none ∙ ap (next_firing end offset saving) o.are ∙ ap (firing_of end offset saving) (first_is offset saving r rs o.rises))) o.fires o.last

@@ -5,6 +5,7 @@ use Rattle.std.proofs.Math.Seq.{get_or-append_seam}
 use Rattle.std.proofs.lemmas.Int.{ints}
 use Rattle.std.proofs.lemmas.List.{get_or-take, get_or_append_left, length-append, length-take-le, take_more}
 use Rattle.std.proofs.lemmas.List.Folds.{list_all-append, list_all_more}
+use Rattle.std.proofs.lemmas.List.Sums.{AllPass-from_list_all, list_all-from_AllPass}
 use Rattle.std.specs.List.{AllByRecursion, last_or, list_all}
 use Rattle.std.specs.Option.{option_to_list}
 use Rattle.zone_values.specs.Bounds.{are_small_seconds}
@@ -137,20 +138,18 @@ at_most_below time latest limit h k = grind (arith, ints)
 -- what is at most a second that is below the limit
 below_of : (latest limit : ℤ) → IsTrue (int_lt latest limit) → (fs : List Firing) → IsTrue (list_all (λ f. int_le f.time latest) fs)
     → IsTrue (list_all (λ f. int_lt f.time limit) fs)
-below_of latest limit less [] all = refl
-below_of latest limit less (f ∷ fs) all =
-    both (int_lt f.time limit) _ (at_most_below f.time latest limit (first (int_le f.time latest) _ all) less)
-    (below_of latest limit less fs (second (int_le f.time latest) _ all))
+below_of latest limit less fs all =
+    list_all-from_AllPass (λ f. int_lt f.time limit) fs (λ k d l. at_most_below _ latest limit
+    (AllPass-from_list_all (λ f. int_le f.time latest) fs all k d l) less)
 
 at_most_more : (time early later : ℤ) → int_le time early ≡ true → early ≤ℤ later → int_le time later ≡ true
 at_most_more time early later h k = grind (arith, ints)
 
 most_of : (early later : ℤ) → early ≤ℤ later → (fs : List Firing) → IsTrue (list_all (λ f. int_le f.time early) fs)
     → IsTrue (list_all (λ f. int_le f.time later) fs)
-most_of early later le [] all = refl
-most_of early later le (f ∷ fs) all =
-    both (int_le f.time later) _ (at_most_more f.time early later (first (int_le f.time early) _ all) le)
-    (most_of early later le fs (second (int_le f.time early) _ all))
+most_of early later le fs all =
+    list_all-from_AllPass (λ f. int_le f.time later) fs (λ k d l. at_most_more _ early later
+    (AllPass-from_list_all (λ f. int_le f.time early) fs all k d l) le)
 
 -- one firing more
 pub latest_more : (fired : List Firing) (i : ℕ) (f : Firing) (early later : ℤ) → i < length fired → f ≡ get_or fired i f
@@ -288,10 +287,9 @@ sooner_limit end offset limit second ends le saving time small below = ends savi
 
 all_sooner : (sooner start : ℤ) → sooner ≤ℤ start → (fs : List Firing) → IsTrue (list_all (λ f. int_lt f.time sooner) fs)
     → IsTrue (list_all (λ f. int_lt f.time start) fs)
-all_sooner sooner start le [] all = refl
-all_sooner sooner start le (f ∷ fs) all =
-    both (int_lt f.time start) _ (sooner_below f.time sooner start (first (int_lt f.time sooner) _ all) le)
-    (all_sooner sooner start le fs (second (int_lt f.time sooner) _ all))
+all_sooner sooner start le fs all =
+    list_all-from_AllPass (λ f. int_lt f.time start) fs (λ k d l. sooner_below _ sooner start
+    (AllPass-from_list_all (λ f. int_lt f.time sooner) fs all k d l) le)
 
 -- what a summary has of the first n years of a line with that start
 pub record Serves (start offset : ℤ) (end : Option ChangeTime) (rules : List RuleInfo) (n : ℕ) (summary : Summary) : Type 0 where

@@ -324,25 +324,44 @@ impl<'a> Serve<'a> for Kept<'a> {
     }
 }
 
-/// Puts into `firings` what stands for those of a ruled line with that start over so many years.
-#[tactic(auto, unfolding(crate::specs::Firings::line_firings_over))]
-pub(crate) fn fire_line<'a>(
-    kept: &mut Several<Kept<'a>>,
-    alloc: Global,
-    firings: &mut Firings<'a>,
-    line: &Line<'a>,
-    start: Option<i64>,
-    most: u16,
-) -> Result<(), AllocError>
-    requires line { IsSoundOver most line.now }
-    requires most { most ≤ years_limit }
-    requires ruled { is_ruled line.now.info.saving ≡ true }
-    requires kept { AreAll IsKept kept.old }
-    ensures kept { IfOk result (λ _. AreAll IsKept kept.new) }
-    ensures stand { IfOk result (λ _. StandFor start firings.new (line_firings_over most line.now)) }
-{
-    let years = years_over(most, line.end);
-    kept.take_for(alloc, line, years)?;
-    kept.current.fire(alloc, firings, line, start, years)?;
-    Ok(())
+/// Expands lines: what is kept of their rulesets, and what the last of them has fired.
+#[derive(Drop)]
+pub(crate) struct Expander<'a> {
+    kept: Several<Kept<'a>>,
+    pub(crate) firings: Firings<'a>,
+}
+
+impl<'a> Expander<'a> {
+    /// Nothing is kept, and nothing has fired.
+    pub(crate) fn new(alloc: Global) -> Expander<'a>
+        ensures { AreAll IsKept result.kept }
+    {
+        Expander {
+            kept: Several::new(alloc, Kept::new(alloc)),
+            firings: Firings::new(alloc),
+        }
+    }
+
+    /// Leaves what stands for the firings of a ruled line with that start over so many years.
+    #[tactic(auto, unfolding(crate::specs::Firings::line_firings_over))]
+    pub(crate) fn fire_line(
+        &mut self,
+        alloc: Global,
+        line: &Line<'a>,
+        start: Option<i64>,
+        most: u16,
+    ) -> Result<(), AllocError>
+        requires line { IsSoundOver most line.now }
+        requires most { most ≤ years_limit }
+        requires ruled { is_ruled line.now.info.saving ≡ true }
+        requires kept { AreAll IsKept self.old.kept }
+        ensures kept { IfOk result (λ _. AreAll IsKept self.new.kept) }
+        ensures stand { IfOk result (λ _. StandFor start self.new.firings (line_firings_over most line.now)) }
+    {
+        let years = years_over(most, line.end);
+        self.kept.take_for(alloc, line, years)?;
+        let kept = &mut self.kept.current;
+        kept.fire(alloc, &mut self.firings, line, start, years)?;
+        Ok(())
+    }
 }

@@ -16,8 +16,7 @@ ghost use Rattle.zone_spans.specs.Years.{most_years};
 use crate::entries::{Entries, first_standard_firing, next_start, push_all, raw_entries, sort};
 use crate::firing::Firings;
 use crate::goes_on::YEARS_THROUGH_CYCLE;
-use crate::kept::{Kept, fire_line};
-use crate::several::Several;
+use crate::kept::Expander;
 use crate::span::{FixedTimespan, is_no_later, is_same_span, keep_kept};
 use crate::transitions::Line;
 use crate::year::MOST_YEARS;
@@ -125,10 +124,9 @@ fn next_start_of(alloc: Global, line: &Line<'_>) -> Result<Option<i64>, AllocErr
     if !line.is_ruled() {
         return Ok(next_start(line, line.fixed_saving()));
     }
-    let mut kept = Several::new(alloc, Kept::new(alloc));
-    let mut firings = Firings::new(alloc);
-    fire_line(&mut kept, alloc, &mut firings, line, None, MOST_YEARS)?;
-    Ok(next_start(line, firings.saving))
+    let mut expander = Expander::new(alloc);
+    expander.fire_line(alloc, line, None, MOST_YEARS)?;
+    Ok(next_start(line, expander.firings.saving))
 }
 
 /// Whether the cycle's entries are in order, after the line's start and those from before.

@@ -16,13 +16,13 @@ returns-then-is_ruled-clause-entries c =
     let ruled = sym c.is_ruled.ensures ∙ c.if-is_ruled.true in
     c.in_ok-push_ruled.ensures
     ∙ ap (λ (fs : List Firing). es ++ (map (entry_of line) (listed_firings start fs) ++ start_entry line start fs)) c.as_slice.ensures.value
-    ∙ ap (λ xs. es ++ xs) (ruled_entries c.args.most line start c.fire_line.new.firings.fired.items ruled c.in_ok-fire_line.ensures.stand.fired)
+    ∙ ap (λ xs. es ++ xs) (ruled_entries c.args.most line start c.fire_line.new.self.firings.fired.items ruled c.in_ok-fire_line.ensures.stand.fired)
 
 pub returns-then-is_ruled-clause-bounded : goal.returns-then-is_ruled-clause-bounded
 returns-then-is_ruled-clause-bounded c small =
     let fired = c.in_ok-fire_line.ensures.stand in (
       c.next_start.ensures.bounded,
-      bounded_ruled c.args.most c.args.line.now c.args.start c.fire_line.new.firings.fired.items c.requires.line.bounded
+      bounded_ruled c.args.most c.args.line.now c.args.start c.fire_line.new.self.firings.fired.items c.requires.line.bounded
           (sym c.is_ruled.ensures ∙ c.if-is_ruled.true) fired.fired small fired.small.fired,
     )
 
