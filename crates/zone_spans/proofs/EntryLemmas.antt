@@ -17,7 +17,7 @@ use Rattle.zone_spans.specs.Listing.{is_at, listed_firings, listed_from, start_f
 use Rattle.zone_spans.specs.Stands.{StandsFor}
 use Rattle.zone_spans.proofs.BoundLemmas.{both, first, second}
 use Rattle.zone_spans.proofs.FiringLemmas.{less_is}
-use Rattle.zone_spans.proofs.FoundLemmas.{from_here}
+use Rattle.zone_spans.proofs.FoundLemmas.{found_passes, from_here}
 use Rattle.zone_spans.proofs.SoundLemmas.{bounded_offset, bounded_saving}
 
 -- the entries of what a line lists
@@ -65,15 +65,6 @@ bounded_listed (Some start) fs bounded =
     (list_all-from_AllPass is_bounded_firing (filter later (take place fs)) (All-filter later P (take place fs) (All-take P place fs all)))
     (list_all-from_AllPass is_bounded_firing (drop place fs) (All-drop P place fs all))
 
--- what passes at each passes at the one that is found
-find_passes : {X : Type 0} (p q : X → Bool) (xs : List X) → IsTrue (list_all q xs) → IfSome (find p xs) (λ x. IsTrue (q x))
-find_passes p q [] all = tt
-find_passes p q (x ∷ xs) all =
-    elim (p x) as (λ b. IfSome (cond b (Some x) (find p xs)) (λ y. IsTrue (q y))) [
-      | true ↦ first (q x) _ all
-      | false ↦ find_passes p q xs (second (q x) _ all)
-    ]
-
 reverse_passes : {X : Type 0} (q : X → Bool) (xs : List X) → IsTrue (list_all q xs) → IsTrue (list_all q (reverse xs))
 reverse_passes q [] all = refl
 reverse_passes q (x ∷ xs) all =
@@ -96,8 +87,8 @@ unfolding start_firing
 bounded_start start fs bounded =
     start_passes _ _ (either_passes is_bounded_firing (find (λ f. int_lt f.time start) (reverse fs))
     (find (λ f. int_eq f.rule.time_to_add (pos 0)) fs)
-    (find_passes (λ f. int_lt f.time start) is_bounded_firing (reverse fs) (reverse_passes is_bounded_firing fs bounded))
-    (find_passes (λ f. int_eq f.rule.time_to_add (pos 0)) is_bounded_firing fs bounded))
+    (found_passes (λ f. int_lt f.time start) is_bounded_firing (reverse fs) (reverse_passes is_bounded_firing fs bounded))
+    (found_passes (λ f. int_eq f.rule.time_to_add (pos 0)) is_bounded_firing fs bounded))
 
 bounded_at : (line : Line) (start : ℤ) (found : Option Firing) → IsTrue (are_small_seconds line.info.offset) → IsTrue (is_small start)
     → IfSome found (λ f. IsTrue (is_bounded_firing f)) → IsTrue

@@ -1,22 +1,30 @@
 -- The earliest of a year's rules is the first of their fronts.
-use Rattle.std.proofs.Common.{pos, ◌≡◌, ℕ, zero, suc, ◌<◌, Bool, true, false, not, ◌&&◌, ◌||◌, ◌+ℤ◌, ◌-ℤ◌, cond, List, [], ◌∷◌, ◌++◌, map, filter, Option, Some, None, ℤ, int_lt, nat_lt, IfSome, append-nil, refl, sym, ap, ◌∙◌, arith}
+use Rattle.std.proofs.Common.{pos, ◌≡◌, ℕ, ◌+◌, ◌<◌, ◌≤◌, Bool, true, false, not, ◌&&◌, ◌||◌, ◌+ℤ◌, ◌-ℤ◌, cond, List, [], ◌∷◌, ◌++◌, length, map, filter, ◌⊎◌, inl, inr, Option, Some, None, ℤ, int_lt, nat_lt, IfSome, append_assoc, append-nil, refl, sym, ap, ◌∙◌, arith}
 use Rattle.std.proofs.lemmas.Int.{ints}
+use Rattle.std.proofs.lemmas.List.{length-map}
 use Rattle.std.proofs.lemmas.Bool.Decides.{nat_tests}
 use Rattle.std.specs.Cmp.{IsStrictWeakOrder}
 use Rattle.std.specs.List.{AllByRecursion}
+use Rattle.owned.specs.Sorted.{stable_sort}
 use Rattle.calendar.specs.LogicLaws.{every_weaker}
 use Rattle.zone_values.specs.declared.time.TimeType.{TimeType}
 use Rattle.zone_values.specs.declared.time.TimeType.TheVariants.{Wall, Standard, UTC}
 use Rattle.zone_table.specs.declared.rule.RuleInfo.{RuleInfo}
 use Rattle.zone_values.specs.declared.change.ChangeTime.{ChangeTime}
 use Rattle.zone_table.specs.Moments.{instant_of, moment}
-use Rattle.zone_spans.specs.Fires.{Fires}
-use Rattle.zone_spans.specs.Firings.{Fired, Firing, earliest, fired, is_earlier, is_over}
-use Rattle.zone_spans.specs.Fronts.{Placed, time_of, front, first_of, front_firings, has_mark, head_of, is_below, fires_sooner, left_of, placed_from, same_mark, sooner, tail_of}
+use Rattle.zone_spans.specs.Firings.{Fired, Firing, earliest, fired, is_earlier, is_over, year_firings}
+use Rattle.zone_spans.specs.Fronts.{first_of, firing_of, fronts_of, has_mark, head_of, is_below, fires_sooner, left, next_firing, same_mark, sooner, tail_of}
+use Rattle.zone_spans.specs.Placed.{Placed, placed_from, time_of}
+use Rattle.zone_spans.specs.declared.front.YearRules.{YearRules}
 use Rattle.zone_spans.proofs.FiringLemmas.{int_lt_chain, int_lt_one_way}
-use Rattle.zone_spans.proofs.Picks.{all_filter, all_sorted, pick, pick_least, pick_others, pick_sorted}
+use Rattle.zone_spans.proofs.Picks.{all_filter, all_sorted, pick, pick_least, pick_length, pick_others, pick_sorted}
+use Rattle.zone_spans.proofs.PlacedLemmas.{IsAt, Rises, all_at, placed_most, placed_rises, placed_rules}
 
-abbrev pub is_less : ℤ → ℤ → Placed → Placed → Bool
+-- those of a mark in order
+abbrev front : TimeType → List Placed → List Placed
+front mark ps = stable_sort is_below (filter (has_mark mark) ps)
+
+abbrev is_less : ℤ → ℤ → Placed → Placed → Bool
 is_less offset saving a b = int_lt (time_of offset saving a) (time_of offset saving b)
 
 less_ranks : (offset saving : ℤ) → IsStrictWeakOrder (is_less offset saving)
@@ -29,40 +37,30 @@ less_ranks offset saving = record {
 lt_less : (a b o : ℤ) → int_lt a b ≡ int_lt (a -ℤ o) (b -ℤ o)
 lt_less a b o = grind (arith, ints)
 
-same_shift : (m m' n : TimeType) (a b offset saving : ℤ) → same_mark n m ≡ true → same_mark n m' ≡ true
-    → int_lt a b ≡ int_lt (instant_of m a offset saving) (instant_of m' b offset saving)
+mark_is : (n m : TimeType) → same_mark n m ≡ true → m ≡ n
+mark_is Wall Wall h = refl
+mark_is Standard Standard h = refl
+mark_is UTC UTC h = refl
+mark_is Wall Standard h = cc
+mark_is Wall UTC h = cc
+mark_is Standard Wall h = cc
+mark_is Standard UTC h = cc
+mark_is UTC Wall h = cc
+mark_is UTC Standard h = cc
+
+same_shift : (mark : TimeType) (a b offset saving : ℤ) → int_lt a b ≡ int_lt (instant_of mark a offset saving) (instant_of mark b offset saving)
 unfolding instant_of
-same_shift Wall Wall n a b offset saving h k = lt_less a b (offset +ℤ saving)
-same_shift Standard Standard n a b offset saving h k = lt_less a b offset
-same_shift UTC UTC n a b offset saving h k = refl
-same_shift Wall Standard Wall a b offset saving h k = cc
-same_shift Wall Standard Standard a b offset saving h k = cc
-same_shift Wall Standard UTC a b offset saving h k = cc
-same_shift Wall UTC Wall a b offset saving h k = cc
-same_shift Wall UTC Standard a b offset saving h k = cc
-same_shift Wall UTC UTC a b offset saving h k = cc
-same_shift Standard Wall Wall a b offset saving h k = cc
-same_shift Standard Wall Standard a b offset saving h k = cc
-same_shift Standard Wall UTC a b offset saving h k = cc
-same_shift Standard UTC Wall a b offset saving h k = cc
-same_shift Standard UTC Standard a b offset saving h k = cc
-same_shift Standard UTC UTC a b offset saving h k = cc
-same_shift UTC Wall Wall a b offset saving h k = cc
-same_shift UTC Wall Standard a b offset saving h k = cc
-same_shift UTC Wall UTC a b offset saving h k = cc
-same_shift UTC Standard Wall a b offset saving h k = cc
-same_shift UTC Standard Standard a b offset saving h k = cc
-same_shift UTC Standard UTC a b offset saving h k = cc
+same_shift Wall a b offset saving = lt_less a b (offset +ℤ saving)
+same_shift Standard a b offset saving = lt_less a b offset
+same_shift UTC a b offset saving = refl
 
 alike : (mark : TimeType) (offset saving : ℤ) (x y : Placed) → has_mark mark x ≡ true → has_mark mark y ≡ true
     → is_below x y ≡ is_less offset saving x y
-alike mark offset saving x y h k = same_shift x.rule.time_type y.rule.time_type mark x.local y.local offset saving h k
+alike mark offset saving x y h k =
+    same_shift mark x.local y.local offset saving
+    ∙ (λ i. int_lt (instant_of (sym (mark_is mark x.rule.time_type h) i) x.local offset saving)
+    (instant_of (sym (mark_is mark y.rule.time_type k) i) y.local offset saving))
 
--- its second in that year
-abbrev pub IsAt : ℤ → Placed → Type 0
-IsAt year p = p.local ≡ moment p.rule year (pos 0) (pos 0)
-
--- a moment by the local second, which is that of no offset and no saving
 by_local : (mark : TimeType) (local offset saving : ℤ)
     → instant_of mark (instant_of mark local (pos 0) (pos 0)) offset saving ≡ instant_of mark local offset saving
 unfolding instant_of
@@ -76,7 +74,7 @@ time_is year offset saving p h =
     ap (λ l. instant_of p.rule.time_type l offset saving) h ∙ by_local p.rule.time_type _ offset saving
 
 -- the pick by rules alone
-pub pick_rules : (year offset saving : ℤ) (r : Placed) (rs : List Placed) → IsAt year r → AllByRecursion (IsAt year) rs
+pick_rules : (year offset saving : ℤ) (r : Placed) (rs : List Placed) → IsAt year r → AllByRecursion (IsAt year) rs
     → earliest year offset saving r.rule (map (λ p. p.rule) rs)
     ≡ ((pick (is_less offset saving) r rs).0.rule, map (λ p. p.rule) (pick (is_less offset saving) r rs).1)
 unfolding earliest
@@ -98,12 +96,7 @@ pick_rules year offset saving r (q ∷ qs) at all =
       | false ↦ refl
     ]
 
--- places rise
-abbrev pub Rises : List Placed → Type 0
-Rises [] = Unit {0}
-Rises (p ∷ ps) = AllByRecursion (λ q. p.place < q.place) ps × Rises ps
-
-pub rises_others : (offset saving : ℤ) (r : Placed) (rs : List Placed) → Rises (r ∷ rs) → Rises (pick (is_less offset saving) r rs).1
+rises_others : (offset saving : ℤ) (r : Placed) (rs : List Placed) → Rises (r ∷ rs) → Rises (pick (is_less offset saving) r rs).1
 rises_others offset saving r [] up = tt
 rises_others offset saving r (q ∷ qs) up =
     let later = pick (is_less offset saving) q qs in
@@ -126,7 +119,7 @@ ties_sooner offset saving r (x ∷ xs) h k =
     (tie_sooner (time_of offset saving r) (time_of offset saving x) r.place x.place h.0 k.0, ties_sooner offset saving r xs h.1 k.1)
 
 -- the earliest is sooner than each of the others
-pub pick_soonest : (offset saving : ℤ) (r : Placed) (rs : List Placed) → Rises (r ∷ rs)
+pick_soonest : (offset saving : ℤ) (r : Placed) (rs : List Placed) → Rises (r ∷ rs)
     → AllByRecursion (λ z. fires_sooner offset saving (pick (is_less offset saving) r rs).0 z ≡ true) (pick (is_less offset saving) r rs).1
 pick_soonest offset saving r [] up = tt
 pick_soonest offset saving r (q ∷ qs) up =
@@ -143,11 +136,10 @@ pick_soonest offset saving r (q ∷ qs) up =
     ] refl
 
 -- the earliest is the first of its front, and the other fronts are as they were
-pub front_pick : (mark : TimeType) (offset saving : ℤ) (r : Placed) (rs : List Placed)
+front_pick : (mark : TimeType) (offset saving : ℤ) (r : Placed) (rs : List Placed)
     → front mark (r ∷ rs) ≡ cond (has_mark mark (pick (is_less offset saving) r rs).0)
     ((pick (is_less offset saving) r rs).0 ∷ front mark (pick (is_less offset saving) r rs).1)
     (front mark (pick (is_less offset saving) r rs).1)
-unfolding front
 front_pick mark offset saving r rs =
     pick_sorted (is_less offset saving) (less_ranks offset saving) is_below (has_mark mark) (alike mark offset saving) r rs
 
@@ -155,9 +147,13 @@ left_by : (b : Bool) (x : Placed) (xs ys : List Placed) → ys ≡ cond b (x ∷
 left_by true x xs ys h = ap tail_of h
 left_by false x xs ys h = h
 
-pub front_left : (mark : TimeType) (offset saving : ℤ) (r : Placed) (rs : List Placed)
-    → left_of mark (pick (is_less offset saving) r rs).0.rule.time_type (front mark (r ∷ rs)) ≡ front mark (pick (is_less offset saving) r rs).1
-front_left mark offset saving r rs = left_by _ _ _ _ (front_pick mark offset saving r rs)
+-- and where it fires the fronts are those of the others
+front_left : (offset saving : ℤ) (r : Placed) (rs : List Placed)
+    → left (pick (is_less offset saving) r rs).0.rule.time_type (fronts_of (r ∷ rs)) ≡ fronts_of (pick (is_less offset saving) r rs).1
+front_left offset saving r rs =
+    let mark = (pick (is_less offset saving) r rs).0.rule.time_type in
+    let by = λ (m : TimeType). left_by (same_mark m mark) _ _ (front m (r ∷ rs)) (front_pick m offset saving r rs) in
+    λ i. record { wall = by Wall i; standard = by Standard i; utc = by UTC i }
 
 -- of two heads the one that is sooner
 one_way : (s t : ℤ) (i j : ℕ) → (int_lt s t || (not (int_lt t s) && nat_lt i j)) ≡ true
@@ -188,15 +184,15 @@ head_all P [] h = tt
 head_all P (x ∷ xs) h = h.0
 
 front_all : (P : Placed → Type 0) (mark : TimeType) (xs : List Placed) → AllByRecursion P xs → IfSome (head_of (front mark xs)) P
-unfolding front
 front_all P mark xs h = head_all P _ (all_sorted P is_below (filter (has_mark mark) xs) (all_filter P (has_mark mark) xs h))
 
 three : (mark : TimeType) (offset saving : ℤ) (x : Placed) (rest : List Placed)
     → AllByRecursion (λ z. fires_sooner offset saving x z ≡ true) rest
-    → first_of offset saving
-    (cond (same_mark Wall mark) (x ∷ front Wall rest) (front Wall rest))
-    (cond (same_mark Standard mark) (x ∷ front Standard rest) (front Standard rest))
-    (cond (same_mark UTC mark) (x ∷ front UTC rest) (front UTC rest)) ≡ Some x
+    → first_of offset saving (record {
+      wall = cond (same_mark Wall mark) (x ∷ front Wall rest) (front Wall rest);
+      standard = cond (same_mark Standard mark) (x ∷ front Standard rest) (front Standard rest);
+      utc = cond (same_mark UTC mark) (x ∷ front UTC rest) (front UTC rest);
+    }) ≡ Some x
 three Wall offset saving x rest h =
     let P : Placed → Type 0 = λ z. fires_sooner offset saving x z ≡ true in
     keeps offset saving x _ (either_way offset saving P _ _ (front_all P Standard rest h) (front_all P UTC rest h))
@@ -210,140 +206,130 @@ three UTC offset saving x rest h =
     ∙ takes offset saving x _ (front_all P Wall rest h)
 
 -- the earliest of all is the first of the three fronts
-pub first_is : (offset saving : ℤ) (r : Placed) (rs : List Placed) → Rises (r ∷ rs)
-    → first_of offset saving (front Wall (r ∷ rs)) (front Standard (r ∷ rs)) (front UTC (r ∷ rs))
-    ≡ Some (pick (is_less offset saving) r rs).0
+first_is : (offset saving : ℤ) (r : Placed) (rs : List Placed) → Rises (r ∷ rs)
+    → first_of offset saving (fronts_of (r ∷ rs)) ≡ Some (pick (is_less offset saving) r rs).0
 first_is offset saving r rs up =
     let next = pick (is_less offset saving) r rs in
-    (λ i. first_of offset saving (front_pick Wall offset saving r rs i) (front_pick Standard offset saving r rs i) (front_pick UTC offset saving r rs i))
+    let by = λ (m : TimeType). front_pick m offset saving r rs in
+    (λ i. first_of offset saving (record { wall = by Wall i; standard = by Standard i; utc = by UTC i }))
     ∙ three next.0.rule.time_type offset saving next.0 next.1 (pick_soonest offset saving r rs up)
 
--- what the fronts fire once their first is known
-abbrev pub after_first : ℕ → ℤ → Option ChangeTime → ℤ → List Placed → List Placed → List Placed → Option Placed → Fired
-after_first n offset end saving wall standard utc None = ([], saving)
-after_first n offset end saving wall standard utc (Some p) =
-    let time = time_of offset saving p in
-    let mark = p.rule.time_type in
-    let later = front_firings n offset end p.rule.time_to_add (left_of Wall mark wall) (left_of Standard mark standard) (left_of UTC mark utc) in
-    cond (is_over end offset saving time) ([], saving) (record { time = time; rule = p.rule } ∷ later.0, later.1)
+-- what the rules of these places fire
+abbrev owed : ℤ → ℤ → Option ChangeTime → ℤ → List Placed → Fired
+owed year offset end saving ps = let rs = map (λ p. p.rule) ps in fired (length rs) year offset end saving rs
 
-pub fires_first : (n : ℕ) (offset : ℤ) (end : Option ChangeTime) (saving : ℤ) (wall standard utc : List Placed)
-    → front_firings (suc n) offset end saving wall standard utc
-    ≡ after_first n offset end saving wall standard utc (first_of offset saving wall standard utc)
-unfolding front_firings
-fires_first n offset end saving wall standard utc =
-    elim (first_of offset saving wall standard utc) as (λ o. elim o as (λ _. Fired) [
-      | None ↦ ([], saving)
-      | Some p ↦ after_first n offset end saving wall standard utc (Some p)
-    ] ≡ after_first n offset end saving wall standard utc o) [ None ↦ refl | Some p ↦ refl ]
-
--- what fires of a rule and the others
-abbrev fires_then : ℤ → Option ChangeTime → ℤ → ℤ → RuleInfo → Fired → Fired
-fires_then offset end saving time rule later =
-    cond (is_over end offset saving time) ([], saving) (record { time = time; rule = rule } ∷ later.0, later.1)
-
-fired_next : (n : ℕ) (year offset : ℤ) (end : Option ChangeTime) (saving : ℤ) (r : RuleInfo) (rs : List RuleInfo)
-    → fired (suc n) year offset end saving (r ∷ rs)
-    ≡ fires_then offset end saving (moment (earliest year offset saving r rs).0 year offset saving) (earliest year offset saving r rs).0
-    (fired n year offset end (earliest year offset saving r rs).0.time_to_add (earliest year offset saving r rs).1)
+none_owed : (year offset : ℤ) (end : Option ChangeTime) (saving : ℤ) → owed year offset end saving [] ≡ ([], saving)
 unfolding fired
-fired_next n year offset end saving r rs = refl
+none_owed year offset end saving = refl
 
-zero_fires : (year offset : ℤ) (end : Option ChangeTime) (saving : ℤ) (wall standard utc : List Placed) (rules : List RuleInfo)
-    → front_firings 0 offset end saving wall standard utc ≡ fired 0 year offset end saving rules
-unfolding front_firings fired
-zero_fires year offset end saving wall standard utc rules = refl
-
-none_fires : (n : ℕ) (year offset : ℤ) (end : Option ChangeTime) (saving : ℤ)
-    → front_firings (suc n) offset end saving (front Wall []) (front Standard []) (front UTC []) ≡ fired (suc n) year offset end saving []
-unfolding front_firings fired front
-none_fires n year offset end saving = refl
-
--- the firings from the fronts are those of the rules
-pub fronts_fire : (n : ℕ) (year offset : ℤ) (end : Option ChangeTime) (saving : ℤ) (ps : List Placed) → Rises ps → AllByRecursion (IsAt year) ps
-    → front_firings n offset end saving (front Wall ps) (front Standard ps) (front UTC ps) ≡ fired n year offset end saving (map (λ p. p.rule) ps)
-fronts_fire zero year offset end saving ps up at =
-    zero_fires year offset end saving (front Wall ps) (front Standard ps) (front UTC ps) (map (λ p. p.rule) ps)
-fronts_fire (suc n) year offset end saving [] up at = none_fires n year offset end saving
-fronts_fire (suc n) year offset end saving (r ∷ rs) up at =
+-- the earliest fires, unless it is over by then, and then the others
+some_owed : (year offset : ℤ) (end : Option ChangeTime) (saving : ℤ) (r : Placed) (rs : List Placed) → IsAt year r → AllByRecursion (IsAt year) rs
+    → let next = pick (is_less offset saving) r rs in
+    let time = time_of offset saving next.0 in
+    let later = owed year offset end next.0.rule.time_to_add next.1 in
+    owed year offset end saving (r ∷ rs)
+    ≡ cond (is_over end offset saving time) ([], saving) (record { time = time; rule = next.0.rule } ∷ later.0, later.1)
+unfolding fired
+some_owed year offset end saving r rs at all =
     let next = pick (is_less offset saving) r rs in
-    let x = next.0.rule in
-    let rest = next.1 in
-    let still = pick_others (is_less offset saving) (IsAt year) r rs at.0 at.1 in
-    let more = fronts_fire n year offset end x.time_to_add rest (rises_others offset saving r rs up) still.1 in
-    fires_first n offset end saving (front Wall (r ∷ rs)) (front Standard (r ∷ rs)) (front UTC (r ∷ rs))
-    ∙ ap (after_first n offset end saving (front Wall (r ∷ rs)) (front Standard (r ∷ rs)) (front UTC (r ∷ rs))) (first_is offset saving r rs up)
-    ∙ (λ i. fires_then offset end saving (time_is year offset saving next.0 still.0 i) x
-    (front_firings n offset end x.time_to_add (front_left Wall offset saving r rs i) (front_left Standard offset saving r rs i) (front_left UTC offset saving r rs i)))
-    ∙ ap (fires_then offset end saving (moment x year offset saving) x) more
-    ∙ sym (fired_next n year offset end saving r.rule (map (λ p. p.rule) rs)
-    ∙ ap (λ (l : RuleInfo × List RuleInfo). fires_then offset end saving (moment l.0 year offset saving) l.0 (fired n year offset end l.0.time_to_add l.1))
-    (pick_rules year offset saving r rs at.0 at.1))
+    let still = pick_others (is_less offset saving) (IsAt year) r rs at all in
+    let then = λ (time : ℤ) (rule : RuleInfo) (later : Fired).
+    cond {A = Fired} (is_over end offset saving time) ([], saving) (record { time = time; rule = rule } ∷ later.0, later.1) in
+    let many : length (map (λ p. p.rule) rs) ≡ length (map (λ p. p.rule) next.1) = map_length rs next.1 (sym (pick_length (is_less offset saving) r rs)) in
+    ap (λ (l : RuleInfo × List RuleInfo). then (moment l.0 year offset saving) l.0 (fired (length (map (λ p. p.rule) rs)) year offset end l.0.time_to_add l.1))
+    (pick_rules year offset saving r rs at all)
+    ∙ (λ i. then (sym (time_is year offset saving next.0 still.0) i) next.0.rule
+    (fired (many i) year offset end next.0.rule.time_to_add (map (λ p. p.rule) next.1)))
+  where
+    map_length : (ps qs : List Placed) → length ps ≡ length qs → length (map (λ p. p.rule) ps) ≡ length (map (λ p. p.rule) qs)
+    map_length ps qs same = length-map ps (λ (p : Placed). p.rule) ∙ same ∙ sym (length-map qs (λ (p : Placed). p.rule))
 
-rises_from : (year : ℤ) (n m : ℕ) (rs : List RuleInfo) → n < m → AllByRecursion (λ (q : Placed). n < q.place) (placed_from year m rs)
-rises_from year n m [] h = tt
-rises_from year n m (r ∷ rs) h = (h, rises_from year n (suc m) rs (omega (arith, h)))
+-- what has fired of a year, and the fronts of what is left, these at most so many rules, make up the whole
+pub record IsLeft (year offset : ℤ) (end : Option ChangeTime) (count : ℕ) (items : List Firing) (saving : ℤ) (fronts : YearRules) (whole : Fired)
+    (rest : List Placed) : Type 0 where
+  pub are : fronts ≡ fronts_of rest
+  pub rises : Rises rest
+  pub at : AllByRecursion (IsAt year) rest
+  pub most : length rest ≤ count
+  pub fires : items ++ (owed year offset end saving rest).0 ≡ whole.0
+  pub last : (owed year offset end saving rest).1 ≡ whole.1
 
-pub placed_rises : (year : ℤ) (n : ℕ) (rs : List RuleInfo) → Rises (placed_from year n rs)
-placed_rises year n [] = tt
-placed_rises year n (r ∷ rs) = (rises_from year n (suc n) rs (omega arith), placed_rises year (suc n) rs)
+abbrev pub Owes : ℤ → ℤ → Option ChangeTime → ℕ → List Firing → ℤ → YearRules → Fired → Type 0
+Owes year offset end count items saving fronts whole = (rest : List Placed) × IsLeft year offset end count items saving fronts whole rest
 
-pub placed_at : (year : ℤ) (n : ℕ) (rs : List RuleInfo) → AllByRecursion (IsAt year) (placed_from year n rs)
-placed_at year n [] = tt
-placed_at year n (r ∷ rs) = (refl, placed_at year (suc n) rs)
+-- what fires where something does
+fires_one : (b : Bool) (f g : Firing) → Some f ≡ cond b None (Some g) → (b ≡ false) × (g ≡ f)
+fires_one true f g h = absurd cc
+fires_one false f g h = (refl, cc)
 
-pub placed_rules : (year : ℤ) (n : ℕ) (rs : List RuleInfo) → map (λ p. p.rule) (placed_from year n rs) ≡ rs
-placed_rules year n [] = refl
-placed_rules year n (r ∷ rs) = ap (λ xs. r ∷ xs) (placed_rules year (suc n) rs)
+over : (b : Bool) (g : Firing) (later : Fired) (saving : ℤ) → None ≡ cond b None (Some g) → cond {A = Fired} b ([], saving) later ≡ ([], saving)
+over true g later saving h = refl
+over false g later saving h = absurd cc
 
--- the loop: the first of the fronts fires
-pub fires_one : (k n : ℕ) (offset : ℤ) (end : Option ChangeTime) (saving : ℤ) (wall standard utc : List Placed) (p : Placed)
-    → k ≡ suc n → Some p ≡ first_of offset saving wall standard utc → is_over end offset saving (time_of offset saving p) ≡ false
-    → front_firings k offset end saving wall standard utc
-    ≡ (
-      record { time = time_of offset saving p; rule = p.rule }
-          ∷ (front_firings n offset end p.rule.time_to_add (left_of Wall p.rule.time_type wall) (left_of Standard p.rule.time_type standard) (left_of UTC p.rule.time_type utc)).0,
-      (front_firings n offset end p.rule.time_to_add (left_of Wall p.rule.time_type wall) (left_of Standard p.rule.time_type standard) (left_of UTC p.rule.time_type utc)).1,
-    )
-fires_one k n offset end saving wall standard utc p is head goes =
-    let later = front_firings n offset end p.rule.time_to_add (left_of Wall p.rule.time_type wall) (left_of Standard p.rule.time_type standard) (left_of UTC p.rule.time_type utc) in
-    ap (λ m. front_firings m offset end saving wall standard utc) is
-    ∙ fires_first n offset end saving wall standard utc
-    ∙ ap (after_first n offset end saving wall standard utc) (sym head)
-    ∙ ap (λ t. cond t ([], saving) (record { time = time_of offset saving p; rule = p.rule } ∷ later.0, later.1)) goes
+done : {items : List Firing} {saving : ℤ} {whole due : Fired} → due ≡ ([], saving) → items ++ due.0 ≡ whole.0 → due.1 ≡ whole.1
+    → (items ≡ whole.0) × (saving ≡ whole.1)
+done {items} is fires last = (sym (append-nil items) ∙ ap (λ (l : Fired). items ++ l.0) (sym is) ∙ fires, ap (λ (l : Fired). l.1) (sym is) ∙ last)
 
-pub fires_over : (k n : ℕ) (offset : ℤ) (end : Option ChangeTime) (saving : ℤ) (wall standard utc : List Placed) (p : Placed)
-    → k ≡ suc n → Some p ≡ first_of offset saving wall standard utc → is_over end offset saving (time_of offset saving p) ≡ true
-    → front_firings k offset end saving wall standard utc ≡ ([], saving)
-fires_over k n offset end saving wall standard utc p is head over =
-    let later = front_firings n offset end p.rule.time_to_add (left_of Wall p.rule.time_type wall) (left_of Standard p.rule.time_type standard) (left_of UTC p.rule.time_type utc) in
-    ap (λ m. front_firings m offset end saving wall standard utc) is
-    ∙ fires_first n offset end saving wall standard utc
-    ∙ ap (after_first n offset end saving wall standard utc) (sym head)
-    ∙ ap (λ t. cond t ([], saving) (record { time = time_of offset saving p; rule = p.rule } ∷ later.0, later.1)) over
+module _ (year offset : ℤ) (end : Option ChangeTime) (whole : Fired) where
+  pub owes_begun : (rules : List RuleInfo) (count : ℕ) (items : List Firing) (saving : ℤ) (fronts : YearRules)
+      → length rules ≤ count → fronts ≡ fronts_of (placed_from year 0 rules)
+      → whole ≡ (items ++ (year_firings year offset end saving rules).0, (year_firings year offset end saving rules).1)
+      → Owes year offset end count items saving fronts whole
+  unfolding year_firings
+  owes_begun rules count items saving fronts le are is =
+      let due = ap (λ rs. fired (length rs) year offset end saving rs) (placed_rules year 0 rules) in (
+        placed_from year 0 rules,
+        record {
+          are = are;
+          rises = placed_rises year 0 rules;
+          at = all_at year 0 rules;
+          most = omega (arith, le, placed_most year 0 rules);
+          fires = ap (λ (l : Fired). items ++ l.0) due ∙ ap (λ (l : Fired). l.0) (sym is);
+          last = ap (λ (l : Fired). l.1) due ∙ ap (λ (l : Fired). l.1) (sym is);
+        },
+      )
 
-pub fires_none : (k n : ℕ) (offset : ℤ) (end : Option ChangeTime) (saving : ℤ) (wall standard utc : List Placed)
-    → k ≡ suc n → None ≡ first_of offset saving wall standard utc → front_firings k offset end saving wall standard utc ≡ ([], saving)
-fires_none k n offset end saving wall standard utc is none =
-    ap (λ m. front_firings m offset end saving wall standard utc) is
-    ∙ fires_first n offset end saving wall standard utc
-    ∙ ap (after_first n offset end saving wall standard utc) (sym none)
+  -- one more fires
+  pub owes_next : (count count' : ℕ) (items items' : List Firing) (saving saving' : ℤ) (fronts fronts' : YearRules) (f : Firing)
+      → Owes year offset end count items saving fronts whole → Some f ≡ next_firing end offset saving fronts → count ≤ count' + 1
+      → items' ≡ items ++ f ∷ [] → saving' ≡ f.rule.time_to_add → fronts' ≡ left f.rule.time_type fronts
+      → Owes year offset end count' items' saving' fronts' whole
+  owes_next count count' items items' saving saving' fronts fronts' f ([], o) next le items_is saving_is fronts_is =
+      absurd (some_none (next ∙ ap (next_firing end offset saving) o.are))
+    where
+      some_none : Some f ≡ None → ⊥
+      some_none h = cc
+  owes_next count count' items items' saving saving' fronts fronts' f (r ∷ rs, o) next le items_is saving_is fronts_is =
+      let picked = pick (is_less offset saving) r rs in
+      let x = picked.0 in
+      let g : Firing = record { time = time_of offset saving x; rule = x.rule } in
+      let is = fires_one (is_over end offset saving g.time) f g
+      (next ∙ ap (next_firing end offset saving) o.are ∙ ap (firing_of end offset saving) (first_is offset saving r rs o.rises)) in
+      let it : f ≡ g = sym is.1 in
+      let later = owed year offset end x.rule.time_to_add picked.1 in
+      let due : owed year offset end saving (r ∷ rs) ≡ (g ∷ later.0, later.1) =
+      some_owed year offset end saving r rs o.at.0 o.at.1 ∙ ap (λ b. cond {A = Fired} b ([], saving) (g ∷ later.0, later.1)) is.0 in
+      let then : owed year offset end saving' picked.1 ≡ later = ap (λ s. owed year offset end s picked.1) (saving_is ∙ ap (λ (h : Firing). h.rule.time_to_add) it) in (
+        picked.1,
+        record {
+          are = fronts_is ∙ (λ i. left (it i).rule.time_type (o.are i)) ∙ front_left offset saving r rs;
+          rises = rises_others offset saving r rs o.rises;
+          at = (pick_others (is_less offset saving) (IsAt year) r rs o.at.0 o.at.1).1;
+          most = omega (arith, o.most, le, pick_length (is_less offset saving) r rs);
+          fires = (λ i. (items_is ∙ ap (λ h. items ++ h ∷ []) it) i ++ (then i).0) ∙ append_assoc items (g ∷ []) later.0
+              ∙ ap (λ (l : Fired). items ++ l.0) (sym due) ∙ o.fires;
+          last = ap (λ (l : Fired). l.1) then ∙ ap (λ (l : Fired). l.1) (sym due) ∙ o.last;
+        },
+      )
 
-pub fires_no_more : (k : ℕ) (offset : ℤ) (end : Option ChangeTime) (saving : ℤ) (wall standard utc : List Placed)
-    → k ≡ 0 → front_firings k offset end saving wall standard utc ≡ ([], saving)
-unfolding front_firings
-fires_no_more k offset end saving wall standard utc is = ap (λ m. front_firings m offset end saving wall standard utc) is
-
-pub tail_all : (P : Placed → Type 0) (xs : List Placed) → AllByRecursion P xs → AllByRecursion P (tail_of xs)
-tail_all P [] h = tt
-tail_all P (x ∷ xs) h = h.1
-
-pub left_all : (P : Placed → Type 0) (mark fired : TimeType) (xs : List Placed) → AllByRecursion P xs → AllByRecursion P (left_of mark fired xs)
-left_all P mark fired xs h =
-    elim (same_mark mark fired) as (λ b. AllByRecursion P (cond b (tail_of xs) xs)) [ true ↦ tail_all P xs h | false ↦ h ]
-
--- nothing fires any more
-pub all_fired : (before : List Firing) (later whole : Fired) (saving : ℤ) → later ≡ ([], saving) → before ++ later.0 ≡ whole.0
-    → later.1 ≡ whole.1 → Fires before saving whole
-all_fired before later whole saving e h k =
-    record { firings = sym (append-nil before) ∙ ap (λ l. before ++ l.0) (sym e) ∙ h; saving = ap (λ l. l.1) (sym e) ∙ k }
+  -- nothing fires any more
+  pub owes_none : (count : ℕ) (items : List Firing) (saving : ℤ) (fronts : YearRules)
+      → Owes year offset end count items saving fronts whole → (count ≡ 0) ⊎ (None ≡ next_firing end offset saving fronts)
+      → (items ≡ whole.0) × (saving ≡ whole.1)
+  owes_none count items saving fronts ([], o) none = done (none_owed year offset end saving) o.fires o.last
+  owes_none count items saving fronts (r ∷ rs, o) (inl no_more) = absurd (omega (arith, o.most, no_more))
+  owes_none count items saving fronts (r ∷ rs, o) (inr none) =
+      let x = (pick (is_less offset saving) r rs).0 in
+      done (some_owed year offset end saving r rs o.at.0 o.at.1
+      ∙ over (is_over end offset saving (time_of offset saving x)) (record { time = time_of offset saving x; rule = x.rule }) _ saving
+      (none ∙ ap (next_firing end offset saving) o.are ∙ ap (firing_of end offset saving) (first_is offset saving r rs o.rises))) o.fires o.last

@@ -1,7 +1,9 @@
 -- What the tests of a zone that goes on come to, step by step.
 use Rattle.std.proofs.Common.{◌≡◌, ℕ, zero, suc, ◌+◌, ◌-◌, ◌<◌, ◌≤◌, Bool, true, false, not, ◌&&◌, is_none, int_lt, map, List, [], ◌∷◌, ◌++◌, length, take, drop, get_or, reverse, Option, Some, None, ℤ, pos, All, IsTrue, refl, sym, ap, ◌∙◌, subst, append-nil, arith}
-use Rattle.std.proofs.Math.Seq.{drop-append_seam, drop-length, take-append_seam}
+use Rattle.std.proofs.Math.Seq.{drop-append_seam, take-append_seam}
 use Rattle.std.proofs.lemmas.Bool.{and_parts}
+use Rattle.std.proofs.lemmas.List.Elements.{All-drop}
+use Rattle.std.proofs.lemmas.List.Sums.{AllPass-from_list_all, list_all-from_AllPass}
 use Rattle.std.proofs.lemmas.List.{length-append, length-drop, reverse-reverse, take_all}
 use Rattle.std.specs.List.{list_all}
 use Rattle.std.specs.Option.{option_map_or}
@@ -10,18 +12,17 @@ use Rattle.zone_values.specs.Bounds.{are_small_seconds}
 use Rattle.zone_values.specs.declared.change.ChangeTime.{ChangeTime}
 use Rattle.zone_table.specs.declared.rule.RuleInfo.{RuleInfo}
 use Rattle.zone_spans.specs.Bounds.{IsSound, IsSoundOver, is_bounded_entry, is_bounded_firing}
-use Rattle.zone_spans.specs.Collapse.{is_no_later, kept_of}
+use Rattle.zone_spans.specs.Collapse.{kept_of}
 use Rattle.zone_spans.specs.Cuts.{IsCut}
 use Rattle.zone_spans.specs.Cycle.{seconds_on}
 use Rattle.zone_spans.specs.Entries.{Entry, entry_of, is_sooner, next_start_over, raw_entries_over, sorted_entries_over}
 use Rattle.zone_spans.specs.Firings.{Firing, firings_of_years, years_over}
-use Rattle.zone_spans.specs.GoesOn.{are_cycle_later, dont_fall, ends_by_then, front_of, goes_on, has_settled_lines, is_apart, is_cycle_later, is_in_order, kept_over, last_goes_on, last_of, some_leaves}
+use Rattle.zone_spans.specs.GoesOn.{are_cycle_later, dont_fall, ends_by_then, front_of, goes_on, has_settled_lines, is_cycle_later, is_in_order, kept_over, last_goes_on, last_of, some_leaves}
 use Rattle.zone_spans.specs.Later.{first_fired, later_fired, start_after}
 use Rattle.zone_spans.specs.LaterLaws.{ends-by, firings_of_years-split, years_over-ended}
 use Rattle.zone_spans.specs.Lines.{Line}
 use Rattle.zone_spans.specs.Settled.{are_settled}
 use Rattle.zone_spans.specs.Stands.{StandsFor}
-use Rattle.zone_spans.proofs.BoundLemmas.{second}
 use Rattle.zone_spans.proofs.EntryLemmas.{bounded_map}
 use Rattle.zone_spans.proofs.FoundLemmas.{from_here}
 use Rattle.zone_spans.proofs.StepLemmas.{read_at, two_latest}
@@ -32,20 +33,6 @@ unfolding front_of last_of
 parts_of [] line = (refl, refl)
 parts_of (l ∷ []) line = (refl, refl)
 parts_of (l ∷ m ∷ ls) line = let later = parts_of (m ∷ ls) line in (ap (λ xs. l ∷ xs) later.0, later.1)
-
--- ---- what all pass, looked for from the left
-pub all_fails : {X : Type 0} (p : X → Bool) (xs : List X) (i : ℕ) (x : X) → i < length xs → x ≡ get_or xs i x
-    → list_all p (drop i xs) ≡ list_all p xs → p x ≡ false → false ≡ list_all p xs
-all_fails p xs i x l is before fails =
-    sym (sym before ∙ ap (list_all p) (from_here xs i x l is) ∙ ap (λ b. b && list_all p (drop (i + 1) xs)) fails)
-
-pub all_behind : {X : Type 0} (p : X → Bool) (xs : List X) (i : ℕ) (x : X) → i < length xs → x ≡ get_or xs i x
-    → list_all p (drop i xs) ≡ list_all p xs → p x ≡ true → list_all p (drop (i + 1) xs) ≡ list_all p xs
-all_behind p xs i x l is before passes =
-    ap (λ b. b && list_all p (drop (i + 1) xs)) (sym passes) ∙ ap (list_all p) (sym (from_here xs i x l is)) ∙ before
-
-pub all_done : {X : Type 0} (p : X → Bool) (xs : List X) → list_all p (drop (length xs) xs) ≡ list_all p xs → true ≡ list_all p xs
-all_done p xs before = ap (list_all p) (sym (drop-length xs)) ∙ before
 
 -- ---- sound over more years
 last_all : (P : Line → Type 0) (xs : List Line) (x : Line) → All P (xs ++ (x ∷ [])) → P x
@@ -231,12 +218,8 @@ bounded_cycle line es before fired part count none same is offset bounded =
     let long = length-drop count part in
     let whole = take_all (length part - count) (drop count part) (omega (arith, long)) ∙ ap (drop count) same in
     subst (λ xs. IsTrue (list_all is_bounded_entry xs)) (sym (is ∙ (λ i. none i ++ map (entry_of line) (whole i))))
-    (bounded_map line (drop count fired) offset (bounded_drop count fired bounded))
-  where
-    bounded_drop : (n : ℕ) (fs : List Firing) → IsTrue (list_all is_bounded_firing fs) → IsTrue (list_all is_bounded_firing (drop n fs))
-    bounded_drop zero fs all = all
-    bounded_drop (suc n) [] all = all
-    bounded_drop (suc n) (f ∷ fs) all = bounded_drop n fs (second (is_bounded_firing f) _ all)
+    (bounded_map line (drop count fired) offset (list_all-from_AllPass is_bounded_firing (drop count fired)
+    (All-drop (λ f. is_bounded_firing f ≡ true) count fired (AllPass-from_list_all is_bounded_firing fired bounded))))
 
 pub goes_on-is : (front : List Line) (last : Line) → goes_on (front ++ (last ∷ [])) ≡ last_goes_on front last
 unfolding goes_on

@@ -5,6 +5,7 @@ use Rattle.std.proofs.Math.Seq.{get_or-append_seam}
 use Rattle.std.proofs.lemmas.Int.{ints}
 use Rattle.std.proofs.lemmas.List.{get_or-take, get_or_append_left, length-append, length-take-le, take_more}
 use Rattle.std.proofs.lemmas.List.Folds.{list_all-append, list_all_more}
+use Rattle.std.proofs.lemmas.List.Sums.{AllPass-from_list_all, list_all-from_AllPass}
 use Rattle.std.specs.List.{AllByRecursion, last_or, list_all}
 use Rattle.std.specs.Option.{option_to_list}
 use Rattle.zone_values.specs.Bounds.{are_small_seconds}
@@ -16,7 +17,6 @@ use Rattle.zone_table.specs.Bounds.{is_bounded_rule}
 use Rattle.zone_table.specs.Moments.{applies_to_year, instant_of, moment}
 use Rattle.zone_table.specs.declared.rule.RuleInfo.{RuleInfo}
 use Rattle.zone_spans.specs.Bounds.{IsSound, is_bounded_firing}
-use Rattle.zone_spans.specs.Fires.{Fires, after}
 use Rattle.zone_spans.specs.Firings.{Fired, Firing, earliest, fired, firings_of_years, is_earlier, is_over, year_firings}
 use Rattle.zone_spans.specs.Kept.{AreBelow, AreSummaries, IsLastSummary, IsLimit, IsSummary, summed, unended}
 use Rattle.zone_spans.specs.Lines.{Line}
@@ -29,7 +29,7 @@ use Rattle.zone_spans.proofs.ListingLemmas.{last_stands, stands_same}
 use Rattle.zone_spans.proofs.Picks.{all_filter}
 use Rattle.zone_spans.proofs.QuietLemmas.{quiet_years}
 use Rattle.zone_spans.proofs.SoundLemmas.{bounded_rules}
-use Rattle.zone_spans.proofs.YearLemmas.{fires_more}
+use Rattle.zone_spans.proofs.YearLemmas.{next_year}
 use Rattle.zone_spans.specs.Years.{earliest_year, years_limit}
 
 -- the saving of a rule is small
@@ -138,20 +138,18 @@ at_most_below time latest limit h k = grind (arith, ints)
 -- what is at most a second that is below the limit
 below_of : (latest limit : ℤ) → IsTrue (int_lt latest limit) → (fs : List Firing) → IsTrue (list_all (λ f. int_le f.time latest) fs)
     → IsTrue (list_all (λ f. int_lt f.time limit) fs)
-below_of latest limit less [] all = refl
-below_of latest limit less (f ∷ fs) all =
-    both (int_lt f.time limit) _ (at_most_below f.time latest limit (first (int_le f.time latest) _ all) less)
-    (below_of latest limit less fs (second (int_le f.time latest) _ all))
+below_of latest limit less fs all =
+    list_all-from_AllPass (λ f. int_lt f.time limit) fs (λ k d l. at_most_below _ latest limit
+    (AllPass-from_list_all (λ f. int_le f.time latest) fs all k d l) less)
 
 at_most_more : (time early later : ℤ) → int_le time early ≡ true → early ≤ℤ later → int_le time later ≡ true
 at_most_more time early later h k = grind (arith, ints)
 
 most_of : (early later : ℤ) → early ≤ℤ later → (fs : List Firing) → IsTrue (list_all (λ f. int_le f.time early) fs)
     → IsTrue (list_all (λ f. int_le f.time later) fs)
-most_of early later le [] all = refl
-most_of early later le (f ∷ fs) all =
-    both (int_le f.time later) _ (at_most_more f.time early later (first (int_le f.time early) _ all) le)
-    (most_of early later le fs (second (int_le f.time early) _ all))
+most_of early later le fs all =
+    list_all-from_AllPass (λ f. int_le f.time later) fs (λ k d l. at_most_more _ early later
+    (AllPass-from_list_all (λ f. int_le f.time early) fs all k d l) le)
 
 -- one firing more
 pub latest_more : (fired : List Firing) (i : ℕ) (f : Firing) (early later : ℤ) → i < length fired → f ≡ get_or fired i f
@@ -253,25 +251,23 @@ last_passes p o (x ∷ xs) h all = last_passes p (Some x) xs (both (p x) _ (firs
 pub year_summed : (offset : ℤ) (rules : List RuleInfo) (quiet : ℕ) (fired : List Firing) (summaries : List Summary) (summary : Summary)
     (year saving latest : ℤ) (last : Option Firing) → quiet + length summaries < years_limit → year ≡ pos (earliest_year + (quiet + length summaries))
     → IsLastSummary summaries summary → AreSummaries offset rules quiet summaries
-    → Fires fired saving (after [] (year_firings year offset None summary.saving rules))
+    → fired ≡ (year_firings year offset None summary.saving rules).0 → saving ≡ (year_firings year offset None summary.saving rules).1
     → IsTrue (list_all (λ f. int_le f.time latest) fired) → summary.latest ≤ℤ latest → last ≡ last_or summary.last fired
     → IsTrue (list_all is_bounded_firing fired)
     → AreSummaries offset rules quiet (summaries ++ record { saving = saving; latest = latest; last = last } ∷ [])
-year_summed offset rules quiet fired summaries summary year saving latest last most year_is is_last are fires here later last_here bounded =
+year_summed offset rules quiet fired summaries summary year saving latest last most year_is is_last are fires saves here later last_here bounded =
     let n = quiet + length summaries in
     let so_far = (unended offset rules n).0 in
     let before = last_is offset rules quiet summaries summary are is_last in
     let test : Firing → Bool = λ f. int_le f.time latest in
-    let due : Fires (so_far ++ fired) saving (unended offset rules (n + 1)) =
-    fires_more offset None rules n so_far (so_far ++ fired) year summary.saving saving year_is
-    (record { firings = refl; saving = before.saving })
-    (record { firings = ap (λ xs. so_far ++ xs) fires.firings; saving = fires.saving }) in
+    let next = sym (next_year offset None rules n year summary.saving year_is before.saving) in
+    let due : so_far ++ fired ≡ (unended offset rules (n + 1)).0 = ap (λ xs. so_far ++ xs) fires ∙ ap (λ (l : Fired). l.0) next in
     one_summary_more offset rules quiet summaries _ most are (record {
-      saving = due.saving;
-      latest = ap (list_all test) (sym due.firings) ∙ list_all-append test so_far fired
+      saving = saves ∙ ap (λ (l : Fired). l.1) next;
+      latest = ap (list_all test) (sym due) ∙ list_all-append test so_far fired
           ∙ both (list_all test so_far) _ (most_of summary.latest latest later so_far before.latest) here;
       last = last_here ∙ ap (λ (o : Option Firing). last_or o fired) before.last ∙ sym (last_after None so_far fired)
-          ∙ ap (last_or None) due.firings;
+          ∙ ap (last_or None) due;
       bounded = subst (λ (o : Option Firing). IsTrue (list_all is_bounded_firing (option_to_list o))) (sym last_here)
           (last_passes is_bounded_firing summary.last fired before.bounded bounded);
     })
@@ -291,10 +287,9 @@ sooner_limit end offset limit second ends le saving time small below = ends savi
 
 all_sooner : (sooner start : ℤ) → sooner ≤ℤ start → (fs : List Firing) → IsTrue (list_all (λ f. int_lt f.time sooner) fs)
     → IsTrue (list_all (λ f. int_lt f.time start) fs)
-all_sooner sooner start le [] all = refl
-all_sooner sooner start le (f ∷ fs) all =
-    both (int_lt f.time start) _ (sooner_below f.time sooner start (first (int_lt f.time sooner) _ all) le)
-    (all_sooner sooner start le fs (second (int_lt f.time sooner) _ all))
+all_sooner sooner start le fs all =
+    list_all-from_AllPass (λ f. int_lt f.time start) fs (λ k d l. sooner_below _ sooner start
+    (AllPass-from_list_all (λ f. int_lt f.time sooner) fs all k d l) le)
 
 -- what a summary has of the first n years of a line with that start
 pub record Serves (start offset : ℤ) (end : Option ChangeTime) (rules : List RuleInfo) (n : ℕ) (summary : Summary) : Type 0 where

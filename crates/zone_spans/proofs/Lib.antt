@@ -19,4 +19,4 @@ pub mod FiringRows
 mod SpanRows
 pub mod Picks
 pub mod FrontLemmas
-pub mod MarkedLemmas
+pub mod PlacedLemmas

@@ -1,6 +1,6 @@
 -- The lines of a zone, one by one.
 use Rattle.std.proofs.Common.{◌≡◌, ℕ, zero, suc, ◌+◌, ◌<◌, ◌≤◌, true, ◌&&◌, List, [], ◌∷◌, ◌++◌, length, get_or, drop, Option, None, IsTrue, refl, sym, ap, ◌∙◌, arith}
-use Rattle.std.proofs.lemmas.List.{append_assoc, append-nil, drop_all}
+use Rattle.std.proofs.lemmas.List.{append_assoc}
 use Rattle.std.proofs.lemmas.List.Elements.{All-drop}
 use Rattle.std.proofs.lemmas.List.Folds.{list_all-append}
 use Rattle.std.proofs.lemmas.List.Sums.{AllPass-from_list_all, list_all-from_AllPass}
@@ -38,13 +38,6 @@ lines_more rulesets ls ls' infos i info rules end all l is named ends pushed bef
     ∙ append_assoc ls (record { info = info; rules = rules; end = end } ∷ []) later
     ∙ (λ k. ls ++ record { info = info; rules = named k; end = end_is k } ∷ later)
     ∙ ap (λ xs. ls ++ zone_lines rulesets xs) (sym here) ∙ before
-
-pub lines_done : (rulesets : Rulesets) (ls : List Line) (infos : List ZoneInfo) (all : List Line)
-    → ls ++ zone_lines rulesets (drop (length infos) infos) ≡ all → ls ≡ all
-unfolding zone_lines
-lines_done rulesets ls infos all before =
-    let done : drop (length infos) infos ≡ [] = drop_all (length infos) infos (omega arith) in
-    sym (append-nil ls) ∙ ap (λ xs. ls ++ zone_lines rulesets xs) (sym done) ∙ before
 
 bounded_end : (infos : List ZoneInfo) → IsTrue (list_all is_bounded_info infos)
     → IsTrue (option_map_or (λ end. has_day_of_month (end_day end)) (end_before infos) true)

@@ -1,9 +1,8 @@
 -- What sound lines have.
 use Rattle.std.proofs.lemmas.List.{drop_all}
 use Rattle.std.proofs.Math.Bool.{or-true}
-use Rattle.std.proofs.Common.{add-one, drop, get_or, length, slice_get, ◌≡◌, ℕ, zero, suc, ◌+◌, ◌<◌, inl, inr, Bool, true, false, not, ◌&&◌, ◌||◌, cond, List, [], ◌∷◌, filter, Option, Some, None, ℤ, pos, All, IsTrue, refl, sym, ap, ◌∙◌, subst, arith}
+use Rattle.std.proofs.Common.{add-one, drop, get_or, length, slice_get, ◌≡◌, ℕ, zero, suc, ◌+◌, ◌<◌, inl, inr, Bool, true, false, not, ◌&&◌, ◌||◌, List, [], ◌∷◌, Option, Some, None, ℤ, pos, All, IsTrue, refl, sym, ap, ◌∙◌, subst, arith}
 use Rattle.std.proofs.Math.Nat.{eq-or-lt_of_le}
-use Rattle.std.proofs.lemmas.List.Sums.{AllPass-from_list_all}
 use Rattle.std.specs.List.{list_all, list_any}
 use Rattle.std.specs.Option.{option_map_or}
 use Rattle.zone_values.specs.Bounds.{are_small_seconds}
@@ -40,33 +39,15 @@ inside true false h e = cc
 inside false i h e = cc
 
 -- a rule that applies to the year has a moment in it
-fires_in : (year : ℤ) (r : RuleInfo) → IsTrue (can_fire year r) → applies_to_year r year ≡ true → IsTrue (has_moment year r)
+pub fires_in : (year : ℤ) (r : RuleInfo) → IsTrue (can_fire year r) → applies_to_year r year ≡ true → IsTrue (has_moment year r)
 unfolding can_fire is_outside
 fires_in year r can applies =
     both (is_bounded_rule r) _ (first (is_bounded_rule r) (has_years r) (first (is_bounded_rule r && has_years r) _ can))
     (inside (applies_to_year r year) _ (second (is_bounded_rule r && has_years r) _ can) applies)
 
-moments_pass : (year : ℤ) (rules : List RuleInfo) → IsTrue (list_all (can_fire year) rules)
-    → IsTrue (list_all (has_moment year) (filter (λ r. applies_to_year r year) rules))
-moments_pass year [] h = refl
-moments_pass year (r ∷ rs) h =
-    let rest = moments_pass year rs (second (can_fire year r) _ h) in
-    let others = filter (λ r. applies_to_year r year) rs in
-    elim (applies_to_year r year) as (λ b. applies_to_year r year ≡ b → IsTrue (list_all (has_moment year) (cond b (r ∷ others) others))) [
-      | true ↦ λ applies. both (has_moment year r) _ (fires_in year r (first (can_fire year r) _ h) applies) rest
-      | false ↦ λ applies. rest
-    ] refl
-
-pub moments_of : (year : ℤ) (rules : List RuleInfo) → IsTrue (list_all (can_fire year) rules)
-    → All (λ r. IsTrue (has_moment year r)) (filter (λ r. applies_to_year r year) rules)
-moments_of year rules h = AllPass-from_list_all (has_moment year) (filter (λ r. applies_to_year r year) rules) (moments_pass year rules h)
-
-pub years_of : (year : ℤ) (rules : List RuleInfo) → IsTrue (list_all (can_fire year) rules) → IsTrue (list_all has_years rules)
+pub has_years_of : (year : ℤ) (r : RuleInfo) → IsTrue (can_fire year r) → IsTrue (has_years r)
 unfolding can_fire
-years_of year [] h = refl
-years_of year (r ∷ rs) h =
-    let here = second (is_bounded_rule r) (has_years r) (first (is_bounded_rule r && has_years r) _ (first (can_fire year r) _ h)) in
-    both (has_years r) _ here (years_of year rs (second (can_fire year r) _ h))
+has_years_of year r can = second (is_bounded_rule r) (has_years r) (first (is_bounded_rule r && has_years r) _ can)
 
 -- what holds in none of the years holds in no one of them
 no_year : (test : ℤ → Bool) (n i : ℕ) → i < n → some_year test n ≡ false → test (pos (earliest_year + i)) ≡ false

@@ -1,11 +1,27 @@
 -- What has fired, beside what is due.
-use Rattle.std.specs.Prelude.{◌≡◌, List, ◌++◌, ℤ}
-use Rattle.zone_spans.specs.Firings.{Firing, Fired}
+use Rattle.std.specs.Prelude.{◌≡◌, ◌++◌, ℤ, Option, IsTrue}
+use Rattle.std.specs.List.{list_all}
+use Rattle.zone_values.specs.Bounds.{are_small_seconds}
+use Rattle.zone_spans.specs.Bounds.{is_bounded_firing}
+use Rattle.zone_spans.specs.Firings.{Fired}
+use Rattle.zone_spans.specs.Stands.{StandsFor}
+use Rattle.zone_spans.specs.declared.firing.Firings.{Firings}
 
-pub record Fires (fired : List Firing) (last : ℤ) (due : Fired) : Type 0 where
-  pub firings : fired ≡ due.0
-  pub saving : last ≡ due.1
+pub record Fires (firings : Firings) (due : Fired) : Type 0 where
+  pub fired : firings.fired.items ≡ due.0
+  pub saving : firings.saving ≡ due.1
 
--- these firings, and then those
-abbrev pub after : List Firing → Fired → Fired
-after before due = (before ++ due.0, due.1)
+-- what has fired, and then those
+abbrev pub after : Firings → Fired → Fired
+after firings due = (firings.fired.items ++ due.0, due.1)
+
+-- their numbers are small
+pub record AreSmall (firings : Firings) : Type 0 where
+  pub fired : IsTrue (list_all is_bounded_firing firings.fired.items)
+  pub saving : IsTrue (are_small_seconds firings.saving)
+
+-- they may take the place of what is due, for a line with that start
+pub record StandFor (start : Option ℤ) (firings : Firings) (due : Fired) : Type 0 where
+  pub fired : StandsFor start firings.fired.items due.0
+  pub saving : firings.saving ≡ due.1
+  pub small : AreSmall firings

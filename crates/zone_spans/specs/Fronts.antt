@@ -1,27 +1,12 @@
 -- Rules in three fronts, one for each mark, each in order of local second, and where those tie of place.
-use Rattle.std.specs.Prelude.{IsTrue, ◌≤ℤ◌, pos, neg_ℤ, ℕ, zero, suc, Bool, true, false, not, ◌&&◌, ◌||◌, List, [], ◌∷◌, filter, cond, Option, Some, None, ℤ, int_lt, nat_lt}
+use Rattle.std.specs.Prelude.{Bool, true, false, not, ◌&&◌, ◌||◌, List, [], ◌∷◌, ◌++◌, filter, cond, Option, Some, None, ℤ, int_lt, nat_lt}
 use Rattle.owned.specs.Sorted.{stable_sort}
 use Rattle.zone_values.specs.declared.time.TimeType.{TimeType}
 use Rattle.zone_values.specs.declared.time.TimeType.TheVariants.{Wall, Standard, UTC}
-use Rattle.zone_table.specs.declared.rule.RuleInfo.{RuleInfo}
 use Rattle.zone_values.specs.declared.change.ChangeTime.{ChangeTime}
-use Rattle.zone_values.specs.Bounds.{are_small_seconds}
-use Rattle.zone_table.specs.Moments.{instant_of, moment}
-use Rattle.zone_spans.specs.Firings.{Fired, is_over}
-
--- a rule, its place among all, and its local second in the year
-pub record Placed : Type 0 where
-  pub place : ℕ
-  pub local : ℤ
-  pub rule : RuleInfo
-
--- rules with their places, the first of which is that one
-abbrev pub placed_from : ℤ → ℕ → List RuleInfo → List Placed
-placed_from year n [] = []
-placed_from year n (r ∷ rs) = record { place = n; local = moment r year (pos 0) (pos 0); rule = r } ∷ placed_from year (suc n) rs
-
-abbrev pub time_of : ℤ → ℤ → Placed → ℤ
-time_of offset saving p = instant_of p.rule.time_type p.local offset saving
+use Rattle.zone_spans.specs.Firings.{Firing, is_over}
+use Rattle.zone_spans.specs.Placed.{Placed, time_of}
+use Rattle.zone_spans.specs.declared.front.YearRules.{YearRules}
 
 abbrev pub same_mark : TimeType → TimeType → Bool
 same_mark Wall Wall = true
@@ -32,11 +17,30 @@ same_mark _ _ = false
 abbrev pub has_mark : TimeType → Placed → Bool
 has_mark mark p = same_mark mark p.rule.time_type
 
+-- the rules by their marks
+abbrev pub by_mark : List Placed → YearRules
+by_mark ps = record { wall = filter (has_mark Wall) ps; standard = filter (has_mark Standard) ps; utc = filter (has_mark UTC) ps }
+
+-- with one more
+abbrev pub with_placed : Placed → YearRules → YearRules
+with_placed p rules = record {
+  wall = cond (has_mark Wall p) (rules.wall ++ p ∷ []) rules.wall;
+  standard = cond (has_mark Standard p) (rules.standard ++ p ∷ []) rules.standard;
+  utc = cond (has_mark UTC p) (rules.utc ++ p ∷ []) rules.utc;
+}
+
 abbrev pub is_below : Placed → Placed → Bool
 is_below a b = int_lt a.local b.local
 
-unfoldable pub front : TimeType → List Placed → List Placed
-front mark ps = stable_sort is_below (filter (has_mark mark) ps)
+abbrev pub in_order : YearRules → YearRules
+in_order rules = record {
+  wall = stable_sort is_below rules.wall;
+  standard = stable_sort is_below rules.standard;
+  utc = stable_sort is_below rules.utc;
+}
+
+abbrev pub fronts_of : List Placed → YearRules
+fronts_of ps = in_order (by_mark ps)
 
 -- in order of moment, and where two fire at once of place
 abbrev pub fires_sooner : ℤ → ℤ → Placed → Placed → Bool
@@ -59,28 +63,24 @@ tail_of [] = []
 tail_of (p ∷ ps) = ps
 
 -- the first of three fronts
-abbrev pub first_of : ℤ → ℤ → List Placed → List Placed → List Placed → Option Placed
-first_of offset saving wall standard utc =
-    sooner offset saving (head_of wall) (sooner offset saving (head_of standard) (head_of utc))
+abbrev pub first_of : ℤ → ℤ → YearRules → Option Placed
+first_of offset saving fronts =
+    sooner offset saving (head_of fronts.wall) (sooner offset saving (head_of fronts.standard) (head_of fronts.utc))
 
--- what is left of a front of that mark where a rule of the other mark fires
-abbrev pub left_of : TimeType → TimeType → List Placed → List Placed
-left_of mark fired ps = cond (same_mark mark fired) (tail_of ps) ps
+-- what is left of them where a rule of that mark fires
+abbrev pub left : TimeType → YearRules → YearRules
+left mark fronts = record {
+  wall = cond (same_mark Wall mark) (tail_of fronts.wall) fronts.wall;
+  standard = cond (same_mark Standard mark) (tail_of fronts.standard) fronts.standard;
+  utc = cond (same_mark UTC mark) (tail_of fronts.utc) fronts.utc;
+}
 
--- the firings from three fronts
-unfoldable pub front_firings : ℕ → ℤ → Option ChangeTime → ℤ → List Placed → List Placed → List Placed → Fired
-front_firings zero offset end saving wall standard utc = ([], saving)
-front_firings (suc n) offset end saving wall standard utc =
-    elim (first_of offset saving wall standard utc) as (λ _. Fired) [
-      | None ↦ ([], saving)
-      | Some p ↦
-          let time = time_of offset saving p in
-          let mark = p.rule.time_type in
-          let later = front_firings n offset end p.rule.time_to_add (left_of Wall mark wall) (left_of Standard mark standard) (left_of UTC mark utc) in
-          cond (is_over end offset saving time) ([], saving) (record { time = time; rule = p.rule } ∷ later.0, later.1)
-    ]
+-- what fires next from them, unless it is over by then
+abbrev pub firing_of : Option ChangeTime → ℤ → ℤ → Option Placed → Option Firing
+firing_of end offset saving None = None
+firing_of end offset saving (Some p) =
+    let time = time_of offset saving p in
+    cond (is_over end offset saving time) None (Some (record { time = time; rule = p.rule }))
 
-pub record IsSmallPlaced (p : Placed) : Type 0 where
-  pub least : neg_ℤ (pos 500000000000) ≤ℤ p.local
-  pub greatest : p.local ≤ℤ pos 500000000000
-  pub saving : IsTrue (are_small_seconds p.rule.time_to_add)
+abbrev pub next_firing : Option ChangeTime → ℤ → ℤ → YearRules → Option Firing
+next_firing end offset saving fronts = firing_of end offset saving (first_of offset saving fronts)

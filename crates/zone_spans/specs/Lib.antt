@@ -19,6 +19,7 @@ pub mod GoesOn
 pub mod ScheduleLaws
 pub mod LaterLaws
 -- Words of private clauses.
+pub mod Placed
 pub mod Fires
 pub mod Fronts
 pub mod Quiet

@@ -14,8 +14,8 @@ ghost use Rattle.zone_spans.specs.Listing.{is_at, listed_firings, listed_from, s
 ghost use Rattle.zone_spans.specs.Years.{years_limit};
 ghost use Rattle.std.specs.Ordering.{int_eq};
 
-use crate::front::Firing;
-use crate::kept::{Kept, Several, fire_line};
+use crate::firing::Firing;
+use crate::kept::Expander;
 use crate::span::FixedTimespan;
 use crate::transitions::Line;
 use crate::year::line_end;
@@ -181,30 +181,34 @@ fn push_fixed(
     Ok(())
 }
 
-/// Adds the entries of a line with that start over so many years, and gives the start of the next line. What it fires goes into
-/// `fired`.
+/// Adds the entries of a line with that start over so many years, and gives the start of the next line.
 #[tactic(auto, unfolding(crate::specs::Entries::entries_of_over, crate::specs::Entries::next_start_over, crate::specs::Firings::line_firings_over))]
 fn push_line<'a>(
     entries: &mut Entries,
     alloc: Global,
-    kept: &mut Several<Kept<'a>>,
-    fired: &mut Vec<Firing<'a>>,
+    expander: &mut Expander<'a>,
     line: &Line<'a>,
     start: Option<i64>,
     most: u16,
 ) -> Result<Option<i64>, AllocError>
     requires line { IsSoundOver most line.now }
     requires most { most ≤ years_limit }
-    requires kept { AreAll IsKept kept.old }
+    requires kept { AreAll IsKept expander.old.kept }
     ensures entries { IfOk result (λ _. entries.new ≡ entries.old ++ entries_of_over most line.now start) }
     ensures next { IfOk result (λ next. next ≡ next_start_over most line.now) }
     ensures bounded { IfOk result (λ next. IsTrue (is_start start) → IsTrue (is_start next) × IsTrue (list_all is_bounded_entry (entries_of_over most line.now start))) }
-    ensures kept { IfOk result (λ _. AreAll IsKept kept.new) }
+    ensures kept { IfOk result (λ _. AreAll IsKept expander.new.kept) }
 {
     if line.is_ruled() {
-        let last_saving = fire_line(kept, fired, alloc, line, start, most)?;
-        push_ruled(entries, alloc, line, start, fired)?;
-        return Ok(next_start(line, last_saving));
+        expander.fire_line(alloc, line, start, most)?;
+        push_ruled(
+            entries,
+            alloc,
+            line,
+            start,
+            expander.firings.fired.as_slice(),
+        )?;
+        return Ok(next_start(line, expander.firings.saving));
     }
     push_fixed(entries, alloc, line, start)?;
     Ok(next_start(line, line.fixed_saving()))
@@ -236,19 +240,10 @@ pub(crate) fn raw_entries<'a>(
     ensures bounded { IfOk result (λ entries. IsTrue (list_all is_bounded_entry entries)) }
 {
     let mut entries = Items::new(alloc);
-    let mut kept = Several::new(alloc, Kept::new(alloc));
-    let mut fired = Vec::new(alloc);
+    let mut expander = Expander::new(alloc);
     let mut start = None;
     for line in lines {
-        start = push_line(
-            &mut entries,
-            alloc,
-            &mut kept,
-            &mut fired,
-            line,
-            start,
-            most,
-        )?;
+        start = push_line(&mut entries, alloc, &mut expander, line, start, most)?;
     }
     Ok(entries)
 }

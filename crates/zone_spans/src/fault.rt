@@ -14,7 +14,7 @@ ghost use Rattle.zone_spans.specs.Several.{AreAll};
 ghost use Rattle.zone_spans.specs.Tested.{NoneLeaves};
 ghost use Rattle.zone_spans.specs.TestedFor.{HasRulesOf, IsTested};
 
-use crate::kept::{Serve, Several};
+use crate::several::{Serve, Several};
 use crate::transitions::Line;
 use crate::year::{EARLIEST_YEAR, years_over};
 use std::alloc::{AllocError, Global};
@@ -142,7 +142,7 @@ fn some_leaves_year<'a>(alloc: Global, lines: &[Line<'a>], most: u16) -> Result<
 {
     let mut tested = Several::new(alloc, Tested::new("", &[]));
     for line in lines {
-        if leaves_year(&mut tested, line, most)? {
+        if leaves_year(&mut tested, alloc, line, most)? {
             return Ok(true);
         }
     }
@@ -251,10 +251,14 @@ impl<'a> Tested<'a> {
     }
 }
 
-impl<'a> Serve for Tested<'a> {
+impl<'a> Serve<'a> for Tested<'a> {
     ghost Holds = { IsTested };
 
     ghost Suits = { HasRulesOf };
+
+    fn begin(_alloc: Global, line: &Line<'a>, _years: u16) -> Tested<'a> {
+        Tested::new(line.ruleset_name(), line.rules)
+    }
 
     fn serves(&self, line: &Line<'_>, _years: u16) -> bool {
         if self.name != line.ruleset_name() {
@@ -264,27 +268,11 @@ impl<'a> Serve for Tested<'a> {
     }
 }
 
-/// Takes into use what is tested of the line's rules, or begins it.
-fn take_for<'a>(
-    tested: &mut Several<Tested<'a>>,
-    line: &Line<'a>,
-    years: u16,
-) -> Result<(), AllocError>
-    requires { AreAll IsTested tested.old }
-    ensures tested { IfOk result (λ _. AreAll IsTested tested.new) }
-    ensures rules { IfOk result (λ _. tested.new.current.rules.now ≡ line.now.rules) }
-{
-    if tested.find_for(line, years)? {
-        return Ok(());
-    }
-    tested.begin(Tested::new(line.ruleset_name(), line.rules))?;
-    Ok(())
-}
-
 /// Whether the day of the line's end lies in another year, or that of a rule in one of so many years that the line expands.
 #[tactic(auto, unfolding(crate::specs::Faults::leaves_year_over))]
 pub(crate) fn leaves_year<'a>(
     tested: &mut Several<Tested<'a>>,
+    alloc: Global,
     line: &Line<'a>,
     most: u16,
 ) -> Result<bool, AllocError>
@@ -300,7 +288,7 @@ pub(crate) fn leaves_year<'a>(
         return Ok(true);
     }
     let years = years_over(most, line.end);
-    take_for(tested, line, years)?;
+    tested.take_for(alloc, line, years)?;
     let leaves = tested.current.leaves_year(years);
     Ok(leaves)
 }

@@ -5,9 +5,11 @@
 
 mod entries;
 mod fault;
+mod firing;
 mod front;
 mod goes_on;
 mod kept;
+mod several;
 mod span;
 mod transitions;
 mod turns;

@@ -14,12 +14,12 @@ ghost use Rattle.zone_spans.specs.Later.{first_fired, start_after};
 ghost use Rattle.zone_spans.specs.Years.{most_years};
 
 use crate::entries::{Entries, first_standard_firing, next_start, push_all, raw_entries, sort};
-use crate::front::Firing;
+use crate::firing::Firings;
 use crate::goes_on::YEARS_THROUGH_CYCLE;
-use crate::kept::{Kept, Several, fire_line};
+use crate::kept::Expander;
 use crate::span::{FixedTimespan, is_no_later, is_same_span, keep_kept};
 use crate::transitions::Line;
-use crate::year::{MOST_YEARS, fire_years};
+use crate::year::MOST_YEARS;
 use owned::Items;
 use std::alloc::{AllocError, Global};
 
@@ -68,41 +68,34 @@ fn push_cycle(cycle: &mut Entries, alloc: Global, line: &Line<'_>) -> Result<boo
     ensures same { IfOk result (λ same. same ≡ (int_eq (first_fired line.now 700).1 (first_fired line.now 300).1
         && is_some (find (λ f. int_eq f.rule.time_to_add (pos 0)) (first_fired line.now 300).0))) }
 {
-    let mut fired = Vec::new(alloc);
-    let (count, same) = fire_cycle(alloc, &mut fired, line)?;
-    let fired = fired.as_slice();
+    let mut firings = Firings::new(alloc);
+    let (count, same) = fire_cycle(alloc, &mut firings, line)?;
+    let fired = firings.fired.as_slice();
     push_all(cycle, alloc, line, &fired[count..])?;
     Ok(same && first_standard_firing(&fired[..count]).is_some())
 }
 
-/// Puts into `fired` what a last line fires up to the end of the cycle. How many of these come before the cycle, and whether the
+/// Puts into `firings` those of a last line up to the end of the cycle. How many of these come before the cycle, and whether the
 /// saving at its end is that at its begin.
 fn fire_cycle<'a>(
     alloc: Global,
-    fired: &mut Vec<Firing<'a>>,
+    firings: &mut Firings<'a>,
     line: &Line<'a>,
 ) -> Result<(usize, bool), AllocError>
-    requires empty { fired.old.items ≡ [] }
+    requires fired { firings.old.fired.items ≡ [] }
+    requires saving { firings.old.saving ≡ pos 0 }
     requires begun { IsSound most_years line.now }
     requires line { IsSound 700 line.now }
     requires end { line.now.end ≡ None }
-    ensures cut { IfOk result (λ cycle. IsCut line.now cycle.0 fired.new.items) }
+    ensures cut { IfOk result (λ cycle. IsCut line.now cycle.0 firings.new.fired.items) }
     ensures same { IfOk result (λ cycle. cycle.1 ≡ int_eq (first_fired line.now 700).1 (first_fired line.now 300).1) }
-    ensures bounded { IfOk result (λ _. IsTrue (list_all is_bounded_firing fired.new.items)) }
+    ensures bounded { IfOk result (λ _. IsTrue (list_all is_bounded_firing firings.new.fired.items)) }
 {
-    let mut left = Vec::new(alloc);
-    let saving = fire_years(alloc, fired, &mut left, line, 0, MOST_YEARS, 0)?;
-    let count = fired.as_slice().len();
-    let after = fire_years(
-        alloc,
-        fired,
-        &mut left,
-        line,
-        MOST_YEARS,
-        YEARS_THROUGH_CYCLE,
-        saving,
-    )?;
-    Ok((count, is_same(after, saving)))
+    firings.fire_years(alloc, line, 0, MOST_YEARS)?;
+    let count = firings.fired.as_slice().len();
+    let saving = firings.saving;
+    firings.fire_years(alloc, line, MOST_YEARS, YEARS_THROUGH_CYCLE)?;
+    Ok((count, is_same(firings.saving, saving)))
 }
 
 fn is_same(one: i64, other: i64) -> bool
@@ -131,10 +124,9 @@ fn next_start_of(alloc: Global, line: &Line<'_>) -> Result<Option<i64>, AllocErr
     if !line.is_ruled() {
         return Ok(next_start(line, line.fixed_saving()));
     }
-    let mut kept = Several::new(alloc, Kept::new(alloc));
-    let mut fired = Vec::new(alloc);
-    let saving = fire_line(&mut kept, &mut fired, alloc, line, None, MOST_YEARS)?;
-    Ok(next_start(line, saving))
+    let mut expander = Expander::new(alloc);
+    expander.fire_line(alloc, line, None, MOST_YEARS)?;
+    Ok(next_start(line, expander.firings.saving))
 }
 
 /// Whether the cycle's entries are in order, after the line's start and those from before.

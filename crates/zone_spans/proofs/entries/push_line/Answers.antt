@@ -15,15 +15,15 @@ returns-then-is_ruled-clause-entries c =
     let es = c.args.entries.now in
     let ruled = sym c.is_ruled.ensures ∙ c.if-is_ruled.true in
     c.in_ok-push_ruled.ensures
-    ∙ ap (λ (fs : List Firing). es ++ (map (entry_of line) (listed_firings start fs) ++ start_entry line start fs)) c.deref.ensures.value
-    ∙ ap (λ xs. es ++ xs) (ruled_entries c.args.most line start c.fire_line.new.fired.items ruled c.in_ok-last_saving.ensures.stands)
+    ∙ ap (λ (fs : List Firing). es ++ (map (entry_of line) (listed_firings start fs) ++ start_entry line start fs)) c.as_slice.ensures.value
+    ∙ ap (λ xs. es ++ xs) (ruled_entries c.args.most line start c.fire_line.new.self.firings.fired.items ruled c.in_ok-fire_line.ensures.stand.fired)
 
 pub returns-then-is_ruled-clause-bounded : goal.returns-then-is_ruled-clause-bounded
 returns-then-is_ruled-clause-bounded c small =
-    let fired = c.in_ok-last_saving.ensures in (
+    let fired = c.in_ok-fire_line.ensures.stand in (
       c.next_start.ensures.bounded,
-      bounded_ruled c.args.most c.args.line.now c.args.start c.fire_line.new.fired.items c.requires.line.bounded
-          (sym c.is_ruled.ensures ∙ c.if-is_ruled.true) fired.stands small fired.bounded,
+      bounded_ruled c.args.most c.args.line.now c.args.start c.fire_line.new.self.firings.fired.items c.requires.line.bounded
+          (sym c.is_ruled.ensures ∙ c.if-is_ruled.true) fired.fired small fired.small.fired,
     )
 
 pub next_start-requires-clause-end : goal.next_start-requires-clause-end

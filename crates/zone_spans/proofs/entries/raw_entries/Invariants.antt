@@ -11,5 +11,5 @@ invariant-loop-line l = record {
   entries : l.entries ++ entries_from_over l.most l.start (drop l.line-index l.lines) ≡ raw_entries_over l.most l.lines;
   start : IsTrue (is_start l.start);
   bounded : IsTrue (list_all is_bounded_entry l.entries);
-  kept : AreAll IsKept l.kept;
+  kept : AreAll IsKept l.expander.kept;
 }

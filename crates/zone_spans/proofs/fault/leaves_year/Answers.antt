@@ -26,5 +26,5 @@ years_over-years-requires-clause-end c =
 
 pub leaves_year-leaves-requires-clause-bounded : goal.leaves_year-leaves-requires-clause-bounded
 leaves_year-leaves-requires-clause-bounded c =
-    subst (λ (rs : List RuleInfo). IsTrue (list_all is_bounded_rule rs)) (sym c.in_ok-take_for.ensures.rules)
+    subst (λ (rs : List RuleInfo). IsTrue (list_all is_bounded_rule rs)) (sym c.in_ok-take_for.ensures.serves)
     (bounded_rules c.args.line.now c.requires.bounded)

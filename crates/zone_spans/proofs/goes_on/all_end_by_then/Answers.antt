@@ -1,5 +1,4 @@
-use Rattle.std.proofs.Common.{◌≡◌, Option, IsTrue, length, drop, sym, ap, ◌∙◌, subst, arith}
-use Rattle.std.specs.List.{list_all}
+use Rattle.std.proofs.Common.{Option, IsTrue, sym, ap, subst, arith}
 use Rattle.zone_values.specs.declared.change.ChangeTime.{ChangeTime}
 use Rattle.zone_spans.specs.Bounds.{IsSoundOver, is_end}
 use Rattle.zone_spans.specs.Lines.{Line}

@@ -1,4 +1,4 @@
-use Rattle.std.proofs.Common.{◌≡◌, sym, ap, ◌∙◌}
+use Rattle.std.proofs.Common.{sym, ap, ◌∙◌}
 use Rattle.std.specs.FinMap.{get}
 use Rattle.zone_spans.specs.Faults.{line_fault}
 use Rattle.zone_spans.proofs.CompiledLemmas.{unknown_due, fault_due, rest_due, all_sound}

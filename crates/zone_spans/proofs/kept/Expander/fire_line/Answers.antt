@@ -3,7 +3,7 @@ use Rattle.zone_values.specs.declared.change.ChangeTime.{ChangeTime}
 use Rattle.zone_spans.specs.Bounds.{is_end}
 use Rattle.zone_spans.specs.Lines.{Line}
 use Rattle.zone_spans.proofs.SoundLemmas.{sound_end}
-use Rattle.zone_spans.proofs.kept.fire_line.Goals as goal
+use Rattle.zone_spans.proofs.kept.Expander.fire_line.Goals as goal
 
 pub years_over-years-requires-clause-end : goal.years_over-years-requires-clause-end
 years_over-years-requires-clause-end c =

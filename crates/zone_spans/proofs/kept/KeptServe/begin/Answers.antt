@@ -3,10 +3,10 @@ use Rattle.std.proofs.lemmas.Int.{to_z-of_z}
 use Rattle.zone_spans.specs.Kept.{AreSummaries}
 use Rattle.zone_spans.specs.declared.kept.Summary.{Summary}
 use Rattle.zone_spans.proofs.KeptLemmas.{begun_quiet}
-use Rattle.zone_spans.proofs.kept.Kept.begun.Goals as goal
+use Rattle.zone_spans.proofs.kept.KeptServe.begin.Goals as goal
 
-pub returns-clause-kept : goal.returns-clause-kept
-returns-clause-kept c =
+pub returns-clause-holds : goal.returns-clause-holds
+returns-clause-holds c =
     let its = c.line.inside.rules.now in
     let offset = c.line.inside.info.now.offset in
     let fits : SFits w64 offset = search rules in
