@@ -3,13 +3,15 @@ from manual import sections
 
 BASH = """# Completion of {name} in bash.
 _{name}() {{
-    local words=({words}) word=${{COMP_WORDS[COMP_CWORD]}} zone
-    local place=${{words[COMP_CWORD - 1]:-}}
+    local words=({words}) word=${{COMP_WORDS[COMP_CWORD]}} file=1 zone
+{forms}    local place=${{words[COMP_CWORD - 1]:-}}
+    if [[ ${{words[0]}} != FILE ]]; then file=2; fi
     COMPREPLY=()
     case $place in
+        [a-z]*) mapfile -t COMPREPLY < <(compgen -W "${{words[0]}} {options}" -- "$word") ;;
         FILE)
             compopt -o filenames
-            mapfile -t COMPREPLY < <(compgen -f -- "$word"; compgen -W "{options}" -- "$word")
+            mapfile -t COMPREPLY < <(compgen -f -- "$word"; [[ $COMP_CWORD -gt 1 ]] || compgen -W "{options}" -- "$word")
             ;;
         NAME)
             while read -r zone; do
@@ -17,7 +19,7 @@ _{name}() {{
                     printf -v zone %q "$zone"
                     COMPREPLY+=("$zone")
                 fi
-            done < <(awk '$1 == "Zone" {{ print $2 }} $1 == "Link" {{ print $3 }}' "${{COMP_WORDS[1]}}" 2>/dev/null)
+            done < <(awk '$1 == "Zone" {{ print $2 }} $1 == "Link" {{ print $3 }}' "${{COMP_WORDS[file]}}" 2>/dev/null)
             ;;
     esac
 }}
@@ -27,7 +29,9 @@ ZSH = """#compdef {names}
 # Completion of the programs of Sefunjaro in zsh.
 _sefunjaro_zones() {{
     local -a zones
-    zones=(${{(f)"$(awk '$1 == "Zone" {{ print $2 }} $1 == "Link" {{ print $3 }}' ${{(Q)words[2]}} 2>/dev/null)"}})
+    local file=${{(Q)words[2]}}
+    [[ -e $file ]] || file=${{(Q)words[3]}}
+    zones=(${{(f)"$(awk '$1 == "Zone" {{ print $2 }} $1 == "Link" {{ print $3 }}' $file 2>/dev/null)"}})
     compadd -a zones
 }}
 
@@ -40,28 +44,46 @@ CASE = """    {name})
         ;;"""
 
 
-def words_of(section):
-    """The words of a program's first call, in order."""
-    return section.calls[0].split()[1:]
+def words_of(call):
+    """The words of a call, in order."""
+    return call.split()[1:]
+
+
+def leading(section):
+    """What may stand in front of a program's file, by its calls: `answers`, `list`, `alarm`."""
+    return [call.split()[1] for call in section.calls if call.split()[1].islower() and call.split()[1][0] != "-"]
 
 
 def options_of(section):
     """The options that may be a program's first word."""
-    return [call.split()[1] for call in section.calls[1:]] + ["--help", "--version"]
+    return [call.split()[1] for call in section.calls[1:] if call.split()[1][0] == "-"] + ["--help", "--version"]
+
+
+def form(call):
+    """The line that goes by the words of a call, where its first one is there."""
+    words = words_of(call)
+    return f'    if [[ $COMP_CWORD -gt 1 && ${{COMP_WORDS[1]}} == {words[0]} ]]; then words=({" ".join(words)}); fi\n'
 
 
 def for_bash(name, section):
-    return BASH.format(name=name, words=" ".join(words_of(section)), options=" ".join(options_of(section)))
+    forms = "".join(form(call) for call in section.calls[1:] if words_of(call)[0] in leading(section))
+    options = " ".join([*leading(section)[1:], *options_of(section)])
+    return BASH.format(name=name, words=" ".join(words_of(section.calls[0])), forms=forms, options=options)
 
 
-def zsh_word(place, word):
-    action = {"FILE": "_files", "NAME": "_sefunjaro_zones"}.get(word, " ")
+def longest(section):
+    """The words of the call that has the most, of those that begin with no option."""
+    return max((words_of(call) for call in section.calls if words_of(call)[0][0] != "-"), key=len)
+
+
+def zsh_word(place, word, leads):
+    action = f"({' '.join(leads)})" if word in leads else {"FILE": "_files", "NAME": "_sefunjaro_zones"}.get(word, " ")
     return f"'{place}:{word}:{action}'"
 
 
 def for_zsh(found):
     cases = [CASE.format(name=name, options="".join(f"'(- *){option}' " for option in options_of(section)),
-                         words=" ".join(zsh_word(place, word) for place, word in enumerate(words_of(section), 1)))
+                         words=" ".join(zsh_word(place, word, leading(section)) for place, word in enumerate(longest(section), 1)))
              for name, section in found.items()]
     return ZSH.format(names=" ".join(found), cases="\n".join(cases))
 
