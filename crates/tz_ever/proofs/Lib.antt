@@ -5,4 +5,7 @@ pub mod TotalLemmas
 pub mod AnswerLemmas
 pub mod ForEverLemmas
 pub mod OpenLemmas
+pub mod UnrolledLemmas
+pub mod UnrolledShows
+pub mod TableLemmas
 mod EverRows
