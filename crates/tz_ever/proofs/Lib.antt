@@ -1,5 +1,6 @@
 pub mod SeamLemmas
 pub mod CutLemmas
+pub mod SecondLemmas
 pub mod NearLemmas
 pub mod TotalLemmas
 pub mod AnswerLemmas

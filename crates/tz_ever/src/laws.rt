@@ -1,11 +1,14 @@
 //! What a zone shows for ever is what an [`EverTz`](crate::EverTz) over its spans shows, and an [`EverTable`](crate::EverTable) to the
 //! year 10501.
-ghost use Rattle.std.specs.Prelude.{◌≡◌, List, Some, ℤ, pos, ◌+ℤ◌, ◌<ℤ◌};
+ghost use Rattle.std.specs.Prelude.{◌≡◌, ℕ, IsTrue, List, Some, ℤ, pos, ◌+ℤ◌, ◌<ℤ◌};
+ghost use Rattle.civil_base.specs.Instants.{nanos_of, seconds_of};
+ghost use Rattle.zone_table.specs.declared.table.Table.{Table};
 ghost use Rattle.zone_table.specs.declared.zone.ZoneInfo.{ZoneInfo};
 ghost use Rattle.zone_spans.specs.Lines.{Rulesets};
-ghost use Rattle.zone_spans.specs.Schedules.{total_at};
+ghost use Rattle.zone_spans.specs.Schedules.{is_in_offset_range, total_at};
 ghost use Rattle.tz_ever.specs.AnyYear.{span_for_ever, total_for_ever};
-ghost use Rattle.tz_zone.specs.Compiles.{spans_of};
+ghost use Rattle.tz_ever.specs.Opens.{IsFoundForEver, IsZoneToday};
+ghost use Rattle.tz_zone.specs.Compiles.{IsCompiledAs, compiled_in, spans_of};
 ghost use Rattle.tz_zone.specs.InForce.{all_in_force};
 ghost use Rattle.tz_zone.specs.Sets.{IsAccepted, schedule_of};
 ghost use Rattle.tz_zone.specs.declared.set.FixedTimespanSet.{FixedTimespanSet};
@@ -77,3 +80,24 @@ pub fn of_each_set(set: &EverSet)
 {
     let _ = set;
 }
+
+/// A name whose zone was compiled, and has no offset of 26 hours or more, has a zone today.
+pub fn is_today()
+    ensures { (table : Table) (name : List ℕ) (set : FixedTimespanSet) → IsCompiledAs set (compiled_in table name)
+        → IsTrue (is_in_offset_range (schedule_of set)) → IsZoneToday table name }
+{}
+
+/// Until 2099-11-27 06:40:00 UTC, at least, the set that is found for ever shows what the set does that is compiled to the end of 2099.
+pub fn shows_as_today()
+    ensures { (table : Table) (name : List ℕ) (set ever : FixedTimespanSet) (t : ℤ) → IsCompiledAs set (compiled_in table name)
+        → IsFoundForEver table name ever → t <ℤ pos 4099444800000000000
+        → (ever_total ever t ≡ total_at (schedule_of set) t) × (ever_span ever t ≡ span_at (spans_of set) t) }
+{
+    for_ever::before_2100();
+    for_ever::as_before();
+}
+
+/// One total offset is in force throughout a second.
+pub fn holds_in_seconds()
+    ensures { (set : FixedTimespanSet) (t : ℤ) → ever_total set t ≡ ever_total set (nanos_of (seconds_of t)) }
+{}
