@@ -1,5 +1,5 @@
 -- The zone of New York's last line in years far off, by what Python's zoneinfo says of America/New_York.
-use Rattle.std.proofs.Common.{◌≡◌, refl, [], ◌∷◌, map, true, false, pos, List, codes, ℤ, ◌+ℤ◌, ◌-ℤ◌, ◌*ℤ◌, Bool, ℕ, ◌*◌, Some, None, Result, Ok, Err, is_ok}
+use Rattle.std.proofs.Common.{◌≡◌, refl, [], ◌∷◌, map, take, drop, true, false, pos, List, codes, ℤ, ◌+ℤ◌, ◌-ℤ◌, ◌*ℤ◌, Bool, ℕ, ◌*◌, Some, None, Result, Ok, Err, is_ok}
 use Rattle.std.specs.Ordering.{int_eq}
 use Rattle.calendar.specs.Dates.{last_with}
 use Rattle.calendar.specs.Days.{days_after_zero, year_start, days_through, days_into_year, day, is_leap, days_in_year, days_in_month}
@@ -21,7 +21,7 @@ use Rattle.zone_table.specs.declared.zone.ZoneInfo.{ZoneInfo}
 use Rattle.zone_spans.specs.Bounds.{is_bounded_line}
 use Rattle.zone_spans.specs.Collapse.{kept_of, kept_with, collapsed, without_first}
 use Rattle.zone_spans.specs.Compiled.{compiled, compiled_over, set_of_lines_over}
-use Rattle.zone_spans.specs.Entries.{first_span, entries_from_over, entries_of_over, next_start_over, sorted_entries_over}
+use Rattle.zone_spans.specs.Entries.{Entry, first_span, entries_from_over, entries_of_over, next_start_over, sorted_entries_over}
 use Rattle.zone_spans.specs.Faults.{is_outside, some_year, leaves_year_over, schedule_fault_over}
 use Rattle.zone_spans.specs.Firings.{earliest, fired, year_firings, firings_of_years, line_firings_over, years_over}
 use Rattle.zone_spans.specs.Lines.{Rulesets, zone_lines}
@@ -39,6 +39,7 @@ use Rattle.tz_zone.specs.declared.set.FixedTimespanSet.{FixedTimespanSet}
 use Rattle.tz_ever.specs.Ever.{ever_span, ever_total}
 use Rattle.tz_ever.specs.ForEver.{IsForEver, ever_years}
 use Rattle.tz_ever.specs.Seam.{brought_back, cycles_past, next_seam, seam}
+use Rattle.tz_ever.specs.Unrolled.{again, entries_before, entries_from, unrolled_entries}
 
 -- ---- the seam and its cycles: 2501-12-31 24:00 is 2102-01-01, and so is that of 2901; before it nothing moves
 brought : map brought_back (
@@ -47,6 +48,24 @@ brought : map brought_back (
     ) ≡ (pos 0 ∷ (seam -ℤ pos 1) ∷ seam ∷ (next_seam -ℤ pos 1) ∷ seam ∷ (seam +ℤ pos 1) ∷ (next_seam -ℤ pos 1) ∷ seam ∷ [])
 unfolding brought_back cycles_past
 brought = refl
+
+-- ---- the entries of a table: a second before the cycle begins and as it begins, a second before its end and at it
+abbrev change : ℤ → Entry
+change second = (second, record { utc_offset = pos 0; dst_offset = pos 0; name = [] })
+
+abbrev unrolled_times : List ℤ
+unrolled_times = map (λ (e : Entry). e.0) (unrolled_entries
+    (change (pos 4165516799) ∷ change (pos 4165516800) ∷ change (pos 16788297599) ∷ change (pos 16788297600) ∷ []))
+
+-- those before 2502 as they are, and those from 2102 on again in each cycle: 2502-01-01 00:00:00, 2901-12-31 23:59:59, and so on
+first_times : take 6 unrolled_times ≡ pos 4165516799 ∷ pos 4165516800 ∷ pos 16788297599 ∷ pos 16788297600 ∷ pos 29411078399 ∷ pos 29411078400 ∷ []
+unfolding unrolled_entries entries_before entries_from again
+first_times = refl
+
+-- up to 10501-12-31 23:59:59
+last_times : drop 41 unrolled_times ≡ pos 256621132800 ∷ pos 269243913599 ∷ []
+unfolding unrolled_entries entries_before entries_from again
+last_times = refl
 
 -- `Rule US 2007 max - Mar Sun>=8 2:00 1:00 D` and `Rule US 2007 max - Nov Sun>=1 2:00 0 S`
 abbrev sunday : Month → ℤ → ℤ → List ℕ → RuleInfo

@@ -1,8 +1,12 @@
 pub mod SeamLemmas
 pub mod CutLemmas
+pub mod SecondLemmas
 pub mod NearLemmas
 pub mod TotalLemmas
 pub mod AnswerLemmas
 pub mod ForEverLemmas
 pub mod OpenLemmas
+pub mod UnrolledLemmas
+pub mod UnrolledShows
+pub mod TableLemmas
 mod EverRows

@@ -44,7 +44,7 @@ few_more x y (suc j) k h g near =
     omega (arith, signed)
 
 -- ---- near instants
-near_after : (x o : ℤ) → IsOffset o → instant_at x o <ℤ (x +ℤ pos 93600000000000)
+pub near_after : (x o : ℤ) → IsOffset o → instant_at x o <ℤ (x +ℤ pos 93600000000000)
 near_after x o h = let least = offset_least o h in omega (arith, signed)
 
 near_before : (x o : ℤ) → IsOffset o → x <ℤ (instant_at x o +ℤ pos 93600000000000)

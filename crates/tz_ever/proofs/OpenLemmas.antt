@@ -142,3 +142,15 @@ found_for_ever shown table name set going named is =
       total = λ t. (shown rulesets zone.infos set t ever).0;
       span = λ t. (shown rulesets zone.infos set t ever).1;
     }
+
+-- ---- as today
+pub shown_today : BeforeLaw → AsBeforeLaw → (table : Table) (name : List ℕ) (set ever : FixedTimespanSet) (t : ℤ)
+    → IsCompiledAs set (compiled_in table name) → IsFoundForEver table name ever → t <ℤ pos 4099444800000000000
+    → (ever_total ever t ≡ total_at (schedule_of set) t) × (ever_span ever t ≡ span_at (spans_of set) t)
+unfolding totals_of
+shown_today before as_before table name set ever t is found early =
+    let rulesets = get table.rulesets in
+    let compiles = found_in (compiled rulesets) (resolved_in table name) found.infos (Ok (spans_of set)) found.is_found is in
+    let shown = as_before rulesets found.infos (spans_of set) t found.zone.goes_on compiles
+    (before rulesets found.infos (spans_of set) t found.zone.goes_on compiles found.zone.bounded (omega (arith, signed, early))) in
+    (found.total t ∙ shown.0, same_some _ _ (found.span t ∙ shown.1))

@@ -85,6 +85,11 @@ shown_by_totals : (total : ℤ → ℤ) (x : ℤ) → all_in_force total x ≡ m
 unfolding all_in_force instants
 shown_by_totals total x = back_to_instant total x offsets ∙ ap (map (at_instant x)) (sym (totals_are total x))
 
+-- all date-times of a local time that both read alike
+pub same_in_force : (total : ℤ → ℤ) (other : ℤ → ℤ) (x : ℤ) → AgreeNear total x other x → all_in_force total x ≡ all_in_force other x
+same_in_force total other x agree =
+    shown_by_totals total x ∙ ap (map (at_instant x)) (same_totals total x other x agree) ∙ sym (shown_by_totals other x)
+
 offsets_shown : (dates : List OffsetDateTime) → map offset_of dates ≡ map (λ (shown : ℤ × ℤ). shown.1) (map shown_of dates)
 unfolding shown_of
 offsets_shown [] = refl

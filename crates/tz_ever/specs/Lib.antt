@@ -6,6 +6,10 @@ pub mod Ever
 pub mod ForEver
 pub mod EverShown
 pub mod EverZones
+pub mod Unrolled
+pub mod TablesShown
 pub mod Opens
 -- Laws: what a caller may use.
 pub mod InForceLaws
+-- Words of private clauses.
+pub mod Places

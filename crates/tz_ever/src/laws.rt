@@ -1,13 +1,25 @@
-//! What a zone shows for ever is what an [`EverTz`](crate::EverTz) over its spans shows.
-ghost use Rattle.std.specs.Prelude.{◌≡◌, List, Some, ℤ};
+//! What a zone shows for ever is what an [`EverTz`](crate::EverTz) over its spans shows, and an [`EverTable`](crate::EverTable) to the
+//! year 10501.
+ghost use Rattle.std.specs.Prelude.{◌≡◌, ℕ, IsTrue, List, Some, ℤ, pos, ◌+ℤ◌, ◌<ℤ◌};
+ghost use Rattle.civil_base.specs.Instants.{nanos_of, seconds_of};
+ghost use Rattle.zone_table.specs.declared.table.Table.{Table};
 ghost use Rattle.zone_table.specs.declared.zone.ZoneInfo.{ZoneInfo};
 ghost use Rattle.zone_spans.specs.Lines.{Rulesets};
+ghost use Rattle.zone_spans.specs.Schedules.{is_in_offset_range, total_at};
 ghost use Rattle.tz_ever.specs.AnyYear.{span_for_ever, total_for_ever};
+ghost use Rattle.tz_ever.specs.Opens.{IsFoundForEver, IsZoneToday};
+ghost use Rattle.tz_zone.specs.Compiles.{IsCompiledAs, compiled_in, spans_of};
+ghost use Rattle.tz_zone.specs.InForce.{all_in_force};
+ghost use Rattle.tz_zone.specs.Sets.{IsAccepted, schedule_of};
 ghost use Rattle.tz_zone.specs.declared.set.FixedTimespanSet.{FixedTimespanSet};
 ghost use Rattle.tz_ever.specs.Ever.{IsRepeating, ever_span, ever_total};
+ghost use Rattle.tz_ever.specs.EverShown.{ever_seen};
 ghost use Rattle.tz_ever.specs.ForEver.{IsForEver};
+ghost use Rattle.tz_ever.specs.InForce.{span_at};
+ghost use Rattle.tz_ever.specs.Unrolled.{unrolled, unrolled_end};
 
 use crate::cycle::for_ever;
+use crate::ever_set::EverSet;
 
 /// Where a zone goes on, the set of its spans over 704 years shows at the seam what it shows a cycle later, as
 /// [`EverSet::build`](crate::EverSet::build) asks.
@@ -28,3 +40,64 @@ pub fn shows_for_ever()
     for_ever::brought_back();
     for_ever::total_is_of_span();
 }
+
+/// A set that can be looked up can be with the entries of 20 cycles more: each total is an offset, the times don't fall, and they are
+/// small.
+pub fn unrolled_is_accepted()
+    ensures { (set : FixedTimespanSet) → IsAccepted (schedule_of set) → IsAccepted (schedule_of (unrolled set)) }
+{}
+
+/// At each instant up to the end of the year 10501 these entries show what the set shows there for ever.
+pub fn unrolled_shows()
+    ensures { (set : FixedTimespanSet) (t : ℤ) → IsAccepted (schedule_of set) → IsRepeating set → t <ℤ unrolled_end
+        → (span_at (spans_of (unrolled set)) t ≡ ever_span set t) × (total_at (schedule_of (unrolled set)) t ≡ ever_total set t) }
+{}
+
+/// So they show what the lines of a zone that goes on show for ever.
+pub fn unrolled_shows_for_ever()
+    ensures { (rulesets : Rulesets) (infos : List ZoneInfo) (set : FixedTimespanSet) (t : ℤ) → IsForEver rulesets infos set
+        → IsAccepted (schedule_of set) → t <ℤ unrolled_end
+        → (total_at (schedule_of (unrolled set)) t ≡ total_for_ever rulesets infos t)
+        × (Some (span_at (spans_of (unrolled set)) t) ≡ span_for_ever rulesets infos t) }
+{
+    repeats_at_the_seam();
+    shows_for_ever();
+    unrolled_shows();
+}
+
+/// Each local time 26 hours and more before that end is read as at the same instants, and at the same offsets.
+pub fn unrolled_reads()
+    ensures { (set : FixedTimespanSet) (x : ℤ) → IsAccepted (schedule_of set) → IsRepeating set → (x +ℤ pos 93600000000000) <ℤ unrolled_end
+        → all_in_force (total_at (schedule_of (unrolled set))) x ≡ all_in_force (ever_total set) x }
+{
+    unrolled_shows();
+}
+
+/// What each [`EverSet`] is built from can be looked up, and shows at the seam what it shows a cycle later.
+pub fn of_each_set(set: &EverSet)
+    ensures accepted { IsAccepted (schedule_of (ever_seen set.now)) }
+    ensures repeats { IsRepeating (ever_seen set.now) }
+{
+    let _ = set;
+}
+
+/// A name whose zone was compiled, and has no offset of 26 hours or more, has a zone today.
+pub fn is_today()
+    ensures { (table : Table) (name : List ℕ) (set : FixedTimespanSet) → IsCompiledAs set (compiled_in table name)
+        → IsTrue (is_in_offset_range (schedule_of set)) → IsZoneToday table name }
+{}
+
+/// Until 2099-11-27 06:40:00 UTC, at least, the set that is found for ever shows what the set does that is compiled to the end of 2099.
+pub fn shows_as_today()
+    ensures { (table : Table) (name : List ℕ) (set ever : FixedTimespanSet) (t : ℤ) → IsCompiledAs set (compiled_in table name)
+        → IsFoundForEver table name ever → t <ℤ pos 4099444800000000000
+        → (ever_total ever t ≡ total_at (schedule_of set) t) × (ever_span ever t ≡ span_at (spans_of set) t) }
+{
+    for_ever::before_2100();
+    for_ever::as_before();
+}
+
+/// One total offset is in force throughout a second.
+pub fn holds_in_seconds()
+    ensures { (set : FixedTimespanSet) (t : ℤ) → ever_total set t ≡ ever_total set (nanos_of (seconds_of t)) }
+{}

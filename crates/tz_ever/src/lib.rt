@@ -5,10 +5,12 @@
 mod bring;
 pub mod cycle;
 mod ever_set;
+mod ever_table;
 mod ever_tz;
 pub mod laws;
 mod open;
 
 pub use ever_set::{EVER_YEARS, EverSet};
+pub use ever_table::EverTable;
 pub use ever_tz::{EverCursor, EverTz};
 pub use open::EverFault;

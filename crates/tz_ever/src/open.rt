@@ -35,7 +35,7 @@ impl EverSet {
     ghost use Rattle.std.specs.Prelude.{IfErr, IfOk};
     ghost use Rattle.zone_table.specs.BoundedTables.{IsBoundedTable};
     ghost use Rattle.tz_ever.specs.EverShown.{ever_seen};
-    ghost use Rattle.tz_ever.specs.Opens.{IsEverFault, IsFoundForEver};
+    ghost use Rattle.tz_ever.specs.Opens.{IsEverFault, IsFoundForEver, IsZoneToday};
 
     /// The zone that a name finds in a table, for ever: what its lines show at any instant, expanded over as many years as the
     /// instant asks for. The table is bounded. The cost is that of expanding the lines over some 2,400 years.
@@ -50,6 +50,24 @@ impl EverSet {
         ensures err { IfErr result (IsEverFault table.now name.now) }
     {
         test_today(alloc, table, name)?;
+        match EverSet::carry_on(alloc, table, name) {
+            Ok(ever) => Ok(ever),
+            Err(fault) => Err(fault),
+        }
+    }
+
+    /// The same of a name whose zone has a schedule today, as [`is_today`](crate::laws::is_today) says of one that was compiled: so that
+    /// whoever needs both compiles it once.
+    ///
+    /// # Errors
+    ///
+    /// As [`EverSet::open`], but of [`compile_zone`]'s want of memory alone.
+    pub fn carry_on(alloc: Global, table: &Table, name: &str) -> Result<EverSet, EverFault>
+        requires table { IsBoundedTable table.now }
+        requires today { IsZoneToday table.now name.now }
+        ensures ok { IfOk result (λ ever. IsFoundForEver table.now name.now (ever_seen ever)) }
+        ensures err { IfErr result (IsEverFault table.now name.now) }
+    {
         test_going(alloc, table, name)?;
         let set = later_set(alloc, table, name)?;
         laws::repeats_at_the_seam();

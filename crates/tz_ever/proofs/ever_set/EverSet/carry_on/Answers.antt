@@ -1,5 +1,5 @@
 use Rattle.std.specs.FinMap.{get}
-use Rattle.tz_ever.proofs.ever_set.EverSet.open.Goals as goal
+use Rattle.tz_ever.proofs.ever_set.EverSet.carry_on.Goals as goal
 
 pub build-requires : goal.build-requires
 build-requires c =

@@ -1,0 +1,42 @@
+-- One total is in force throughout a second, for ever.
+use Rattle.std.proofs.Common.{◌≡◌, ℕ, ◌*◌, ℤ, pos, ◌+ℤ◌, ◌-ℤ◌, sym, ap, ◌∙◌, arith}
+use Rattle.calendar.specs.SignedLaws.{signed}
+use Rattle.civil_base.specs.Instants.{nanos_of, seconds_of}
+use Rattle.zone_spans.specs.Schedules.{Schedule, total_at}
+use Rattle.tz_zone.specs.SecondLaws.{IsSecond, one_second, second_is, total_is}
+use Rattle.tz_zone.specs.Sets.{schedule_of}
+use Rattle.tz_zone.specs.Spans.{total_from}
+use Rattle.tz_zone.specs.declared.set.FixedTimespanSet.{FixedTimespanSet}
+use Rattle.tz_ever.specs.Ever.{ever_total}
+use Rattle.tz_ever.specs.Seam.{cycles_past}
+use Rattle.tz_ever.proofs.SeamLemmas.{ArePast, back_by, cycles_past-are}
+
+begins_at : (s : ℤ) → IsSecond (nanos_of s) s
+begins_at s = record { low = omega (arith, signed); high = omega (arith, signed) }
+
+-- a second lies on one side of each seam
+same_past : (t s : ℤ) (k : ℕ) → IsSecond t s → ArePast t k → ArePast (nanos_of s) k
+same_past t s k at past = record {
+  begun = λ some. let begun = past.begun some in omega (arith, signed, at.low, at.high);
+  not_over = let not_over = past.not_over in omega (arith, signed, at.low);
+}
+
+brought : (t s : ℤ) (k : ℕ) → IsSecond t s → IsSecond (t -ℤ pos (k * 12622780800000000000)) (s -ℤ pos (k * 12622780800))
+brought t s k at = record { low = omega (arith, signed, at.low); high = omega (arith, signed, at.high) }
+
+same_total : (zone : Schedule) (t u s : ℤ) → IsSecond t s → IsSecond u s → total_at zone t ≡ total_at zone u
+same_total zone t u s h g =
+    total_is zone t
+    ∙ ap (total_from zone.first zone.shifts) (one_second t (seconds_of t) s (second_is t) h ∙ one_second u s (seconds_of u) g (second_is u))
+    ∙ sym (total_is zone u)
+
+pub by_seconds : (set : FixedTimespanSet) (t : ℤ) → ever_total set t ≡ ever_total set (nanos_of (seconds_of t))
+unfolding ever_total
+by_seconds set t =
+    let zone = schedule_of set in
+    let s = seconds_of t in
+    let at = second_is t in
+    let k = cycles_past t in
+    let past = cycles_past-are t in
+    ap (total_at zone) (back_by t k past) ∙ same_total zone _ _ _ (brought t s k at) (brought (nanos_of s) s k (begins_at s))
+    ∙ sym (ap (total_at zone) (back_by (nanos_of s) k (same_past t s k at past)))
