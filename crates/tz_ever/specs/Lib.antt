@@ -9,3 +9,4 @@ pub mod EverZones
 pub mod Opens
 -- Laws: what a caller may use.
 pub mod InForceLaws
+pub mod SeamLaws
