@@ -25,7 +25,7 @@ use Rattle.tz_ever.specs.Ever.{IsRepeating, ever_span, ever_total}
 use Rattle.tz_ever.specs.ForEver.{IsForEver, ever_years}
 use Rattle.tz_ever.specs.Seam.{cycles_past}
 use Rattle.tz_ever.proofs.NearLemmas.{ever_total-is}
-use Rattle.tz_ever.proofs.SeamLemmas.{ArePast, back_by, cycles_past-are}
+use Rattle.tz_ever.specs.SeamLaws.{ArePast, back_by, cycles_past-are}
 
 -- ---- the laws of a zone that goes on
 abbrev pub EnoughLaw : Type 0

@@ -18,7 +18,7 @@ use Rattle.tz_zone.specs.declared.set.FixedTimespanSet.{FixedTimespanSet}
 use Rattle.tz_ever.specs.Ever.{GivesEver, IsRepeating, ever_span, ever_total}
 use Rattle.tz_ever.specs.Seam.{IsAtSeam, brought_back, cycles_past}
 use Rattle.tz_ever.proofs.CutLemmas.{in_force-is}
-use Rattle.tz_ever.proofs.SeamLemmas.{ArePast, back_by, cycles_past-are}
+use Rattle.tz_ever.specs.SeamLaws.{ArePast, back_by, cycles_past-are}
 
 -- ---- numbers of cycles a cycle apart at most
 abbrev OneApart : ℕ → ℕ → Type 0

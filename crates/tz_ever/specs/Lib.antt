@@ -11,5 +11,6 @@ pub mod TablesShown
 pub mod Opens
 -- Laws: what a caller may use.
 pub mod InForceLaws
+pub mod SeamLaws
 -- Words of private clauses.
 pub mod Places

@@ -55,8 +55,9 @@ impl EverSet {
     }
 
     /// The compact set.
-    pub(crate) fn compact(&self) -> &CompactSet
-        ensures { seen result.now ≡ ever_seen self.now }
+    pub fn compact(&self) -> &CompactSet
+        ensures seen { seen result.now ≡ ever_seen self.now }
+        ensures accepted { IsAccepted (schedule_of (ever_seen self.now)) }
     {
         &self.set
     }

@@ -1,3 +1,4 @@
+pub mod ChangeLemmas
 mod RangeLemmas
 mod ReadLemmas
 mod WorkedFooters

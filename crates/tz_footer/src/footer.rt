@@ -1,5 +1,5 @@
 //! Footers and what they put in force.
-ghost use Rattle.std.specs.Prelude.{◌≡◌, ◌≤◌, None, option_and_then, unsigned_abs};
+ghost use Rattle.std.specs.Prelude.{◌≡◌, ◌≤◌, None, option_and_then, unsigned_abs, ℤ, ◌≤ℤ◌, ◌<ℤ◌};
 ghost use Rattle.tz_footer.specs.Ranges.{footer_miss};
 ghost use Rattle.tz_footer.specs.Shown.{saving_shown, text_shown};
 ghost use Rattle.tz_footer.specs.FooterShown.{held_shown};
@@ -13,7 +13,7 @@ ghost use Rattle.tz_posix_core.specs.Yearly.{time_shown};
 use crate::held::Held;
 use crate::range::check;
 use crate::read::footer_text;
-use crate::rule::is_saving;
+use crate::rule::{is_saving, next_change};
 use crate::values::{FooterText, Saving};
 use civil_base::UtcOffset;
 use tz_posix_core::parts::{YearlyRule, saving_offset};
@@ -100,6 +100,23 @@ impl<'a> Footer<'a> {
                     self.standard.copied()
                 }
             }
+        }
+    }
+
+    /// A later second up to which the same holds as at a second of the years -4000 to 8000.
+    pub fn next_change(&self, second: i64) -> i64
+        requires { unsigned_abs second ≤ 200_000_000_000 }
+        ensures later { second <ℤ result }
+        ensures same { (t : ℤ) → second ≤ℤ t → t <ℤ result → held_at (footer_shown self.now) t ≡ held_at (footer_shown self.now) second }
+    {
+        match &self.saving {
+            None => i64::MAX,
+            Some(saving) => next_change(
+                &saving.rule,
+                self.standard.offset(),
+                saving.held.offset(),
+                second,
+            ),
         }
     }
 

@@ -1,5 +1,5 @@
 //! What the start and the end of daylight saving time in one year say of a second, and the years beside.
-ghost use Rattle.std.specs.Prelude.{◌≡◌, int_lt};
+ghost use Rattle.std.specs.Prelude.{◌≡◌, int_lt, ◌<ℤ◌, ◌≤ℤ◌};
 ghost use Rattle.calendar.specs.Days.{IsCountedYear};
 ghost use Rattle.tz_footer.specs.InForce.{has_begun as begun_by, is_saved as saved_by};
 ghost use Rattle.tz_footer.specs.InForce.{year_after as next_of, year_before as last_of};
@@ -31,6 +31,31 @@ pub(crate) fn is_reversed(moments: &Moments) -> bool
     ensures { result ≡ int_lt (moments_shown moments.now).1 (moments_shown moments.now).0 }
 {
     moments.end < moments.start
+}
+
+/// What comes next after a second: the start or the end, or what comes next without them.
+pub(crate) fn next_of(moments: &Moments, second: i64, next: i64) -> i64
+    requires later { second <ℤ next }
+    ensures later { second <ℤ result }
+    ensures next { result ≤ℤ next }
+    ensures start { second <ℤ (moments_shown moments.now).0 → result ≤ℤ (moments_shown moments.now).0 }
+    ensures end { second <ℤ (moments_shown moments.now).1 → result ≤ℤ (moments_shown moments.now).1 }
+{
+    sooner(second, moments.start, sooner(second, moments.end, next))
+}
+
+/// A moment, where it comes after a second and before what comes next.
+fn sooner(second: i64, moment: i64, next: i64) -> i64
+    requires later { second <ℤ next }
+    ensures later { second <ℤ result }
+    ensures next { result ≤ℤ next }
+    ensures moment { second <ℤ moment → result ≤ℤ moment }
+{
+    if second < moment && moment < next {
+        moment
+    } else {
+        next
+    }
 }
 
 /// The year after, as far as years are counted.

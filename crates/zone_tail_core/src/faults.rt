@@ -71,14 +71,14 @@ fn are_names<S: SpanTable>(set: &S, start: usize, end: usize) -> bool
 }
 
 /// Whether an offset is at most 24:59:59 in size.
-fn can_be_written(offset: i64) -> bool
+pub fn can_be_written(offset: i64) -> bool
     ensures { result ≡ can_be_written offset }
 {
     -GREATEST <= offset && offset <= GREATEST
 }
 
 /// Whether a name can be written, with brackets or without.
-fn is_name(name: &str) -> bool
+pub fn is_name(name: &str) -> bool
     ensures { result ≡ is_name name.now }
 {
     1 <= name.len() && has_name_bytes(name)

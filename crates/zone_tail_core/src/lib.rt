@@ -11,6 +11,7 @@ mod faults;
 mod last_year;
 pub mod laws;
 mod outcome;
+pub mod parts;
 mod rule;
 mod spans;
 mod text;

@@ -8,7 +8,7 @@ use tz_lookup::{FixedTimespan, SpanTable};
 use tz_zone::offset_of;
 
 /// The total of a span, in seconds east of UTC.
-pub(crate) fn total_of<S: SpanTable>(set: &S, span: usize) -> i64
+pub fn total_of<S: SpanTable>(set: &S, span: usize) -> i64
     requires accepted { IsAccepted (schedule_of (S.seen set.now)) }
     requires within { span ≤ length (S.seen set.now).others }
     ensures total { result ≡ total_of_span (S.seen set.now) span }
@@ -19,7 +19,7 @@ pub(crate) fn total_of<S: SpanTable>(set: &S, span: usize) -> i64
 }
 
 /// The second of an entry, by the entry's number from 0 on.
-pub(crate) fn entry_time<S: SpanTable>(set: &S, number: usize) -> i64
+pub fn entry_time<S: SpanTable>(set: &S, number: usize) -> i64
     requires { number < length (S.seen set.now).others }
     ensures { result ≡ (entry_in (S.seen set.now) number).0 }
 {
@@ -27,7 +27,7 @@ pub(crate) fn entry_time<S: SpanTable>(set: &S, number: usize) -> i64
 }
 
 /// What an entry puts in force.
-pub(crate) fn entry_span<S: SpanTable>(set: &S, number: usize) -> &FixedTimespan
+pub fn entry_span<S: SpanTable>(set: &S, number: usize) -> &FixedTimespan
     requires within { number < length (S.seen set.now).others }
     requires bound { number < 18446744073709551615 }
     ensures { result.now ≡ (entry_in (S.seen set.now) number).1 }

@@ -85,8 +85,9 @@ fn has_letters(name: &str) -> bool
         .all(|byte| byte.is_ascii_alphabetic())
 }
 
+/// A name, in brackets but where it has 3 to 16 letters and nothing else.
 #[tactic(auto, unfolding(crate::specs::Texts::name_text))]
-fn add_name(text: &mut String, name: &str) -> Result<(), AllocError>
+pub fn add_name(text: &mut String, name: &str) -> Result<(), AllocError>
     ensures { OnOk result (string_bytes text.new ≡ string_bytes text.old ++ name_text name.now) }
 {
     if is_plain(name) {
@@ -100,7 +101,7 @@ fn add_name(text: &mut String, name: &str) -> Result<(), AllocError>
 
 /// An offset, which is negative where it lies east of UTC.
 #[tactic(auto, unfolding(crate::specs::Texts::offset_text))]
-fn add_offset(text: &mut String, east: i64) -> Result<(), AllocError>
+pub fn add_offset(text: &mut String, east: i64) -> Result<(), AllocError>
     requires { IsTrue (can_be_written east) }
     ensures { OnOk result (string_bytes text.new ≡ string_bytes text.old ++ offset_text east) }
 {
@@ -115,7 +116,7 @@ fn add_offset(text: &mut String, east: i64) -> Result<(), AllocError>
 
 /// The offset of daylight saving time, where it isn't an hour ahead of standard time.
 #[tactic(auto, unfolding(crate::specs::Texts::saving_text))]
-fn add_saving(text: &mut String, standard: i64, saving: i64) -> Result<(), AllocError>
+pub fn add_saving(text: &mut String, standard: i64, saving: i64) -> Result<(), AllocError>
     requires { CanWriteRule standard saving }
     ensures { OnOk result (string_bytes text.new ≡ string_bytes text.old ++ saving_text standard saving) }
 {
@@ -164,7 +165,7 @@ fn add_clock(text: &mut String, second: u32) -> Result<(), AllocError>
 
 /// Hours, and minutes and seconds as far as they are needed.
 #[tactic(auto, unfolding(crate::specs::Texts::time_text))]
-fn add_time(text: &mut String, seconds: u32) -> Result<(), AllocError>
+pub fn add_time(text: &mut String, seconds: u32) -> Result<(), AllocError>
     ensures { OnOk result (string_bytes text.new ≡ string_bytes text.old ++ time_text seconds) }
 {
     add_number(text, seconds / 3600)?;
@@ -205,14 +206,16 @@ fn add_two_digits(text: &mut String, number: u32) -> Result<(), AllocError>
     }
 }
 
-fn add_number(text: &mut String, number: u32) -> Result<(), AllocError>
+/// A number in decimal digits.
+pub fn add_number(text: &mut String, number: u32) -> Result<(), AllocError>
     ensures { OnOk result (string_bytes text.new ≡ string_bytes text.old ++ decimal number) }
 {
     let mut buffer = Buffer::new();
     add(text, buffer.format(number))
 }
 
-fn add(text: &mut String, more: &str) -> Result<(), AllocError>
+/// One text after another.
+pub fn add(text: &mut String, more: &str) -> Result<(), AllocError>
     ensures { OnOk result (string_bytes text.new ≡ string_bytes text.old ++ more.now) }
 {
     text.push_str(more)

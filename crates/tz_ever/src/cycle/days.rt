@@ -1,6 +1,6 @@
 //! Days, weekdays and the moments of rules repeat after 400 years.
 ghost use Rattle.std.specs.Prelude.{◌≡◌, ℕ, ℤ, pos, ◌≤ℤ◌};
-ghost use Rattle.calendar.specs.Days.{day};
+ghost use Rattle.calendar.specs.Days.{day, days_in_month};
 ghost use Rattle.calendar.specs.Weekdays.{weekday_of};
 ghost use Rattle.zone_spans.specs.Cycle.{days_on, next_cycle, seconds_on};
 ghost use Rattle.zone_table.specs.Moments.{moment};
@@ -11,7 +11,12 @@ pub fn days_repeat()
     ensures { (y : ℤ) (m d : ℕ) → pos 0 ≤ℤ y → day (next_cycle y) m d ≡ days_on (day y m d) }
 {}
 
-/// It falls on the same weekday then: 146,097 days are 20,871 weeks.
+/// Each month has as many days then.
+pub fn months_repeat()
+    ensures { (y : ℤ) (m : ℕ) → pos 0 ≤ℤ y → days_in_month (next_cycle y) m ≡ days_in_month y m }
+{}
+
+/// A date falls on the same weekday then: 146,097 days are 20,871 weeks.
 pub fn weekdays_repeat()
     ensures { (k : ℤ) → weekday_of (days_on k) ≡ weekday_of k }
 {}

@@ -9,7 +9,7 @@ pub invariant_of-result : goal.invariant_of-result
 unfolding ever_total
 invariant_of-result c =
     let set = compact_of c.new-zone.result in
-    let repeats = subst IsRepeating (sym (c.new-zone.ensures ∙ c.compact.ensures)) c.args.set.now.repeats in
+    let repeats = subst IsRepeating (sym (c.new-zone.ensures ∙ c.compact.ensures.seen)) c.args.set.now.repeats in
     record {
       repeats = repeats;
       range = λ t. c.known.ensures.range (brought_back t);
