@@ -7,5 +7,5 @@ use Rattle.tz_ever.proofs.ever_table.EverTableSpanTable.span.Goals as goal
 pub returns-else-index-eq0 : goal.returns-else-index-eq0
 returns-else-index-eq0 c =
     let place = c.place-place.result in
-    c.span-else-index-eq0.ensures ∙ ap (λ s. span_in s (place.entry + 1)) c.compact-set.ensures
+    c.span-else-index-eq0.ensures ∙ ap (λ s. span_in s (place.entry + 1)) c.compact-set.ensures.seen
     ∙ span_of_place (ever_seen c.args.self.now.set.now) c.args.index place.entry place.cycles c.if-index-eq0.false c.place-place.ensures
