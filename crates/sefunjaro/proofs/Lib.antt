@@ -11,3 +11,5 @@ pub mod PosixNameRows
 pub mod PosixRows
 mod ReleaseLemmas
 mod RoomLemmas
+pub mod YearRows
+mod ZoneLemmas

@@ -3,7 +3,6 @@ ghost use Rattle.std.specs.Prelude.{◌≡◌, ◌+◌, ◌<◌, int_lt, length,
 ghost use Rattle.std.specs.List.{slice_get};
 ghost use Rattle.tz_zone.specs.Sets.{schedule_of, shifts_of, IsAccepted};
 ghost use Rattle.tz_zone.specs.Spans.{shift_at, IsCut};
-ghost use Rattle.tz_lookup.specs.CompactShown.{seen};
 ghost use Rattle.zone_spans.specs.Collapse.{is_same_span};
 ghost use Rattle.sefunjaro.specs.Changes.{change_of, next_after, saving_at, span_before, window};
 ghost use Rattle.sefunjaro.specs.ChangeSteps.{AreParted, HasPut, IsChangeAt};
@@ -12,7 +11,7 @@ ghost use Rattle.sefunjaro.specs.Rooms.{filled};
 use crate::room::put;
 use std::marker::Brand;
 use std::sync::ledger::{Blank, Ledger};
-use tz_lookup::{CompactSet, FixedTimespan, SpanTable, Steps};
+use tz_lookup::{FixedTimespan, SpanTable, Steps};
 use tz_zone::{offset_of, span_between};
 
 /// A change: what is in force from a second on.
@@ -32,17 +31,17 @@ pub struct Change {
 }
 
 /// The saving that is in force at a second, in seconds.
-pub(crate) fn saving_at(set: &CompactSet, second: i64) -> i64
-    requires { IsAccepted (schedule_of (seen set.now)) }
-    ensures { result ≡ saving_at (seen set.now) second }
+pub(crate) fn saving_at<S: SpanTable>(set: &S, second: i64) -> i64
+    requires { IsAccepted (schedule_of (S.seen set.now)) }
+    ensures { result ≡ saving_at (S.seen set.now) second }
 {
     set.span(span_in_force_at(set, second)).dst_offset
 }
 
 /// The first change after a second, if there is one.
-pub(crate) fn next_change(set: &CompactSet, second: i64) -> Option<Change>
-    requires { IsAccepted (schedule_of (seen set.now)) }
-    ensures { result ≡ next_after (seen set.now) second }
+pub(crate) fn next_change<S: SpanTable>(set: &S, second: i64) -> Option<Change>
+    requires { IsAccepted (schedule_of (S.seen set.now)) }
+    ensures { result ≡ next_after (S.seen set.now) second }
 {
     for place in span_in_force_at(set, second)..set.entry_count() {
         match change_at(set, place) {
@@ -54,10 +53,10 @@ pub(crate) fn next_change(set: &CompactSet, second: i64) -> Option<Change>
 }
 
 /// The changes from a second on and before another, in their order, as far as they fit in the room, and how many there are.
-pub(crate) fn changes(set: &CompactSet, from: i64, to: i64, room: &mut [Change]) -> usize
-    requires { IsAccepted (schedule_of (seen set.now)) }
-    ensures room { room.new ≡ filled (window (seen set.now) from to) room.old }
-    ensures count { result ≡ length (window (seen set.now) from to) }
+pub(crate) fn changes<S: SpanTable>(set: &S, from: i64, to: i64, room: &mut [Change]) -> usize
+    requires { IsAccepted (schedule_of (S.seen set.now)) }
+    ensures room { room.new ≡ filled (window (S.seen set.now) from to) room.old }
+    ensures count { result ≡ length (window (S.seen set.now) from to) }
 {
     let first = entries_before(set, from);
     let end = entries_before(set, to).max(first);
@@ -69,11 +68,11 @@ pub(crate) fn changes(set: &CompactSet, from: i64, to: i64, room: &mut [Change])
 }
 
 /// Puts the change of an entry at the next place of the room, if there are both, and answers how many changes there are then.
-fn put_change(set: &CompactSet, place: usize, count: usize, room: &mut [Change]) -> usize
-    requires accepted { IsAccepted (schedule_of (seen set.now)) }
-    requires within { place < length (seen set.now).others }
+fn put_change<S: SpanTable>(set: &S, place: usize, count: usize, room: &mut [Change]) -> usize
+    requires accepted { IsAccepted (schedule_of (S.seen set.now)) }
+    requires within { place < length (S.seen set.now).others }
     requires bound { count < 18446744073709551615 }
-    ensures { HasPut (map (change_of (seen set.now)) (seen set.now).others) place count result room.old room.new }
+    ensures { HasPut (map (change_of (S.seen set.now)) (S.seen set.now).others) place count result room.old room.new }
 {
     match change_at(set, place) {
         Some(change) => {
@@ -85,10 +84,10 @@ fn put_change(set: &CompactSet, place: usize, count: usize, room: &mut [Change])
 }
 
 /// The change of an entry, unless another entry stands behind it at the same second.
-fn change_at(set: &CompactSet, place: usize) -> Option<Change>
-    requires accepted { IsAccepted (schedule_of (seen set.now)) }
-    requires within { place < length (seen set.now).others }
-    ensures { IsChangeAt (map (change_of (seen set.now)) (seen set.now).others) place result }
+fn change_at<S: SpanTable>(set: &S, place: usize) -> Option<Change>
+    requires accepted { IsAccepted (schedule_of (S.seen set.now)) }
+    requires within { place < length (S.seen set.now).others }
+    ensures { IsChangeAt (map (change_of (S.seen set.now)) (S.seen set.now).others) place result }
 {
     let count = set.entry_count();
     if place + 1 < count {
@@ -103,20 +102,20 @@ fn change_at(set: &CompactSet, place: usize) -> Option<Change>
 }
 
 /// Whether an entry lies before the next, and not at the same second.
-fn is_before_next(set: &CompactSet, place: usize) -> bool
-    requires within { place + 1 < length (seen set.now).others }
+fn is_before_next<S: SpanTable>(set: &S, place: usize) -> bool
+    requires within { place + 1 < length (S.seen set.now).others }
     requires bound { place < 18446744073709551615 }
-    ensures { result ≡ int_lt (shift_at (shifts_of (seen set.now)) place).0 (shift_at (shifts_of (seen set.now)) (place + 1)).0 }
+    ensures { result ≡ int_lt (shift_at (shifts_of (S.seen set.now)) place).0 (shift_at (shifts_of (S.seen set.now)) (place + 1)).0 }
 {
     set.time(place) < set.time(place + 1)
 }
 
 /// The entry at a place of the order of time, which counts from 0, as a change.
-fn entry_at(set: &CompactSet, place: usize) -> Change
-    requires accepted { IsAccepted (schedule_of (seen set.now)) }
-    requires within { place < length (seen set.now).others }
+fn entry_at<S: SpanTable>(set: &S, place: usize) -> Change
+    requires accepted { IsAccepted (schedule_of (S.seen set.now)) }
+    requires within { place < length (S.seen set.now).others }
     requires bound { place < 18446744073709551615 }
-    ensures { slice_get (map (change_of (seen set.now)) (seen set.now).others) place ≡ Some result }
+    ensures { slice_get (map (change_of (S.seen set.now)) (S.seen set.now).others) place ≡ Some result }
 {
     let second = set.time(place);
     let span = set.span(place + 1);
@@ -130,9 +129,9 @@ fn entry_at(set: &CompactSet, place: usize) -> Change
 }
 
 /// What is in force just before a second.
-fn span_before(set: &CompactSet, second: i64) -> &FixedTimespan
-    requires { IsAccepted (schedule_of (seen set.now)) }
-    ensures { result.now ≡ span_before (seen set.now) second }
+fn span_before<S: SpanTable>(set: &S, second: i64) -> &FixedTimespan
+    requires { IsAccepted (schedule_of (S.seen set.now)) }
+    ensures { result.now ≡ span_before (S.seen set.now) second }
 {
     set.span(entries_before(set, second))
 }
@@ -145,9 +144,9 @@ fn is_same_span(a: &FixedTimespan, b: &FixedTimespan) -> bool
 }
 
 /// How many entries lie before a second.
-fn entries_before(set: &CompactSet, second: i64) -> usize
-    requires { IsAccepted (schedule_of (seen set.now)) }
-    ensures { AreParted (shifts_of (seen set.now)) result second }
+fn entries_before<S: SpanTable>(set: &S, second: i64) -> usize
+    requires { IsAccepted (schedule_of (S.seen set.now)) }
+    ensures { AreParted (shifts_of (S.seen set.now)) result second }
 {
     let mut low = 0;
     let mut high = set.entry_count();
@@ -163,28 +162,28 @@ fn entries_before(set: &CompactSet, second: i64) -> usize
 }
 
 /// Whether an entry lies before a second.
-fn is_before(set: &CompactSet, place: usize, second: i64) -> bool
-    requires { place < length (seen set.now).others }
-    ensures { result ≡ int_lt (shift_at (shifts_of (seen set.now)) place).0 second }
+fn is_before<S: SpanTable>(set: &S, place: usize, second: i64) -> bool
+    requires { place < length (S.seen set.now).others }
+    ensures { result ≡ int_lt (shift_at (shifts_of (S.seen set.now)) place).0 second }
 {
     set.time(place) < second
 }
 
 /// The number of the span in force at a second, which is how many entries lie at or before it.
-fn span_in_force_at(set: &CompactSet, second: i64) -> usize
-    requires { IsAccepted (schedule_of (seen set.now)) }
-    ensures { IsCut (shifts_of (seen set.now)) result second }
+fn span_in_force_at<S: SpanTable>(set: &S, second: i64) -> usize
+    requires { IsAccepted (schedule_of (S.seen set.now)) }
+    ensures { IsCut (shifts_of (S.seen set.now)) result second }
 {
-    span_under::<Brand>(set, second, Blank::new(1))
+    span_under::<S, Brand>(set, second, Blank::new(1))
 }
 
 /// The same, with steps of the search that are counted and thrown away.
-fn span_under<L: Ledger>(set: &CompactSet, second: i64, blank: Blank) -> usize
+fn span_under<S: SpanTable, L: Ledger>(set: &S, second: i64, blank: Blank) -> usize
     requires name { blank.name ≡ L.name }
     requires parts { blank.parts ≡ L.parts }
     requires some { 0 < L.parts }
-    requires accepted { IsAccepted (schedule_of (seen set.now)) }
-    ensures { IsCut (shifts_of (seen set.now)) result second }
+    requires accepted { IsAccepted (schedule_of (S.seen set.now)) }
+    ensures { IsCut (shifts_of (S.seen set.now)) result second }
 {
     let mut steps: Steps<L> = Steps::new(blank);
     span_between(set, second, 0, set.entry_count(), &mut steps)

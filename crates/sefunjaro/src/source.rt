@@ -1,5 +1,8 @@
 //! A source that is kept open, and its names in order.
-ghost use Rattle.std.specs.Prelude.{◌≡◌, IfOk};
+ghost use Rattle.std.specs.Prelude.{◌≡◌, IfErr, IfOk};
+ghost use Rattle.sefunjaro.specs.Zones.{GoesOnAs};
+ghost use Rattle.tz_ever.specs.Opens.{IsZoneToday};
+ghost use Rattle.tz_zone.specs.Compiles.{compiled_in, IsZoneFault};
 ghost use Rattle.tz_lookup.specs.Databases.{names_of};
 ghost use Rattle.std.proofs.Props.{props};
 ghost use Rattle.zone_table.specs.BoundedTables.{IsBoundedTable};
@@ -10,6 +13,7 @@ use crate::zone::OpenZone;
 use owned::{Items, Text};
 use std::alloc::{AllocError, Global};
 use thiserror::Error;
+use tz_ever::{EverFault, EverSet, laws};
 use tz_lookup::{ZoneFault, compile_zone, names_in_order};
 use zone_line::LineParser;
 use zone_source::{LIMIT, SourceError, read_table, release_of};
@@ -75,7 +79,7 @@ impl OpenSource {
     ghost use Rattle.sefunjaro.specs.Faults.{IsOpenFault, IsReadFault};
     ghost use Rattle.sefunjaro.specs.Sources.{table_in, release_in};
     ghost use Rattle.zone_source.specs.Releases.{release_of};
-    ghost use Rattle.sefunjaro.specs.Zones.{set_in, IsOpened};
+    ghost use Rattle.sefunjaro.specs.Zones.{ever_in, set_in, GoesOnAs, IsAsCompiled, IsOpened};
     ghost use Rattle.tz_zone.specs.Sets.{schedule_of, IsAccepted};
     ghost use Rattle.sefunjaro.specs.declared.source.OpenFault.TheVariants.{NoMemory};
 
@@ -177,18 +181,42 @@ impl OpenSource {
         }
     }
 
-    /// The zone that a name finds. It needs no more of the source.
+    /// The zone that a name finds. It needs no more of the source. It goes on for ever exactly where the lines of the name do, by
+    /// offsets of less than 26 hours.
     ///
     /// # Errors
     ///
-    /// In this order: `UnknownZone` exactly where the name finds no zone; `Schedule` with the zone's first fault, which is
-    /// never want of memory; `OffsetRange` exactly where some span has an offset of 26 hours or more; `NoMemory`.
+    /// In this order: `UnknownZone` exactly where the name finds no zone; `Schedule` with the zone's first fault up to the end of 2099,
+    /// which is never want of memory; `OffsetRange` exactly where some span up to then has an offset of 26 hours or more; `NoMemory`.
     pub fn zone(&self, alloc: Global, name: &str) -> Result<OpenZone, ZoneFault>
         ensures ok { IfOk result (IsOpened name.now (compiled_in (table_in self.now) name.now)) }
         ensures accepted { IfOk result (λ zone. IsAccepted (schedule_of (set_in zone))) }
+        ensures goes_on { IfOk result (λ zone. GoesOnAs (table_in self.now) name.now (ever_in zone)) }
+        ensures as_compiled { IfOk result IsAsCompiled }
         ensures err { IfErr result (IsZoneFault (compiled_in (table_in self.now) name.now)) }
     {
         let set = compile_zone(alloc, &self.table, name)?;
-        Ok(OpenZone::of_set(alloc, &set)?)
+        laws::is_today();
+        laws::shows_as_today();
+        match set_for_ever(alloc, &self.table, name) {
+            Ok(for_ever) => Ok(OpenZone::of_set(alloc, &set, for_ever)?),
+            Err(fault) => Err(fault),
+        }
+    }
+}
+
+/// What is in force for ever in a zone that has a schedule today, if it goes on.
+fn set_for_ever(alloc: Global, table: &Table, name: &str) -> Result<Option<EverSet>, ZoneFault>
+    requires table { IsBoundedTable table.now }
+    requires today { IsZoneToday table.now name.now }
+    ensures ok { IfOk result (GoesOnAs table.now name.now) }
+    ensures err { IfErr result (IsZoneFault (compiled_in table.now name.now)) }
+{
+    match EverSet::carry_on(alloc, table, name) {
+        Ok(ever) => Ok(Some(ever)),
+        Err(EverFault::Zone(fault)) => Err(fault),
+        Err(EverFault::LaterDay) => Ok(None),
+        Err(EverFault::RulesEnd) => Ok(None),
+        Err(EverFault::LaterOffset) => Ok(None),
     }
 }

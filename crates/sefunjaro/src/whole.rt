@@ -2,12 +2,13 @@
 use crate::error::Error;
 use crate::zone::OpenZone;
 use std::alloc::Global;
+use tz_ever::EverTable;
 use zone_list::{ListFault, Listing, lines_of};
 use zone_tail_core::{Tail, TailFault, tail};
 use zone_tzif_set::{FileFault, consistent_tzif_of};
 
 impl OpenZone {
-    ghost use Rattle.std.specs.Prelude.{◌≡◌, ℤ, IfErr, IfOk, MatchResult, OnOk, string_bytes, true};
+    ghost use Rattle.std.specs.Prelude.{◌≡◌, ℤ, IfErr, IfOk, IsErrOf, MatchResult, OnOk, string_bytes, false, true};
     ghost use Rattle.zone_list.specs.Ranges.{all_have_dates};
     ghost use Rattle.zone_list.specs.Rows.{rows};
     ghost use Rattle.zone_list.specs.Windows.{window};
@@ -21,23 +22,36 @@ impl OpenZone {
     ghost use Rattle.zone_tzif_core.specs.Tzif.{IsTzif};
     ghost use Rattle.zone_tzif_core.specs.Zones.{ZoneValue};
     ghost use Rattle.zone_tzif_set.specs.Files.{consistent_zone, IsCarriedOn, MakesZone};
-    ghost use Rattle.sefunjaro.specs.Zones.{set_in};
+    ghost use Rattle.sefunjaro.specs.Zones.{set_in, spans_in};
 
     /// The lines of the changes from a second on and before another, as [`list_lines`](zone_list::list_lines) has those of a set: the
-    /// second, the abbreviation, and the time by the clocks of the zone, in columns.
+    /// second, the abbreviation, and the time by the clocks of the zone, in columns. Those of a zone that goes on for ever are listed up
+    /// to the end of 10501, of which none past 9999 has a date.
     ///
     /// # Errors
     ///
     /// `List` exactly where the UTC date or the local date of one of these lies outside the years -9999 to 9999; `NoMemory`.
     pub fn lines(&self, alloc: Global, from: i64, to: i64) -> Result<Listing, Error>
-        ensures ok { OnOk result (all_have_dates (window (set_in self.now) from to) ≡ true) }
-        ensures lines { IfOk result (λ listing. listing ≡ rows (window (set_in self.now) from to)) }
-        ensures err { IfErr result (IsListCause (window (set_in self.now) from to)) }
+        ensures ok { OnOk result (all_have_dates (window (spans_in self.now) from to) ≡ true) }
+        ensures lines { IfOk result (λ listing. listing ≡ rows (window (spans_in self.now) from to)) }
+        ensures err { IfErr result (IsListCause (window (spans_in self.now) from to)) }
     {
-        match lines_of(alloc, self.compact(), from, to) {
+        match self.lines_within(alloc, from, to) {
             Ok(listing) => Ok(listing),
             Err(ListFault::Range) => Err(Error::List(ListFault::Range)),
             Err(ListFault::NoMemory) => Err(Error::NoMemory),
+        }
+    }
+
+    /// The same, as `zone_list` has them.
+    fn lines_within(&self, alloc: Global, from: i64, to: i64) -> Result<Listing, ListFault>
+        ensures ok { OnOk result (all_have_dates (window (spans_in self.now) from to) ≡ true) }
+        ensures lines { IfOk result (λ listing. listing ≡ rows (window (spans_in self.now) from to)) }
+        ensures range { IsErrOf result ListFault.Range → all_have_dates (window (spans_in self.now) from to) ≡ false }
+    {
+        match &self.for_ever {
+            Some(ever) => lines_of(alloc, &EverTable::new(ever), from, to),
+            None => lines_of(alloc, self.compact(), from, to),
         }
     }
 

@@ -16,11 +16,13 @@ use crate::gap::{Gap, find_gap};
 use crate::room::{fill, put};
 use civil_base::{OffsetDateTime, PlainDateTime};
 use std::alloc::{AllocError, Global};
+use tz_ever::{EverSet, EverTable, EverTz, laws};
 use tz_lookup::{
     AllInstants, CompactFault, CompactSet, CompactTz, FixedTimespanSet, InstantsOf, Offset,
     OffsetDateTimeExt, PrimitiveDateTimeExt, TimeZone,
 };
 use tz_tzif::TzifTz;
+use zone_spans::{EARLIEST_YEAR, MOST_YEARS};
 
 /// The readings of a zone, or the change that skips a local time.
 pub(crate) fn lent_readings(
@@ -202,9 +204,13 @@ fn source_readings(
 }
 
 /// A zone that owns all that it is asked for.
+///
+/// Where the lines of its name go on for ever it does, in each year from -9999 to 9999; else it says what they say up to the end of 2099,
+/// and stays as it is then: [`last_year`](OpenZone::last_year) tells.
 #[derive(Debug, Drop)]
 pub struct OpenZone {
     set: CompactSet,
+    pub(crate) for_ever: Option<EverSet>,
 }
 
 impl OpenZone {
@@ -219,17 +225,22 @@ impl OpenZone {
     ghost use Rattle.sefunjaro.specs.Changes.{next_after, saving_at as saving_of, window};
     ghost use Rattle.sefunjaro.specs.Gaps.{IsSkippedBy};
     ghost use Rattle.sefunjaro.specs.Rooms.{filled};
-    ghost use Rattle.sefunjaro.specs.Zones.{given_in, set_in, total_in};
+    ghost use Rattle.sefunjaro.specs.Zones.{ever_in, given_in, last_year, set_in, spans_in, total_in};
     ghost use Rattle.tz_lookup.specs.CompactShown.{seen};
     ghost use Rattle.tz_lookup.specs.CompactZones.{compact_of};
 
-    /// A set that can be looked up, kept compactly.
-    pub(crate) fn of_set(alloc: Global, set: &FixedTimespanSet) -> Result<OpenZone, AllocError>
+    /// A set that can be looked up, kept compactly, with what goes on for ever.
+    pub(crate) fn of_set(
+        alloc: Global,
+        set: &FixedTimespanSet,
+        for_ever: Option<EverSet>,
+    ) -> Result<OpenZone, AllocError>
         requires { IsAccepted (schedule_of set.now) }
-        ensures { IfOk result (λ zone. set_in zone ≡ set.now) }
+        ensures set { IfOk result (λ zone. set_in zone ≡ set.now) }
+        ensures ever { IfOk result (λ zone. ever_in zone ≡ for_ever) }
     {
         match CompactSet::build(alloc, set) {
-            Ok(set) => Ok(OpenZone { set }),
+            Ok(set) => Ok(OpenZone { set, for_ever }),
             Err(CompactFault::NoMemory) => Err(AllocError),
             Err(CompactFault::OffsetRange | CompactFault::Falling | CompactFault::Bound) =>
                 unreachable!(),
@@ -243,18 +254,24 @@ impl OpenZone {
         &self.set
     }
 
-    /// The zone, lent.
-    pub(crate) fn zone(&self) -> CompactTz<'_>
-        ensures { compact_of result ≡ set_in self.now }
+    /// The last year up to whose end it says what is in force: 9999 where it goes on for ever, and else 2099.
+    pub fn last_year(&self) -> i32
+        ensures { result ≡ last_year (ever_in self.now) }
     {
-        CompactTz::new(&self.set)
+        match &self.for_ever {
+            Some(_) => 9999,
+            None => i32::from(EARLIEST_YEAR + MOST_YEARS - 1),
+        }
     }
 
     /// The seconds east of UTC that are in force at an instant.
     pub fn offset_at(&self, at: &OffsetDateTime) -> i32
         ensures { result ≡ total_in self.now (instant at.now) }
     {
-        offset_at(&self.zone(), at)
+        match &self.for_ever {
+            Some(ever) => offset_at(&EverTz::new(ever), at),
+            None => offset_at(&CompactTz::new(&self.set), at),
+        }
     }
 
     /// What is in force at an instant. The abbreviation goes into the room, as far as it fits.
@@ -262,30 +279,45 @@ impl OpenZone {
         ensures offset { result.offset ≡ total_in self.now (instant at.now) }
         ensures name { IsNamed (given_in self.now (instant at.now)) result room.old room.new }
     {
-        in_force(&self.zone(), at, room)
+        match &self.for_ever {
+            Some(ever) => in_force(&EverTz::new(ever), at, room),
+            None => in_force(&CompactTz::new(&self.set), at, room),
+        }
     }
 
     /// The saving that is in force at a second from 1970-01-01 00:00:00 UTC, in seconds: what the clocks are set ahead of
-    /// standard time by. It is below 0 where winter time is the one with a saving.
+    /// standard time by. It is below 0 where winter time is the one with a saving. From the end of 10501 on it is that of the last
+    /// change up to then.
     pub fn saving_at(&self, second: i64) -> i64
-        ensures { result ≡ saving_of (set_in self.now) second }
+        ensures { result ≡ saving_of (spans_in self.now) second }
     {
-        saving_at(&self.set, second)
+        match &self.for_ever {
+            Some(ever) => saving_at(&EverTable::new(ever), second),
+            None => saving_at(&self.set, second),
+        }
     }
 
-    /// The first change after a second from 1970-01-01 00:00:00 UTC, if there is one.
+    /// The first change after a second from 1970-01-01 00:00:00 UTC, if there is one. Those of a zone that goes on for ever are told
+    /// up to the end of 10501, and none after it.
     pub fn next_change(&self, second: i64) -> Option<Change>
-        ensures { result ≡ next_after (set_in self.now) second }
+        ensures { result ≡ next_after (spans_in self.now) second }
     {
-        next_change(&self.set, second)
+        match &self.for_ever {
+            Some(ever) => next_change(&EverTable::new(ever), second),
+            None => next_change(&self.set, second),
+        }
     }
 
-    /// The changes from a second on and before another, by time, as far as they fit in the room, and how many there are.
+    /// The changes from a second on and before another, by time, as far as they fit in the room, and how many there are. Those of a
+    /// zone that goes on for ever are told up to the end of 10501.
     pub fn changes(&self, from: i64, to: i64, room: &mut [Change]) -> usize
-        ensures room { room.new ≡ filled (window (set_in self.now) from to) room.old }
-        ensures count { result ≡ length (window (set_in self.now) from to) }
+        ensures room { room.new ≡ filled (window (spans_in self.now) from to) room.old }
+        ensures count { result ≡ length (window (spans_in self.now) from to) }
     {
-        changes(&self.set, from, to, room)
+        match &self.for_ever {
+            Some(ever) => changes(&EverTable::new(ever), from, to, room),
+            None => changes(&self.set, from, to, room),
+        }
     }
 
     /// The instant at the offset in force. There is none exactly where the local date lies outside the years -9999 to 9999.
@@ -293,7 +325,10 @@ impl OpenZone {
         ensures shown { IfSome result (λ value. shown_of value ≡ force_at (total_in self.now) (instant at.now)) }
         ensures years { is_some result ≡ is_in_years (local_at (instant at.now) (total_in self.now (instant at.now))) }
     {
-        at.to_timezone(&self.zone())
+        match &self.for_ever {
+            Some(ever) => at.to_timezone(&EverTz::new(ever)),
+            None => at.to_timezone(&CompactTz::new(&self.set)),
+        }
     }
 
     /// All instants at which clocks show a local time, by time, as far as they fit in the room, and how many there are.
@@ -301,7 +336,10 @@ impl OpenZone {
         ensures room { room.new ≡ filled (map reading_of (all_in_force (total_in self.now) local.now)) room.old }
         ensures count { result ≡ length (all_in_force (total_in self.now) local.now) }
     {
-        readings(&self.zone(), local, room)
+        match &self.for_ever {
+            Some(ever) => readings(&EverTz::new(ever), local, room),
+            None => readings(&CompactTz::new(&self.set), local, room),
+        }
     }
 
     /// The change by which clocks skip a local time that they never show.
@@ -309,14 +347,23 @@ impl OpenZone {
         requires { length (all_in_force (total_in self.now) local.now) ≡ 0 }
         ensures { IsSkippedBy (total_in self.now) local.now result }
     {
-        find_gap(&self.zone(), local)
+        match &self.for_ever {
+            Some(ever) => {
+                laws::holds_in_seconds();
+                find_gap(&EverTz::new(ever), local)
+            }
+            None => find_gap(&CompactTz::new(&self.set), local),
+        }
     }
 
     /// The first of the instants at which clocks show a local time, at the offset in force, or none where they skip it.
     pub fn first_reading(&self, local: &PlainDateTime) -> Option<OffsetDateTime>
         ensures { option_map shown_of result ≡ slice_get (all_in_force (total_in self.now) local.now) 0 }
     {
-        first_reading(&self.zone(), local)
+        match &self.for_ever {
+            Some(ever) => first_reading(&EverTz::new(ever), local),
+            None => first_reading(&CompactTz::new(&self.set), local),
+        }
     }
 
     /// The ring of a daily alarm on the day and at the time of day of a local time: the first of the instants at which clocks

@@ -1,22 +1,21 @@
 use Rattle.std.proofs.Common.{◌≡◌, ◌<◌, length, to_z, of_z, to_z-of_z, w64, subst, arith}
 use Rattle.std.proofs.lemmas.List.{length-map}
 use Rattle.tz_zone.specs.Sets.{shift_of}
-use Rattle.tz_lookup.specs.CompactShown.{seen}
 use Rattle.sefunjaro.specs.Changes.{window}
 use Rattle.sefunjaro.specs.Rooms.{filled}
 use Rattle.sefunjaro.proofs.ChangeLemmas.{met_all, met_more, met_none}
 use Rattle.sefunjaro.proofs.changes.changes.Goals as goal
 
 pub loop-place-init : goal.loop-place-init
-loop-place-init c =
-    let set = seen c.args.set.now in let first = c.entries_before-first in record {
+loop-place-init g c =
+    let set = g.S.SpanTable.seen c.args.set.now in let first = c.entries_before-first in record {
       begun = omega arith;
       met = met_none set (to_z w64 (of_z w64 c.args.from)) (to_z w64 (of_z w64 c.args.to)) set.others first.result c.args.room.now first.ensures;
     }
 
 pub loop-place-preserved : goal.loop-place-preserved
-loop-place-preserved c =
-    let set = seen c.args.set.now in let begun = c.entries_before-first.ensures in let ended = c.entries_before.ensures in
+loop-place-preserved g c =
+    let set = g.S.SpanTable.seen c.args.set.now in let begun = c.entries_before-first.ensures in let ended = c.entries_before.ensures in
     let place = c.loop-place.place in let invariant = c.loop-place.invariant in let size = length-map set.others shift_of in
     let lasts : place < c.entries_before.result = omega (arith, c.loop-place-test.true, invariant.begun, c.max-end.ensures) in
     let within : place < length set.others = omega (arith, lasts, ended.within, size) in record {
@@ -28,8 +27,8 @@ loop-place-preserved c =
 
 pub returns-clause-room : goal.returns-clause-room
 unfolding window
-returns-clause-room c =
-    let set = seen c.args.set.now in let from = to_z-of_z c.ranges.from in let to = to_z-of_z c.ranges.to in
+returns-clause-room g c =
+    let set = g.S.SpanTable.seen c.args.set.now in let from = to_z-of_z c.ranges.from in let to = to_z-of_z c.ranges.to in
     let met = met_all set (to_z w64 (of_z w64 c.args.from)) (to_z w64 (of_z w64 c.args.to)) set.others c.args.room.now c.loop-place.room
     c.loop-place.place c.loop-place.count c.loop-place.invariant.met
     (λ j l m. c.entries_before.ensures.after j (omega (arith, c.loop-place-test.false, c.max-end.ensures, l)) (omega (arith, m, length-map set.others shift_of))) in
@@ -38,8 +37,8 @@ returns-clause-room c =
 
 pub returns-clause-count : goal.returns-clause-count
 unfolding window
-returns-clause-count c =
-    let set = seen c.args.set.now in let from = to_z-of_z c.ranges.from in let to = to_z-of_z c.ranges.to in
+returns-clause-count g c =
+    let set = g.S.SpanTable.seen c.args.set.now in let from = to_z-of_z c.ranges.from in let to = to_z-of_z c.ranges.to in
     let met = met_all set (to_z w64 (of_z w64 c.args.from)) (to_z w64 (of_z w64 c.args.to)) set.others c.args.room.now c.loop-place.room
     c.loop-place.place c.loop-place.count c.loop-place.invariant.met
     (λ j l m. c.entries_before.ensures.after j (omega (arith, c.loop-place-test.false, c.max-end.ensures, l)) (omega (arith, m, length-map set.others shift_of))) in

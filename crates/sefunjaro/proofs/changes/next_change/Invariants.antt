@@ -2,14 +2,13 @@ use Rattle.std.proofs.Common.{◌≡◌, ◌<◌, ◌≤◌, ◌<ℤ◌, ℕ, le
 use Rattle.std.specs.Prelude.{filter, int_lt}
 use Rattle.tz_zone.specs.Sets.{shifts_of}
 use Rattle.tz_zone.specs.Spans.{shift_at}
-use Rattle.tz_lookup.specs.CompactShown.{seen}
 use Rattle.sefunjaro.specs.Changes.{change_of, changes_of, settled_changes}
 use Rattle.sefunjaro.proofs.changes.next_change.Given as goal
 
 -- the changes after the second are those that are left
 abbrev pub invariant-loop-place : goal.invariant-loop-place
-invariant-loop-place l =
-    let set = seen l.set in record {
+invariant-loop-place g l =
+    let set = g.S.SpanTable.seen l.set in record {
       later : (j : ℕ) → l.place ≤ j → j < length set.others → l.second <ℤ (shift_at (shifts_of set) j).0;
       left : filter (λ change. int_lt l.second change.second) (changes_of set)
           ≡ filter (λ change. int_lt l.second change.second) (settled_changes (drop l.place (map (change_of set) set.others)));

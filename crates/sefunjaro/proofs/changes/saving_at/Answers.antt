@@ -1,13 +1,12 @@
 use Rattle.std.proofs.Common.{◌≡◌, to_z, of_z, to_z-of_z, FitsSigned, w64, sym, ap, ◌∙◌, subst, rules}
 use Rattle.tz_zone.specs.Sets.{shifts_of}
 use Rattle.tz_zone.specs.Spans.{IsCut}
-use Rattle.tz_lookup.specs.CompactShown.{seen}
 use Rattle.sefunjaro.proofs.ChangeLemmas.{saving_is}
 use Rattle.sefunjaro.proofs.changes.saving_at.Goals as goal
 
 pub returns : goal.returns
-returns c =
-    let set = seen c.args.set.now in
+returns g c =
+    let set = g.S.SpanTable.seen c.args.set.now in
     let same : to_z w64 (of_z w64 c.args.second) ≡ c.args.second = to_z-of_z c.ranges.second in
     let saving : FitsSigned w64 c.span.result.now.dst_offset = search rules in
     let cut = subst (λ s. IsCut (shifts_of set) c.span_in_force_at.result s) same c.span_in_force_at.ensures in

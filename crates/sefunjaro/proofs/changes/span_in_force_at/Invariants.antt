@@ -1,4 +1,4 @@
 use Rattle.sefunjaro.proofs.changes.span_in_force_at.Given as goal
 
 abbrev pub ghosts-span_under : goal.ghosts-span_under
-ghosts-span_under a = record { name = a.blank.name; parts = a.blank.parts }
+ghosts-span_under g a = record { name = a.blank.name; parts = a.blank.parts }
