@@ -1,0 +1,27 @@
+//! The answers.
+
+/// The footer that carries a zone on for ever.
+#[derive(Debug, Drop)]
+pub struct EverTail {
+    /// The second, from 1970-01-01 00:00:00 UTC on, of the entry from which on the footer's total is the zone's for ever. None where
+    /// that holds from the beginning of time.
+    pub from: Option<i64>,
+    /// The footer.
+    pub text: String,
+}
+
+/// Why no footer is given. The causes are tried in the order `Shape`, `OffsetRange`, `Name`, `NoRule`.
+#[derive(Clone, Copy, Debug, PartialEq, Eq)]
+pub enum EverTailFault {
+    /// The year 2102 has entries, and they are not two, one of which starts daylight saving time with a saving other than 0 and the
+    /// other ends it, both with one standard offset.
+    Shape,
+    /// An offset that would be written is past 24:59:59.
+    OffsetRange,
+    /// A name that would be written is empty or has a `<`, a `>`, a line feed or a zero byte.
+    Name,
+    /// No footer that names the entries of 2102 by their weekdays, with times from -167 to 167 hours, says the same for ever.
+    NoRule,
+    /// There is no memory for a footer.
+    NoMemory,
+}
