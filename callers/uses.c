@@ -144,7 +144,7 @@ static int changes(void) {
     if (found[0].second != 1711846800 || found[1].saving != 77) return 78;
     if (sefunjaro_changes(&zone, 1711846801, INT64_MAX, found, 2, &count) || count != 16955 || found[1].second != 1743296400 || found[2].saving != 77) return 79;
     if (sefunjaro_changes(&zone, INT64_MAX, INT64_MIN, found, 3, &count) || count != 0 || found[0].second != 1729990800) return 80;
-    if (sefunjaro_changes(&zone, INT64_MIN, INT64_MAX, found, 0, &count) || count != 208) return 81;
+    if (sefunjaro_changes(&zone, INT64_MIN, INT64_MAX, found, 0, &count) || count != 17012) return 81;
     return 0;
 }
 
