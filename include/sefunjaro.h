@@ -63,7 +63,7 @@ enum sefunjaro_status {
     SEFUNJARO_BAD_JOIN = 6,      /* a line may not follow those before it: enum sefunjaro_join_cause */
     SEFUNJARO_UNKNOWN_ZONE = 7,  /* the name is that of no zone, and of no link to one */
     SEFUNJARO_NO_SCHEDULE = 8,   /* the zone has no schedule: enum sefunjaro_schedule_cause */
-    SEFUNJARO_OFFSET_RANGE = 9,  /* some offset of the zone is 26 hours or more in size */
+    SEFUNJARO_OFFSET_RANGE = 9,  /* some offset of the zone up to the end of 2099 is 26 hours or more in size */
     SEFUNJARO_OUT_OF_RANGE = 10, /* a date lies outside the years -9999 to 9999, an instant does by more than the greatest offset, or the
                                     parts are no date or no time */
     SEFUNJARO_NONE = 11,         /* there is none of what is asked for */
@@ -188,7 +188,8 @@ struct sefunjaro_gap {
     int32_t after;  /* the offset in force from it on */
 };
 
-/* The years in which the rules of a source fire; before the first and after the last nothing changes in a zone. */
+/* The years that the rules of a source are worked out for. Before the first nothing changes in a zone; after the last nothing does in one
+   that doesn't go on for ever, and sefunjaro_last_year tells which. */
 struct sefunjaro_years {
     int32_t first;
     int32_t last;
@@ -233,6 +234,7 @@ uint32_t sefunjaro_next_change_by(struct sefunjaro_handle *copy, int64_t second,
 uint32_t sefunjaro_changes_by(struct sefunjaro_handle *copy, int64_t from, int64_t to, struct sefunjaro_change *changes, size_t room,
                               size_t *count);
 uint32_t sefunjaro_ring_by(struct sefunjaro_handle *copy, const struct sefunjaro_clock *local, struct sefunjaro_reading *ring);
+uint32_t sefunjaro_last_year_by(struct sefunjaro_handle *copy, int32_t *year);
 uint32_t sefunjaro_tail_by(struct sefunjaro_handle *copy, uint8_t *text, size_t room, size_t *whole, bool *is_posix,
                            struct sefunjaro_fault *fault);
 uint32_t sefunjaro_tzif_by(struct sefunjaro_handle *copy, uint8_t *file, size_t room, size_t *whole, struct sefunjaro_fault *fault);
@@ -272,7 +274,9 @@ static inline uint32_t sefunjaro_source_version(const struct sefunjaro_handle *s
     return sefunjaro_source_version_by(&copy, version, room, whole);
 }
 
-/* Opens the zone of a name. What the zone's handle held before is closed first. The zone needs its source no more.
+/* Opens the zone of a name. What the zone's handle held before is closed first. The zone needs its source no more. Where the lines of the
+   name go on for ever, and come to no offset of 26 hours or more in a later year, the zone does too: each call below answers in each year
+   as the lines do then. Else it answers up to the end of 2099, and what is in force then stays; sefunjaro_last_year tells.
    NOT_OPEN (of the source), NOT_TEXT (the name), UNKNOWN_ZONE, NO_SCHEDULE, OFFSET_RANGE, NO_MEMORY. */
 static inline uint32_t sefunjaro_zone_open(const struct sefunjaro_handle *source, const uint8_t *name, size_t length,
                                            struct sefunjaro_handle *zone, struct sefunjaro_fault *fault) {
@@ -347,14 +351,23 @@ static inline uint32_t sefunjaro_saving_at(const struct sefunjaro_handle *zone, 
     return sefunjaro_saving_at_by(&copy, second, nanosecond, saving);
 }
 
-/* The first change after a second, also where it changes nothing: `differs` tells. NOT_OPEN, NOT_KEPT, NONE. */
+/* The last year up to whose end a zone of a source says what is in force: 9999 where it goes on for ever, and 2099 where the lines of its
+   name don't, since a line or a rule ends or begins later, a day of theirs lies in another year, or they come to an offset of 26 hours or
+   more. (Zones of POSIX strings go on for ever, and so do those of files that have a footer.) NOT_OPEN, NOT_KEPT. */
+static inline uint32_t sefunjaro_last_year(const struct sefunjaro_handle *zone, int32_t *year) {
+    struct sefunjaro_handle copy = *zone;
+    return sefunjaro_last_year_by(&copy, year);
+}
+
+/* The first change after a second, also where it changes nothing: `differs` tells. Those of a zone that goes on for ever are told up to the
+   end of 10501, and none after it. NOT_OPEN, NOT_KEPT, NONE. */
 static inline uint32_t sefunjaro_next_change(const struct sefunjaro_handle *zone, int64_t second, struct sefunjaro_change *change) {
     struct sefunjaro_handle copy = *zone;
     return sefunjaro_next_change_by(&copy, second, change);
 }
 
 /* The changes from the second `from` on and before `to`, by time, and how many there are: none where `from` is not below `to`. Those that
-   change nothing are among them. NOT_OPEN, NOT_KEPT. */
+   change nothing are among them. Those of a zone that goes on for ever are told up to the end of 10501. NOT_OPEN, NOT_KEPT. */
 static inline uint32_t sefunjaro_changes(const struct sefunjaro_handle *zone, int64_t from, int64_t to, struct sefunjaro_change *changes,
                                          size_t room, size_t *count) {
     struct sefunjaro_handle copy = *zone;
@@ -380,9 +393,9 @@ static inline uint32_t sefunjaro_tail(const struct sefunjaro_handle *zone, uint8
     return sefunjaro_tail_by(&copy, text, room, whole, is_posix, fault);
 }
 
-/* The zone's TZif file (RFC 8536, version 2), and its whole length: each change, and as the footer the string of sefunjaro_tail, or
-   nothing where there is none, where the zone changes at or past the end of 2099, of which that string says nothing, or where its
-   daylight saving time ends in the first week of January, so that as a footer the string may end it before 2099 is over. It takes
+/* The zone's TZif file (RFC 8536, version 2), and its whole length: each change up to the end of 2099, and as the footer the string of
+   sefunjaro_tail, or nothing where there is none, where the zone changes at or past the end of 2099, of which that string says nothing, or
+   where its daylight saving time ends in the first week of January, so that as a footer the string may end it before 2099 is over. It takes
    memory: each call writes the file whole, and then as much of it into the room as fits.
    NOT_OPEN; NOT_KEPT; NONE, with why there is no file: enum sefunjaro_tzif_cause; NO_MEMORY. */
 static inline uint32_t sefunjaro_tzif(const struct sefunjaro_handle *zone, uint8_t *file, size_t room, size_t *whole,

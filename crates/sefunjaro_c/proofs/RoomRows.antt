@@ -7,7 +7,7 @@ use Rattle.sefunjaro.specs.Answered.{AreReadings}
 use Rattle.sefunjaro.specs.Changes.{window}
 use Rattle.sefunjaro.specs.Clocks.{IsClock}
 use Rattle.sefunjaro.specs.Rooms.{filled}
-use Rattle.sefunjaro.specs.Zones.{set_in}
+use Rattle.sefunjaro.specs.Zones.{spans_in}
 use Rattle.sefunjaro.specs.declared.zone.Reading.{Reading}
 use Rattle.sefunjaro.specs.declared.changes.Change.{Change}
 use Rattle.sefunjaro.specs.declared.clock.Clock.{Clock}
@@ -40,7 +40,7 @@ much_room : IsNameAt (Some (codes "CET")) 0 (codes ".....") (codes "CET..") 3
 unfolding filled
 much_room = (refl, (refl, refl))
 
-counted_changes : (zone : OpenZone) (from to : ℤ) (old new : List Change) (count : ℕ) → length (window (set_in zone) from to) ≡ 151
+counted_changes : (zone : OpenZone) (from to : ℤ) (old new : List Change) (count : ℕ) → length (window (spans_in zone) from to) ≡ 151
     → AreChanges zone from to 0 old new count → count ≡ 151
 counted_changes zone from to old new count many told = told.1.1 ∙ many
 

@@ -5,7 +5,7 @@ use Rattle.sefunjaro.specs.Any.{Seen}
 use Rattle.sefunjaro.specs.Changes.{window}
 use Rattle.sefunjaro.specs.Clocks.{clock_shown, IsClock}
 use Rattle.sefunjaro.specs.Rooms.{filled}
-use Rattle.sefunjaro.specs.Zones.{set_in}
+use Rattle.sefunjaro.specs.Zones.{spans_in}
 use Rattle.sefunjaro.specs.declared.zone.AnyZone.{AnyZone}
 use Rattle.sefunjaro.specs.declared.zone.Reading.{Reading}
 use Rattle.sefunjaro.specs.declared.changes.Change.{Change}
@@ -21,7 +21,7 @@ IsFound None status old new = (status ≡ none_there) × (new ≡ old)
 -- the changes of a window of time, as far as there is room, and how many there are
 abbrev pub AreChanges : OpenZone → ℤ → ℤ → ℕ → List Change → List Change → ℕ → Type 0
 AreChanges zone from to status old new count =
-    (status ≡ done) × ((new ≡ filled (window (set_in zone) from to) old) × (count ≡ length (window (set_in zone) from to)))
+    (status ≡ done) × ((new ≡ filled (window (spans_in zone) from to) old) × (count ≡ length (window (spans_in zone) from to)))
 
 -- parts that are a local time have that ring, or none; others are out of range
 abbrev pub IsRing : AnyZone → Clock → ℕ → Reading → Reading → Type 0

@@ -7,7 +7,7 @@ use Rattle.zone_source.specs.Zones.{values_of}
 use Rattle.tz_zone.specs.Compiles.{compiled_in}
 use Rattle.tz_zone.specs.Sets.{schedule_of, IsAccepted}
 use Rattle.sefunjaro.specs.Sources.{table_in, release_in}
-use Rattle.sefunjaro.specs.Zones.{set_in, IsOpened}
+use Rattle.sefunjaro.specs.Zones.{ever_in, set_in, GoesOnAs, IsAsCompiled, IsOpened}
 use Rattle.sefunjaro.specs.declared.source.OpenSource.{OpenSource}
 use Rattle.sefunjaro.specs.declared.zone.OpenZone.{OpenZone}
 use Rattle.sefunjaro_c.specs.Faults.{source_due}
@@ -18,7 +18,9 @@ pub record IsSourceOf (text : List ℕ) (source : OpenSource) : Type 0 where
   pub table : IsTableOf (table_in source) (values_of text)
   pub release : release_in source ≡ release_of text
 
--- the zone is what a table's lines under a name are compiled to, and can be looked up
+-- the zone is what a table's lines under a name are compiled to, and can be looked up; and it goes on for ever where they do
 pub record IsZoneOf (table : Table) (name : List ℕ) (zone : OpenZone) : Type 0 where
   pub opened : IsOpened name (compiled_in table name) zone
   pub accepted : IsAccepted (schedule_of (set_in zone))
+  pub goes_on : GoesOnAs table name (ever_in zone)
+  pub as_compiled : IsAsCompiled zone

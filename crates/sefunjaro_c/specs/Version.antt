@@ -6,6 +6,6 @@ use Rattle.sefunjaro_c.specs.declared.version.Years.{Years}
 abbrev pub version : List ℕ
 version = codes "2.0.0"
 
--- the first and the last year in which the rules of a line without an end fire
+-- the first and the last year in which the rules of a line without an end fire, where it doesn't go on for ever
 abbrev pub rule_years : Years
 rule_years = record { first = pos earliest_year; last = pos latest_year }

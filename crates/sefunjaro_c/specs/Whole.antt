@@ -14,7 +14,9 @@ use Rattle.zone_tzif_set.specs.declared.file.FileFault.{FileFault}
 use Rattle.zone_tzif_set.specs.declared.file.FileFault.TheVariants as file
 use Rattle.sefunjaro.specs.PosixNames.{has_posix_names}
 use Rattle.sefunjaro.specs.Rooms.{filled}
-use Rattle.sefunjaro.specs.Zones.{set_in, total_in}
+use Rattle.sefunjaro.specs.Zones.{set_in}
+use Rattle.tz_zone.specs.Sets.{schedule_of}
+use Rattle.zone_spans.specs.Schedules.{total_at}
 use Rattle.sefunjaro.specs.declared.zone.OpenZone.{OpenZone}
 use Rattle.sefunjaro_handles.specs.Statuses.{done, none_there, out_of_memory}
 use Rattle.sefunjaro_c.specs.Faults.{plain, IsRefused}
@@ -80,13 +82,13 @@ tzif_told file.NoMemory = plain out_of_memory
 abbrev pub file_due : OpenZone → Option Fault
 file_due zone = option_map (λ fault. none_for (file_number fault)) (consistent_fault (set_in zone))
 
--- The zone's file stands in the room, as far as it fits, and its length is told. Whatever is read from that file has the zone's offset
--- at each instant, and its footer is the string that carries the zone on, if there is one that can't say otherwise as a footer.
+-- The zone's file stands in the room, as far as it fits, and its length is told. Whatever is read from that file has the offset of the
+-- zone's set at each instant, which is the zone's up to the end of 2099, and its footer is the string that carries the zone on, if there is one that can't say otherwise as a footer.
 pub record IsFileIn (zone : OpenZone) (old new : List ℕ) (whole : ℕ) : Type 0 where
   pub none : consistent_fault (set_in zone) ≡ None
   pub room : new ≡ filled (consistent_file (set_in zone)) old
   pub length : whole ≡ length (consistent_file (set_in zone))
-  pub totals : (value : ZoneValue) → Denotes (consistent_file (set_in zone)) value → (t : ℤ) → file_total_at value t ≡ total_in zone t
+  pub totals : (value : ZoneValue) → Denotes (consistent_file (set_in zone)) value → (t : ℤ) → file_total_at value t ≡ total_at (schedule_of (set_in zone)) t
   pub carried : IsCarriedOn (set_in zone)
 
 -- it is told, or why there is none

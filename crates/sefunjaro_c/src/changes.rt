@@ -1,4 +1,4 @@
-//! The saving and the changes of a zone, and the ring of a daily alarm.
+//! The saving and the changes of a zone, the ring of a daily alarm, and the last year up to whose end a zone says what is in force.
 ghost use Rattle.std.specs.Prelude.{◌≡◌, IfSome};
 ghost use Rattle.sefunjaro_c.specs.Answers.{Where};
 ghost use Rattle.sefunjaro_c.specs.Changes.{AreChanges, IsFound, IsRing};
@@ -6,7 +6,7 @@ ghost use Rattle.sefunjaro_c.specs.Times.{is_instant};
 ghost use Rattle.sefunjaro_handles.specs.Held.{OfKept, OfZone, OnZone};
 ghost use Rattle.sefunjaro_handles.specs.Statuses.{IfRefused};
 ghost use Rattle.sefunjaro.specs.Changes.{next_after, saving_at};
-ghost use Rattle.sefunjaro.specs.Zones.{set_in};
+ghost use Rattle.sefunjaro.specs.Zones.{ever_in, last_year, spans_in};
 
 use crate::fault::{DONE, NONE_THERE, NOT_KEPT, NOT_OPEN, OUT_OF_RANGE};
 use crate::zones::instant_of;
@@ -25,7 +25,7 @@ pub extern "C" fn sefunjaro_saving_at_by(
     ensures loan { IfSome zone.old.part.opened (λ _. zone.new.part.loan ≡ zone.old.part.loan) }
     ensures answer { OnZone zone.old.part.opened result (saving.new ≡ saving.old)
         (λ held. OfKept held result (saving.new ≡ saving.old)
-        (λ zone. Where (is_instant second nanosecond) result (saving.new ≡ saving.old) (saving.new ≡ saving_at (set_in zone) second))) }
+        (λ zone. Where (is_instant second nanosecond) result (saving.new ≡ saving.old) (saving.new ≡ saving_at (spans_in zone) second))) }
     ensures kept { IfRefused result (saving.new ≡ saving.old) }
 {
     let Some(reading) = zone.take() else {
@@ -39,7 +39,7 @@ pub extern "C" fn sefunjaro_saving_at_by(
 fn saving_at(opened: &Opened, second: i64, nanosecond: u32, saving: &mut i64) -> u32
     ensures answer { OfZone opened.now result (saving.new ≡ saving.old)
         (λ held. OfKept held result (saving.new ≡ saving.old)
-        (λ zone. Where (is_instant second nanosecond) result (saving.new ≡ saving.old) (saving.new ≡ saving_at (set_in zone) second))) }
+        (λ zone. Where (is_instant second nanosecond) result (saving.new ≡ saving.old) (saving.new ≡ saving_at (spans_in zone) second))) }
     ensures kept { IfRefused result (saving.new ≡ saving.old) }
 {
     let Opened::Zone(zone) = opened else {
@@ -63,7 +63,7 @@ pub extern "C" fn sefunjaro_next_change_by(zone: &mut View, second: i64, change:
     ensures same { zone.new.part.opened ≡ zone.old.part.opened }
     ensures loan { IfSome zone.old.part.opened (λ _. zone.new.part.loan ≡ zone.old.part.loan) }
     ensures answer { OnZone zone.old.part.opened result (change.new ≡ change.old)
-        (λ held. OfKept held result (change.new ≡ change.old) (λ zone. IsFound (next_after (set_in zone) second) result change.old change.new)) }
+        (λ held. OfKept held result (change.new ≡ change.old) (λ zone. IsFound (next_after (spans_in zone) second) result change.old change.new)) }
     ensures kept { IfRefused result (change.new ≡ change.old) }
 {
     let Some(reading) = zone.take() else {
@@ -76,7 +76,7 @@ pub extern "C" fn sefunjaro_next_change_by(zone: &mut View, second: i64, change:
 
 fn next_change(opened: &Opened, second: i64, change: &mut Change) -> u32
     ensures answer { OfZone opened.now result (change.new ≡ change.old)
-        (λ held. OfKept held result (change.new ≡ change.old) (λ zone. IsFound (next_after (set_in zone) second) result change.old change.new)) }
+        (λ held. OfKept held result (change.new ≡ change.old) (λ zone. IsFound (next_after (spans_in zone) second) result change.old change.new)) }
     ensures kept { IfRefused result (change.new ≡ change.old) }
 {
     let Opened::Zone(zone) = opened else {
@@ -173,4 +173,36 @@ fn ring_of(opened: &Opened, clock: &Clock, ring: &mut Reading) -> u32
         },
         None => OUT_OF_RANGE,
     }
+}
+
+/// The last year up to whose end a zone of a source says what is in force.
+#[unsafe(no_mangle)]
+pub extern "C" fn sefunjaro_last_year_by(zone: &mut View, year: &mut i32) -> u32
+    ensures same { zone.new.part.opened ≡ zone.old.part.opened }
+    ensures loan { IfSome zone.old.part.opened (λ _. zone.new.part.loan ≡ zone.old.part.loan) }
+    ensures answer { OnZone zone.old.part.opened result (year.new ≡ year.old)
+        (λ held. OfKept held result (year.new ≡ year.old) (λ zone. (result ≡ 0) × (year.new ≡ last_year (ever_in zone)))) }
+    ensures kept { IfRefused result (year.new ≡ year.old) }
+{
+    let Some(reading) = zone.take() else {
+        return NOT_OPEN;
+    };
+    let status = last_year(reading.get(), year);
+    zone.put(reading);
+    status
+}
+
+fn last_year(opened: &Opened, year: &mut i32) -> u32
+    ensures answer { OfZone opened.now result (year.new ≡ year.old)
+        (λ held. OfKept held result (year.new ≡ year.old) (λ zone. (result ≡ 0) × (year.new ≡ last_year (ever_in zone)))) }
+    ensures kept { IfRefused result (year.new ≡ year.old) }
+{
+    let Opened::Zone(zone) = opened else {
+        return NOT_OPEN;
+    };
+    let AnyZone::Source(zone) = &**zone else {
+        return NOT_KEPT;
+    };
+    *year = zone.last_year();
+    DONE
 }

@@ -6,7 +6,8 @@ ghost use Rattle.sefunjaro.specs.Rooms.{filled};
 use sefunjaro::fill;
 use zone_spans::{EARLIEST_YEAR, MOST_YEARS};
 
-/// The years in which the rules of a source fire. Before the first and after the last nothing changes in a zone.
+/// The years that the rules of a source are worked out for. Before the first nothing changes in a zone, and after the last nothing does
+/// in one that doesn't go on for ever: [`sefunjaro_last_year_by`](crate::changes::sefunjaro_last_year_by) tells.
 #[derive(Clone, Copy, Debug, PartialEq, Eq)]
 #[repr(C)]
 pub struct Years {

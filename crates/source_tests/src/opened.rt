@@ -73,6 +73,40 @@ fn a_source_in_any_form_is_opened(rt: HostRuntime) {
     expect_new_york(&rt, alloc, &zone);
 }
 
+/// A zone whose rules end in 2150, so that its lines don't go on.
+const ENDING: &[u8] =
+    b"R E 1981 2150 - Mar lastSun 1u 1 S\nR E 1996 2150 - O lastSun 1u 0 -\nZ Europe/Ending 1 E CE%sT\n";
+
+/// A second of July 2150.
+const JULY_2150: i64 = 5_695_963_200;
+
+#[test]
+fn a_zone_goes_on_where_its_lines_do(rt: HostRuntime) {
+    let alloc = rt.alloc();
+    let zone = zone_of(&rt, alloc, SHORT, "East");
+    let mut name = [0; 3];
+    let found = zone.in_force(&at(&rt, JULY_2150), &mut name);
+    same(
+        &rt,
+        &(zone.last_year(), found.offset, found.is_saving, name),
+        &(9999, -14_400, true, *b"EDT"),
+    );
+    let Some(change) = zone.next_change(5_680_281_600) else {
+        panic!(rt; "no change");
+    };
+    same(
+        &rt,
+        &(change.second, change.offset, change.saving),
+        &(5_686_009_200, -14_400, 3600),
+    );
+    let zone = zone_of(&rt, alloc, ENDING, "Europe/Ending");
+    same(
+        &rt,
+        &(zone.last_year(), zone.offset_at(&at(&rt, JULY_2150))),
+        &(2099, 3600),
+    );
+}
+
 /// Sources that are refused in plain form, and in any, each with the line that tells its fault.
 const REFUSED: &str = "\
 Zone A 0 - X;Zone~source 2: line InvalidLineType;

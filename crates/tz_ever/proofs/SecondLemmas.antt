@@ -1,5 +1,5 @@
 -- One total is in force throughout a second, for ever.
-use Rattle.std.proofs.Common.{◌≡◌, ℕ, ◌*◌, ℤ, pos, ◌+ℤ◌, ◌-ℤ◌, sym, ap, ◌∙◌, arith}
+use Rattle.std.proofs.Common.{◌≡◌, ℕ, ◌*◌, ℤ, pos, ◌-ℤ◌, sym, ap, ◌∙◌, arith}
 use Rattle.calendar.specs.SignedLaws.{signed}
 use Rattle.civil_base.specs.Instants.{nanos_of, seconds_of}
 use Rattle.zone_spans.specs.Schedules.{Schedule, total_at}

@@ -8,7 +8,9 @@ ghost use Rattle.tz_ever.specs.Unrolled.{entries_before, later_cycles, next_seam
 
 use crate::ever_set::EverSet;
 use crate::laws;
-use tz_zone::{FixedTimespan, SpanTable};
+use std::marker::Brand;
+use std::sync::ledger::{Blank, Ledger};
+use tz_zone::{FixedTimespan, SpanTable, Steps, span_between};
 
 /// 2102-01-01 00:00:00 UTC, in seconds from 1970-01-01 00:00:00 UTC.
 const SEAM: i64 = 4_165_516_800;
@@ -45,7 +47,7 @@ impl<'a> EverTable<'a> {
     ghost use Rattle.tz_ever.specs.TablesShown.{unrolled_of};
     ghost use Rattle.tz_ever.specs.Unrolled.{unrolled, unrolled_entries};
 
-    /// The table of a set. It takes no memory, and looks at each entry of the set once or twice.
+    /// The table of a set. It takes no memory, and two searches among its entries.
     pub fn new(set: &'a EverSet) -> EverTable<'a>
         ensures seen { unrolled_of result ≡ unrolled (ever_seen set.now) }
         ensures accepted { IsAccepted (schedule_of (unrolled (ever_seen set.now))) }
@@ -104,17 +106,26 @@ impl<'a> SpanTable for EverTable<'a> {
     }
 }
 
-/// How many entries of a set that can be looked up lie before a second.
+/// How many entries of a set that can be looked up lie before a second, by a search.
 fn count_before<S: SpanTable>(set: &S, second: i64) -> usize
-    requires { IsAccepted (schedule_of (S.seen set.now)) }
+    requires accepted { IsAccepted (schedule_of (S.seen set.now)) }
+    requires second { IsSpanTime second }
     ensures { result ≡ length (entries_before second (S.seen set.now).others) }
 {
-    for index in 0..set.entry_count() {
-        if set.time(index) >= second {
-            return index;
-        }
-    }
-    set.entry_count()
+    count_under::<S, Brand>(set, second, Blank::new(1))
+}
+
+/// The same, with steps of the search that are counted and thrown away.
+fn count_under<S: SpanTable, L: Ledger>(set: &S, second: i64, blank: Blank) -> usize
+    requires name { blank.name ≡ L.name }
+    requires parts { blank.parts ≡ L.parts }
+    requires some { 0 < L.parts }
+    requires accepted { IsAccepted (schedule_of (S.seen set.now)) }
+    requires second { IsSpanTime second }
+    ensures { result ≡ length (entries_before second (S.seen set.now).others) }
+{
+    let mut steps: Steps<L> = Steps::new(blank);
+    span_between(set, second - 1, 0, set.entry_count(), &mut steps)
 }
 
 /// A second so many cycles later.

@@ -19,10 +19,11 @@ pub record IsOpened (source name : List ℕ) (set : CompactSet) : Type 0 where
   pub is_named : (seen set).name ≡ name
   pub is_compiled : IsCompiledAs (seen set) (compiled_in table name)
 
--- the text is that of a source whose zone of that name has this total at an instant
+-- the text is that of a source whose zone of that name, which goes on for ever where its lines do, has this total at an instant
 pub record IsGivenInSource (text name : List ℕ) (t total : ℤ) : Type 0 where
   pub source : OpenSource
   pub zone : OpenZone
   pub is_source : IsAnySource text source
   pub is_zone : zones.IsOpened name (compiled_in (table_in source) name) zone
+  pub goes_on : zones.GoesOnAs (table_in source) name (zones.ever_in zone)
   pub is : total ≡ zones.total_in zone t

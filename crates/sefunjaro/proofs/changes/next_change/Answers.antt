@@ -1,6 +1,6 @@
-use Rattle.std.proofs.Common.{◌≡◌, ◌∙◌, to_z, of_z, to_z-of_z, w64, ap, subst, arith}
+use Rattle.std.proofs.Common.{◌≡◌, ◌+◌, ◌∙◌, map, drop, to_z, of_z, to_z-of_z, w64, ap, subst, arith}
 use Rattle.std.specs.Prelude.{None, Some, filter, int_lt}
-use Rattle.sefunjaro.specs.Changes.{next_after}
+use Rattle.sefunjaro.specs.Changes.{change_of, next_after, settled_changes}
 use Rattle.sefunjaro.proofs.ChangeLemmas.{later_from, left_after, next_found, none_next}
 use Rattle.sefunjaro.proofs.changes.next_change.Goals as goal
 
@@ -16,7 +16,8 @@ returns-in-Some g c =
     let set = g.S.SpanTable.seen c.args.set.now in let place = c.loop-place.place in let invariant = c.loop-place.invariant in
     let same : to_z w64 (of_z w64 c.args.second) ≡ c.args.second = to_z-of_z c.ranges.second in
     subst (λ s. Some c.in-Some.change ≡ next_after set s) same
-    (next_found set (to_z w64 (of_z w64 c.args.second)) place c.in-Some.change _ invariant.left c.in-Some.ensures.0 c.in-Some.ensures.1
+    (next_found set (to_z w64 (of_z w64 c.args.second)) place c.in-Some.change (settled_changes (drop (place + 1) (map (change_of set) set.others)))
+    invariant.left c.in-Some.ensures.0 c.in-Some.ensures.1
     (invariant.later place (omega arith) (omega (arith, c.loop-place-test.true, c.entry_count-place-end.ensures.count))))
 
 pub loop-place-preserved : goal.loop-place-preserved

@@ -1,6 +1,6 @@
 use Rattle.std.proofs.Common.{◌≡◌, to_z-of_z, subst}
 use Rattle.sefunjaro.specs.Changes.{saving_at}
-use Rattle.sefunjaro.specs.Zones.{set_in}
+use Rattle.sefunjaro.specs.Zones.{spans_in}
 use Rattle.sefunjaro_handles.specs.Held.{OfKept, OnZone}
 use Rattle.sefunjaro_c.specs.Answers.{Where}
 use Rattle.sefunjaro_c.specs.Times.{is_instant}
@@ -11,6 +11,6 @@ pub returns-clause-answer : goal.returns-clause-answer
 returns-clause-answer c =
     let told = c.saving_at-status in let saving = told.new.saving in let kept = saving ≡ c.args.saving.now in let zone = c.args.zone.now.part.opened in
     subst (λ s. OnZone zone told.result kept (λ held. OfKept held told.result kept (λ of_name.
-    Where (is_instant s c.args.nanosecond) told.result kept (saving ≡ saving_at (set_in of_name) s))))
+    Where (is_instant s c.args.nanosecond) told.result kept (saving ≡ saving_at (spans_in of_name) s))))
     (to_z-of_z c.ranges.second)
     (handed c.in-Some.reading (λ reading. reading.opened) zone c.get.result.now told.result kept _ c.in-Some.ensures.reading c.get.ensures told.ensures.answer)
