@@ -1,12 +1,12 @@
 -- What holds stays as it is up to the next moment of the years that are looked at, or the next year.
-use Rattle.std.proofs.Common.{◌≡◌, ◌≤◌, ℕ, suc, ℤ, pos, neg_ℤ, cond, ◌+ℤ◌, ◌-ℤ◌, ◌*ℤ◌, ◌≤ℤ◌, ◌<ℤ◌, int_le, int_lt, refl, ap, ◌∙◌, arith, unsigned_abs}
+use Rattle.std.proofs.Common.{◌≡◌, ◌≤◌, suc, ℤ, pos, neg_ℤ, cond, ◌+ℤ◌, ◌-ℤ◌, ◌*ℤ◌, ◌≤ℤ◌, ◌<ℤ◌, int_le, int_lt, refl, ap, ◌∙◌, arith, unsigned_abs}
 use Rattle.std.specs.Prelude.{◌&&◌, ◌||◌}
 use Rattle.std.specs.Int.{int_div_euclid}
 use Rattle.std.proofs.lemmas.Int.{ints}
 use Rattle.calendar.specs.ComparisonLaws.{lt_pass}
-use Rattle.calendar.specs.DateLaws.{IsYearOf, day-last_of_year, day-range, day_parts, last_date, place_of, year-between, year_of-is}
+use Rattle.calendar.specs.DateLaws.{IsYearOf, day-last_of_year, day-range, day_parts, place_of, year-between, year_of-is}
 use Rattle.calendar.specs.Dates.{year_of, month_of, day_of}
-use Rattle.calendar.specs.Days.{day, days_in_year, IsCountedYear}
+use Rattle.calendar.specs.Days.{day, IsCountedYear}
 use Rattle.calendar.specs.MonthLaws.{days_through-two}
 use Rattle.calendar.specs.SignedLaws.{signed}
 use Rattle.calendar.specs.YearLaws.{cycle_days-suc, day-cycle}

@@ -1,5 +1,5 @@
 -- Where a footer that was walked begins to give a set's totals for ever.
-use Rattle.std.proofs.Common.{◌≡◌, ℕ, zero, suc, ◌<◌, ◌≤◌, length, Option, Some, None, ℤ, pos, ◌-ℤ◌, ◌≤ℤ◌, ◌<ℤ◌, true, false, cond, refl, sym, ◌∙◌, ⊎_elim, arith}
+use Rattle.std.proofs.Common.{◌≡◌, ℕ, zero, suc, ◌<◌, ◌≤◌, length, Some, None, ℤ, pos, ◌-ℤ◌, ◌≤ℤ◌, ◌<ℤ◌, true, false, cond, refl, sym, ◌∙◌, ⊎_elim, arith}
 use Rattle.std.proofs.lemmas.Int.{ints, by_lt_z}
 use Rattle.std.proofs.lemmas.Bool.{cases_lt}
 use Rattle.calendar.specs.ComparisonLaws.{le_le, lt_le}
@@ -16,6 +16,7 @@ use Rattle.zone_tail_ever.specs.Tells.{Tells, TellsEntry}
 use Rattle.zone_tail_ever.specs.declared.agreeing.Agreement.{Agreement}
 use Rattle.zone_tail_ever.specs.declared.agreeing.Agreement.TheVariants.{Nowhere, From, Always}
 use Rattle.zone_tail_ever.proofs.EverLemmas.{Repeats, for_ever, until_end}
+use Rattle.zone_tail_ever.proofs.EarliestLemmas.{earlier}
 use Rattle.zone_tail_ever.proofs.StepLemmas.{none_before}
 
 flat_total : (zone : FooterZone) → IsFlat zone → (s : ℤ) → footer_total zone s ≡ standard_total zone
@@ -102,7 +103,8 @@ module _ (repeats : Repeats) (zone : FooterZone) (offset : IsOffset (standard_to
         may = record { within = l; first = here.first; last = low };
         at = refl;
         agrees = for_ever repeats zone offset set (Some (time_of_entry set n)) (λ s h. le_le _ _ _ low h) here.from;
-        none_before = λ i m may agrees. none_before set times zone n walked i m (at_entry i may agrees);
+        none_before = λ other i range m may agrees.
+            none_before set times zone n walked i m (earlier repeats zone other offset range set (time_of_entry set n) low here.from i may agrees);
       }
 
   -- ---- nowhere

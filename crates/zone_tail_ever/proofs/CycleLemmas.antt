@@ -1,5 +1,5 @@
 -- What a rule of each year puts in force repeats after 400 years.
-use Rattle.std.proofs.Common.{◌≡◌, ℕ, ℤ, pos, neg_ℤ, cond, ◌+◌, ◌-◌, ◌*◌, ◌<◌, ◌==◌, ◌+ℤ◌, ◌-ℤ◌, ◌*ℤ◌, ◌≤ℤ◌, ◌<ℤ◌, int_le, int_lt, refl, sym, ap, ◌∙◌, arith, subst}
+use Rattle.std.proofs.Common.{◌≡◌, ℕ, ℤ, pos, neg_ℤ, cond, ◌+◌, ◌-◌, ◌*◌, ◌<◌, ◌==◌, ◌+ℤ◌, ◌-ℤ◌, ◌≤ℤ◌, ◌<ℤ◌, int_le, int_lt, refl, sym, ap, ◌∙◌, arith, subst}
 use Rattle.std.specs.Prelude.{◌&&◌, ◌||◌}
 use Rattle.std.specs.Int.{int_div_euclid}
 use Rattle.std.proofs.lemmas.Int.{ints}
@@ -15,7 +15,7 @@ use Rattle.tz_posix_core.specs.InForce.{YearlyTime, instant_in, is_saving, is_wi
 use Rattle.tz_posix_core.specs.PosixZones.{Given, GivesByRule, Named}
 use Rattle.tz_posix_core.specs.declared.date.Date.{Date}
 use Rattle.tz_posix_core.specs.declared.date.Date.TheVariants.{J, N, M}
-use Rattle.tz_footer.specs.InForce.{FooterZone, fixed, yearly, has_begun, held_at, is_footer_saving, is_saved, is_saved_by, is_saved_since, standard_total, year_after, year_before}
+use Rattle.tz_footer.specs.InForce.{FooterZone, fixed, yearly, has_begun, held_at, is_footer_saving, is_saved, is_saved_by, standard_total, year_after, year_before}
 use Rattle.zone_tail_ever.specs.Years.{IsInYears}
 
 pub record IsAmong (first last y : ℤ) : Type 0 where

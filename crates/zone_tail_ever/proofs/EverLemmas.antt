@@ -1,6 +1,6 @@
 -- A footer that gives a set's totals up to the end of the cycle gives them for ever.
-use Rattle.std.proofs.Common.{◌≡◌, ℕ, zero, suc, ◌+◌, ◌*◌, ◌<◌, ◌≤◌, Option, Some, None, ℤ, pos, neg_ℤ, ◌+ℤ◌, ◌-ℤ◌, ◌*ℤ◌, ◌≤ℤ◌, ◌<ℤ◌, refl, sym, ap, ◌∙◌, subst, arith}
-use Rattle.std.proofs.lemmas.Int.{ints, by_lt_z}
+use Rattle.std.proofs.Common.{◌≡◌, ℕ, zero, suc, ◌+◌, ◌*◌, ◌<◌, ◌≤◌, Option, ℤ, pos, neg_ℤ, ◌+ℤ◌, ◌-ℤ◌, ◌*ℤ◌, ◌≤ℤ◌, ◌<ℤ◌, refl, sym, ap, ◌∙◌, subst, arith}
+use Rattle.std.proofs.lemmas.Int.{ints}
 use Rattle.calendar.specs.Days.{day, is_leap, days_in_year, days_in_month, days_after_zero, year_start, days_through, days_into_year}
 use Rattle.calendar.specs.ComparisonLaws.{lt_pass}
 use Rattle.calendar.specs.SignedLaws.{signed}
@@ -9,9 +9,8 @@ use Rattle.civil_base.specs.RangeLaws.{offset_greatest, offset_least}
 use Rattle.civil_base.specs.Ranges.{IsOffset}
 use Rattle.zone_spans.specs.Cycle.{seconds_on}
 use Rattle.zone_spans.specs.Entries.{total}
-use Rattle.zone_spans.specs.Schedules.{total_at}
 use Rattle.tz_ever.specs.Ever.{ever_total}
-use Rattle.tz_ever.specs.Seam.{brought_back, cycles_past, next_seam, seam}
+use Rattle.tz_ever.specs.Seam.{brought_back, cycles_past, next_seam}
 use Rattle.tz_ever.specs.SeamLaws.{ArePast, back_by, back_is, cycles_past-are}
 use Rattle.tz_footer.specs.InForce.{FooterZone, held_at, standard_total}
 use Rattle.tz_zone.specs.SecondLaws.{IsSecond, one_second, second_is, total_is}
@@ -19,7 +18,7 @@ use Rattle.tz_zone.specs.Sets.{schedule_of, shifts_of}
 use Rattle.tz_zone.specs.Spans.{total_from}
 use Rattle.tz_zone.specs.declared.set.FixedTimespanSet.{FixedTimespanSet}
 use Rattle.zone_tail_core.specs.Carried.{IsFrom}
-use Rattle.zone_tail_ever.specs.Agreement.{AgreesForEver, IsCovered, cycle_begin, cycle_end, footer_total, time_of_entry}
+use Rattle.zone_tail_ever.specs.Agreement.{AgreesForEver, IsCovered, cycle_begin, cycle_end, footer_total}
 use Rattle.zone_tail_ever.specs.Walked.{Agrees}
 use Rattle.zone_tail_ever.specs.Years.{IsInYears}
 
@@ -27,15 +26,15 @@ use Rattle.zone_tail_ever.specs.Years.{IsInYears}
 abbrev pub Repeats : Type 0
 Repeats = (zone : FooterZone) (s : ℤ) → IsInYears (pos 2) (pos 9599) (standard_total zone) s → held_at zone (seconds_on s) ≡ held_at zone s
 
-first_day : day (pos 2) 1 1 ≡ neg_ℤ (pos 718797)
+pub first_day : day (pos 2) 1 1 ≡ neg_ℤ (pos 718797)
 unfolding is_leap days_in_year days_in_month days_after_zero year_start days_through days_into_year day
 first_day = refl
 
-last_day : day (pos 9599) 12 31 ≡ pos 2786799
+pub last_day : day (pos 9599) 12 31 ≡ pos 2786799
 unfolding is_leap days_in_year days_in_month days_after_zero year_start days_through days_into_year day
 last_day = refl
 
-last_of_all : day (pos 9999) 12 31 ≡ pos 2932896
+pub last_of_all : day (pos 9999) 12 31 ≡ pos 2932896
 unfolding is_leap days_in_year days_in_month days_after_zero year_start days_through days_into_year day
 last_of_all = refl
 
@@ -116,6 +115,14 @@ ever_is set t second back = total_is (schedule_of set) (brought_back t) ∙ ap (
 none_later : (second : ℤ) → later second 0 ≡ second
 none_later second = omega (arith, signed)
 
+pub whole : (s : ℤ) → seconds_of (pos 1000000000 *ℤ s) ≡ s
+whole s = one_second (pos 1000000000 *ℤ s) _ _ (second_is _) (record { low = omega (arith, ints); high = omega (arith, ints) })
+
+early : (s : ℤ) → s <ℤ cycle_end → seconds_of (brought_back (pos 1000000000 *ℤ s)) ≡ s
+early s before =
+    let t = pos 1000000000 *ℤ s in
+    ap seconds_of (back_is t (lt_pass t next_seam (omega (arith, signed, before)))) ∙ whole s
+
 module _ (repeats : Repeats) (zone : FooterZone) (offset : IsOffset (standard_total zone)) (set : FixedTimespanSet) (from : Option ℤ)
     (begins : (s : ℤ) → cycle_begin ≤ℤ s → IsFrom from s) where
   pub for_ever : Agrees zone set from → AgreesForEver zone set from
@@ -133,14 +140,6 @@ module _ (repeats : Repeats) (zone : FooterZone) (offset : IsOffset (standard_to
           let over = subst (λ s. (s +ℤ standard_total zone) <ℤ (pos 86400 *ℤ (day (pos 9999) 12 31 +ℤ pos 1))) is covered.not_over in
           ap (footer_total zone) is ∙ ap (λ held. held.utoff) (in_cycles repeats zone offset second (suc k) begun over)
           ∙ agrees.alike second (begins second begun) before
-
-  whole : (s : ℤ) → seconds_of (pos 1000000000 *ℤ s) ≡ s
-  whole s = one_second (pos 1000000000 *ℤ s) _ _ (second_is _) (record { low = omega (arith, ints); high = omega (arith, ints) })
-
-  early : (s : ℤ) → s <ℤ cycle_end → seconds_of (brought_back (pos 1000000000 *ℤ s)) ≡ s
-  early s before =
-      let t = pos 1000000000 *ℤ s in
-      ap seconds_of (back_is t (lt_pass t next_seam (omega (arith, signed, before)))) ∙ whole s
 
   -- and what agrees for ever agrees up to the end of the cycle
   pub until_end : AgreesForEver zone set from → Agrees zone set from

@@ -1,5 +1,5 @@
 -- Agreement from an entry on, entry by entry.
-use Rattle.std.proofs.Common.{◌≡◌, ◌↔◌, ℕ, zero, suc, ◌-◌, ◌<◌, ◌≤◌, List, [], ◌∷◌, length, map, Some, ℤ, ◌≤ℤ◌, ◌<ℤ◌, refl, sym, ap, ◌∙◌, subst, ⊎_elim, arith}
+use Rattle.std.proofs.Common.{◌≡◌, ◌↔◌, ℕ, zero, suc, ◌-◌, ◌<◌, ◌≤◌, List, [], ◌∷◌, length, map, ℤ, ◌≤ℤ◌, ◌<ℤ◌, refl, sym, ap, ◌∙◌, subst, ⊎_elim, arith}
 use Rattle.std.proofs.lemmas.Int.{ints, by_lt_z}
 use Rattle.std.proofs.lemmas.Bool.{cases_lt}
 use Rattle.calendar.specs.ComparisonLaws.{le_le, lt_le}
@@ -11,7 +11,7 @@ use Rattle.tz_zone.specs.SpanLaws.{total_from_cut}
 use Rattle.tz_zone.specs.Spans.{IsCut, TimesDontFall, total_from}
 use Rattle.tz_zone.specs.declared.set.FixedTimespanSet.{FixedTimespanSet}
 use Rattle.zone_tail_ever.specs.Agreement.{cycle_end, footer_total, time_of_entry}
-use Rattle.zone_tail_ever.specs.Walked.{Agrees, AgreesAt, IsWalked, Lasts}
+use Rattle.zone_tail_ever.specs.Walked.{AgreesAt, IsWalked, Lasts}
 
 pub length-shifts : (entries : List Entry) → length (map shift_of entries) ≡ length entries
 length-shifts [] = refl

@@ -1,6 +1,5 @@
 -- Worked rows: the forms of years, the first cause, and the names of changes.
-use Rattle.std.proofs.Common.{◌≡◌, ℕ, List, [], ◌∷◌, ◌++◌, map, true, false, Some, None, refl, arith, ℤ, pos, neg_ℤ, ◌*ℤ◌, ap, ◌∙◌, sym}
-use Rattle.std.proofs.lemmas.Int.{ints}
+use Rattle.std.proofs.Common.{◌≡◌, ◌*◌, ℕ, List, [], ◌∷◌, map, true, false, Some, None, refl, ℤ, pos, neg_ℤ}
 use Rattle.std.specs.Prelude.{codes}
 use Rattle.std.specs.Fmt.{digits}
 use Rattle.zone_spans.specs.Entries.{Entry}
@@ -8,7 +7,7 @@ use Rattle.zone_spans.specs.declared.span.FixedTimespan.{FixedTimespan}
 use Rattle.tz_zone.specs.declared.set.FixedTimespanSet.{FixedTimespanSet}
 use Rattle.zone_tail_core.specs.LastYear.{steady, yearly, other}
 use Rattle.zone_tail_core.specs.Texts.{time_text}
-use Rattle.zone_tail_ever.specs.Tried.{days_back, ever_form, first_from, form_fault, is_past_noon, signed_text, week_of}
+use Rattle.zone_tail_ever.specs.Tried.{days_back, ever_form, first_from, form_fault, how_many, is_past_noon, signed_text, week_of}
 use Rattle.zone_tail_ever.specs.declared.outcome.EverTailFault.TheVariants.{Shape, OffsetRange, Name}
 
 abbrev span : ℤ → ℤ → List ℕ → FixedTimespan
@@ -79,3 +78,7 @@ times : map signed_text (pos 7200 ∷ pos 0 ∷ pos 86400 ∷ pos 180000 ∷ neg
     ≡ [] ∷ codes "/0" ∷ codes "/24" ∷ codes "/50" ∷ codes "/-1" ∷ codes "/-2" ∷ codes "/1:30:01" ∷ []
 unfolding signed_text time_text digits
 times = refl
+
+-- each way to name the start with each to name the end
+ways : how_many ≡ 28 * 28
+ways = refl

@@ -2,6 +2,7 @@
 use Rattle.std.specs.Prelude.{◌≡◌, ℕ, ◌<◌, length, Option, Some, None, ℤ, pos, ◌+ℤ◌, ◌*ℤ◌, ◌≤ℤ◌, ◌<ℤ◌}
 use Rattle.calendar.specs.Days.{day}
 use Rattle.civil_base.specs.Instants.{seconds_of}
+use Rattle.civil_base.specs.Ranges.{IsOffset}
 use Rattle.tz_ever.specs.Ever.{ever_total}
 use Rattle.tz_footer.specs.InForce.{FooterZone, held_at, saving_total, standard_total}
 use Rattle.tz_lookup.specs.YearSeconds.{rules_begin}
@@ -44,13 +45,14 @@ pub record MayBegin (set : FixedTimespanSet) (i : ℕ) : Type 0 where
 abbrev pub IsFlat : FooterZone → Type 0
 IsFlat zone = standard_total zone ≡ saving_total zone
 
--- from this entry on, and from none before it
+-- from this entry on; and no footer at all, whose offset is in range, does so from an entry before it
 pub record AgreesFirstFrom (zone : FooterZone) (set : FixedTimespanSet) (second : ℤ) : Type 0 where
   pub entry : ℕ
   pub may : MayBegin set entry
   pub at : second ≡ time_of_entry set entry
   pub agrees : AgreesForEver zone set (Some second)
-  pub none_before : (i : ℕ) → i < entry → MayBegin set i → AgreesForEver zone set (Some (time_of_entry set i)) → ⊥
+  pub none_before : (other : FooterZone) (i : ℕ) → IsOffset (standard_total other) → i < entry → MayBegin set i
+      → AgreesForEver other set (Some (time_of_entry set i)) → ⊥
 
 -- from no entry on
 abbrev pub AgreesNowhere : FooterZone → FixedTimespanSet → Type 0

@@ -23,7 +23,8 @@ const CYCLE_BEGIN: i64 = 4_165_516_800;
 pub enum Agreement {
     /// At no entry from 1800 to 2101.
     Nowhere,
-    /// At the first of these entries from which on it does, a second from 1970-01-01 00:00:00 UTC.
+    /// At the first of these entries from which on it does, a second from 1970-01-01 00:00:00 UTC. No footer at all does so from an
+    /// earlier one.
     From(i64),
     /// At the beginning of time: the footer has one total for good.
     Always,

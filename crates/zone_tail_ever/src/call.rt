@@ -1,8 +1,6 @@
 //! The call.
 ghost use Rattle.std.specs.Prelude.{◌≡◌, ◌<◌, IfOk, MatchOption, MatchResult, None, string_bytes};
 ghost use Rattle.tz_ever.specs.EverShown.{ever_seen};
-ghost use Rattle.tz_footer.specs.InForce.{FooterZone};
-ghost use Rattle.tz_footer.specs.Standing.{StandsFor};
 ghost use Rattle.tz_zone.specs.Sets.{IsAccepted, schedule_of};
 ghost use Rattle.zone_tail_ever.specs.Forms.{Shows};
 ghost use Rattle.zone_tail_ever.specs.Tails.{CarriesForEver, CarriesNothing, IsFaultForEver, IsTailForEver, TextTells};

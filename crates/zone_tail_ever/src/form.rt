@@ -1,4 +1,4 @@
-//! The entries of 2102, a year that stands for each fourth hundredth after it.
+//! The entries of 2102, a year that comes again every 400 years.
 ghost use Rattle.std.specs.Prelude.{◌≡◌, ◌≤◌, ◌<◌, length, pos};
 ghost use Rattle.tz_zone.specs.Sets.{shifts_of};
 ghost use Rattle.zone_tail_core.specs.Shapes.{entry_in};

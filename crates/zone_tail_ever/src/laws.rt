@@ -1,15 +1,11 @@
 //! What a rule of each year puts in force repeats after 400 years, or 12,622,780,800 seconds.
 //!
 //! Days are counted in the years -10000 to 10000, so each law names the years for which it holds, by clocks of standard time.
-ghost use Rattle.std.specs.Prelude.{◌≡◌, ℕ, ℤ, pos, Some, ◌≤ℤ◌};
-ghost use Rattle.civil_base.specs.Ranges.{IsOffset};
+ghost use Rattle.std.specs.Prelude.{◌≡◌, ℤ, pos};
 ghost use Rattle.zone_spans.specs.Cycle.{seconds_on};
 ghost use Rattle.tz_posix_core.specs.InForce.{YearlyTime, posix_total};
 ghost use Rattle.tz_posix_core.specs.PosixZones.{Given, GivesByRule, Named};
 ghost use Rattle.tz_footer.specs.InForce.{FooterZone, held_at, standard_total};
-ghost use Rattle.tz_zone.specs.Sets.{IsAccepted, schedule_of};
-ghost use Rattle.tz_zone.specs.declared.set.FixedTimespanSet.{FixedTimespanSet};
-ghost use Rattle.zone_tail_ever.specs.Agreement.{AgreesFirstFrom, AgreesForEver, MayBegin, time_of_entry};
 ghost use Rattle.zone_tail_ever.specs.Years.{IsInYears};
 
 use tz_ever::cycle::days::{days_repeat, months_repeat, weekdays_repeat};
@@ -36,13 +32,4 @@ pub fn footers_repeat()
     days_repeat();
     weekdays_repeat();
     months_repeat();
-}
-
-/// A footer that gives a set's totals for ever gives them from the earliest entry from which any footer does.
-pub fn none_begins_earlier()
-    ensures { (zone other : FooterZone) (set : FixedTimespanSet) (second : ℤ) (i : ℕ) → IsAccepted (schedule_of set)
-        → IsOffset (standard_total zone) → IsOffset (standard_total other) → AgreesFirstFrom zone set second → MayBegin set i
-        → AgreesForEver other set (Some (time_of_entry set i)) → second ≤ℤ time_of_entry set i }
-{
-    footers_repeat();
 }

@@ -3,8 +3,8 @@
 /// The footer that carries a zone on for ever.
 #[derive(Debug, Drop)]
 pub struct EverTail {
-    /// The second, from 1970-01-01 00:00:00 UTC on, of the entry from which on the footer's total is the zone's for ever. None where
-    /// that holds from the beginning of time.
+    /// The second, from 1970-01-01 00:00:00 UTC on, of the entry from which on the footer's total is the zone's for ever; no
+    /// footer at all does so from an earlier one. None where that holds from the beginning of time.
     pub from: Option<i64>,
     /// The footer.
     pub text: String,

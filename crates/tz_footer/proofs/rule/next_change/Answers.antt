@@ -1,8 +1,8 @@
-use Rattle.std.proofs.Common.{◌≡◌, ℤ, pos, ◌-ℤ◌, ◌*ℤ◌, ◌≤ℤ◌, ◌<ℤ◌, FitsSigned, w32, w64, to_z, of_z, to_z-of_z, rules, ap, ◌∙◌, arith}
+use Rattle.std.proofs.Common.{ℤ, pos, ◌-ℤ◌, ◌*ℤ◌, FitsSigned, w32, w64, to_z, of_z, to_z-of_z, rules, ap, ◌∙◌, arith}
 use Rattle.std.proofs.lemmas.Int.{ints}
 use Rattle.calendar.specs.Days.{day}
 use Rattle.tz_posix_core.specs.InForce.{moments_in, year_at}
-use Rattle.tz_posix_core.specs.Yearly.{moments_shown, time_shown}
+use Rattle.tz_posix_core.specs.Yearly.{time_shown}
 use Rattle.tz_footer.specs.InForce.{year_after, year_before}
 use Rattle.tz_footer.proofs.ChangeLemmas.{AreApart, later_year, same_saving}
 use Rattle.tz_footer.proofs.rule.next_change.Goals as goal

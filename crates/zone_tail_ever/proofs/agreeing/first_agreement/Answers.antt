@@ -1,4 +1,3 @@
-use Rattle.std.proofs.Common.{ap}
 use Rattle.tz_footer.specs.FooterShown.{footer_shown}
 use Rattle.zone_tail_ever.proofs.AnswerLemmas.{told}
 use Rattle.zone_tail_ever.proofs.agreeing.first_agreement.Goals as goal

@@ -1,5 +1,4 @@
-use Rattle.std.proofs.Common.{to_z-of_z, FitsSigned, w64, rules, ◌∙◌, sym, subst, arith}
-use Rattle.std.proofs.lemmas.Int.{ints, by_lt_z}
+use Rattle.std.proofs.Common.{to_z-of_z, FitsSigned, w64, rules, ◌∙◌, sym, subst}
 use Rattle.tz_footer.specs.FooterShown.{footer_shown}
 use Rattle.zone_tail_ever.specs.Agreement.{AgreesFirstFrom}
 use Rattle.zone_tail_ever.proofs.AnswerLemmas.{first_from, nowhere, late}

@@ -1,4 +1,4 @@
-use Rattle.std.proofs.Common.{◌≡◌, to_z-of_z, FitsSigned, w64, rules, ◌∙◌, sym, refl}
+use Rattle.std.proofs.Common.{◌≡◌, to_z-of_z, FitsSigned, w64, rules, ◌∙◌, sym}
 use Rattle.std.proofs.lemmas.Bool.{eq-eqb, eqb-true}
 use Rattle.tz_footer.specs.FooterShown.{footer_shown}
 use Rattle.zone_tail_ever.proofs.AnswerLemmas.{always, flat_at, none_left}

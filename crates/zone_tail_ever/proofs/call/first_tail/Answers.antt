@@ -1,4 +1,4 @@
-use Rattle.std.proofs.Common.{◌≡◌, ℕ, ◌<◌, Option, MatchOption, string_bytes, subst, ⊎_elim, arith}
+use Rattle.std.proofs.Common.{◌≡◌, Option, MatchOption, string_bytes, subst, ⊎_elim, arith}
 use Rattle.std.proofs.lemmas.Bool.{cases_lt}
 use Rattle.zone_tail_ever.specs.Tails.{CarriesForEver, CarriesNothing}
 use Rattle.zone_tail_ever.specs.Tried.{tried}

@@ -1,4 +1,4 @@
-use Rattle.std.proofs.Common.{Some, sym, ◌∙◌}
+use Rattle.std.proofs.Common.{sym, ◌∙◌}
 use Rattle.zone_tail_ever.proofs.FormLemmas.{fault_is}
 use Rattle.zone_tail_ever.proofs.call.tail_of.Goals as goal
 

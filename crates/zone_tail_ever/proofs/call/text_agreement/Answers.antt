@@ -1,7 +1,4 @@
-use Rattle.std.proofs.Common.{◌≡◌, ℕ, List, sym, ap, ◌∙◌, subst}
 use Rattle.tz_footer.specs.FooterShown.{footer_shown}
-use Rattle.tz_footer.specs.InForce.{FooterZone}
-use Rattle.tz_footer.specs.Standing.{StandsFor, stands_for}
 use Rattle.zone_tail_ever.proofs.TextLemmas.{no_footer, text_tells}
 use Rattle.zone_tail_ever.proofs.call.text_agreement.Goals as goal
 

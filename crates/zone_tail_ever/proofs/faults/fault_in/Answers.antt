@@ -1,4 +1,4 @@
-use Rattle.std.proofs.Common.{◌≡◌, FitsSigned, w64, rules, to_z-of_z, sym, ap, ◌∙◌}
+use Rattle.std.proofs.Common.{FitsSigned, w64, rules, to_z-of_z, sym, ap, ◌∙◌}
 use Rattle.zone_spans.specs.declared.span.FixedTimespan.{FixedTimespan}
 use Rattle.zone_tail_core.specs.Tails.{can_be_written, is_name}
 use Rattle.zone_tail_ever.specs.Tried.{form_fault, written_or}

@@ -1,5 +1,4 @@
-use Rattle.std.proofs.Common.{◌≡◌, ◌++◌, FitsSigned, w32, rules, to_z-of_z, OnOk, string_bytes, ap, ◌∙◌, subst}
-use Rattle.calendar.specs.Dates.{day_of, month_of, year_of}
+use Rattle.std.proofs.Common.{◌≡◌, ◌++◌, FitsSigned, w32, rules, to_z-of_z, OnOk, string_bytes, ◌∙◌, subst}
 use Rattle.calendar.specs.Days.{days_in_month}
 use Rattle.zone_tail_ever.specs.Tried.{moment_text, parts_text, week_of}
 use Rattle.zone_tail_ever.proofs.text.add_moment.Goals as goal

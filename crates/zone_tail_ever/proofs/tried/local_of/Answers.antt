@@ -1,7 +1,6 @@
-use Rattle.std.proofs.Common.{◌≡◌, ◌+ℤ◌, ◌≤ℤ◌, ◌<ℤ◌, FitsSigned, w64, rules, to_z-of_z, sym, ap, ◌∙◌, subst}
+use Rattle.std.proofs.Common.{◌+ℤ◌, ◌≤ℤ◌, ◌<ℤ◌, FitsSigned, w64, rules, to_z-of_z, sym, ap, ◌∙◌, subst}
 use Rattle.std.proofs.lemmas.Bool.{and_parts}
 use Rattle.calendar.specs.ComparisonLaws.{le_from_pass, lt_from_pass}
-use Rattle.zone_tail_core.specs.Shapes.{entry_in}
 use Rattle.zone_tail_ever.specs.Agreement.{cycle_begin}
 use Rattle.zone_tail_ever.specs.Tried.{next_year}
 use Rattle.zone_tail_ever.proofs.tried.local_of.Goals as goal

@@ -1,6 +1,5 @@
-use Rattle.std.proofs.Common.{◌≡◌, ◌++◌, ◌/◌, ◌%◌, ◌+ℤ◌, codes, string_bytes, FitsSigned, w64, rules, to_z-of_z, sym, ap, ◌∙◌, subst, true}
+use Rattle.std.proofs.Common.{◌≡◌, ◌++◌, ◌+ℤ◌, FitsSigned, w64, rules, to_z-of_z, sym, ap, ◌∙◌, subst, true}
 use Rattle.std.proofs.lemmas.Bool.{and_parts}
-use Rattle.zone_spans.specs.Entries.{total}
 use Rattle.zone_spans.specs.declared.span.FixedTimespan.{FixedTimespan}
 use Rattle.zone_tail_core.specs.Shapes.{entry_in}
 use Rattle.zone_tail_core.specs.Tails.{can_be_written}

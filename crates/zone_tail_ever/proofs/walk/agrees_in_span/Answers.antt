@@ -1,5 +1,4 @@
 use Rattle.std.proofs.Common.{◌≡◌, suc, ◌+◌, ◌<◌, length, ◌≤ℤ◌, w64, to_z-of_z, FitsSigned, rules, refl, ap, ◌∙◌, arith}
-use Rattle.std.proofs.lemmas.Int.{ints}
 use Rattle.calendar.specs.ComparisonLaws.{le_from_pass}
 use Rattle.tz_footer.specs.FooterShown.{footer_shown}
 use Rattle.tz_lookup.specs.YearSeconds.{rules_begin}

@@ -1,9 +1,7 @@
-use Rattle.std.proofs.Common.{◌≡◌, ℕ, suc, ◌-◌, ◌<◌, ◌≤◌, length, subst, ⊎_elim, arith}
-use Rattle.std.proofs.lemmas.Bool.{cases_lt}
+use Rattle.std.proofs.Common.{◌≡◌, suc, ◌-◌, subst, arith}
 use Rattle.tz_footer.specs.FooterShown.{footer_shown}
-use Rattle.tz_zone.specs.Sets.{shifts_of}
-use Rattle.zone_tail_ever.specs.Walked.{AgreesAt, IsWalked}
-use Rattle.zone_tail_ever.proofs.StepLemmas.{length-shifts, one_more}
+use Rattle.zone_tail_ever.specs.Walked.{AgreesAt}
+use Rattle.zone_tail_ever.proofs.StepLemmas.{one_more}
 use Rattle.zone_tail_ever.proofs.walk.walk.Goals as goal
 
 pub goes_on-requires-clause-later : goal.goes_on-requires-clause-later

@@ -1,4 +1,4 @@
-use Rattle.std.proofs.Common.{◌≡◌, ℤ, None, Some, cond, FitsSigned, w64, rules, to_z-of_z, sym, ap, ◌∙◌}
+use Rattle.std.proofs.Common.{ℤ, cond, FitsSigned, w64, rules, to_z-of_z, sym, ap, ◌∙◌}
 use Rattle.tz_footer.specs.FooterShown.{held_shown, zone_shown}
 use Rattle.tz_footer.specs.InForce.{held_at}
 use Rattle.tz_footer.proofs.footer.Footer.next_change.Goals as goal
