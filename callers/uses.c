@@ -36,6 +36,8 @@ static int closed_handles(void) {
     if (sefunjaro_next_change(&zone, 0, &change) != SEFUNJARO_NOT_OPEN || change.second != 5) return 61;
     if (sefunjaro_changes(&zone, 0, 1, &change, 1, &count) != SEFUNJARO_NOT_OPEN || change.saving != 7) return 62;
     if (sefunjaro_ring(&zone, &clock, &reading) != SEFUNJARO_NOT_OPEN) return 63;
+    int32_t year = 9;
+    if (sefunjaro_years(&zone, &year) != SEFUNJARO_NOT_OPEN || year != 9) return 64;
     sefunjaro_close(&zone);
     return 0;
 }
@@ -131,6 +133,7 @@ static int looks(void) {
 static int changes(void) {
     struct sefunjaro_change change, found[3] = { { 0, 0, 77, 0, false }, { 0, 0, 77, 0, false }, { 0, 0, 77, 0, false } };
     int64_t saving = 9;
+    int32_t year = 9;
     size_t count;
     if (sefunjaro_saving_at(&zone, 1711846799, 999999999, &saving) || saving != 0) return 70;
     if (sefunjaro_saving_at(&zone, 1711846800, 0, &saving) || saving != 3600) return 71;
@@ -145,6 +148,8 @@ static int changes(void) {
     if (sefunjaro_changes(&zone, 1711846801, INT64_MAX, found, 2, &count) || count != 16955 || found[1].second != 1743296400 || found[2].saving != 77) return 79;
     if (sefunjaro_changes(&zone, INT64_MAX, INT64_MIN, found, 3, &count) || count != 0 || found[0].second != 1729990800) return 80;
     if (sefunjaro_changes(&zone, INT64_MIN, INT64_MAX, found, 0, &count) || count != 17012) return 81;
+    if (sefunjaro_next_change(&zone, 5680281600, &change) || change.second != 5687802000 || change.offset != 7200) return 82;
+    if (sefunjaro_years(&zone, &year) || year != 9999) return 83;
     return 0;
 }
 
@@ -230,7 +235,7 @@ static int far_off(void) {
     uint8_t text[40];
     int64_t saving = 77;
     size_t count = 77;
-    int32_t offset;
+    int32_t offset, year = 9;
     if (sefunjaro_offset_at(&zone, 13576813199, 999999999, &offset) || offset != 3600) return 1;
     if (sefunjaro_in_force(&zone, 13576813200, 0, &found, text, 40) || found.offset != 7200 || !found.is_saving) return 2;
     if (found.name_length != 4 || memcmp(text, "CEST", 4)) return 3;
@@ -245,6 +250,7 @@ static int far_off(void) {
     if (sefunjaro_saving_at(&zone, 0, 0, &saving) != SEFUNJARO_NOT_KEPT || saving != 77) return 12;
     if (sefunjaro_next_change(&zone, 0, &change) != SEFUNJARO_NOT_KEPT || change.second != 77) return 13;
     if (sefunjaro_changes(&zone, 0, 1, &change, 1, &count) != SEFUNJARO_NOT_KEPT || change.second != 77) return 14;
+    if (sefunjaro_years(&zone, &year) != SEFUNJARO_NOT_KEPT || year != 9) return 27;
     if (sefunjaro_share(&zone, &other) || sefunjaro_offset_at(&other, 13576813200, 0, &offset) || offset != 7200) return 15;
     if (sefunjaro_name_count(&zone, &count) != SEFUNJARO_NOT_OPEN) return 16;
     sefunjaro_close(&other);

@@ -189,7 +189,7 @@ struct sefunjaro_gap {
 };
 
 /* The years that the rules of a source are worked out for. Before the first nothing changes in a zone; after the last nothing does in one
-   that doesn't go on for ever, and sefunjaro_last_year tells which. */
+   that doesn't go on for ever, and sefunjaro_years tells which. */
 struct sefunjaro_years {
     int32_t first;
     int32_t last;
@@ -234,7 +234,7 @@ uint32_t sefunjaro_next_change_by(struct sefunjaro_handle *copy, int64_t second,
 uint32_t sefunjaro_changes_by(struct sefunjaro_handle *copy, int64_t from, int64_t to, struct sefunjaro_change *changes, size_t room,
                               size_t *count);
 uint32_t sefunjaro_ring_by(struct sefunjaro_handle *copy, const struct sefunjaro_clock *local, struct sefunjaro_reading *ring);
-uint32_t sefunjaro_last_year_by(struct sefunjaro_handle *copy, int32_t *year);
+uint32_t sefunjaro_years_by(struct sefunjaro_handle *copy, int32_t *year);
 uint32_t sefunjaro_tail_by(struct sefunjaro_handle *copy, uint8_t *text, size_t room, size_t *whole, bool *is_posix,
                            struct sefunjaro_fault *fault);
 uint32_t sefunjaro_tzif_by(struct sefunjaro_handle *copy, uint8_t *file, size_t room, size_t *whole, struct sefunjaro_fault *fault);
@@ -276,7 +276,7 @@ static inline uint32_t sefunjaro_source_version(const struct sefunjaro_handle *s
 
 /* Opens the zone of a name. What the zone's handle held before is closed first. The zone needs its source no more. Where the lines of the
    name go on for ever, and come to no offset of 26 hours or more in a later year, the zone does too: each call below answers in each year
-   as the lines do then. Else it answers up to the end of 2099, and what is in force then stays; sefunjaro_last_year tells.
+   as the lines do then. Else it answers up to the end of 2099, and what is in force then stays; sefunjaro_years tells.
    NOT_OPEN (of the source), NOT_TEXT (the name), UNKNOWN_ZONE, NO_SCHEDULE, OFFSET_RANGE, NO_MEMORY. */
 static inline uint32_t sefunjaro_zone_open(const struct sefunjaro_handle *source, const uint8_t *name, size_t length,
                                            struct sefunjaro_handle *zone, struct sefunjaro_fault *fault) {
@@ -354,9 +354,9 @@ static inline uint32_t sefunjaro_saving_at(const struct sefunjaro_handle *zone, 
 /* The last year up to whose end a zone of a source says what is in force: 9999 where it goes on for ever, and 2099 where the lines of its
    name don't, since a line or a rule ends or begins later, a day of theirs lies in another year, or they come to an offset of 26 hours or
    more. (Zones of POSIX strings go on for ever, and so do those of files that have a footer.) NOT_OPEN, NOT_KEPT. */
-static inline uint32_t sefunjaro_last_year(const struct sefunjaro_handle *zone, int32_t *year) {
+static inline uint32_t sefunjaro_years(const struct sefunjaro_handle *zone, int32_t *year) {
     struct sefunjaro_handle copy = *zone;
-    return sefunjaro_last_year_by(&copy, year);
+    return sefunjaro_years_by(&copy, year);
 }
 
 /* The first change after a second, also where it changes nothing: `differs` tells. Those of a zone that goes on for ever are told up to the

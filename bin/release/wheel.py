@@ -4,10 +4,11 @@ import hashlib
 import io
 import os
 import re
+import tempfile
 import time
 import zipfile
 
-from checkout import PROCESSOR, epoch, glibc, read, read_bytes
+from checkout import PROCESSOR, ROOT, epoch, glibc, read, read_bytes, run
 from layout import shared_object
 
 LICENSES = ["LICENSE-MIT", "LICENSE-APACHE", "NOTICES"]
@@ -67,11 +68,23 @@ def zipped(files):
     return made.getvalue()
 
 
-def wheel(library):
-    """The wheel's name and its bytes, over the shared object of a folder."""
-    shared = os.path.join(library, shared_object())
-    tag = "py3-none-manylinux_{}_{}_x86_64".format(*max(glibc(shared), LEAST))
-    files = {**module(), f"sefunjaro/{shared_object()}": read_bytes(shared)}
+def in_c(python, folder):
+    """The path of the module in C for the Python that a command starts, built in a folder, and the tag of that version."""
+    run(os.path.join(ROOT, "bin", "make_module"), folder, python, env={**os.environ, "CFLAGS": "-s"})
+    version = run(python, "-c", "import sys; print('cp{}{}'.format(*sys.version_info))").strip()
+    return os.path.join(folder, os.listdir(folder)[0]), f"{version}-{version}"
+
+
+def wheel(library, python=None):
+    """The wheel's name and its bytes, over the shared object of a folder: over ctypes for each version of Python, or with the module in C
+    for the one that a command starts."""
+    with tempfile.TemporaryDirectory() as folder:
+        paths, kind = [os.path.join(library, shared_object())], "py3-none"
+        if python is not None:
+            path, kind = in_c(python, folder)
+            paths.append(path)
+        tag = "{}-manylinux_{}_{}_x86_64".format(kind, *max(glibc(*paths), LEAST))
+        files = {**module(), **{f"sefunjaro/{os.path.basename(path)}": read_bytes(path) for path in paths}}
     files.update({f"{info()}/{name}": read(name).encode() for name in LICENSES})
     files[f"{info()}/METADATA"] = metadata().encode()
     files[f"{info()}/WHEEL"] = GENERATOR.format(tag=tag).encode()

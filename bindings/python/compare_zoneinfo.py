@@ -2,9 +2,9 @@
 """usage: compare_zoneinfo.py SOURCE [CASES [SEED]]
 
 Compares the zones of sefunjaro.py, as tzinfo, with Python's zoneinfo over the files that `zic -b fat` makes of the same SOURCE, which is
-in plain form. For every name, at each side of each change from 1900 to 2099: utcoffset, tzname and fold of the instant, and
+in plain form. For every name, at each side of each change from 1900 to 2119: utcoffset, tzname and fold of the instant, and
 utcoffset and tzname at both folds of the local times about the change, those in its gap or fold among them. Then CASES (100,000) random
-cases from SEED (1): astimezone, arithmetic, differences, isoformat and timestamp. Names that the source leaves to zic (`%z`) are
+cases from SEED (1), half of them to 2119 and half to 9996: astimezone, arithmetic, differences, isoformat and timestamp. Names that the source leaves to zic (`%z`) are
 replaced by a fixed one for both. SEFUNJARO_LIBRARY names the library. Its status is 1 where something differs."""
 import os
 import random
@@ -20,7 +20,7 @@ import sefunjaro  # noqa: E402
 from outside import Tally, compiled, moment, named_copy, year_start, zone_info
 from tzfile import TzFile
 
-FIRST, LAST = year_start(1900), year_start(2100)
+FIRST, LAST, FAR = year_start(1900), year_start(2120), year_start(9997)
 SECOND = timedelta(seconds=1)
 
 
@@ -54,7 +54,7 @@ def compare_changes(name, mine, theirs, changes, tally):
 
 
 def stepped(moment, step):
-    """A step of time that doesn't leave the years in which the rules of a plain source are worked out."""
+    """A step of time that stays far from the ends of datetime's years."""
     return moment + step if moment.year < 2000 else moment - step
 
 
@@ -72,11 +72,10 @@ def of_case(zone, other, local, fold, second, step):
 def compare_random(mine, theirs, cases, seed, tally):
     """Random cases over all names."""
     choose, names = random.Random(seed), sorted(mine)
-    span = timedelta(seconds=LAST - FIRST)
     for case in range(cases):
-        one, two = choose.choice(names), choose.choice(names)
-        local = datetime(1900, 1, 1) + timedelta(microseconds=choose.randrange(span // timedelta(microseconds=1)))
-        fold, second = choose.randrange(2), choose.randrange(FIRST, LAST)
+        one, two, last = choose.choice(names), choose.choice(names), choose.choice((LAST, FAR))
+        local = datetime(1900, 1, 1) + timedelta(microseconds=choose.randrange((last - FIRST) * 10**6))
+        fold, second = choose.randrange(2), choose.randrange(FIRST, last)
         step = timedelta(seconds=choose.randrange(10**8))
         got = of_case(mine[one], mine[two], local, fold, second, step)
         due = of_case(theirs[one], theirs[two], local, fold, second, step)

@@ -13,7 +13,9 @@
 `zoneinfo.ZoneInfo` is, pickled by its name, and stays open: `close` leaves it as it is.
 
 One file over ctypes. It loads libsefunjaro.so.2, which `bin/make_library` makes: the file that the environment variable
-SEFUNJARO_LIBRARY names, else the one beside this module, else the one that the system's loader finds.
+SEFUNJARO_LIBRARY names, else the one beside this module, else the one that the system's loader finds. What a datetime asks of its zone is
+asked in C where the module _sefunjaro stands beside this one, built for this version of Python (`bin/make_module`); IS_IN_C tells. With
+SEFUNJARO_CTYPES set it isn't looked for. Both answer the same, the one in C some ten times faster.
 
 Instants are given as seconds from 1970-01-01 00:00:00 UTC and nanoseconds, offsets as seconds east of UTC. Any number of threads may
 ask one source or one zone at once; `close` waits for the calls that are under way, and a call after it raises NotOpen. A child of fork
@@ -33,17 +35,18 @@ import ctypes
 import datetime
 import enum
 import functools
+import importlib
 import operator
 import os
 import struct
 import threading
 import weakref
 from typing import (
-    IO, Any, Callable, ClassVar, Dict, Iterable, Iterator, List, NamedTuple, NoReturn, Optional, Set, Tuple, Type, TypeVar, Union,
+    IO, TYPE_CHECKING, Any, Callable, ClassVar, Dict, Iterable, Iterator, List, NamedTuple, NoReturn, Optional, Set, Tuple, Type, TypeVar, Union,
 )
 
 __all__ = [
-    "BadJoin", "BadLine", "Change", "Clock", "Error", "FileCause", "FIRST_YEAR", "Gap", "InForce", "Instant", "JoinCause", "LAST_YEAR",
+    "BadJoin", "BadLine", "Change", "Clock", "Error", "FileCause", "FIRST_YEAR", "Gap", "InForce", "Instant", "IS_IN_C", "JoinCause", "LAST_YEAR",
     "LineCause", "NoPlainForm", "NoSchedule", "NoTail", "NotKept", "NotOpen", "NotRead", "NoTzdata", "NoTzif", "OffsetRange",
     "OffsetTooLarge", "OutOfRange", "PlainCause", "PosixTail", "ScheduleCause", "Source", "SourceError", "Status", "TailCause", "TzifCause",
     "UnknownZone", "VERSION", "Zone", "ZoneError", "available_zones", "machine_source", "read_local", "read_zoned", "zone",
@@ -304,6 +307,8 @@ _NAME_ROOM = 16
 _Name = ctypes.c_uint8 * _NAME_ROOM
 _EPOCH = datetime.datetime(1970, 1, 1, tzinfo=datetime.timezone.utc)
 _EPOCH_DAY = _EPOCH.toordinal()
+# The last second of which an abbreviation is told: that of 9999, and so much later as the greatest offset is.
+_LAST_SECOND = 253402300799 + 93599
 
 
 def _load() -> ctypes.CDLL:
@@ -345,6 +350,7 @@ _readings = _function("sefunjaro_readings_by", _at, _at, _at, _size, _at, _at)
 _read_local = _function("sefunjaro_read_local", ctypes.c_char_p, _length, _at)
 _read_zoned = _function("sefunjaro_read_zoned", ctypes.c_char_p, _length, _at)
 _saving_at = _function("sefunjaro_saving_at_by", _at, *_instant, _at)
+_years = _function("sefunjaro_years_by", _at, _at)
 _next_change = _function("sefunjaro_next_change_by", _at, ctypes.c_int64, _at)
 _changes = _function("sefunjaro_changes_by", _at, ctypes.c_int64, ctypes.c_int64, _at, _size, _at)
 _ring = _function("sefunjaro_ring_by", _at, _at, _at)
@@ -360,7 +366,8 @@ def _version_of_library() -> Tuple[str, int, int]:
 
 
 VERSION, FIRST_YEAR, LAST_YEAR = _version_of_library()
-"""The version of the library's calls, and the first and the last year in which the rules of a source fire."""
+"""The version of the library's calls, and the first and the last year that the rules of a source are worked out for; past the last a zone
+goes on where its lines do, as `Zone.last_year` tells."""
 
 
 def _raise(status: int, of: str, fault: Any = None) -> NoReturn:
@@ -540,11 +547,15 @@ class _Opened:
     # Whether it is that of the machine, for all who ask for it.
     _is_shared: bool
 
+    def _lend(self, at: Optional[int], is_open: bool) -> None:
+        """Nobody but the handle's own object reads it."""
+
     def close(self: _Self) -> None:
         """Gives back the memory, after the calls that are under way. What is asked afterwards raises NotOpen; closing again does
         nothing. What others may hold too, a zone that was opened by its name alone or the machine's source, stays open."""
         if not self._is_shared:
             self._origin = None
+            self._lend(0, False)
             self._handle.close()
 
     def __enter__(self: _Self) -> _Self:
@@ -656,12 +667,20 @@ def _opened_source(kind: Type[Source], text: bytes, plain: bool) -> Source:
     return kind(text, plain=plain)
 
 
-# Zones of one source that are read from pickles one by one share it.
-_last_source = functools.lru_cache(maxsize=1)(_opened_source)
+_ReadFrom = Tuple[Type[Source], bytes, bool]
+# Zones of one source that are read from pickles one by one share it: the source that was read last, with what it was read from.
+_last_read: Dict[None, Tuple[_ReadFrom, Source]] = {}
 
 
-def _opened_zone(kind: Type[_OfZone], source: Tuple[Type[Source], bytes, bool], name: str) -> _OfZone:
-    return kind._of(_last_source(*source), name)
+def _last_source(told: _ReadFrom) -> Source:
+    found = _last_read.get(None)
+    if found is None or found[0] != told:
+        found = _last_read[None] = told, _opened_source(*told)
+    return found[1]
+
+
+def _opened_zone(kind: Type[_OfZone], source: _ReadFrom, name: str) -> _OfZone:
+    return kind._of(_last_source(source), name)
 
 
 _TZDATA = "/usr/share/zoneinfo/tzdata.zi"
@@ -719,7 +738,69 @@ def _kinds_of_file(file: bytes) -> Tuple[int, str]:
         start, width = end, 8
 
 
-class Zone(datetime.tzinfo, _Opened):
+class _ByCtypes(datetime.tzinfo):
+    """What a datetime asks of a zone, where it isn't asked in C."""
+
+    __slots__ = ()
+
+    def utcoffset(self: Any, dt: Optional[datetime.datetime]) -> Optional[datetime.timedelta]:
+        """The offset of a local time; of None, as a `datetime.time` asks, that of a zone in which nothing ever changes, or else None.
+        Raises OffsetTooLarge."""
+        found: Optional[datetime.timedelta] = self._utcoffset_of_none() if dt is None else _delta(self._chosen(dt)[0])
+        return found
+
+    def tzname(self: Any, dt: Optional[datetime.datetime]) -> Optional[str]:
+        """The abbreviation of a local time, and of None as `utcoffset`."""
+        found: Optional[str] = self._tzname_of_none() if dt is None else self.in_force(*self._chosen(dt)[1:]).name
+        return found
+
+    def dst(self: Any, dt: Optional[datetime.datetime]) -> Optional[datetime.timedelta]:
+        """The saving of a local time: how much of the offset it is, and of None as `utcoffset`; None in a zone of a file or of a POSIX
+        string, which has none. Raises OffsetTooLarge."""
+        found: Optional[datetime.timedelta] = self._dst_of_none() if dt is None else self._saving_of(*self._chosen(dt)[1:])
+        return found
+
+    def fromutc(self: Any, dt: datetime.datetime) -> datetime.datetime:
+        """The local time of a UTC time to which this zone is attached, with its fold. Raises OffsetTooLarge, and OverflowError where
+        the local date lies outside the years 1 to 9999."""
+        if not isinstance(dt, datetime.datetime):
+            raise TypeError("fromutc() requires a datetime argument")
+        if dt.tzinfo is not self:
+            raise ValueError("fromutc: dt.tzinfo is not self")
+        second = (dt.toordinal() - _EPOCH_DAY) * 86400 + dt.hour * 3600 + dt.minute * 60 + dt.second
+        local = dt + _delta(self.offset_at(second, dt.microsecond * 1000))
+        readings, _, _ = self._read(_raw_clock(local))
+        return local if readings[0].second == second else local.replace(fold=1)
+
+
+def _refuse(status: int, of: "Zone") -> NoReturn:
+    _raise(status, repr(of._name))
+
+
+def _module_in_c() -> Any:
+    """The module in C, bound to the library, or None where there is none."""
+    if os.environ.get("SEFUNJARO_CTYPES"):
+        return None
+    try:
+        found = importlib.import_module(f"{__name__}._sefunjaro" if __package__ == __name__ else "_sefunjaro")
+    except ImportError:
+        return None
+    calls: Tuple[Any, ...] = (_offset_at, _in_force, _saving_at, _readings)
+    found.bind(*(ctypes.cast(call, ctypes.c_void_p).value for call in calls), _refuse, _delta)
+    return found
+
+
+_in_c = _module_in_c()
+IS_IN_C: bool = _in_c is not None
+"""Whether what a datetime asks is asked in C."""
+
+if TYPE_CHECKING:
+    _Asked = _ByCtypes
+else:
+    _Asked = _in_c.Asked if IS_IN_C else _ByCtypes
+
+
+class Zone(_Asked, _Opened):
     """A zone, as `datetime.tzinfo`, and with calls of its own.
 
     As tzinfo it follows PEP 495. Of a local time that clocks show twice, `fold` 0 is the first instant and 1 the second. A local time
@@ -752,9 +833,11 @@ class Zone(datetime.tzinfo, _Opened):
         if status or origin is None:
             _raise(status or Status.NOT_OPEN, "source" if status in (Status.DONE, Status.NOT_OPEN) else repr(name), fault)
         self._origin = (type(self).no_cache, (name,)) if source._is_shared else (_opened_zone, (type(self), origin[1], name))
+        self._lend(self._handle.raw.at, True)
 
     def _begin(self, name: str, key: Optional[str]) -> None:
         """What each zone has before it is opened."""
+        self._lend(0, False)
         self._handle = _Handle()
         self._name, self._key = name, key
         self._is_fixed, self._is_shared, self._origin = None, False, None
@@ -839,6 +922,7 @@ class Zone(datetime.tzinfo, _Opened):
         if status:
             _raise(status, repr(name), fault)
         zone._origin = origin
+        zone._lend(zone._handle.raw.at, True)
         return zone
 
     def share(self: _OfZone) -> _OfZone:
@@ -849,6 +933,7 @@ class Zone(datetime.tzinfo, _Opened):
         if status:
             _raise(status, repr(self._name))
         other._origin = (type(self).no_cache, (self._name,)) if self._is_shared else self._origin
+        other._lend(other._handle.raw.at, True)
         return other
 
     @property
@@ -860,6 +945,17 @@ class Zone(datetime.tzinfo, _Opened):
     def name(self) -> str:
         """The name by which the zone was opened; of a file its path or what it was called, of a POSIX string the string."""
         return self._name
+
+    @property
+    def last_year(self) -> int:
+        """The last year up to whose end the zone says what is in force: 9999 where its lines go on for ever, as those of every zone of the
+        tz database do; else LAST_YEAR, after which what was in force stays. Raises NotKept: a zone of a POSIX string goes on for ever, and
+        one of a file does by its footer."""
+        year = ctypes.c_int32()
+        status = self._handle.ask(_years, ctypes.byref(year))
+        if status:
+            _raise(status, repr(self._name))
+        return year.value
 
     def offset_at(self, second: int, nanosecond: int = 0) -> int:
         """The offset in force at an instant. Raises OutOfRange more than 93,599 seconds outside the years -9999 to 9999."""
@@ -912,8 +1008,8 @@ class Zone(datetime.tzinfo, _Opened):
         return self._number_at(_saving_at, ctypes.c_int64(), second, nanosecond)
 
     def next_change(self, second: int) -> Optional[Change]:
-        """The first change after a second, also where it changes nothing, or None where there is none. Raises OutOfRange where 64 bits
-        don't hold the second, and NotKept."""
+        """The first change after a second, also where it changes nothing, or None where there is none up to the end of 9999. Raises
+        OutOfRange where 64 bits don't hold the second, and NotKept."""
         change = _RawChange()
         handle, second = self._handle, _second(second)
         status = handle.ask(_next_change, second, ctypes.byref(change))
@@ -921,7 +1017,7 @@ class Zone(datetime.tzinfo, _Opened):
             return None
         if status:
             _raise(status, repr(self._name))
-        return self._change(change)
+        return self._change(change) if change.second <= _LAST_SECOND else None
 
     def _change(self, raw: Any) -> Change:
         """A change with its abbreviation."""
@@ -929,10 +1025,10 @@ class Zone(datetime.tzinfo, _Opened):
 
     def changes(self, begin: int, end: int, *, every: bool = False) -> List[Change]:
         """The changes from the second `begin` on and before the second `end`, by time: those in which something differs, or with `every`
-        also those that change nothing. Raises OutOfRange as `next_change`."""
+        also those that change nothing; none is told past the end of 9999. Raises OutOfRange as `next_change`."""
         room, count = 0, ctypes.c_size_t()
         found = (_RawChange * room)()
-        handle, begin, end = self._handle, _second(begin), _second(end)
+        handle, begin, end = self._handle, _second(begin), min(_second(end), _LAST_SECOND + 1)
         while True:
             status = handle.ask(_changes, begin, end, ctypes.byref(found), room, ctypes.byref(count))
             if status:
@@ -1054,42 +1150,21 @@ class Zone(datetime.tzinfo, _Opened):
             kinds, string = (1, told) if isinstance(told, str) else _kinds_of_file(told)
             return kinds == 1 and not _is_rule(string) and self.in_force(-(2**37)) == self.in_force(2**37)
 
-    def utcoffset(self, dt: Optional[datetime.datetime]) -> Optional[datetime.timedelta]:
-        """The offset of a local time; of None, as a `datetime.time` asks, that of a zone in which nothing ever changes, or else None.
-        Raises OffsetTooLarge."""
-        if dt is not None:
-            return _delta(self._chosen(dt)[0])
+    def _utcoffset_of_none(self) -> Optional[datetime.timedelta]:
         return _delta(self.offset_at(0)) if self._never_changes() else None
 
-    def tzname(self, dt: Optional[datetime.datetime]) -> Optional[str]:
-        """The abbreviation of a local time, and of None as `utcoffset`."""
-        if dt is None:
-            return self.in_force(0).name if self._never_changes() else None
-        _, second, nanosecond = self._chosen(dt)
-        return self.in_force(second, nanosecond).name
+    def _tzname_of_none(self) -> Optional[str]:
+        return self.in_force(0).name if self._never_changes() else None
 
-    def dst(self, dt: Optional[datetime.datetime]) -> Optional[datetime.timedelta]:
-        """The saving of a local time: how much of the offset it is, and of None as `utcoffset`; None in a zone of a file or of a POSIX
-        string, which has none. Raises OffsetTooLarge."""
-        if dt is None and not self._never_changes():
-            return None
-        _, second, nanosecond = (0, 0, 0) if dt is None else self._chosen(dt)
+    def _dst_of_none(self) -> Optional[datetime.timedelta]:
+        return self._saving_of(0, 0) if self._never_changes() else None
+
+    def _saving_of(self, second: int, nanosecond: int) -> Optional[datetime.timedelta]:
+        """The saving at an instant, or None in a zone that tells none."""
         try:
             return _delta(self.saving_at(second, nanosecond))
         except NotKept:
             return None
-
-    def fromutc(self, dt: datetime.datetime) -> datetime.datetime:
-        """The local time of a UTC time to which this zone is attached, with its fold. Raises OffsetTooLarge, and OverflowError where
-        the local date lies outside the years 1 to 9999."""
-        if not isinstance(dt, datetime.datetime):
-            raise TypeError("fromutc() requires a datetime argument")
-        if dt.tzinfo is not self:
-            raise ValueError("fromutc: dt.tzinfo is not self")
-        second = (dt.toordinal() - _EPOCH_DAY) * 86400 + dt.hour * 3600 + dt.minute * 60 + dt.second
-        local = dt + _delta(self.offset_at(second, dt.microsecond * 1000))
-        readings, _, _ = self._read(_raw_clock(local))
-        return local if readings[0].second == second else local.replace(fold=1)
 
     def __repr__(self) -> str:
         return f"<{type(self).__module__}.{type(self).__qualname__} {self._name!r}>"

@@ -156,7 +156,12 @@ class Zones(unittest.TestCase):
         self.assertEqual(zone.changes(SPRING, AUTUMN), [spring])
         self.assertEqual(zone.changes(SPRING, AUTUMN + 1), [spring, autumn])
         self.assertEqual(zone.changes(AUTUMN, SPRING), [])
+        # In 2150 and in 9999 the rules are as now.
+        self.assertEqual(datetime(2150, 7, 1, tzinfo=zone).utcoffset(), hours(2))
+        self.assertEqual((zone.next_change(5680281600).second, zone.next_change(253396947599).second, zone.next_change(253396947600)), (5687802000, 253396947600, None))
+        self.assertEqual((zone.last_year, Source("Zone A 1:00 - A 2150\n 2:00 - B\n").zone("A").last_year), (9999, 2099))
         every = zone.changes(-(2**63), 2**63 - 1)
+        self.assertEqual(every[-1].second, 253396947600)
         self.assertEqual([change.second for change in every], sorted({change.second for change in every}))
         self.assertEqual(spring.utc, datetime(2024, 3, 31, 1, tzinfo=timezone.utc))
         # In the spring of 1997 a line of Georgia says again what holds, and in 1998 the abbreviation alone is another.

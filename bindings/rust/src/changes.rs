@@ -57,6 +57,28 @@ impl Zone {
         (status == DONE).then_some(change)
     }
 
+    /// The last year up to whose end the zone says what is in force: 9999 where its lines go on for ever, as those of every zone of the tz
+    /// database do; else that of [`rule_years`](crate::rule_years), after which what was in force stays.
+    ///
+    /// # Errors
+    ///
+    /// [`Error::NotKept`]: a zone of a POSIX string goes on for ever, and one of a file does by its footer.
+    ///
+    /// ```
+    /// use sefunjaro::{Error, Source, Zone};
+    ///
+    /// assert_eq!(Source::open(b"Zone A 1:00 - A\n")?.zone("A")?.last_year(), Ok(9999));
+    /// assert_eq!(Source::open(b"Zone A 1:00 - A 2150\n 2:00 - B\n")?.zone("A")?.last_year(), Ok(2099));
+    /// assert_eq!(Zone::from_posix("AAA0")?.last_year(), Err(Error::NotKept));
+    /// # Ok::<(), Error>(())
+    /// ```
+    pub fn last_year(&self) -> Result<i32, Error> {
+        let mut last = 0;
+        // SAFETY: the copy serves this call alone.
+        done(unsafe { raw::sefunjaro_years_by(&mut self.handle().copy(), &mut last) })?;
+        Ok(last)
+    }
+
     /// Whether the zone keeps its changes and their saving: not that of a file or of a POSIX string.
     ///
     /// ```

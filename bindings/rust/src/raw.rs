@@ -125,6 +125,7 @@ extern "C" {
     pub fn sefunjaro_read_local(text: *const u8, length: usize, clock: *mut crate::Clock) -> u32;
     pub fn sefunjaro_read_zoned(text: *const u8, length: usize, instant: *mut RawInstant) -> u32;
     pub fn sefunjaro_saving_at_by(copy: *mut RawHandle, second: i64, nanosecond: u32, saving: *mut i64) -> u32;
+    pub fn sefunjaro_years_by(copy: *mut RawHandle, last: *mut i32) -> u32;
     pub fn sefunjaro_next_change_by(copy: *mut RawHandle, second: i64, change: *mut crate::Change) -> u32;
     pub fn sefunjaro_ring_by(copy: *mut RawHandle, local: *const crate::Clock, ring: *mut RawReading) -> u32;
     pub fn sefunjaro_tail_by(

@@ -177,7 +177,7 @@ fn ring_of(opened: &Opened, clock: &Clock, ring: &mut Reading) -> u32
 
 /// The last year up to whose end a zone of a source says what is in force.
 #[unsafe(no_mangle)]
-pub extern "C" fn sefunjaro_last_year_by(zone: &mut View, year: &mut i32) -> u32
+pub extern "C" fn sefunjaro_years_by(zone: &mut View, year: &mut i32) -> u32
     ensures same { zone.new.part.opened ≡ zone.old.part.opened }
     ensures loan { IfSome zone.old.part.opened (λ _. zone.new.part.loan ≡ zone.old.part.loan) }
     ensures answer { OnZone zone.old.part.opened result (year.new ≡ year.old)

@@ -7,7 +7,7 @@ use sefunjaro::fill;
 use zone_spans::{EARLIEST_YEAR, MOST_YEARS};
 
 /// The years that the rules of a source are worked out for. Before the first nothing changes in a zone, and after the last nothing does
-/// in one that doesn't go on for ever: [`sefunjaro_last_year_by`](crate::changes::sefunjaro_last_year_by) tells.
+/// in one that doesn't go on for ever: [`sefunjaro_years_by`](crate::changes::sefunjaro_years_by) tells.
 #[derive(Clone, Copy, Debug, PartialEq, Eq)]
 #[repr(C)]
 pub struct Years {

@@ -21,6 +21,7 @@ use zone_answers::open_zone;
 use zone_spans::TableTransitions;
 use zone_table::Table;
 use zone_tail_core::laws::both_offsets;
+use zone_tail_ever::tail_for_ever;
 use zone_uses::{Moved, next_change, zone_of_source};
 use zone_values::{DaySpec, Month, Weekday, Year};
 
@@ -235,6 +236,27 @@ fn zones_are_opened_for_ever(rt: HostRuntime) {
         let offset = offset_for_ever(alloc, &table, name, &second);
         same_at(&rt, row, &offset, &Ok(number(&rt, &mut fields)));
     }
+}
+
+/// The rules of Ireland, whose saving lies below 0.
+const IRELAND: &[u8] = b"\
+Rule E 1981 max - Mar lastSun 1:00u 0 -
+Rule E 1996 max - Oct lastSun 1:00u -1:00 -
+Zone A 1:00 E IST/GMT
+";
+
+/// The footer that `zic` writes of them.
+#[test]
+fn a_footer_carries_a_zone_on_for_ever(rt: HostRuntime) {
+    let alloc = rt.alloc();
+    let table = table_of(&rt, alloc, IRELAND);
+    let Ok(ever) = EverSet::open(alloc, &table, "A") else {
+        panic!(&rt; "not opened");
+    };
+    let Ok(tail) = tail_for_ever(alloc, &ever) else {
+        panic!(&rt; "no footer");
+    };
+    same(&rt, &tail.text.as_str(), &"IST-1GMT0,M10.5.0,M3.5.0/1");
 }
 
 #[test]
