@@ -8,7 +8,7 @@ use Rattle.calendar.specs.SignedLaws.{signed}
 use Rattle.civil_base.specs.Layout.{date_digits, day_part, four_digits, two_digits, year_sign}
 use Rattle.civil_base.specs.LocalTimes.{local_time_in}
 use Rattle.tz_zone.specs.declared.set.FixedTimespanSet.{FixedTimespanSet}
-use Rattle.zone_alarm.specs.Asks.{asks, asks_both, form}
+use Rattle.zone_alarm.specs.Asks.{asks, both, form}
 use Rattle.zone_alarm.specs.RingLines.{ring_line}
 use Rattle.zone_alarm.specs.Rings.{ends_in_years, rings, time_on}
 use Rattle.zone_alarm.specs.Words.{days_in, start_text}
@@ -70,7 +70,7 @@ module _ (date time : List ℕ) where
   unfolding digits
   in_order = by_start (local_time_in (date ++ codes " " ++ time ++ codes ".000000000"))
     where
-      by_start : (found : Option ℤ) → asks_both found (Some 3) ≡ option_map (λ second. asks second 3) found
+      by_start : (found : Option ℤ) → option_map (λ (daily : ℤ × ℕ). asks daily.0 daily.1) (both found (Some 3)) ≡ option_map (λ second. asks second 3) found
       by_start None = refl
       by_start (Some second) = refl
 

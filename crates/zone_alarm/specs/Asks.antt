@@ -1,31 +1,46 @@
 -- What the words of the program ask of a zone.
-use Rattle.std.specs.Prelude.{ℕ, List, [], ◌∷◌, Option, Some, None, map, ℤ, codes, if◌then◌else◌}
+use Rattle.std.specs.Prelude.{◌≡◌, ℕ, List, [], ◌∷◌, Option, Some, None, Result, Ok, Err, Vec, map, option_map, ℤ, codes, if◌then◌else◌}
+use Rattle.std.specs.declared.alloc.Global.{Global}
 use Rattle.civil_base.specs.Layout.{day_part, time_part}
 use Rattle.tz_lookup.specs.Sets.{schedule_of}
 use Rattle.zone_run.specs.Asked.{Asked}
+use Rattle.zone_run.specs.declared.program.Refusal.{Refusal}
+use Rattle.zone_run.specs.declared.program.Refusal.TheVariants.{Cause, NoMemory}
 use Rattle.zone_source.specs.LineLists.{ended}
 use Rattle.zone_spans.specs.Schedules.{total_at}
 use Rattle.zone_alarm.specs.RingLines.{ring_line}
 use Rattle.zone_alarm.specs.Rings.{ends_in_years, rings}
 use Rattle.zone_alarm.specs.Words.{days_in, start_in}
 
--- the line of each day from that of a local time on, each followed by a line feed; it is refused where the last day is past
--- 9999-12-31
-abbrev pub asks : ℤ → ℕ → Asked
-asks start days = record {
-  cause = λ set. if ends_in_years (day_part start) days then None else Some (codes "range");
-  due = λ set. ended (map ring_line (rings (total_at (schedule_of set)) (time_part start) (day_part start) days));
-}
+-- the last day is past 9999-12-31
+abbrev pub refusal : ℤ → ℕ → Option (List ℕ)
+refusal start days = if ends_in_years (day_part start) days then None else Some (codes "range")
 
-abbrev pub asks_both : Option ℤ → Option ℕ → Option Asked
-asks_both (Some start) (Some days) = Some (asks start days)
-asks_both (Some start) None = None
-asks_both None days = None
+-- the line of each day from that of a local time on, each followed by a line feed, in a zone of these totals
+abbrev pub ring_bytes : (ℤ → ℤ) → ℤ → ℕ → List ℕ
+ring_bytes total start days = ended (map ring_line (rings total (time_part start) (day_part start) days))
+
+abbrev pub asks : ℤ → ℕ → Asked
+asks start days = record { cause = λ set. refusal start days; due = λ set. ring_bytes (total_at (schedule_of set)) start days }
+
+-- the answer is by the totals of a zone
+abbrev pub AnswersRings : (ℤ → ℤ) → ℤ → ℕ → Result (Vec ℕ Global) Refusal → Type 0
+AnswersRings total start days (Ok bytes) = (refusal start days ≡ None) × (bytes.items ≡ ring_bytes total start days)
+AnswersRings total start days (Err (Cause cause)) = refusal start days ≡ Some cause.now
+AnswersRings total start days (Err NoMemory) = Unit {0}
+
+abbrev pub both : Option ℤ → Option ℕ → Option (ℤ × ℕ)
+both (Some start) (Some days) = Some (start, days)
+both (Some start) None = None
+both None days = None
 
 -- START, TIME and DAYS
+abbrev pub daily_in : List (List ℕ) → Option (ℤ × ℕ)
+daily_in (start ∷ time ∷ days ∷ []) = both (start_in start time) (days_in days)
+daily_in (start ∷ time ∷ days ∷ word ∷ words) = None
+daily_in (start ∷ time ∷ []) = None
+daily_in (start ∷ []) = None
+daily_in [] = None
+
 abbrev pub form : List (List ℕ) → Option Asked
-form (start ∷ time ∷ days ∷ []) = asks_both (start_in start time) (days_in days)
-form (start ∷ time ∷ days ∷ word ∷ words) = None
-form (start ∷ time ∷ []) = None
-form (start ∷ []) = None
-form [] = None
+form words = option_map (λ daily. asks daily.0 daily.1) (daily_in words)

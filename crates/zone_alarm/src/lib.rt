@@ -8,7 +8,7 @@ mod ring;
 mod words;
 
 pub use daily::alarms;
-pub use program::{run_alarm, start_alarm};
+pub use program::{Daily, run_alarm, start_alarm};
 pub use ring::{AlarmFault, Ring};
 pub use zone_run::{
     Failed, FileShelf, MemShelf, MemSink, Shelf, Sink, Source, Started, Status, StdSink, SureShelf,

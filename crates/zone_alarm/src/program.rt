@@ -15,18 +15,22 @@ use crate::ring::AlarmFault;
 use crate::words::{days_in, start_in};
 use civil_base::PlainDateTime;
 use std::alloc::Global;
-use tz_lookup::{FixedTimespanSet, Tz};
+use tz_lookup::{FixedTimespanSet, TimeZone, Tz};
 use zone_line::LineParser;
 use zone_run::{Refusal, Shelf, Sink, Started, Status, ZoneProgram, run_program, start_program};
 
-/// A daily alarm: the first day and the time of day, and how many days.
+/// A daily alarm.
 #[derive(Clone, Copy, Debug, PartialEq, Eq)]
-struct Daily {
-    start: PlainDateTime,
-    days: u32,
+pub struct Daily {
+    /// The first day and the time of day.
+    pub start: PlainDateTime,
+    /// How many days.
+    pub days: u32,
 }
 
 impl ZoneProgram for Daily {
+    type Zone = FixedTimespanSet;
+
     ghost label = { codes "alarm" };
 
     ghost form = { form };
@@ -38,6 +42,22 @@ impl ZoneProgram for Daily {
     }
 
     fn read(words: &[String]) -> Option<Daily> {
+        Daily::of_words(words)
+    }
+
+    fn answer(&self, alloc: Global, set: &FixedTimespanSet) -> Result<Vec<u8>, Refusal> {
+        self.lines_in(alloc, &zone_of(set))
+    }
+}
+
+impl Daily {
+    ghost use Rattle.std.specs.Prelude.{◌≡◌, map, option_map, string_bytes};
+    ghost use Rattle.zone_alarm.specs.Asks.{AnswersRings, daily_in};
+
+    /// The alarm of the words START, TIME and DAYS.
+    pub fn of_words(words: &[String]) -> Option<Daily>
+        ensures { option_map (λ daily. (daily.start, daily.days)) result ≡ daily_in (map string_bytes words.now) }
+    {
         let [start, time, days] = words else {
             return None;
         };
@@ -50,15 +70,15 @@ impl ZoneProgram for Daily {
         Some(Daily { start, days })
     }
 
-    fn answer(&self, alloc: Global, set: &FixedTimespanSet) -> Result<Vec<u8>, Refusal> {
-        let zone = zone_of(set);
-        match alarms(
-            alloc,
-            &zone,
-            self.start.time(),
-            self.start.date(),
-            self.days,
-        ) {
+    /// The lines of the days in a zone, each with its LF, as the program writes them.
+    ///
+    /// # Errors
+    ///
+    /// `range` exactly where the last day is past 9999-12-31; want of memory.
+    pub fn lines_in<T: TimeZone>(&self, alloc: Global, zone: &T) -> Result<Vec<u8>, Refusal>
+        ensures { AnswersRings (T.total_at zone.now) self.now.start self.now.days result }
+    {
+        match alarms(alloc, zone, self.start.time(), self.start.date(), self.days) {
             Ok(rings) => Ok(lines_of(alloc, &rings)?.into_bytes()),
             Err(AlarmFault::Range) => Err(Refusal::Cause("range")),
             Err(AlarmFault::NoMemory) => Err(Refusal::NoMemory),

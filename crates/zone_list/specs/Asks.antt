@@ -1,5 +1,5 @@
 -- What the words of the program ask of a zone.
-use Rattle.std.specs.Prelude.{ℕ, List, [], ◌∷◌, Option, Some, None, ℤ, codes, if◌then◌else◌}
+use Rattle.std.specs.Prelude.{ℕ, List, [], ◌∷◌, Option, Some, None, option_map, ℤ, codes, if◌then◌else◌}
 use Rattle.zone_run.specs.Asked.{Asked}
 use Rattle.zone_run.specs.Numbers.{number_in}
 use Rattle.zone_source.specs.LineLists.{ended}
@@ -14,18 +14,21 @@ asks from to = record {
   due = λ set. ended (rows (window set from to));
 }
 
-abbrev pub asks_both : Option ℤ → Option ℤ → Option Asked
-asks_both (Some from) (Some to) = Some (asks from to)
-asks_both (Some from) None = None
-asks_both None to = None
+abbrev pub both : Option ℤ → Option ℤ → Option (ℤ × ℤ)
+both (Some from) (Some to) = Some (from, to)
+both (Some from) None = None
+both None to = None
 
 -- numbers of at most 13 digits
 abbrev pub most_seconds : ℕ
 most_seconds = 9999999999999
 
 -- FROM and TO
+abbrev pub window_in : List (List ℕ) → Option (ℤ × ℤ)
+window_in (from ∷ to ∷ []) = both (number_in most_seconds from) (number_in most_seconds to)
+window_in (from ∷ to ∷ word ∷ words) = None
+window_in (from ∷ []) = None
+window_in [] = None
+
 abbrev pub form : List (List ℕ) → Option Asked
-form (from ∷ to ∷ []) = asks_both (number_in most_seconds from) (number_in most_seconds to)
-form (from ∷ to ∷ word ∷ words) = None
-form (from ∷ []) = None
-form [] = None
+form words = option_map (λ asked. asks asked.0 asked.1) (window_in words)

@@ -10,6 +10,7 @@ mod window;
 
 pub use listing::{ListFault, Listing, lines_of, list_lines};
 pub use program::{run_list, start_list};
+pub use window::Window;
 pub use zone_run::{
     Failed, FileShelf, MemShelf, MemSink, Shelf, Sink, Source, Started, Status, StdSink, SureShelf,
     SureSink,

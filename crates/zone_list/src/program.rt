@@ -7,10 +7,10 @@ ghost use Rattle.zone_source.specs.Runs.{seen};
 ghost use Rattle.zone_run.specs.Tasks.{task_of};
 ghost use Rattle.zone_list.specs.Starts.{StartsList};
 
-use crate::listing::{ListFault, list_lines};
+use crate::listing::{ListFault, lines_of};
 use crate::window::Window;
 use std::alloc::Global;
-use tz_lookup::FixedTimespanSet;
+use tz_lookup::{FixedTimespanSet, SpanTable};
 use zone_line::LineParser;
 use zone_run::{
     Refusal, Shelf, Sink, Started, Status, ZoneProgram, number_in, run_program, start_program,
@@ -20,6 +20,8 @@ use zone_run::{
 const MOST_SECONDS: u64 = 9_999_999_999_999;
 
 impl ZoneProgram for Window {
+    type Zone = FixedTimespanSet;
+
     ghost label = { codes "list" };
 
     ghost form = { form };
@@ -31,6 +33,24 @@ impl ZoneProgram for Window {
     }
 
     fn read(words: &[String]) -> Option<Window> {
+        Window::of_words(words)
+    }
+
+    fn answer(&self, alloc: Global, set: &FixedTimespanSet) -> Result<Vec<u8>, Refusal> {
+        self.rows_of(alloc, set)
+    }
+}
+
+impl Window {
+    ghost use Rattle.std.specs.Prelude.{◌≡◌, map, option_map, string_bytes};
+    ghost use Rattle.tz_zone.specs.Sets.{IsAccepted, schedule_of};
+    ghost use Rattle.zone_list.specs.Asks.{asks, window_in};
+    ghost use Rattle.zone_run.specs.Asked.{Answers};
+
+    /// The window of the words FROM and TO, whole numbers of at most 13 digits.
+    pub fn of_words(words: &[String]) -> Option<Window>
+        ensures { option_map (λ window. (window.from, window.to)) result ≡ window_in (map string_bytes words.now) }
+    {
         let [from, to] = words else {
             return None;
         };
@@ -43,8 +63,16 @@ impl ZoneProgram for Window {
         Some(Window { from, to })
     }
 
-    fn answer(&self, alloc: Global, set: &FixedTimespanSet) -> Result<Vec<u8>, Refusal> {
-        match list_lines(alloc, set, self.from, self.to) {
+    /// The rows of the window, each with its LF, as the program writes them.
+    ///
+    /// # Errors
+    ///
+    /// `range`, as of [`list_lines`](crate::list_lines); want of memory.
+    pub fn rows_of<S: SpanTable>(&self, alloc: Global, table: &S) -> Result<Vec<u8>, Refusal>
+        requires { IsAccepted (schedule_of (S.seen table.now)) }
+        ensures { Answers (asks self.now.from self.now.to) (S.seen table.now) result }
+    {
+        match lines_of(alloc, table, self.from, self.to) {
             Ok(listing) => Ok(listing.into_bytes()),
             Err(ListFault::Range) => Err(Refusal::Cause("range")),
             Err(ListFault::NoMemory) => Err(Refusal::NoMemory),

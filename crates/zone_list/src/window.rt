@@ -6,9 +6,11 @@ use tz_lookup::SpanTable;
 
 /// A window of time, in seconds from 1970-01-01 00:00:00 UTC: from the first on, and before the other.
 #[derive(Clone, Copy, Debug, PartialEq, Eq)]
-pub(crate) struct Window {
-    pub(crate) from: i64,
-    pub(crate) to: i64,
+pub struct Window {
+    /// The first second.
+    pub from: i64,
+    /// The second before which it ends.
+    pub to: i64,
 }
 
 /// Whether the entry at a place, which counts from 0, lies in a window.

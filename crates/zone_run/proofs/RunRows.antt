@@ -1,14 +1,17 @@
 -- Which words ask what, which cause comes first, and the lines of causes, at worked rows.
-use Rattle.std.proofs.Common.{◌≡◌, ℕ, List, [], ◌∷◌, map, Option, Some, None, option_map, Ok, Err, refl, ℤ, pos, negsuc}
+use Rattle.std.proofs.Common.{◌≡◌, ℕ, List, [], ◌∷◌, map, Option, Some, None, option_map, Result, Ok, Err, refl, ℤ, pos, negsuc}
 use Rattle.std.specs.Prelude.{codes}
 use Rattle.std.specs.Fmt.{digits}
 use Rattle.zone_source.specs.Faults.{not_text}
 use Rattle.zone_spans.specs.Schedules.{totals_of}
+use Rattle.zone_spans.specs.declared.fault.SpanFault.{SpanFault}
 use Rattle.zone_spans.specs.declared.fault.SpanFault.TheVariants.{UnknownRuleset, MissingUntil, YearRange, RuleYears, DayRange, NoStandardSpan}
+use Rattle.zone_spans.specs.declared.span.FixedTimespanSet.{FixedTimespanSet}
 use Rattle.zone_run.specs.Asked.{Asked}
-use Rattle.zone_run.specs.Causes.{Found, of_source, unknown_zone, bad_schedule, offset_range, of_program, zone_cause}
+use Rattle.zone_run.specs.Causes.{of_source, of_zone, of_program, zone_cause}
 use Rattle.zone_run.specs.Due.{answer, cause_line}
 use Rattle.zone_run.specs.Numbers.{number_in}
+use Rattle.zone_run.specs.Readings.{Found, bad_schedule, found_under, offset_range, rules_end, spans_found, unknown_zone}
 use Rattle.zone_run.specs.Tasks.{Task, task_at, task_in}
 
 -- programs without words of their own: one refuses each zone, the other answers its name
@@ -31,28 +34,35 @@ which_words : map (λ words. option_map parts (task_in form words))
     ≡ None ∷ None ∷ Some (codes "f" ∷ codes "A" ∷ []) ∷ None ∷ []
 which_words = refl
 
--- a zone of one offset
-abbrev fixed_at : ℤ → Found
-fixed_at offset = Some (Ok (record { first = record { utc_offset = offset; dst_offset = pos 0; name = codes "T" }; rest = [] }))
+-- spans of one offset
+abbrev fixed_at : ℤ → Result FixedTimespanSet SpanFault
+fixed_at offset = Ok (record { first = record { utc_offset = offset; dst_offset = pos 0; name = codes "T" }; rest = [] })
 
--- nothing found, no schedule, 26 hours and a second less to each side: all before the program's own cause
+abbrev fixed_spans : Found
+fixed_spans = spans_found (fixed_at (pos 0))
+
+-- nothing found, no schedule, 26 hours and a second less to each side, and rules that end: all before the program's own cause
 zone_first : map (zone_cause (task_at (codes "f") (codes "A") refuses))
-    (None ∷ Some (Err YearRange) ∷ fixed_at (pos 93600) ∷ fixed_at (negsuc 93599) ∷ fixed_at (pos 93599) ∷ fixed_at (negsuc 93598) ∷ [])
-    ≡ Some unknown_zone ∷ Some (bad_schedule YearRange) ∷ Some offset_range ∷ Some offset_range
-    ∷ Some (of_program (codes "own")) ∷ Some (of_program (codes "own")) ∷ []
+    (found_under (λ _ _. fixed_spans) (λ _. None) None ∷ spans_found (Err YearRange) ∷ spans_found (fixed_at (pos 93600))
+    ∷ spans_found (fixed_at (negsuc 93599)) ∷ spans_found (fixed_at (pos 93599)) ∷ spans_found (fixed_at (negsuc 93598)) ∷ Err rules_end ∷ [])
+    ≡ Some (of_zone unknown_zone) ∷ Some (of_zone (bad_schedule YearRange)) ∷ Some (of_zone offset_range) ∷ Some (of_zone offset_range)
+    ∷ Some (of_program (codes "own")) ∷ Some (of_program (codes "own")) ∷ Some (of_zone rules_end) ∷ []
 unfolding totals_of
 zone_first = refl
 
 -- the answer is that for the spans under the asked name
-named_so : answer (task_at (codes "f") (codes "A") names) (fixed_at (pos 0)) ≡ codes "A"
+named_so : answer (task_at (codes "f") (codes "A") names) fixed_spans ≡ codes "A"
+unfolding totals_of
 named_so = refl
 
 lines_of_causes : map (cause_line (codes "list"))
-    (of_source (not_text 3) ∷ unknown_zone ∷ bad_schedule UnknownRuleset ∷ bad_schedule MissingUntil ∷ bad_schedule YearRange
-    ∷ bad_schedule RuleYears ∷ bad_schedule DayRange ∷ bad_schedule NoStandardSpan ∷ offset_range ∷ of_program (codes "range") ∷ [])
+    (of_source (not_text 3) ∷ of_zone unknown_zone ∷ of_zone (bad_schedule UnknownRuleset) ∷ of_zone (bad_schedule MissingUntil)
+    ∷ of_zone (bad_schedule YearRange) ∷ of_zone (bad_schedule RuleYears) ∷ of_zone (bad_schedule DayRange)
+    ∷ of_zone (bad_schedule NoStandardSpan) ∷ of_zone offset_range ∷ of_zone rules_end ∷ of_program (codes "range") ∷ [])
     ≡ codes "source 3: not text" ∷ codes "list: unknown zone" ∷ codes "list: schedule UnknownRuleset"
     ∷ codes "list: schedule MissingUntil" ∷ codes "list: schedule YearRange" ∷ codes "list: schedule RuleYears"
-    ∷ codes "list: schedule DayRange" ∷ codes "list: schedule NoStandardSpan" ∷ codes "list: offset range" ∷ codes "list: range" ∷ []
+    ∷ codes "list: schedule DayRange" ∷ codes "list: schedule NoStandardSpan" ∷ codes "list: offset range" ∷ codes "list: rules end"
+    ∷ codes "list: range" ∷ []
 unfolding digits
 lines_of_causes = refl
 

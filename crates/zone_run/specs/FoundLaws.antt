@@ -1,14 +1,57 @@
--- A name finds in a table what it finds in the source that the table is of.
-use Rattle.std.proofs.Common.{◌≡◌, ℕ, List, option_map, reverse}
+-- A name finds in a table what it finds in the source that the table is of; and what `compile_zone` says of a zone to 2099.
+use Rattle.std.proofs.Common.{◌≡◌, ℕ, cond, List, Option, Some, None, Result, Ok, Err, refl, ap, ◌∙◌, option_map, reverse}
+use Rattle.std.proofs.lemmas.Option.{none-some}
+use Rattle.std.specs.Prelude.{IsTrue, unwrap_or}
 use Rattle.zone_source.specs.Zones.{values_of, zone_in, rules_in}
 use Rattle.zone_spans.specs.Compiled.{compiled}
+use Rattle.zone_spans.specs.Lines.{Rulesets}
+use Rattle.zone_spans.specs.Schedules.{is_in_offset_range, totals_of}
+use Rattle.zone_spans.specs.declared.fault.SpanFault.{SpanFault}
+use Rattle.zone_spans.specs.declared.span.FixedTimespanSet as spans
 use Rattle.zone_table.specs.Resolved.{resolved_in-IsTableOf}
 use Rattle.zone_table.specs.Tables.{IsTableOf}
 use Rattle.zone_table.specs.declared.table.Table.{Table}
-use Rattle.tz_zone.specs.Compiles.{compiled_in}
-use Rattle.zone_run.specs.Causes.{found_in}
+use Rattle.zone_table.specs.declared.zone.ZoneInfo.{ZoneInfo}
+use Rattle.tz_zone.specs.Compiles.{IsZoneFault, spans_of}
+use Rattle.tz_zone.specs.Sets.{schedule_of}
+use Rattle.tz_zone.specs.declared.compile.ZoneFault.{ZoneFault}
+use Rattle.tz_zone.specs.declared.compile.ZoneFault.TheVariants as zone
+use Rattle.tz_zone.specs.declared.set.FixedTimespanSet.{FixedTimespanSet}
+use Rattle.zone_run.specs.Readings.{Reading, found_in, found_in_table, found_under, offset_range, spans_found, to_2099, unknown_zone}
+use Rattle.zone_run.specs.Responses.{TellsCause}
+use Rattle.zone_run.specs.declared.found.FindFault.TheVariants.{Zone}
 
-pub found_is : (table : Table) (source name : List ℕ) → IsTableOf table (values_of source) → compiled_in table name ≡ found_in source name
+pub found_is : (read : Reading) (table : Table) (source name : List ℕ) → IsTableOf table (values_of source)
+    → found_in_table read table name ≡ found_in read source name
 unfolding found_in zone_in rules_in
-found_is table source name is = λ i.
-    option_map (compiled (λ rules. is.rulesets rules i)) (resolved_in-IsTableOf table (reverse (values_of source)) is name i)
+found_is read table source name is = λ i.
+    found_under read (λ rules. is.rulesets rules i) (resolved_in-IsTableOf table (reverse (values_of source)) is name i)
+
+-- ---- to 2099
+compiled_is : (rulesets : Rulesets) (lines : Option (List ZoneInfo)) (result : Result spans.FixedTimespanSet SpanFault)
+    → option_map (compiled rulesets) lines ≡ Some result → found_under to_2099 rulesets lines ≡ spans_found result
+unfolding to_2099
+compiled_is rulesets None result is = absurd (none-some _ is)
+compiled_is rulesets (Some lines) result is = ap (λ o. spans_found (unwrap_or o result)) is
+
+none_is : (rulesets : Rulesets) (lines : Option (List ZoneInfo)) → option_map (compiled rulesets) lines ≡ None
+    → found_under to_2099 rulesets lines ≡ Err unknown_zone
+none_is rulesets None is = refl
+none_is rulesets (Some lines) is = absurd (cc)
+
+-- a set whose offsets are offsets is found
+pub compiled_found : (rulesets : Rulesets) (lines : Option (List ZoneInfo)) (set : FixedTimespanSet)
+    → option_map (compiled rulesets) lines ≡ Some (Ok (spans_of set)) → IsTrue (is_in_offset_range (schedule_of set))
+    → found_under to_2099 rulesets lines ≡ Ok (spans_of set)
+unfolding totals_of
+compiled_found rulesets lines set is small =
+    compiled_is rulesets lines _ is ∙ ap (λ b. cond b (Ok (spans_of set)) (Err offset_range)) small
+
+-- and a fault tells why none is
+pub compiled_refused : (rulesets : Rulesets) (lines : Option (List ZoneInfo)) (fault : ZoneFault)
+    → IsZoneFault (option_map (compiled rulesets) lines) fault → TellsCause (found_under to_2099 rulesets lines) (Zone fault)
+compiled_refused rulesets lines zone.UnknownZone is = none_is rulesets lines is
+compiled_refused rulesets lines (zone.Schedule fault) is = compiled_is rulesets lines _ is.0
+compiled_refused rulesets lines zone.OffsetRange is =
+    compiled_is rulesets lines _ is.is_found ∙ ap (λ b. cond b (Ok is.set) (Err offset_range)) is.far
+compiled_refused rulesets lines zone.NoMemory is = tt

@@ -1,9 +1,10 @@
 //! One run for every program that reads a source file, takes one zone of it, and writes what it has to say of the zone.
 //!
-//! A program says what is its own by a `ZoneProgram`: its label, its words after FILE and NAME, and its answer for the
-//! spans of the zone. `run_program` is its whole run, with `Ends` as its contract.
+//! A program says what is its own by a `ZoneProgram`: how it reads the zone, its label, its words after FILE and NAME, and its answer
+//! for the zone. `run_program` is its whole run, with `EndsWith` as its contract.
 #![tactic(auto)]
 
+mod found;
 mod line;
 mod number;
 mod program;
@@ -12,6 +13,7 @@ mod running;
 mod starting;
 mod task;
 
+pub use found::{FindFault, FoundZone};
 pub use number::number_in;
 pub use program::{Refusal, ZoneProgram};
 pub use running::run_program;

@@ -3,8 +3,8 @@ ghost use Rattle.std.specs.Prelude.{◌≡◌, ℕ, List, Option, map, option_ma
 ghost use Rattle.tz_zone.specs.Sets.{schedule_of, IsAccepted};
 ghost use Rattle.zone_run.specs.Asked.{Answers, Asked};
 
+use crate::found::FoundZone;
 use std::alloc::{AllocError, Global};
-use tz_lookup::FixedTimespanSet;
 
 /// Why a program has no answer for a zone.
 #[derive(Clone, Copy, Debug, PartialEq, Eq)]
@@ -28,6 +28,9 @@ impl From<AllocError> for Refusal {
 
 /// What is a program's own: a value is what its words ask of a zone.
 pub trait ZoneProgram: Drop {
+    /// The zones that it asks.
+    type Zone: FoundZone;
+
     /// What stands in front of its causes: `list` of `list: range`.
     ghost label: { List ℕ };
 
@@ -46,7 +49,7 @@ pub trait ZoneProgram: Drop {
         ensures { option_map asked result ≡ form (map string_bytes words.now) };
 
     /// The bytes that are due for the spans of the zone, which can be looked up, or why there are none.
-    fn answer(&self, alloc: Global, set: &FixedTimespanSet) -> Result<Vec<u8>, Refusal>
-        requires { IsAccepted (schedule_of set.now) }
-        ensures { Answers (asked self.now) set.now result };
+    fn answer(&self, alloc: Global, zone: &Self::Zone) -> Result<Vec<u8>, Refusal>
+        requires { IsAccepted (schedule_of (Self.Zone.seen zone.now)) }
+        ensures { Answers (asked self.now) (Self.Zone.seen zone.now) result };
 }

@@ -1,6 +1,6 @@
 //! The whole of a program.
 ghost use Rattle.std.specs.Prelude.{ℕ, List};
-ghost use Rattle.zone_run.specs.Starts.{StartsZone};
+ghost use Rattle.zone_run.specs.Starts.{StartsWith};
 
 use crate::program::ZoneProgram;
 use crate::running::run_program;
@@ -17,7 +17,7 @@ struct OverZone<P> {
 impl<P: ZoneProgram> SourceProgram for OverZone<P> {
     ghost use Rattle.zone_run.specs.Starts.{zone_run};
 
-    ghost ends = { zone_run P.label P.form };
+    ghost ends = { zone_run P.Zone.read P.label P.form };
 
     fn run<H: Shelf, I: Source, O: Sink>(
         alloc: Global,
@@ -34,7 +34,7 @@ impl<P: ZoneProgram> SourceProgram for OverZone<P> {
 /// The whole of a program over a file and a zone: `run_program` over its words, the files and standard output. The exit
 /// status is that of the run; before it come 7, where the words can't be taken, and 8, where the parser can't be built.
 pub fn start_program<P: ZoneProgram>(rt: HostRuntime) -> Started
-    ensures { StartsZone P.label P.form result }
+    ensures { StartsWith P.Zone.read P.label P.form result }
 {
     start_source_run::<OverZone<P>>(rt)
 }

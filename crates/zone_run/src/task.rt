@@ -25,7 +25,7 @@ impl<P: ZoneProgram> FileTask for Task<'_, P> {
 
     ghost Cause = { Cause };
 
-    ghost work = { work P.label };
+    ghost work = { work P.Zone.read P.label };
 
     ghost asked = { λ task. task_at task.file.now task.zone.now (P.asked task.program) };
 

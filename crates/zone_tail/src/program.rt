@@ -20,6 +20,8 @@ use zone_tail_core::{TailFault, tail};
 struct Carried;
 
 impl ZoneProgram for Carried {
+    type Zone = FixedTimespanSet;
+
     ghost label = { codes "tail" };
 
     ghost form = { form };

@@ -21,7 +21,7 @@ use Rattle.ustar.specs.Names.{entry_fault}
 use Rattle.ustar.specs.declared.entry.EntryFault.{EntryFault}
 use Rattle.ustar.specs.declared.entry.EntryFault.TheVariants as fault_is
 use Rattle.zone_source.specs.Releases.{release_of}
-use Rattle.zone_run.specs.Causes.{Found, named}
+use Rattle.zone_run.specs.Causes.{named}
 use Rattle.zone_source.specs.Faults.{SourceFault, source_fault}
 use Rattle.zone_source.specs.Zones.{values_of, zone_in}
 use Rattle.zone_spans.specs.Schedules.{totals_of, is_in_offset_range}
@@ -47,7 +47,7 @@ use Rattle.zone_tree.specs.Entries.{
   release_entry,
 }
 use Rattle.zone_tree.specs.TreeShape.{are_behind, version_entries, IsTree}
-use Rattle.zone_tree.specs.Names.{Finds, finds_in, given_names, names_by, others, archive_names}
+use Rattle.zone_tree.specs.Names.{Finds, Found, finds_in, given_names, names_by, others, archive_names}
 use Rattle.zone_tree.specs.Trees.{Refused, onto, entries_of, first_entries, before, joined, archive_of, tree_by, or_cause, after_source, tree_of}
 use Rattle.zone_tree.specs.declared.refusal.Why.{Why}
 use Rattle.zone_tree.specs.declared.refusal.Why.TheVariants.{OffsetRange, Link, Name}

@@ -1,5 +1,5 @@
 -- The names of a table are those of its source, and find the same.
-use Rattle.std.proofs.Common.{◌≡◌, ℕ, Bool, true, false, List, [], ◌∷◌, ◌++◌, map, reverse, cond, Some, refl, sym, ap, ◌∙◌, append-nil}
+use Rattle.std.proofs.Common.{◌≡◌, ℕ, Bool, true, false, List, [], ◌∷◌, ◌++◌, map, reverse, cond, option_map, Some, refl, sym, ap, ◌∙◌, append-nil}
 use Rattle.std.specs.Prelude.{◌||◌, is_some, bytes_eq}
 use Rattle.std.specs.Cmp.{both_ways}
 use Rattle.std.specs.FinMap.{FinMap, get, keys, contains_key-keys, IsAntisymmetric, slice_cmp-IsAntisymmetric, nat_cmp-IsAntisymmetric}
@@ -13,15 +13,17 @@ use Rattle.owned.specs.InOrderLaws.{any-in_order, rises-keys, rises_from_sorted,
 use Rattle.owned.specs.Keyed.{text_cmp}
 use Rattle.owned.specs.KeyedLaws.{tied_texts}
 use Rattle.owned.specs.Listed.{listed}
-use Rattle.zone_run.specs.FoundLaws.{found_is}
-use Rattle.zone_source.specs.Zones.{values_of}
+use Rattle.tz_zone.specs.Compiles.{compiled_in}
+use Rattle.zone_source.specs.Zones.{rules_in, values_of, zone_in}
+use Rattle.zone_spans.specs.Compiled.{compiled}
 use Rattle.zone_table.specs.Joined.{zone_of, link_of, is_owner}
 use Rattle.zone_table.specs.Owned.{owned_info}
+use Rattle.zone_table.specs.Resolved.{resolved_in-IsTableOf}
 use Rattle.zone_table.specs.Tables.{IsTableOf}
 use Rattle.zone_table.specs.declared.table.Table.{Table}
 use Rattle.zone_table.specs.declared.zone.ZoneInfo.{ZoneInfo}
 use Rattle.zone_values.specs.Values.{LineValue, space, zone, continuation, rule, link}
-use Rattle.zone_tree.specs.Names.{zone_names, link_names, names_by, finds_in, finds_in_table}
+use Rattle.zone_tree.specs.Names.{zone_names, link_names, names_by, finds_in, finds_in_table, found_in}
 
 pub text_same : IsAntisymmetric text_cmp
 text_same = slice_cmp-IsAntisymmetric nat_cmp-IsAntisymmetric
@@ -145,6 +147,11 @@ pub names_given : (latest : List LineValue) (q : List ℕ)
 names_given latest q = either_given (eq_by_cmp text_cmp q) latest ∙ (λ i. zones_given latest q i || links_given latest q i)
 
 -- ---- so the names are the same, and find the same
+
+found_is : (table : Table) (source name : List ℕ) → IsTableOf table (values_of source) → compiled_in table name ≡ found_in source name
+unfolding found_in zone_in rules_in
+found_is table source name is = λ i.
+    option_map (compiled (λ rules. is.rulesets rules i)) (resolved_in-IsTableOf table (reverse (values_of source)) is name i)
 
 pub finds_same : (table : Table) (source : List ℕ) → IsTableOf table (values_of source) → finds_in_table table ≡ finds_in source
 finds_same table source is = λ i. record {

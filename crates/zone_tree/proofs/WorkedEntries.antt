@@ -6,13 +6,12 @@ use Rattle.ustar.specs.Archives.{archive}
 use Rattle.ustar.specs.Entries.{of_file, of_link, entry}
 use Rattle.ustar.specs.Names.{cut, entry_fault, is_path}
 use Rattle.ustar.specs.declared.entry.EntryFault.TheVariants as entry_fault_is
-use Rattle.zone_run.specs.Causes.{Found}
 use Rattle.zone_spans.specs.Schedules.{totals_of}
 use Rattle.zone_spans.specs.declared.fault.SpanFault.TheVariants as span
 use Rattle.zone_spans.specs.declared.span.FixedTimespanSet as spans
 use Rattle.zone_tree.specs.Entries.{has_mark, is_marked, file_or, file_unless, zone_content, link_content, is_folder, is_reserved, is_taken, said, entry_by, entry_of}
 use Rattle.zone_tree.specs.TreeShape.{are_behind}
-use Rattle.zone_tree.specs.Names.{Finds, archive_names}
+use Rattle.zone_tree.specs.Names.{Finds, Found, archive_names}
 use Rattle.zone_tree.specs.Trees.{entries_of, first_entries, joined, refused, tree_by}
 use Rattle.zone_tree.specs.declared.refusal.Why.TheVariants.{Schedule, OffsetRange, Format, File, Link, Name, Size}
 use Rattle.zone_tzif_core.specs.declared.values.WriteFault.TheVariants as write

@@ -6,9 +6,9 @@ use Rattle.ustar.specs.Entries.{Content, of_file, of_link, EntryValue, entry}
 use Rattle.ustar.specs.Names.{entry_fault}
 use Rattle.ustar.specs.declared.entry.EntryFault.{EntryFault}
 use Rattle.ustar.specs.declared.entry.EntryFault.TheVariants as entry_fault
-use Rattle.zone_run.specs.Causes.{Found, named}
+use Rattle.zone_run.specs.Causes.{named}
 use Rattle.zone_spans.specs.Schedules.{totals_of, is_in_offset_range}
-use Rattle.zone_tree.specs.Names.{Finds}
+use Rattle.zone_tree.specs.Names.{Finds, Found}
 use Rattle.zone_tree.specs.declared.refusal.Why.{Why}
 use Rattle.zone_tree.specs.declared.refusal.Why.TheVariants.{Schedule, OffsetRange, Format, File, Link, Name, Size}
 use Rattle.zone_tzif_core.specs.declared.values.WriteFault.{WriteFault}

@@ -1,13 +1,15 @@
 -- The names that the lines of a source give to zones and links, and what they find.
-use Rattle.std.specs.Prelude.{ℕ, Bool, not, List, [], ◌∷◌, ◌++◌, filter, reverse, is_some, Option}
+use Rattle.std.specs.Prelude.{ℕ, Bool, not, List, [], ◌∷◌, ◌++◌, filter, reverse, is_some, Option, option_map, Result}
 use Rattle.std.specs.FinMap.{get, keys}
 use Rattle.std.specs.List.{flat_map}
 use Rattle.owned.specs.InOrder.{in_order}
 use Rattle.owned.specs.Keyed.{text_cmp}
 use Rattle.owned.specs.Listed.{listed}
 use Rattle.tz_zone.specs.Compiles.{compiled_in}
-use Rattle.zone_run.specs.Causes.{Found, found_in}
-use Rattle.zone_source.specs.Zones.{values_of}
+use Rattle.zone_source.specs.Zones.{rules_in, values_of, zone_in}
+use Rattle.zone_spans.specs.Compiled.{compiled}
+use Rattle.zone_spans.specs.declared.fault.SpanFault.{SpanFault}
+use Rattle.zone_spans.specs.declared.span.FixedTimespanSet.{FixedTimespanSet}
 use Rattle.zone_table.specs.Joined.{zone_of, link_of}
 use Rattle.zone_table.specs.declared.table.Table.{Table}
 use Rattle.zone_values.specs.Values.{LineValue, zone, link}
@@ -29,6 +31,14 @@ names_by value = zone_names value ++ link_names value
 -- those that the lines of a source give
 unfoldable pub given_names : List ℕ → List (List ℕ)
 given_names source = flat_map names_by (reverse (values_of source))
+
+-- what a zone is compiled to, if there is one
+abbrev pub Found : Type 0
+Found = Option (Result FixedTimespanSet SpanFault)
+
+-- what the zone of a name is compiled to, under the rules of the source
+unfoldable pub found_in : List ℕ → List ℕ → Found
+found_in source name = option_map (compiled (rules_in source)) (zone_in source name)
 
 -- the names of zones and the new names of links, each in byte order and once, and what they find: whether a name is a zone's own,
 -- what that is compiled to, and the name that a link is to

@@ -18,6 +18,8 @@ use zone_tzif_set::{FileFault, tzif_of};
 struct Compiled;
 
 impl ZoneProgram for Compiled {
+    type Zone = FixedTimespanSet;
+
     ghost label = { codes "tzif" };
 
     ghost form = { form };
