@@ -16,8 +16,9 @@ use tz_lookup::{
     CompactTz, Offset, OffsetDateTimeExt, OffsetResult, PrimitiveDateTimeExt, Steps, TimeZone, Tz,
 };
 use tz_posix::{Date, PosixTz, Time};
-use tz_zone::ZoneFault;
+use tz_zone::{ZoneFault, compile_zone};
 use zone_answers::open_zone;
+use zone_list::list_lines;
 use zone_spans::TableTransitions;
 use zone_table::Table;
 use zone_tail_core::laws::both_offsets;
@@ -257,6 +258,20 @@ fn a_footer_carries_a_zone_on_for_ever(rt: HostRuntime) {
         panic!(&rt; "no footer");
     };
     same(&rt, &tail.text.as_str(), &"IST-1GMT0,M10.5.0,M3.5.0/1");
+}
+
+#[test]
+fn a_window_of_changes_is_listed(rt: HostRuntime) {
+    let alloc = rt.alloc();
+    let table = table_of(&rt, alloc, NEW_YORK);
+    let Ok(set) = compile_zone(alloc, &table, "America/New_York") else {
+        panic!(&rt; "no zone");
+    };
+    let Ok(lines) = list_lines(alloc, &set, 1_704_067_200, 1_720_000_000) else {
+        panic!(&rt; "no lines");
+    };
+    let due = b"1710054000  EDT  2024-03-10 03:00:00.000000000 -04:00:00\n";
+    same(&rt, &lines.as_bytes(), &due.as_slice());
 }
 
 #[test]

@@ -30,7 +30,9 @@ last_is : (first : ℤ) (days k : ℕ) → ends_in_years first days ≡ true →
 last_is first zero k ends l = absurd (omega arith)
 last_is first (suc days) k ends l =
     let same : suc days - 1 ≡ days = omega arith in
-    let last = le_from_pass (first +ℤ pos (suc days - 1)) last_day ends in
+    let some : nat_eq (suc days) 0 ≡ false = grind (arith, nat_tests) in
+    let test = ap (λ b. b || int_le (first +ℤ pos (suc days - 1)) last_day) (sym some) ∙ ends in
+    let last = le_from_pass (first +ℤ pos (suc days - 1)) last_day test in
     omega (arith, signed, last, same)
 
 before_10000 : (day : ℤ) (at : ℕ) → day ≤ℤ last_day → at < nanos_per_day → time_on day at <ℤ pos 253402300800000000000

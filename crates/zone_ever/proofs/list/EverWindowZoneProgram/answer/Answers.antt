@@ -1,4 +1,4 @@
-use Rattle.std.proofs.Common.{◌≡◌, true, cond, Some, ℤ, int_le, ap, sym, subst, ◌∙◌, to_z, of_z, w64, SFits, rules}
+use Rattle.std.proofs.Common.{◌≡◌, true, cond, Some, ℤ, int_le, ◌≤ℤ◌, ap, sym, subst, ◌∙◌, to_z, of_z, w64, SFits, rules}
 use Rattle.std.specs.Prelude.{codes}
 use Rattle.std.proofs.lemmas.Int.{to_z-of_z}
 use Rattle.calendar.specs.ComparisonLaws.{le_fail, le_pass, lt_from_fail, lt_from_pass}
@@ -17,5 +17,8 @@ rows_of-requires c = subst (λ set. IsAccepted (schedule_of set)) (sym c.new-tab
 pub returns : goal.returns
 returns c =
     let window = c.args.self.now.window in
-    answers_within window.from window.to (unrolled (ever_seen c.args.zone.now.set)) c.rows_of.result ?
+    let fits : SFits w64 window.to = search rules in
+    let to : to_z w64 (of_z w64 window.to) ≡ window.to = to_z-of_z w64 _ fits in
+    answers_within window.from window.to (unrolled (ever_seen c.args.zone.now.set)) c.rows_of.result
+    (le_pass window.to last_second (subst (λ to. to ≤ℤ last_second) to (lt_from_fail last_second (to_z w64 (of_z w64 window.to)) c.if-self-gt-LAST_SECOND.false)))
     (subst (λ set. Answers (asks window.from window.to) set c.rows_of.result) c.new-table.ensures.seen c.rows_of.ensures)
