@@ -1,5 +1,2 @@
 mod EverLemmas
-mod SpansLemmas
-mod ListLemmas
-mod AlarmLemmas
 mod EverRows

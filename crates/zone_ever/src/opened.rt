@@ -10,7 +10,7 @@ use zone_table::Table;
 /// A zone that goes on for ever, kept compactly.
 #[derive(Drop)]
 pub(crate) struct EverZone {
-    pub(crate) set: EverSet,
+    set: EverSet,
 }
 
 impl OpenedZone for EverZone {
