@@ -9,7 +9,7 @@ use Rattle.tz_zone.specs.Spans.{total_from}
 use Rattle.tz_zone.specs.declared.set.FixedTimespanSet.{FixedTimespanSet}
 use Rattle.tz_ever.specs.Ever.{ever_total}
 use Rattle.tz_ever.specs.Seam.{cycles_past}
-use Rattle.tz_ever.proofs.SeamLemmas.{ArePast, back_by, cycles_past-are}
+use Rattle.tz_ever.specs.SeamLaws.{ArePast, back_by, cycles_past-are}
 
 begins_at : (s : ℤ) → IsSecond (nanos_of s) s
 begins_at s = record { low = omega (arith, signed); high = omega (arith, signed) }

@@ -20,7 +20,7 @@ use Rattle.tz_ever.specs.InForce.{span_at, span_by}
 use Rattle.tz_ever.specs.Seam.{cycles_past, next_seam, seam}
 use Rattle.tz_ever.specs.Unrolled.{again, entries_before, entries_from, next_seam_second, seam_second, unrolled, unrolled_end, unrolled_entries}
 use Rattle.tz_ever.proofs.NearLemmas.{ever_total-is, near_after, total_is}
-use Rattle.tz_ever.proofs.SeamLemmas.{ArePast, back_by, back_is, cycles_past-are}
+use Rattle.tz_ever.specs.SeamLaws.{ArePast, back_by, back_is, cycles_past-are}
 use Rattle.tz_ever.proofs.TotalLemmas.{same_in_force}
 use Rattle.tz_ever.proofs.UnrolledLemmas.{Climb, IsCutAt, Leaves, again_shows, all_come, climb_again, climb_higher, climb_join, cut_at, earlier, none_come}
 use Rattle.tz_ever.proofs.cycle.SpanLemmas.{span_by-more}
