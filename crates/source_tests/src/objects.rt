@@ -89,6 +89,7 @@ fn ended(
 ) -> Status {
     match program {
         "alarm" => run_alarm(alloc, parser, words, shelf, sink),
+        "ever" => zone_ever::run(alloc, parser, words, shelf, input, sink),
         "list" => run_list(alloc, parser, words, shelf, sink),
         "plain" => run_plain(alloc, parser, words, shelf, sink),
         "tail" => run_tail(alloc, parser, words, shelf, sink),

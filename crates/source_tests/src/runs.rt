@@ -38,6 +38,10 @@ alarm zones America/New_York -9999-01-01 23:59:59 1~~~-9999-01-01 23:59:59.00000
 list zones America/New_York 1704067200 1735689600~~~1710054000  EDT  2024-03-10 03:00:00.000000000 -04:00:00;1730613600  EST  2024-11-03 01:00:00.000000000 -05:00:00;
 list zones America/New_York 1710054000 1730613600~~~1710054000  EDT  2024-03-10 03:00:00.000000000 -04:00:00;
 list zones America/New_York 1730613600 1710054000~~~
+ever list zones America/New_York 5680281600 5711731200~~~5686009200  EDT  2150-03-08 03:00:00.000000000 -04:00:00;5706568800  EST  2150-11-01 01:00:00.000000000 -05:00:00;
+ever list zones America/New_York 253370764800 253402300800~~~253377010800  EDT  9999-03-14 03:00:00.000000000 -04:00:00;253397570400  EST  9999-11-07 01:00:00.000000000 -05:00:00;
+ever alarm zones America/New_York 2150-03-07 02:30:00 3~~~2150-03-07 02:30:00.000000000 -05:00:00;2150-03-08 none;2150-03-09 02:30:00.000000000 -04:00:00;
+ever answers zones~~at America/New_York 5686009200000000000;~2150-03-08 03:00:00.000000000 -04:00:00;
 tail zones America/New_York~~~1173596400 EST5EDT,M3.2.0,M11.1.0;
 answers zones~Rule Spain 1918 only - Apr 15 23:00 1:00 S;Rule Spain 1918 1919 - Oct 6 24:00s 0 -;Rule Spain 1919 only - Apr 6 23:00 1:00 S;Rule Spain 1924 only - Apr 16 23:00 1:00 S;Rule Spain 1924 only - Oct 4 24:00s 0 -;Rule EU 1977 1980 - Apr Sun>=1 1:00u 1:00 S;Rule EU 1977 only - Sep lastSun 1:00u 0 -;Rule EU 1978 only - Oct 1 1:00u 0 -;Rule EU 1979 1995 - Sep lastSun 1:00u 0 -;Rule EU 1981 max - Mar lastSun 1:00u 1:00 S;Rule EU 1996 max - Oct lastSun 1:00u 0 -;Zone Europe/Madrid -0:14:44 - LMT 1901 Jan 1 0:00u; 0:00 Spain WE%sT 1940 Mar 16 23:00; 1:00 Spain CE%sT 1979; 1:00 EU CE%sT;~at Europe/Madrid -2177452800000000000;at Europe/Madrid 1720000000000000000;~1901-01-01 00:00:00.000000000 +00:00:00;2024-07-03 11:46:40.000000000 +02:00:00;
 list zones Europe/Madrid -2177452800 -1620000000~~~-2177452800  WET   1901-01-01 00:00:00.000000000 +00:00:00;-1631926800  WEST  1918-04-16 00:00:00.000000000 +01:00:00;
@@ -102,6 +106,10 @@ answers zones~Rule R 9223372036854775807 max - Jan 1 0:00 0 -;Zone A 0:00 R A;~a
 alarm zones America/New_York 9999-12-31 00:00:00 2~Rule US 2007 max - Mar Sun>=8 2:00 1:00 D;Rule US 2007 max - Nov Sun>=1 2:00 0 S;Zone America/New_York -5:00 US E%sT;~~alarm: range;
 alarm zones No/Zone 2024-03-09 02:30:00 1~~~alarm: unknown zone;
 list zones Nowhere 0 1~~~list: unknown zone;
+ever list zones America/New_York 253402300800 269243913600~~~list: range;
+ever list zones America/New_York 0 269243913601~~~list: range;
+ever list zones Ends 0 1~Zone Ends 0:00 - A 2000;~~list: rules end;
+ever alarm zones Ends 2024-03-09 02:30:00 1~~~alarm: rules end;
 tail zones Nowhere~~~tail: unknown zone;
 plain zones~Nonsense;~~source 1: line LineType;
 tree zones~Zone A 0:00 - A;Link B C;~~tree C: link;
@@ -134,6 +142,8 @@ alarm zones U 2024-02-30 02:30:00 1~~~
 alarm zones U 2024-03-09 2:30:00 1~~~
 alarm zones U 2024-03-09 02:30:00 1 1~~~
 list zones U 0 -0~~~
+ever list zones U 0~~~
+ever zones~~~
 tail zones U U~~~
 ";
 

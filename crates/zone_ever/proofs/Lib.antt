@@ -1,2 +1,5 @@
 mod EverLemmas
+mod SpansLemmas
+mod ListLemmas
+mod AlarmLemmas
 mod EverRows

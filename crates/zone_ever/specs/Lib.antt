@@ -1,5 +1,7 @@
 -- Definitions: what public clauses say.
 pub mod Readings
+pub mod Spans
+pub mod Lists
 pub mod Words
 pub mod Ends
 pub mod Starts

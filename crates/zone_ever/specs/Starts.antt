@@ -2,11 +2,11 @@
 use Rattle.zone_source.specs.Starts.{Run, Starts}
 use Rattle.zone_source.specs.declared.starting.Started.{Started}
 use Rattle.zone_ever.specs.Ends.{Ends}
-use Rattle.zone_ever.specs.Words.{file_of}
+use Rattle.zone_ever.specs.Words.{asks_of}
 
--- how its run ends, by the file that its words name
+-- how its run ends, by what its words ask
 abbrev pub ever_run : Run
-ever_run words before now end = Ends (file_of words) before now end
+ever_run words before now end = Ends (asks_of words) before now end
 
 abbrev pub StartsEver : Started → Type 0
 StartsEver started = Starts ever_run started

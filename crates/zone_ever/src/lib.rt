@@ -1,9 +1,12 @@
-//! Answers requests over the source text of the tz database, each zone going on for ever.
+//! Zones of a source text that go on for ever: answers to requests, the changes of a zone in a window, and a daily alarm.
 #![tactic(auto)]
 
+mod alarm;
+mod list;
 mod opened;
 mod running;
 mod starting;
+mod zone;
 
 pub use running::run;
 pub use starting::start;

@@ -10,7 +10,7 @@ use zone_table::Table;
 /// A zone that goes on for ever, kept compactly.
 #[derive(Drop)]
 pub(crate) struct EverZone {
-    set: EverSet,
+    pub(crate) set: EverSet,
 }
 
 impl OpenedZone for EverZone {
