@@ -1,4 +1,5 @@
-//! `zone_ever answers FILE`: answers the requests on standard input over the zones of the file, each going on for ever.
+//! `zone_ever answers FILE`, `list FILE NAME FROM TO` or `alarm FILE NAME START TIME DAYS`: what the programs of these names do, each zone
+//! going on for ever.
 #![tactic(auto)]
 
 use zone_ever::{Started, start};
