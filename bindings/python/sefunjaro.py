@@ -15,7 +15,7 @@
 One file over ctypes. It loads libsefunjaro.so.2, which `bin/make_library` makes: the file that the environment variable
 SEFUNJARO_LIBRARY names, else the one beside this module, else the one that the system's loader finds. What a datetime asks of its zone is
 asked in C where the module _sefunjaro stands beside this one, built for this version of Python (`bin/make_module`); IS_IN_C tells. With
-SEFUNJARO_CTYPES set it isn't looked for. Both answer the same, the one in C some ten times faster.
+SEFUNJARO_CTYPES set it isn't looked for. Both answer the same, the one in C about ten times faster.
 
 Instants are given as seconds from 1970-01-01 00:00:00 UTC and nanoseconds, offsets as seconds east of UTC. Any number of threads may
 ask one source or one zone at once; `close` waits for the calls that are under way, and a call after it raises NotOpen. A child of fork
