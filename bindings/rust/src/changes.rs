@@ -91,6 +91,7 @@ impl Zone {
     }
 
     /// The changes from the second `from` on and before the second `to`, by time, in which something differs. It takes no memory.
+    /// Those of a zone that goes on for ever are told up to the end of the year 10501.
     ///
     /// ```
     /// let zone = sefunjaro::Source::open(b"Zone A 1:00 - A 2000 Jan 1\n 2:00 - B 2001 Jan 1\n 3:00 - C\n")?.zone("A")?;
