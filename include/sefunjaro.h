@@ -188,7 +188,7 @@ struct sefunjaro_gap {
     int32_t after;  /* the offset in force from it on */
 };
 
-/* The years that the rules of a source are worked out for. Before the first nothing changes in a zone; after the last nothing does in one
+/* The years that the rules of a source are worked out for. Before the first nothing changes in a zone; after the last no rule fires in one
    that doesn't go on for ever, and sefunjaro_years tells which. */
 struct sefunjaro_years {
     int32_t first;
@@ -276,7 +276,8 @@ static inline uint32_t sefunjaro_source_version(const struct sefunjaro_handle *s
 
 /* Opens the zone of a name. What the zone's handle held before is closed first. The zone needs its source no more. Where the lines of the
    name go on for ever, and come to no offset of 26 hours or more in a later year, the zone does too: each call below answers in each year
-   as the lines do then. Else it answers up to the end of 2099, and what is in force then stays; sefunjaro_years tells.
+   as the lines do then. Else its answers stand up to the end of 2099: later no rule fires, and only the end of a line changes anything.
+   sefunjaro_years tells.
    It takes one to two milliseconds and some 17 KB where rules go on; all 597 names of a tz database a quarter of a second and 5 MB.
    NOT_OPEN (of the source), NOT_TEXT (the name), UNKNOWN_ZONE, NO_SCHEDULE, OFFSET_RANGE, NO_MEMORY. */
 static inline uint32_t sefunjaro_zone_open(const struct sefunjaro_handle *source, const uint8_t *name, size_t length,

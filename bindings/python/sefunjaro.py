@@ -949,7 +949,7 @@ class Zone(_Asked, _Opened):
     @property
     def last_year(self) -> int:
         """The last year up to whose end the zone says what is in force: 9999 where its lines go on for ever, as those of every zone of the
-        tz database do; else LAST_YEAR, after which what was in force stays. Raises NotKept: a zone of a POSIX string goes on for ever, and
+        tz database do; else LAST_YEAR, after which no rule fires. Raises NotKept: a zone of a POSIX string goes on for ever, and
         one of a file does by its footer."""
         year = ctypes.c_int32()
         status = self._handle.ask(_years, ctypes.byref(year))

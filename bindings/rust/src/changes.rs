@@ -58,7 +58,7 @@ impl Zone {
     }
 
     /// The last year up to whose end the zone says what is in force: 9999 where its lines go on for ever, as those of every zone of the tz
-    /// database do; else that of [`rule_years`](crate::rule_years), after which what was in force stays.
+    /// database do; else that of [`rule_years`](crate::rule_years), after which no rule fires.
     ///
     /// # Errors
     ///

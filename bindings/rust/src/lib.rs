@@ -108,8 +108,8 @@ pub fn version() -> String {
     String::from_utf8_lossy(&text).into_owned()
 }
 
-/// The years that the rules of a source are worked out for. Before the first nothing changes in a zone, and after the last nothing does in
-/// one that doesn't go on for ever: [`Zone::last_year`] tells.
+/// The years that the rules of a source are worked out for. Before the first nothing changes in a zone, and after the last no rule fires
+/// in one that doesn't go on for ever: [`Zone::last_year`] tells.
 ///
 /// ```
 /// assert_eq!(sefunjaro::rule_years(), 1800..=2099);
