@@ -53,6 +53,8 @@ static uint32_t open_file(void) { return sefunjaro_file_open(small_file, sizeof 
 static uint32_t open_posix(void) { return sefunjaro_posix_open((const uint8_t *)"CET-1CEST,M3.5.0,M10.5.0/3", 26, &zone, &fault); }
 static uint32_t tail(void) { return sefunjaro_tail(&zone, found, sizeof found, &length, &is_posix, &fault); }
 static uint32_t tzif(void) { return sefunjaro_tzif(&zone, found, sizeof found, &length, &fault); }
+static uint32_t ever_tail(void) { return sefunjaro_tail_for_ever(&zone, found, sizeof found, &length, &is_posix, &fault); }
+static uint32_t ever_file(void) { return sefunjaro_tzif_for_ever(&zone, found, sizeof found, &length, &fault); }
 static uint32_t share(void) { return sefunjaro_share(&zone, &other); }
 
 /* How many requests a call makes, which opens a handle, if one is given: each refused in turn; -1 where an answer is wrong or something is
@@ -133,7 +135,7 @@ int main(void) {
         long of_plain = tried(open_plain, &source), of_zone = tried(open_zone, &zone), of_share = tried(share, &other);
         if (of_source < 0 || of_plain < 0 || of_zone < 0 || of_share < 0 || !look() || !look_aside()) return 1;
         long of_tail = tried(tail, NULL), of_tzif = tried(tzif, NULL);
-        if (of_tail < 0 || of_tzif < 0) return 5;
+        if (of_tail < 0 || of_tzif < 0 || tried(ever_tail, NULL) < 0 || tried(ever_file, NULL) < 0) return 5;
         sefunjaro_close(&source);
         sefunjaro_close(&zone);
         sefunjaro_close(&other);

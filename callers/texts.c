@@ -145,6 +145,38 @@ static int files(void) {
     return 0;
 }
 
+/* Zones that go on for ever, by Ireland's rules and by rules that fire past 24:00, and one that doesn't. */
+static const char ever_source[] =
+    "R E 1981 ma - Mar lastSun 1u 0 -\n"
+    "R E 1996 ma - O lastSun 1u -1 -\n"
+    "Z Ireland 1 E IST/GMT\n"
+    "R G 2013 ma - Mar lastThu 26 1 D\n"
+    "R G 2013 ma - O lastThu 26 0 S\n"
+    "Z Late -3 G X%sT\n"
+    "Z Ends 1 - A 2099\n";
+
+static int for_ever(void) {
+    uint8_t text[40], file[5] = ".....";
+    size_t whole = 9;
+    bool is_posix = false;
+    memset(text, '.', sizeof text);
+    if (open_any(ever_source) || sefunjaro_tail_for_ever(&source, text, 40, &whole, &is_posix, &fault) != SEFUNJARO_NOT_OPEN) return 110;
+    if (sefunjaro_tzif_for_ever(&source, file, 5, &whole, &fault) != SEFUNJARO_NOT_OPEN || whole != 9 || file[0] != '.') return 111;
+    if (open_name("Ends") || sefunjaro_tail_for_ever(&zone, text, 40, &whole, &is_posix, &fault) != SEFUNJARO_NONE) return 112;
+    if (!is_fault(SEFUNJARO_NONE, SEFUNJARO_EVER_RULES_END, 0) || text[0] != '.' || whole != 9) return 113;
+    if (sefunjaro_tzif_for_ever(&zone, file, 5, &whole, &fault) != SEFUNJARO_NONE || !is_fault(SEFUNJARO_NONE, SEFUNJARO_EVER_RULES_END, 0)) return 114;
+    if (open_name("Ireland") || sefunjaro_tail_for_ever(&zone, text, 40, &whole, &is_posix, &fault) || whole != 26 || !is_posix) return 115;
+    if (memcmp(text, "IST-1GMT0,M10.5.0,M3.5.0/1.", 27)) return 116;
+    if (sefunjaro_tzif_for_ever(&zone, file, 5, &whole, &fault) || memcmp(file, "TZif2", 5)) return 117;
+    if (open_name("Late") || sefunjaro_tail_for_ever(&zone, text, 6, &whole, &is_posix, &fault) || whole != 28 || is_posix) return 118;
+    if (memcmp(text, "XST3XDMT0,M10", 13)) return 119;
+    if (sefunjaro_tzif_for_ever(&zone, file, 5, &whole, &fault) || memcmp(file, "TZif3", 5)) return 120;
+    if (sefunjaro_posix_open((const uint8_t *)"UTC0", 4, &zone, &fault)) return 121;
+    if (sefunjaro_tail_for_ever(&zone, text, 40, &whole, &is_posix, &fault) != SEFUNJARO_NOT_KEPT) return 122;
+    if (sefunjaro_tzif_for_ever(&zone, file, 5, &whole, &fault) != SEFUNJARO_NOT_KEPT || !is_fault(SEFUNJARO_NOT_KEPT, 0, 0)) return 123;
+    return 0;
+}
+
 /* The file of a zone of a source, to standard output. */
 static int written(const char *path, const char *name) {
     static char text[1 << 24];
@@ -164,6 +196,7 @@ int main(int count, char **words) {
     if (!failed && count == 1) failed = faults();
     if (!failed && count == 1) failed = tails();
     if (!failed && count == 1) failed = files();
+    if (!failed && count == 1) failed = for_ever();
     sefunjaro_close(&source);
     sefunjaro_close(&zone);
     return failed;

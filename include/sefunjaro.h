@@ -16,7 +16,7 @@
      two handles of a call are not one.
    - No function is called in a signal handler.
    - In the forked child of a process that had threads, a handle may be used that no thread was opening, closing or moving when the
-     process forked. What takes memory or gives it back (each call that opens or closes, sefunjaro_tail, sefunjaro_tzif) needs a malloc
+     process forked. What takes memory or gives it back (each call that opens or closes, sefunjaro_tail, sefunjaro_tzif and theirs for ever) needs a malloc
      that may be called there, as that of the GNU C library.
 
    A handle that holds nothing, was closed, or holds a source where a zone is asked, answers SEFUNJARO_NOT_OPEN; closing it again does
@@ -150,6 +150,18 @@ enum sefunjaro_tzif_cause {
     SEFUNJARO_TZIF_NAMES = 3  /* an abbreviation has a zero byte, or the distinct ones take more than 256 bytes, a zero after each */
 };
 
+/* Why a zone has no string or no TZif file for ever. */
+enum sefunjaro_ever_cause {
+    SEFUNJARO_EVER_SHAPE = 1,        /* 2102 has changes, and they are not one into daylight saving time and one back to one standard time */
+    SEFUNJARO_EVER_OFFSET_RANGE = 2, /* an offset that would be written is past 24:59:59 */
+    SEFUNJARO_EVER_NAME = 3,         /* as SEFUNJARO_TAIL_NAME */
+    SEFUNJARO_EVER_NO_RULE = 4,      /* no string of two days of the week, with times from -167 to 167 hours, says the same for ever */
+    SEFUNJARO_EVER_TIMES = 5,        /* as SEFUNJARO_TZIF_TIMES, of the changes before the string */
+    SEFUNJARO_EVER_TYPES = 6,        /* as SEFUNJARO_TZIF_TYPES */
+    SEFUNJARO_EVER_NAMES = 7,        /* as SEFUNJARO_TZIF_NAMES */
+    SEFUNJARO_EVER_RULES_END = 8     /* the zone doesn't go on: sefunjaro_years */
+};
+
 /* What a call refuses that opens something, or asks for a zone's string or file. */
 struct sefunjaro_fault {
     uint32_t status; /* the status that the call answers */
@@ -238,6 +250,10 @@ uint32_t sefunjaro_years_by(struct sefunjaro_handle *copy, int32_t *year);
 uint32_t sefunjaro_tail_by(struct sefunjaro_handle *copy, uint8_t *text, size_t room, size_t *whole, bool *is_posix,
                            struct sefunjaro_fault *fault);
 uint32_t sefunjaro_tzif_by(struct sefunjaro_handle *copy, uint8_t *file, size_t room, size_t *whole, struct sefunjaro_fault *fault);
+uint32_t sefunjaro_tail_for_ever_by(struct sefunjaro_handle *copy, uint8_t *text, size_t room, size_t *whole, bool *is_posix,
+                                    struct sefunjaro_fault *fault);
+uint32_t sefunjaro_tzif_for_ever_by(struct sefunjaro_handle *copy, uint8_t *file, size_t room, size_t *whole,
+                                    struct sefunjaro_fault *fault);
 
 /* The version of the calls that the library has, as SEFUNJARO_VERSION, and its whole length; and the years of the rules. */
 void sefunjaro_version(uint8_t *text, size_t room, size_t *whole, struct sefunjaro_years *years);
@@ -404,6 +420,26 @@ static inline uint32_t sefunjaro_tzif(const struct sefunjaro_handle *zone, uint8
                                       struct sefunjaro_fault *fault) {
     struct sefunjaro_handle copy = *zone;
     return sefunjaro_tzif_by(&copy, file, room, whole, fault);
+}
+
+/* The string that carries a zone on in each year up to 9999, in the grammar of footers (RFC 8536, version 3): with times from -167 to 167
+   hours, and a saving below 0 as zic writes it. `is_posix` is whether it is a string of sefunjaro_tail's grammar with such names. It takes
+   memory.
+   NOT_OPEN; NOT_KEPT; NONE, with why there is no string: enum sefunjaro_ever_cause; NO_MEMORY. */
+static inline uint32_t sefunjaro_tail_for_ever(const struct sefunjaro_handle *zone, uint8_t *text, size_t room, size_t *whole,
+                                               bool *is_posix, struct sefunjaro_fault *fault) {
+    struct sefunjaro_handle copy = *zone;
+    return sefunjaro_tail_for_ever_by(&copy, text, room, whole, is_posix, fault);
+}
+
+/* The zone's TZif file for ever: each change up to that from which on this string says the same, and the string as the footer, so that
+   whoever reads the file has the zone's offset in each year up to 9999. It is of version 3 where the string needs it, and daylight saving
+   time is what has a saving other than 0. It takes memory.
+   NOT_OPEN; NOT_KEPT; NONE, with why there is no file: enum sefunjaro_ever_cause; NO_MEMORY. */
+static inline uint32_t sefunjaro_tzif_for_ever(const struct sefunjaro_handle *zone, uint8_t *file, size_t room, size_t *whole,
+                                               struct sefunjaro_fault *fault) {
+    struct sefunjaro_handle copy = *zone;
+    return sefunjaro_tzif_for_ever_by(&copy, file, room, whole, fault);
 }
 
 /* The local time that a text `YYYY-MM-DD hh:mm:ss.nnnnnnnnn` names. Each local time has one such text, and nothing stands before or

@@ -46,8 +46,8 @@ from typing import (
 )
 
 __all__ = [
-    "BadJoin", "BadLine", "Change", "Clock", "Error", "FileCause", "FIRST_YEAR", "Gap", "InForce", "Instant", "IS_IN_C", "JoinCause", "LAST_YEAR",
-    "LineCause", "NoPlainForm", "NoSchedule", "NoTail", "NotKept", "NotOpen", "NotRead", "NoTzdata", "NoTzif", "OffsetRange",
+    "BadJoin", "BadLine", "Change", "Clock", "Error", "EverCause", "FileCause", "FIRST_YEAR", "Gap", "InForce", "Instant", "IS_IN_C",
+    "JoinCause", "LAST_YEAR", "LineCause", "NoPlainForm", "NoSchedule", "NoTail", "NotKept", "NotOpen", "NotRead", "NoTzdata", "NoTzif", "OffsetRange",
     "OffsetTooLarge", "OutOfRange", "PlainCause", "PosixTail", "ScheduleCause", "Source", "SourceError", "Status", "TailCause", "TzifCause",
     "UnknownZone", "VERSION", "Zone", "ZoneError", "available_zones", "machine_source", "read_local", "read_zoned", "zone",
 ]
@@ -95,6 +95,7 @@ TailCause = enum.IntEnum("TailCause", "SHAPE OFFSET_RANGE NAME", module=__name__
 """Why a zone has no string that carries it on."""
 
 TzifCause = enum.IntEnum("TzifCause", "TIMES TYPES NAMES", module=__name__)
+EverCause = enum.IntEnum("EverCause", "SHAPE OFFSET_RANGE NAME NO_RULE TIMES TYPES NAMES RULES_END", module=__name__)
 """Why a zone has no TZif file."""
 
 
@@ -169,13 +170,13 @@ class OffsetRange(ZoneError):
 
 
 class NoTail(ZoneError):
-    """No string carries the zone on; `cause` is a TailCause."""
+    """No string carries the zone on; `cause` is a TailCause, or an EverCause of `tail_for_ever`."""
 
     status = Status.NONE
 
 
 class NoTzif(ZoneError):
-    """The zone has no TZif file; `cause` is a TzifCause."""
+    """The zone has no TZif file; `cause` is a TzifCause, or an EverCause of `to_tzif_for_ever`."""
 
     status = Status.NONE
 
@@ -356,6 +357,8 @@ _changes = _function("sefunjaro_changes_by", _at, ctypes.c_int64, ctypes.c_int64
 _ring = _function("sefunjaro_ring_by", _at, _at, _at)
 _tail = _function("sefunjaro_tail_by", _at, _at, _size, _at, _at, _at)
 _tzif = _function("sefunjaro_tzif_by", _at, _at, _size, _at, _at)
+_tail_for_ever = _function("sefunjaro_tail_for_ever_by", _at, _at, _size, _at, _at, _at)
+_tzif_for_ever = _function("sefunjaro_tzif_for_ever_by", _at, _at, _size, _at, _at)
 _version = _function("sefunjaro_version", _at, _size, _at, _at, answer=None)
 
 
@@ -889,7 +892,7 @@ class Zone(_Asked, _Opened):
     ) -> _OfZone:
         """The zone of a compiled file (TZif, as below /usr/share/zoneinfo), from its bytes, its path or the file that is open, with what
         its footer says from its last change on. It has no changes and no saving: `dst` is None, and `changes`, `next_change`,
-        `saving_at`, `posix_tail` and `to_tzif` raise NotKept.
+        `saving_at`, `posix_tail`, `to_tzif` and both for ever raise NotKept.
 
         Raises NotRead with its cause, and OSError where the file can't be read."""
         path = None
@@ -1041,17 +1044,33 @@ class Zone(_Asked, _Opened):
     def posix_tail(self) -> PosixTail:
         """The POSIX TZ string that carries the zone on after its last change, as zic writes it at a file's end, and whether POSIX has a
         place for the abbreviations in it. Raises NoTail and NotKept."""
+        return self._string_by(_tail, TailCause)
+
+    def tail_for_ever(self) -> PosixTail:
+        """The string that carries the zone on in each year up to 9999, with times from -167 to 167 hours, as a file's end has it, and whether
+        it is one of `posix_tail`'s with such names. Raises NoTail, with an EverCause, and NotKept."""
+        return self._string_by(_tail_for_ever, EverCause)
+
+    def _string_by(self, call: Callable[..., int], causes: Type[enum.IntEnum]) -> PosixTail:
         is_posix = ctypes.c_bool()
-        told, cause = self._whole(_tail, 64, ctypes.byref(is_posix))
+        told, cause = self._whole(call, 64, ctypes.byref(is_posix))
         if cause:
-            raise NoTail(f"{self._name!r}: no string, {TailCause(cause).name}", cause=TailCause(cause))
+            raise NoTail(f"{self._name!r}: no string, {causes(cause).name}", cause=causes(cause))
         return PosixTail(told.decode(), is_posix.value)
 
     def to_tzif(self) -> bytes:
         """The zone's TZif file, which `zoneinfo.ZoneInfo.from_file` reads. Raises NoTzif, and NotKept."""
-        told, cause = self._whole(_tzif, 4096)
+        return self._file_by(_tzif, TzifCause)
+
+    def to_tzif_for_ever(self) -> bytes:
+        """The zone's TZif file with the string of `tail_for_ever` at its end, right in each year. Raises NoTzif, with an EverCause, and
+        NotKept."""
+        return self._file_by(_tzif_for_ever, EverCause)
+
+    def _file_by(self, call: Callable[..., int], causes: Type[enum.IntEnum]) -> bytes:
+        told, cause = self._whole(call, 4096)
         if cause:
-            raise NoTzif(f"{self._name!r}: no file, {TzifCause(cause).name}", cause=TzifCause(cause))
+            raise NoTzif(f"{self._name!r}: no file, {causes(cause).name}", cause=causes(cause))
         return told
 
     def _whole(self, call: Callable[..., int], room: int, *answers: Any) -> Tuple[bytes, int]:

@@ -204,9 +204,37 @@ class Zones(unittest.TestCase):
         with self.assertRaises(sefunjaro.NoTzif) as raised:
             source.zone("Long").to_tzif()
         self.assertIs(raised.exception.cause, sefunjaro.TzifCause.NAMES)
-        for call in (sefunjaro.Zone.posix_tail, sefunjaro.Zone.to_tzif):
+        for call in (sefunjaro.Zone.posix_tail, sefunjaro.Zone.to_tzif, sefunjaro.Zone.tail_for_ever, sefunjaro.Zone.to_tzif_for_ever):
             with self.assertRaises(sefunjaro.NotKept):
                 call(sefunjaro.Zone.from_posix("UTC0"))
+
+    def test_whole_for_ever(self):
+        source = Source(
+            "Rule E 1981 max - Mar lastSun 1:00u 0 -\nRule E 1996 max - Oct lastSun 1:00u -1:00 -\nZone Ireland 1:00 E IST/GMT\n"
+            "Rule G 2013 max - Mar lastThu 26:00 1:00 D\nRule G 2013 max - Oct lastThu 26:00 0 S\nZone Late -3:00 G X%sT\n"
+            "Zone Ends 1:00 - A 2099 Jun 1\nZone Wide 25:30 - X\nZone Names 1:00 - A<B\nZone Long 1:00 - " + "A" * 256 + "\n"
+        )
+        for name, text, is_posix, begins in (
+            ("Ireland", "IST-1GMT0,M10.5.0,M3.5.0/1", True, b"TZif2"),
+            ("Late", "XST3XDT,M3.5.4/26,M10.5.4/26", False, b"TZif3"),
+        ):
+            zone = source.zone(name)
+            self.assertEqual(zone.tail_for_ever(), (text, is_posix))
+            file = zone.to_tzif_for_ever()
+            self.assertEqual((file[:5], file.split(b"\n")[-2].decode()), (begins, text))
+            read = zoneinfo.ZoneInfo.from_file(io.BytesIO(file))
+            for year in range(1980, 9999, 7):
+                local = datetime(year, 7, 1, tzinfo=timezone.utc).astimezone(read)
+                self.assertEqual(local.utcoffset(), hours(zone.offset_at(int(local.timestamp())) / 3600))
+        for name, cause in (("Ends", "RULES_END"), ("Wide", "OFFSET_RANGE"), ("Names", "NAME")):
+            zone = source.zone(name)
+            for call, error in ((zone.tail_for_ever, sefunjaro.NoTail), (zone.to_tzif_for_ever, sefunjaro.NoTzif)):
+                with self.assertRaises(error) as raised:
+                    call()
+                self.assertIs(raised.exception.cause, sefunjaro.EverCause[cause])
+        with self.assertRaises(sefunjaro.NoTzif) as raised:
+            source.zone("Long").to_tzif_for_ever()
+        self.assertIs(raised.exception.cause, sefunjaro.EverCause.NAMES)
 
     def test_version(self):
         self.assertEqual((sefunjaro.VERSION, sefunjaro.FIRST_YEAR, sefunjaro.LAST_YEAR), ("2.0.0", 1800, 2099))

@@ -34,6 +34,8 @@ pub enum Error {
     NoTail { cause: TailCause },
     /// The zone has no TZif file.
     NoTzif { cause: TzifCause },
+    /// The zone has no string, or no TZif file, for ever.
+    NotForEver { cause: EverCause },
     /// Some offset of the zone is 26 hours or more in size.
     OffsetRange,
     /// A date lies outside the years -9999 to 9999, an instant does by more than 93,599 seconds, the greatest offset, or the parts are no
@@ -147,6 +149,20 @@ pub enum TzifCause {
     Names,
 }
 
+/// Why a zone has no string or no TZif file for ever. The header says more of each.
+#[derive(Clone, Copy, Debug, PartialEq, Eq)]
+#[non_exhaustive]
+pub enum EverCause {
+    Shape,
+    OffsetRange,
+    Name,
+    NoRule,
+    Times,
+    Types,
+    Names,
+    RulesEnd,
+}
+
 const LINE_CAUSES: [LineCause; 9] = [
     LineCause::FailedYearParse,
     LineCause::FailedMonthParse,
@@ -208,6 +224,17 @@ const TAIL_CAUSES: [TailCause; 3] = [TailCause::Shape, TailCause::OffsetRange, T
 
 const TZIF_CAUSES: [TzifCause; 3] = [TzifCause::Times, TzifCause::Types, TzifCause::Names];
 
+const EVER_CAUSES: [EverCause; 8] = [
+    EverCause::Shape,
+    EverCause::OffsetRange,
+    EverCause::Name,
+    EverCause::NoRule,
+    EverCause::Times,
+    EverCause::Types,
+    EverCause::Names,
+    EverCause::RulesEnd,
+];
+
 /// The cause of a number, which counts from 1.
 fn numbered<Cause: Copy>(causes: &[Cause], number: u32) -> Option<Cause> {
     causes.get((number as usize).checked_sub(1)?).copied()
@@ -229,6 +256,12 @@ impl Error {
     pub(crate) fn of_tzif(status: u32, fault: &RawFault) -> Error {
         let cause = if status == NONE { numbered(&TZIF_CAUSES, fault.cause) } else { None };
         cause.map_or_else(|| Error::of_fault(status, fault), |cause| Error::NoTzif { cause })
+    }
+
+    /// The same of its string or its file for ever.
+    pub(crate) fn of_ever(status: u32, fault: &RawFault) -> Error {
+        let cause = if status == NONE { numbered(&EVER_CAUSES, fault.cause) } else { None };
+        cause.map_or_else(|| Error::of_fault(status, fault), |cause| Error::NotForEver { cause })
     }
 
     /// What a status other than DONE and the fault of its call stand for.
@@ -272,6 +305,7 @@ impl fmt::Display for Error {
             Error::NoSchedule { cause } => write!(out, "no schedule: {cause:?}"),
             Error::NoTail { cause } => write!(out, "no string carries the zone on: {cause:?}"),
             Error::NoTzif { cause } => write!(out, "no TZif file: {cause:?}"),
+            Error::NotForEver { cause } => write!(out, "nothing carries the zone on for ever: {cause:?}"),
             Error::OffsetRange => write!(out, "an offset of 26 hours or more"),
             Error::OutOfRange => write!(out, "out of range"),
             Error::NotRead => write!(out, "not a text that is read"),

@@ -34,7 +34,7 @@ mod whole;
 mod zone;
 
 pub use changes::{Change, Changes};
-pub use error::{Error, FileCause, JoinCause, LineCause, PlainCause, ScheduleCause, TailCause, TzifCause};
+pub use error::{Error, EverCause, FileCause, JoinCause, LineCause, PlainCause, ScheduleCause, TailCause, TzifCause};
 pub use instant::Instant;
 pub use named::{machine_source, NamedError};
 pub use source::{Names, Source};

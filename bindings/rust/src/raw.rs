@@ -137,6 +137,15 @@ extern "C" {
         fault: *mut RawFault,
     ) -> u32;
     pub fn sefunjaro_tzif_by(copy: *mut RawHandle, file: *mut u8, room: usize, whole: *mut usize, fault: *mut RawFault) -> u32;
+    pub fn sefunjaro_tail_for_ever_by(
+        copy: *mut RawHandle,
+        text: *mut u8,
+        room: usize,
+        whole: *mut usize,
+        is_posix: *mut bool,
+        fault: *mut RawFault,
+    ) -> u32;
+    pub fn sefunjaro_tzif_for_ever_by(copy: *mut RawHandle, file: *mut u8, room: usize, whole: *mut usize, fault: *mut RawFault) -> u32;
     pub fn sefunjaro_version(text: *mut u8, room: usize, whole: *mut usize, years: *mut RawYears);
 }
 

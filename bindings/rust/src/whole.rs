@@ -12,6 +12,13 @@ pub struct PosixTail {
     pub is_posix: bool,
 }
 
+impl PosixTail {
+    fn of(told: Vec<u8>, is_posix: bool) -> Result<PosixTail, Error> {
+        let text = String::from_utf8(told).map_err(|_| Error::Unexpected { status: 0, cause: 0 })?;
+        Ok(PosixTail { text, is_posix })
+    }
+}
+
 impl Zone {
     /// The POSIX TZ string that carries the zone on after its last change, as zic writes it at a file's end.
     ///
@@ -35,8 +42,34 @@ impl Zone {
                 raw::sefunjaro_tail_by(&mut self.handle().copy(), room.as_mut_ptr(), room.len(), whole, &mut is_posix, fault)
             }
         })?;
-        let text = String::from_utf8(told).map_err(|_| Error::Unexpected { status: 0, cause: 0 })?;
-        Ok(PosixTail { text, is_posix })
+        PosixTail::of(told, is_posix)
+    }
+
+    /// The string that carries the zone on in each year up to 9999, with times from -167 to 167 hours, as a file's end has it; `is_posix` is
+    /// whether it is one of [`posix_tail`](Zone::posix_tail)'s with such names.
+    ///
+    /// # Errors
+    ///
+    /// [`Error::NotForEver`], [`Error::NotKept`], [`Error::NoMemory`].
+    ///
+    /// ```
+    /// use sefunjaro::{Error, EverCause, Source};
+    ///
+    /// let source = Source::open(b"Zone A -3:00 - -03\nZone B 1:00 - B 2099\n")?;
+    /// assert_eq!(source.zone("A")?.tail_for_ever()?.text, "<-03>3");
+    /// assert_eq!(source.zone("B")?.tail_for_ever(), Err(Error::NotForEver { cause: EverCause::RulesEnd }));
+    /// # Ok::<(), sefunjaro::Error>(())
+    /// ```
+    pub fn tail_for_ever(&self) -> Result<PosixTail, Error> {
+        let mut is_posix = false;
+        let told = filled(64, Error::of_ever, |room, whole, fault| {
+            // SAFETY: the copy serves this call alone, the room is as long as is said, and nothing overlaps.
+            unsafe {
+                let copy = &mut self.handle().copy();
+                raw::sefunjaro_tail_for_ever_by(copy, room.as_mut_ptr(), room.len(), whole, &mut is_posix, fault)
+            }
+        })?;
+        PosixTail::of(told, is_posix)
     }
 
     /// The zone's TZif file (RFC 8536), with that string as its footer where there is one.
@@ -55,6 +88,24 @@ impl Zone {
         filled(4096, Error::of_tzif, |room, whole, fault| {
             // SAFETY: the copy serves this call alone, the room is as long as is said, and nothing overlaps.
             unsafe { raw::sefunjaro_tzif_by(&mut self.handle().copy(), room.as_mut_ptr(), room.len(), whole, fault) }
+        })
+    }
+
+    /// The zone's TZif file with the string of [`tail_for_ever`](Zone::tail_for_ever) as its footer, right in each year up to 9999.
+    ///
+    /// # Errors
+    ///
+    /// [`Error::NotForEver`], [`Error::NotKept`], [`Error::NoMemory`].
+    ///
+    /// ```
+    /// let zone = sefunjaro::Source::open(b"Zone A -3:00 - -03\n")?.zone("A")?;
+    /// assert!(zone.to_tzif_for_ever()?.ends_with(b"\n<-03>3\n"));
+    /// # Ok::<(), sefunjaro::Error>(())
+    /// ```
+    pub fn to_tzif_for_ever(&self) -> Result<Vec<u8>, Error> {
+        filled(4096, Error::of_ever, |room, whole, fault| {
+            // SAFETY: the copy serves this call alone, the room is as long as is said, and nothing overlaps.
+            unsafe { raw::sefunjaro_tzif_for_ever_by(&mut self.handle().copy(), room.as_mut_ptr(), room.len(), whole, fault) }
         })
     }
 }

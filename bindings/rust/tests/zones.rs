@@ -1,8 +1,8 @@
 //! Each call, each error, threads and memory, over a small source.
 
 use sefunjaro::{
-    Change, Choice, Clock, Error, FileCause, Gap, Instant, JoinCause, LineCause, LocalTime, PlainCause, ScheduleCause, Source, TailCause,
-    TzifCause, Zone,
+    Change, Choice, Clock, Error, EverCause, FileCause, Gap, Instant, JoinCause, LineCause, LocalTime, PlainCause, ScheduleCause, Source,
+    TailCause, TzifCause, Zone,
 };
 use std::time::{Duration, SystemTime, UNIX_EPOCH};
 use std::{fs, thread};
@@ -348,6 +348,33 @@ fn whole() {
     assert_eq!(source.zone("Long").unwrap().to_tzif(), Err(Error::NoTzif { cause: TzifCause::Names }));
     let other = Zone::from_posix("UTC0").unwrap();
     assert_eq!((other.posix_tail(), other.to_tzif()), (Err(Error::NotKept), Err(Error::NotKept)));
+    assert_eq!((other.tail_for_ever(), other.to_tzif_for_ever()), (Err(Error::NotKept), Err(Error::NotKept)));
+}
+
+/// The rules of Ireland, whose saving lies below 0, and rules that fire after midnight's 24:00.
+const FOR_EVER: &[u8] = b"Rule E 1981 max - Mar lastSun 1:00u 0 -\nRule E 1996 max - Oct lastSun 1:00u -1:00 -\nZone Ireland 1:00 E IST/GMT\n\
+Rule G 2013 max - Mar lastThu 26:00 1:00 D\nRule G 2013 max - Oct lastThu 26:00 0 S\nZone Late -3:00 G X%sT\n";
+
+#[test]
+fn for_ever() {
+    let source = Source::open(FOR_EVER).unwrap();
+    for (name, text, is_posix, begins) in [
+        ("Ireland", "IST-1GMT0,M10.5.0,M3.5.0/1", true, b"TZif2"),
+        ("Late", "XST3XDT,M3.5.4/26,M10.5.4/26", false, b"TZif3"),
+    ] {
+        let zone = source.zone(name).unwrap();
+        let tail = zone.tail_for_ever().unwrap();
+        assert_eq!((tail.text.as_str(), tail.is_posix), (text, is_posix));
+        let file = zone.to_tzif_for_ever().unwrap();
+        assert!(file.starts_with(begins) && file.ends_with(format!("\n{text}\n").as_bytes()), "{name}");
+    }
+    let text = format!("Zone Ends 1:00 - A 2099 Jun 1\nZone Wide 25:30 - X\nZone Name 1:00 - A<B\nZone Long 1:00 - {}\n", "A".repeat(256));
+    let source = Source::open(text.as_bytes()).unwrap();
+    for (name, cause) in [("Ends", EverCause::RulesEnd), ("Wide", EverCause::OffsetRange), ("Name", EverCause::Name)] {
+        let zone = source.zone(name).unwrap();
+        assert_eq!((zone.tail_for_ever(), zone.to_tzif_for_ever()), (Err(Error::NotForEver { cause }), Err(Error::NotForEver { cause })));
+    }
+    assert_eq!(source.zone("Long").unwrap().to_tzif_for_ever(), Err(Error::NotForEver { cause: EverCause::Names }));
 }
 
 #[test]

@@ -2,7 +2,7 @@
 use Rattle.sefunjaro.specs.declared.any_source.AnySourceFault.{AnySourceFault}
 use Rattle.sefunjaro.specs.declared.any_source.AnySourceFault.TheVariants as any_source
 use Rattle.sefunjaro.specs.declared.error.Error.{Error}
-use Rattle.sefunjaro.specs.declared.error.Error.TheVariants.{TooLong, Source, Line, PlainTooLong, Plain, Zone, Database, List, Alarm, Tail, Tzif, Tree, File, FileZone, Posix, NoMemory}
+use Rattle.sefunjaro.specs.declared.error.Error.TheVariants.{TooLong, Source, Line, PlainTooLong, Plain, Zone, Database, List, Alarm, Tail, EverTail, Tzif, Tree, File, FileZone, Posix, NoMemory}
 use Rattle.sefunjaro.specs.declared.file.FileFault.{FileFault}
 use Rattle.sefunjaro.specs.declared.file.FileFault.TheVariants as opened_file
 use Rattle.sefunjaro.specs.declared.file.PosixFault.{PosixFault}
@@ -23,6 +23,8 @@ use Rattle.zone_source.specs.declared.error.SourceError.{SourceError}
 use Rattle.zone_source.specs.declared.error.SourceError.TheVariants as source
 use Rattle.zone_tail_core.specs.declared.outcome.TailFault.{TailFault}
 use Rattle.zone_tail_core.specs.declared.outcome.TailFault.TheVariants as tail
+use Rattle.zone_tail_ever.specs.declared.outcome.EverTailFault.{EverTailFault}
+use Rattle.zone_tail_ever.specs.declared.outcome.EverTailFault.TheVariants as ever_tail
 use Rattle.zone_tree.specs.declared.refusal.TreeFault.{TreeFault}
 use Rattle.zone_tree.specs.declared.refusal.TreeFault.TheVariants as tree
 use Rattle.zone_tzif_core.specs.declared.values.ReadFault.{ReadFault}
@@ -65,6 +67,10 @@ of_alarm fault = Alarm fault
 abbrev pub of_tail : TailFault → Error
 of_tail tail.NoMemory = NoMemory
 of_tail fault = Tail fault
+
+abbrev pub of_ever_tail : EverTailFault → Error
+of_ever_tail ever_tail.NoMemory = NoMemory
+of_ever_tail fault = EverTail fault
 
 abbrev pub of_made_file : made.FileFault → Error
 of_made_file made_file.NoMemory = NoMemory

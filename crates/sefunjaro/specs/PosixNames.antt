@@ -3,6 +3,7 @@ use Rattle.std.specs.Prelude.{ℕ, Bool, false, true, ◌&&◌, ◌||◌, ◌==�
 use Rattle.std.specs.Char.{is_ascii_alphabetic, is_ascii_digit}
 use Rattle.std.specs.List.{list_all}
 use Rattle.tz_posix_core.specs.Marks.{plus_sign, minus_sign}
+use Rattle.tz_posix_core.specs.Spells.{Spells}
 use Rattle.tz_posix_core.specs.Values.{DstPart, TzValue, short, expanded}
 use Rattle.tz_posix_core.specs.declared.time.Time.{Time}
 
@@ -22,3 +23,8 @@ is_saving_named (Some saving) = is_posix_name saving.name
 abbrev pub has_posix_names : TzValue → Bool
 has_posix_names (short name) = false
 has_posix_names (expanded standard saving) = is_posix_name standard.name && is_saving_named saving
+
+-- a text is one of the grammar of POSIX
+pub record IsSpelled (text : List ℕ) : Type 0 where
+  pub value : TzValue
+  pub spells : Spells text value

@@ -14,6 +14,7 @@ use zone_line::NotBuilt;
 use zone_list::ListFault;
 use zone_plain_lines::PlainCause;
 use zone_tail_core::TailFault;
+use zone_tail_ever::EverTailFault;
 use zone_tree::TreeFault;
 use zone_tzif_core::ReadFault;
 use zone_tzif_set::FileFault;
@@ -46,6 +47,8 @@ pub enum Error {
     Alarm(AlarmFault),
     /// A zone has no POSIX TZ string.
     Tail(TailFault),
+    /// A zone has no string that carries it on for ever.
+    EverTail(EverTailFault),
     /// A zone has no TZif file.
     Tzif(FileFault),
     /// A name of a source has no entry in an archive: the first such, with its name and why.
@@ -221,6 +224,23 @@ impl From<TailFault> for Error {
             TailFault::OffsetRange => Error::Tail(TailFault::OffsetRange),
             TailFault::Name => Error::Tail(TailFault::Name),
             TailFault::NoMemory => Error::NoMemory,
+        }
+    }
+}
+
+impl From<EverTailFault> for Error {
+    ghost use Rattle.std.specs.Prelude.{◌≡◌};
+    ghost use Rattle.sefunjaro.specs.Errors.{of_ever_tail};
+
+    ghost from_gives = { λ fault error. error ≡ of_ever_tail fault };
+
+    fn from(fault: EverTailFault) -> Error {
+        match fault {
+            EverTailFault::Shape => Error::EverTail(EverTailFault::Shape),
+            EverTailFault::OffsetRange => Error::EverTail(EverTailFault::OffsetRange),
+            EverTailFault::Name => Error::EverTail(EverTailFault::Name),
+            EverTailFault::NoRule => Error::EverTail(EverTailFault::NoRule),
+            EverTailFault::NoMemory => Error::NoMemory,
         }
     }
 }

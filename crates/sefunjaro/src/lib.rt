@@ -38,6 +38,7 @@ pub use opening::{open_database, open_source, open_zone};
 pub use posix_names::has_posix_names;
 pub use room::fill;
 pub use source::{OpenFault, OpenSource};
+pub use tz_ever::EverSet;
 pub use tz_lookup::{
     AllInstants, CompactSet, CompactTz, Database, DatabaseFault, Fixed, FixedTimespanSet,
     InstantsLocal, InstantsOf, Offset, OffsetDateTimeExt, OffsetResult, PrimitiveDateTimeExt,
@@ -52,5 +53,6 @@ pub use zone_list::{ListFault, Listing, lines_of, list_lines};
 pub use zone_source::SourceError;
 pub use zone_table::Table;
 pub use zone_tail_core::{Tail, TailFault, tail};
+pub use zone_tail_ever::{EverTail, EverTailFault, tail_for_ever};
 pub use zone_tree::{TreeFault, Why};
 pub use zone_tzif_core::{ReadFault, TzifZone, ZoneFile, read_any, read_file};

@@ -1,10 +1,10 @@
 //! Whether POSIX has a place for the names in a string.
-ghost use Rattle.std.specs.Prelude.{◌≡◌, option_map};
+ghost use Rattle.std.specs.Prelude.{◌≡◌, IsTrue, option_map};
 ghost use Rattle.std.specs.List.{list_all};
 ghost use Rattle.tz_posix_core.specs.Shown.{dst_shown, tz_shown};
 ghost use Rattle.tz_posix_core.specs.Spells.{Spells};
 ghost use Rattle.tz_posix_core.specs.Values.{TzValue};
-ghost use Rattle.sefunjaro.specs.PosixNames.{has_posix_names, is_posix_byte, is_posix_name, is_saving_named};
+ghost use Rattle.sefunjaro.specs.PosixNames.{has_posix_names, is_posix_byte, is_posix_name, is_saving_named, IsSpelled};
 
 use tz_posix_core::laws::one_reading;
 use tz_posix_core::{Dst, Tz, entry};
@@ -13,9 +13,11 @@ use tz_posix_core::{Dst, Tz, entry};
 const FEWEST: usize = 3;
 
 /// Whether each name in a POSIX TZ string is one that POSIX has a place for: three bytes or more, ASCII letters, digits, `+` and `-`.
-/// The grammar here takes others too, as `<CD>-2` and `<A_B>-5`, which the GNU C library reads as UTC.
+/// The grammar here takes others too, as `<CD>-2` and `<A_B>-5`, which the GNU C library reads as UTC. A text that isn't read, as a footer
+/// with a time past 24:59:59 isn't, has none.
 pub fn has_posix_names(text: &str) -> bool
-    ensures { (value : TzValue) → Spells text.now value → result ≡ has_posix_names value }
+    ensures names { (value : TzValue) → Spells text.now value → result ≡ has_posix_names value }
+    ensures read { IsTrue result → IsSpelled text.now }
 {
     one_reading();
     match entry(text) {

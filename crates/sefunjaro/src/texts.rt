@@ -4,6 +4,7 @@ use crate::error::Error;
 use std::{error, fmt};
 use tz_lookup::{DatabaseFault, SpanFault, TzFault, ZoneFault};
 use zone_tail_core::TailFault;
+use zone_tail_ever::EverTailFault;
 
 const FAR_OFFSET: &str = "an offset of the zone is 26 hours or more in size";
 
@@ -39,6 +40,7 @@ fn text_of(error: &Error) -> &'static str {
         Error::List(_) => "a change of the window has no date in the years -9999 to 9999",
         Error::Alarm(_) => "the last day of the alarm is past 9999-12-31",
         Error::Tail(fault) => tail_text(*fault),
+        Error::EverTail(fault) => ever_tail_text(*fault),
         Error::File(_) => "the bytes are no compiled zone file",
         Error::Posix => "the text is no POSIX TZ string that is read",
         _ => NO_MEMORY,
@@ -84,6 +86,17 @@ fn tail_text(fault: TailFault) -> &'static str {
         TailFault::OffsetRange => "an offset of the zone is past what a POSIX TZ string can say",
         TailFault::Name => "an abbreviation of the zone is none of a POSIX TZ string",
         TailFault::NoMemory => NO_MEMORY,
+    }
+}
+
+/// Why no string carries a zone on for ever.
+fn ever_tail_text(fault: EverTailFault) -> &'static str {
+    match fault {
+        EverTailFault::Shape => "the years of the zone are those of no footer",
+        EverTailFault::OffsetRange => "an offset of the zone is past what a footer can say",
+        EverTailFault::Name => "an abbreviation of the zone is none of a footer",
+        EverTailFault::NoRule => "no footer says what the rules of the zone say for ever",
+        EverTailFault::NoMemory => NO_MEMORY,
     }
 }
 

@@ -205,8 +205,8 @@ fn source_readings(
 
 /// A zone that owns all that it is asked for.
 ///
-/// Where the lines of its name go on for ever it does, in each year from -9999 to 9999; else it says what they say up to the end of 2099,
-/// and stays as it is then: [`last_year`](OpenZone::last_year) tells.
+/// Where the lines of its name go on for ever it does, in each year from -9999 to 9999; else it says what they say with their rules up to
+/// the end of 2099: [`last_year`](OpenZone::last_year) tells.
 #[derive(Debug, Drop)]
 pub struct OpenZone {
     set: CompactSet,
@@ -261,6 +261,16 @@ impl OpenZone {
         match &self.for_ever {
             Some(_) => 9999,
             None => i32::from(EARLIEST_YEAR + MOST_YEARS - 1),
+        }
+    }
+
+    /// What goes on for ever, where it does: [`tail_for_ever`](zone_tail_ever::tail_for_ever) gives its string.
+    pub fn for_ever(&self) -> Option<&EverSet>
+        ensures { option_map (λ ever. ever.now) result ≡ ever_in self.now }
+    {
+        match &self.for_ever {
+            Some(ever) => Some(ever),
+            None => None,
         }
     }
 

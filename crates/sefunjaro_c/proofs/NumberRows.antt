@@ -7,11 +7,13 @@ use Rattle.zone_plain_lines.specs.declared.cause.PlainCause.TheVariants as cause
 use Rattle.zone_source.specs.declared.error.BuildKind.TheVariants as join
 use Rattle.zone_spans.specs.declared.fault.SpanFault.TheVariants as span
 use Rattle.zone_tail_core.specs.declared.outcome.TailFault.TheVariants as tail
+use Rattle.zone_tail_ever.specs.declared.outcome.EverTailFault.TheVariants as ever
 use Rattle.zone_tzif_set.specs.declared.file.FileFault.TheVariants as written
 use Rattle.sefunjaro_c.specs.AnySources.{line_told, long_form}
 use Rattle.sefunjaro_c.specs.Faults.{join_number, kind_number, schedule_number}
 use Rattle.sefunjaro_c.specs.Files.{file_told}
-use Rattle.sefunjaro_c.specs.Numbers.{statuses, line_causes, join_causes, schedule_causes, plain_causes, file_causes, tail_causes, tzif_causes}
+use Rattle.sefunjaro_c.specs.ForEver.{ever_file_told, ever_tail_told, rules_end}
+use Rattle.sefunjaro_c.specs.Numbers.{statuses, line_causes, join_causes, schedule_causes, plain_causes, ever_causes, file_causes, tail_causes, tzif_causes}
 use Rattle.sefunjaro_c.specs.Whole.{tail_told, tzif_told}
 
 status_numbers : (codes "DONE", status.done) ∷ (codes "NOT_OPEN", status.not_open) ∷ (codes "NO_MEMORY", status.out_of_memory) ∷ (codes "TOO_LONG", status.too_long)
@@ -66,3 +68,10 @@ tzif_numbers : (codes "TIMES", (tzif_told written.Times).cause) ∷ (codes "TYPE
     ∷ (codes "NAMES", (tzif_told written.Names).cause) ∷ []
     ≡ tzif_causes
 tzif_numbers = refl
+
+ever_numbers : (codes "SHAPE", (ever_tail_told ever.Shape).cause) ∷ (codes "OFFSET_RANGE", (ever_tail_told ever.OffsetRange).cause)
+    ∷ (codes "NAME", (ever_tail_told ever.Name).cause) ∷ (codes "NO_RULE", (ever_tail_told ever.NoRule).cause)
+    ∷ (codes "TIMES", (ever_file_told written.Times).cause) ∷ (codes "TYPES", (ever_file_told written.Types).cause)
+    ∷ (codes "NAMES", (ever_file_told written.Names).cause) ∷ (codes "RULES_END", rules_end.cause) ∷ []
+    ≡ ever_causes
+ever_numbers = refl

@@ -44,3 +44,9 @@ tail_causes = (codes "SHAPE", 1) ∷ (codes "OFFSET_RANGE", 2) ∷ (codes "NAME"
 -- enum sefunjaro_tzif_cause, after TZIF_
 abbrev pub tzif_causes : List (List ℕ × ℕ)
 tzif_causes = (codes "TIMES", 1) ∷ (codes "TYPES", 2) ∷ (codes "NAMES", 3) ∷ []
+
+-- enum sefunjaro_ever_cause, after EVER_
+abbrev pub ever_causes : List (List ℕ × ℕ)
+ever_causes =
+    (codes "SHAPE", 1) ∷ (codes "OFFSET_RANGE", 2) ∷ (codes "NAME", 3) ∷ (codes "NO_RULE", 4) ∷ (codes "TIMES", 5) ∷ (codes "TYPES", 6) ∷ (codes "NAMES", 7)
+    ∷ (codes "RULES_END", 8) ∷ []

@@ -7,6 +7,7 @@ mod any_source;
 mod changes;
 mod fault;
 mod files;
+mod for_ever;
 mod sources;
 mod version;
 mod whole;

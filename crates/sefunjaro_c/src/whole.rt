@@ -158,7 +158,7 @@ fn file_fault(fault: FileFault) -> Fault
 }
 
 /// There is none, for that cause.
-fn none_for(cause: u32) -> Fault
+pub(crate) fn none_for(cause: u32) -> Fault
     ensures { result ≡ none_for cause }
 {
     Fault {

@@ -48,6 +48,7 @@ cause_from source name table (Err (error.Database fault)) short valid h cause = 
 cause_from source name table (Err (error.List fault)) short valid h cause = absurd cause
 cause_from source name table (Err (error.Alarm fault)) short valid h cause = absurd cause
 cause_from source name table (Err (error.Tail fault)) short valid h cause = absurd cause
+cause_from source name table (Err (error.EverTail fault)) short valid h cause = absurd cause
 cause_from source name table (Err (error.Tzif fault)) short valid h cause = absurd cause
 cause_from source name table (Err (error.Tree fault)) short valid h cause = absurd cause
 cause_from source name table (Err (error.File fault)) short valid h cause = absurd cause

@@ -1,0 +1,110 @@
+//! A zone for ever as a whole: the string that carries it on.
+ghost use Rattle.std.specs.Prelude.{◌≡◌, IfSome, Some};
+ghost use Rattle.sefunjaro.specs.Zones.{ever_in};
+ghost use Rattle.sefunjaro_c.specs.Faults.{plain};
+ghost use Rattle.sefunjaro_c.specs.ForEver.{ever_tail_told, rules_end, IsEverTailTold};
+ghost use Rattle.sefunjaro_handles.specs.Held.{OfKept, OfZone, OnZone};
+ghost use Rattle.sefunjaro_handles.specs.Statuses.{not_kept, not_open, IfRefused};
+
+use crate::fault::{DONE, Fault, NO_MEMORY, NOT_KEPT, NOT_OPEN, plain_fault};
+use crate::whole::none_for;
+use sefunjaro::{AnyZone, EverSet, EverTailFault, OpenZone, fill, has_posix_names, tail_for_ever};
+use sefunjaro_handles::{Opened, View};
+use std::alloc::Global;
+
+/// The string that carries a zone on for ever. It goes into the room, as far as it fits, and its whole length is told, with whether it
+/// is one of POSIX.
+#[unsafe(no_mangle)]
+pub extern "C" fn sefunjaro_tail_for_ever_by(
+    alloc: Global,
+    zone: &mut View,
+    text: &mut [u8],
+    whole: &mut usize,
+    is_posix: &mut bool,
+    fault: &mut Fault,
+) -> u32
+    ensures same { zone.new.part.opened ≡ zone.old.part.opened }
+    ensures loan { IfSome zone.old.part.opened (λ _. zone.new.part.loan ≡ zone.old.part.loan) }
+    ensures status { result ≡ fault.new.status }
+    ensures answer { OnZone zone.old.part.opened result ((text.new ≡ text.old) × (fault.new ≡ plain not_open))
+        (λ held. OfKept held result ((text.new ≡ text.old) × (fault.new ≡ plain not_kept)) (λ zone. IsEverTailTold (ever_in zone) text.old text.new whole.new is_posix.new fault.new)) }
+    ensures kept { IfRefused result ((text.new ≡ text.old) × ((whole.new ≡ whole.old) × (is_posix.new ≡ is_posix.old))) }
+{
+    let Some(reading) = zone.take() else {
+        *fault = plain_fault(NOT_OPEN);
+        return NOT_OPEN;
+    };
+    let told = ever_tail_in(alloc, reading.get(), text, whole, is_posix);
+    zone.put(reading);
+    *fault = told;
+    told.status
+}
+
+fn ever_tail_in(
+    alloc: Global,
+    opened: &Opened,
+    text: &mut [u8],
+    whole: &mut usize,
+    is_posix: &mut bool,
+) -> Fault
+    ensures answer { OfZone opened.now result.status ((text.new ≡ text.old) × (result ≡ plain not_open))
+        (λ held. OfKept held result.status ((text.new ≡ text.old) × (result ≡ plain not_kept)) (λ zone. IsEverTailTold (ever_in zone) text.old text.new whole.new is_posix.new result)) }
+    ensures kept { IfRefused result.status ((text.new ≡ text.old) × ((whole.new ≡ whole.old) × (is_posix.new ≡ is_posix.old))) }
+{
+    let Opened::Zone(zone) = opened else {
+        return plain_fault(NOT_OPEN);
+    };
+    match &**zone {
+        AnyZone::Source(zone) => ever_tail_of_zone(alloc, zone, text, whole, is_posix),
+        AnyZone::File(_) => plain_fault(NOT_KEPT),
+    }
+}
+
+fn ever_tail_of_zone(
+    alloc: Global,
+    zone: &OpenZone,
+    text: &mut [u8],
+    whole: &mut usize,
+    is_posix: &mut bool,
+) -> Fault
+    ensures answer { IsEverTailTold (ever_in zone.now) text.old text.new whole.new is_posix.new result }
+    ensures kept { IfRefused result.status ((text.new ≡ text.old) × ((whole.new ≡ whole.old) × (is_posix.new ≡ is_posix.old))) }
+{
+    match zone.for_ever() {
+        Some(ever) => ever_tail_of(alloc, ever, text, whole, is_posix),
+        None => none_for(8),
+    }
+}
+
+fn ever_tail_of(
+    alloc: Global,
+    ever: &EverSet,
+    text: &mut [u8],
+    whole: &mut usize,
+    is_posix: &mut bool,
+) -> Fault
+    ensures answer { IsEverTailTold (Some ever.now) text.old text.new whole.new is_posix.new result }
+    ensures kept { IfRefused result.status ((text.new ≡ text.old) × ((whole.new ≡ whole.old) × (is_posix.new ≡ is_posix.old))) }
+{
+    match tail_for_ever(alloc, ever) {
+        Ok(tail) => {
+            *whole = fill(tail.text.as_bytes(), text);
+            *is_posix = has_posix_names(tail.text.as_str());
+            plain_fault(DONE)
+        }
+        Err(fault) => ever_tail_fault(fault),
+    }
+}
+
+/// Why no string carries a zone on for ever.
+fn ever_tail_fault(fault: EverTailFault) -> Fault
+    ensures { result ≡ ever_tail_told fault }
+{
+    match fault {
+        EverTailFault::Shape => none_for(1),
+        EverTailFault::OffsetRange => none_for(2),
+        EverTailFault::Name => none_for(3),
+        EverTailFault::NoRule => none_for(4),
+        EverTailFault::NoMemory => plain_fault(NO_MEMORY),
+    }
+}
