@@ -163,7 +163,14 @@ fn write_kinds(
     put_names(&mut chars, names.as_slice())?;
     match fault(zone, kinds, names.as_slice(), chars.as_slice()) {
         Some(cause) => Err(cause),
-        None => Ok(written(alloc, version, zone, kinds, names.as_slice(), chars.as_slice())?),
+        None => Ok(written(
+            alloc,
+            version,
+            zone,
+            kinds,
+            names.as_slice(),
+            chars.as_slice(),
+        )?),
     }
 }
 
