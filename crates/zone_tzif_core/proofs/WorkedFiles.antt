@@ -6,8 +6,9 @@ use Rattle.std.specs.Str.{is_utf8, chars}
 use Rattle.zone_tzif_core.specs.Format.{header_of, begins_well, block_len, suits}
 use Rattle.zone_tzif_core.specs.Numbers.{count_of, four_of, eight_of, count_bytes, four_bytes, eight_bytes}
 use Rattle.zone_tzif_core.specs.Reading.{cut, header_at, text_in, between, footer_in, block_in, second_in, parts_in, before_zero, name_in, kind_in, kinds_in, shifts_in, joined_in, zone_in}
-use Rattle.zone_tzif_core.specs.Tzif.{kinds_of, names_of, name_bytes, name_place, kind_number, header_bytes, record_bytes, block_bytes, tzif}
+use Rattle.zone_tzif_core.specs.Tzif.{kinds_of, names_of, name_bytes, name_place, kind_number, header_bytes, record_bytes, block_bytes, tzif, tzif_by}
 use Rattle.zone_tzif_core.specs.Zones.{KindValue, ZoneValue}
+use Rattle.zone_tzif_core.specs.declared.values.Version.TheVariants.{Three}
 
 abbrev pub a_kind : ℤ → Bool → List ℕ → KindValue
 a_kind utoff is_dst name = record { utoff = utoff; is_dst = is_dst; name = name }
@@ -45,7 +46,7 @@ changing_file = front ++ head (codes "TZif2") (replicate 15 0 ++ 4 ∷ 0 ∷ 0 �
     ++ codes "LMT" ++ 0 ∷ codes "EST" ++ 0 ∷ codes "EDT" ++ 0 ∷ codes "ST" ++ 0 ∷ 10 ∷ 10 ∷ []
 
 written : map tzif (fixed ∷ changing ∷ []) ≡ fixed_file ∷ changing_file ∷ []
-unfolding tzif header_bytes block_bytes kinds_of names_of name_bytes record_bytes kind_number name_place count_bytes four_bytes eight_bytes
+unfolding tzif_by header_bytes block_bytes kinds_of names_of name_bytes record_bytes kind_number name_place count_bytes four_bytes eight_bytes
 written = refl
 
 -- a file with another byte at a place
@@ -55,6 +56,11 @@ patched file place byte = take place file ++ byte ∷ drop (place + 1) file
 -- both version bytes
 abbrev pub of_version : ℕ → List ℕ
 of_version version = patched (patched fixed_file 4 version) 55 version
+
+-- the other version differs in both
+third : tzif_by Three fixed ≡ of_version 51
+unfolding tzif_by header_bytes block_bytes kinds_of names_of name_bytes record_bytes kind_number name_place count_bytes four_bytes eight_bytes
+third = refl
 
 read_back : map (zone_in 52) (fixed_file ∷ changing_file ∷ of_version 51 ∷ of_version 52 ∷ patched fixed_file 5 1 ∷ patched fixed_file 44 9 ∷ [])
     ≡ Some fixed ∷ Some changing ∷ Some fixed ∷ Some fixed ∷ Some fixed ∷ Some fixed ∷ []

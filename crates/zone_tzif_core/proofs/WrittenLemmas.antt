@@ -20,8 +20,10 @@ use Rattle.zone_tzif_core.specs.Zones.{KindValue, ZoneValue, greatest_utoff, is_
 use Rattle.zone_tzif_core.specs.Numbers.{count_of, four_of, eight_of, count_bytes, four_bytes, eight_bytes}
 use Rattle.zone_tzif_core.specs.Format.{header_of, begins_well, block_len, suits, is_one_line}
 use Rattle.zone_tzif_core.specs.Denotes.{IsHeader, IsKind, AreKinds, no_kind, a_kind, AreShifts, no_shift, a_shift, IsBlock, Denotes}
-use Rattle.zone_tzif_core.specs.Tzif.{is_same, added, each_once, kinds_of, names_of, name_bytes, name_place, kind_number, header_bytes, record_bytes, block_bytes, tzif, are_times, are_names, write_fault, IsValue, IsTzif}
+use Rattle.zone_tzif_core.specs.Tzif.{is_same, added, each_once, kinds_of, names_of, name_bytes, name_place, kind_number, version_byte, header_bytes, record_bytes, block_bytes, tzif_by, are_times, are_names, write_fault, IsValue, IsTzif, IsTzifBy}
 use Rattle.zone_tzif_core.specs.declared.header.Header.{Header}
+use Rattle.zone_tzif_core.specs.declared.values.Version.{Version}
+use Rattle.zone_tzif_core.specs.declared.values.Version.TheVariants.{Two, Three}
 use Rattle.zone_tzif_core.specs.declared.values.WriteFault.{WriteFault}
 
 small_four : (x : ℤ) → FitsSigned w32 x → of_z w32 x < 2 ^ 32
@@ -34,23 +36,23 @@ counted : (n : ℕ) (rest : List ℕ) → n < 2 ^ 32 → count_of (count_bytes n
 unfolding count_of count_bytes
 counted n rest few = from_be_bytes-to_be_bytes_4 n few
 
-abbrev header_made : ℕ → ℕ → ℕ → ℕ → ℕ → ℕ → Header
-header_made a b l t k c = record { version = 50; isut = a; isstd = b; leap = l; time = t; kind = k; char = c }
+abbrev header_made : Version → ℕ → ℕ → ℕ → ℕ → ℕ → ℕ → Header
+header_made v a b l t k c = record { version = version_byte v; isut = a; isstd = b; leap = l; time = t; kind = k; char = c }
 
-header_says : (t k c : ℕ) → t < 2 ^ 32 → k < 2 ^ 32 → c < 2 ^ 32 → header_of (header_bytes t k c) ≡ header_made 0 0 0 t k c
+header_says : (v : Version) (t k c : ℕ) → t < 2 ^ 32 → k < 2 ^ 32 → c < 2 ^ 32 → header_of (header_bytes v t k c) ≡ header_made v 0 0 0 t k c
 unfolding header_of header_bytes count_bytes count_of
-header_says t k c few_times few_kinds few_chars =
+header_says v t k c few_times few_kinds few_chars =
     let times = from_be_bytes-to_be_bytes_4 t few_times in
     let kinds = from_be_bytes-to_be_bytes_4 k few_kinds in
     let chars = from_be_bytes-to_be_bytes_4 c few_chars in
-    ap (λ x. header_made 0 0 0 x (count_of (count_bytes k)) (count_of (count_bytes c))) times ∙ ap (λ x. header_made 0 0 0 t x (count_of (count_bytes c))) kinds ∙ ap (λ x. header_made 0 0 0 t k x) chars
+    ap (λ x. header_made v 0 0 0 x (count_of (count_bytes k)) (count_of (count_bytes c))) times ∙ ap (λ x. header_made v 0 0 0 t x (count_of (count_bytes c))) kinds ∙ ap (λ x. header_made v 0 0 0 t k x) chars
 
-header_is : (t k c : ℕ) → t < 2 ^ 32 → k < 2 ^ 32 → c < 2 ^ 32 → IsHeader (header_bytes t k c) (header_made 0 0 0 t k c)
+header_is : (v : Version) (t k c : ℕ) → t < 2 ^ 32 → k < 2 ^ 32 → c < 2 ^ 32 → IsHeader (header_bytes v t k c) (header_made v 0 0 0 t k c)
 unfolding header_bytes count_bytes begins_well
-header_is t k c few_times few_kinds few_chars = record {
+header_is v t k c few_times few_kinds few_chars = record {
   long = refl;
   begins = refl;
-  read = header_says t k c few_times few_kinds few_chars;
+  read = header_says v t k c few_times few_kinds few_chars;
 }
 
 -- what is among the items stays among them
@@ -294,16 +296,23 @@ texts_are zone is = kept_all (λ kind. IsUtf8 kind.name) is_same [] (zone.first 
         let inside : k < length zone.rest = omega (arith, long, within) in
         subst (λ kind. IsUtf8 kind.name) (sym (get_or-map (λ shift. shift.1) zone.rest k (pos 0, d) d inside)) (is.texts k (pos 0, d) inside)
 
-suited : (t k c : ℕ) → 1 ≤ k → 1 ≤ c → suits 52 50 (header_made 0 0 0 t k c) ≡ true
+suited : (v : Version) (t k c : ℕ) → 1 ≤ k → 1 ≤ c → suits 52 (version_byte v) (header_made v 0 0 0 t k c) ≡ true
 unfolding suits
-suited t k c some_kind some_char =
-    let kinds : nat_le 1 k ≡ true = grind (arith, nat_tests) in
-    let chars : nat_le 1 c ≡ true = grind (arith, nat_tests) in
-    rw (kinds, chars) refl
+suited v t k c some_kind some_char = by_version v
+  where
+    kinds : nat_le 1 k ≡ true
+    kinds = grind (arith, nat_tests)
 
-skipped_length : length {A = ℕ} (replicate 7 0) ≡ block_len (header_made 0 0 0 0 1 1)
+    chars : nat_le 1 c ≡ true
+    chars = grind (arith, nat_tests)
+
+    by_version : (v : Version) → suits 52 (version_byte v) (header_made v 0 0 0 t k c) ≡ true
+    by_version Two = rw (kinds, chars) refl
+    by_version Three = rw (kinds, chars) refl
+
+skipped_length : (v : Version) → length {A = ℕ} (replicate 7 0) ≡ block_len (header_made v 0 0 0 0 1 1)
 unfolding block_len
-skipped_length = refl
+skipped_length v = refl
 
 some_bytes : (names : List (List ℕ)) (name : List ℕ) → list_any (bytes_eq name) names ≡ true → 1 ≤ length (name_bytes names)
 unfolding name_bytes
@@ -311,9 +320,9 @@ some_bytes names name there =
     let place = placed names name there in
     omega (arith, ap length place.whole, length-append place.before (name ++ 0 ∷ place.after), length-append name (0 ∷ place.after))
 
-written_block : (zone : ZoneValue) → IsValue zone → (c : Checks zone) → (says : Header) → says ≡ header_made 0 0 0 (length zone.rest) (length (kinds_of zone)) (length (name_bytes (names_of (kinds_of zone)))) → IsBlock 8 eight_of says (block_bytes (kinds_of zone) zone.rest) (kinds_of zone) zone.rest
+written_block : (v : Version) (zone : ZoneValue) → IsValue zone → (c : Checks zone) → (says : Header) → says ≡ header_made v 0 0 0 (length zone.rest) (length (kinds_of zone)) (length (name_bytes (names_of (kinds_of zone)))) → IsBlock 8 eight_of says (block_bytes (kinds_of zone) zone.rest) (kinds_of zone) zone.rest
 unfolding block_bytes
-written_block zone is c says e =
+written_block v zone is c says e =
     let kinds = kinds_of zone in
     let names = names_of kinds in
     record {
@@ -334,9 +343,9 @@ written_block zone is c says e =
     }
 
 -- what is written denotes its value
-pub written_denotes : (bytes : List ℕ) (zone : ZoneValue) → IsTzif bytes zone → Denotes bytes zone
-unfolding tzif
-written_denotes bytes zone is =
+pub each_denotes : (v : Version) (bytes : List ℕ) (zone : ZoneValue) → IsTzifBy v bytes zone → Denotes bytes zone
+unfolding tzif_by
+each_denotes v bytes zone is =
     let c = checks zone is.writable in
     let kinds = kinds_of zone in
     let names = names_of kinds in
@@ -347,27 +356,27 @@ written_denotes bytes zone is =
     let few : length kinds < 2 ^ 32 = omega (arith, c.few_kinds) in
     let fewer : length (name_bytes names) < 2 ^ 32 = omega (arith, c.few_bytes) in
     record {
-      head = header_bytes 0 1 1;
+      head = header_bytes v 0 1 1;
       skipped = replicate 7 0;
-      second_head = header_bytes (length zone.rest) (length kinds) (length (name_bytes names));
+      second_head = header_bytes v (length zone.rest) (length kinds) (length (name_bytes names));
       block = block_bytes kinds zone.rest;
-      first_says = header_made 0 0 0 0 1 1;
-      says = header_made 0 0 0 (length zone.rest) (length kinds) (length (name_bytes names));
+      first_says = header_made v 0 0 0 0 1 1;
+      says = header_made v 0 0 0 (length zone.rest) (length kinds) (length (name_bytes names));
       kinds = kinds;
       whole = is.written;
-      first_header = header_is 0 1 1 (omega arith) (omega arith) (omega arith);
-      first_length = skipped_length;
-      second_header = header_is (length zone.rest) (length kinds) (length (name_bytes names)) c.few_times few fewer;
-      suited = suited_again (length zone.rest) (length kinds) (length (name_bytes names)) (omega (arith, some)) chars;
-      block_is = written_block zone is.value c _ refl;
+      first_header = header_is v 0 1 1 (omega arith) (omega arith) (omega arith);
+      first_length = skipped_length v;
+      second_header = header_is v (length zone.rest) (length kinds) (length (name_bytes names)) c.few_times few fewer;
+      suited = suited v (length zone.rest) (length kinds) (length (name_bytes names)) (omega (arith, some)) chars;
+      block_is = written_block v zone is.value c _ refl;
       rising = c.rising;
       first_kind = first;
       one_line = c.line;
       text = is.value.footer;
     }
-  where
-    suited_again : (t k s : ℕ) → 1 ≤ k → 1 ≤ s → suits 52 (header_made 0 0 0 0 1 1).version (header_made 0 0 0 t k s) ≡ true
-    suited_again t k s some_kind some_char = suited t k s some_kind some_char
+
+pub written_denotes : (bytes : List ℕ) (zone : ZoneValue) → IsTzif bytes zone → Denotes bytes zone
+written_denotes = each_denotes Two
 
 -- a name's place is a byte
 pub place_small : (names : List (List ℕ)) (name : List ℕ) → list_any (bytes_eq name) names ≡ true → length (name_bytes names) ≤ 256 → name_place names name < 256

@@ -7,6 +7,8 @@ use Rattle.std.specs.Ordering.{int_eq}
 use Rattle.zone_tzif_core.specs.Zones.{KindValue, ZoneValue, is_small, rises}
 use Rattle.zone_tzif_core.specs.Numbers.{count_bytes, four_bytes, eight_bytes}
 use Rattle.zone_tzif_core.specs.Format.{is_one_line}
+use Rattle.zone_tzif_core.specs.declared.values.Version.{Version}
+use Rattle.zone_tzif_core.specs.declared.values.Version.TheVariants.{Two, Three}
 use Rattle.zone_tzif_core.specs.declared.values.WriteFault.{WriteFault}
 use Rattle.zone_tzif_core.specs.declared.values.WriteFault.TheVariants.{Times, Types, Names, Offset, Footer, NoMemory}
 
@@ -44,9 +46,14 @@ name_place (other ∷ names) name = if bytes_eq name other then 0 else length ot
 unfoldable pub kind_number : List KindValue → KindValue → ℕ
 kind_number kinds kind = position_or_len (is_same kind) kinds
 
-unfoldable pub header_bytes : ℕ → ℕ → ℕ → List ℕ
-header_bytes times kinds chars =
-    84 ∷ 90 ∷ 105 ∷ 102 ∷ 50 ∷ replicate 15 0 ++ count_bytes 0 ++ count_bytes 0 ++ count_bytes 0 ++ count_bytes times ++ count_bytes kinds ++ count_bytes chars
+-- `2` or `3`
+abbrev pub version_byte : Version → ℕ
+version_byte Two = 50
+version_byte Three = 51
+
+unfoldable pub header_bytes : Version → ℕ → ℕ → ℕ → List ℕ
+header_bytes version times kinds chars =
+    84 ∷ 90 ∷ 105 ∷ 102 ∷ version_byte version ∷ replicate 15 0 ++ count_bytes 0 ++ count_bytes 0 ++ count_bytes 0 ++ count_bytes times ++ count_bytes kinds ++ count_bytes chars
 
 unfoldable pub record_bytes : List (List ℕ) → KindValue → List ℕ
 record_bytes names kind = four_bytes kind.utoff ++ (if kind.is_dst then 1 else 0) ∷ name_place names kind.name ∷ []
@@ -57,11 +64,15 @@ block_bytes kinds shifts =
     flat_map (λ shift. eight_bytes shift.0) shifts ++ map (λ shift. kind_number kinds shift.1) shifts
     ++ flat_map (record_bytes (names_of kinds)) kinds ++ name_bytes (names_of kinds)
 
-unfoldable pub tzif : ZoneValue → List ℕ
-tzif zone =
-    header_bytes 0 1 1 ++ replicate 7 0
-    ++ header_bytes (length zone.rest) (length (kinds_of zone)) (length (name_bytes (names_of (kinds_of zone))))
+-- the file of a version
+unfoldable pub tzif_by : Version → ZoneValue → List ℕ
+tzif_by version zone =
+    header_bytes version 0 1 1 ++ replicate 7 0
+    ++ header_bytes version (length zone.rest) (length (kinds_of zone)) (length (name_bytes (names_of (kinds_of zone))))
     ++ block_bytes (kinds_of zone) zone.rest ++ 10 ∷ zone.footer ++ 10 ∷ []
+
+abbrev pub tzif : ZoneValue → List ℕ
+tzif = tzif_by Two
 
 -- the times strictly rise and are 4,294,967,295 at most
 unfoldable pub are_times : List (ℤ × KindValue) → Bool
@@ -96,11 +107,14 @@ pub record IsValue (zone : ZoneValue) : Type 0 where
   pub times : TimesFit zone.rest
   pub footer : IsUtf8 zone.footer
 
--- the bytes are the file that is written for the value
-pub record IsTzif (bytes : List ℕ) (zone : ZoneValue) : Type 0 where
+-- the bytes are the file of that version that is written for the value
+pub record IsTzifBy (version : Version) (bytes : List ℕ) (zone : ZoneValue) : Type 0 where
   pub value : IsValue zone
   pub writable : write_fault zone ≡ None
-  pub written : bytes ≡ tzif zone
+  pub written : bytes ≡ tzif_by version zone
+
+abbrev pub IsTzif : List ℕ → ZoneValue → Type 0
+IsTzif = IsTzifBy Two
 
 -- a writer refuses for the first cause that holds
 abbrev pub IsCause : WriteFault → Option WriteFault → Type 0
@@ -111,7 +125,10 @@ IsCause Names fault = Some Names ≡ fault
 IsCause Offset fault = Some Offset ≡ fault
 IsCause Footer fault = Some Footer ≡ fault
 
--- what a writer gives for a value
+-- what a writer of a version gives for a value
+abbrev pub WritesBy : {V : Type 0} → Version → (V → List ℕ) → ZoneValue → Result V WriteFault → Type 0
+WritesBy version bytes zone (Ok file) = (None ≡ write_fault zone) × (bytes file ≡ tzif_by version zone)
+WritesBy version bytes zone (Err fault) = IsCause fault (write_fault zone)
+
 abbrev pub Writes : {V : Type 0} → (V → List ℕ) → ZoneValue → Result V WriteFault → Type 0
-Writes bytes zone (Ok file) = (None ≡ write_fault zone) × (bytes file ≡ tzif zone)
-Writes bytes zone (Err fault) = IsCause fault (write_fault zone)
+Writes = WritesBy Two

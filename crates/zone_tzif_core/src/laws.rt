@@ -2,8 +2,9 @@
 ghost use Rattle.std.specs.Prelude.{◌≡◌, ◌&&◌, ℕ, List, true};
 ghost use Rattle.std.specs.List.{list_all};
 ghost use Rattle.zone_tzif_core.specs.Denotes.{Denotes, Says};
-ghost use Rattle.zone_tzif_core.specs.Tzif.{IsTzif};
+ghost use Rattle.zone_tzif_core.specs.Tzif.{IsTzif, IsTzifBy};
 ghost use Rattle.zone_tzif_core.specs.Zones.{ZoneValue, is_small, rises};
+ghost use Rattle.zone_tzif_core.specs.declared.values.Version.{Version};
 
 /// A file denotes one value at most.
 pub fn one_reading()
@@ -13,6 +14,11 @@ pub fn one_reading()
 /// What is written for a value denotes it.
 pub fn written_denotes()
     ensures { (bytes : List ℕ) (zone : ZoneValue) → IsTzif bytes zone → Denotes bytes zone }
+{}
+
+/// So does what is written for it in either version.
+pub fn each_denotes()
+    ensures { (version : Version) (bytes : List ℕ) (zone : ZoneValue) → IsTzifBy version bytes zone → Denotes bytes zone }
 {}
 
 /// One file is written for one value at most.

@@ -27,6 +27,29 @@ pub struct TzifZone {
     pub footer: String,
 }
 
+/// The version of a file by RFC 8536. The footer of version 2 has rules with times from 0 to 24 hours, that of version 3 from -167 to
+/// 167; nothing else tells them apart.
+#[derive(Clone, Copy, Debug, PartialEq, Eq)]
+pub enum Version {
+    Two,
+    Three,
+}
+
+impl Version {
+    ghost use Rattle.std.specs.Prelude.{◌≡◌};
+    ghost use Rattle.zone_tzif_core.specs.Tzif.{version_byte};
+
+    /// The byte that stands for it in a header.
+    pub(crate) fn byte(self) -> u8
+        ensures { result ≡ version_byte self }
+    {
+        match self {
+            Version::Two => b'2',
+            Version::Three => b'3',
+        }
+    }
+}
+
 /// Why bytes give no zone.
 #[derive(Clone, Copy, Debug, PartialEq, Eq)]
 pub enum ReadFault {

@@ -8,7 +8,7 @@ ghost use Rattle.zone_tzif_core.specs.Zones.{KindValue};
 ghost use Rattle.zone_tzif_core.specs.Shown.{kind_shown, kinds_seen, names_seen, shifts_shown};
 
 use crate::distinct::is_same;
-use crate::values::Kind;
+use crate::values::{Kind, Version};
 use std::alloc::AllocError;
 
 /// Puts the four bytes of a number at the end.
@@ -35,17 +35,19 @@ fn put_eight(into: &mut Vec<u8>, number: i64) -> Result<(), AllocError>
     into.extend_from_slice(&number.to_be_bytes())
 }
 
-/// Puts a header with these three counts at the end.
+/// Puts a header of a version with these three counts at the end.
 #[tactic(auto, using(std::proofs::Common::append_assoc), unfolding(crate::specs::Tzif::header_bytes))]
 pub(crate) fn put_header(
     into: &mut Vec<u8>,
+    version: Version,
     times: u32,
     kinds: u32,
     chars: u32,
 ) -> Result<(), AllocError>
-    ensures { OnOk result (into.new.items ≡ into.old.items ++ header_bytes times kinds chars) }
+    ensures { OnOk result (into.new.items ≡ into.old.items ++ header_bytes version times kinds chars) }
 {
-    into.extend_from_slice(b"TZif2".as_slice())?;
+    into.extend_from_slice(b"TZif".as_slice())?;
+    into.push(version.byte())?;
     into.extend_from_slice(&[0; 15])?;
     put_count(into, 0)?;
     put_count(into, 0)?;

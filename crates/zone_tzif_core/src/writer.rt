@@ -1,7 +1,7 @@
 //! A value as its one file.
 ghost use Rattle.std.specs.Prelude.{◌≡◌, ◌==◌, nat_le, ◌≤◌, ◌<◌, ◌^◌, not, ℕ, ℤ, None, true, [], ◌∷◌, ◌++◌, length, slice_index_or, OnOk, IfOk};
 ghost use Rattle.std.specs.List.{list_all, list_any};
-ghost use Rattle.zone_tzif_core.specs.Tzif.{is_same, kinds_of, names_of, name_bytes, name_place, block_bytes, tzif, are_times, are_names, first_fault, write_fault, Writes, IsTzif, TimesFit};
+ghost use Rattle.zone_tzif_core.specs.Tzif.{is_same, kinds_of, names_of, name_bytes, name_place, block_bytes, tzif_by, are_times, are_names, first_fault, write_fault, Writes, WritesBy, IsTzif, IsTzifBy, TimesFit};
 ghost use Rattle.zone_tzif_core.specs.Shown.{kinds_seen, names_seen, shifts_shown, zone_shown};
 ghost use Rattle.zone_tzif_core.specs.Zones.{is_small};
 
@@ -9,7 +9,7 @@ use crate::distinct::{distinct_kinds, distinct_names};
 use crate::kinds::is_small;
 use crate::parts::is_one_line;
 use crate::shifts::do_rise;
-use crate::values::{Kind, TzifZone, WriteFault};
+use crate::values::{Kind, TzifZone, Version, WriteFault};
 use crate::write::{put_header, put_names, put_numbers, put_records, put_times};
 use std::alloc::{AllocError, Global};
 
@@ -118,9 +118,10 @@ fn put_footer(into: &mut Vec<u8>, footer: &str) -> Result<(), AllocError>
 }
 
 /// The file of a zone that may be written.
-#[tactic(auto, unfolding(crate::specs::Tzif::tzif))]
+#[tactic(auto, unfolding(crate::specs::Tzif::tzif_by))]
 fn written(
     alloc: Global,
+    version: Version,
     zone: &TzifZone,
     kinds: &[&Kind],
     names: &[&str],
@@ -130,25 +131,31 @@ fn written(
     requires named { names_seen names.now ≡ names_of (kinds_of (zone_shown zone.now)) }
     requires bytes { chars.now ≡ name_bytes (names_of (kinds_of (zone_shown zone.now))) }
     requires fits { write_fault (zone_shown zone.now) ≡ None }
-    ensures bytes { IfOk result (λ file. file.items ≡ tzif (zone_shown zone.now)) }
+    ensures bytes { IfOk result (λ file. file.items ≡ tzif_by version (zone_shown zone.now)) }
     ensures range { OnOk result (TimesFit (zone_shown zone.now).rest) }
 {
     let mut file = Vec::new(alloc);
-    put_header(&mut file, 0, 1, 1)?;
+    put_header(&mut file, version, 0, 1, 1)?;
     file.extend_from_slice(&[0; 7])?;
     let times = zone.rest.as_slice().len() as u32;
-    put_header(&mut file, times, kinds.len() as u32, chars.len() as u32)?;
+    let chars = chars.len() as u32;
+    put_header(&mut file, version, times, kinds.len() as u32, chars)?;
     put_block(&mut file, zone, kinds, names)?;
     put_footer(&mut file, zone.footer.as_str())?;
     Ok(file)
 }
 
 /// The file of a zone with these distinct kinds, or the first cause that refuses it, where its times and their number pass.
-fn write_kinds(alloc: Global, zone: &TzifZone, kinds: &[&Kind]) -> Result<Vec<u8>, WriteFault>
+fn write_kinds(
+    alloc: Global,
+    version: Version,
+    zone: &TzifZone,
+    kinds: &[&Kind],
+) -> Result<Vec<u8>, WriteFault>
     requires times { are_times (zone_shown zone.now).rest ≡ true }
     requires few { length (kinds_seen kinds.now) ≤ 256 }
     requires distinct { kinds_seen kinds.now ≡ kinds_of (zone_shown zone.now) }
-    ensures exact { Writes (λ file. file.items) (zone_shown zone.now) result }
+    ensures exact { WritesBy version (λ file. file.items) (zone_shown zone.now) result }
     ensures range { OnOk result (TimesFit (zone_shown zone.now).rest) }
 {
     let names = distinct_names(alloc, kinds)?;
@@ -156,15 +163,22 @@ fn write_kinds(alloc: Global, zone: &TzifZone, kinds: &[&Kind]) -> Result<Vec<u8
     put_names(&mut chars, names.as_slice())?;
     match fault(zone, kinds, names.as_slice(), chars.as_slice()) {
         Some(cause) => Err(cause),
-        None => Ok(written(alloc, zone, kinds, names.as_slice(), chars.as_slice())?),
+        None => Ok(written(
+            alloc,
+            version,
+            zone,
+            kinds,
+            names.as_slice(),
+            chars.as_slice(),
+        )?),
     }
 }
 
-/// The one file of a zone, of version 2 of RFC 8536. Its first block has one kind of zeros and no time. Its second one
+/// The one file of a zone of that version of RFC 8536. Whether its footer is one that the version has is not asked. Its first block has one kind of zeros and no time. Its second one
 /// has each kind once, in order of first use, that of `first` being number 0, and each name once, in the order of the
 /// kinds. Flags and leap seconds it has none.
 ///
-/// What is written is read by both readers as the zone again: this is the file of a value, as the laws speak of it.
+/// What is written is read by [`read_any`](crate::read_any) and [`read_file`](crate::read_file) as the zone again.
 ///
 /// # Errors
 ///
@@ -172,14 +186,32 @@ fn write_kinds(alloc: Global, zone: &TzifZone, kinds: &[&Kind]) -> Result<Vec<u8
 /// than 4,294,967,295, `Types` where there are more than 256 distinct kinds, `Names` where a name has a zero byte or
 /// the names take more than 256 bytes, `Offset` where an offset is past 93,599 seconds in size, and `Footer` where the
 /// footer has an LF or a zero byte. Or `NoMemory`.
-pub fn write_tzif(alloc: Global, zone: &TzifZone) -> Result<Vec<u8>, WriteFault>
-    ensures exact { Writes (λ file. file.items) (zone_shown zone.now) result }
-    ensures file { IfOk result (λ file. IsTzif file.items (zone_shown zone.now)) }
+pub fn write_version(
+    alloc: Global,
+    version: Version,
+    zone: &TzifZone,
+) -> Result<Vec<u8>, WriteFault>
+    ensures exact { WritesBy version (λ file. file.items) (zone_shown zone.now) result }
+    ensures file { IfOk result (λ file. IsTzifBy version file.items (zone_shown zone.now)) }
 {
     let times = are_times(zone.rest.as_slice());
     if !times {
         return Err(WriteFault::Times);
     }
     let kinds = distinct_kinds(alloc, zone)?;
-    write_kinds(alloc, zone, kinds.as_slice())
+    write_kinds(alloc, version, zone, kinds.as_slice())
+}
+
+/// The one file of a zone, of version 2 of RFC 8536, as [`write_version`] writes it.
+///
+/// What is written is read by each reader as the zone again: this is the file of a value, as the laws speak of it.
+///
+/// # Errors
+///
+/// Those of [`write_version`].
+pub fn write_tzif(alloc: Global, zone: &TzifZone) -> Result<Vec<u8>, WriteFault>
+    ensures exact { Writes (λ file. file.items) (zone_shown zone.now) result }
+    ensures file { IfOk result (λ file. IsTzif file.items (zone_shown zone.now)) }
+{
+    write_version(alloc, Version::Two, zone)
 }

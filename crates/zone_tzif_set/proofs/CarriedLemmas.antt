@@ -19,30 +19,31 @@ use Rattle.zone_tail_core.specs.Carried.{CarriesOn, IsCovered, IsFrom}
 use Rattle.zone_tail_core.specs.Tails.{IsTail, beginning, end_of_last_year, is_ending_early}
 use Rattle.zone_tzif_core.specs.Totals.{file_total_at}
 use Rattle.zone_tzif_core.specs.Zones.{KindValue, ZoneValue}
-use Rattle.zone_tzif_set.specs.Values.{change_of, value_of}
+use Rattle.zone_tzif_set.specs.Values.{change_by, value_by, value_of}
+use Rattle.zone_tzif_set.specs.declared.convert.Saves.TheVariants.{Above}
 use Rattle.zone_tzif_set.proofs.StringLemmas.{Both, both}
 use Rattle.zone_tzif_set.specs.Footers.{IsFooterText}
 
-all_begun : (entries : List Entry) (s : ℤ) → list_all (λ (change : ℤ × KindValue). int_le change.0 s) (map change_of entries) ≡ true → (i : ℕ)
+all_begun : (entries : List Entry) (s : ℤ) → list_all (λ (change : ℤ × KindValue). int_le change.0 s) (map (change_by Above) entries) ≡ true → (i : ℕ)
     → i < length (map shift_of entries) → (shift_at (map shift_of entries) i).0 ≤ℤ s
 all_begun [] s h i l = absurd (omega (arith, l))
 all_begun (entry ∷ entries) s h zero l = le_from_pass entry.0 s (and_parts (int_le entry.0 s) _ h).0
 all_begun (entry ∷ entries) s h (suc i) l = all_begun entries s (and_parts (int_le entry.0 s) _ h).1 i (omega (arith, l))
 
 begun : (set : FixedTimespanSet) (s : ℤ) (span : ℕ) (candidate : _) → IsAllowed candidate (schedule_of set) span
-    → list_all (λ (change : ℤ × KindValue). int_le change.0 s) (map change_of set.others) ≡ true → IsFrom (beginning (shifts_of set) span) s
+    → list_all (λ (change : ℤ × KindValue). int_le change.0 s) (map (change_by Above) set.others) ≡ true → IsFrom (beginning (shifts_of set) span) s
 begun set s zero candidate allowed over = tt
 begun set s (suc i) candidate allowed over = all_begun set.others s over i allowed.0
 
 -- the entries themselves
-entries_over : (entries : List Entry) (s : ℤ) → list_all (λ (change : ℤ × KindValue). int_le change.0 s) (map change_of entries)
+entries_over : (entries : List Entry) (s : ℤ) → list_all (λ (change : ℤ × KindValue). int_le change.0 s) (map (change_by Above) entries)
     ≡ list_all (λ (entry : Entry). int_le entry.0 s) entries
 entries_over [] s = refl
 entries_over (entry ∷ entries) s = ap (λ b. int_le entry.0 s && b) (entries_over entries s)
 
 over_of : (set : FixedTimespanSet) (text : List ℕ) (s : ℤ) → are_over (value_of set text).rest s ≡ true
-    → list_all (λ (change : ℤ × KindValue). int_le change.0 s) (map change_of set.others) ≡ true
-unfolding value_of
+    → list_all (λ (change : ℤ × KindValue). int_le change.0 s) (map (change_by Above) set.others) ≡ true
+unfolding value_by
 over_of set text s h = h
 
 module _ (set : FixedTimespanSet) (from : Option ℤ) (text : List ℕ) (carries : CarriesOn set from text) where
@@ -57,7 +58,7 @@ module _ (set : FixedTimespanSet) (from : Option ℤ) (text : List ℕ) (carries
 
   after_over : (tail : IsTail set from text) (footer : FooterZone) (t : ℤ) → ((x y : FooterValue) → SpellsFooter text x → SpellsFooter text y → x ≡ y)
       → StandsFor text footer → seconds_of t <ℤ end_of_last_year set
-      → list_all (λ (change : ℤ × KindValue). int_le change.0 (seconds_of t)) (map change_of set.others) ≡ true
+      → list_all (λ (change : ℤ × KindValue). int_le change.0 (seconds_of t)) (map (change_by Above) set.others) ≡ true
       → (is_ending_early set ≡ true → is_of_one_year footer (seconds_of t) ≡ true)
       → (held_at footer (seconds_of t)).utoff ≡ set_total_at (schedule_of set) t
   after_over tail footer t one stands last over own =

@@ -12,8 +12,10 @@ use Rattle.tz_zone.specs.declared.set.FixedTimespanSet.{FixedTimespanSet}
 use Rattle.zone_tzif_core.specs.Tzif.{added, are_names, are_times, each_once, first_fault, is_same, kinds_of, name_bytes, names_of, write_fault}
 use Rattle.zone_tzif_core.specs.Zones.{KindValue, go_up, rises}
 use Rattle.zone_tzif_core.specs.declared.values.WriteFault.TheVariants as write
-use Rattle.zone_tzif_set.specs.Causes.{kind_in, name_in}
-use Rattle.zone_tzif_set.specs.Values.{change_of, kind_of, value_of}
+use Rattle.zone_tzif_set.specs.Causes.{kind_in, name_in, names_in}
+use Rattle.zone_tzif_set.specs.Values.{change_by, kind_by, value_by, value_of}
+use Rattle.zone_tzif_set.specs.declared.convert.Saves.{Saves}
+use Rattle.zone_tzif_set.specs.declared.convert.Saves.TheVariants.{Above}
 
 -- ---- items that are kept once
 
@@ -44,63 +46,70 @@ AllLeft view test numbers i = list_all test (map view (drop i numbers)) ≡ list
 
 -- ---- the kinds of a set
 
-abbrev pub entry_kinds : List Entry → List KindValue
-entry_kinds entries = map (λ change. change.1) (map change_of entries)
+abbrev pub entry_kinds : Saves → List Entry → List KindValue
+entry_kinds saves entries = map (λ change. change.1) (map (change_by saves) entries)
 
-abbrev pub all_kinds : FixedTimespanSet → List KindValue
-all_kinds set = kind_of set.first ∷ entry_kinds set.others
+abbrev pub all_kinds : Saves → FixedTimespanSet → List KindValue
+all_kinds saves set = kind_by saves set.first ∷ entry_kinds saves set.others
 
-entry_left : (entries : List Entry) (default : Entry) (i : ℕ) → i < length entries
-    → drop i (entry_kinds entries) ≡ kind_of (slice_index_or entries i default).1 ∷ drop (suc i) (entry_kinds entries)
-entry_left [] default i l = absurd (omega (arith, l))
-entry_left (e ∷ es) default zero l = refl
-entry_left (e ∷ es) default (suc i) l = entry_left es default i (omega (arith, l))
+entry_left : (saves : Saves) (entries : List Entry) (default : Entry) (i : ℕ) → i < length entries
+    → drop i (entry_kinds saves entries) ≡ kind_by saves (slice_index_or entries i default).1 ∷ drop (suc i) (entry_kinds saves entries)
+entry_left saves [] default i l = absurd (omega (arith, l))
+entry_left saves (e ∷ es) default zero l = refl
+entry_left saves (e ∷ es) default (suc i) l = entry_left saves es default i (omega (arith, l))
 
-kind_left : (set : FixedTimespanSet) (k : ℕ) → k ≤ length set.others → drop k (all_kinds set) ≡ kind_in set k ∷ drop (suc k) (all_kinds set)
-kind_left set zero l = refl
-kind_left set (suc i) l = entry_left set.others (pos 0, set.first) i (omega (arith, l))
+kind_left : (saves : Saves) (set : FixedTimespanSet) (k : ℕ) → k ≤ length set.others
+    → drop k (all_kinds saves set) ≡ kind_in saves set k ∷ drop (suc k) (all_kinds saves set)
+kind_left saves set zero l = refl
+kind_left saves set (suc i) l = entry_left saves set.others (pos 0, set.first) i (omega (arith, l))
 
 next : (n : ℕ) → suc n ≡ n + 1
 next n = omega arith
 
 -- the kinds of the spans so far, and those that are left, are all
-abbrev pub KindsSoFar : FixedTimespanSet → ℕ → List ℕ → Type 0
-KindsSoFar set k numbers = each_once is_same (map (kind_in set) numbers) (drop k (all_kinds set)) ≡ kinds_of (value_of set [])
+abbrev pub KindsSoFar : Saves → FixedTimespanSet → ℕ → List ℕ → Type 0
+KindsSoFar saves set k numbers = each_once is_same (map (kind_in saves set) numbers) (drop k (all_kinds saves set)) ≡ kinds_of (value_by saves set [])
 
-pub kinds_begin : (set : FixedTimespanSet) (numbers : List ℕ) → numbers ≡ [] → KindsSoFar set 0 numbers
-unfolding kinds_of value_of
-kinds_begin set numbers none = ap (λ l. each_once is_same (map (kind_in set) l) (all_kinds set)) none
+module _ (saves : Saves) (set : FixedTimespanSet) where
+  pub kinds_begin : (numbers : List ℕ) → numbers ≡ [] → KindsSoFar saves set 0 numbers
+  unfolding kinds_of value_by
+  kinds_begin numbers none = ap (λ l. each_once is_same (map (kind_in saves set) l) (all_kinds saves set)) none
 
-pub kinds_more : (set : FixedTimespanSet) (k : ℕ) (numbers grown : List ℕ) → k ≤ length set.others
-    → map (kind_in set) grown ≡ added is_same (map (kind_in set) numbers) (kind_in set k) → KindsSoFar set k numbers → KindsSoFar set (k + 1) grown
-kinds_more set k numbers grown l more is =
-    once_more is_same _ _ (drop k (all_kinds set)) (drop (k + 1) (all_kinds set)) _ (kind_in set k)
-    (kind_left set k l ∙ ap (λ n. kind_in set k ∷ drop n (all_kinds set)) (next k)) more is
+  pub kinds_more : (k : ℕ) (numbers grown : List ℕ) → k ≤ length set.others
+      → map (kind_in saves set) grown ≡ added is_same (map (kind_in saves set) numbers) (kind_in saves set k) → KindsSoFar saves set k numbers
+      → KindsSoFar saves set (k + 1) grown
+  kinds_more k numbers grown l more is =
+      once_more is_same _ _ (drop k (all_kinds saves set)) (drop (k + 1) (all_kinds saves set)) _ (kind_in saves set k)
+      (kind_left saves set k l ∙ ap (λ n. kind_in saves set k ∷ drop n (all_kinds saves set)) (next k)) more is
 
-pub kinds_many : (set : FixedTimespanSet) (k : ℕ) (numbers : List ℕ) → k ≤ length set.others
-    → 256 < length (added is_same (map (kind_in set) numbers) (kind_in set k)) → KindsSoFar set k numbers → 256 < length (kinds_of (value_of set []))
-kinds_many set k numbers l many is =
-    let all = ap length (once_more is_same _ _ (drop k (all_kinds set)) (drop (suc k) (all_kinds set)) _ (kind_in set k) (kind_left set k l) refl is) in
-    omega (arith, many, all, once_longer is_same (added is_same (map (kind_in set) numbers) (kind_in set k)) (drop (suc k) (all_kinds set)))
+  pub kinds_many : (k : ℕ) (numbers : List ℕ) → k ≤ length set.others
+      → 256 < length (added is_same (map (kind_in saves set) numbers) (kind_in saves set k)) → KindsSoFar saves set k numbers
+      → 256 < length (kinds_of (value_by saves set []))
+  kinds_many k numbers l many is =
+      let all = ap length (once_more is_same _ _ (drop k (all_kinds saves set)) (drop (suc k) (all_kinds saves set)) _ (kind_in saves set k)
+      (kind_left saves set k l) refl is) in
+      omega (arith, many, all, once_longer is_same (added is_same (map (kind_in saves set) numbers) (kind_in saves set k)) (drop (suc k) (all_kinds saves set)))
 
-pub kinds_end : (set : FixedTimespanSet) (k : ℕ) (numbers : List ℕ) → length set.others < k → KindsSoFar set k numbers
-    → map (kind_in set) numbers ≡ kinds_of (value_of set [])
-kinds_end set k numbers over is =
-    let one : length (entry_kinds set.others) ≡ length (map change_of set.others) = length-map _ _ in
-    let two : length (map change_of set.others) ≡ length set.others = length-map _ _ in
-    sym (ap (each_once is_same (map (kind_in set) numbers)) (drop_all k (all_kinds set) (omega (arith, one, two, over)))) ∙ is
+  pub kinds_end : (k : ℕ) (numbers : List ℕ) → length set.others < k → KindsSoFar saves set k numbers
+      → map (kind_in saves set) numbers ≡ kinds_of (value_by saves set [])
+  kinds_end k numbers over is =
+      let one : length (entry_kinds saves set.others) ≡ length (map (change_by saves) set.others) = length-map _ _ in
+      let two : length (map (change_by saves) set.others) ≡ length set.others = length-map _ _ in
+      sym (ap (each_once is_same (map (kind_in saves set) numbers)) (drop_all k (all_kinds saves set) (omega (arith, one, two, over)))) ∙ is
+
+  -- names of kinds are those of spans
+  pub names_are : (kinds : List ℕ) → names_of (map (kind_in saves set) kinds) ≡ names_in set kinds
+  unfolding names_of
+  names_are kinds = ap (each_once bytes_eq []) (map-map (λ (kind : KindValue). kind.name) (kind_in saves set) kinds)
 
 -- ---- their names
 
 abbrev pub NamesSoFar : FixedTimespanSet → List ℕ → ℕ → List ℕ → Type 0
-NamesSoFar set kinds i names = each_once bytes_eq (map (name_in set) names) (map (name_in set) (drop i kinds)) ≡ each_once bytes_eq [] (map (name_in set) kinds)
+NamesSoFar set kinds i names = each_once bytes_eq (map (name_in set) names) (map (name_in set) (drop i kinds)) ≡ names_in set kinds
 
 module _ (set : FixedTimespanSet) (kinds : List ℕ) (i : ℕ) (names : List ℕ) where
-  pub names_end : length kinds ≤ i → NamesSoFar set kinds i names → map (name_in set) names ≡ names_of (map (kind_in set) kinds)
-  unfolding names_of
-  names_end over is =
-      sym (ap (λ l. each_once bytes_eq (map (name_in set) names) (map (name_in set) l)) (drop_all i kinds over)) ∙ is
-      ∙ ap (each_once bytes_eq []) (sym (map-map (λ (kind : KindValue). kind.name) (kind_in set) kinds))
+  pub names_end : length kinds ≤ i → NamesSoFar set kinds i names → map (name_in set) names ≡ names_in set kinds
+  names_end over is = sym (ap (λ l. each_once bytes_eq (map (name_in set) names) (map (name_in set) l)) (drop_all i kinds over)) ∙ is
 
 -- ---- what they take
 
@@ -140,7 +149,7 @@ fits_end view numbers i left over is =
 -- ---- the times
 
 abbrev pub times_of : List Entry → List ℤ
-times_of entries = map (λ change. change.0) (map change_of entries)
+times_of entries = map (λ change. change.0) (map (change_by Above) entries)
 
 time_left : (entries : List Entry) (i : ℕ) → i < length entries
     → drop i (times_of entries) ≡ (shift_at (map shift_of entries) i).0 ∷ drop (suc i) (times_of entries)
@@ -175,7 +184,7 @@ module _ (set : FixedTimespanSet) (i : ℕ) (some : 1 ≤ i) (within : i < lengt
       ∙ sym (up_step set.others (i - 1) (omega (arith, within, some))) ∙ is
 
   pub rise_not : false ≡ b → false ≡ rises (value_of set []).rest
-  unfolding value_of
+  unfolding value_by
   rise_not falls = ap (λ t. t && go_up (drop i (times_of set.others))) falls ∙ rise_step
 
   pub rise_more : true ≡ b → RiseSoFar set.others (i + 1)
@@ -189,18 +198,30 @@ up_short (x ∷ []) l = refl
 up_short (x ∷ y ∷ times) l = absurd (omega (arith, l))
 
 pub rise_end : (set : FixedTimespanSet) (i : ℕ) → 1 ≤ i → length set.others ≤ i → RiseSoFar set.others i → true ≡ rises (value_of set []).rest
-unfolding value_of
+unfolding value_by
 rise_end set i some over is =
-    let one : length (times_of set.others) ≡ length (map change_of set.others) = length-map _ _ in
-    let two : length (map change_of set.others) ≡ length set.others = length-map _ _ in
+    let one : length (times_of set.others) ≡ length (map (change_by Above) set.others) = length-map _ _ in
+    let two : length (map (change_by Above) set.others) ≡ length set.others = length-map _ _ in
     up_short (drop (i - 1) (times_of set.others)) (omega (arith, one, two, some, over, length-drop (i - 1) (times_of set.others))) ∙ is
 
 pub times_are : (set : FixedTimespanSet) (r f : Bool) (count : ℕ) → r ≡ rises (value_of set []).rest → count ≡ length set.others → f ≡ nat_le count 4294967295
     → (r && f) ≡ are_times (value_of set []).rest
-unfolding are_times value_of
+unfolding are_times value_by
 times_are set r f count rise long few =
-    let two : length (map change_of set.others) ≡ length set.others = length-map _ _ in
+    let two : length (map (change_by Above) set.others) ≡ length set.others = length-map _ _ in
     (λ k. rise k && (few ∙ ap (λ n. nat_le n 4294967295) (long ∙ sym two)) k)
+
+same_seconds : (saves : Saves) (entries : List Entry) → map (λ change. change.0) (map (change_by saves) entries) ≡ times_of entries
+same_seconds saves [] = refl
+same_seconds saves (e ∷ es) = ap (λ l. e.0 ∷ l) (same_seconds saves es)
+
+-- whatever saving is daylight saving time
+pub same_times : (saves : Saves) (set : FixedTimespanSet) → are_times (value_by saves set []).rest ≡ are_times (value_of set []).rest
+unfolding are_times value_by
+same_times saves set =
+    let one : length (map (change_by saves) set.others) ≡ length set.others = length-map _ _ in
+    let two : length (map (change_by Above) set.others) ≡ length set.others = length-map _ _ in
+    (λ k. go_up (same_seconds saves set.others k) && nat_le ((one ∙ sym two) k) 4294967295)
 
 -- ---- the cause
 
@@ -214,30 +235,30 @@ by_tests true true false o f offset footer a b c = absurd cc
 by_tests true false n o f offset footer a b c = absurd cc
 by_tests false y n o f offset footer a b c = absurd cc
 
-module _ (set : FixedTimespanSet) (footer : List ℕ) where
-  pub times_refuse : false ≡ are_times (value_of set []).rest → write_fault (value_of set footer) ≡ Some write.Times
-  unfolding write_fault value_of
+module _ (saves : Saves) (set : FixedTimespanSet) (footer : List ℕ) where
+  pub times_refuse : false ≡ are_times (value_by saves set []).rest → write_fault (value_by saves set footer) ≡ Some write.Times
+  unfolding write_fault value_by
   times_refuse fall = rw (← fall) refl
 
-  pub kinds_refuse : are_times (value_of set []).rest ≡ true → 256 < length (kinds_of (value_of set [])) → write_fault (value_of set footer) ≡ Some write.Types
-  unfolding write_fault value_of kinds_of
+  pub kinds_refuse : are_times (value_by saves set []).rest ≡ true → 256 < length (kinds_of (value_by saves set [])) → write_fault (value_by saves set footer) ≡ Some write.Types
+  unfolding write_fault value_by kinds_of
   kinds_refuse times many =
-      let more : nat_le (length (kinds_of (value_of set []))) 256 ≡ false = grind (arith, nat_tests, many) in
+      let more : nat_le (length (kinds_of (value_by saves set []))) 256 ≡ false = grind (arith, nat_tests, many) in
       rw (times, more) refl
 
-  pub names_refuse : are_times (value_of set []).rest ≡ true → (kinds : List KindValue) → kinds ≡ kinds_of (value_of set []) → length kinds ≤ 256
-      → false ≡ are_names (names_of kinds) → write_fault (value_of set footer) ≡ Some write.Names
-  unfolding write_fault value_of kinds_of
+  pub names_refuse : are_times (value_by saves set []).rest ≡ true → (kinds : List KindValue) → kinds ≡ kinds_of (value_by saves set []) → length kinds ≤ 256
+      → false ≡ are_names (names_of kinds) → write_fault (value_by saves set footer) ≡ Some write.Names
+  unfolding write_fault value_by kinds_of
   names_refuse times kinds are few named =
-      let less : nat_le (length (kinds_of (value_of set []))) 256 ≡ true = grind (arith, nat_tests, few, ap length are) in
-      let refused : are_names (names_of (kinds_of (value_of set []))) ≡ false = sym (named ∙ ap (λ k. are_names (names_of k)) are) in
+      let less : nat_le (length (kinds_of (value_by saves set []))) 256 ≡ true = grind (arith, nat_tests, few, ap length are) in
+      let refused : are_names (names_of (kinds_of (value_by saves set []))) ≡ false = sym (named ∙ ap (λ k. are_names (names_of k)) are) in
       rw (times, less, refused) refl
 
-  pub none_refuses : are_times (value_of set []).rest ≡ true → (kinds : List KindValue) → kinds ≡ kinds_of (value_of set []) → length kinds ≤ 256
-      → true ≡ are_names (names_of kinds) → write_fault (value_of set footer) ≢ Some write.Offset → write_fault (value_of set footer) ≢ Some write.Footer
-      → write_fault (value_of set footer) ≡ None
-  unfolding write_fault value_of kinds_of
+  pub none_refuses : are_times (value_by saves set []).rest ≡ true → (kinds : List KindValue) → kinds ≡ kinds_of (value_by saves set []) → length kinds ≤ 256
+      → true ≡ are_names (names_of kinds) → write_fault (value_by saves set footer) ≢ Some write.Offset → write_fault (value_by saves set footer) ≢ Some write.Footer
+      → write_fault (value_by saves set footer) ≡ None
+  unfolding write_fault value_by kinds_of
   none_refuses times kinds are few named offset line =
-      let less : nat_le (length (kinds_of (value_of set []))) 256 ≡ true = grind (arith, nat_tests, few, ap length are) in
-      let named_is : are_names (names_of (kinds_of (value_of set []))) ≡ true = sym (named ∙ ap (λ k. are_names (names_of k)) are) in
+      let less : nat_le (length (kinds_of (value_by saves set []))) 256 ≡ true = grind (arith, nat_tests, few, ap length are) in
+      let named_is : are_names (names_of (kinds_of (value_by saves set []))) ≡ true = sym (named ∙ ap (λ k. are_names (names_of k)) are) in
       by_tests _ _ _ _ _ offset line times less named_is

@@ -16,7 +16,7 @@ use Rattle.zone_tail_core.specs.declared.outcome.TailFault.{TailFault}
 use Rattle.zone_tzif_core.specs.Totals.{file_total_at}
 use Rattle.zone_tzif_core.specs.Zones.{ZoneValue}
 use Rattle.zone_tzif_set.specs.Files.{consistent_footer, consistent_zone, footer_of, is_contradicted, IsCarriedOn}
-use Rattle.zone_tzif_set.specs.Values.{value_of}
+use Rattle.zone_tzif_set.specs.Values.{value_by, value_of}
 use Rattle.zone_tzif_set.specs.Footers.{IsSaid}
 
 -- by the laws on the totals of files
@@ -40,7 +40,7 @@ module _ (alone : (zone : ZoneValue) (t : ℤ) → told_total_at zone None t ≡
   by_string : (set : FixedTimespanSet) (footer : Option FooterZone) (t : ℤ) → IsCarriedOn set → is_contradicted set ≡ false
       → SaysInFooter (footer_of set) footer → IsSaid set t
       → told_total_at (value_of set (footer_of set)) footer t ≡ set_total_at (schedule_of set) t
-  unfolding footer_of value_of is_contradicted
+  unfolding footer_of value_by is_contradicted
   by_string set None t carried last says said = alone (value_of set (footer_of set)) t ∙ kept set (footer_of set) t
   by_string set (Some f) t carried last says said = by_fault (tail_fault set) refl
     where
@@ -53,7 +53,7 @@ module _ (alone : (zone : ZoneValue) (t : ℤ) → told_total_at zone None t ≡
 
   pub consistent : (set : FixedTimespanSet) (footer : Option FooterZone) (t : ℤ) → IsCarriedOn set → SaysInFooter (consistent_zone set).footer footer
       → IsSaid set t → told_total_at (consistent_zone set) footer t ≡ set_total_at (schedule_of set) t
-  unfolding consistent_footer value_of
+  unfolding consistent_footer value_by
   consistent set footer t carried says said = by_test (is_contradicted set) refl
     where
       by_test : (b : Bool) → is_contradicted set ≡ b → told_total_at (consistent_zone set) footer t ≡ set_total_at (schedule_of set) t

@@ -15,7 +15,9 @@ use Rattle.zone_tzif_core.specs.Tzif.{added, are_names, are_times, each_once, fi
 use Rattle.zone_tzif_core.specs.Zones.{KindValue, ZoneValue, is_small}
 use Rattle.zone_tzif_core.specs.declared.values.WriteFault.TheVariants as write
 use Rattle.zone_tzif_set.specs.Files.{consistent_footer, consistent_zone, file_fault, footer_of}
-use Rattle.zone_tzif_set.specs.Values.{change_of, kind_of, value_of}
+use Rattle.zone_tzif_set.specs.Values.{change_by, kind_by, value_by, value_of}
+use Rattle.zone_tzif_set.specs.declared.convert.Saves.{Saves}
+use Rattle.zone_tzif_set.specs.declared.convert.Saves.TheVariants.{Above}
 use Rattle.zone_tzif_set.proofs.FooterLemmas.{consistent_clean, footer_clean}
 use Rattle.zone_tzif_set.proofs.TotalLemmas.{entries_small}
 
@@ -38,19 +40,20 @@ small (negsuc n) is = grind (arith, nat_tests, is)
 abbrev has_small : KindValue → Bool
 has_small kind = is_small kind.utoff
 
-changes_small : (entries : List Entry) → list_all (λ (entry : Entry). is_offset (total entry.1)) entries ≡ true
-    → list_all has_small (map (λ (shift : ℤ × KindValue). shift.1) (map change_of entries)) ≡ true
-changes_small [] all = refl
-changes_small (entry ∷ entries) all =
+changes_small : (saves : Saves) (entries : List Entry) → list_all (λ (entry : Entry). is_offset (total entry.1)) entries ≡ true
+    → list_all has_small (map (λ (shift : ℤ × KindValue). shift.1) (map (change_by saves) entries)) ≡ true
+changes_small saves [] all = refl
+changes_small saves (entry ∷ entries) all =
     let parts = and_parts (is_offset (total entry.1)) (list_all (λ (entry : Entry). is_offset (total entry.1)) entries) all in
-    and_from _ _ (small (total entry.1) parts.0) (changes_small entries parts.1)
+    and_from _ _ (small (total entry.1) parts.0) (changes_small saves entries parts.1)
 
-kinds_small : (set : FixedTimespanSet) (footer : List ℕ) → IsAccepted (schedule_of set) → list_all has_small (kinds_of (value_of set footer)) ≡ true
-unfolding kinds_of value_of
-kinds_small set footer accepted =
+kinds_small : (saves : Saves) (set : FixedTimespanSet) (footer : List ℕ) → IsAccepted (schedule_of set)
+    → list_all has_small (kinds_of (value_by saves set footer)) ≡ true
+unfolding kinds_of value_by
+kinds_small saves set footer accepted =
     let parts = and_parts (is_offset (total set.first)) (list_all (λ (shift : ℤ × ℤ). is_offset shift.1) (map shift_of set.others)) accepted.range in
-    all_once has_small is_same [] (kind_of set.first ∷ map (λ (shift : ℤ × KindValue). shift.1) (map change_of set.others)) refl
-    (and_from _ _ (small (total set.first) parts.0) (changes_small set.others (entries_small set.others parts.1)))
+    all_once has_small is_same [] (kind_by saves set.first ∷ map (λ (shift : ℤ × KindValue). shift.1) (map (change_by saves) set.others)) refl
+    (and_from _ _ (small (total set.first) parts.0) (changes_small saves set.others (entries_small set.others parts.1)))
 
 -- the last two tests hold
 abbrev pub IsNeither : ZoneValue → Type 0
@@ -67,13 +70,15 @@ neither zone offsets footer =
     by_tests true false c = (λ e. absurd (cc), λ e. absurd (cc))
     by_tests false b c = (λ e. absurd (cc), λ e. absurd (cc))
 
+pub never_by : (saves : Saves) (set : FixedTimespanSet) (footer : List ℕ) → IsAccepted (schedule_of set) → is_one_line footer ≡ true
+    → IsNeither (value_by saves set footer)
+unfolding value_by
+never_by saves set footer accepted clean = neither (value_by saves set footer) (kinds_small saves set footer accepted) clean
+
 pub never : (set : FixedTimespanSet) → IsAccepted (schedule_of set) → (tail_fault set ≡ None → is_one_line (found_text set) ≡ true)
     → (file_fault set ≢ Some write.Offset) × (file_fault set ≢ Some write.Footer)
-unfolding value_of
-never set accepted clean = neither (value_of set (footer_of set)) (kinds_small set (footer_of set) accepted) (footer_clean set clean)
+never set accepted clean = never_by Above set (footer_of set) accepted (footer_clean set clean)
 
 pub never_consistent : (set : FixedTimespanSet) → IsAccepted (schedule_of set) → (tail_fault set ≡ None → is_one_line (found_text set) ≡ true)
     → IsNeither (consistent_zone set)
-unfolding value_of
-never_consistent set accepted clean =
-    neither (value_of set (consistent_footer set)) (kinds_small set (consistent_footer set) accepted) (consistent_clean set clean)
+never_consistent set accepted clean = never_by Above set (consistent_footer set) accepted (consistent_clean set clean)

@@ -6,6 +6,10 @@ pub mod ValueLemmas
 pub mod PlaceLemmas
 mod WorkedKinds
 mod WorkedFooters
+mod WorkedEver
 mod StringLemmas
 mod CarriedLemmas
 mod ConsistentLemmas
+pub mod EverLemmas
+pub mod FrontLemmas
+pub mod LineLemmas

@@ -11,7 +11,8 @@ use Rattle.tz_zone.specs.Sets.{schedule_of, shift_of, shifts_of, span_in, IsAcce
 use Rattle.tz_zone.specs.Spans.{shift_at}
 use Rattle.tz_zone.specs.declared.set.FixedTimespanSet.{FixedTimespanSet}
 use Rattle.zone_tzif_core.specs.Zones.{KindValue}
-use Rattle.zone_tzif_set.specs.Values.{change_of, kind_of}
+use Rattle.zone_tzif_set.specs.Values.{change_by, kind_by}
+use Rattle.zone_tzif_set.specs.declared.convert.Saves.{Saves}
 use Rattle.zone_tzif_set.proofs.TotalLemmas.{entries_small}
 
 small_at : (entries : List Entry) (i : ℕ) (default : Entry) → is_offset (total default.1) ≡ true
@@ -27,23 +28,23 @@ span_small set (suc i) accepted =
     let parts = and_parts (is_offset (total set.first)) _ accepted.range in
     small_at set.others i (pos 0, set.first) parts.0 (entries_small set.others parts.1)
 
-by_place : (entries : List Entry) (k : ℕ) (default : Entry) → k < length entries
-    → (slice_get (map change_of entries) k ≡ Some (change_of (slice_index_or entries k default)))
+by_place : (saves : Saves) (entries : List Entry) (k : ℕ) (default : Entry) → k < length entries
+    → (slice_get (map (change_by saves) entries) k ≡ Some (change_by saves (slice_index_or entries k default)))
     × (shift_at (map shift_of entries) k ≡ shift_of (slice_index_or entries k default))
-by_place [] k default l = absurd (omega (arith, l))
-by_place (e ∷ es) zero default l = (refl, refl)
-by_place (e ∷ es) (suc k) default l = by_place es k default (omega (arith, l))
+by_place saves [] k default l = absurd (omega (arith, l))
+by_place saves (e ∷ es) zero default l = (refl, refl)
+by_place saves (e ∷ es) (suc k) default l = by_place saves es k default (omega (arith, l))
 
 next : (n : ℕ) → suc n ≡ n + 1
 next n = omega arith
 
 -- what stands at a place is its time with its span as a kind
-pub change_is : (set : FixedTimespanSet) (k : ℕ) (time : ℤ) (kind : KindValue) → k < length set.others → time ≡ (shift_at (shifts_of set) k).0
-    → kind ≡ kind_of (span_in set (k + 1)) → slice_get (map change_of set.others) k ≡ Some (time, kind)
-change_is set k time kind l at is =
-    let found = by_place set.others k (pos 0, set.first) l in
+pub change_is : (saves : Saves) (set : FixedTimespanSet) (k : ℕ) (time : ℤ) (kind : KindValue) → k < length set.others → time ≡ (shift_at (shifts_of set) k).0
+    → kind ≡ kind_by saves (span_in set (k + 1)) → slice_get (map (change_by saves) set.others) k ≡ Some (time, kind)
+change_is saves set k time kind l at is =
+    let found = by_place saves set.others k (pos 0, set.first) l in
     let t = at ∙ ap (λ s. s.0) found.1 in
-    let s = is ∙ ap (λ n. kind_of (span_in set n)) (sym (next k)) in
+    let s = is ∙ ap (λ n. kind_by saves (span_in set n)) (sym (next k)) in
     found.0 ∙ ap Some (λ i. (sym t i, sym s i))
 
 abbrev inside : {A : Type 0} → A → Option A → A

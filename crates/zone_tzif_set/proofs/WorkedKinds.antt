@@ -8,7 +8,8 @@ use Rattle.zone_tzif_core.specs.Zones.{KindValue}
 use Rattle.zone_tzif_core.specs.declared.values.WriteFault.{WriteFault}
 use Rattle.zone_tzif_core.specs.declared.values.WriteFault.TheVariants as write
 use Rattle.zone_tzif_set.specs.Files.{consistent_footer, footer_of, is_contradicted, IsFileFault}
-use Rattle.zone_tzif_set.specs.Values.{kind_of, value_of}
+use Rattle.zone_tzif_set.specs.Values.{kind_by, kind_of, value_by, value_of}
+use Rattle.zone_tzif_set.specs.declared.convert.Saves.TheVariants.{Any}
 use Rattle.zone_tzif_set.specs.declared.file.FileFault.TheVariants.{Times, Types, Names, NoMemory}
 
 abbrev span : ℤ → ℤ → FixedTimespan
@@ -22,11 +23,15 @@ kinds : map (λ (s : ℤ × ℤ). kind_of (span s.0 s.1)) ((pos 3600, pos 0) ∷
     ≡ kind (pos 3600) false ∷ kind (pos 3601) true ∷ kind (pos 0) false ∷ kind (negsuc 14399) true ∷ []
 kinds = refl
 
+-- for ever, one below 0 is too
+ever_kinds : map (λ (saving : ℤ). (kind_by Any (span (pos 3600) saving)).is_dst) (pos 0 ∷ pos 1 ∷ negsuc 3599 ∷ []) ≡ false ∷ true ∷ true ∷ []
+ever_kinds = refl
+
 -- a set's first span and each entry from its time on, and the footer
 whole : value_of (record { name = codes "A/B"; first = span (pos 3600) (pos 0); others = (pos 5, span (pos 3600) (pos 3600)) ∷ (pos 9, span (pos 0) (pos 0)) ∷ [] })
     (codes "F")
     ≡ record { first = kind (pos 3600) false; rest = (pos 5, kind (pos 7200) true) ∷ (pos 9, kind (pos 0) false) ∷ []; footer = codes "F" }
-unfolding value_of
+unfolding value_by
 whole = refl
 
 -- a set that has no string has an empty footer, as one 25 hours ahead of UTC

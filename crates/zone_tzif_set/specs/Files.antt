@@ -4,8 +4,10 @@ use Rattle.tz_zone.specs.declared.set.FixedTimespanSet.{FixedTimespanSet}
 use Rattle.zone_tail_core.specs.Carried.{CarriesOn}
 use Rattle.zone_tail_core.specs.Found.{found_from, found_text}
 use Rattle.zone_tail_core.specs.Tails.{is_ending_early, is_outlasting, tail_fault, IsTail}
-use Rattle.zone_tzif_core.specs.Tzif.{tzif, write_fault}
+use Rattle.zone_tzif_core.specs.Tzif.{tzif, tzif_by, write_fault}
 use Rattle.zone_tzif_core.specs.Zones.{ZoneValue}
+use Rattle.zone_tzif_core.specs.declared.values.Version.{Version}
+use Rattle.zone_tzif_core.specs.declared.values.Version.TheVariants.{Two}
 use Rattle.zone_tzif_core.specs.declared.values.WriteFault.{WriteFault}
 use Rattle.zone_tzif_core.specs.declared.values.WriteFault.TheVariants as write
 use Rattle.zone_tzif_set.specs.Values.{value_of}
@@ -60,10 +62,13 @@ IsFileFault Times fault = fault ≡ Some write.Times
 IsFileFault Types fault = fault ≡ Some write.Types
 IsFileFault Names fault = fault ≡ Some write.Names
 
--- the file of a zone where there is no cause, or the cause
+-- the file of that version of a zone where there is no cause, or the cause
+abbrev pub MakesBy : {V : Type 0} → Version → (V → List ℕ) → ZoneValue → Result V FileFault → Type 0
+MakesBy version bytes zone (Ok file) = (write_fault zone ≡ None) × (bytes file ≡ tzif_by version zone)
+MakesBy version bytes zone (Err fault) = IsFileFault fault (write_fault zone)
+
 abbrev pub MakesZone : {V : Type 0} → (V → List ℕ) → ZoneValue → Result V FileFault → Type 0
-MakesZone bytes zone (Ok file) = (write_fault zone ≡ None) × (bytes file ≡ tzif zone)
-MakesZone bytes zone (Err fault) = IsFileFault fault (write_fault zone)
+MakesZone = MakesBy Two
 
 -- that of the set's
 abbrev pub Makes : {V : Type 0} → (V → List ℕ) → FixedTimespanSet → Result V FileFault → Type 0

@@ -2,5 +2,7 @@
 pub mod Values
 pub mod Files
 pub mod Footers
+pub mod EverFiles
 -- Words of private clauses.
 pub mod Causes
+pub mod Until

@@ -7,12 +7,13 @@ ghost use Rattle.zone_spans.specs.Entries.{total};
 ghost use Rattle.tz_zone.specs.Sets.{schedule_of, shifts_of, span_in, IsAccepted};
 ghost use Rattle.tz_zone.specs.Spans.{shift_at};
 ghost use Rattle.zone_tzif_core.specs.Shown.{record_shown};
-ghost use Rattle.zone_tzif_core.specs.Tzif.{added, are_names, are_times, is_same, name_bytes, names_of, write_fault};
+ghost use Rattle.zone_tzif_core.specs.Tzif.{added, are_names, are_times, is_same, name_bytes, write_fault};
 ghost use Rattle.zone_tzif_core.specs.Zones.{rises};
-ghost use Rattle.zone_tzif_set.specs.Causes.{kind_in, name_in, AddsKind, AreKinds};
+ghost use Rattle.zone_tzif_set.specs.Causes.{kind_in, name_in, names_in, AddsKind, AreKinds};
 ghost use Rattle.zone_tzif_set.specs.Files.{IsFileFault};
-ghost use Rattle.zone_tzif_set.specs.Values.{kind_of, value_of};
+ghost use Rattle.zone_tzif_set.specs.Values.{kind_by, value_by, value_of};
 
+use crate::convert::Saves;
 use crate::file::FileFault;
 use arrayvec::ArrayVec;
 use tz_zone::SpanTable;
@@ -31,24 +32,24 @@ fn span_or_first<S: SpanTable>(set: &S, number: usize) -> &FixedTimespan
 }
 
 /// A span's kind, with its name lent.
-fn record_of(span: &FixedTimespan) -> Record<'_>
+fn record_of(saves: Saves, span: &FixedTimespan) -> Record<'_>
     requires { is_offset (total span.now) ≡ true }
-    ensures { record_shown result ≡ kind_of span.now }
+    ensures { record_shown result ≡ kind_by saves span.now }
 {
     let total = span.utc_offset + span.dst_offset;
     Record {
         utoff: total as i32,
-        is_dst: span.dst_offset > 0,
+        is_dst: saves.is_saved(span.dst_offset),
         name: span.name.as_str(),
     }
 }
 
 /// The kind of the span of a number.
-fn kind_at<S: SpanTable>(set: &S, number: usize) -> Record<'_>
+fn kind_at<S: SpanTable>(saves: Saves, set: &S, number: usize) -> Record<'_>
     requires { IsAccepted (schedule_of (S.seen set.now)) }
-    ensures { record_shown result ≡ kind_in (S.seen set.now) number }
+    ensures { record_shown result ≡ kind_in saves (S.seen set.now) number }
 {
-    record_of(span_or_first(set, number))
+    record_of(saves, span_or_first(set, number))
 }
 
 /// Its name.
@@ -66,12 +67,12 @@ fn is_same(a: &Record<'_>, b: &Record<'_>) -> bool
 }
 
 /// Whether a kind is among those of spans.
-fn is_kept<S: SpanTable>(set: &S, numbers: &[usize], kind: &Record<'_>) -> bool
+fn is_kept<S: SpanTable>(saves: Saves, set: &S, numbers: &[usize], kind: &Record<'_>) -> bool
     requires { IsAccepted (schedule_of (S.seen set.now)) }
-    ensures { result ≡ list_any (is_same (record_shown kind.now)) (map (kind_in (S.seen set.now)) numbers.now) }
+    ensures { result ≡ list_any (is_same (record_shown kind.now)) (map (kind_in saves (S.seen set.now)) numbers.now) }
 {
     for number in numbers {
-        let same = is_same(kind, &kind_at(set, *number));
+        let same = is_same(kind, &kind_at(saves, set, *number));
         if same {
             return true;
         }
@@ -80,11 +81,16 @@ fn is_kept<S: SpanTable>(set: &S, numbers: &[usize], kind: &Record<'_>) -> bool
 }
 
 /// Adds a span where its kind is not among those of the spans before it. False where there is no room for it.
-fn add_kind<S: SpanTable>(set: &S, numbers: &mut ArrayVec<usize, 256>, span: usize) -> bool
+fn add_kind<S: SpanTable>(
+    saves: Saves,
+    set: &S,
+    numbers: &mut ArrayVec<usize, 256>,
+    span: usize,
+) -> bool
     requires { IsAccepted (schedule_of (S.seen set.now)) }
-    ensures { AddsKind (S.seen set.now) numbers.old.items span numbers.new.items result }
+    ensures { AddsKind saves (S.seen set.now) numbers.old.items span numbers.new.items result }
 {
-    let kept = is_kept(set, numbers.as_slice(), &kind_at(set, span));
+    let kept = is_kept(saves, set, numbers.as_slice(), &kind_at(saves, set, span));
     if kept {
         true
     } else if numbers.is_full() {
@@ -96,13 +102,13 @@ fn add_kind<S: SpanTable>(set: &S, numbers: &mut ArrayVec<usize, 256>, span: usi
 }
 
 /// The spans that are the first of their kinds, or none where there are more than 256 of these.
-fn distinct_kinds<S: SpanTable>(set: &S) -> Option<ArrayVec<usize, 256>>
+fn distinct_kinds<S: SpanTable>(saves: Saves, set: &S) -> Option<ArrayVec<usize, 256>>
     requires { IsAccepted (schedule_of (S.seen set.now)) }
-    ensures { AreKinds (S.seen set.now) result }
+    ensures { AreKinds saves (S.seen set.now) result }
 {
     let mut numbers = ArrayVec::new();
     for span in 0..set.entry_count() + 1 {
-        if !add_kind(set, &mut numbers, span) {
+        if !add_kind(saves, set, &mut numbers, span) {
             return None;
         }
     }
@@ -138,7 +144,7 @@ fn add_name<S: SpanTable>(set: &S, numbers: &mut ArrayVec<usize, 256>, span: usi
 /// Of the first spans of kinds, the first of each name.
 fn distinct_names<S: SpanTable>(set: &S, kinds: &[usize]) -> ArrayVec<usize, 256>
     requires { length kinds.now ≤ 256 }
-    ensures { map (name_in (S.seen set.now)) result.items ≡ names_of (map (kind_in (S.seen set.now)) kinds.now) }
+    ensures { map (name_in (S.seen set.now)) result.items ≡ names_in (S.seen set.now) kinds.now }
 {
     let mut names = ArrayVec::new();
     for kind in kinds {
@@ -186,7 +192,7 @@ fn do_fit<S: SpanTable>(set: &S, numbers: &[usize]) -> bool
 #[tactic(auto, unfolding(zone_tzif_core::specs::Tzif::are_names))]
 fn are_names<S: SpanTable>(set: &S, kinds: &[usize]) -> bool
     requires { length kinds.now ≤ 256 }
-    ensures { result ≡ are_names (names_of (map (kind_in (S.seen set.now)) kinds.now)) }
+    ensures { result ≡ are_names (names_in (S.seen set.now) kinds.now) }
 {
     let names = distinct_names(set, kinds);
     let names = names.as_slice();
@@ -228,16 +234,16 @@ fn are_times<S: SpanTable>(set: &S) -> bool
 
 /// The first cause that a set has no file with any one footer that is one line, or want of memory where there is no cause. It takes
 /// no memory itself, and compares each span with 256 others at most.
-pub(crate) fn cause_of<S: SpanTable>(set: &S) -> FileFault
+pub(crate) fn cause_of<S: SpanTable>(saves: Saves, set: &S) -> FileFault
     requires { IsAccepted (schedule_of (S.seen set.now)) }
-    ensures { (footer : List ℕ) → write_fault (value_of (S.seen set.now) footer) ≢ Some WriteFault.Offset
-        → write_fault (value_of (S.seen set.now) footer) ≢ Some WriteFault.Footer → IsFileFault result (write_fault (value_of (S.seen set.now) footer)) }
+    ensures { (footer : List ℕ) → write_fault (value_by saves (S.seen set.now) footer) ≢ Some WriteFault.Offset
+        → write_fault (value_by saves (S.seen set.now) footer) ≢ Some WriteFault.Footer → IsFileFault result (write_fault (value_by saves (S.seen set.now) footer)) }
 {
     let times = are_times(set);
     if !times {
         return FileFault::Times;
     }
-    match distinct_kinds(set) {
+    match distinct_kinds(saves, set) {
         Some(kinds) if are_names(set, kinds.as_slice()) => FileFault::NoMemory,
         Some(_) => FileFault::Names,
         None => FileFault::Types,

@@ -7,20 +7,20 @@ ghost use Rattle.zone_tail_core.specs.Found.{found_from};
 ghost use Rattle.zone_tail_core.specs.Tails.{tail_fault};
 ghost use Rattle.zone_tzif_core.specs.Denotes.{Denotes};
 ghost use Rattle.zone_tzif_core.specs.Totals.{file_total_at};
-ghost use Rattle.zone_tzif_core.specs.Tzif.{IsTzif, write_fault};
+ghost use Rattle.zone_tzif_core.specs.Tzif.{IsTzif, IsTzifBy, write_fault};
 ghost use Rattle.zone_tzif_core.specs.Zones.{ZoneValue};
-ghost use Rattle.zone_tzif_set.specs.Files.{consistent_footer, consistent_zone, footer_of, is_contradicted, zone_of, IsCarriedOn, Makes, MakesZone};
-ghost use Rattle.zone_tzif_set.specs.Values.{value_of};
+ghost use Rattle.zone_tzif_set.specs.Files.{consistent_footer, consistent_zone, footer_of, is_contradicted, zone_of, IsCarriedOn, Makes, MakesBy, MakesZone};
+ghost use Rattle.zone_tzif_set.specs.Values.{value_by};
 
 use crate::causes::cause_of;
-use crate::convert::from_set;
-use crate::laws::{few_causes, reads_back};
+use crate::convert::{Saves, zone_by};
+use crate::laws::few_causes;
 use std::alloc::{AllocError, Global};
 use thiserror::Error;
 use tz_zone::SpanTable;
 use zone_tail_core::laws::one_tail;
 use zone_tail_core::{TailFault, is_ending_early, is_outlasting, tail};
-use zone_tzif_core::{WriteFault, write_tzif};
+use zone_tzif_core::{Version, WriteFault, each_denotes, one_reading, write_version};
 
 /// Why a set has no file, the first cause that holds.
 #[derive(Clone, Copy, Debug, PartialEq, Eq, Error)]
@@ -92,31 +92,44 @@ fn consistent_footer<S: SpanTable>(alloc: Global, set: &S) -> Result<String, All
 }
 
 /// The file of the zone that a set is with that footer.
-fn written<S: SpanTable>(alloc: Global, set: &S, footer: &str) -> Result<Vec<u8>, WriteFault>
+fn written<S: SpanTable>(
+    alloc: Global,
+    version: Version,
+    saves: Saves,
+    set: &S,
+    footer: &str,
+) -> Result<Vec<u8>, WriteFault>
     requires { IsAccepted (schedule_of (S.seen set.now)) }
-    ensures { IfOk result (λ file. IsTzif file.items (value_of (S.seen set.now) footer.now)) }
+    ensures { IfOk result (λ file. IsTzifBy version file.items (value_by saves (S.seen set.now) footer.now)) }
 {
-    let zone = from_set(alloc, set, footer)?;
-    match write_tzif(alloc, &zone) {
+    let zone = zone_by(alloc, saves, set, footer)?;
+    match write_version(alloc, version, &zone) {
         Ok(file) => Ok(file),
         Err(fault) => Err(fault),
     }
 }
 
-/// The file of a set with that footer. Where there is none, the cause is looked for without memory, so that want of memory is told only
+/// The file of a set with that footer, of that version. Where there is none, the cause is looked for without memory, so that want of memory is told only
 /// where nothing else refuses the file.
-fn with_footer<S: SpanTable>(alloc: Global, set: &S, footer: &str) -> Result<Vec<u8>, FileFault>
+pub(crate) fn with_footer<S: SpanTable>(
+    alloc: Global,
+    version: Version,
+    saves: Saves,
+    set: &S,
+    footer: &str,
+) -> Result<Vec<u8>, FileFault>
     requires accepted { IsAccepted (schedule_of (S.seen set.now)) }
-    requires offset { write_fault (value_of (S.seen set.now) footer.now) ≢ Some WriteFault.Offset }
-    requires footer { write_fault (value_of (S.seen set.now) footer.now) ≢ Some WriteFault.Footer }
-    ensures told { MakesZone (λ file. file.items) (value_of (S.seen set.now) footer.now) result }
-    ensures file { IfOk result (λ file. IsTzif file.items (value_of (S.seen set.now) footer.now)) }
+    requires offset { write_fault (value_by saves (S.seen set.now) footer.now) ≢ Some WriteFault.Offset }
+    requires footer { write_fault (value_by saves (S.seen set.now) footer.now) ≢ Some WriteFault.Footer }
+    ensures told { MakesBy version (λ file. file.items) (value_by saves (S.seen set.now) footer.now) result }
+    ensures file { IfOk result (λ file. IsTzifBy version file.items (value_by saves (S.seen set.now) footer.now)) }
     ensures totals { IfOk result (λ file. (zone : ZoneValue) → Denotes file.items zone → (t : ℤ) → file_total_at zone t ≡ set_total_at (schedule_of (S.seen set.now)) t) }
 {
-    reads_back();
-    match written(alloc, set, footer) {
+    one_reading();
+    each_denotes();
+    match written(alloc, version, saves, set, footer) {
         Ok(file) => Ok(file),
-        Err(_) => Err(cause_of(set)),
+        Err(_) => Err(cause_of(saves, set)),
     }
 }
 
@@ -138,8 +151,8 @@ pub fn tzif_of<S: SpanTable>(alloc: Global, set: &S) -> Result<Vec<u8>, FileFaul
 {
     few_causes();
     match footer_of(alloc, set) {
-        Ok(footer) => with_footer(alloc, set, footer.as_str()),
-        Err(_) => Err(cause_of(set)),
+        Ok(footer) => with_footer(alloc, Version::Two, Saves::Above, set, footer.as_str()),
+        Err(_) => Err(cause_of(Saves::Above, set)),
     }
 }
 
@@ -160,7 +173,7 @@ pub fn consistent_tzif_of<S: SpanTable>(alloc: Global, set: &S) -> Result<Vec<u8
 {
     few_causes();
     match consistent_footer(alloc, set) {
-        Ok(footer) => with_footer(alloc, set, footer.as_str()),
-        Err(_) => Err(cause_of(set)),
+        Ok(footer) => with_footer(alloc, Version::Two, Saves::Above, set, footer.as_str()),
+        Err(_) => Err(cause_of(Saves::Above, set)),
     }
 }

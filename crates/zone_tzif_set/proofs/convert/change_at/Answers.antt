@@ -1,7 +1,7 @@
 use Rattle.std.proofs.Common.{◌+◌, w64, to_z-of_z, FitsSigned, rules, ap, ◌∙◌}
 use Rattle.civil_base.specs.Ranges.{is_offset}
 use Rattle.zone_spans.specs.Entries.{total}
-use Rattle.zone_tzif_set.specs.Values.{kind_of}
+use Rattle.zone_tzif_set.specs.Values.{kind_by}
 use Rattle.zone_tzif_set.proofs.PlaceLemmas.{change_is, span_small}
 use Rattle.zone_tzif_set.proofs.convert.change_at.Goals as goal
 
@@ -13,5 +13,5 @@ kind_of-requires g c =
 pub returns : goal.returns
 returns g c =
     let time : FitsSigned w64 c.time-time.result = search rules in
-    change_is (g.S.SpanTable.seen c.args.set.now) c.args.place _ _ c.requires.within (to_z-of_z time ∙ c.time-time.ensures)
-    (c.in_ok-kind.ensures ∙ ap kind_of c.span.ensures)
+    change_is c.args.saves (g.S.SpanTable.seen c.args.set.now) c.args.place _ _ c.requires.within (to_z-of_z time ∙ c.time-time.ensures)
+    (c.in_ok-kind.ensures ∙ ap (kind_by c.args.saves) c.span.ensures)

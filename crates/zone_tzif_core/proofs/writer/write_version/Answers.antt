@@ -4,13 +4,14 @@ use Rattle.std.proofs.lemmas.List.{get_or-map, length-map}
 use Rattle.std.proofs.lemmas.Str.{IsUtf8-string_bytes}
 use Rattle.std.specs.Str.{IsUtf8}
 use Rattle.zone_tzif_core.specs.Shown.{shift_shown, shifts_shown, zone_shown}
-use Rattle.zone_tzif_core.specs.Tzif.{IsValue, IsTzif, TimesFit, Writes, are_times}
+use Rattle.zone_tzif_core.specs.Tzif.{IsValue, IsTzifBy, TimesFit, WritesBy, are_times}
 use Rattle.zone_tzif_core.specs.Zones.{KindValue}
 use Rattle.zone_tzif_core.specs.declared.values.TzifZone.{TzifZone}
+use Rattle.zone_tzif_core.specs.declared.values.Version.{Version}
 use Rattle.zone_tzif_core.specs.declared.values.WriteFault.{WriteFault}
 use Rattle.std.proofs.lemmas.Result.{err_from_is_err_and}
 use Rattle.zone_tzif_core.proofs.CheckLemmas.{times_refuse, kinds_refuse}
-use Rattle.zone_tzif_core.proofs.writer.write_tzif.Goals as goal
+use Rattle.zone_tzif_core.proofs.writer.write_version.Goals as goal
 
 -- its texts are UTF-8
 value_of_code : (zone : TzifZone) → TimesFit (zone_shown zone).rest → IsValue (zone_shown zone)
@@ -26,14 +27,14 @@ value_of_code zone fit = record {
 }
 
 -- what is written is the file of a value
-file_of_value : {V : Type 0} (bytes : V → List ℕ) (zone : TzifZone) (r : Result V WriteFault) → Writes bytes (zone_shown zone) r
-    → OnOk r (TimesFit (zone_shown zone).rest) → IfOk r (λ file. IsTzif (bytes file) (zone_shown zone))
-file_of_value bytes zone (Ok file) writes fit = record {
+file_of_value : {V : Type 0} (v : Version) (bytes : V → List ℕ) (zone : TzifZone) (r : Result V WriteFault) → WritesBy v bytes (zone_shown zone) r
+    → OnOk r (TimesFit (zone_shown zone).rest) → IfOk r (λ file. IsTzifBy v (bytes file) (zone_shown zone))
+file_of_value v bytes zone (Ok file) writes fit = record {
   value = value_of_code zone fit;
   writable = sym writes.0;
   written = writes.1;
 }
-file_of_value bytes zone (Err fault) writes fit = tt
+file_of_value v bytes zone (Err fault) writes fit = tt
 
 pub returns-then-not-times : goal.returns-then-not-times
 returns-then-not-times c = record {
@@ -48,4 +49,4 @@ returns-in_err-kinds c =
     rw (p.1, p.2) (record { exact = kinds_refuse (zone_shown c.args.zone.now) c.in_err-kinds.field-0.0 (sym times) c.in_err-kinds.ensures; file = tt })
 
 pub returns-clause-file : goal.returns-clause-file
-returns-clause-file c = file_of_value (λ file. file.items) c.args.zone.now c.write_kinds.result c.write_kinds.ensures.exact c.write_kinds.ensures.range
+returns-clause-file c = file_of_value c.args.version (λ file. file.items) c.args.zone.now c.write_kinds.result c.write_kinds.ensures.exact c.write_kinds.ensures.range
