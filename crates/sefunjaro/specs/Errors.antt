@@ -29,6 +29,8 @@ use Rattle.zone_tree.specs.declared.refusal.TreeFault.{TreeFault}
 use Rattle.zone_tree.specs.declared.refusal.TreeFault.TheVariants as tree
 use Rattle.zone_tzif_core.specs.declared.values.ReadFault.{ReadFault}
 use Rattle.zone_tzif_core.specs.declared.values.ReadFault.TheVariants as read
+use Rattle.zone_tzif_set.specs.declared.ever.EverFileFault.{EverFileFault}
+use Rattle.zone_tzif_set.specs.declared.ever.EverFileFault.TheVariants as ever_file
 use Rattle.zone_tzif_set.specs.declared.file.FileFault as made
 use Rattle.zone_tzif_set.specs.declared.file.FileFault.TheVariants as made_file
 
@@ -75,6 +77,10 @@ of_ever_tail fault = EverTail fault
 abbrev pub of_made_file : made.FileFault → Error
 of_made_file made_file.NoMemory = NoMemory
 of_made_file fault = Tzif fault
+
+abbrev pub of_ever_file : EverFileFault → Error
+of_ever_file (ever_file.Footer cause) = of_ever_tail cause
+of_ever_file (ever_file.File cause) = of_made_file cause
 
 abbrev pub of_tree : TreeFault → Error
 of_tree (tree.Source fault) = of_source fault

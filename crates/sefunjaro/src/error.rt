@@ -1,6 +1,6 @@
 //! One error for all that is asked of a source, of a zone and of a file.
 ghost use Rattle.std.specs.Prelude.{◌≡◌};
-ghost use Rattle.sefunjaro.specs.Errors.{of_source};
+ghost use Rattle.sefunjaro.specs.Errors.{of_ever_tail, of_made_file, of_source};
 
 use crate::SourceError;
 use crate::any_source::AnySourceFault;
@@ -17,7 +17,7 @@ use zone_tail_core::TailFault;
 use zone_tail_ever::EverTailFault;
 use zone_tree::TreeFault;
 use zone_tzif_core::ReadFault;
-use zone_tzif_set::FileFault;
+use zone_tzif_set::{EverFileFault, FileFault};
 
 /// Why a call of this library has no answer: the fault of the call that refused. `?` reaches it from each of these faults, and of
 /// each want of memory becomes `NoMemory`.
@@ -235,13 +235,20 @@ impl From<EverTailFault> for Error {
     ghost from_gives = { λ fault error. error ≡ of_ever_tail fault };
 
     fn from(fault: EverTailFault) -> Error {
-        match fault {
-            EverTailFault::Shape => Error::EverTail(EverTailFault::Shape),
-            EverTailFault::OffsetRange => Error::EverTail(EverTailFault::OffsetRange),
-            EverTailFault::Name => Error::EverTail(EverTailFault::Name),
-            EverTailFault::NoRule => Error::EverTail(EverTailFault::NoRule),
-            EverTailFault::NoMemory => Error::NoMemory,
-        }
+        of_ever_tail(fault)
+    }
+}
+
+/// What the fault of a string for ever becomes.
+fn of_ever_tail(fault: EverTailFault) -> Error
+    ensures { result ≡ of_ever_tail fault }
+{
+    match fault {
+        EverTailFault::Shape => Error::EverTail(EverTailFault::Shape),
+        EverTailFault::OffsetRange => Error::EverTail(EverTailFault::OffsetRange),
+        EverTailFault::Name => Error::EverTail(EverTailFault::Name),
+        EverTailFault::NoRule => Error::EverTail(EverTailFault::NoRule),
+        EverTailFault::NoMemory => Error::NoMemory,
     }
 }
 
@@ -252,11 +259,32 @@ impl From<FileFault> for Error {
     ghost from_gives = { λ fault error. error ≡ of_made_file fault };
 
     fn from(fault: FileFault) -> Error {
+        of_made_file(fault)
+    }
+}
+
+/// What the fault of a file becomes.
+fn of_made_file(fault: FileFault) -> Error
+    ensures { result ≡ of_made_file fault }
+{
+    match fault {
+        FileFault::Times => Error::Tzif(FileFault::Times),
+        FileFault::Types => Error::Tzif(FileFault::Types),
+        FileFault::Names => Error::Tzif(FileFault::Names),
+        FileFault::NoMemory => Error::NoMemory,
+    }
+}
+
+impl From<EverFileFault> for Error {
+    ghost use Rattle.std.specs.Prelude.{◌≡◌};
+    ghost use Rattle.sefunjaro.specs.Errors.{of_ever_file};
+
+    ghost from_gives = { λ fault error. error ≡ of_ever_file fault };
+
+    fn from(fault: EverFileFault) -> Error {
         match fault {
-            FileFault::Times => Error::Tzif(FileFault::Times),
-            FileFault::Types => Error::Tzif(FileFault::Types),
-            FileFault::Names => Error::Tzif(FileFault::Names),
-            FileFault::NoMemory => Error::NoMemory,
+            EverFileFault::Footer(cause) => of_ever_tail(cause),
+            EverFileFault::File(cause) => of_made_file(cause),
         }
     }
 }

@@ -56,3 +56,4 @@ pub use zone_tail_core::{Tail, TailFault, tail};
 pub use zone_tail_ever::{EverTail, EverTailFault, tail_for_ever};
 pub use zone_tree::{TreeFault, Why};
 pub use zone_tzif_core::{ReadFault, TzifZone, ZoneFile, read_any, read_file};
+pub use zone_tzif_set::{EverFileFault, tzif_for_ever};

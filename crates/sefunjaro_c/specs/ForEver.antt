@@ -1,12 +1,23 @@
--- The string that carries a zone on for ever, and why there is none, in numbers.
+-- The string that carries a zone on for ever, and the zone's file with it; and why there is none, in numbers.
 use Rattle.std.specs.Prelude.{◌≡◌, ◌×◌, ◌⊎◌, ℕ, ℤ, Bool, false, true, List, length, Option, Some, None}
+use Rattle.tz_ever.specs.Ever.{ever_total}
 use Rattle.tz_ever.specs.EverShown.{ever_seen}
 use Rattle.tz_ever.specs.declared.ever_set.EverSet.{EverSet}
+use Rattle.tz_footer.specs.InForce.{FooterZone}
 use Rattle.tz_posix_core.specs.Spells.{Spells}
 use Rattle.tz_posix_core.specs.Values.{TzValue}
+use Rattle.tz_tzif.specs.Faults.{SaysInFooter}
+use Rattle.tz_tzif.specs.InForce.{told_total_at}
 use Rattle.zone_tail_ever.specs.Tails.{IsFaultForEver, IsTailForEver}
 use Rattle.zone_tail_ever.specs.declared.outcome.EverTailFault.{EverTailFault}
 use Rattle.zone_tail_ever.specs.declared.outcome.EverTailFault.TheVariants as tail
+use Rattle.zone_tzif_core.specs.Denotes.{Denotes}
+use Rattle.zone_tzif_core.specs.Zones.{ZoneValue}
+use Rattle.zone_tzif_set.specs.EverFiles.{IsEverFile, IsEverFileFault, IsInReach}
+use Rattle.zone_tzif_set.specs.declared.ever.EverFileFault.{EverFileFault}
+use Rattle.zone_tzif_set.specs.declared.ever.EverFileFault.TheVariants as ever_fault
+use Rattle.zone_tzif_set.specs.declared.file.FileFault.{FileFault}
+use Rattle.zone_tzif_set.specs.declared.file.FileFault.TheVariants as file
 use Rattle.sefunjaro.specs.PosixNames.{has_posix_names, IsSpelled}
 use Rattle.sefunjaro.specs.Rooms.{filled}
 use Rattle.sefunjaro.specs.Zones.{ever_in}
@@ -53,3 +64,38 @@ abbrev pub IsEverTailTold : Option EverSet → List ℕ → List ℕ → ℕ →
 IsEverTailTold None old new whole is_posix fault = (fault ≡ rules_end) × (new ≡ old)
 IsEverTailTold (Some ever) old new whole is_posix fault =
     ((fault ≡ plain done) × IsEverTailIn ever old new whole is_posix) ⊎ (IsNoEverTail ever fault × (new ≡ old))
+
+-- ---- the file
+
+-- its changes are those of no file
+abbrev pub ever_file_told : FileFault → Fault
+ever_file_told file.Times = none_for 5
+ever_file_told file.Types = none_for 6
+ever_file_told file.Names = none_for 7
+ever_file_told file.NoMemory = plain out_of_memory
+
+abbrev pub ever_told : EverFileFault → Fault
+ever_told (ever_fault.Footer cause) = ever_tail_told cause
+ever_told (ever_fault.File cause) = ever_file_told cause
+
+-- The zone's file for ever stands in the room, as far as it fits, and its length is told. Whatever is read from it shows, with its footer,
+-- what the zone shows, up to the end of the year 9999.
+pub record IsEverFileIn (ever : EverSet) (old new : List ℕ) (whole : ℕ) : Type 0 where
+  pub bytes : List ℕ
+  pub file : IsEverFile (ever_seen ever) bytes
+  pub room : new ≡ filled bytes old
+  pub length : whole ≡ length bytes
+  pub totals : (zone : ZoneValue) (footer : Option FooterZone) (t : ℤ) → Denotes bytes zone → SaysInFooter zone.footer footer → IsInReach footer t
+      → told_total_at zone footer t ≡ ever_total (ever_seen ever) t
+
+-- why there is none
+pub record IsNoEverFile (ever : EverSet) (fault : Fault) : Type 0 where
+  pub why : EverFileFault
+  pub holds : IsEverFileFault (ever_seen ever) why
+  pub told : fault ≡ ever_told why
+
+-- it is told, or why there is none
+abbrev pub IsEverFileTold : Option EverSet → List ℕ → List ℕ → ℕ → Fault → Type 0
+IsEverFileTold None old new whole fault = (fault ≡ rules_end) × (new ≡ old)
+IsEverFileTold (Some ever) old new whole fault =
+    ((fault ≡ plain done) × IsEverFileIn ever old new whole) ⊎ (IsNoEverFile ever fault × (new ≡ old))

@@ -121,12 +121,18 @@ fn seconds(offset: Option<UtcOffset>) -> Option<i32> {
     Some(offset?.whole_seconds())
 }
 
+/// Asserts each row.
+fn expect_given(rt: &impl Abort, alloc: Global, table: &Table, zones: &Database)
+    requires { IsBoundedTable table.now }
+{
+    for row in OFFSETS.lines() {
+        same_at(rt, row, &is_given(rt, alloc, table, zones, row), &true);
+    }
+}
+
 #[test]
 fn zones_agree_with_their_strings(rt: HostRuntime) {
     let alloc = rt.alloc();
     let table = table_of(&rt, alloc, ZONES);
-    let zones = database_of(&rt, alloc, b"");
-    for row in OFFSETS.lines() {
-        same_at(&rt, row, &is_given(&rt, alloc, &table, &zones, row), &true);
-    }
+    expect_given(&rt, alloc, &table, &database_of(&rt, alloc, b""));
 }

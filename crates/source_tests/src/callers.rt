@@ -12,6 +12,7 @@ use std::alloc::Global;
 use std::process::Abort;
 use tz_lookup::{CompactSet, CompactTz, Database, Fixed};
 use zone_alarm::{Ring, alarms};
+use zone_table::Table;
 use zone_uses::{
     every_instant, how_many, local_time, meeting, offset_in, offset_in_file, offset_in_source,
     offset_or_text, posix_offset, wake_ups, zone_of_source,
@@ -31,11 +32,15 @@ fn new_york(rt: &impl Abort, alloc: Global) -> CompactSet {
     set
 }
 
-fn database(rt: &impl Abort, alloc: Global) -> Database {
+fn table(rt: &impl Abort, alloc: Global) -> Table {
     let Ok(table) = open_source(alloc, &parser(rt, alloc), SOURCE) else {
         panic!(rt; "no table");
     };
-    let Ok(database) = open_database(alloc, &table) else {
+    table
+}
+
+fn database(rt: &impl Abort, alloc: Global) -> Database {
+    let Ok(database) = open_database(alloc, &table(rt, alloc)) else {
         panic!(rt; "no database");
     };
     database
@@ -54,19 +59,29 @@ const EARLIER: &str = "2024-11-03 01:30:00.000000000 -04:00:00";
 
 const LATER: &str = "2024-11-03 01:30:00.000000000 -05:00:00";
 
+/// Asserts how many spans the zone has, and a local time of it.
+fn expect_spring(rt: &impl Abort, set: &CompactSet) {
+    // Standard and daylight time; the first span, and two changes in each year of 2007 to 2099.
+    same(rt, &(set.kind_count(), set.span_count()), &(2, 187));
+    let shown = local_time(set, &at(rt, 1_710_054_000));
+    let spring = zoned(rt, "2024-03-10 03:00:00.000000000 -04:00:00");
+    same(rt, &shown, &Some(spring));
+}
+
+/// Asserts all instants of a local time.
+fn expect_every(rt: &impl Abort, alloc: Global, set: &CompactSet, fold: &PlainDateTime) {
+    let both = every_instant(alloc, set, fold).expect(rt, "memory");
+    let wanted = [zoned(rt, EARLIER), zoned(rt, LATER)];
+    same(rt, &both.as_slice(), &wanted.as_slice());
+}
+
 #[test]
 fn a_zone(rt: HostRuntime) {
     let alloc = rt.alloc();
     let set = new_york(&rt, alloc);
-    // Standard and daylight time; the first span, and two changes in each year of 2007 to 2099.
-    same(&rt, &(set.kind_count(), set.span_count()), &(2, 187));
-    let shown = local_time(&set, &at(&rt, 1_710_054_000));
-    let spring = zoned(&rt, "2024-03-10 03:00:00.000000000 -04:00:00");
-    same(&rt, &shown, &Some(spring));
+    expect_spring(&rt, &set);
     let fold = local(&rt, "2024-11-03 01:30:00.000000000");
-    let both = every_instant(alloc, &set, &fold).expect(&rt, "memory");
-    let wanted = [zoned(&rt, EARLIER), zoned(&rt, LATER)];
-    same(&rt, &both.as_slice(), &wanted.as_slice());
+    expect_every(&rt, alloc, &set, &fold);
     same(&rt, &meeting(&set, &fold), &Some(zoned(&rt, EARLIER)));
     let gap = local(&rt, "2024-03-10 02:30:00.000000000");
     same(&rt, &meeting(&set, &gap), &None);
@@ -106,29 +121,46 @@ fn shown<'a>(ring: &Ring, into: &'a mut [u8; 40]) -> &'a str {
     std::str::from_utf8(&into[..end]).unwrap_or("")
 }
 
-#[test]
-fn alarms_of_compact_and_fixed_zones(rt: HostRuntime) {
-    let alloc = rt.alloc();
-    let time = Time::from_hms(2, 30, 0).expect(&rt, "a time");
-    let first = Date::from_calendar_date(2024, Month::March, 9).expect(&rt, "a date");
-    let set = new_york(&rt, alloc);
-    let Ok(found) = wake_ups(alloc, &CompactTz::new(&set), time, first, 3) else {
-        panic!(&rt; "no instants");
+fn half_past_two(rt: &impl Abort) -> Time {
+    Time::from_hms(2, 30, 0).expect(rt, "a time")
+}
+
+fn march_9(rt: &impl Abort) -> Date {
+    Date::from_calendar_date(2024, Month::March, 9).expect(rt, "a date")
+}
+
+/// Asserts the rings of three days, of which the second has none.
+fn expect_wake_ups(rt: &impl Abort, alloc: Global, zone: &CompactTz<'_>) {
+    let Ok(found) = wake_ups(alloc, zone, half_past_two(rt), march_9(rt), 3) else {
+        panic!(rt; "no instants");
     };
-    let first_ring = zoned(&rt, "2024-03-09 02:30:00.000000000 -05:00:00");
-    let last_ring = zoned(&rt, "2024-03-11 02:30:00.000000000 -04:00:00");
-    same(&rt, &found.as_slice(), &[first_ring, last_ring].as_slice());
+    let first_ring = zoned(rt, "2024-03-09 02:30:00.000000000 -05:00:00");
+    let last_ring = zoned(rt, "2024-03-11 02:30:00.000000000 -04:00:00");
+    same(rt, &found.as_slice(), &[first_ring, last_ring].as_slice());
+}
+
+#[test]
+fn alarms_of_a_compact_zone(rt: HostRuntime) {
+    let alloc = rt.alloc();
+    let set = new_york(&rt, alloc);
+    expect_wake_ups(&rt, alloc, &CompactTz::new(&set));
+}
+
+/// Asserts what rings show.
+fn expect_rings(rt: &impl Abort, rings: &[Ring], wanted: &str) {
+    for ring in rings {
+        same(rt, &shown(ring, &mut [0; 40]), &wanted);
+    }
+}
+
+#[test]
+fn alarms_of_a_fixed_zone(rt: HostRuntime) {
     let offset = UtcOffset::from_whole_seconds(5400).expect(&rt, "no offset");
-    let Ok(rings) = alarms(alloc, &Fixed::new("Test/Fixed", offset), time, first, 1) else {
+    let zone = Fixed::new("Test/Fixed", offset);
+    let Ok(rings) = alarms(rt.alloc(), &zone, half_past_two(&rt), march_9(&rt), 1) else {
         panic!(&rt; "no rings");
     };
-    for ring in &rings {
-        same(
-            &rt,
-            &shown(ring, &mut [0; 40]),
-            &"2024-03-09 02:30:00.000000000 +01:30:00",
-        );
-    }
+    expect_rings(&rt, &rings, "2024-03-09 02:30:00.000000000 +01:30:00");
 }
 
 /// Sources without a zone `A`, with `;` for each line feed, and the text of the error.
@@ -180,8 +212,6 @@ fn errors_are_printed(rt: HostRuntime) {
 
 #[test]
 fn a_source_in_any_form_has_an_offset(rt: HostRuntime) {
-    let Ok(offset) = offset_in_source(rt.alloc(), SOURCE, "Asia/Tokyo", &at(&rt, 0)) else {
-        panic!(&rt; "no offset");
-    };
-    same(&rt, &offset, &32_400);
+    let offset = offset_in_source(rt.alloc(), SOURCE, "Asia/Tokyo", &at(&rt, 0));
+    same(&rt, &offset.expect(&rt, "no offset"), &32_400);
 }

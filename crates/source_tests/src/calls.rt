@@ -246,18 +246,25 @@ Rule E 1996 max - Oct lastSun 1:00u -1:00 -
 Zone A 1:00 E IST/GMT
 ";
 
+fn ireland(rt: &impl Abort, alloc: Global) -> EverSet {
+    let Ok(ever) = EverSet::open(alloc, &table_of(rt, alloc, IRELAND), "A") else {
+        panic!(rt; "not opened");
+    };
+    ever
+}
+
 /// The footer that `zic` writes of them.
+fn expect_footer(rt: &impl Abort, alloc: Global, ever: &EverSet) {
+    let Ok(tail) = tail_for_ever(alloc, ever) else {
+        panic!(rt; "no footer");
+    };
+    same(rt, &tail.text.as_str(), &"IST-1GMT0,M10.5.0,M3.5.0/1");
+}
+
 #[test]
 fn a_footer_carries_a_zone_on_for_ever(rt: HostRuntime) {
     let alloc = rt.alloc();
-    let table = table_of(&rt, alloc, IRELAND);
-    let Ok(ever) = EverSet::open(alloc, &table, "A") else {
-        panic!(&rt; "not opened");
-    };
-    let Ok(tail) = tail_for_ever(alloc, &ever) else {
-        panic!(&rt; "no footer");
-    };
-    same(&rt, &tail.text.as_str(), &"IST-1GMT0,M10.5.0,M3.5.0/1");
+    expect_footer(&rt, alloc, &ireland(&rt, alloc));
 }
 
 #[test]

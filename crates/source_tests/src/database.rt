@@ -2,7 +2,7 @@
 //! compiler `zic` gives for the same text. Daylight saving time is where the saving is above 0, so Dublin, whose winter takes an hour off,
 //! has none.
 use crate::checks::{same, same_at};
-use crate::fixtures::{NEW_YORK, at, database_of, table_of};
+use crate::fixtures::{FIXED, NEW_YORK, at, database_of, parser, table_of};
 use crate::rows::{field, number};
 use owned::Text;
 use std::alloc::Global;
@@ -135,17 +135,20 @@ fn abbreviations(rt: HostRuntime) {
 }
 
 #[test]
-fn a_zone_is_opened_and_answers(rt: HostRuntime) {
+fn a_zone_is_opened(rt: HostRuntime) {
     let alloc = rt.alloc();
-    let table = table_of(&rt, alloc, NEW_YORK);
-    // The first span, and two changes in each year of 2007 to 2099.
-    let Ok(set) = open_zone(alloc, &table, "America/New_York") else {
+    let Ok(set) = open_zone(alloc, &table_of(&rt, alloc, NEW_YORK), "America/New_York") else {
         panic!(&rt; "not opened");
     };
+    // The first span, and two changes in each year of 2007 to 2099.
     same(&rt, &set.span_count(), &187);
+}
+
+#[test]
+fn requests_are_answered(rt: HostRuntime) {
+    let alloc = rt.alloc();
     let asked = b"at Test/Fixed -1\n";
-    let parser = crate::fixtures::parser(&rt, alloc);
-    let Ok(lines) = answers(alloc, &parser, crate::fixtures::FIXED, asked) else {
+    let Ok(lines) = answers(alloc, &parser(&rt, alloc), FIXED, asked) else {
         panic!(rt; "refused");
     };
     let line = b"1970-01-01 01:29:59.999999999 +01:30:00".as_slice();
