@@ -1,5 +1,5 @@
 -- The archive of a table's zones for ever, and what a run writes of it.
-use Rattle.std.proofs.Common.{◌≡◌, ℕ, ◌+◌, ◌<◌, ◌≤◌, Bool, true, false, cond, ◌||◌, List, [], ◌∷◌, ◌++◌, map, drop, take, length, get_or, All, Option, Some, None, Result, Ok, Err, MatchOption, refl, sym, ap, ◌∙◌, subst, arith, append_assoc, append-nil, suc, ℤ, pos}
+use Rattle.std.proofs.Common.{◌≡◌, ℕ, ◌+◌, ◌<◌, ◌≤◌, Bool, true, false, cond, ◌||◌, List, [], ◌∷◌, ◌++◌, map, drop, length, get_or, All, Option, Some, None, Result, Ok, Err, MatchOption, refl, sym, ap, ◌∙◌, subst, arith, append_assoc, append-nil, suc, pos}
 use Rattle.std.specs.Prelude.{bytes_eq}
 use Rattle.std.specs.Borrow.{Bor}
 use Rattle.std.specs.FinMap.{keys}
@@ -23,10 +23,9 @@ use Rattle.zone_source.specs.declared.error.SourceError.TheVariants as source_er
 use Rattle.zone_spans.specs.Entries.{Entry}
 use Rattle.zone_table.specs.Tables.{IsTableOf}
 use Rattle.zone_table.specs.declared.table.Table.{Table}
-use Rattle.zone_tree.specs.Causes.{cause_line}
 use Rattle.zone_tree.specs.Contents.{has_mark, is_marked}
 use Rattle.zone_tree.specs.EverTold.{IsEverFaultOf, IsFirstEver, RefusesName, TellsWhy, made_shown}
-use Rattle.zone_tree.specs.EverTrees.{AreContents, Contents, HasContent, HasNoFile, unopened, unwritten, IsEverCause, IsEverTree, OfSource, OfTree, content_in, file_why, zone_why}
+use Rattle.zone_tree.specs.EverTrees.{AreContents, Contents, HasContent, unopened, unwritten, IsEverCause, IsEverTree, OfSource, OfTree, content_in, file_why, zone_why}
 use Rattle.zone_tree.specs.EverWrites.{IsEverLine, IsFaultLine}
 use Rattle.zone_tree.specs.Names.{finds_by_table}
 use Rattle.zone_tree.specs.Told.{IsFirst}

@@ -1,5 +1,5 @@
 -- The entry of a name.
-use Rattle.std.specs.Prelude.{ℕ, List, [], ◌∷◌, ◌++◌, ◌||◌, nat_eq, Bool, true, false, Option, Some, None, Result, Ok, Err, codes, if◌then◌else◌}
+use Rattle.std.specs.Prelude.{ℕ, List, [], ◌∷◌, ◌++◌, ◌||◌, nat_eq, Bool, Option, Some, None, Result, Ok, Err, codes, if◌then◌else◌}
 use Rattle.std.specs.List.{list_any, starts_with}
 use Rattle.ustar.specs.Entries.{Content, of_file, of_link, EntryValue, entry}
 use Rattle.ustar.specs.Names.{entry_fault}

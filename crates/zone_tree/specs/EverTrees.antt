@@ -1,5 +1,5 @@
 -- The archive of a table's zones for ever.
-use Rattle.std.specs.Prelude.{◌≡◌, ℕ, List, [], ◌∷◌, map, Bool, true, false, All, Option, Some, None, Result, Ok, Err, bytes_eq, if◌then◌else◌}
+use Rattle.std.specs.Prelude.{◌≡◌, ℕ, List, [], ◌∷◌, map, true, false, All, Option, Some, None, Result, Ok, Err, bytes_eq, if◌then◌else◌}
 use Rattle.std.specs.FinMap.{keys}
 use Rattle.tz_ever.specs.Opens.{IsEverFault, IsFoundForEver}
 use Rattle.tz_ever.specs.declared.open.EverFault.{EverFault}
@@ -7,7 +7,7 @@ use Rattle.tz_ever.specs.declared.open.EverFault.TheVariants.{LaterDay, LaterOff
 use Rattle.tz_zone.specs.declared.compile.ZoneFault.TheVariants as zone
 use Rattle.tz_zone.specs.declared.set.FixedTimespanSet.{FixedTimespanSet}
 use Rattle.ustar.specs.Entries.{Content, of_file, of_link}
-use Rattle.zone_source.specs.Faults.{SourceFault, source_fault}
+use Rattle.zone_source.specs.Faults.{source_fault}
 use Rattle.zone_source.specs.Releases.{release_of}
 use Rattle.zone_source.specs.Zones.{values_of}
 use Rattle.zone_spans.specs.declared.fault.SpanFault.TheVariants.{DayRange}

@@ -1,4 +1,4 @@
-use Rattle.std.proofs.Common.{◌≡◌, true, false, ap, sym, refl, ◌∙◌}
+use Rattle.std.proofs.Common.{ap, sym, refl, ◌∙◌}
 use Rattle.tz_ever.specs.EverShown.{ever_seen}
 use Rattle.zone_tree.specs.Contents.{is_marked}
 use Rattle.zone_tree.specs.EverTrees.{marked}

@@ -1,4 +1,4 @@
-use Rattle.std.proofs.Common.{ap, subst, sym, Ok, ◌≡◌}
+use Rattle.std.proofs.Common.{subst, Ok, ◌≡◌}
 use Rattle.zone_tree.specs.EverTold.{IsFirstEver}
 use Rattle.zone_tree.specs.EverTrees.{OfTree}
 use Rattle.zone_tree.proofs.EverLemmas.{first_cause, source_cause, whole_tree}

@@ -4,7 +4,7 @@ use Rattle.ustar.specs.Entries.{of_file}
 use Rattle.zone_tree.specs.EverTold.{made_shown}
 use Rattle.zone_tree.specs.Told.{IsWhy}
 use Rattle.zone_tree.specs.declared.ever.Made.{Made}
-use Rattle.zone_tree.proofs.EverLemmas.{content_end, content_found, content_more}
+use Rattle.zone_tree.proofs.EverLemmas.{content_found, content_more}
 use Rattle.zone_tree.proofs.ever.EverFilesZoneFiles.file.Goals as goal
 
 pub returns-then-eq-clause-ok : goal.returns-then-eq-clause-ok
