@@ -178,24 +178,24 @@ BELOW_ZERO = {"Africa/Casablanca", "Africa/El_Aaiun", "Africa/Windhoek", "Europe
               "Europe/Bratislava"}
 
 
-def compare_by_zdump(ours, theirs, folder):
-    """The changes of 1800 to 2099 that `zdump` finds in two sets of files."""
+def compare_by_zdump(ours, theirs, folder, below_zero=BELOW_ZERO):
+    """The changes of 1800 to 2099 that `zdump` finds in two sets of files; of the zones below zero without their flags."""
     tally, rows = Tally(), []
     names = list(distinct({name: ours[name] + theirs[name] for name in ours}))
     for number, files in enumerate((ours, theirs)):
         put(files, os.path.join(folder, f"zdump {number}"))
         rows.append(zdump_rows(os.path.join(folder, f"zdump {number}"), names))
     for name in names:
-        got, due = (without_flags(told[name]) if name in BELOW_ZERO else told[name] for told in rows)
+        got, due = (without_flags(told[name]) if name in below_zero else told[name] for told in rows)
         tally.tell(got == due, lambda: f"{name}: {sorted(set(got) ^ set(due))[:3]}")
     return tally.close("changes by zdump, a file each")
 
 
-def zdump_rows(folder, names):
+def zdump_rows(folder, names, years="1800,2100"):
     """The changes that `zdump` finds in files of a folder: of each two lines a second apart the later one, as its second, offset,
     name and flag, where one of these three changes. A whole path keeps it from the machine's own files."""
     paths = {os.path.join(os.path.abspath(folder), name): name for name in names}
-    told = subprocess.run([found("zdump"), "-v", "-c", "1800,2100", *paths], check=True, capture_output=True, text=True).stdout
+    told = subprocess.run([found("zdump"), "-v", "-c", years, *paths], check=True, capture_output=True, text=True).stdout
     lines = {name: [] for name in names}
     for line in told.splitlines():
         words = line.rsplit(None, 15)

@@ -20,6 +20,9 @@ const COUNTS: &[u8] = b"\0\0\0\0\0\0\0\0\0\0\0\0\0\0\0\xba\0\0\0\x02\0\0\0\x08";
 const END: &[u8] =
     b"\xff\xff\xb9\xb0\0\0\xff\xff\xc7\xc0\x01\x04EST\0EDT\0\nEST5EDT,M3.2.0,M11.1.0\n";
 
+/// The counts of its second header for ever: the 190 times up to 2101.
+const EVER_COUNTS: &[u8] = b"\0\0\0\0\0\0\0\0\0\0\0\0\0\0\0\xbe\0\0\0\x02\0\0\0\x08";
+
 /// What the program writes for a zone of a source.
 fn written(rt: &impl Abort, alloc: Global, words: &str, source: &[u8]) -> Outcome {
     let given = Given {
@@ -51,6 +54,16 @@ fn new_york_is_written_and_read(rt: HostRuntime) {
         &(zone.rest.len(), zone.footer.as_str()),
         &(186, "EST5EDT,M3.2.0,M11.1.0"),
     );
+}
+
+#[test]
+fn a_tree_goes_on_for_ever(rt: HostRuntime) {
+    let alloc = rt.alloc();
+    let outcome = written(&rt, alloc, "tree --for-ever zones", NEW_YORK);
+    let archive = outcome.sink.taken();
+    let file = archive.get(512..2361).expect(&rt, "no file");
+    let parts = (archive.len(), file.get(71..95), file.ends_with(END));
+    same(&rt, &parts, &(3584, Some(EVER_COUNTS), true));
 }
 
 /// Whether `read_any` and `read_tzif` take the bytes.

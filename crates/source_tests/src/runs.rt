@@ -110,9 +110,11 @@ ever list zones America/New_York 253402300800 269243913600~~~list: range;
 ever list zones America/New_York 0 269243913601~~~list: range;
 ever list zones Ends 0 1~Zone Ends 0:00 - A 2000;~~list: rules end;
 ever alarm zones Ends 2024-03-09 02:30:00 1~~~alarm: rules end;
+tree --for-ever zones~~~tree Ends: rules end;
 tail zones Nowhere~~~tail: unknown zone;
 plain zones~Nonsense;~~source 1: line LineType;
 tree zones~Zone A 0:00 - A;Link B C;~~tree C: link;
+tree --for-ever zones~~~tree C: link;
 alarm zones No/Zone 2024-03-09 02:30:00 1~Nonsense;~~source 1: line InvalidLineType;
 alarm zones B 2024-03-09 02:30:00 1~Zone B 0:00 Gone B;~~source 1: build UnknownRuleset;
 alarm zones B 2024-03-09 02:30:00 1~Zone B 0:00 - B 2000; 0:00 Gone B;~~alarm: schedule UnknownRuleset;
@@ -121,6 +123,7 @@ list zones A 0 999999999999~Zone A 0:00 - A 9999 Dec 31 99:00; 1:00 - B;~~list: 
 tail zones Late~Rule L 2099 only - Mar 1 0:00 1:00 D;Rule L 2099 only - Jun 1 0:00 2:00 E;Rule L 2099 only - Oct 1 0:00 0 S;Zone Late 0:00 L A%sT;~~tail: shape;
 tail zones Below~Rule N 1971 max - Oct lastSun 2:00u -1:00 -;Rule N 1981 max - Mar lastSun 1:00u 0 -;Zone Below 1:00 N IST/GMT;~~tail: shape;
 tail zones Far~Zone Far 25:00 - ABC;~~tail: range;
+tree --for-ever zones~~~tree Far: string range;
 tail zones Nameless~Rule M 2000 max - Apr 1 0:00 1:00 D;Rule M 2000 max - Oct 1 0:00 0 -;Zone Nameless 0:00 M %s;~~tail: name;
 ";
 
@@ -144,6 +147,7 @@ alarm zones U 2024-03-09 02:30:00 1 1~~~
 list zones U 0 -0~~~
 ever list zones U 0~~~
 ever zones~~~
+tree zones --for-ever~~~
 tail zones U U~~~
 ";
 

@@ -6,8 +6,7 @@ use Rattle.tz_zone.specs.Sets.{schedule_of}
 use Rattle.tz_zone.specs.declared.set.FixedTimespanSet.{FixedTimespanSet}
 use Rattle.zone_run.specs.Causes.{named}
 use Rattle.zone_spans.specs.Schedules.{totals_of, is_in_offset_range}
-use Rattle.zone_tree.specs.Entries.{file_unless, is_marked, zone_content}
-use Rattle.zone_tree.specs.Names.{Found}
+use Rattle.zone_tree.specs.Contents.{Found, file_unless, is_marked, zone_content}
 use Rattle.zone_tree.specs.declared.refusal.Why.TheVariants.{OffsetRange}
 
 -- the zone that was found was compiled to this set, which can be looked up

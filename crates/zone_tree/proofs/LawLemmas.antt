@@ -28,11 +28,8 @@ use Rattle.zone_spans.specs.Schedules.{totals_of, is_in_offset_range}
 use Rattle.zone_table.specs.Joined.{zone_of, link_of}
 use Rattle.zone_table.specs.declared.zone.ZoneInfo.{ZoneInfo}
 use Rattle.zone_values.specs.Values.{LineValue}
+use Rattle.zone_tree.specs.Contents.{Found, file_or, file_unless, is_marked, zone_content}
 use Rattle.zone_tree.specs.Entries.{
-  file_or,
-  file_unless,
-  is_marked,
-  zone_content,
   link_content,
   content_of,
   version_name,
@@ -47,7 +44,7 @@ use Rattle.zone_tree.specs.Entries.{
   release_entry,
 }
 use Rattle.zone_tree.specs.TreeShape.{are_behind, version_entries, IsTree}
-use Rattle.zone_tree.specs.Names.{Finds, Found, finds_in, given_names, names_by, others, archive_names}
+use Rattle.zone_tree.specs.Names.{Finds, finds_by, finds_in, found_in, given_names, names_by, others, archive_names}
 use Rattle.zone_tree.specs.Trees.{Refused, onto, entries_of, first_entries, before, joined, archive_of, tree_by, or_cause, after_source, tree_of}
 use Rattle.zone_tree.specs.declared.refusal.Why.{Why}
 use Rattle.zone_tree.specs.declared.refusal.Why.TheVariants.{OffsetRange, Link, Name}
@@ -135,9 +132,9 @@ apart name free = by (bytes_eq version_name name) refl
 
 -- ---- a zone has a file, another name a link
 
-record IsFile (content : Content) : Type 0 where
-  bytes : List ℕ
-  is : of_file bytes ≡ content
+pub record IsFile (content : Content) : Type 0 where
+  pub bytes : List ℕ
+  pub is : of_file bytes ≡ content
 
 file_is : (name : List ℕ) (found : Found) (content : Content) → zone_content name found ≡ Ok content → IsFile content
 file_is name None content h = absurd cc
@@ -155,6 +152,10 @@ file_is name (Some (Ok set)) content h = by_range (is_in_offset_range (totals_of
     by_range : (b : Bool) → cond b (file_unless (is_marked (named name set)) (named name set)) (Err OffsetRange) ≡ Ok content → IsFile content
     by_range true h = by_mark (is_marked (named name set)) h
     by_range false h = absurd cc
+
+-- whatever a zone has is a file
+abbrev pub HasFiles : (List ℕ → Result Content Why) → Type 0
+HasFiles content = (name : List ℕ) (c : Content) → content name ≡ Ok c → IsFile c
 
 record IsLink (is_zone : List ℕ → Bool) (target : Option (List ℕ)) (content : Content) : Type 0 where
   to : List ℕ
@@ -269,27 +270,27 @@ links_behind finds files [] entries there all h = subst (λ es. are_behind files
 links_behind finds files (name ∷ names) entries there all h =
     let is = onto_is name (entry_of finds name) (entries_of (entry_of finds) names) entries h in
     let has = of_name finds name is.e is.is_first in
-    let found = ap (λ b. cond b (zone_content name (finds.found name)) (link_content finds.is_zone (finds.target name))) (sym all.0)
+    let found = ap (λ b. cond b (finds.content name) (link_content finds.is_zone (finds.target name))) (sym all.0)
     ∙ has.is_found in
     let link = link_is finds.is_zone (finds.target name) has.content found in
     subst (λ es. are_behind files es ≡ true) is.are
     (subst (λ e. are_behind files (e ∷ is.others) ≡ true) (ap (entry name) link.is ∙ has.is_entry.is)
     (and_from _ _ (there link.to link.own) (links_behind finds files names is.others there all.1 is.are_rest)))
 
-zones_first : (finds : Finds) (files own others : List (List ℕ)) (entries : List EntryValue) → AllByRecursion (λ name. finds.is_zone name ≡ true) own
+zones_first : (finds : Finds) → HasFiles finds.content → (behind own others : List (List ℕ)) (entries : List EntryValue) → AllByRecursion (λ name. finds.is_zone name ≡ true) own
     → entries_of (entry_of finds) (own ++ others) ≡ Ok entries
-    → ((rest : List EntryValue) → entries_of (entry_of finds) others ≡ Ok rest → are_behind (back own files) rest ≡ true)
-    → are_behind files entries ≡ true
+    → ((rest : List EntryValue) → entries_of (entry_of finds) others ≡ Ok rest → are_behind (back own behind) rest ≡ true)
+    → are_behind behind entries ≡ true
 unfolding entries_of are_behind
-zones_first finds files [] others entries all h more = more entries h
-zones_first finds files (name ∷ own) others entries all h more =
+zones_first finds files behind [] others entries all h more = more entries h
+zones_first finds files behind (name ∷ own) others entries all h more =
     let is = onto_is name (entry_of finds name) (entries_of (entry_of finds) (own ++ others)) entries h in
     let has = of_name finds name is.e is.is_first in
-    let found = ap (λ b. cond b (zone_content name (finds.found name)) (link_content finds.is_zone (finds.target name))) (sym all.0) ∙ has.is_found in
-    let file = file_is name (finds.found name) has.content found in
-    subst (λ es. are_behind files es ≡ true) is.are
-    (subst (λ e. are_behind files (e ∷ is.others) ≡ true) (ap (entry name) file.is ∙ has.is_entry.is)
-    (zones_first finds (name ∷ files) own others is.others all.1 is.are_rest more))
+    let found = ap (λ b. cond b (finds.content name) (link_content finds.is_zone (finds.target name))) (sym all.0) ∙ has.is_found in
+    let file = files name has.content found in
+    subst (λ es. are_behind behind es ≡ true) is.are
+    (subst (λ e. are_behind behind (e ∷ is.others) ≡ true) (ap (entry name) file.is ∙ has.is_entry.is)
+    (zones_first finds files (name ∷ behind) own others is.others all.1 is.are_rest more))
 
 -- ---- what holds of each of some names
 
@@ -400,7 +401,7 @@ all_found finds (name ∷ names) entries h =
     let has = of_name finds name is.e is.is_first in (
       record {
         target = λ other.
-            let found = ap (λ b. cond b (zone_content name (finds.found name)) (link_content finds.is_zone (finds.target name))) (sym other)
+            let found = ap (λ b. cond b (finds.content name) (link_content finds.is_zone (finds.target name))) (sym other)
             ∙ has.is_found in
             let link = link_is finds.is_zone (finds.target name) has.content found in
             subst (λ target. IsSomeAnd target (λ to. finds.is_zone to ≡ true)) (sym link.is_target) link.own;
@@ -408,9 +409,9 @@ all_found finds (name ∷ names) entries h =
       all_found finds names is.others is.are_rest,
     )
 
-by_lines : (source name : List ℕ) → HasZone (finds_in source) name → is_some (zone_in source name) ≡ true
+by_lines : (source : List ℕ) (content : List ℕ → Result Content Why) (name : List ℕ) → HasZone (finds_by source content) name → is_some (zone_in source name) ≡ true
 unfolding zone_in
-by_lines source name has = by_own (listed (zone_of (reverse (values_of source)) name)) refl
+by_lines source content name has = by_own (listed (zone_of (reverse (values_of source)) name)) refl
   where
     latest : List LineValue
     latest = reverse (values_of source)
@@ -443,12 +444,13 @@ found_given source name h =
 
 -- ---- the archive of a source
 
-pub tree_is : (source bytes : List ℕ) → tree_of source ≡ Ok bytes → IsTree source bytes
-unfolding tree_of tree_by
-tree_is source bytes h = by_fault (source_fault source) h
+pub tree_with : (source bytes : List ℕ) (content : List ℕ → Result Content Why) → HasFiles content
+    → after_source (source_fault source) (tree_by (release_of source) (finds_by source content)) ≡ Ok bytes → IsTree source bytes
+unfolding tree_by
+tree_with source bytes content files h = by_fault (source_fault source) h
   where
     finds : Finds
-    finds = finds_in source
+    finds = finds_by source content
 
     given : (entries : List EntryValue) → entries_of (entry_of finds) (archive_names finds) ≡ Ok entries → (name : List ℕ)
         → list_any (λ e. bytes_eq name e.name) entries ≡ list_any (bytes_eq name) (given_names source)
@@ -470,10 +472,10 @@ tree_is source bytes h = by_fault (source_fault source) h
       apart = all_named finds (archive_names finds) entries e (bytes_eq version_name) ∙ all_apart finds (archive_names finds) entries e;
       each = given entries e;
       found = λ name. given entries e name ∙ both_ways _ _
-          (λ among. by_lines source name (one_among (HasZone finds) (archive_names finds) name
+          (λ among. by_lines source content name (one_among (HasZone finds) (archive_names finds) name
           (all_found finds (archive_names finds) entries e) (all_given source name ∙ among)))
           (found_given source name);
-      behind = zones_first finds [] finds.zones (others finds.is_zone finds.links) entries (owns source) e
+      behind = zones_first finds files [] finds.zones (others finds.is_zone finds.links) entries (owns source) e
           (λ rest f. links_behind finds (back finds.zones []) (others finds.is_zone finds.links) rest
           (λ target own. is_there (bytes_eq target) finds.zones [] (zones_hold source target ∙ own)) (all_others finds.is_zone finds.links) f);
     }
@@ -489,3 +491,8 @@ tree_is source bytes h = by_fault (source_fault source) h
         → IsTree source bytes
     by_fault (Some fault) h = absurd cc
     by_fault None h = by_first (first_entries (release_of source)) refl h
+
+pub tree_is : (source bytes : List ℕ) → tree_of source ≡ Ok bytes → IsTree source bytes
+unfolding tree_of
+tree_is source bytes h =
+    tree_with source bytes (λ name. zone_content name (found_in source name)) (λ name content. file_is name (found_in source name) content) h

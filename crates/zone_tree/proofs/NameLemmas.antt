@@ -1,5 +1,5 @@
 -- The names of a table are those of its source, and find the same.
-use Rattle.std.proofs.Common.{◌≡◌, ℕ, Bool, true, false, List, [], ◌∷◌, ◌++◌, map, reverse, cond, option_map, Some, refl, sym, ap, ◌∙◌, append-nil}
+use Rattle.std.proofs.Common.{◌≡◌, ℕ, Bool, true, false, List, [], ◌∷◌, ◌++◌, reverse, cond, option_map, Some, Result, refl, sym, ap, ◌∙◌, append-nil}
 use Rattle.std.specs.Prelude.{◌||◌, is_some, bytes_eq}
 use Rattle.std.specs.Cmp.{both_ways}
 use Rattle.std.specs.FinMap.{FinMap, get, keys, contains_key-keys, IsAntisymmetric, slice_cmp-IsAntisymmetric, nat_cmp-IsAntisymmetric}
@@ -15,6 +15,7 @@ use Rattle.owned.specs.KeyedLaws.{tied_texts}
 use Rattle.owned.specs.Listed.{listed}
 use Rattle.tz_zone.specs.Compiles.{compiled_in}
 use Rattle.zone_source.specs.Zones.{rules_in, values_of, zone_in}
+use Rattle.ustar.specs.Entries.{Content}
 use Rattle.zone_spans.specs.Compiled.{compiled}
 use Rattle.zone_table.specs.Joined.{zone_of, link_of, is_owner}
 use Rattle.zone_table.specs.Owned.{owned_info}
@@ -23,7 +24,9 @@ use Rattle.zone_table.specs.Tables.{IsTableOf}
 use Rattle.zone_table.specs.declared.table.Table.{Table}
 use Rattle.zone_table.specs.declared.zone.ZoneInfo.{ZoneInfo}
 use Rattle.zone_values.specs.Values.{LineValue, space, zone, continuation, rule, link}
-use Rattle.zone_tree.specs.Names.{zone_names, link_names, names_by, finds_in, finds_in_table, found_in}
+use Rattle.zone_tree.specs.Contents.{zone_content}
+use Rattle.zone_tree.specs.Names.{zone_names, link_names, names_by, finds_by, finds_by_table, found_in}
+use Rattle.zone_tree.specs.declared.refusal.Why.{Why}
 
 pub text_same : IsAntisymmetric text_cmp
 text_same = slice_cmp-IsAntisymmetric nat_cmp-IsAntisymmetric
@@ -153,11 +156,16 @@ unfolding found_in zone_in rules_in
 found_is table source name is = λ i.
     option_map (compiled (λ rules. is.rulesets rules i)) (resolved_in-IsTableOf table (reverse (values_of source)) is name i)
 
-pub finds_same : (table : Table) (source : List ℕ) → IsTableOf table (values_of source) → finds_in_table table ≡ finds_in source
-finds_same table source is = λ i. record {
+pub content_same : (table : Table) (source : List ℕ) → IsTableOf table (values_of source)
+    → ◌≡◌ {A = List ℕ → Result Content Why} (λ name. zone_content name (compiled_in table name)) (λ name. zone_content name (found_in source name))
+content_same table source is = λ i name. zone_content name (found_is table source name is i)
+
+pub finds_same : (table : Table) (source : List ℕ) (content : List ℕ → Result Content Why) → IsTableOf table (values_of source)
+    → finds_by_table table content ≡ finds_by source content
+finds_same table source content is = λ i. record {
   zones = keys_are table.zonesets _ (λ q. zones_given (reverse (values_of source)) q ∙ ap is_some (sym (is.zonesets q))) i;
   links = keys_are table.links _ (λ q. links_given (reverse (values_of source)) q ∙ ap is_some (sym (is.links q))) i;
   is_zone = λ name. is_some (is.zonesets name i);
-  found = λ name. found_is table source name is i;
+  content = content;
   target = λ name. is.links name i;
 }

@@ -7,8 +7,10 @@ use Rattle.zone_source.specs.Told.{told_by_source}
 use Rattle.zone_source.specs.declared.error.SourceError.{SourceError}
 use Rattle.zone_source.specs.declared.error.SourceError.TheVariants as source
 use Rattle.zone_tree.specs.Causes.{cause, due_bytes, cause_in, bytes_for, cause_line, name_line}
+use Rattle.zone_tree.specs.EverWrites.{IsFaultLine}
 use Rattle.zone_tree.specs.Told.{IsFaultOf}
 use Rattle.zone_tree.specs.Trees.{Cause, of_source, of_name, refused, tree_of}
+use Rattle.zone_tree.specs.declared.refusal.TreeFault.{TreeFault}
 use Rattle.zone_tree.specs.declared.refusal.TreeFault.TheVariants as tree
 use Rattle.zone_tree.specs.declared.refusal.Why.{Why}
 
@@ -20,7 +22,7 @@ line_due : (text bytes : List ℕ) (c : Cause) → tree_of text ≡ Err c → by
 unfolding cause due_bytes
 line_due text bytes c e line = (subst (λ r. IsSome (cause_in r)) (sym e) refl, line ∙ sym (ap bytes_for e))
 
-pub source_refused : (text bytes : List ℕ) (error : SourceError) → IsFaultOf (tree_of text) (tree.Source error)
+source_refused : (text bytes : List ℕ) (error : SourceError) → IsFaultOf (tree_of text) (tree.Source error)
     → IsLineOf source_line (told_by_source error) bytes → IsSome (cause text) × (bytes ≡ due_bytes text)
 source_refused text bytes error is line = by_told (told_by_source error) is line
   where
@@ -29,6 +31,12 @@ source_refused text bytes error is line = by_told (told_by_source error) is line
     by_told None is line = absurd line
     by_told (Some fault) is line = line_due text bytes (of_source fault) is line
 
-pub name_refused : (text name bytes : List ℕ) (why : Why) → tree_of text ≡ Err (of_name (refused name why)) → bytes ≡ name_line name why ++ 10 ∷ []
+name_refused : (text name bytes : List ℕ) (why : Why) → tree_of text ≡ Err (of_name (refused name why)) → bytes ≡ name_line name why ++ 10 ∷ []
     → IsSome (cause text) × (bytes ≡ due_bytes text)
 name_refused text name bytes why e line = line_due text bytes (of_name (refused name why)) e line
+
+pub fault_due : (text bytes : List ℕ) (fault : TreeFault) → IsFaultOf (tree_of text) fault → IsFaultLine fault bytes
+    → IsSome (cause text) × (bytes ≡ due_bytes text)
+fault_due text bytes (tree.Source error) is line = source_refused text bytes error is line
+fault_due text bytes (tree.Refused name why) is line = name_refused text name bytes why is line
+fault_due text bytes tree.NoMemory is line = absurd line

@@ -7,6 +7,7 @@ use Rattle.tz_lookup.specs.Databases.{name_shown}
 use Rattle.std.proofs.lemmas.Grind.{flat_map-append}
 use Rattle.ustar.specs.Archives.{archive, end_bytes, entry_bytes}
 use Rattle.ustar.specs.Entries.{EntryValue}
+use Rattle.tz_zone.specs.Compiles.{compiled_in}
 use Rattle.zone_source.specs.Releases.{release_of}
 use Rattle.zone_source.specs.Faults.{SourceFault, source_fault}
 use Rattle.zone_source.specs.Told.{TellsOfSource, told_by_source}
@@ -15,14 +16,15 @@ use Rattle.zone_source.specs.declared.error.SourceError.{SourceError}
 use Rattle.zone_source.specs.declared.error.SourceError.TheVariants as source_error
 use Rattle.zone_table.specs.Tables.{IsTableOf}
 use Rattle.zone_table.specs.declared.table.Table.{Table}
+use Rattle.zone_tree.specs.Contents.{zone_content}
 use Rattle.zone_tree.specs.Entries.{version_name, entry_of, release_entry}
-use Rattle.zone_tree.specs.Names.{Finds, finds_in, finds_in_table, archive_names}
+use Rattle.zone_tree.specs.Names.{Finds, finds_by, finds_in, finds_in_table, archive_names}
 use Rattle.zone_tree.specs.Told.{IsPut, ArePut, IsFirst, IsFaultOf}
 use Rattle.zone_tree.specs.Trees.{Refused, refused, onto, entries_of, first_entries, before, joined, archive_of, tree_by, Cause, of_source, or_cause, after_source, tree_of}
 use Rattle.zone_tree.specs.declared.refusal.TreeFault.{TreeFault}
 use Rattle.zone_tree.specs.declared.refusal.TreeFault.TheVariants as tree
 use Rattle.zone_tree.specs.declared.refusal.Why.{Why}
-use Rattle.zone_tree.proofs.NameLemmas.{finds_same}
+use Rattle.zone_tree.proofs.NameLemmas.{content_same, finds_same}
 
 before_none : (r : Result (List EntryValue) Refused) → before [] r ≡ r
 before_none (Ok fs) = refl
@@ -160,7 +162,8 @@ pub tree_is : (table : Table) (source : List ℕ) → source_fault source ≡ No
 unfolding tree_of
 tree_is table source sound is =
     ap (λ fault. after_source fault (tree_by (release_of source) (finds_in source))) sound
-    ∙ ap (λ finds. or_cause (tree_by (release_of source) finds)) (sym (finds_same table source is))
+    ∙ ap (λ finds. or_cause (tree_by (release_of source) finds))
+    (sym (finds_same table source (λ name. zone_content name (compiled_in table name)) is ∙ ap (finds_by source) (content_same table source is)))
 
 pub first_told : (found : Result (List ℕ) Refused) (whole : Result (List ℕ) Cause) (fault : TreeFault) → whole ≡ or_cause found → IsFirst found fault
     → IsFaultOf whole fault

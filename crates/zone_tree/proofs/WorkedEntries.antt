@@ -9,9 +9,10 @@ use Rattle.ustar.specs.declared.entry.EntryFault.TheVariants as entry_fault_is
 use Rattle.zone_spans.specs.Schedules.{totals_of}
 use Rattle.zone_spans.specs.declared.fault.SpanFault.TheVariants as span
 use Rattle.zone_spans.specs.declared.span.FixedTimespanSet as spans
-use Rattle.zone_tree.specs.Entries.{has_mark, is_marked, file_or, file_unless, zone_content, link_content, is_folder, is_reserved, is_taken, said, entry_by, entry_of}
+use Rattle.zone_tree.specs.Contents.{Found, has_mark, is_marked, file_or, file_unless, zone_content}
+use Rattle.zone_tree.specs.Entries.{link_content, is_folder, is_reserved, is_taken, said, entry_by, entry_of}
 use Rattle.zone_tree.specs.TreeShape.{are_behind}
-use Rattle.zone_tree.specs.Names.{Finds, Found, archive_names}
+use Rattle.zone_tree.specs.Names.{Finds, archive_names}
 use Rattle.zone_tree.specs.Trees.{entries_of, first_entries, joined, refused, tree_by}
 use Rattle.zone_tree.specs.declared.refusal.Why.TheVariants.{Schedule, OffsetRange, Format, File, Link, Name, Size}
 use Rattle.zone_tzif_core.specs.declared.values.WriteFault.TheVariants as write
@@ -107,7 +108,7 @@ finds_of found = record {
   zones = codes "../E" ∷ codes "A/B" ∷ codes "D" ∷ [];
   links = codes "A/B" ∷ codes "C" ∷ codes "D/F" ∷ codes "L" ∷ codes "Y" ∷ codes "Z" ∷ [];
   is_zone = is_own;
-  found = λ name. found;
+  content = λ name. zone_content name found;
   target = λ name. if bytes_eq name (codes "Z") then Some (replicate 101 65) else (if bytes_eq name (codes "Y") then Some (codes "L") else Some (codes "A/B"));
 }
 
@@ -178,7 +179,7 @@ two_names = record {
   zones = codes "A/B" ∷ [];
   links = codes "0" ∷ [];
   is_zone = λ name. bytes_eq name (codes "A/B");
-  found = λ name. Some (Ok (fixed_at (pos 3600)));
+  content = λ name. zone_content name (Some (Ok (fixed_at (pos 3600))));
   target = λ name. Some (codes "A/B");
 }
 

@@ -2,11 +2,12 @@
 use Rattle.std.proofs.Common.{◌≡◌, [], ◌∷◌, ◌++◌, map, replicate, codes, Some, None, Ok, Err, refl}
 use Rattle.std.specs.Fmt.{digits}
 use Rattle.zone_source.specs.Faults.{not_text}
-use Rattle.zone_source.specs.FileWords.{file_in}
 use Rattle.zone_spans.specs.declared.fault.SpanFault.TheVariants as span
+use Rattle.zone_tail_ever.specs.declared.outcome.EverTailFault.TheVariants as tail
 use Rattle.zone_tree.specs.Causes.{name_line, cause_line, cause_in, bytes_for}
 use Rattle.zone_tree.specs.Trees.{of_source, of_name, refused, after_source}
-use Rattle.zone_tree.specs.declared.refusal.Why.TheVariants.{Schedule, OffsetRange, Format, File, Link, Name, Size}
+use Rattle.zone_tree.specs.declared.refusal.Why.TheVariants.{Schedule, OffsetRange, RulesEnd, String, Format, File, Link, Name, Size}
+use Rattle.zone_tree.specs.Words.{asks_in, for_ever, to_2099}
 use Rattle.zone_tzif_core.specs.declared.values.WriteFault.TheVariants as write
 
 -- the line of each fault of a schedule
@@ -19,8 +20,9 @@ lines_of_schedules = refl
 
 -- and of each other cause
 lines_of_causes : map (name_line (codes "A"))
-    (OffsetRange ∷ Format ∷ File write.Times ∷ File write.Types ∷ File write.Names ∷ Link ∷ Name ∷ Size ∷ [])
-    ≡ codes "tree A: offset range" ∷ codes "tree A: format" ∷ codes "tree A: times" ∷ codes "tree A: types" ∷ codes "tree A: names"
+    (OffsetRange ∷ RulesEnd ∷ String tail.Shape ∷ String tail.OffsetRange ∷ String tail.Name ∷ String tail.NoRule ∷ Format ∷ File write.Times ∷ File write.Types ∷ File write.Names ∷ Link ∷ Name ∷ Size ∷ [])
+    ≡ codes "tree A: offset range" ∷ codes "tree A: rules end" ∷ codes "tree A: string shape" ∷ codes "tree A: string range"
+    ∷ codes "tree A: string name" ∷ codes "tree A: string rule" ∷ codes "tree A: format" ∷ codes "tree A: times" ∷ codes "tree A: types" ∷ codes "tree A: names"
     ∷ codes "tree A: link" ∷ codes "tree A: name" ∷ codes "tree A: size" ∷ []
 lines_of_causes = refl
 
@@ -52,6 +54,9 @@ first_causes = refl
 no_archive : map (λ fault. after_source fault (Ok (1 ∷ 2 ∷ []))) (Some (not_text 3) ∷ None ∷ []) ≡ Err (of_source (not_text 3)) ∷ Ok (1 ∷ 2 ∷ []) ∷ []
 no_archive = refl
 
--- one word, and no other count
-words : map file_in ([] ∷ (codes "f" ∷ []) ∷ (codes "f" ∷ codes "g" ∷ []) ∷ []) ≡ None ∷ Some (codes "f") ∷ None ∷ []
+-- one word; two where the first asks for ever; and no other count
+words : map asks_in ([] ∷ (codes "f" ∷ []) ∷ (codes "f" ∷ codes "g" ∷ []) ∷ (codes "--for-ever" ∷ []) ∷ (codes "--for-ever" ∷ codes "f" ∷ [])
+    ∷ (codes "f" ∷ codes "--for-ever" ∷ []) ∷ (codes "--for-ever" ∷ codes "f" ∷ codes "g" ∷ []) ∷ [])
+    ≡ to_2099 None ∷ to_2099 (Some (codes "f")) ∷ to_2099 None ∷ to_2099 (Some (codes "--for-ever")) ∷ for_ever (codes "f")
+    ∷ to_2099 None ∷ to_2099 None ∷ []
 words = refl

@@ -1,15 +1,18 @@
 -- How a run ends.
-use Rattle.std.specs.Prelude.{ℕ, List, Option}
+use Rattle.std.specs.Prelude.{ℕ, List, IsNone, Some}
 use Rattle.zone_source.specs.OneFile.{file_work}
-use Rattle.zone_source.specs.Runs.{Seen, Work, EndsOf}
+use Rattle.zone_source.specs.Runs.{Seen, Work, EndsOf, EndsOver}
 use Rattle.zone_source.specs.declared.running.Status.{Status}
 use Rattle.zone_tree.specs.Causes.{cause, due_bytes}
+use Rattle.zone_tree.specs.EverWrites.{ever_writes}
 use Rattle.zone_tree.specs.Trees.{Cause}
+use Rattle.zone_tree.specs.Words.{Asks, for_ever, to_2099}
 
--- what the program does with the file that its words name
+-- what the program does to 2099 with the file that its words name
 abbrev pub work : Work (List ℕ) Cause
 work = file_work cause due_bytes
 
--- how a run ended whose words name this file
-abbrev pub Ends : Option (List ℕ) → Seen → Seen → Status → Type 0
-Ends file before now end = EndsOf work file before now end
+-- how a run ended whose words ask this
+abbrev pub Ends : Asks → Seen → Seen → Status → Type 0
+Ends (to_2099 file) before now end = EndsOf work file before now end
+Ends (for_ever file) before now end = EndsOver ever_writes (IsNone (Some file)) (Some file) before now end

@@ -1,43 +1,13 @@
 -- The entry of a name.
-use Rattle.std.specs.Prelude.{ℕ, List, [], ◌∷◌, ◌++◌, ◌||◌, nat_eq, Bool, true, false, Option, Some, None, Result, Ok, Err, codes, if◌then◌else◌}
+use Rattle.std.specs.Prelude.{ℕ, List, [], ◌∷◌, ◌++◌, ◌||◌, nat_eq, Bool, Option, Some, None, Result, Ok, Err, codes, if◌then◌else◌}
 use Rattle.std.specs.List.{list_any, starts_with}
-use Rattle.tz_zone.specs.declared.set.FixedTimespanSet.{FixedTimespanSet}
 use Rattle.ustar.specs.Entries.{Content, of_file, of_link, EntryValue, entry}
 use Rattle.ustar.specs.Names.{entry_fault}
 use Rattle.ustar.specs.declared.entry.EntryFault.{EntryFault}
 use Rattle.ustar.specs.declared.entry.EntryFault.TheVariants as entry_fault
-use Rattle.zone_run.specs.Causes.{named}
-use Rattle.zone_spans.specs.Schedules.{totals_of, is_in_offset_range}
-use Rattle.zone_tree.specs.Names.{Finds, Found}
+use Rattle.zone_tree.specs.Names.{Finds}
 use Rattle.zone_tree.specs.declared.refusal.Why.{Why}
-use Rattle.zone_tree.specs.declared.refusal.Why.TheVariants.{Schedule, OffsetRange, Format, File, Link, Name, Size}
-use Rattle.zone_tzif_core.specs.declared.values.WriteFault.{WriteFault}
-use Rattle.zone_tzif_set.specs.Files.{consistent_fault, consistent_file}
-
--- the file of a set, or why there is none
-abbrev pub file_or : Option WriteFault → FixedTimespanSet → Result Content Why
-file_or None set = Ok (of_file (consistent_file set))
-file_or (Some fault) set = Err (File fault)
-
--- a `%` is left in a text: what a FORMAT asks for was not put in its place
-abbrev pub has_mark : List ℕ → Bool
-has_mark text = list_any (nat_eq 37) text
-
--- in the abbreviation of some span
-unfoldable pub is_marked : FixedTimespanSet → Bool
-is_marked set = has_mark set.first.name || list_any (λ entry. has_mark entry.1.name) set.others
-
--- no reader of a file knows such a mark, so there is no file with one
-abbrev pub file_unless : Bool → FixedTimespanSet → Result Content Why
-file_unless true set = Err Format
-file_unless false set = file_or (consistent_fault set) set
-
--- the file of what the name of a zone finds; a name that finds nothing is none of the archive's
-abbrev pub zone_content : List ℕ → Found → Result Content Why
-zone_content name (Some (Ok set)) =
-    if is_in_offset_range (totals_of set) then file_unless (is_marked (named name set)) (named name set) else Err OffsetRange
-zone_content name (Some (Err fault)) = Err (Schedule fault)
-zone_content name None = Err Name
+use Rattle.zone_tree.specs.declared.refusal.Why.TheVariants.{Link, Name, Size}
 
 -- a hard link to the name of a zone; a link to any other name finds no zone
 abbrev pub link_content : (List ℕ → Bool) → Option (List ℕ) → Result Content Why
@@ -46,7 +16,7 @@ link_content is_zone None = Err Name
 
 abbrev pub content_of : Finds → List ℕ → Result Content Why
 content_of finds name =
-    if finds.is_zone name then zone_content name (finds.found name) else link_content finds.is_zone (finds.target name)
+    if finds.is_zone name then finds.content name else link_content finds.is_zone (finds.target name)
 
 -- some other name stands in it as in a folder
 abbrev pub is_folder : List (List ℕ) → List ℕ → Bool

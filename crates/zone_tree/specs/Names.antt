@@ -6,12 +6,13 @@ use Rattle.owned.specs.InOrder.{in_order}
 use Rattle.owned.specs.Keyed.{text_cmp}
 use Rattle.owned.specs.Listed.{listed}
 use Rattle.tz_zone.specs.Compiles.{compiled_in}
+use Rattle.ustar.specs.Entries.{Content}
 use Rattle.zone_source.specs.Zones.{rules_in, values_of, zone_in}
 use Rattle.zone_spans.specs.Compiled.{compiled}
-use Rattle.zone_spans.specs.declared.fault.SpanFault.{SpanFault}
-use Rattle.zone_spans.specs.declared.span.FixedTimespanSet.{FixedTimespanSet}
 use Rattle.zone_table.specs.Joined.{zone_of, link_of}
 use Rattle.zone_table.specs.declared.table.Table.{Table}
+use Rattle.zone_tree.specs.Contents.{Found, zone_content}
+use Rattle.zone_tree.specs.declared.refusal.Why.{Why}
 use Rattle.zone_values.specs.Values.{LineValue, zone, link}
 
 -- the name that a line gives to a zone
@@ -32,41 +33,43 @@ names_by value = zone_names value ++ link_names value
 unfoldable pub given_names : List ℕ → List (List ℕ)
 given_names source = flat_map names_by (reverse (values_of source))
 
--- what a zone is compiled to, if there is one
-abbrev pub Found : Type 0
-Found = Option (Result FixedTimespanSet SpanFault)
-
 -- what the zone of a name is compiled to, under the rules of the source
 unfoldable pub found_in : List ℕ → List ℕ → Found
 found_in source name = option_map (compiled (rules_in source)) (zone_in source name)
 
 -- the names of zones and the new names of links, each in byte order and once, and what they find: whether a name is a zone's own,
--- what that is compiled to, and the name that a link is to
+-- what that has in the archive, and the name that a link is to
 pub record Finds : Type 0 where
   pub zones : List (List ℕ)
   pub links : List (List ℕ)
   pub is_zone : List ℕ → Bool
-  pub found : List ℕ → Found
+  pub content : List ℕ → Result Content Why
   pub target : List ℕ → Option (List ℕ)
 
-abbrev pub finds_in : List ℕ → Finds
-finds_in source = record {
+abbrev pub finds_by : List ℕ → (List ℕ → Result Content Why) → Finds
+finds_by source content = record {
   zones = in_order text_cmp (flat_map zone_names (reverse (values_of source)));
   links = in_order text_cmp (flat_map link_names (reverse (values_of source)));
   is_zone = λ name. is_some (listed (zone_of (reverse (values_of source)) name));
-  found = found_in source;
+  content = content;
   target = link_of (reverse (values_of source));
 }
 
+abbrev pub finds_in : List ℕ → Finds
+finds_in source = finds_by source (λ name. zone_content name (found_in source name))
+
 -- the same of a table
-abbrev pub finds_in_table : Table → Finds
-finds_in_table table = record {
+abbrev pub finds_by_table : Table → (List ℕ → Result Content Why) → Finds
+finds_by_table table content = record {
   zones = keys table.zonesets;
   links = keys table.links;
   is_zone = λ name. is_some (get table.zonesets name);
-  found = compiled_in table;
+  content = content;
   target = get table.links;
 }
+
+abbrev pub finds_in_table : Table → Finds
+finds_in_table table = finds_by_table table (λ name. zone_content name (compiled_in table name))
 
 -- those of some names that are no zone's own
 abbrev pub others : (List ℕ → Bool) → List (List ℕ) → List (List ℕ)

@@ -2,9 +2,12 @@
 #![tactic(auto)]
 
 mod entry;
+mod ever;
+mod files;
 mod folder;
 mod laws;
 mod names;
+mod no_input;
 mod refusal;
 mod respond;
 mod running;
@@ -13,7 +16,7 @@ mod whole;
 pub use laws::{names_and_links, same_by_table};
 pub use refusal::{TreeFault, Why};
 pub use running::{run_tree, start_tree};
-pub use whole::{tree, tree_of_table};
+pub use whole::{tree, tree_for_ever, tree_of_table, tree_of_table_for_ever};
 pub use zone_source::{
     Failed, FileShelf, MemShelf, MemSink, Shelf, Sink, Source, Started, Status, StdSink, SureShelf,
     SureSink,

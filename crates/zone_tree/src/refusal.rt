@@ -1,5 +1,6 @@
 //! Why a source has no archive.
 ghost use Rattle.std.specs.Prelude.{◌≡◌};
+ghost use Rattle.zone_tree.specs.Refusals.{string_word};
 ghost use Rattle.zone_tzif.specs.Asks.{fault_word};
 
 use owned::Text;
@@ -7,6 +8,7 @@ use std::alloc::AllocError;
 use std::{error, fmt};
 use zone_source::SourceError;
 use zone_spans::SpanFault;
+use zone_tail_ever::EverTailFault;
 use zone_tzif_core::WriteFault;
 
 /// Why a name has no entry in an archive.
@@ -16,6 +18,10 @@ pub enum Why {
     Schedule(SpanFault),
     /// Some span of its zone has an offset of 26 hours or more in size.
     OffsetRange,
+    /// Its zone doesn't go on after 2099.
+    RulesEnd,
+    /// No footer carries its zone on for ever: `Shape`, `OffsetRange`, `Name` or `NoRule`.
+    String(EverTailFault),
     /// A `%` is left in an abbreviation of its zone, which no reader of its file would know.
     Format,
     /// Its zone has no file: `Times`, `Types` or `Names`.
@@ -97,7 +103,14 @@ impl Why {
     {
         match self {
             Why::Schedule(_) => "schedule ",
-            Why::OffsetRange | Why::Format | Why::File(_) | Why::Link | Why::Name | Why::Size => "",
+            Why::String(_) => "string ",
+            Why::OffsetRange
+            | Why::RulesEnd
+            | Why::Format
+            | Why::File(_)
+            | Why::Link
+            | Why::Name
+            | Why::Size => "",
         }
     }
 
@@ -108,12 +121,27 @@ impl Why {
         match self {
             Why::Schedule(fault) => fault.name(),
             Why::OffsetRange => "offset range",
+            Why::RulesEnd => "rules end",
+            Why::String(fault) => string_word(fault),
             Why::Format => "format",
             Why::File(fault) => file_word(fault),
             Why::Link => "link",
             Why::Name => "name",
             Why::Size => "size",
         }
+    }
+}
+
+/// The word for what keeps a zone from having a footer for ever; for want of memory none.
+fn string_word(fault: EverTailFault) -> &'static str
+    ensures { result.now ≡ string_word fault }
+{
+    match fault {
+        EverTailFault::Shape => "shape",
+        EverTailFault::OffsetRange => "range",
+        EverTailFault::Name => "name",
+        EverTailFault::NoRule => "rule",
+        EverTailFault::NoMemory => "",
     }
 }
 

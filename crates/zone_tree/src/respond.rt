@@ -2,9 +2,10 @@
 ghost use Rattle.std.specs.Prelude.{◌≡◌, ◌≤◌, ◌++◌, ◌∷◌, [], length, take, IfOk};
 ghost use Rattle.zone_source.specs.Responses.{IsResponse};
 ghost use Rattle.zone_tree.specs.Causes.{cause, due_bytes, name_line};
+ghost use Rattle.zone_tree.specs.EverWrites.{IsEverResponse, IsFaultLine};
 
 use crate::refusal::{TreeFault, Why};
-use crate::whole::tree;
+use crate::whole::{tree, tree_for_ever};
 use std::alloc::{AllocError, Global};
 use zone_line::LineParser;
 use zone_source::{LIMIT, Response, source_fault_bytes};
@@ -20,11 +21,33 @@ pub(crate) fn respond(
 {
     match tree(alloc, parser, source) {
         Ok(bytes) => Ok(Response::Answer(bytes)),
-        Err(TreeFault::Source(error)) => Ok(Response::Fault(source_fault_bytes(alloc, &error)?)),
-        Err(TreeFault::Refused(name, why)) => {
-            Ok(Response::Fault(name_fault(alloc, name.as_str(), why)?))
-        }
-        Err(TreeFault::NoMemory) => Err(AllocError),
+        Err(fault) => Ok(Response::Fault(fault_line(alloc, &fault)?)),
+    }
+}
+
+/// What is due for a source for ever.
+pub(crate) fn respond_for_ever(
+    alloc: Global,
+    parser: &LineParser,
+    source: &[u8],
+) -> Result<Response, AllocError>
+    requires { length source.now ≤ LIMIT }
+    ensures { IsEverResponse source.now result }
+{
+    match tree_for_ever(alloc, parser, source) {
+        Ok(bytes) => Ok(Response::Answer(bytes)),
+        Err(fault) => Ok(Response::Fault(fault_line(alloc, &fault)?)),
+    }
+}
+
+/// The line of a fault, with its LF.
+fn fault_line(alloc: Global, fault: &TreeFault) -> Result<Vec<u8>, AllocError>
+    ensures { IfOk result (λ line. IsFaultLine fault.now line.items) }
+{
+    match fault {
+        TreeFault::Source(error) => source_fault_bytes(alloc, error),
+        TreeFault::Refused(name, why) => name_fault(alloc, name.as_str(), *why),
+        TreeFault::NoMemory => Err(AllocError),
     }
 }
 

@@ -1,16 +1,23 @@
 //! The program, its run, and the whole of it.
-ghost use Rattle.std.specs.Option.{ForSome};
-ghost use Rattle.zone_source.specs.FileWords.{file_of};
+ghost use Rattle.std.specs.Prelude.{◌≡◌, ℕ, List, Some, map, option_map, string_bytes};
 ghost use Rattle.zone_source.specs.Runs.{seen};
 ghost use Rattle.zone_tree.specs.Ends.{Ends};
 ghost use Rattle.zone_tree.specs.Starts.{StartsTree};
+ghost use Rattle.zone_tree.specs.Words.{asks_of, ever_file_in, file_asked, for_ever};
 
-use crate::respond::respond;
+use crate::no_input::NoInput;
+use crate::respond::{respond, respond_for_ever};
 use std::alloc::{AllocError, Global};
 use zone_line::LineParser;
-use zone_source::{FileProgram, Response, Shelf, Sink, Started, Status, run_file, start_file};
+use zone_source::{
+    Answered, FileProgram, Response, Shelf, Sink, Source, SourceProgram, Started, Status,
+    TextAnswers, run_file, run_over, start_source_run, write_all,
+};
 
-/// The program, over the file that its words name.
+/// The first of two words, with which each zone goes on for ever.
+const FOR_EVER: &str = "--for-ever";
+
+/// The program to 2099, over the file that its words name.
 struct TreeProgram;
 
 impl FileProgram for TreeProgram {
@@ -28,7 +35,53 @@ impl FileProgram for TreeProgram {
     }
 }
 
-/// Writes every zone and link of the named source as a tar archive, or the line of the first cause.
+/// What writes an archive for ever.
+#[derive(Drop)]
+struct EverAnswers<'p> {
+    parser: &'p LineParser,
+}
+
+impl<'p> TextAnswers for EverAnswers<'p> {
+    ghost use Rattle.zone_tree.specs.EverWrites.{ever_writes};
+    ghost use Rattle.zone_tree.specs.WriteLaws.{ever_ends_well};
+
+    ghost writes = { λ _. ever_writes };
+
+    fn respond<O: Sink>(
+        &self,
+        alloc: Global,
+        text: &[u8],
+        _requests: &[u8],
+        output: &mut O,
+    ) -> Answered {
+        match respond_for_ever(alloc, self.parser, text) {
+            Ok(Response::Answer(bytes)) => match write_all(output, &bytes) {
+                Ok(()) => Answered::Done,
+                Err(_) => Answered::Failed,
+            },
+            Ok(Response::Fault(line)) => match write_all(output, &line) {
+                Ok(()) => Answered::Fault,
+                Err(_) => Answered::Failed,
+            },
+            Err(_) => Answered::NoMemory,
+        }
+    }
+
+    ghost ends_well = { λ _. ever_ends_well };
+}
+
+/// The file that the words `--for-ever FILE` name.
+fn ever_file(words: &[String]) -> Option<&str>
+    ensures { option_map (λ name. name.now) result ≡ ever_file_in (map string_bytes words.now) }
+{
+    match words {
+        [word, file] if word.as_str() == FOR_EVER => Some(file.as_str()),
+        _ => None,
+    }
+}
+
+/// Writes every zone and link of a source as a tar archive, or the line of the first cause: of `FILE` with each zone compiled to the
+/// end of 2099, of `--for-ever FILE` with each zone going on for ever.
 ///
 /// It works in this order: the words; the shelf's text to its end; the source; the writing. What each status says is told
 /// field by field by `Ends`.
@@ -39,11 +92,56 @@ pub fn run_tree<H: Shelf, O: Sink>(
     shelf: &mut H,
     output: &mut O,
 ) -> Status
-    requires { ForSome (file_of words.now) (λ file. H.open_to shelf.old file) }
-    ensures { Ends (file_of words.now)
+    requires { (name : List ℕ) → file_asked (asks_of words.now) ≡ Some name → H.open_to shelf.old name }
+    ensures { Ends (asks_of words.now)
         (seen H.Source O.Sink shelf.old output.old) (seen H.Source O.Sink shelf.new output.new) result }
 {
-    run_file::<TreeProgram, H, O>(alloc, parser, words, shelf, output)
+    match ever_file(words) {
+        Some(file) => run_for_ever(alloc, parser, file, shelf, output),
+        None => run_file::<TreeProgram, H, O>(alloc, parser, words, shelf, output),
+    }
+}
+
+/// The run over a file for ever.
+fn run_for_ever<H: Shelf, O: Sink>(
+    alloc: Global,
+    parser: &LineParser,
+    file: &str,
+    shelf: &mut H,
+    output: &mut O,
+) -> Status
+    requires { H.open_to shelf.old file.now }
+    ensures { Ends (for_ever file.now)
+        (seen H.Source O.Sink shelf.old output.old) (seen H.Source O.Sink shelf.new output.new) result }
+{
+    run_over(
+        alloc,
+        &EverAnswers { parser },
+        file,
+        shelf,
+        &mut NoInput,
+        output,
+    )
+}
+
+/// The program, as one over source text. It leaves the input alone.
+struct TreeStart;
+
+impl SourceProgram for TreeStart {
+    ghost use Rattle.zone_tree.specs.Starts.{tree_run};
+
+    ghost ends = { tree_run };
+
+    fn run<H: Shelf, I: Source, O: Sink>(
+        alloc: Global,
+        parser: &LineParser,
+        words: &[String],
+        shelf: &mut H,
+        _input: &mut I,
+        output: &mut O,
+    ) -> Status {
+        run_tree(alloc, parser, words, shelf, output)
+    }
 }
 
 /// The whole program `zone_tree`: `run_tree` over its words, the files and standard output. The exit status is that of the run;
@@ -51,5 +149,5 @@ pub fn run_tree<H: Shelf, O: Sink>(
 pub fn start_tree(rt: HostRuntime) -> Started
     ensures { StartsTree result }
 {
-    start_file::<TreeProgram>(rt)
+    start_source_run::<TreeStart>(rt)
 }

@@ -5,11 +5,15 @@ ghost use Rattle.std.specs.Option.{option_copied};
 ghost use Rattle.tz_lookup.specs.Databases.{name_shown};
 ghost use Rattle.zone_table.specs.BoundedTables.{IsBoundedTable};
 ghost use Rattle.zone_tree.specs.Entries.{entry_of};
-ghost use Rattle.zone_tree.specs.Names.{finds_in_table};
+ghost use Rattle.zone_tree.specs.Names.{finds_by_table, finds_in_table};
+ghost use Rattle.zone_tree.specs.EverTold.{IsEverFaultOf, IsFirstEver};
+ghost use Rattle.zone_tree.specs.EverTrees.{IsEverTree, OfTree};
 ghost use Rattle.zone_tree.specs.Told.{ArePut, IsFirst, IsFaultOf};
 ghost use Rattle.zone_tree.specs.Trees.{entries_of, first_entries, tree_by, tree_of};
 
 use crate::entry::{VERSION_NAME, put_name, put_release};
+use crate::ever::EverFiles;
+use crate::files::{FilesTo2099, ZoneFiles};
 use crate::names::{Names, archive_names};
 use crate::refusal::{NameFault, TreeFault};
 use owned::Text;
@@ -45,22 +49,23 @@ fn put_first(alloc: Global, release: Option<&str>, into: &mut Vec<u8>) -> Result
 }
 
 /// Puts the entries of some names at the end, in their order.
-fn put_names(
+fn put_names<F: ZoneFiles>(
     alloc: Global,
     table: &Table,
+    files: &F,
     names: &Names<'_>,
     ordered: &[&str],
     into: &mut Vec<u8>,
 ) -> Result<(), TreeFault>
-    requires bounded { IsBoundedTable table.now }
+    requires ready { F.ready files.now }
     requires zones { each name_shown names.now.zones.now ≡ keys table.now.zonesets }
     requires links { each name_shown names.now.links.now ≡ keys table.now.links }
     ensures ok { OnOk result (ArePut into.old.items into.new.items
-        (entries_of (entry_of (finds_in_table table.now)) (each name_shown ordered.now))) }
-    ensures err { IfErr result (IsFirst (entries_of (entry_of (finds_in_table table.now)) (each name_shown ordered.now))) }
+        (entries_of (entry_of (finds_by_table table.now (F.content files.now))) (each name_shown ordered.now))) }
+    ensures err { IfErr result (IsFirst (entries_of (entry_of (finds_by_table table.now (F.content files.now))) (each name_shown ordered.now))) }
 {
     for name in ordered {
-        match put_name(alloc, table, names, name, into) {
+        match put_name(alloc, table, files, names, name, into) {
             Ok(()) => {}
             Err(NameFault::Refused(why)) => {
                 return Err(TreeFault::Refused(Text::new(alloc, name)?, why));
@@ -71,21 +76,17 @@ fn put_names(
     Ok(())
 }
 
-/// Every zone of a table, and every link, in a tar archive, as [`tree`] has those of a source, with a release if there is one. A table
-/// that `read_table` gives is bounded.
-///
-/// # Errors
-///
-/// `Refused` has the first name in the archive's order that has no entry, and why; `NoMemory`. `Source` never comes.
+/// Every zone of a table, with such files, and every link, in a tar archive.
 #[tactic(auto, unfolding(crate::specs::Trees::tree_by))]
-pub fn tree_of_table(
+pub(crate) fn tree_with<F: ZoneFiles>(
     alloc: Global,
     release: Option<&str>,
     table: &Table,
+    files: &F,
 ) -> Result<Vec<u8>, TreeFault>
-    requires { IsBoundedTable table.now }
-    ensures ok { IfOk result (λ bytes. tree_by (option_copied release.entry) (finds_in_table table.now) ≡ Ok bytes.items) }
-    ensures err { IfErr result (IsFirst (tree_by (option_copied release.entry) (finds_in_table table.now))) }
+    requires { F.ready files.now }
+    ensures ok { IfOk result (λ bytes. tree_by (option_copied release.entry) (finds_by_table table.now (F.content files.now)) ≡ Ok bytes.items) }
+    ensures err { IfErr result (IsFirst (tree_by (option_copied release.entry) (finds_by_table table.now (F.content files.now)))) }
 {
     let zones = table.zonesets.keys(alloc)?;
     let links = table.links.keys(alloc)?;
@@ -99,12 +100,30 @@ pub fn tree_of_table(
         Ok(()) => {}
         Err(fault) => return Err(fault),
     }
-    match put_names(alloc, table, &names, ordered.as_slice(), &mut bytes) {
+    match put_names(alloc, table, files, &names, ordered.as_slice(), &mut bytes) {
         Ok(()) => {}
         Err(fault) => return Err(fault),
     }
     put_end(&mut bytes)?;
     Ok(bytes)
+}
+
+/// Every zone of a table, and every link, in a tar archive, as [`tree`] has those of a source, with a release if there is one. A table
+/// that `read_table` gives is bounded.
+///
+/// # Errors
+///
+/// `Refused` has the first name in the archive's order that has no entry, and why; `NoMemory`. `Source` never comes.
+pub fn tree_of_table(
+    alloc: Global,
+    release: Option<&str>,
+    table: &Table,
+) -> Result<Vec<u8>, TreeFault>
+    requires { IsBoundedTable table.now }
+    ensures ok { IfOk result (λ bytes. tree_by (option_copied release.entry) (finds_in_table table.now) ≡ Ok bytes.items) }
+    ensures err { IfErr result (IsFirst (tree_by (option_copied release.entry) (finds_in_table table.now))) }
+{
+    tree_with(alloc, release, table, &FilesTo2099 { table })
 }
 
 /// Every zone of a source, and every link, in a tar archive in the ustar format of POSIX: first, where the source names its release, a
@@ -125,6 +144,52 @@ pub fn tree(alloc: Global, parser: &LineParser, source: &[u8]) -> Result<Vec<u8>
         Err(error) => return Err(TreeFault::Source(error)),
     };
     let bytes = match tree_of_table(alloc, release_of(source), &table) {
+        Ok(bytes) => bytes,
+        Err(fault) => return Err(fault),
+    };
+    Ok(bytes)
+}
+
+/// As [`tree_of_table`], where each zone goes on for ever: its file is that of [`tzif_for_ever`](zone_tzif_set::tzif_for_ever).
+///
+/// # Errors
+///
+/// `Refused` has the first name in the archive's order that has no entry, and why; `NoMemory`. `Source` never comes.
+pub fn tree_of_table_for_ever(
+    alloc: Global,
+    release: Option<&str>,
+    table: &Table,
+) -> Result<Vec<u8>, TreeFault>
+    requires { IsBoundedTable table.now }
+    ensures ok { IfOk result (λ bytes. OfTree (option_copied release.entry) table.now (λ tree. tree ≡ Ok bytes.items)) }
+    ensures err { IfErr result (IsFirstEver (option_copied release.entry) table.now) }
+{
+    let files = EverFiles::of(alloc, table)?;
+    match tree_with(alloc, release, table, &files) {
+        Ok(bytes) => Ok(bytes),
+        Err(fault) => Err(fault),
+    }
+}
+
+/// As [`tree`], where each zone goes on for ever.
+///
+/// # Errors
+///
+/// Those of [`tree`].
+pub fn tree_for_ever(
+    alloc: Global,
+    parser: &LineParser,
+    source: &[u8],
+) -> Result<Vec<u8>, TreeFault>
+    requires { length source.now ≤ LIMIT }
+    ensures ok { IfOk result (λ bytes. IsEverTree source.now bytes.items) }
+    ensures err { IfErr result (IsEverFaultOf source.now) }
+{
+    let table = match read_table(alloc, parser, source) {
+        Ok(table) => table,
+        Err(error) => return Err(TreeFault::Source(error)),
+    };
+    let bytes = match tree_of_table_for_ever(alloc, release_of(source), &table) {
         Ok(bytes) => bytes,
         Err(fault) => return Err(fault),
     };

@@ -3,7 +3,7 @@ use Rattle.tz_zone.specs.Compiles.{compiled_in}
 use Rattle.ustar.specs.Entries.{of_file}
 use Rattle.zone_tree.specs.Told.{IsWhy}
 use Rattle.zone_tree.proofs.EntryLemmas.{content_is}
-use Rattle.zone_tree.proofs.entry.file_of.Goals as goal
+use Rattle.zone_tree.proofs.files.file_of.Goals as goal
 
 pub returns-in-Ok-clause-ok : goal.returns-in-Ok-clause-ok
 returns-in-Ok-clause-ok c =
