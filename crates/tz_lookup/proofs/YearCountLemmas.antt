@@ -1,9 +1,9 @@
 -- The entries of a year lie between the counts of two years.
-use Rattle.std.proofs.Common.{◌≡◌, ℕ, zero, suc, ◌+◌, ◌-◌, ◌*◌, ◌<◌, ◌≤◌, Bool, true, false, cond, List, [], ◌∷◌, ◌++◌, length, map, get_or, nat_eq, nat_lt, filter, ℤ, pos, ◌+ℤ◌, ◌-ℤ◌, ◌≤ℤ◌, ◌<ℤ◌, refl, sym, ap, ◌∙◌, subst, ⊎_elim, arith}
-use Rattle.std.proofs.lemmas.Bool.{cases_lt, le-ltb, lt-ltb}
+use Rattle.std.proofs.Common.{◌≡◌, ℕ, zero, suc, ◌+◌, ◌-◌, ◌*◌, ◌<◌, ◌≤◌, Bool, true, false, cond, List, [], ◌∷◌, ◌++◌, length, map, get_or, nat_eq, filter, ℤ, pos, ◌+ℤ◌, ◌-ℤ◌, ◌≤ℤ◌, ◌<ℤ◌, refl, sym, ap, ◌∙◌, subst, ⊎_elim, arith}
+use Rattle.std.proofs.lemmas.Bool.{cases_lt}
 use Rattle.std.proofs.lemmas.Bool.Decides.{nat_tests}
 use Rattle.std.proofs.lemmas.Int.{ints}
-use Rattle.std.proofs.lemmas.List.{length-map}
+use Rattle.std.proofs.lemmas.List.{get_or_default, get_or_past, length-map}
 use Rattle.calendar.specs.ComparisonLaws.{le_le}
 use Rattle.zone_spans.specs.Entries.{Entry}
 use Rattle.tz_zone.specs.declared.set.FixedTimespanSet.{FixedTimespanSet}
@@ -30,12 +30,6 @@ less_one a b h = omega (arith, ints, h)
 
 opposed : (a b c : ℤ) → a ≤ℤ b → b ≤ℤ c → c <ℤ a → ⊥
 opposed a b c h k l = omega (arith, ints, h, k, l)
-
-at_place : (n m a b : ℕ) → n < m → cond (nat_lt n m) a b ≡ a
-at_place n m a b l = ap (λ t. cond t a b) (lt-ltb n m l)
-
-past : (n m a b : ℕ) → m ≤ n → cond (nat_lt n m) a b ≡ b
-past n m a b l = ap (λ t. cond t a b) (le-ltb n m l)
 
 far_before : (a s u t : ℤ) → a ≤ℤ (s -ℤ pos 1) → (s +ℤ pos 31536000) ≤ℤ u → u ≤ℤ t → (a +ℤ pos 93599) ≤ℤ t
 far_before a s u t h k l = omega (arith, ints, h, k, l)
@@ -98,16 +92,16 @@ module _ (shifts : List Shift) (counts : List ℕ) (n : ℕ) (all : n ≡ length
   cut_at : (i : ℕ) → i < 1001 → IsCut shifts (before_year counts n (suc i)) (year_second i -ℤ pos 1)
   cut_at i l =
       ⊎_elim {C = IsCut shifts (before_year counts n (suc i)) (year_second i -ℤ pos 1)}
-      (λ kept. subst (λ k. IsCut shifts k (year_second i -ℤ pos 1)) (sym (at_place i (length counts) (get_or counts i 0) n kept)) (are.each i kept))
+      (λ kept. subst (λ k. IsCut shifts k (year_second i -ℤ pos 1)) (get_or_default counts i 0 n kept) (are.each i kept))
       (λ later. subst (λ k. IsCut shifts k (year_second i -ℤ pos 1))
-      (sym (past i (length counts) (get_or counts i 0) n later ∙ all)) (are.later i later l))
+      (sym (get_or_past counts i n later ∙ all)) (are.later i later l))
       (cases_lt i (length counts))
 
   -- all of them lie before what comes after the years
   all_at_end : (c : ℕ) → 1001 ≤ c → before_year counts n (suc c) ≡ n
-  all_at_end c l = past c (length counts) (get_or counts c 0) n (omega (arith, l, are.few))
+  all_at_end c l = get_or_past counts c n (omega (arith, l, are.few))
 
-  upper : (c : ℕ) → before_year counts n (suc c) ≤ length shifts
+  pub upper : (c : ℕ) → before_year counts n (suc c) ≤ length shifts
   upper c =
       ⊎_elim {C = before_year counts n (suc c) ≤ length shifts}
       (λ less. (cut_at c less).within)
@@ -152,15 +146,18 @@ module _ (shifts : List Shift) (counts : List ℕ) (n : ℕ) (all : n ≡ length
         (cases_lt (suc c) 1001);
   }
     where
+      one_less : (c : ℕ) → c ≡ suc c - 1
+      one_less c = omega arith
+
       last_rises : (c : ℕ) → before_year counts n (c - 1) ≤ before_year counts n c
       last_rises zero = omega arith
-      last_rises (suc c) = rises c
+      last_rises (suc c) = subst (λ k. before_year counts n k ≤ before_year counts n (suc c)) (one_less c) (rises c)
 
       earlier : (c : ℕ) → HaveBegun c t → (j : ℕ) → j < before_year counts n (c - 1) → ((shift_at shifts j).0 +ℤ pos 93599) ≤ℤ t
       earlier zero begun j l = absurd (omega arith)
-      earlier (suc zero) begun j l = absurd (omega arith)
+      earlier (suc zero) begun j l = let none = subst (λ k. j < before_year counts n k) (sym (one_less 0)) l in absurd (omega (arith, none))
       earlier (suc (suc c)) begun j l =
-          far_before _ _ _ _ ((cut_at c (omega (arith, begun.within))).before j l) (year_long c) (begun.begun (suc c) (omega arith))
+          far_before (shift_at shifts j).0 (year_second c) (year_second (suc c)) t ((cut_at c (omega (arith, begun.within))).before j (subst (λ k. j < before_year counts n k) (sym (one_less (suc c))) l)) (year_long c) (begun.begun (suc c) (omega arith))
 
   -- an entry between them is in that year
   pub in_year : (c : ℕ) → c ≤ 1001 → (i : ℕ) → before_year counts n c ≤ i → i < before_year counts n (suc c) → HaveBegun c (shift_at shifts i).0

@@ -1,5 +1,5 @@
 -- How many entries lie before each year.
-use Rattle.std.specs.Prelude.{◌<◌, ◌≤◌, ℕ, zero, suc, nat_lt, ℤ, pos, ◌-ℤ◌, ◌<ℤ◌, List, length, slice_index_or, if◌then◌else◌}
+use Rattle.std.specs.Prelude.{◌<◌, ◌≤◌, ℕ, zero, suc, ℤ, pos, ◌-ℤ◌, ◌<ℤ◌, List, length, slice_index_or}
 use Rattle.tz_zone.specs.Spans.{Shift, shift_at, IsCut}
 use Rattle.tz_lookup.specs.Years.{counted_years, year_second}
 
@@ -16,4 +16,4 @@ pub record AreYearCounts (shifts : List Shift) (counts : List ℕ) : Type 0 wher
 -- the entries before the nth year, where 1800 is number 1 and all before it are number 0: all of them where no count is kept
 abbrev pub before_year : List ℕ → ℕ → ℕ → ℕ
 before_year counts entries zero = 0
-before_year counts entries (suc n) = if nat_lt n (length counts) then slice_index_or counts n 0 else entries
+before_year counts entries (suc n) = slice_index_or counts n entries

@@ -192,11 +192,18 @@ impl Numbers {
         }
     }
 
-    /// How many numbers there are.
-    fn len(&self) -> usize
-        ensures { result ≡ length self.now }
+    /// The number at a place, or another where there is none.
+    fn get_or(&self, place: usize, other: usize) -> usize
+        ensures { result ≡ slice_index_or self.now place other }
     {
-        self.small.len() + self.rest.len()
+        let count = self.small.len();
+        if place < count {
+            usize::from(self.small[place])
+        } else if place - count < self.rest.len() {
+            self.rest[place - count]
+        } else {
+            other
+        }
     }
 
     /// The number at a place, which counts from 0.
@@ -449,8 +456,9 @@ impl CompactSet {
         ensures bound { result.1 < 18446744073709551615 }
     {
         let year = years_begun(second);
-        let low = if year == 0 { 0 } else { year - 1 };
-        (self.before_year(low), self.before_year(year + 2))
+        let low = self.before_year(year.saturating_sub(1));
+        let high = self.before_year(year + 2);
+        (low, high)
     }
 
     /// How many entries lie before a year, where 1800 is number 1 and all years before it are number 0.
@@ -461,10 +469,8 @@ impl CompactSet {
         let count = self.entry_count();
         if year == 0 {
             0
-        } else if year <= self.years.len() {
-            self.years.get(year - 1)
         } else {
-            count
+            self.years.get_or(year - 1, count)
         }
     }
 }
