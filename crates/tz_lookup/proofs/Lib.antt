@@ -5,7 +5,6 @@ pub mod CompactLemmas
 pub mod YearLemmas
 pub mod YearCountLemmas
 pub mod BuildLemmas
-pub mod StretchLemmas
 pub mod CompactRows
 pub mod DatabaseLaws
 pub mod KindLaws

@@ -31,5 +31,4 @@ pub mod Compact
 pub mod CompactShown
 pub mod CompactFaults
 pub mod CompactZones
-pub mod Stretches
 pub mod CompactLeft

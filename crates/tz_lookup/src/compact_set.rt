@@ -436,7 +436,7 @@ impl CompactSet {
     }
 
     /// The span in force at a second, by a search among the entries of its year, with a step for each comparison.
-    pub(crate) fn span_in_year<L: Ledger>(&self, second: i64, steps: &mut Steps<L>) -> usize
+    pub fn span_in_year<L: Ledger>(&self, second: i64, steps: &mut Steps<L>) -> usize
         ensures cut { IsCut (shifts_of (seen self.now)) result second }
         ensures total { (t : ℤ) → seconds_of t ≡ second →
             total_of_span (seen self.now) result ≡ total_at (schedule_of (seen self.now)) t }

@@ -1,4 +1,0 @@
-use Rattle.tz_lookup.proofs.compact_set.CompactSet.stretch_at.Given as goal
-
-abbrev pub ghosts-stretch_under : goal.ghosts-stretch_under
-ghosts-stretch_under a = record { name = a.blank.name; parts = a.blank.parts }
