@@ -4,6 +4,7 @@ pub mod AnySources
 pub mod Changes
 pub mod Faults
 pub mod Files
+pub mod Lists
 pub mod Names
 pub mod Numbers
 pub mod Opened

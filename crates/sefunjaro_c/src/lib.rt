@@ -7,6 +7,7 @@ mod any_source;
 mod changes;
 mod fault;
 mod files;
+mod lists;
 mod sources;
 mod version;
 mod whole;
