@@ -1,5 +1,5 @@
-/* speed ZONES ROUNDS: the nanoseconds of processor time of a look-up, the best of nine turns: of an offset, an offset with its abbreviation, a local time,
-   and of localtime_r of the C library, which has read the same zone from the file that TZ names. */
+/* speed ZONES ROUNDS: the nanoseconds of processor time of a look-up, the best of nine turns: of an offset, by itself and in lists, an offset with its
+   abbreviation, a local time, and of localtime_r of the C library, which has read the same zone from the file that TZ names. */
 #define _DEFAULT_SOURCE
 #include "sefunjaro.h"
 #include <stdio.h>
@@ -16,6 +16,25 @@ static int64_t second_of(long i) { return (int64_t)i * 7919 * 3600 % 2030000000;
 static void offsets(void) {
     int32_t offset;
     for (long i = 0; i < rounds; i++) sum += sefunjaro_offset_at(&zone, second_of(i), 0, &offset) + (uint32_t)offset;
+}
+
+/* The same, a thousand of them by each call: as they come, and rising. */
+static void many(const int64_t *seconds) {
+    int32_t offsets[1000];
+    size_t place;
+    for (long i = 0; i < rounds / 1000; i++) sum += sefunjaro_offsets_at(&zone, seconds, 1000, offsets, 1000, &place) + (uint32_t)offsets[i % 1000];
+}
+
+static int64_t listed[1000];
+
+static void offsets_any(void) {
+    for (long i = 0; i < 1000; i++) listed[i] = second_of(i);
+    many(listed);
+}
+
+static void offsets_rising(void) {
+    for (long i = 0; i < 1000; i++) listed[i] = i * 2030000;
+    many(listed);
 }
 
 static void in_force(void) {
@@ -58,9 +77,9 @@ static double taken(void (*part)(void)) {
 
 int main(int argc, char **argv) {
     static uint8_t text[1 << 24];
-    static void (*const parts[])(void) = { offsets, in_force, clocks, local_times, of_libc };
-    static const char *const names[] = { "offset_at", "in_force", "clock_at", "readings", "localtime_r" };
-    double best[5];
+    static void (*const parts[])(void) = { offsets, offsets_any, offsets_rising, in_force, clocks, local_times, of_libc };
+    static const char *const names[] = { "offset_at", "offsets_at", "rising", "in_force", "clock_at", "readings", "localtime_r" };
+    double best[7];
     FILE *file = argc == 3 ? fopen(argv[1], "rb") : NULL;
     if (!file) return 1;
     size_t length = fread(text, 1, sizeof text, file);
@@ -72,11 +91,11 @@ int main(int argc, char **argv) {
     setenv("TZ", "America/New_York", 1);
     tzset();
     for (int turn = 0; turn < 9; turn++)
-        for (int i = 0; i < 5; i++) {
+        for (int i = 0; i < 7; i++) {
             double nanos = taken(parts[i]);
             if (!turn || nanos < best[i]) best[i] = nanos;
         }
-    for (int i = 0; i < 5; i++) printf("%s %.1f\n", names[i], best[i]);
+    for (int i = 0; i < 7; i++) printf("%s %.1f\n", names[i], best[i]);
     sefunjaro_close(&zone);
     sefunjaro_close(&source);
     return sum == 1;

@@ -97,6 +97,27 @@ static int zones(void) {
     return 0;
 }
 
+/* Offsets of lists, in Paris: as the single call tells them, in any order, as far as there is room, and none where a second is out of range. */
+static int lists(void) {
+    static const int64_t seconds[] = { 1711846799, 1711846800, 1711846801, 0, 16788297599, 16788297600, 253402300799, -377705116800, 13576813200, 953989200 };
+    int64_t far[] = { 0, 253402300800, -377705116801 };
+    int32_t offsets[10], offset;
+    size_t place = 7;
+    for (size_t room = 0; room <= 10; room++) {
+        for (size_t i = 0; i < 10; i++) offsets[i] = 9;
+        if (sefunjaro_offsets_at(&zone, seconds, 10, offsets, room, &place) || place != 7) return 1;
+        for (size_t i = 0; i < 10; i++)
+            if (sefunjaro_offset_at(&zone, seconds[i], 0, &offset) || offsets[i] != (i < room ? offset : 9)) return 2;
+    }
+    if (sefunjaro_offsets_at(&zone, seconds, 0, offsets, 10, &place) || place != 7) return 3;
+    offsets[0] = 9;
+    if (sefunjaro_offsets_at(&zone, far, 3, offsets, 3, &place) != SEFUNJARO_OUT_OF_RANGE || place != 1 || offsets[0] != 9) return 4;
+    far[1] = 0;
+    if (sefunjaro_offsets_at(&zone, far, 3, offsets, 0, &place) != SEFUNJARO_OUT_OF_RANGE || place != 2) return 5;
+    if (sefunjaro_offsets_at(&source, seconds, 1, offsets, 3, &place) != SEFUNJARO_NOT_OPEN || place != 2 || offsets[0] != 9) return 6;
+    return 0;
+}
+
 static int looks(void) {
     struct sefunjaro_in_force found;
     struct sefunjaro_clock clock, skipped = { 2024, 3, 31, 2, 30, 0, 5 }, twice = { 2024, 10, 27, 2, 30, 0, 0 }, none = { 2023, 2, 29, 0, 0, 0, 0 };
@@ -109,6 +130,7 @@ static int looks(void) {
     if (sefunjaro_offset_at(&zone, 1711846800, 0, &offset) || offset != 7200) return 31;
     if (sefunjaro_offset_at(&zone, 0, 1000000000, &offset) != SEFUNJARO_OUT_OF_RANGE) return 32;
     if (sefunjaro_offset_at(&zone, INT64_MAX, 0, &offset) != SEFUNJARO_OUT_OF_RANGE) return 33;
+    if (lists()) return 29;
     if (sefunjaro_in_force(&zone, 1711846800, 0, &found, name, 3) || found.offset != 7200 || !found.is_saving) return 34;
     if (found.name_length != 4 || memcmp(name, "CES.", 4)) return 35;
     if (sefunjaro_clock_at(&zone, -1, 1, &clock, &offset) || offset != 3600) return 36;

@@ -22,13 +22,14 @@
    A handle that holds nothing, was closed, or holds a source where a zone is asked, answers SEFUNJARO_NOT_OPEN; closing it again does
    nothing. A handle that was never set to SEFUNJARO_CLOSED has no meaning, and no function can tell.
 
-   Every answer is a status. Where it is SEFUNJARO_DONE, what goes out through pointers is written: text and lists as far as there is
-   room, and their whole length is told. Where it is another, every place that a pointer leads to stays as it was, but for a fault, which
-   tells the status, the cause and the line in either case, and the handle that a call was to open, which is closed. Text is UTF-8 and
-   ends without a zero byte. Seconds are counted from 1970-01-01 00:00:00 UTC, offsets in seconds east of UTC (at most 93,599 to either
-   side), and the years of dates are -9999 to 9999. An instant may lie outside these years by so much as the greatest offset, so that
-   each local time of them has its instants: clocks in New York show 23:30 on the last day of 9999 at an instant of the year 10000 in
-   UTC. `local` lines of the program zone_answers are the same there; its `at` lines take instants of those years in UTC alone. */
+   Every answer is a status. Where it is SEFUNJARO_DONE, what goes out through pointers is written: text and lists as far as there is room,
+   and their whole length is told. Where it is another, every place that a pointer leads to stays as it was, but for a fault, which tells
+   the status, the cause and the line in either case, the place that sefunjaro_offsets_at tells, and the handle that a call was to open,
+   which is closed. Text is UTF-8 and ends without a zero byte. Seconds are counted from 1970-01-01 00:00:00 UTC, offsets in seconds east of
+   UTC (at most 93,599 to either side), and the years of dates are -9999 to 9999. An instant may lie outside these years by so much as the
+   greatest offset, so that each local time of them has its instants: clocks in New York show 23:30 on the last day of 9999 at an instant of
+   the year 10000 in UTC. `local` lines of the program zone_answers are the same there; its `at` lines take instants of those years in UTC
+   alone. */
 #ifndef SEFUNJARO_H
 #define SEFUNJARO_H
 
@@ -233,6 +234,8 @@ uint32_t sefunjaro_zone_open_by(struct sefunjaro_handle *copy, const uint8_t *na
                                 struct sefunjaro_fault *fault);
 uint32_t sefunjaro_share_by(struct sefunjaro_handle *copy, struct sefunjaro_handle *other);
 uint32_t sefunjaro_offset_at_by(struct sefunjaro_handle *copy, int64_t second, uint32_t nanosecond, int32_t *offset);
+uint32_t sefunjaro_offsets_at_by(struct sefunjaro_handle *copy, const int64_t *seconds, size_t count, int32_t *offsets, size_t room,
+                                 size_t *place);
 uint32_t sefunjaro_in_force_by(struct sefunjaro_handle *copy, int64_t second, uint32_t nanosecond, struct sefunjaro_in_force *found,
                                uint8_t *name, size_t room);
 uint32_t sefunjaro_clock_at_by(struct sefunjaro_handle *copy, int64_t second, uint32_t nanosecond, struct sefunjaro_clock *clock,
@@ -329,6 +332,16 @@ void sefunjaro_close(struct sefunjaro_handle *handle);
 static inline uint32_t sefunjaro_offset_at(const struct sefunjaro_handle *zone, int64_t second, uint32_t nanosecond, int32_t *offset) {
     struct sefunjaro_handle copy = *zone;
     return sefunjaro_offset_at_by(&copy, second, nanosecond, offset);
+}
+
+/* The offsets in force at so many seconds of the years -9999 to 9999 in UTC, in their order, as far as there is room: each as
+   sefunjaro_offset_at tells it at the nanosecond 0. In a zone of a source a second costs least where no change lies between it and the one
+   before it in the list, so seconds that rise cost less than others. Where a second lies outside those years `place` is set to the place of
+   the first such one, from 0, and the offsets stay as they were; else `place` stays. NOT_OPEN, OUT_OF_RANGE. */
+static inline uint32_t sefunjaro_offsets_at(const struct sefunjaro_handle *zone, const int64_t *seconds, size_t count, int32_t *offsets,
+                                            size_t room, size_t *place) {
+    struct sefunjaro_handle copy = *zone;
+    return sefunjaro_offsets_at_by(&copy, seconds, count, offsets, room, place);
 }
 
 /* The offset, whether it is daylight saving time, and the abbreviation at an instant. NOT_OPEN, OUT_OF_RANGE. */

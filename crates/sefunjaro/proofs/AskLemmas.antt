@@ -1,5 +1,5 @@
 -- The instants of a local time, one after another.
-use Rattle.std.proofs.Common.{◌≡◌, ◌+◌, ◌≤◌, ℕ, suc, zero, List, [], ◌∷◌, ◌++◌, length, map, take, drop, refl, sym, ap, ◌∙◌, arith}
+use Rattle.std.proofs.Common.{◌≡◌, ◌+◌, ◌<◌, ◌≤◌, ℕ, suc, zero, List, [], ◌∷◌, ◌++◌, length, get_or, map, take, drop, refl, sym, ap, ◌∙◌, arith}
 use Rattle.std.proofs.lemmas.List.{length-map}
 use Rattle.sefunjaro.specs.Rooms.{filled, filled_at}
 use Rattle.sefunjaro.proofs.CaseLemmas.{no_zero, next}
@@ -26,6 +26,12 @@ length_taken (y ∷ all) (suc n) x rest e = ap suc (length_taken all n x rest e)
 map_more : {A B : Type 0} → (f : A → B) (xs : List A) (x : A) → map f (xs ++ x ∷ []) ≡ map f xs ++ f x ∷ []
 map_more f [] x = refl
 map_more f (y ∷ xs) x = ap (λ l. f y ∷ l) (map_more f xs x)
+
+-- what is left from a place on begins with the item there
+pub drop_here : {A : Type 0} → (all : List A) (n : ℕ) (d : A) → n < length all → drop n all ≡ get_or all n d ∷ drop (suc n) all
+drop_here [] n d l = absurd (omega (arith, l))
+drop_here (x ∷ all) zero d l = refl
+drop_here (x ∷ all) (suc n) d l = drop_here all n d (omega (arith, l))
 
 pub dropped : {A : Type 0} → (all : List A) (n : ℕ) (x : A) (rest : List A) → drop n all ≡ x ∷ rest → rest ≡ drop (n + 1) all
 dropped all n x rest e = sym (drop_one all n x rest e) ∙ ap (λ k. drop k all) (next n)

@@ -10,6 +10,7 @@ pub mod GapRows
 pub mod PosixNameRows
 pub mod PosixRows
 mod ReleaseLemmas
+mod StretchLemmas
 mod RoomLemmas
 pub mod YearRows
 mod ZoneLemmas

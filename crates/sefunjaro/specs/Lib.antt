@@ -10,6 +10,7 @@ pub mod Errors
 pub mod Faults
 pub mod Files
 pub mod Gaps
+pub mod Offsets
 pub mod Posix
 pub mod PosixNames
 pub mod Releases
@@ -19,3 +20,4 @@ pub mod Zones
 -- Words of private clauses.
 pub mod ChangeSteps
 pub mod GapPlaces
+pub mod Stretches

@@ -8,6 +8,7 @@ ghost use Rattle.sefunjaro.specs.Posix.{IsPosixFault, IsStandardOf};
 ghost use Rattle.sefunjaro.specs.declared.file.PosixFault.TheVariants.{NoMemory as NoPosixMemory};
 
 use crate::gap::Gap;
+use crate::offsets::offsets_at;
 use crate::zone::{
     InForce, Reading, first_reading, in_force, lent_readings, offset_at, reading_of,
 };
@@ -59,6 +60,8 @@ impl FileZone {
     ghost use Rattle.tz_tzif.specs.InForce.{told_total_at};
     ghost use Rattle.tz_tzif.specs.Zones.{IsZoneOf};
     ghost use Rattle.sefunjaro.specs.Answered.{first_of, AreReadings, IsInForce, IsShown};
+    ghost use Rattle.sefunjaro.specs.Offsets.{offsets_of, AreInYears};
+    ghost use Rattle.sefunjaro.specs.Rooms.{filled};
     ghost use Rattle.sefunjaro.specs.Files.{file_value, given_at, IsFileFault, IsFileOf, IsPosixOf, IsValueFault, SaysOf};
 
     /// The zone of a compiled file (RFC 8536, any version), with what its footer, if it has one, says from the last change on. It
@@ -143,6 +146,15 @@ impl FileZone {
         ensures { SaysOf self.now (λ footer. result ≡ told_total_at (file_value self.now) footer (instant at.now)) }
     {
         offset_at(&self.zone(), at)
+    }
+
+    /// The seconds east of UTC that are in force at each of some seconds from 1970-01-01 00:00:00 UTC, in their order, as far as they fit
+    /// in the room.
+    pub fn offsets_at(&self, seconds: &[i64], room: &mut [i32])
+        requires { AreInYears seconds.now }
+        ensures { SaysOf self.now (λ footer. room.new ≡ filled (offsets_of (told_total_at (file_value self.now) footer) seconds.now) room.old) }
+    {
+        offsets_at(&self.zone(), seconds, room)
     }
 
     /// What is in force at an instant. The abbreviation goes into the room, as far as it fits.

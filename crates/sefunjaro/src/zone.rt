@@ -13,6 +13,7 @@ ghost use Rattle.sefunjaro.specs.Zones.{total_in};
 use crate::changes::{Change, changes, next_change, saving_at};
 use crate::file::FileZone;
 use crate::gap::{Gap, find_gap};
+use crate::offsets::offsets_at;
 use crate::room::{fill, put};
 use civil_base::{OffsetDateTime, PlainDateTime};
 use std::alloc::{AllocError, Global};
@@ -131,6 +132,8 @@ impl AnyZone {
     ghost use Rattle.civil_base.specs.DateTimes.{instant};
     ghost use Rattle.sefunjaro.specs.Answered.{first_of, IsInForce, IsShown};
     ghost use Rattle.sefunjaro.specs.Any.{Seen};
+    ghost use Rattle.sefunjaro.specs.Offsets.{offsets_of, AreInYears};
+    ghost use Rattle.sefunjaro.specs.Rooms.{filled};
 
     /// The seconds east of UTC that are in force at an instant.
     pub fn offset_at(&self, at: &OffsetDateTime) -> i32
@@ -139,6 +142,18 @@ impl AnyZone {
         match self {
             AnyZone::Source(zone) => zone.offset_at(at),
             AnyZone::File(zone) => zone.offset_at(at),
+        }
+    }
+
+    /// The seconds east of UTC that are in force at each of some seconds from 1970-01-01 00:00:00 UTC, in their order, as far as they fit
+    /// in the room.
+    pub fn offsets_at(&self, seconds: &[i64], room: &mut [i32])
+        requires { AreInYears seconds.now }
+        ensures { Seen self.now (λ total _. room.new ≡ filled (offsets_of total seconds.now) room.old) }
+    {
+        match self {
+            AnyZone::Source(zone) => zone.offsets_at(seconds, room),
+            AnyZone::File(zone) => zone.offsets_at(seconds, room),
         }
     }
 
@@ -224,6 +239,7 @@ impl OpenZone {
     ghost use Rattle.sefunjaro.specs.Asked.{reading_of, IsNamed};
     ghost use Rattle.sefunjaro.specs.Changes.{next_after, saving_at as saving_of, window};
     ghost use Rattle.sefunjaro.specs.Gaps.{IsSkippedBy};
+    ghost use Rattle.sefunjaro.specs.Offsets.{offsets_of, AreInYears};
     ghost use Rattle.sefunjaro.specs.Rooms.{filled};
     ghost use Rattle.sefunjaro.specs.Zones.{ever_in, given_in, last_year, set_in, spans_in, total_in};
     ghost use Rattle.tz_lookup.specs.CompactShown.{seen};
@@ -281,6 +297,18 @@ impl OpenZone {
         match &self.for_ever {
             Some(ever) => offset_at(&EverTz::new(ever), at),
             None => offset_at(&CompactTz::new(&self.set), at),
+        }
+    }
+
+    /// The seconds east of UTC that are in force at each of some seconds from 1970-01-01 00:00:00 UTC, in their order, as far as they fit
+    /// in the room. One that lies in the span of the one before it is looked up nowhere.
+    pub fn offsets_at(&self, seconds: &[i64], room: &mut [i32])
+        requires { AreInYears seconds.now }
+        ensures { room.new ≡ filled (offsets_of (total_in self.now) seconds.now) room.old }
+    {
+        match &self.for_ever {
+            Some(ever) => offsets_at(ever, seconds, room),
+            None => offsets_at(&self.set, seconds, room),
         }
     }
 

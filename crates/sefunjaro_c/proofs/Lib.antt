@@ -1,6 +1,7 @@
 mod AnySourceLemmas
 mod AskedLemmas
 mod FaultLemmas
+mod ListLemmas
 pub mod NumberRows
 pub mod RoomRows
 mod ShownLemmas

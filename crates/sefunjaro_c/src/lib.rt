@@ -8,6 +8,7 @@ mod changes;
 mod fault;
 mod files;
 mod for_ever;
+mod lists;
 mod sources;
 mod version;
 mod whole;

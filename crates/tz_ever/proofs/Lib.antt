@@ -8,5 +8,6 @@ pub mod ForEverLemmas
 pub mod OpenLemmas
 pub mod UnrolledLemmas
 pub mod UnrolledShows
+pub mod ListedLemmas
 pub mod TableLemmas
 mod EverRows

@@ -54,7 +54,7 @@ set_climbs set ok = climb_of set.others least (omega (arith, signed)) ok.bound o
     (λ j l. (ok.bound j (pos 0, pos 0) l).0)
 
 -- ---- and what climbs doesn't fall
-climb_at : (low : ℤ) (es : List Entry) (high : ℤ) (j : ℕ) → Climb low es high → j < length (map shift_of es)
+pub climb_at : (low : ℤ) (es : List Entry) (high : ℤ) (j : ℕ) → Climb low es high → j < length (map shift_of es)
     → (low ≤ℤ (shift_at (map shift_of es) j).0) × ((shift_at (map shift_of es) j).0 <ℤ high)
 climb_at low [] high j h l = absurd (omega arith)
 climb_at low (e ∷ es) high zero h l = (h.0, h.1)
@@ -129,7 +129,7 @@ pub cycle_cut : (es : List Entry) → Climb least es past_greatest → IsCutAt s
 cycle_cut es h =
     cut_at seam_second least (entries_before next_seam_second es) next_seam_second (omega (arith, signed)) (omega (arith, signed)) (kept_cut es h).before
 
-unrolled_climbs : (es : List Entry) → Climb least es past_greatest → Climb least (unrolled_entries es) (pos 269243913600)
+pub unrolled_climbs : (es : List Entry) → Climb least es past_greatest → Climb least (unrolled_entries es) (pos 269243913600)
 unfolding unrolled_entries
 unrolled_climbs es h =
     climb_join least (entries_before next_seam_second es) next_seam_second (again 20 (entries_from seam_second (entries_before next_seam_second es)))

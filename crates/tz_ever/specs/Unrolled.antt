@@ -1,5 +1,5 @@
 -- A set's entries up to the end of the cycle, and then those of the cycle again for each of 20 later ones: up to the year 10501.
-use Rattle.std.specs.Prelude.{ℕ, zero, suc, List, [], ◌++◌, map, filter, ℤ, pos, int_le, int_lt}
+use Rattle.std.specs.Prelude.{◌≡◌, ◌<◌, ◌<ℤ◌, ℕ, zero, suc, List, [], ◌++◌, length, map, filter, slice_index_or, ℤ, pos, int_le, int_lt}
 use Rattle.zone_spans.specs.Cycle.{entry_on}
 use Rattle.zone_spans.specs.Entries.{Entry}
 use Rattle.tz_zone.specs.declared.set.FixedTimespanSet.{FixedTimespanSet}
@@ -37,3 +37,9 @@ unrolled set = record { name = set.name; first = set.first; others = unrolled_en
 -- 10502-01-01 00:00:00 UTC, in nanoseconds: up to then the entries say all that the zone shows
 abbrev pub unrolled_end : ℤ
 unrolled_end = pos 269243913600000000000
+
+-- an entry stands at a place, and the next one, if there is one, comes at a later second
+pub record IsLastThere (entries : List Entry) (place : ℕ) (entry : Entry) : Type 0 where
+  pub within : place < length entries
+  pub is : (d : Entry) → slice_index_or entries place d ≡ entry
+  pub last : (d : Entry) → suc place < length entries → entry.0 <ℤ (slice_index_or entries (suc place) d).0

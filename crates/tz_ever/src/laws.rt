@@ -16,7 +16,8 @@ ghost use Rattle.tz_ever.specs.Ever.{IsRepeating, ever_span, ever_total};
 ghost use Rattle.tz_ever.specs.EverShown.{ever_seen};
 ghost use Rattle.tz_ever.specs.ForEver.{IsForEver};
 ghost use Rattle.tz_ever.specs.InForce.{span_at};
-ghost use Rattle.tz_ever.specs.Unrolled.{unrolled, unrolled_end};
+ghost use Rattle.tz_ever.specs.Unrolled.{unrolled, unrolled_end, IsLastThere};
+ghost use Rattle.zone_spans.specs.Entries.{Entry};
 
 use crate::cycle::for_ever;
 use crate::ever_set::EverSet;
@@ -63,6 +64,17 @@ pub fn unrolled_shows_for_ever()
     repeats_at_the_seam();
     shows_for_ever();
     unrolled_shows();
+}
+
+/// Each of these entries behind which none stands at its second puts in force what the lines do from that second on: the offset, the
+/// saving and the abbreviation.
+pub fn unrolled_lists()
+    ensures { (rulesets : Rulesets) (infos : List ZoneInfo) (set : FixedTimespanSet) (place : ℕ) (entry : Entry) → IsForEver rulesets infos set
+        → IsAccepted (schedule_of set) → IsLastThere (unrolled set).others place entry
+        → Some entry.1 ≡ span_for_ever rulesets infos (nanos_of entry.0) }
+{
+    unrolled_is_accepted();
+    unrolled_shows_for_ever();
 }
 
 /// Each local time 26 hours and more before that end is read as at the same instants, and at the same offsets.

@@ -7,9 +7,9 @@ use Rattle.zone_spans.specs.declared.span.FixedTimespan.{FixedTimespan}
 use Rattle.tz_zone.specs.declared.set.FixedTimespanSet.{FixedTimespanSet}
 use Rattle.tz_lookup.specs.Compact.{entries_seen}
 use Rattle.tz_lookup.specs.Kinds.{with_kinds, kinds_of}
-use Rattle.zone_spans.specs.Years.{most_years}
+use Rattle.zone_spans.specs.Years.{most_years, years_limit}
 use Rattle.tz_lookup.specs.Years.{year_second, years_begun, changes_in_year}
-use Rattle.tz_lookup.specs.YearSeconds.{rules_begin, last_year_begin, rules_end}
+use Rattle.tz_lookup.specs.YearSeconds.{counted_end, rules_begin, last_year_begin, rules_end}
 use Rattle.tz_lookup.proofs.YearLemmas.{day_at, first_second, last_second, years_are, begun_up_to, before_all, after_all}
 
 -- ---- the seconds at which years begin
@@ -34,6 +34,22 @@ year_2099 : year_second 299 ≡ pos 4070908800
 unfolding year_second
 year_2099 = omega (arith, signed, day_at 299)
 
+year_2100 : year_second 300 ≡ pos 4102444800
+unfolding year_second
+year_2100 = omega (arith, signed, day_at 300)
+
+year_2101 : year_second 301 ≡ pos 4133980800
+unfolding year_second
+year_2101 = omega (arith, signed, day_at 301)
+
+year_2102 : year_second 302 ≡ pos 4165516800
+unfolding year_second
+year_2102 = omega (arith, signed, day_at 302)
+
+year_2799 : year_second 999 ≡ pos 26160710400
+unfolding year_second
+year_2799 = omega (arith, signed, day_at 999)
+
 -- the rules' years begin and end with these seconds
 begin : rules_begin ≡ year_second 0
 begin = sym first_second
@@ -42,7 +58,10 @@ last_begin : last_year_begin ≡ year_second (most_years - 1)
 last_begin = sym year_2099
 
 end : rules_end ≡ year_second most_years
-end = sym last_second
+end = sym year_2100
+
+counted : counted_end ≡ year_second years_limit
+counted = sym last_second
 
 -- ---- years that have begun
 
@@ -70,50 +89,67 @@ begun_at_end : years_begun (pos 31535999) ≡ 171
 begun_at_end = in_1970 (pos 31535999) (omega (arith, ints)) (omega (arith, ints))
 
 begun_in_2099 : years_begun (pos 4102444799) ≡ 300
-begun_in_2099 = years_are 300 _ (begun_up_to 299 _ (omega arith) (omega (arith, ints, year_2099)) (λ _. omega (arith, ints, last_second)))
+begun_in_2099 = years_are 300 _ (begun_up_to 299 _ (omega arith) (omega (arith, ints, year_2099)) (λ _. omega (arith, ints, year_2100)))
 
-begun_from_2100 : years_begun (pos 4102444800) ≡ 301
-begun_from_2100 = years_are 301 _ (after_all _ (omega (arith, ints)))
+begun_in_2100 : years_begun (pos 4102444800) ≡ 301
+begun_in_2100 = years_are 301 _ (begun_up_to 300 _ (omega arith) (omega (arith, ints, year_2100)) (λ _. omega (arith, ints, year_2101)))
 
-begun_long_after : years_begun (pos 9000000000) ≡ 301
-begun_long_after = years_are 301 _ (after_all _ (omega (arith, ints)))
+begun_in_2101 : years_begun (pos 4133980800) ≡ 302
+begun_in_2101 = years_are 302 _ (begun_up_to 301 _ (omega arith) (omega (arith, ints, year_2101)) (λ _. omega (arith, ints, year_2102)))
 
--- ---- the changes of a year: one in 1969, two in 1970 and one in 2100
+begun_in_2799 : years_begun (pos 26192246399) ≡ 1000
+begun_in_2799 = years_are 1000 _ (begun_up_to 999 _ (omega arith) (omega (arith, ints, year_2799)) (λ _. omega (arith, ints, last_second)))
+
+begun_from_2800 : years_begun (pos 26192246400) ≡ 1001
+begun_from_2800 = years_are 1001 _ (after_all _ (omega (arith, ints)))
+
+begun_long_after : years_begun (pos 90000000000) ≡ 1001
+begun_long_after = years_are 1001 _ (after_all _ (omega (arith, ints)))
+
+-- ---- the changes of a year: one in 1969, two in 1970, one in 2100 and one in 2800
 
 abbrev kind : ℤ → List ℕ → FixedTimespan
 kind offset name = record { utc_offset = offset; dst_offset = pos 0; name = name }
 
-abbrev four : FixedTimespanSet
-four = record {
-  name = codes "Test/Four";
+abbrev five : FixedTimespanSet
+five = record {
+  name = codes "Test/Five";
   first = kind (pos 0) (codes "A");
   others =
       (negsuc 0, kind (pos 60) (codes "A")) ∷ (pos 0, kind (pos 60) (codes "B")) ∷ (pos 31535999, kind (pos 0) (codes "A"))
-      ∷ (pos 4102444800, kind (pos 60) (codes "B")) ∷ [];
+      ∷ (pos 4102444800, kind (pos 60) (codes "B")) ∷ (pos 26192246400, kind (pos 0) (codes "A")) ∷ [];
 }
 
-changes_of_1970 : changes_in_year four (pos 100) ≡ 2
+changes_of_1970 : changes_in_year five (pos 100) ≡ 2
 unfolding changes_in_year
-changes_of_1970 = rw (begun_in_1969, begun_at_epoch, begun_at_end, begun_in_1970, begun_from_2100) refl
+changes_of_1970 = rw (begun_in_1969, begun_at_epoch, begun_at_end, begun_in_1970, begun_in_2100, begun_from_2800) refl
 
-changes_of_1969 : changes_in_year four (negsuc 0) ≡ 1
+changes_of_1969 : changes_in_year five (negsuc 0) ≡ 1
 unfolding changes_in_year
-changes_of_1969 = rw (begun_in_1969, begun_at_epoch, begun_at_end, begun_from_2100) refl
+changes_of_1969 = rw (begun_in_1969, begun_at_epoch, begun_at_end, begun_in_2100, begun_from_2800) refl
 
--- all years from 2100 on are one
-changes_long_after : changes_in_year four (pos 9000000000) ≡ 1
+no_changes_of_2099 : changes_in_year five (pos 4102444799) ≡ 0
 unfolding changes_in_year
-changes_long_after = rw (begun_in_1969, begun_at_epoch, begun_at_end, begun_from_2100, begun_long_after) refl
+no_changes_of_2099 = rw (begun_in_1969, begun_at_epoch, begun_at_end, begun_in_2100, begun_from_2800, begun_in_2099) refl
 
-no_changes_of_2099 : changes_in_year four (pos 4102444799) ≡ 0
+changes_of_2100 : changes_in_year five (pos 4102444800) ≡ 1
 unfolding changes_in_year
-no_changes_of_2099 = rw (begun_in_1969, begun_at_epoch, begun_at_end, begun_from_2100, begun_in_2099) refl
+changes_of_2100 = rw (begun_in_1969, begun_at_epoch, begun_at_end, begun_in_2100, begun_from_2800) refl
+
+no_changes_of_2101 : changes_in_year five (pos 4133980800) ≡ 0
+unfolding changes_in_year
+no_changes_of_2101 = rw (begun_in_1969, begun_at_epoch, begun_at_end, begun_in_2100, begun_from_2800, begun_in_2101) refl
+
+-- all years from 2800 on are one
+changes_long_after : changes_in_year five (pos 90000000000) ≡ 1
+unfolding changes_in_year
+changes_long_after = rw (begun_in_1969, begun_at_epoch, begun_at_end, begun_in_2100, begun_from_2800, begun_long_after) refl
 
 -- ---- kinds: offsets and names, each once, in the order in which they come
 
-kinds_of_four : kinds_of four ≡ kind (pos 0) (codes "A") ∷ kind (pos 60) (codes "A") ∷ kind (pos 60) (codes "B") ∷ []
+kinds_of_five : kinds_of five ≡ kind (pos 0) (codes "A") ∷ kind (pos 60) (codes "A") ∷ kind (pos 60) (codes "B") ∷ []
 unfolding with_kinds
-kinds_of_four = refl
+kinds_of_five = refl
 
 -- ---- times beside the numbers of kinds
 

@@ -1,17 +1,17 @@
 -- The entries of a year lie between the counts of two years.
-use Rattle.std.proofs.Common.{◌≡◌, ℕ, zero, suc, ◌+◌, ◌-◌, ◌*◌, ◌<◌, ◌≤◌, Bool, true, false, cond, List, [], ◌∷◌, ◌++◌, length, map, get_or, nat_eq, nat_lt, filter, ℤ, pos, ◌-ℤ◌, ◌≤ℤ◌, ◌<ℤ◌, refl, sym, ap, ◌∙◌, subst, ⊎_elim, arith}
-use Rattle.std.proofs.lemmas.Bool.{cases_lt, lt-ltb}
+use Rattle.std.proofs.Common.{◌≡◌, ℕ, zero, suc, ◌+◌, ◌-◌, ◌*◌, ◌<◌, ◌≤◌, Bool, true, false, cond, List, [], ◌∷◌, ◌++◌, length, map, get_or, nat_eq, filter, ℤ, pos, ◌+ℤ◌, ◌-ℤ◌, ◌≤ℤ◌, ◌<ℤ◌, refl, sym, ap, ◌∙◌, subst, ⊎_elim, arith}
+use Rattle.std.proofs.lemmas.Bool.{cases_lt}
 use Rattle.std.proofs.lemmas.Bool.Decides.{nat_tests}
 use Rattle.std.proofs.lemmas.Int.{ints}
-use Rattle.std.proofs.lemmas.List.{length-map}
+use Rattle.std.proofs.lemmas.List.{get_or_default, get_or_past, length-map}
 use Rattle.calendar.specs.ComparisonLaws.{le_le}
 use Rattle.zone_spans.specs.Entries.{Entry}
 use Rattle.tz_zone.specs.declared.set.FixedTimespanSet.{FixedTimespanSet}
-use Rattle.tz_zone.specs.Sets.{shift_of, shifts_of, IsBetween}
+use Rattle.tz_zone.specs.Sets.{shift_of, shifts_of, IsBetween, IsNear}
 use Rattle.tz_zone.specs.Spans.{Shift, shift_at, TimesDontFall, IsCut}
 use Rattle.tz_lookup.specs.YearCounts.{AreBefore, AreYearCounts, before_year}
 use Rattle.tz_lookup.specs.Years.{year_second, years_begun, changes_in_year, HaveBegun}
-use Rattle.tz_lookup.proofs.YearLemmas.{begun_up_to, years_are, year_rises}
+use Rattle.tz_lookup.proofs.YearLemmas.{begun_up_to, years_are, year_long, year_rises}
 
 at_or_after : (a s : ℤ) → (s -ℤ pos 1) <ℤ a → s ≤ℤ a
 at_or_after a s h = omega (arith, ints, h)
@@ -31,11 +31,11 @@ less_one a b h = omega (arith, ints, h)
 opposed : (a b c : ℤ) → a ≤ℤ b → b ≤ℤ c → c <ℤ a → ⊥
 opposed a b c h k l = omega (arith, ints, h, k, l)
 
-at_place : (n : ℕ) (a b : ℕ) → n < 301 → cond (nat_lt n 301) a b ≡ a
-at_place n a b l = ap (λ t. cond t a b) (lt-ltb n 301 l)
+far_before : (a s u t : ℤ) → a ≤ℤ (s -ℤ pos 1) → (s +ℤ pos 31536000) ≤ℤ u → u ≤ℤ t → (a +ℤ pos 93599) ≤ℤ t
+far_before a s u t h k l = omega (arith, ints, h, k, l)
 
-past : (a b : ℕ) → cond (nat_lt 301 301) a b ≡ b
-past a b = refl
+far_after : (a s u t : ℤ) → (s -ℤ pos 1) <ℤ a → (u +ℤ pos 31536000) ≤ℤ s → t <ℤ u → (t +ℤ pos 93599) <ℤ a
+far_after a s u t h k l = omega (arith, ints, h, k, l)
 
 up_to : (a s : ℤ) → a <ℤ s → a ≤ℤ (s -ℤ pos 1)
 up_to a s h = omega (arith, ints, h)
@@ -59,6 +59,26 @@ lt_le a s t h k = omega (arith, ints, h, k)
 pub before_next : (shifts : List Shift) (k n : ℕ) → IsCut shifts k (year_second n -ℤ pos 1) → AreBefore shifts k (year_second (n + 1))
 before_next shifts k n cut j l = lt_le _ _ _ (cut.before j l) (year_rises n (n + 1) (omega arith))
 
+-- those up to the last lie before each year that hasn't begun when it comes
+pub all_before : (shifts : List Shift) (last c i : ℕ) → suc last ≡ length shifts → TimesDontFall shifts → HaveBegun c (shift_at shifts last).0
+    → c ≤ i → i < 1001 → IsCut shifts (length shifts) (year_second i -ℤ pos 1)
+all_before shifts last c i n times begun le l = record {
+  within = omega arith;
+  before = λ j m. up_to _ _ (lt_le_all (times j last (omega (arith, n)) (omega (arith, n))) (begun.ahead (omega arith)) (year_rises c i le));
+  after = λ j m k. absurd (omega arith);
+}
+  where
+    lt_le_all : {a b s t : ℤ} → a ≤ℤ b → b <ℤ s → s ≤ℤ t → a <ℤ t
+    lt_le_all h k m = omega (arith, ints, h, k, m)
+
+-- no entry lies before any year
+pub none_before : (shifts : List Shift) (i : ℕ) → length shifts ≡ 0 → IsCut shifts (length shifts) (year_second i -ℤ pos 1)
+none_before shifts i n = record {
+  within = omega arith;
+  before = λ j m. absurd (omega (arith, n));
+  after = λ j m k. absurd (omega arith);
+}
+
 -- the entries before a later second are more
 cut_rises : (shifts : List Shift) (k l : ℕ) (s t : ℤ) → s ≤ℤ t → IsCut shifts k s → IsCut shifts l t → k ≤ l
 cut_rises shifts k l s t le first second =
@@ -69,36 +89,43 @@ cut_rises shifts k l s t le first second =
 
 module _ (shifts : List Shift) (counts : List ℕ) (n : ℕ) (all : n ≡ length shifts) (are : AreYearCounts shifts counts) where
   -- the entries before each year
-  cut_at : (i : ℕ) → i < 301 → IsCut shifts (before_year counts n (suc i)) (year_second i -ℤ pos 1)
-  cut_at i l = subst (λ k. IsCut shifts k (year_second i -ℤ pos 1)) (sym (at_place i (get_or counts i 0) n l)) (are.each i l)
+  cut_at : (i : ℕ) → i < 1001 → IsCut shifts (before_year counts n (suc i)) (year_second i -ℤ pos 1)
+  cut_at i l =
+      ⊎_elim {C = IsCut shifts (before_year counts n (suc i)) (year_second i -ℤ pos 1)}
+      (λ kept. subst (λ k. IsCut shifts k (year_second i -ℤ pos 1)) (get_or_default counts i 0 n kept) (are.each i kept))
+      (λ later. subst (λ k. IsCut shifts k (year_second i -ℤ pos 1))
+      (sym (get_or_past counts i n later ∙ all)) (are.later i later l))
+      (cases_lt i (length counts))
 
-  upper : (c : ℕ) → c ≤ 301 → before_year counts n (suc c) ≤ length shifts
-  upper c l =
+  -- all of them lie before what comes after the years
+  all_at_end : (c : ℕ) → 1001 ≤ c → before_year counts n (suc c) ≡ n
+  all_at_end c l = get_or_past counts c n (omega (arith, l, are.few))
+
+  pub upper : (c : ℕ) → before_year counts n (suc c) ≤ length shifts
+  upper c =
       ⊎_elim {C = before_year counts n (suc c) ≤ length shifts}
       (λ less. (cut_at c less).within)
-      (λ same. let last : c ≡ 301 = omega arith in subst (λ k. before_year counts n (suc k) ≤ length shifts) (sym last) (omega (arith, all)))
-      (cases_lt c 301)
+      (λ same. omega (arith, all, all_at_end c same))
+      (cases_lt c 1001)
 
-  rises : (c : ℕ) → c ≤ 301 → before_year counts n c ≤ before_year counts n (suc c)
-  rises zero l = omega arith
-  rises (suc c) l =
+  rises : (c : ℕ) → before_year counts n c ≤ before_year counts n (suc c)
+  rises zero = omega arith
+  rises (suc c) =
       ⊎_elim {C = before_year counts n (suc c) ≤ before_year counts n (suc (suc c))}
       (λ less. cut_rises shifts _ _ _ _ (less_one _ _ (year_rises c (suc c) (omega arith))) (cut_at c (omega arith)) (cut_at (suc c) less))
-      (λ same. let last : suc c ≡ 301 = omega arith in
-      subst (λ k. before_year counts n (suc c) ≤ before_year counts n (suc k)) (sym last) (omega (arith, all, (cut_at c (omega arith)).within)))
-      (cases_lt (suc c) 301)
+      (λ same. omega (arith, all, all_at_end (suc c) same, upper c))
+      (cases_lt (suc c) 1001)
 
   pub between_is : (c : ℕ) (t : ℤ) → HaveBegun c t → IsBetween shifts (before_year counts n c) (before_year counts n (suc c)) t
   between_is c t begun = record {
-    order = rises c begun.within;
-    within = upper c begun.within;
+    order = rises c;
+    within = upper c;
     before = earlier c begun;
     after = λ j l m.
         ⊎_elim {C = t <ℤ (shift_at shifts j).0}
         (λ less. lt_after _ _ _ ((cut_at c less).after j l m) (begun.ahead less))
-        (λ same. let last : c ≡ 301 = omega (arith, begun.within) in
-        absurd (let high = subst (λ k. before_year counts n (suc k) ≤ j) last l in omega (arith, high, m, all)))
-        (cases_lt c 301);
+        (λ same. absurd (omega (arith, all_at_end c same, l, m, all)))
+        (cases_lt c 1001);
   }
     where
       earlier : (c : ℕ) → HaveBegun c t → (j : ℕ) → j < before_year counts n c → (shift_at shifts j).0 ≤ℤ t
@@ -106,21 +133,47 @@ module _ (shifts : List Shift) (counts : List ℕ) (n : ℕ) (all : n ≡ length
       earlier (suc c) begun j l =
           le_before _ _ _ ((cut_at c (omega (arith, begun.within))).before j l) (begun.begun c (omega arith))
 
+  -- the entries of a second's year, of the one before and of the one after
+  pub near_is : (c : ℕ) (t : ℤ) → HaveBegun c t → IsNear shifts (before_year counts n (c - 1)) (before_year counts n (suc (suc c))) t
+  near_is c t begun = record {
+    order = omega (arith, last_rises c, rises c, rises (suc c));
+    within = upper (suc c);
+    before = earlier c begun;
+    after = λ j l m.
+        ⊎_elim {C = (t +ℤ pos 93599) <ℤ (shift_at shifts j).0}
+        (λ less. far_after _ _ _ _ ((cut_at (suc c) less).after j l m) (year_long c) (begun.ahead (omega arith)))
+        (λ same. absurd (omega (arith, all_at_end (suc c) same, l, m, all)))
+        (cases_lt (suc c) 1001);
+  }
+    where
+      one_less : (c : ℕ) → c ≡ suc c - 1
+      one_less c = omega arith
+
+      last_rises : (c : ℕ) → before_year counts n (c - 1) ≤ before_year counts n c
+      last_rises zero = omega arith
+      last_rises (suc c) = subst (λ k. before_year counts n k ≤ before_year counts n (suc c)) (one_less c) (rises c)
+
+      earlier : (c : ℕ) → HaveBegun c t → (j : ℕ) → j < before_year counts n (c - 1) → ((shift_at shifts j).0 +ℤ pos 93599) ≤ℤ t
+      earlier zero begun j l = absurd (omega arith)
+      earlier (suc zero) begun j l = let none = subst (λ k. j < before_year counts n k) (sym (one_less 0)) l in absurd (omega (arith, none))
+      earlier (suc (suc c)) begun j l =
+          far_before (shift_at shifts j).0 (year_second c) (year_second (suc c)) t ((cut_at c (omega (arith, begun.within))).before j (subst (λ k. j < before_year counts n k) (sym (one_less (suc c))) l)) (year_long c) (begun.begun (suc c) (omega arith))
+
   -- an entry between them is in that year
-  pub in_year : (c : ℕ) → c ≤ 301 → (i : ℕ) → before_year counts n c ≤ i → i < before_year counts n (suc c) → HaveBegun c (shift_at shifts i).0
+  pub in_year : (c : ℕ) → c ≤ 1001 → (i : ℕ) → before_year counts n c ≤ i → i < before_year counts n (suc c) → HaveBegun c (shift_at shifts i).0
   in_year c l i low high = by_year c l low high
     where
-      ahead_of : (c : ℕ) → i < before_year counts n (suc c) → c < 301 → (shift_at shifts i).0 <ℤ year_second c
+      ahead_of : (c : ℕ) → i < before_year counts n (suc c) → c < 1001 → (shift_at shifts i).0 <ℤ year_second c
       ahead_of c high less = before _ _ ((cut_at c less).before i high)
 
-      by_year : (c : ℕ) → c ≤ 301 → before_year counts n c ≤ i → i < before_year counts n (suc c) → HaveBegun c (shift_at shifts i).0
+      by_year : (c : ℕ) → c ≤ 1001 → before_year counts n c ≤ i → i < before_year counts n (suc c) → HaveBegun c (shift_at shifts i).0
       by_year zero l low high = record {
         within = omega arith;
         begun = λ j m. absurd (omega arith);
         ahead = ahead_of 0 high;
       }
       by_year (suc c) l low high =
-          let inside : i < length shifts = omega (arith, high, upper (suc c) l) in
+          let inside : i < length shifts = omega (arith, high, upper (suc c)) in
           begun_up_to c (shift_at shifts i).0 l (at_or_after _ _ ((cut_at c (omega arith)).after i low inside)) (ahead_of (suc c) high)
 
 -- a test that passes from one place to another passes at least so often

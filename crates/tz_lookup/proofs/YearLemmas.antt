@@ -22,13 +22,23 @@ pub year_rises : (i j : ℕ) → i ≤ j → year_second i ≤ℤ year_second j
 unfolding year_second
 year_rises i j l = omega (arith, signed, day_at i, day_at j, cycle_days-rise (13799 + i) (13799 + j) (omega arith))
 
+-- a year has 365 days and more
+pub year_long : (i : ℕ) → (year_second i +ℤ pos 31536000) ≤ℤ year_second (suc i)
+unfolding year_second
+year_long i =
+    let more : cycle_days (13799 + i) + 365 ≤ cycle_days (13799 + suc i) = longer (13799 + i) (13799 + suc i) (omega arith) in
+    omega (arith, signed, day_at i, day_at (suc i), more)
+  where
+    longer : (m n : ℕ) → n ≡ suc m → cycle_days m + 365 ≤ cycle_days n
+    longer m n e = omega (arith, e)
+
 pub first_second : year_second 0 ≡ negsuc 5364662399
 unfolding year_second
 first_second = omega (arith, signed, day_at 0)
 
-pub last_second : year_second 300 ≡ pos 4102444800
+pub last_second : year_second 1000 ≡ pos 26192246400
 unfolding year_second
-last_second = omega (arith, signed, day_at 300)
+last_second = omega (arith, signed, day_at 1000)
 
 begun_is : (second : ℤ) (i n c e : ℕ) → i + c ≡ e → c ≤ n → ((j : ℕ) → i ≤ j → j < e → year_second j ≤ℤ second)
     → (c < n → second <ℤ year_second e) → begun_from second i n ≡ c
@@ -44,10 +54,10 @@ begun_is second i (suc n) (suc c) e is l begun ahead =
 
 pub years_are : (c : ℕ) (second : ℤ) → HaveBegun c second → years_begun second ≡ c
 unfolding years_begun
-years_are c second h = begun_is second 0 301 c c (omega arith) h.within (λ j _ l. h.begun j l) h.ahead
+years_are c second h = begun_is second 0 1001 c c (omega arith) h.within (λ j _ l. h.begun j l) h.ahead
 
 -- where one year has begun all before it have
-pub begun_up_to : (c : ℕ) (second : ℤ) → suc c ≤ 301 → year_second c ≤ℤ second → (suc c < 301 → second <ℤ year_second (suc c))
+pub begun_up_to : (c : ℕ) (second : ℤ) → suc c ≤ 1001 → year_second c ≤ℤ second → (suc c < 1001 → second <ℤ year_second (suc c))
     → HaveBegun (suc c) second
 begun_up_to c second l begun ahead = record {
   within = l;
@@ -62,11 +72,11 @@ before_all second l = record {
   ahead = λ _. subst (λ s. second <ℤ s) (sym first_second) l;
 }
 
-pub after_all : (second : ℤ) → pos 4102444800 ≤ℤ second → HaveBegun 301 second
-after_all second l = begun_up_to 300 second (omega arith) (subst (λ s. s ≤ℤ second) (sym last_second) l) (λ m. absurd (omega arith))
+pub after_all : (second : ℤ) → pos 26192246400 ≤ℤ second → HaveBegun 1001 second
+after_all second l = begun_up_to 1000 second (omega arith) (subst (λ s. s ≤ℤ second) (sym last_second) l) (λ m. absurd (omega arith))
 
--- the year of a day of the years from 1800 to 2099 is that of the day's seconds
-pub within_year : (t d y : ℤ) → (pos 86400 *ℤ d) ≤ℤ t → t <ℤ (pos 86400 *ℤ d +ℤ pos 86400) → negsuc 5364662399 ≤ℤ t → t <ℤ pos 4102444800
+-- the year of a day of the years from 1800 to 2799 is that of the day's seconds
+pub within_year : (t d y : ℤ) → (pos 86400 *ℤ d) ≤ℤ t → t <ℤ (pos 86400 *ℤ d +ℤ pos 86400) → negsuc 5364662399 ≤ℤ t → t <ℤ pos 26192246400
     → IsYearOf y d → IsWithinYear y t
 within_year t d y low high first last year =
     let n = unsigned_abs (y +ℤ pos 11999) in
@@ -75,7 +85,7 @@ within_year t d y low high first last year =
     let start = day-cycle y 1 1 n place in
     let next = day-cycle (y +ℤ pos 1) 1 1 (suc n) place_after in
     let least : negsuc 62090 ≤ℤ d = omega (arith, signed, high, first) in
-    let greatest : d ≤ℤ pos 47481 = omega (arith, signed, low, last) in
+    let greatest : d ≤ℤ pos 303150 = omega (arith, signed, low, last) in
     let none = days_through-two y in
     let none_after = days_through-two (y +ℤ pos 1) in
     let not_before : 13799 ≤ n =
@@ -83,11 +93,11 @@ within_year t d y low high first last year =
     (λ l. absurd (omega (arith, signed, next, none_after, year.next, least, cycle_days-rise (suc n) 13799 l)))
     (λ l. omega arith)
     (cases_lt n 13799) in
-    let not_after : n ≤ 14098 =
-    ⊎_elim {C = n ≤ 14098}
-    (λ l. absurd (omega (arith, signed, start, none, year.begun, greatest, cycle_days-rise 14099 n (omega arith))))
+    let not_after : n ≤ 14798 =
+    ⊎_elim {C = n ≤ 14798}
+    (λ l. absurd (omega (arith, signed, start, none, year.begun, greatest, cycle_days-rise 14799 n (omega arith))))
     (λ l. omega arith)
-    (cases_lt 14098 n) in
+    (cases_lt 14798 n) in
     record {
       first = omega (arith, signed, place);
       last = omega (arith, signed, place);

@@ -1,8 +1,8 @@
 //! A zone's spans, kept compactly, with an index by year.
 ghost use Rattle.std.specs.Prelude.{◌≡◌, ◌≤◌, ◌<◌, length, IfOk, unsigned_abs, pos, negsuc, ◌+◌, ◌+ℤ◌, ◌*ℤ◌, ◌-ℤ◌, ◌≤ℤ◌, ◌<ℤ◌, ◌++◌, ◌∷◌, [], OnOk, slice_index_or, map, ◌-◌, ◌*◌, ◌^◌, ℕ, ℤ, ◌↔◌, IsTrue, MatchResult, List};
-ghost use Rattle.zone_spans.specs.Years.{earliest_year, latest_year, most_years};
-ghost use Rattle.tz_lookup.specs.Years.{year_second, HaveBegun, IsWithinYear};
-ghost use Rattle.tz_lookup.specs.YearSeconds.{rules_begin, rules_end};
+ghost use Rattle.zone_spans.specs.Years.{earliest_year, years_limit};
+ghost use Rattle.tz_lookup.specs.Years.{counted_years, year_second, HaveBegun, IsWithinYear};
+ghost use Rattle.tz_lookup.specs.YearSeconds.{counted_end, rules_begin};
 ghost use Rattle.tz_lookup.specs.YearCounts.{AreBefore, AreYearCounts};
 ghost use Rattle.tz_zone.specs.Sets.{schedule_of, shifts_of, IsAccepted, total_of_span, IsOrderlyZone};
 ghost use Rattle.tz_zone.specs.Spans.{IsCut};
@@ -21,10 +21,10 @@ use std::alloc::{AllocError, Global};
 use std::marker::Model;
 use std::sync::ledger::Ledger;
 use tz_zone::{FixedTimespan, FixedTimespanSet, SpanTable, Steps, Tz, TzFault, span_between};
-use zone_spans::{EARLIEST_YEAR, MOST_YEARS};
+use zone_spans::{EARLIEST_YEAR, YEARS_LIMIT};
 
-/// How many years are counted: those from 1800 to 2100, the years in which rules fire and the one after them.
-pub(crate) const YEARS: usize = MOST_YEARS as usize + 1;
+/// How many years are counted: those from 1800 to 2800, all that a line may be expanded for and the one after them.
+const YEARS: usize = YEARS_LIMIT as usize + 1;
 
 /// 1800-01-01 00:00:00 UTC, in seconds from 1970-01-01 00:00:00 UTC: before it no rule fires.
 pub const RULES_BEGIN: i64 = -5_364_662_400;
@@ -35,36 +35,39 @@ pub const LAST_YEAR_BEGIN: i64 = 4_070_908_800;
 /// 2100-01-01 00:00:00 UTC, in seconds from 1970-01-01 00:00:00 UTC: from it on no rule fires.
 pub const RULES_END: i64 = 4_102_444_800;
 
-/// How many of the years from 1800 to 2100 have begun at a second: none before 1800, and all from 2100 on.
+/// 2800-01-01 00:00:00 UTC: the last year that is counted begins.
+const COUNTED_END: i64 = 26_192_246_400;
+
+/// How many of the years from 1800 to 2800 have begun at a second: none before 1800, and all from 2800 on.
 pub(crate) fn years_begun(second: i64) -> usize
     ensures { HaveBegun result second }
 {
     if second < RULES_BEGIN {
         0
-    } else if second >= RULES_END {
+    } else if second >= COUNTED_END {
         YEARS
     } else {
         year_number(utc_year(second))
     }
 }
 
-/// The UTC year of a second of the years 1800 to 2099.
+/// The UTC year of a second of the years 1800 to 2799.
 fn utc_year(second: i64) -> i32
     requires first { rules_begin ≤ℤ second }
-    requires last { second <ℤ rules_end }
+    requires last { second <ℤ counted_end }
     ensures { IsWithinYear result second }
 {
     date_of(day_of(second)).year
 }
 
-/// The day of a second of the years 1800 to 2099.
+/// The day of a second of the years 1800 to 2799.
 fn day_of(second: i64) -> i32
     requires first { rules_begin ≤ℤ second }
-    requires last { second <ℤ rules_end }
+    requires last { second <ℤ counted_end }
     ensures begun { (pos 86400 *ℤ result) ≤ℤ second }
     ensures lasts { second <ℤ (pos 86400 *ℤ result +ℤ pos 86400) }
     ensures least { negsuc 62090 ≤ℤ result }
-    ensures greatest { result ≤ℤ pos 47481 }
+    ensures greatest { result ≤ℤ pos 303150 }
 {
     second.div_euclid(86_400) as i32
 }
@@ -72,16 +75,16 @@ fn day_of(second: i64) -> i32
 /// The number of a year, where 1800 is number 1.
 fn year_number(year: i32) -> usize
     requires first { pos earliest_year ≤ℤ year }
-    requires last { year ≤ℤ pos latest_year }
+    requires last { year <ℤ pos (earliest_year + years_limit) }
     ensures value { pos result ≡ year -ℤ pos earliest_year +ℤ pos 1 }
-    ensures bound { result ≤ most_years }
+    ensures bound { result ≤ years_limit }
 {
     (year - i32::from(EARLIEST_YEAR) + 1) as usize
 }
 
 /// The second at which the year 1800 + `place` begins.
 fn year_second(place: usize) -> i64
-    requires { place ≤ most_years }
+    requires { place ≤ years_limit }
     ensures value { result ≡ year_second place }
     ensures bound { unsigned_abs result < 200000000000000 }
 {
@@ -90,7 +93,7 @@ fn year_second(place: usize) -> i64
 
 /// The year 1800 + `place`.
 fn year_at(place: usize) -> i32
-    requires { place ≤ most_years }
+    requires { place ≤ years_limit }
     ensures { result ≡ pos (earliest_year + place) }
 {
     i32::from(EARLIEST_YEAR) + place as i32
@@ -107,7 +110,7 @@ fn second_of(day: i32) -> i64
 /// How many entries lie before the beginning of the year 1800 + `place`, where the first `from` do.
 fn entries_before(set: &FixedTimespanSet, place: usize, from: usize) -> usize
     requires accepted { IsAccepted (schedule_of set.now) }
-    requires year { place ≤ most_years }
+    requires year { place ≤ years_limit }
     requires within { from ≤ length set.now.others }
     requires before { AreBefore (shifts_of set.now) from (year_second place) }
     ensures { IsCut (shifts_of set.now) result (year_second place -ℤ pos 1) }
@@ -121,14 +124,30 @@ fn entries_before(set: &FixedTimespanSet, place: usize, from: usize) -> usize
     set.entry_count()
 }
 
-/// How many entries lie before the beginning of each year.
+/// How many years have begun when the last entry comes: all entries lie before each later year.
+fn years_reached(set: &FixedTimespanSet) -> usize
+    requires { IsAccepted (schedule_of set.now) }
+    ensures within { result ≤ counted_years }
+    ensures later { (i : ℕ) → result ≤ i → i < counted_years
+        → IsCut (shifts_of set.now) (length (shifts_of set.now)) (year_second i -ℤ pos 1) }
+{
+    let count = set.entry_count();
+    if count == 0 {
+        0
+    } else {
+        years_begun(set.time(count - 1))
+    }
+}
+
+/// How many entries lie before the beginning of each year, up to the last in which one lies.
 pub(crate) fn year_counts(alloc: Global, set: &FixedTimespanSet) -> Result<Numbers, AllocError>
     requires { IsAccepted (schedule_of set.now) }
     ensures { IfOk result (AreYearCounts (shifts_of set.now)) }
 {
-    let mut counts = Numbers::with_room(alloc, YEARS)?;
+    let years = years_reached(set);
+    let mut counts = Numbers::with_room(alloc, years)?;
     let mut before = 0;
-    for place in 0..YEARS {
+    for place in 0..years {
         before = entries_before(set, place, before);
         counts.push(before)?;
     }
@@ -170,6 +189,20 @@ impl Numbers {
             self.small.push(number as u16)
         } else {
             self.rest.push(number)
+        }
+    }
+
+    /// The number at a place, or another where there is none.
+    fn get_or(&self, place: usize, other: usize) -> usize
+        ensures { result ≡ slice_index_or self.now place other }
+    {
+        let count = self.small.len();
+        if place < count {
+            usize::from(self.small[place])
+        } else if place - count < self.rest.len() {
+            self.rest[place - count]
+        } else {
+            other
         }
     }
 
@@ -296,7 +329,7 @@ impl CompactFault {
 }
 
 /// The spans of a zone, kept compactly: the entries' times beside the numbers of their kinds, and each kind once. With the
-/// number of entries before each year from 1800 to 2100 an instant of those years is looked up among its year's entries.
+/// number of entries before each year from 1800 on, up to the last with an entry, an instant is looked up among its year's entries.
 /// Contracts see the set that it was built from.
 #[derive(Debug, Drop)]
 pub struct CompactSet {
@@ -321,7 +354,7 @@ impl CompactSet {
     ghost use Rattle.std.specs.Prelude.{◌≡◌, ◌+◌, ◌-◌, ◌*◌, ◌^◌, ℤ, ◌≤◌, ◌↔◌, IsTrue, MatchResult, IfOk, length};
     ghost use Rattle.civil_base.specs.Instants.{seconds_of};
     ghost use Rattle.tz_zone.specs.Spans.{IsCut};
-    ghost use Rattle.tz_zone.specs.Sets.{schedule_of, shifts_of, total_of_span, IsAccepted, IsOrderlyZone};
+    ghost use Rattle.tz_zone.specs.Sets.{schedule_of, shifts_of, total_of_span, IsAccepted, IsNear, IsOrderlyZone};
     ghost use Rattle.tz_zone.specs.Zones.{set_of};
     ghost use Rattle.tz_lookup.specs.CompactShown.{seen};
     ghost use Rattle.tz_lookup.specs.CompactFaults.{IsCompactFault};
@@ -403,7 +436,7 @@ impl CompactSet {
     }
 
     /// The span in force at a second, by a search among the entries of its year, with a step for each comparison.
-    pub(crate) fn span_in_year<L: Ledger>(&self, second: i64, steps: &mut Steps<L>) -> usize
+    pub fn span_in_year<L: Ledger>(&self, second: i64, steps: &mut Steps<L>) -> usize
         ensures cut { IsCut (shifts_of (seen self.now)) result second }
         ensures total { (t : ℤ) → seconds_of t ≡ second →
             total_of_span (seen self.now) result ≡ total_at (schedule_of (seen self.now)) t }
@@ -416,17 +449,28 @@ impl CompactSet {
         span_between(self, second, low, high, steps)
     }
 
-    /// How many entries lie before a year, where the years before 1800 are number 0, and those from 2100 on number 301.
-    fn before_year(&self, year: usize) -> usize
-        requires { year ≤ 302 }
-        ensures { result ≡ before_year self.now.years (length (seen self.now).others) year }
+    /// The places of the entries of a local second's year, of the one before and of the one after: all others lie further from it than
+    /// any offset.
+    pub(crate) fn near(&self, second: i64) -> (usize, usize)
+        ensures near { IsNear (shifts_of (seen self.now)) result.0 result.1 second }
+        ensures bound { result.1 < 18446744073709551615 }
     {
+        let year = years_begun(second);
+        let low = self.before_year(year.saturating_sub(1));
+        let high = self.before_year(year + 2);
+        (low, high)
+    }
+
+    /// How many entries lie before a year, where 1800 is number 1 and all years before it are number 0.
+    fn before_year(&self, year: usize) -> usize
+        ensures value { result ≡ before_year self.now.years (length (seen self.now).others) year }
+        ensures bound { result < 18446744073709551615 }
+    {
+        let count = self.entry_count();
         if year == 0 {
             0
-        } else if year <= YEARS {
-            self.years.get(year - 1)
         } else {
-            self.entry_count()
+            self.years.get_or(year - 1, count)
         }
     }
 }

@@ -35,7 +35,7 @@ impl<'a> CompactTz<'a> {
     ghost use Rattle.zone_spans.specs.Schedules.{total_at};
     ghost use Rattle.tz_zone.specs.Answers.{listed, EachOf};
     ghost use Rattle.tz_zone.specs.InForce.{all_in_force, shown_of, totals_at, AreInstants, GivesAt};
-    ghost use Rattle.tz_zone.specs.Sets.{schedule_of, IsOrderlyZone};
+    ghost use Rattle.tz_zone.specs.Sets.{schedule_of, shifts_of, IsNear, IsOrderlyZone};
     ghost use Rattle.tz_lookup.specs.CompactLeft.{compact_left};
     ghost use Rattle.tz_lookup.specs.CompactShown.{seen};
     ghost use Rattle.tz_lookup.specs.CompactZones.{compact_of};
@@ -59,7 +59,7 @@ impl<'a> CompactTz<'a> {
 
     /// As `get_offset_utc`, with a step for each comparison of the search: s steps with 2^s <= 2k + 1 for k entries in the
     /// UTC year of the instant, so none in a year without one. All years before 1800 count as one year, and so do all from
-    /// 2100 on.
+    /// 2800 on.
     pub fn get_offset_utc_counted<L: Ledger>(
         &self,
         date_time: &OffsetDateTime,
@@ -91,9 +91,17 @@ impl<'a> CompactTz<'a> {
         ensures cost { 2 ^ (steps.new - steps.old) ≤ 2 * (length (compact_of self.now).others + 1) + 1 }
         ensures later { steps.old ≤ steps.new }
     {
+        let (low, high) = self.near(date_time);
         TzOffset::of_spans(
             self.set,
-            local_spans_counted(self.set, self.set.is_orderly(), date_time, steps),
+            local_spans_counted(
+                self.set,
+                self.set.is_orderly(),
+                date_time,
+                low,
+                high,
+                steps,
+            ),
         )
     }
 
@@ -105,6 +113,15 @@ impl<'a> CompactTz<'a> {
         ensures exact { AreInstants (total_at (schedule_of (compact_of self.now))) date_time.now (map instant (compact_left result)) }
     {
         InstantsIn::new(self.set, date_time)
+    }
+
+    /// The places of the entries about a local time, which is that of a date-time at UTC.
+    fn near(&self, date_time: &OffsetDateTime) -> (usize, usize)
+        requires { offset_of date_time.now ≡ pos 0 }
+        ensures near { IsNear (shifts_of (compact_of self.now)) result.0 result.1 (seconds_of (local_of date_time.now)) }
+        ensures bound { result.1 < 18446744073709551615 }
+    {
+        self.set.near(date_time.unix_timestamp())
     }
 
     fn offset_under<L: Ledger>(&self, date_time: &OffsetDateTime, blank: Blank) -> CompactOffset<'a>
@@ -139,9 +156,10 @@ impl<'a> TimeZone for CompactTz<'a> {
     }
 
     fn get_offset_local(&self, date_time: &OffsetDateTime) -> OffsetResult<CompactOffset<'a>> {
+        let (low, high) = self.near(date_time);
         TzOffset::of_spans(
             self.set,
-            local_spans(self.set, self.set.is_orderly(), date_time),
+            local_spans(self.set, self.set.is_orderly(), date_time, low, high),
         )
     }
 

@@ -1,15 +1,21 @@
 -- The order of spans about a local second, and what the span that is found says of its instants.
-use Rattle.std.proofs.Common.{◌≡◌, ℕ, suc, ◌+◌, ◌<◌, ◌≤◌, Bool, true, false, cond, [], ◌∷◌, length, ℤ, ◌<ℤ◌, refl, sym, ap, ◌∙◌, subst, arith}
+use Rattle.std.proofs.Common.{◌≡◌, ℕ, zero, suc, ◌+◌, ◌<◌, ◌≤◌, Bool, true, false, cond, [], ◌∷◌, length, ℤ, ◌<ℤ◌, refl, sym, ap, ◌∙◌, subst, ⊎_elim, arith}
+use Rattle.std.proofs.lemmas.Bool.{cases_lt}
+use Rattle.std.proofs.lemmas.Int.{ints}
 use Rattle.std.specs.declared.cmp.Ordering.{Ordering}
 use Rattle.std.specs.declared.cmp.Ordering.TheVariants.{Less, Equal, Greater}
 use Rattle.calendar.specs.ComparisonLaws.{le_le, lt_le}
 use Rattle.civil_base.specs.Instants.{seconds_of}
+use Rattle.civil_base.specs.RangeLaws.{offset_greatest, offset_least}
+use Rattle.civil_base.specs.Ranges.{IsOffset}
 use Rattle.zone_spans.specs.Schedules.{Schedule, total_at}
 use Rattle.tz_zone.specs.InForce.{totals_at}
 use Rattle.tz_zone.specs.Spans.{local_start, local_end, IsIn, IsOrderly}
 use Rattle.tz_zone.specs.Search.{GoesUp}
-use Rattle.tz_zone.specs.Sets.{IsAccepted, has_ended, is_ahead, order_of}
+use Rattle.tz_zone.specs.Sets.{IsAccepted, IsNear, has_ended, is_ahead, order_of, schedule_of, shifts_of, total_of_span}
+use Rattle.tz_zone.specs.declared.set.FixedTimespanSet.{FixedTimespanSet}
 use Rattle.tz_zone.proofs.PlaceLemmas.{ended_false, ended_true, not_ended, is_ended, ahead_false, ahead_true, not_ahead, is_before}
+use Rattle.tz_zone.proofs.SetLemmas.{count_same, span_offset}
 use Rattle.tz_zone.proofs.AnswerLemmas.{Holds, total, none_holds, before_holds, alone_holds}
 
 choice : Bool → Bool → Ordering
@@ -101,6 +107,52 @@ module _ (zone : Schedule) (x s : ℤ) (at : seconds_of x ≡ s) (accepted : IsA
   one_lies orderly k l e no_before no_after =
       sym (alone_holds zone x k accepted.times accepted.range orderly (holds k l e) (λ j is h. no_before j is (lies j h))
       (λ h. no_after h.within (lies (suc k) h)))
+
+-- all shifts may lie near any second
+pub all_near : (set : FixedTimespanSet) (n : ℕ) (s : ℤ) → n ≡ length set.others → IsNear (shifts_of set) 0 n s
+all_near set n s is = record {
+  order = omega arith;
+  within = omega (arith, is, count_same set);
+  before = λ j l. absurd (omega arith);
+  after = λ j l m. absurd (omega (arith, l, m, is, count_same set));
+}
+
+-- the spans of shifts that lie far before a local second have ended, and those of shifts far after it are ahead
+module _ (set : FixedTimespanSet) (accepted : IsAccepted (schedule_of set)) (low high : ℕ) (s : ℤ) (near : IsNear (shifts_of set) low high s) where
+  abbrev pub zone : Schedule
+  zone = schedule_of set
+
+  offset : (i : ℕ) → i ≤ length zone.shifts → IsOffset (total_of_span set i)
+  offset i l = span_offset set i accepted (omega (arith, l, count_same set))
+
+  gone : (k : ℕ) → k < low → order_of zone k s ≡ Less
+  gone k l =
+      let inside : k < length zone.shifts = omega (arith, l, near.order, near.within) in
+      at_first (has_ended zone k s) (is_ahead zone k s)
+      (is_ended k (length zone.shifts) (local_end zone.first zone.shifts k) s inside
+      (omega (arith, ints, near.before k l, offset_greatest (total_of_span set k) (offset k (omega (arith, inside))))))
+
+  to_come : (k : ℕ) → high < k → k ≤ length zone.shifts → order_of zone k s ≡ Greater
+  to_come zero l m = absurd (omega (arith, l))
+  to_come (suc k) l m =
+      let late = near.after k (omega (arith, l)) (omega (arith, m)) in
+      let small = offset_least (total_of_span set (suc k)) (offset (suc k) m) in
+      at_second (has_ended zone (suc k) s) (is_ahead zone (suc k) s)
+      (not_ended (suc k) (length zone.shifts) (local_end zone.first zone.shifts (suc k)) s
+      (λ n. omega (arith, ints, late, small, accepted.times k (suc k) (omega arith) n)))
+      (is_before (suc k) (local_start zone.shifts (suc k)) s (omega arith) (omega (arith, ints, late, small)))
+
+  -- where none of the others lies at it none does
+  pub none_near : ((k : ℕ) → low ≤ k → k < high + 1 → order_of zone k s ≡ Equal → ⊥) → (k : ℕ) → k ≤ length zone.shifts
+      → order_of zone k s ≡ Equal → ⊥
+  none_near none k l e =
+      ⊎_elim {C = ⊥}
+      (λ less. let f = gone k less in cc)
+      (λ from. ⊎_elim {C = ⊥}
+      (λ past. let f = to_come k past l in cc)
+      (λ within. none k from (omega (arith, within)) e)
+      (cases_lt high k))
+      (cases_lt k low)
 
 -- a test that answered no
 pub if_false : {P : Type 0} (b : Bool) → (P → b ≡ true) → b ≡ false → P → ⊥

@@ -1,7 +1,8 @@
 -- What a set of spans stands for, and which sets can be looked up.
-use Rattle.std.specs.Prelude.{ℕ, zero, suc, slice_index_or, ◌+◌, ◌<◌, ◌≤◌, ◌<ℤ◌, Bool, ◌&&◌, nat_lt, List, length, map, All, IsTrue, ℤ, pos, neg_ℤ, ◌≤ℤ◌, int_le, int_lt, if◌then◌else◌}
+use Rattle.std.specs.Prelude.{ℕ, zero, suc, slice_index_or, ◌+◌, ◌<◌, ◌≤◌, ◌<ℤ◌, Bool, ◌&&◌, nat_lt, List, length, map, All, IsTrue, ℤ, pos, neg_ℤ, ◌+ℤ◌, ◌≤ℤ◌, int_le, int_lt, if◌then◌else◌}
 use Rattle.std.specs.declared.cmp.Ordering.{Ordering}
 use Rattle.std.specs.declared.cmp.Ordering.TheVariants.{Less, Equal, Greater}
+use Rattle.civil_base.specs.Ranges.{greatest_offset}
 use Rattle.zone_spans.specs.Bounds.{greatest_second}
 use Rattle.zone_spans.specs.Entries.{Entry, total}
 use Rattle.zone_spans.specs.Schedules.{Schedule, is_in_offset_range}
@@ -66,3 +67,10 @@ pub record IsBetween (shifts : List Shift) (low high : ℕ) (second : ℤ) : Typ
   pub within : high ≤ length shifts
   pub before : (j : ℕ) → j < low → (shift_at shifts j).0 ≤ℤ second
   pub after : (j : ℕ) → high ≤ j → j < length shifts → second <ℤ (shift_at shifts j).0
+
+-- the shifts before low lie the greatest offset before a local second, or more, and those from high on lie further than that after it
+pub record IsNear (shifts : List Shift) (low high : ℕ) (second : ℤ) : Type 0 where
+  pub order : low ≤ high
+  pub within : high ≤ length shifts
+  pub before : (j : ℕ) → j < low → ((shift_at shifts j).0 +ℤ pos greatest_offset) ≤ℤ second
+  pub after : (j : ℕ) → high ≤ j → j < length shifts → (second +ℤ pos greatest_offset) <ℤ (shift_at shifts j).0

@@ -3,7 +3,7 @@ ghost use Rattle.std.specs.Prelude.{◌≡◌, ◌+◌, ◌+ℤ◌, ◌<◌, ◌
 ghost use Rattle.std.specs.declared.cmp.Ordering.TheVariants.{Equal};
 ghost use Rattle.zone_spans.specs.Entries.{total as total_in};
 ghost use Rattle.civil_base.specs.Ranges.{is_offset};
-ghost use Rattle.tz_zone.specs.Sets.{schedule_of, shifts_of, IsAccepted, has_ended, is_ahead, order_of, total_of_span, span_in, IsBetween, order_at, IsOrderlyZone};
+ghost use Rattle.tz_zone.specs.Sets.{schedule_of, shifts_of, IsAccepted, has_ended, is_ahead, order_of, total_of_span, span_in, IsBetween, IsNear, order_at, IsOrderlyZone};
 ghost use Rattle.tz_zone.specs.Spans.{local_start, local_end, shift_at, IsCut};
 ghost use Rattle.tz_zone.specs.declared.set.FixedTimespanSet.{FixedTimespanSet};
 ghost use Rattle.tz_zone.specs.Answers.{listed, EachOf, IsUpTo, AreAdjacent};
@@ -266,24 +266,29 @@ impl<'a, T: SpanTable> Probe for LocalProbe<'a, T> {
     }
 }
 
-/// The spans that contain a local second: those at the instants that are read as any local time of that second.
+/// The spans that contain a local second: those at the instants that are read as any local time of that second. None lies before
+/// `low` or after `high`.
 pub(crate) fn local_spans_at<T: SpanTable, L: Ledger>(
     set: &T,
     second: i64,
+    low: usize,
+    high: usize,
     steps: &mut Steps<L>,
 ) -> OffsetResult<usize>
     requires accepted { IsAccepted (schedule_of (T.seen set.now)) }
     requires orderly { IsOrderlyZone (schedule_of (T.seen set.now)) }
+    requires near { IsNear (shifts_of (T.seen set.now)) low high second }
+    requires bound { high < 18446744073709551615 }
     ensures within { IsUpTo (length (T.seen set.now).others) result }
     ensures lies { EachOf (λ k. order_of (schedule_of (T.seen set.now)) k second ≡ Equal) result }
     ensures adjacent { AreAdjacent result }
     ensures exact { (x : ℤ) → seconds_of x ≡ second →
         map (total_of_span (T.seen set.now)) (listed result) ≡ totals_at (total_at (schedule_of (T.seen set.now))) x }
-    ensures cost { 2 ^ (steps.new - steps.old) ≤ 2 * (length (T.seen set.now).others + 1) + 1 }
+    ensures cost { 2 ^ (steps.new - steps.old) ≤ 2 * (high + 1 - low) + 1 }
     ensures later { steps.old ≤ steps.new }
 {
     let probe = LocalProbe { set, second };
-    match binary_search(0, span_count(set), &probe, steps) {
+    match binary_search(low, high + 1, &probe, steps) {
         None => OffsetResult::None,
         Some(found) => beside(set, second, found),
     }
@@ -314,11 +319,15 @@ fn spans_under<T: SpanTable, L: Ledger>(
     set: &T,
     orderly: bool,
     date_time: &OffsetDateTime,
+    low: usize,
+    high: usize,
     blank: Blank,
 ) -> OffsetResult<usize>
     requires accepted { IsAccepted (schedule_of (T.seen set.now)) }
     requires orderly { IsTrue orderly ↔ IsOrderlyZone (schedule_of (T.seen set.now)) }
     requires utc { offset_of date_time.now ≡ pos 0 }
+    requires near { IsNear (shifts_of (T.seen set.now)) low high (seconds_of (local_of date_time.now)) }
+    requires bound { high < 18446744073709551615 }
     requires name { blank.name ≡ L.name }
     requires parts { blank.parts ≡ L.parts }
     requires some { 0 < L.parts }
@@ -329,26 +338,31 @@ fn spans_under<T: SpanTable, L: Ledger>(
         ≡ take 2 (totals_at (total_at (schedule_of (T.seen set.now))) (local_of date_time.now)) }
 {
     let mut steps: Steps<L> = Steps::new(blank);
-    local_spans_counted(set, orderly, date_time, &mut steps)
+    local_spans_counted(set, orderly, date_time, low, high, &mut steps)
 }
 
 /// The spans at whose totals a local time is read, by time: all of them, or the first two. On an orderly set two of them are
-/// neighbours. The local time is that of a date-time at UTC.
+/// neighbours. The local time is that of a date-time at UTC. The entries before `low` and those from `high` on lie further from it than
+/// the greatest offset, and aren't looked at in an orderly set.
 pub fn local_spans<T: SpanTable>(
     set: &T,
     orderly: bool,
     date_time: &OffsetDateTime,
+    low: usize,
+    high: usize,
 ) -> OffsetResult<usize>
     requires accepted { IsAccepted (schedule_of (T.seen set.now)) }
     requires orderly { IsTrue orderly ↔ IsOrderlyZone (schedule_of (T.seen set.now)) }
     requires utc { offset_of date_time.now ≡ pos 0 }
+    requires near { IsNear (shifts_of (T.seen set.now)) low high (seconds_of (local_of date_time.now)) }
+    requires bound { high < 18446744073709551615 }
     ensures within { IsUpTo (length (T.seen set.now).others) result }
     ensures read { AreRead (T.seen set.now) (local_of date_time.now) result }
     ensures adjacent { IsOrderlyZone (schedule_of (T.seen set.now)) → AreAdjacent result }
     ensures totals { map (total_of_span (T.seen set.now)) (listed result)
         ≡ take 2 (totals_at (total_at (schedule_of (T.seen set.now))) (local_of date_time.now)) }
 {
-    spans_under::<T, Brand>(set, orderly, date_time, Blank::new(1))
+    spans_under::<T, Brand>(set, orderly, date_time, low, high, Blank::new(1))
 }
 
 /// The same, with a step for each comparison of the search on an orderly set.
@@ -356,20 +370,24 @@ pub fn local_spans_counted<T: SpanTable, L: Ledger>(
     set: &T,
     orderly: bool,
     date_time: &OffsetDateTime,
+    low: usize,
+    high: usize,
     steps: &mut Steps<L>,
 ) -> OffsetResult<usize>
     requires accepted { IsAccepted (schedule_of (T.seen set.now)) }
     requires orderly { IsTrue orderly ↔ IsOrderlyZone (schedule_of (T.seen set.now)) }
     requires utc { offset_of date_time.now ≡ pos 0 }
+    requires near { IsNear (shifts_of (T.seen set.now)) low high (seconds_of (local_of date_time.now)) }
+    requires bound { high < 18446744073709551615 }
     ensures within { IsUpTo (length (T.seen set.now).others) result }
     ensures read { AreRead (T.seen set.now) (local_of date_time.now) result }
     ensures adjacent { IsOrderlyZone (schedule_of (T.seen set.now)) → AreAdjacent result }
     ensures totals { map (total_of_span (T.seen set.now)) (listed result)
         ≡ take 2 (totals_at (total_at (schedule_of (T.seen set.now))) (local_of date_time.now)) }
-    ensures cost { 2 ^ (steps.new - steps.old) ≤ 2 * (length (T.seen set.now).others + 1) + 1 }
+    ensures cost { 2 ^ (steps.new - steps.old) ≤ 2 * (high + 1 - low) + 1 }
     ensures later { steps.old ≤ steps.new }
 {
-    spans_of_second(set, orderly, date_time.unix_timestamp(), steps)
+    spans_of_second(set, orderly, date_time.unix_timestamp(), low, high, steps)
 }
 
 /// The spans that contain a local second: all of them, or the first two.
@@ -377,20 +395,24 @@ fn spans_of_second<T: SpanTable, L: Ledger>(
     set: &T,
     orderly: bool,
     second: i64,
+    low: usize,
+    high: usize,
     steps: &mut Steps<L>,
 ) -> OffsetResult<usize>
     requires accepted { IsAccepted (schedule_of (T.seen set.now)) }
     requires orderly { IsTrue orderly ↔ IsOrderlyZone (schedule_of (T.seen set.now)) }
+    requires near { IsNear (shifts_of (T.seen set.now)) low high second }
+    requires bound { high < 18446744073709551615 }
     ensures within { IsUpTo (length (T.seen set.now).others) result }
     ensures lies { EachOf (λ k. order_of (schedule_of (T.seen set.now)) k second ≡ Equal) result }
     ensures adjacent { IsOrderlyZone (schedule_of (T.seen set.now)) → AreAdjacent result }
     ensures exact { (x : ℤ) → seconds_of x ≡ second →
         map (total_of_span (T.seen set.now)) (listed result) ≡ take 2 (totals_at (total_at (schedule_of (T.seen set.now))) x) }
-    ensures cost { 2 ^ (steps.new - steps.old) ≤ 2 * (length (T.seen set.now).others + 1) + 1 }
+    ensures cost { 2 ^ (steps.new - steps.old) ≤ 2 * (high + 1 - low) + 1 }
     ensures later { steps.old ≤ steps.new }
 {
     if orderly {
-        local_spans_at(set, second, steps)
+        local_spans_at(set, second, low, high, steps)
     } else {
         first_local_spans_at(set, second)
     }

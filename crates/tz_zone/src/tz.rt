@@ -136,7 +136,14 @@ impl<'a> Tz<'a> {
     {
         TzOffset::of_spans(
             self.set,
-            local_spans_counted(self.set, self.orderly, date_time, steps),
+            local_spans_counted(
+                self.set,
+                self.orderly,
+                date_time,
+                0,
+                self.set.entry_count(),
+                steps,
+            ),
         )
     }
 
@@ -191,7 +198,10 @@ impl<'a> TimeZone for Tz<'a> {
     }
 
     fn get_offset_local(&self, date_time: &OffsetDateTime) -> OffsetResult<TzOffset<'a>> {
-        TzOffset::of_spans(self.set, local_spans(self.set, self.orderly, date_time))
+        TzOffset::of_spans(
+            self.set,
+            local_spans(self.set, self.orderly, date_time, 0, self.set.entry_count()),
+        )
     }
 
     fn get_offset_primary(&self) -> TzOffset<'a> {

@@ -19,3 +19,12 @@ loop-place-preserved c =
       each = λ i l. subst (λ k. IsCut shifts (get_or k i 0) (year_second i -ℤ pos 1)) (sym more)
           (counts_more shifts counts c.entries_before-before.result c.loop-place.place inv.size inv.each c.entries_before-before.ensures i l);
     }
+
+pub returns : goal.returns
+returns c =
+    let inv = c.loop-place.invariant in
+    record {
+      few = omega (arith, inv.size, c.years_reached-years.ensures.within, c.loop-place-test.false);
+      each = λ i l. inv.each i (omega (arith, l, inv.size));
+      later = λ i l m. c.years_reached-years.ensures.later i (omega (arith, l, inv.size, c.loop-place-test.false)) m;
+    }

@@ -10,13 +10,13 @@ returns-then-second-lt-RULES_BEGIN c =
     let same = to_z-of_z w64 c.args.second c.ranges.second in
     before_all c.args.second (subst (λ s. s <ℤ negsuc 5364662399) same (lt_from_pass _ _ c.if-second-lt-RULES_BEGIN.true))
 
-pub returns-then-second-ge-RULES_END : goal.returns-then-second-ge-RULES_END
-returns-then-second-ge-RULES_END c =
+pub returns-then-second-ge-COUNTED_END : goal.returns-then-second-ge-COUNTED_END
+returns-then-second-ge-COUNTED_END c =
     let same = to_z-of_z w64 c.args.second c.ranges.second in
-    after_all c.args.second (subst (λ s. pos 4102444800 ≤ℤ s) same (le_from_pass _ _ c.if-second-ge-RULES_END.true))
+    after_all c.args.second (subst (λ s. pos 26192246400 ≤ℤ s) same (le_from_pass _ _ c.if-second-ge-COUNTED_END.true))
 
-pub returns-else-second-ge-RULES_END : goal.returns-else-second-ge-RULES_END
-returns-else-second-ge-RULES_END c =
+pub returns-else-second-ge-COUNTED_END : goal.returns-else-second-ge-COUNTED_END
+returns-else-second-ge-COUNTED_END c =
     let same = to_z-of_z w64 c.args.second c.ranges.second in
     let fits : SFits w32 c.utc_year.result = search rules in
     within_begun c.year_number.result c.utc_year.result c.args.second

@@ -1,9 +1,16 @@
-use Rattle.std.proofs.Common.{w64, SFits, rules, sym, ◌∙◌, refl}
+use Rattle.std.proofs.Common.{w64, SFits, rules, sym, ◌∙◌, refl, subst}
 use Rattle.std.proofs.lemmas.Int.{to_z-of_z}
 use Rattle.civil_base.specs.DateTimes.{local_of}
 use Rattle.tz_zone.proofs.GivenLemmas.{each_read}
+use Rattle.tz_zone.specs.Sets.{IsNear, shifts_of}
 use Rattle.tz_zone.specs.UtcLaws.{second_at_utc}
 use Rattle.tz_zone.proofs.lookups.local_spans_counted.Goals as goal
+
+pub spans_of_second-requires-clause-near : goal.spans_of_second-requires-clause-near
+spans_of_second-requires-clause-near g c =
+    let fs : SFits w64 c.unix_timestamp.result = search rules in
+    let second = c.unix_timestamp.ensures.value ∙ second_at_utc c.args.date_time.now _ refl c.requires.utc in
+    subst (IsNear (shifts_of (g.T.SpanTable.seen c.args.set.now)) c.args.low c.args.high) (sym (to_z-of_z w64 _ fs ∙ second)) c.requires.near
 
 pub returns-clause-totals : goal.returns-clause-totals
 returns-clause-totals g c =

@@ -1,4 +1,4 @@
-use Rattle.std.proofs.Common.{length, ℤ, w64, to_z, of_z, sym, ap, ◌∙◌, ◌≡◌, ◌+◌}
+use Rattle.std.proofs.Common.{length, ℤ, w64, to_z, of_z, sym, ap, ◌∙◌, ◌≡◌, ◌+◌, ◌-◌}
 use Rattle.std.proofs.lemmas.Int.{to_z-of_z}
 use Rattle.tz_zone.proofs.SetLemmas.{count_same}
 use Rattle.std.specs.Prelude.{take, ℕ}
@@ -24,4 +24,4 @@ returns-else-orderly-clause-lies g c =
     c.first_local_spans_at.ensures.lies
 
 pub returns-else-orderly-clause-cost : goal.returns-else-orderly-clause-cost
-returns-else-orderly-clause-cost g c = no_step c.args.steps.now (length (g.T.SpanTable.seen c.args.set.now).others + 1)
+returns-else-orderly-clause-cost g c = no_step c.args.steps.now (c.args.high + 1 - c.args.low)

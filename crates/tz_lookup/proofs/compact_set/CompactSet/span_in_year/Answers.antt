@@ -17,9 +17,9 @@ span_between-requires-clause-between g c =
     let year = c.years_begun-year.result in
     let next : year + 1 ≡ suc year = omega arith in
     let between = between_is (shifts_of set) years n (sym (length-map set.others shift_of)) c.args.self.now.counted year s c.years_begun-year.ensures in
-    subst (λ low. IsBetween (shifts_of set) low c.before_year-high.result s) (sym c.before_year-low.ensures)
+    subst (λ low. IsBetween (shifts_of set) low c.before_year-high.result s) (sym c.before_year-low.ensures.value)
     (subst (λ high. IsBetween (shifts_of set) (before_year years n year) high s)
-    (sym (c.before_year-high.ensures ∙ ap (before_year years n) next)) between)
+    (sym (c.before_year-high.ensures.value ∙ ap (before_year years n) next)) between)
 
 pub returns-clause-total : goal.returns-clause-total
 returns-clause-total g c = λ t at. c.span_between.ensures.total t (at ∙ sym (to_z-of_z w64 c.args.second c.ranges.second))
@@ -33,7 +33,7 @@ returns-clause-cost g c =
     let next : year + 1 ≡ suc year = omega arith in
     let begun = subst (HaveBegun year) (to_z-of_z w64 c.args.second c.ranges.second) c.years_begun-year.ensures in
     let few : c.before_year-high.result - c.before_year-low.result ≤ changes_in_year set c.args.second =
-    subst (λ low. c.before_year-high.result - low ≤ changes_in_year set c.args.second) (sym c.before_year-low.ensures)
+    subst (λ low. c.before_year-high.result - low ≤ changes_in_year set c.args.second) (sym c.before_year-low.ensures.value)
     (subst (λ high. high - before_year years n year ≤ changes_in_year set c.args.second)
-    (sym (c.before_year-high.ensures ∙ ap (before_year years n) next)) (year_changes set years year c.args.second c.args.self.now.counted begun)) in
+    (sym (c.before_year-high.ensures.value ∙ ap (before_year years n) next)) (year_changes set years year c.args.second c.args.self.now.counted begun)) in
     paid_by _ _ _ c.span_between.ensures.cost few

@@ -1,6 +1,10 @@
 use Rattle.std.proofs.Common.{◌∙◌}
 use Rattle.tz_zone.specs.AnswerLaws.{instants_of_offsets}
+use Rattle.tz_zone.proofs.OrderLemmas.{all_near}
 use Rattle.tz_zone.proofs.tz.Tz.get_offset_local_counted.Goals as goal
+
+pub local_spans_counted-requires-clause-near : goal.local_spans_counted-requires-clause-near
+local_spans_counted-requires-clause-near g c = all_near c.args.self.now.set.now _ _ c.entry_count.ensures.count
 
 pub returns-clause-names : goal.returns-clause-names
 returns-clause-names g c = c.of_spans.ensures.names _ c.local_spans_counted.ensures.read

@@ -1,6 +1,10 @@
 use Rattle.std.proofs.Common.{◌∙◌}
 use Rattle.tz_zone.specs.AnswerLaws.{instants_of_offsets}
+use Rattle.tz_zone.proofs.OrderLemmas.{all_near}
 use Rattle.tz_zone.proofs.tz.TzTimeZone.get_offset_local.Goals as goal
+
+pub local_spans-requires-clause-near : goal.local_spans-requires-clause-near
+local_spans-requires-clause-near c = all_near c.args.self.now.set.now _ _ c.entry_count.ensures.count
 
 pub returns-clause-names : goal.returns-clause-names
 returns-clause-names c = c.of_spans.ensures.names _ c.local_spans.ensures.read

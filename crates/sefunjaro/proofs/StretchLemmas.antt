@@ -1,0 +1,64 @@
+-- The total throughout a span, and throughout seconds of one cycle.
+use Rattle.std.proofs.Common.{◌≡◌, ℕ, ◌+◌, ◌*◌, ℤ, pos, ◌+ℤ◌, ◌-ℤ◌, ◌≤ℤ◌, ◌<ℤ◌, sym, ap, ◌∙◌, arith}
+use Rattle.calendar.specs.ComparisonLaws.{lt_pass}
+use Rattle.calendar.specs.SignedLaws.{signed}
+use Rattle.civil_base.specs.Instants.{nanos_of}
+use Rattle.zone_spans.specs.Schedules.{Schedule, total_at}
+use Rattle.tz_zone.specs.SecondLaws.{IsSecond, one_second, second_is, total_is}
+use Rattle.tz_zone.specs.Sets.{schedule_of}
+use Rattle.tz_zone.specs.SpanLaws.{total_from_cut}
+use Rattle.tz_zone.specs.Spans.{IsCut, total_from, total_of}
+use Rattle.tz_zone.specs.declared.set.FixedTimespanSet.{FixedTimespanSet}
+use Rattle.tz_ever.specs.Ever.{ever_total}
+use Rattle.tz_ever.specs.Seam.{next_seam}
+use Rattle.tz_ever.specs.SeamLaws.{back_by, back_is}
+use Rattle.tz_ever.specs.Unrolled.{next_seam_second, seam_second}
+use Rattle.sefunjaro.specs.Stretches.{IsStretch}
+use Rattle.sefunjaro.specs.declared.stretch.Stretch.{Stretch}
+
+begins_at : (s : ℤ) → IsSecond (nanos_of s) s
+begins_at s = record { low = omega (arith, signed); high = omega (arith, signed) }
+
+pub at_second : (zone : Schedule) (k : ℕ) (s : ℤ) → IsCut zone.shifts k s → total_at zone (nanos_of s) ≡ total_of zone.first zone.shifts k
+at_second zone k s cut =
+    total_is zone (nanos_of s) ∙ ap (total_from zone.first zone.shifts) (one_second _ _ _ (second_is (nanos_of s)) (begins_at s))
+    ∙ total_from_cut zone.first zone.shifts k s cut
+
+pub before_seam : (set : FixedTimespanSet) (u : ℤ) → u <ℤ next_seam_second → ever_total set (nanos_of u) ≡ total_at (schedule_of set) (nanos_of u)
+unfolding ever_total
+before_seam set u l = ap (total_at (schedule_of set)) (back_is (nanos_of u) (lt_pass (nanos_of u) next_seam (omega (arith, signed, l))))
+
+pub after_seam : (set : FixedTimespanSet) (u v : ℤ) (k : ℕ) → u ≡ v +ℤ pos (k * 12622780800) → seam_second ≤ℤ v → v <ℤ next_seam_second
+    → ever_total set (nanos_of u) ≡ total_at (schedule_of set) (nanos_of v)
+unfolding ever_total
+after_seam set u v k is low high =
+    ap (total_at (schedule_of set)) (back_by (nanos_of u) k (record {
+      begun = λ _. omega (arith, signed, is, low);
+      not_over = omega (arith, signed, is, high);
+    }) ∙ omega (arith, signed, is))
+
+-- a stretch of the set is one of the zone as far as the next seam
+pub first_is : (set : FixedTimespanSet) (second until : ℤ) (found result : Stretch) → second <ℤ next_seam_second
+    → IsStretch (total_at (schedule_of set)) second found → until ≤ℤ next_seam_second → until ≤ℤ found.until
+    → result.from ≡ found.from → result.until ≡ until → result.offset ≡ found.offset → IsStretch (ever_total set) second result
+first_is set second until found result early is seam end from_is until_is offset_is = record {
+  begun = omega (arith, signed, is.begun, from_is);
+  here = before_seam set second early ∙ is.here ∙ sym offset_is;
+  throughout = λ u low high.
+      before_seam set u (omega (arith, signed, high, until_is, seam))
+      ∙ is.throughout u (omega (arith, signed, low, from_is)) (omega (arith, signed, high, until_is, end)) ∙ sym offset_is;
+}
+
+-- and within a cycle so many cycles later
+pub later_is : (set : FixedTimespanSet) (second v from until : ℤ) (k : ℕ) (found result : Stretch) → second ≡ v +ℤ pos (k * 12622780800)
+    → seam_second ≤ℤ v → v <ℤ next_seam_second → IsStretch (total_at (schedule_of set)) v found → seam_second ≤ℤ from → found.from ≤ℤ from
+    → from ≤ℤ v → until ≤ℤ next_seam_second → until ≤ℤ found.until → result.from ≡ from +ℤ pos (k * 12622780800)
+    → result.until ≡ until +ℤ pos (k * 12622780800) → result.offset ≡ found.offset → IsStretch (ever_total set) second result
+later_is set second v from until k found result v_is low high is seam start least next end from_is until_is offset_is = record {
+  begun = omega (arith, signed, v_is, from_is, least);
+  here = after_seam set second v k v_is low high ∙ is.here ∙ sym offset_is;
+  throughout = λ u after before.
+      let w = u -ℤ pos (k * 12622780800) in
+      after_seam set u w k (omega (arith, signed)) (omega (arith, signed, after, from_is, seam)) (omega (arith, signed, before, until_is, next))
+      ∙ is.throughout w (omega (arith, signed, after, from_is, start)) (omega (arith, signed, before, until_is, end)) ∙ sym offset_is;
+}

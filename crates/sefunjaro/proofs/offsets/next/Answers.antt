@@ -1,0 +1,1 @@
+use Rattle.sefunjaro.proofs.offsets.next.Goals as goal

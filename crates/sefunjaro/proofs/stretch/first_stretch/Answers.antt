@@ -1,0 +1,23 @@
+use Rattle.std.proofs.Common.{◌≡◌, ◌∙◌, ℤ, ◌≤ℤ◌, SFits, rules, to_z, of_z, w32, w64, sym, subst}
+use Rattle.std.proofs.lemmas.Int.{to_z-of_z}
+use Rattle.zone_spans.specs.Schedules.{total_at}
+use Rattle.tz_ever.specs.EverShown.{ever_seen}
+use Rattle.tz_lookup.specs.CompactShown.{seen}
+use Rattle.tz_zone.specs.Sets.{schedule_of}
+use Rattle.tz_zone.specs.declared.set.FixedTimespanSet.{FixedTimespanSet}
+use Rattle.sefunjaro.specs.Stretches.{IsStretch}
+use Rattle.sefunjaro.proofs.StretchLemmas.{first_is}
+use Rattle.sefunjaro.proofs.stretch.first_stretch.Goals as goal
+
+pub returns : goal.returns
+returns c =
+    let found = c.stretch_of-found.result in
+    let from : SFits w64 found.from = search rules in
+    let end : SFits w64 found.until = search rules in
+    let until : SFits w64 c.to_seam-until.result = search rules in
+    let offset : SFits w32 found.offset = search rules in
+    first_is (ever_seen c.args.ever.now) c.args.second c.to_seam-until.result found _ c.requires
+    (subst (λ (s : FixedTimespanSet). IsStretch (total_at (schedule_of s)) c.args.second found) c.compact.ensures.seen
+    (subst (λ t. IsStretch (total_at (schedule_of (seen c.compact.result.now))) t found) (to_z-of_z w64 _ c.ranges.second) c.stretch_of-found.ensures))
+    c.to_seam-until.ensures.seam (subst (λ t. c.to_seam-until.result ≤ℤ t) (to_z-of_z w64 _ end) c.to_seam-until.ensures.second)
+    (to_z-of_z w64 _ from) (to_z-of_z w64 _ until) (to_z-of_z w32 _ offset)

@@ -1,0 +1,54 @@
+use Rattle.std.proofs.Common.{◌≡◌, ◌∙◌, ◌*◌, ℤ, pos, ◌+ℤ◌, ◌-ℤ◌, ◌≤ℤ◌, SFits, rules, to_z, of_z, w32, w64, sym, ap, subst, arith}
+use Rattle.std.proofs.lemmas.Int.{to_z-of_z}
+use Rattle.calendar.specs.SignedLaws.{signed}
+use Rattle.zone_spans.specs.Schedules.{total_at}
+use Rattle.tz_ever.specs.EverShown.{ever_seen}
+use Rattle.tz_ever.specs.Unrolled.{seam_second}
+use Rattle.tz_lookup.specs.CompactShown.{seen}
+use Rattle.tz_zone.specs.Sets.{schedule_of}
+use Rattle.tz_zone.specs.declared.set.FixedTimespanSet.{FixedTimespanSet}
+use Rattle.sefunjaro.specs.Stretches.{IsStretch}
+use Rattle.sefunjaro.proofs.StretchLemmas.{later_is}
+use Rattle.sefunjaro.proofs.stretch.later_stretch.Goals as goal
+
+pub returns : goal.returns
+returns c =
+    let set = ever_seen c.args.ever.now in
+    let k = c.args.cycles in
+    let found = c.stretch_of-found.result in
+    let v = c.earlier.result in
+    let v_fits : SFits w64 v = search rules in
+    let start : SFits w64 found.from = search rules in
+    let end : SFits w64 found.until = search rules in
+    let from : SFits w64 c.from_seam.result = search rules in
+    let until : SFits w64 c.to_seam.result = search rules in
+    let from_later : SFits w64 c.later-from.result = search rules in
+    let until_later : SFits w64 c.later-until.result = search rules in
+    let offset : SFits w32 found.offset = search rules in
+    let v_is : v ≡ c.args.second -ℤ pos (k * 12622780800) =
+    c.earlier.ensures ∙ ap (λ s. s -ℤ pos (k * 12622780800)) (to_z-of_z w64 _ c.ranges.second) in
+    let low : seam_second ≤ℤ v = omega (arith, signed, v_is, c.requires.begun) in
+    let is = subst (λ (s : FixedTimespanSet). IsStretch (total_at (schedule_of s)) v found) c.compact.ensures.seen
+    (subst (λ t. IsStretch (total_at (schedule_of (seen c.compact.result.now))) t found) (to_z-of_z w64 _ v_fits) c.stretch_of-found.ensures) in
+    later_is set c.args.second v c.from_seam.result c.to_seam.result k found _ (omega (arith, signed, v_is)) low
+    (omega (arith, signed, v_is, c.requires.lasts)) is c.from_seam.ensures.seam
+    (subst (λ t. t ≤ℤ c.from_seam.result) (to_z-of_z w64 _ start) c.from_seam.ensures.second)
+    (c.from_seam.ensures.least v low (subst (λ t. t ≤ℤ v) (sym (to_z-of_z w64 _ start)) is.begun))
+    c.to_seam.ensures.seam (subst (λ t. c.to_seam.result ≤ℤ t) (to_z-of_z w64 _ end) c.to_seam.ensures.second)
+    (to_z-of_z w64 _ from_later ∙ c.later-from.ensures ∙ ap (λ s. s +ℤ pos (k * 12622780800)) (to_z-of_z w64 _ from))
+    (to_z-of_z w64 _ until_later ∙ c.later-until.ensures ∙ ap (λ s. s +ℤ pos (k * 12622780800)) (to_z-of_z w64 _ until))
+    (to_z-of_z w32 _ offset)
+
+pub later-from-requires-clause-second : goal.later-from-requires-clause-second
+later-from-requires-clause-second c =
+    let k = c.args.cycles in
+    let v = c.earlier.result in
+    let v_fits : SFits w64 v = search rules in
+    let start : SFits w64 c.stretch_of-found.result.from = search rules in
+    let from : SFits w64 c.from_seam.result = search rules in
+    let v_is : v ≡ c.args.second -ℤ pos (k * 12622780800) =
+    c.earlier.ensures ∙ ap (λ s. s -ℤ pos (k * 12622780800)) (to_z-of_z w64 _ c.ranges.second) in
+    let least = c.from_seam.ensures.least v (omega (arith, signed, v_is, c.requires.begun))
+    (subst (λ t. t ≤ℤ v) (sym (to_z-of_z w64 _ start))
+    (subst (λ t. c.stretch_of-found.result.from ≤ℤ t) (to_z-of_z w64 _ v_fits) c.stretch_of-found.ensures.begun)) in
+    omega (arith, signed, v_is, c.requires.lasts, least, to_z-of_z w64 _ from)

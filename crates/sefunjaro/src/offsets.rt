@@ -1,0 +1,109 @@
+//! The offsets of many seconds, by a cursor that remembers what was in force at the last one.
+ghost use Rattle.std.specs.Prelude.{◌≡◌, ◌<◌, length, pos, slice_index_or, ℤ};
+ghost use Rattle.civil_base.specs.Instants.{nanos_of};
+ghost use Rattle.tz_ever.specs.Ever.{ever_total};
+ghost use Rattle.tz_ever.specs.EverShown.{ever_seen};
+ghost use Rattle.tz_lookup.specs.CompactShown.{seen};
+ghost use Rattle.sefunjaro.specs.Stretches.{IsKnown, IsStretch};
+ghost use Rattle.tz_tzif.specs.InForce.{told_total_at};
+ghost use Rattle.tz_tzif.specs.Zones.{value_of, says_of};
+ghost use Rattle.tz_zone.specs.Sets.{schedule_of};
+ghost use Rattle.zone_spans.specs.Schedules.{total_at};
+ghost use Rattle.civil_base.specs.Ranges.{IsInYears};
+ghost use Rattle.sefunjaro.specs.Offsets.{offsets_of, AreInYears};
+ghost use Rattle.sefunjaro.specs.Rooms.{filled};
+
+use crate::room::put;
+use crate::zone::offset_at;
+use civil_base::OffsetDateTime;
+use crate::stretch::{Stretch, ever_stretch, stretch_of};
+use tz_ever::EverSet;
+use tz_lookup::CompactSet;
+use tz_tzif::TzifTz;
+
+/// A zone that tells what is in force at a second, and how long.
+pub(crate) trait Stretches {
+    /// The total in force at an instant.
+    ghost total_at: { Self → ℤ → ℤ };
+
+    /// The total at a second, and seconds around it at which it is the same.
+    fn around(&self, second: i64) -> Stretch
+        requires { IsInYears (nanos_of second) }
+        ensures { IsStretch (total_at self.now) second result };
+}
+
+impl Stretches for CompactSet {
+    ghost total_at = { λ set. total_at (schedule_of (seen set)) };
+
+    fn around(&self, second: i64) -> Stretch {
+        stretch_of(self, second)
+    }
+}
+
+impl Stretches for EverSet {
+    ghost total_at = { λ set. ever_total (ever_seen set) };
+
+    fn around(&self, second: i64) -> Stretch {
+        ever_stretch(self, second)
+    }
+}
+
+impl<'a> Stretches for TzifTz<'a> {
+    ghost total_at = { λ zone. told_total_at (value_of zone) (says_of zone) };
+
+    fn around(&self, second: i64) -> Stretch {
+        Stretch {
+            from: second,
+            until: second,
+            offset: offset_in(self, second),
+        }
+    }
+}
+
+/// The seconds east of UTC that a zone has in force at a second.
+fn offset_in(zone: &TzifTz<'_>, second: i64) -> i32
+    requires { IsInYears (nanos_of second) }
+    ensures { result ≡ told_total_at (value_of zone.now) (says_of zone.now) (nanos_of second) }
+{
+    match OffsetDateTime::from_unix_timestamp(second) {
+        Ok(at) => offset_at(zone, &at),
+        Err(_) => unreachable!(),
+    }
+}
+
+/// The seconds east of UTC that are in force at each of some seconds, in their order, as far as they fit.
+pub(crate) fn offsets_at<Z: Stretches>(zone: &Z, seconds: &[i64], room: &mut [i32])
+    requires { AreInYears seconds.now }
+    ensures { room.new ≡ filled (offsets_of (Z.total_at zone.now) seconds.now) room.old }
+{
+    let mut known = Stretch {
+        from: 0,
+        until: 0,
+        offset: 0,
+    };
+    for i in 0..seconds.len() {
+        known = next(zone, known, second_at(seconds, i));
+        put(known.offset, i, room);
+    }
+}
+
+fn second_at(seconds: &[i64], place: usize) -> i64
+    requires { place < length seconds.now }
+    ensures { result ≡ slice_index_or seconds.now place (pos 0) }
+{
+    seconds[place]
+}
+
+/// The stretch of a second: the last one, or that which the zone tells.
+fn next<Z: Stretches>(zone: &Z, known: Stretch, second: i64) -> Stretch
+    requires near { IsInYears (nanos_of second) }
+    requires known { IsKnown (Z.total_at zone.now) known }
+    ensures here { Z.total_at zone.now (nanos_of second) ≡ result.offset }
+    ensures known { IsKnown (Z.total_at zone.now) result }
+{
+    if known.from <= second && second < known.until {
+        known
+    } else {
+        zone.around(second)
+    }
+}

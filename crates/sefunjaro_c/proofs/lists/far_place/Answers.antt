@@ -1,0 +1,1 @@
+use Rattle.sefunjaro_c.proofs.lists.far_place.Goals as goal
