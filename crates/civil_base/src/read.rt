@@ -309,21 +309,15 @@ fn put(into: &mut [u8], at: usize, bytes: &[u8]) -> usize
 }
 
 fn date_bytes(year: u32, month: u8, day: u8) -> [u8; 10]
+    requires year { year < 10000 }
+    requires month { month < 100 }
+    requires day { day < 100 }
     ensures { result ≡ four_digits year ++ 45 ∷ two_digits month ++ 45 ∷ two_digits day }
 {
-    let (month, day) = (u32::from(month), u32::from(day));
-    [
-        digit(year, 1000),
-        digit(year, 100),
-        digit(year, 10),
-        digit(year, 1),
-        b'-',
-        digit(month, 10),
-        digit(month, 1),
-        b'-',
-        digit(day, 10),
-        digit(day, 1),
-    ]
+    let ((y1, y2), (y3, y4)) = (pair(year / 100), pair(year % 100));
+    let (m1, m2) = pair(u32::from(month));
+    let (d1, d2) = pair(u32::from(day));
+    [y1, y2, y3, y4, b'-', m1, m2, b'-', d1, d2]
 }
 
 // A space, the hour, the minute, the second and a point.
@@ -331,36 +325,21 @@ fn spaced_time(time: Time) -> [u8; 10]
     ensures { result ≡ 32 ∷ two_digits (hour_of time) ++ 58 ∷ two_digits (minute_of time)
         ++ 58 ∷ two_digits (second_of time) ++ 46 ∷ [] }
 {
-    let (hour, minute, second) = time.as_hms();
-    let (hour, minute, second) = (u32::from(hour), u32::from(minute), u32::from(second));
-    [
-        b' ',
-        digit(hour, 10),
-        digit(hour, 1),
-        b':',
-        digit(minute, 10),
-        digit(minute, 1),
-        b':',
-        digit(second, 10),
-        digit(second, 1),
-        b'.',
-    ]
+    let (h1, h2) = pair(u32::from(time.hour()));
+    let (m1, m2) = pair(u32::from(time.minute()));
+    let (s1, s2) = pair(u32::from(time.second()));
+    [b' ', h1, h2, b':', m1, m2, b':', s1, s2, b'.']
 }
 
 fn nanosecond_bytes(nanosecond: u32) -> [u8; 9]
+    requires { nanosecond < 1000000000 }
     ensures { result ≡ nine_digits nanosecond }
 {
-    [
-        digit(nanosecond, 100_000_000),
-        digit(nanosecond, 10_000_000),
-        digit(nanosecond, 1_000_000),
-        digit(nanosecond, 100_000),
-        digit(nanosecond, 10_000),
-        digit(nanosecond, 1000),
-        digit(nanosecond, 100),
-        digit(nanosecond, 10),
-        digit(nanosecond, 1),
-    ]
+    let (front, back) = (nanosecond / 100_000, nanosecond / 10 % 10_000);
+    let ((n1, n2), (n3, n4)) = (pair(front / 100), pair(front % 100));
+    let ((n5, n6), (n7, n8)) = (pair(back / 100), pair(back % 100));
+    let (_, n9) = pair(nanosecond % 10);
+    [n1, n2, n3, n4, n5, n6, n7, n8, n9]
 }
 
 fn spaced_offset(offset: UtcOffset) -> [u8; 10]
@@ -368,19 +347,9 @@ fn spaced_offset(offset: UtcOffset) -> [u8; 10]
     ensures bound { IsOffset offset }
 {
     let size = offset.whole_seconds().unsigned_abs();
-    let (hours, minutes, seconds) = (size / 3600, size / 60 % 60, size % 60);
-    [
-        b' ',
-        sign_byte(offset),
-        digit(hours, 10),
-        digit(hours, 1),
-        b':',
-        digit(minutes, 10),
-        digit(minutes, 1),
-        b':',
-        digit(seconds, 10),
-        digit(seconds, 1),
-    ]
+    let ((h1, h2), (m1, m2)) = (pair(size / 3600), pair(size / 60 % 60));
+    let (s1, s2) = pair(size % 60);
+    [b' ', sign_byte(offset), h1, h2, b':', m1, m2, b':', s1, s2]
 }
 
 fn sign_byte(offset: UtcOffset) -> u8
@@ -389,10 +358,12 @@ fn sign_byte(offset: UtcOffset) -> u8
     if offset.is_negative() { b'-' } else { b'+' }
 }
 
-// The decimal digit at the place of that power of ten, as ASCII.
-fn digit(number: u32, place: u32) -> u8
-    requires { 0 < place }
-    ensures { result ≡ digit_of number place }
+// The two digits of a number, as ASCII.
+fn pair(number: u32) -> (u8, u8)
+    requires { number < 100 }
+    ensures tens { result.0 ≡ digit_of number 10 }
+    ensures ones { result.1 ≡ digit_of number 1 }
 {
-    b'0' + (number / place % 10) as u8
+    let tens = number / 10;
+    (b'0' + tens as u8, b'0' + (number - 10 * tens) as u8)
 }

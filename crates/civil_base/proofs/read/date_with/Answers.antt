@@ -1,7 +1,5 @@
-use Rattle.std.proofs.Common.{rules, arith, ◌≡◌, to_z, of_z, to_z-of_z, FitsSigned, w32, sym, ap, ◌∙◌, unsigned_abs, ℤ, pos, int_lt, ℕ, Bool, false, ◌&&◌, nat_eq, Result}
-use Rattle.std.specs.Prelude.{IsOk, IfOk, IfSome, ◌↔◌}
-use Rattle.std.specs.Result.{result_ok}
-use Rattle.calendar.specs.SignedLaws.{signed, signed_casts}
+use Rattle.std.proofs.Common.{rules, arith, ◌≡◌, to_z, of_z, to_z-of_z, FitsSigned, w32, sym, ap, ◌∙◌, unsigned_abs, ℤ, pos, int_lt, ℕ, Bool, false, ◌&&◌, nat_eq}
+use Rattle.calendar.specs.SignedLaws.{signed_casts}
 use Rattle.calendar.specs.Days.{day, IsDate}
 use Rattle.calendar.specs.Dates.{year_of, month_of, day_of}
 use Rattle.calendar.specs.DateLaws.{year_of-day, month_of-day, day_of-day}
@@ -53,6 +51,8 @@ returns-clause-parts c =
     let f : FitsSigned w32 c.signed-year.result = search rules in
     let year = to_z-of_z f ∙ c.signed-year.ensures ∙ ap (signed_by c.args.negative) c.from.ensures in
     let made_of = rw number at c.from_calendar_date.ensures in
-    rw c.ok-2.ensures.value (ok_gives c.from_calendar_date.result made_of.accepts.0 made_of.value (λ k accepted is.
-    (made k (to_z w32 (of_z w32 c.signed-year.result)) c.args.negative c.args.size c.args.month c.args.day accepted.0 accepted.1 is year
-    c.if-is_minus_zero.false, rw is (date-inside (to_z w32 (of_z w32 c.signed-year.result)) c.args.month c.args.day accepted.0 accepted.1))))
+    rw c.ok-2.ensures.value (ok_gives c.from_calendar_date.result made_of.accepts.0 made_of.value (λ k accepted is. (
+      made k (to_z w32 (of_z w32 c.signed-year.result)) c.args.negative c.args.size c.args.month c.args.day accepted.0 accepted.1 is year
+          c.if-is_minus_zero.false,
+      rw is (date-inside (to_z w32 (of_z w32 c.signed-year.result)) c.args.month c.args.day accepted.0 accepted.1),
+    )))

@@ -1,4 +1,4 @@
-use Rattle.std.proofs.Common.{arith, sym, ap, ◌∙◌, ℤ, ◌*ℤ◌, ◌+ℤ◌, pos, ◌≡◌, ℕ, ◌<◌}
+use Rattle.std.proofs.Common.{arith, ℤ, ◌*ℤ◌, ◌+ℤ◌, pos, ◌≡◌, ℕ, ◌<◌}
 use Rattle.calendar.specs.SignedLaws.{signed}
 use Rattle.civil_base.specs.Clock.{nanos_per_day}
 use Rattle.civil_base.specs.Layout.{day_part, time_part}

@@ -1,4 +1,4 @@
-use Rattle.std.proofs.Common.{arith, ap, sym, ◌∙◌, unsigned_abs}
+use Rattle.std.proofs.Common.{arith, ap, sym, unsigned_abs}
 use Rattle.std.proofs.Common.{get_or}
 use Rattle.std.proofs.lemmas.Bool.{and_parts, false≢true}
 use Rattle.calendar.specs.SignedLaws.{signed, one_sided}
@@ -32,9 +32,11 @@ returns-then-marked-clause-spelled c =
     let day_is = parts.day_is in
     let year = c.four-year.ensures.spelled (omega (arith, signed, one_sided (year_of k))) in
     let month = c.two-month.ensures.spelled (omega arith) in
-    let day = c.two-day.ensures.spelled (omega (arith, days_in_month-bounds (year_of k) (month_of k))) in
-    (rw (year_is, month_is, day_is) (date-listed c.args.bytes.now c.four-year.result c.two-month.result c.two-day.result c.requires
-    year.0 year.1 year.2 year.3 (byte-is _ _ marks.0) month.0 month.1 (byte-is _ _ marks.1) day.0 day.1), parts.sign))
+    let day = c.two-day.ensures.spelled (omega (arith, days_in_month-bounds (year_of k) (month_of k))) in (
+      rw (year_is, month_is, day_is) (date-listed c.args.bytes.now c.four-year.result c.two-month.result c.two-day.result c.requires
+          year.0 year.1 year.2 year.3 (byte-is _ _ marks.0) month.0 month.1 (byte-is _ _ marks.1) day.0 day.1),
+      parts.sign,
+    ))
 
 pub returns-else-marked-clause-found : goal.returns-else-marked-clause-found
 unfolding date_digits

@@ -30,38 +30,38 @@ splits x bytes rest negative text minus none =
 
 pub returns-then-unsigned-ne29-clause-found : goal.returns-then-unsigned-ne29-clause-found
 returns-then-unsigned-ne29-clause-found c = λ x years text.
-      let split = splits x c.args.bytes.now c.split_sign-negative.result.1.now c.split_sign-negative.result.0 text
-      c.split_sign-negative.ensures.minus c.split_sign-negative.ensures.none in
-      absurd (c.if-unsigned-ne29.true (ap length split.1 ∙ (unsigned_text-shape x).0))
+    let split = splits x c.args.bytes.now c.split_sign-negative.result.1.now c.split_sign-negative.result.0 text
+    c.split_sign-negative.ensures.minus c.split_sign-negative.ensures.none in
+    absurd (c.if-unsigned-ne29.true (ap length split.1 ∙ (unsigned_text-shape x).0))
 
 pub returns-in_err-date-clause-found : goal.returns-in_err-date-clause-found
 returns-in_err-date-clause-found c = λ x years text.
-      let split = splits x c.args.bytes.now c.split_sign-negative.result.1.now c.split_sign-negative.result.0 text
-      c.split_sign-negative.ensures.minus c.split_sign-negative.ensures.none in
-      let date = c.parse_date.ensures.found (day_part x) (day_part-inside x years) split.0 (c.split_at.ensures.front
-      ∙ ap (take 10) split.1 ∙ (unsigned_text-shape x).1) in
-      absurd (not_none c.parse_date.result (day_part x) date c.in_err-date.was)
+    let split = splits x c.args.bytes.now c.split_sign-negative.result.1.now c.split_sign-negative.result.0 text
+    c.split_sign-negative.ensures.minus c.split_sign-negative.ensures.none in
+    let date = c.parse_date.ensures.found (day_part x) (day_part-inside x years) split.0 (c.split_at.ensures.front
+    ∙ ap (take 10) split.1 ∙ (unsigned_text-shape x).1) in
+    absurd (not_none c.parse_date.result (day_part x) date c.in_err-date.was)
 
 pub returns-in_err-time-clause-found : goal.returns-in_err-time-clause-found
 returns-in_err-time-clause-found c = λ x years text.
-      let split = splits x c.args.bytes.now c.split_sign-negative.result.1.now c.split_sign-negative.result.0 text
-      c.split_sign-negative.ensures.minus c.split_sign-negative.ensures.none in
-      let time = c.parse_time.ensures.found (time_part x) (time_part-inside x) (c.split_at.ensures.back ∙ ap (drop 10) split.1
-      ∙ (unsigned_text-shape x).2) in
-      absurd (not_none c.parse_time.result (time_part x) time c.in_err-time.was)
+    let split = splits x c.args.bytes.now c.split_sign-negative.result.1.now c.split_sign-negative.result.0 text
+    c.split_sign-negative.ensures.minus c.split_sign-negative.ensures.none in
+    let time = c.parse_time.ensures.found (time_part x) (time_part-inside x) (c.split_at.ensures.back ∙ ap (drop 10) split.1
+    ∙ (unsigned_text-shape x).2) in
+    absurd (not_none c.parse_time.result (time_part x) time c.in_err-time.was)
 
 pub returns-clause-found : goal.returns-clause-found
 returns-clause-found c = λ x years text.
-      let split = splits x c.args.bytes.now c.split_sign-negative.result.1.now c.split_sign-negative.result.0 text
-      c.split_sign-negative.ensures.minus c.split_sign-negative.ensures.none in
-      let date = c.parse_date.ensures.found (day_part x) (day_part-inside x years) split.0 (c.split_at.ensures.front
-      ∙ ap (take 10) split.1 ∙ (unsigned_text-shape x).1) in
-      let time = c.parse_time.ensures.found (time_part x) (time_part-inside x) (c.split_at.ensures.back ∙ ap (drop 10) split.1
-      ∙ (unsigned_text-shape x).2) in
-      let day = same_some c.parse_date.result c.in_ok-date.date (day_part x) c.in_ok-date.was date in
-      let clock = same_some c.parse_time.result c.in_ok-time.time (time_part x) c.in_ok-time.was time in
-      ap Some (c.joined.ensures.value ∙ ap (λ k. k *ℤ pos nanos_per_day +ℤ pos c.in_ok-time.time) day
-      ∙ ap (λ t. day_part x *ℤ pos nanos_per_day +ℤ pos t) clock ∙ parts-joined x)
+    let split = splits x c.args.bytes.now c.split_sign-negative.result.1.now c.split_sign-negative.result.0 text
+    c.split_sign-negative.ensures.minus c.split_sign-negative.ensures.none in
+    let date = c.parse_date.ensures.found (day_part x) (day_part-inside x years) split.0 (c.split_at.ensures.front
+    ∙ ap (take 10) split.1 ∙ (unsigned_text-shape x).1) in
+    let time = c.parse_time.ensures.found (time_part x) (time_part-inside x) (c.split_at.ensures.back ∙ ap (drop 10) split.1
+    ∙ (unsigned_text-shape x).2) in
+    let day = same_some c.parse_date.result c.in_ok-date.date (day_part x) c.in_ok-date.was date in
+    let clock = same_some c.parse_time.result c.in_ok-time.time (time_part x) c.in_ok-time.was time in
+    ap Some (c.joined.ensures.value ∙ ap (λ k. k *ℤ pos nanos_per_day +ℤ pos c.in_ok-time.time) day
+    ∙ ap (λ t. day_part x *ℤ pos nanos_per_day +ℤ pos t) clock ∙ parts-joined x)
 
 spelled : (x k : ℤ) (t : ℕ) (negative : Bool) (bytes rest : List ℕ) → day_part x ≡ k → time_part x ≡ t
     → int_lt (year_of k) (pos 0) ≡ negative → bytes ≡ (if negative then 45 ∷ [] else []) ++ rest
