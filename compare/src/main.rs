@@ -1,6 +1,8 @@
-//! What `zone_answers FILE` does on a source and requests that have no fault, in plain Rust: to measure beside.
+//! What `zone_answers FILE` does on a source and requests that have no fault, in plain Rust: to measure beside. With two words more it
+//! does a part as `zone_measure` does: `join`, `instants` or `locals`, so many times.
 mod calendar;
 mod hash;
+mod parts;
 mod source;
 mod text;
 mod zone;
@@ -101,11 +103,14 @@ fn run(file: &str) -> std::io::Result<()> {
 
 fn main() -> ExitCode {
     let words: Vec<String> = std::env::args().collect();
-    let [_, file] = &words[..] else {
-        eprintln!("usage: compare FILE < REQUESTS");
-        return ExitCode::from(2);
+    let done = match &words[..] {
+        [_, file] => run(file),
+        [_, file, part, times] => parts::run(file, part, times),
+        _ => Err(std::io::Error::other(
+            "usage: compare FILE [PART TIMES] < REQUESTS",
+        )),
     };
-    match run(file) {
+    match done {
         Ok(()) => ExitCode::SUCCESS,
         Err(why) => {
             eprintln!("{why}");

@@ -116,6 +116,29 @@ impl<'a> Table<'a> {
     }
 }
 
+impl Table<'_> {
+    pub fn zone_count(&self) -> usize {
+        self.zones.len()
+    }
+
+    pub fn link_count(&self) -> usize {
+        self.links.len()
+    }
+
+    /// The names of the zones, and those of links to one.
+    pub fn names(&self) -> impl Iterator<Item = &[u8]> {
+        let leads = |(name, target): &(&&[u8], &&[u8])| {
+            !self.zones.contains_key(**name) && self.zones.contains_key(**target)
+        };
+        let links = self
+            .links
+            .iter()
+            .filter(move |link| leads(link))
+            .map(|(name, _)| *name);
+        self.zones.keys().copied().chain(links)
+    }
+}
+
 /// A pattern with the places of its groups' parts.
 struct Pattern {
     regex: Regex,

@@ -33,6 +33,7 @@ type Entry = (i64, Force);
 pub struct Zone {
     times: Vec<i64>,
     totals: Vec<i32>,
+    are_saving: Vec<bool>,
     /// Where each span but the last ends by its local time.
     ends: Vec<i64>,
     is_orderly: bool,
@@ -73,7 +74,8 @@ impl Zone {
         }
         let times: Vec<i64> = entries.iter().map(|entry| entry.0).collect();
         let all = std::iter::once(&first).chain(entries.iter().map(|entry| &entry.1));
-        let totals: Vec<i32> = all.map(|force| force.total() as i32).collect();
+        let totals: Vec<i32> = all.clone().map(|force| force.total() as i32).collect();
+        let are_saving = all.map(|force| force.saving > 0).collect();
         if totals.iter().any(|total| total.unsigned_abs() > 93_599) {
             return None;
         }
@@ -100,6 +102,7 @@ impl Zone {
         Some(Zone {
             times,
             totals,
+            are_saving,
             ends,
             is_orderly,
         })
@@ -108,6 +111,17 @@ impl Zone {
     /// The total in force at a second.
     pub fn total_at(&self, second: i64) -> i32 {
         self.totals[self.times.partition_point(|time| *time <= second)]
+    }
+
+    /// Whether a saving above 0 is in force at a second.
+    pub fn is_saving_at(&self, second: i64) -> bool {
+        self.are_saving[self.times.partition_point(|time| *time <= second)]
+    }
+
+    /// Whether exactly one instant is read as a local second.
+    pub fn is_read_once(&self, second: i64) -> bool {
+        let mut totals = self.totals_of(second);
+        totals.next().is_some() && totals.next().is_none()
     }
 
     /// The totals at which a local second is read, by the instants.
