@@ -1,5 +1,6 @@
 pub mod DateTimeLemmas
 pub mod FoundLemmas
+pub mod ReadLemmas
 pub mod LocalTimeLemmas
 pub mod WorkedTexts
 pub mod OrdinalLemmas

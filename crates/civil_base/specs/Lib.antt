@@ -21,3 +21,5 @@ pub mod PartLaws
 pub mod RangeLaws
 pub mod ReadAsLaws
 pub mod TextLaws
+-- Words of private clauses.
+pub mod DateParts

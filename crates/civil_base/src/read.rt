@@ -1,13 +1,14 @@
 //! Values written as texts, and read back from them.
 //!
-//! A text is read loosely, the value found is written, and the two texts are compared.
-ghost use Rattle.std.specs.Prelude.{◌≡◌, ◌≢◌, ℕ, ℤ, ◌+◌, ◌-◌, ◌<◌, ◌≤◌, pos, int_lt, [], ◌∷◌, ◌++◌, List, length, min, slice_index, true, false, IfSome, IsSomeAnd, MatchOption, take, if◌then◌else◌};
+//! A local text is read exactly. A zoned text is read loosely, the value found is written, and the two texts are compared.
+ghost use Rattle.std.specs.Prelude.{◌≡◌, ◌≢◌, ℕ, ℤ, ◌<◌, ◌≤◌, pos, ◌+ℤ◌, ◌*ℤ◌, int_lt, unsigned_abs, ◌+◌, ◌*◌, [], ◌∷◌, ◌++◌, List, length, slice_index, true, false, IfSome, IsSomeAnd, MatchOption, take, if◌then◌else◌};
 ghost use Rattle.calendar.specs.Dates.{year_of};
+ghost use Rattle.civil_base.specs.DateParts.{HasParts};
 ghost use Rattle.civil_base.specs.Clock.{nanos_per_day, hour_of, minute_of, second_of};
 ghost use Rattle.civil_base.specs.DateTimes.{offset_of, instant};
 ghost use Rattle.civil_base.specs.Instants.{local_at};
 ghost use Rattle.civil_base.specs.LocalTimes.{local_time_in};
-ghost use Rattle.civil_base.specs.Layout.{local_text, zoned_text, date_digits, time_text, offset_text, two_digits, four_digits, nine_digits, year_sign, digit as digit_of};
+ghost use Rattle.civil_base.specs.Layout.{local_text, zoned_text, day_part, time_part, date_digits, time_text, offset_text, two_digits, four_digits, nine_digits, year_sign, digit as digit_of};
 ghost use Rattle.civil_base.specs.Ranges.{IsDay, IsInYears, IsOffset};
 ghost use Rattle.civil_base.specs.ReadAs.{IsReadAs};
 
@@ -33,15 +34,7 @@ fn value_with(text: &str) -> Option<PlainDateTime>
     ensures years { IfSome result IsInYears }
     ensures only { IfSome result (λ value. (x : ℤ) → IsInYears x → local_text x ≡ text.now → x ≡ value) }
 {
-    let bytes = text.as_bytes();
-    let value = parse_local(bytes)?;
-    let mut local = [0; 30];
-    let end = write_local(&value, &mut local);
-    if &local[..end] == bytes {
-        Some(value)
-    } else {
-        None
-    }
+    parse_local(text.as_bytes())
 }
 
 /// The date-time with the zoned text: a local text, a space and the offset as `+hh:mm:ss` or `-hh:mm:ss`. There is none
@@ -78,9 +71,11 @@ fn parse_zoned(bytes: &[u8]) -> Option<OffsetDateTime>
     Some(local.assume_offset(offset))
 }
 
-// The value whose local text this is; any value or none for another text.
+// The value whose local text this is.
 fn parse_local(bytes: &[u8]) -> Option<PlainDateTime>
     ensures found { (x : ℤ) → IsInYears x → local_text x ≡ bytes.now → result ≡ Some x }
+    ensures spelled { IfSome result (λ x. local_text x ≡ bytes.now) }
+    ensures years { IfSome result IsInYears }
 {
     let (negative, unsigned) = split_sign(bytes);
     if unsigned.len() != 29 {
@@ -89,13 +84,24 @@ fn parse_local(bytes: &[u8]) -> Option<PlainDateTime>
     let (date, time) = unsigned.split_at(10);
     let date = parse_date(negative, date)?;
     let time = parse_time(time)?;
-    Some(PlainDateTime::new(date, time))
+    Some(joined(date, time))
+}
+
+// That date and time.
+fn joined(date: Date, time: Time) -> PlainDateTime
+    ensures value { result ≡ date *ℤ pos nanos_per_day +ℤ pos time }
+    ensures day { day_part result ≡ date }
+    ensures time { time_part result ≡ time }
+    ensures years { IsInYears result }
+{
+    PlainDateTime::new(date, time)
 }
 
 // Whether the bytes begin with a `-`, and what follows it.
 fn split_sign(bytes: &[u8]) -> (bool, &[u8])
     ensures minus { (rest : List ℕ) → bytes.now ≡ 45 ∷ rest → (result.0 ≡ true) × (result.1.now ≡ rest) }
     ensures none { slice_index bytes.now 0 ≢ 45 → (result.0 ≡ false) × (result.1.now ≡ bytes.now) }
+    ensures both { bytes.now ≡ (if result.0 then 45 ∷ [] else []) ++ result.1.now }
 {
     match bytes {
         [b'-', rest @ ..] => (true, rest),
@@ -103,69 +109,128 @@ fn split_sign(bytes: &[u8]) -> (bool, &[u8])
     }
 }
 
-// The date of the bytes `YYYY-MM-DD`.
+// The date of the bytes `YYYY-MM-DD`, whose year is below 0 or not.
 fn parse_date(negative: bool, bytes: &[u8]) -> Option<Date>
     requires { length bytes.now ≡ 10 }
     ensures found { (k : ℤ) → IsDay k → int_lt (year_of k) (pos 0) ≡ negative → bytes.now ≡ date_digits k
         → result ≡ Some k }
+    ensures spelled { IfSome result (λ k. (bytes.now ≡ date_digits k) × (int_lt (year_of k) (pos 0) ≡ negative)) }
 {
-    let year = signed(negative, u32::from(four(&bytes[..4])));
-    let month = Month::try_from(two(&bytes[5..7])).ok()?;
-    Date::from_calendar_date(year, month, two(&bytes[8..])).ok()
+    let year = four(bytes[0], bytes[1], bytes[2], bytes[3]);
+    let month = two(bytes[5], bytes[6]);
+    let day = two(bytes[8], bytes[9]);
+    let marked = (bytes[4] == b'-') & (bytes[7] == b'-');
+    if marked {
+        date_with(negative, year, month, day)
+    } else {
+        None
+    }
+}
+
+// The date with these parts, the year by its size.
+fn date_with(negative: bool, size: u16, month: u8, day: u8) -> Option<Date>
+    ensures found { (k : ℤ) → IsDay k → HasParts k negative size month day → result ≡ Some k }
+    ensures parts { IfSome result (λ k. HasParts k negative size month day × IsDay k) }
+{
+    let is_minus_zero = negative & (size == 0);
+    if is_minus_zero {
+        return None;
+    }
+    let year = signed(negative, u32::from(size));
+    let month = Month::try_from(month).ok()?;
+    Date::from_calendar_date(year, month, day).ok()
 }
 
 // The time of the bytes ` hh:mm:ss.nnnnnnnnn`.
 fn parse_time(bytes: &[u8]) -> Option<Time>
     requires { length bytes.now ≡ 19 }
     ensures found { (t : ℕ) → t < nanos_per_day → bytes.now ≡ 32 ∷ time_text t → result ≡ Some t }
+    ensures spelled { IfSome result (λ t. bytes.now ≡ 32 ∷ time_text t) }
 {
-    let (hour, minute, second) = (two(&bytes[1..3]), two(&bytes[4..6]), two(&bytes[7..9]));
-    Time::from_hms_nano(hour, minute, second, nine(&bytes[10..])).ok()
+    let hour = two(bytes[1], bytes[2]);
+    let minute = two(bytes[4], bytes[5]);
+    let second = two(bytes[7], bytes[8]);
+    let (_, rest) = bytes.split_at(10);
+    let nano = nine(rest);
+    let marked = (bytes[0] == b' ') & (bytes[3] == b':') & (bytes[6] == b':') & (bytes[9] == b'.');
+    if marked {
+        Time::from_hms_nano(hour, minute, second, nano).ok()
+    } else {
+        None
+    }
 }
 
-// The offset of the bytes ` +hh:mm:ss` or ` -hh:mm:ss`.
+// The offset of the bytes ` +hh:mm:ss` or ` -hh:mm:ss`; any offset or none for other bytes.
 fn parse_offset(bytes: &[u8]) -> Option<UtcOffset>
     requires { length bytes.now ≡ 10 }
     ensures found { (o : ℤ) → IsOffset o → bytes.now ≡ 32 ∷ offset_text o → result ≡ Some o }
 {
-    let (hours, minutes, seconds) = (two(&bytes[2..4]), two(&bytes[5..7]), two(&bytes[8..]));
+    let hours = two(bytes[2], bytes[3]);
+    let minutes = two(bytes[5], bytes[6]);
+    let seconds = two(bytes[8], bytes[9]);
     let size = (u32::from(hours) * 60 + u32::from(minutes)) * 60 + u32::from(seconds);
     UtcOffset::from_whole_seconds(signed(bytes[1] == b'-', size)).ok()
 }
 
-// The number of two digits.
-fn two(digits: &[u8]) -> u8
-    requires { length digits.now ≡ 2 }
-    ensures value { (n : ℕ) → n < 100 → digits.now ≡ two_digits n → result ≡ n }
-    ensures bound { result < 100 }
+// The number of two digits, which is below 100; 100 or more where one of the bytes is no digit.
+fn two(tens: u8, ones: u8) -> u8
+    ensures value { (n : ℕ) → n < 100 → tens ≡ digit_of n 10 → ones ≡ digit_of n 1 → result ≡ n }
+    ensures spelled { result < 100 → (tens ≡ digit_of result 10) × (ones ≡ digit_of result 1) }
 {
-    digit_value(digits[0]) * 10 + digit_value(digits[1])
+    let (tens, ones) = (digit_value(tens), digit_value(ones));
+    let are_digits = (tens < 10) & (ones < 10);
+    if are_digits { 10 * tens + ones } else { 255 }
 }
 
-// The number of four digits.
-fn four(digits: &[u8]) -> u16
-    requires { length digits.now ≡ 4 }
-    ensures value { (n : ℕ) → n < 10000 → digits.now ≡ four_digits n → result ≡ n }
-    ensures bound { result < 10000 }
+// The number of four digits, which is below 10,000; 10,000 or more where one of the bytes is no digit.
+fn four(thousands: u8, hundreds: u8, tens: u8, ones: u8) -> u16
+    ensures value { (n : ℕ) → n < 10000 → thousands ≡ digit_of n 1000 → hundreds ≡ digit_of n 100 → tens ≡ digit_of n 10
+        → ones ≡ digit_of n 1 → result ≡ n }
+    ensures spelled { result < 10000 → (thousands ≡ digit_of result 1000) × (hundreds ≡ digit_of result 100)
+        × (tens ≡ digit_of result 10) × (ones ≡ digit_of result 1) }
 {
-    u16::from(two(&digits[..2])) * 100 + u16::from(two(&digits[2..]))
+    let (front, back) = (two(thousands, hundreds), two(tens, ones));
+    let are_digits = (front < 100) & (back < 100);
+    if are_digits {
+        100 * u16::from(front) + u16::from(back)
+    } else {
+        u16::MAX
+    }
 }
 
-// The number of nine digits.
+// The number of nine digits, which is below 1,000,000,000; more where one of the bytes is no digit.
 fn nine(digits: &[u8]) -> u32
     requires { length digits.now ≡ 9 }
     ensures value { (n : ℕ) → n < 1000000000 → digits.now ≡ nine_digits n → result ≡ n }
-    ensures bound { result < 1000000000 }
+    ensures spelled { result < 1000000000 → digits.now ≡ nine_digits result }
 {
-    let front = u32::from(four(&digits[..4])) * 10_000 + u32::from(four(&digits[4..8]));
-    front * 10 + u32::from(digit_value(digits[8]))
+    let front = four(digits[0], digits[1], digits[2], digits[3]);
+    let back = four(digits[4], digits[5], digits[6], digits[7]);
+    nine_of(front, back, digit_value(digits[8]))
 }
 
-// The value of a digit; from 0 to 9 for any byte.
-fn digit_value(byte: u8) -> u8
-    ensures { result ≡ min (byte - 48) 9 }
+// The number of four digits, four and one; 1,000,000,000 or more where one of the three is too large.
+fn nine_of(front: u16, back: u16, last: u8) -> u32
+    ensures value { front < 10000 → back < 10000 → last < 10 → result ≡ (front * 10000 + back) * 10 + last }
+    ensures parts { result < 1000000000 → (front < 10000) × (back < 10000) × (last < 10) }
 {
-    byte.saturating_sub(b'0').min(9)
+    let are_digits = (front < 10_000) & (back < 10_000) & (last < 10);
+    if are_digits {
+        (u32::from(front) * 10_000 + u32::from(back)) * 10 + u32::from(last)
+    } else {
+        u32::MAX
+    }
+}
+
+// The value of a digit, which is below 10; 10 or more for any other byte.
+fn digit_value(byte: u8) -> u8
+    ensures value { (d : ℕ) → d < 10 → byte ≡ 48 + d → result ≡ d }
+    ensures spelled { result < 10 → byte ≡ 48 + result }
+{
+    match byte {
+        b'0'..=b'9' => byte - b'0',
+        _ => 255,
+    }
 }
 
 /// Writes the local text `YYYY-MM-DD hh:mm:ss.nnnnnnnnn` at the front of the array, and answers its length: 29 bytes, or
@@ -244,21 +309,15 @@ fn put(into: &mut [u8], at: usize, bytes: &[u8]) -> usize
 }
 
 fn date_bytes(year: u32, month: u8, day: u8) -> [u8; 10]
+    requires year { year < 10000 }
+    requires month { month < 100 }
+    requires day { day < 100 }
     ensures { result ≡ four_digits year ++ 45 ∷ two_digits month ++ 45 ∷ two_digits day }
 {
-    let (month, day) = (u32::from(month), u32::from(day));
-    [
-        digit(year, 1000),
-        digit(year, 100),
-        digit(year, 10),
-        digit(year, 1),
-        b'-',
-        digit(month, 10),
-        digit(month, 1),
-        b'-',
-        digit(day, 10),
-        digit(day, 1),
-    ]
+    let ((y1, y2), (y3, y4)) = (pair(year / 100), pair(year % 100));
+    let (m1, m2) = pair(u32::from(month));
+    let (d1, d2) = pair(u32::from(day));
+    [y1, y2, y3, y4, b'-', m1, m2, b'-', d1, d2]
 }
 
 // A space, the hour, the minute, the second and a point.
@@ -266,36 +325,21 @@ fn spaced_time(time: Time) -> [u8; 10]
     ensures { result ≡ 32 ∷ two_digits (hour_of time) ++ 58 ∷ two_digits (minute_of time)
         ++ 58 ∷ two_digits (second_of time) ++ 46 ∷ [] }
 {
-    let (hour, minute, second) = time.as_hms();
-    let (hour, minute, second) = (u32::from(hour), u32::from(minute), u32::from(second));
-    [
-        b' ',
-        digit(hour, 10),
-        digit(hour, 1),
-        b':',
-        digit(minute, 10),
-        digit(minute, 1),
-        b':',
-        digit(second, 10),
-        digit(second, 1),
-        b'.',
-    ]
+    let (h1, h2) = pair(u32::from(time.hour()));
+    let (m1, m2) = pair(u32::from(time.minute()));
+    let (s1, s2) = pair(u32::from(time.second()));
+    [b' ', h1, h2, b':', m1, m2, b':', s1, s2, b'.']
 }
 
 fn nanosecond_bytes(nanosecond: u32) -> [u8; 9]
+    requires { nanosecond < 1000000000 }
     ensures { result ≡ nine_digits nanosecond }
 {
-    [
-        digit(nanosecond, 100_000_000),
-        digit(nanosecond, 10_000_000),
-        digit(nanosecond, 1_000_000),
-        digit(nanosecond, 100_000),
-        digit(nanosecond, 10_000),
-        digit(nanosecond, 1000),
-        digit(nanosecond, 100),
-        digit(nanosecond, 10),
-        digit(nanosecond, 1),
-    ]
+    let (front, back) = (nanosecond / 100_000, nanosecond / 10 % 10_000);
+    let ((n1, n2), (n3, n4)) = (pair(front / 100), pair(front % 100));
+    let ((n5, n6), (n7, n8)) = (pair(back / 100), pair(back % 100));
+    let (_, n9) = pair(nanosecond % 10);
+    [n1, n2, n3, n4, n5, n6, n7, n8, n9]
 }
 
 fn spaced_offset(offset: UtcOffset) -> [u8; 10]
@@ -303,19 +347,9 @@ fn spaced_offset(offset: UtcOffset) -> [u8; 10]
     ensures bound { IsOffset offset }
 {
     let size = offset.whole_seconds().unsigned_abs();
-    let (hours, minutes, seconds) = (size / 3600, size / 60 % 60, size % 60);
-    [
-        b' ',
-        sign_byte(offset),
-        digit(hours, 10),
-        digit(hours, 1),
-        b':',
-        digit(minutes, 10),
-        digit(minutes, 1),
-        b':',
-        digit(seconds, 10),
-        digit(seconds, 1),
-    ]
+    let ((h1, h2), (m1, m2)) = (pair(size / 3600), pair(size / 60 % 60));
+    let (s1, s2) = pair(size % 60);
+    [b' ', sign_byte(offset), h1, h2, b':', m1, m2, b':', s1, s2]
 }
 
 fn sign_byte(offset: UtcOffset) -> u8
@@ -324,10 +358,12 @@ fn sign_byte(offset: UtcOffset) -> u8
     if offset.is_negative() { b'-' } else { b'+' }
 }
 
-// The decimal digit at the place of that power of ten, as ASCII.
-fn digit(number: u32, place: u32) -> u8
-    requires { 0 < place }
-    ensures { result ≡ digit_of number place }
+// The two digits of a number, as ASCII.
+fn pair(number: u32) -> (u8, u8)
+    requires { number < 100 }
+    ensures tens { result.0 ≡ digit_of number 10 }
+    ensures ones { result.1 ≡ digit_of number 1 }
 {
-    b'0' + (number / place % 10) as u8
+    let tens = number / 10;
+    (b'0' + tens as u8, b'0' + (number - 10 * tens) as u8)
 }

@@ -1,13 +1,15 @@
 //! The answers to the requests over a source, and these written to an output.
-ghost use Rattle.std.specs.Prelude.{◌≡◌, ◌≤◌, None, All, IfErr, IfOk, OnOk, length, map, OnErr};
+ghost use Rattle.std.specs.Prelude.{◌≡◌, ◌≤◌, ℤ, true, None, All, IfErr, IfOk, OnOk, length, map, OnErr};
 ghost use Rattle.std.specs.List.{flat_map};
 ghost use Rattle.zone_source.specs.Faults.{source_fault};
 ghost use Rattle.zone_source.specs.Lines.{lines_of};
 ghost use Rattle.zone_source.specs.Zones.{values_of};
 ghost use Rattle.zone_table.specs.BoundedTables.{IsBoundedTable};
 ghost use Rattle.zone_table.specs.Tables.{IsTableOf};
-ghost use Rattle.zone_answers.specs.Due.{answer_line, answer_lines, answer_lines_with, shown, shown_for, shown_with};
-ghost use Rattle.zone_answers.specs.Faults.{IsValid, IsValidWith, fault, fault_with, first_refused, request_refusal, source_refusal};
+ghost use Rattle.civil_base.specs.Ranges.{IsOffset};
+ghost use Rattle.zone_answers.specs.Asked.{asked};
+ghost use Rattle.zone_answers.specs.Due.{answer_line, answer_lines, answer_lines_with, answer_text, shown, shown_at, shown_for, shown_with};
+ghost use Rattle.zone_answers.specs.Faults.{IsValid, IsValidWith, dates_refusal, fault, fault_with, first_refused, has_dates, request_refusal, source_refusal};
 ghost use Rattle.zone_answers.specs.Found.{found_in_table};
 ghost use Rattle.zone_answers.specs.Opened.{table_of, AreOpened};
 ghost use Rattle.zone_answers.specs.ReadBack.{IsReadBack};
@@ -138,10 +140,27 @@ fn answer<Z: OpenedZone>(
     let Some(request) = Request::read(asked) else {
         return Err(ReadingError::Answer(AnswerError::Request(number)));
     };
+    if let Some(zone) = zones.known(request.name()) {
+        return show_line(zone, &request, number, text);
+    }
     zones.open(request.name(), number)?;
-    let zone = zones.find(request.name());
+    show_line(zones.find(request.name()), &request, number, text)
+}
+
+/// Puts the line of the nth request at a zone into the text, in place of what is there.
+fn show_line<Z: OpenedZone>(
+    zone: &Z,
+    request: &Request<'_>,
+    number: usize,
+    text: &mut Vec<u8>,
+) -> Result<(), ReadingError>
+    ensures dates { OnOk result (has_dates (Z.total_at zone.now) (asked request.now) ≡ true) }
+    ensures text { OnOk result (text.new.items ≡ answer_text (shown_at (Z.total_at zone.now) (asked request.now))) }
+    ensures err { IfErr result (TellsReading (dates_refusal number (asked request.now) (Z.total_at zone.now))) }
+    ensures range { (t : ℤ) → IsOffset (Z.total_at zone.now t) }
+{
     text.clear();
-    match zone.show(&request, text) {
+    match zone.show(request, text) {
         Ok(true) => Ok(()),
         Ok(false) => Err(ReadingError::Answer(AnswerError::Range(number))),
         Err(_) => Err(ReadingError::Answer(AnswerError::NoMemory)),

@@ -54,7 +54,7 @@ pub(crate) struct Zones<'t, Z> {
 }
 
 impl<'t, Z: OpenedZone> Zones<'t, Z> {
-    ghost use Rattle.std.specs.Prelude.{◌≡◌, true, is_some, IfErr, OnOk};
+    ghost use Rattle.std.specs.Prelude.{◌≡◌, true, is_some, IfErr, IfSome, OnOk};
     ghost use Rattle.std.specs.FinMap.{get};
     ghost use Rattle.zone_table.specs.BoundedTables.{IsBoundedTable};
     ghost use Rattle.zone_answers.specs.Faults.{zone_refusal};
@@ -75,7 +75,15 @@ impl<'t, Z: OpenedZone> Zones<'t, Z> {
         }
     }
 
-    /// Opens the zone that the nth request names, where it is asked for the first time. On an error the zones are as before.
+    /// The zone of that name, if it was opened.
+    pub(crate) fn known(&self, name: &str) -> Option<&Z>
+        requires { AreOpened Z.OpenedZone self.now }
+        ensures { IfSome result (λ zone. IsOpened Z.OpenedZone (table_of self.now) name.now zone.now) }
+    {
+        self.opened.get(name)
+    }
+
+    /// Opens the zone that the nth request names. On an error the zones are as before.
     pub(crate) fn open(&mut self, name: &str, number: usize) -> Result<(), ReadingError>
         requires { AreOpened Z.OpenedZone self.old }
         ensures there { OnOk result (is_some (get self.new.opened name.now) ≡ true) }
@@ -83,9 +91,6 @@ impl<'t, Z: OpenedZone> Zones<'t, Z> {
         ensures same { table_of self.new ≡ table_of self.old }
         ensures opened { AreOpened Z.OpenedZone self.new }
     {
-        if self.opened.contains_key(name) {
-            return Ok(());
-        }
         let zone = Z::open(self.alloc, self.table, name, number)?;
         self.opened.insert(self.alloc, name, zone)?;
         Ok(())

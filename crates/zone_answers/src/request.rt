@@ -1,9 +1,10 @@
 //! A request line.
-ghost use Rattle.std.specs.Prelude.{◌≡◌, option_map};
+ghost use Rattle.std.specs.Prelude.{◌≡◌, ◌<◌, ◌^◌, true, option_map, if◌then◌else◌, pos, neg_ℤ};
+ghost use Rattle.std.specs.Str.Parse.{digits_value};
 ghost use Rattle.std.specs.Char.{is_digit};
 ghost use Rattle.std.specs.List.{before_first, after_first, list_all};
 ghost use Rattle.civil_base.specs.LocalTimes.{local_time_in};
-ghost use Rattle.zone_answers.specs.Requests.{request_of, request_with, nanoseconds_in, is_number, is_space, name_of, without_minus};
+ghost use Rattle.zone_answers.specs.Requests.{request_of, request_with, nanoseconds_in, is_negative, is_number, is_space, name_of, without_minus};
 
 use civil_base::{PlainDateTime, read_local};
 
@@ -74,13 +75,47 @@ fn local_time(text: &str) -> Option<PlainDateTime>
 }
 
 /// The number that an optional `-` and 1 to 30 digits write.
+#[tactic(auto, unfolding(crate::specs::Requests::nanoseconds_in))]
 pub fn nanoseconds(text: &str) -> Option<i128>
     ensures { result ≡ nanoseconds_in text.now }
 {
-    if is_number(without_minus(text.as_bytes())) {
-        text.parse().ok()
+    let bytes = text.as_bytes();
+    let digits = without_minus(bytes);
+    if is_number(digits) {
+        Some(signed(is_negative(bytes), size_of(digits)))
     } else {
         None
+    }
+}
+
+/// The number that 1 to 30 digits write.
+fn size_of(digits: &[u8]) -> u128
+    requires { is_number digits.now ≡ true }
+    ensures value { result ≡ digits_value 10 digits.now }
+    ensures bound { result < 2 ^ 127 }
+{
+    let mut size = 0;
+    for i in 0..digits.len() {
+        size = 10 * size + u128::from(digits[i] - b'0');
+    }
+    size
+}
+
+/// The number of that size, below zero or not.
+fn signed(negative: bool, size: u128) -> i128
+    requires { size < 2 ^ 127 }
+    ensures { result ≡ (if negative then neg_ℤ (pos size) else pos size) }
+{
+    let size = size as i128;
+    if negative { -size } else { size }
+}
+
+fn is_negative(text: &[u8]) -> bool
+    ensures { result ≡ is_negative text.now }
+{
+    match text {
+        [b'-', ..] => true,
+        _ => false,
     }
 }
 

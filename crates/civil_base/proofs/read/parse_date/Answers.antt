@@ -1,41 +1,45 @@
-use Rattle.std.proofs.Common.{arith, ◌≡◌, ◌-◌, length, take, to_z-of_z, FitsSigned, w32, sym, ap, ◌∙◌, unsigned_abs}
-use Rattle.calendar.specs.SignedLaws.{signed, signed_casts}
-use Rattle.std.proofs.Common.{drop}
-use Rattle.calendar.specs.SignedLaws.{one_sided}
+use Rattle.std.proofs.Common.{arith, ap, sym, unsigned_abs}
+use Rattle.std.proofs.Common.{get_or}
+use Rattle.std.proofs.lemmas.Bool.{and_parts, false≢true}
+use Rattle.calendar.specs.SignedLaws.{signed, one_sided}
 use Rattle.calendar.specs.MonthLaws.{days_in_month-bounds}
 use Rattle.calendar.specs.Dates.{year_of, month_of, day_of}
-use Rattle.civil_base.specs.Layout.{date_digits}
-use Rattle.civil_base.specs.Offsets.{signed_by}
-use Rattle.civil_parts.specs.Months.{month_number, IsMonthNumber}
-use Rattle.civil_base.specs.OffsetLaws.{signed_by-size}
 use Rattle.civil_base.specs.DayLaws.{date_of-day}
-use Rattle.civil_base.proofs.FoundLemmas.{result_ok-found, ok_not_none, ok_known}
+use Rattle.civil_base.specs.Layout.{date_digits}
+use Rattle.civil_base.proofs.ReadLemmas.{byte-is, date-listed, found_gives}
 use Rattle.civil_base.proofs.read.parse_date.Goals as goal
 
-pub returns-in_err-month : goal.returns-in_err-month
+pub returns-then-marked-clause-found : goal.returns-then-marked-clause-found
 unfolding date_digits
-returns-in_err-month c = record {
-  found = λ k inside sign text.
-      let has = date_of-day k inside in
-      let month = c.two.ensures.value (month_of k) (omega arith) (ap (λ l. take 2 (drop 5 l)) text) in
-      let number : IsMonthNumber c.two.result = record { first = omega arith; last = omega arith } in
-      absurd (ok_not_none c.try_from.result (c.try_from.ensures.0.1 number) (sym c.ok.ensures.value ∙ c.in_err-month.was));
-}
+returns-then-marked-clause-found c = λ k inside sign text.
+    let has = date_of-day k inside in
+    let year = c.four-year.ensures.value (unsigned_abs (year_of k)) (omega (arith, signed, one_sided (year_of k)))
+    (ap (λ l. get_or l 0 0) text) (ap (λ l. get_or l 1 0) text) (ap (λ l. get_or l 2 0) text) (ap (λ l. get_or l 3 0) text) in
+    let month = c.two-month.ensures.value (month_of k) (omega arith) (ap (λ l. get_or l 5 0) text) (ap (λ l. get_or l 6 0) text) in
+    let day = c.two-day.ensures.value (day_of k) (omega (arith, days_in_month-bounds (year_of k) (month_of k)))
+    (ap (λ l. get_or l 8 0) text) (ap (λ l. get_or l 9 0) text) in
+    c.date_with.ensures.found k inside (record { sign = sign; year = sym year; month_is = sym month; day_is = sym day })
 
-pub returns : goal.returns
+pub returns-then-marked-clause-spelled : goal.returns-then-marked-clause-spelled
 unfolding date_digits
-returns c = record {
-  found = λ k inside sign text.
-      let has = date_of-day k inside in
-      let size = c.four.ensures.value (unsigned_abs (year_of k)) (omega (arith, signed, one_sided (year_of k))) (ap (take 4) text) in
-      let month = c.two.ensures.value (month_of k) (omega arith) (ap (λ l. take 2 (drop 5 l)) text) in
-      let date = c.two-2.ensures.value (day_of k) (omega (arith, days_in_month-bounds (year_of k) (month_of k)))
-      (ap (λ l. take (length l - 8) (drop 8 l)) text) in
-      let year = c.signed-year.ensures ∙ ap (signed_by c.args.negative) (c.from.ensures ∙ size)
-      ∙ ap (λ t. signed_by t (unsigned_abs (year_of k))) (sym sign) ∙ signed_by-size (year_of k) in
-      let number = ok_known (λ m. month_number m ≡ c.two.result) c.try_from.result c.in_ok-month.month (sym c.ok.ensures.value
-      ∙ c.in_ok-month.was) c.try_from.ensures.1 ∙ month in
-      let f : FitsSigned w32 (year_of k) = omega (arith, signed_casts, has.year.first, has.year.last) in
-      let made = simp (year, to_z-of_z f, number, date, has.number) at c.from_calendar_date.ensures in
-      c.ok-2.ensures.value ∙ result_ok-found c.from_calendar_date.result k (made.accepts.1 (has.year, has.date)) made.value;
-}
+returns-then-marked-clause-spelled c =
+    let marks = and_parts _ _ c.if-marked.true in
+    found_gives c.date_with.result c.date_with.ensures.parts (λ k known.
+    let parts = known.0 in
+    let has = date_of-day k known.1 in
+    let year_is = parts.year in
+    let month_is = parts.month_is in
+    let day_is = parts.day_is in
+    let year = c.four-year.ensures.spelled (omega (arith, signed, one_sided (year_of k))) in
+    let month = c.two-month.ensures.spelled (omega arith) in
+    let day = c.two-day.ensures.spelled (omega (arith, days_in_month-bounds (year_of k) (month_of k))) in (
+      rw (year_is, month_is, day_is) (date-listed c.args.bytes.now c.four-year.result c.two-month.result c.two-day.result c.requires
+          year.0 year.1 year.2 year.3 (byte-is _ _ marks.0) month.0 month.1 (byte-is _ _ marks.1) day.0 day.1),
+      parts.sign,
+    ))
+
+pub returns-else-marked-clause-found : goal.returns-else-marked-clause-found
+unfolding date_digits
+returns-else-marked-clause-found c = λ k inside sign text.
+    let no = rw text at c.if-marked.false in
+    absurd (false≢true (sym no))

@@ -1,6 +1,6 @@
-use Rattle.std.proofs.Common.{rules, arith, ◌≡◌, ◌+◌, ◌-◌, ◌*◌, ◌/◌, ◌%◌, length, take, nat_eq, pos, to_z-of_z, FitsSigned, w32}
+use Rattle.std.proofs.Common.{rules, arith, ◌≡◌, ◌+◌, ◌*◌, ◌/◌, ◌%◌, nat_eq, pos, to_z-of_z, FitsSigned, w32}
 use Rattle.std.proofs.Common.{ap, ◌∙◌, unsigned_abs}
-use Rattle.std.proofs.Common.{drop, get_or, int_lt}
+use Rattle.std.proofs.Common.{get_or, int_lt}
 use Rattle.civil_base.specs.Layout.{offset_text}
 use Rattle.civil_base.specs.RangeLaws.{offset_size}
 use Rattle.civil_base.specs.Offsets.{signed_by}
@@ -14,9 +14,9 @@ returns c = record {
   found = λ o within text.
       let size = unsigned_abs o in
       let small = offset_size o within in
-      let hours = c.two-hours.ensures.value (size / 3600) (omega arith) (ap (λ l. take 2 (drop 2 l)) text) in
-      let minutes = c.two-minutes.ensures.value (size / 60 % 60) (omega arith) (ap (λ l. take 2 (drop 5 l)) text) in
-      let seconds = c.two-seconds.ensures.value (size % 60) (omega arith) (ap (λ l. take (length l - 8) (drop 8 l)) text) in
+      let hours = c.two-hours.ensures.value (size / 3600) (omega arith) (ap (λ l. get_or l 2 0) text) (ap (λ l. get_or l 3 0) text) in
+      let minutes = c.two-minutes.ensures.value (size / 60 % 60) (omega arith) (ap (λ l. get_or l 5 0) text) (ap (λ l. get_or l 6 0) text) in
+      let seconds = c.two-seconds.ensures.value (size % 60) (omega arith) (ap (λ l. get_or l 8 0) text) (ap (λ l. get_or l 9 0) text) in
       let sign = ap (λ l. nat_eq (get_or l 1 0) 45) text ∙ minus_is (int_lt o (pos 0)) in
       let whole : (c.from.result * 60 + c.from-2.result) * 60 + c.from-3.result ≡ size = omega arith in
       let value = c.signed.ensures ∙ ap (λ t. signed_by t ((c.from.result * 60 + c.from-2.result) * 60 + c.from-3.result)) sign

@@ -1,8 +1,15 @@
 use Rattle.std.proofs.Common.{rules, arith, ℕ, length, take, to_z, of_z, to_z-of_z, FitsSigned, w32, ap, ◌∙◌}
 use Rattle.std.proofs.Common.{length-take}
 use Rattle.calendar.specs.Dates.{year_of, month_of, day_of}
+use Rattle.calendar.specs.MonthLaws.{days_in_month-bounds}
+use Rattle.civil_parts.specs.Months.{month_number}
 use Rattle.civil_base.specs.LayoutLaws.{local_text-written}
 use Rattle.civil_base.proofs.read.put_local.Goals as goal
+
+pub date_bytes-requires-clause-day : goal.date_bytes-requires-clause-day
+date_bytes-requires-clause-day c =
+    let date = c.to_calendar_date-year in
+    omega (arith, date.ensures.range.1.last_day, days_in_month-bounds date.result.0 (month_number date.result.1))
 
 -- what was written, piece by piece
 pub returns-clause-text : goal.returns-clause-text

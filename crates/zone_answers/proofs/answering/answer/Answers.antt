@@ -1,8 +1,7 @@
-use Rattle.std.proofs.Common.{◌++◌, cond, None, Some, sym, ap, ◌∙◌}
-use Rattle.std.proofs.lemmas.Result.{err_from_is_err_and}
+use Rattle.std.proofs.Common.{cond, None, Some, sym, ap, ◌∙◌}
+use Rattle.std.proofs.lemmas.Result.{err_from_is_err_and, on_ok_weaker}
 use Rattle.zone_answers.specs.Asked.{asked}
 use Rattle.zone_answers.specs.AskedLaws.{asks}
-use Rattle.zone_answers.specs.Due.{answer_text, shown_at}
 use Rattle.zone_answers.specs.Faults.{range}
 use Rattle.zone_answers.specs.Found.{found_in_table}
 use Rattle.zone_answers.specs.Opened.{table_of}
@@ -25,42 +24,75 @@ returns-in_err-open-clause-err g c =
     let request = c.in-Some-read.request in
     let reads = asks request_of c.args.line.now c.in-Some.asked.now (asked request) text.1 text.0 c.in-Some-read.ensures in
     let error = err_from_is_err_and c.from_residual.result c.from_residual.ensures.1 in
-    rw (refusal_is (found_in_table g.Z.OpenedZone.read (table_of c.args.zones.now)) c.args.number c.args.line.now (asked request) reads, ← c.name.ensures, error.1, error.2)
+    rw (refusal_is (found_in_table g.Z.OpenedZone.read (table_of c.args.zones.now)) c.args.number c.args.line.now (asked request) reads, ← c.name-2.ensures, error.1, error.2)
     (zone_refused _ c.args.number (asked request) _ c.in_err-open.ensures.err)
 
-pub returns-in-Ok-true-clause-accepted : goal.returns-in-Ok-true-clause-accepted
-returns-in-Ok-true-clause-accepted g c =
+pub returns-in-Some-known-clause-accepted : goal.returns-in-Some-known-clause-accepted
+returns-in-Some-known-clause-accepted g c =
     let text = c.in-Some.ensures.text in
     let request = c.in-Some-read.request in
     let reads = asks request_of c.args.line.now c.in-Some.asked.now (asked request) text.1 text.0 c.in-Some-read.ensures in
-    let found = rw (c.in_ok-open.ensures.same, c.name-2.ensures) at c.find-zone.ensures in
-    dates_are (found_in_table g.Z.OpenedZone.read (table_of c.args.zones.now)) c.args.number c.args.line.now (asked request) _ reads found
-    ∙ ap (λ b. cond b None (Some (range c.args.number))) (sym c.in-Ok-true.ensures.dates ∙ c.in-Ok-true.field-0-test)
+    let found = rw c.name.ensures at c.in-Some-known.ensures in
+    on_ok_weaker c.show_line.result (λ dates. dates_are (found_in_table g.Z.OpenedZone.read (table_of c.args.zones.now)) c.args.number c.args.line.now (asked request) _
+    reads found ∙ ap (λ b. cond b None (Some (range c.args.number))) dates) c.show_line.ensures.dates
 
-pub returns-in-Ok-true-clause-text : goal.returns-in-Ok-true-clause-text
-returns-in-Ok-true-clause-text g c =
+pub returns-in-Some-known-clause-text : goal.returns-in-Some-known-clause-text
+returns-in-Some-known-clause-text g c =
     let text = c.in-Some.ensures.text in
     let request = c.in-Some-read.request in
     let reads = asks request_of c.args.line.now c.in-Some.asked.now (asked request) text.1 text.0 c.in-Some-read.ensures in
-    let found = rw (c.in_ok-open.ensures.same, c.name-2.ensures) at c.find-zone.ensures in
-    c.in-Ok-true.ensures.line c.in-Ok-true.field-0-test
-    ∙ ap (λ text. text ++ answer_text (shown_at (g.Z.OpenedZone.total_at c.find-zone.result.now) (asked request))) c.clear.ensures.items
-    ∙ sym (line_is (found_in_table g.Z.OpenedZone.read (table_of c.args.zones.now)) c.args.line.now (asked request) _ reads found)
+    let found = rw c.name.ensures at c.in-Some-known.ensures in
+    on_ok_weaker c.show_line.result (λ text. text ∙ sym (line_is (found_in_table g.Z.OpenedZone.read (table_of c.args.zones.now)) c.args.line.now (asked request) _ reads found))
+    c.show_line.ensures.text
 
-pub returns-in-Ok-true-clause-read_back : goal.returns-in-Ok-true-clause-read_back
-returns-in-Ok-true-clause-read_back g c =
+pub returns-in-Some-known-clause-read_back : goal.returns-in-Some-known-clause-read_back
+returns-in-Some-known-clause-read_back g c =
     let text = c.in-Some.ensures.text in
     let request = c.in-Some-read.request in
     let reads = asks request_of c.args.line.now c.in-Some.asked.now (asked request) text.1 text.0 c.in-Some-read.ensures in
-    let found = rw (c.in_ok-open.ensures.same, c.name-2.ensures) at c.find-zone.ensures in
-    line_back (found_in_table g.Z.OpenedZone.read (table_of c.args.zones.now)) c.args.line.now (asked request) _ reads found
-    c.show.ensures.range (sym c.in-Ok-true.ensures.dates ∙ c.in-Ok-true.field-0-test)
+    let found = rw c.name.ensures at c.in-Some-known.ensures in
+    on_ok_weaker c.show_line.result (line_back (found_in_table g.Z.OpenedZone.read (table_of c.args.zones.now)) c.args.line.now (asked request) _ reads found
+    c.show_line.ensures.range) c.show_line.ensures.dates
 
-pub returns-in-Ok-false-clause-err : goal.returns-in-Ok-false-clause-err
-returns-in-Ok-false-clause-err g c =
+pub returns-in-Some-known-clause-err : goal.returns-in-Some-known-clause-err
+returns-in-Some-known-clause-err g c =
     let text = c.in-Some.ensures.text in
     let request = c.in-Some-read.request in
     let reads = asks request_of c.args.line.now c.in-Some.asked.now (asked request) text.1 text.0 c.in-Some-read.ensures in
-    let found = rw (c.in_ok-open.ensures.same, c.name-2.ensures) at c.find-zone.ensures in
-    dates_are (found_in_table g.Z.OpenedZone.read (table_of c.args.zones.now)) c.args.number c.args.line.now (asked request) _ reads found
-    ∙ ap (λ b. cond b None (Some (range c.args.number))) (sym c.in-Ok-false.ensures.dates ∙ c.in-Ok-false.field-0-test)
+    let found = rw c.name.ensures at c.in-Some-known.ensures in
+    rw (dates_are (found_in_table g.Z.OpenedZone.read (table_of c.args.zones.now)) c.args.number c.args.line.now (asked request) _ reads found) c.show_line.ensures.err
+
+pub returns-clause-accepted : goal.returns-clause-accepted
+returns-clause-accepted g c =
+    let text = c.in-Some.ensures.text in
+    let request = c.in-Some-read.request in
+    let reads = asks request_of c.args.line.now c.in-Some.asked.now (asked request) text.1 text.0 c.in-Some-read.ensures in
+    let found = rw (c.in_ok-open.ensures.same, c.name-3.ensures) at c.find.ensures in
+    on_ok_weaker c.show_line-2.result (λ dates. dates_are (found_in_table g.Z.OpenedZone.read (table_of c.args.zones.now)) c.args.number c.args.line.now (asked request) _
+    reads found ∙ ap (λ b. cond b None (Some (range c.args.number))) dates) c.show_line-2.ensures.dates
+
+pub returns-clause-text : goal.returns-clause-text
+returns-clause-text g c =
+    let text = c.in-Some.ensures.text in
+    let request = c.in-Some-read.request in
+    let reads = asks request_of c.args.line.now c.in-Some.asked.now (asked request) text.1 text.0 c.in-Some-read.ensures in
+    let found = rw (c.in_ok-open.ensures.same, c.name-3.ensures) at c.find.ensures in
+    on_ok_weaker c.show_line-2.result (λ text. text ∙ sym (line_is (found_in_table g.Z.OpenedZone.read (table_of c.args.zones.now)) c.args.line.now (asked request) _ reads found))
+    c.show_line-2.ensures.text
+
+pub returns-clause-read_back : goal.returns-clause-read_back
+returns-clause-read_back g c =
+    let text = c.in-Some.ensures.text in
+    let request = c.in-Some-read.request in
+    let reads = asks request_of c.args.line.now c.in-Some.asked.now (asked request) text.1 text.0 c.in-Some-read.ensures in
+    let found = rw (c.in_ok-open.ensures.same, c.name-3.ensures) at c.find.ensures in
+    on_ok_weaker c.show_line-2.result (line_back (found_in_table g.Z.OpenedZone.read (table_of c.args.zones.now)) c.args.line.now (asked request) _ reads found
+    c.show_line-2.ensures.range) c.show_line-2.ensures.dates
+
+pub returns-clause-err : goal.returns-clause-err
+returns-clause-err g c =
+    let text = c.in-Some.ensures.text in
+    let request = c.in-Some-read.request in
+    let reads = asks request_of c.args.line.now c.in-Some.asked.now (asked request) text.1 text.0 c.in-Some-read.ensures in
+    let found = rw (c.in_ok-open.ensures.same, c.name-3.ensures) at c.find.ensures in
+    rw (dates_are (found_in_table g.Z.OpenedZone.read (table_of c.args.zones.now)) c.args.number c.args.line.now (asked request) _ reads found) c.show_line-2.ensures.err
