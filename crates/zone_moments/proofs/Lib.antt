@@ -1,0 +1,4 @@
+pub mod NumberLemmas
+pub mod AgainLemmas
+pub mod FoundLemmas
+pub mod ExactLemmas

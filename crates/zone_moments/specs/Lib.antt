@@ -1,0 +1,6 @@
+-- Definitions: what public clauses say.
+pub mod Numbers
+pub mod Pieces
+pub mod Readings
+pub mod Spells
+pub mod Shown
