@@ -87,7 +87,7 @@ run_again xs rest passes stops =
     let long = run_len xs rest passes stops in
     (rw long (take_at xs rest (length xs) refl), rw long (drop_at xs rest (length xs) refl))
 
-no_digit : (rest : List ℕ) → begins goes_on rest ≡ false → begins is_ascii_digit rest ≡ false
+pub no_digit : (rest : List ℕ) → begins goes_on rest ≡ false → begins is_ascii_digit rest ≡ false
 no_digit [] stops = refl
 no_digit (c ∷ rest) stops = grind (arith, nat_tests)
 

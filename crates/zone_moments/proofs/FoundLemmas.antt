@@ -1,5 +1,5 @@
 -- What is read is spelled.
-use Rattle.std.proofs.Common.{◌≡◌, refl, sym, ap, subst, ◌∙◌, arith, ℕ, ◌+◌, ◌-◌, ◌*◌, ◌/◌, ◌%◌, ◌<◌, ◌≤◌, ⊥, ◌⊎◌, inl, inr, Bool, true, false, cond, nat_eq, nat_lt, nat_le}
+use Rattle.std.proofs.Common.{◌≡◌, refl, sym, ap, subst, ◌∙◌, arith, ℕ, ◌+◌, ◌-◌, ◌*◌, ◌/◌, ◌%◌, ◌<◌, ◌≤◌, ◌⊎◌, inl, inr, Bool, true, false, cond, nat_eq, nat_lt, nat_le}
 use Rattle.std.proofs.Common.{List, [], ◌∷◌, ◌++◌, length, take_while, append_assoc, append-nil, eqb-true, Option, Some, None, Result, Ok, Err, ok_or, ℤ, pos}
 use Rattle.std.proofs.lemmas.Bool.{and_parts}
 use Rattle.std.proofs.lemmas.Bool.Decides.{nat_tests}
@@ -142,7 +142,7 @@ minute_built : {text p q rest : List ℕ} {h m : ℕ} → text ≡ two_digits h 
     → Takes SpellsMinute text (record { hour = h; minute = m; second = 0; nanosecond = 0 }) rest
 minute_built e f g hours minutes = rw (e, f, g) (takes (minute hours minutes))
 
-minute_found : (text : List ℕ) (y : (ℕ × ℕ) × List ℕ) → minute_at text ≡ Some y
+pub minute_found : (text : List ℕ) (y : (ℕ × ℕ) × List ℕ) → minute_at text ≡ Some y
     → Takes SpellsMinute text (record { hour = y.0.0; minute = y.0.1; second = 0; nanosecond = 0 }) y.1
 unfolding minute_at
 minute_found text y e =

@@ -2,3 +2,5 @@ pub mod NumberLemmas
 pub mod AgainLemmas
 pub mod FoundLemmas
 pub mod ExactLemmas
+pub mod InstantAgainLemmas
+pub mod InstantFoundLemmas

@@ -1,8 +1,9 @@
 //! Instants as whole texts.
-ghost use Rattle.std.specs.Prelude.{◌≡◌, ◌≤◌, ◌^◌, pos, IfOk};
+ghost use Rattle.std.specs.Prelude.{◌≡◌, ◌≤◌, ◌^◌, pos, Option, ℤ, IfOk, MatchResult};
 ghost use Rattle.std.specs.Result.{result_map_both};
-ghost use Rattle.zone_moments.specs.Shown.{asked};
+ghost use Rattle.zone_moments.specs.Shown.{asked, IsAtUtc};
 ghost use Rattle.civil_base.specs.DateTimes.{instant, offset_of};
+ghost use Rattle.zone_moments.specs.Spells.{SpellsAsked};
 ghost use Rattle.zone_moments.specs.Readings.{told_as, zoned_at, size_at, count_at, counted_in, written_in, instant_in, asked_in};
 
 use crate::TextFault;
@@ -110,9 +111,19 @@ fn instant_in(text: &[u8]) -> Result<OffsetDateTime, TextFault>
 /// Behind an `@` the first that holds of: `CountMissing`, `FractionMissing`, `TooFine`, `Trailing`, `OutOfYears`. Else the
 /// first of: `DateMissing`, `TimeMissing`, `SecondMissing`, `FractionMissing`, `TooFine`, `OffsetMissing`, `Trailing`,
 /// `NoSuchDate`, `NoSuchTime`, `OffsetRange`, `OutOfYears`.
-#[tactic(auto, unfolding(crate::specs::Readings::asked_in))]
 pub fn read_instant(text: &str) -> Result<Asked, TextFault>
     ensures value { result_map_both asked (λ fault. fault) result ≡ asked_in text.now }
+    ensures exact { MatchResult result (λ value. SpellsAsked text.now (asked value)) (λ _. (t : Option ℤ) → ¬ (SpellsAsked text.now t)) }
+    ensures utc { IfOk result IsAtUtc }
+{
+    asked_for(text)
+}
+
+/// The same.
+#[tactic(auto, unfolding(crate::specs::Readings::asked_in))]
+fn asked_for(text: &str) -> Result<Asked, TextFault>
+    ensures value { result_map_both asked (λ fault. fault) result ≡ asked_in text.now }
+    ensures utc { IfOk result IsAtUtc }
 {
     if text == "now" {
         return Ok(Asked::Now);

@@ -4,6 +4,7 @@
 mod fault;
 mod form;
 mod instant;
+pub mod laws;
 mod pieces;
 mod read;
 mod value;
