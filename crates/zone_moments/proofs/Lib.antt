@@ -4,3 +4,4 @@ pub mod FoundLemmas
 pub mod ExactLemmas
 pub mod InstantAgainLemmas
 pub mod InstantFoundLemmas
+mod WorkedReadings
