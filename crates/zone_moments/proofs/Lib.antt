@@ -5,3 +5,4 @@ pub mod ExactLemmas
 pub mod InstantAgainLemmas
 pub mod InstantFoundLemmas
 mod WorkedReadings
+pub mod WrittenLemmas

@@ -4,3 +4,4 @@ pub mod Pieces
 pub mod Readings
 pub mod Spells
 pub mod Shown
+pub mod Written

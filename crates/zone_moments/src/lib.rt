@@ -8,8 +8,10 @@ pub mod laws;
 mod pieces;
 mod read;
 mod value;
+mod write;
 
 pub use fault::TextFault;
 pub use form::{WrittenCount, WrittenDate, WrittenInstant, WrittenOffset, WrittenTime};
 pub use instant::{Asked, read_instant};
 pub use read::read_local;
+pub use write::{add_epoch, add_local, add_people, add_rfc3339};
