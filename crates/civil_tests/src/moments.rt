@@ -53,7 +53,12 @@ fn instants_are_counted(rt: HostRuntime) {
     let alloc = rt.alloc();
     counted(&rt, alloc, "now", "now");
     counted(&rt, alloc, "1985-04-12T23:20:50.52Z", "@482196050.52");
-    counted(&rt, alloc, "1937-01-01T12:00:27.87+00:20", "@-1041337172.13");
+    counted(
+        &rt,
+        alloc,
+        "1937-01-01T12:00:27.87+00:20",
+        "@-1041337172.13",
+    );
     counted(&rt, alloc, "@-0.0", "@0");
 }
 

@@ -1,24 +1,20 @@
 -- What is spelled is read, whatever follows.
-use Rattle.std.proofs.Common.{◌≡◌, refl, sym, ap, ◌∙◌, arith, ℕ, ◌+◌, ◌-◌, ◌*◌, ◌/◌, ◌%◌, ◌<◌, ◌≤◌, ◌||◌, Bool, true, false, nat_eq, nat_lt, nat_le}
-use Rattle.std.proofs.Common.{List, [], ◌∷◌, ◌++◌, length, take_while, append_assoc, append-nil, Option, Some, None, Result, Ok, Err, ℤ, pos}
+use Rattle.std.proofs.Common.{◌≡◌, refl, ap, ◌∙◌, arith, ℕ, ◌+◌, ◌-◌, ◌*◌, ◌/◌, ◌%◌, ◌<◌, ◌||◌, Bool, true, false, nat_eq, nat_lt}
+use Rattle.std.proofs.Common.{List, [], ◌∷◌, ◌++◌, length, append_assoc, append-nil, Some, Ok, ℤ}
 use Rattle.std.proofs.lemmas.Bool.{and_parts}
 use Rattle.std.proofs.lemmas.Bool.Decides.{nat_tests}
 use Rattle.std.proofs.lemmas.List.{take_at, drop_at}
 use Rattle.std.specs.Char.{is_ascii_digit}
 use Rattle.std.specs.List.{prefix_len, list_all}
-use Rattle.calendar.specs.Days.{days_in_month}
 use Rattle.civil_base.specs.Layout.{two_digits, four_digits}
 use Rattle.civil_base.specs.DigitLaws.{four_digits-halves}
-use Rattle.civil_base.specs.Clock.{IsClockTime}
-use Rattle.zone_moments.specs.Numbers.{is_separator, is_utc, number_after, fraction_of, moment}
-use Rattle.zone_moments.specs.Pieces.{digit_at, two_at, four_at, date_at, separator_at, minute_at, second_at, offset_at, run_of, after_run}
+use Rattle.zone_moments.specs.Numbers.{is_separator, fraction_of, moment}
+use Rattle.zone_moments.specs.Pieces.{digit_at, two_at, four_at, date_at, minute_at, second_at, run_of, after_run}
 use Rattle.zone_moments.specs.Readings.{digits_at, fraction_at, front_at, seconds_at, moment_in, local_in, is_date, is_time}
-use Rattle.zone_moments.specs.Spells.{SpellsDate, date, SpellsMinute, minute, AreFraction, SpellsFraction, whole, digits, SpellsTime, time, Exist}
+use Rattle.zone_moments.specs.Spells.{SpellsDate, date, SpellsMinute, minute, AreFraction, SpellsFraction, whole, digits, time, Exist}
 use Rattle.zone_moments.specs.Spells.{SpellsLocal, to_minute, to_second}
-use Rattle.zone_moments.specs.declared.fault.TextFault.{TextFault}
 use Rattle.zone_moments.specs.declared.form.WrittenDate.{WrittenDate}
 use Rattle.zone_moments.specs.declared.form.WrittenTime.{WrittenTime}
-use Rattle.zone_moments.specs.declared.form.WrittenOffset.{WrittenOffset}
 
 pub digit_again : (n : ℕ) → n < 10 → (rest : List ℕ) → digit_at ((48 + n) ∷ rest) ≡ Some (n, rest)
 unfolding digit_at
@@ -114,7 +110,7 @@ fraction_again (digits are) rest stops = digits_again are rest (no_digit rest st
 
 pub seconds_again : {b : List ℕ} {s n : ℕ} (t : WrittenTime) → s < 100 → SpellsFraction b n → (rest : List ℕ) → begins goes_on rest ≡ false
     → seconds_at t (58 ∷ (two_digits s ++ (b ++ rest)))
-      ≡ Ok (record { hour = t.hour; minute = t.minute; second = s; nanosecond = n }, rest)
+    ≡ Ok (record { hour = t.hour; minute = t.minute; second = s; nanosecond = n }, rest)
 unfolding seconds_at second_at
 seconds_again {b} {s} t small fraction rest stops =
     rw (two_again s small (b ++ rest), fraction_again fraction rest stops) refl

@@ -1,5 +1,5 @@
 -- A text is read as what it spells, and as nothing where it spells nothing.
-use Rattle.std.proofs.Common.{◌≡◌, ℕ, ℤ, List, Result, Ok, Err, MatchResult, Option, sym, ap, ◌∙◌}
+use Rattle.std.proofs.Common.{◌≡◌, ℕ, ℤ, List, Result, Ok, Err, MatchResult, Option, sym, ◌∙◌}
 use Rattle.zone_moments.proofs.AgainLemmas.{local_again}
 use Rattle.zone_moments.proofs.FoundLemmas.{local_found, ok_not_err, same_Ok}
 use Rattle.zone_moments.proofs.InstantAgainLemmas.{asked_again}

@@ -1,22 +1,21 @@
 -- What is read is spelled.
-use Rattle.std.proofs.Common.{◌≡◌, refl, sym, ap, subst, ◌∙◌, arith, ℕ, ◌+◌, ◌-◌, ◌*◌, ◌/◌, ◌%◌, ◌<◌, ◌≤◌, ◌⊎◌, inl, inr, Bool, true, false, cond, nat_eq, nat_lt, nat_le}
-use Rattle.std.proofs.Common.{List, [], ◌∷◌, ◌++◌, length, take_while, append_assoc, append-nil, eqb-true, Option, Some, None, Result, Ok, Err, ok_or, ℤ, pos}
-use Rattle.std.proofs.lemmas.Bool.{and_parts}
+use Rattle.std.proofs.Common.{◌≡◌, refl, sym, ap, subst, ◌∙◌, arith, ℕ, ◌+◌, ◌-◌, ◌*◌, ◌/◌, ◌%◌, ◌<◌, ◌⊎◌, inl, inr, Bool, true, false, cond, nat_eq, nat_lt}
+use Rattle.std.proofs.Common.{List, [], ◌∷◌, ◌++◌, length, append_assoc, append-nil, eqb-true, Option, Some, None, Result, Ok, Err, ok_or, ℤ, pos}
 use Rattle.std.proofs.lemmas.Bool.Decides.{nat_tests}
 use Rattle.std.proofs.lemmas.List.{take-append-drop, nil_from_length}
 use Rattle.std.proofs.lemmas.Option.{cond_some, same_Some, none-some}
 use Rattle.std.specs.Char.{is_ascii_digit}
-use Rattle.std.specs.List.{prefix_len, list_all}
+use Rattle.std.specs.List.{prefix_len}
 use Rattle.std.specs.Option.{option_map_or}
 use Rattle.calendar.specs.Days.{IsDate}
 use Rattle.civil_base.specs.Clock.{IsClockTime}
-use Rattle.calendar.specs.LogicLaws.{map_some, bind_some}
+use Rattle.calendar.specs.LogicLaws.{bind_some}
 use Rattle.text_parts.specs.Marks.{after_mark}
 use Rattle.civil_base.specs.Layout.{two_digits, four_digits}
 use Rattle.civil_base.specs.DigitLaws.{four_digits-halves}
 use Rattle.zone_moments.proofs.NumberLemmas.{run_passes}
-use Rattle.zone_moments.specs.Numbers.{is_separator, is_utc, number_after, fraction_of, moment}
-use Rattle.zone_moments.specs.Pieces.{digit_at, two_at, four_at, date_at, separator_at, minute_at, second_at, offset_at, run_of, after_run}
+use Rattle.zone_moments.specs.Numbers.{is_separator, fraction_of, moment}
+use Rattle.zone_moments.specs.Pieces.{digit_at, two_at, four_at, date_at, separator_at, minute_at, second_at, run_of, after_run}
 use Rattle.zone_moments.specs.Readings.{digits_at, fraction_at, front_at, seconds_at, moment_in, local_in, is_date, is_time, ended, ◌>>=◌}
 use Rattle.zone_moments.specs.Spells.{SpellsDate, date, SpellsMinute, minute, AreFraction, SpellsFraction, whole, digits, SpellsTime, time, Exist}
 use Rattle.zone_moments.specs.Spells.{SpellsLocal, to_minute, to_second}
@@ -24,7 +23,6 @@ use Rattle.zone_moments.specs.declared.fault.TextFault.{TextFault}
 use Rattle.zone_moments.specs.declared.fault.TextFault.TheVariants.{DateMissing, TimeMissing, SecondMissing, FractionMissing, TooFine, Trailing, NoSuchDate, NoSuchTime}
 use Rattle.zone_moments.specs.declared.form.WrittenDate.{WrittenDate}
 use Rattle.zone_moments.specs.declared.form.WrittenTime.{WrittenTime}
-use Rattle.zone_moments.specs.declared.form.WrittenOffset.{WrittenOffset}
 use Rattle.std.specs.Result.{result_unwrap_or}
 
 -- a text of the value stands at the front, before the rest
@@ -97,10 +95,11 @@ two_found text y e =
     let value : 10 * t.0.0 + o.0.0 ≡ y.0 = ap (λ p. p.0) (same_Some _ y o.2) in
     let rest : o.0.1 ≡ y.1 = ap (λ p. p.1) (same_Some _ y o.2) in
     let first : 48 + t.0.0 ≡ 48 + y.0 / 10 % 10 = omega (arith, value, tens.1, ones.1) in
-    let second : 48 + o.0.0 ≡ 48 + y.0 / 1 % 10 = omega (arith, value, tens.1, ones.1) in
-    (tens.0 ∙ ap (λ l. (48 + t.0.0) ∷ l) (ones.0 ∙ ap (λ c. c ∷ o.0.1) second ∙ ap (λ l. (48 + y.0 / 1 % 10) ∷ l) rest)
-    ∙ ap (λ c. c ∷ ((48 + y.0 / 1 % 10) ∷ y.1)) first,
-    omega (arith, value, tens.1, ones.1))
+    let second : 48 + o.0.0 ≡ 48 + y.0 / 1 % 10 = omega (arith, value, tens.1, ones.1) in (
+      tens.0 ∙ ap (λ l. (48 + t.0.0) ∷ l) (ones.0 ∙ ap (λ c. c ∷ o.0.1) second ∙ ap (λ l. (48 + y.0 / 1 % 10) ∷ l) rest)
+          ∙ ap (λ c. c ∷ ((48 + y.0 / 1 % 10) ∷ y.1)) first,
+      omega (arith, value, tens.1, ones.1),
+    )
 
 four_found : (text : List ℕ) (y : ℕ × List ℕ) → four_at text ≡ Some y → (text ≡ four_digits y.0 ++ y.1) × (y.0 < 10000)
 unfolding four_at
@@ -112,10 +111,11 @@ four_found text y e =
     let value : 100 * f.0.0 + b.0.0 ≡ y.0 = ap (λ p. p.0) (same_Some _ y b.2) in
     let rest : b.0.1 ≡ y.1 = ap (λ p. p.1) (same_Some _ y b.2) in
     let first : f.0.0 ≡ y.0 / 100 = omega (arith, value, front.1, back.1) in
-    let second : b.0.0 ≡ y.0 % 100 = omega (arith, value, front.1, back.1) in
-    (front.0 ∙ ap (λ l. two_digits f.0.0 ++ l) (back.0 ∙ ap (λ l. two_digits b.0.0 ++ l) rest ∙ ap (λ n. two_digits n ++ y.1) second)
-    ∙ ap (λ n. two_digits n ++ (two_digits (y.0 % 100) ++ y.1)) first ∙ ap (λ l. l ++ y.1) (sym (four_digits-halves y.0)),
-    omega (arith, value, front.1, back.1))
+    let second : b.0.0 ≡ y.0 % 100 = omega (arith, value, front.1, back.1) in (
+      front.0 ∙ ap (λ l. two_digits f.0.0 ++ l) (back.0 ∙ ap (λ l. two_digits b.0.0 ++ l) rest ∙ ap (λ n. two_digits n ++ y.1) second)
+          ∙ ap (λ n. two_digits n ++ (two_digits (y.0 % 100) ++ y.1)) first ∙ ap (λ l. l ++ y.1) (sym (four_digits-halves y.0)),
+      omega (arith, value, front.1, back.1),
+    )
 
 date_built : {text p q r s rest : List ℕ} {y m d : ℕ} → text ≡ four_digits y ++ p → p ≡ 45 ∷ q → q ≡ two_digits m ++ r → r ≡ 45 ∷ s
     → s ≡ two_digits d ++ rest → y < 10000 → m < 100 → d < 100 → Takes SpellsDate text (record { year = y; month = m; day = d }) rest

@@ -1,6 +1,6 @@
 -- Instants that are spelled are read.
-use Rattle.std.proofs.Common.{◌≡◌, refl, sym, ap, ◌∙◌, arith, ℕ, ◌+◌, ◌*◌, ◌/◌, ◌%◌, ◌^◌, ◌<◌, ◌≤◌, Bool, true, false, nat_eq, nat_lt, bytes_eq, min}
-use Rattle.std.proofs.Common.{List, [], ◌∷◌, ◌++◌, length, append_assoc, append-nil, Option, Some, None, Result, Ok, Err, ℤ, pos, neg_ℤ, codes}
+use Rattle.std.proofs.Common.{◌≡◌, refl, sym, ap, ◌∙◌, arith, ℕ, ◌+◌, ◌*◌, ◌/◌, ◌%◌, ◌^◌, ◌<◌, Bool, true, false, nat_eq, bytes_eq, min}
+use Rattle.std.proofs.Common.{List, [], ◌∷◌, ◌++◌, length, append_assoc, append-nil, Option, Some, None, Ok, ℤ, pos, neg_ℤ, codes}
 use Rattle.std.proofs.lemmas.Bool.{and_parts}
 use Rattle.std.proofs.lemmas.Bool.Decides.{nat_tests}
 use Rattle.std.proofs.Math.Nat.{min-eq_left}
@@ -9,14 +9,14 @@ use Rattle.std.specs.List.{list_all}
 use Rattle.text_parts.specs.Marks.{after_mark}
 use Rattle.calendar.specs.SignedLaws.{signed}
 use Rattle.civil_base.specs.Instants.{instant_at}
-use Rattle.civil_base.specs.Layout.{two_digits, four_digits}
-use Rattle.civil_base.specs.Ranges.{IsInYears, is_in_years}
+use Rattle.civil_base.specs.Layout.{two_digits}
+use Rattle.civil_base.specs.Ranges.{IsInYears}
 use Rattle.civil_base.specs.RangeLaws.{years_begin, years_end}
 use Rattle.zone_moments.proofs.AgainLemmas.{begins, goes_on, front_again, seconds_again, minute_again, moment_again, fraction_again, run_again, no_digit}
-use Rattle.zone_moments.specs.Numbers.{is_separator, is_utc, number_after, moment, seconds_east, counted}
-use Rattle.zone_moments.specs.Pieces.{offset_at, run_of, after_run}
+use Rattle.zone_moments.specs.Numbers.{is_separator, moment, seconds_east, counted}
+use Rattle.zone_moments.specs.Pieces.{offset_at}
 use Rattle.zone_moments.specs.Readings.{zoned_at, zoned_in, size_at, count_at, count_in, count_of, counted_in, written_in, instant_in, asked_in, in_years, is_offset}
-use Rattle.zone_moments.specs.Spells.{SpellsDate, date, SpellsMinute, minute, SpellsFraction, whole, digits, SpellsTime, time, Exist, SpellsOffset, utc, east, west}
+use Rattle.zone_moments.specs.Spells.{SpellsDate, date, SpellsMinute, minute, SpellsFraction, whole, digits, time, Exist, SpellsOffset, utc, east, west}
 use Rattle.zone_moments.specs.Spells.{AreDigits, SpellsInstant, since, before, zoned, SpellsAsked, now, instant}
 use Rattle.zone_moments.specs.declared.form.WrittenDate.{WrittenDate}
 use Rattle.zone_moments.specs.declared.form.WrittenTime.{WrittenTime}
@@ -28,7 +28,7 @@ offset_again (utc is) rest = rw is refl
 offset_again (east {h} {m} hours minutes) rest = rw (minute_again (minute {h = h} {m = m} (omega arith) (omega arith)) rest) refl
 offset_again (west {h} {m} hours minutes) rest = rw (minute_again (minute {h = h} {m = m} (omega arith) (omega arith)) rest) refl
 
-offset_stops : {z : List ℕ} {o : WrittenOffset} → SpellsOffset z o → (rest : List ℕ) → begins goes_on (z ++ rest) ≡ false
+pub offset_stops : {z : List ℕ} {o : WrittenOffset} → SpellsOffset z o → (rest : List ℕ) → begins goes_on (z ++ rest) ≡ false
 offset_stops (utc is) rest = grind (arith, nat_tests)
 offset_stops (east hours minutes) rest = refl
 offset_stops (west hours minutes) rest = refl
@@ -38,14 +38,14 @@ offset_real (utc is) = refl
 offset_real (east hours minutes) = grind (arith, nat_tests)
 offset_real (west hours minutes) = grind (arith, nat_tests)
 
-within : (t : ℤ) → IsInYears t → in_years t ≡ Ok t
+pub within : (t : ℤ) → IsInYears t → in_years t ≡ Ok t
 unfolding in_years
 within t inside = rw inside refl
 
-zoned_form_again : {a m f z : List ℕ} {s n : ℕ} {d : WrittenDate} {t : WrittenTime} {o : WrittenOffset} (c : ℕ) → SpellsDate a d → is_separator c ≡ true
+pub zoned_form_again : {a m f z : List ℕ} {s n : ℕ} {d : WrittenDate} {t : WrittenTime} {o : WrittenOffset} (c : ℕ) → SpellsDate a d → is_separator c ≡ true
     → SpellsMinute m t → s < 100 → SpellsFraction f n → SpellsOffset z o → (rest : List ℕ)
     → zoned_at (a ++ (c ∷ (m ++ (58 ∷ (two_digits s ++ (f ++ (z ++ rest)))))))
-      ≡ Ok (record { date = d; time = record { hour = t.hour; minute = t.minute; second = s; nanosecond = n }; offset = o }, rest)
+    ≡ Ok (record { date = d; time = record { hour = t.hour; minute = t.minute; second = s; nanosecond = n }; offset = o }, rest)
 unfolding zoned_at
 zoned_form_again {f = f} {z} {s} {t = t} c dated mark timed small fraction offset rest =
     rw (
@@ -54,7 +54,7 @@ zoned_form_again {f = f} {z} {s} {t = t} c dated mark timed small fraction offse
       offset_again offset rest,
     ) refl
 
-zoned_value : {a z : List ℕ} {d : WrittenDate} {t : WrittenTime} {o : WrittenOffset} → SpellsDate a d → Exist d t → SpellsOffset z o
+pub zoned_value : {a z : List ℕ} {d : WrittenDate} {t : WrittenTime} {o : WrittenOffset} → SpellsDate a d → Exist d t → SpellsOffset z o
     → IsInYears (instant_at (moment d t) (seconds_east o))
     → zoned_in (record { date = d; time = t; offset = o }) ≡ Ok (instant_at (moment d t) (seconds_east o))
 unfolding zoned_in
@@ -66,7 +66,7 @@ pub laid_out : (a m f z rest : List ℕ) (c s : ℕ) → (a ++ (c ∷ ((m ++ (58
 laid_out a m f z rest c s = simp append_assoc
 
 -- a date begins with a digit
-no_at : {a : List ℕ} {d : WrittenDate} → SpellsDate a d → (rest : List ℕ) → after_mark 64 (a ++ rest) ≡ None
+pub no_at : {a : List ℕ} {d : WrittenDate} → SpellsDate a d → (rest : List ℕ) → after_mark 64 (a ++ rest) ≡ None
 no_at (date {y} {m} {d} years months days) rest =
     let other : nat_eq (48 + y / 1000 % 10) 64 ≡ false = grind (arith, nat_tests) in
     rw other refl
@@ -96,11 +96,16 @@ size_again {a} {b} {n} back are fraction bound rest stops =
     let count : count_of a ≡ n = ap (λ k. min k (10 ^ 25)) are.value ∙ min-eq_left (omega arith) in
     rw (run.0, run.1, some, fraction_again fraction rest stops, count) refl
 
-count_again : {a b : List ℕ} {n f : ℕ} → AreDigits a n → SpellsFraction b f → n < 10 ^ 25 → (rest : List ℕ) → begins goes_on rest ≡ false
+pub count_again : {a b : List ℕ} {n f : ℕ} → AreDigits a n → SpellsFraction b f → n < 10 ^ 25 → (rest : List ℕ) → begins goes_on rest ≡ false
     → count_at (a ++ (b ++ rest)) ≡ Ok (record { before = false; seconds = n; nanosecond = f }, rest)
 unfolding count_at
 count_again {a} {b} are fraction bound rest stops =
     rw (no_minus a (b ++ rest) are.some are.digits, size_again false are fraction bound rest stops) refl
+
+pub before_again : {a b : List ℕ} {n f : ℕ} → AreDigits a n → SpellsFraction b f → n < 10 ^ 25 → (rest : List ℕ) → begins goes_on rest ≡ false
+    → count_at (45 ∷ (a ++ (b ++ rest))) ≡ Ok (record { before = true; seconds = n; nanosecond = f }, rest)
+unfolding count_at
+before_again are fraction bound rest stops = size_again true are fraction bound rest stops
 
 pub instant_again : {text : List ℕ} {t : ℤ} → SpellsInstant text t → instant_in text ≡ Ok t
 unfolding instant_in counted_in count_at count_in written_in

@@ -1,7 +1,6 @@
 -- Instants that are read are spelled.
-use Rattle.std.proofs.Common.{◌≡◌, refl, sym, ap, subst, ◌∙◌, arith, ℕ, ◌+◌, ◌*◌, ◌^◌, ◌<◌, ◌≤◌, inl, inr, Bool, true, false, nat_eq, nat_lt, bytes_eq, min}
-use Rattle.std.proofs.Common.{List, [], ◌∷◌, ◌++◌, length, append_assoc, append-nil, eqb-true, Option, Some, None, Result, Ok, Err, ok_or, ℤ, pos, codes}
-use Rattle.std.proofs.lemmas.Bool.{and_parts}
+use Rattle.std.proofs.Common.{◌≡◌, sym, ap, subst, ◌∙◌, arith, ℕ, ◌^◌, ◌<◌, inl, inr, Bool, true, false, nat_eq, bytes_eq}
+use Rattle.std.proofs.Common.{List, [], ◌∷◌, ◌++◌, length, append_assoc, append-nil, eqb-true, Option, Some, Ok, ok_or, ℤ, codes}
 use Rattle.std.proofs.lemmas.Bool.Decides.{nat_tests}
 use Rattle.std.proofs.lemmas.List.{take-append-drop}
 use Rattle.std.proofs.lemmas.Slice.Eq.{bytes_eq-Decides}
@@ -9,15 +8,14 @@ use Rattle.std.proofs.lemmas.Option.{same_Some, none-some}
 use Rattle.std.specs.Char.{is_ascii_digit}
 use Rattle.std.specs.List.{prefix_len}
 use Rattle.calendar.specs.LogicLaws.{map_some}
-use Rattle.text_parts.specs.Marks.{after_mark}
 use Rattle.civil_base.specs.Instants.{instant_at}
 use Rattle.civil_base.specs.Ranges.{IsInYears, is_in_years}
 use Rattle.zone_moments.proofs.FoundLemmas.{Takes, takes, TakesFront, takes_front, TakesSecond, same_Ok, bind_ok, wanted, chosen, passed, passed_over, marked}
 use Rattle.zone_moments.proofs.FoundLemmas.{minute_found, front_found, seconds_found, full_time, fraction_found, moment_found, ended_found}
 use Rattle.zone_moments.proofs.InstantAgainLemmas.{few}
 use Rattle.zone_moments.proofs.NumberLemmas.{run_passes}
-use Rattle.zone_moments.specs.Numbers.{is_separator, is_utc, number_after, moment, seconds_east, counted}
-use Rattle.zone_moments.specs.Pieces.{offset_at, sized_at, minute_at, run_of, after_run}
+use Rattle.zone_moments.specs.Numbers.{is_separator, is_utc, moment, seconds_east, counted}
+use Rattle.zone_moments.specs.Pieces.{offset_at, minute_at, run_of, after_run}
 use Rattle.zone_moments.specs.Readings.{front_at, seconds_at, fraction_at, moment_in, ended, zoned_at, zoned_in, size_at, count_at, count_in, count_of}
 use Rattle.zone_moments.specs.Readings.{counted_in, written_in, instant_in, asked_in, in_years, is_offset}
 use Rattle.zone_moments.specs.Spells.{SpellsDate, SpellsMinute, minute, SpellsFraction, SpellsTime, Exist, SpellsOffset, utc, east, west}
@@ -87,20 +85,20 @@ zoned_form_found text y e =
     subst (λ (z : WrittenInstant × List ℕ). is_offset z.0.offset ≡ true → TakesZoned text z.0 z.1) (same_Ok _ y o.2)
     (zoned_built (front_found text f.0 f.1) (seconds_found f.0.0.1 f.0.1 s.0 s.1) offset)
 
-years_found : (t x : ℤ) → in_years t ≡ Ok x → IsInYears t × (t ≡ x)
+pub years_found : (t x : ℤ) → in_years t ≡ Ok x → IsInYears t × (t ≡ x)
 unfolding in_years
 years_found t x e =
     let both = passed (is_in_years t) (Ok t) OutOfYears x e in
     (both.0, same_Ok t x both.1)
 
 -- what a form amounts to
-record Means (form : WrittenInstant) (x : ℤ) : Type 0 where
-  exist : Exist form.date form.time
-  real : is_offset form.offset ≡ true
-  inside : IsInYears (instant_at (moment form.date form.time) (seconds_east form.offset))
-  value : instant_at (moment form.date form.time) (seconds_east form.offset) ≡ x
+pub record Means (form : WrittenInstant) (x : ℤ) : Type 0 where
+  pub exist : Exist form.date form.time
+  pub real : is_offset form.offset ≡ true
+  pub inside : IsInYears (instant_at (moment form.date form.time) (seconds_east form.offset))
+  pub value : instant_at (moment form.date form.time) (seconds_east form.offset) ≡ x
 
-zoned_value_found : (form : WrittenInstant) (x : ℤ) → zoned_in form ≡ Ok x → Means form x
+pub zoned_value_found : (form : WrittenInstant) (x : ℤ) → zoned_in form ≡ Ok x → Means form x
 unfolding zoned_in
 zoned_value_found form x e =
     let m = bind_ok _ (moment_in form.date form.time) x e in

@@ -6,3 +6,6 @@ pub mod InstantAgainLemmas
 pub mod InstantFoundLemmas
 mod WorkedReadings
 pub mod WrittenLemmas
+pub mod BackLemmas
+pub mod StampLemmas
+mod WorkedStamps

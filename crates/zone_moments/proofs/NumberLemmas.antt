@@ -36,7 +36,7 @@ pub step : (n d most i : ℕ) (ds : List ℕ) → i < length ds → d ≡ get_or
     → min (number_after (min (10 * n + d) most) (drop (i + 1) ds)) most ≡ min (number_after n (drop i ds)) most
 step n d most i ds inside is = rw (capped (10 * n + d) most (drop (i + 1) ds), is, drop_more ds i 0 inside) refl
 
-ten_times : (a k : ℕ) → a * 10 ^ suc k ≡ a * 10 * 10 ^ k
+pub ten_times : (a k : ℕ) → a * 10 ^ suc k ≡ a * 10 * 10 ^ k
 ten_times a k =
     let one : suc k ≡ 1 + k = omega arith in
     let e : 10 ^ suc k ≡ 10 * 10 ^ k = rw one (pow-add 10 1 k) in
@@ -61,7 +61,7 @@ fraction_below ds digits short =
     let whole : 10 ^ length ds * 10 ^ (9 - length ds) ≡ 1000000000 = sym (pow-add 10 (length ds) (9 - length ds))
     ∙ (let e : length ds + (9 - length ds) ≡ 9 = omega arith in rw e refl) in
     let inside : number_after 0 ds * 10 ^ (9 - length ds) < 1000000000 =
-        rw (← whole) (mul-lt-mul_of_pos_right small (one-le-pow (9 - length ds) 10 (omega arith))) in
+    rw (← whole) (mul-lt-mul_of_pos_right small (one-le-pow (9 - length ds) 10 (omega arith))) in
     let no_less = le-mul_of_pos_right (number_after 0 ds) (one-le-pow (9 - length ds) 10 (omega arith)) in
     (omega (arith, no_less, inside), inside)
 

@@ -4,4 +4,5 @@ pub mod Pieces
 pub mod Readings
 pub mod Spells
 pub mod Shown
+pub mod Stamps
 pub mod Written

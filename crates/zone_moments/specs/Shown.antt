@@ -1,6 +1,7 @@
--- What a text that was read asks for.
-use Rattle.std.specs.Prelude.{◌≡◌, Option, Some, None, ℤ, pos}
+-- What texts that were read give.
+use Rattle.std.specs.Prelude.{◌≡◌, ℕ, Option, Some, None, ℤ, pos}
 use Rattle.civil_base.specs.DateTimes.{instant, offset_of}
+use Rattle.civil_base.specs.declared.offset_date_time.OffsetDateTime.{OffsetDateTime}
 use Rattle.zone_moments.specs.declared.instant.Asked.{Asked}
 use Rattle.zone_moments.specs.declared.instant.Asked.TheVariants.{Now, At}
 
@@ -12,3 +13,7 @@ asked (At value) = Some (instant value)
 abbrev pub IsAtUtc : Asked → Type 0
 IsAtUtc Now = Unit {0}
 IsAtUtc (At value) = offset_of value ≡ pos 0
+
+-- an instant, and how many bytes follow its text
+abbrev pub stamp_shown : OffsetDateTime × ℕ → ℤ × ℕ
+stamp_shown x = (instant x.0, x.1)

@@ -7,6 +7,7 @@ mod instant;
 pub mod laws;
 mod pieces;
 mod read;
+mod stamp;
 mod value;
 mod write;
 
@@ -14,4 +15,5 @@ pub use fault::TextFault;
 pub use form::{WrittenCount, WrittenDate, WrittenInstant, WrittenOffset, WrittenTime};
 pub use instant::{Asked, read_instant};
 pub use read::read_local;
+pub use stamp::read_stamp;
 pub use write::{add_epoch, add_local, add_people, add_rfc3339};

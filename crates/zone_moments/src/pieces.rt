@@ -54,13 +54,7 @@ pub(crate) fn after_mark(mark: u8, text: &[u8]) -> Option<&[u8]>
     ensures { option_map (λ rest. rest.now) result ≡ after_mark mark text.now }
 {
     match text {
-        [first, rest @ ..] => {
-            if *first == mark {
-                Some(rest)
-            } else {
-                None
-            }
-        }
+        [first, rest @ ..] => { if *first == mark { Some(rest) } else { None } }
         [] => None,
     }
 }

@@ -8,7 +8,9 @@ ghost use Rattle.zone_moments.specs.Readings.{told_as, digits_at, fraction_at, f
 
 use crate::TextFault;
 use crate::form::{WrittenDate, WrittenTime};
-use crate::pieces::{after_mark, date_at, minute_at, number_of, second_at, separator_at, split_digits};
+use crate::pieces::{
+    after_mark, date_at, minute_at, number_of, second_at, separator_at, split_digits,
+};
 use crate::value::moment_in;
 use civil_base::PlainDateTime;
 

@@ -58,7 +58,7 @@ fn east_of(offset: WrittenOffset) -> Option<UtcOffset>
 
 /// The instant at UTC, where its date lies in the years.
 #[tactic(auto, unfolding(crate::specs::Readings::in_years))]
-fn in_years(nanos: i128) -> Result<OffsetDateTime, TextFault>
+pub(crate) fn in_years(nanos: i128) -> Result<OffsetDateTime, TextFault>
     ensures value { result_map_both instant (λ fault. fault) result ≡ in_years nanos }
     ensures utc { IfOk result (λ value. offset_of value ≡ pos 0) }
 {

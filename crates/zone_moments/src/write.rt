@@ -222,7 +222,11 @@ pub fn add_epoch(into: &mut Vec<u8>, value: &OffsetDateTime) -> Result<(), Alloc
     let (seconds, nanosecond) = parted(nanos.unsigned_abs());
     let mut text = [0; 52];
     let after_mark = put(&mut text, 0, mark_of(nanos));
-    let after_seconds = put(&mut text, after_mark, Buffer::new().format(seconds).as_bytes());
+    let after_seconds = put(
+        &mut text,
+        after_mark,
+        Buffer::new().format(seconds).as_bytes(),
+    );
     let end = put_fraction(&mut text, after_seconds, &nine_digits(nanosecond));
     into.extend_from_slice(&text[..end])
 }
