@@ -6,6 +6,7 @@ use std::alloc::Global;
 use std::process::Abort;
 use zone_moments::{
     Asked, TextFault, add_epoch, add_local, add_people, add_rfc3339, read_instant, read_local,
+    read_stamp,
 };
 
 // A local time that is read, written for people and by RFC 3339.
@@ -60,6 +61,19 @@ fn instants_are_counted(rt: HostRuntime) {
         "@-1041337172.13",
     );
     counted(&rt, alloc, "@-0.0", "@0");
+}
+
+// The seconds of the time at the front of a line, and what follows it.
+fn stamped(line: &str) -> Option<(i64, &str)> {
+    let (value, left) = read_stamp(line.as_bytes())?;
+    Some((value.unix_timestamp(), line.get(line.len() - left..)?))
+}
+
+#[test]
+fn stamps_stand_in_front(rt: HostRuntime) {
+    let wanted = Some((1_729_989_000, " GET /"));
+    same(&rt, &stamped("1729989000123 GET /"), &wanted);
+    same(&rt, &stamped("2024-10-27 00:30:00.5Z GET /"), &wanted);
 }
 
 #[test]

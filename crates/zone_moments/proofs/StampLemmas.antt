@@ -1,6 +1,6 @@
 -- A time at the front of a text is read where there is one.
-use Rattle.std.proofs.Common.{◌≡◌, refl, sym, ap, subst, ◌∙◌, arith, ℕ, ◌*◌, ◌^◌, ◌<◌, ◌≤◌, inl, inr, Bool, true, false, cond, nat_eq, min}
-use Rattle.std.proofs.Common.{List, [], ◌∷◌, ◌++◌, length, append_assoc, Option, Some, None, Result, Ok, Err, is_ok, ℤ, pos, option_map, MatchOption}
+use Rattle.std.proofs.Common.{◌≡◌, refl, sym, ap, subst, ◌∙◌, arith, ℕ, ◌-◌, ◌*◌, ◌^◌, ◌<◌, ◌≤◌, inl, inr, Bool, true, false, cond, nat_eq, min}
+use Rattle.std.proofs.Common.{List, [], ◌∷◌, ◌++◌, length, length-append, append_assoc, Option, Some, None, Result, Ok, Err, is_ok, ℤ, pos, option_map, MatchOption}
 use Rattle.std.specs.Result.{result_ok}
 use Rattle.std.proofs.lemmas.Bool.{and_parts}
 use Rattle.std.proofs.lemmas.Bool.Decides.{nat_tests}
@@ -9,7 +9,7 @@ use Rattle.std.proofs.lemmas.Option.{same_Some, none-some}
 use Rattle.std.proofs.Math.Nat.{min-eq_left, le-mul_of_pos_right}
 use Rattle.std.specs.Char.{is_ascii_digit}
 use Rattle.std.specs.List.{prefix_len, list_all}
-use Rattle.calendar.specs.LogicLaws.{bind_some}
+use Rattle.calendar.specs.LogicLaws.{map_some, bind_some}
 use Rattle.calendar.specs.SignedLaws.{signed}
 use Rattle.civil_base.specs.DateTimes.{instant as instant_of}
 use Rattle.civil_base.specs.Layout.{two_digits}
@@ -27,7 +27,7 @@ use Rattle.zone_moments.specs.Pieces.{digit_at, two_at, four_at, date_at, run_of
 use Rattle.zone_moments.specs.Readings.{count_at, count_in, count_of, size_at, front_at, zoned_at, zoned_in, in_years}
 use Rattle.zone_moments.specs.Shown.{stamp_shown}
 use Rattle.zone_moments.specs.Spells.{AreDigits, since, before, zoned, time}
-use Rattle.zone_moments.specs.Stamps.{is_apart, unit_of, SpellsStamp, instant, plain, HasStamp, stamp, stamped, numbered, stamp_in}
+use Rattle.zone_moments.specs.Stamps.{is_apart, unit_of, SpellsStamp, instant, plain, HasStamp, stamp, stamped, numbered, left_in, stamp_in}
 use Rattle.zone_moments.specs.declared.fault.TextFault.{TextFault}
 use Rattle.zone_moments.specs.declared.form.WrittenInstant.{WrittenInstant}
 use Rattle.zone_moments.specs.declared.form.WrittenCount.{WrittenCount}
@@ -79,23 +79,23 @@ plain_again {a} {n} {u} are unit inside rest apart =
     let count : count_of a ≡ n = ap (λ k. min k (10 ^ 25)) are.value ∙ min-eq_left (omega arith) in
     rw (run.0, run.1, unit, count, apart, again.within (pos (n * u)) inside) refl
 
-stamp_again : {a : List ℕ} {t : ℤ} → SpellsStamp a t → (rest : List ℕ) → is_apart rest ≡ true → stamp_in (a ++ rest) ≡ Some (t, length rest)
-unfolding stamp_in count_in
-stamp_again (instant (since {a} {b} {n} {f} are fraction inside)) rest apart =
+left_again : {a : List ℕ} {t : ℤ} → SpellsStamp a t → (rest : List ℕ) → is_apart rest ≡ true → left_in (a ++ rest) ≡ Some (t, length rest)
+unfolding left_in count_in
+left_again (instant (since {a} {b} {n} {f} are fraction inside)) rest apart =
     rw (
       append_assoc a b rest,
       again.count_again are fraction (again.few false n f inside) rest (apart_stops rest apart),
       apart,
       again.within _ inside,
     ) refl
-stamp_again (instant (before {a} {b} {n} {f} are fraction inside)) rest apart =
+left_again (instant (before {a} {b} {n} {f} are fraction inside)) rest apart =
     rw (
       append_assoc a b rest,
       again.before_again are fraction (again.few true n f inside) rest (apart_stops rest apart),
       apart,
       again.within _ inside,
     ) refl
-stamp_again (instant (zoned {a} {z = z} c dated mark (time {a = m} {b = f} {s = s} timed small fraction) exist offset inside)) rest apart =
+left_again (instant (zoned {a} {z = z} c dated mark (time {a = m} {b = f} {s = s} timed small fraction) exist offset inside)) rest apart =
     rw (
       again.laid_out a m f z rest c s,
       again.no_at dated (c ∷ (m ++ (58 ∷ (two_digits s ++ (f ++ (z ++ rest)))))),
@@ -103,7 +103,7 @@ stamp_again (instant (zoned {a} {z = z} c dated mark (time {a = m} {b = f} {s = 
       again.zoned_value dated exist offset inside,
       apart,
     ) refl
-stamp_again (plain {a} are unit inside) rest apart =
+left_again (plain {a} are unit inside) rest apart =
     let some = unit_some (length a) _ unit in
     rw (
       no_mark 64 a rest refl are.some are.digits,
@@ -111,13 +111,23 @@ stamp_again (plain {a} are unit inside) rest apart =
       plain_again are unit inside rest apart,
     ) refl
 
+-- the same by the bytes that follow
+data HasLeft : List ℕ → ℤ → ℕ → Type 0 where
+  left : {a : List ℕ} {t : ℤ} (rest : List ℕ) → SpellsStamp a t → is_apart rest ≡ true → HasLeft (a ++ rest) t (length rest)
+
+size_is : (a rest : List ℕ) → length (a ++ rest) - length rest ≡ length a
+size_is a rest = omega (arith, length-append a rest)
+
+has_size : {text : List ℕ} {t : ℤ} {k : ℕ} → HasLeft text t k → HasStamp text t (length text - k)
+has_size (left {a} {t} rest spelled apart) = subst (HasStamp (a ++ rest) t) (sym (size_is a rest)) (stamp rest spelled apart)
+
 -- what a form at the front gave
 record Gave {F : Type 0} (r : Result (F × List ℕ) TextFault) (value : F → Result ℤ TextFault) (y : ℤ × ℕ) : Type 0 where
   read : F × List ℕ
   is : r ≡ Ok read
   apart : is_apart read.1 ≡ true
   gives : value read.0 ≡ Ok y.0
-  left : length read.1 ≡ y.1
+  after : length read.1 ≡ y.1
 
 ok_found : (r : Result ℤ TextFault) (k : ℕ) (y : ℤ × ℕ) → option_map (λ t. (t, k)) (result_ok r) ≡ Some y → (r ≡ Ok y.0) × (k ≡ y.1)
 ok_found (Ok t) k y e = (ap (λ p. Ok p.0) (same_Some _ y e), ap (λ p. p.1) (same_Some _ y e))
@@ -127,7 +137,7 @@ stamped_found : {F : Type 0} (r : Result (F × List ℕ) TextFault) (value : F �
 stamped_found (Ok read) value y e =
     let both = cond_option (is_apart read.1) _ y e in
     let given = ok_found (value read.0) (length read.1) y both.1 in
-    record { read = read; is = refl; apart = both.0; gives = given.0; left = given.1 }
+    record { read = read; is = refl; apart = both.0; gives = given.0; after = given.1 }
   where
     cond_option : {A : Type 0} (b : Bool) (o : Option A) (z : A) → cond b o None ≡ Some z → (b ≡ true) × (o ≡ Some z)
     cond_option true o z e = (refl, e)
@@ -135,33 +145,33 @@ stamped_found (Ok read) value y e =
 stamped_found (Err fault) value y e = absurd (none-some y e)
 
 since_stamp : {text rest : List ℕ} {form : WrittenCount} → found.TakesCount false text form rest → is_apart rest ≡ true
-    → IsInYears (counted form.before form.seconds form.nanosecond) → HasStamp (64 ∷ text) (counted form.before form.seconds form.nanosecond) (length rest)
+    → IsInYears (counted form.before form.seconds form.nanosecond) → HasLeft (64 ∷ text) (counted form.before form.seconds form.nanosecond) (length rest)
 since_stamp (found.takes_count {a} {b} {rest} are fraction) apart inside =
-    rw (← append_assoc a b rest) (stamp rest (instant (since are fraction inside)) apart)
+    rw (← append_assoc a b rest) (left rest (instant (since are fraction inside)) apart)
 
 before_stamp : {text rest : List ℕ} {form : WrittenCount} → found.TakesCount true text form rest → is_apart rest ≡ true
-    → IsInYears (counted form.before form.seconds form.nanosecond) → HasStamp (64 ∷ (45 ∷ text)) (counted form.before form.seconds form.nanosecond) (length rest)
+    → IsInYears (counted form.before form.seconds form.nanosecond) → HasLeft (64 ∷ (45 ∷ text)) (counted form.before form.seconds form.nanosecond) (length rest)
 before_stamp (found.takes_count {a} {b} {rest} are fraction) apart inside =
-    rw (← append_assoc a b rest) (stamp rest (instant (before are fraction inside)) apart)
+    rw (← append_assoc a b rest) (left rest (instant (before are fraction inside)) apart)
 
 zoned_stamp : {text rest : List ℕ} {form : WrittenInstant} {x : ℤ} → found.TakesZoned text form rest → is_apart rest ≡ true → found.Means form x
-    → HasStamp text x (length rest)
+    → HasLeft text x (length rest)
 zoned_stamp (found.takes_zoned {a} {b} {z} {rest} c dated mark timed offset) apart means =
-    subst (λ t. HasStamp ((a ++ (c ∷ b) ++ z) ++ rest) t (length rest)) means.value (stamp rest (instant (zoned c dated mark timed means.exist offset means.inside)) apart)
+    subst (λ t. HasLeft ((a ++ (c ∷ b) ++ z) ++ rest) t (length rest)) means.value (left rest (instant (zoned c dated mark timed means.exist offset means.inside)) apart)
 
-count_stamp : (text : List ℕ) (y : ℤ × ℕ) → Gave (count_at text) count_in y → HasStamp (64 ∷ text) y.0 y.1
+count_stamp : (text : List ℕ) (y : ℤ × ℕ) → Gave (count_at text) count_in y → HasLeft (64 ∷ text) y.0 y.1
 unfolding count_at count_in
 count_stamp text y gave =
     let form = gave.read.0 in
     let years = found.years_found (counted form.before form.seconds form.nanosecond) y.0 gave.gives in
     let bound = again.few form.before form.seconds form.nanosecond years.0 in
-    subst (λ k. HasStamp (64 ∷ text) y.0 k) gave.left (subst (λ t. HasStamp (64 ∷ text) t (length gave.read.1)) years.1
+    subst (λ k. HasLeft (64 ∷ text) y.0 k) gave.after (subst (λ t. HasLeft (64 ∷ text) t (length gave.read.1)) years.1
     (elim (marked (size_at true) 45 text (size_at false text) (Ok gave.read) gave.is) [
       | inl minus ↦ rw minus.1 (before_stamp (found.size_found true minus.0 gave.read minus.2 bound) gave.apart years.0)
       | inr other ↦ since_stamp (found.size_found false text gave.read other.1 bound) gave.apart years.0
     ]))
 
-plain_stamp : (text : List ℕ) (y : ℤ × ℕ) → numbered text ≡ Some y → HasStamp text y.0 y.1
+plain_stamp : (text : List ℕ) (y : ℤ × ℕ) → numbered text ≡ Some y → HasLeft text y.0 y.1
 unfolding numbered
 plain_stamp text y e =
     let run = run_of text in
@@ -176,34 +186,36 @@ plain_stamp text y e =
     let few = plain_few (count_of run) unit.0 some.1 inside in
     let are : AreDigits run (count_of run) = record { some = omega (arith, some.0); digits = run_passes text; value = omega (arith, few) } in
     let rest : after_run text ≡ gave.read.1 = ap (λ p. p.1) same in
-    let whole : HasStamp (run ++ after_run text) (pos (count_of run * unit.0)) (length (after_run text)) =
-    stamp (after_run text) (plain are unit.1 inside) (rw rest gave.apart) in
-    subst (λ k. HasStamp text y.0 k) (ap length rest ∙ gave.left)
-    (subst (λ t. HasStamp text t (length (after_run text))) (ap pos number ∙ years.1)
-    (subst (λ t. HasStamp t (pos (count_of run * unit.0)) (length (after_run text))) (take-append-drop (prefix_len is_ascii_digit text) text) whole))
+    let whole : HasLeft (run ++ after_run text) (pos (count_of run * unit.0)) (length (after_run text)) =
+    left (after_run text) (plain are unit.1 inside) (rw rest gave.apart) in
+    subst (λ k. HasLeft text y.0 k) (ap length rest ∙ gave.after)
+    (subst (λ t. HasLeft text t (length (after_run text))) (ap pos number ∙ years.1)
+    (subst (λ t. HasLeft t (pos (count_of run * unit.0)) (length (after_run text))) (take-append-drop (prefix_len is_ascii_digit text) text) whole))
 
-stamp_found : (text : List ℕ) (y : ℤ × ℕ) → stamp_in text ≡ Some y → HasStamp text y.0 y.1
-unfolding stamp_in
-stamp_found text y e = elim (marked (λ rest. stamped (count_at rest) count_in) 64 text _ (Some y) e) [
+left_found : (text : List ℕ) (y : ℤ × ℕ) → left_in text ≡ Some y → HasLeft text y.0 y.1
+unfolding left_in
+left_found text y e = elim (marked (λ rest. stamped (count_at rest) count_in) 64 text _ (Some y) e) [
   | inl at ↦ rw at.1 (count_stamp at.0 y (stamped_found (count_at at.0) count_in y at.2))
   | inr other ↦ elim (chosen (is_ok (zoned_at text)) (stamped (zoned_at text) zoned_in) (numbered text) (Some y) other.1) [
     | inl form ↦
         let gave = stamped_found (zoned_at text) zoned_in y form.1 in
         let means = found.zoned_value_found gave.read.0 y.0 gave.gives in
-        subst (λ k. HasStamp text y.0 k) gave.left (zoned_stamp (found.zoned_form_found text gave.read gave.is means.real) gave.apart means)
+        subst (λ k. HasLeft text y.0 k) gave.after (zoned_stamp (found.zoned_form_found text gave.read gave.is means.real) gave.apart means)
     | inr none ↦ plain_stamp text y none.1
   ]
 ]
 
-has_again : {text : List ℕ} {t : ℤ} {left : ℕ} → HasStamp text t left → stamp_in text ≡ Some (t, left)
-has_again (stamp rest spelled apart) = stamp_again spelled rest apart
+has_again : {text : List ℕ} {t : ℤ} {size : ℕ} → HasStamp text t size → stamp_in text ≡ Some (t, size)
+has_again (stamp {a} {t} rest spelled apart) = rw (left_again spelled rest apart, size_is a rest) refl
 
 pub stamp_exact : (text : List ℕ) (r : Option (OffsetDateTime × ℕ)) → option_map stamp_shown r ≡ stamp_in text
-    → MatchOption r ((t : ℤ) (left : ℕ) → ¬ (HasStamp text t left)) (λ x. HasStamp text (instant_of x.0) x.1)
-stamp_exact text (Some x) e = stamp_found text (stamp_shown x) (sym e)
-stamp_exact text None e = λ t left has. none-some (t, left) (e ∙ has_again has)
+    → MatchOption r ((t : ℤ) (size : ℕ) → ¬ (HasStamp text t size)) (λ x. HasStamp text (instant_of x.0) x.1)
+stamp_exact text (Some x) e =
+    let l = map_some _ (left_in text) (stamp_shown x) (sym e) in
+    subst (λ (p : ℤ × ℕ). HasStamp text p.0 p.1) l.2 (has_size (left_found text l.0 l.1))
+stamp_exact text None e = λ t size has. none-some (t, size) (e ∙ has_again has)
 
-pub one_stamp : (text : List ℕ) (t u : ℤ) (left after : ℕ) → HasStamp text t left → HasStamp text u after → (t ≡ u) × (left ≡ after)
-one_stamp text t u left after one other =
-    let same = same_Some (t, left) (u, after) (sym (has_again one) ∙ has_again other) in
+pub one_stamp : (text : List ℕ) (t u : ℤ) (size other : ℕ) → HasStamp text t size → HasStamp text u other → (t ≡ u) × (size ≡ other)
+one_stamp text t u size other one two =
+    let same = same_Some (t, size) (u, other) (sym (has_again one) ∙ has_again two) in
     (ap (λ p. p.0) same, ap (λ p. p.1) same)

@@ -14,6 +14,6 @@ abbrev pub IsAtUtc : Asked → Type 0
 IsAtUtc Now = Unit {0}
 IsAtUtc (At value) = offset_of value ≡ pos 0
 
--- an instant, and how many bytes follow its text
+-- an instant, and how many bytes its text has, or follow it
 abbrev pub stamp_shown : OffsetDateTime × ℕ → ℤ × ℕ
 stamp_shown x = (instant x.0, x.1)

@@ -1,5 +1,5 @@
 -- Times at the front of a text, as logs have them.
-use Rattle.std.specs.Prelude.{◌≡◌, ℕ, ◌*◌, Bool, true, ◌||◌, ◌==◌, not, nat_lt, List, [], ◌∷◌, ◌++◌, length, Option, Some, None, Result, Ok, Err, if◌then◌else◌, ℤ, pos}
+use Rattle.std.specs.Prelude.{◌≡◌, ℕ, ◌-◌, ◌*◌, Bool, true, ◌||◌, ◌==◌, not, nat_lt, List, [], ◌∷◌, ◌++◌, length, Option, Some, None, Result, Ok, Err, if◌then◌else◌, ℤ, pos}
 use Rattle.std.specs.Prelude.{option_map, option_and_then, is_ok}
 use Rattle.std.specs.Option.{option_map_or}
 use Rattle.std.specs.Result.{result_ok}
@@ -32,9 +32,9 @@ pub data SpellsStamp : List ℕ → ℤ → Type 0 where
   instant : {a : List ℕ} {t : ℤ} → SpellsInstant a t → SpellsStamp a t
   plain : {a : List ℕ} {n u : ℕ} → AreDigits a n → unit_of (length a) ≡ Some u → IsInYears (pos (n * u)) → SpellsStamp a (pos (n * u))
 
--- a text of t stands at the front of a text, and ends before its last bytes, so many
+-- a text of t stands at the front of a text, of so many bytes
 pub data HasStamp : List ℕ → ℤ → ℕ → Type 0 where
-  stamp : {a : List ℕ} {t : ℤ} (rest : List ℕ) → SpellsStamp a t → is_apart rest ≡ true → HasStamp (a ++ rest) t (length rest)
+  stamp : {a : List ℕ} {t : ℤ} (rest : List ℕ) → SpellsStamp a t → is_apart rest ≡ true → HasStamp (a ++ rest) t (length a)
 
 -- the value of a form at the front, and how many bytes follow it
 abbrev pub stamped : {F : Type 0} → Result (F × List ℕ) TextFault → (F → Result ℤ TextFault) → Option (ℤ × ℕ)
@@ -46,7 +46,11 @@ numbered text =
     option_and_then (λ unit. stamped (Ok (count_of (run_of text) * unit, after_run text)) (λ n. in_years (pos n))) (unit_of (length (run_of text)))
 
 -- a date stands where RFC 3339's form does, so that no plain number does
-unfoldable pub stamp_in : List ℕ → Option (ℤ × ℕ)
-stamp_in text = option_map_or (λ rest. stamped (count_at rest) count_in) (after_mark 64 text) (
+unfoldable pub left_in : List ℕ → Option (ℤ × ℕ)
+left_in text = option_map_or (λ rest. stamped (count_at rest) count_in) (after_mark 64 text) (
     if is_ok (zoned_at text) then stamped (zoned_at text) zoned_in else numbered text
     )
+
+-- the time at the front, and of how many bytes its text is
+abbrev pub stamp_in : List ℕ → Option (ℤ × ℕ)
+stamp_in text = option_map (λ x. (x.0, length text - x.1)) (left_in text)

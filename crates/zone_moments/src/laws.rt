@@ -12,7 +12,7 @@ ghost use Rattle.zone_moments.specs.Written.{moment_text, rfc3339_text, epoch_te
 pub fn one_reading()
     ensures local { (text : List ℕ) (x y : ℤ) → SpellsLocal text x → SpellsLocal text y → x ≡ y }
     ensures instant { (text : List ℕ) (x y : Option ℤ) → SpellsAsked text x → SpellsAsked text y → x ≡ y }
-    ensures stamp { (text : List ℕ) (t u : ℤ) (left after : ℕ) → HasStamp text t left → HasStamp text u after → (t ≡ u) × (left ≡ after) }
+    ensures stamp { (text : List ℕ) (t u : ℤ) (size other : ℕ) → HasStamp text t size → HasStamp text u other → (t ≡ u) × (size ≡ other) }
 {}
 
 /// What is written is read again as the same: a local time of the years 0 to 9999, such a time at an offset of whole minutes and

@@ -12,7 +12,6 @@ mod value;
 mod write;
 
 pub use fault::TextFault;
-pub use form::{WrittenCount, WrittenDate, WrittenInstant, WrittenOffset, WrittenTime};
 pub use instant::{Asked, read_instant};
 pub use read::read_local;
 pub use stamp::read_stamp;

@@ -1,10 +1,10 @@
 //! Times at the front of a text, as logs have them.
-ghost use Rattle.std.specs.Prelude.{◌≡◌, ◌≤◌, ◌*◌, ◌^◌, ℕ, ℤ, pos, None, length, option_map, if◌then◌else◌, MatchOption};
+ghost use Rattle.std.specs.Prelude.{◌≡◌, ◌≤◌, ◌*◌, ◌^◌, ℕ, ℤ, pos, None, length, option_map, IfSome, if◌then◌else◌, MatchOption};
 ghost use Rattle.std.specs.Result.{result_ok, result_map_both};
 ghost use Rattle.civil_base.specs.DateTimes.{instant};
 ghost use Rattle.zone_moments.specs.Readings.{count_at, count_in};
 ghost use Rattle.zone_moments.specs.Shown.{stamp_shown};
-ghost use Rattle.zone_moments.specs.Stamps.{joins, is_apart, unit_of, stamped, numbered, stamp_in, HasStamp};
+ghost use Rattle.zone_moments.specs.Stamps.{joins, is_apart, unit_of, stamped, numbered, left_in, stamp_in, HasStamp};
 
 use crate::TextFault;
 use crate::instant::{count_at, zoned_at};
@@ -12,15 +12,24 @@ use crate::pieces::{after_mark, number_of, split_digits};
 use crate::value::{count_in, in_years, zoned_in};
 use civil_base::OffsetDateTime;
 
-/// A time at the front of a text, as logs have them, and how many bytes of the text follow it: `@S` or `@S.F`, a text of
-/// RFC 3339, or a plain number of 9 to 11 digits as seconds, 12 to 14 as milliseconds, 15 to 17 as microseconds, 18 to 20 as
-/// nanoseconds. What follows is the end of the text or a byte other than an ASCII letter, a digit, `.`, `:` and `-`.
+/// The time at the front of a text, as logs have them, and of how many bytes its text is: `@S` or `@S.F`, a text of RFC 3339,
+/// or a plain number of 9 to 11 digits as seconds, 12 to 14 as milliseconds, 15 to 17 as microseconds, 18 to 20 as nanoseconds.
+/// What follows is the end of the text or a byte other than an ASCII letter, a digit, `.`, `:` and `-`.
 pub fn read_stamp(text: &[u8]) -> Option<(OffsetDateTime, usize)>
     ensures value { option_map stamp_shown result ≡ stamp_in text.now }
-    ensures exact { MatchOption result ((t : ℤ) (left : ℕ) → ¬ (HasStamp text.now t left))
+    ensures exact { MatchOption result ((t : ℤ) (size : ℕ) → ¬ (HasStamp text.now t size))
         (λ x. HasStamp text.now (instant x.0) x.1) }
+    ensures bound { IfSome result (λ x. x.1 ≤ length text.now) }
 {
-    stamp_in(text)
+    sized(text)
+}
+
+fn sized(text: &[u8]) -> Option<(OffsetDateTime, usize)>
+    ensures value { option_map stamp_shown result ≡ stamp_in text.now }
+    ensures bound { IfSome result (λ x. x.1 ≤ length text.now) }
+{
+    let (value, left) = left_in(text)?;
+    Some((value, text.len().saturating_sub(left)))
 }
 
 fn joins(byte: u8) -> bool
@@ -99,10 +108,10 @@ fn numbered(text: &[u8]) -> Option<(OffsetDateTime, usize)>
     apart(in_years(nanos_of(number_of(digits), unit)), rest)
 }
 
-/// The same as `read_stamp`.
-#[tactic(auto, unfolding(crate::specs::Stamps::stamp_in))]
-fn stamp_in(text: &[u8]) -> Option<(OffsetDateTime, usize)>
-    ensures { option_map stamp_shown result ≡ stamp_in text.now }
+/// The time at the front, and how many bytes follow it.
+#[tactic(auto, unfolding(crate::specs::Stamps::left_in))]
+fn left_in(text: &[u8]) -> Option<(OffsetDateTime, usize)>
+    ensures { option_map stamp_shown result ≡ left_in text.now }
 {
     if let Some(rest) = after_mark(b'@', text) {
         return counted(rest);
