@@ -65,8 +65,8 @@ fn instants_are_counted(rt: HostRuntime) {
 
 // The seconds of the time at the front of a line, and what follows it.
 fn stamped(line: &str) -> Option<(i64, &str)> {
-    let (value, left) = read_stamp(line.as_bytes())?;
-    Some((value.unix_timestamp(), line.get(line.len() - left..)?))
+    let (value, size) = read_stamp(line.as_bytes())?;
+    Some((value.unix_timestamp(), line.get(size..)?))
 }
 
 #[test]
