@@ -9,6 +9,8 @@ mod dates;
 #[cfg(test)]
 mod items;
 #[cfg(test)]
+mod moments;
+#[cfg(test)]
 mod owned_values;
 #[cfg(test)]
 mod padding;

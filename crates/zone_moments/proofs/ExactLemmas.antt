@@ -1,0 +1,29 @@
+-- A text is read as what it spells, and as nothing where it spells nothing.
+use Rattle.std.proofs.Common.{◌≡◌, ℕ, ℤ, List, Result, Ok, Err, MatchResult, Option, sym, ◌∙◌}
+use Rattle.zone_moments.proofs.AgainLemmas.{local_again}
+use Rattle.zone_moments.proofs.FoundLemmas.{local_found, ok_not_err, same_Ok}
+use Rattle.zone_moments.proofs.InstantAgainLemmas.{asked_again}
+use Rattle.zone_moments.proofs.InstantFoundLemmas.{asked_found}
+use Rattle.zone_moments.specs.Shown.{asked}
+use Rattle.zone_moments.specs.declared.instant.Asked.{Asked}
+use Rattle.std.specs.Result.{result_map_both}
+use Rattle.zone_moments.specs.Readings.{local_in, asked_in}
+use Rattle.zone_moments.specs.Spells.{SpellsLocal, SpellsAsked}
+use Rattle.zone_moments.specs.declared.fault.TextFault.{TextFault}
+
+pub local_exact : (text : List ℕ) (r : Result ℤ TextFault) → r ≡ local_in text
+    → MatchResult r (SpellsLocal text) (λ _. (x : ℤ) → ¬ (SpellsLocal text x))
+local_exact text (Ok x) e = local_found text x (sym e)
+local_exact text (Err fault) e = λ x spelled. ok_not_err x fault (sym (local_again spelled) ∙ sym e)
+
+pub asked_exact : (text : List ℕ) (r : Result Asked TextFault) → result_map_both asked (λ fault. fault) r ≡ asked_in text
+    → MatchResult r (λ value. SpellsAsked text (asked value)) (λ _. (t : Option ℤ) → ¬ (SpellsAsked text t))
+asked_exact text (Ok value) e = asked_found text (asked value) (sym e)
+asked_exact text (Err fault) e = λ t spelled. ok_not_err t fault (sym (asked_again spelled) ∙ sym e)
+
+-- a text spells one value
+pub one_local : (text : List ℕ) (x y : ℤ) → SpellsLocal text x → SpellsLocal text y → x ≡ y
+one_local text x y one other = same_Ok x y (sym (local_again one) ∙ local_again other)
+
+pub one_asked : (text : List ℕ) (x y : Option ℤ) → SpellsAsked text x → SpellsAsked text y → x ≡ y
+one_asked text x y one other = same_Ok x y (sym (asked_again one) ∙ asked_again other)

@@ -1,0 +1,18 @@
+//! Times as people and logs write them, read and written exactly.
+#![tactic(auto)]
+
+mod fault;
+mod form;
+mod instant;
+pub mod laws;
+mod pieces;
+mod read;
+mod stamp;
+mod value;
+mod write;
+
+pub use fault::TextFault;
+pub use instant::{Asked, read_instant};
+pub use read::read_local;
+pub use stamp::read_stamp;
+pub use write::{add_epoch, add_local, add_people, add_rfc3339};

@@ -1,0 +1,116 @@
+//! Local times as whole texts.
+ghost use Rattle.std.specs.Prelude.{◌≡◌, ◌≤◌, ℤ, length, true, MatchResult};
+ghost use Rattle.std.specs.Char.{is_ascii_digit};
+ghost use Rattle.std.specs.List.{list_all};
+ghost use Rattle.zone_moments.specs.Numbers.{fraction_of};
+ghost use Rattle.zone_moments.specs.Spells.{SpellsLocal};
+ghost use Rattle.zone_moments.specs.Readings.{told_as, digits_at, fraction_at, front_at, seconds_at, local_in};
+
+use crate::TextFault;
+use crate::form::{WrittenDate, WrittenTime};
+use crate::pieces::{
+    after_mark, date_at, minute_at, number_of, second_at, separator_at, split_digits,
+};
+use crate::value::moment_in;
+use civil_base::PlainDateTime;
+
+/// The nanoseconds of one to nine digits of a fraction.
+#[tactic(auto, using(crate::proofs::NumberLemmas::fraction_below))]
+fn fraction_of(digits: &[u8]) -> u32
+    requires length { length digits.now ≤ 9 }
+    requires digits { list_all is_ascii_digit digits.now ≡ true }
+    ensures { result ≡ fraction_of digits.now }
+{
+    number_of(digits) as u32 * 10_u32.pow(9 - digits.len() as u32)
+}
+
+/// The nanoseconds of the digits at the front.
+#[tactic(auto, unfolding(crate::specs::Readings::digits_at))]
+fn digits_at(text: &[u8]) -> Result<(u32, &[u8]), TextFault>
+    ensures { told_as result ≡ digits_at text.now }
+{
+    let (digits, rest) = split_digits(text);
+    if digits.is_empty() {
+        return Err(TextFault::FractionMissing);
+    }
+    if digits.len() > 9 {
+        return Err(TextFault::TooFine);
+    }
+    Ok((fraction_of(digits), rest))
+}
+
+/// The nanoseconds of a point and digits, or 0.
+#[tactic(auto, unfolding(crate::specs::Readings::fraction_at))]
+pub(crate) fn fraction_at(text: &[u8]) -> Result<(u32, &[u8]), TextFault>
+    ensures { told_as result ≡ fraction_at text.now }
+{
+    match after_mark(b'.', text) {
+        Some(rest) => digits_at(rest),
+        None => Ok((0, text)),
+    }
+}
+
+/// A date, a separator, an hour and a minute.
+#[tactic(auto, unfolding(crate::specs::Readings::front_at))]
+pub(crate) fn front_at(text: &[u8]) -> Result<((WrittenDate, WrittenTime), &[u8]), TextFault>
+    ensures { told_as result ≡ front_at text.now }
+{
+    let (date, rest) = date_at(text).ok_or(TextFault::DateMissing)?;
+    let rest = separator_at(rest).ok_or(TextFault::TimeMissing)?;
+    let ((hour, minute), rest) = minute_at(rest).ok_or(TextFault::TimeMissing)?;
+    let time = WrittenTime {
+        hour,
+        minute,
+        second: 0,
+        nanosecond: 0,
+    };
+    Ok(((date, time), rest))
+}
+
+/// The second of the time, and maybe a fraction.
+#[tactic(auto, unfolding(crate::specs::Readings::seconds_at))]
+pub(crate) fn seconds_at(time: WrittenTime, text: &[u8]) -> Result<(WrittenTime, &[u8]), TextFault>
+    ensures { told_as result ≡ seconds_at time text.now }
+{
+    let (second, rest) = second_at(text).ok_or(TextFault::SecondMissing)?;
+    let (nanosecond, rest) = fraction_at(rest)?;
+    let WrittenTime { hour, minute, .. } = time;
+    let time = WrittenTime {
+        hour,
+        minute,
+        second,
+        nanosecond,
+    };
+    Ok((time, rest))
+}
+
+/// The date and time that the whole text spells: `YYYY-MM-DD hh:mm`, maybe `:ss`, and then maybe a point and one to nine
+/// digits. Between date and time stands a space, a `T` or a `t`.
+///
+/// # Errors
+///
+/// The first that holds of: `DateMissing`, `TimeMissing`, `SecondMissing`, `FractionMissing`, `TooFine`, `Trailing`,
+/// `NoSuchDate`, `NoSuchTime`.
+pub fn read_local(text: &str) -> Result<PlainDateTime, TextFault>
+    ensures value { result ≡ local_in text.now }
+    ensures exact { MatchResult result (SpellsLocal text.now) (λ _. (x : ℤ) → ¬ (SpellsLocal text.now x)) }
+{
+    local_of(text.as_bytes())
+}
+
+/// The same.
+#[tactic(auto, unfolding(crate::specs::Readings::local_in))]
+fn local_of(text: &[u8]) -> Result<PlainDateTime, TextFault>
+    ensures { result ≡ local_in text.now }
+{
+    let ((date, time), rest) = front_at(text)?;
+    let (time, rest) = if after_mark(b':', rest).is_some() {
+        seconds_at(time, rest)?
+    } else {
+        (time, rest)
+    };
+    if !rest.is_empty() {
+        return Err(TextFault::Trailing);
+    }
+    moment_in(date, time)
+}
