@@ -1,5 +1,4 @@
-use Rattle.std.proofs.Common.{arith, ◌-◌, ◌/◌, ◌%◌, length, take, ap, ◌∙◌}
-use Rattle.std.proofs.Common.{drop}
+use Rattle.std.proofs.Common.{arith, ◌-◌, ◌/◌, ◌%◌, length, take, ap, ◌∙◌, drop}
 use Rattle.civil_base.specs.DigitLaws.{four_digits-halves}
 use Rattle.civil_base.proofs.read.four.Goals as goal
 

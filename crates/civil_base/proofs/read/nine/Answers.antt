@@ -1,5 +1,4 @@
-use Rattle.std.proofs.Common.{arith, ◌/◌, ◌%◌, take, ap, ◌∙◌}
-use Rattle.std.proofs.Common.{drop, get_or}
+use Rattle.std.proofs.Common.{arith, ◌/◌, ◌%◌, take, ap, ◌∙◌, drop, get_or}
 use Rattle.civil_base.specs.DigitLaws.{nine_digits-parts}
 use Rattle.civil_base.proofs.read.nine.Goals as goal
 

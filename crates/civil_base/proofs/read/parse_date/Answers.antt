@@ -1,7 +1,5 @@
-use Rattle.std.proofs.Common.{arith, ◌≡◌, ◌-◌, length, take, to_z-of_z, FitsSigned, w32, sym, ap, ◌∙◌, unsigned_abs}
-use Rattle.calendar.specs.SignedLaws.{signed, signed_casts}
-use Rattle.std.proofs.Common.{drop}
-use Rattle.calendar.specs.SignedLaws.{one_sided}
+use Rattle.std.proofs.Common.{arith, ◌≡◌, ◌-◌, length, take, to_z-of_z, FitsSigned, w32, sym, ap, ◌∙◌, unsigned_abs, drop}
+use Rattle.calendar.specs.SignedLaws.{signed, signed_casts, one_sided}
 use Rattle.calendar.specs.MonthLaws.{days_in_month-bounds}
 use Rattle.calendar.specs.Dates.{year_of, month_of, day_of}
 use Rattle.civil_base.specs.Layout.{date_digits}

@@ -1,5 +1,4 @@
-use Rattle.std.proofs.Common.{◌≡◌, ℕ, ◌++◌, ◌∷◌, List, length, take, Bool, true, false, ℤ, pos, ◌+ℤ◌, ◌*ℤ◌, sym, ap, ◌∙◌}
-use Rattle.std.proofs.Common.{drop, get_or, Some, int_lt, ◌≢◌}
+use Rattle.std.proofs.Common.{◌≡◌, ℕ, ◌++◌, ◌∷◌, List, length, take, Bool, true, false, ℤ, pos, ◌+ℤ◌, ◌*ℤ◌, sym, ap, ◌∙◌, drop, get_or, Some, int_lt, ◌≢◌}
 use Rattle.std.proofs.lemmas.Int.{by_lt_z}
 use Rattle.calendar.specs.ComparisonLaws.{lt_pass, lt_fail}
 use Rattle.calendar.specs.Dates.{year_of}

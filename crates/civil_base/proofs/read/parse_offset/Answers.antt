@@ -1,6 +1,4 @@
-use Rattle.std.proofs.Common.{rules, arith, ◌≡◌, ◌+◌, ◌-◌, ◌*◌, ◌/◌, ◌%◌, length, take, nat_eq, pos, to_z-of_z, FitsSigned, w32}
-use Rattle.std.proofs.Common.{ap, ◌∙◌, unsigned_abs}
-use Rattle.std.proofs.Common.{drop, get_or, int_lt}
+use Rattle.std.proofs.Common.{rules, arith, ◌≡◌, ◌+◌, ◌-◌, ◌*◌, ◌/◌, ◌%◌, length, take, nat_eq, pos, to_z-of_z, FitsSigned, w32, ap, ◌∙◌, unsigned_abs, drop, get_or, int_lt}
 use Rattle.civil_base.specs.Layout.{offset_text}
 use Rattle.civil_base.specs.RangeLaws.{offset_size}
 use Rattle.civil_base.specs.Offsets.{signed_by}

@@ -1,5 +1,4 @@
-use Rattle.std.proofs.Common.{arith, ◌-◌, length, take, ap, ◌∙◌}
-use Rattle.std.proofs.Common.{drop}
+use Rattle.std.proofs.Common.{arith, ◌-◌, length, take, ap, ◌∙◌, drop}
 use Rattle.civil_base.specs.Clock.{hour_of, minute_of, second_of, nanosecond_of}
 use Rattle.civil_base.specs.Layout.{time_text}
 use Rattle.civil_base.specs.ClockLaws.{clock_parts, time_at-parts}
