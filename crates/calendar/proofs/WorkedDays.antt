@@ -1,7 +1,6 @@
 -- The definitions evaluated on days that are known from outside.
 use Rattle.std.proofs.Common.{◌≡◌, refl, List, [], ◌∷◌, map, ℤ, pos, neg_ℤ}
-use Rattle.calendar.specs.Days.{is_leap, days_in_year, days_in_month, days_after_zero, days_before_zero, year_start, days_through}
-use Rattle.calendar.specs.Days.{days_into_year, day}
+use Rattle.calendar.specs.Days.{is_leap, days_in_year, days_in_month, days_after_zero, days_before_zero, year_start, days_through, days_into_year, day}
 use Rattle.calendar.specs.Weekdays.{weekday_of}
 
 abbrev day_numbers : List ℤ

@@ -1,14 +1,12 @@
 -- The parts of a date are found again from its day number.
-use Rattle.std.proofs.Common.{refl, ◌≡◌, ℕ, zero, suc, ◌-◌, ◌<◌, ◌≤◌, inl, inr, Bool, true, false, sym, ap, ◌∙◌, arith, ℤ, pos}
-use Rattle.std.proofs.Common.{neg_ℤ, ◌+ℤ◌, ◌-ℤ◌, ◌≤ℤ◌, ◌<ℤ◌, int_le, unsigned_abs}
+use Rattle.std.proofs.Common.{refl, ◌≡◌, ℕ, zero, suc, ◌-◌, ◌<◌, ◌≤◌, inl, inr, Bool, true, false, sym, ap, ◌∙◌, arith, ℤ, pos, neg_ℤ, ◌+ℤ◌, ◌-ℤ◌, ◌≤ℤ◌, ◌<ℤ◌, int_le, unsigned_abs}
 use Rattle.std.proofs.lemmas.Int.{by_lt_z}
 use Rattle.calendar.specs.Days.{days_in_year, days_through, days_in_month, days_into_year, day, IsDate, IsCountedYear}
 use Rattle.calendar.specs.Dates.{last_with, year_of, month_of, day_of}
 use Rattle.calendar.specs.SignedLaws.{signed, natural}
 use Rattle.calendar.specs.ComparisonLaws.{le_pass, le_fail, le_from_pass, le_from_fail}
 use Rattle.calendar.specs.YearLaws.{day-cycle, cycle_days-rise, cycle_days-suc}
-use Rattle.calendar.specs.MonthLaws.{days_through-rise, days_through-step, days_through-all, days_through-two}
-use Rattle.calendar.specs.MonthLaws.{days_in_month-bounds, days_in_month-december, days_in_year-bounds}
+use Rattle.calendar.specs.MonthLaws.{days_through-rise, days_through-step, days_through-all, days_through-two, days_in_month-bounds, days_in_month-december, days_in_year-bounds}
 use Rattle.std.proofs.lemmas.Bool.{cases_lt, cases_Bool}
 
 last_with-pass : (test : ℕ → Bool) (n : ℕ) → test (suc n) ≡ true → last_with test (suc n) ≡ suc n

@@ -1,6 +1,5 @@
 -- Numbers by their sign and size.
-use Rattle.std.proofs.Common.{◌≡◌, refl, Bool, true, false, if◌then◌else◌, nat_eq, int_lt, ℤ, pos, negsuc, unsigned_abs}
-use Rattle.std.proofs.Common.{arith}
+use Rattle.std.proofs.Common.{◌≡◌, refl, Bool, true, false, if◌then◌else◌, nat_eq, int_lt, ℤ, pos, negsuc, unsigned_abs, arith}
 use Rattle.std.proofs.lemmas.Bool.Decides.{nat_tests}
 use Rattle.civil_base.specs.Offsets.{signed_by}
 

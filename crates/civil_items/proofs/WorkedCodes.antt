@@ -1,7 +1,6 @@
 -- The codes of some configurations, and the places of all parts.
 use Rattle.std.proofs.Common.{lit<, ◌≡◌, refl, [], ◌∷◌, map, true, false, Some, None}
-use Rattle.civil_items.specs.declared.iso8601.FormattedComponents.TheVariants.{None as Nothing, Date, Time, Offset}
-use Rattle.civil_items.specs.declared.iso8601.FormattedComponents.TheVariants.{DateTime, DateTimeOffset, TimeOffset}
+use Rattle.civil_items.specs.declared.iso8601.FormattedComponents.TheVariants.{None as Nothing, Date, Time, Offset, DateTime, DateTimeOffset, TimeOffset}
 use Rattle.civil_items.specs.declared.iso8601.DateKind.TheVariants.{Calendar, Week, Ordinal}
 use Rattle.civil_items.specs.declared.iso8601.TimePrecision.TheVariants.{Hour, Minute, Second}
 use Rattle.civil_items.specs.declared.iso8601.OffsetPrecision.TheVariants.{Hour as ToHours, Minute as ToMinutes}

@@ -5,8 +5,7 @@ use Rattle.civil_items.specs.Digits.{digit_count}
 use Rattle.civil_items.specs.declared.digits.Digits.{Digits}
 use Rattle.civil_items.specs.declared.config.Config.{Config}
 use Rattle.civil_items.specs.declared.iso8601.FormattedComponents.{FormattedComponents}
-use Rattle.civil_items.specs.declared.iso8601.FormattedComponents.TheVariants.{None as Nothing, Date, Time, Offset}
-use Rattle.civil_items.specs.declared.iso8601.FormattedComponents.TheVariants.{DateTime, DateTimeOffset, TimeOffset}
+use Rattle.civil_items.specs.declared.iso8601.FormattedComponents.TheVariants.{None as Nothing, Date, Time, Offset, DateTime, DateTimeOffset, TimeOffset}
 use Rattle.civil_items.specs.declared.iso8601.DateKind.{DateKind}
 use Rattle.civil_items.specs.declared.iso8601.DateKind.TheVariants.{Calendar, Week, Ordinal}
 use Rattle.civil_items.specs.declared.iso8601.TimePrecision.{TimePrecision}

@@ -6,8 +6,7 @@ use Rattle.civil_items.specs.declared.error.IndeterminateOffset.{IndeterminateOf
 use Rattle.civil_items.specs.declared.error.DifferentVariant.{DifferentVariant as OtherVariant}
 use Rattle.civil_parts.specs.declared.error.InvalidVariant.{InvalidVariant as NoVariant}
 use Rattle.civil_items.specs.declared.error.Error.{Error}
-use Rattle.civil_items.specs.declared.error.Error.TheVariants.{ConversionRange, ComponentRange, IndeterminateOffset}
-use Rattle.civil_items.specs.declared.error.Error.TheVariants.{DifferentVariant, InvalidVariant}
+use Rattle.civil_items.specs.declared.error.Error.TheVariants.{ConversionRange, ComponentRange, IndeterminateOffset, DifferentVariant, InvalidVariant}
 
 abbrev pub conversion_range_in : Error → Result RangeOfConversion OtherVariant
 conversion_range_in (ConversionRange refusal) = Ok refusal

@@ -5,10 +5,8 @@ use Rattle.std.specs.Cmp.{IsEquivalence, decided, unsigned_Decides, first_so, se
 use Rattle.std.proofs.Common.{ap, sym, ◌∙◌}
 use Rattle.std.proofs.lemmas.Slice.Eq.{bytes_eq-Decides}
 use Rattle.civil_items.specs.declared.format_item.Component.{Component}
-use Rattle.civil_items.specs.declared.format_item.Component.TheVariants.{Year, Month, Day, Hour, Minute}
-use Rattle.civil_items.specs.declared.format_item.Component.TheVariants.{Second, Subsecond, OffsetHour, OffsetMinute, OffsetSecond}
-use Rattle.civil_items.specs.Trees.{Tree, Trees, literal, text, component, compound, optional}
-use Rattle.civil_items.specs.Trees.{first, no_trees, tree, component_place, same, all_same}
+use Rattle.civil_items.specs.declared.format_item.Component.TheVariants.{Year, Month, Day, Hour, Minute, Second, Subsecond, OffsetHour, OffsetMinute, OffsetSecond}
+use Rattle.civil_items.specs.Trees.{Tree, Trees, literal, text, component, compound, optional, first, no_trees, tree, component_place, same, all_same}
 
 component_at : ℕ → Component
 component_at zero = Year

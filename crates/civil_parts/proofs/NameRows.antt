@@ -3,8 +3,7 @@ use Rattle.std.proofs.Common.{◌≡◌, refl, List, [], ◌∷◌, ◌++◌, ma
 use Rattle.std.specs.Prelude.{codes}
 use Rattle.std.specs.List.{flat_map}
 use Rattle.civil_parts.specs.declared.month.Month.{Month}
-use Rattle.civil_parts.specs.declared.month.Month.TheVariants.{January, February, March, April, May, June, July, August}
-use Rattle.civil_parts.specs.declared.month.Month.TheVariants.{September, October, November, December}
+use Rattle.civil_parts.specs.declared.month.Month.TheVariants.{January, February, March, April, May, June, July, August, September, October, November, December}
 use Rattle.civil_parts.specs.declared.weekday.Weekday.{Weekday}
 use Rattle.civil_parts.specs.declared.weekday.Weekday.TheVariants.{Monday, Tuesday, Wednesday, Thursday, Friday, Saturday, Sunday}
 use Rattle.civil_parts.specs.Months.{month_number, month_name, IsMonthBefore}

@@ -1,6 +1,5 @@
 -- The width law of whole numbers: what is due has as many bytes as its padded width says.
-use Rattle.std.specs.Prelude.{◌≡◌, ℕ, ℤ, ◌+◌, ◌<◌, Bool, true, false, List, [], ◌++◌, length, ◌||◌}
-use Rattle.std.specs.Prelude.{unsigned_abs, if◌then◌else◌, codes}
+use Rattle.std.specs.Prelude.{◌≡◌, ℕ, ℤ, ◌+◌, ◌<◌, Bool, true, false, List, [], ◌++◌, length, ◌||◌, unsigned_abs, if◌then◌else◌, codes}
 use Rattle.std.specs.List.{repeat}
 use Rattle.std.specs.Int.{is_negative}
 use Rattle.std.specs.Fmt.{decimal}

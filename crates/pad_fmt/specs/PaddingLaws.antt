@@ -1,6 +1,5 @@
 -- The width of what is padded: under an ASCII fill each fill character is one byte.
-use Rattle.std.specs.Prelude.{◌≡◌, ℕ, zero, suc, ◌+◌, ◌-◌, ◌<◌, ◌≤◌, List, [], ◌∷◌, ◌++◌, length}
-use Rattle.std.specs.Prelude.{unwrap_or, refl}
+use Rattle.std.specs.Prelude.{◌≡◌, ℕ, zero, suc, ◌+◌, ◌-◌, ◌<◌, ◌≤◌, List, [], ◌∷◌, ◌++◌, length, unwrap_or, refl}
 use Rattle.std.specs.List.{repeat}
 use Rattle.std.proofs.Common.{arith, ap, length-append}
 use Rattle.std.proofs.lemmas.Str.{encode_ascii}

@@ -1,6 +1,5 @@
 -- The width law of texts, characters and truth values: an ASCII character is one byte.
-use Rattle.std.specs.Prelude.{◌≡◌, ℕ, zero, suc, ◌+◌, ◌-◌, ◌<◌, ◌==◌, min, Bool, true, false, if◌then◌else◌, refl}
-use Rattle.std.specs.Prelude.{List, [], ◌∷◌, length, take, Option, Some, None, unwrap_or, encode_utf8, codes}
+use Rattle.std.specs.Prelude.{◌≡◌, ℕ, zero, suc, ◌+◌, ◌-◌, ◌<◌, ◌==◌, min, Bool, true, false, if◌then◌else◌, refl, List, [], ◌∷◌, length, take, Option, Some, None, unwrap_or, encode_utf8, codes}
 use Rattle.std.specs.Option.{option_map, is_none}
 use Rattle.std.specs.Char.{is_ascii}
 use Rattle.std.specs.Str.{IsAscii}

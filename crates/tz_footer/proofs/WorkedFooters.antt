@@ -7,8 +7,7 @@ use Rattle.calendar.specs.Weekdays.{weekday_of}
 use Rattle.tz_posix_core.specs.Days.{nth_weekday, rule_day}
 use Rattle.tz_posix_core.specs.InForce.{instant_in}
 use Rattle.tz_posix_core.specs.Ranges.{first_miss, rule_time_miss}
-use Rattle.tz_posix_core.specs.Reading.{number_at, part_at, clock_time_at, sign_at, offset_at, letters_at, enclosed_at, name_at}
-use Rattle.tz_posix_core.specs.Reading.{weekday_at, date_at, own_offset_at, moment_at, rule_in, own_rule_in, dst_in, short_in, expanded_in, entry_in}
+use Rattle.tz_posix_core.specs.Reading.{number_at, part_at, clock_time_at, sign_at, offset_at, letters_at, enclosed_at, name_at, weekday_at, date_at, own_offset_at, moment_at, rule_in, own_rule_in, dst_in, short_in, expanded_in, entry_in}
 use Rattle.tz_posix_core.specs.Seconds.{offset_seconds, time_seconds}
 use Rattle.tz_posix_core.specs.Spells.{signed_times}
 use Rattle.tz_posix_core.specs.declared.error.RangeError.TheVariants as miss

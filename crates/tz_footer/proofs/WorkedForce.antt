@@ -4,16 +4,14 @@ use Rattle.std.proofs.lemmas.Bool.{and_parts, leb-true}
 use Rattle.std.specs.Int.{int_div_euclid}
 use Rattle.calendar.specs.Dates.{last_with, year_of}
 use Rattle.calendar.specs.DateLaws.{year_of-day}
-use Rattle.calendar.specs.Days.{is_leap, days_in_year, days_in_month, days_after_zero, year_start, days_through, days_into_year}
-use Rattle.calendar.specs.Days.{day, IsCountedYear}
+use Rattle.calendar.specs.Days.{is_leap, days_in_year, days_in_month, days_after_zero, year_start, days_through, days_into_year, day, IsCountedYear}
 use Rattle.calendar.specs.SignedLaws.{signed}
 use Rattle.calendar.specs.Weekdays.{weekday_of}
 use Rattle.tz_posix_core.specs.Days.{nth_weekday, rule_day}
 use Rattle.tz_posix_core.specs.InForce.{YearlyTime, instant_in, year_at}
 use Rattle.tz_posix_core.specs.declared.date.Date.TheVariants.{M, N}
 use Rattle.zone_tzif_core.specs.Zones.{KindValue}
-use Rattle.tz_footer.specs.InForce.{is_saved_by, is_footer_saving, year_after, year_before}
-use Rattle.tz_footer.specs.InForce.{FooterZone, fixed, yearly, held_at, is_of_one_year, standard_total, saving_total}
+use Rattle.tz_footer.specs.InForce.{is_saved_by, is_footer_saving, year_after, year_before, FooterZone, fixed, yearly, held_at, is_of_one_year, standard_total, saving_total}
 
 -- years from 10 to 20, from 110 to 120 and from 210 to 220: before all, and at each moment and a second before it
 in_order : map (is_saved_by (pos 210, pos 220) (pos 110, pos 120) (pos 10, pos 20) (neg_ℤ (pos 90), neg_ℤ (pos 80)))

@@ -14,8 +14,7 @@ use Rattle.zone_spans.specs.Schedules.{schedule_of_lines, totals_told, total_at,
 use Rattle.tz_lookup.specs.Compiles.{spans_of}
 use Rattle.tz_lookup.specs.Sets.{schedule_of as schedule_in}
 use Rattle.tz_zone.specs.declared.set.FixedTimespanSet.{FixedTimespanSet}
-use Rattle.tz_posix.specs.Agreement.{IsCovered, IsInRuleYears, IsSameDay, RuledValue, SaysTheSame, TwoRuleZone}
-use Rattle.tz_posix.specs.Agreement.{from_first, from_eighth, from_fifteenth, from_twenty_second, last_of_month, first_year, value_of, value_total}
+use Rattle.tz_posix.specs.Agreement.{IsCovered, IsInRuleYears, IsSameDay, RuledValue, SaysTheSame, TwoRuleZone, from_first, from_eighth, from_fifteenth, from_twenty_second, last_of_month, first_year, value_of, value_total}
 use Rattle.tz_posix_core.specs.Days.{day_refusal}
 use Rattle.tz_posix_core.specs.InForce.{is_year, rule_refusal, year_at, yearly_time}
 use Rattle.tz_posix_core.specs.PosixZones.{Given, Gives, GivesTotal, PosixZone, ruled, posix_refusal}

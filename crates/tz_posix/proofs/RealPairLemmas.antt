@@ -17,14 +17,10 @@ use Rattle.zone_table.specs.declared.zone.ZoneInfo.{ZoneInfo}
 use Rattle.zone_spans.specs.Lines.{Rulesets}
 use Rattle.zone_spans.specs.Schedules.{schedule_of_lines, total_at}
 use Rattle.tz_posix.proofs.TwoRuleFiringLemmas.{wall_moment}
-use Rattle.tz_posix.specs.Agreement.{IsChange, IsNorthern, IsSameDay, IsSameTime, IsSouthern, IsTimeOfDay, RuledValue, SaysTheSame, TwoRuleZone, start_in, value_of, value_total}
-use Rattle.tz_posix.specs.Agreement.{from_first, from_eighth, last_of_month}
+use Rattle.tz_posix.specs.Agreement.{IsChange, IsNorthern, IsSameDay, IsSameTime, IsSouthern, IsTimeOfDay, RuledValue, SaysTheSame, TwoRuleZone, start_in, value_of, value_total, from_first, from_eighth, last_of_month}
 use Rattle.tz_posix_core.specs.DayLaws.{day-2100}
-use Rattle.tz_posix_core.specs.Reading.{number_at, part_at, clock_time_at, sign_at, offset_at, letters_at, enclosed_at, name_at}
-use Rattle.tz_posix_core.specs.Reading.{weekday_at, date_at, moment_at, rule_in, own_offset_at, own_rule_in, dst_in, short_in}
-use Rattle.tz_posix_core.specs.Reading.{expanded_in, entry_in}
-use Rattle.tz_posix.specs.RealPairs.{IsRuledBy, on_the_wall, lord_howe_rules, lord_howe_text, lord_howe_value}
-use Rattle.tz_posix.specs.RealPairs.{moldova_rules, moldova_text, moldova_value, new_york_text, new_york_value, us_rules}
+use Rattle.tz_posix_core.specs.Reading.{number_at, part_at, clock_time_at, sign_at, offset_at, letters_at, enclosed_at, name_at, weekday_at, date_at, moment_at, rule_in, own_offset_at, own_rule_in, dst_in, short_in, expanded_in, entry_in}
+use Rattle.tz_posix.specs.RealPairs.{IsRuledBy, on_the_wall, lord_howe_rules, lord_howe_text, lord_howe_value, moldova_rules, moldova_text, moldova_value, new_york_text, new_york_value, us_rules}
 use Rattle.tz_posix_core.specs.InForce.{yearly_time}
 use Rattle.tz_posix_core.specs.Seconds.{IsWritten, east_of, offset_seconds, time_seconds}
 use Rattle.tz_posix_core.specs.declared.date.Date.{Date}

@@ -12,8 +12,7 @@ use Rattle.zone_table.specs.Moments.{instant_of, moment}
 use Rattle.zone_table.specs.declared.zone.Format.{Format}
 use Rattle.zone_table.specs.declared.zone.Saving.TheVariants.{Multiple}
 use Rattle.zone_table.specs.declared.zone.ZoneInfo.{ZoneInfo}
-use Rattle.tz_posix.specs.Agreement.{IsInRuleYears, IsRuleYear, IsSameDay, IsTimeOfDay, end_in, first_year, start_in}
-use Rattle.tz_posix.specs.Agreement.{from_first, from_eighth, from_fifteenth, from_twenty_second, last_of_month}
+use Rattle.tz_posix.specs.Agreement.{IsInRuleYears, IsRuleYear, IsSameDay, IsTimeOfDay, end_in, first_year, start_in, from_first, from_eighth, from_fifteenth, from_twenty_second, last_of_month}
 use Rattle.tz_posix.specs.RealPairs.{lord_howe_rules, moldova_rules, us_rules}
 use Rattle.tz_posix_core.specs.declared.date.Date.TheVariants.{M}
 

@@ -12,33 +12,10 @@ ghost use Rattle.tz_lookup.specs.Compiles.{spans_of};
 ghost use Rattle.tz_lookup.specs.Sets.{schedule_of as schedule_in};
 ghost use Rattle.tz_lookup.specs.Zones.{set_of};
 ghost use Rattle.tz_zone.specs.declared.set.FixedTimespanSet.{FixedTimespanSet};
-ghost use Rattle.tz_posix.specs.Agreement.{
-  IsCovered,
-  IsFromFirstStart,
-  IsInRuleYears,
-  IsNorthern,
-  IsSouthern,
-  RuledValue,
-  SaysTheSame,
-  TwoRuleZone,
-  first_year,
-  value_of,
-  value_total,
-};
+ghost use Rattle.tz_posix.specs.Agreement.{IsCovered, IsFromFirstStart, IsInRuleYears, IsNorthern, IsSouthern, RuledValue, SaysTheSame, TwoRuleZone, first_year, value_of, value_total};
 ghost use Rattle.tz_posix_core.specs.PosixShown.{posix_of};
 ghost use Rattle.tz_posix_core.specs.PosixZones.{GivesTotal, posix_refusal};
-ghost use Rattle.tz_posix.specs.RealPairs.{
-  IsRuledBy,
-  lord_howe_rules,
-  lord_howe_text,
-  lord_howe_value,
-  moldova_rules,
-  moldova_text,
-  moldova_value,
-  new_york_text,
-  new_york_value,
-  us_rules,
-};
+ghost use Rattle.tz_posix.specs.RealPairs.{IsRuledBy, lord_howe_rules, lord_howe_text, lord_howe_value, moldova_rules, moldova_text, moldova_value, new_york_text, new_york_value, us_rules};
 ghost use Rattle.tz_posix_core.specs.Resolved.{resolved};
 ghost use Rattle.tz_posix_core.specs.Spells.{Spells};
 ghost use Rattle.tz_posix_core.specs.Values.{TzValue};

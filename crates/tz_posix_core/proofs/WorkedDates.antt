@@ -1,7 +1,6 @@
 -- The days that dates name, on days that are known from outside.
 use Rattle.std.proofs.Common.{◌≡◌, refl, arith, ℕ, ◌-◌, [], ◌∷◌, map, Some, None, ℤ, pos}
-use Rattle.calendar.specs.Days.{is_leap, days_in_year, days_in_month, days_after_zero, year_start, days_through, days_into_year}
-use Rattle.calendar.specs.Days.{day, IsDate, IsCountedYear}
+use Rattle.calendar.specs.Days.{is_leap, days_in_year, days_in_month, days_after_zero, year_start, days_through, days_into_year, day, IsDate, IsCountedYear}
 use Rattle.calendar.specs.Dates.{last_with}
 use Rattle.calendar.specs.DateLaws.{month_of-day, day_of-day}
 use Rattle.calendar.specs.SignedLaws.{signed}

@@ -5,8 +5,7 @@ use Rattle.std.specs.Int.{int_div_euclid}
 use Rattle.std.specs.Prelude.{codes}
 use Rattle.calendar.specs.Dates.{last_with, year_of}
 use Rattle.calendar.specs.DateLaws.{year_of-day}
-use Rattle.calendar.specs.Days.{is_leap, days_in_year, days_in_month, days_after_zero, days_before_zero, year_start, days_through, days_into_year}
-use Rattle.calendar.specs.Days.{day, IsCountedYear, IsDate}
+use Rattle.calendar.specs.Days.{is_leap, days_in_year, days_in_month, days_after_zero, days_before_zero, year_start, days_through, days_into_year, day, IsCountedYear, IsDate}
 use Rattle.calendar.specs.SignedLaws.{signed}
 use Rattle.calendar.specs.Weekdays.{weekday_of}
 use Rattle.tz_posix_core.specs.Days.{nth_weekday, rule_day, day_refusal}

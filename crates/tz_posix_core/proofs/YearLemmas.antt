@@ -4,8 +4,7 @@ use Rattle.std.proofs.lemmas.Bool.{and_from}
 use Rattle.std.proofs.lemmas.Int.{ints}
 use Rattle.calendar.specs.Dates.{year_of, month_of, day_of}
 use Rattle.calendar.specs.DateLaws.{last_with-is, day_parts, day-between, year-between}
-use Rattle.calendar.specs.Days.{is_leap, days_in_year, days_in_month, days_after_zero, year_start, days_through, days_into_year}
-use Rattle.calendar.specs.Days.{day, IsCountedYear}
+use Rattle.calendar.specs.Days.{is_leap, days_in_year, days_in_month, days_after_zero, year_start, days_through, days_into_year, day, IsCountedYear}
 use Rattle.calendar.specs.ComparisonLaws.{le_pass, le_fail}
 use Rattle.calendar.specs.SignedLaws.{signed}
 use Rattle.civil_base.specs.Ranges.{first_day, last_day, IsDay, IsYear}

@@ -1,6 +1,5 @@
 -- What is spelled is read, whatever follows.
-use Rattle.std.proofs.Common.{◌≡◌, ℕ, ◌<◌, ◌^◌, Bool, true, false, List, [], ◌∷◌, ◌++◌, length, Option, Some, None, refl}
-use Rattle.std.proofs.Common.{arith, nat_eq, nat_le, take_while, lt-ltb, append_assoc, append-nil}
+use Rattle.std.proofs.Common.{◌≡◌, ℕ, ◌<◌, ◌^◌, Bool, true, false, List, [], ◌∷◌, ◌++◌, length, Option, Some, None, refl, arith, nat_eq, nat_le, take_while, lt-ltb, append_assoc, append-nil}
 use Rattle.std.proofs.lemmas.Bool.{and_parts}
 use Rattle.std.proofs.lemmas.Bool.Decides.{nat_tests}
 use Rattle.std.proofs.lemmas.List.{take_at, drop_at}
@@ -10,12 +9,8 @@ use Rattle.std.specs.Str.Parse.{digits_value}
 use Rattle.text_parts.specs.Marks.{after_mark}
 use Rattle.text_parts.specs.Numbers.{value_in}
 use Rattle.tz_posix_core.specs.Marks.{colon, plus_sign, comma, minus_sign, dot, slash, less, greater, letter_J, letter_M}
-use Rattle.tz_posix_core.specs.Reading.{after_run, number_at, part_at, clock_time_at, offset_at, sign_at, letters_at}
-use Rattle.tz_posix_core.specs.Reading.{enclosed_at, name_at, weekday_at, date_at, moment_at, rule_in, is_over, own_offset_at}
-use Rattle.tz_posix_core.specs.Reading.{own_rule_in, dst_in, short_in, expanded_in, entry_in, AreRead}
-use Rattle.tz_posix_core.specs.Spells.{Optional, absent, present, SpellsNumber, SpellsTime, hours, minutes, seconds, SpellsOffset, bare, plus, minus}
-use Rattle.tz_posix_core.specs.Spells.{is_enclosed, SpellsName, enclosed, letters, SpellsDate, julian, counted, weekday, SpellsMoment, date, timed}
-use Rattle.tz_posix_core.specs.Spells.{SpellsRule, rule, SpellsDst, dst, SpellsIn, short_form, full_form, begins, goes_on, RunsAreLongest, TimeRange}
+use Rattle.tz_posix_core.specs.Reading.{after_run, number_at, part_at, clock_time_at, offset_at, sign_at, letters_at, enclosed_at, name_at, weekday_at, date_at, moment_at, rule_in, is_over, own_offset_at, own_rule_in, dst_in, short_in, expanded_in, entry_in, AreRead}
+use Rattle.tz_posix_core.specs.Spells.{Optional, absent, present, SpellsNumber, SpellsTime, hours, minutes, seconds, SpellsOffset, bare, plus, minus, is_enclosed, SpellsName, enclosed, letters, SpellsDate, julian, counted, weekday, SpellsMoment, date, timed, SpellsRule, rule, SpellsDst, dst, SpellsIn, short_form, full_form, begins, goes_on, RunsAreLongest, TimeRange}
 use Rattle.tz_posix_core.specs.Values.{DstPart, Value}
 use Rattle.tz_posix_core.specs.declared.time.Time.{Time}
 use Rattle.tz_posix_core.specs.declared.time.Offset.{Offset}

@@ -1,7 +1,5 @@
 -- What is read is spelled.
-use Rattle.std.proofs.Common.{◌≡◌, ℕ, ◌<◌, ◌≤◌, Bool, true, false, cond, ◌⊎◌, inl, inr, List, [], ◌∷◌, ◌++◌, length, Option, Some}
-use Rattle.std.proofs.Common.{None, refl, sym, ap, subst, ◌∙◌, arith, nat_lt, nat_eq, nat_le}
-use Rattle.std.proofs.Common.{take_while, eqb-true, ltb-true, append_assoc, append-nil}
+use Rattle.std.proofs.Common.{◌≡◌, ℕ, ◌<◌, ◌≤◌, Bool, true, false, cond, ◌⊎◌, inl, inr, List, [], ◌∷◌, ◌++◌, length, Option, Some, None, refl, sym, ap, subst, ◌∙◌, arith, nat_lt, nat_eq, nat_le, take_while, eqb-true, ltb-true, append_assoc, append-nil}
 use Rattle.std.proofs.lemmas.Bool.{and_parts}
 use Rattle.std.proofs.lemmas.Bool.Decides.{nat_tests}
 use Rattle.std.proofs.lemmas.List.{take-append-drop, nil_from_length}
@@ -15,12 +13,8 @@ use Rattle.calendar.specs.LogicLaws.{map_some, bind_some}
 use Rattle.text_parts.specs.Marks.{after_mark}
 use Rattle.text_parts.specs.Numbers.{value_in}
 use Rattle.tz_posix_core.specs.Marks.{colon, plus_sign, comma, minus_sign, dot, slash, less, greater, letter_J, letter_M}
-use Rattle.tz_posix_core.specs.Reading.{after_run, number_at, part_at, seconds_at, clock_time_at, offset_at, sign_at}
-use Rattle.tz_posix_core.specs.Reading.{letters_at, enclosed_at, name_at, day_at, weekday_at, date_at, date_time_at, moment_at, rule_in}
-use Rattle.tz_posix_core.specs.Reading.{is_over, own_offset_at, own_rule_in, dst_in, short_in, expanded_in, entry_in, AreRead, Takes, takes}
-use Rattle.tz_posix_core.specs.Spells.{Optional, absent, present, SpellsNumber, SpellsTime, hours, minutes, seconds, SpellsOffset, bare, plus, minus}
-use Rattle.tz_posix_core.specs.Spells.{is_enclosed, SpellsName, enclosed, letters, SpellsDate, julian, counted, weekday, SpellsMoment, date, timed}
-use Rattle.tz_posix_core.specs.Spells.{SpellsRule, rule, SpellsDst, dst, SpellsIn, TimeRange, short_form, full_form}
+use Rattle.tz_posix_core.specs.Reading.{after_run, number_at, part_at, seconds_at, clock_time_at, offset_at, sign_at, letters_at, enclosed_at, name_at, day_at, weekday_at, date_at, date_time_at, moment_at, rule_in, is_over, own_offset_at, own_rule_in, dst_in, short_in, expanded_in, entry_in, AreRead, Takes, takes}
+use Rattle.tz_posix_core.specs.Spells.{Optional, absent, present, SpellsNumber, SpellsTime, hours, minutes, seconds, SpellsOffset, bare, plus, minus, is_enclosed, SpellsName, enclosed, letters, SpellsDate, julian, counted, weekday, SpellsMoment, date, timed, SpellsRule, rule, SpellsDst, dst, SpellsIn, TimeRange, short_form, full_form}
 use Rattle.tz_posix_core.specs.Values.{DstPart, Value, short, expanded}
 use Rattle.tz_posix_core.specs.declared.time.Time.{Time}
 use Rattle.tz_posix_core.specs.declared.time.Offset.{Offset}

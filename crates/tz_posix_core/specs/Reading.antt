@@ -1,6 +1,5 @@
 -- The parts at the front of a text, each with the rest, as the code reads them.
-use Rattle.std.specs.Prelude.{◌≡◌, ℕ, Bool, ◌++◌, true, false, ◌&&◌, List, [], ◌∷◌, length, take_while, drop, Option, Some, None}
-use Rattle.std.specs.Prelude.{option_map, option_and_then, nat_le, nat_eq, if◌then◌else◌, ◌==◌}
+use Rattle.std.specs.Prelude.{◌≡◌, ℕ, Bool, ◌++◌, true, false, ◌&&◌, List, [], ◌∷◌, length, take_while, drop, Option, Some, None, option_map, option_and_then, nat_le, nat_eq, if◌then◌else◌, ◌==◌}
 use Rattle.std.specs.Char.{is_ascii_digit, is_ascii_alphabetic}
 use Rattle.std.specs.List.{prefix_len}
 use Rattle.std.specs.Option.{option_map_or}

@@ -1,14 +1,12 @@
 //! Daylight saving time by a rule: whether it is in force at an instant.
-ghost use Rattle.std.specs.Prelude.{◌≡◌, ◌≤◌, ◌<◌, [], ◌∷◌, IsTrue, true, false, IfOk, None, MatchOption, unsigned_abs};
-ghost use Rattle.std.specs.Prelude.{pos, ◌+ℤ◌, ◌-ℤ◌, ◌*ℤ◌};
+ghost use Rattle.std.specs.Prelude.{◌≡◌, ◌≤◌, ◌<◌, [], ◌∷◌, IsTrue, true, false, IfOk, None, MatchOption, unsigned_abs, pos, ◌+ℤ◌, ◌-ℤ◌, ◌*ℤ◌};
 ghost use Rattle.std.specs.Int.{int_div_euclid};
 ghost use Rattle.std.specs.Result.{result_err};
 ghost use Rattle.calendar.specs.Dates.{year_of};
 ghost use Rattle.calendar.specs.Days.{IsCountedYear};
 ghost use Rattle.civil_base.specs.Ranges.{far_seconds, IsYear};
 ghost use Rattle.tz_posix_core.specs.Days.{day_refusal};
-ghost use Rattle.tz_posix_core.specs.InForce.{instant_in, is_saving as is_saving_at, is_within as is_between, is_year, moment_of};
-ghost use Rattle.tz_posix_core.specs.InForce.{moments_in, rule_refusal, year_at as year_in};
+ghost use Rattle.tz_posix_core.specs.InForce.{instant_in, is_saving as is_saving_at, is_within as is_between, is_year, moment_of, moments_in, rule_refusal, year_at as year_in};
 ghost use Rattle.tz_posix_core.specs.Ranges.{first_some, is_rule_date, rule_range};
 
 use crate::date::Date;

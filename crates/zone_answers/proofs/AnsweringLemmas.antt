@@ -1,5 +1,5 @@
 -- Answers and refusals at the zones of a table, and over the source whose table it is.
-use Rattle.std.proofs.Common.{◌≡◌, ℕ, suc, ℤ, Bool, true, false, cond, List, [], ◌∷◌, map, reverse, Option, Some, None, MatchOption, option_map, Result, Ok, Err, refl, sym, ap, subst, ◌∙◌}
+use Rattle.std.proofs.Common.{◌≡◌, ℕ, suc, ℤ, Bool, true, false, cond, List, [], ◌∷◌, map, Option, Some, None, MatchOption, option_map, Result, Ok, Err, refl, sym, ap, subst, ◌∙◌}
 use Rattle.std.specs.List.{flat_map}
 use Rattle.std.specs.Option.{option_or, option_map_or}
 use Rattle.std.specs.Str.{is_utf8}
@@ -14,14 +14,14 @@ use Rattle.zone_spans.specs.Lines.{Rulesets}
 use Rattle.zone_spans.specs.Schedules.{is_in_offset_range, total_at, totals_of}
 use Rattle.zone_spans.specs.declared.fault.SpanFault.{SpanFault}
 use Rattle.zone_spans.specs.declared.span.FixedTimespanSet.{FixedTimespanSet}
-use Rattle.zone_table.specs.Resolved.{resolved_in-IsTableOf}
 use Rattle.zone_table.specs.Tables.{IsTableOf}
 use Rattle.zone_table.specs.declared.table.Table.{Table}
 use Rattle.zone_table.specs.declared.zone.ZoneInfo.{ZoneInfo}
 use Rattle.zone_answers.specs.Due.{answer_line, answer_lines_with, shown_for, shown_with}
 use Rattle.zone_answers.specs.Faults.{Fault, of_source, request_not_text, bad_request, bad_zone, range, has_dates, found_refusal, request_refusal, first_refused, source_refusal, fault, fault_with}
-use Rattle.zone_answers.specs.Found.{Reading, found_in, found_in_table, found_of, found_under, offset_range, rules_end, to_2099}
+use Rattle.zone_answers.specs.Found.{Reading, found_in, found_in_table, found_of, found_under, given_to_2099, offset_range, rules_end, to_2099}
 use Rattle.zone_answers.specs.Requests.{Request, name_of, request_of}
+use Rattle.zone_run.specs.FoundLaws as zones
 use Rattle.zone_answers.specs.Told.{fault_told, TellsOf, TellsReading}
 use Rattle.zone_answers.specs.declared.error.AnswerError.{AnswerError}
 use Rattle.zone_answers.specs.declared.error.AnswerError.TheVariants.{NoMemory}
@@ -31,9 +31,8 @@ use Rattle.zone_answers.specs.declared.error.ReadingError.TheVariants.{Answer, R
 -- names find in the table of a source what they find in the source
 found_is : (read : Reading) (table : Table) (source : List ℕ) → IsTableOf table (values_of source)
     → found_in_table read table ≡ found_in read source
-unfolding found_in zone_in rules_in
-found_is read table source is = λ i name.
-    found_under read (λ rules. is.rulesets rules i) (resolved_in-IsTableOf table (reverse (values_of source)) is name i)
+unfolding found_in_table
+found_is read table source is = λ i name. zones.found_is read table source is i name
 
 -- the answers at the zones of the table are the answers over the source
 pub lines_are : (read : Reading) (table : Table) (source requests : List ℕ) → IsTableOf table (values_of source) →
@@ -84,7 +83,7 @@ IsToday found = Unit {0}
 
 today_found : (n : ℕ) (request : Request) (lines : Option (List ZoneInfo)) (rulesets : Rulesets)
     → IsToday (found_refusal n request (found_under to_2099 rulesets lines))
-unfolding IsToday to_2099
+unfolding IsToday given_to_2099
 today_found n request None rulesets = tt
 today_found n request (Some lines) rulesets = by_result (compiled rulesets lines)
   where

@@ -17,20 +17,7 @@ use Rattle.zone_answers.specs.Told.{fault_told, reading_told}
 use Rattle.zone_answers.specs.declared.error.AnswerError.TheVariants as error
 use Rattle.zone_answers.specs.declared.error.ReadingError.TheVariants as reading
 use Rattle.zone_answers.specs.declared.error.Side.TheVariants.{Source, Requests}
-use Rattle.zone_answers.specs.Faults.{
-  are_in_years,
-  fault,
-  fault_with,
-  has_dates,
-  found_refusal,
-  request_refusal,
-  first_refused,
-  of_source,
-  request_not_text,
-  bad_request,
-  bad_zone,
-  range,
-}
+use Rattle.zone_answers.specs.Faults.{are_in_years, fault, fault_with, has_dates, found_refusal, request_refusal, first_refused, of_source, request_not_text, bad_request, bad_zone, range}
 use Rattle.zone_answers.specs.Found.{Found, Reading, bad_schedule, found_of, found_under, offset_range, rules_end, unknown_zone}
 use Rattle.zone_answers.specs.Requests.{local, request_of, request_with, nanoseconds_in}
 

@@ -6,82 +6,59 @@ use Rattle.zone_table.specs.declared.zone.ZoneInfo.{ZoneInfo}
 use Rattle.zone_spans.specs.Compiled.{compiled_over}
 use Rattle.zone_spans.specs.GoesOn.{goes_on}
 use Rattle.zone_spans.specs.Lines.{Rulesets, zone_lines}
-use Rattle.zone_spans.specs.Schedules.{is_in_offset_range, schedule_over}
 use Rattle.zone_spans.specs.declared.fault.SpanFault.TheVariants.{DayRange}
-use Rattle.zone_spans.specs.declared.span.FixedTimespanSet as compiled
 use Rattle.tz_ever.specs.AnyYear.{total_for_ever}
 use Rattle.tz_ever.specs.Opens.{leaves_year}
 use Rattle.tz_ever.specs.Unrolled.{unrolled_entries}
 use Rattle.tz_zone.specs.declared.set.FixedTimespanSet.{FixedTimespanSet}
-use Rattle.zone_answers.specs.Found.{Cause, bad_schedule, offset_range, rules_end, to_2099}
-use Rattle.zone_ever.specs.Readings.{for_ever, found_on}
 use Rattle.zone_alarm.specs.Asks as daily
 use Rattle.zone_list.specs.Asks as window_asks
 use Rattle.zone_list.specs.Windows.{window}
-use Rattle.zone_run.specs.Readings.{ZoneCause, spans_found}
-use Rattle.zone_run.specs.Readings as spans
+use Rattle.zone_spans.specs.Schedules.{is_in_offset_range, totals_of}
+use Rattle.zone_run.specs.Readings.{Spans, ZoneCause, bad_schedule, offset_range, rules_end, to_2099}
 use Rattle.zone_run.specs.Tasks.{task_at, task_in}
+use Rattle.zone_ever.specs.Readings.{Gives, for_ever, found_on, given_for_ever, spans_for_ever}
 use Rattle.zone_ever.specs.Lists.{asks_ever}
-use Rattle.zone_ever.specs.Spans.{spans_for_ever, spans_on}
 use Rattle.zone_ever.specs.Words.{alarm, answers, asks_in, list, nothing}
 
-module _ (rulesets : Rulesets) (lines : List ZoneInfo) (total : ℤ → ℤ) where
+module _ {X : Type 0} (give : Gives X) (rulesets : Rulesets) (lines : List ZoneInfo) (today later : Spans) where
   -- a cause of the years to 2099 comes first, whatever the rules
-  cause_first : (cause : Cause) → to_2099 rulesets lines ≡ Err cause → for_ever rulesets lines ≡ Err cause
-  unfolding for_ever
-  cause_first cause is = ap (found_on rulesets lines) is
+  cause_first : (cause : ZoneCause) → to_2099 rulesets lines ≡ Err cause → given_for_ever give rulesets lines ≡ Err cause
+  unfolding given_for_ever
+  cause_first cause is = ap (found_on give rulesets lines) is
 
   -- then, of lines that don't go on, a day of the first 704 years that lies in another year than its own
-  then_days : to_2099 rulesets lines ≡ Ok total → goes_on (zone_lines rulesets lines) ≡ false
-      → compiled_over 704 rulesets lines ≡ Err DayRange → for_ever rulesets lines ≡ Err (bad_schedule DayRange)
-  unfolding for_ever
+  then_days : to_2099 rulesets lines ≡ Ok today → goes_on (zone_lines rulesets lines) ≡ false
+      → compiled_over 704 rulesets lines ≡ Err DayRange → given_for_ever give rulesets lines ≡ Err (bad_schedule DayRange)
+  unfolding given_for_ever
   then_days is ends leaves = rw (is, ends, leaves) refl
 
   -- else that the rules end
-  then_rules_end : to_2099 rulesets lines ≡ Ok total → goes_on (zone_lines rulesets lines) ≡ false
-      → leaves_year (Some (compiled_over 704 rulesets lines)) ≡ false → for_ever rulesets lines ≡ Err rules_end
-  unfolding for_ever
+  then_rules_end : to_2099 rulesets lines ≡ Ok today → goes_on (zone_lines rulesets lines) ≡ false
+      → leaves_year (Some (compiled_over 704 rulesets lines)) ≡ false → given_for_ever give rulesets lines ≡ Err rules_end
+  unfolding given_for_ever
   then_rules_end is ends stays = rw (is, ends, stays) refl
 
   -- then an offset of the first 704 years
-  then_offsets : to_2099 rulesets lines ≡ Ok total → goes_on (zone_lines rulesets lines) ≡ true
-      → is_in_offset_range (schedule_over 704 rulesets lines) ≡ false → for_ever rulesets lines ≡ Err offset_range
-  unfolding for_ever
-  then_offsets is goes far = rw (is, goes, far) refl
+  then_offsets : to_2099 rulesets lines ≡ Ok today → goes_on (zone_lines rulesets lines) ≡ true
+      → compiled_over 704 rulesets lines ≡ Ok later → is_in_offset_range (totals_of later) ≡ false
+      → given_for_ever give rulesets lines ≡ Err offset_range
+  unfolding given_for_ever
+  then_offsets is goes found far = rw (is, goes, found, far) refl
 
-  -- and else the total is that for ever, and not that to 2099
-  then_totals : to_2099 rulesets lines ≡ Ok total → goes_on (zone_lines rulesets lines) ≡ true
-      → is_in_offset_range (schedule_over 704 rulesets lines) ≡ true → for_ever rulesets lines ≡ Ok (total_for_ever rulesets lines)
-  unfolding for_ever
-  then_totals is goes small = rw (is, goes, small) refl
+  -- and else it is given of the spans of 704 years, and not of those to 2099
+  then_later : to_2099 rulesets lines ≡ Ok today → goes_on (zone_lines rulesets lines) ≡ true
+      → compiled_over 704 rulesets lines ≡ Ok later → is_in_offset_range (totals_of later) ≡ true
+      → given_for_ever give rulesets lines ≡ Ok (give rulesets lines later)
+  unfolding given_for_ever
+  then_later is goes found small = rw (is, goes, found, small) refl
 
--- the spans: causes come in the same order
-module _ (rulesets : Rulesets) (lines : List ZoneInfo) (today later : compiled.FixedTimespanSet) where
-  no_spans_today : (cause : ZoneCause) → spans.to_2099 rulesets lines ≡ Err cause → spans_for_ever rulesets lines ≡ Err cause
-  unfolding spans_for_ever
-  no_spans_today cause is = ap (spans_on rulesets lines) is
+-- the total is that for ever, and the spans have the entries of later cycles
+totals : for_ever ≡ given_for_ever (λ rulesets lines set. total_for_ever rulesets lines)
+totals = refl
 
-  spans_by_days : spans.to_2099 rulesets lines ≡ Ok today → goes_on (zone_lines rulesets lines) ≡ false
-      → compiled_over 704 rulesets lines ≡ Err DayRange → spans_for_ever rulesets lines ≡ Err (spans.bad_schedule DayRange)
-  unfolding spans_for_ever
-  spans_by_days is ends leaves = rw (is, ends, leaves) refl
-
-  spans_end : spans.to_2099 rulesets lines ≡ Ok today → goes_on (zone_lines rulesets lines) ≡ false
-      → leaves_year (Some (compiled_over 704 rulesets lines)) ≡ false → spans_for_ever rulesets lines ≡ Err spans.rules_end
-  unfolding spans_for_ever
-  spans_end is ends stays = rw (is, ends, stays) refl
-
-  spans_far : spans.to_2099 rulesets lines ≡ Ok today → goes_on (zone_lines rulesets lines) ≡ true
-      → spans_found (compiled_over 704 rulesets lines) ≡ Err spans.offset_range → spans_for_ever rulesets lines ≡ Err spans.offset_range
-  unfolding spans_for_ever
-  spans_far is goes far = rw (is, goes, far) refl
-
-  -- and else they are those of 704 years with the entries of later cycles, and not those to 2099
-  spans_later : spans.to_2099 rulesets lines ≡ Ok today → goes_on (zone_lines rulesets lines) ≡ true
-      → spans_found (compiled_over 704 rulesets lines) ≡ Ok later
-      → spans_for_ever rulesets lines ≡ Ok (record { first = later.first; rest = unrolled_entries later.rest })
-  unfolding spans_for_ever
-  spans_later is goes found = rw (is, goes, found) refl
+spans : spans_for_ever ≡ given_for_ever (λ rulesets lines set. record { first = set.first; rest = unrolled_entries set.rest })
+spans = refl
 
 -- what the first word asks, and the words after it
 words : map asks_in

@@ -1,5 +1,4 @@
 mod EverLemmas
-mod SpansLemmas
 mod ListLemmas
 mod AlarmLemmas
 mod EverRows

@@ -8,8 +8,7 @@ use Rattle.zone_source.specs.Runs.{EndsOver, Seen}
 use Rattle.zone_source.specs.Starts.{without_input}
 use Rattle.zone_source.specs.declared.running.Status.{Status}
 use Rattle.zone_source.specs.declared.running.Status.TheVariants as status
-use Rattle.zone_ever.specs.Readings.{for_ever}
-use Rattle.zone_ever.specs.Spans.{spans_for_ever}
+use Rattle.zone_ever.specs.Readings.{for_ever, spans_for_ever}
 use Rattle.zone_ever.specs.Words.{Asks, alarm, answers, list, nothing}
 
 -- a run over one zone of a file, which leaves the input alone

@@ -1,6 +1,5 @@
 -- Definitions: what public clauses say.
 pub mod Readings
-pub mod Spans
 pub mod Lists
 pub mod Words
 pub mod Ends

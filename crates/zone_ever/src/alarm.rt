@@ -2,7 +2,7 @@
 ghost use Rattle.std.specs.Prelude.{codes};
 ghost use Rattle.zone_alarm.specs.Asks.{asks, form};
 
-use crate::opened::EverZone;
+use crate::zone::EverZone;
 use std::alloc::Global;
 use tz_ever::{EverTz, laws};
 use zone_alarm::Daily;

@@ -3,7 +3,6 @@
 
 mod alarm;
 mod list;
-mod opened;
 mod running;
 mod starting;
 mod zone;

@@ -2,7 +2,7 @@
 ghost use Rattle.std.specs.Prelude.{codes};
 ghost use Rattle.zone_ever.specs.Lists.{asks_ever, form};
 
-use crate::opened::EverZone;
+use crate::zone::EverZone;
 use std::alloc::Global;
 use tz_ever::EverTable;
 use zone_list::Window;

@@ -6,7 +6,7 @@ ghost use Rattle.zone_ever.specs.Words.{answers, asks_after, asks_of, file_asked
 
 use crate::alarm::EverDaily;
 use crate::list::EverWindow;
-use crate::opened::EverZone;
+use crate::zone::EverZone;
 use std::alloc::Global;
 use zone_answers::SourceAnswers;
 use zone_line::LineParser;

@@ -1,19 +1,25 @@
-//! Zones that go on for ever, as the programs over one zone ask them.
+//! Zones that go on for ever, as the answerer opens them and as the programs over one zone ask them.
 ghost use Rattle.std.specs.Prelude.{◌≡◌};
-ghost use Rattle.zone_ever.specs.Refused.{find_fault};
+ghost use Rattle.zone_ever.specs.Refused.{Refuses, find_fault};
 
-use crate::opened::EverZone;
-use std::alloc::Global;
-use tz_ever::{EverFault, EverSet, laws};
+use std::alloc::{AllocError, Global};
+use tz_ever::{EverFault, EverSet, EverTz, laws};
 use tz_lookup::ZoneFault;
+use zone_answers::{AnswerError, OpenedZone, ReadingError, Request, show};
 use zone_run::{FindFault, FoundZone};
 use zone_spans::SpanFault;
 use zone_table::Table;
 
+/// A zone that goes on for ever, kept compactly.
+#[derive(Drop)]
+pub(crate) struct EverZone {
+    pub(crate) set: EverSet,
+}
+
 impl FoundZone for EverZone {
     ghost use Rattle.tz_ever.specs.EverShown.{ever_seen};
     ghost use Rattle.tz_ever.specs.Unrolled.{unrolled};
-    ghost use Rattle.zone_ever.specs.Spans.{spans_for_ever};
+    ghost use Rattle.zone_ever.specs.Readings.{spans_for_ever};
 
     ghost read = { spans_for_ever };
 
@@ -31,6 +37,32 @@ impl FoundZone for EverZone {
     }
 }
 
+impl OpenedZone for EverZone {
+    ghost use Rattle.tz_ever.specs.Ever.{ever_total};
+    ghost use Rattle.tz_ever.specs.EverShown.{ever_seen};
+    ghost use Rattle.zone_ever.specs.Readings.{for_ever};
+
+    ghost read = { for_ever };
+
+    ghost total_at = { λ zone. ever_total (ever_seen zone.set) };
+
+    fn open(
+        alloc: Global,
+        table: &Table,
+        name: &str,
+        number: usize,
+    ) -> Result<EverZone, ReadingError> {
+        match EverSet::open(alloc, table, name) {
+            Ok(set) => Ok(EverZone { set }),
+            Err(fault) => Err(refused(number, find_fault(fault))),
+        }
+    }
+
+    fn show(&self, request: &Request<'_>, text: &mut Vec<u8>) -> Result<bool, AllocError> {
+        show(&EverTz::new(&self.set), request, text)
+    }
+}
+
 /// The fault of a zone that stands for one of a zone for ever.
 fn find_fault(fault: EverFault) -> FindFault
     ensures { result ≡ find_fault fault }
@@ -40,5 +72,15 @@ fn find_fault(fault: EverFault) -> FindFault
         EverFault::LaterDay => FindFault::Zone(ZoneFault::Schedule(SpanFault::DayRange)),
         EverFault::RulesEnd => FindFault::RulesEnd,
         EverFault::LaterOffset => FindFault::Zone(ZoneFault::OffsetRange),
+    }
+}
+
+/// Why the zone that the nth request names can't be asked, or want of memory.
+fn refused(number: usize, fault: FindFault) -> ReadingError
+    ensures { Refuses number fault result }
+{
+    match fault {
+        FindFault::Zone(fault) => ReadingError::Answer(AnswerError::of_zone(number, fault)),
+        FindFault::RulesEnd => ReadingError::RulesEnd(number),
     }
 }

@@ -8,14 +8,7 @@ use Rattle.std.proofs.lemmas.Int.{ints}
 use Rattle.std.proofs.lemmas.Bool.{and_from, and_parts}
 use Rattle.std.proofs.lemmas.Grind.{common_steps}
 use lib.Signed.{mag}
-use Rattle.zone_values.specs.Bounds.{
-  are_small_seconds,
-  is_bounded_end,
-  is_bounded_saving,
-  is_bounded_info,
-  is_bounded_rule,
-  is_bounded_line,
-}
+use Rattle.zone_values.specs.Bounds.{are_small_seconds, is_bounded_end, is_bounded_saving, is_bounded_info, is_bounded_rule, is_bounded_line}
 use Rattle.zone_line.specs.Clocks.{ClockTexts, clock_in, minute_clock}
 use Rattle.zone_line.specs.Columns.{InfoTexts, RuleTexts}
 use Rattle.zone_line.specs.DayColumns.{DayTexts, day_columns}
@@ -25,33 +18,10 @@ use Rattle.zone_values.specs.declared.fault.FaultKind.TheVariants.{CouldNotParse
 use Rattle.zone_values.specs.Months.{month_field}
 use Rattle.zone_values.specs.Weekdays.{weekday_field}
 use Rattle.zone_values.specs.Years.{year_field}
-use Rattle.zone_line.specs.Fields.{
-  to_field,
-  type_field,
-  day_numbered,
-  day_of_month,
-  sided_day,
-  last_weekday,
-  after_last,
-  day_field,
-  time_field,
-  wall_field,
-  is_ruleset_name,
-}
+use Rattle.zone_line.specs.Fields.{to_field, type_field, day_numbered, day_of_month, sided_day, last_weekday, after_last, day_field, time_field, wall_field, is_ruleset_name}
 use Rattle.zone_line.specs.Kinds.{LineKind, kind_of}
 use Rattle.zone_line.specs.Kinds as kind
-use Rattle.zone_line.specs.LineValues.{
-  one_off_of,
-  saving_field,
-  until,
-  has_yearless_end,
-  some_end,
-  end_of,
-  info_of,
-  rule_of,
-  value_of_kind,
-  value,
-}
+use Rattle.zone_line.specs.LineValues.{one_off_of, saving_field, until, has_yearless_end, some_end, end_of, info_of, rule_of, value_of_kind, value}
 use Rattle.text_parts.specs.Numbers.{is_numeral, signed_in}
 use Rattle.zone_line.specs.Digits.{two_digits, digit_of}
 use Rattle.zone_line.specs.Options.{first_some}

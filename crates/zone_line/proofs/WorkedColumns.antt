@@ -10,15 +10,7 @@ use Rattle.zone_values.specs.Values.{one_off, multiple, InfoValue, space, zone, 
 use Rattle.zone_values.specs.Years.{year_named}
 use Rattle.zone_values.specs.declared.change.ChangeTime.TheVariants.{UntilMonth}
 use Rattle.zone_values.specs.declared.day.DaySpec.TheVariants.{Ordinal}
-use Rattle.zone_values.specs.declared.fault.FaultKind.TheVariants.{
-  FailedYearParse,
-  FailedMonthParse,
-  InvalidLineType,
-  TypeColumnContainedNonHyphen,
-  InvalidDaySpec,
-  InvalidTimeSpecAndType,
-  NonWallClockInTimeSpec,
-}
+use Rattle.zone_values.specs.declared.fault.FaultKind.TheVariants.{FailedYearParse, FailedMonthParse, InvalidLineType, TypeColumnContainedNonHyphen, InvalidDaySpec, InvalidTimeSpecAndType, NonWallClockInTimeSpec}
 use Rattle.zone_values.specs.declared.month.Month.TheVariants.{March}
 use Rattle.zone_values.specs.declared.time.TimeSpec.TheVariants.{Hours, HoursMinutes}
 use Rattle.zone_values.specs.declared.time.TimeType.TheVariants.{Wall}

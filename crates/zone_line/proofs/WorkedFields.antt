@@ -10,12 +10,7 @@ use Rattle.zone_values.specs.Weekdays.{weekday_named}
 use Rattle.zone_values.specs.Years.{year_named}
 use Rattle.zone_values.specs.declared.change.ChangeTime.TheVariants.{UntilYear, UntilMonth, UntilDay, UntilTime}
 use Rattle.zone_values.specs.declared.day.DaySpec.TheVariants.{Ordinal, Last, LastOnOrBefore, FirstOnOrAfter}
-use Rattle.zone_values.specs.declared.fault.FaultKind.TheVariants.{
-  FailedWeekdayParse,
-  InvalidLineType,
-  TypeColumnContainedNonHyphen,
-  InvalidDaySpec,
-}
+use Rattle.zone_values.specs.declared.fault.FaultKind.TheVariants.{FailedWeekdayParse, InvalidLineType, TypeColumnContainedNonHyphen, InvalidDaySpec}
 use Rattle.zone_values.specs.declared.month.Month.TheVariants.{September}
 use Rattle.zone_values.specs.declared.time.TimeSpec.TheVariants.{Hours, HoursMinutes, HoursMinutesSeconds, Zero}
 use Rattle.zone_values.specs.declared.time.TimeType.TheVariants.{Wall, Standard, UTC}
@@ -25,17 +20,7 @@ use Rattle.zone_line.specs.Clocks.{ClockTexts}
 use Rattle.zone_line.specs.Columns.{InfoTexts}
 use Rattle.zone_line.specs.DayColumns.{DayTexts}
 use Rattle.zone_line.specs.Digits.{two_digits}
-use Rattle.zone_line.specs.Fields.{
-  to_field,
-  type_field,
-  letters_of,
-  day_of_month,
-  day_field,
-  sided_day,
-  last_weekday,
-  wall_field,
-  is_ruleset_name,
-}
+use Rattle.zone_line.specs.Fields.{to_field, type_field, letters_of, day_of_month, day_field, sided_day, last_weekday, wall_field, is_ruleset_name}
 use Rattle.zone_line.specs.LineValues.{saving_field, until, some_end, end_of}
 use Rattle.zone_line.specs.Times.{no_time, hours_alone, clock_time, clock_type, if_wall, time_of}
 

@@ -1,40 +1,11 @@
 -- The values of a line's columns, each a value or a fault.
-use Rattle.std.specs.Prelude.{
-  ℕ,
-  ℤ,
-  List,
-  [],
-  ◌∷◌,
-  take,
-  drop,
-  Bool,
-  ◌||◌,
-  Option,
-  Some,
-  None,
-  option_map,
-  option_and_then,
-  ok_or,
-  Result,
-  Ok,
-  Err,
-  codes,
-  bytes_eq,
-  nat_eq,
-  if◌then◌else◌,
-  ◌^◌,
-}
+use Rattle.std.specs.Prelude.{ℕ, ℤ, List, [], ◌∷◌, take, drop, Bool, ◌||◌, Option, Some, None, option_map, option_and_then, ok_or, Result, Ok, Err, codes, bytes_eq, nat_eq, if◌then◌else◌, ◌^◌}
 use Rattle.std.specs.Char.{is_ascii_alphabetic}
 use Rattle.std.specs.List.{list_all}
 use Rattle.std.specs.Option.{option_map_or}
 use Rattle.zone_values.specs.Days.{is_day_of_month}
 use Rattle.zone_values.specs.Faults.{Fault, refused}
-use Rattle.zone_values.specs.declared.fault.FaultKind.TheVariants.{
-  TypeColumnContainedNonHyphen,
-  InvalidDaySpec,
-  InvalidTimeSpecAndType,
-  NonWallClockInTimeSpec,
-}
+use Rattle.zone_values.specs.declared.fault.FaultKind.TheVariants.{TypeColumnContainedNonHyphen, InvalidDaySpec, InvalidTimeSpecAndType, NonWallClockInTimeSpec}
 use Rattle.zone_values.specs.Results.{◌>>=◌}
 use Rattle.text_parts.specs.Numbers.{is_numeral, signed_in}
 use Rattle.zone_values.specs.Years.{year_field}

@@ -2,12 +2,7 @@
 use Rattle.std.specs.Prelude.{ℕ, List, Bool, ◌||◌, Option, Some, None, is_some, ok_or, Result, Ok, Err, codes, bytes_eq, if◌then◌else◌}
 use Rattle.std.specs.Option.{option_map_or}
 use Rattle.zone_values.specs.Faults.{Fault, refused}
-use Rattle.zone_values.specs.declared.fault.FaultKind.TheVariants.{
-  InvalidLineType,
-  CouldNotParseSaving,
-  InvalidTimeSpecAndType,
-  NonWallClockInTimeSpec,
-}
+use Rattle.zone_values.specs.declared.fault.FaultKind.TheVariants.{InvalidLineType, CouldNotParseSaving, InvalidTimeSpecAndType, NonWallClockInTimeSpec}
 use Rattle.zone_values.specs.Results.{◌>>=◌}
 use Rattle.zone_line.specs.Columns.{InfoTexts, RuleTexts}
 use Rattle.zone_values.specs.Seconds.{with_type}
@@ -18,20 +13,7 @@ use Rattle.zone_line.specs.Kinds as kind
 use Rattle.zone_values.specs.Months.{month_field}
 use Rattle.zone_values.specs.Years.{year_field}
 use Rattle.zone_line.specs.Fields.{to_field, type_field, day_field, time_field, wall_field, letters_of, is_ruleset_name}
-use Rattle.zone_values.specs.Values.{
-  SavingValue,
-  no_saving,
-  one_off,
-  multiple,
-  InfoValue,
-  RuleValue,
-  LineValue,
-  space,
-  zone,
-  continuation,
-  rule,
-  link,
-}
+use Rattle.zone_values.specs.Values.{SavingValue, no_saving, one_off, multiple, InfoValue, RuleValue, LineValue, space, zone, continuation, rule, link}
 use Rattle.zone_values.specs.declared.change.ChangeTime.{ChangeTime}
 use Rattle.zone_values.specs.declared.change.ChangeTime.TheVariants.{UntilYear, UntilMonth, UntilDay, UntilTime}
 

@@ -1,25 +1,5 @@
 -- The value of a time column.
-use Rattle.std.specs.Prelude.{
-  ℕ,
-  ℤ,
-  pos,
-  neg_ℤ,
-  List,
-  [],
-  ◌∷◌,
-  Bool,
-  ◌||◌,
-  Option,
-  Some,
-  None,
-  option_map,
-  option_and_then,
-  codes,
-  bytes_eq,
-  nat_eq,
-  if◌then◌else◌,
-  ◌^◌,
-}
+use Rattle.std.specs.Prelude.{ℕ, ℤ, pos, neg_ℤ, List, [], ◌∷◌, Bool, ◌||◌, Option, Some, None, option_map, option_and_then, codes, bytes_eq, nat_eq, if◌then◌else◌, ◌^◌}
 use Rattle.std.specs.Char.{is_ascii_digit}
 use Rattle.std.specs.List.{list_all, list_any}
 use Rattle.std.specs.Option.{option_map_or}

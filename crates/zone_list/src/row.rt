@@ -1,7 +1,6 @@
 //! The row of an entry.
 ghost use Rattle.std.specs.Prelude.{◌≡◌, ◌<◌, ◌++◌, IfSome, OnOk, is_some, length};
-ghost use Rattle.civil_base.specs.DateTimes.{instant};
-ghost use Rattle.civil_base.specs.DateTimes.{offset_of as offset_shown};
+ghost use Rattle.civil_base.specs.DateTimes.{instant, offset_of as offset_shown};
 ghost use Rattle.civil_base.specs.Layout.{zoned_text};
 ghost use Rattle.std.specs.Fmt.{char_count};
 ghost use Rattle.pad_fmt.specs.Padding.{padded};

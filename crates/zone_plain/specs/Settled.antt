@@ -1,6 +1,5 @@
 -- The lines of a source with each link led to its zone, or why they are refused.
-use Rattle.std.specs.Prelude.{ℕ, suc, ◌+◌, List, [], ◌∷◌, ◌++◌, Bool, false, not, Option, Some, None}
-use Rattle.std.specs.Prelude.{Result, Ok, Err, length, nat_lt, bytes_eq, if◌then◌else◌}
+use Rattle.std.specs.Prelude.{ℕ, suc, ◌+◌, List, [], ◌∷◌, ◌++◌, Bool, false, not, Option, Some, None, Result, Ok, Err, length, nat_lt, bytes_eq, if◌then◌else◌}
 use Rattle.zone_outside.specs.Limit.{text_limit}
 use Rattle.zone_values.specs.Values.{SavingValue, multiple, LineValue, space, zone, continuation, link}
 use Rattle.zone_values.specs.Results.{◌>>=◌}

@@ -7,23 +7,7 @@ use Rattle.std.proofs.lemmas.List.Elements.{filter-append}
 use Rattle.zone_values.specs.declared.month.Month.{Month}
 use Rattle.zone_values.specs.declared.weekday.Weekday.{Weekday}
 use Rattle.zone_values.specs.declared.year.Year.{Year}
-use Rattle.zone_plain_lines.specs.Words.{
-  Word,
-  begins,
-  alone,
-  meant,
-  line_words,
-  line_word,
-  months,
-  month_word,
-  month_of,
-  weekdays,
-  weekday_of,
-  from_words,
-  from_word,
-  to_words,
-  to_word,
-}
+use Rattle.zone_plain_lines.specs.Words.{Word, begins, alone, meant, line_words, line_word, months, month_word, month_of, weekdays, weekday_of, from_words, from_word, to_words, to_word}
 use Rattle.zone_plain_lines.specs.declared.cause.PlainCause.{PlainCause}
 use Rattle.zone_plain_lines.specs.declared.words.LineWord.{LineWord}
 

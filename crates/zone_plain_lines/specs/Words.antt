@@ -4,20 +4,7 @@ use Rattle.std.specs.Prelude.{ℕ, List, [], ◌∷◌, drop, length, take, Bool
 use Rattle.std.specs.Borrow.{Bor}
 use Rattle.zone_values.specs.Names.{lower}
 use Rattle.zone_values.specs.declared.month.Month.{Month}
-use Rattle.zone_values.specs.declared.month.Month.TheVariants.{
-  January,
-  February,
-  March,
-  April,
-  May,
-  June,
-  July,
-  August,
-  September,
-  October,
-  November,
-  December,
-}
+use Rattle.zone_values.specs.declared.month.Month.TheVariants.{January, February, March, April, May, June, July, August, September, October, November, December}
 use Rattle.zone_values.specs.declared.weekday.Weekday.{Weekday}
 use Rattle.zone_values.specs.declared.weekday.Weekday.TheVariants.{Sunday, Monday, Tuesday, Wednesday, Thursday, Friday, Saturday}
 use Rattle.zone_values.specs.declared.year.Year.{Year}

@@ -15,11 +15,11 @@ use Rattle.tz_zone.specs.declared.set.FixedTimespanSet.{FixedTimespanSet}
 use Rattle.zone_run.specs.Causes.{Cause, of_source, of_zone, of_program, zone_cause, named, cause}
 use Rattle.zone_run.specs.FoundLaws.{found_is}
 use Rattle.zone_run.specs.Due.{answer, cause_line, due_bytes, zone_line}
-use Rattle.zone_run.specs.Readings.{Reading, ZoneCause, found_in, found_in_table}
+use Rattle.zone_run.specs.Readings.{Reading, Spans, ZoneCause, found_in, found_in_table}
 use Rattle.zone_source.specs.Responses.{IsLineOf}
 use Rattle.zone_run.specs.Tasks.{Task}
 
-module _ (read : Reading) (label : List ℕ) (task : Task) (source bytes : List ℕ) where
+module _ (read : Reading Spans) (label : List ℕ) (task : Task) (source bytes : List ℕ) where
   -- there is a cause, and its line is due
   abbrev pub IsRefused : Type 0
   IsRefused = IsSome (cause read task source) × (bytes ≡ due_bytes read label task source)
@@ -51,7 +51,7 @@ module _ (read : Reading) (label : List ℕ) (task : Task) (source bytes : List 
     unfolding cause
     cause_is =
         ap (λ o. option_or (option_map of_source o) (zone_cause task (found_in read source task.zone))) sound
-        ∙ ap (zone_cause task) (sym (found_is read table source task.zone joined))
+        ∙ ap (λ names. zone_cause task (names task.zone)) (sym (found_is read table source joined))
 
     -- why the zone can't be asked is the cause
     pub zone_refuses : (told : Option ZoneCause) → IfSome told (λ why. found_in_table read table task.zone ≡ Err why)
@@ -78,6 +78,6 @@ module _ (read : Reading) (label : List ℕ) (task : Task) (source bytes : List 
             none,
             answered ∙ ap (λ name. task.asked.due (named name (spans_of set))) name
                 ∙ ap (answer task) (sym found)
-                ∙ ap (answer task) (found_is read table source task.zone joined)
+                ∙ ap (λ names. answer task (names task.zone)) (found_is read table source joined)
                 ∙ ap (λ o. option_map_or (λ c. cause_line label c ++ 10 ∷ []) o (answer task (found_in read source task.zone))) (sym none),
           )

@@ -1,17 +1,15 @@
 -- Which words ask what, which cause comes first, and the lines of causes, at worked rows.
-use Rattle.std.proofs.Common.{◌≡◌, ℕ, List, [], ◌∷◌, map, Option, Some, None, option_map, Result, Ok, Err, refl, ℤ, pos, negsuc}
+use Rattle.std.proofs.Common.{◌≡◌, ℕ, List, [], ◌∷◌, map, Option, Some, None, option_map, Ok, Err, refl, ℤ, pos, negsuc}
 use Rattle.std.specs.Prelude.{codes}
 use Rattle.std.specs.Fmt.{digits}
 use Rattle.zone_source.specs.Faults.{not_text}
 use Rattle.zone_spans.specs.Schedules.{totals_of}
-use Rattle.zone_spans.specs.declared.fault.SpanFault.{SpanFault}
 use Rattle.zone_spans.specs.declared.fault.SpanFault.TheVariants.{UnknownRuleset, MissingUntil, YearRange, RuleYears, DayRange, NoStandardSpan}
-use Rattle.zone_spans.specs.declared.span.FixedTimespanSet.{FixedTimespanSet}
 use Rattle.zone_run.specs.Asked.{Asked}
 use Rattle.zone_run.specs.Causes.{of_source, of_zone, of_program, zone_cause}
 use Rattle.zone_run.specs.Due.{answer, cause_line}
 use Rattle.zone_run.specs.Numbers.{number_in}
-use Rattle.zone_run.specs.Readings.{Found, bad_schedule, found_under, offset_range, rules_end, spans_found, unknown_zone}
+use Rattle.zone_run.specs.Readings.{Found, Spans, bad_schedule, found_under, given_of, offset_range, rules_end, unknown_zone}
 use Rattle.zone_run.specs.Tasks.{Task, task_at, task_in}
 
 -- programs without words of their own: one refuses each zone, the other answers its name
@@ -34,24 +32,21 @@ which_words : map (λ words. option_map parts (task_in form words))
     ≡ None ∷ None ∷ Some (codes "f" ∷ codes "A" ∷ []) ∷ None ∷ []
 which_words = refl
 
--- spans of one offset
-abbrev fixed_at : ℤ → Result FixedTimespanSet SpanFault
-fixed_at offset = Ok (record { first = record { utc_offset = offset; dst_offset = pos 0; name = codes "T" }; rest = [] })
-
-abbrev fixed_spans : Found
-fixed_spans = spans_found (fixed_at (pos 0))
+-- what is found of spans of one offset
+abbrev fixed_at : ℤ → Found Spans
+fixed_at offset = given_of (λ set. set) (Ok (record { first = record { utc_offset = offset; dst_offset = pos 0; name = codes "T" }; rest = [] }))
 
 -- nothing found, no schedule, 26 hours and a second less to each side, and rules that end: all before the program's own cause
 zone_first : map (zone_cause (task_at (codes "f") (codes "A") refuses))
-    (found_under (λ _ _. fixed_spans) (λ _. None) None ∷ spans_found (Err YearRange) ∷ spans_found (fixed_at (pos 93600))
-    ∷ spans_found (fixed_at (negsuc 93599)) ∷ spans_found (fixed_at (pos 93599)) ∷ spans_found (fixed_at (negsuc 93598)) ∷ Err rules_end ∷ [])
+    (found_under (λ _ _. fixed_at (pos 0)) (λ _. None) None ∷ given_of (λ set. set) (Err YearRange) ∷ fixed_at (pos 93600)
+    ∷ fixed_at (negsuc 93599) ∷ fixed_at (pos 93599) ∷ fixed_at (negsuc 93598) ∷ Err rules_end ∷ [])
     ≡ Some (of_zone unknown_zone) ∷ Some (of_zone (bad_schedule YearRange)) ∷ Some (of_zone offset_range) ∷ Some (of_zone offset_range)
     ∷ Some (of_program (codes "own")) ∷ Some (of_program (codes "own")) ∷ Some (of_zone rules_end) ∷ []
 unfolding totals_of
 zone_first = refl
 
 -- the answer is that for the spans under the asked name
-named_so : answer (task_at (codes "f") (codes "A") names) fixed_spans ≡ codes "A"
+named_so : answer (task_at (codes "f") (codes "A") names) (fixed_at (pos 0)) ≡ codes "A"
 unfolding totals_of
 named_so = refl
 

@@ -4,7 +4,7 @@ use Rattle.std.specs.Option.{option_or}
 use Rattle.zone_source.specs.Faults.{SourceFault, source_fault}
 use Rattle.zone_spans.specs.declared.span.FixedTimespanSet as spans
 use Rattle.tz_zone.specs.declared.set.FixedTimespanSet.{FixedTimespanSet}
-use Rattle.zone_run.specs.Readings.{Found, Reading, ZoneCause, found_in}
+use Rattle.zone_run.specs.Readings.{Found, Reading, Spans, ZoneCause, found_in}
 use Rattle.zone_run.specs.Tasks.{Task}
 
 -- the source has a fault; the zone can't be asked; the program refuses it
@@ -18,10 +18,10 @@ abbrev pub named : List ℕ → spans.FixedTimespanSet → FixedTimespanSet
 named name set = record { name = name; first = set.first; others = set.rest }
 
 -- why what the name finds is refused
-abbrev pub zone_cause : Task → Found → Option Cause
+abbrev pub zone_cause : Task → Found Spans → Option Cause
 zone_cause task (Err cause) = Some (of_zone cause)
 zone_cause task (Ok set) = option_map of_program (task.asked.cause (named task.zone set))
 
 -- the first cause, if there is one: a fault of the source comes before all that concerns the zone
-unfoldable pub cause : Reading → Task → List ℕ → Option Cause
+unfoldable pub cause : Reading Spans → Task → List ℕ → Option Cause
 cause read task source = option_or (option_map of_source (source_fault source)) (zone_cause task (found_in read source task.zone))

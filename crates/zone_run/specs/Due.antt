@@ -4,7 +4,7 @@ use Rattle.std.specs.Option.{option_map_or}
 use Rattle.zone_source.specs.FaultLines.{source_line}
 use Rattle.zone_spans.specs.FaultNames.{fault_name}
 use Rattle.zone_run.specs.Causes.{Cause, of_source, of_zone, of_program, cause, named}
-use Rattle.zone_run.specs.Readings.{Found, Reading, ZoneCause, unknown_zone, bad_schedule, offset_range, rules_end, found_in}
+use Rattle.zone_run.specs.Readings.{Found, Reading, Spans, ZoneCause, unknown_zone, bad_schedule, offset_range, rules_end, found_in}
 use Rattle.zone_run.specs.Tasks.{Task}
 
 -- `list: unknown zone`: the program's label, and why
@@ -25,11 +25,11 @@ cause_line label (of_zone why) = zone_line label why
 cause_line label (of_program why) = labelled label [] why
 
 -- what the program answers for the zone that was found
-abbrev pub answer : Task → Found → List ℕ
+abbrev pub answer : Task → Found Spans → List ℕ
 answer task (Ok set) = task.asked.due (named task.zone set)
 answer task (Err cause) = []
 
 -- the answer, or the line of the cause and a line feed
-unfoldable pub due_bytes : Reading → List ℕ → Task → List ℕ → List ℕ
+unfoldable pub due_bytes : Reading Spans → List ℕ → Task → List ℕ → List ℕ
 due_bytes read label task source =
     option_map_or (λ c. cause_line label c ++ 10 ∷ []) (cause read task source) (answer task (found_in read source task.zone))

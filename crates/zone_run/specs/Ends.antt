@@ -4,15 +4,15 @@ use Rattle.zone_source.specs.Runs.{Seen, Work, EndsOf}
 use Rattle.zone_source.specs.declared.running.Status.{Status}
 use Rattle.zone_run.specs.Causes.{Cause, cause}
 use Rattle.zone_run.specs.Due.{due_bytes}
-use Rattle.zone_run.specs.Readings.{Reading, to_2099}
+use Rattle.zone_run.specs.Readings.{Reading, Spans, to_2099}
 use Rattle.zone_run.specs.Tasks.{Task}
 
 -- what the program of this label does with a task where zones are read in this way
-abbrev pub work : Reading → List ℕ → Work Task Cause
+abbrev pub work : Reading Spans → List ℕ → Work Task Cause
 work read label = record { file = λ task. task.file; cause = cause read; due = due_bytes read label }
 
 -- how a run of the program of this label ended, whose words ask this
-abbrev pub EndsWith : Reading → List ℕ → Option Task → Seen → Seen → Status → Type 0
+abbrev pub EndsWith : Reading Spans → List ℕ → Option Task → Seen → Seen → Status → Type 0
 EndsWith read label task before now end = EndsOf (work read label) task before now end
 
 -- where zones are read to the year 2099

@@ -14,5 +14,5 @@ cause_told (Zone zone.NoMemory) = None
 cause_told RulesEnd = Some rules_end
 
 -- it tells why there is nothing to ask, or want of memory
-abbrev pub TellsCause : Found → FindFault → Type 0
+abbrev pub TellsCause : {X : Type 0} → Found X → FindFault → Type 0
 TellsCause found fault = IfSome (cause_told fault) (λ cause. found ≡ Err cause)

@@ -2,16 +2,16 @@
 use Rattle.std.specs.Prelude.{ℕ, List, Option}
 use Rattle.zone_run.specs.Asked.{Asked}
 use Rattle.zone_run.specs.Ends.{EndsWith}
-use Rattle.zone_run.specs.Readings.{Reading, to_2099}
+use Rattle.zone_run.specs.Readings.{Reading, Spans, to_2099}
 use Rattle.zone_run.specs.Tasks.{task_of}
 use Rattle.zone_source.specs.Starts.{Run, Starts, over_file}
 use Rattle.zone_source.specs.declared.starting.Started.{Started}
 
 -- how a run ends of the program of this label, whose words after FILE and NAME are in this form
-abbrev pub zone_run : Reading → List ℕ → (List (List ℕ) → Option Asked) → Run
+abbrev pub zone_run : Reading Spans → List ℕ → (List (List ℕ) → Option Asked) → Run
 zone_run read label form = over_file (λ words. EndsWith read label (task_of form words))
 
-abbrev pub StartsWith : Reading → List ℕ → (List (List ℕ) → Option Asked) → Started → Type 0
+abbrev pub StartsWith : Reading Spans → List ℕ → (List (List ℕ) → Option Asked) → Started → Type 0
 StartsWith read label form started = Starts (zone_run read label form) started
 
 -- where zones are read to the year 2099

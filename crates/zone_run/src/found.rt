@@ -4,7 +4,7 @@ ghost use Rattle.zone_table.specs.BoundedTables.{IsBoundedTable};
 ghost use Rattle.tz_zone.specs.Compiles.{spans_of};
 ghost use Rattle.tz_zone.specs.Sets.{IsAccepted, schedule_of};
 ghost use Rattle.tz_zone.specs.declared.set.FixedTimespanSet.{FixedTimespanSet};
-ghost use Rattle.zone_run.specs.Readings.{Reading, found_in_table};
+ghost use Rattle.zone_run.specs.Readings.{Reading, Spans, found_in_table};
 ghost use Rattle.zone_run.specs.Responses.{TellsCause};
 
 use std::alloc::Global;
@@ -23,7 +23,7 @@ pub enum FindFault {
 /// A zone that is read from a table in some way, and then asked.
 pub trait FoundZone: Drop {
     /// How the lines of a zone are read: the spans that speak for it, or why it can't be asked.
-    ghost read: { Reading };
+    ghost read: { Reading Spans };
 
     /// These spans, under the name that found them.
     ghost seen: { Self → FixedTimespanSet };

@@ -1,6 +1,5 @@
 -- Where texts are cut at a slash.
-use Rattle.std.proofs.Common.{◌≡◌, ℕ, suc, ◌==◌, eqb-true, lit<, length-drop, ◌+◌, ◌-◌, ◌<◌, ◌≤◌, Bool, true, false, not}
-use Rattle.std.proofs.Common.{cond, List, [], ◌∷◌, length, take, drop, get_or, refl, sym, ap, ◌∙◌, arith, Some, None}
+use Rattle.std.proofs.Common.{◌≡◌, ℕ, suc, ◌==◌, eqb-true, lit<, length-drop, ◌+◌, ◌-◌, ◌<◌, ◌≤◌, Bool, true, false, not, cond, List, [], ◌∷◌, length, take, drop, get_or, refl, sym, ap, ◌∙◌, arith, Some, None}
 use Rattle.std.specs.Prelude.{◌||◌, ◌≢◌}
 use Rattle.std.specs.List.{list_any, position_or_len, prefix_len, suffix_len, before_first, after_first, before_last, after_last}
 use Rattle.std.specs.Str.{NoCharPasses}

@@ -1,6 +1,5 @@
 -- What a builder stands for after one more line.
-use Rattle.std.proofs.Common.{◌≡◌, ℕ, Bool, true, false, cond, List, [], ◌∷◌, ◌++◌, Option}
-use Rattle.std.proofs.Common.{Some, None, unwrap_or, reverse, refl, sym, ap, ◌∙◌, subst, is_some, Bor}
+use Rattle.std.proofs.Common.{◌≡◌, ℕ, Bool, true, false, cond, List, [], ◌∷◌, ◌++◌, Option, Some, None, unwrap_or, reverse, refl, sym, ap, ◌∙◌, subst, is_some, Bor}
 use Rattle.std.proofs.lemmas.List.{reverse-append}
 use Rattle.std.specs.Str.{bytes_eq}
 use Rattle.std.specs.Option.{option_or, option_map_or}
@@ -10,15 +9,13 @@ use Rattle.owned.specs.Listed.{listed}
 use Rattle.owned.specs.KeyedLaws.{appended, get-inserted}
 use Rattle.zone_values.specs.declared.line.Saving as code
 use Rattle.zone_values.specs.declared.line.Saving.TheVariants as code_saving
-use Rattle.zone_values.specs.Values.{saving_value, LineValue, zone, continuation, rule, link}
-use Rattle.zone_values.specs.Values.{InfoValue, RuleValue, SavingValue, no_saving, one_off, multiple}
+use Rattle.zone_values.specs.Values.{saving_value, LineValue, zone, continuation, rule, link, InfoValue, RuleValue, SavingValue, no_saving, one_off, multiple}
 use Rattle.zone_table.specs.declared.rule.RuleInfo.{RuleInfo}
 use Rattle.zone_table.specs.declared.zone.ZoneInfo.{ZoneInfo}
 use Rattle.zone_table.specs.declared.table.Table.{Table}
 use Rattle.zone_table.specs.Owned.{owned_rule, owned_info}
 use Rattle.zone_table.specs.Joined.{rules_of, zone_of, owner}
-use Rattle.zone_table.specs.Refusals.{Refusal, duplicate_link, duplicate_zone}
-use Rattle.zone_table.specs.Refusals.{surprise_continuation_line, refusal, refusal_of_saving, has_zone}
+use Rattle.zone_table.specs.Refusals.{Refusal, duplicate_link, duplicate_zone, surprise_continuation_line, refusal, refusal_of_saving, has_zone}
 use Rattle.zone_table.specs.Tables.{IsTableOfLatest}
 use Rattle.zone_table.specs.Built.{Built, StandsForLatest, Joins}
 

@@ -3,8 +3,7 @@ use Rattle.std.specs.Prelude.{◌≡◌, ℕ, List, [], ◌∷◌, ◌++◌, Opt
 use Rattle.std.specs.Coded.{Coded, code_by, coded×, coded_list, coded_ℕ, coded_option}
 use Rattle.zone_values.specs.Values.{LineValue}
 use Rattle.zone_table.specs.Joined.{owner}
-use Rattle.zone_table.specs.Refusals.{Refusal, surprise_continuation_line, unknown_ruleset}
-use Rattle.zone_table.specs.Refusals.{duplicate_link, duplicate_zone, refusal, Accepted}
+use Rattle.zone_table.specs.Refusals.{Refusal, surprise_continuation_line, unknown_ruleset, duplicate_link, duplicate_zone, refusal, Accepted}
 use Rattle.zone_table.specs.Tables.{IsTableOfLatest}
 use Rattle.zone_table.specs.declared.error.Error.{Error}
 use Rattle.zone_table.specs.declared.error.Error.TheVariants as error

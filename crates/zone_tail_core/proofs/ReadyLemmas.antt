@@ -6,9 +6,8 @@ use Rattle.std.proofs.lemmas.Bool.{and_parts}
 use Rattle.std.proofs.lemmas.List.{length-append, length-map}
 use Rattle.std.proofs.lemmas.List.Elements.{All-append, All-cons, All-get_or, All-map, All-nil, All-tail, All-weaker}
 use Rattle.calendar.specs.ComparisonLaws.{eq_from_pass, le_le, le_same, lt_from_fail, lt_from_pass, lt_le}
-use Rattle.civil_base.specs.Ranges.{is_offset}
+use Rattle.civil_base.specs.Ranges.{is_offset, IsOffset}
 use Rattle.civil_base.specs.RangeLaws.{offset_greatest, offset_least}
-use Rattle.civil_base.specs.Ranges.{IsOffset}
 use Rattle.zone_spans.specs.Entries.{Entry, total}
 use Rattle.tz_zone.specs.Sets.{IsAccepted, IsSpanTime, schedule_of, shift_of, shifts_of, span_in, total_of_span}
 use Rattle.tz_zone.specs.Spans.{Shift, shift_at}

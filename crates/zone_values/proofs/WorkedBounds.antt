@@ -2,19 +2,7 @@
 use Rattle.std.proofs.Common.{◌≡◌, [], ◌∷◌, map, true, false, Option, Some, None, refl, pos, negsuc}
 use Rattle.zone_values.specs.Bounds.{are_small_seconds, is_bounded_end, is_bounded_info, is_bounded_rule, is_bounded_line}
 use Rattle.zone_values.specs.Seconds.{with_type}
-use Rattle.zone_values.specs.Values.{
-  SavingValue,
-  no_saving,
-  one_off,
-  multiple,
-  InfoValue,
-  RuleValue,
-  space,
-  zone,
-  continuation,
-  rule,
-  link,
-}
+use Rattle.zone_values.specs.Values.{SavingValue, no_saving, one_off, multiple, InfoValue, RuleValue, space, zone, continuation, rule, link}
 use Rattle.zone_values.specs.declared.change.ChangeTime.{ChangeTime}
 use Rattle.zone_values.specs.declared.change.ChangeTime.TheVariants.{UntilYear, UntilTime}
 use Rattle.zone_values.specs.declared.day.DaySpec.{DaySpec}

@@ -1,18 +1,7 @@
 -- The days that rules and ends name, and the moments of ends, at worked rows.
 use Rattle.std.proofs.Common.{◌≡◌, [], ◌∷◌, map, true, false, Some, None, refl, pos, negsuc, arith}
 use Rattle.std.proofs.lemmas.Int.{ints}
-use Rattle.calendar.specs.Days.{
-  is_leap,
-  days_in_year,
-  days_in_month,
-  days_after_zero,
-  year_start,
-  days_through,
-  days_into_year,
-  day,
-  IsDate,
-  IsCountedYear,
-}
+use Rattle.calendar.specs.Days.{is_leap, days_in_year, days_in_month, days_after_zero, year_start, days_through, days_into_year, day, IsDate, IsCountedYear}
 use Rattle.calendar.specs.DateLaws.{month_of-day, day_of-day}
 use Rattle.calendar.specs.Dates.{last_with}
 use Rattle.calendar.specs.Weekdays.{weekday_of}

@@ -6,17 +6,7 @@ use Rattle.std.specs.declared.string.String.{String}
 use Rattle.zone_values.specs.Faults.{fault_name, fault_of, refused, told_text}
 use Rattle.zone_values.specs.declared.error.Error.TheVariants as error
 use Rattle.zone_values.specs.declared.fault.FaultKind.{FaultKind}
-use Rattle.zone_values.specs.declared.fault.FaultKind.TheVariants.{
-  FailedYearParse,
-  FailedMonthParse,
-  FailedWeekdayParse,
-  InvalidLineType,
-  TypeColumnContainedNonHyphen,
-  CouldNotParseSaving,
-  InvalidDaySpec,
-  InvalidTimeSpecAndType,
-  NonWallClockInTimeSpec,
-}
+use Rattle.zone_values.specs.declared.fault.FaultKind.TheVariants.{FailedYearParse, FailedMonthParse, FailedWeekdayParse, InvalidLineType, TypeColumnContainedNonHyphen, CouldNotParseSaving, InvalidDaySpec, InvalidTimeSpecAndType, NonWallClockInTimeSpec}
 
 abbrev kinds : List FaultKind
 kinds = FailedYearParse ∷ FailedMonthParse ∷ FailedWeekdayParse ∷ InvalidLineType ∷ TypeColumnContainedNonHyphen

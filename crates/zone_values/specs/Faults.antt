@@ -6,17 +6,7 @@ use Rattle.zone_values.specs.declared.error.Error.{Error}
 use Rattle.zone_values.specs.declared.error.Error.TheVariants as error
 use Rattle.zone_values.specs.declared.fault.Fault as code
 use Rattle.zone_values.specs.declared.fault.FaultKind.{FaultKind}
-use Rattle.zone_values.specs.declared.fault.FaultKind.TheVariants.{
-  FailedYearParse,
-  FailedMonthParse,
-  FailedWeekdayParse,
-  InvalidLineType,
-  TypeColumnContainedNonHyphen,
-  CouldNotParseSaving,
-  InvalidDaySpec,
-  InvalidTimeSpecAndType,
-  NonWallClockInTimeSpec,
-}
+use Rattle.zone_values.specs.declared.fault.FaultKind.TheVariants.{FailedYearParse, FailedMonthParse, FailedWeekdayParse, InvalidLineType, TypeColumnContainedNonHyphen, CouldNotParseSaving, InvalidDaySpec, InvalidTimeSpecAndType, NonWallClockInTimeSpec}
 
 pub record Fault : Type 0 where
   pub kind : FaultKind

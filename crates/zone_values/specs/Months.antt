@@ -4,20 +4,7 @@ use Rattle.zone_values.specs.Faults.{Fault, refused}
 use Rattle.zone_values.specs.declared.fault.FaultKind.TheVariants.{FailedMonthParse}
 use Rattle.zone_values.specs.Names.{is_name, lower}
 use Rattle.zone_values.specs.declared.month.Month.{Month}
-use Rattle.zone_values.specs.declared.month.Month.TheVariants.{
-  January,
-  February,
-  March,
-  April,
-  May,
-  June,
-  July,
-  August,
-  September,
-  October,
-  November,
-  December,
-}
+use Rattle.zone_values.specs.declared.month.Month.TheVariants.{January, February, March, April, May, June, July, August, September, October, November, December}
 
 -- from 1 to 12
 abbrev pub month_number : Month → ℕ

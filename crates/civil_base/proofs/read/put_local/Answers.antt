@@ -1,5 +1,4 @@
-use Rattle.std.proofs.Common.{rules, arith, ℕ, length, take, to_z, of_z, to_z-of_z, FitsSigned, w32, ap, ◌∙◌}
-use Rattle.std.proofs.Common.{length-take}
+use Rattle.std.proofs.Common.{rules, arith, ℕ, length, take, to_z, of_z, to_z-of_z, FitsSigned, w32, ap, ◌∙◌, length-take}
 use Rattle.calendar.specs.Dates.{year_of, month_of, day_of}
 use Rattle.calendar.specs.MonthLaws.{days_in_month-bounds}
 use Rattle.civil_parts.specs.Months.{month_number}

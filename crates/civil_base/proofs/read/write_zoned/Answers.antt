@@ -1,7 +1,6 @@
-use Rattle.std.proofs.Common.{arith, ℕ, ◌++◌, ◌∷◌, length, ap, ◌∙◌}
+use Rattle.std.proofs.Common.{arith, ℕ, ◌++◌, ◌∷◌, length, ap, ◌∙◌, length-append}
 use Rattle.civil_base.specs.Layout.{local_text, zoned_text, offset_text}
 use Rattle.civil_base.specs.DateTimes.{instant, offset_of, local_of}
-use Rattle.std.proofs.Common.{length-append}
 use Rattle.civil_base.proofs.DateTimeLemmas.{local-instant}
 use Rattle.civil_base.specs.TextLaws.{zoned_text-same}
 use Rattle.civil_base.proofs.read.write_zoned.Goals as goal

@@ -1,6 +1,4 @@
-use Rattle.tz_posix.proofs.RealPairLemmas.{lord_howe_agrees, lord_howe_same, lord_howe_south, lord_howe_spelled}
-use Rattle.tz_posix.proofs.RealPairLemmas.{moldova_agrees, moldova_north, moldova_same, moldova_spelled}
-use Rattle.tz_posix.proofs.RealPairLemmas.{new_york_agrees, new_york_north, new_york_same, new_york_spelled}
+use Rattle.tz_posix.proofs.RealPairLemmas.{lord_howe_agrees, lord_howe_same, lord_howe_south, lord_howe_spelled, moldova_agrees, moldova_north, moldova_same, moldova_spelled, new_york_agrees, new_york_north, new_york_same, new_york_spelled}
 use Rattle.tz_posix.proofs.laws.real_pairs_agree.Goals as goal
 
 pub returns : goal.returns

@@ -5,10 +5,7 @@ use Rattle.calendar.specs.ComparisonLaws.{le_from_pass, le_from_fail, lt_from_pa
 use Rattle.calendar.specs.SignedLaws.{signed, signed_casts, floored}
 use Rattle.civil_base.specs.Ranges.{first_day, last_day, IsDay}
 use Rattle.tz_posix_core.proofs.YearLemmas.{is_year-inside, is_year-later, is_year-earlier}
-use Rattle.tz_posix_core.proofs.rule.year_of_second.Goals.{
-  then-second-lt-FIRST_SECOND-via-then-second-lt-FIRST_SECOND,
-  then-second-lt-FIRST_SECOND-via-else-second-lt-FIRST_SECOND+then-second-ge-END,
-}
+use Rattle.tz_posix_core.proofs.rule.year_of_second.Goals.{then-second-lt-FIRST_SECOND-via-then-second-lt-FIRST_SECOND, then-second-lt-FIRST_SECOND-via-else-second-lt-FIRST_SECOND+then-second-ge-END}
 use Rattle.tz_posix_core.proofs.rule.year_of_second.Goals as goal
 
 -- the day of a second

@@ -1,5 +1,4 @@
-use Rattle.std.proofs.Common.{rules, ◌≡◌, ◌∙◌, Ok}
-use Rattle.std.proofs.Common.{map as each}
+use Rattle.std.proofs.Common.{rules, ◌≡◌, ◌∙◌, Ok, map as each}
 use Rattle.std.proofs.lemmas.Iterator.{YieldsList-from_map_by, YieldsList-from_slice}
 use Rattle.std.proofs.lemmas.Iterator.Consumers.{map_from_collect, YieldsList-at}
 use Rattle.zone_table.proofs.TreeLemmas.{shown_children}

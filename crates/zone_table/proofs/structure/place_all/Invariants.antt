@@ -1,5 +1,4 @@
-use Rattle.std.proofs.Common.{◌≡◌, take}
-use Rattle.std.proofs.Common.{map as each}
+use Rattle.std.proofs.Common.{◌≡◌, take, map as each}
 use Rattle.std.specs.List.{flat_map}
 use Rattle.std.specs.Map.Iter.{deref}
 use Rattle.zone_table.specs.NameTree.{children_in}

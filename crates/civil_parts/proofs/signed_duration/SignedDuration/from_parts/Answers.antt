@@ -1,5 +1,4 @@
-use Rattle.std.proofs.Common.{arith, ◌≡◌, ◌≤◌, true, ℤ, pos, ◌+ℤ◌, ◌*ℤ◌, to_z, of_z, to_z-of_z, FitsSigned, w32, w64}
-use Rattle.std.proofs.Common.{unsigned_abs, ◌∙◌, sym}
+use Rattle.std.proofs.Common.{arith, ◌≡◌, ◌≤◌, true, ℤ, pos, ◌+ℤ◌, ◌*ℤ◌, to_z, of_z, to_z-of_z, FitsSigned, w32, w64, unsigned_abs, ◌∙◌, sym}
 use mir.Syntax.{w128}
 use Rattle.std.proofs.lemmas.Bool.{and_parts, leb-true}
 use Rattle.calendar.specs.SignedLaws.{signed_casts, one_sided}

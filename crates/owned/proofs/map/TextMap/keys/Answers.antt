@@ -1,5 +1,4 @@
-use Rattle.std.proofs.Common.{refl, sym}
-use Rattle.std.proofs.Common.{map as each}
+use Rattle.std.proofs.Common.{refl, sym, map as each}
 use Rattle.std.specs.Cmp.{eq_by_cmp_equiv}
 use Rattle.std.specs.Cmp.Lexicographic.{nat_list_cmp_total, on_texts}
 use Rattle.std.specs.List.{IsDistinct}

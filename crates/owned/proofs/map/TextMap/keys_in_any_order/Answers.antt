@@ -1,5 +1,4 @@
-use Rattle.std.proofs.Common.{rules, ◌≡◌, Ok, sym, ◌∙◌, subst, string_bytes}
-use Rattle.std.proofs.Common.{map as each}
+use Rattle.std.proofs.Common.{rules, ◌≡◌, Ok, sym, ◌∙◌, subst, string_bytes, map as each}
 use Rattle.std.specs.HashMap.{keys}
 use Rattle.std.specs.List.Sorted.{IsPermutation}
 use Rattle.std.specs.Map.Iter.{deref}

@@ -3,13 +3,13 @@ use Rattle.tz_ever.specs.EverShown.{ever_seen}
 use Rattle.zone_run.specs.Readings.{found_in_table}
 use Rattle.zone_run.specs.Responses.{TellsCause}
 use Rattle.zone_run.specs.declared.found.FindFault.{FindFault}
-use Rattle.zone_ever.specs.Spans.{spans_for_ever}
-use Rattle.zone_ever.proofs.SpansLemmas.{spans_found_is, spans_refused}
+use Rattle.zone_ever.specs.Readings.{spans_for_ever, with_cycles}
+use Rattle.zone_ever.proofs.EverLemmas.{given_refused, spans_are}
 use Rattle.zone_ever.proofs.zone.EverZoneFoundZone.find.Goals as goal
 
 pub returns-in-Ok-clause-spans : goal.returns-in-Ok-clause-spans
 returns-in-Ok-clause-spans c =
-    spans_found_is c.args.table.now c.args.name.now (ever_seen c.in-Ok.set) c.in-Ok.ensures.ok c.of_each_set.ensures.accepted.range
+    spans_are c.args.table.now c.args.name.now (ever_seen c.in-Ok.set) c.in-Ok.ensures.ok c.of_each_set.ensures.accepted.range
 
 pub returns-in-Ok-clause-accepted : goal.returns-in-Ok-clause-accepted
 returns-in-Ok-clause-accepted c = c.unrolled_is_accepted.ensures (ever_seen c.in-Ok.set) c.of_each_set.ensures.accepted
@@ -17,4 +17,4 @@ returns-in-Ok-clause-accepted c = c.unrolled_is_accepted.ensures (ever_seen c.in
 pub returns-in-Err-clause-err : goal.returns-in-Err-clause-err
 returns-in-Err-clause-err c =
     subst (λ (f : FindFault). TellsCause (found_in_table spans_for_ever c.args.table.now c.args.name.now) f) (sym c.find_fault.ensures)
-    (spans_refused c.args.table.now c.args.name.now c.in-Err.fault c.in-Err.ensures.err)
+    (given_refused (λ rulesets lines. with_cycles) c.args.table.now c.args.name.now c.in-Err.fault c.in-Err.ensures.err)

@@ -6,9 +6,9 @@ use Rattle.zone_run.proofs.found.FixedTimespanSetFoundZone.find.Goals as goal
 pub returns-in-Ok-clause-spans : goal.returns-in-Ok-clause-spans
 returns-in-Ok-clause-spans c =
     let table = c.args.table.now in
-    compiled_found (get table.rulesets) (resolved_in table c.args.name.now) c.in-Ok.set c.in-Ok.ensures.ok.1 c.in-Ok.ensures.accepted.range
+    compiled_found (λ set. set) (get table.rulesets) (resolved_in table c.args.name.now) c.in-Ok.set c.in-Ok.ensures.ok.1 c.in-Ok.ensures.accepted.range
 
 pub returns-in-Err-clause-err : goal.returns-in-Err-clause-err
 returns-in-Err-clause-err c =
     let table = c.args.table.now in
-    compiled_refused (get table.rulesets) (resolved_in table c.args.name.now) c.in-Err.fault c.in-Err.ensures.err
+    compiled_refused (λ set. set) (get table.rulesets) (resolved_in table c.args.name.now) c.in-Err.fault c.in-Err.ensures.err
