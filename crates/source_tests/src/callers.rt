@@ -91,25 +91,38 @@ fn seconds(offset: Option<UtcOffset>) -> Option<i32> {
     Some(offset?.whole_seconds())
 }
 
+/// 2024-07-01 00:00:00 UTC.
+const SUMMER: i64 = 1_719_792_000;
+
 /// A compiled file of one offset.
 const FILE: &[u8] = b"\
 TZif2\0\0\0\0\0\0\0\0\0\0\0\0\0\0\0\0\0\0\0\0\0\0\0\0\0\0\0\0\0\0\0\0\0\0\x01\0\0\0\x01\0\0\0\0\0\0\0\
 TZif2\0\0\0\0\0\0\0\0\0\0\0\0\0\0\0\0\0\0\0\0\0\0\0\0\0\0\0\0\0\0\0\0\0\0\x01\0\0\0\x04\
 \0\0\x15\x18\0\0TST\0\nTST-1:30\n";
 
+/// Asserts what a database and a string over it give in summer.
+fn expect_summer(rt: &impl Abort, database: &Database) {
+    let summer = at(rt, SUMMER);
+    let tokyo = seconds(offset_in(database, "Asia/Tokyo", &summer));
+    let new_york = seconds(posix_offset(database, "EST5EDT,M3.2.0,M11.1.0", &summer));
+    same(rt, &(tokyo, new_york), &(Some(32_400), Some(-14_400)));
+}
+
 #[test]
-fn a_database_a_string_and_a_file(rt: HostRuntime) {
+fn a_database_and_a_string(rt: HostRuntime) {
     let alloc = rt.alloc();
     let database = database(&rt, alloc);
-    let summer = at(&rt, 1_719_792_000);
-    let tokyo = seconds(offset_in(&database, "Asia/Tokyo", &summer));
-    let new_york = seconds(posix_offset(&database, "EST5EDT,M3.2.0,M11.1.0", &summer));
-    same(&rt, &(tokyo, new_york), &(Some(32_400), Some(-14_400)));
+    expect_summer(&rt, &database);
     let count = how_many(alloc, &database, "o").expect(&rt, "memory");
-    let Ok(of_file) = offset_in_file(alloc, FILE, &summer) else {
+    same(&rt, &count, &2);
+}
+
+#[test]
+fn a_file(rt: HostRuntime) {
+    let Ok(offset) = offset_in_file(rt.alloc(), FILE, &at(&rt, SUMMER)) else {
         panic!(&rt; "not read");
     };
-    same(&rt, &(count, of_file.whole_seconds()), &(2, 5400));
+    same(&rt, &offset.whole_seconds(), &5400);
 }
 
 /// A ring's date-time as text, and nothing where there is none.

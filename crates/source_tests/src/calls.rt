@@ -13,7 +13,7 @@ use std::process::Abort;
 use std::sync::ledger::{Blank, Ledger};
 use tz_ever::{EverFault, EverSet, EverTz};
 use tz_lookup::{
-    CompactTz, Offset, OffsetDateTimeExt, OffsetResult, PrimitiveDateTimeExt, Steps, TimeZone, Tz,
+    CompactSet, CompactTz, Offset, OffsetDateTimeExt, OffsetResult, PrimitiveDateTimeExt, Steps, TimeZone, Tz,
 };
 use tz_posix::{Date, PosixTz, Time};
 use tz_zone::{ZoneFault, compile_zone};
@@ -78,26 +78,40 @@ fn found_compactly(compact: &CompactTz<'_>, local: PlainDateTime) -> bool {
     finds_two_compactly::<Brand>(compact, local, Blank::new(1))
 }
 
+/// Asserts the later instant of that local time, and the earlier one.
+fn expect_two(rt: &impl Abort, zone: &Tz<'_>) {
+    same(rt, &found(zone, fold(rt)), &true);
+    let later = read_zoned("2024-11-03 01:30:00.000000000 -05:00:00");
+    same(rt, &fold(rt).assume_timezone(zone).take_second(), &later);
+    let as_utc = read_zoned("2024-11-03 01:30:00.000000000 -04:00:00");
+    same(rt, &Some(fold(rt).assume_timezone_utc(zone)), &as_utc);
+}
+
 #[test]
 fn a_fold_has_two_offsets(rt: HostRuntime) {
-    let alloc = rt.alloc();
-    let database = database_of(&rt, alloc, NEW_YORK);
+    let database = database_of(&rt, rt.alloc(), NEW_YORK);
     let zone = database
         .get_by_name("America/New_York")
         .expect(&rt, "no zone");
-    let Ok(set) = zone_of_source(alloc, &parser(&rt, alloc), NEW_YORK, "America/New_York") else {
-        panic!(&rt; "no zone");
+    expect_two(&rt, &zone);
+}
+
+fn compact_new_york(rt: &impl Abort, alloc: Global) -> CompactSet {
+    let Ok(set) = zone_of_source(alloc, &parser(rt, alloc), NEW_YORK, "America/New_York") else {
+        panic!(rt; "no zone");
     };
-    let compact = CompactTz::new(&set);
-    let both = (
-        found(&zone, fold(&rt)),
-        found_compactly(&compact, fold(&rt)),
-    );
-    same(&rt, &both, &(true, true));
-    let later = read_zoned("2024-11-03 01:30:00.000000000 -05:00:00");
-    same(&rt, &fold(&rt).assume_timezone(&zone).take_second(), &later);
-    let as_utc = read_zoned("2024-11-03 01:30:00.000000000 -04:00:00");
-    same(&rt, &Some(fold(&rt).assume_timezone_utc(&zone)), &as_utc);
+    set
+}
+
+#[test]
+fn a_fold_has_two_offsets_in_a_compact_set(rt: HostRuntime) {
+    let set = compact_new_york(&rt, rt.alloc());
+    let is_found = found_compactly(&CompactTz::new(&set), fold(&rt));
+    same(&rt, &is_found, &true);
+}
+
+#[test]
+fn two_offsets_are_told_apart(rt: HostRuntime) {
     let two = OffsetResult::Ambiguous(1, 2);
     same(&rt, &(two.unwrap_first(), two.unwrap_second()), &(1, 2));
 }

@@ -80,26 +80,39 @@ const ENDING: &[u8] =
 /// A second of July 2150.
 const JULY_2150: i64 = 5_695_963_200;
 
-#[test]
-fn a_zone_goes_on_where_its_lines_do(rt: HostRuntime) {
-    let alloc = rt.alloc();
-    let zone = zone_of(&rt, alloc, SHORT, "East");
+/// Asserts what New York has in force in July 2150.
+fn expect_summer(rt: &impl Abort, zone: &OpenZone) {
     let mut name = [0; 3];
-    let found = zone.in_force(&at(&rt, JULY_2150), &mut name);
+    let found = zone.in_force(&at(rt, JULY_2150), &mut name);
     same(
-        &rt,
+        rt,
         &(zone.last_year(), found.offset, found.is_saving, name),
         &(9999, -14_400, true, *b"EDT"),
     );
+}
+
+/// Asserts the change in the spring before.
+fn expect_spring(rt: &impl Abort, zone: &OpenZone) {
     let Some(change) = zone.next_change(5_680_281_600) else {
         panic!(rt; "no change");
     };
     same(
-        &rt,
+        rt,
         &(change.second, change.offset, change.saving),
         &(5_686_009_200, -14_400, 3600),
     );
-    let zone = zone_of(&rt, alloc, ENDING, "Europe/Ending");
+}
+
+#[test]
+fn a_zone_goes_on_where_its_lines_do(rt: HostRuntime) {
+    let zone = zone_of(&rt, rt.alloc(), SHORT, "East");
+    expect_summer(&rt, &zone);
+    expect_spring(&rt, &zone);
+}
+
+#[test]
+fn a_zone_keeps_to_2099_where_its_lines_do(rt: HostRuntime) {
+    let zone = zone_of(&rt, rt.alloc(), ENDING, "Europe/Ending");
     same(
         &rt,
         &(zone.last_year(), zone.offset_at(&at(&rt, JULY_2150))),
@@ -168,20 +181,31 @@ fn product(rt: &impl Abort, alloc: Global) -> Vec<u8> {
     text
 }
 
+/// The fault for which a source in any form is refused.
+fn refusal(rt: &impl Abort, alloc: Global, source: &[u8]) -> AnySourceFault {
+    match OpenSource::open(alloc, source) {
+        Err(fault) => fault,
+        Ok(_) => panic!(rt; "opened"),
+    }
+}
+
 #[test]
 fn refused_sources_are_told_by_their_faults(rt: HostRuntime) {
+    match refusal(&rt, rt.alloc(), b"Z A 0 - X\nZ A 1 - Y\n") {
+        AnySourceFault::Line(number, cause) => {
+            same(&rt, &(number, cause.name()), &(2, "DuplicateZone"));
+        }
+        _ => panic!(rt; "no line is told"),
+    }
+}
+
+#[test]
+fn a_source_whose_plain_form_is_too_long_is_told_so(rt: HostRuntime) {
     let alloc = rt.alloc();
-    let Err(AnySourceFault::Line(number, cause)) = OpenSource::open(
-        alloc,
-        b"Z A 0 - X\nZ A 1 - Y\n",
-    ) else {
-        panic!(rt; "no line is told");
-    };
-    same(&rt, &(number, cause.name()), &(2, "DuplicateZone"));
-    let Err(AnySourceFault::PlainTooLong) = OpenSource::open(alloc, product(&rt, alloc).as_slice())
-    else {
-        panic!(rt; "not too long");
-    };
+    match refusal(&rt, alloc, product(&rt, alloc).as_slice()) {
+        AnySourceFault::PlainTooLong => {}
+        _ => panic!(rt; "not too long"),
+    }
 }
 
 /// A compiled file as `zic -b slim` writes it of the rules of Europe from 1996 on, after local mean time, and the string at its end.
@@ -245,6 +269,11 @@ fn a_zone_lists_its_changes(rt: HostRuntime) {
     };
     let lines = listing.into_bytes();
     same(&rt, &lines.as_slice(), &CHANGES);
+}
+
+#[test]
+fn a_change_without_a_date_is_not_listed(rt: HostRuntime) {
+    let alloc = rt.alloc();
     let zone = zone_of(&rt, alloc, b"Z A 0 - A 9999 D 31 99\n1 - B\n", "A");
     let Err(error) = zone.lines(alloc, 0, 999_999_999_999) else {
         panic!(rt; "listed");
@@ -258,11 +287,14 @@ fn second_of(ring: Option<&Ring>) -> Option<i64> {
     Some(ring?.at?.unix_timestamp())
 }
 
-/// Asserts when an alarm at half past two rings around the change of March 2024 in Europe, and that none rings past all years.
+fn half_past_two(rt: &impl Abort) -> Time {
+    Time::from_hms(2, 30, 0).expect(rt, "a time")
+}
+
+/// Asserts when an alarm at half past two rings around the change of March 2024 in Europe.
 fn expect_rings(rt: &impl Abort, alloc: Global, zone: &AnyZone) {
-    let time = Time::from_hms(2, 30, 0).expect(rt, "a time");
     let first = Date::from_calendar_date(2024, Month::March, 30).expect(rt, "a date");
-    let Ok(rings) = zone.alarms(alloc, time, first, 3) else {
+    let Ok(rings) = zone.alarms(alloc, half_past_two(rt), first, 3) else {
         panic!(rt; "no rings");
     };
     let seconds = (
@@ -272,23 +304,29 @@ fn expect_rings(rt: &impl Abort, alloc: Global, zone: &AnyZone) {
     );
     let wanted = (Some(1_711_762_200), None, Some(1_711_931_400));
     same(rt, &seconds, &wanted);
+}
+
+/// Asserts that none rings past all years.
+fn expect_no_rings(rt: &impl Abort, alloc: Global, zone: &AnyZone) {
     let last = Date::from_calendar_date(9999, Month::December, 31).expect(rt, "a date");
-    let Err(error) = zone.alarms(alloc, time, last, 2) else {
+    let Err(error) = zone.alarms(alloc, half_past_two(rt), last, 2) else {
         panic!(rt; "rings past the years");
     };
-    prints(
-        rt,
-        alloc,
-        &error,
-        "the last day of the alarm is past 9999-12-31",
-    );
+    let wanted = "the last day of the alarm is past 9999-12-31";
+    prints(rt, alloc, &error, wanted);
 }
 
 #[test]
-fn an_alarm_rings_in_zones_of_both_kinds(rt: HostRuntime) {
+fn an_alarm_rings_in_a_zone_of_a_source(rt: HostRuntime) {
     let alloc = rt.alloc();
-    let zone = zone_of(&rt, alloc, PARIS, "Europe/Paris");
-    expect_rings(&rt, alloc, &AnyZone::Source(zone));
+    let zone = AnyZone::Source(zone_of(&rt, alloc, PARIS, "Europe/Paris"));
+    expect_rings(&rt, alloc, &zone);
+    expect_no_rings(&rt, alloc, &zone);
+}
+
+#[test]
+fn an_alarm_rings_in_a_zone_of_a_file(rt: HostRuntime) {
+    let alloc = rt.alloc();
     let Ok(zone) = FileZone::read(alloc, FILE) else {
         panic!(rt; "not read");
     };
@@ -322,21 +360,27 @@ fn crc32(bytes: &[u8]) -> u32 {
     !crc
 }
 
+fn plain_source(rt: &impl Abort, alloc: Global, text: &[u8]) -> OpenSource {
+    let Ok(source) = OpenSource::open_plain(alloc, text) else {
+        panic!(rt; "not opened");
+    };
+    source
+}
+
 #[test]
 fn an_open_source_has_an_archive(rt: HostRuntime) {
     let alloc = rt.alloc();
-    let Ok(source) = OpenSource::open_plain(alloc, TREE) else {
-        panic!(rt; "not opened");
-    };
-    let Ok(archive) = source.tree(alloc) else {
+    let Ok(archive) = plain_source(&rt, alloc, TREE).tree(alloc) else {
         panic!(rt; "no archive");
     };
     let sum = crc32(archive.as_slice());
     same(&rt, &(archive.len(), sum), &(6656, 2_971_615_741));
-    let Ok(source) = OpenSource::open_plain(alloc, b"Zone A 0 - A\nLink B C\n") else {
-        panic!(rt; "not opened");
-    };
-    let Err(error) = source.tree(alloc) else {
+}
+
+#[test]
+fn a_link_to_nothing_has_no_archive(rt: HostRuntime) {
+    let alloc = rt.alloc();
+    let Err(error) = plain_source(&rt, alloc, b"Zone A 0 - A\nLink B C\n").tree(alloc) else {
         panic!(rt; "an archive");
     };
     prints(&rt, alloc, &error, "tree C: link");
