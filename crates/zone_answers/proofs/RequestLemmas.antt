@@ -1,5 +1,6 @@
 -- A number of nanoseconds, digit by digit.
 use Rattle.std.proofs.Common.{◌≡◌, ℕ, zero, suc, ◌+◌, ◌-◌, ◌*◌, ◌^◌, ◌<◌, ◌≤◌, ◌&&◌, true, Bool, List, [], ◌∷◌, length, take, get_or, arith, nat_lt, nat_le, ltb-true, lit<, lit≤}
+use Rattle.std.proofs.Common.{length-take}
 use Rattle.std.proofs.lemmas.Bool.{and_parts, leb-true}
 use Rattle.std.proofs.lemmas.Int.Digits.{digits_value-lt, digits_value_more}
 use Rattle.std.proofs.lemmas.Str.{digit_value_digit}
@@ -38,17 +39,36 @@ digit_below [] i h l = absurd (omega arith)
 digit_below (d ∷ ds) zero h l = ltb-true _ 10 (and_parts (is_digit d 10) _ h).0
 digit_below (d ∷ ds) (suc i) h l = digit_below ds i (and_parts (is_digit d 10) _ h).1 (omega arith)
 
--- the number of the digits up to a place, and one more
-pub record IsStep (ds : List ℕ) (i size : ℕ) : Type 0 where
+-- the number of the digits up to a place, and one more; it is below a limit
+pub record IsStep (limit : ℕ) (ds : List ℕ) (i size : ℕ) : Type 0 where
   pub byte : 48 ≤ get_or ds i 0
   pub value : 10 * size + (get_or ds i 0 - 48) ≡ digits_value 10 (take (i + 1) ds)
-  pub bound : 10 * size + (get_or ds i 0 - 48) < 2 ^ 127
+  pub bound : 10 * size + (get_or ds i 0 - 48) < limit
 
-pub step : (ds : List ℕ) (i size : ℕ) → is_number ds ≡ true → i < length ds → size ≡ digits_value 10 (take i ds) → IsStep ds i size
-step ds i size is l same =
+step_below : (limit : ℕ) (ds : List ℕ) (i size : ℕ) → is_number ds ≡ true → i < length ds → size ≡ digits_value 10 (take i ds)
+    → digits_value 10 (take (i + 1) ds) < limit → IsStep limit ds i size
+step_below limit ds i size is l same below =
     let all = (and_parts (nat_lt 0 (length ds) && nat_le (length ds) 30) _ is).1 in
     let digit = digit_below ds i all l in
     let byte = digit_value_digit (get_or ds i 0) (digit_from_value (get_or ds i 0) digit) in
     let more = digits_value_more 10 ds i l in
-    let part = part_below ds (i + 1) is in
-    record { byte = omega (arith, byte); value = omega (arith, byte, more, same); bound = omega (arith, byte, more, same, part) }
+    record { byte = omega (arith, byte); value = omega (arith, byte, more, same); bound = omega (arith, byte, more, same, below) }
+
+pub step : (ds : List ℕ) (i size : ℕ) → is_number ds ≡ true → i < length ds → size ≡ digits_value 10 (take i ds)
+    → IsStep (2 ^ 127) ds i size
+step ds i size is l same = step_below (2 ^ 127) ds i size is l same (part_below ds (i + 1) is)
+
+all_in_front : (ds : List ℕ) (i : ℕ) → AllDigits 10 ds → AllDigits 10 (take i ds)
+all_in_front ds zero h = tt
+all_in_front [] (suc i) h = tt
+all_in_front (d ∷ ds) (suc i) h = (h.0, all_in_front ds i h.1)
+
+pub front_step : (ds : List ℕ) (i size : ℕ) → is_number ds ≡ true → i < length ds → i < 18 → size ≡ digits_value 10 (take i ds)
+    → IsStep (2 ^ 64) ds i size
+front_step ds i size is l few same =
+    let all = digits_from ds (and_parts (nat_lt 0 (length ds) && nat_le (length ds) 30) _ is).1 in
+    let below = digits_value-lt 10 (take (i + 1) ds) (all_in_front ds (i + 1) all) in
+    let long : length (take (i + 1) ds) ≤ 18 = omega (arith, length-take {A = ℕ}) in
+    let most : 10 ^ length (take (i + 1) ds) ≤ 10 ^ 18 = pow-le-pow_right (lit< tt) long in
+    let room : 10 ^ 18 ≤ 2 ^ 64 = lit≤ tt in
+    step_below (2 ^ 64) ds i size is l same (omega (arith, below, most, room))

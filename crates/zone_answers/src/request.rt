@@ -1,5 +1,5 @@
 //! A request line.
-ghost use Rattle.std.specs.Prelude.{◌≡◌, ◌<◌, ◌^◌, true, option_map, if◌then◌else◌, pos, neg_ℤ};
+ghost use Rattle.std.specs.Prelude.{◌≡◌, ◌<◌, ◌≤◌, ◌^◌, true, length, take, option_map, if◌then◌else◌, pos, neg_ℤ};
 ghost use Rattle.std.specs.Str.Parse.{digits_value};
 ghost use Rattle.std.specs.Char.{is_digit};
 ghost use Rattle.std.specs.List.{before_first, after_first, list_all};
@@ -94,11 +94,26 @@ fn size_of(digits: &[u8]) -> u128
     ensures value { result ≡ digits_value 10 digits.now }
     ensures bound { result < 2 ^ 127 }
 {
-    let mut size = 0;
-    for i in 0..digits.len() {
+    let first = digits.len().min(18);
+    let mut size = u128::from(front_of(digits, first));
+    for i in first..digits.len() {
         size = 10 * size + u128::from(digits[i] - b'0');
     }
     size
+}
+
+/// The number that the first digits write, at most 18 of them.
+fn front_of(digits: &[u8], count: usize) -> u64
+    requires digits { is_number digits.now ≡ true }
+    requires within { count ≤ length digits.now }
+    requires few { count ≤ 18 }
+    ensures { result ≡ digits_value 10 (take count digits.now) }
+{
+    let mut front = 0;
+    for i in 0..count {
+        front = 10 * front + u64::from(digits[i] - b'0');
+    }
+    front
 }
 
 /// The number of that size, below zero or not.
