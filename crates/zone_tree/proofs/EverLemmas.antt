@@ -15,7 +15,7 @@ use Rattle.zone_source.specs.Faults.{SourceFault, source_fault}
 use Rattle.zone_source.specs.FaultLines.{source_line}
 use Rattle.zone_source.specs.Releases.{release_of}
 use Rattle.zone_source.specs.Responses.{IsLineOf}
-use Rattle.ustar.specs.Entries.{Content}
+use Rattle.ustar.specs.Entries.{Content, of_file, of_link}
 use Rattle.zone_source.specs.Told.{TellsOfSource, told_by_source}
 use Rattle.zone_source.specs.Zones.{values_of}
 use Rattle.zone_source.specs.declared.error.SourceError.{SourceError}
@@ -27,9 +27,9 @@ use Rattle.zone_tree.specs.Contents.{has_mark, is_marked}
 use Rattle.zone_tree.specs.EverTold.{IsEverFaultOf, IsFirstEver, RefusesName, TellsWhy, made_shown}
 use Rattle.zone_tree.specs.EverTrees.{AreContents, Contents, HasContent, unopened, unwritten, IsEverCause, IsEverTree, OfSource, OfTree, content_in, file_why, zone_why}
 use Rattle.zone_tree.specs.EverWrites.{IsEverLine, IsFaultLine}
-use Rattle.zone_tree.specs.Names.{finds_by_table}
+use Rattle.zone_tree.specs.Names.{finds_by_table, finds_by}
 use Rattle.zone_tree.specs.Told.{IsFirst}
-use Rattle.zone_tree.specs.Trees.{Cause, Refused, of_name, of_source, or_cause, refused, tree_by}
+use Rattle.zone_tree.specs.Trees.{Cause, Refused, of_name, of_source, or_cause, refused, tree_by, after_source}
 use Rattle.zone_tree.specs.declared.ever.Made.{Made}
 use Rattle.zone_tree.specs.declared.refusal.NameFault.{NameFault}
 use Rattle.zone_tree.specs.declared.refusal.NameFault.TheVariants as name
@@ -39,6 +39,9 @@ use Rattle.zone_tree.specs.declared.refusal.Why.{Why}
 use Rattle.zone_tree.specs.declared.refusal.Why.TheVariants.{Name}
 use Rattle.zone_tzif_set.specs.EverFiles.{IsEverFileFault}
 use Rattle.zone_tzif_set.specs.declared.ever.EverFileFault.{EverFileFault}
+use Rattle.zone_tree.specs.TreeShape.{IsTree}
+use Rattle.zone_tree.proofs.LawLemmas.{HasFiles, IsFile, ok_same, tree_with}
+use Rattle.zone_tree.proofs.NameLemmas.{finds_same}
 
 -- ---- marks
 
@@ -196,3 +199,29 @@ pub ever_line : (source bytes : List ℕ) (fault : TreeFault) → IsEverFaultOf 
 ever_line source bytes (tree.Source error) is line = line_of_source source bytes (told_by_source error) (error ≡ source_error.NoMemory) is line
 ever_line source bytes (tree.Refused text why) is line = record { cause = of_name (refused text why); is = is; line = line }
 ever_line source bytes tree.NoMemory is line = absurd line
+
+-- ---- the entries
+
+-- whatever was made of a zone is a file
+made_files : (table : Table) (contents : Contents) → All (λ (c : List ℕ × Result Content Why). HasContent table c.0 c.1) contents
+    → HasFiles (content_in contents)
+made_files table [] all text content h = absurd cc
+made_files table (c ∷ contents) all text content h =
+    by_name (bytes_eq text c.0) h (made_files table contents (λ k d l. all (suc k) d (omega (arith, l))) text content)
+  where
+    here : (r : Result Content Why) → HasContent table c.0 r → r ≡ Ok content → IsFile content
+    here (Ok (of_file bytes)) has e = record { bytes = bytes; is = ok_same (of_file bytes) content e }
+    here (Ok (of_link target)) has e = absurd has
+    here (Err why) has e = absurd cc
+
+    by_name : (b : Bool) → cond b c.1 (content_in contents text) ≡ Ok content → (content_in contents text ≡ Ok content → IsFile content)
+        → IsFile content
+    by_name true h more = here c.1 (all 0 c (omega arith)) h
+    by_name false h more = more h
+
+pub ever_tree : (source bytes : List ℕ) → IsEverTree source bytes → IsTree source bytes
+ever_tree source bytes is =
+    let content = content_in is.tree.contents in
+    tree_with source bytes content (made_files is.table is.tree.contents is.tree.are.each)
+    (ap (λ fault. after_source fault (tree_by (release_of source) (finds_by source content))) is.sound
+    ∙ ap (λ finds. or_cause (tree_by (release_of source) finds)) (sym (finds_same is.table source content is.is_table)) ∙ is.tree.tree)

@@ -57,7 +57,7 @@ abbrev given : {A E : Type 0} → A → Result A E → A
 given d (Ok x) = x
 given d (Err e) = d
 
-ok_same : {A E : Type 0} (x y : A) → ◌≡◌ {A = Result A E} (Ok x) (Ok y) → x ≡ y
+pub ok_same : {A E : Type 0} (x y : A) → ◌≡◌ {A = Result A E} (Ok x) (Ok y) → x ≡ y
 ok_same x y h = ap (given x) h
 
 -- ---- the entry of a name

@@ -5,6 +5,7 @@ ghost use Rattle.zone_source.specs.Releases.{release_of};
 ghost use Rattle.zone_source.specs.Zones.{values_of};
 ghost use Rattle.zone_table.specs.Tables.{IsTableOf};
 ghost use Rattle.zone_table.specs.declared.table.Table.{Table};
+ghost use Rattle.zone_tree.specs.EverTrees.{IsEverTree};
 ghost use Rattle.zone_tree.specs.Names.{finds_in_table};
 ghost use Rattle.zone_tree.specs.TreeShape.{IsTree};
 ghost use Rattle.zone_tree.specs.Trees.{or_cause, tree_by, tree_of};
@@ -15,6 +16,11 @@ ghost use Rattle.zone_tree.specs.Trees.{or_cause, tree_by, tree_of};
 /// its beginning finds what the link is to.
 pub fn names_and_links()
     ensures { (source bytes : List ℕ) → tree_of source ≡ Ok bytes → IsTree source bytes }
+{}
+
+/// So it is in the archive of a source for ever.
+pub fn ever_names_and_links()
+    ensures { (source bytes : List ℕ) → IsEverTree source bytes → IsTree source bytes }
 {}
 
 /// The archive of a source is that of its table with its release, where the source has no fault.

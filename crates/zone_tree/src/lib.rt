@@ -13,7 +13,7 @@ mod respond;
 mod running;
 mod whole;
 
-pub use laws::{names_and_links, same_by_table};
+pub use laws::{ever_names_and_links, names_and_links, same_by_table};
 pub use refusal::{TreeFault, Why};
 pub use running::{run_tree, start_tree};
 pub use whole::{tree, tree_for_ever, tree_of_table, tree_of_table_for_ever};

@@ -1,5 +1,5 @@
 -- The file of a zone for ever shows what the zone does.
-use Rattle.std.proofs.Common.{◌≡◌, ℕ, zero, suc, ◌<◌, ◌≤◌, Bool, true, false, cond, ◌&&◌, List, [], ◌∷◌, length, map, filter, take, Option, Some, None, Result, Ok, Err, IfOk, ℤ, pos, ◌*ℤ◌, ◌≤ℤ◌, ◌<ℤ◌, int_le, int_lt, refl, sym, ap, subst, ◌∙◌, arith}
+use Rattle.std.proofs.Common.{◌≡◌, ℕ, zero, suc, ◌<◌, Bool, true, false, cond, ◌&&◌, List, [], ◌∷◌, length, map, filter, Option, Some, None, Result, Ok, Err, IfOk, ℤ, pos, ◌*ℤ◌, ◌≤ℤ◌, ◌<ℤ◌, int_le, refl, sym, ap, subst, ◌∙◌, arith}
 use Rattle.std.specs.List.{list_all}
 use Rattle.std.specs.Prelude.{MatchResult}
 use Rattle.std.proofs.lemmas.Bool.{and_parts}
@@ -9,7 +9,7 @@ use Rattle.civil_base.specs.Instants.{seconds_of}
 use Rattle.zone_spans.specs.Entries.{Entry, total}
 use Rattle.zone_spans.specs.Schedules.{last_total, total_at}
 use Rattle.tz_ever.specs.Ever.{ever_total}
-use Rattle.tz_ever.specs.Seam.{brought_back, next_seam}
+use Rattle.tz_ever.specs.Seam.{next_seam}
 use Rattle.tz_ever.specs.SeamLaws.{back_is}
 use Rattle.tz_footer.specs.FooterLaws.{no_text}
 use Rattle.tz_footer.specs.InForce.{FooterZone, held_at}

@@ -15,7 +15,7 @@ use Rattle.zone_tzif_core.specs.Tzif.{added, are_names, are_times, each_once, fi
 use Rattle.zone_tzif_core.specs.Zones.{KindValue, ZoneValue, is_small}
 use Rattle.zone_tzif_core.specs.declared.values.WriteFault.TheVariants as write
 use Rattle.zone_tzif_set.specs.Files.{consistent_footer, consistent_zone, file_fault, footer_of}
-use Rattle.zone_tzif_set.specs.Values.{change_by, kind_by, value_by, value_of}
+use Rattle.zone_tzif_set.specs.Values.{change_by, kind_by, value_by}
 use Rattle.zone_tzif_set.specs.declared.convert.Saves.{Saves}
 use Rattle.zone_tzif_set.specs.declared.convert.Saves.TheVariants.{Above}
 use Rattle.zone_tzif_set.proofs.FooterLemmas.{consistent_clean, footer_clean}

@@ -1,5 +1,5 @@
 -- The file of a zone for ever, and why there is none.
-use Rattle.std.specs.Prelude.{◌≡◌, ℕ, Bool, true, ◌&&◌, nat_le, List, filter, Option, Some, None, if◌then◌else◌, ℤ, int_le}
+use Rattle.std.specs.Prelude.{ℕ, Bool, true, ◌&&◌, nat_le, List, filter, Option, Some, None, if◌then◌else◌, ℤ, int_le}
 use Rattle.tz_footer.specs.InForce.{FooterZone}
 use Rattle.tz_footer.specs.Values.{FooterValue, SavingValue}
 use Rattle.tz_posix_core.specs.declared.time.Offset.{Offset}

@@ -1,4 +1,4 @@
-use Rattle.std.proofs.Common.{◌∙◌, ap, string_bytes, subst, sym, true, ◌≡◌}
+use Rattle.std.proofs.Common.{◌∙◌, ap, string_bytes, true, ◌≡◌}
 use Rattle.tz_ever.specs.EverShown.{ever_seen}
 use Rattle.zone_tzif_core.specs.Format.{is_one_line}
 use Rattle.zone_tzif_set.specs.Until.{until_of}
