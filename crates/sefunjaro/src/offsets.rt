@@ -14,9 +14,9 @@ ghost use Rattle.sefunjaro.specs.Offsets.{offsets_of, AreInYears};
 ghost use Rattle.sefunjaro.specs.Rooms.{filled};
 
 use crate::room::put;
+use crate::stretch::{Stretch, ever_stretch, stretch_of};
 use crate::zone::offset_at;
 use civil_base::OffsetDateTime;
-use crate::stretch::{Stretch, ever_stretch, stretch_of};
 use tz_ever::EverSet;
 use tz_lookup::CompactSet;
 use tz_tzif::TzifTz;

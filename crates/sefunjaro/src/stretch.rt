@@ -180,5 +180,9 @@ fn to_seam(second: i64) -> i64
     ensures seam { result ≤ℤ next_seam_second }
     ensures second { result ≤ℤ second }
 {
-    if second < NEXT_SEAM { second } else { NEXT_SEAM }
+    if second < NEXT_SEAM {
+        second
+    } else {
+        NEXT_SEAM
+    }
 }

@@ -94,14 +94,7 @@ impl<'a> CompactTz<'a> {
         let (low, high) = self.near(date_time);
         TzOffset::of_spans(
             self.set,
-            local_spans_counted(
-                self.set,
-                self.set.is_orderly(),
-                date_time,
-                low,
-                high,
-                steps,
-            ),
+            local_spans_counted(self.set, self.set.is_orderly(), date_time, low, high, steps),
         )
     }
 

@@ -22,8 +22,8 @@ returns g c =
       begun = subst (λ t. t ≤ℤ c.args.second) (sym from) (subst (λ t. c.begin_of-from.result ≤ℤ t) same c.begin_of-from.ensures.begun);
       here = at_second zone span c.args.second cut ∙ total;
       throughout = λ u low high. at_second zone span u (record {
-            within = cut.within;
-            before = c.begin_of-from.ensures.before u (subst (λ t. t ≤ℤ u) from low);
-            after = c.end_of-until.ensures u (subst (λ t. u <ℤ t) until high);
-          }) ∙ total;
+        within = cut.within;
+        before = c.begin_of-from.ensures.before u (subst (λ t. t ≤ℤ u) from low);
+        after = c.end_of-until.ensures u (subst (λ t. u <ℤ t) until high);
+      }) ∙ total;
     }
