@@ -445,7 +445,7 @@ static inline uint32_t sefunjaro_tail_for_ever(const struct sefunjaro_handle *zo
     return sefunjaro_tail_for_ever_by(&copy, text, room, whole, is_posix, fault);
 }
 
-/* The zone's TZif file for ever: each change up to that from which on this string says the same, and the string as the footer, so that
+/* The zone's TZif file for ever: each change before 2102, and this string as the footer, which says the same from one of them on, so that
    whoever reads the file has the zone's offset in each year up to 9999. It is of version 3 where the string needs it, and daylight saving
    time is what has a saving other than 0. It takes memory.
    NOT_OPEN; NOT_KEPT; NONE, with why there is no file: enum sefunjaro_ever_cause; NO_MEMORY. */
