@@ -6,18 +6,12 @@ use Rattle.std.proofs.lemmas.List.{drop_all, drop_more, get_or-map, length-map, 
 use Rattle.std.proofs.lemmas.Bool.{ltb-false, le-ltb, lt-ltb}
 use Rattle.owned.specs.Keyed.{text_cmp}
 use Rattle.zone_outside.specs.Limit.{text_limit}
-use Rattle.zone_source.specs.Zones.{source_value}
 use Rattle.zone_values.specs.Values.{LineValue, line_value, space}
 use Rattle.zone_values.specs.declared.line.Line.{Line}
 use Rattle.zone_values.specs.declared.line.Line.TheVariants.{Space}
 use Rattle.zone_plain_lines.specs.declared.cause.PlainCause.{PlainCause}
-use Rattle.zone_plain_base.specs.PlainTexts.{plain_text}
-use Rattle.zone_plain_base.specs.Said.{is_said}
-use Rattle.zone_plain_base.specs.SaidLaws.{source_value_is}
 use Rattle.zone_plain_base.specs.LineFaults.{Refusal, bad_line, too_long, at, onto, IsFaultOf}
 use Rattle.zone_plain_base.specs.Told.{fault_at, IsRefused}
-use Rattle.zone_plain_base.specs.declared.error.PlainFault.{PlainFault}
-use Rattle.zone_plain_base.specs.declared.error.PlainFault.TheVariants as fault
 use Rattle.zone_plain_base.specs.declared.error.Refused.{Refused}
 use Rattle.zone_plain_base.specs.declared.error.Refused.TheVariants.{Cause, NoMemory}
 use Rattle.zone_plain.specs.Settled.{link_size, settled_line, settled_from, settled}

@@ -1,10 +1,8 @@
 //! A tz source in any form that `zic` reads, written in the plain form that the other crates read.
 #![tactic(auto)]
 
-mod head;
 mod laws;
 mod links;
-mod mark;
 mod respond;
 mod running;
 mod whole;

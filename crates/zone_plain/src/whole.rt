@@ -1,28 +1,125 @@
-//! The plain form of a source: its lines, read, led through the stages and written out.
-ghost use Rattle.std.specs.Prelude.{◌≡◌, IfOk, IfErr, ◌≤◌, Ok, map, length};
+//! The plain form of a source: the line of its release; its mark; its lines, read, led through the stages and written out.
+ghost use Rattle.std.specs.Prelude.{◌≡◌, IfOk, IfErr, ◌≤◌, Ok, map, length, Some, ◌++◌, string_bytes, OnOk};
 ghost use Rattle.zone_values.specs.Values.{line_value};
-ghost use Rattle.zone_plain.specs.LineValues.{is_open_after, mark_in, values_in};
+ghost use Rattle.zone_plain.specs.LineValues.{is_open_after, mark_in, values_in, known, meant_in};
 ghost use Rattle.zone_plain.specs.Told.{IsReadLine, added_line, IsLineFault};
 ghost use Rattle.zone_plain_base.specs.Told.{IsRefused};
 ghost use Rattle.zone_source.specs.Zones.{source_value};
 ghost use Rattle.zone_plain_base.specs.LineFaults.{IsFaultOf};
 ghost use Rattle.zone_plain.specs.Plain.{plain_of};
 ghost use Rattle.zone_plain.specs.Rebuilt.{IsRebuilt};
+ghost use Rattle.zone_plain.specs.Heads.{is_silent, head_with, head_of};
+ghost use Rattle.zone_plain_base.specs.Marks.{behind, tails};
+ghost use Rattle.zone_plain_base.specs.Renamed.{ruleset_of};
 
-use crate::head::head_of;
 use crate::links::settle;
-use crate::mark::mark_in;
-use std::alloc::Global;
+use std::alloc::{AllocError, Global};
 use zone_line::{Line, LineParser, LineReader};
 use zone_plain_base::{
-    PlainFault, Refused, fault_at, line_meant, lines_read, said_name_of, under, write_said,
+    PlainFault, Refused, behind_underscore, fault_at, is_read, line_at, line_meant, lines_read,
+    mark_behind, said_name_of, under, write_said,
 };
 use zone_plain_lines::PlainCause;
 use zone_plain_offsets::write_out;
-use zone_source::{LIMIT, LineList, Lines};
+use zone_source::{LIMIT, LineList, Lines, put_release_line, release_of, text_of};
+
+/// Whether the line is read as one that says nothing.
+#[tactic(auto, unfolding(crate::specs::Heads::is_silent))]
+fn is_silent(alloc: Global, parser: &LineParser, line: &[u8]) -> Result<bool, AllocError>
+    ensures { IfOk result (λ silent. silent ≡ is_silent line.now) }
+{
+    let Some(text) = text_of(line) else {
+        return Ok(false);
+    };
+    let mut reader = parser.reader(alloc)?;
+    let is_read = is_read(alloc, &mut reader, &Line::Space, text)?;
+    Ok(is_read)
+}
+
+/// The line that names a release, with its line feed.
+fn head_naming(alloc: Global, parser: &LineParser, release: &str) -> Result<Vec<u8>, PlainFault>
+    ensures ok { IfOk result (λ head. head_with (Some release.now) ≡ Ok head.items) }
+    ensures err { IfErr result (IsLineFault (head_with (Some release.now))) }
+{
+    let mut head = Vec::new(alloc);
+    put_release_line(&mut head, release)?;
+    if !is_silent(alloc, parser, head.as_slice())? {
+        return Err(PlainFault::Line(1, PlainCause::Unsayable));
+    }
+    head.extend_from_slice(b"\n")?;
+    Ok(head)
+}
+
+/// The line that names the source's release, with its line feed; nothing where it names none.
+#[tactic(auto, unfolding(crate::specs::Heads::head_of))]
+fn head_of(alloc: Global, parser: &LineParser, source: &[u8]) -> Result<Vec<u8>, PlainFault>
+    ensures ok { IfOk result (λ head. head_of source.now ≡ Ok head.items) }
+    ensures err { IfErr result (IsLineFault (head_of source.now)) }
+{
+    match release_of(source) {
+        Some(release) => head_naming(alloc, parser, release),
+        None => Ok(Vec::new(alloc)),
+    }
+}
+
+/// Adds what stands behind the `_` in the name of the ruleset that a line is of or names, if it begins with one.
+fn add_name(names: &mut LineList, line: &Line<'_>) -> Result<(), AllocError>
+    ensures { OnOk result (names.new ≡ names.old ++ behind 95 (ruleset_of (line_value line.now))) }
+{
+    match behind_underscore(line) {
+        Some(name) => names.push(name),
+        None => Ok(()),
+    }
+}
+
+/// What stands behind the `_` in the names of a source's rulesets that begin with one; nothing where a line is refused.
+fn names_of(alloc: Global, source: &[u8]) -> Result<LineList, AllocError>
+    requires { length source.now ≤ LIMIT }
+    ensures { IfOk result (λ names. names ≡ tails 95 (map ruleset_of (known (meant_in source.now)))) }
+{
+    let mut laid = Vec::new(alloc);
+    let mut is_open = false;
+    let mut names = LineList::new(alloc);
+    for line in Lines::new(source) {
+        match line_meant(alloc, is_open, line, &mut laid) {
+            Ok(meant) => {
+                add_name(&mut names, &meant)?;
+                is_open = is_open_after(is_open, &meant);
+            }
+            Err(Refused::NoMemory) => return Err(AllocError),
+            Err(Refused::Cause(_)) => return Ok(LineList::new(alloc)),
+        }
+    }
+    if is_open {
+        return Ok(LineList::new(alloc));
+    }
+    Ok(names)
+}
+
+/// The lines of a list, borrowed.
+fn slices(alloc: Global, lines: &LineList) -> Result<Vec<&[u8]>, AllocError>
+    ensures { IfOk result (λ slices. map (λ line. line.now) slices.items ≡ lines.now) }
+{
+    let mut slices = Vec::new(alloc);
+    for place in 0..lines.len() {
+        slices.push(line_at(lines, place))?;
+    }
+    Ok(slices)
+}
+
+/// The mark of a source, with which the name of no ruleset begins.
+fn mark_in(alloc: Global, source: &[u8]) -> Result<String, AllocError>
+    requires { length source.now ≤ LIMIT }
+    ensures { IfOk result (λ mark. string_bytes mark ≡ mark_in source.now) }
+{
+    let names = names_of(alloc, source)?;
+    let slices = slices(alloc, &names)?;
+    let mark = mark_behind(alloc, slices)?;
+    Ok(mark)
+}
 
 /// Whether a line of the zone has to follow, where one had to before.
-pub(crate) fn is_open_after(is_open: bool, line: &Line<'_>) -> bool
+fn is_open_after(is_open: bool, line: &Line<'_>) -> bool
     ensures { result ≡ is_open_after is_open (line_value line.now) }
 {
     match line {
@@ -35,7 +132,7 @@ pub(crate) fn is_open_after(is_open: bool, line: &Line<'_>) -> bool
 
 /// Reads a line in its place, and adds its plain text to the lines, with its ruleset by its name in the plain form of a source of that
 /// mark. Answers whether a line of the zone has to follow.
-pub(crate) fn read_line(
+fn read_line(
     alloc: Global,
     reader: &mut LineReader<'_>,
     mark: &str,
@@ -61,11 +158,7 @@ pub(crate) fn read_line(
 }
 
 /// The plain texts of a source's lines, each as it stands, or the first line that is refused.
-pub(crate) fn read_lines(
-    alloc: Global,
-    parser: &LineParser,
-    source: &[u8],
-) -> Result<LineList, PlainFault>
+fn read_lines(alloc: Global, parser: &LineParser, source: &[u8]) -> Result<LineList, PlainFault>
     requires { length source.now ≤ LIMIT }
     ensures ok { IfOk result (λ lines. values_in source.now ≡ Ok (map source_value lines)) }
     ensures err { IfErr result (IsLineFault (values_in source.now)) }

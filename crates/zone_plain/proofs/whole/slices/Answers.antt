@@ -1,6 +1,6 @@
 use Rattle.std.proofs.Common.{◌∙◌, ◌++◌, ◌∷◌, ◌<◌, [], sym, ap, map, take, length, arith}
 use Rattle.std.proofs.lemmas.List.{map-append, take_more}
-use Rattle.zone_plain.proofs.mark.slices.Goals as goal
+use Rattle.zone_plain.proofs.whole.slices.Goals as goal
 
 pub loop-place-preserved : goal.loop-place-preserved
 loop-place-preserved c =

@@ -1,7 +1,7 @@
 use Rattle.std.proofs.Common.{◌∙◌, ap}
 use Rattle.zone_source.specs.LinesLeft.{lines_left}
 use Rattle.zone_plain.proofs.MetLemmas.{nothing_met, one_met, none_met, open_met, all_met}
-use Rattle.zone_plain.proofs.mark.names_of.Goals as goal
+use Rattle.zone_plain.proofs.whole.names_of.Goals as goal
 
 pub loop-line-init : goal.loop-line-init
 loop-line-init c =

@@ -1,5 +1,5 @@
 use Rattle.zone_plain.proofs.MetLemmas.{mark_is}
-use Rattle.zone_plain.proofs.mark.mark_in.Goals as goal
+use Rattle.zone_plain.proofs.whole.mark_in.Goals as goal
 
 pub returns : goal.returns
 returns c = mark_is c.args.source.now _ _ _ c.in_ok-names.ensures c.in_ok-slices.ensures c.in_ok-mark.ensures

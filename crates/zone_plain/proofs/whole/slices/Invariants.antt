@@ -1,5 +1,5 @@
 use Rattle.std.proofs.Common.{◌≡◌, map, take}
-use Rattle.zone_plain.proofs.mark.slices.Given as goal
+use Rattle.zone_plain.proofs.whole.slices.Given as goal
 
 -- the lines so far
 abbrev pub invariant-loop-place : goal.invariant-loop-place
