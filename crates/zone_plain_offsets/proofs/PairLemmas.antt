@@ -8,8 +8,8 @@ use Rattle.zone_values.specs.Values.{LineValue}
 use Rattle.zone_plain_offsets.specs.PairLaws.{pair_itself, among_joined}
 use Rattle.zone_plain_offsets.specs.Pairs.{Pair, Asked, under, asked, is_same, is_among, with_pair, number_of, joined_by, pairs_from}
 use Rattle.zone_plain_offsets.specs.Shown.{pair_shown}
-use Rattle.zone_plain_offsets.specs.declared.pairs.Pair as code
-use Rattle.zone_plain_offsets.specs.contracts.pairs.PairPartialEq.TheImpl as same
+use Rattle.zone_plain_offsets.specs.declared.asked.Pair as code
+use Rattle.zone_plain_offsets.specs.contracts.asked.PairPartialEq.TheImpl as same
 
 same_shown : (a b : code.Pair) → same.ghosts.eq a b ≡ is_same (pair_shown a) (pair_shown b)
 same_shown a b = refl

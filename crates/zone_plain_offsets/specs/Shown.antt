@@ -5,7 +5,7 @@ use Rattle.zone_plain_offsets.specs.declared.parts.Parts.{Parts}
 use Rattle.zone_plain_offsets.specs.Formats as of_format
 use Rattle.zone_plain_offsets.specs.Pairs as of_pair
 use Rattle.zone_plain_offsets.specs.declared.asked.Around.{Around}
-use Rattle.zone_plain_offsets.specs.declared.pairs.Pair.{Pair}
+use Rattle.zone_plain_offsets.specs.declared.asked.Pair.{Pair}
 use Rattle.zone_plain_offsets.specs.declared.asked.Asked.{Asked}
 use Rattle.zone_plain_offsets.specs.declared.asked.Asked.TheVariants as code
 

@@ -1,13 +1,16 @@
-//! What `%z` asks of a line, and the texts of totals that it is written out as.
-ghost use Rattle.std.specs.Prelude.{◌≡◌, option_map, string_bytes, IfOk};
+//! What `%z` asks of a line, the texts of totals that it is written out as, and pairs of a ruleset and an offset, each once.
+ghost use Rattle.std.specs.Prelude.{◌≡◌, option_map, string_bytes, IfOk, [], FitsSigned, OnOk, not};
 ghost use Rattle.zone_plain_offsets.specs.Formats.{around_mark};
 ghost use Rattle.zone_plain_offsets.specs.Made.{around_text, with_format, with_ruleset};
-ghost use Rattle.zone_plain_offsets.specs.Shown.{parts_shown, asked_shown};
+ghost use Rattle.zone_plain_offsets.specs.Shown.{parts_shown, asked_shown, pair_shown};
 ghost use Rattle.zone_values.specs.Values.{line_value, info_value};
-ghost use Rattle.zone_plain_offsets.specs.Pairs.{asked, asked_by};
+ghost use Rattle.zone_plain_offsets.specs.Pairs.{asked, asked_by, is_same, with_pair, number_of};
+ghost use mir.Syntax.{w64};
+ghost use Rattle.std.specs.List.{list_any};
 
-use crate::pairs::Pair;
+use indexmap::IndexSet;
 use std::alloc::{AllocError, Global};
+use std::marker::Model;
 use text_parts::{after_mark, cut};
 use zone_line::{Line, Saving, Zone, ZoneInfo};
 
@@ -22,7 +25,7 @@ pub(crate) struct Around<'t> {
 
 /// The parts of a format with `%z`.
 #[tactic(auto, unfolding(crate::specs::Formats::around_mark))]
-pub(crate) fn around_mark(format: &str) -> Option<Around<'_>>
+fn around_mark(format: &str) -> Option<Around<'_>>
     ensures { option_map parts_shown result ≡ around_mark format.now }
 {
     let (before, after) = cut('%', format)?;
@@ -122,5 +125,59 @@ pub(crate) fn with_ruleset<'a>(line: &Line<'a>, name: &'a str) -> Line<'a>
         Line::Space => Line::Space,
         Line::Rule(rule) => Line::Rule(rule),
         Line::Link(link) => Line::Link(link),
+    }
+}
+
+/// A ruleset and a standard offset in seconds.
+#[derive(Clone, Copy, PartialEq, Eq, Hash, Drop)]
+pub(crate) struct Pair<'t> {
+    /// The offset.
+    pub(crate) offset: i64,
+    /// The name of the ruleset.
+    pub(crate) rules: &'t str,
+}
+
+/// The offset of a pair, in seconds.
+pub(crate) fn offset_of(pair: &Pair<'_>) -> i64
+    ensures value { result ≡ pair.now.offset }
+    ensures fits { FitsSigned w64 pair.now.offset }
+{
+    pair.offset
+}
+
+/// The pairs that were asked for so far. Contracts see them in the order in which they came.
+#[derive(Drop)]
+pub(crate) struct Pairs<'t> {
+    met: IndexSet<Pair<'t>>,
+}
+
+impl<'t> Model for Pairs<'t> {
+    ghost use Rattle.std.specs.Prelude.{List, map};
+    ghost use Rattle.zone_plain_offsets.specs.Pairs as of_pair;
+    ghost use Rattle.zone_plain_offsets.specs.Shown.{pair_shown};
+
+    ghost Value = { List of_pair.Pair };
+
+    ghost view = { λ pairs. map pair_shown pairs.met.keys };
+}
+
+impl<'t> Pairs<'t> {
+    /// No pair was asked for yet.
+    pub(crate) fn new(alloc: Global) -> Pairs<'t>
+        ensures { result ≡ [] }
+    {
+        Pairs {
+            met: IndexSet::new(alloc),
+        }
+    }
+
+    /// The number of a pair, which counts from 0, and whether the pair was added: it joins the others where it isn't among them.
+    pub(crate) fn number(&mut self, pair: Pair<'t>) -> Result<(usize, bool), AllocError>
+        ensures pairs { OnOk result (self.new ≡ with_pair self.old (pair_shown pair.entry)) }
+        ensures number { IfOk result (λ found. found.0 ≡ number_of self.old (pair_shown pair.entry)) }
+        ensures added { IfOk result (λ found. found.1 ≡ not (list_any (is_same (pair_shown pair.entry)) self.old)) }
+    {
+        let (number, is_new) = self.met.insert_full(pair)?;
+        Ok((number, is_new))
     }
 }

@@ -4,9 +4,6 @@
 mod asked;
 mod laws;
 mod made;
-mod name;
-mod offset;
-mod pairs;
 mod parts;
 mod stage;
 

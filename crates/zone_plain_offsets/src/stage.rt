@@ -12,11 +12,10 @@ ghost use Rattle.zone_plain_base.specs.Renamed.{mark_of};
 ghost use Rattle.zone_plain_offsets.specs.OffsetTexts.{offset_text, has_text};
 ghost use Rattle.zone_plain_offsets.specs.Shown.{parts_shown, pair_shown, text_in};
 
-use crate::asked::{Around, Asked, around_text, asked_of, with_format, with_ruleset};
-use crate::made::{add_rules, add_said};
-use crate::name::made_name;
-use crate::offset::{has_text, offset_text};
-use crate::pairs::{Pair, Pairs, offset_of};
+use crate::asked::{
+    Around, Asked, Pair, Pairs, around_text, asked_of, offset_of, with_format, with_ruleset,
+};
+use crate::made::{add_rules, add_said, has_text, made_name, offset_text};
 use crate::parts::{Parts, joined, put_in_part};
 use owned::{Items, TextMap};
 use std::alloc::{AllocError, Global};

@@ -1,7 +1,7 @@
 use Rattle.std.proofs.Common.{◌≡◌, map, take, ◌++◌}
 use Rattle.std.specs.Prelude.{string_bytes}
 use Rattle.zone_plain_offsets.specs.Names.{letter}
-use Rattle.zone_plain_offsets.proofs.name.put_letters.Given as goal
+use Rattle.zone_plain_offsets.proofs.made.put_letters.Given as goal
 
 -- the letters so far
 abbrev pub invariant-loop-digit : goal.invariant-loop-digit

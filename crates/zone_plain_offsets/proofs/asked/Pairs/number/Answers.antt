@@ -3,7 +3,7 @@ use Rattle.std.specs.List.{list_any}
 use Rattle.zone_plain_offsets.specs.Pairs.{is_same, with_pair, number_of}
 use Rattle.zone_plain_offsets.specs.Shown.{pair_shown}
 use Rattle.zone_plain_offsets.proofs.PairLemmas.{shown_insert, place_shown, any_shown}
-use Rattle.zone_plain_offsets.proofs.pairs.Pairs.number.Goals as goal
+use Rattle.zone_plain_offsets.proofs.asked.Pairs.number.Goals as goal
 
 pub returns-clause-pairs : goal.returns-clause-pairs
 returns-clause-pairs c =
