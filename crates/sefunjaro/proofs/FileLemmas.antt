@@ -29,6 +29,11 @@ lent zone tz of P h = record { footer = says_of tz; says = of.accepted.says; hol
 both : (a b : Bool) → a ≡ true → b ≡ true → (a && b) ≡ true
 both a b h k = λ i. h i && k i
 
+pub small_offset : (o : ℤ) → IsOffset o → is_small o ≡ true
+small_offset o h =
+    both (int_le (negsuc 93598) o) (int_le o (pos 93599)) (le_pass (negsuc 93598) o (omega (arith, ints, offset_least o h)))
+    (le_pass o (pos 93599) (omega (arith, ints, offset_greatest o h)))
+
 -- the offset of standard time is what the string writes
 pub standard_of : (value : FooterValue) → standard_total (stands_for value) ≡ east_of value.standard.offset
 unfolding stands_for

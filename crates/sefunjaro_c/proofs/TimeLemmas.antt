@@ -19,6 +19,13 @@ low = first_time -ℤ nanos_of (pos greatest_offset)
 abbrev high : ℤ
 high = end_of_times +ℤ nanos_of (pos greatest_offset)
 
+-- each instant whose local date lies in the years is near
+pub shown_is_near : (t o : ℤ) → IsOffset o → IsInYears (local_at t o) → is_near t ≡ true
+shown_is_near t o h years =
+    let late : low ≤ℤ t = omega (arith, ints, years_begin (local_at t o) years, offset_greatest o h) in
+    let early : t <ℤ high = omega (arith, ints, years_end (local_at t o) years, offset_least o h) in
+    (λ i. le_pass low t late i && lt_pass t high early i)
+
 -- the local time as the machine adds it up
 pub sum_is : (nanos seconds from : ℤ) → unsigned_abs nanos < 10000000000000000000000000000 → IsOffset seconds → from ≡ seconds
     → to_z w128 (of_z w128 (to_z w128 (of_z w128 nanos) +ℤ to_z w128 (of_z w128 (pos 1000000000 *ℤ to_z w128 (of_z w128 from)))))

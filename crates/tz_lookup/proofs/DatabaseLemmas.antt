@@ -54,6 +54,21 @@ insert_shown (x ∷ xs) k =
       | Greater ↦ ap (λ l. x.now ∷ l) (insert_shown xs k)
     ]
 
+-- one more name that passes
+pub placed_more : (p : List ℕ → Bool) (names : List (List ℕ)) (x : List ℕ) → p x ≡ true
+    → in_order text_cmp (reverse (filter p (names ++ x ∷ []))) ≡ insert_key text_cmp (in_order text_cmp (reverse (filter p names))) x
+placed_more p names x h =
+    ap (λ ns. in_order text_cmp (reverse ns))
+    (filter-append p names (x ∷ []) ∙ ap (λ b. filter p names ++ cond b (x ∷ []) []) h)
+    ∙ ap (in_order text_cmp) (reverse-append (filter p names) (x ∷ []))
+
+-- one more that doesn't
+pub passed_over : (p : List ℕ → Bool) (names : List (List ℕ)) (x : List ℕ) → p x ≡ false
+    → in_order text_cmp (reverse (filter p (names ++ x ∷ []))) ≡ in_order text_cmp (reverse (filter p names))
+passed_over p names x h =
+    ap (λ ns. in_order text_cmp (reverse ns))
+    (filter-append p names (x ∷ []) ∙ ap (λ b. filter p names ++ cond b (x ∷ []) []) h ∙ append-nil (filter p names))
+
 -- ---- the order in which they came is of no account
 
 any-reverse : {K : Type 0} (test : K → Bool) (xs : List K) → list_any test (reverse xs) ≡ list_any test xs

@@ -75,6 +75,11 @@ before_all second l = record {
 pub after_all : (second : ℤ) → pos 26192246400 ≤ℤ second → HaveBegun 1001 second
 after_all second l = begun_up_to 1000 second (omega arith) (subst (λ s. s ≤ℤ second) (sym last_second) l) (λ m. absurd (omega arith))
 
+-- the seconds of a day
+pub day_seconds : (t : ℤ) → ((pos 86400 *ℤ int_div_euclid t (pos 86400)) ≤ℤ t) × (t <ℤ (pos 86400 *ℤ int_div_euclid t (pos 86400) +ℤ pos 86400))
+day_seconds (pos n) = (omega (arith, ints), omega (arith, ints))
+day_seconds (negsuc n) = (omega (arith, ints), omega (arith, ints))
+
 -- the year of a day of the years from 1800 to 2799 is that of the day's seconds
 pub within_year : (t d y : ℤ) → (pos 86400 *ℤ d) ≤ℤ t → t <ℤ (pos 86400 *ℤ d +ℤ pos 86400) → negsuc 5364662399 ≤ℤ t → t <ℤ pos 26192246400
     → IsYearOf y d → IsWithinYear y t

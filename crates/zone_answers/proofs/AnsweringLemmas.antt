@@ -76,6 +76,15 @@ abbrev answer_in : ReadingError → AnswerError
 answer_in (Answer error) = error
 answer_in (RulesEnd n) = NoMemory
 
+-- an error that is told where zones are read in any way is told so
+pub told_today : (found : Option Fault) (error : AnswerError) → TellsReading found (Answer error) → TellsOf found error
+told_today found error tells = by_told (fault_told error) tells
+  where
+    by_told : (told : Option Fault) → MatchOption told (Answer error ≡ Answer NoMemory) (λ f. found ≡ Some f)
+        → MatchOption told (error ≡ NoMemory) (λ f. found ≡ Some f)
+    by_told None h = ap answer_in h
+    by_told (Some f) h = h
+
 -- a fault that isn't that a zone's rules end
 IsToday : Option Fault → Type 0
 IsToday (Some (bad_zone n rules_end)) = ⊥

@@ -18,6 +18,12 @@ use Rattle.zone_plain.specs.declared.links.Declared.{Declared}
 abbrev pub AreSteps : List LineValue → List ℕ → List ℕ → ℕ → Type 0
 AreSteps values name at i = (k : ℕ) → leads_to values (k + i) name ≡ leads_to values k at
 
+pub no_steps : (values : List LineValue) (name : List ℕ) → AreSteps values name name 0
+no_steps values name k = ap (λ n. leads_to values n name) (plus_none k)
+  where
+    plus_none : (k : ℕ) → k + 0 ≡ k
+    plus_none k = omega arith
+
 -- what was found of a name
 abbrev pub place_in : Declared → FinMap text_cmp ℕ → List ℕ → Option ℕ
 place_in d known name = option_or (get d.zones name) (get known name)

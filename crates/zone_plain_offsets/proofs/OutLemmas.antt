@@ -34,6 +34,21 @@ put_in_zones old new v is rules links zones Zones = zones ∙ ap (λ b. old Zone
 put_in_zones old new v is rules links zones Links =
     links ∙ sym (append-nil (old Links)) ∙ ap (λ b. old Links ++ cond b (line_text v) []) (sym is.2)
 
+pub put_in_parts : (old new : Part → List ℕ) (v : LineValue) → new Rules ≡ old Rules ++ part_text Rules v → new Zones ≡ old Zones ++ part_text Zones v
+    → new Links ≡ old Links ++ part_text Links v → (part : Part) → new part ≡ old part ++ part_text part v
+put_in_parts old new v rules zones links Rules = rules
+put_in_parts old new v rules zones links Zones = zones
+put_in_parts old new v rules zones links Links = links
+
+pub out_nothing : (values : List LineValue) (mark : List ℕ) (pairs : List Pair) (made : List ℕ) (old new : Part → List ℕ) (v : LineValue) → asked v ≡ nothing
+    → ((part : Part) → new part ≡ old part ++ part_text part v) → IsWrittenOut values mark pairs pairs made made old new v true
+out_nothing values mark pairs made old new v e added = record {
+  told = ap (λ a. is_asked_said values mark pairs a v) (sym e);
+  pairs = ap (λ a. joined_by a pairs) (sym e);
+  made = λ is_yes. sym (append-nil made) ∙ ap (λ a. made ++ flat_map line_text (asked_rules values mark pairs a)) (sym e);
+  added = λ is_yes part. added part ∙ ap (λ a. old part ++ part_text part (changed_by (named_in mark pairs) a v)) (sym e);
+}
+
 asks_total : (v : LineValue) (parts : Around) (t : ℤ) → asked v ≡ total parts t → asked v ≡ nothing → ⊥
 asks_total v parts t e none = cc
 
@@ -63,6 +78,18 @@ pub out_total_at : (values : List LineValue) (mark : List ℕ) (pairs : List Pai
 out_total_at values mark pairs made old new v parts given t said same e rules links added =
     out_total values mark pairs made old new v parts t said e rules links
     (subst (λ t. AreAdded (old Zones) (new Zones) (with_format v (around_text parts (offset_text t)) ∷ []) (has_text t && is_said (with_format v (around_text parts (offset_text t)))) said) same added)
+
+pub out_unsaid : (values : List LineValue) (mark : List ℕ) (old_pairs pairs : List Pair) (old_made made : List ℕ) (old : Part → List ℕ) (v : LineValue) (parts : Around) (pair : Pair) (said : Bool)
+    → asked v ≡ under parts pair → pairs ≡ with_pair old_pairs pair
+    → AreAdded old_made made (new_rules values mark old_pairs pair) (are_new_said values mark old_pairs pair) said → said ≡ false
+    → IsWrittenOut values mark old_pairs pairs old_made made old old v false
+out_unsaid values mark old_pairs pairs old_made made old v parts pair said e joined rules is_no = record {
+  told = ap (λ b. b && is_said (with_ruleset (with_format v (around_text parts (codes "%s"))) (named_in mark (with_pair old_pairs pair) pair))) (sym is_no ∙ rules.told)
+      ∙ ap (λ a. is_asked_said values mark old_pairs a v) (sym e);
+  pairs = joined ∙ ap (λ a. joined_by a old_pairs) (sym e);
+  made = λ is_yes. absurd (cc);
+  added = λ is_yes. absurd (cc);
+}
 
 pub out_under : (values : List LineValue) (mark : List ℕ) (old_pairs pairs : List Pair) (old_made made : List ℕ) (old new : Part → List ℕ) (v : LineValue) (parts : Around) (pair : Pair)
     (name : List ℕ) (rules_said said : Bool)

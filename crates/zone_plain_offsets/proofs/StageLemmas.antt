@@ -32,6 +32,16 @@ pub record HasWritten (limit : ℕ) (values : List LineValue) (pairs : List Pair
       ≡ flat_map (part_text part) (map (changed (name_in values)) values)
   pub goes_on : refused_from limit values n pairs left ≡ refused_from limit values 1 [] values
 
+pub nothing_written : (values : List LineValue) (out : Part → List ℕ) → ((part : Part) → out part ≡ [])
+    → HasWritten text_limit values [] [] out 1 values
+nothing_written values out none = record {
+  pairs_go = refl;
+  said = λ pair e. absurd (cc);
+  made_is = refl;
+  out_goes = λ part. ap (λ text. text ++ flat_map (part_text part) (map (changed (name_in values)) values)) (none part);
+  goes_on = refl;
+}
+
 -- a pair that was just asked for has the name that it has in the whole source
 name_is : (values left : List LineValue) (mark : List ℕ) (pairs : List Pair) (pair : Pair) → mark ≡ mark_of values
     → pairs_from (with_pair pairs pair) left ≡ pairs_of values → named_in mark (with_pair pairs pair) pair ≡ name_in values pair

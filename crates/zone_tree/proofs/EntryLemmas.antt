@@ -22,3 +22,8 @@ content_is name found set is =
     ap (zone_content name) is.spans
     ∙ ap (λ b. cond b (file_unless (is_marked (named name (spans_of set))) (named name (spans_of set))) (Err OffsetRange)) is.small
     ∙ ap (λ n. file_unless (is_marked (named n (spans_of set))) (named n (spans_of set))) (sym is.is_named)
+
+pub too_far : (name : List ℕ) (found : Found) → IsTooFar found → zone_content name found ≡ Err OffsetRange
+too_far name found far =
+    ap (zone_content name) far.is_found
+    ∙ ap (λ b. cond b (file_unless (is_marked (named name far.set)) (named name far.set)) (Err OffsetRange)) far.far

@@ -41,6 +41,9 @@ pub record HasPut (entry : List ℕ → Result EntryValue Why) (all left : List 
   pub bytes : now ≡ old ++ flat_map entry_bytes entries
   pub goes_on : before entries (entries_of entry left) ≡ entries_of entry all
 
+pub nothing_put : (entry : List ℕ → Result EntryValue Why) (all : List (List ℕ)) (old : List ℕ) → HasPut entry all all old old
+nothing_put entry all old = record { entries = []; bytes = sym (append-nil old); goes_on = before_none _ }
+
 pub one_put : (entry : List ℕ → Result EntryValue Why) (all left : List (List ℕ)) (name old now new : List ℕ)
     → HasPut entry all (name ∷ left) old now → IsPut now new (entry name) → HasPut entry all left old new
 unfolding entries_of

@@ -84,6 +84,11 @@ time_is wide (suc n) times (suc k) d within =
     ap (λ l. time_of wide (take size l)) (ap (λ m. drop m times) (sym (next_place wide k)) ∙ sym (drop-drop (size * k) size times))
     ∙ time_is wide n (drop size times) k d (omega (arith, within))
 
+-- the bytes of a time are there
+pub within_times : (wide : Bool) (count place long : ℕ) → long ≡ time_size wide * count → place < count → time_size wide * place + time_size wide ≤ long
+within_times true count place long e within = omega (arith, e, within)
+within_times false count place long e within = omega (arith, e, within)
+
 rise_step : (wide : Bool) (count : ℕ) (times : List ℕ) (i : ℕ) (x y : ℤ) → 1 ≤ i → i < count
     → x ≡ time_of wide (take (time_size wide) (drop (time_size wide * (i - 1)) times)) → y ≡ time_of wide (take (time_size wide) (drop (time_size wide * i) times))
     → go_up (drop (i - 1) (times_in wide count times)) ≡ (int_lt x y && go_up (drop i (times_in wide count times)))

@@ -20,6 +20,9 @@ put_kept view bytes begun all i so_far grown x within at more is =
     ∙ append_assoc so_far (bytes (view x)) (flat_map bytes (map view (drop (i + 1) all)))
     ∙ sym (ap (λ l. so_far ++ flat_map bytes (map view l)) front) ∙ is
 
+pub put_end : {A B : Type 0} (view : B → A) (bytes : A → List ℕ) (begun : List ℕ) (all : List B) (i : ℕ) (so_far : List ℕ) → length all ≤ i → PutSoFar view bytes begun all i so_far → so_far ≡ begun ++ flat_map bytes (map view all)
+put_end view bytes begun all i so_far over is = sym (append-nil so_far) ∙ sym (ap (λ l. so_far ++ flat_map bytes (map view l)) (drop_all i all over)) ∙ is
+
 -- the number of the place that is found
 place_seen : {A B : Type 0} (test : A → Bool) (view : B → A) (items : List B) → position_or_len test (map view items) ≡ position_or_len (λ item. test (view item)) items
 place_seen test view [] = refl

@@ -133,6 +133,9 @@ pub eight_again : (x : ℤ) → FitsSigned w64 x → eight_of (eight_bytes x) �
 unfolding eight_of eight_bytes
 eight_again x fits = ap (to_z w64) (from_be_bytes-to_be_bytes_8 (of_z w64 x) (small_eight x fits)) ∙ to_z-of_z w64 x fits
 
+flag_of : Bool → ℕ
+flag_of b = cond b 1 0
+
 kind_written : (names : List (List ℕ)) (kind : KindValue) → is_small kind.utoff ≡ true → list_any (bytes_eq kind.name) names ≡ true → list_all (λ c. not (nat_eq c 0)) kind.name ≡ true → IsUtf8 kind.name → IsKind (name_bytes names) (record_bytes names kind) kind
 unfolding record_bytes four_bytes name_bytes
 kind_written names kind small there no_zero text =
