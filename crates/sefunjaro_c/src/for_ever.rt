@@ -153,12 +153,7 @@ fn ever_file_in(alloc: Global, opened: &Opened, file: &mut [u8], whole: &mut usi
     }
 }
 
-fn ever_file_of_zone(
-    alloc: Global,
-    zone: &OpenZone,
-    file: &mut [u8],
-    whole: &mut usize,
-) -> Fault
+fn ever_file_of_zone(alloc: Global, zone: &OpenZone, file: &mut [u8], whole: &mut usize) -> Fault
     ensures answer { IsEverFileTold (ever_in zone.now) file.old file.new whole.new result }
     ensures kept { IfRefused result.status ((file.new ≡ file.old) × (whole.new ≡ whole.old)) }
 {

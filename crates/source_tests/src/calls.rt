@@ -13,7 +13,8 @@ use std::process::Abort;
 use std::sync::ledger::{Blank, Ledger};
 use tz_ever::{EverFault, EverSet, EverTz};
 use tz_lookup::{
-    CompactSet, CompactTz, Offset, OffsetDateTimeExt, OffsetResult, PrimitiveDateTimeExt, Steps, TimeZone, Tz,
+    CompactSet, CompactTz, Offset, OffsetDateTimeExt, OffsetResult, PrimitiveDateTimeExt, Steps,
+    TimeZone, Tz,
 };
 use tz_posix::{Date, PosixTz, Time};
 use tz_zone::{ZoneFault, compile_zone};
