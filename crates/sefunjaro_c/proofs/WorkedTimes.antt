@@ -1,5 +1,6 @@
 -- Worked examples: which instants may be asked, at the edges of the years.
-use Rattle.std.proofs.Common.{◌≡◌, true, false, pos, negsuc, refl}
+use Rattle.std.proofs.Common.{◌≡◌, true, false, pos, negsuc, refl, [], ◌∷◌, Some, None}
+use Rattle.sefunjaro_c.specs.Lists.{far_place}
 use Rattle.sefunjaro_c.specs.Times.{is_instant}
 
 -- 10000-01-01 04:30 UTC, when clocks in New York show 23:30 on the last day of 9999
@@ -23,3 +24,12 @@ before_all = refl
 -- a second has no more nanoseconds
 whole_second : is_instant (pos 0) 1000000000 ≡ false
 whole_second = refl
+
+-- of a list the first second outside the years is told by its place: the year 10000 begins
+far_second : far_place (pos 253402300799 ∷ pos 253402300800 ∷ negsuc 377705116800 ∷ []) ≡ Some 1
+unfolding far_place
+far_second = refl
+
+none_is_far : far_place (negsuc 377705116799 ∷ pos 253402300799 ∷ []) ≡ None
+unfolding far_place
+none_is_far = refl
