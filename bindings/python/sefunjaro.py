@@ -31,6 +31,7 @@ What `zoneinfo` does otherwise, besides what only one of the two has:
 """
 from __future__ import annotations
 
+import array
 import ctypes
 import datetime
 import enum
@@ -344,6 +345,7 @@ _posix_open = _function("sefunjaro_posix_open", ctypes.c_char_p, _length, _at, _
 _share = _function("sefunjaro_share_by", _at, _at)
 _close = _function("sefunjaro_close", _at, answer=None)
 _offset_at = _function("sefunjaro_offset_at_by", _at, *_instant, _at)
+_offsets_at = _function("sefunjaro_offsets_at_by", _at, _at, _size, _at, _size, _at)
 _in_force = _function("sefunjaro_in_force_by", _at, *_instant, _at, _at, _size)
 _clock_at = _function("sefunjaro_clock_at_by", _at, *_instant, _at, _at)
 _text_at = _function("sefunjaro_text_at_by", _at, *_instant, _at, _size, _at)
@@ -371,6 +373,24 @@ def _version_of_library() -> Tuple[str, int, int]:
 VERSION, FIRST_YEAR, LAST_YEAR = _version_of_library()
 """The version of the library's calls, and the first and the last year that the rules of a source are worked out for; past the last a zone
 goes on where its lines do, as `Zone.last_year` tells."""
+
+
+# How many seconds are asked in one call.
+_AT_ONCE = 1 << 16
+
+
+def _seconds_of(seconds: Any) -> memoryview:
+    """A buffer of 64-bit integers of one dimension, as it is or made of integers."""
+    try:
+        view = memoryview(seconds)
+    except TypeError:
+        try:
+            return memoryview(array.array("q", seconds))
+        except OverflowError:
+            raise OutOfRange("a second is none of 64 bits") from None
+    if view.ndim != 1 or view.itemsize != 8 or view.format.lstrip("@=") not in ("l", "q"):
+        raise TypeError(f"64-bit integers of one dimension are wanted, not {view.format!r} of {view.ndim}")
+    return view
 
 
 def _raise(status: int, of: str, fault: Any = None) -> NoReturn:
@@ -963,6 +983,25 @@ class Zone(_Asked, _Opened):
     def offset_at(self, second: int, nanosecond: int = 0) -> int:
         """The offset in force at an instant. Raises OutOfRange more than 93,599 seconds outside the years -9999 to 9999."""
         return self._number_at(_offset_at, ctypes.c_int32(), second, nanosecond)
+
+    def offsets_at(self, seconds: Any) -> array.array[int]:
+        """The offsets in force at many seconds, in their order, as an `array('i')`. They stand in a buffer of one dimension and 64-bit
+        integers, as `array('q')` or numpy's int64, or come of anything that gives integers. Seconds that rise cost least. Raises
+        TypeError of another buffer, and OutOfRange where one lies outside the years -9999 to 9999 in UTC, with its place in the text."""
+        view, found = _seconds_of(seconds), array.array("i")
+        room, place, handle = (ctypes.c_int32 * min(len(view), _AT_ONCE))(), ctypes.c_size_t(), self._handle
+        with memoryview(room) as offsets:
+            for begin in range(0, len(view), _AT_ONCE):
+                # A copy, so that nobody changes what is asked while it is.
+                asked = view[begin : begin + _AT_ONCE].tobytes()
+                count = len(asked) // 8
+                status = handle.ask(_offsets_at, asked, count, room, count, ctypes.byref(place))
+                if status == Status.OUT_OF_RANGE:
+                    raise OutOfRange(f"{self._name!r}: out of range at place {begin + place.value}")
+                if status:
+                    _raise(status, repr(self._name))
+                found.frombytes(offsets[:count])
+        return found
 
     def _number_at(self, call: Callable[..., int], number: Any, second: int, nanosecond: int) -> int:
         """The number that a call tells of an instant."""

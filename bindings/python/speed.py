@@ -2,10 +2,11 @@
 """usage: speed.py SOURCE [ROUNDS]
 
 The processor time of a call in nanoseconds, the best of nine turns: of a function of the library that does nothing, which is
-ctypes' own cost, of an offset at an instant, and of a datetime's utcoffset and astimezone with a zone of sefunjaro.py and with
+ctypes' own cost, of an offset at an instant, of one of many at once, in any order and rising, and of a datetime's utcoffset and astimezone with a zone of sefunjaro.py and with
 Python's zoneinfo."""
 import ctypes
 import time
+from array import array
 from datetime import datetime, timedelta, timezone
 from zoneinfo import ZoneInfo
 
@@ -27,12 +28,15 @@ def main():
     mine, theirs = sefunjaro.Source.from_path(SOURCE).zone(NAME), ZoneInfo(NAME)
     nothing, closed = sefunjaro._close, ctypes.byref(sefunjaro._RawHandle())
     seconds = [turn * 7919 * 3600 % 2030000000 for turn in range(rounds)]
+    many, rising = array("q", seconds), array("q", sorted(seconds))
     in_utc = locals_in(timezone.utc, rounds)
     in_mine, in_theirs = locals_in(mine, rounds), locals_in(theirs, rounds)
     parts = {
         "an empty loop": lambda: [None for _ in seconds],
         "a call that does nothing": lambda: [nothing(closed) for _ in seconds],
         "offset_at": lambda: [mine.offset_at(second) for second in seconds],
+        "offsets_at": lambda: mine.offsets_at(many),
+        "offsets_at, rising": lambda: mine.offsets_at(rising),
         "utcoffset": lambda: [moment.utcoffset() for moment in in_mine],
         "utcoffset, zoneinfo": lambda: [moment.utcoffset() for moment in in_theirs],
         "astimezone": lambda: [moment.astimezone(mine) for moment in in_utc],

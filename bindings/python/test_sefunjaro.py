@@ -1,4 +1,5 @@
 """The tests of sefunjaro.py over a small source of its own: python3 -m unittest, with SEFUNJARO_LIBRARY set."""
+import array
 import base64
 import copy
 import ctypes
@@ -184,6 +185,25 @@ class Zones(unittest.TestCase):
         rings = list(zone.alarms(time(2, 30), date(2024, 3, 30), 3))
         self.assertEqual([day for day, _ in rings], [date(2024, 3, 30), date(2024, 3, 31), date(2024, 4, 1)])
         self.assertEqual([ring and ring.second for _, ring in rings], [SPRING - 84600, None, SPRING + 84600])
+
+    def test_offsets_at(self):
+        seconds = [SPRING - 1, SPRING, AUTUMN - 1, AUTUMN, 4_000_000_000, -(10**11), *range(0, 2 * 10**9, 29_999)]
+        due = [self.zone.offset_at(second) for second in seconds]
+        for asked in (seconds, tuple(seconds), array.array("q", seconds), memoryview(array.array("q", seconds)).toreadonly()):
+            self.assertEqual(list(self.zone.offsets_at(asked)), due, type(asked))
+        twice = memoryview(array.array("q", [second for second in seconds for _ in range(2)]))[::2]
+        self.assertEqual(list(self.zone.offsets_at(twice)), due)
+        self.assertEqual(self.zone.offsets_at([]), array.array("i"))
+        self.assertEqual(self.zone.offsets_at(iter(seconds)).itemsize, 4)
+        for asked in (b"12345678", array.array("i", [1]), array.array("d", [1.0]), array.array("Q", [1]), memoryview(bytes(16)).cast("q", (2, 1))):
+            with self.assertRaises(TypeError):
+                self.zone.offsets_at(asked)
+        for asked in ([0, 253402300800], [0, -377705116801], [0, 2**63]):
+            with self.assertRaises(sefunjaro.OutOfRange):
+                self.zone.offsets_at(asked)
+        with self.assertRaisesRegex(sefunjaro.OutOfRange, "place 70001"):
+            self.zone.offsets_at([0] * 70_001 + [253402300800, 0])
+        self.assertEqual(list(sefunjaro.Zone.from_posix("EST5").offsets_at([0, 1])), [-18000, -18000])
 
     def test_whole(self):
         self.assertEqual(self.zone.posix_tail(), ("CET-1CEST,M3.5.0,M10.5.0/3", True))

@@ -90,6 +90,14 @@ extern "C" {
     pub fn sefunjaro_posix_open(text: *const u8, length: usize, zone: *mut RawHandle, fault: *mut RawFault) -> u32;
     pub fn sefunjaro_share_by(copy: *mut RawHandle, other: *mut RawHandle) -> u32;
     pub fn sefunjaro_close(handle: *mut RawHandle);
+    pub fn sefunjaro_offsets_at_by(
+        copy: *mut RawHandle,
+        seconds: *const i64,
+        count: usize,
+        offsets: *mut i32,
+        room: usize,
+        place: *mut usize,
+    ) -> u32;
     pub fn sefunjaro_offset_at_by(copy: *mut RawHandle, second: i64, nanosecond: u32, offset: *mut i32) -> u32;
     pub fn sefunjaro_in_force_by(
         copy: *mut RawHandle,

@@ -184,6 +184,27 @@ impl Zone {
         Ok(offset)
     }
 
+    /// The offsets at many seconds, in their order, as far as there is room. Seconds that rise cost least.
+    ///
+    /// # Errors
+    ///
+    /// [`Error::OutOfRange`] where one lies outside the years -9999 to 9999 in UTC; the room is as it was then.
+    ///
+    /// ```
+    /// let zone = sefunjaro::Source::open(b"Zone A 1:00 - A 2000\n 2:00 - B\n")?.zone("A")?;
+    /// let mut offsets = [0; 2];
+    /// zone.offsets_at(&[0, 1711846800], &mut offsets)?;
+    /// assert_eq!(offsets, [3600, 7200]);
+    /// # Ok::<(), sefunjaro::Error>(())
+    /// ```
+    pub fn offsets_at(&self, seconds: &[i64], offsets: &mut [i32]) -> Result<(), Error> {
+        let (mut copy, mut place) = (self.handle.copy(), 0);
+        // SAFETY: the copy serves this call alone, both lists are as long as is said, and nothing overlaps.
+        done(unsafe {
+            raw::sefunjaro_offsets_at_by(&mut copy, seconds.as_ptr(), seconds.len(), offsets.as_mut_ptr(), offsets.len(), &mut place)
+        })
+    }
+
     /// The offset, whether there is daylight saving time, and the abbreviation at an instant.
     ///
     /// # Errors

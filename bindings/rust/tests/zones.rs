@@ -156,6 +156,11 @@ fn look_ups() {
     let zone = zone("There/Middle");
     assert_eq!(zone.offset_at(SPRING - 1, 999_999_999), Ok(3600));
     assert_eq!(zone.offset_at(SPRING, 0), Ok(7200));
+    let mut offsets = [9; 4];
+    assert_eq!(zone.offsets_at(&[SPRING, SPRING - 1, 5_695_963_200], &mut offsets), Ok(()));
+    assert_eq!(offsets, [7200, 3600, 7200, 9]);
+    assert_eq!(zone.offsets_at(&[0, 253_402_300_800], &mut offsets), Err(Error::OutOfRange));
+    assert_eq!(offsets, [7200, 3600, 7200, 9]);
     let found = zone.in_force(SPRING, 0).unwrap();
     assert_eq!((found.offset, found.is_saving, found.name.as_str()), (7200, true, "CEST"));
     let shown = Clock { year: 2024, month: 3, day: 31, hour: 3, minute: 0, second: 0, nanosecond: 5 };
