@@ -1,8 +1,10 @@
 -- Worked examples: which names POSIX has a place for.
 use Rattle.std.proofs.Common.{◌≡◌, true, false, refl, [], ◌∷◌, map}
-use Rattle.std.specs.Prelude.{List, ℕ, Some, None, codes}
+use Rattle.std.specs.Prelude.{List, ℕ, Option, Some, None, codes}
+use Rattle.tz_posix_core.specs.declared.date.Date.TheVariants.{M}
+use Rattle.tz_posix_core.specs.declared.time.Time.{Time}
 use Rattle.tz_posix_core.specs.Values.{TzValue, expanded}
-use Rattle.sefunjaro.specs.PosixNames.{has_posix_names, is_posix_name}
+use Rattle.sefunjaro.specs.PosixNames.{has_posix_names, is_posix_name, is_posix_string}
 
 -- two letters, an underscore, letters past ASCII (in UTF-8) and a space are none
 others : map is_posix_name (codes "CD" ∷ codes "A_B" ∷ (195 ∷ 132 ∷ 195 ∷ 132 ∷ []) ∷ codes "A B" ∷ []) ≡ false ∷ false ∷ false ∷ false ∷ []
@@ -21,3 +23,16 @@ named standard saving =
 both_names : map has_posix_names (named (codes "EST") (codes "EDT") ∷ named (codes "EST") (codes "ED") ∷ named (codes "E") (codes "EDT") ∷ [])
     ≡ true ∷ false ∷ false ∷ []
 both_names = refl
+
+abbrev with_time : Option Time → TzValue
+with_time time =
+    expanded (record { name = codes "EST"; offset = record { positive = true; time = record { hh = 5; mm = None; ss = None } } })
+    (Some (record { name = codes "EDT"; offset = None; rule = Some (record { start = (M 3 2 0, time); end = (M 11 1 0, None) }) }))
+
+abbrev hours : ℕ → Option Time
+hours n = Some (record { hh = n; mm = None; ss = None })
+
+-- 24 hours are POSIX's most
+times : map is_posix_string (with_time None ∷ with_time (hours 24) ∷ with_time (hours 25) ∷ named (codes "E") (codes "EDT") ∷ [])
+    ≡ true ∷ true ∷ false ∷ false ∷ []
+times = refl

@@ -37,7 +37,7 @@ pub use error::Error;
 pub use file::{FileFault, FileZone, PosixFault};
 pub use gap::Gap;
 pub use opening::{open_database, open_source, open_zone};
-pub use posix_names::has_posix_names;
+pub use posix_names::{has_posix_names, is_posix_string};
 pub use room::fill;
 pub use source::{OpenFault, OpenSource};
 pub use tz_ever::EverSet;

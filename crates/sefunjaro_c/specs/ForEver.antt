@@ -18,7 +18,7 @@ use Rattle.zone_tzif_set.specs.declared.ever.EverFileFault.{EverFileFault}
 use Rattle.zone_tzif_set.specs.declared.ever.EverFileFault.TheVariants as ever_fault
 use Rattle.zone_tzif_set.specs.declared.file.FileFault.{FileFault}
 use Rattle.zone_tzif_set.specs.declared.file.FileFault.TheVariants as file
-use Rattle.sefunjaro.specs.PosixNames.{has_posix_names, IsSpelled}
+use Rattle.sefunjaro.specs.PosixNames.{is_posix_string, IsSpelled}
 use Rattle.sefunjaro.specs.Rooms.{filled}
 use Rattle.sefunjaro.specs.Zones.{ever_in}
 use Rattle.sefunjaro.specs.declared.zone.OpenZone.{OpenZone}
@@ -39,10 +39,10 @@ ever_tail_told tail.Name = none_for 3
 ever_tail_told tail.NoRule = none_for 4
 ever_tail_told tail.NoMemory = plain out_of_memory
 
--- a text is told to be one that POSIX has a place for, names and all: it is read as one, and each value that it spells has such names
+-- whether a text is a string that POSIX has a place for, with its names and its times
 pub record IsPosix (text : List ℕ) (is_posix : Bool) : Type 0 where
   pub read : is_posix ≡ true → IsSpelled text
-  pub named : (value : TzValue) → Spells text value → is_posix ≡ has_posix_names value
+  pub told : (value : TzValue) → Spells text value → is_posix ≡ is_posix_string value
 
 -- the string that carries the zone on for ever stands in the room, as far as it fits, and its length is told
 pub record IsEverTailIn (ever : EverSet) (old new : List ℕ) (whole : ℕ) (is_posix : Bool) : Type 0 where

@@ -9,7 +9,7 @@ ghost use Rattle.sefunjaro_handles.specs.Statuses.{not_kept, not_open, IfRefused
 use crate::fault::{DONE, Fault, NO_MEMORY, NOT_KEPT, NOT_OPEN, plain_fault};
 use crate::whole::none_for;
 use sefunjaro::{
-    AnyZone, EverFileFault, EverSet, EverTailFault, OpenZone, fill, has_posix_names, tail_for_ever,
+    AnyZone, EverFileFault, EverSet, EverTailFault, OpenZone, fill, is_posix_string, tail_for_ever,
     tzif_for_ever,
 };
 use sefunjaro_handles::{Opened, View};
@@ -93,7 +93,7 @@ fn ever_tail_of(
     match tail_for_ever(alloc, ever) {
         Ok(tail) => {
             *whole = fill(tail.text.as_bytes(), text);
-            *is_posix = has_posix_names(tail.text.as_str());
+            *is_posix = is_posix_string(tail.text.as_str());
             plain_fault(DONE)
         }
         Err(fault) => ever_tail_fault(fault),

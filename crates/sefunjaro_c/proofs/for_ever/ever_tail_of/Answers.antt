@@ -1,5 +1,5 @@
 use Rattle.std.proofs.Common.{◌∙◌, inl, inr, refl, length, string_bytes, sym, ap, subst}
-use Rattle.sefunjaro.specs.PosixNames.{has_posix_names, IsSpelled}
+use Rattle.sefunjaro.specs.PosixNames.{IsSpelled}
 use Rattle.tz_posix_core.specs.Spells.{Spells}
 use Rattle.sefunjaro.specs.Rooms.{filled}
 use Rattle.sefunjaro_c.proofs.for_ever.ever_tail_of.Goals as goal
@@ -15,8 +15,8 @@ returns-in-Ok-clause-answer c =
         room = c.fill.ensures.room ∙ ap (λ bytes. filled bytes c.args.text.now) c.as_bytes.ensures.value;
         length = c.fill.ensures.count ∙ ap length c.as_bytes.ensures.value;
         posix = record {
-          read = λ yes. subst IsSpelled c.as_str.ensures.value (c.has_posix_names.ensures.read yes);
-          named = λ value spells. c.has_posix_names.ensures.names value (subst (λ text. Spells text value) (sym c.as_str.ensures.value) spells);
+          read = λ yes. subst IsSpelled c.as_str.ensures.value (c.is_posix_string.ensures.read yes);
+          told = λ value spells. c.is_posix_string.ensures.told value (subst (λ text. Spells text value) (sym c.as_str.ensures.value) spells);
         };
       },
     )
