@@ -1,4 +1,5 @@
 //! What the short callers of the library answer over a source of two zones. Expected values are those of Python's `zoneinfo`.
+ghost use Rattle.zone_table.specs.BoundedTables.{IsBoundedTable};
 
 use crate::checks::same;
 use crate::fixtures::{at, parser};
@@ -32,7 +33,9 @@ fn new_york(rt: &impl Abort, alloc: Global) -> CompactSet {
     set
 }
 
-fn table(rt: &impl Abort, alloc: Global) -> Table {
+fn table(rt: &impl Abort, alloc: Global) -> Table
+    ensures { IsBoundedTable result }
+{
     let Ok(table) = open_source(alloc, &parser(rt, alloc), SOURCE) else {
         panic!(rt; "no table");
     };
