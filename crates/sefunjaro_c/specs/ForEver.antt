@@ -1,5 +1,5 @@
 -- The string that carries a zone on for ever, and the zone's file with it; and why there is none, in numbers.
-use Rattle.std.specs.Prelude.{◌≡◌, ◌×◌, ◌⊎◌, ℕ, ℤ, Bool, false, true, List, length, Option, Some, None}
+use Rattle.std.specs.Prelude.{◌≡◌, ◌⊎◌, ℕ, ℤ, Bool, false, true, List, length, Option, Some, None}
 use Rattle.tz_ever.specs.Ever.{ever_total}
 use Rattle.tz_ever.specs.EverShown.{ever_seen}
 use Rattle.tz_ever.specs.declared.ever_set.EverSet.{EverSet}
