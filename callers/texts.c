@@ -153,7 +153,9 @@ static const char ever_source[] =
     "R G 2013 ma - Mar lastThu 26 1 D\n"
     "R G 2013 ma - O lastThu 26 0 S\n"
     "Z Late -3 G X%sT\n"
-    "Z Ends 1 - A 2099\n";
+    "R N 1981 2150 - Mar lastSun 1u 1 S\n"
+    "R N 1996 2150 - O lastSun 1u 0 -\n"
+    "Z Ends 1 N CE%sT\n";
 
 static int for_ever(void) {
     uint8_t text[40], file[5] = ".....";

@@ -1000,7 +1000,7 @@ class Zone(_Asked, _Opened):
                     raise OutOfRange(f"{self._name!r}: out of range at place {begin + place.value}")
                 if status:
                     _raise(status, repr(self._name))
-                found.frombytes(offsets[:count])
+                found.frombytes(offsets[:count].tobytes())
         return found
 
     def _number_at(self, call: Callable[..., int], number: Any, second: int, nanosecond: int) -> int:

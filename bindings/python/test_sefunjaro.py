@@ -232,7 +232,8 @@ class Zones(unittest.TestCase):
         source = Source(
             "Rule E 1981 max - Mar lastSun 1:00u 0 -\nRule E 1996 max - Oct lastSun 1:00u -1:00 -\nZone Ireland 1:00 E IST/GMT\n"
             "Rule G 2013 max - Mar lastThu 26:00 1:00 D\nRule G 2013 max - Oct lastThu 26:00 0 S\nZone Late -3:00 G X%sT\n"
-            "Zone Ends 1:00 - A 2099 Jun 1\nZone Wide 25:30 - X\nZone Names 1:00 - A<B\nZone Long 1:00 - " + "A" * 256 + "\n"
+            "Rule N 1981 2150 - Mar lastSun 1:00u 1:00 S\nRule N 1996 2150 - Oct lastSun 1:00u 0 -\nZone Ends 1:00 N CE%sT\n"
+            "Zone Wide 25:30 - X\nZone Names 1:00 - A<B\nZone Long 1:00 - " + "A" * 256 + "\n"
         )
         for name, text, is_posix, begins in (
             ("Ireland", "IST-1GMT0,M10.5.0,M3.5.0/1", True, b"TZif2"),

@@ -55,7 +55,8 @@ impl Zone {
     /// ```
     /// use sefunjaro::{Error, EverCause, Source};
     ///
-    /// let source = Source::open(b"Zone A -3:00 - -03\nZone B 1:00 - B 2099\n")?;
+    /// let rule = "Rule R 2000 2150 - Mar 1 1:00 1:00 S\nRule R 2000 2150 - Oct 1 1:00 0 -\n";
+    /// let source = Source::open(format!("{rule}Zone A -3:00 - -03\nZone B 1:00 R B\n").as_bytes())?;
     /// assert_eq!(source.zone("A")?.tail_for_ever()?.text, "<-03>3");
     /// assert_eq!(source.zone("B")?.tail_for_ever(), Err(Error::NotForEver { cause: EverCause::RulesEnd }));
     /// # Ok::<(), sefunjaro::Error>(())

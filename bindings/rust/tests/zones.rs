@@ -373,7 +373,8 @@ fn for_ever() {
         let file = zone.to_tzif_for_ever().unwrap();
         assert!(file.starts_with(begins) && file.ends_with(format!("\n{text}\n").as_bytes()), "{name}");
     }
-    let text = format!("Zone Ends 1:00 - A 2099 Jun 1\nZone Wide 25:30 - X\nZone Name 1:00 - A<B\nZone Long 1:00 - {}\n", "A".repeat(256));
+    let ends = "Rule N 1981 2150 - Mar lastSun 1:00u 1:00 S\nRule N 1996 2150 - Oct lastSun 1:00u 0 -\nZone Ends 1:00 N CE%sT\n";
+    let text = format!("{ends}Zone Wide 25:30 - X\nZone Name 1:00 - A<B\nZone Long 1:00 - {}\n", "A".repeat(256));
     let source = Source::open(text.as_bytes()).unwrap();
     for (name, cause) in [("Ends", EverCause::RulesEnd), ("Wide", EverCause::OffsetRange), ("Name", EverCause::Name)] {
         let zone = source.zone(name).unwrap();
