@@ -1,6 +1,7 @@
 //! Times as people and logs write them, read and written exactly.
 #![tactic(auto)]
 
+mod answer_form;
 mod fault;
 mod form;
 mod instant;
@@ -11,6 +12,7 @@ mod stamp;
 mod value;
 mod write;
 
+pub use answer_form::AnswerForm;
 pub use fault::TextFault;
 pub use instant::{Asked, read_instant};
 pub use read::read_local;
