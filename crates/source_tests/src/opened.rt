@@ -3,15 +3,18 @@
 //! Python's `tarfile`.
 use crate::checks::{prints, same, same_at};
 use crate::fixtures::{NEW_YORK, at};
+use crate::plain::{self, refused_line};
 use crate::runs::bytes_of;
 use sefunjaro::{
     AnySourceFault, AnyZone, Date, FileZone, Month, OpenFault, OpenSource, OpenZone, Ring, Time,
+    ZoneFault,
 };
 use sefunjaro_handles::Opened;
 use std::alloc::Global;
 use std::process::Abort;
 use std::sync::Arc;
 use zone_source::source_fault_bytes;
+use zone_spans::SpanFault;
 
 /// The rules of New York as `zic` reads them too: words cut short, hours alone, and a link to a link.
 const SHORT: &[u8] =
@@ -123,6 +126,14 @@ fn a_zone_keeps_to_2099_where_its_lines_do(rt: HostRuntime) {
 /// Sources that are refused in plain form, and in any, each with the line that tells its fault.
 const REFUSED: &str = "\
 Zone A 0 - X;Zone~source 2: line InvalidLineType;
+Zone A 0 - A 99999999999999999999~source 1: line FailedYearParse;
+Rule R 2000 only - Febtober 1 0:00 0 -~source 1: line FailedMonthParse;
+Rule R 2000 only - Jan Xyz>=40 0:00 0 -~source 1: line FailedWeekdayParse;
+Rule R 2000 only HEY Jan 1 0:00 0 -~source 1: line TypeColumnContainedNonHyphen;
+Zone A 0 1 A~source 1: line CouldNotParseSaving;
+Rule R 2000 only - Jan 32 0:00 0 -~source 1: line InvalidDaySpec;
+Zone A 200 - A~source 1: line InvalidTimeSpecAndType;
+Zone A 1:00u - A~source 1: line NonWallClockInTimeSpec;
  0 - X~source 1: build SurpriseContinuationLine;
 Zone A 0 - X;Zone B 0 b X~source 2: build UnknownRuleset;
 Link A B;Link C B~source 2: build DuplicateLink;
@@ -189,13 +200,72 @@ fn refusal(rt: &impl Abort, alloc: Global, source: &[u8]) -> AnySourceFault {
     }
 }
 
+/// The line for which a source in any form is refused, and the cause.
+fn line_refusal(rt: &impl Abort, alloc: Global, source: &[u8]) -> Vec<u8> {
+    match refusal(rt, alloc, source) {
+        AnySourceFault::Line(number, cause) => refused_line(rt, alloc, number, cause.name()),
+        _ => panic!(rt; "no line is told"),
+    }
+}
+
 #[test]
 fn refused_sources_are_told_by_their_faults(rt: HostRuntime) {
-    match refusal(&rt, rt.alloc(), b"Z A 0 - X\nZ A 1 - Y\n") {
-        AnySourceFault::Line(number, cause) => {
-            same(&rt, &(number, cause.name()), &(2, "DuplicateZone"));
-        }
-        _ => panic!(rt; "no line is told"),
+    let alloc = rt.alloc();
+    for row in plain::REFUSED.lines() {
+        let mut fields = row.split('~');
+        let source = bytes_of(&rt, alloc, fields.next());
+        let due = bytes_of(&rt, alloc, fields.next());
+        same_at(&rt, row, &line_refusal(&rt, alloc, &source), &due);
+    }
+    let no_text = line_refusal(&rt, alloc, b"# a\n\xff\n");
+    same(&rt, &no_text.as_slice(), &b"2 not text".as_slice());
+}
+
+/// Zones that can't be asked, each with why: `A` of these sources in plain form.
+const UNASKED: [(&[u8], ZoneFault); 8] = [
+    (b"Zone B 0 - X\n", ZoneFault::UnknownZone),
+    (b"Zone A 26 - X\n", ZoneFault::OffsetRange),
+    (
+        b"Zone A 0 - X 1999\n 0 b X\n",
+        ZoneFault::Schedule(SpanFault::UnknownRuleset),
+    ),
+    (
+        b"Zone A 0 - X\n 1 - Y\n",
+        ZoneFault::Schedule(SpanFault::MissingUntil),
+    ),
+    (
+        b"Zone A 0 - X 10000\n 1 - Y\n",
+        ZoneFault::Schedule(SpanFault::YearRange),
+    ),
+    (
+        b"Rule R min only - Jan 1 0:00 0 -\nZone A 0 R X\n",
+        ZoneFault::Schedule(SpanFault::RuleYears),
+    ),
+    (
+        b"Rule R 1990 only - Jan Sun<=1 0:00 1 -\nZone A 0 R X\n",
+        ZoneFault::Schedule(SpanFault::DayRange),
+    ),
+    (
+        b"Rule R 9223372036854775807 max - Jan 1 0:00 0 -\nZone A 0 R A\n",
+        ZoneFault::Schedule(SpanFault::NoStandardSpan),
+    ),
+];
+
+/// Why the zone `A` of a source in plain form can't be asked.
+fn zone_refusal(rt: &impl Abort, alloc: Global, source: &[u8]) -> ZoneFault {
+    let Ok(source) = OpenSource::open_plain(alloc, source) else {
+        panic!(rt; "not opened");
+    };
+    match source.zone(alloc, "A") {
+        Err(fault) => fault,
+        Ok(_) => panic!(rt; "a zone"),
+    }
+}
+
+#[test]
+fn zones_that_cannot_be_asked_are_told_by_their_faults(rt: HostRuntime) {
+    for (source, fault) in UNASKED {
+        same(&rt, &zone_refusal(&rt, rt.alloc(), source), &fault);
     }
 }
 

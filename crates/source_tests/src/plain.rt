@@ -33,8 +33,8 @@ R a 1990 ma - F su<=29 0 0 -~Rule a 1990 max - Feb lastSun 0:00 0 -;
 /// Sources that are refused, and the line with its cause: a word that fits two months; a saving of which the suffix says that it is
 /// standard time; a line of a zone that isn't there; links in a circle and to nothing; a ruleset without rules, also where it has the name
 /// that another would get in the plain form; names that stand twice; quotes that are left open; a sharp within quotes, with which the plain form begins a comment;
-/// and February 29 of two years.
-const REFUSED: &str = "\
+/// February 29 of two years; and a row of each other cause of a line that is text.
+pub(crate) const REFUSED: &str = "\
 Z A 0 - X;R d 1916 o - Ju 14 0 0 S~2 Month
 R d 1916 o - Jun 14 0 1s S~1 Saving
 Z A 0 - X 1999~2 Continuation
@@ -48,6 +48,15 @@ Z A 0 - X;Z B 0 - Y;L A C;L B C~4 DuplicateLink
 Z A 0 - X;Z B 0 - \"~2 Quotes
 Z \"A#\" 1 - X~1 Unsayable
 Z A 0 - X 2020 F 29;0 - X;R a 2019 2020 - F 29 0 0 -~3 Day
+Y A 0 - X~1 LineType
+Z A 0 -~1 FieldCount
+R 2a 1990 o - O 1 0 1 -~1 RulesetName
+R a x o - O 1 0 1 -~1 Year
+R a 1991 1990 - O 1 0 1 -~1 YearOrder
+R a 1990 o x O 1 0 1 -~1 Type
+R a 1990 o - O 1 0:60 1 -~1 Time
+Z A 0 - %d~1 Format
+Z A/../B 0 - X~1 Name
 ";
 
 /// How many links a chain has that is led in moments where each name on a way is noted, and in minutes where each way is walked anew.
@@ -69,14 +78,16 @@ fn told(rt: &impl Abort, alloc: Global, parser: &LineParser, source: &[u8]) -> V
     assert!(rt; source.len() <= LIMIT);
     match plain(alloc, parser, source) {
         Ok(bytes) => bytes,
-        Err(PlainFault::Line(number, cause)) => {
-            let name = cause.name();
-            format!(in alloc; "{number} {name}")
-                .expect(rt, "memory")
-                .into_bytes()
-        }
+        Err(PlainFault::Line(number, cause)) => refused_line(rt, alloc, number, cause.name()),
         Err(_) => panic!(rt; "too long, or memory"),
     }
+}
+
+/// The number of a line that is refused, and the cause.
+pub(crate) fn refused_line(rt: &impl Abort, alloc: Global, number: usize, cause: &str) -> Vec<u8> {
+    format!(in alloc; "{number} {cause}")
+        .expect(rt, "memory")
+        .into_bytes()
 }
 
 /// Asserts what is told of each source of a table.
