@@ -1,15 +1,18 @@
--- A number of nanoseconds, digit by digit.
-use Rattle.std.proofs.Common.{◌≡◌, ℕ, zero, suc, ◌+◌, ◌-◌, ◌*◌, ◌^◌, ◌<◌, ◌≤◌, ◌&&◌, true, Bool, List, [], ◌∷◌, length, take, get_or, arith, nat_lt, nat_le, ltb-true, lit<, lit≤}
+-- A number of nanoseconds, digit by digit; the place of a space.
+use Rattle.std.proofs.Common.{◌≡◌, sym, Option, Some, None, ℕ, zero, suc, ◌+◌, ◌-◌, ◌*◌, ◌^◌, ◌<◌, ◌≤◌, ◌&&◌, true, Bool, List, [], ◌∷◌, length, take, get_or, arith, nat_lt, nat_le, ltb-true, lit<, lit≤}
 use Rattle.std.proofs.Common.{length-take}
-use Rattle.std.proofs.lemmas.Bool.{and_parts, leb-true}
+use Rattle.memchr.specs.Find.{IsFirstByte, is_byte}
+use Rattle.std.proofs.lemmas.Bool.{and_parts, leb-true, false_from_ne_true}
 use Rattle.std.proofs.lemmas.Int.Digits.{digits_value-lt, digits_value_more}
 use Rattle.std.proofs.lemmas.Str.{digit_value_digit}
 use Rattle.std.proofs.lemmas.Str.Parse.{digit_from_value, digits_value-take-le}
 use Rattle.std.proofs.Math.Nat.{pow-le-pow_right}
 use Rattle.std.specs.Char.{digit_value, is_digit}
-use Rattle.std.specs.List.{list_all}
+use Rattle.std.proofs.lemmas.List.Sums.{position_or_len_is}
+use Rattle.std.specs.List.{list_all, position_or_len}
+use Rattle.std.specs.Option.{unwrap_or}
 use Rattle.std.specs.Str.Parse.{AllDigits, digits_value}
-use Rattle.zone_answers.specs.Requests.{is_number}
+use Rattle.zone_answers.specs.Requests.{is_number, is_space}
 
 abbrev all_pass : List ℕ → Bool
 all_pass ds = list_all (λ c. is_digit c 10) ds
@@ -72,3 +75,13 @@ front_step ds i size is l few same =
     let most : 10 ^ length (take (i + 1) ds) ≤ 10 ^ 18 = pow-le-pow_right (lit< tt) long in
     let room : 10 ^ 18 ≤ 2 ^ 64 = lit≤ tt in
     step_below (2 ^ 64) ds i size is l same (omega (arith, below, most, room))
+
+-- where the first space was looked for, the place of it, or the end where there is none
+pub space_found : (bytes : List ℕ) (found : Option ℕ) → IsFirstByte (is_byte 32) bytes found
+    → unwrap_or found (length bytes) ≡ position_or_len is_space bytes
+space_found bytes None nowhere =
+    sym (position_or_len_is is_space bytes (length bytes) 0 (omega arith)
+    (λ k below. false_from_ne_true _ (nowhere k (omega arith) below)) (λ below. absurd (omega (arith, below))))
+space_found bytes (Some place) first =
+    sym (position_or_len_is is_space bytes place 0 (omega (arith, first.0.high))
+    (λ k below. false_from_ne_true _ (first.0.before k (omega arith) below)) (λ _. first.1))

@@ -1,12 +1,13 @@
 //! A request line.
-ghost use Rattle.std.specs.Prelude.{◌≡◌, ◌<◌, ◌≤◌, ◌^◌, true, length, take, option_map, if◌then◌else◌, pos, neg_ℤ};
+ghost use Rattle.std.specs.Prelude.{◌≡◌, ◌<◌, ◌≤◌, ◌^◌, true, length, slice_index, take, option_map, if◌then◌else◌, pos, neg_ℤ};
 ghost use Rattle.std.specs.Str.Parse.{digits_value};
 ghost use Rattle.std.specs.Char.{is_digit};
-ghost use Rattle.std.specs.List.{before_first, after_first, list_all};
+ghost use Rattle.std.specs.List.{before_first, after_first, list_all, position_or_len};
 ghost use Rattle.civil_base.specs.LocalTimes.{local_time_in};
 ghost use Rattle.zone_answers.specs.Requests.{request_of, request_with, nanoseconds_in, is_negative, is_number, is_space, name_of, without_minus};
 
 use civil_base::{PlainDateTime, read_local};
+use memchr::memchr;
 
 /// The most digits of a number of nanoseconds.
 const MOST_DIGITS: usize = 30;
@@ -60,11 +61,26 @@ impl<'a> Request<'a> {
 }
 
 /// The text before the first space, and the text after it: none where there is no space.
+#[tactic(auto, using(std::proofs::lemmas::Str::lead_after_ascii))]
 pub fn cut_at_space(text: &str) -> (&str, &str)
     ensures front { result.0.now ≡ before_first is_space text.now }
     ensures back { result.1.now ≡ after_first is_space text.now }
 {
-    text.split_once(' ').unwrap_or((text, ""))
+    let end = space_in(text.as_bytes());
+    if end < text.len() {
+        (&text[..end], &text[end + 1..])
+    } else {
+        (text, "")
+    }
+}
+
+/// The place of the first space, or the length where there is none.
+fn space_in(text: &[u8]) -> usize
+    ensures place { result ≡ position_or_len is_space text.now }
+    ensures bound { result ≤ length text.now }
+    ensures space { result < length text.now → slice_index text.now result ≡ 32 }
+{
+    memchr(b' ', text).unwrap_or(text.len())
 }
 
 /// The local time with that text.
