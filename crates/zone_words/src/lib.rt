@@ -1,0 +1,14 @@
+//! What the words of the command `zone` ask, read exactly. It knows no zone.
+#![tactic(auto)]
+
+mod alarm;
+mod command;
+mod fault;
+mod given;
+mod sorted;
+mod task;
+mod values;
+
+pub use command::Command;
+pub use fault::{WordCause, WordFault};
+pub use task::{Alarm, Asked, FoldRule, GapRule, Task};
