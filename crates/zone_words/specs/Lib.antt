@@ -9,3 +9,5 @@ pub mod Values
 pub mod Tasks
 pub mod TaskShown
 pub mod Alarms
+pub mod Arguments
+pub mod Words

@@ -2,13 +2,16 @@
 #![tactic(auto)]
 
 mod alarm;
+mod arguments;
 mod command;
 mod fault;
 mod given;
+mod read;
 mod sorted;
 mod task;
 mod values;
 
 pub use command::Command;
 pub use fault::{WordCause, WordFault};
+pub use read::read_words;
 pub use task::{Alarm, Asked, FoldRule, GapRule, Task};
