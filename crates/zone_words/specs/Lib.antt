@@ -11,3 +11,4 @@ pub mod TaskShown
 pub mod Alarms
 pub mod Arguments
 pub mod Words
+pub mod FaultLines

@@ -70,11 +70,7 @@ fn days_in<'w>(given: &[Given<'w>]) -> Result<[bool; 7], WordFault<'w>>
     }
 }
 
-fn first_in<'w>(
-    alloc: Global,
-    command: &'w str,
-    given: &[Given<'w>],
-) -> Result<Date, WordFault<'w>>
+fn first_in<'w>(alloc: Global, command: &'w str, given: &[Given<'w>]) -> Result<Date, WordFault<'w>>
     ensures { Reads (λ date. date) result (first_in command.now (map given_shown given.now)) }
 {
     match value_of(given, "--from") {

@@ -57,11 +57,7 @@ fn two_in<'w>(command: &'w str, words: &[&'w str]) -> Result<(&'w str, &'w str),
 }
 
 /// A zone and instants, of which there is one at least.
-fn at_in<'w>(
-    alloc: Global,
-    command: &'w str,
-    words: &[&'w str],
-) -> Result<Task<'w>, WordFault<'w>>
+fn at_in<'w>(alloc: Global, command: &'w str, words: &[&'w str]) -> Result<Task<'w>, WordFault<'w>>
     ensures { Reads task_shown result (at_in command.now (map word_shown words.now)) }
 {
     match words {

@@ -42,6 +42,18 @@ pub enum WordCause {
     NoMemory,
 }
 
+impl WordCause {
+    ghost use Rattle.std.specs.Prelude.{◌≡◌};
+    ghost use Rattle.zone_words.specs.Told.{is_of_time};
+
+    /// Whether a time can't be read, which ends a run by 2; words in no form end it by 1.
+    pub fn is_of_time(self) -> bool
+        ensures { result ≡ is_of_time self }
+    {
+        matches!(self, WordCause::Text(_) | WordCause::Year)
+    }
+}
+
 /// The first fault of the words.
 #[derive(Clone, Copy, Debug, PartialEq, Eq)]
 pub struct WordFault<'w> {

@@ -5,6 +5,7 @@ mod alarm;
 mod arguments;
 mod command;
 mod fault;
+mod fault_lines;
 mod given;
 mod read;
 mod sorted;
@@ -13,5 +14,6 @@ mod values;
 
 pub use command::Command;
 pub use fault::{WordCause, WordFault};
+pub use fault_lines::fault_line;
 pub use read::read_words;
 pub use task::{Alarm, Asked, FoldRule, GapRule, Task};

@@ -67,11 +67,7 @@ pub(crate) fn time_in<'w>(alloc: Global, word: &'w str) -> Result<Time, WordFaul
 }
 
 /// The local time of a date and a time of day in two words.
-fn of_two<'w>(
-    alloc: Global,
-    date: &'w str,
-    time: &'w str,
-) -> Result<PlainDateTime, WordFault<'w>>
+fn of_two<'w>(alloc: Global, date: &'w str, time: &'w str) -> Result<PlainDateTime, WordFault<'w>>
     ensures { Reads (λ local. local) result (of_two date.now time.now) }
 {
     match local_of(alloc, date, time)? {
@@ -127,10 +123,7 @@ fn add_instant(found: &mut Vec<Asked>, instant: Asked) -> Result<(), AllocError>
 }
 
 /// The instants that words ask for.
-pub(crate) fn instants_in<'w>(
-    alloc: Global,
-    words: &[&'w str],
-) -> Result<Vec<Asked>, WordFault<'w>>
+pub(crate) fn instants_in<'w>(alloc: Global, words: &[&'w str]) -> Result<Vec<Asked>, WordFault<'w>>
     ensures { Reads (λ found. map asked found.items) result (instants_in [] (map word_shown words.now)) }
 {
     let mut found = Vec::new(alloc);
