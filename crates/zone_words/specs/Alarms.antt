@@ -1,0 +1,99 @@
+-- The words of an alarm.
+use Rattle.std.specs.Prelude.{ℕ, ◌==◌, Bool, true, ◌&&◌, ◌||◌, List, [], ◌∷◌, Option, Some, None, is_none, Ok, ℤ, bytes_eq, codes, if◌then◌else◌}
+use Rattle.std.specs.List.{list_all, list_any, slice_split}
+use Rattle.std.specs.Option.{option_map_or}
+use Rattle.zone_words.specs.Faults.{Reading, wrong, ◌>>=◌}
+use Rattle.zone_words.specs.Options.{GivenOption, value_of}
+use Rattle.zone_words.specs.Tasks.{AlarmAsked}
+use Rattle.zone_words.specs.Values.{date_in, number_in, time_in}
+use Rattle.zone_words.specs.declared.fault.WordCause.TheVariants.{EndMissing, FirstMissing, FoldRule as BadFoldRule, GapRule as BadGapRule, Weekdays}
+use Rattle.zone_words.specs.declared.task.FoldRule.{FoldRule}
+use Rattle.zone_words.specs.declared.task.FoldRule.TheVariants.{First, Second, Both}
+use Rattle.zone_words.specs.declared.task.GapRule.{GapRule}
+use Rattle.zone_words.specs.declared.task.GapRule.TheVariants.{Skip, Before, After}
+
+abbrev pub is_comma : ℕ → Bool
+is_comma byte = byte == 44
+
+abbrev pub is_day : List ℕ → Bool
+is_day text =
+    bytes_eq text (codes "mon") || bytes_eq text (codes "tue") || bytes_eq text (codes "wed") || bytes_eq text (codes "thu")
+    || bytes_eq text (codes "fri") || bytes_eq text (codes "sat") || bytes_eq text (codes "sun")
+
+-- all parts between commas are weekdays
+abbrev pub are_days : List ℕ → Bool
+are_days text = list_all is_day (slice_split is_comma text)
+
+abbrev pub has_day : List ℕ → List ℕ → Bool
+has_day text day = list_any (λ part. bytes_eq part day) (slice_split is_comma text)
+
+-- from Monday on
+abbrev pub days_of : List ℕ → List Bool
+days_of text =
+    has_day text (codes "mon") ∷ has_day text (codes "tue") ∷ has_day text (codes "wed") ∷ has_day text (codes "thu")
+    ∷ has_day text (codes "fri") ∷ has_day text (codes "sat") ∷ has_day text (codes "sun") ∷ []
+
+abbrev pub days_by : Option (List ℕ) → Reading (List Bool)
+days_by None = Ok (true ∷ true ∷ true ∷ true ∷ true ∷ true ∷ true ∷ [])
+days_by (Some word) = if are_days word then Ok (days_of word) else wrong word Weekdays
+
+-- on all days where none are told
+abbrev pub days_in : List GivenOption → Reading (List Bool)
+days_in given = days_by (value_of given (codes "--on"))
+
+abbrev pub first_in : List ℕ → List GivenOption → Reading ℤ
+first_in command given = option_map_or date_in (value_of given (codes "--from")) (wrong command FirstMissing)
+
+-- read where it is told
+abbrev pub if_told : {A : Type 0} → (List ℕ → Reading A) → Option (List ℕ) → Reading (Option A)
+if_told read None = Ok None
+if_told read (Some word) = read word >>= (λ value. Ok (Some value))
+
+abbrev pub count_in : List GivenOption → Reading (Option ℕ)
+count_in given = if_told number_in (value_of given (codes "--count"))
+
+abbrev pub until_in : List GivenOption → Reading (Option ℤ)
+until_in given = if_told date_in (value_of given (codes "--until"))
+
+-- every day where nothing is told
+abbrev pub every_in : List GivenOption → Reading ℕ
+every_in given = option_map_or number_in (value_of given (codes "--every")) (Ok 1)
+
+abbrev pub gap_rule : List ℕ → Option GapRule
+gap_rule word =
+    if bytes_eq word (codes "skip") then Some Skip
+    else (if bytes_eq word (codes "before") then Some Before else (if bytes_eq word (codes "after") then Some After else None))
+
+abbrev pub gap_of : List ℕ → Reading GapRule
+gap_of word = option_map_or (λ rule. Ok rule) (gap_rule word) (wrong word BadGapRule)
+
+abbrev pub gap_in : List GivenOption → Reading GapRule
+gap_in given = option_map_or gap_of (value_of given (codes "--gap")) (Ok Skip)
+
+abbrev pub fold_rule : List ℕ → Option FoldRule
+fold_rule word =
+    if bytes_eq word (codes "first") then Some First
+    else (if bytes_eq word (codes "second") then Some Second else (if bytes_eq word (codes "both") then Some Both else None))
+
+abbrev pub fold_of : List ℕ → Reading FoldRule
+fold_of word = option_map_or (λ rule. Ok rule) (fold_rule word) (wrong word BadFoldRule)
+
+abbrev pub fold_in : List GivenOption → Reading FoldRule
+fold_in given = option_map_or fold_of (value_of given (codes "--fold")) (Ok First)
+
+-- it ends by a count or by its last day
+abbrev pub ends : List ℕ → Option ℕ → Option ℤ → Reading (Unit {0})
+ends command count until = if is_none count && is_none until then wrong command EndMissing else Ok tt
+
+abbrev pub alarm_in : List ℕ → List ℕ → List GivenOption → Reading AlarmAsked
+alarm_in command time given = do
+  at ← time_in time
+  first ← first_in command given
+  count ← count_in given
+  until ← until_in given
+  told ← ends command count until
+  every ← every_in given
+  days ← days_in given
+  gap ← gap_in given
+  fold ← fold_in given
+  Ok (record { time = at; first = first; count = count; until = until; every = every; days = days; gap = gap; fold = fold })

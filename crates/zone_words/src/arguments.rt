@@ -1,0 +1,189 @@
+//! The words behind a command.
+ghost use Rattle.std.specs.Prelude.{◌≡◌, [], map, option_map, IfOk};
+ghost use Rattle.zone_words.specs.Arguments.{at_in, chart_in, convert_in, field_in, list_in, local_in, maybe_in, none_in, one_in, task_in, two_in};
+ghost use Rattle.zone_words.specs.Shown.{given_shown, word_shown};
+ghost use Rattle.zone_words.specs.TaskShown.{task_shown};
+ghost use Rattle.zone_words.specs.Told.{Reads};
+
+use crate::alarm::alarm_in;
+use crate::given::{Given, has, value_of};
+use crate::task::Task;
+use crate::values::{instant_in, instants_in, number_in, text_in, year_in};
+use crate::{Command, WordCause, WordFault};
+use std::alloc::{AllocError, Global};
+
+/// No word.
+fn none_in<'w>(words: &[&'w str]) -> Result<(), WordFault<'w>>
+    ensures { Reads (λ done. done) result (none_in (map word_shown words.now)) }
+{
+    match words {
+        [] => Ok(()),
+        [more, ..] => Err(WordFault::of(*more, WordCause::TooMany)),
+    }
+}
+
+/// A word, or none.
+fn maybe_in<'w>(words: &[&'w str]) -> Result<Option<&'w str>, WordFault<'w>>
+    ensures { Reads (λ word. option_map word_shown word) result (maybe_in (map word_shown words.now)) }
+{
+    match words {
+        [] => Ok(None),
+        [word] => Ok(Some(*word)),
+        [_, more, ..] => Err(WordFault::of(*more, WordCause::TooMany)),
+    }
+}
+
+/// One word.
+fn one_in<'w>(command: &'w str, words: &[&'w str]) -> Result<&'w str, WordFault<'w>>
+    ensures { Reads word_shown result (one_in command.now (map word_shown words.now)) }
+{
+    match words {
+        [] => Err(WordFault::of(command, WordCause::TooFew)),
+        [word] => Ok(*word),
+        [_, more, ..] => Err(WordFault::of(*more, WordCause::TooMany)),
+    }
+}
+
+/// Two words.
+fn two_in<'w>(command: &'w str, words: &[&'w str]) -> Result<(&'w str, &'w str), WordFault<'w>>
+    ensures { Reads (λ both. (both.0.now, both.1.now)) result (two_in command.now (map word_shown words.now)) }
+{
+    match words {
+        [] => Err(WordFault::of(command, WordCause::TooFew)),
+        [_] => Err(WordFault::of(command, WordCause::TooFew)),
+        [first, second] => Ok((*first, *second)),
+        [_, _, more, ..] => Err(WordFault::of(*more, WordCause::TooMany)),
+    }
+}
+
+/// A zone and instants, of which there is one at least.
+fn at_in<'w>(alloc: Global, command: &'w str, words: &[&'w str]) -> Result<Task<'w>, WordFault<'w>>
+    ensures { Reads task_shown result (at_in command.now (map word_shown words.now)) }
+{
+    match words {
+        [] => Err(WordFault::of(command, WordCause::TooFew)),
+        [_] => Err(WordFault::of(command, WordCause::TooFew)),
+        [zone, ..] => Ok(Task::At(*zone, instants_in(alloc, &words[1..])?)),
+    }
+}
+
+/// A zone and a local time.
+fn local_in<'w>(
+    alloc: Global,
+    command: &'w str,
+    words: &[&'w str],
+) -> Result<Task<'w>, WordFault<'w>>
+    ensures { Reads task_shown result (local_in command.now (map word_shown words.now)) }
+{
+    match words {
+        [] => Err(WordFault::of(command, WordCause::TooFew)),
+        [zone, text @ ..] => Ok(Task::Local(*zone, text_in(alloc, command, text)?)),
+    }
+}
+
+/// Two zones and a local time.
+fn convert_in<'w>(
+    alloc: Global,
+    command: &'w str,
+    words: &[&'w str],
+) -> Result<Task<'w>, WordFault<'w>>
+    ensures { Reads task_shown result (convert_in command.now (map word_shown words.now)) }
+{
+    match words {
+        [] => Err(WordFault::of(command, WordCause::TooFew)),
+        [_] => Err(WordFault::of(command, WordCause::TooFew)),
+        [from, to, text @ ..] => Ok(Task::Convert(*from, *to, text_in(alloc, command, text)?)),
+    }
+}
+
+/// A zone and two instants.
+fn list_in<'w>(command: &'w str, words: &[&'w str]) -> Result<Task<'w>, WordFault<'w>>
+    ensures { Reads task_shown result (list_in command.now (map word_shown words.now)) }
+{
+    match words {
+        [] => Err(WordFault::of(command, WordCause::TooFew)),
+        [zone, window @ ..] => {
+            let (from, to) = two_in(command, window)?;
+            let from = instant_in(from)?;
+            let to = instant_in(to)?;
+            Ok(Task::List(*zone, from, to))
+        }
+    }
+}
+
+/// The number of a field, where it is told.
+fn field_in<'w>(given: &[Given<'w>]) -> Result<Option<u16>, WordFault<'w>>
+    ensures { Reads (λ field. field) result (field_in (map given_shown given.now)) }
+{
+    match value_of(given, "--field") {
+        None => Ok(None),
+        Some(word) => Ok(Some(number_in(word)?)),
+    }
+}
+
+fn listed<'w>(alloc: Global, words: &[&'w str]) -> Result<Vec<&'w str>, AllocError>
+    ensures { IfOk result (λ list. map word_shown list.items ≡ map word_shown words.now) }
+{
+    let mut list = Vec::new(alloc);
+    list.extend_from_slice(words)?;
+    Ok(list)
+}
+
+/// One to eight zones, and a year.
+fn chart_in<'w>(
+    alloc: Global,
+    command: &'w str,
+    words: &[&'w str],
+) -> Result<Task<'w>, WordFault<'w>>
+    ensures { Reads task_shown result (chart_in command.now (map word_shown words.now)) }
+{
+    if words.len() < 2 {
+        return Err(WordFault::of(command, WordCause::TooFew));
+    }
+    if words.len() > 9 {
+        return Err(WordFault::of(words[9], WordCause::TooMany));
+    }
+    let last = words.len() - 1;
+    let year = year_in(words[last])?;
+    let zones = listed(alloc, &words[..last])?;
+    Ok(Task::Chart(zones, year))
+}
+
+/// What the words behind a command ask, with its options.
+#[tactic(auto, unfolding(crate::specs::Arguments::task_in))]
+pub(crate) fn task_in<'w>(
+    alloc: Global,
+    command: Command,
+    name: &'w str,
+    words: &[&'w str],
+    given: &[Given<'w>],
+) -> Result<Task<'w>, WordFault<'w>>
+    ensures { Reads task_shown result (task_in command name.now (map word_shown words.now) (map given_shown given.now)) }
+{
+    match command {
+        Command::At => at_in(alloc, name, words),
+        Command::Local => local_in(alloc, name, words),
+        Command::Convert => convert_in(alloc, name, words),
+        Command::List => list_in(name, words),
+        Command::Alarm => {
+            let (zone, time) = two_in(name, words)?;
+            Ok(Task::Alarm(zone, alarm_in(alloc, name, time, given)?))
+        }
+        Command::Names => Ok(Task::Names(maybe_in(words)?)),
+        Command::Stream => {
+            none_in(words)?;
+            Ok(Task::Stream(has(given, "--plain")))
+        }
+        Command::Log => {
+            let zone = one_in(name, words)?;
+            Ok(Task::Log(zone, field_in(given)?))
+        }
+        Command::Tree => {
+            none_in(words)?;
+            Ok(Task::Tree)
+        }
+        Command::File => Ok(Task::File(one_in(name, words)?)),
+        Command::String => Ok(Task::String(one_in(name, words)?)),
+        Command::Chart => chart_in(alloc, name, words),
+    }
+}

@@ -1,0 +1,91 @@
+//! The line that tells a fault of words.
+ghost use Rattle.std.specs.Prelude.{◌≡◌, ◌++◌, ◌∷◌, [], IfOk};
+ghost use Rattle.zone_words.specs.FaultLines.{cause_text, fault_line, quoted, text_cause};
+ghost use Rattle.zone_words.specs.Told.{fault_shown};
+
+use crate::{WordCause, WordFault};
+use std::alloc::{AllocError, Global};
+use zone_moments::TextFault;
+
+/// What is told of a text that is no time.
+fn text_cause(fault: TextFault) -> &'static str
+    ensures { result.now ≡ text_cause fault }
+{
+    match fault {
+        TextFault::DateMissing => "a date is missing, as in 2024-10-27",
+        TextFault::TimeMissing => "a time of day is missing, as in 2024-10-27 02:30",
+        TextFault::SecondMissing => "the seconds are missing, as in 02:30:00",
+        TextFault::FractionMissing => "digits are missing after the point, as in 02:30:00.25",
+        TextFault::TooFine => "a fraction has at most nine digits, as in 02:30:00.123456789",
+        TextFault::OffsetMissing => {
+            "an offset is missing, as in 2024-10-27T02:30:00+02:00 or 2024-10-27T00:30:00Z"
+        }
+        TextFault::CountMissing => "a number of seconds is missing, as in @1729989000",
+        TextFault::Trailing => "something follows the time",
+        TextFault::NoSuchDate => "the calendar has no such date",
+        TextFault::NoSuchTime => "a time of day goes from 00:00:00 to 23:59:59",
+        TextFault::OffsetRange => "an offset goes from -23:59 to +23:59",
+        TextFault::OutOfYears => "the time lies outside the years -9999 to 9999",
+    }
+}
+
+/// What is told of a cause.
+fn cause_text(cause: WordCause) -> &'static str
+    ensures { result.now ≡ cause_text cause }
+{
+    match cause {
+        WordCause::UnknownOption => "no option has this name; zone --help tells them",
+        WordCause::ValueMissing => "a word is missing behind this option",
+        WordCause::Twice => "this option is there twice, or beside one that says the same",
+        WordCause::CommandMissing => "a command is missing, as in zone at Europe/Paris now",
+        WordCause::UnknownCommand => "no command has this name; zone --help tells them",
+        WordCause::OtherOption => "this option goes with another command",
+        WordCause::TooFew => "words are missing behind this command",
+        WordCause::TooMany => "this word is one too many",
+        WordCause::FirstMissing => "the first day is missing, as in --from 2024-10-27",
+        WordCause::EndMissing => "the end is missing, as in --count 7 or --until 2024-12-31",
+        WordCause::Number => "a number goes from 1 to 65535",
+        WordCause::Weekdays => "weekdays are missing, as in mon,thu",
+        WordCause::GapRule => "a rule for gaps is skip, before or after",
+        WordCause::FoldRule => "a rule for folds is first, second or both",
+        WordCause::Year => "a year goes from 0 to 9999",
+        WordCause::Text(fault) => text_cause(fault),
+        WordCause::NoMemory => "out of memory",
+    }
+}
+
+/// The words at fault in quotes, with a colon and a space; nothing where no word is.
+fn quoted(alloc: Global, fault: &WordFault<'_>) -> Result<Vec<u8>, AllocError>
+    ensures { IfOk result (λ text. text.items ≡ quoted (fault_shown fault.now)) }
+{
+    let mut text = Vec::new(alloc);
+    if fault.word.is_empty() {
+        return Ok(text);
+    }
+    text.push(b'"')?;
+    text.extend_from_slice(fault.word.as_bytes())?;
+    if let Some(more) = fault.more {
+        text.push(b' ')?;
+        text.extend_from_slice(more.as_bytes())?;
+    }
+    text.extend_from_slice(b"\": ")?;
+    Ok(text)
+}
+
+/// The line that tells a fault, with its line feed, as in `zone: "2024-10-27": a time of day is missing, as in 2024-10-27 02:30`.
+///
+/// # Errors
+///
+/// Want of memory alone.
+#[tactic(auto, unfolding(crate::specs::FaultLines::fault_line))]
+pub fn fault_line(alloc: Global, fault: &WordFault<'_>) -> Result<Vec<u8>, AllocError>
+    ensures { IfOk result (λ line. line.items ≡ fault_line (fault_shown fault.now)) }
+{
+    let words = quoted(alloc, fault)?;
+    let mut line = Vec::new(alloc);
+    line.extend_from_slice(b"zone: ")?;
+    line.extend_from_slice(&words)?;
+    line.extend_from_slice(cause_text(fault.cause).as_bytes())?;
+    line.push(b'\n')?;
+    Ok(line)
+}
