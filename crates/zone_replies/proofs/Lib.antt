@@ -1,0 +1,4 @@
+pub mod DueLemmas
+pub mod InstantLemmas
+pub mod LocalLemmas
+mod WorkedReplies

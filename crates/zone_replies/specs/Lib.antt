@@ -1,0 +1,9 @@
+-- Definitions: what public clauses say.
+pub mod Faults
+pub mod Forces
+pub mod Instants
+pub mod Kinds
+pub mod Objects
+pub mod Readings
+pub mod Skips
+pub mod Views
