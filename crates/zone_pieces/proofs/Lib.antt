@@ -1,0 +1,4 @@
+mod WorkedLines
+pub mod LineLemmas
+pub mod CutLemmas
+pub mod ReplyLemmas
