@@ -1,5 +1,5 @@
 -- Where the first LF was looked for.
-use Rattle.std.proofs.Common.{◌≡◌, sym, ap, ◌∙◌, get_or, arith, ℕ, suc, ◌+◌, ◌<◌, ◌≤◌, Bool, true, false, List, length, take, drop, Option, Some, None, length-drop, add-one}
+use Rattle.std.proofs.Common.{◌≡◌, get_or, arith, ℕ, suc, ◌+◌, ◌<◌, false, List, length, take, drop, Some, None, length-drop, add-one}
 use Rattle.std.proofs.lemmas.Bool.{false_from_ne_true}
 use Rattle.memchr.specs.Find.{IsFirstByte, is_byte}
 use Rattle.zone_pieces.proofs.LineLemmas.{first_cut, no_cut}

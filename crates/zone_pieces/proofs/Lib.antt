@@ -2,3 +2,4 @@ mod WorkedLines
 pub mod LineLemmas
 pub mod CutLemmas
 pub mod ReplyLemmas
+pub mod RunLemmas

@@ -1,7 +1,6 @@
 -- Lines and answers, worked by hand; the limit is 3 in place of 4,096.
-use Rattle.std.proofs.Common.{◌≡◌, refl, ℕ, Bool, true, false, List, [], ◌∷◌, ◌++◌, map, nat_eq}
-use Rattle.std.specs.Prelude.{codes}
-use Rattle.std.specs.List.{flat_map, list_any}
+use Rattle.std.proofs.Common.{◌≡◌, refl, ℕ, true, false, List, [], ◌∷◌, ◌++◌, map, nat_eq}
+use Rattle.std.specs.List.{list_any}
 use Rattle.zone_pieces.specs.Lines.{lines_behind, open_behind, whole_lines, open_line, lines_of}
 use Rattle.zone_pieces.specs.Replies.{Replies, answer, fails, longest}
 use Rattle.zone_pieces.specs.Room.{room}

@@ -1,6 +1,7 @@
 -- What turns an input that comes in pieces into an output.
-use Rattle.std.specs.Prelude.{◌≡◌, ℕ, Bool, ◌||◌, List, ◌++◌}
-use Rattle.zone_pieces.specs.Lines.{whole_lines, open_line, last_line}
+use Rattle.std.specs.Prelude.{◌≡◌, ℕ, Bool, false, ◌||◌, List, [], ◌++◌}
+use Rattle.std.proofs.Common.{refl}
+use Rattle.zone_pieces.specs.Lines.{lines_behind, whole_lines, open_line, last_line}
 use Rattle.zone_pieces.specs.Replies.{Replies, answers, any_fails}
 
 -- what is written once these bytes have come, and what besides where the input ends then; and whether a fault is in either
@@ -16,6 +17,11 @@ in_all made input = made.so_far input ++ made.at_end input
 
 abbrev pub fails_in_all : Made → List ℕ → Bool
 fails_in_all made input = made.fails input || made.fails_at_end input
+
+-- nothing is written of no bytes
+pub record BeginsEmpty (made : Made) : Type 0 where
+  pub nothing : made.so_far [] ≡ []
+  pub no_fault : made.fails [] ≡ false
 
 -- behind these bytes a piece came, and the output grew by what is due now
 pub record Grows (made : Made) (fed piece output output_now : List ℕ) (fault : Bool) : Type 0 where
@@ -37,3 +43,8 @@ replied replies = record {
   fails = λ bytes. any_fails replies (whole_lines bytes);
   fails_at_end = λ bytes. any_fails replies (last_line (open_line bytes));
 }
+
+-- of which nothing is due of no bytes
+pub begins_empty : (replies : Replies) → BeginsEmpty (replied replies)
+unfolding lines_behind
+begins_empty replies = record { nothing = refl; no_fault = refl }

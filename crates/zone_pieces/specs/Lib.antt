@@ -4,3 +4,4 @@ pub mod Replies
 pub mod Filters
 pub mod Cuts
 pub mod Room
+pub mod Runs

@@ -1,6 +1,6 @@
 //! What turns an input that comes in pieces into an output.
 ghost use Rattle.std.specs.Prelude.{◌≡◌, List, ℕ, ◌++◌, IfOk};
-ghost use Rattle.zone_pieces.specs.Filters.{Made, Grows, Closes};
+ghost use Rattle.zone_pieces.specs.Filters.{Made, Grows, Closes, BeginsEmpty};
 
 use std::alloc::AllocError;
 
@@ -32,4 +32,7 @@ pub trait Filter {
         ensures made { made self.new ≡ made self.old }
         ensures output { IfOk result (λ fault. (fed : List ℕ) → was_fed self.old fed →
             Closes (made self.old) fed output.old.items output.new.items fault) };
+
+    /// Of no bytes nothing is written, and no fault is in that.
+    ghost begins: { (s : Self) → BeginsEmpty (made s) };
 }

@@ -94,7 +94,8 @@ fn cut_line(bytes: &[u8]) -> Option<(&[u8], &[u8])>
     }
 }
 
-fn either(one: bool, other: bool) -> bool
+/// Whether one or the other holds.
+pub(crate) fn either(one: bool, other: bool) -> bool
     ensures { result ≡ (one || other) }
 {
     one || other
@@ -165,7 +166,7 @@ impl<R: Responder + Drop> LineAnswers<R> {
 
 impl<R: Responder + Drop> Filter for LineAnswers<R> {
     ghost use Rattle.std.specs.Prelude.{take, ◌≡◌};
-    ghost use Rattle.zone_pieces.specs.Filters.{replied};
+    ghost use Rattle.zone_pieces.specs.Filters.{begins_empty, replied};
     ghost use Rattle.zone_pieces.specs.Lines.{open_line};
 
     ghost made = { λ s. replied (R.replies s.responder) };
@@ -179,4 +180,6 @@ impl<R: Responder + Drop> Filter for LineAnswers<R> {
     fn close(&mut self, output: &mut Vec<u8>) -> Result<bool, AllocError> {
         answer_last(&mut self.responder, &self.held, output)
     }
+
+    ghost begins = { λ s. begins_empty (R.replies s.responder) };
 }
