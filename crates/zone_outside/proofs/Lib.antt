@@ -1,3 +1,4 @@
 mod OutsideRows
 pub mod Loops
 pub mod MemoryLemmas
+pub mod ExchangeLemmas

@@ -1,5 +1,5 @@
 -- What counts of bytes and of faults say, held to plain numbers.
-use Rattle.std.proofs.Common.{◌≡◌, ◌↔◌, ℕ, ◌+◌, ◌*◌, ◌<◌, ◌≤◌, List, [], ◌∷◌, map, refl, arith}
+use Rattle.std.proofs.Common.{◌≡◌, ◌↔◌, ℕ, ◌+◌, ◌*◌, ◌<◌, [], ◌∷◌, map, refl, arith}
 use Rattle.zone_outside.specs.Limit.{text_limit}
 use Rattle.zone_outside.specs.Outside.{last_count, raised, Rose, TooMuch}
 

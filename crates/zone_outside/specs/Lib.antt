@@ -4,3 +4,4 @@ pub mod Seen
 pub mod Memory
 pub mod Streams
 pub mod Limit
+pub mod Exchanges

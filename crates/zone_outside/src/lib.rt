@@ -2,10 +2,12 @@
 //! which chosen calls fail, objects that never fail, and the real file and streams.
 #![tactic(auto)]
 
+mod exchange;
 mod memory;
 mod outside;
 mod sure;
 
+pub use exchange::{Exchange, StdExchange, send_all};
 pub use memory::{MemShelf, MemSink, MemSource};
 pub use outside::{
     Failed, FileShelf, LIMIT, ReadEnd, Shelf, Sink, Source, StdSink, StdSource, fetch_all,

@@ -1,0 +1,5 @@
+mod WorkedLines
+pub mod LineLemmas
+pub mod CutLemmas
+pub mod ReplyLemmas
+pub mod RunLemmas
