@@ -210,7 +210,7 @@ def crate(release, folder):
     library = f"{prefix}/lib"
     settings = {**os.environ, "PKG_CONFIG_PATH": f"{library}/pkgconfig", "LD_LIBRARY_PATH": library, "CARGO_TARGET_DIR": f"{folder}/target"}
     settings.pop("SEFUNJARO_FOLDER", None)
-    source = os.path.join(ROOT, "crates", "zone_answers_real", "data", "tz.txt")
+    source = os.path.join(ROOT, "crates", "zone_answers_program", "data", "tz.txt")
     told = run("cargo", "run", "-q", "--offline", "--example", "first", "--", source, cwd=copy, env=settings)
     due("the caller in Rust", requests()[1].replace(" | ", "\n"), told)
     run("cargo", "test", "-q", "--offline", "--lib", cwd=copy, env=settings)
