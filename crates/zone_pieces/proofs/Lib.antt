@@ -1,5 +1,8 @@
 mod WorkedLines
+mod WorkedLogs
 pub mod LineLemmas
 pub mod CutLemmas
 pub mod ReplyLemmas
 pub mod RunLemmas
+pub mod FrontLemmas
+pub mod LogLemmas

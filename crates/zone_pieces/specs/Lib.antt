@@ -5,3 +5,5 @@ pub mod Filters
 pub mod Cuts
 pub mod Room
 pub mod Runs
+pub mod Fronts
+pub mod Logs

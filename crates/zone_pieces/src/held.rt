@@ -1,5 +1,5 @@
 //! The front of a line that isn't whole yet, in bounded memory.
-ghost use Rattle.std.specs.Prelude.{◌≡◌, [], ◌++◌, take, length, IfOk};
+ghost use Rattle.std.specs.Prelude.{◌≡◌, ◌≤◌, [], ◌++◌, take, length, IfOk};
 
 use std::alloc::{AllocError, Global};
 use std::marker::Model;
@@ -54,7 +54,8 @@ impl Held {
     }
 
     pub(crate) fn as_bytes(&self) -> &[u8]
-        ensures { result.now ≡ self.now }
+        ensures bytes { result.now ≡ self.now }
+        ensures within { length result.now ≤ 4098 }
     {
         &self.bytes
     }

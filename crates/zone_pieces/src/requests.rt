@@ -85,7 +85,7 @@ fn answer_held<R: Responder>(
 }
 
 /// The bytes before the first LF, and those after it; none where there is no LF.
-fn cut_line(bytes: &[u8]) -> Option<(&[u8], &[u8])>
+pub(crate) fn cut_line(bytes: &[u8]) -> Option<(&[u8], &[u8])>
     ensures { MatchOption result (IsUncut bytes.now) (λ x. IsCut bytes.now x.0.now x.1.now) }
 {
     match memchr(b'\n', bytes) {

@@ -1,9 +1,13 @@
 //! A filter over an exchange: what is due is written before more is read.
-ghost use Rattle.std.specs.Prelude.{◌≡◌, ◌<◌, ℕ, List, [], ◌++◌, length, IfOk, IfErr};
+ghost use Rattle.std.specs.Prelude.{◌≡◌, ◌<◌, ◌≤◌, ℕ, List, [], ◌++◌, length, IfOk, IfErr};
 ghost use Rattle.zone_pieces.specs.Filters.{replied};
+ghost use Rattle.zone_pieces.specs.Fronts.{fronts_rewritten};
+ghost use Rattle.zone_pieces.specs.Logs.{log_front};
 ghost use Rattle.zone_pieces.specs.Runs.{Ends, Finishes, Steps, Stops};
 
 use crate::filter::Filter;
+use crate::fronts::LineRewrites;
+use crate::logs::{InstantTexts, LogTimes};
 use crate::requests::{LineAnswers, Responder, either};
 use std::alloc::Global;
 use zone_outside::{Exchange, send_all};
@@ -59,6 +63,26 @@ pub fn run_stream<R: Responder + Drop, E: Exchange>(
     ensures { Ends (replied (R.replies responder)) (E.seen exchange.old) (E.seen exchange.new) result }
 {
     let Ok(mut lines) = LineAnswers::new(alloc, responder) else {
+        return StreamEnd::NoMemory;
+    };
+    run_filter(alloc, &mut lines, exchange)
+}
+
+/// Rewrites a log as it comes: each line that begins with a time, or has one in the field of that number, with what is shown for it in
+/// its place and every other byte as it was, and any other line as it is. Lines may be of any length; a time has to end within the
+/// first 4,096 bytes of its line. Of a longer line all that has come is written before more is read.
+///
+/// What each end says is told field by field by `Ends`.
+pub fn run_log<T: InstantTexts + Drop, E: Exchange>(
+    alloc: Global,
+    texts: T,
+    field: usize,
+    exchange: &mut E,
+) -> StreamEnd
+    requires { field ≤ 4096 }
+    ensures { Ends (fronts_rewritten (log_front field (T.shown texts))) (E.seen exchange.old) (E.seen exchange.new) result }
+{
+    let Ok(mut lines) = LineRewrites::new(alloc, LogTimes::new(texts, field)) else {
         return StreamEnd::NoMemory;
     };
     run_filter(alloc, &mut lines, exchange)
