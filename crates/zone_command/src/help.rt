@@ -13,8 +13,8 @@ pub const HELP: &str = "zone [OPTIONS] COMMAND .. answers about time zones:
   at NAME TIME..        the local time of each instant
   local NAME TEXT       every instant of a local time
   convert FROM TO TEXT  the readings in TO of a local time in FROM
-  names [WORD]          the names that have the word
-A TIME is now, @1729989000 or 2024-10-27T02:30:00+02:00, a TEXT 2024-10-27 02:30, maybe with seconds.
+  list NAME FROM TO     the changes from one instant up to another
+A TIME, FROM and TO of list too, is now, @1729989000 or 2024-10-27T02:30:00+02:00, a TEXT 2024-10-27 02:30, maybe with seconds.
 A NAME is one of the source, UTC, or an offset as +02:00.
 Options: --source FILE, --rfc3339, --epoch, --json, --help, --version; no word behind -- is one.
 The source is FILE, else what SEFUNJARO_TZDATA names, else /usr/share/zoneinfo/tzdata.zi.
@@ -22,7 +22,7 @@ The source is FILE, else what SEFUNJARO_TZDATA names, else /usr/share/zoneinfo/t
 
 /// What `zone at --help` writes.
 pub const HELP_AT: &str = "zone at NAME TIME.. writes the local time of each instant.
-A TIME is now, @1729989000 or @1729989000.25, or 2024-10-27T02:30:00+02:00.
+A TIME, FROM and TO of list too, is now, @1729989000 or @1729989000.25, or 2024-10-27T02:30:00+02:00.
 ";
 
 /// What `zone local --help` writes.
@@ -37,9 +37,9 @@ pub const HELP_CONVERT: &str =
 A TEXT is 2024-10-27 02:30, maybe with seconds, with a T or a space.
 ";
 
-/// What `zone names --help` writes.
-pub const HELP_NAMES: &str =
-    "zone names [WORD] writes the names that have the word, links with their zones.
+/// What `zone list --help` writes.
+pub const HELP_LIST: &str = "zone list NAME FROM TO writes the changes from one instant up to another.
+FROM and TO are now, @1729989000 or 2024-10-27T02:30:00+02:00.
 ";
 
 /// The help of a command, or of all.
@@ -50,7 +50,7 @@ fn help_text(command: Option<Command>) -> &'static str
         Some(Command::At) => HELP_AT,
         Some(Command::Local) => HELP_LOCAL,
         Some(Command::Convert) => HELP_CONVERT,
-        Some(Command::Names) => HELP_NAMES,
+        Some(Command::List) => HELP_LIST,
         _ => HELP,
     }
 }
@@ -114,7 +114,7 @@ fn is_there(command: Command) -> bool
 {
     matches!(
         command,
-        Command::At | Command::Local | Command::Convert | Command::Names
+        Command::At | Command::Local | Command::Convert | Command::List
     )
 }
 

@@ -154,6 +154,19 @@ pub fn add_local(into: &mut Vec<u8>, local: &PlainDateTime) -> Result<(), AllocE
     into.extend_from_slice(&text[..end])
 }
 
+/// Adds an offset to a text, as `+02:00`, with its seconds only where they aren't 0.
+///
+/// # Errors
+///
+/// Want of memory alone. The text is as before then.
+pub fn add_offset(into: &mut Vec<u8>, offset: UtcOffset) -> Result<(), AllocError>
+    ensures items { into.new.items ≡ (if is_ok result then into.old.items ++ offset_shown offset else into.old.items) }
+{
+    let mut text = [0; 9];
+    let end = put_offset(&mut text, 0, offset);
+    into.extend_from_slice(&text[..end])
+}
+
 /// Adds a local time and its offset to a text by RFC 3339, as `2024-10-27T02:30:00+02:00`. Two values have texts that RFC 3339
 /// lacks: a year below 0 has a `-`, and an offset that isn't of whole minutes has its seconds, as `+00:09:21`.
 ///

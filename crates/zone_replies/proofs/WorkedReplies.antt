@@ -1,0 +1,157 @@
+-- Replies about Berlin in 2024, as Python's `zoneinfo` has its times.
+use Rattle.std.proofs.Common.{◌≡◌, refl, ap, ◌∙◌, arith, Bool, true, false, not, lit≤, ◌++◌, ◌∷◌, [], List, ℕ, ℤ, map, pos, filter, int_le, int_lt, ◌&&◌, ◌+ℤ◌, ◌-ℤ◌, ◌*ℤ◌, cond, Ok, Err, Some, None}
+use Rattle.std.specs.Prelude.{codes}
+use Rattle.std.specs.Fmt.{digits}
+use Rattle.std.specs.Ordering.{int_eq}
+use Rattle.calendar.specs.DateLaws.{year_of-day}
+use Rattle.calendar.specs.Dates.{year_of}
+use Rattle.calendar.specs.Days.{is_leap, days_in_year, days_in_month, days_after_zero, days_before_zero, year_start, days_through, days_into_year, day, IsCountedYear}
+use Rattle.calendar.specs.SignedLaws.{signed}
+use Rattle.civil_base.specs.Instants.{local_at, seconds_of}
+use Rattle.civil_base.specs.Layout.{day_part}
+use Rattle.civil_base.specs.Ranges.{is_in_years}
+use Rattle.zone_moments.specs.Written.{epoch_text, fraction_text, moment_text, offset_shown, people_text}
+use Rattle.zone_moments.specs.declared.answer_form.AnswerForm.{AnswerForm}
+use Rattle.zone_moments.specs.declared.answer_form.AnswerForm.TheVariants.{People, Epoch, Json}
+use Rattle.zone_replies.specs.Faults.{Due, behind, each_due, followed}
+use Rattle.zone_replies.specs.Instants.{instant_text, is_untold, shown_due}
+use Rattle.zone_replies.specs.Kinds.{kind_of, kind_text}
+use Rattle.zone_replies.specs.Lists.{change_due, kind_between, second_from, sides_text}
+use Rattle.zone_replies.specs.Objects.{clock_members, force_members, front_members, kind_member, object_text, quoted}
+use Rattle.zone_replies.specs.Readings.{convert_due, local_due}
+use Rattle.zone_replies.specs.Skips.{from_to_text, gap_due, skipping}
+use Rattle.zone_replies.specs.Views.{InForce, ZoneView}
+use Rattle.zone_replies.specs.declared.fault.ReplyFault.TheVariants.{OutOfYears, Untold}
+use Rattle.zone_replies.specs.declared.kind.Kind.{Kind}
+use Rattle.zone_replies.specs.declared.kind.Kind.TheVariants.{One, Gap, Fold}
+
+winter : InForce
+winter = record { offset = pos 3600; saving = pos 0; name = codes "CET" }
+
+summer : InForce
+summer = record { offset = pos 7200; saving = pos 3600; name = codes "CEST" }
+
+-- 2024-03-31 01:00 UTC and 2024-10-27 01:00 UTC
+is_summer : ℤ → Bool
+is_summer s = int_le (pos 1711846800) s && int_lt s (pos 1729990800)
+
+in_force : ℤ → InForce
+in_force s = cond (is_summer s) summer winter
+
+total_in : ℤ → ℤ
+total_in t = (in_force (seconds_of t)).offset
+
+instants_in : ℤ → List ℤ
+instants_in x = filter (λ t. int_eq (t +ℤ pos 1000000000 *ℤ total_in t) x) ((x -ℤ pos 7200000000000) ∷ (x -ℤ pos 3600000000000) ∷ [])
+
+changes_in : ℤ → ℤ → List ℤ
+changes_in from to = filter (λ s. int_le from s && int_lt s to) (pos 1711846800 ∷ pos 1729990800 ∷ [])
+
+berlin : ℤ → ZoneView
+berlin last = record { total = total_in; readings = instants_in; force = in_force; changes = changes_in; last_year = last }
+
+counted : IsCountedYear (pos 2024)
+counted = record { first = omega (arith, signed); last = omega (arith, signed) }
+
+-- 27 October and 31 March 2024
+year : year_of (pos 20023) ≡ pos 2024
+unfolding is_leap days_in_year days_in_month days_after_zero days_before_zero year_start days_through days_into_year day
+year = year_of-day (pos 2024) 10 27 counted (record { first_month = lit≤ tt; last_month = lit≤ tt; first_day = lit≤ tt; last_day = lit≤ tt })
+
+spring : year_of (pos 19813) ≡ pos 2024
+unfolding is_leap days_in_year days_in_month days_after_zero days_before_zero year_start days_through days_into_year day
+spring = year_of-day (pos 2024) 3 31 counted (record { first_month = lit≤ tt; last_month = lit≤ tt; first_day = lit≤ tt; last_day = lit≤ tt })
+
+in_2024 : (last x : ℤ) → year_of (day_part x) ≡ pos 2024 → is_untold (berlin last) x ≡ int_lt last (pos 2024)
+unfolding berlin
+in_2024 last x e = ap (int_lt last) e
+
+told : (form : AnswerForm) (kind : Kind) (t o : ℤ) → total_in t ≡ o → is_in_years (local_at t o) ≡ true → year_of (day_part (local_at t o)) ≡ pos 2024
+    → shown_due form (berlin (pos 2099)) (codes "Europe/Berlin") kind t ≡ Ok (instant_text form (berlin (pos 2099)) (codes "Europe/Berlin") kind t o)
+unfolding shown_due berlin
+told form kind t o is years year =
+    let view = berlin (pos 2099) in
+    (λ i. shown_by (is_in_years (local_at t (is i))) (is_untold view (local_at t (is i))) (instant_text form view (codes "Europe/Berlin") kind t (is i)))
+    ∙ (λ i. shown_by (years i) (ap (int_lt (pos 2099)) year i) (instant_text form view (codes "Europe/Berlin") kind t o))
+  where
+    shown_by : Bool → Bool → List ℕ → Due
+    shown_by years untold text = cond (not years) (Err OutOfYears) (cond untold (Err Untold) (Ok text))
+
+-- 2024-10-27 02:30 comes twice: 00:30 UTC and 01:30 UTC
+first : (form : AnswerForm) → shown_due form (berlin (pos 2099)) (codes "Europe/Berlin") Fold (pos 1729989000000000000)
+    ≡ Ok (instant_text form (berlin (pos 2099)) (codes "Europe/Berlin") Fold (pos 1729989000000000000) (pos 7200))
+unfolding winter summer is_summer in_force total_in seconds_of day_part
+first form = told form Fold (pos 1729989000000000000) (pos 7200) refl refl year
+
+second : (form : AnswerForm) → shown_due form (berlin (pos 2099)) (codes "Europe/Berlin") Fold (pos 1729992600000000000)
+    ≡ Ok (instant_text form (berlin (pos 2099)) (codes "Europe/Berlin") Fold (pos 1729992600000000000) (pos 3600))
+unfolding winter summer is_summer in_force total_in seconds_of day_part
+second form = told form Fold (pos 1729992600000000000) (pos 3600) refl refl year
+
+both : (form : AnswerForm) → local_due form (berlin (pos 2099)) (codes "Europe/Berlin") (codes " | ") (pos 1729996200000000000)
+    ≡ Ok (instant_text form (berlin (pos 2099)) (codes "Europe/Berlin") Fold (pos 1729989000000000000) (pos 7200)
+    ++ ((codes " | " ++ instant_text form (berlin (pos 2099)) (codes "Europe/Berlin") Fold (pos 1729992600000000000) (pos 3600)) ++ []))
+unfolding winter summer is_summer in_force total_in instants_in berlin seconds_of day_part each_due convert_due
+both form =
+    (λ i. cond (ap (int_lt (pos 2099)) year i) (Err Untold) (followed (first form i) (followed (behind (codes " | ") (second form i)) (Ok []))))
+
+twice_as_seconds : local_due Epoch (berlin (pos 2099)) (codes "Europe/Berlin") (codes " | ") (pos 1729996200000000000) ≡ Ok (codes "@1729989000 | @1729992600")
+unfolding berlin epoch_text fraction_text digits
+twice_as_seconds = both Epoch
+
+twice_for_people : local_due People (berlin (pos 2099)) (codes "Europe/Berlin") (codes " | ") (pos 1729996200000000000)
+    ≡ Ok (people_text (pos 1729996200000000000) (pos 7200) (codes "CEST")
+    ++ ((codes " | " ++ people_text (pos 1729996200000000000) (pos 3600) (codes "CET")) ++ []))
+unfolding berlin winter summer is_summer in_force seconds_of
+twice_for_people = both People
+
+as_object : instant_text Json (berlin (pos 2099)) (codes "Europe/Berlin") Fold (pos 1729989000000000000) (pos 7200)
+    ≡ codes "{\"zone\":\"Europe/Berlin\",\"instant\":\"@1729989000\"," ++ (codes "\"local\":\"" ++ moment_text 32 (pos 1729996200000000000)
+    ++ codes "\",\"offset\":\"" ++ codes "+02:00" ++ codes "\",") ++ codes "\"abbreviation\":\"CEST\",\"saving\":3600" ++ codes ",\"kind\":\"fold\"" ++ codes "}"
+unfolding berlin winter summer is_summer in_force seconds_of object_text front_members clock_members force_members kind_member quoted
+    epoch_text fraction_text offset_shown digits
+as_object = refl
+
+untold : local_due People (berlin (pos 2023)) (codes "Europe/Berlin") (codes " | ") (pos 1729996200000000000) ≡ Err Untold
+unfolding berlin convert_due day_part
+untold = stop _ _ (ap (int_lt (pos 2023)) year)
+  where
+    stop : (b : Bool) (d : Due) → b ≡ true → cond b (Err Untold) d ≡ Err Untold
+    stop true d e = refl
+    stop false d e = cc
+
+-- 2024-03-31 02:30 is skipped
+skipped : gap_due Epoch (berlin (pos 2099)) (codes "Europe/Berlin") (pos 1711852200000000000)
+    ≡ Ok (codes "none: skipped at @1711846800, from +01:00 to +02:00")
+unfolding winter summer is_summer in_force changes_in berlin seconds_of skipping from_to_text epoch_text fraction_text offset_shown digits
+skipped = refl
+
+-- 02:00 is the first local time that is, and 03:00 the first that isn't
+edges : map (skipping (berlin (pos 2099)))
+    (pos 1711850399999999999 ∷ pos 1711850400000000000 ∷ pos 1711853999999999999 ∷ pos 1711854000000000000 ∷ pos 1729996200000000000 ∷ [])
+    ≡ None ∷ Some (pos 1711846800) ∷ Some (pos 1711846800) ∷ None ∷ None ∷ []
+unfolding winter summer is_summer in_force changes_in berlin seconds_of skipping
+edges = refl
+
+strings : map quoted (codes "a\"b" ∷ codes "\\" ∷ (9 ∷ 31 ∷ 32 ∷ 127 ∷ 195 ∷ 164 ∷ []) ∷ [])
+    ≡ codes "\"a\\\"b\"" ∷ codes "\"\\\\\"" ∷ (codes "\"\\u0009\\u001f " ++ (127 ∷ 195 ∷ 164 ∷ 34 ∷ [])) ∷ []
+unfolding quoted
+strings = refl
+
+kinds : map (λ n. kind_text (kind_of n)) (0 ∷ 1 ∷ 2 ∷ 3 ∷ 4 ∷ []) ≡ codes "gap" ∷ codes "one" ∷ codes "fold" ∷ codes "more" ∷ codes "more" ∷ []
+kinds = refl
+
+-- the changes of 2024
+listed : each_due (change_due Epoch (berlin (pos 2099)) (codes "Europe/Berlin")) (changes_in (pos 1704067200) (pos 1735689600))
+    ≡ Ok ((codes "@1711846800: +01:00 CET to +02:00 CEST, saving 3600" ++ 10 ∷ [])
+    ++ ((codes "@1729990800: +02:00 CEST to +01:00 CET, saving 0" ++ 10 ∷ []) ++ []))
+unfolding winter summer is_summer in_force changes_in berlin each_due change_due sides_text epoch_text fraction_text offset_shown digits
+listed = refl
+
+-- the second of a change is within from its begin on
+window : map second_from (pos 0 ∷ pos 1 ∷ pos 1000000000 ∷ pos 1000000001 ∷ []) ≡ pos 0 ∷ pos 1 ∷ pos 1 ∷ pos 2 ∷ []
+unfolding seconds_of
+window = refl
+
+by_change : kind_between (pos 3600) (pos 7200) ∷ kind_between (pos 7200) (pos 3600) ∷ kind_between (pos 0) (pos 0) ∷ [] ≡ Gap ∷ Fold ∷ One ∷ []
+by_change = refl

@@ -1,0 +1,147 @@
+//! Objects of JSON.
+ghost use Rattle.std.specs.Prelude.{◌≡◌, ◌++◌, ◌<◌, OnOk};
+ghost use Rattle.civil_base.specs.DateTimes.{instant, offset_of};
+ghost use Rattle.zone_replies.specs.Forces.{force_shown};
+ghost use Rattle.zone_replies.specs.Objects.{change_object_text, clock_members, escaped, force_members, front_members, hex_digit, kind_member, members, object_text, quoted};
+
+use crate::force::Force;
+use crate::kind::Kind;
+use civil_base::{OffsetDateTime, PlainDateTime, UtcOffset};
+use itoa::Buffer;
+use std::alloc::AllocError;
+use zone_moments::{add_epoch, add_local, add_offset};
+
+/// What an object tells of an instant: its zone's name, the local time, what is in force, and the kind of the local time.
+#[derive(Clone, Copy)]
+pub(crate) struct Told<'a> {
+    pub(crate) name: &'a str,
+    pub(crate) at: &'a OffsetDateTime,
+    pub(crate) local: &'a PlainDateTime,
+    pub(crate) force: &'a Force,
+    pub(crate) kind: Kind,
+}
+
+fn hex_digit(number: u8) -> u8
+    requires { number < 16 }
+    ensures { result ≡ hex_digit number }
+{
+    if number < 10 {
+        b'0' + number
+    } else {
+        b'W' + number
+    }
+}
+
+/// Adds a byte of a string.
+fn add_escaped(into: &mut Vec<u8>, byte: u8) -> Result<(), AllocError>
+    ensures { OnOk result (into.new.items ≡ into.old.items ++ escaped byte) }
+{
+    if byte == b'"' || byte == b'\\' {
+        into.extend_from_slice(&[b'\\', byte])
+    } else if byte < 32 {
+        let digits = [hex_digit(byte / 16), hex_digit(byte % 16)];
+        into.extend_from_slice(b"\\u00")?;
+        into.extend_from_slice(&digits)
+    } else {
+        into.extend_from_slice(&[byte])
+    }
+}
+
+/// Adds a text as a string.
+#[tactic(auto, using(std::proofs::Common::append_assoc), unfolding(crate::specs::Objects::quoted))]
+fn add_quoted(into: &mut Vec<u8>, text: &str) -> Result<(), AllocError>
+    ensures { OnOk result (into.new.items ≡ into.old.items ++ quoted text.now) }
+{
+    into.extend_from_slice(b"\"")?;
+    for byte in text.as_bytes() {
+        add_escaped(into, *byte)?;
+    }
+    into.extend_from_slice(b"\"")?;
+    Ok(())
+}
+
+#[tactic(auto, using(std::proofs::Common::append_assoc), unfolding(crate::specs::Objects::front_members))]
+fn add_front(into: &mut Vec<u8>, name: &str, at: &OffsetDateTime) -> Result<(), AllocError>
+    ensures { OnOk result (into.new.items ≡ into.old.items ++ front_members name.now (instant at.now)) }
+{
+    into.extend_from_slice(b"{\"zone\":")?;
+    add_quoted(into, name)?;
+    into.extend_from_slice(b",\"instant\":\"")?;
+    add_epoch(into, at)?;
+    into.extend_from_slice(b"\",")?;
+    Ok(())
+}
+
+#[tactic(auto, using(std::proofs::Common::append_assoc), unfolding(crate::specs::Objects::clock_members))]
+fn add_clock(into: &mut Vec<u8>, local: &PlainDateTime, offset: UtcOffset) -> Result<(), AllocError>
+    ensures { OnOk result (into.new.items ≡ into.old.items ++ clock_members local.now offset) }
+{
+    into.extend_from_slice(b"\"local\":\"")?;
+    add_local(into, local)?;
+    into.extend_from_slice(b"\",\"offset\":\"")?;
+    add_offset(into, offset)?;
+    into.extend_from_slice(b"\",")?;
+    Ok(())
+}
+
+#[tactic(auto, using(std::proofs::Common::append_assoc), unfolding(crate::specs::Objects::force_members))]
+fn add_force(into: &mut Vec<u8>, force: &Force) -> Result<(), AllocError>
+    ensures { OnOk result (into.new.items ≡ into.old.items ++ force_members (force_shown force.now)) }
+{
+    into.extend_from_slice(b"\"abbreviation\":")?;
+    add_quoted(into, force.name.as_str())?;
+    into.extend_from_slice(b",\"saving\":")?;
+    into.extend_from_slice(Buffer::new().format(force.saving).as_bytes())?;
+    Ok(())
+}
+
+#[tactic(auto, using(std::proofs::Common::append_assoc), unfolding(crate::specs::Objects::kind_member))]
+fn add_kind(into: &mut Vec<u8>, kind: Kind) -> Result<(), AllocError>
+    ensures { OnOk result (into.new.items ≡ into.old.items ++ kind_member kind) }
+{
+    into.extend_from_slice(b",\"kind\":\"")?;
+    into.extend_from_slice(kind.text())?;
+    into.extend_from_slice(b"\"")?;
+    Ok(())
+}
+
+/// Adds an object, but for its end.
+#[tactic(auto, using(std::proofs::Common::append_assoc))]
+fn add_members(into: &mut Vec<u8>, told: &Told<'_>) -> Result<(), AllocError>
+    ensures { OnOk result (into.new.items ≡ into.old.items
+        ++ members told.now.name.now (instant told.now.at.now) told.now.local.now (offset_of told.now.at.now) (force_shown told.now.force.now) told.now.kind) }
+{
+    add_front(into, told.name, told.at)?;
+    add_clock(into, told.local, told.at.offset())?;
+    add_force(into, told.force)?;
+    add_kind(into, told.kind)?;
+    Ok(())
+}
+
+/// Adds the object of an instant.
+#[tactic(auto, using(std::proofs::Common::append_assoc), unfolding(crate::specs::Objects::object_text))]
+pub(crate) fn add_object(into: &mut Vec<u8>, told: &Told<'_>) -> Result<(), AllocError>
+    ensures { OnOk result (into.new.items ≡ into.old.items
+        ++ object_text told.now.name.now (instant told.now.at.now) told.now.local.now (offset_of told.now.at.now) (force_shown told.now.force.now) told.now.kind) }
+{
+    add_members(into, told)?;
+    into.extend_from_slice(b"}")?;
+    Ok(())
+}
+
+/// Adds the object of a change from that offset.
+#[tactic(auto, using(std::proofs::Common::append_assoc), unfolding(crate::specs::Objects::change_object_text))]
+pub(crate) fn add_change_object(
+    into: &mut Vec<u8>,
+    told: &Told<'_>,
+    before: UtcOffset,
+) -> Result<(), AllocError>
+    ensures { OnOk result (into.new.items ≡ into.old.items
+        ++ change_object_text told.now.name.now (instant told.now.at.now) told.now.local.now (offset_of told.now.at.now) (force_shown told.now.force.now) told.now.kind before) }
+{
+    add_members(into, told)?;
+    into.extend_from_slice(b",\"before\":\"")?;
+    add_offset(into, before)?;
+    into.extend_from_slice(b"\"}")?;
+    Ok(())
+}
