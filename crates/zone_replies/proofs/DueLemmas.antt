@@ -51,27 +51,27 @@ behind_err : (old : List ℕ) (d : Due) (f : ReplyFault) → behind old d ≡ Er
 behind_err old (Ok p) f e = no_ok (old ++ p) f e
 behind_err old (Err g) f e = e
 
-next_is : {A B : Type 0} → (due : B → Due) (show : A → B) (xs : List A) (n : ℕ) (x : A) → n < length xs → x ≡ slice_index_or xs n x
+next_is : {A B : Type 0} → (due : B → Due) (show : A → B) (xs : List A) (n : ℕ) (default x : A) → n < length xs → x ≡ slice_index_or xs n default
     → each_due due (map show (drop n xs)) ≡ followed (due (show x)) (each_due due (map show (drop (n + 1) xs)))
 unfolding each_due
-next_is due show xs n x l is =
-    at_drop_more (λ ys. each_due due (map show ys)) xs n x l
+next_is due show xs n default x l is =
+    at_drop_more (λ ys. each_due due (map show ys)) xs n default l
     ∙ ap (λ y. followed (due (show y)) (each_due due (map show (drop (n + 1) xs)))) (sym is)
 
 -- in a loop over items, with what is due of them and of all
-pub loop_more : {A B : Type 0} → (due : B → Due) (show : A → B) (xs : List A) (n : ℕ) (x : A) (old now new : List ℕ) (all : Due)
-    → n < length xs → x ≡ slice_index_or xs n x → behind now (each_due due (map show (drop n xs))) ≡ behind old all
+pub loop_more : {A B : Type 0} → (due : B → Due) (show : A → B) (xs : List A) (n : ℕ) (default x : A) (old now new : List ℕ) (all : Due)
+    → n < length xs → x ≡ slice_index_or xs n default → behind now (each_due due (map show (drop n xs))) ≡ behind old all
     → Ok new ≡ behind now (due (show x)) → behind new (each_due due (map show (drop (n + 1) xs))) ≡ behind old all
-loop_more due show xs n x old now new all l is left e =
-    stepped now new (due (show x)) (each_due due (map show (drop (n + 1) xs))) e ∙ sym (ap (behind now) (next_is due show xs n x l is)) ∙ left
+loop_more due show xs n default x old now new all l is left e =
+    stepped now new (due (show x)) (each_due due (map show (drop (n + 1) xs))) e ∙ sym (ap (behind now) (next_is due show xs n default x l is)) ∙ left
 
-pub loop_fault : {A B : Type 0} → (due : B → Due) (show : A → B) (xs : List A) (n : ℕ) (x : A) (old now : List ℕ) (all : Due)
-    → n < length xs → x ≡ slice_index_or xs n x → behind now (each_due due (map show (drop n xs))) ≡ behind old all
+pub loop_fault : {A B : Type 0} → (due : B → Due) (show : A → B) (xs : List A) (n : ℕ) (default x : A) (old now : List ℕ) (all : Due)
+    → n < length xs → x ≡ slice_index_or xs n default → behind now (each_due due (map show (drop n xs))) ≡ behind old all
     → (f : ReplyFault) → IsFaultOf (due (show x)) f → IsFaultOf all f
-loop_fault due show xs n x old now all l is left f e =
+loop_fault due show xs n default x old now all l is left f e =
     pass (due (show x)) all
     (λ g h. behind_err old all g
-    (sym left ∙ ap (behind now) (next_is due show xs n x l is) ∙ ap (λ d. behind now (followed d (each_due due (map show (drop (n + 1) xs))))) h)) f e
+    (sym left ∙ ap (behind now) (next_is due show xs n default x l is) ∙ ap (λ d. behind now (followed d (each_due due (map show (drop (n + 1) xs))))) h)) f e
 
 pub loop_end : {A B : Type 0} → (due : B → Due) (show : A → B) (xs : List A) (n : ℕ) (old now : List ℕ) (all : Due)
     → length xs ≤ n → behind now (each_due due (map show (drop n xs))) ≡ behind old all → Ok now ≡ behind old all

@@ -1,4 +1,5 @@
 pub mod DueLemmas
 pub mod InstantLemmas
+pub mod ListLemmas
 pub mod LocalLemmas
 mod WorkedReplies

@@ -16,13 +16,14 @@ use Rattle.zone_moments.specs.declared.answer_form.AnswerForm.TheVariants.{Peopl
 use Rattle.zone_replies.specs.Faults.{Due, behind, each_due, followed}
 use Rattle.zone_replies.specs.Instants.{instant_text, is_untold, shown_due}
 use Rattle.zone_replies.specs.Kinds.{kind_of, kind_text}
+use Rattle.zone_replies.specs.Lists.{change_due, kind_between, second_from, sides_text}
 use Rattle.zone_replies.specs.Objects.{clock_members, force_members, front_members, kind_member, object_text, quoted}
 use Rattle.zone_replies.specs.Readings.{convert_due, local_due}
 use Rattle.zone_replies.specs.Skips.{from_to_text, gap_due, skipping}
 use Rattle.zone_replies.specs.Views.{InForce, ZoneView}
 use Rattle.zone_replies.specs.declared.fault.ReplyFault.TheVariants.{OutOfYears, Untold}
 use Rattle.zone_replies.specs.declared.kind.Kind.{Kind}
-use Rattle.zone_replies.specs.declared.kind.Kind.TheVariants.{Fold}
+use Rattle.zone_replies.specs.declared.kind.Kind.TheVariants.{One, Gap, Fold}
 
 winter : InForce
 winter = record { offset = pos 3600; saving = pos 0; name = codes "CET" }
@@ -139,3 +140,18 @@ strings = refl
 
 kinds : map (λ n. kind_text (kind_of n)) (0 ∷ 1 ∷ 2 ∷ 3 ∷ 4 ∷ []) ≡ codes "gap" ∷ codes "one" ∷ codes "fold" ∷ codes "more" ∷ codes "more" ∷ []
 kinds = refl
+
+-- the changes of 2024
+listed : each_due (change_due Epoch (berlin (pos 2099)) (codes "Europe/Berlin")) (changes_in (pos 1704067200) (pos 1735689600))
+    ≡ Ok ((codes "@1711846800: +01:00 CET to +02:00 CEST, saving 3600" ++ 10 ∷ [])
+    ++ ((codes "@1729990800: +02:00 CEST to +01:00 CET, saving 0" ++ 10 ∷ []) ++ []))
+unfolding winter summer is_summer in_force changes_in berlin each_due change_due sides_text epoch_text fraction_text offset_shown digits
+listed = refl
+
+-- the second of a change is within from its begin on
+window : map second_from (pos 0 ∷ pos 1 ∷ pos 1000000000 ∷ pos 1000000001 ∷ []) ≡ pos 0 ∷ pos 1 ∷ pos 1 ∷ pos 2 ∷ []
+unfolding seconds_of
+window = refl
+
+by_change : kind_between (pos 3600) (pos 7200) ∷ kind_between (pos 7200) (pos 3600) ∷ kind_between (pos 0) (pos 0) ∷ [] ≡ Gap ∷ Fold ∷ One ∷ []
+by_change = refl

@@ -1,8 +1,10 @@
 -- Definitions: what public clauses say.
 pub mod Faults
+pub mod Fixed
 pub mod Forces
 pub mod Instants
 pub mod Kinds
+pub mod Lists
 pub mod Objects
 pub mod Readings
 pub mod Skips

@@ -1,7 +1,9 @@
 //! What the command `zone` answers people about a zone, as exact texts.
 #![tactic(auto)]
 
+mod changes;
 mod fault;
+mod fixed;
 mod force;
 mod kind;
 mod line;
@@ -10,7 +12,9 @@ mod readings;
 mod skip;
 mod view;
 
+pub use changes::add_list;
 pub use fault::ReplyFault;
+pub use fixed::FixedZone;
 pub use force::Force;
 pub use kind::Kind;
 pub use line::Style;

@@ -34,6 +34,7 @@ pub(crate) fn local_of(date: &OffsetDateTime) -> PlainDateTime
 /// Adds an instant at the offset in force.
 pub(crate) fn add_instant<Z: ReplyZone>(
     into: &mut Vec<u8>,
+    alloc: Global,
     zone: &Z,
     style: &Style<'_>,
     kind: Kind,
@@ -43,16 +44,17 @@ pub(crate) fn add_instant<Z: ReplyZone>(
 {
     let local = local_of(date);
     match style.form {
-        AnswerForm::People => add_named(into, zone, date, &local),
+        AnswerForm::People => add_named(into, alloc, zone, date, &local),
         AnswerForm::Rfc3339 => Ok(add_rfc3339(into, &local, date.offset())?),
         AnswerForm::Epoch => Ok(add_epoch(into, date)?),
-        AnswerForm::Json => add_whole(into, zone, style.name, kind, date, &local),
+        AnswerForm::Json => add_whole(into, alloc, zone, style.name, kind, date, &local),
     }
 }
 
 /// Adds an instant for people, with the abbreviation in force.
 fn add_named<Z: ReplyZone>(
     into: &mut Vec<u8>,
+    alloc: Global,
     zone: &Z,
     date: &OffsetDateTime,
     local: &PlainDateTime,
@@ -60,14 +62,15 @@ fn add_named<Z: ReplyZone>(
     ensures { OnOk result (into.new.items ≡ into.old.items
         ++ people_text local.now (offset_of date.now) ((Z.view zone.now).force (seconds_of (instant date.now))).name) }
 {
-    let force = zone.force_at(date.unix_timestamp());
-    add_people(into, local, date.offset(), force.name)?;
+    let force = zone.force_at(alloc, date.unix_timestamp())?;
+    add_people(into, local, date.offset(), force.name.as_str())?;
     Ok(())
 }
 
 /// Adds an instant as an object.
 fn add_whole<Z: ReplyZone>(
     into: &mut Vec<u8>,
+    alloc: Global,
     zone: &Z,
     name: &str,
     kind: Kind,
@@ -77,14 +80,16 @@ fn add_whole<Z: ReplyZone>(
     ensures { OnOk result (into.new.items ≡ into.old.items
         ++ object_text name.now (instant date.now) local.now (offset_of date.now) ((Z.view zone.now).force (seconds_of (instant date.now))) kind) }
 {
+    let force = zone.force_at(alloc, date.unix_timestamp())?;
     let told = Told {
         name,
         at: date,
         local,
-        force: zone.force_at(date.unix_timestamp()),
+        force: &force,
         kind,
     };
-    add_object(into, &told)
+    add_object(into, &told)?;
+    Ok(())
 }
 
 /// Whether a local time lies past the last year that a zone is told for.
@@ -98,6 +103,7 @@ pub(crate) fn is_untold<Z: ReplyZone>(zone: &Z, local: &PlainDateTime) -> bool
 #[tactic(auto, unfolding(crate::specs::Instants::shown_due))]
 pub(crate) fn add_shown<Z: ReplyZone>(
     into: &mut Vec<u8>,
+    alloc: Global,
     zone: &Z,
     style: &Style<'_>,
     kind: Kind,
@@ -112,7 +118,7 @@ pub(crate) fn add_shown<Z: ReplyZone>(
     if is_untold(zone, &local_of(&date)) {
         return Err(ReplyFault::Untold);
     }
-    add_instant(into, zone, style, kind, &date)?;
+    add_instant(into, alloc, zone, style, kind, &date)?;
     Ok(())
 }
 

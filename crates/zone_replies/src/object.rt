@@ -17,7 +17,7 @@ pub(crate) struct Told<'a> {
     pub(crate) name: &'a str,
     pub(crate) at: &'a OffsetDateTime,
     pub(crate) local: &'a PlainDateTime,
-    pub(crate) force: Force<'a>,
+    pub(crate) force: &'a Force,
     pub(crate) kind: Kind,
 }
 
@@ -85,11 +85,11 @@ fn add_clock(into: &mut Vec<u8>, local: &PlainDateTime, offset: UtcOffset) -> Re
 }
 
 #[tactic(auto, using(std::proofs::Common::append_assoc), unfolding(crate::specs::Objects::force_members))]
-fn add_force(into: &mut Vec<u8>, force: &Force<'_>) -> Result<(), AllocError>
+fn add_force(into: &mut Vec<u8>, force: &Force) -> Result<(), AllocError>
     ensures { OnOk result (into.new.items ≡ into.old.items ++ force_members (force_shown force.now)) }
 {
     into.extend_from_slice(b"\"abbreviation\":")?;
-    add_quoted(into, force.name)?;
+    add_quoted(into, force.name.as_str())?;
     into.extend_from_slice(b",\"saving\":")?;
     into.extend_from_slice(Buffer::new().format(force.saving).as_bytes())?;
     Ok(())
@@ -109,11 +109,11 @@ fn add_kind(into: &mut Vec<u8>, kind: Kind) -> Result<(), AllocError>
 #[tactic(auto, using(std::proofs::Common::append_assoc))]
 fn add_members(into: &mut Vec<u8>, told: &Told<'_>) -> Result<(), AllocError>
     ensures { OnOk result (into.new.items ≡ into.old.items
-        ++ members told.now.name.now (instant told.now.at.now) told.now.local.now (offset_of told.now.at.now) (force_shown told.now.force) told.now.kind) }
+        ++ members told.now.name.now (instant told.now.at.now) told.now.local.now (offset_of told.now.at.now) (force_shown told.now.force.now) told.now.kind) }
 {
     add_front(into, told.name, told.at)?;
     add_clock(into, told.local, told.at.offset())?;
-    add_force(into, &told.force)?;
+    add_force(into, told.force)?;
     add_kind(into, told.kind)?;
     Ok(())
 }
@@ -122,7 +122,7 @@ fn add_members(into: &mut Vec<u8>, told: &Told<'_>) -> Result<(), AllocError>
 #[tactic(auto, using(std::proofs::Common::append_assoc), unfolding(crate::specs::Objects::object_text))]
 pub(crate) fn add_object(into: &mut Vec<u8>, told: &Told<'_>) -> Result<(), AllocError>
     ensures { OnOk result (into.new.items ≡ into.old.items
-        ++ object_text told.now.name.now (instant told.now.at.now) told.now.local.now (offset_of told.now.at.now) (force_shown told.now.force) told.now.kind) }
+        ++ object_text told.now.name.now (instant told.now.at.now) told.now.local.now (offset_of told.now.at.now) (force_shown told.now.force.now) told.now.kind) }
 {
     add_members(into, told)?;
     into.extend_from_slice(b"}")?;
@@ -137,7 +137,7 @@ pub(crate) fn add_change_object(
     before: UtcOffset,
 ) -> Result<(), AllocError>
     ensures { OnOk result (into.new.items ≡ into.old.items
-        ++ change_object_text told.now.name.now (instant told.now.at.now) told.now.local.now (offset_of told.now.at.now) (force_shown told.now.force) told.now.kind before) }
+        ++ change_object_text told.now.name.now (instant told.now.at.now) told.now.local.now (offset_of told.now.at.now) (force_shown told.now.force.now) told.now.kind before) }
 {
     add_members(into, told)?;
     into.extend_from_slice(b",\"before\":\"")?;

@@ -36,7 +36,7 @@ pub fn add_at<Z: ReplyZone>(
     };
     let kind = kind_for(alloc, zone, style.form, &local_of(&date))?;
     let mut text = Vec::new(alloc);
-    add_shown(&mut text, zone, style, kind, at)?;
+    add_shown(&mut text, alloc, zone, style, kind, at)?;
     into.extend_from_slice(&text)?;
     Ok(())
 }
@@ -44,6 +44,7 @@ pub fn add_at<Z: ReplyZone>(
 /// Adds some instants as clocks of a zone show them, each after a separator.
 fn add_after<Z: ReplyZone>(
     into: &mut Vec<u8>,
+    alloc: Global,
     zone: &Z,
     style: &Style<'_>,
     kind: Kind,
@@ -54,7 +55,7 @@ fn add_after<Z: ReplyZone>(
     ensures err { IfErr result (IsFaultOf (after_each style.now.form (Z.view zone.now) style.now.name.now kind separator.now (map instant dates.now))) }
 {
     for date in dates {
-        add_behind(into, zone, style, kind, separator, date)?;
+        add_behind(into, alloc, zone, style, kind, separator, date)?;
     }
     Ok(())
 }
@@ -62,6 +63,7 @@ fn add_after<Z: ReplyZone>(
 /// Adds a separator and an instant as clocks of a zone show it.
 fn add_behind<Z: ReplyZone>(
     into: &mut Vec<u8>,
+    alloc: Global,
     zone: &Z,
     style: &Style<'_>,
     kind: Kind,
@@ -72,12 +74,13 @@ fn add_behind<Z: ReplyZone>(
     ensures err { IfErr result (IsFaultOf (behind separator.now (shown_due style.now.form (Z.view zone.now) style.now.name.now kind (instant date.now)))) }
 {
     into.extend_from_slice(separator)?;
-    add_shown(into, zone, style, kind, date)
+    add_shown(into, alloc, zone, style, kind, date)
 }
 
 /// Adds an instant as clocks of a zone show it, and others, each after a separator.
 fn add_first<Z: ReplyZone>(
     into: &mut Vec<u8>,
+    alloc: Global,
     zone: &Z,
     style: &Style<'_>,
     separator: &[u8],
@@ -89,8 +92,8 @@ fn add_first<Z: ReplyZone>(
     ensures err { IfErr result (IsFaultOf (first_due style.now.form (Z.view zone.now) style.now.name.now separator.now (instant first.now) (map instant others.now))) }
 {
     let kind = Kind::of_count(others.len() + 1);
-    add_shown(into, zone, style, kind, first)?;
-    add_after(into, zone, style, kind, separator, others)
+    add_shown(into, alloc, zone, style, kind, first)?;
+    add_after(into, alloc, zone, style, kind, separator, others)
 }
 
 /// Adds all instants of a local time of a zone as clocks of another show them, or what skips it.
@@ -113,7 +116,7 @@ fn add_read<F: ReplyZone, T: ReplyZone>(
     }
     let dates = from.instants(alloc, local)?;
     match dates.as_slice() {
-        [first, others @ ..] => add_first(into, to, style, separator, first, others),
+        [first, others @ ..] => add_first(into, alloc, to, style, separator, first, others),
         [] => {
             let gap = Style {
                 name: from_name,

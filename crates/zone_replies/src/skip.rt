@@ -21,14 +21,14 @@ use zone_moments::{AnswerForm, add_offset};
 pub(crate) fn before_of<Z: ReplyZone>(zone: &Z, second: i64) -> UtcOffset
     ensures { result ≡ before_of (Z.view zone.now) second }
 {
-    zone.force_before(second).offset
+    zone.offset_before(second)
 }
 
 /// The offset in force from a second on.
 pub(crate) fn after_of<Z: ReplyZone>(zone: &Z, second: i64) -> UtcOffset
     ensures { result ≡ after_of (Z.view zone.now) second }
 {
-    zone.force_at(second).offset
+    zone.offset_at(second)
 }
 
 /// The nanoseconds of a local time.
@@ -105,6 +105,7 @@ fn add_from_to<Z: ReplyZone>(into: &mut Vec<u8>, zone: &Z, second: i64) -> Resul
 /// Adds a change that skips a local time, at its date.
 fn add_skipped<Z: ReplyZone>(
     into: &mut Vec<u8>,
+    alloc: Global,
     zone: &Z,
     style: &Style<'_>,
     local: &PlainDateTime,
@@ -116,10 +117,10 @@ fn add_skipped<Z: ReplyZone>(
     ensures { OnOk result (into.new.items ≡ into.old.items ++ skipped_text style.now.form (Z.view zone.now) style.now.name.now local.now second) }
 {
     match style.form {
-        AnswerForm::Json => add_skip_object(into, zone, style.name, local, second, date),
-        AnswerForm::People => add_skip_line(into, zone, style, second, date),
-        AnswerForm::Rfc3339 => add_skip_line(into, zone, style, second, date),
-        AnswerForm::Epoch => add_skip_line(into, zone, style, second, date),
+        AnswerForm::Json => add_skip_object(into, alloc, zone, style.name, local, second, date),
+        AnswerForm::People => add_skip_line(into, alloc, zone, style, second, date),
+        AnswerForm::Rfc3339 => add_skip_line(into, alloc, zone, style, second, date),
+        AnswerForm::Epoch => add_skip_line(into, alloc, zone, style, second, date),
     }
 }
 
@@ -127,6 +128,7 @@ fn add_skipped<Z: ReplyZone>(
 #[tactic(auto, using(std::proofs::Common::append_assoc))]
 fn add_skip_line<Z: ReplyZone>(
     into: &mut Vec<u8>,
+    alloc: Global,
     zone: &Z,
     style: &Style<'_>,
     second: i64,
@@ -137,7 +139,7 @@ fn add_skip_line<Z: ReplyZone>(
         ++ from_to_text (Z.view zone.now) second)) }
 {
     into.extend_from_slice(b"none: skipped at ")?;
-    add_instant(into, zone, style, Kind::Gap, date)?;
+    add_instant(into, alloc, zone, style, Kind::Gap, date)?;
     add_from_to(into, zone, second)?;
     Ok(())
 }
@@ -145,6 +147,7 @@ fn add_skip_line<Z: ReplyZone>(
 /// Adds the object of a change that skips a local time.
 fn add_skip_object<Z: ReplyZone>(
     into: &mut Vec<u8>,
+    alloc: Global,
     zone: &Z,
     name: &str,
     local: &PlainDateTime,
@@ -154,14 +157,16 @@ fn add_skip_object<Z: ReplyZone>(
     ensures { OnOk result (into.new.items ≡ into.old.items
         ++ change_object_text name.now (instant date.now) local.now (offset_of date.now) ((Z.view zone.now).force second) Gap (before_of (Z.view zone.now) second)) }
 {
+    let force = zone.force_at(alloc, second)?;
     let told = Told {
         name,
         at: date,
         local,
-        force: zone.force_at(second),
+        force: &force,
         kind: Kind::Gap,
     };
-    add_change_object(into, &told, before_of(zone, second))
+    add_change_object(into, &told, before_of(zone, second))?;
+    Ok(())
 }
 
 /// That no change skips a local time.
@@ -194,6 +199,6 @@ pub(crate) fn add_gap<Z: ReplyZone>(
     let Some(date) = date_at(second, after_of(zone, second)) else {
         return Err(ReplyFault::OutOfYears);
     };
-    add_skipped(into, zone, style, local, second, &date)?;
+    add_skipped(into, alloc, zone, style, local, second, &date)?;
     Ok(())
 }

@@ -7,7 +7,7 @@ ghost use Rattle.zone_replies.specs.Forces.{force_shown};
 ghost use Rattle.zone_replies.specs.Views.{ZoneView};
 
 use crate::force::Force;
-use civil_base::{OffsetDateTime, PlainDateTime};
+use civil_base::{OffsetDateTime, PlainDateTime, UtcOffset};
 use std::alloc::{AllocError, Global};
 
 /// A zone that replies can be about.
@@ -25,13 +25,29 @@ pub trait ReplyZone {
         ensures offset { IfSome result (λ value. offset_of value ≡ (view self.now).total (instant at.now)) }
         ensures years { is_some result ≡ is_in_years (local_at (instant at.now) ((view self.now).total (instant at.now))) };
 
-    /// What is in force at a second from 1970-01-01 00:00:00 UTC.
-    fn force_at(&self, second: i64) -> Force<'_>
-        ensures { force_shown result ≡ (view self.now).force second };
+    /// The offset in force at a second from 1970-01-01 00:00:00 UTC.
+    fn offset_at(&self, second: i64) -> UtcOffset
+        ensures { result ≡ ((view self.now).force second).offset };
 
-    /// The same just before that second.
-    fn force_before(&self, second: i64) -> Force<'_>
-        ensures { force_shown result ≡ (view self.now).force (second -ℤ pos 1) };
+    /// The offset just before that second.
+    fn offset_before(&self, second: i64) -> UtcOffset
+        ensures { result ≡ ((view self.now).force (second -ℤ pos 1)).offset };
+
+    /// What is in force at that second.
+    ///
+    /// # Errors
+    ///
+    /// Want of memory alone.
+    fn force_at(&self, alloc: Global, second: i64) -> Result<Force, AllocError>
+        ensures { IfOk result (λ force. force_shown force ≡ (view self.now).force second) };
+
+    /// What is in force just before it.
+    ///
+    /// # Errors
+    ///
+    /// Want of memory alone.
+    fn force_before(&self, alloc: Global, second: i64) -> Result<Force, AllocError>
+        ensures { IfOk result (λ force. force_shown force ≡ (view self.now).force (second -ℤ pos 1)) };
 
     /// All instants at which clocks show a local time, by time.
     ///

@@ -1,0 +1,20 @@
+-- What is due over the text of a source.
+use Rattle.std.specs.Prelude.{ℕ, List, Result, Ok, Err, ℤ, Vec}
+use Rattle.std.specs.declared.alloc.Global.{Global}
+use Rattle.zone_words.specs.Tasks.{WordsAsked}
+use Rattle.zone_command.specs.declared.answerer.AnswerFault.{AnswerFault}
+use Rattle.zone_command.specs.declared.answerer.AnswerFault.TheVariants.{Line, NoMemory}
+
+-- the answer, or the line that tells why there is none
+abbrev pub Due : Type 0
+Due = Result (List ℕ) (List ℕ)
+
+-- what is due: of what words ask, the instant at which they do, the name of the file, and its text
+abbrev pub Answers : Type 1
+Answers = WordsAsked → ℤ → List ℕ → List ℕ → Due → Type 0
+
+-- the result is what is due, or memory ran out
+abbrev pub IsDue : (Due → Type 0) → Result (Vec ℕ Global) AnswerFault → Type 0
+IsDue due (Ok bytes) = due (Ok bytes.items)
+IsDue due (Err (Line line)) = due (Err line.items)
+IsDue due (Err NoMemory) = Unit {0}

@@ -1,0 +1,8 @@
+-- Definitions: what public clauses say.
+pub mod Due
+pub mod Times
+pub mod Bare
+pub mod Failures
+pub mod FailureShown
+pub mod Ends
+pub mod InSeen

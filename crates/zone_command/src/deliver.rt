@@ -1,0 +1,53 @@
+//! What is written.
+ghost use Rattle.std.specs.Prelude.{◌⊎◌};
+ghost use Rattle.zone_command.specs.Ends.{IsFailed, IsTold, IsWritten};
+ghost use Rattle.zone_command.specs.FailureShown.{failure_shown};
+ghost use Rattle.zone_command.specs.Failures.{no_memory};
+ghost use Rattle.zone_outside.specs.Seen.{output_seen};
+
+use crate::failure::{Failure, line_of, status_of};
+use std::alloc::Global;
+use zone_source::{Sink, Status, write_all};
+
+/// Writes an answer.
+pub(crate) fn write_out<O: Sink>(output: &mut O, bytes: &[u8]) -> Status
+    ensures { IsWritten (output_seen O.Sink output.old) (output_seen O.Sink output.new) bytes.now result }
+{
+    match write_all(output, bytes) {
+        Ok(()) => Status::Done,
+        Err(_) => Status::Write,
+    }
+}
+
+/// Tells a line. Where that fails nothing better can be told.
+fn tell<E: Sink>(errors: &mut E, line: &[u8])
+    ensures { IsTold (output_seen E.Sink errors.old) (output_seen E.Sink errors.new) line.now }
+{
+    match write_all(errors, line) {
+        Ok(()) => {}
+        Err(_) => {}
+    }
+}
+
+/// Tells that memory ran out.
+#[tactic(auto, unfolding(crate::specs::Failures::errors_of))]
+fn tell_shortage<E: Sink>(errors: &mut E) -> Status
+    ensures { IsFailed (output_seen E.Sink errors.old) (output_seen E.Sink errors.new) no_memory result }
+{
+    tell(errors, b"zone: out of memory\n");
+    Status::NoMemory
+}
+
+/// Tells a failure, or that memory ran out.
+pub(crate) fn tell_failure<E: Sink>(alloc: Global, failure: &Failure<'_>, errors: &mut E) -> Status
+    ensures { IsFailed (output_seen E.Sink errors.old) (output_seen E.Sink errors.new) (failure_shown failure.now) result
+        ⊎ IsFailed (output_seen E.Sink errors.old) (output_seen E.Sink errors.new) no_memory result }
+{
+    match line_of(alloc, failure) {
+        Ok(line) => {
+            tell(errors, &line);
+            status_of(failure)
+        }
+        Err(_) => tell_shortage(errors),
+    }
+}

@@ -1,0 +1,93 @@
+//! Why a run has no answer.
+ghost use Rattle.std.specs.Prelude.{◌≡◌, ◌++◌, ◌∷◌, [], IfOk};
+ghost use Rattle.zone_command.specs.Failures.{errors_of, file_line, status_of};
+ghost use Rattle.zone_command.specs.FailureShown.{failure_shown};
+
+use std::alloc::{AllocError, Global};
+use zone_source::Status;
+use zone_words::{WordFault, fault_line};
+
+/// Why a run has no answer.
+#[derive(Drop)]
+pub enum Failure<'w> {
+    /// The line that tells why there is none over the source.
+    Refuses(Vec<u8>),
+    /// The words ask nothing.
+    BadWords(WordFault<'w>),
+    /// The clock failed.
+    Clock,
+    /// The file of that name can't be read.
+    File(&'w str),
+    /// The file of that name is too long.
+    Long(&'w str),
+    /// Memory ran out.
+    NoMemory,
+}
+
+impl From<AllocError> for Failure<'_> {
+    ghost use Rattle.std.specs.Prelude.{◌≡◌};
+    ghost use Rattle.zone_command.specs.declared.failure.Failure.TheVariants.{NoMemory};
+
+    ghost from_gives = { λ _ failure. failure ≡ NoMemory };
+
+    fn from(_: AllocError) -> Self {
+        Failure::NoMemory
+    }
+}
+
+/// The line that tells what a file lacks.
+fn file_line(alloc: Global, file: &str, why: &str) -> Result<Vec<u8>, AllocError>
+    ensures { IfOk result (λ line. line.items ≡ file_line file.now why.now) }
+{
+    let mut line = Vec::new(alloc);
+    line.extend_from_slice(b"zone: \"")?;
+    line.extend_from_slice(file.as_bytes())?;
+    line.extend_from_slice(b"\": ")?;
+    line.extend_from_slice(why.as_bytes())?;
+    line.push(b'\n')?;
+    Ok(line)
+}
+
+/// The bytes again.
+pub(crate) fn copied(alloc: Global, text: &[u8]) -> Result<Vec<u8>, AllocError>
+    ensures { IfOk result (λ copy. copy.items ≡ text.now) }
+{
+    let mut copy = Vec::new(alloc);
+    copy.extend_from_slice(text)?;
+    Ok(copy)
+}
+
+/// The line that tells it.
+#[tactic(auto, unfolding(crate::specs::Failures::errors_of))]
+pub(crate) fn line_of(alloc: Global, failure: &Failure<'_>) -> Result<Vec<u8>, AllocError>
+    ensures { IfOk result (λ line. line.items ≡ errors_of (failure_shown failure.now)) }
+{
+    match failure {
+        Failure::Refuses(line) => copied(alloc, line.as_slice()),
+        Failure::BadWords(fault) => fault_line(alloc, fault),
+        Failure::Clock => copied(alloc, b"zone: the clock can't be read\n"),
+        Failure::File(file) => file_line(alloc, *file, "this file can't be read"),
+        Failure::Long(file) => file_line(alloc, *file, "this file has more than 16,777,216 bytes"),
+        Failure::NoMemory => Err(AllocError),
+    }
+}
+
+/// The status of it.
+pub(crate) fn status_of(failure: &Failure<'_>) -> Status
+    ensures { result ≡ status_of (failure_shown failure.now) }
+{
+    match failure {
+        Failure::Refuses(_) => Status::Fault,
+        Failure::BadWords(fault) => {
+            if fault.cause.is_of_time() {
+                Status::Fault
+            } else {
+                Status::Words
+            }
+        }
+        Failure::Clock => Status::Read,
+        Failure::File(_) => Status::Read,
+        Failure::Long(_) => Status::TooLong,
+        Failure::NoMemory => Status::NoMemory,
+    }
+}

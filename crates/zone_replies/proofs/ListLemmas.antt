@@ -1,0 +1,31 @@
+-- The lines of changes.
+use Rattle.std.proofs.Common.{◌≡◌, ℕ, ℤ, pos, ◌-ℤ◌, List, [], ◌∷◌, ◌++◌, Bool, ◌&&◌, true, false, cond, ap, sym, ◌∙◌}
+use Rattle.std.specs.Prelude.{Ok, Err}
+use Rattle.civil_base.specs.Instants.{nanos_of}
+use Rattle.zone_moments.specs.declared.answer_form.AnswerForm.{AnswerForm}
+use Rattle.zone_replies.specs.Faults.{Due, each_due}
+use Rattle.zone_replies.specs.Instants.{is_untold}
+use Rattle.zone_replies.specs.Lists.{change_due, change_text, list_due, second_from}
+use Rattle.zone_replies.specs.Skips.{has_dates}
+use Rattle.zone_replies.specs.Views.{InForce, ZoneView}
+use Rattle.zone_replies.specs.declared.fault.ReplyFault.TheVariants.{OutOfYears, Untold}
+
+abbrev line_if : Bool → List ℕ → Due
+line_if has text = cond has (Ok (text ++ 10 ∷ [])) (Err OutOfYears)
+
+pub change_is : (form : AnswerForm) (view : ZoneView) (name : List ℕ) (second t : ℤ) (old new : InForce) → old ≡ view.force (second -ℤ pos 1)
+    → new ≡ view.force second → t ≡ nanos_of second → true ≡ has_dates second old.offset → true ≡ has_dates second new.offset
+    → change_due form view name second ≡ Ok (change_text form name t old new ++ 10 ∷ [])
+unfolding change_due
+change_is form view name second t old new up_to from at before after =
+    (λ i. line_if (has_dates second (sym up_to i).offset && has_dates second (sym from i).offset)
+    (change_text form name (sym at i) (sym up_to i) (sym from i)))
+    ∙ (λ i. line_if (sym before i && sym after i) (change_text form name t old new))
+
+-- the lines of a window
+pub list_is : (form : AnswerForm) (view : ZoneView) (name : List ℕ) (from to : ℤ) (changes : List ℤ) → is_untold view to ≡ false
+    → changes ≡ view.changes (second_from from) (second_from to) → each_due (change_due form view name) changes ≡ list_due form view name from to
+unfolding list_due
+list_is form view name from to changes told are =
+    ap (each_due (change_due form view name)) are
+    ∙ (λ i. cond (sym told i) (Err Untold) (each_due (change_due form view name) (view.changes (second_from from) (second_from to))))

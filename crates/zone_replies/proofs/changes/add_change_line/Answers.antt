@@ -1,0 +1,24 @@
+use Rattle.std.proofs.Common.{◌≡◌, to_z, of_z, to_z-of_z, w64, [], ◌∷◌, ◌++◌, append_assoc, ap, sym, ◌∙◌, Ok}
+use Rattle.zone_replies.specs.Faults.{behind}
+use Rattle.zone_replies.specs.Forces.{force_shown}
+use Rattle.zone_replies.specs.Lists.{change_due, change_text}
+use Rattle.civil_base.specs.DateTimes.{instant}
+use Rattle.zone_replies.proofs.ListLemmas.{change_is}
+use Rattle.zone_replies.proofs.changes.add_change_line.Goals as goal
+
+pub returns-clause-ok : goal.returns-clause-ok
+returns-clause-ok g c =
+    let view = g.Z.ReplyZone.view c.args.zone.now in
+    let form = c.args.style.now.form in
+    let name = c.args.style.now.name.now in
+    let old = force_shown c.in_ok-old.old in
+    let new = force_shown c.in_ok-new.new in
+    let t = instant c.in-Some-date_at.after in
+    let start = c.args.into.now.items in
+    let s = to_z w64 (of_z w64 c.args.second) in
+    let same : s ≡ c.args.second = to_z-of_z c.ranges.second in
+    let is = change_is form view name s t old new c.in_ok-old.ensures c.in_ok-new.ensures c.in-Some-date_at.ensures.instant c.in-Some.ensures.dates
+    c.in-Some-date_at.ensures.dates in
+    ap Ok (c.in_ok-extend_from_slice.ensures.items ∙ ap (λ l. l ++ (10 ∷ [])) c.in_ok-add_change.ensures
+    ∙ append_assoc start (change_text form name t old new) (10 ∷ []))
+    ∙ sym (ap (λ x. behind start (change_due form view name x)) (sym same) ∙ ap (behind start) is)
