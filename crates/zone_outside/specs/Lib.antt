@@ -5,3 +5,4 @@ pub mod Memory
 pub mod Streams
 pub mod Limit
 pub mod Exchanges
+pub mod Surroundings

@@ -6,6 +6,7 @@ mod exchange;
 mod memory;
 mod outside;
 mod sure;
+mod surroundings;
 
 pub use exchange::{Exchange, StdExchange, send_all};
 pub use memory::{MemShelf, MemSink, MemSource};
@@ -14,3 +15,6 @@ pub use outside::{
     read_all, write_all,
 };
 pub use sure::{SureShelf, SureSink, SureSource};
+pub use surroundings::{
+    Environment, MemClock, MemEnvironment, ProgramEnvironment, SystemClock, WallClock,
+};

@@ -12,7 +12,7 @@ use std::marker::Model;
 ///
 /// A count that has reached 18,446,744,073,709,551,615 stays there.
 #[derive(Drop)]
-struct Calls {
+pub(crate) struct Calls {
     made: u64,
     failing: Vec<u64>,
     faults: u64,
@@ -27,7 +27,7 @@ impl Model for Calls {
 }
 
 impl Calls {
-    fn new(failing: Vec<u64>) -> Calls
+    pub(crate) fn new(failing: Vec<u64>) -> Calls
         ensures { result ≡ fresh_calls failing.items }
     {
         Calls {
@@ -38,7 +38,7 @@ impl Calls {
     }
 
     /// Counts a call, which fails exactly where its number is listed.
-    fn begin(&mut self) -> Result<(), Failed>
+    pub(crate) fn begin(&mut self) -> Result<(), Failed>
         ensures fails { is_err result ≡ fails_next self.old }
         ensures ok { OnOk result (self.new ≡ counted self.old) }
         ensures err { OnErr result (self.new ≡ faulted (counted self.old)) }

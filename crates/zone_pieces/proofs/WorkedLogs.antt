@@ -1,7 +1,13 @@
 -- Lines of logs, worked by hand.
-use Rattle.std.proofs.Common.{◌≡◌, refl, ℕ, List, [], ◌∷◌, ◌++◌, map, Some, None}
+use Rattle.std.proofs.Common.{◌≡◌, refl, ℕ, List, [], ◌∷◌, ◌++◌, map, Option, Some, None}
+use Rattle.std.specs.Prelude.{codes, ℤ, nat_eq, if◌then◌else◌}
+use lib.Signed.{mag}
+use Rattle.zone_moments.specs.Numbers.{counted}
+use Rattle.zone_moments.specs.Pieces.{digit_at, two_at, four_at, date_at}
+use Rattle.zone_moments.specs.Readings.{digits_at, fraction_at, front_at, in_years, zoned_at, size_at, count_at, count_in}
+use Rattle.zone_moments.specs.Stamps.{unit_of, numbered, left_in}
 use Rattle.zone_pieces.specs.Fronts.{rewritten_line, begun_line, closed_line}
-use Rattle.zone_pieces.specs.Logs.{fields_on, field_place, replaced}
+use Rattle.zone_pieces.specs.Logs.{fields_on, field_place, replaced, shown_at}
 
 -- " a  bc", tab, "d "
 line : List ℕ
@@ -15,6 +21,17 @@ places = refl
 -- two bytes from the second on become "XYZ"; where nothing is shown they stay
 put : map (replaced (97 ∷ 98 ∷ 99 ∷ 100 ∷ []) 1 2) (Some (88 ∷ 89 ∷ 90 ∷ []) ∷ None ∷ []) ≡ (97 ∷ 88 ∷ 89 ∷ 90 ∷ 100 ∷ []) ∷ (97 ∷ 98 ∷ 99 ∷ 100 ∷ []) ∷ []
 put = refl
+
+says : ℤ → Option (List ℕ)
+says t = if nat_eq (mag t) 0 then None else Some (codes "T")
+
+-- the time in a field, a whole one alone, where something is shown for it and it ends in time
+times : map (λ (row : ℕ × ℕ × List ℕ). shown_at row.0 says (field_place row.1 row.2) row.2) (
+    (9, 0, codes "@5 GET") ∷ (2, 0, codes "@5 GET") ∷ (1, 0, codes "@5 GET") ∷ (9, 0, codes "@5x") ∷ (9, 0, codes "@0 x") ∷ (9, 0, codes " @5") ∷ (9, 1, codes " @5")
+    ∷ (9, 2, codes "a @5,b") ∷ (9, 2, codes "@5 a") ∷ []
+    ) ≡ codes "T GET" ∷ codes "T GET" ∷ codes "@5 GET" ∷ codes "@5x" ∷ codes "@0 x" ∷ codes " @5" ∷ codes " T" ∷ codes "a T,b" ∷ codes "@5 a" ∷ []
+unfolding says fields_on counted digits_at fraction_at front_at date_at four_at two_at digit_at zoned_at in_years size_at count_at count_in unit_of numbered left_in
+times = refl
 
 -- marks a front by "<" and ">"
 marked : List ℕ → List ℕ

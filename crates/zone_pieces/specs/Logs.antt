@@ -32,11 +32,15 @@ field_place field line = length line - length (from_field field line)
 abbrev pub replaced : List ℕ → ℕ → ℕ → Option (List ℕ) → List ℕ
 replaced line at size text = option_map_or (λ t. (take at line ++ t) ++ drop (at + size) line) text line
 
--- the front of a line with what is shown for the time at a place, if one stands there and ends in time
-abbrev pub shown_at : (ℤ → Option (List ℕ)) → ℕ → List ℕ → List ℕ
-shown_at shown at line =
-    option_map_or (λ (stamp : ℤ × ℕ). if nat_le (at + stamp.1) 4096 then replaced line at stamp.1 (shown stamp.0) else line) (stamp_in (drop at line)) line
+-- the front of a line with what is shown for the time at a place, if one stands there that ends within so many bytes
+abbrev pub shown_at : ℕ → (ℤ → Option (List ℕ)) → ℕ → List ℕ → List ℕ
+shown_at limit shown at line =
+    option_map_or (λ (stamp : ℤ × ℕ). if nat_le (at + stamp.1) limit then replaced line at stamp.1 (shown stamp.0) else line) (stamp_in (drop at line)) line
+
+-- the bytes of a line among which its time has to end
+abbrev pub last_end : ℕ
+last_end = 4096
 
 -- with what is shown for the time in a field
 abbrev pub log_front : ℕ → (ℤ → Option (List ℕ)) → List ℕ → List ℕ
-log_front field shown line = shown_at shown (field_place field line) line
+log_front field shown line = shown_at last_end shown (field_place field line) line

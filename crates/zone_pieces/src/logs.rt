@@ -115,7 +115,7 @@ fn add_shown<T: InstantTexts>(
 ) -> Result<(), AllocError>
     requires { at ≤ length line.now }
     ensures same { T.shown texts.new ≡ T.shown texts.old }
-    ensures text { OnOk result (output.new.items ≡ output.old.items ++ shown_at (T.shown texts.old) at line.now) }
+    ensures text { OnOk result (output.new.items ≡ output.old.items ++ shown_at LAST_END (T.shown texts.old) at line.now) }
 {
     let Some((time, size)) = read_stamp(&line[at..]) else {
         output.extend_from_slice(line)?;
