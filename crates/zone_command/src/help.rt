@@ -38,7 +38,8 @@ A TEXT is 2024-10-27 02:30, maybe with seconds, with a T or a space.
 ";
 
 /// What `zone list --help` writes.
-pub const HELP_LIST: &str = "zone list NAME FROM TO writes the changes from one instant up to another.
+pub const HELP_LIST: &str =
+    "zone list NAME FROM TO writes the changes from one instant up to another.
 FROM and TO are now, @1729989000 or 2024-10-27T02:30:00+02:00.
 ";
 
