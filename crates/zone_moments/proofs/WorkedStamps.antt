@@ -8,7 +8,7 @@ use Rattle.zone_moments.specs.Numbers.{moment, seconds_east, counted}
 use Rattle.zone_moments.specs.Pieces.{digit_at, two_at, four_at, date_at, minute_at, second_at, offset_at}
 use Rattle.zone_moments.specs.Readings.{digits_at, fraction_at, front_at, seconds_at, moment_in, in_years, zoned_at, zoned_in, size_at, count_at, count_in}
 use Rattle.zone_moments.specs.Stamps.{unit_of, numbered, left_in, stamp_in}
-use Rattle.zone_moments.specs.Written.{fraction_text, offset_shown, epoch_text}
+use Rattle.zone_moments.specs.Written.{fraction_text, offset_shown, epoch_text, seconds_text}
 
 abbrev stamps : List (List ℕ × Option (ℤ × ℕ))
 stamps =
@@ -46,3 +46,9 @@ worked_epochs : map epoch_text (pos 0 ∷ pos 1729989000000000000 ∷ neg_ℤ (p
     ≡ codes "@0" ∷ codes "@1729989000" ∷ codes "@-1041337172.13" ∷ codes "@-0.000000001" ∷ []
 unfolding digits fraction_text epoch_text
 worked_epochs = refl
+
+-- the same without the mark
+worked_seconds : map seconds_text (pos 0 ∷ pos 1729989000000000000 ∷ neg_ℤ (pos 1041337172130000000) ∷ neg_ℤ (pos 1) ∷ [])
+    ≡ codes "0" ∷ codes "1729989000" ∷ codes "-1041337172.13" ∷ codes "-0.000000001" ∷ []
+unfolding digits fraction_text seconds_text
+worked_seconds = refl

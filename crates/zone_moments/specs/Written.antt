@@ -51,3 +51,8 @@ rfc3339_text x o = moment_text 84 x ++ offset_shown o
 unfoldable pub epoch_text : ℤ → List ℕ
 epoch_text t =
     (64 ∷ (if int_lt t (pos 0) then 45 ∷ [] else []) ++ decimal (unsigned_abs t / 1000000000)) ++ fraction_text (unsigned_abs t % 1000000000)
+
+-- the same without the mark, as `1729989000`
+unfoldable pub seconds_text : ℤ → List ℕ
+seconds_text t =
+    ((if int_lt t (pos 0) then 45 ∷ [] else []) ++ decimal (unsigned_abs t / 1000000000)) ++ fraction_text (unsigned_abs t % 1000000000)

@@ -17,4 +17,4 @@ pub use fault::TextFault;
 pub use instant::{Asked, read_instant};
 pub use read::read_local;
 pub use stamp::read_stamp;
-pub use write::{add_epoch, add_local, add_offset, add_people, add_rfc3339};
+pub use write::{add_epoch, add_local, add_offset, add_people, add_rfc3339, add_seconds};

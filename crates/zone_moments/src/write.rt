@@ -5,7 +5,7 @@ ghost use Rattle.calendar.specs.Dates.{year_of};
 ghost use Rattle.civil_base.specs.Clock.{nanosecond_of};
 ghost use Rattle.civil_base.specs.Ranges.{far_seconds};
 ghost use Rattle.civil_base.specs.Layout.{local_text, nine_digits, year_sign, date_digits, day_part, time_part, digit as digit_of};
-ghost use Rattle.zone_moments.specs.Written.{shortest, pointed, clock_text, moment_text, seconds_shown, offset_shown, people_text, rfc3339_text, epoch_text};
+ghost use Rattle.zone_moments.specs.Written.{shortest, pointed, clock_text, moment_text, seconds_shown, offset_shown, people_text, rfc3339_text, epoch_text, seconds_text};
 
 use civil_base::{OffsetDateTime, PlainDateTime, UtcOffset, write_local};
 use itoa::Buffer;
@@ -227,21 +227,41 @@ fn add_both(into: &mut Vec<u8>, first: &[u8], second: &[u8]) -> Result<(), Alloc
 /// # Errors
 ///
 /// Want of memory alone. The text is as before then.
-#[tactic(auto, unfolding(crate::specs::Written::epoch_text, crate::specs::Written::fraction_text))]
+#[tactic(auto, unfolding(crate::specs::Written::epoch_text, crate::specs::Written::seconds_text))]
 pub fn add_epoch(into: &mut Vec<u8>, value: &OffsetDateTime) -> Result<(), AllocError>
     ensures items { into.new.items ≡ (if is_ok result then into.old.items ++ epoch_text (instant value.now) else into.old.items) }
 {
+    let mut text = [0; 52];
+    let after_mark = put(&mut text, 0, b"@");
+    let end = put_count(&mut text, after_mark, value);
+    into.extend_from_slice(&text[..end])
+}
+
+/// Adds an instant to a text as its seconds since 1970 UTC, as `1729989000`, with a fraction only where it isn't 0.
+///
+/// # Errors
+///
+/// Want of memory alone. The text is as before then.
+pub fn add_seconds(into: &mut Vec<u8>, value: &OffsetDateTime) -> Result<(), AllocError>
+    ensures items { into.new.items ≡ (if is_ok result then into.old.items ++ seconds_text (instant value.now) else into.old.items) }
+{
+    let mut text = [0; 51];
+    let end = put_count(&mut text, 0, value);
+    into.extend_from_slice(&text[..end])
+}
+
+/// Writes the seconds at that place, and answers where they end.
+#[tactic(auto, using(std::proofs::Common::append_assoc), unfolding(crate::specs::Written::seconds_text, crate::specs::Written::fraction_text))]
+fn put_count(into: &mut [u8], at: usize, value: &OffsetDateTime) -> usize
+    requires { at + 51 ≤ length into.old }
+    ensures text { take result into.new ≡ take at into.old ++ seconds_text (instant value.now) }
+    ensures bound { result ≤ at + 51 }
+{
     let nanos = value.unix_timestamp_nanos();
     let (seconds, nanosecond) = parted(nanos.unsigned_abs());
-    let mut text = [0; 52];
-    let after_mark = put(&mut text, 0, mark_of(nanos));
-    let after_seconds = put(
-        &mut text,
-        after_mark,
-        Buffer::new().format(seconds).as_bytes(),
-    );
-    let end = put_fraction(&mut text, after_seconds, &nine_digits(nanosecond));
-    into.extend_from_slice(&text[..end])
+    let after_sign = put(into, at, count_sign(nanos));
+    let after_seconds = put(into, after_sign, Buffer::new().format(seconds).as_bytes());
+    put_fraction(into, after_seconds, &nine_digits(nanosecond))
 }
 
 /// The seconds and the nanoseconds past them.
@@ -253,10 +273,10 @@ fn parted(size: u128) -> (u64, u32)
     ((size / 1_000_000_000) as u64, (size % 1_000_000_000) as u32)
 }
 
-/// What stands before the seconds.
-fn mark_of(nanos: i128) -> &'static [u8]
-    ensures value { result.now ≡ 64 ∷ (if int_lt nanos (pos 0) then 45 ∷ [] else []) }
-    ensures bound { length result.now ≤ 2 }
+/// What stands before the digits.
+fn count_sign(nanos: i128) -> &'static [u8]
+    ensures value { result.now ≡ (if int_lt nanos (pos 0) then 45 ∷ [] else []) }
+    ensures bound { length result.now ≤ 1 }
 {
-    if nanos < 0 { b"@-" } else { b"@" }
+    if nanos < 0 { b"-" } else { b"" }
 }

@@ -10,7 +10,7 @@ use Rattle.calendar.specs.SignedLaws.{signed}
 use Rattle.civil_base.specs.Instants.{local_at, seconds_of}
 use Rattle.civil_base.specs.Layout.{day_part}
 use Rattle.civil_base.specs.Ranges.{is_in_years}
-use Rattle.zone_moments.specs.Written.{epoch_text, fraction_text, moment_text, offset_shown, people_text}
+use Rattle.zone_moments.specs.Written.{epoch_text, seconds_text, fraction_text, moment_text, offset_shown, people_text}
 use Rattle.zone_moments.specs.declared.answer_form.AnswerForm.{AnswerForm}
 use Rattle.zone_moments.specs.declared.answer_form.AnswerForm.TheVariants.{People, Epoch, Json}
 use Rattle.zone_replies.specs.Faults.{Due, behind, each_due, followed}
@@ -106,10 +106,10 @@ unfolding berlin winter summer is_summer in_force seconds_of
 twice_for_people = both People
 
 as_object : instant_text Json (berlin (pos 2099)) (codes "Europe/Berlin") Fold (pos 1729989000000000000) (pos 7200)
-    ≡ codes "{\"zone\":\"Europe/Berlin\",\"instant\":\"@1729989000\"," ++ (codes "\"local\":\"" ++ moment_text 32 (pos 1729996200000000000)
+    ≡ codes "{\"zone\":\"Europe/Berlin\",\"instant\":1729989000," ++ (codes "\"local\":\"" ++ moment_text 32 (pos 1729996200000000000)
     ++ codes "\",\"offset\":\"" ++ codes "+02:00" ++ codes "\",") ++ codes "\"abbreviation\":\"CEST\",\"saving\":3600" ++ codes ",\"kind\":\"fold\"" ++ codes "}"
 unfolding berlin winter summer is_summer in_force seconds_of object_text front_members clock_members force_members kind_member quoted
-    epoch_text fraction_text offset_shown digits
+    seconds_text fraction_text offset_shown digits
 as_object = refl
 
 untold : local_due People (berlin (pos 2023)) (codes "Europe/Berlin") (codes " | ") (pos 1729996200000000000) ≡ Err Untold

@@ -2,7 +2,7 @@
 use Rattle.std.specs.Prelude.{ℕ, ◌+◌, ◌/◌, ◌%◌, ◌==◌, ◌||◌, List, [], ◌∷◌, ◌++◌, codes, ℤ, nat_lt, if◌then◌else◌}
 use Rattle.std.specs.Fmt.{signed_decimal}
 use Rattle.std.specs.List.{flat_map}
-use Rattle.zone_moments.specs.Written.{epoch_text, moment_text, offset_shown}
+use Rattle.zone_moments.specs.Written.{seconds_text, moment_text, offset_shown}
 use Rattle.zone_replies.specs.Kinds.{kind_text}
 use Rattle.zone_replies.specs.Views.{InForce}
 use Rattle.zone_replies.specs.declared.kind.Kind.{Kind}
@@ -20,9 +20,9 @@ escaped c =
 unfoldable pub quoted : List ℕ → List ℕ
 quoted text = 34 ∷ flat_map escaped text ++ 34 ∷ []
 
--- the zone's name and the instant t
+-- the zone's name and the seconds of the instant t from 1970 UTC
 unfoldable pub front_members : List ℕ → ℤ → List ℕ
-front_members name t = codes "{\"zone\":" ++ quoted name ++ codes ",\"instant\":\"" ++ epoch_text t ++ codes "\","
+front_members name t = codes "{\"zone\":" ++ quoted name ++ codes ",\"instant\":" ++ seconds_text t ++ codes ","
 
 -- the local time x and the offset o
 unfoldable pub clock_members : ℤ → ℤ → List ℕ

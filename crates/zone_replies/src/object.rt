@@ -9,7 +9,7 @@ use crate::kind::Kind;
 use civil_base::{OffsetDateTime, PlainDateTime, UtcOffset};
 use itoa::Buffer;
 use std::alloc::AllocError;
-use zone_moments::{add_epoch, add_local, add_offset};
+use zone_moments::{add_local, add_offset, add_seconds};
 
 /// What an object tells of an instant: its zone's name, the local time, what is in force, and the kind of the local time.
 #[derive(Clone, Copy)]
@@ -66,9 +66,9 @@ fn add_front(into: &mut Vec<u8>, name: &str, at: &OffsetDateTime) -> Result<(), 
 {
     into.extend_from_slice(b"{\"zone\":")?;
     add_quoted(into, name)?;
-    into.extend_from_slice(b",\"instant\":\"")?;
-    add_epoch(into, at)?;
-    into.extend_from_slice(b"\",")?;
+    into.extend_from_slice(b",\"instant\":")?;
+    add_seconds(into, at)?;
+    into.extend_from_slice(b",")?;
     Ok(())
 }
 
