@@ -6,7 +6,7 @@ use Rattle.zone_words.specs.Tasks.{TaskAsked, WordsAsked, help, version, at_inst
 use Rattle.zone_words.specs.declared.command.Command.{Command}
 use Rattle.zone_words.specs.declared.command.Command.TheVariants as command
 use Rattle.zone_words.specs.declared.fault.WordCause.TheVariants.{UnknownCommand}
-use Rattle.zone_command.specs.declared.help.TheConstants.{VERSION, HELP, HELP_AT, HELP_LOCAL, HELP_CONVERT, HELP_LIST}
+use Rattle.zone_command.specs.declared.help.TheConstants.{VERSION, HELP, HELP_AT, HELP_LOCAL, HELP_CONVERT}
 
 abbrev pub text_shown : Bor (List ℕ) → List ℕ
 text_shown text = text.now
@@ -15,7 +15,6 @@ abbrev pub help_of : Command → List ℕ
 help_of command.At = HELP_AT.now
 help_of command.Local = HELP_LOCAL.now
 help_of command.Convert = HELP_CONVERT.now
-help_of command.List = HELP_LIST.now
 help_of _ = HELP.now
 
 abbrev pub help_text : Option Command → List ℕ
@@ -63,7 +62,6 @@ abbrev pub is_there : Command → Bool
 is_there command.At = true
 is_there command.Local = true
 is_there command.Convert = true
-is_there command.List = true
 is_there _ = false
 
 abbrev pub absent_of : Option Command → Option (List ℕ)

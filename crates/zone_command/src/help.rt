@@ -13,8 +13,7 @@ pub const HELP: &str = "zone [OPTIONS] COMMAND .. answers about time zones:
   at NAME TIME..        the local time of each instant
   local NAME TEXT       every instant of a local time
   convert FROM TO TEXT  the readings in TO of a local time in FROM
-  list NAME FROM TO     the changes from one instant up to another
-A TIME, FROM and TO of list too, is now, @1729989000 or 2024-10-27T02:30:00+02:00, a TEXT 2024-10-27 02:30, maybe with seconds.
+A TIME is now, @1729989000 or 2024-10-27T02:30:00+02:00, a TEXT 2024-10-27 02:30, maybe with seconds.
 A NAME is one of the source, UTC, or an offset as +02:00.
 Options: --source FILE, --rfc3339, --epoch, --json, --help, --version; no word behind -- is one.
 The source is FILE, else what SEFUNJARO_TZDATA names, else /usr/share/zoneinfo/tzdata.zi.
@@ -22,7 +21,7 @@ The source is FILE, else what SEFUNJARO_TZDATA names, else /usr/share/zoneinfo/t
 
 /// What `zone at --help` writes.
 pub const HELP_AT: &str = "zone at NAME TIME.. writes the local time of each instant.
-A TIME, FROM and TO of list too, is now, @1729989000 or @1729989000.25, or 2024-10-27T02:30:00+02:00.
+A TIME is now, @1729989000 or @1729989000.25, or 2024-10-27T02:30:00+02:00.
 ";
 
 /// What `zone local --help` writes.
@@ -37,12 +36,6 @@ pub const HELP_CONVERT: &str =
 A TEXT is 2024-10-27 02:30, maybe with seconds, with a T or a space.
 ";
 
-/// What `zone list --help` writes.
-pub const HELP_LIST: &str =
-    "zone list NAME FROM TO writes the changes from one instant up to another.
-FROM and TO are now, @1729989000 or 2024-10-27T02:30:00+02:00.
-";
-
 /// The help of a command, or of all.
 fn help_text(command: Option<Command>) -> &'static str
     ensures { result.now ≡ help_text command }
@@ -51,7 +44,6 @@ fn help_text(command: Option<Command>) -> &'static str
         Some(Command::At) => HELP_AT,
         Some(Command::Local) => HELP_LOCAL,
         Some(Command::Convert) => HELP_CONVERT,
-        Some(Command::List) => HELP_LIST,
         _ => HELP,
     }
 }
@@ -113,10 +105,7 @@ fn name_of(command: Command) -> &'static str
 fn is_there(command: Command) -> bool
     ensures { result ≡ is_there command }
 {
-    matches!(
-        command,
-        Command::At | Command::Local | Command::Convert | Command::List
-    )
+    matches!(command, Command::At | Command::Local | Command::Convert)
 }
 
 /// The name of a task's command that is not there.

@@ -1,0 +1,5 @@
+-- Definitions: what public clauses say.
+pub mod Refusals
+pub mod Offsets
+pub mod Named
+pub mod Replies

@@ -1,0 +1,21 @@
+-- Why a source or a zone is refused.
+use Rattle.std.specs.Prelude.{ℕ, List, [], ◌∷◌, ◌++◌, codes}
+use Rattle.zone_replies.specs.declared.fault.ReplyFault.{ReplyFault}
+use Rattle.zone_replies.specs.declared.fault.ReplyFault.TheVariants.{OutOfYears, Untold, NoMemory as NoRoom}
+use Rattle.zone_asking.specs.declared.source.Refusal.{Refusal}
+use Rattle.zone_asking.specs.declared.source.Refusal.TheVariants.{Why, NoMemory}
+
+-- the words are such; or memory ran out
+abbrev pub IsTold : (List ℕ → Type 0) → Refusal → Type 0
+IsTold why (Why words) = why words.items
+IsTold why NoMemory = Unit {0}
+
+-- a word, and what is told of it
+abbrev pub name_line : List ℕ → List ℕ → List ℕ
+name_line word why = ((((codes "zone: " ++ 34 ∷ []) ++ word) ++ 34 ∷ codes ": ") ++ why) ++ 10 ∷ []
+
+-- what is told of a fault of a reply
+abbrev pub fault_words : ReplyFault → List ℕ
+fault_words OutOfYears = codes "a date lies outside the years -9999 to 9999"
+fault_words Untold = codes "the zone's rules end before that year"
+fault_words NoRoom = codes "out of memory"

@@ -1,0 +1,103 @@
+//! Zones by their names: offsets, and what the source has.
+ghost use Rattle.std.specs.Prelude.{IfErr, IfOk};
+ghost use Rattle.zone_asking.specs.Named.{IsNamed, IsUnnamed, named_view};
+ghost use Rattle.zone_asking.specs.Refusals.{IsTold};
+
+use crate::offset::offset_in;
+use crate::source::{Refusal, ZoneSource};
+use civil_base::{OffsetDateTime, PlainDateTime, UtcOffset};
+use std::alloc::{AllocError, Global};
+use zone_replies::{FixedZone, Force, ReplyZone};
+
+/// A zone by its name.
+#[derive(Drop)]
+pub(crate) enum NamedZone<'n, Z> {
+    /// An offset.
+    Fixed(FixedZone<'n>),
+    /// A zone of the source.
+    Found(Z),
+}
+
+impl<Z: ReplyZone> ReplyZone for NamedZone<'_, Z> {
+    ghost use Rattle.zone_asking.specs.Named.{named_view};
+
+    ghost view = { named_view Z.view };
+
+    fn last_year(&self) -> i32 {
+        match self {
+            NamedZone::Fixed(zone) => zone.last_year(),
+            NamedZone::Found(zone) => zone.last_year(),
+        }
+    }
+
+    fn shown_at(&self, at: &OffsetDateTime) -> Option<OffsetDateTime> {
+        match self {
+            NamedZone::Fixed(zone) => zone.shown_at(at),
+            NamedZone::Found(zone) => zone.shown_at(at),
+        }
+    }
+
+    fn offset_at(&self, second: i64) -> UtcOffset {
+        match self {
+            NamedZone::Fixed(zone) => zone.offset_at(second),
+            NamedZone::Found(zone) => zone.offset_at(second),
+        }
+    }
+
+    fn offset_before(&self, second: i64) -> UtcOffset {
+        match self {
+            NamedZone::Fixed(zone) => zone.offset_before(second),
+            NamedZone::Found(zone) => zone.offset_before(second),
+        }
+    }
+
+    fn force_at(&self, alloc: Global, second: i64) -> Result<Force, AllocError> {
+        match self {
+            NamedZone::Fixed(zone) => zone.force_at(alloc, second),
+            NamedZone::Found(zone) => zone.force_at(alloc, second),
+        }
+    }
+
+    fn force_before(&self, alloc: Global, second: i64) -> Result<Force, AllocError> {
+        match self {
+            NamedZone::Fixed(zone) => zone.force_before(alloc, second),
+            NamedZone::Found(zone) => zone.force_before(alloc, second),
+        }
+    }
+
+    fn instants(
+        &self,
+        alloc: Global,
+        local: &PlainDateTime,
+    ) -> Result<Vec<OffsetDateTime>, AllocError> {
+        match self {
+            NamedZone::Fixed(zone) => zone.instants(alloc, local),
+            NamedZone::Found(zone) => zone.instants(alloc, local),
+        }
+    }
+
+    fn changes(&self, alloc: Global, from: i64, to: i64) -> Result<Vec<i64>, AllocError> {
+        match self {
+            NamedZone::Fixed(zone) => zone.changes(alloc, from, to),
+            NamedZone::Found(zone) => zone.changes(alloc, from, to),
+        }
+    }
+}
+
+/// The zone of a name.
+pub(crate) fn named<'n, S: ZoneSource>(
+    alloc: Global,
+    source: &S,
+    name: &'n str,
+) -> Result<NamedZone<'n, S::Zone>, Refusal>
+    ensures ok { IfOk result (λ zone. IsNamed (S.finds source.now) name.now (named_view S.Zone.view zone)) }
+    ensures err { IfErr result (IsTold (IsUnnamed (S.unfound source.now) name.now)) }
+{
+    match offset_in(name) {
+        Some(offset) => Ok(NamedZone::Fixed(FixedZone { name, offset })),
+        None => match source.zone(alloc, name) {
+            Ok(zone) => Ok(NamedZone::Found(zone)),
+            Err(refusal) => Err(refusal),
+        },
+    }
+}
