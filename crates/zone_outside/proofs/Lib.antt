@@ -1,4 +1,6 @@
 mod OutsideRows
+mod ExchangeRows
 pub mod Loops
 pub mod MemoryLemmas
 pub mod ExchangeLemmas
+pub mod MarkLemmas

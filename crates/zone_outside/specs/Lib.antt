@@ -6,3 +6,4 @@ pub mod Streams
 pub mod Limit
 pub mod Exchanges
 pub mod Surroundings
+pub mod Marks

@@ -3,12 +3,14 @@
 #![tactic(auto)]
 
 mod exchange;
+mod exchange_memory;
 mod memory;
 mod outside;
 mod sure;
 mod surroundings;
 
 pub use exchange::{Exchange, StdExchange, send_all};
+pub use exchange_memory::MemExchange;
 pub use memory::{MemShelf, MemSink, MemSource};
 pub use outside::{
     Failed, FileShelf, LIMIT, ReadEnd, Shelf, Sink, Source, StdSink, StdSource, fetch_all,

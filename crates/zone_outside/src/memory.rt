@@ -53,7 +53,7 @@ impl Calls {
     }
 
     /// Counts a fault of the call that was begun.
-    fn fault(&mut self) -> Failed
+    pub(crate) fn fault(&mut self) -> Failed
         ensures after { self.new ≡ faulted self.old }
         ensures later { self.old.faults ≤ self.new.faults }
         ensures rose { Rose self.old.faults self.new.faults }

@@ -1,5 +1,6 @@
 mod WorkedLines
 mod WorkedLogs
+mod WorkedRuns
 pub mod LineLemmas
 pub mod CutLemmas
 pub mod ReplyLemmas
