@@ -18,3 +18,5 @@ mod padding;
 mod parts;
 #[cfg(test)]
 mod pieces;
+#[cfg(test)]
+mod zone_runs;

@@ -1,0 +1,57 @@
+-- What is told of failures, with the status; which file is read; when the clock is asked; which commands are there.
+use Rattle.std.proofs.Common.{◌≡◌, refl, map, ℕ, Bool, true, false, List, [], ◌∷◌, ◌++◌, Option, Some, None, pos}
+use Rattle.std.specs.Prelude.{codes}
+use Rattle.zone_command.specs.Bare.{absent}
+use Rattle.zone_command.specs.Ends.{file_of}
+use Rattle.zone_command.specs.Failures.{Failure, bad_words, clock_fails, file_fails, file_long, no_memory, refuses, errors_of, status_of}
+use Rattle.zone_command.specs.Times.{asks_now}
+use Rattle.zone_moments.specs.declared.fault.TextFault.TheVariants.{TimeMissing}
+use Rattle.zone_source.specs.Statuses.{code_of}
+use Rattle.zone_words.specs.FaultLines.{fault_line}
+use Rattle.zone_words.specs.Tasks.{TaskAsked, help, version, at_instants, local_time, list_changes, names, stream, tree}
+use Rattle.zone_words.specs.declared.command.Command.TheVariants.{At, Chart}
+use Rattle.zone_words.specs.declared.fault.WordCause.TheVariants.{Text, TooFew, UnknownOption}
+
+abbrev quoted : List ℕ → List ℕ
+quoted word = 34 ∷ word ++ 34 ∷ []
+
+abbrev failures : List (Failure × (List ℕ × ℕ))
+failures =
+    (refuses (codes "why"), (codes "why", 2)) ∷ (
+      bad_words (record { word = codes "--x"; more = None; cause = UnknownOption }),
+      (codes "zone: " ++ quoted (codes "--x") ++ codes ": no option has this name; zone --help tells them" ++ 10 ∷ [], 1),
+    ) ∷ (
+      bad_words (record { word = codes "2024-10-27"; more = None; cause = Text TimeMissing }),
+      (codes "zone: " ++ quoted (codes "2024-10-27") ++ codes ": a time of day is missing, as in 2024-10-27 02:30" ++ 10 ∷ [], 2),
+    ) ∷ (
+      bad_words (record { word = codes "a"; more = Some (codes "b"); cause = Text TimeMissing }),
+      (codes "zone: " ++ quoted (codes "a b") ++ codes ": a time of day is missing, as in 2024-10-27 02:30" ++ 10 ∷ [], 2),
+    ) ∷ (
+      bad_words (record { word = []; more = None; cause = TooFew }),
+      (codes "zone: words are missing behind this command" ++ 10 ∷ [], 1),
+    ) ∷
+    (clock_fails, (codes "zone: the clock can't be read" ++ 10 ∷ [], 3)) ∷
+    (file_fails (codes "x"), (codes "zone: " ++ quoted (codes "x") ++ codes ": this file can't be read" ++ 10 ∷ [], 3)) ∷ (
+      file_long (codes "x"),
+      (codes "zone: " ++ quoted (codes "x") ++ codes ": this file has more than 16,777,216 bytes" ++ 10 ∷ [], 6),
+    ) ∷
+    (no_memory, (codes "zone: out of memory" ++ 10 ∷ [], 5)) ∷ []
+
+worked_failures : map (λ row. (errors_of row.0, code_of (status_of row.0))) failures ≡ map (λ row. row.1) failures
+unfolding fault_line errors_of
+worked_failures = refl
+
+worked_files : file_of (Some (codes "a")) (Some (codes "b")) ∷ file_of None (Some (codes "b")) ∷ file_of None None ∷ []
+    ≡ codes "a" ∷ codes "b" ∷ codes "/usr/share/zoneinfo/tzdata.zi" ∷ []
+worked_files = refl
+
+abbrev tasks : List (TaskAsked × (Bool × Option (List ℕ)))
+tasks =
+    (at_instants [] (Some (pos 1) ∷ None ∷ []), (true, None)) ∷ (at_instants [] (Some (pos 1) ∷ []), (false, None)) ∷
+    (list_changes [] (Some (pos 1)) None, (true, Some (codes "list"))) ∷ (local_time [] (pos 1), (false, None)) ∷
+    (help None, (false, None)) ∷ (help (Some At), (false, None)) ∷ (help (Some Chart), (false, Some (codes "chart"))) ∷
+    (version, (false, None)) ∷ (names None, (false, Some (codes "names"))) ∷ (stream true, (false, Some (codes "stream"))) ∷
+    (tree, (false, Some (codes "tree"))) ∷ []
+
+worked_tasks : map (λ row. (asks_now row.0, absent row.0)) tasks ≡ map (λ row. row.1) tasks
+worked_tasks = refl
