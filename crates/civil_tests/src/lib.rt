@@ -16,5 +16,3 @@ mod owned_values;
 mod padding;
 #[cfg(test)]
 mod parts;
-#[cfg(test)]
-mod zone_runs;
