@@ -16,7 +16,4 @@ mod owned_values;
 mod padding;
 #[cfg(test)]
 mod parts;
-#[cfg(test)]
 mod pieces;
-#[cfg(test)]
-mod zone_runs;
