@@ -15,6 +15,7 @@ use Rattle.tz_zone.specs.Spans.{shift_at, IsCut, TimesDontFall}
 use Rattle.tz_zone.specs.declared.set.FixedTimespanSet.{FixedTimespanSet}
 use Rattle.sefunjaro.specs.Changes.{change_of, changes_of, is_within, last_span, next_after, saving_at, settled_changes, span_before}
 use Rattle.sefunjaro.specs.ChangeSteps.{how_many, with_change, AreParted, HasPut, IsChangeAt}
+use Rattle.sefunjaro.specs.Replies.{span_on}
 use Rattle.sefunjaro.specs.Rooms.{filled, filled_at}
 use Rattle.sefunjaro.specs.declared.changes.Change.{Change}
 use Rattle.sefunjaro.proofs.AskLemmas.{all_taken, dropped}
@@ -53,16 +54,19 @@ span_is : (set : FixedTimespanSet) (default : Entry) (k : ℕ) → default ≡ (
 span_is set default zero e = refl
 span_is set default (suc k) e = ap (λ d. (slice_index_or set.others k d).1) e
 
--- the saving in force is that of the span at the cut
-pub saving_is : (set : FixedTimespanSet) (second : ℤ) (k : ℕ) → IsCut (shifts_of set) k second → saving_at set second ≡ (span_in set k).dst_offset
-unfolding saving_at
-saving_is set second k cut =
+-- what is in force at a second is the span at the cut
+pub on_is : (set : FixedTimespanSet) (second : ℤ) (k : ℕ) → IsCut (shifts_of set) k second → span_on set second ≡ span_in set k
+unfolding span_on
+on_is set second k cut =
     let size = length-map set.others shift_of in
-    ap (λ span. span.dst_offset) (
     passed_span (λ s. int_le s second) set.first (pos 0, set.first) set.others k (omega (arith, cut.within, size))
     (λ j l. le_pass _ second (cut.before j l)) (λ j l m. le_fail _ second (cut.after j l (omega (arith, m, size))))
     ∙ span_is set (pos 0, set.first) k refl
-    )
+
+-- so is the saving
+pub saving_is : (set : FixedTimespanSet) (second : ℤ) (k : ℕ) → IsCut (shifts_of set) k second → saving_at set second ≡ (span_in set k).dst_offset
+unfolding saving_at span_on
+saving_is set second k cut = ap (λ span. span.dst_offset) (on_is set second k cut)
 
 -- what is in force just before a second is the span at the place where the entries part
 pub before_is : (set : FixedTimespanSet) (second : ℤ) (k : ℕ) → AreParted (shifts_of set) k second → span_in set k ≡ span_before set second
@@ -178,7 +182,7 @@ last_of_all set entries k change found h =
     is_settled set entries k change found (λ l e. absurd (omega (arith, l, h)))
     ∙ ap (λ n. change ∷ settled_changes (drop n (map (change_of set) entries))) (next k)
 
-by_place : (set : FixedTimespanSet) (entries : List Entry) (k : ℕ) (default : Entry) → k < length entries
+pub by_place : (set : FixedTimespanSet) (entries : List Entry) (k : ℕ) (default : Entry) → k < length entries
     → (slice_get (map (change_of set) entries) k ≡ Some (change_of set (slice_index_or entries k default)))
     × (shift_at (map shift_of entries) k ≡ shift_of (slice_index_or entries k default))
 by_place set [] k default l = absurd (omega (arith, l))

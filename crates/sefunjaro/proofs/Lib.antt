@@ -9,7 +9,9 @@ mod GapLemmas
 pub mod GapRows
 pub mod PosixNameRows
 pub mod PosixRows
+mod ReplyRows
 mod ReleaseLemmas
+mod ReplyLemmas
 mod StretchLemmas
 mod RoomLemmas
 pub mod YearRows

@@ -14,6 +14,7 @@ pub mod Offsets
 pub mod Posix
 pub mod PosixNames
 pub mod Releases
+pub mod Replies
 pub mod Rooms
 pub mod Sources
 pub mod Zones

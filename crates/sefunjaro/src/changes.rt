@@ -144,7 +144,7 @@ fn is_same_span(a: &FixedTimespan, b: &FixedTimespan) -> bool
 }
 
 /// How many entries lie before a second.
-fn entries_before<S: SpanTable>(set: &S, second: i64) -> usize
+pub(crate) fn entries_before<S: SpanTable>(set: &S, second: i64) -> usize
     requires { IsAccepted (schedule_of (S.seen set.now)) }
     ensures { AreParted (shifts_of (S.seen set.now)) result second }
 {
@@ -170,7 +170,7 @@ fn is_before<S: SpanTable>(set: &S, place: usize, second: i64) -> bool
 }
 
 /// The number of the span in force at a second, which is how many entries lie at or before it.
-fn span_in_force_at<S: SpanTable>(set: &S, second: i64) -> usize
+pub(crate) fn span_in_force_at<S: SpanTable>(set: &S, second: i64) -> usize
     requires { IsAccepted (schedule_of (S.seen set.now)) }
     ensures { IsCut (shifts_of (S.seen set.now)) result second }
 {

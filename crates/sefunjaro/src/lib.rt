@@ -17,6 +17,7 @@ mod gap;
 mod offsets;
 mod opening;
 mod posix_names;
+mod replies;
 mod rings;
 mod room;
 mod source;

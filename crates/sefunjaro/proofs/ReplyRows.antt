@@ -1,0 +1,37 @@
+-- A worked example: what replies see of a small zone.
+use Rattle.std.proofs.Common.{◌≡◌, ℤ, List, pos, negsuc, [], ◌∷◌, ℕ, map, refl}
+use Rattle.std.specs.Prelude.{None, codes}
+use Rattle.zone_replies.specs.Views.{InForce}
+use Rattle.zone_spans.specs.declared.span.FixedTimespan.{FixedTimespan}
+use Rattle.tz_zone.specs.declared.set.FixedTimespanSet.{FixedTimespanSet}
+use Rattle.sefunjaro.specs.Changes.{settled_changes, span_before, window}
+use Rattle.sefunjaro.specs.Replies.{reply_view, span_on}
+
+abbrev span : ℤ → ℤ → List ℕ → FixedTimespan
+span standard saving name = record { utc_offset = standard; dst_offset = saving; name = name }
+
+-- a saving from second 10 on, an entry that changes nothing, and two entries at one second, of which the last is in force
+abbrev zone : FixedTimespanSet
+zone = record {
+  name = [];
+  first = span (pos 3600) (pos 0) (codes "A");
+  others = (pos 10, span (pos 3600) (pos 1800) (codes "B")) ∷ (pos 20, span (pos 3600) (pos 1800) (codes "B")) ∷ (pos 30, span (pos 0) (pos 0) (codes "C"))
+      ∷ (pos 30, span (pos 7200) (negsuc 59) (codes "D")) ∷ [];
+}
+
+abbrev force : ℤ → ℤ → List ℕ → InForce
+force offset saving name = record { offset = offset; saving = saving; name = name }
+
+forces : map (reply_view zone None).force (pos 9 ∷ pos 10 ∷ pos 29 ∷ pos 30 ∷ [])
+    ≡ force (pos 3600) (pos 0) (codes "A") ∷ force (pos 5400) (pos 1800) (codes "B") ∷ force (pos 5400) (pos 1800) (codes "B")
+    ∷ force (pos 7140) (negsuc 59) (codes "D") ∷ []
+unfolding span_on
+forces = refl
+
+-- from the first second on and before the last, without what changes nothing
+changes : (reply_view zone None).changes (pos 10) (pos 31) ∷ (reply_view zone None).changes (pos 11) (pos 30) ∷ [] ≡ (pos 10 ∷ pos 30 ∷ []) ∷ [] ∷ []
+unfolding settled_changes span_before window
+changes = refl
+
+last : (reply_view zone None).last_year ≡ pos 2099
+last = refl

@@ -1,0 +1,32 @@
+-- What replies see of a zone that is kept open.
+use Rattle.std.specs.Prelude.{◌≡◌, ℤ, List, map, filter, int_le, Option}
+use Rattle.zone_replies.specs.Views.{InForce, ZoneView}
+use Rattle.zone_spans.specs.Entries.{total}
+use Rattle.zone_spans.specs.Schedules.{instants}
+use Rattle.zone_spans.specs.declared.span.FixedTimespan.{FixedTimespan}
+use Rattle.tz_ever.specs.declared.ever_set.EverSet.{EverSet}
+use Rattle.tz_zone.specs.declared.set.FixedTimespanSet.{FixedTimespanSet}
+use Rattle.sefunjaro.specs.Changes.{last_span, window}
+use Rattle.sefunjaro.specs.Zones.{last_year, spans_with, total_with}
+use Rattle.sefunjaro.specs.declared.changes.Change.{Change}
+
+abbrev pub force_of : FixedTimespan → InForce
+force_of span = record { offset = total span; saving = span.dst_offset; name = span.name }
+
+-- what the last entry up to a second puts in force, or what holds before them all
+unfoldable pub span_on : FixedTimespanSet → ℤ → FixedTimespan
+span_on set second = last_span set.first (filter (λ entry. int_le entry.0 second) set.others)
+
+-- the seconds of changes that change something
+abbrev pub differing : List Change → List ℤ
+differing changes = map (λ change. change.second) (filter (λ change. change.differs) changes)
+
+-- a zone of that set, or of what goes on
+abbrev pub reply_view : FixedTimespanSet → Option EverSet → ZoneView
+reply_view set found = record {
+  total = total_with set found;
+  readings = instants (total_with set found);
+  force = λ second. force_of (span_on (spans_with set found) second);
+  changes = λ from to. differing (window (spans_with set found) from to);
+  last_year = last_year found;
+}

@@ -1,0 +1,171 @@
+//! An open zone as replies ask it.
+ghost use Rattle.std.specs.Prelude.{◌≡◌, length, map, IfOk};
+ghost use Rattle.tz_zone.specs.InForce.{all_in_force, shown_of};
+ghost use Rattle.tz_zone.specs.Sets.{schedule_of, IsAccepted};
+ghost use Rattle.zone_replies.specs.Forces.{force_shown};
+ghost use Rattle.sefunjaro.specs.Changes.{span_before, window};
+ghost use Rattle.sefunjaro.specs.Replies.{differing, force_of, span_on};
+ghost use Rattle.sefunjaro.specs.Zones.{spans_in};
+
+use crate::changes::{Change, entries_before, span_in_force_at};
+use crate::zone::OpenZone;
+use civil_base::{OffsetDateTime, PlainDateTime, UtcOffset};
+use std::alloc::{AllocError, Global};
+use tz_ever::{EverTable, EverTz};
+use tz_lookup::{AllInstants, CompactTz, FixedTimespan, InstantsOf, SpanTable};
+use tz_zone::offset_of;
+use zone_replies::{Force, ReplyZone};
+
+/// The offset in force at a second.
+fn offset_on<S: SpanTable>(set: &S, second: i64) -> UtcOffset
+    requires { IsAccepted (schedule_of (S.seen set.now)) }
+    ensures { result ≡ (force_of (span_on (S.seen set.now) second)).offset }
+{
+    offset_of(set, span_in_force_at(set, second))
+}
+
+/// The offset in force just before a second.
+fn offset_until<S: SpanTable>(set: &S, second: i64) -> UtcOffset
+    requires { IsAccepted (schedule_of (S.seen set.now)) }
+    ensures { result ≡ (force_of (span_before (S.seen set.now) second)).offset }
+{
+    offset_of(set, entries_before(set, second))
+}
+
+/// What a span puts in force by that offset.
+fn force_by(alloc: Global, span: &FixedTimespan, offset: UtcOffset) -> Result<Force, AllocError>
+    requires { offset ≡ (force_of span.now).offset }
+    ensures { IfOk result (λ force. force_shown force ≡ force_of span.now) }
+{
+    Ok(Force {
+        offset,
+        saving: span.dst_offset,
+        name: String::from_str(alloc, span.name.as_str())?,
+    })
+}
+
+/// What is in force at a second.
+fn force_on<S: SpanTable>(alloc: Global, set: &S, second: i64) -> Result<Force, AllocError>
+    requires { IsAccepted (schedule_of (S.seen set.now)) }
+    ensures { IfOk result (λ force. force_shown force ≡ force_of (span_on (S.seen set.now) second)) }
+{
+    force_by(alloc, set.span(span_in_force_at(set, second)), offset_on(set, second))
+}
+
+/// What is in force just before a second.
+fn force_until<S: SpanTable>(alloc: Global, set: &S, second: i64) -> Result<Force, AllocError>
+    requires { IsAccepted (schedule_of (S.seen set.now)) }
+    ensures { IfOk result (λ force. force_shown force ≡ force_of (span_before (S.seen set.now) second)) }
+{
+    force_by(alloc, set.span(entries_before(set, second)), offset_until(set, second))
+}
+
+/// All instants of a local time.
+fn instants_of<T: AllInstants>(
+    alloc: Global,
+    zone: &T,
+    local: &PlainDateTime,
+) -> Result<Vec<OffsetDateTime>, AllocError>
+    ensures { IfOk result (λ found. map shown_of found.items ≡ all_in_force (T.total_at zone.now) local.now) }
+{
+    let mut found = Vec::new(alloc);
+    for date in InstantsOf::new(zone, local) {
+        found.extend_from_slice(&[date])?;
+    }
+    Ok(found)
+}
+
+/// The seconds of the changes that change something.
+fn differing(alloc: Global, changes: &[Change]) -> Result<Vec<i64>, AllocError>
+    ensures { IfOk result (λ seconds. seconds.items ≡ differing changes.now) }
+{
+    changes
+        .iter()
+        .filter(|change| change.differs)
+        .map(|change| change.second)
+        .collect(alloc)
+}
+
+/// No change, as room for one.
+const NO_CHANGE: Change = Change {
+    second: 0,
+    offset: 0,
+    saving: 0,
+    name_length: 0,
+    differs: false,
+};
+
+/// The seconds of the changes of a window that change something, over room for all of them.
+fn differing_within(
+    alloc: Global,
+    zone: &OpenZone,
+    from: i64,
+    to: i64,
+    room: &mut [Change],
+) -> Result<Vec<i64>, AllocError>
+    requires { length room.old ≡ length (window (spans_in zone.now) from to) }
+    ensures { IfOk result (λ seconds. seconds.items ≡ differing (window (spans_in zone.now) from to)) }
+{
+    let _ = zone.changes(from, to, room);
+    differing(alloc, room)
+}
+
+impl ReplyZone for OpenZone {
+    ghost use Rattle.sefunjaro.specs.Replies.{reply_view};
+    ghost use Rattle.sefunjaro.specs.Zones.{ever_in, set_in};
+
+    ghost view = { λ zone. reply_view (set_in zone) (ever_in zone) };
+
+    fn last_year(&self) -> i32 {
+        OpenZone::last_year(self)
+    }
+
+    fn shown_at(&self, at: &OffsetDateTime) -> Option<OffsetDateTime> {
+        OpenZone::shown_at(self, at)
+    }
+
+    fn offset_at(&self, second: i64) -> UtcOffset {
+        match self.for_ever() {
+            Some(ever) => offset_on(&EverTable::new(ever), second),
+            None => offset_on(self.compact(), second),
+        }
+    }
+
+    fn offset_before(&self, second: i64) -> UtcOffset {
+        match self.for_ever() {
+            Some(ever) => offset_until(&EverTable::new(ever), second),
+            None => offset_until(self.compact(), second),
+        }
+    }
+
+    fn force_at(&self, alloc: Global, second: i64) -> Result<Force, AllocError> {
+        match self.for_ever() {
+            Some(ever) => force_on(alloc, &EverTable::new(ever), second),
+            None => force_on(alloc, self.compact(), second),
+        }
+    }
+
+    fn force_before(&self, alloc: Global, second: i64) -> Result<Force, AllocError> {
+        match self.for_ever() {
+            Some(ever) => force_until(alloc, &EverTable::new(ever), second),
+            None => force_until(alloc, self.compact(), second),
+        }
+    }
+
+    fn instants(
+        &self,
+        alloc: Global,
+        local: &PlainDateTime,
+    ) -> Result<Vec<OffsetDateTime>, AllocError> {
+        match self.for_ever() {
+            Some(ever) => instants_of(alloc, &EverTz::new(ever), local),
+            None => instants_of(alloc, &CompactTz::new(self.compact()), local),
+        }
+    }
+
+    fn changes(&self, alloc: Global, from: i64, to: i64) -> Result<Vec<i64>, AllocError> {
+        let count = OpenZone::changes(self, from, to, &mut []);
+        let mut room = vec![in alloc; NO_CHANGE; count]?;
+        differing_within(alloc, self, from, to, &mut room)
+    }
+}
