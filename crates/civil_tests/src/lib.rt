@@ -16,4 +16,5 @@ mod owned_values;
 mod padding;
 #[cfg(test)]
 mod parts;
+#[cfg(test)]
 mod pieces;

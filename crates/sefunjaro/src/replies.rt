@@ -49,7 +49,11 @@ fn force_on<S: SpanTable>(alloc: Global, set: &S, second: i64) -> Result<Force, 
     requires { IsAccepted (schedule_of (S.seen set.now)) }
     ensures { IfOk result (λ force. force_shown force ≡ force_of (span_on (S.seen set.now) second)) }
 {
-    force_by(alloc, set.span(span_in_force_at(set, second)), offset_on(set, second))
+    force_by(
+        alloc,
+        set.span(span_in_force_at(set, second)),
+        offset_on(set, second),
+    )
 }
 
 /// What is in force just before a second.
@@ -57,7 +61,11 @@ fn force_until<S: SpanTable>(alloc: Global, set: &S, second: i64) -> Result<Forc
     requires { IsAccepted (schedule_of (S.seen set.now)) }
     ensures { IfOk result (λ force. force_shown force ≡ force_of (span_before (S.seen set.now) second)) }
 {
-    force_by(alloc, set.span(entries_before(set, second)), offset_until(set, second))
+    force_by(
+        alloc,
+        set.span(entries_before(set, second)),
+        offset_until(set, second),
+    )
 }
 
 /// All instants of a local time.
