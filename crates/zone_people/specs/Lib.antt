@@ -1,3 +1,0 @@
--- Definitions: what public clauses say.
-pub mod Sources
-pub mod Starts
