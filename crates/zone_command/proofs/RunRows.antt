@@ -3,9 +3,11 @@ use Rattle.std.proofs.Common.{◌≡◌, refl, map, ℕ, Bool, true, false, List
 use Rattle.std.specs.Prelude.{codes}
 use Rattle.zone_command.specs.Bare.{absent}
 use Rattle.zone_command.specs.Ends.{file_of}
-use Rattle.zone_command.specs.Failures.{Failure, bad_words, clock_fails, file_fails, file_long, no_memory, refuses, errors_of, status_of}
+use Rattle.zone_command.specs.Failures.{Failure, bad_words, clock_fails, environment_fails, file_fails, file_long, no_memory, refuses, errors_at, errors_of, status_at, status_of}
 use Rattle.zone_command.specs.Times.{asks_now}
 use Rattle.zone_moments.specs.declared.fault.TextFault.TheVariants.{TimeMissing}
+use Rattle.zone_pieces.specs.declared.running.StreamEnd.{StreamEnd}
+use Rattle.zone_pieces.specs.declared.running.StreamEnd.TheVariants.{Done, Fault, Read, Write, NoMemory, TooLong}
 use Rattle.zone_source.specs.Statuses.{code_of}
 use Rattle.zone_words.specs.FaultLines.{fault_line}
 use Rattle.zone_words.specs.Tasks.{TaskAsked, help, version, at_instants, local_time, list_changes, names, stream, tree}
@@ -31,6 +33,7 @@ failures =
       (codes "zone: words are missing behind this command" ++ 10 ∷ [], 1),
     ) ∷
     (clock_fails, (codes "zone: the clock can't be read" ++ 10 ∷ [], 3)) ∷
+    (environment_fails, (codes "zone: the value of SEFUNJARO_TZDATA can't be read" ++ 10 ∷ [], 3)) ∷
     (file_fails (codes "x"), (codes "zone: " ++ quoted (codes "x") ++ codes ": this file can't be read" ++ 10 ∷ [], 3)) ∷ (
       file_long (codes "x"),
       (codes "zone: " ++ quoted (codes "x") ++ codes ": this file has more than 16,777,216 bytes" ++ 10 ∷ [], 6),
@@ -41,9 +44,17 @@ worked_failures : map (λ row. (errors_of row.0, code_of (status_of row.0))) fai
 unfolding fault_line errors_of
 worked_failures = refl
 
-worked_files : file_of (Some (codes "a")) (Some (codes "b")) ∷ file_of None (Some (codes "b")) ∷ file_of None None ∷ []
-    ≡ codes "a" ∷ codes "b" ∷ codes "/usr/share/zoneinfo/tzdata.zi" ∷ []
+worked_files : file_of (Some (codes "b")) ∷ file_of None ∷ [] ≡ codes "b" ∷ codes "/usr/share/zoneinfo/tzdata.zi" ∷ []
 worked_files = refl
+
+abbrev ends : List (StreamEnd × (List ℕ × ℕ))
+ends =
+    (Done, ([], 0)) ∷ (Fault, ([], 2)) ∷ (Read, (codes "zone: standard input can't be read" ++ 10 ∷ [], 3)) ∷ (Write, ([], 4)) ∷
+    (NoMemory, (codes "zone: out of memory" ++ 10 ∷ [], 5)) ∷ (TooLong, (codes "zone: standard input is too long" ++ 10 ∷ [], 6)) ∷ []
+
+worked_ends : map (λ row. (errors_at row.0, code_of (status_at row.0))) ends ≡ map (λ row. row.1) ends
+unfolding errors_at
+worked_ends = refl
 
 abbrev tasks : List (TaskAsked × (Bool × Option (List ℕ)))
 tasks =

@@ -1,112 +1,183 @@
 -- How a run ended.
-use Rattle.std.specs.Prelude.{◌≡◌, ◌⊎◌, ℕ, true, false, List, [], Option, Some, None, Result, Ok, Err, IfSome, IsErrAnd, IsOkAnd, MatchOption, ℤ, unwrap_or, codes}
+use Rattle.std.specs.Prelude.{◌≡◌, ◌⊎◌, ℕ, Bool, true, false, List, [], Option, Some, None, Result, Ok, Err, IfSome, IsErrAnd, IsOkAnd, MatchOption, ℤ, pos, unwrap_or, codes}
+use Rattle.civil_base.specs.Instants.{is_in_years}
 use Rattle.zone_command.specs.Bare.{bare, there}
-use Rattle.zone_command.specs.Due.{Answers, Due}
-use Rattle.zone_command.specs.Failures.{Failure, refuses, bad_words, clock_fails, file_fails, file_long, no_memory, errors_of, status_of}
+use Rattle.zone_command.specs.Due.{Answers, Makings}
+use Rattle.zone_command.specs.Failures.{Failure, refuses, bad_words, clock_fails, environment_fails, file_fails, file_long, no_memory, errors_at, errors_of, status_at, status_of}
 use Rattle.zone_command.specs.Times.{asks_now}
+use Rattle.zone_outside.specs.Exchanges.{ExchangeSeen, Wrote, WrotePart}
 use Rattle.zone_outside.specs.Limit.{text_limit}
 use Rattle.zone_outside.specs.Outside.{Rose, TooMuch}
 use Rattle.zone_outside.specs.Seen.{ShelfSeen, OutputSeen, Grew, GrewBySome}
+use Rattle.zone_pieces.specs.Filters.{Made}
+use Rattle.zone_pieces.specs.Runs.{Ends}
+use Rattle.zone_pieces.specs.declared.running.StreamEnd.{StreamEnd}
 use Rattle.zone_source.specs.declared.running.Status.{Status}
 use Rattle.zone_source.specs.declared.running.Status.TheVariants as status
 use Rattle.zone_words.specs.Faults.{Reading}
-use Rattle.zone_words.specs.Tasks.{WordsAsked}
+use Rattle.zone_words.specs.Tasks.{TaskAsked, WordsAsked, stream, log}
 
 -- ---- what is read
 
--- the instant that a clock tells next, where that is known, and its faults
+-- the nanoseconds from 1970-01-01 00:00:00 UTC that a clock tells, where that is known, and its faults
 pub record ClockSeen : Type 0 where
-  pub next : Option ℤ
+  pub told : Option ℕ
+  pub faults : ℕ
+
+-- the values of variables, where they are known, and the faults
+pub record EnvironmentSeen : Type 0 where
+  pub told : Option (List ℕ → Option (List ℕ))
   pub faults : ℕ
 
 pub record InSeen : Type 0 where
   pub shelf : ShelfSeen
   pub clock : ClockSeen
+  pub environment : EnvironmentSeen
 
--- the named file, else that of the environment, else the system's
-abbrev pub file_of : Option (List ℕ) → Option (List ℕ) → List ℕ
-file_of (Some file) variable = file
-file_of None variable = unwrap_or variable (codes "/usr/share/zoneinfo/tzdata.zi")
+-- the file of the source: the value of a variable, else the system's
+abbrev pub file_of : Option (List ℕ) → List ℕ
+file_of value = unwrap_or value (codes "/usr/share/zoneinfo/tzdata.zi")
 
--- what a run comes to: an answer, or why there is none
-abbrev pub Outcome : Type 0
-Outcome = Result (List ℕ) Failure
+-- the file that is named, where the environment isn't asked, else that of SEFUNJARO_TZDATA, else the system's
+abbrev pub IsFile : Option (List ℕ) → EnvironmentSeen → EnvironmentSeen → List ℕ → Type 0
+IsFile (Some named) before now file = (file ≡ named) × (now ≡ before)
+IsFile None before now file = IfSome before.told (λ told. file ≡ file_of (told (codes "SEFUNJARO_TZDATA")))
 
--- where the shelf tells the file's text, that was read to its end, and the answer is what is due over it
-abbrev pub IsDueOver : (List ℕ → Due → Type 0) → List ℕ → ShelfSeen → ShelfSeen → Due → Type 0
-IsDueOver due file before now answer = IfSome (before.told file) (λ text. (now.left ≡ Some []) × due text answer)
+-- what a run comes to: an answer, the answers to what came in and how that ended, or why there is none
+pub data Outcome : Type 0 where
+  answered : List ℕ → Outcome
+  served : Made → StreamEnd → Outcome
+  failed : Failure → Outcome
+
+-- commands that answer what comes in
+abbrev pub is_served : TaskAsked → Bool
+is_served (stream plain) = true
+is_served (log zone field) = true
+is_served _ = false
+
+-- where the shelf tells the file's text, that was read to its end, and this is due over it
+abbrev pub IsDueOver : {D : Type 0} → (List ℕ → D → Type 0) → List ℕ → ShelfSeen → ShelfSeen → D → Type 0
+IsDueOver due file before now it = IfSome (before.told file) (λ text. (now.left ≡ Some []) × due text it)
+
+-- why nothing is due over a file
+abbrev pub IsUnread : List ℕ → ShelfSeen → ShelfSeen → Failure → Type 0
+IsUnread file before now (file_fails name) = (name ≡ file) × Rose before.faults now.faults
+IsUnread file before now (file_long name) = (name ≡ file) × TooMuch text_limit before.given now.given
+IsUnread file before now no_memory = Unit {0}
+IsUnread file before now (refuses line) = ⊥
+IsUnread file before now (bad_words fault) = ⊥
+IsUnread file before now clock_fails = ⊥
+IsUnread file before now environment_fails = ⊥
+
+-- what a run comes to over a file, at an instant
+abbrev pub IsAnswer : Answers → WordsAsked → ℤ → List ℕ → ShelfSeen → ShelfSeen → Outcome → Type 0
+IsAnswer due asked at file before now (answered bytes) = IsDueOver (due asked at file) file before now (Ok bytes)
+IsAnswer due asked at file before now (served made end) = ⊥
+IsAnswer due asked at file before now (failed (refuses line)) = IsDueOver (due asked at file) file before now (Err line)
+IsAnswer due asked at file before now (failed (bad_words fault)) = ⊥
+IsAnswer due asked at file before now (failed clock_fails) = ⊥
+IsAnswer due asked at file before now (failed environment_fails) = ⊥
+IsAnswer due asked at file before now (failed (file_fails name)) = IsUnread file before now (file_fails name)
+IsAnswer due asked at file before now (failed (file_long name)) = IsUnread file before now (file_long name)
+IsAnswer due asked at file before now (failed no_memory) = Unit {0}
+
+-- the same of a command that answers what comes in
+abbrev pub IsServing : Makings → WordsAsked → List ℕ → ShelfSeen → ShelfSeen → Outcome → Type 0
+IsServing makes asked file before now (answered bytes) = ⊥
+IsServing makes asked file before now (served made end) = IsDueOver (makes asked file) file before now (Ok made)
+IsServing makes asked file before now (failed (refuses line)) = IsDueOver (makes asked file) file before now (Err line)
+IsServing makes asked file before now (failed (bad_words fault)) = ⊥
+IsServing makes asked file before now (failed clock_fails) = ⊥
+IsServing makes asked file before now (failed environment_fails) = ⊥
+IsServing makes asked file before now (failed (file_fails name)) = IsUnread file before now (file_fails name)
+IsServing makes asked file before now (failed (file_long name)) = IsUnread file before now (file_long name)
+IsServing makes asked file before now (failed no_memory) = Unit {0}
 
 -- over a file, at an instant
-abbrev pub IsOver : Answers → WordsAsked → ℤ → List ℕ → ShelfSeen → ShelfSeen → Outcome → Type 0
-IsOver due asked at file before now (Ok bytes) = IsDueOver (due asked at file) file before now (Ok bytes)
-IsOver due asked at file before now (Err (refuses line)) = IsDueOver (due asked at file) file before now (Err line)
-IsOver due asked at file before now (Err (bad_words fault)) = ⊥
-IsOver due asked at file before now (Err clock_fails) = ⊥
-IsOver due asked at file before now (Err (file_fails name)) = (name ≡ file) × Rose before.faults now.faults
-IsOver due asked at file before now (Err (file_long name)) = (name ≡ file) × TooMuch text_limit before.given now.given
-IsOver due asked at file before now (Err no_memory) = Unit {0}
+abbrev pub IsOver : Answers → Makings → WordsAsked → ℤ → List ℕ → ShelfSeen → ShelfSeen → Outcome → Type 0
+IsOver due makes asked at file before now outcome =
+    ((is_served asked.task ≡ false) × IsAnswer due asked at file before now outcome)
+    ⊎ ((is_served asked.task ≡ true) × IsServing makes asked file before now outcome)
 
--- over a file, at the instant that the clock tells where words ask for it; where they don't, the clock is not asked
-pub record IsOverAt (due : Answers) (asked : WordsAsked) (file : List ℕ) (before now : InSeen) (outcome : Outcome) : Type 0 where
+-- over the file that is meant, at the instant that the clock tells where words ask for it; where they don't, the clock is not asked
+pub record IsOverAt (due : Answers) (makes : Makings) (asked : WordsAsked) (before now : InSeen) (outcome : Outcome) : Type 0 where
   pub at : ℤ
-  pub told : asks_now asked.task ≡ true → IfSome before.clock.next (λ t. at ≡ t)
+  pub told : asks_now asked.task ≡ true → IfSome before.clock.told (λ nanos. at ≡ pos nanos)
   pub unasked : asks_now asked.task ≡ false → now.clock ≡ before.clock
-  pub over : IsOver due asked at file before.shelf now.shelf outcome
+  pub file : List ℕ
+  pub named : IsFile asked.source before.environment now.environment file
+  pub over : IsOver due makes asked at file before.shelf now.shelf outcome
 
--- the clock failed, which comes before the file
+-- the clock failed, or tells an instant past the years, which comes before the environment and the file
 pub record ClockFailed (asked : WordsAsked) (before now : InSeen) (outcome : Outcome) : Type 0 where
-  pub outcome_is : outcome ≡ Err clock_fails
+  pub outcome_is : outcome ≡ failed clock_fails
   pub asks : asks_now asked.task ≡ true
-  pub rose : Rose before.clock.faults now.clock.faults
+  pub why : Rose before.clock.faults now.clock.faults ⊎ IfSome before.clock.told (λ nanos. is_in_years (pos nanos) ≡ false)
+  pub environment : now.environment ≡ before.environment
   pub shelf : now.shelf ≡ before.shelf
 
-abbrev pub IsFoundOver : Answers → WordsAsked → List ℕ → InSeen → InSeen → Outcome → Type 0
-IsFoundOver due asked file before now outcome = IsOverAt due asked file before now outcome ⊎ ClockFailed asked before now outcome
+-- the environment failed, which comes before the file
+pub record EnvironmentFailed (asked : WordsAsked) (before now : InSeen) (outcome : Outcome) : Type 0 where
+  pub outcome_is : outcome ≡ failed environment_fails
+  pub unnamed : asked.source ≡ None
+  pub rose : Rose before.environment.faults now.environment.faults
+  pub shelf : now.shelf ≡ before.shelf
+
+abbrev pub IsFoundOver : Answers → Makings → WordsAsked → InSeen → InSeen → Outcome → Type 0
+IsFoundOver due makes asked before now outcome =
+    IsOverAt due makes asked before now outcome
+    ⊎ (ClockFailed asked before now outcome ⊎ (EnvironmentFailed asked before now outcome ⊎ (outcome ≡ failed no_memory)))
 
 -- without a source, and nothing is read; or memory ran out
 abbrev pub IsBare : List ℕ → InSeen → InSeen → Outcome → Type 0
-IsBare text before now outcome = ((outcome ≡ Ok text) ⊎ (outcome ≡ Err no_memory)) × (now ≡ before)
+IsBare text before now outcome = ((outcome ≡ answered text) ⊎ (outcome ≡ failed no_memory)) × (now ≡ before)
 
 -- what words come to that ask this
-abbrev pub IsFound : Answers → Option (List ℕ) → WordsAsked → InSeen → InSeen → Outcome → Type 0
-IsFound due variable asked before now outcome = MatchOption (bare asked.task)
-    (IsFoundOver due asked (file_of asked.source variable) before now outcome)
+abbrev pub IsFound : Answers → Makings → WordsAsked → InSeen → InSeen → Outcome → Type 0
+IsFound due makes asked before now outcome = MatchOption (bare asked.task)
+    (IsFoundOver due makes asked before now outcome)
     (λ text. IsBare text before now outcome)
 
 -- what words come to that ask nothing
 abbrev pub IsRefused : Reading WordsAsked → InSeen → InSeen → Outcome → Type 0
-IsRefused read before now outcome = IsErrAnd read (λ fault. outcome ≡ Err (bad_words fault)) × (now ≡ before)
+IsRefused read before now outcome = IsErrAnd read (λ fault. outcome ≡ failed (bad_words fault)) × (now ≡ before)
 
 -- what words come to that are read so; or memory ran out
-abbrev pub IsCause : Answers → Option (List ℕ) → Reading WordsAsked → InSeen → InSeen → Outcome → Type 0
-IsCause due variable read before now outcome =
-    IsOkAnd read (λ asked. IsFound due variable asked before now outcome)
-    ⊎ (IsRefused read before now outcome ⊎ (outcome ≡ Err no_memory))
+abbrev pub IsCause : Answers → Makings → Reading WordsAsked → InSeen → InSeen → Outcome → Type 0
+IsCause due makes read before now outcome =
+    IsOkAnd read (λ asked. IsFound due makes asked before now outcome)
+    ⊎ (IsRefused read before now outcome ⊎ (outcome ≡ failed no_memory))
 
 -- ---- what is written
 
--- all of the answer, or a first part where a call failed
-abbrev pub IsWritten : OutputSeen → OutputSeen → List ℕ → Status → Type 0
+-- all of the answer, or a first part where a call failed; and nothing is read
+abbrev pub IsWritten : ExchangeSeen → ExchangeSeen → List ℕ → Status → Type 0
 IsWritten before now bytes end =
-    ((end ≡ status.Done) × Grew before now bytes)
-    ⊎ ((end ≡ status.Write) × Rose before.faults now.faults × GrewBySome before now bytes)
+    ((end ≡ status.Done) × Wrote before now bytes)
+    ⊎ ((end ≡ status.Write) × Rose before.write_faults now.write_faults × WrotePart before now bytes)
 
 -- all of the line, or a first part where a call failed
 abbrev pub IsTold : OutputSeen → OutputSeen → List ℕ → Type 0
 IsTold before now line = Grew before now line ⊎ (Rose before.faults now.faults × GrewBySome before now line)
 
+-- standard input and output, and standard error
 pub record OutSeen : Type 0 where
-  pub output : OutputSeen
+  pub exchange : ExchangeSeen
   pub errors : OutputSeen
 
 -- the line of a failure, by its status
 abbrev pub IsFailed : OutputSeen → OutputSeen → Failure → Status → Type 0
 IsFailed before now failure end = (end ≡ status_of failure) × IsTold before now (errors_of failure)
 
+-- the line of how answering ended, by its status
+abbrev pub IsEnded : OutputSeen → OutputSeen → StreamEnd → Status → Type 0
+IsEnded before now how end = (end ≡ status_at how) × IsTold before now (errors_at how)
+
 -- an answer goes to the output, and all else to standard error
 abbrev pub IsDelivered : OutSeen → OutSeen → Outcome → Status → Type 0
-IsDelivered before now (Ok bytes) end = IsWritten before.output now.output bytes end × (now.errors ≡ before.errors)
-IsDelivered before now (Err failure) end = IsFailed before.errors now.errors failure end × (now.output ≡ before.output)
+IsDelivered before now (answered bytes) end = IsWritten before.exchange now.exchange bytes end × (now.errors ≡ before.errors)
+IsDelivered before now (served made how) end = Ends made before.exchange now.exchange how × IsEnded before.errors now.errors how end
+IsDelivered before now (failed failure) end = IsFailed before.errors now.errors failure end × (now.exchange ≡ before.exchange)
 
 -- ---- the whole
 
@@ -114,8 +185,8 @@ pub record Seen : Type 0 where
   pub read : InSeen
   pub written : OutSeen
 
--- how a run ended whose words are read so, with this value of SEFUNJARO_TZDATA
-pub record EndsZone (due : Answers) (variable : Option (List ℕ)) (words : Reading WordsAsked) (before now : Seen) (end : Status) : Type 0 where
+-- how a run ended whose words are read so
+pub record EndsZone (due : Answers) (makes : Makings) (words : Reading WordsAsked) (before now : Seen) (end : Status) : Type 0 where
   pub outcome : Outcome
-  pub cause : IsCause due variable (there words) before.read now.read outcome
+  pub cause : IsCause due makes (there words) before.read now.read outcome
   pub delivered : IsDelivered before.written now.written outcome end

@@ -4,5 +4,7 @@ pub mod Times
 pub mod Bare
 pub mod Failures
 pub mod FailureShown
+pub mod Comes
+pub mod Starts
 pub mod Ends
 pub mod InSeen

@@ -1,11 +1,13 @@
 //! What answers over the text of a source.
 ghost use Rattle.std.specs.Prelude.{◌≤◌, length};
 ghost use Rattle.civil_base.specs.DateTimes.{instant};
-ghost use Rattle.zone_command.specs.Due.{Answers, IsDue};
+ghost use Rattle.zone_command.specs.Due.{Answers, IsDue, IsServed, Makings};
 ghost use Rattle.zone_words.specs.TaskShown.{words_shown};
 
 use civil_base::OffsetDateTime;
 use std::alloc::{AllocError, Global};
+use zone_outside::Exchange;
+use zone_pieces::StreamEnd;
 use zone_source::LIMIT;
 use zone_words::Asked;
 
@@ -34,6 +36,9 @@ pub trait Answerer {
     /// What is due.
     ghost due: { Answers };
 
+    /// What is made of an input.
+    ghost makes: { Makings };
+
     /// What is due for what words ask, at the instant at which they ask it, over the text of the named file.
     ///
     /// # Errors
@@ -48,4 +53,20 @@ pub trait Answerer {
     ) -> Result<Vec<u8>, AnswerFault>
         requires { length text.now ≤ LIMIT }
         ensures { IsDue (due (words_shown asked.now) (instant now.now) file.now text.now) result };
+
+    /// Answers what comes in as words ask that `stream` or `log` is in, over the text of the named file: before each read all that is
+    /// due by then is written.
+    ///
+    /// # Errors
+    ///
+    /// The line that tells why nothing can be answered, or want of memory; nothing was read or written then.
+    fn serve<X: Exchange>(
+        alloc: Global,
+        asked: &Asked<'_>,
+        file: &str,
+        text: &[u8],
+        exchange: &mut X,
+    ) -> Result<StreamEnd, AnswerFault>
+        requires { length text.now ≤ LIMIT }
+        ensures { IsServed (makes (words_shown asked.now) file.now text.now) (X.seen exchange.old) (X.seen exchange.new) result };
 }

@@ -1,19 +1,21 @@
 //! What is written.
 ghost use Rattle.std.specs.Prelude.{◌⊎◌};
-ghost use Rattle.zone_command.specs.Ends.{IsFailed, IsTold, IsWritten};
+ghost use Rattle.zone_command.specs.Ends.{IsEnded, IsFailed, IsTold, IsWritten};
 ghost use Rattle.zone_command.specs.FailureShown.{failure_shown};
 ghost use Rattle.zone_command.specs.Failures.{no_memory};
 ghost use Rattle.zone_outside.specs.Seen.{output_seen};
 
-use crate::failure::{Failure, line_of, status_of};
+use crate::failure::{Failure, line_at, line_of, status_at, status_of};
 use std::alloc::Global;
+use zone_outside::{Exchange, send_all};
+use zone_pieces::StreamEnd;
 use zone_source::{Sink, Status, write_all};
 
 /// Writes an answer.
-pub(crate) fn write_out<O: Sink>(output: &mut O, bytes: &[u8]) -> Status
-    ensures { IsWritten (output_seen O.Sink output.old) (output_seen O.Sink output.new) bytes.now result }
+pub(crate) fn write_out<X: Exchange>(exchange: &mut X, bytes: &[u8]) -> Status
+    ensures { IsWritten (X.seen exchange.old) (X.seen exchange.new) bytes.now result }
 {
-    match write_all(output, bytes) {
+    match send_all(exchange, bytes) {
         Ok(()) => Status::Done,
         Err(_) => Status::Write,
     }
@@ -27,6 +29,14 @@ fn tell<E: Sink>(errors: &mut E, line: &[u8])
         Ok(()) => {}
         Err(_) => {}
     }
+}
+
+/// Tells how answering what came in ended.
+pub(crate) fn tell_end<E: Sink>(end: StreamEnd, errors: &mut E) -> Status
+    ensures { IsEnded (output_seen E.Sink errors.old) (output_seen E.Sink errors.new) end result }
+{
+    tell(errors, line_at(end).as_bytes());
+    status_at(end)
 }
 
 /// Tells that memory ran out.

@@ -1,9 +1,10 @@
 //! Why a run has no answer.
 ghost use Rattle.std.specs.Prelude.{◌≡◌, ◌++◌, ◌∷◌, [], IfOk};
-ghost use Rattle.zone_command.specs.Failures.{errors_of, file_line, status_of};
+ghost use Rattle.zone_command.specs.Failures.{errors_at, errors_of, file_line, status_at, status_of};
 ghost use Rattle.zone_command.specs.FailureShown.{failure_shown};
 
 use std::alloc::{AllocError, Global};
+use zone_pieces::StreamEnd;
 use zone_source::Status;
 use zone_words::{WordFault, fault_line};
 
@@ -16,10 +17,12 @@ pub enum Failure<'w> {
     BadWords(WordFault<'w>),
     /// The clock failed.
     Clock,
+    /// The environment failed.
+    Environment,
     /// The file of that name can't be read.
-    File(&'w str),
+    File(String),
     /// The file of that name is too long.
-    Long(&'w str),
+    Long(String),
     /// Memory ran out.
     NoMemory,
 }
@@ -66,8 +69,15 @@ pub(crate) fn line_of(alloc: Global, failure: &Failure<'_>) -> Result<Vec<u8>, A
         Failure::Refuses(line) => copied(alloc, line.as_slice()),
         Failure::BadWords(fault) => fault_line(alloc, fault),
         Failure::Clock => copied(alloc, b"zone: the clock can't be read\n"),
-        Failure::File(file) => file_line(alloc, *file, "this file can't be read"),
-        Failure::Long(file) => file_line(alloc, *file, "this file has more than 16,777,216 bytes"),
+        Failure::Environment => {
+            copied(alloc, b"zone: the value of SEFUNJARO_TZDATA can't be read\n")
+        }
+        Failure::File(file) => file_line(alloc, file.as_str(), "this file can't be read"),
+        Failure::Long(file) => file_line(
+            alloc,
+            file.as_str(),
+            "this file has more than 16,777,216 bytes",
+        ),
         Failure::NoMemory => Err(AllocError),
     }
 }
@@ -86,8 +96,38 @@ pub(crate) fn status_of(failure: &Failure<'_>) -> Status
             }
         }
         Failure::Clock => Status::Read,
+        Failure::Environment => Status::Read,
         Failure::File(_) => Status::Read,
         Failure::Long(_) => Status::TooLong,
         Failure::NoMemory => Status::NoMemory,
+    }
+}
+
+/// What is told of how answering what came in ended.
+#[tactic(auto, unfolding(crate::specs::Failures::errors_at))]
+pub(crate) fn line_at(end: StreamEnd) -> &'static str
+    ensures { result.now ≡ errors_at end }
+{
+    match end {
+        StreamEnd::Read => "zone: standard input can't be read\n",
+        StreamEnd::NoMemory => "zone: out of memory\n",
+        StreamEnd::TooLong => "zone: standard input is too long\n",
+        StreamEnd::Done => "",
+        StreamEnd::Fault => "",
+        StreamEnd::Write => "",
+    }
+}
+
+/// The status of that.
+pub(crate) fn status_at(end: StreamEnd) -> Status
+    ensures { result ≡ status_at end }
+{
+    match end {
+        StreamEnd::Done => Status::Done,
+        StreamEnd::Fault => Status::Fault,
+        StreamEnd::Read => Status::Read,
+        StreamEnd::Write => Status::Write,
+        StreamEnd::NoMemory => Status::NoMemory,
+        StreamEnd::TooLong => Status::TooLong,
     }
 }

@@ -1,29 +1,46 @@
 //! What is due of words.
-ghost use Rattle.std.specs.Prelude.{◌≡◌, ℕ, List, true, false, map, option_map, string_bytes, IfOk, IfSome, OnErr};
+ghost use Rattle.std.specs.Prelude.{◌≡◌, ◌⊎◌, ℕ, List, false, true, pos, map, None, option_map, string_bytes, IfOk, IfSome, IsErrOf, OnErr};
 ghost use Rattle.civil_base.specs.DateTimes.{instant};
+ghost use Rattle.civil_base.specs.Instants.{is_in_years};
 ghost use Rattle.zone_outside.specs.Outside.{Rose};
 ghost use Rattle.zone_outside.specs.Seen.{shelf_seen};
 ghost use Rattle.zone_command.specs.Times.{asks_now};
 ghost use Rattle.zone_command.specs.Bare.{text_shown, there};
-ghost use Rattle.zone_command.specs.Ends.{IsCause, IsFound, IsFoundOver, IsOver, file_of};
-ghost use Rattle.zone_command.specs.FailureShown.{outcome_shown};
-ghost use Rattle.zone_command.specs.InSeen.{clock_seen, in_seen};
+ghost use Rattle.zone_command.specs.Comes.{Comes, ComesBy, ComesTo};
+ghost use Rattle.zone_command.specs.Due.{IsDue};
+ghost use Rattle.zone_command.specs.Ends.{IsAnswer, IsCause, IsFile, IsFound, IsFoundOver, IsOver, IsServing, file_of, is_served};
+ghost use Rattle.zone_command.specs.FailureShown.{failure_shown};
+ghost use Rattle.zone_command.specs.Failures.{environment_fails, no_memory};
+ghost use Rattle.zone_command.specs.InSeen.{clock_seen, environment_seen, in_seen};
 ghost use Rattle.zone_words.specs.TaskShown.{task_shown, words_shown};
 ghost use Rattle.zone_words.specs.Told.{is_of_memory, Reads};
 ghost use Rattle.zone_words.specs.Words.{words_in};
 
 use crate::answerer::{AnswerFault, Answerer};
-use crate::clock::Clock;
 use crate::failure::{Failure, copied};
 use crate::help::{absent, bare};
 use crate::times::asks_now;
 use civil_base::OffsetDateTime;
 use std::alloc::Global;
+use zone_outside::{Environment, Exchange, WallClock};
+use zone_pieces::StreamEnd;
 use zone_source::{Failed, ReadEnd, Shelf, fetch_all};
 use zone_words::{Asked, Task, WordCause, WordFault, read_words};
 
 /// The source where nothing names one.
 const SYSTEM_SOURCE: &str = "/usr/share/zoneinfo/tzdata.zi";
+
+/// The variable of the environment that names one.
+const VARIABLE: &str = "SEFUNJARO_TZDATA";
+
+/// What is found of words.
+#[derive(Drop)]
+pub enum Found {
+    /// An answer.
+    Text(Vec<u8>),
+    /// How answering what came in ended.
+    Input(StreamEnd),
+}
 
 /// What the words ask, where the command is there.
 fn take_words<'w>(alloc: Global, words: &'w [String]) -> Result<Asked<'w>, WordFault<'w>>
@@ -47,41 +64,59 @@ fn is_of_memory(cause: WordCause) -> bool
     matches!(cause, WordCause::NoMemory)
 }
 
-/// The named file, else that of the environment, else the system's.
-fn file_of<'w>(named: Option<&'w str>, variable: Option<&'w str>) -> &'w str
-    ensures { result.now ≡ file_of (option_map text_shown named.entry) (option_map text_shown variable.entry) }
+/// Whether the task answers what comes in.
+fn is_served(task: &Task<'_>) -> bool
+    ensures { result ≡ is_served (task_shown task.now) }
 {
-    match named {
-        Some(file) => file,
-        None => variable.unwrap_or(SYSTEM_SOURCE),
+    matches!(task, Task::Stream(_) | Task::Log(_, _))
+}
+
+/// The instant that the clock tells.
+fn told_by<K: WallClock>(clock: &mut K) -> Result<OffsetDateTime, Failed>
+    ensures told { IfOk result (λ at. IfSome (K.told clock.old) (λ nanos. instant at ≡ pos nanos)) }
+    ensures failed { OnErr result (Rose (K.faults clock.old) (K.faults clock.new) ⊎ IfSome (K.told clock.old) (λ nanos. is_in_years (pos nanos) ≡ false)) }
+{
+    let nanos = clock.now()?;
+    match OffsetDateTime::from_unix_timestamp_nanos(nanos as i128) {
+        Ok(at) => Ok(at),
+        Err(_) => Err(Failed),
     }
 }
 
 /// The instant at which words ask; any where they don't.
-fn moment<K: Clock>(task: &Task<'_>, clock: &mut K) -> Result<OffsetDateTime, Failed>
-    ensures told { asks_now (task_shown task.now) ≡ true → IfOk result (λ at. IfSome (K.next clock.old) (λ t. instant at ≡ t)) }
-    ensures unasked { asks_now (task_shown task.now) ≡ false → clock_seen K.Clock clock.new ≡ clock_seen K.Clock clock.old }
+fn moment<K: WallClock>(task: &Task<'_>, clock: &mut K) -> Result<OffsetDateTime, Failed>
+    ensures told { asks_now (task_shown task.now) ≡ true → IfOk result (λ at. IfSome (K.told clock.old) (λ nanos. instant at ≡ pos nanos)) }
+    ensures unasked { asks_now (task_shown task.now) ≡ false → clock_seen K.WallClock clock.new ≡ clock_seen K.WallClock clock.old }
     ensures asked { OnErr result (asks_now (task_shown task.now) ≡ true) }
-    ensures failed { OnErr result (Rose (K.faults clock.old) (K.faults clock.new)) }
+    ensures failed { OnErr result (Rose (K.faults clock.old) (K.faults clock.new) ⊎ IfSome (K.told clock.old) (λ nanos. is_in_years (pos nanos) ≡ false)) }
 {
     if asks_now(task) {
-        clock.now()
+        told_by(clock)
     } else {
         Ok(OffsetDateTime::UNIX_EPOCH)
     }
 }
 
+/// The value of a variable, else the system's file.
+fn file_of(value: &Option<String>) -> &str
+    ensures { result.now ≡ file_of (option_map string_bytes value.now) }
+{
+    match value {
+        Some(file) => file.as_str(),
+        None => SYSTEM_SOURCE,
+    }
+}
+
 /// What is due over the named file.
-fn over_file<'w, A: Answerer, H: Shelf>(
+fn answer_over<'w, A: Answerer, H: Shelf>(
     alloc: Global,
-    asked: &Asked<'_>,
+    asked: &Asked<'w>,
     now: &OffsetDateTime,
-    file: &'w str,
+    file: &str,
     shelf: &mut H,
 ) -> Result<Vec<u8>, Failure<'w>>
     requires { H.open_to shelf.old file.now }
-    ensures { IsOver A.due (words_shown asked.now) (instant now.now) file.now
-        (shelf_seen H.Source shelf.old) (shelf_seen H.Source shelf.new) (outcome_shown result) }
+    ensures { ComesTo (IsAnswer A.due (words_shown asked.now) (instant now.now) file.now (shelf_seen H.Source shelf.old) (shelf_seen H.Source shelf.new)) result }
 {
     match fetch_all(alloc, shelf, file) {
         Ok(text) => match A::answer(alloc, asked, now, file, &text) {
@@ -89,63 +124,146 @@ fn over_file<'w, A: Answerer, H: Shelf>(
             Err(AnswerFault::Line(line)) => Err(Failure::Refuses(line)),
             Err(AnswerFault::NoMemory) => Err(Failure::NoMemory),
         },
-        Err(ReadEnd::Failed) => Err(Failure::File(file)),
-        Err(ReadEnd::TooLong) => Err(Failure::Long(file)),
+        Err(ReadEnd::Failed) => Err(Failure::File(String::from_str(alloc, file)?)),
+        Err(ReadEnd::TooLong) => Err(Failure::Long(String::from_str(alloc, file)?)),
         Err(ReadEnd::NoMemory) => Err(Failure::NoMemory),
     }
 }
 
-/// What is due over a source.
-fn over_source<'w, A: Answerer, H: Shelf, K: Clock>(
+/// Answers what comes in over the named file.
+fn serve_over<'w, A: Answerer, H: Shelf, X: Exchange>(
     alloc: Global,
     asked: &Asked<'w>,
-    variable: Option<&'w str>,
+    file: &str,
+    shelf: &mut H,
+    exchange: &mut X,
+) -> Result<StreamEnd, Failure<'w>>
+    requires { H.open_to shelf.old file.now }
+    ensures { ComesBy (IsServing A.makes (words_shown asked.now) file.now (shelf_seen H.Source shelf.old) (shelf_seen H.Source shelf.new))
+        (X.seen exchange.old) (X.seen exchange.new) result }
+{
+    match fetch_all(alloc, shelf, file) {
+        Ok(text) => match A::serve(alloc, asked, file, &text, exchange) {
+            Ok(end) => Ok(end),
+            Err(AnswerFault::Line(line)) => Err(Failure::Refuses(line)),
+            Err(AnswerFault::NoMemory) => Err(Failure::NoMemory),
+        },
+        Err(ReadEnd::Failed) => Err(Failure::File(String::from_str(alloc, file)?)),
+        Err(ReadEnd::TooLong) => Err(Failure::Long(String::from_str(alloc, file)?)),
+        Err(ReadEnd::NoMemory) => Err(Failure::NoMemory),
+    }
+}
+
+/// What is due over the named file, or how answering what came in over it ended.
+fn over_file<'w, A: Answerer, H: Shelf, X: Exchange>(
+    alloc: Global,
+    asked: &Asked<'w>,
+    now: &OffsetDateTime,
+    file: &str,
+    shelf: &mut H,
+    exchange: &mut X,
+) -> Result<Found, Failure<'w>>
+    requires { H.open_to shelf.old file.now }
+    ensures { Comes (IsOver A.due A.makes (words_shown asked.now) (instant now.now) file.now (shelf_seen H.Source shelf.old) (shelf_seen H.Source shelf.new))
+        (X.seen exchange.old) (X.seen exchange.new) result }
+{
+    if is_served(&asked.task) {
+        match serve_over::<A, H, X>(alloc, asked, file, shelf, exchange) {
+            Ok(end) => Ok(Found::Input(end)),
+            Err(failure) => Err(failure),
+        }
+    } else {
+        match answer_over::<A, H>(alloc, asked, now, file, shelf) {
+            Ok(bytes) => Ok(Found::Text(bytes)),
+            Err(failure) => Err(failure),
+        }
+    }
+}
+
+/// The file of the source.
+fn source_file<V: Environment>(
+    alloc: Global,
+    named: Option<&str>,
+    environment: &mut V,
+) -> Result<String, ReadEnd>
+    ensures ok { IfOk result (λ file. IsFile (option_map text_shown named.entry) (environment_seen V.Environment environment.old)
+        (environment_seen V.Environment environment.new) (string_bytes file)) }
+    ensures unnamed { IsErrOf result ReadEnd.Failed → option_map text_shown named.entry ≡ None }
+    ensures failed { IsErrOf result ReadEnd.Failed → Rose (V.faults environment.old) (V.faults environment.new) }
+{
+    match named {
+        Some(file) => Ok(String::from_str(alloc, file)?),
+        None => {
+            let value = environment.variable(alloc, VARIABLE)?;
+            Ok(String::from_str(alloc, file_of(&value))?)
+        }
+    }
+}
+
+/// What is due over a source.
+fn over_source<'w, A: Answerer, H: Shelf, K: WallClock, V: Environment, X: Exchange>(
+    alloc: Global,
+    asked: &Asked<'w>,
     shelf: &mut H,
     clock: &mut K,
-) -> Result<Vec<u8>, Failure<'w>>
+    environment: &mut V,
+    exchange: &mut X,
+) -> Result<Found, Failure<'w>>
     requires { (name : List ℕ) → H.open_to shelf.old name }
-    ensures { IsFoundOver A.due (words_shown asked.now) (file_of (words_shown asked.now).source (option_map text_shown variable.entry))
-        (in_seen H.Source K.Clock shelf.old clock.old) (in_seen H.Source K.Clock shelf.new clock.new) (outcome_shown result) }
+    ensures { Comes (IsFoundOver A.due A.makes (words_shown asked.now)
+        (in_seen H.Source K.WallClock V.Environment shelf.old clock.old environment.old)
+        (in_seen H.Source K.WallClock V.Environment shelf.new clock.new environment.new)) (X.seen exchange.old) (X.seen exchange.new) result }
 {
-    let file = file_of(asked.source, variable);
-    match moment(&asked.task, clock) {
-        Ok(now) => over_file::<A, H>(alloc, asked, &now, file, shelf),
-        Err(_) => Err(Failure::Clock),
+    let now = match moment(&asked.task, clock) {
+        Ok(now) => now,
+        Err(_) => return Err(Failure::Clock),
+    };
+    match source_file(alloc, asked.source, environment) {
+        Ok(file) => over_file::<A, H, X>(alloc, asked, &now, file.as_str(), shelf, exchange),
+        Err(ReadEnd::Failed) => Err(Failure::Environment),
+        Err(ReadEnd::TooLong) => Err(Failure::NoMemory),
+        Err(ReadEnd::NoMemory) => Err(Failure::NoMemory),
     }
 }
 
 /// What is due of what words ask.
-fn found<'w, A: Answerer, H: Shelf, K: Clock>(
+fn found<'w, A: Answerer, H: Shelf, K: WallClock, V: Environment, X: Exchange>(
     alloc: Global,
     asked: &Asked<'w>,
-    variable: Option<&'w str>,
     shelf: &mut H,
     clock: &mut K,
-) -> Result<Vec<u8>, Failure<'w>>
+    environment: &mut V,
+    exchange: &mut X,
+) -> Result<Found, Failure<'w>>
     requires { (name : List ℕ) → H.open_to shelf.old name }
-    ensures { IsFound A.due (option_map text_shown variable.entry) (words_shown asked.now)
-        (in_seen H.Source K.Clock shelf.old clock.old) (in_seen H.Source K.Clock shelf.new clock.new) (outcome_shown result) }
+    ensures { Comes (IsFound A.due A.makes (words_shown asked.now)
+        (in_seen H.Source K.WallClock V.Environment shelf.old clock.old environment.old)
+        (in_seen H.Source K.WallClock V.Environment shelf.new clock.new environment.new)) (X.seen exchange.old) (X.seen exchange.new) result }
 {
     match bare(&asked.task) {
-        Some(text) => Ok(copied(alloc, text.as_bytes())?),
-        None => over_source::<A, H, K>(alloc, asked, variable, shelf, clock),
+        Some(text) => Ok(Found::Text(copied(alloc, text.as_bytes())?)),
+        None => over_source::<A, H, K, V, X>(alloc, asked, shelf, clock, environment, exchange),
     }
 }
 
 /// What is due of words.
-pub(crate) fn find<'w, A: Answerer, H: Shelf, K: Clock>(
+pub(crate) fn find<'w, A: Answerer, H: Shelf, K: WallClock, V: Environment, X: Exchange>(
     alloc: Global,
     words: &'w [String],
-    variable: Option<&'w str>,
     shelf: &mut H,
     clock: &mut K,
-) -> Result<Vec<u8>, Failure<'w>>
+    environment: &mut V,
+    exchange: &mut X,
+) -> Result<Found, Failure<'w>>
     requires { (name : List ℕ) → H.open_to shelf.old name }
-    ensures { IsCause A.due (option_map text_shown variable.entry) (there (words_in (map string_bytes words.now)))
-        (in_seen H.Source K.Clock shelf.old clock.old) (in_seen H.Source K.Clock shelf.new clock.new) (outcome_shown result) }
+    ensures { Comes (IsCause A.due A.makes (there (words_in (map string_bytes words.now)))
+        (in_seen H.Source K.WallClock V.Environment shelf.old clock.old environment.old)
+        (in_seen H.Source K.WallClock V.Environment shelf.new clock.new environment.new)) (X.seen exchange.old) (X.seen exchange.new) result }
 {
     match take_words(alloc, words) {
-        Ok(asked) => found::<A, H, K>(alloc, &asked, variable, shelf, clock),
+        Ok(asked) => {
+            found::<A, H, K, V, X>(alloc, &asked, shelf, clock, environment, exchange)
+        }
         Err(fault) => {
             if is_of_memory(fault.cause) {
                 Err(Failure::NoMemory)

@@ -2,16 +2,16 @@
 #![tactic(auto)]
 
 mod answerer;
-mod clock;
 mod deliver;
 mod failure;
 mod find;
 mod help;
 mod running;
+mod starting;
 mod times;
 
 pub use answerer::{AnswerFault, Answerer};
-pub use clock::{Clock, SetClock, SystemClock};
 pub use failure::Failure;
 pub use running::run_zone;
+pub use starting::{ZoneStarted, start};
 pub use zone_source::{Failed, Shelf, Sink, Source, Status};

@@ -1,38 +1,38 @@
 //! The run of the command.
-ghost use Rattle.std.specs.Prelude.{ℕ, List, map, option_map, string_bytes};
-ghost use Rattle.zone_command.specs.Bare.{text_shown};
+ghost use Rattle.std.specs.Prelude.{ℕ, List, map, string_bytes};
 ghost use Rattle.zone_command.specs.Ends.{EndsZone};
 ghost use Rattle.zone_command.specs.InSeen.{zone_seen};
 ghost use Rattle.zone_words.specs.Words.{words_in};
 
 use crate::answerer::Answerer;
-use crate::clock::Clock;
-use crate::deliver::{tell_failure, write_out};
-use crate::find::find;
+use crate::deliver::{tell_end, tell_failure, write_out};
+use crate::find::{Found, find};
 use std::alloc::Global;
+use zone_outside::{Environment, Exchange, WallClock};
 use zone_source::{Shelf, Sink, Status};
 
-/// Writes what the words ask for, or tells on standard error why there is no answer. `variable` is the value of SEFUNJARO_TZDATA in the
-/// environment.
+/// Writes what the words ask for, or tells on standard error why there is no answer.
 ///
-/// It works in this order: the words; where they ask for the instant, the clock; the source's text to its end; the answer; the writing.
-/// How it ended is told by `EndsZone`.
-pub fn run_zone<A: Answerer, H: Shelf, K: Clock, O: Sink, E: Sink>(
+/// It works in this order: the words; where they ask for the instant, the clock; where they name no source, the value of
+/// SEFUNJARO_TZDATA in the environment; the source's text to its end; the answer; the writing. Where they ask for what comes in to be
+/// answered, that is read and answered after the source. How it ended is told by `EndsZone`.
+pub fn run_zone<A: Answerer, H: Shelf, K: WallClock, V: Environment, X: Exchange, E: Sink>(
     alloc: Global,
     words: &[String],
-    variable: Option<&str>,
     shelf: &mut H,
     clock: &mut K,
-    output: &mut O,
+    environment: &mut V,
+    exchange: &mut X,
     errors: &mut E,
 ) -> Status
     requires { (name : List ℕ) → H.open_to shelf.old name }
-    ensures { EndsZone A.due (option_map text_shown variable.entry) (words_in (map string_bytes words.now))
-        (zone_seen H.Source K.Clock O.Sink E.Sink shelf.old clock.old output.old errors.old)
-        (zone_seen H.Source K.Clock O.Sink E.Sink shelf.new clock.new output.new errors.new) result }
+    ensures { EndsZone A.due A.makes (words_in (map string_bytes words.now))
+        (zone_seen H.Source K.WallClock V.Environment X.Exchange E.Sink shelf.old clock.old environment.old exchange.old errors.old)
+        (zone_seen H.Source K.WallClock V.Environment X.Exchange E.Sink shelf.new clock.new environment.new exchange.new errors.new) result }
 {
-    match find::<A, H, K>(alloc, words, variable, shelf, clock) {
-        Ok(bytes) => write_out(output, &bytes),
+    match find::<A, H, K, V, X>(alloc, words, shelf, clock, environment, exchange) {
+        Ok(Found::Text(bytes)) => write_out(exchange, &bytes),
+        Ok(Found::Input(end)) => tell_end(end, errors),
         Err(failure) => tell_failure(alloc, &failure, errors),
     }
 }

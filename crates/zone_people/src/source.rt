@@ -1,0 +1,95 @@
+//! A source in any form that `zic` reads, and its zones.
+ghost use Rattle.std.specs.Prelude.{◌≡◌, ◌++◌, codes, decimal, IfOk};
+ghost use Rattle.zone_people.specs.Sources.{fault_words, is_compiled, zone_words};
+
+use itoa::Buffer;
+use sefunjaro::{AnySourceFault, OpenSource, OpenZone, ZoneFault};
+use std::alloc::{AllocError, Global};
+use zone_asking::{Refusal, ZoneSource};
+
+/// A source in any form, whose zones go on for ever where their lines do.
+#[derive(Drop)]
+pub struct AnySource {
+    source: OpenSource,
+}
+
+impl ZoneSource for AnySource {
+    ghost use Rattle.sefunjaro.specs.AnySources.{IsAnySource};
+    ghost use Rattle.sefunjaro.specs.Sources.{table_in};
+    ghost use Rattle.zone_people.specs.Sources.{IsFound, IsUnfound, IsUnread};
+
+    type Zone = OpenZone;
+
+    ghost reads = { λ text source. IsAnySource text source.source };
+
+    ghost unread = { IsUnread };
+
+    ghost finds = { λ source. IsFound (table_in source.source) };
+
+    ghost unfound = { λ source. IsUnfound (table_in source.source) };
+
+    fn open(alloc: Global, text: &[u8]) -> Result<AnySource, Refusal> {
+        if is_compiled(text) {
+            let why = b"this is a compiled file, and a source is wanted".to_vec(alloc)?;
+            return Err(Refusal::Why(why));
+        }
+        match OpenSource::open(alloc, text) {
+            Ok(source) => Ok(AnySource { source }),
+            Err(AnySourceFault::NoMemory) => Err(Refusal::NoMemory),
+            Err(fault) => Err(Refusal::Why(fault_words(alloc, &fault)?)),
+        }
+    }
+
+    fn zone(&self, alloc: Global, name: &str) -> Result<OpenZone, Refusal> {
+        match self.source.zone(alloc, name) {
+            Ok(zone) => Ok(zone),
+            Err(ZoneFault::NoMemory) => Err(Refusal::NoMemory),
+            Err(fault) => Err(Refusal::Why(zone_words(fault).to_vec(alloc)?)),
+        }
+    }
+}
+
+/// Whether a text begins as compiled files do.
+fn is_compiled(text: &[u8]) -> bool
+    ensures { result ≡ is_compiled text.now }
+{
+    text.starts_with(b"TZif")
+}
+
+/// What is told of a text that is no source.
+fn fault_words(alloc: Global, fault: &AnySourceFault) -> Result<Vec<u8>, AllocError>
+    ensures { IfOk result (λ words. words.items ≡ fault_words fault.now) }
+{
+    match fault {
+        AnySourceFault::TooLong => b"this source has more than 16,777,216 bytes".to_vec(alloc),
+        AnySourceFault::Line(number, cause) => line_words(alloc, *number, cause.name()),
+        AnySourceFault::PlainTooLong =>
+            b"this source has more than 16,777,216 bytes in plain form".to_vec(alloc),
+        AnySourceFault::Plain(_) => b"this source can't be read".to_vec(alloc),
+        AnySourceFault::NoMemory => b"out of memory".to_vec(alloc),
+    }
+}
+
+/// What is told of a line by its number and the name of its cause.
+#[tactic(auto, using(std::proofs::Common::append_assoc))]
+fn line_words(alloc: Global, number: usize, cause: &str) -> Result<Vec<u8>, AllocError>
+    ensures { IfOk result (λ words. words.items ≡ (codes "line " ++ decimal number) ++ (codes " of this source can't be read: " ++ cause.now)) }
+{
+    let mut words = b"line ".to_vec(alloc)?;
+    words.extend_from_slice(Buffer::new().format(number).as_bytes())?;
+    words.extend_from_slice(b" of this source can't be read: ")?;
+    words.extend_from_slice(cause.as_bytes())?;
+    Ok(words)
+}
+
+/// What is told of a name that finds no zone to ask.
+fn zone_words(fault: ZoneFault) -> &'static [u8]
+    ensures { result.now ≡ zone_words fault }
+{
+    match fault {
+        ZoneFault::UnknownZone => b"no zone has this name",
+        ZoneFault::Schedule(_) => b"the lines of this zone give no schedule",
+        ZoneFault::OffsetRange => b"this zone has an offset of 26 hours or more",
+        ZoneFault::NoMemory => b"out of memory",
+    }
+}

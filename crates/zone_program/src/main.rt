@@ -1,0 +1,8 @@
+//! `zone [OPTIONS] COMMAND ..`: local times, their instants and changes, for people and for other tools.
+#![tactic(auto)]
+
+use zone_people::{ZoneStarted, start};
+
+fn main(rt: HostRuntime) -> ZoneStarted {
+    start(rt)
+}
