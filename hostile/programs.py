@@ -64,6 +64,8 @@ class Program:
 
 NEW_YORK = "America/New_York"
 
+# What isn't in the table: the command for people tells its faults on standard error, and bin/try_zone tries it.
+APART = ("zone",)
 
 ANSWERS = rf"(({ZONED}( \| {ZONED})*|none)\n)*"
 
