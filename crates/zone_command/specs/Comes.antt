@@ -1,5 +1,5 @@
 -- What the code's results come to.
-use Rattle.std.specs.Prelude.{◌≡◌, ℕ, List, Result, Ok, Err, Vec}
+use Rattle.std.specs.Prelude.{◌≡◌, ℕ, Result, Ok, Err, Vec}
 use Rattle.std.specs.declared.alloc.Global.{Global}
 use Rattle.zone_outside.specs.Exchanges.{ExchangeSeen}
 use Rattle.zone_pieces.specs.Filters.{Made}

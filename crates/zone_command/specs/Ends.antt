@@ -1,6 +1,6 @@
 -- How a run ended.
-use Rattle.std.specs.Prelude.{◌≡◌, ◌⊎◌, ℕ, Bool, true, false, List, [], Option, Some, None, Result, Ok, Err, IfSome, IsErrAnd, IsOkAnd, MatchOption, ℤ, pos, unwrap_or, codes}
-use Rattle.civil_base.specs.Instants.{is_in_years}
+use Rattle.std.specs.Prelude.{◌≡◌, ◌⊎◌, ℕ, Bool, true, false, List, [], Option, Some, None, Ok, Err, IfSome, IsErrAnd, IsOkAnd, MatchOption, ℤ, pos, unwrap_or, codes}
+use Rattle.civil_base.specs.Ranges.{is_in_years}
 use Rattle.zone_command.specs.Bare.{bare, there}
 use Rattle.zone_command.specs.Due.{Answers, Makings}
 use Rattle.zone_command.specs.Failures.{Failure, refuses, bad_words, clock_fails, environment_fails, file_fails, file_long, no_memory, errors_at, errors_of, status_at, status_of}

@@ -70,7 +70,10 @@ pub(crate) fn line_of(alloc: Global, failure: &Failure<'_>) -> Result<Vec<u8>, A
         Failure::BadWords(fault) => fault_line(alloc, fault),
         Failure::Clock => copied(alloc, b"zone: the clock can't be read\n"),
         Failure::Environment => {
-            copied(alloc, b"zone: the value of SEFUNJARO_TZDATA can't be read\n")
+            copied(
+                alloc,
+                b"zone: the value of SEFUNJARO_TZDATA can't be read\n",
+            )
         }
         Failure::File(file) => file_line(alloc, file.as_str(), "this file can't be read"),
         Failure::Long(file) => file_line(

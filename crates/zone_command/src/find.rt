@@ -1,7 +1,7 @@
 //! What is due of words.
 ghost use Rattle.std.specs.Prelude.{◌≡◌, ◌⊎◌, ℕ, List, false, true, pos, map, None, option_map, string_bytes, IfOk, IfSome, IsErrOf, OnErr};
 ghost use Rattle.civil_base.specs.DateTimes.{instant};
-ghost use Rattle.civil_base.specs.Instants.{is_in_years};
+ghost use Rattle.civil_base.specs.Ranges.{is_in_years};
 ghost use Rattle.zone_outside.specs.Outside.{Rose};
 ghost use Rattle.zone_outside.specs.Seen.{shelf_seen};
 ghost use Rattle.zone_command.specs.Times.{asks_now};
@@ -227,7 +227,7 @@ fn over_source<'w, A: Answerer, H: Shelf, K: WallClock, V: Environment, X: Excha
 }
 
 /// What is due of what words ask.
-fn found<'w, A: Answerer, H: Shelf, K: WallClock, V: Environment, X: Exchange>(
+fn find_asked<'w, A: Answerer, H: Shelf, K: WallClock, V: Environment, X: Exchange>(
     alloc: Global,
     asked: &Asked<'w>,
     shelf: &mut H,
@@ -262,7 +262,7 @@ pub(crate) fn find<'w, A: Answerer, H: Shelf, K: WallClock, V: Environment, X: E
 {
     match take_words(alloc, words) {
         Ok(asked) => {
-            found::<A, H, K, V, X>(alloc, &asked, shelf, clock, environment, exchange)
+            find_asked::<A, H, K, V, X>(alloc, &asked, shelf, clock, environment, exchange)
         }
         Err(fault) => {
             if is_of_memory(fault.cause) {

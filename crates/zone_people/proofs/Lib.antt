@@ -1,1 +1,1 @@
--- Nothing is proved by hand.
+mod ViewLemmas

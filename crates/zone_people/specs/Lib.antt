@@ -1,3 +1,3 @@
 -- Definitions: what public clauses say.
 pub mod Sources
-pub mod Starts
+pub mod Views

@@ -1,8 +1,6 @@
-//! The command `zone` over the machine's own source: a source in any form that `zic` reads, zones that go on for ever, and the program.
+//! The command `zone` over the machine's own source: a source in any form that `zic` reads, and zones that go on for ever.
 #![tactic(auto)]
 
 mod source;
-mod starting;
 
 pub use source::AnySource;
-pub use starting::{ZoneStarted, start};

@@ -1,9 +1,13 @@
 //! A source in any form that `zic` reads, and its zones.
-ghost use Rattle.std.specs.Prelude.{◌≡◌, ◌++◌, codes, decimal, IfOk};
-ghost use Rattle.zone_people.specs.Sources.{fault_words, is_compiled, zone_words};
+ghost use Rattle.std.specs.Prelude.{◌≡◌, ◌++◌, codes, decimal, Ok, IfErr, IfOk};
+ghost use Rattle.sefunjaro.specs.Replies.{reply_view};
+ghost use Rattle.sefunjaro.specs.Sources.{table_in};
+ghost use Rattle.sefunjaro.specs.Zones.{ever_in, set_in};
+ghost use Rattle.zone_people.specs.Sources.{fault_words, is_compiled};
+ghost use Rattle.zone_people.specs.Views.{IsToldAs, fault_words as zone_fault_words, found_in, schedule_words};
 
 use itoa::Buffer;
-use sefunjaro::{AnySourceFault, OpenSource, OpenZone, ZoneFault};
+use sefunjaro::{AnySourceFault, OpenSource, OpenZone, SpanFault, ZoneFault};
 use std::alloc::{AllocError, Global};
 use zone_asking::{Refusal, ZoneSource};
 
@@ -16,7 +20,8 @@ pub struct AnySource {
 impl ZoneSource for AnySource {
     ghost use Rattle.sefunjaro.specs.AnySources.{IsAnySource};
     ghost use Rattle.sefunjaro.specs.Sources.{table_in};
-    ghost use Rattle.zone_people.specs.Sources.{IsFound, IsUnfound, IsUnread};
+    ghost use Rattle.zone_people.specs.Sources.{IsUnread};
+    ghost use Rattle.zone_people.specs.Views.{found_in};
 
     type Zone = OpenZone;
 
@@ -24,9 +29,7 @@ impl ZoneSource for AnySource {
 
     ghost unread = { IsUnread };
 
-    ghost finds = { λ source. IsFound (table_in source.source) };
-
-    ghost unfound = { λ source. IsUnfound (table_in source.source) };
+    ghost found = { λ source. found_in (table_in source.source) };
 
     fn open(alloc: Global, text: &[u8]) -> Result<AnySource, Refusal> {
         if is_compiled(text) {
@@ -41,11 +44,27 @@ impl ZoneSource for AnySource {
     }
 
     fn zone(&self, alloc: Global, name: &str) -> Result<OpenZone, Refusal> {
-        match self.source.zone(alloc, name) {
+        match zone_of(alloc, &self.source, name) {
             Ok(zone) => Ok(zone),
             Err(ZoneFault::NoMemory) => Err(Refusal::NoMemory),
             Err(fault) => Err(Refusal::Why(zone_words(fault).to_vec(alloc)?)),
         }
+    }
+}
+
+/// The zone of a name.
+fn zone_of(alloc: Global, source: &OpenSource, name: &str) -> Result<OpenZone, ZoneFault>
+    ensures ok { IfOk result (λ zone. found_in (table_in source.now) name.now ≡ Ok (reply_view (set_in zone) (ever_in zone))) }
+    ensures err { IfErr result (IsToldAs (found_in (table_in source.now) name.now)) }
+{
+    match source.zone(alloc, name) {
+        Ok(zone) => {
+            if let Some(ever) = zone.for_ever() {
+                let _set = ever.compact();
+            }
+            Ok(zone)
+        }
+        Err(fault) => Err(fault),
     }
 }
 
@@ -82,13 +101,28 @@ fn line_words(alloc: Global, number: usize, cause: &str) -> Result<Vec<u8>, Allo
     Ok(words)
 }
 
+/// What is told of a zone without a schedule.
+fn schedule_words(fault: SpanFault) -> &'static [u8]
+    ensures { result.now ≡ schedule_words fault }
+{
+    match fault {
+        SpanFault::UnknownRuleset => b"a line of this zone names rules that aren't there",
+        SpanFault::MissingUntil => b"a line of this zone has no end, and another follows",
+        SpanFault::YearRange => b"a line of this zone ends in no year from 1 to 9999",
+        SpanFault::RuleYears => b"a rule of this zone begins in no year",
+        SpanFault::DayRange => b"a day of this zone's lines lies in another year than theirs",
+        SpanFault::NoStandardSpan => b"no offset is known before this zone's first change",
+        SpanFault::NoMemory => b"out of memory",
+    }
+}
+
 /// What is told of a name that finds no zone to ask.
 fn zone_words(fault: ZoneFault) -> &'static [u8]
-    ensures { result.now ≡ zone_words fault }
+    ensures { result.now ≡ zone_fault_words fault }
 {
     match fault {
         ZoneFault::UnknownZone => b"no zone has this name",
-        ZoneFault::Schedule(_) => b"the lines of this zone give no schedule",
+        ZoneFault::Schedule(fault) => schedule_words(fault),
         ZoneFault::OffsetRange => b"this zone has an offset of 26 hours or more",
         ZoneFault::NoMemory => b"out of memory",
     }

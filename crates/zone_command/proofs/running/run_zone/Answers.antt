@@ -1,4 +1,5 @@
-use Rattle.std.proofs.Common.{refl, Err, inl, inr}
+use Rattle.std.proofs.Common.{refl, inl, inr}
+use Rattle.zone_command.specs.Ends.{failed}
 use Rattle.zone_command.specs.FailureShown.{failure_shown}
 use Rattle.zone_command.specs.Failures.{no_memory}
 use Rattle.zone_command.proofs.running.run_zone.Goals as goal
@@ -6,6 +7,6 @@ use Rattle.zone_command.proofs.running.run_zone.Goals as goal
 -- its line was told, or that memory ran out, which any run may come to
 pub returns-in-Err : goal.returns-in-Err
 returns-in-Err g c = elim c.tell_failure.ensures [
-  | inl told ↦ record { outcome = Err (failure_shown c.in-Err.failure); cause = c.in-Err.ensures; delivered = (told, refl) }
-  | inr short ↦ record { outcome = Err no_memory; cause = inr (inr refl); delivered = (short, refl) }
+  | inl told ↦ record { outcome = failed (failure_shown c.in-Err.failure); cause = c.in-Err.ensures.0; delivered = (told, c.in-Err.ensures.1) }
+  | inr short ↦ record { outcome = failed no_memory; cause = inr (inr refl); delivered = (short, c.in-Err.ensures.1) }
 ]
