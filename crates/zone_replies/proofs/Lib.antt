@@ -1,4 +1,3 @@
-pub mod DueLemmas
 pub mod InstantLemmas
 pub mod ListLemmas
 pub mod LocalLemmas

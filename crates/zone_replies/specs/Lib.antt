@@ -9,3 +9,5 @@ pub mod Objects
 pub mod Readings
 pub mod Skips
 pub mod Views
+-- Laws: what a caller may use.
+pub mod DueLaws

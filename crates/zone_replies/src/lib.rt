@@ -17,6 +17,7 @@ pub use fault::ReplyFault;
 pub use fixed::FixedZone;
 pub use force::Force;
 pub use kind::Kind;
-pub use line::Style;
+pub use line::{Style, is_untold};
 pub use readings::{add_at, add_converted, add_local};
+pub use skip::skipping;
 pub use view::ReplyZone;

@@ -93,7 +93,7 @@ fn add_whole<Z: ReplyZone>(
 }
 
 /// Whether a local time lies past the last year that a zone is told for.
-pub(crate) fn is_untold<Z: ReplyZone>(zone: &Z, local: &PlainDateTime) -> bool
+pub fn is_untold<Z: ReplyZone>(zone: &Z, local: &PlainDateTime) -> bool
     ensures { result ≡ is_untold (Z.view zone.now) local.now }
 {
     zone.last_year() < local.year()

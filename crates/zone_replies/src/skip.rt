@@ -64,9 +64,14 @@ fn first_skipping<Z: ReplyZone>(zone: &Z, local: &PlainDateTime, changes: &[i64]
         .find(|second| skips(zone, local, *second))
 }
 
-/// Of the changes within 26 hours the first that skips a local time.
+/// Of a zone's changes within 26 hours the first that skips a local time: the seconds of it from 1970-01-01 00:00:00 UTC. There is none
+/// exactly where no change does.
+///
+/// # Errors
+///
+/// Want of memory alone.
 #[tactic(auto, unfolding(crate::specs::Skips::skipping))]
-pub(crate) fn skipping<Z: ReplyZone>(
+pub fn skipping<Z: ReplyZone>(
     alloc: Global,
     zone: &Z,
     local: &PlainDateTime,

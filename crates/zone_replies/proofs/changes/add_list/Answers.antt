@@ -2,7 +2,7 @@ use Rattle.std.proofs.Common.{◌≡◌, ◌++◌, to_z, of_z, to_z-of_z, FitsSi
 use Rattle.std.proofs.lemmas.Result.{err_from_is_err_and}
 use Rattle.zone_replies.specs.Faults.{behind}
 use Rattle.zone_replies.specs.Lists.{second_from}
-use Rattle.zone_replies.proofs.DueLemmas.{moved, whole}
+use Rattle.zone_replies.specs.DueLaws.{moved, whole}
 use Rattle.zone_replies.proofs.ListLemmas.{list_is}
 use Rattle.zone_replies.proofs.LocalLemmas.{at_utc}
 use Rattle.zone_replies.proofs.changes.add_list.Goals as goal

@@ -4,7 +4,7 @@ use Rattle.civil_base.specs.DateTimes.{instant}
 use Rattle.zone_replies.specs.Faults.{Due, behind}
 use Rattle.zone_replies.specs.Instants.{shown_due}
 use Rattle.zone_replies.specs.Readings.{after_each}
-use Rattle.zone_replies.proofs.DueLemmas.{loop_end, loop_fault, loop_more}
+use Rattle.zone_replies.specs.DueLaws.{loop_end, loop_fault, loop_more}
 use Rattle.zone_replies.proofs.readings.add_after.Goals as goal
 
 pub returns-in_err-add_behind-clause-err : goal.returns-in_err-add_behind-clause-err

@@ -3,7 +3,7 @@ use Rattle.std.proofs.lemmas.Result.{err_from_is_err_and}
 use Rattle.civil_base.specs.DateTimes.{instant}
 use Rattle.zone_replies.specs.Faults.{behind}
 use Rattle.zone_replies.specs.Instants.{kind_at, IsKindFor}
-use Rattle.zone_replies.proofs.DueLemmas.{moved, whole}
+use Rattle.zone_replies.specs.DueLaws.{moved, whole}
 use Rattle.zone_replies.proofs.InstantLemmas.{at_is}
 use Rattle.zone_replies.proofs.readings.add_at.Goals as goal
 

@@ -42,12 +42,12 @@ pub after_fault : (text : List ℕ) (d : Due) (f : ReplyFault) → IsFaultOf d f
 after_fault text d f e = pass d (behind text d) (λ g h. ap (behind text) h) f e
 
 -- what is left after one of a list
-stepped : (now new : List ℕ) (d r : Due) → Ok new ≡ behind now d → behind new r ≡ behind now (followed d r)
+pub stepped : (now new : List ℕ) (d r : Due) → Ok new ≡ behind now d → behind new r ≡ behind now (followed d r)
 stepped now new (Ok p) (Ok q) e = ap (λ n. Ok (n ++ q)) (inside new (now ++ p) e) ∙ ap Ok (append_assoc now p q)
 stepped now new (Ok p) (Err f) e = refl
 stepped now new (Err f) r e = no_ok new f e
 
-behind_err : (old : List ℕ) (d : Due) (f : ReplyFault) → behind old d ≡ Err f → d ≡ Err f
+pub behind_err : (old : List ℕ) (d : Due) (f : ReplyFault) → behind old d ≡ Err f → d ≡ Err f
 behind_err old (Ok p) f e = no_ok (old ++ p) f e
 behind_err old (Err g) f e = e
 
