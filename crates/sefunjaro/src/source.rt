@@ -145,7 +145,7 @@ impl OpenSource {
     }
 
     /// The table of its lines.
-    pub(crate) fn table(&self) -> &Table
+    pub fn table(&self) -> &Table
         ensures same { result.now ≡ table_in self.now }
         ensures bounded { IsBoundedTable result.now }
     {
@@ -169,6 +169,13 @@ impl OpenSource {
         ensures { result ≡ length (names_of (table_in self.now)) }
     {
         self.names.len()
+    }
+
+    /// The names that find a zone, in byte order.
+    pub fn names(&self) -> &Items<Text>
+        ensures { result.now ≡ names_of (table_in self.now) }
+    {
+        &self.names
     }
 
     /// The name at a place of their byte order, which counts from 0, if there are so many.

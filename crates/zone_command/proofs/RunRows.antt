@@ -59,10 +59,10 @@ worked_ends = refl
 abbrev tasks : List (TaskAsked × (Bool × Option (List ℕ)))
 tasks =
     (at_instants [] (Some (pos 1) ∷ None ∷ []), (true, None)) ∷ (at_instants [] (Some (pos 1) ∷ []), (false, None)) ∷
-    (list_changes [] (Some (pos 1)) None, (true, Some (codes "list"))) ∷ (local_time [] (pos 1), (false, None)) ∷
+    (list_changes [] (Some (pos 1)) None, (true, None)) ∷ (local_time [] (pos 1), (false, None)) ∷
     (help None, (false, None)) ∷ (help (Some At), (false, None)) ∷ (help (Some Chart), (false, Some (codes "chart"))) ∷
-    (version, (false, None)) ∷ (names None, (false, Some (codes "names"))) ∷ (stream true, (false, Some (codes "stream"))) ∷
-    (tree, (false, Some (codes "tree"))) ∷ []
+    (version, (false, None)) ∷ (names None, (false, None)) ∷ (stream true, (false, None)) ∷
+    (tree, (false, None)) ∷ []
 
 worked_tasks : map (λ row. (asks_now row.0, absent row.0)) tasks ≡ map (λ row. row.1) tasks
 worked_tasks = refl

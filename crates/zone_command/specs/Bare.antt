@@ -6,7 +6,7 @@ use Rattle.zone_words.specs.Tasks.{TaskAsked, WordsAsked, help, version, at_inst
 use Rattle.zone_words.specs.declared.command.Command.{Command}
 use Rattle.zone_words.specs.declared.command.Command.TheVariants as command
 use Rattle.zone_words.specs.declared.fault.WordCause.TheVariants.{UnknownCommand}
-use Rattle.zone_command.specs.declared.help.TheConstants.{VERSION, HELP, HELP_AT, HELP_LOCAL, HELP_CONVERT}
+use Rattle.zone_command.specs.declared.help.TheConstants.{VERSION, HELP, HELP_AT, HELP_LOCAL, HELP_CONVERT, HELP_LIST, HELP_ALARM, HELP_NAMES, HELP_STREAM, HELP_LOG, HELP_TREE, HELP_FILE, HELP_STRING, HELP_CHART}
 
 abbrev pub text_shown : Bor (List ℕ) → List ℕ
 text_shown text = text.now
@@ -15,7 +15,15 @@ abbrev pub help_of : Command → List ℕ
 help_of command.At = HELP_AT.now
 help_of command.Local = HELP_LOCAL.now
 help_of command.Convert = HELP_CONVERT.now
-help_of _ = HELP.now
+help_of command.List = HELP_LIST.now
+help_of command.Alarm = HELP_ALARM.now
+help_of command.Names = HELP_NAMES.now
+help_of command.Stream = HELP_STREAM.now
+help_of command.Log = HELP_LOG.now
+help_of command.Tree = HELP_TREE.now
+help_of command.File = HELP_FILE.now
+help_of command.String = HELP_STRING.now
+help_of command.Chart = HELP_CHART.now
 
 abbrev pub help_text : Option Command → List ℕ
 help_text None = HELP.now
@@ -59,10 +67,8 @@ name_of command.String = codes "string"
 name_of command.Chart = codes "chart"
 
 abbrev pub is_there : Command → Bool
-is_there command.At = true
-is_there command.Local = true
-is_there command.Convert = true
-is_there _ = false
+is_there command.Chart = false
+is_there _ = true
 
 abbrev pub absent_of : Option Command → Option (List ℕ)
 absent_of None = None

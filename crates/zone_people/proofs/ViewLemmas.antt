@@ -24,7 +24,7 @@ use Rattle.zone_spans.specs.declared.span.FixedTimespanSet as spans
 use Rattle.zone_table.specs.Resolved.{resolved_in}
 use Rattle.zone_table.specs.declared.table.Table.{Table}
 use Rattle.zone_table.specs.declared.zone.ZoneInfo.{ZoneInfo}
-use Rattle.zone_people.specs.Views.{ever_set, found_in, if_in_range, named_set, range_words, schedule_words, unknown_words, view_by, view_in, view_of, IsToldAs}
+use Rattle.zone_people.specs.Views.{ever_by, ever_found, ever_set, found_in, if_in_range, named_set, range_words, schedule_words, unknown_words, view_by, view_in, view_of, IsToldAs}
 
 if_true : {A : Type 0} (b : Bool) (x y : A) → b ≡ true → (if b then x else y) ≡ x
 if_true true x y is = refl
@@ -39,10 +39,6 @@ renamed : (set : FixedTimespanSet) (name : List ℕ) → set.name ≡ name → n
 renamed set name is = ap (λ n. record { name = n; first = set.first; others = set.others }) (sym is)
 
 -- ---- for ever
-ever_by : Rulesets → List ℕ → Option (List ZoneInfo) → Option FixedTimespanSet
-ever_by rulesets name None = None
-ever_by rulesets name (Some infos) = ever_set rulesets name infos
-
 ending : (rulesets : Rulesets) (name : List ℕ) (infos : List ZoneInfo) → goes_on (zone_lines rulesets infos) ≡ false
     → ever_set rulesets name infos ≡ None
 ending rulesets name infos ends =
@@ -91,9 +87,6 @@ ever_goes table name set is range =
     ∙ if_true (is_in_offset_range (totals_of (spans_of set))) (Some (named_set name (spans_of set))) None range
     ∙ ap Some (renamed set name is.named)
 
-AreAccepted : Option EverSet → Type 0
-AreAccepted found = IfSome found (λ ever. IsAccepted (schedule_of (ever_seen ever)))
-
 ever_as : (table : Table) (name : List ℕ) (found : Option EverSet) → GoesOnAs table name found
     → IfSome found (λ ever. IsAccepted (schedule_of (ever_seen ever)))
     → ever_by (get table.rulesets) name (resolved_in table name) ≡ option_map ever_seen found
@@ -103,6 +96,11 @@ ever_as table name None goes accepted = elim goes [
 ]
 ever_as table name (Some ever) goes accepted = ever_goes table name (ever_seen ever) goes accepted.range
 
+pub ever_is : (table : Table) (name : List ℕ) (found : Option EverSet) → GoesOnAs table name found
+    → IfSome found (λ ever. IsAccepted (schedule_of (ever_seen ever))) → ever_found table name ≡ option_map ever_seen found
+unfolding ever_found
+ever_is table name found goes accepted = ever_as table name found goes accepted
+
 -- ---- the zone
 seen_as : (set : FixedTimespanSet) (found : Option EverSet) → view_of set (option_map ever_seen found) ≡ reply_view set found
 seen_as set None = refl
@@ -110,9 +108,9 @@ seen_as set (Some ever) = refl
 
 viewed : (rulesets : Rulesets) (name : List ℕ) (infos : List ZoneInfo) (set : FixedTimespanSet) (ever : Option FixedTimespanSet)
     → compiled rulesets infos ≡ Ok (spans_of set) → IsTrue (is_in_offset_range (schedule_of set)) → set.name ≡ name
-    → ever_set rulesets name infos ≡ ever → view_in rulesets name (Some infos) ≡ Ok (view_of set ever)
+    → ever_set rulesets name infos ≡ ever → (unknown : List ℕ) → view_in unknown rulesets name (Some infos) ≡ Ok (view_of set ever)
 unfolding totals_of
-viewed rulesets name infos set ever compiles range named is =
+viewed rulesets name infos set ever compiles range named is unknown =
     ap (view_by rulesets name infos) compiles
     ∙ if_true (is_in_offset_range (totals_of (spans_of set))) (Ok (view_of (named_set name (spans_of set)) (ever_set rulesets name infos))) (Err range_words) range
     ∙ ap (λ s. Ok (view_of s (ever_set rulesets name infos))) (renamed set name named)
@@ -128,8 +126,8 @@ found_as table name zone opened accepted goes ever_accepted =
     let lines = with_lines (compiled rulesets) (resolved_in table name) (Ok (spans_of (set_in zone))) opened.1 in
     let infos = lines.0 in
     let ever = sym (ap (ever_by rulesets name) lines.1) ∙ ever_as table name (ever_in zone) goes ever_accepted in
-    ap (view_in rulesets name) lines.1
-    ∙ viewed rulesets name infos (set_in zone) (option_map ever_seen (ever_in zone)) lines.2 accepted.range opened.0 ever
+    ap (view_in (unknown_words table name) rulesets name) lines.1
+    ∙ viewed rulesets name infos (set_in zone) (option_map ever_seen (ever_in zone)) lines.2 accepted.range opened.0 ever (unknown_words table name)
     ∙ ap Ok (seen_as (set_in zone) (ever_in zone))
 
 -- ---- no zone
@@ -137,10 +135,10 @@ none_mapped : {A : Type 0} (f : List ZoneInfo → A) (found : Option (List ZoneI
 none_mapped f None is = refl
 none_mapped f (Some infos) is = absurd cc
 
-pub unknown_as : (table : Table) (name : List ℕ) → compiled_in table name ≡ None → found_in table name ≡ Err unknown_words
+pub unknown_as : (table : Table) (name : List ℕ) → compiled_in table name ≡ None → found_in table name ≡ Err (unknown_words table name)
 unfolding found_in
 unknown_as table name is =
-    ap (view_in (get table.rulesets) name) (none_mapped (compiled (get table.rulesets)) (resolved_in table name) is)
+    ap (view_in (unknown_words table name) (get table.rulesets) name) (none_mapped (compiled (get table.rulesets)) (resolved_in table name) is)
 
 pub schedule_as : (table : Table) (name : List ℕ) (fault : SpanFault) → compiled_in table name ≡ Some (Err fault)
     → found_in table name ≡ Err (schedule_words fault)
@@ -148,18 +146,18 @@ unfolding found_in
 schedule_as table name fault is =
     let rulesets = get table.rulesets in
     let lines = with_lines (compiled rulesets) (resolved_in table name) (Err fault) is in
-    ap (view_in rulesets name) lines.1 ∙ ap (view_by rulesets name lines.0) lines.2
+    ap (view_in (unknown_words table name) rulesets name) lines.1 ∙ ap (view_by rulesets name lines.0) lines.2
 
 pub far_as : (table : Table) (name : List ℕ) → IsTooFar (compiled_in table name) → found_in table name ≡ Err range_words
 unfolding found_in
 far_as table name far =
     let rulesets = get table.rulesets in
     let lines = with_lines (compiled rulesets) (resolved_in table name) (Ok far.set) far.is_found in
-    ap (view_in rulesets name) lines.1
+    ap (view_in (unknown_words table name) rulesets name) lines.1
     ∙ ap (view_by rulesets name lines.0) lines.2
     ∙ if_false (is_in_offset_range (totals_of far.set)) (Ok (view_of (named_set name far.set) (ever_set rulesets name lines.0))) (Err range_words) far.far
 
-pub told_as : (table : Table) (name : List ℕ) (fault : ZoneFault) → IsZoneFault (compiled_in table name) fault → IsToldAs (found_in table name) fault
+pub told_as : (table : Table) (name : List ℕ) (fault : ZoneFault) → IsZoneFault (compiled_in table name) fault → IsToldAs table name fault
 told_as table name zone_fault.UnknownZone is = unknown_as table name is
 told_as table name (zone_fault.Schedule fault) is = schedule_as table name fault is.0
 told_as table name zone_fault.OffsetRange is = far_as table name is

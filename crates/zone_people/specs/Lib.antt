@@ -1,3 +1,4 @@
 -- Definitions: what public clauses say.
 pub mod Sources
 pub mod Views
+pub mod Wholes

@@ -1,15 +1,19 @@
 -- What is seen of the zone that a name finds in a table, or why there is none to ask.
 use Rattle.std.specs.Prelude.{◌≡◌, ℕ, ℤ, pos, List, map, Bool, Option, Some, None, Result, Ok, Err, codes, if◌then◌else◌}
-use Rattle.std.specs.FinMap.{get}
+use Rattle.std.specs.FinMap.{contains_key, get}
 use Rattle.sefunjaro.specs.Changes.{window}
 use Rattle.sefunjaro.specs.Replies.{differing, force_of, span_on}
 use Rattle.tz_ever.specs.Ever.{ever_total}
 use Rattle.tz_ever.specs.ForEver.{ever_years}
 use Rattle.tz_ever.specs.Unrolled.{unrolled}
+use Rattle.tz_lookup.specs.Databases.{names_of}
 use Rattle.tz_zone.specs.Sets.{schedule_of}
 use Rattle.tz_zone.specs.declared.compile.ZoneFault.{ZoneFault}
 use Rattle.tz_zone.specs.declared.compile.ZoneFault.TheVariants as zone_fault
 use Rattle.tz_zone.specs.declared.set.FixedTimespanSet.{FixedTimespanSet}
+use Rattle.zone_names.specs.Near.{near_names}
+use Rattle.zone_names.specs.Seen.{NameSeen}
+use Rattle.zone_names.specs.Unknown.{unknown_text}
 use Rattle.zone_replies.specs.Views.{ZoneView}
 use Rattle.zone_spans.specs.Compiled.{compiled, compiled_over}
 use Rattle.zone_spans.specs.GoesOn.{goes_on}
@@ -60,8 +64,16 @@ view_of set ever = record {
 }
 
 -- what is told of a name that finds no zone to ask
-abbrev pub unknown_words : List ℕ
-unknown_words = codes "no zone has this name"
+-- a name, and the name that it leads to where it is a link's
+abbrev pub entry_of : Table → List ℕ → NameSeen
+entry_of table name = record { name = name; zone = if contains_key table.zonesets name then None else get table.links name }
+
+-- the names that find a zone, in byte order
+abbrev pub entries_of : Table → List NameSeen
+entries_of table = map (entry_of table) (names_of table)
+
+unfoldable pub unknown_words : Table → List ℕ → List ℕ
+unknown_words table name = unknown_text (near_names (entries_of table) name)
 
 abbrev pub schedule_words : SpanFault → List ℕ
 schedule_words UnknownRuleset = codes "a line of this zone names rules that aren't there"
@@ -80,24 +92,25 @@ view_by rulesets name infos (Ok found) =
     if is_in_offset_range (totals_of found) then Ok (view_of (named_set name found) (ever_set rulesets name infos)) else Err range_words
 view_by rulesets name infos (Err fault) = Err (schedule_words fault)
 
-abbrev pub view_in : Rulesets → List ℕ → Option (List ZoneInfo) → Result ZoneView (List ℕ)
-view_in rulesets name None = Err unknown_words
-view_in rulesets name (Some infos) = view_by rulesets name infos (compiled rulesets infos)
+abbrev pub view_in : List ℕ → Rulesets → List ℕ → Option (List ZoneInfo) → Result ZoneView (List ℕ)
+view_in unknown rulesets name None = Err unknown
+view_in unknown rulesets name (Some infos) = view_by rulesets name infos (compiled rulesets infos)
 
 -- the zone of a name: it goes on for ever where its lines do
 unfoldable pub found_in : Table → List ℕ → Result ZoneView (List ℕ)
-found_in table name = view_in (get table.rulesets) name (resolved_in table name)
+found_in table name = view_in (unknown_words table name) (get table.rulesets) name (resolved_in table name)
 
--- the words that are told of a fault
-abbrev pub fault_words : ZoneFault → List ℕ
-fault_words zone_fault.UnknownZone = unknown_words
-fault_words (zone_fault.Schedule fault) = schedule_words fault
-fault_words zone_fault.OffsetRange = range_words
-fault_words zone_fault.NoMemory = codes "out of memory"
+-- what the lines of a name put in force for ever, if they go on
+abbrev pub ever_by : Rulesets → List ℕ → Option (List ZoneInfo) → Option FixedTimespanSet
+ever_by rulesets name None = None
+ever_by rulesets name (Some infos) = ever_set rulesets name infos
+
+unfoldable pub ever_found : Table → List ℕ → Option FixedTimespanSet
+ever_found table name = ever_by (get table.rulesets) name (resolved_in table name)
 
 -- a fault tells why a name finds none; want of memory may come in place of any
-abbrev pub IsToldAs : Result ZoneView (List ℕ) → ZoneFault → Type 0
-IsToldAs found zone_fault.UnknownZone = found ≡ Err unknown_words
-IsToldAs found (zone_fault.Schedule fault) = found ≡ Err (schedule_words fault)
-IsToldAs found zone_fault.OffsetRange = found ≡ Err range_words
-IsToldAs found zone_fault.NoMemory = Unit {0}
+abbrev pub IsToldAs : Table → List ℕ → ZoneFault → Type 0
+IsToldAs table name zone_fault.UnknownZone = found_in table name ≡ Err (unknown_words table name)
+IsToldAs table name (zone_fault.Schedule fault) = found_in table name ≡ Err (schedule_words fault)
+IsToldAs table name zone_fault.OffsetRange = found_in table name ≡ Err range_words
+IsToldAs table name zone_fault.NoMemory = Unit {0}

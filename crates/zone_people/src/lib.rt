@@ -2,5 +2,6 @@
 #![tactic(auto)]
 
 mod source;
+mod words;
 
 pub use source::AnySource;

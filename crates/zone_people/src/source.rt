@@ -1,15 +1,25 @@
-//! A source in any form that `zic` reads, and its zones.
-ghost use Rattle.std.specs.Prelude.{◌≡◌, ◌++◌, codes, decimal, Ok, IfErr, IfOk};
+//! A source in any form that `zic` reads: its names, its zones, their files and strings, and the tree.
+ghost use Rattle.std.specs.Prelude.{◌≡◌, map, option_map, Ok, Err, IfErr, IfOk};
 ghost use Rattle.sefunjaro.specs.Replies.{reply_view};
 ghost use Rattle.sefunjaro.specs.Sources.{table_in};
 ghost use Rattle.sefunjaro.specs.Zones.{ever_in, set_in};
-ghost use Rattle.zone_people.specs.Sources.{fault_words, is_compiled};
-ghost use Rattle.zone_people.specs.Views.{IsToldAs, fault_words as zone_fault_words, found_in, schedule_words};
+ghost use Rattle.tz_ever.specs.EverShown.{ever_seen};
+ghost use Rattle.zone_asking.specs.Refusals.{IsGiven, IsTold};
+ghost use Rattle.zone_names.specs.Seen.{name_seen};
+ghost use Rattle.zone_people.specs.Sources.{is_compiled};
+ghost use Rattle.zone_people.specs.Views.{IsToldAs, entries_of, entry_of, ever_found, found_in, unknown_words};
+ghost use Rattle.zone_people.specs.Wholes.{IsFileOf, IsStringOf};
 
-use itoa::Buffer;
-use sefunjaro::{AnySourceFault, OpenSource, OpenZone, SpanFault, ZoneFault};
+use crate::words::{fault_words, file_words, schedule_words, tail_words, why_words};
+use sefunjaro::{
+    AnySourceFault, EverFileFault, EverSet, EverTailFault, OpenSource, OpenZone, Table, TreeFault,
+    ZoneFault, tail_for_ever, tzif_for_ever,
+};
 use std::alloc::{AllocError, Global};
-use zone_asking::{Refusal, ZoneSource};
+use zone_asking::{Refusal, ZoneSource, add_named};
+use zone_names::{NameEntry, add_unknown, near_names};
+use zone_tree::tree_of_table_for_ever;
+use zone_tzif_set::FileFault;
 
 /// A source in any form, whose zones go on for ever where their lines do.
 #[derive(Drop)]
@@ -19,9 +29,10 @@ pub struct AnySource {
 
 impl ZoneSource for AnySource {
     ghost use Rattle.sefunjaro.specs.AnySources.{IsAnySource};
-    ghost use Rattle.sefunjaro.specs.Sources.{table_in};
+    ghost use Rattle.sefunjaro.specs.Sources.{release_in, table_in};
     ghost use Rattle.zone_people.specs.Sources.{IsUnread};
-    ghost use Rattle.zone_people.specs.Views.{found_in};
+    ghost use Rattle.zone_people.specs.Views.{entries_of, found_in};
+    ghost use Rattle.zone_people.specs.Wholes.{IsFileOf, IsStringOf, IsTreeOf, IsWhole};
 
     type Zone = OpenZone;
 
@@ -30,6 +41,14 @@ impl ZoneSource for AnySource {
     ghost unread = { IsUnread };
 
     ghost found = { λ source. found_in (table_in source.source) };
+
+    ghost entries = { λ source. entries_of (table_in source.source) };
+
+    ghost files = { λ source. IsWhole IsFileOf (table_in source.source) };
+
+    ghost strings = { λ source. IsWhole IsStringOf (table_in source.source) };
+
+    ghost trees = { λ source. IsTreeOf (release_in source.source) (table_in source.source) };
 
     fn open(alloc: Global, text: &[u8]) -> Result<AnySource, Refusal> {
         if is_compiled(text) {
@@ -44,18 +63,95 @@ impl ZoneSource for AnySource {
     }
 
     fn zone(&self, alloc: Global, name: &str) -> Result<OpenZone, Refusal> {
-        match zone_of(alloc, &self.source, name) {
-            Ok(zone) => Ok(zone),
-            Err(ZoneFault::NoMemory) => Err(Refusal::NoMemory),
-            Err(fault) => Err(Refusal::Why(zone_words(fault).to_vec(alloc)?)),
+        zone_of(alloc, &self.source, name)
+    }
+
+    fn entries(&self, alloc: Global) -> Result<Vec<NameEntry<'_>>, AllocError> {
+        entries_of(alloc, &self.source)
+    }
+
+    fn file(&self, alloc: Global, name: &str) -> Result<Vec<u8>, Refusal> {
+        let zone = zone_of(alloc, &self.source, name)?;
+        match zone.for_ever() {
+            Some(ever) => file_of(alloc, ever),
+            None => Err(Refusal::Why(ENDING.to_vec(alloc)?)),
+        }
+    }
+
+    fn string(&self, alloc: Global, name: &str) -> Result<Vec<u8>, Refusal> {
+        let zone = zone_of(alloc, &self.source, name)?;
+        match zone.for_ever() {
+            Some(ever) => string_of(alloc, ever),
+            None => Err(Refusal::Why(ENDING.to_vec(alloc)?)),
+        }
+    }
+
+    fn tree(&self, alloc: Global) -> Result<Vec<u8>, Refusal> {
+        match tree_of_table_for_ever(alloc, self.source.release(), self.source.table()) {
+            Ok(bytes) => Ok(bytes),
+            Err(TreeFault::Refused(name, why)) => {
+                let mut words = Vec::new(alloc);
+                add_named(&mut words, name.as_str(), why_words(why))?;
+                Err(Refusal::Why(words))
+            }
+            Err(TreeFault::Source(_)) => Err(Refusal::NoMemory),
+            Err(TreeFault::NoMemory) => Err(Refusal::NoMemory),
         }
     }
 }
 
-/// The zone of a name.
-fn zone_of(alloc: Global, source: &OpenSource, name: &str) -> Result<OpenZone, ZoneFault>
+/// What is told of a zone that doesn't go on.
+const ENDING: &[u8] = b"the rules of this zone end, so it doesn't go on for ever";
+
+/// Whether a text begins as compiled files do.
+fn is_compiled(text: &[u8]) -> bool
+    ensures { result ≡ is_compiled text.now }
+{
+    text.starts_with(b"TZif")
+}
+
+/// A name, and the name that it leads to where it is a link's.
+fn entry_of<'s>(table: &'s Table, name: &'s str) -> NameEntry<'s>
+    ensures { name_seen result ≡ entry_of table.now name.now }
+{
+    let zone = if table.zonesets.contains_key(name) {
+        None
+    } else {
+        match table.links.get(name) {
+            Some(zone) => Some(zone.as_str()),
+            None => None,
+        }
+    };
+    NameEntry { name, zone }
+}
+
+/// The names that find a zone, in byte order.
+fn entries_of<'s>(alloc: Global, source: &'s OpenSource) -> Result<Vec<NameEntry<'s>>, AllocError>
+    ensures { IfOk result (λ entries. map name_seen entries.items ≡ entries_of (table_in source.now)) }
+{
+    let mut entries = Vec::new(alloc);
+    for name in source.names().iter() {
+        entries.push(entry_of(source.table(), name.as_str()))?;
+    }
+    Ok(entries)
+}
+
+/// What is told of a name that finds no zone.
+fn unknown_words(alloc: Global, source: &OpenSource, name: &str) -> Result<Vec<u8>, AllocError>
+    ensures { IfOk result (λ words. words.items ≡ unknown_words (table_in source.now) name.now) }
+{
+    let entries = entries_of(alloc, source)?;
+    let near = near_names(alloc, &entries, name)?;
+    let mut words = Vec::new(alloc);
+    add_unknown(&mut words, alloc, &near)?;
+    Ok(words)
+}
+
+/// The zone of a name, or the fault that keeps it from being asked.
+fn opened(alloc: Global, source: &OpenSource, name: &str) -> Result<OpenZone, ZoneFault>
     ensures ok { IfOk result (λ zone. found_in (table_in source.now) name.now ≡ Ok (reply_view (set_in zone) (ever_in zone))) }
-    ensures err { IfErr result (IsToldAs (found_in (table_in source.now) name.now)) }
+    ensures ever { IfOk result (λ zone. ever_found (table_in source.now) name.now ≡ option_map ever_seen (ever_in zone)) }
+    ensures err { IfErr result (IsToldAs (table_in source.now) name.now) }
 {
     match source.zone(alloc, name) {
         Ok(zone) => {
@@ -68,62 +164,48 @@ fn zone_of(alloc: Global, source: &OpenSource, name: &str) -> Result<OpenZone, Z
     }
 }
 
-/// Whether a text begins as compiled files do.
-fn is_compiled(text: &[u8]) -> bool
-    ensures { result ≡ is_compiled text.now }
+/// The zone of a name.
+fn zone_of(alloc: Global, source: &OpenSource, name: &str) -> Result<OpenZone, Refusal>
+    ensures ok { IfOk result (λ zone. found_in (table_in source.now) name.now ≡ Ok (reply_view (set_in zone) (ever_in zone))) }
+    ensures ever { IfOk result (λ zone. ever_found (table_in source.now) name.now ≡ option_map ever_seen (ever_in zone)) }
+    ensures err { IfErr result (IsTold (λ why. found_in (table_in source.now) name.now ≡ Err why)) }
 {
-    text.starts_with(b"TZif")
-}
-
-/// What is told of a text that is no source.
-fn fault_words(alloc: Global, fault: &AnySourceFault) -> Result<Vec<u8>, AllocError>
-    ensures { IfOk result (λ words. words.items ≡ fault_words fault.now) }
-{
-    match fault {
-        AnySourceFault::TooLong => b"this source has more than 16,777,216 bytes".to_vec(alloc),
-        AnySourceFault::Line(number, cause) => line_words(alloc, *number, cause.name()),
-        AnySourceFault::PlainTooLong =>
-            b"this source has more than 16,777,216 bytes in plain form".to_vec(alloc),
-        AnySourceFault::Plain(_) => b"this source can't be read".to_vec(alloc),
-        AnySourceFault::NoMemory => b"out of memory".to_vec(alloc),
+    match opened(alloc, source, name) {
+        Ok(zone) => Ok(zone),
+        Err(ZoneFault::UnknownZone) => Err(Refusal::Why(unknown_words(alloc, source, name)?)),
+        Err(ZoneFault::Schedule(fault)) => {
+            Err(Refusal::Why(schedule_words(fault).to_vec(alloc)?))
+        }
+        Err(ZoneFault::OffsetRange) => Err(Refusal::Why(
+            b"this zone has an offset of 26 hours or more".to_vec(alloc)?,
+        )),
+        Err(ZoneFault::NoMemory) => Err(Refusal::NoMemory),
     }
 }
 
-/// What is told of a line by its number and the name of its cause.
-#[tactic(auto, using(std::proofs::Common::append_assoc))]
-fn line_words(alloc: Global, number: usize, cause: &str) -> Result<Vec<u8>, AllocError>
-    ensures { IfOk result (λ words. words.items ≡ (codes "line " ++ decimal number) ++ (codes " of this source can't be read: " ++ cause.now)) }
+/// The file of a zone that goes on.
+fn file_of(alloc: Global, ever: &EverSet) -> Result<Vec<u8>, Refusal>
+    ensures { IsGiven (IsFileOf (ever_seen ever.now)) result }
 {
-    let mut words = b"line ".to_vec(alloc)?;
-    words.extend_from_slice(Buffer::new().format(number).as_bytes())?;
-    words.extend_from_slice(b" of this source can't be read: ")?;
-    words.extend_from_slice(cause.as_bytes())?;
-    Ok(words)
-}
-
-/// What is told of a zone without a schedule.
-fn schedule_words(fault: SpanFault) -> &'static [u8]
-    ensures { result.now ≡ schedule_words fault }
-{
-    match fault {
-        SpanFault::UnknownRuleset => b"a line of this zone names rules that aren't there",
-        SpanFault::MissingUntil => b"a line of this zone has no end, and another follows",
-        SpanFault::YearRange => b"a line of this zone ends in no year from 1 to 9999",
-        SpanFault::RuleYears => b"a rule of this zone begins in no year",
-        SpanFault::DayRange => b"a day of this zone's lines lies in another year than theirs",
-        SpanFault::NoStandardSpan => b"no offset is known before this zone's first change",
-        SpanFault::NoMemory => b"out of memory",
+    match tzif_for_ever(alloc, ever) {
+        Ok(file) => Ok(file),
+        Err(EverFileFault::Footer(EverTailFault::NoMemory)) => Err(Refusal::NoMemory),
+        Err(EverFileFault::File(FileFault::NoMemory)) => Err(Refusal::NoMemory),
+        Err(fault) => Err(Refusal::Why(file_words(fault).to_vec(alloc)?)),
     }
 }
 
-/// What is told of a name that finds no zone to ask.
-fn zone_words(fault: ZoneFault) -> &'static [u8]
-    ensures { result.now ≡ zone_fault_words fault }
+/// The line of the string that carries a zone on.
+fn string_of(alloc: Global, ever: &EverSet) -> Result<Vec<u8>, Refusal>
+    ensures { IsGiven (IsStringOf (ever_seen ever.now)) result }
 {
-    match fault {
-        ZoneFault::UnknownZone => b"no zone has this name",
-        ZoneFault::Schedule(fault) => schedule_words(fault),
-        ZoneFault::OffsetRange => b"this zone has an offset of 26 hours or more",
-        ZoneFault::NoMemory => b"out of memory",
+    match tail_for_ever(alloc, ever) {
+        Ok(tail) => {
+            let mut line = tail.text.as_bytes().to_vec(alloc)?;
+            line.push(b'\n')?;
+            Ok(line)
+        }
+        Err(EverTailFault::NoMemory) => Err(Refusal::NoMemory),
+        Err(fault) => Err(Refusal::Why(tail_words(fault).to_vec(alloc)?)),
     }
 }
