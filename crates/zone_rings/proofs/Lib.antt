@@ -1,1 +1,2 @@
 pub mod RungLemmas
+mod RingRows
