@@ -83,8 +83,8 @@ fn add_sides(
     Ok(())
 }
 
-/// What a change from one offset to another does to local times.
-fn kind_between(before: UtcOffset, after: UtcOffset) -> Kind
+/// What a change from one offset to another does to local times: `Gap` where clocks skip some, `Fold` where they read some twice, else `One`.
+pub fn kind_between(before: UtcOffset, after: UtcOffset) -> Kind
     ensures { result ≡ kind_between before after }
 {
     let before = before.whole_seconds();
@@ -141,9 +141,13 @@ fn add_change(
     }
 }
 
-/// Adds the line of the change at a second.
+/// Adds the line of the change at a second, as [`add_list`] has it.
+///
+/// # Errors
+///
+/// `OutOfYears` exactly where a date of it lies outside the years -9999 to 9999; `NoMemory`. Part of the text may have been added then.
 #[tactic(auto, unfolding(crate::specs::Lists::change_due))]
-fn add_change_line<Z: ReplyZone>(
+pub fn add_change_line<Z: ReplyZone>(
     into: &mut Vec<u8>,
     alloc: Global,
     zone: &Z,

@@ -12,12 +12,13 @@ mod readings;
 mod skip;
 mod view;
 
-pub use changes::add_list;
+pub use changes::{add_change_line, add_list, kind_between};
 pub use fault::ReplyFault;
 pub use fixed::FixedZone;
 pub use force::Force;
 pub use kind::Kind;
 pub use line::{Style, is_untold};
+pub use object::add_quoted;
 pub use readings::{add_at, add_converted, add_local};
 pub use skip::skipping;
 pub use view::ReplyZone;

@@ -48,8 +48,12 @@ fn add_escaped(into: &mut Vec<u8>, byte: u8) -> Result<(), AllocError>
 }
 
 /// Adds a text as a string.
+///
+/// # Errors
+///
+/// Want of memory alone; what was added by then stays.
 #[tactic(auto, using(std::proofs::Common::append_assoc), unfolding(crate::specs::Objects::quoted))]
-fn add_quoted(into: &mut Vec<u8>, text: &str) -> Result<(), AllocError>
+pub fn add_quoted(into: &mut Vec<u8>, text: &str) -> Result<(), AllocError>
     ensures { OnOk result (into.new.items ≡ into.old.items ++ quoted text.now) }
 {
     into.extend_from_slice(b"\"")?;

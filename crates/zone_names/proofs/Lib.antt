@@ -1,0 +1,4 @@
+pub mod EditLemmas
+pub mod NameLemmas
+mod NameRows
+pub mod SameLemmas
