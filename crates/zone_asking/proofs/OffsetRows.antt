@@ -3,7 +3,7 @@ use Rattle.std.proofs.Common.{◌≡◌, refl, map, ℕ, ℤ, List, [], ◌∷�
 use Rattle.std.specs.Prelude.{codes}
 use Rattle.text_parts.specs.Numbers.{value_in}
 use Rattle.zone_asking.specs.Offsets.{two_in, size_in, offset_in}
-use Rattle.zone_asking.specs.Refusals.{fault_words, name_line}
+use Rattle.zone_asking.specs.Refusals.{fault_words, name_words, told_line}
 use Rattle.zone_replies.specs.declared.fault.ReplyFault.TheVariants.{Untold}
 
 abbrev offsets : List (List ℕ × Option ℤ)
@@ -18,5 +18,5 @@ worked_offsets : map (λ row. offset_in row.0) offsets ≡ map (λ row. row.1) o
 unfolding value_in two_in size_in offset_in
 worked_offsets = refl
 
-worked_line : name_line (codes "x") (fault_words Untold) ≡ (codes "zone: " ++ 34 ∷ 120 ∷ 34 ∷ []) ++ codes ": the zone's rules end before that year" ++ 10 ∷ []
+worked_line : told_line (name_words (codes "x") (fault_words Untold)) ≡ (codes "zone: " ++ 34 ∷ 120 ∷ 34 ∷ []) ++ codes ": the zone's rules end before that year" ++ 10 ∷ []
 worked_line = refl

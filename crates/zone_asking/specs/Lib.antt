@@ -2,4 +2,5 @@
 pub mod Refusals
 pub mod Offsets
 pub mod Named
+pub mod Answers
 pub mod Replies

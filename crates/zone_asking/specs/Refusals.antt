@@ -1,4 +1,4 @@
--- Why a source or a zone is refused.
+-- Why a source, a zone or a reply is refused, in words.
 use Rattle.std.specs.Prelude.{ℕ, List, [], ◌∷◌, ◌++◌, codes}
 use Rattle.zone_replies.specs.declared.fault.ReplyFault.{ReplyFault}
 use Rattle.zone_replies.specs.declared.fault.ReplyFault.TheVariants.{OutOfYears, Untold, NoMemory as NoRoom}
@@ -10,9 +10,13 @@ abbrev pub IsTold : (List ℕ → Type 0) → Refusal → Type 0
 IsTold why (Why words) = why words.items
 IsTold why NoMemory = Unit {0}
 
--- a word, and what is told of it
-abbrev pub name_line : List ℕ → List ℕ → List ℕ
-name_line word why = ((((codes "zone: " ++ 34 ∷ []) ++ word) ++ 34 ∷ codes ": ") ++ why) ++ 10 ∷ []
+-- a word in quotes, and what is told of it
+abbrev pub name_words : List ℕ → List ℕ → List ℕ
+name_words word why = (((34 ∷ []) ++ word) ++ 34 ∷ codes ": ") ++ why
+
+-- the line that tells these words
+abbrev pub told_line : List ℕ → List ℕ
+told_line words = (codes "zone: " ++ words) ++ 10 ∷ []
 
 -- what is told of a fault of a reply
 abbrev pub fault_words : ReplyFault → List ℕ

@@ -1,72 +1,24 @@
 //! What answers over a source.
 ghost use Rattle.std.specs.Prelude.{◌≡◌, [], map};
 ghost use Rattle.civil_base.specs.DateTimes.{instant};
-ghost use Rattle.zone_asking.specs.Replies.{IsReply, OnZone, at_lines, convert_lines, instants_at, told};
+ghost use Rattle.zone_asking.specs.Answers.{lined, told, IsAnswer};
+ghost use Rattle.zone_asking.specs.Replies.{at_lines, convert_lines, instant_at, instants_at, list_lines, on_zone, reply_of};
 ghost use Rattle.zone_command.specs.Due.{IsDue};
 ghost use Rattle.zone_moments.specs.Shown.{asked as asked_of};
 ghost use Rattle.zone_words.specs.TaskShown.{task_shown};
 
-use crate::line::{fault_line, name_line};
+use crate::answers::told;
+use crate::line::{name_words, told_line};
 use crate::named::named;
-use crate::replies::{at_lines, convert_lines};
+use crate::replies::{at_lines, convert_lines, list_lines, moment_of};
 use crate::source::{Refusal, ZoneSource};
 use civil_base::{OffsetDateTime, PlainDateTime};
 use std::alloc::Global;
 use std::marker::PhantomData;
 use zone_command::{AnswerFault, Answerer};
 use zone_moments::{AnswerForm, Asked as Instant};
-use zone_replies::{ReplyFault, ReplyZone, Style};
+use zone_replies::Style;
 use zone_words::{Asked, Task};
-
-/// The answer to `at` of a zone.
-fn at_answer<Z: ReplyZone>(
-    alloc: Global,
-    zone: &Z,
-    style: &Style<'_>,
-    times: &[Instant],
-    now: &OffsetDateTime,
-) -> Result<Vec<u8>, AnswerFault>
-    ensures { IsDue (λ answer. answer ≡ told style.now.name.now (at_lines style.now.form (Z.view zone.now) style.now.name.now []
-        (instants_at (instant now.now) (map asked_of times.now)))) result }
-{
-    match at_lines(alloc, zone, style, times, now) {
-        Ok(text) => Ok(text),
-        Err(ReplyFault::OutOfYears) => {
-            let line = fault_line(alloc, style.name, ReplyFault::OutOfYears)?;
-            Err(AnswerFault::Line(line))
-        }
-        Err(ReplyFault::Untold) => {
-            let line = fault_line(alloc, style.name, ReplyFault::Untold)?;
-            Err(AnswerFault::Line(line))
-        }
-        Err(ReplyFault::NoMemory) => Err(AnswerFault::NoMemory),
-    }
-}
-
-/// The answer to `convert` of two zones.
-fn convert_answer<F: ReplyZone, T: ReplyZone>(
-    alloc: Global,
-    from: &F,
-    from_name: &str,
-    to: &T,
-    style: &Style<'_>,
-    local: &PlainDateTime,
-) -> Result<Vec<u8>, AnswerFault>
-    ensures { IsDue (λ answer. answer ≡ told from_name.now (convert_lines style.now.form (F.view from.now) from_name.now (T.view to.now) style.now.name.now local.now)) result }
-{
-    match convert_lines(alloc, from, from_name, to, style, local) {
-        Ok(text) => Ok(text),
-        Err(ReplyFault::OutOfYears) => {
-            let line = fault_line(alloc, from_name, ReplyFault::OutOfYears)?;
-            Err(AnswerFault::Line(line))
-        }
-        Err(ReplyFault::Untold) => {
-            let line = fault_line(alloc, from_name, ReplyFault::Untold)?;
-            Err(AnswerFault::Line(line))
-        }
-        Err(ReplyFault::NoMemory) => Err(AnswerFault::NoMemory),
-    }
-}
 
 /// The answer to `at`.
 fn at_reply<S: ZoneSource>(
@@ -75,22 +27,13 @@ fn at_reply<S: ZoneSource>(
     style: &Style<'_>,
     times: &[Instant],
     now: &OffsetDateTime,
-) -> Result<Vec<u8>, AnswerFault>
-    ensures { IsDue (OnZone (S.finds source.now) (S.unfound source.now) style.now.name.now (λ view answer.
-        answer ≡ told style.now.name.now (at_lines style.now.form view style.now.name.now [] (instants_at (instant now.now) (map asked_of times.now))))) result }
+) -> Result<Vec<u8>, Refusal>
+    ensures { IsAnswer (on_zone (S.found source.now) style.now.name.now (λ view.
+        told style.now.name.now (at_lines style.now.form view style.now.name.now [] (instants_at (instant now.now) (map asked_of times.now))))) result }
 {
-    match named(alloc, source, style.name) {
-        Ok(zone) => match at_answer(alloc, &zone, style, times, now) {
-            Ok(text) => Ok(text),
-            Err(AnswerFault::Line(line)) => Err(AnswerFault::Line(line)),
-            Err(AnswerFault::NoMemory) => Err(AnswerFault::NoMemory),
-        },
-        Err(Refusal::Why(why)) => {
-            let line = name_line(alloc, style.name, &why)?;
-            Err(AnswerFault::Line(line))
-        }
-        Err(Refusal::NoMemory) => Err(AnswerFault::NoMemory),
-    }
+    let zone = named(alloc, source, style.name)?;
+    let lines = at_lines(alloc, &zone, style, times, now);
+    told(alloc, style.name, lines)
 }
 
 /// The answer to `local`.
@@ -99,48 +42,13 @@ fn local_reply<S: ZoneSource>(
     source: &S,
     style: &Style<'_>,
     local: &PlainDateTime,
-) -> Result<Vec<u8>, AnswerFault>
-    ensures { IsDue (OnZone (S.finds source.now) (S.unfound source.now) style.now.name.now (λ view answer.
-        answer ≡ told style.now.name.now (convert_lines style.now.form view style.now.name.now view style.now.name.now local.now))) result }
+) -> Result<Vec<u8>, Refusal>
+    ensures { IsAnswer (on_zone (S.found source.now) style.now.name.now (λ view.
+        told style.now.name.now (convert_lines style.now.form view style.now.name.now view style.now.name.now local.now))) result }
 {
-    match named(alloc, source, style.name) {
-        Ok(zone) => match convert_answer(alloc, &zone, style.name, &zone, style, local) {
-            Ok(text) => Ok(text),
-            Err(AnswerFault::Line(line)) => Err(AnswerFault::Line(line)),
-            Err(AnswerFault::NoMemory) => Err(AnswerFault::NoMemory),
-        },
-        Err(Refusal::Why(why)) => {
-            let line = name_line(alloc, style.name, &why)?;
-            Err(AnswerFault::Line(line))
-        }
-        Err(Refusal::NoMemory) => Err(AnswerFault::NoMemory),
-    }
-}
-
-/// The answer to `convert` where the first zone is there.
-fn convert_from<S: ZoneSource, F: ReplyZone>(
-    alloc: Global,
-    source: &S,
-    from: &F,
-    from_name: &str,
-    style: &Style<'_>,
-    local: &PlainDateTime,
-) -> Result<Vec<u8>, AnswerFault>
-    ensures { IsDue (OnZone (S.finds source.now) (S.unfound source.now) style.now.name.now (λ view answer.
-        answer ≡ told from_name.now (convert_lines style.now.form (F.view from.now) from_name.now view style.now.name.now local.now))) result }
-{
-    match named(alloc, source, style.name) {
-        Ok(to) => match convert_answer(alloc, from, from_name, &to, style, local) {
-            Ok(text) => Ok(text),
-            Err(AnswerFault::Line(line)) => Err(AnswerFault::Line(line)),
-            Err(AnswerFault::NoMemory) => Err(AnswerFault::NoMemory),
-        },
-        Err(Refusal::Why(why)) => {
-            let line = name_line(alloc, style.name, &why)?;
-            Err(AnswerFault::Line(line))
-        }
-        Err(Refusal::NoMemory) => Err(AnswerFault::NoMemory),
-    }
+    let zone = named(alloc, source, style.name)?;
+    let lines = convert_lines(alloc, &zone, style.name, &zone, style, local);
+    told(alloc, style.name, lines)
 }
 
 /// The answer to `convert`.
@@ -150,23 +58,30 @@ fn convert_reply<S: ZoneSource>(
     from_name: &str,
     style: &Style<'_>,
     local: &PlainDateTime,
-) -> Result<Vec<u8>, AnswerFault>
-    ensures { IsDue (OnZone (S.finds source.now) (S.unfound source.now) from_name.now (λ from.
-        OnZone (S.finds source.now) (S.unfound source.now) style.now.name.now (λ view answer.
-        answer ≡ told from_name.now (convert_lines style.now.form from from_name.now view style.now.name.now local.now)))) result }
+) -> Result<Vec<u8>, Refusal>
+    ensures { IsAnswer (on_zone (S.found source.now) from_name.now (λ view. on_zone (S.found source.now) style.now.name.now (λ other.
+        told from_name.now (convert_lines style.now.form view from_name.now other style.now.name.now local.now)))) result }
 {
-    match named(alloc, source, from_name) {
-        Ok(from) => match convert_from(alloc, source, &from, from_name, style, local) {
-            Ok(text) => Ok(text),
-            Err(AnswerFault::Line(line)) => Err(AnswerFault::Line(line)),
-            Err(AnswerFault::NoMemory) => Err(AnswerFault::NoMemory),
-        },
-        Err(Refusal::Why(why)) => {
-            let line = name_line(alloc, from_name, &why)?;
-            Err(AnswerFault::Line(line))
-        }
-        Err(Refusal::NoMemory) => Err(AnswerFault::NoMemory),
-    }
+    let from = named(alloc, source, from_name)?;
+    let to = named(alloc, source, style.name)?;
+    let lines = convert_lines(alloc, &from, from_name, &to, style, local);
+    told(alloc, from_name, lines)
+}
+
+/// The answer to `list`.
+fn list_reply<S: ZoneSource>(
+    alloc: Global,
+    source: &S,
+    style: &Style<'_>,
+    from: &OffsetDateTime,
+    to: &OffsetDateTime,
+) -> Result<Vec<u8>, Refusal>
+    ensures { IsAnswer (on_zone (S.found source.now) style.now.name.now (λ view.
+        told style.now.name.now (list_lines style.now.form view style.now.name.now (instant from.now) (instant to.now)))) result }
+{
+    let zone = named(alloc, source, style.name)?;
+    let lines = list_lines(alloc, &zone, style, from, to);
+    told(alloc, style.name, lines)
 }
 
 /// The answer to a task.
@@ -176,8 +91,8 @@ fn reply<S: ZoneSource>(
     form: AnswerForm,
     now: &OffsetDateTime,
     task: &Task<'_>,
-) -> Result<Vec<u8>, AnswerFault>
-    ensures { IsDue (IsReply (S.finds source.now) (S.unfound source.now) form (instant now.now) (task_shown task.now)) result }
+) -> Result<Vec<u8>, Refusal>
+    ensures { IsAnswer (reply_of (S.found source.now) form (instant now.now) (task_shown task.now)) result }
 {
     match task {
         Task::At(name, times) => at_reply(
@@ -193,11 +108,18 @@ fn reply<S: ZoneSource>(
         Task::Convert(from, to, local) => {
             convert_reply(alloc, source, *from, &Style { name: *to, form }, local)
         }
+        Task::List(name, from, to) => list_reply(
+            alloc,
+            source,
+            &Style { name: *name, form },
+            &moment_of(from, now),
+            &moment_of(to, now),
+        ),
         _ => Ok(Vec::new(alloc)),
     }
 }
 
-/// What answers over sources of a kind: `at`, `local` and `convert`.
+/// What answers over sources of a kind: `at`, `local`, `convert` and `list`.
 pub struct OverSource<S> {
     source: PhantomData<S>,
 }
@@ -205,7 +127,7 @@ pub struct OverSource<S> {
 impl<S: ZoneSource> Answerer for OverSource<S> {
     ghost use Rattle.zone_asking.specs.Replies.{IsDueOver};
 
-    ghost due = { IsDueOver S.reads S.unread S.finds S.unfound };
+    ghost due = { IsDueOver S.reads S.unread S.found };
 
     fn answer(
         alloc: Global,
@@ -217,12 +139,12 @@ impl<S: ZoneSource> Answerer for OverSource<S> {
         match S::open(alloc, text) {
             Ok(source) => match reply(alloc, &source, asked.form, now, &asked.task) {
                 Ok(bytes) => Ok(bytes),
-                Err(AnswerFault::Line(line)) => Err(AnswerFault::Line(line)),
-                Err(AnswerFault::NoMemory) => Err(AnswerFault::NoMemory),
+                Err(Refusal::Why(words)) => Err(AnswerFault::Line(told_line(alloc, &words)?)),
+                Err(Refusal::NoMemory) => Err(AnswerFault::NoMemory),
             },
             Err(Refusal::Why(why)) => {
-                let line = name_line(alloc, file, &why)?;
-                Err(AnswerFault::Line(line))
+                let words = name_words(alloc, file, &why)?;
+                Err(AnswerFault::Line(told_line(alloc, &words)?))
             }
             Err(Refusal::NoMemory) => Err(AnswerFault::NoMemory),
         }

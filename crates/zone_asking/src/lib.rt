@@ -2,6 +2,7 @@
 #![tactic(auto)]
 
 mod answering;
+mod answers;
 mod line;
 mod named;
 mod offset;
@@ -9,4 +10,6 @@ mod replies;
 mod source;
 
 pub use answering::OverSource;
+pub use answers::{refusal_of, told};
+pub use offset::offset_in;
 pub use source::{Refusal, ZoneSource};

@@ -1,8 +1,9 @@
 //! Zones by their names: offsets, and what the source has.
-ghost use Rattle.std.specs.Prelude.{IfErr, IfOk};
-ghost use Rattle.zone_asking.specs.Named.{IsNamed, IsUnnamed, named_view};
+ghost use Rattle.std.specs.Prelude.{◌≡◌, Err, IfErr, IfOk, Ok};
+ghost use Rattle.zone_asking.specs.Named.{named_in, named_view};
 ghost use Rattle.zone_asking.specs.Refusals.{IsTold};
 
+use crate::answers::refusal_of;
 use crate::offset::offset_in;
 use crate::source::{Refusal, ZoneSource};
 use civil_base::{OffsetDateTime, PlainDateTime, UtcOffset};
@@ -84,20 +85,21 @@ impl<Z: ReplyZone> ReplyZone for NamedZone<'_, Z> {
     }
 }
 
-/// The zone of a name.
+/// The zone that a name finds.
 pub(crate) fn named<'n, S: ZoneSource>(
     alloc: Global,
     source: &S,
     name: &'n str,
 ) -> Result<NamedZone<'n, S::Zone>, Refusal>
-    ensures ok { IfOk result (λ zone. IsNamed (S.finds source.now) name.now (named_view S.Zone.view zone)) }
-    ensures err { IfErr result (IsTold (IsUnnamed (S.unfound source.now) name.now)) }
+    ensures ok { IfOk result (λ zone. named_in (S.found source.now) name.now ≡ Ok (named_view S.Zone.view zone)) }
+    ensures err { IfErr result (IsTold (λ words. named_in (S.found source.now) name.now ≡ Err words)) }
 {
     match offset_in(name) {
         Some(offset) => Ok(NamedZone::Fixed(FixedZone { name, offset })),
         None => match source.zone(alloc, name) {
             Ok(zone) => Ok(NamedZone::Found(zone)),
-            Err(refusal) => Err(refusal),
+            Err(Refusal::Why(why)) => Err(refusal_of(alloc, name, &why)),
+            Err(Refusal::NoMemory) => Err(Refusal::NoMemory),
         },
     }
 }

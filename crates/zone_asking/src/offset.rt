@@ -52,9 +52,9 @@ fn sized_in(west: bool, text: &str) -> Option<UtcOffset>
     }
 }
 
-/// The offset that a name is: `UTC`, `+hh:mm` or `-hh:mm`.
+/// The offset that a name is: `UTC`, `+hh:mm` or `-hh:mm`. Other names are none.
 #[tactic(auto, unfolding(crate::specs::Offsets::offset_in))]
-pub(crate) fn offset_in(name: &str) -> Option<UtcOffset>
+pub fn offset_in(name: &str) -> Option<UtcOffset>
     ensures { result ≡ offset_in name.now }
 {
     if name == "UTC" {

@@ -1,7 +1,9 @@
 //! What is due of a task over zones.
-ghost use Rattle.std.specs.Prelude.{◌≡◌, [], map, unwrap_or, IfErr, IfOk, OnOk, Ok, Err};
-ghost use Rattle.civil_base.specs.DateTimes.{instant};
-ghost use Rattle.zone_asking.specs.Replies.{at_lines, convert_lines, ended, instants_at};
+ghost use Rattle.std.specs.Prelude.{◌≡◌, [], map, is_some, IfErr, IfOk, IfSome, OnOk, Ok, Err};
+ghost use Rattle.civil_base.specs.DateTimes.{instant, local_of};
+ghost use Rattle.civil_base.specs.Ranges.{is_in_years};
+ghost use Rattle.zone_asking.specs.Answers.{IsReply};
+ghost use Rattle.zone_asking.specs.Replies.{at_lines, convert_lines, ended, instant_at, instants_at, list_lines};
 ghost use Rattle.zone_moments.specs.Shown.{asked as asked_of};
 ghost use Rattle.zone_replies.specs.Faults.{behind, IsFaultOf};
 ghost use Rattle.zone_replies.specs.Instants.{at_due};
@@ -9,11 +11,11 @@ ghost use Rattle.zone_replies.specs.Instants.{at_due};
 use civil_base::{OffsetDateTime, PlainDateTime};
 use std::alloc::Global;
 use zone_moments::Asked as Instant;
-use zone_replies::{ReplyFault, ReplyZone, Style, add_at, add_converted};
+use zone_replies::{ReplyFault, ReplyZone, Style, add_at, add_converted, add_list};
 
 /// The instant that is asked for, at an instant.
-fn moment_of(asked: &Instant, now: &OffsetDateTime) -> OffsetDateTime
-    ensures { instant result ≡ unwrap_or (asked_of asked.now) (instant now.now) }
+pub(crate) fn moment_of(asked: &Instant, now: &OffsetDateTime) -> OffsetDateTime
+    ensures { instant result ≡ instant_at (instant now.now) (asked_of asked.now) }
 {
     match asked {
         Instant::Now => *now,
@@ -51,8 +53,7 @@ pub(crate) fn at_lines<Z: ReplyZone>(
     times: &[Instant],
     now: &OffsetDateTime,
 ) -> Result<Vec<u8>, ReplyFault>
-    ensures ok { IfOk result (λ text. at_lines style.now.form (Z.view zone.now) style.now.name.now [] (instants_at (instant now.now) (map asked_of times.now)) ≡ Ok text.items) }
-    ensures err { IfErr result (IsFaultOf (at_lines style.now.form (Z.view zone.now) style.now.name.now [] (instants_at (instant now.now) (map asked_of times.now)))) }
+    ensures { IsReply (at_lines style.now.form (Z.view zone.now) style.now.name.now [] (instants_at (instant now.now) (map asked_of times.now))) result }
 {
     let mut text = Vec::new(alloc);
     for time in times {
@@ -76,8 +77,7 @@ pub(crate) fn convert_lines<F: ReplyZone, T: ReplyZone>(
     style: &Style<'_>,
     local: &PlainDateTime,
 ) -> Result<Vec<u8>, ReplyFault>
-    ensures ok { IfOk result (λ text. convert_lines style.now.form (F.view from.now) from_name.now (T.view to.now) style.now.name.now local.now ≡ Ok text.items) }
-    ensures err { IfErr result (IsFaultOf (convert_lines style.now.form (F.view from.now) from_name.now (T.view to.now) style.now.name.now local.now)) }
+    ensures { IsReply (convert_lines style.now.form (F.view from.now) from_name.now (T.view to.now) style.now.name.now local.now) result }
 {
     let mut text = Vec::new(alloc);
     match add_converted(&mut text, alloc, from, from_name, to, style, b"\n", local) {
@@ -85,6 +85,51 @@ pub(crate) fn convert_lines<F: ReplyZone, T: ReplyZone>(
             text.extend_from_slice(b"\n")?;
             Ok(text)
         }
+        Err(ReplyFault::OutOfYears) => Err(ReplyFault::OutOfYears),
+        Err(ReplyFault::Untold) => Err(ReplyFault::Untold),
+        Err(ReplyFault::NoMemory) => Err(ReplyFault::NoMemory),
+    }
+}
+
+/// The date and the time of day of a date-time.
+fn local_of(date: &OffsetDateTime) -> PlainDateTime
+    ensures { result ≡ local_of date.now }
+{
+    PlainDateTime::new(date.date(), date.time())
+}
+
+/// The date and the time of day of an instant at UTC. There are none exactly where that date lies outside the years.
+#[tactic(auto, using(crate::proofs::UtcLemmas::at_utc))]
+fn utc_of(at: &OffsetDateTime) -> Option<PlainDateTime>
+    ensures has { is_some result ≡ is_in_years (instant at.now) }
+    ensures value { IfSome result (λ local. local ≡ instant at.now) }
+{
+    match OffsetDateTime::from_unix_timestamp_nanos(at.unix_timestamp_nanos()) {
+        Ok(utc) => Some(local_of(&utc)),
+        Err(_) => None,
+    }
+}
+
+/// The lines of the changes from an instant on and before another.
+#[tactic(auto, unfolding(crate::specs::Replies::list_lines))]
+pub(crate) fn list_lines<Z: ReplyZone>(
+    alloc: Global,
+    zone: &Z,
+    style: &Style<'_>,
+    from: &OffsetDateTime,
+    to: &OffsetDateTime,
+) -> Result<Vec<u8>, ReplyFault>
+    ensures { IsReply (list_lines style.now.form (Z.view zone.now) style.now.name.now (instant from.now) (instant to.now)) result }
+{
+    let Some(from) = utc_of(from) else {
+        return Err(ReplyFault::OutOfYears);
+    };
+    let Some(to) = utc_of(to) else {
+        return Err(ReplyFault::OutOfYears);
+    };
+    let mut text = Vec::new(alloc);
+    match add_list(&mut text, alloc, zone, style, &from, &to) {
+        Ok(()) => Ok(text),
         Err(ReplyFault::OutOfYears) => Err(ReplyFault::OutOfYears),
         Err(ReplyFault::Untold) => Err(ReplyFault::Untold),
         Err(ReplyFault::NoMemory) => Err(ReplyFault::NoMemory),

@@ -1,7 +1,7 @@
 //! What reads sources.
-ghost use Rattle.std.specs.Prelude.{ℕ, List, ◌≤◌, length, IfOk, IfErr};
+ghost use Rattle.std.specs.Prelude.{◌≡◌, ℕ, List, ◌≤◌, length, Ok, Err, IfOk, IfErr};
+ghost use Rattle.zone_asking.specs.Named.{Found};
 ghost use Rattle.zone_asking.specs.Refusals.{IsTold};
-ghost use Rattle.zone_replies.specs.Views.{ZoneView};
 
 use std::alloc::{AllocError, Global};
 use zone_replies::ReplyZone;
@@ -37,11 +37,8 @@ pub trait ZoneSource: Drop {
     /// Why a text is no source.
     ghost unread: { List ℕ → List ℕ → Type 0 };
 
-    /// What is seen of the zone that a name finds.
-    ghost finds: { Self → List ℕ → ZoneView → Type 0 };
-
-    /// Why a name finds none.
-    ghost unfound: { Self → List ℕ → List ℕ → Type 0 };
+    /// What is seen of the zone that a name finds, or the words that tell why it finds none.
+    ghost found: { Self → List ℕ → Found };
 
     /// Reads a source, of at most 16,777,216 bytes.
     ///
@@ -59,6 +56,6 @@ pub trait ZoneSource: Drop {
     ///
     /// Why it finds none, or want of memory.
     fn zone(&self, alloc: Global, name: &str) -> Result<Self::Zone, Refusal>
-        ensures ok { IfOk result (λ zone. finds self.now name.now (Self.Zone.view zone)) }
-        ensures err { IfErr result (IsTold (unfound self.now name.now)) };
+        ensures ok { IfOk result (λ zone. found self.now name.now ≡ Ok (Self.Zone.view zone)) }
+        ensures err { IfErr result (IsTold (λ why. found self.now name.now ≡ Err why)) };
 }
