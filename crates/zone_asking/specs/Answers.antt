@@ -36,3 +36,14 @@ abbrev pub IsAnswer : Answer → Result (Vec ℕ Global) Refusal → Type 0
 IsAnswer answer (Ok text) = answer ≡ Ok text.items
 IsAnswer answer (Err (Why words)) = answer ≡ Err words.items
 IsAnswer answer (Err NoMemory) = Unit {0}
+
+-- the result is an answer of which this is said, or memory ran out
+abbrev pub IsGiven : (Answer → Type 0) → Result (Vec ℕ Global) Refusal → Type 0
+IsGiven says (Ok text) = says (Ok text.items)
+IsGiven says (Err (Why words)) = says (Err words.items)
+IsGiven says (Err NoMemory) = Unit {0}
+
+-- the same with a name in front of the words that tell why there is none
+abbrev pub OfName : List ℕ → (Answer → Type 0) → Answer → Type 0
+OfName name says (Ok text) = says (Ok text)
+OfName name says (Err words) = (why : List ℕ) × says (Err why) × (words ≡ name_words name why)

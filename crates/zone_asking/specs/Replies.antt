@@ -1,7 +1,7 @@
 -- What is due of words over zones.
 use Rattle.std.specs.Prelude.{◌≡◌, ◌⊎◌, ◌&&◌, ℕ, List, [], ◌∷◌, map, Option, Ok, Err, unwrap_or, ℤ, if◌then◌else◌}
 use Rattle.civil_base.specs.Ranges.{is_in_years}
-use Rattle.zone_asking.specs.Answers.{Answer, told, lined, ◌>>=◌}
+use Rattle.zone_asking.specs.Answers.{Answer, OfName, told, lined, ◌>>=◌}
 use Rattle.zone_asking.specs.Named.{Found, named_in}
 use Rattle.zone_asking.specs.Refusals.{name_words, told_line}
 use Rattle.zone_command.specs.Due.{Answers, Due as Delivered}
@@ -12,7 +12,10 @@ use Rattle.zone_replies.specs.Lists.{list_due}
 use Rattle.zone_replies.specs.Readings.{convert_due}
 use Rattle.zone_replies.specs.Views.{ZoneView}
 use Rattle.zone_replies.specs.declared.fault.ReplyFault.TheVariants.{OutOfYears}
-use Rattle.zone_words.specs.Tasks.{TaskAsked, WordsAsked, at_instants, local_time, converted, list_changes}
+use Rattle.zone_names.specs.Seen.{NameSeen}
+use Rattle.zone_names.specs.Texts.{names_text}
+use Rattle.zone_rings.specs.Rings.{rings_due}
+use Rattle.zone_words.specs.Tasks.{TaskAsked, WordsAsked, at_instants, local_time, converted, list_changes, alarm, names, file, posix_string, tree}
 
 -- a reply as a line
 abbrev pub ended : Due → Due
@@ -42,22 +45,37 @@ instants_at now times = map (instant_at now) times
 abbrev pub on_zone : (List ℕ → Found) → List ℕ → (ZoneView → Answer) → Answer
 on_zone found name due = named_in found name >>= due
 
--- the answer to a task by what names find, at an instant; other commands are refused before
-abbrev pub reply_of : (List ℕ → Found) → AnswerForm → ℤ → TaskAsked → Answer
-reply_of found form now (at_instants name times) = on_zone found name (λ view. told name (at_lines form view name [] (instants_at now times)))
-reply_of found form now (local_time name x) = on_zone found name (λ view. told name (convert_lines form view name view name x))
-reply_of found form now (converted from to x) =
+-- the answer to a task by what names find, at an instant
+abbrev pub reply_of : (List ℕ → Found) → List NameSeen → AnswerForm → ℤ → TaskAsked → Answer
+reply_of found entries form now (at_instants name times) =
+    on_zone found name (λ view. told name (at_lines form view name [] (instants_at now times)))
+reply_of found entries form now (local_time name x) = on_zone found name (λ view. told name (convert_lines form view name view name x))
+reply_of found entries form now (converted from to x) =
     on_zone found from (λ view. on_zone found to (λ other. told from (convert_lines form view from other to x)))
-reply_of found form now (list_changes name from to) =
+reply_of found entries form now (list_changes name from to) =
     on_zone found name (λ view. told name (list_lines form view name (instant_at now from) (instant_at now to)))
-reply_of found form now _ = Ok []
+reply_of found entries form now (alarm name asked) = on_zone found name (λ view. told name (rings_due form view name asked))
+reply_of found entries form now (names word) = Ok (names_text form entries word)
+reply_of found entries form now _ = Ok []
+
+-- what is said of a zone's file and string by its name, and of the tree
+abbrev pub Says : Type 1
+Says = Answer → Type 0
+
+abbrev pub IsReplyTo : (List ℕ → Found) → List NameSeen → (List ℕ → Says) → (List ℕ → Says) → Says → AnswerForm → ℤ → TaskAsked → Says
+IsReplyTo found entries files strings trees form now (file name) answer = OfName name (files name) answer
+IsReplyTo found entries files strings trees form now (posix_string name) answer = OfName name (strings name) answer
+IsReplyTo found entries files strings trees form now tree answer = trees answer
+IsReplyTo found entries files strings trees form now task answer = reply_of found entries form now task ≡ answer
 
 -- the source that the text is read as, and what is due over it
-pub record IsReplyOver {S : Type 0} (reads : List ℕ → S → Type 0) (found : S → List ℕ → Found) (asked : WordsAsked) (now : ℤ) (text : List ℕ)
-    (due : Delivered) : Type 0 where
+pub record IsReplyOver {S : Type 0} (reads : List ℕ → S → Type 0) (found : S → List ℕ → Found) (entries : S → List NameSeen)
+    (files strings : S → List ℕ → Says) (trees : S → Says) (asked : WordsAsked) (now : ℤ) (text : List ℕ) (due : Delivered) : Type 0 where
   pub source : S
   pub read : reads text source
-  pub reply : due ≡ lined (reply_of (found source) asked.form now asked.task)
+  pub answer : Answer
+  pub reply : IsReplyTo (found source) (entries source) (files source) (strings source) (trees source) asked.form now asked.task answer
+  pub is : due ≡ lined answer
 
 -- why the text is no source, which is told of the file
 pub record IsNoSource (unread : List ℕ → List ℕ → Type 0) (file text : List ℕ) (due : Delivered) : Type 0 where
@@ -66,5 +84,7 @@ pub record IsNoSource (unread : List ℕ → List ℕ → Type 0) (file text : L
   pub line : due ≡ Err (told_line (name_words file why))
 
 -- what is due over the text of a file
-abbrev pub IsDueOver : {S : Type 0} → (List ℕ → S → Type 0) → (List ℕ → List ℕ → Type 0) → (S → List ℕ → Found) → Answers
-IsDueOver reads unread found asked now file text due = IsReplyOver reads found asked now text due ⊎ IsNoSource unread file text due
+abbrev pub IsDueOver : {S : Type 0} → (List ℕ → S → Type 0) → (List ℕ → List ℕ → Type 0) → (S → List ℕ → Found) → (S → List NameSeen)
+    → (S → List ℕ → Says) → (S → List ℕ → Says) → (S → Says) → Answers
+IsDueOver reads unread found entries files strings trees asked now name text due =
+    IsReplyOver reads found entries files strings trees asked now text due ⊎ IsNoSource unread name text due

@@ -9,7 +9,8 @@ mod offset;
 mod replies;
 mod source;
 
-pub use answering::OverSource;
+pub use answering::answer_over;
 pub use answers::{refusal_of, told};
+pub use line::{name_words, told_line};
 pub use offset::offset_in;
 pub use source::{Refusal, ZoneSource};

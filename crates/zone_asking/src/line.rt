@@ -6,7 +6,11 @@ use std::alloc::{AllocError, Global};
 use zone_replies::ReplyFault;
 
 /// A word in quotes, and what is told of it.
-pub(crate) fn name_words(alloc: Global, word: &str, why: &[u8]) -> Result<Vec<u8>, AllocError>
+///
+/// # Errors
+///
+/// Want of memory alone.
+pub fn name_words(alloc: Global, word: &str, why: &[u8]) -> Result<Vec<u8>, AllocError>
     ensures { IfOk result (λ words. words.items ≡ name_words word.now why.now) }
 {
     let mut words = Vec::new(alloc);
@@ -18,7 +22,11 @@ pub(crate) fn name_words(alloc: Global, word: &str, why: &[u8]) -> Result<Vec<u8
 }
 
 /// The line that tells these words.
-pub(crate) fn told_line(alloc: Global, words: &[u8]) -> Result<Vec<u8>, AllocError>
+///
+/// # Errors
+///
+/// Want of memory alone.
+pub fn told_line(alloc: Global, words: &[u8]) -> Result<Vec<u8>, AllocError>
     ensures { IfOk result (λ line. line.items ≡ told_line words.now) }
 {
     let mut line = Vec::new(alloc);

@@ -7,11 +7,15 @@ ghost use Rattle.zone_asking.specs.Replies.{at_lines, convert_lines, ended, inst
 ghost use Rattle.zone_moments.specs.Shown.{asked as asked_of};
 ghost use Rattle.zone_replies.specs.Faults.{behind, IsFaultOf};
 ghost use Rattle.zone_replies.specs.Instants.{at_due};
+ghost use Rattle.zone_rings.specs.Rings.{rings_due};
+ghost use Rattle.zone_words.specs.TaskShown.{alarm_shown};
 
 use civil_base::{OffsetDateTime, PlainDateTime};
 use std::alloc::Global;
 use zone_moments::Asked as Instant;
 use zone_replies::{ReplyFault, ReplyZone, Style, add_at, add_converted, add_list};
+use zone_rings::add_rings;
+use zone_words::Alarm;
 
 /// The instant that is asked for, at an instant.
 pub(crate) fn moment_of(asked: &Instant, now: &OffsetDateTime) -> OffsetDateTime
@@ -129,6 +133,24 @@ pub(crate) fn list_lines<Z: ReplyZone>(
     };
     let mut text = Vec::new(alloc);
     match add_list(&mut text, alloc, zone, style, &from, &to) {
+        Ok(()) => Ok(text),
+        Err(ReplyFault::OutOfYears) => Err(ReplyFault::OutOfYears),
+        Err(ReplyFault::Untold) => Err(ReplyFault::Untold),
+        Err(ReplyFault::NoMemory) => Err(ReplyFault::NoMemory),
+    }
+}
+
+/// The lines of the rings of an alarm.
+pub(crate) fn ring_lines<Z: ReplyZone>(
+    alloc: Global,
+    zone: &Z,
+    style: &Style<'_>,
+    alarm: &Alarm,
+) -> Result<Vec<u8>, ReplyFault>
+    ensures { IsReply (rings_due style.now.form (Z.view zone.now) style.now.name.now (alarm_shown alarm.now)) result }
+{
+    let mut text = Vec::new(alloc);
+    match add_rings(&mut text, alloc, zone, style, alarm) {
         Ok(()) => Ok(text),
         Err(ReplyFault::OutOfYears) => Err(ReplyFault::OutOfYears),
         Err(ReplyFault::Untold) => Err(ReplyFault::Untold),

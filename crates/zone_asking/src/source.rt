@@ -1,9 +1,12 @@
 //! What reads sources.
-ghost use Rattle.std.specs.Prelude.{◌≡◌, ℕ, List, ◌≤◌, length, Ok, Err, IfOk, IfErr};
+ghost use Rattle.std.specs.Prelude.{◌≡◌, ℕ, List, ◌≤◌, length, map, Ok, Err, IfOk, IfErr};
+ghost use Rattle.zone_asking.specs.Answers.{Answer, IsGiven};
 ghost use Rattle.zone_asking.specs.Named.{Found};
 ghost use Rattle.zone_asking.specs.Refusals.{IsTold};
+ghost use Rattle.zone_names.specs.Seen.{NameSeen, name_seen};
 
 use std::alloc::{AllocError, Global};
+use zone_names::NameEntry;
 use zone_replies::ReplyZone;
 
 /// Why a source or a zone is refused.
@@ -40,6 +43,18 @@ pub trait ZoneSource: Drop {
     /// What is seen of the zone that a name finds, or the words that tell why it finds none.
     ghost found: { Self → List ℕ → Found };
 
+    /// The names that find a zone, in byte order, each with the name that it leads to where it is a link's.
+    ghost entries: { Self → List NameSeen };
+
+    /// What is said of the compiled file of the zone that a name finds, or the words that tell why there is none.
+    ghost files: { Self → List ℕ → Answer → Type 0 };
+
+    /// The same of a line with the string that carries it on.
+    ghost strings: { Self → List ℕ → Answer → Type 0 };
+
+    /// The same of the archive of all compiled files.
+    ghost trees: { Self → Answer → Type 0 };
+
     /// Reads a source, of at most 16,777,216 bytes.
     ///
     /// # Errors
@@ -58,4 +73,36 @@ pub trait ZoneSource: Drop {
     fn zone(&self, alloc: Global, name: &str) -> Result<Self::Zone, Refusal>
         ensures ok { IfOk result (λ zone. found self.now name.now ≡ Ok (Self.Zone.view zone)) }
         ensures err { IfErr result (IsTold (λ why. found self.now name.now ≡ Err why)) };
+
+    /// The names that find a zone.
+    ///
+    /// # Errors
+    ///
+    /// Want of memory alone.
+    fn entries(&self, alloc: Global) -> Result<Vec<NameEntry<'_>>, AllocError>
+        ensures { IfOk result (λ found. map name_seen found.items ≡ entries self.now) };
+
+    /// The compiled file of the zone that a name finds.
+    ///
+    /// # Errors
+    ///
+    /// Why there is none, or want of memory.
+    fn file(&self, alloc: Global, name: &str) -> Result<Vec<u8>, Refusal>
+        ensures { IsGiven (files self.now name.now) result };
+
+    /// A line with the string that carries the zone on that a name finds.
+    ///
+    /// # Errors
+    ///
+    /// Why there is none, or want of memory.
+    fn string(&self, alloc: Global, name: &str) -> Result<Vec<u8>, Refusal>
+        ensures { IsGiven (strings self.now name.now) result };
+
+    /// The archive of all compiled files.
+    ///
+    /// # Errors
+    ///
+    /// Why there is none, or want of memory.
+    fn tree(&self, alloc: Global) -> Result<Vec<u8>, Refusal>
+        ensures { IsGiven (trees self.now) result };
 }

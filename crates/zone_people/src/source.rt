@@ -4,7 +4,8 @@ ghost use Rattle.sefunjaro.specs.Replies.{reply_view};
 ghost use Rattle.sefunjaro.specs.Sources.{table_in};
 ghost use Rattle.sefunjaro.specs.Zones.{ever_in, set_in};
 ghost use Rattle.tz_ever.specs.EverShown.{ever_seen};
-ghost use Rattle.zone_asking.specs.Refusals.{IsGiven, IsTold};
+ghost use Rattle.zone_asking.specs.Answers.{IsGiven};
+ghost use Rattle.zone_asking.specs.Refusals.{IsTold};
 ghost use Rattle.zone_names.specs.Seen.{name_seen};
 ghost use Rattle.zone_people.specs.Sources.{is_compiled};
 ghost use Rattle.zone_people.specs.Views.{IsToldAs, entries_of, entry_of, ever_found, found_in, unknown_words};
@@ -16,7 +17,7 @@ use sefunjaro::{
     ZoneFault, tail_for_ever, tzif_for_ever,
 };
 use std::alloc::{AllocError, Global};
-use zone_asking::{Refusal, ZoneSource, add_named};
+use zone_asking::{Refusal, ZoneSource, name_words};
 use zone_names::{NameEntry, add_unknown, near_names};
 use zone_tree::tree_of_table_for_ever;
 use zone_tzif_set::FileFault;
@@ -90,9 +91,7 @@ impl ZoneSource for AnySource {
         match tree_of_table_for_ever(alloc, self.source.release(), self.source.table()) {
             Ok(bytes) => Ok(bytes),
             Err(TreeFault::Refused(name, why)) => {
-                let mut words = Vec::new(alloc);
-                add_named(&mut words, name.as_str(), why_words(why))?;
-                Err(Refusal::Why(words))
+                Err(Refusal::Why(name_words(alloc, name.as_str(), why_words(why))?))
             }
             Err(TreeFault::Source(_)) => Err(Refusal::NoMemory),
             Err(TreeFault::NoMemory) => Err(Refusal::NoMemory),
