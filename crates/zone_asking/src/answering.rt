@@ -11,7 +11,7 @@ ghost use Rattle.zone_words.specs.TaskShown.{alarm_shown, task_shown, words_show
 
 use crate::answers::told;
 use crate::line::{name_words, told_line};
-use crate::named::named;
+use crate::named::find_named;
 use crate::replies::{at_lines, convert_lines, list_lines, moment_of, ring_lines};
 use crate::source::{Refusal, ZoneSource};
 use civil_base::{OffsetDateTime, PlainDateTime};
@@ -33,7 +33,7 @@ fn at_reply<S: ZoneSource>(
     ensures { IsAnswer (on_zone (S.found source.now) style.now.name.now (λ view.
         told style.now.name.now (at_lines style.now.form view style.now.name.now [] (instants_at (instant now.now) (map asked_of times.now))))) result }
 {
-    let zone = named(alloc, source, style.name)?;
+    let zone = find_named(alloc, source, style.name)?;
     let lines = at_lines(alloc, &zone, style, times, now);
     told(alloc, style.name, lines)
 }
@@ -48,7 +48,7 @@ fn local_reply<S: ZoneSource>(
     ensures { IsAnswer (on_zone (S.found source.now) style.now.name.now (λ view.
         told style.now.name.now (convert_lines style.now.form view style.now.name.now view style.now.name.now local.now))) result }
 {
-    let zone = named(alloc, source, style.name)?;
+    let zone = find_named(alloc, source, style.name)?;
     let lines = convert_lines(alloc, &zone, style.name, &zone, style, local);
     told(alloc, style.name, lines)
 }
@@ -64,8 +64,8 @@ fn convert_reply<S: ZoneSource>(
     ensures { IsAnswer (on_zone (S.found source.now) from_name.now (λ view. on_zone (S.found source.now) style.now.name.now (λ other.
         told from_name.now (convert_lines style.now.form view from_name.now other style.now.name.now local.now)))) result }
 {
-    let from = named(alloc, source, from_name)?;
-    let to = named(alloc, source, style.name)?;
+    let from = find_named(alloc, source, from_name)?;
+    let to = find_named(alloc, source, style.name)?;
     let lines = convert_lines(alloc, &from, from_name, &to, style, local);
     told(alloc, from_name, lines)
 }
@@ -81,7 +81,7 @@ fn list_reply<S: ZoneSource>(
     ensures { IsAnswer (on_zone (S.found source.now) style.now.name.now (λ view.
         told style.now.name.now (list_lines style.now.form view style.now.name.now (instant from.now) (instant to.now)))) result }
 {
-    let zone = named(alloc, source, style.name)?;
+    let zone = find_named(alloc, source, style.name)?;
     let lines = list_lines(alloc, &zone, style, from, to);
     told(alloc, style.name, lines)
 }
@@ -96,7 +96,7 @@ fn alarm_reply<S: ZoneSource>(
     ensures { IsAnswer (on_zone (S.found source.now) style.now.name.now (λ view.
         told style.now.name.now (rings_due style.now.form view style.now.name.now (alarm_shown alarm.now)))) result }
 {
-    let zone = named(alloc, source, style.name)?;
+    let zone = find_named(alloc, source, style.name)?;
     let lines = ring_lines(alloc, &zone, style, alarm);
     told(alloc, style.name, lines)
 }

@@ -12,5 +12,6 @@ mod source;
 pub use answering::answer_over;
 pub use answers::{refusal_of, told};
 pub use line::{name_words, told_line};
+pub use named::{NamedZone, find_named};
 pub use offset::offset_in;
 pub use source::{Refusal, ZoneSource};

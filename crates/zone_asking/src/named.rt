@@ -12,7 +12,7 @@ use zone_replies::{FixedZone, Force, ReplyZone};
 
 /// A zone by its name.
 #[derive(Drop)]
-pub(crate) enum NamedZone<'n, Z> {
+pub enum NamedZone<'n, Z> {
     /// An offset.
     Fixed(FixedZone<'n>),
     /// A zone of the source.
@@ -85,8 +85,12 @@ impl<Z: ReplyZone> ReplyZone for NamedZone<'_, Z> {
     }
 }
 
-/// The zone that a name finds.
-pub(crate) fn named<'n, S: ZoneSource>(
+/// The zone that a name finds: an offset, or a zone of the source.
+///
+/// # Errors
+///
+/// The name in quotes and why it finds none, or want of memory.
+pub fn find_named<'n, S: ZoneSource>(
     alloc: Global,
     source: &S,
     name: &'n str,
