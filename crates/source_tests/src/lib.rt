@@ -29,6 +29,8 @@ mod opened;
 #[cfg(test)]
 mod outside;
 #[cfg(test)]
+mod people;
+#[cfg(test)]
 mod plain;
 #[cfg(test)]
 mod posix;

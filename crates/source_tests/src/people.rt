@@ -1,0 +1,129 @@
+//! Whole runs of the command `zone` over objects in memory. What a row gives was computed with Python's `zoneinfo`, or stands in the form
+//! that the programs' page says.
+//!
+//! A row has the words, the input, the output, and what goes to standard error, with `~` between them, a bar for each space between
+//! words, and `;` for each line feed.
+use crate::checks::same_at;
+use crate::runs::bytes_of;
+use std::alloc::Global;
+use std::process::Abort;
+use zone_command::run_zone;
+use zone_outside::{MemClock, MemEnvironment, MemExchange, MemShelf, MemSink};
+use zone_people::AnySource;
+use zone_serving::OverSource;
+
+/// The source: Berlin's rules from 1996 on in compact lines, a link, and a zone that doesn't go on.
+const SOURCE: &str = "\
+R E 1996 ma - Mar lastSu 1u 1 S;R E 1996 ma - O lastSu 1u 0 -;Z Test/Berlin 1 E CE%sT;L Test/Berlin Test/Link;R X 2000 2200 - Jul 1 0 1 S;R X 2000 2200 - Au 1 0 0 -;Z Test/Ends 0 X X%sT;";
+
+/// Rows that end with status 0.
+const RUNS: &str = "\
+at|Test/Berlin|now|@0.5~~2024-10-27 02:30:00 +02:00 CEST;1970-01-01 01:00:00.5 +01:00 CET;~
+local|Test/Link|2150-07-01|12:00|--json~~{\"zone\":\"Test/Link\",\"instant\":5695956000,\"local\":\"2150-07-01 12:00:00\",\"offset\":\"+02:00\",\"abbreviation\":\"CEST\",\"saving\":3600,\"kind\":\"one\"};~
+convert|Test/Berlin|-04:30|2024-10-27 02:30|--rfc3339~~2024-10-26T20:00:00-04:30;2024-10-26T21:00:00-04:30;~
+list|Test/Berlin|@1704067200|now~~@1711846800: 2024-03-31 02:00:00 +01:00 CET to 2024-03-31 03:00:00 +02:00 CEST, saving 3600;~
+alarm|Test/Berlin|02:30|--from|2024-03-30|--count|2~~2024-03-30 02:30:00 +01:00 CET;2024-04-01 02:30:00 +02:00 CEST;~
+names|TEST/L~~Test/Link -> Test/Berlin;~
+string|Test/Link~~CET-1CEST,M3.5.0,M10.5.0/3;~
+stream~at UTC @0;local Test/Berlin 2024-10-27 02:30~1970-01-01 00:00:00 +00:00 UTC;2024-10-27 02:30:00 +02:00 CEST | 2024-10-27 02:30:00 +01:00 CET;~
+log|Test/Berlin|--field|2~a 1729989000 b;no;~a 2024-10-27 02:30:00 +02:00 CEST b;no;~
+--version~~zone 2.0.0 of Sefunjaro;~
+";
+
+/// Rows that end with status 2.
+const FAULTS: &str = "\
+at|Test/Berln|@0~~~zone: \"Test/Berln\": no zone has this name, did you mean Test/Berlin?;
+local|UTC|2024-10-27~~~zone: \"2024-10-27\": a time of day is missing, as in 2024-10-27 02:30;
+at|Test/Ends|@4102444800~~~zone: \"Test/Ends\": the zone's rules end before that year;
+string|Test/Ends~~~zone: \"Test/Ends\": the rules of this zone end, so it doesn't go on for ever;
+stream~at UTC;at UTC @0;~? words are missing behind this command;1970-01-01 00:00:00 +00:00 UTC;~
+log|Nowhere~@0;~~zone: \"Nowhere\": no zone has this name;
+tree~~~zone: \"Test/Ends\": the rules of this zone end, so it doesn't go on for ever;
+";
+
+/// Rows that end with status 1, and with status 3.
+const NO_FORM: &str = "\
+what~~~zone: \"what\": no command has this name, zone --help tells them;
+--epoch|--epoch|at|UTC|@0~~~zone: \"--epoch\": this option is there twice, or beside one that says the same;
+";
+const UNREAD: &str = "\
+at|UTC|@0|--source|x.zi~~~zone: \"x.zi\": this file can't be read;
+";
+
+/// The words between the bars of a field.
+fn words_of(rt: &impl Abort, alloc: Global, field: &str) -> Vec<String> {
+    let mut words = Vec::new(alloc);
+    for word in field.split('|') {
+        let word = String::from_str(alloc, word).expect(rt, "memory");
+        words.push(word).expect(rt, "memory");
+    }
+    words
+}
+
+/// A shelf of the one file `zones`.
+fn shelf_of(rt: &impl Abort, alloc: Global) -> MemShelf {
+    let name = String::from_str(alloc, "zones").expect(rt, "memory");
+    let mut files = Vec::new(alloc);
+    files
+        .push((name, bytes_of(rt, alloc, Some(SOURCE))))
+        .expect(rt, "memory");
+    MemShelf::new(files, 7, Vec::new(alloc))
+}
+
+/// An environment that names it.
+fn environment_of(rt: &impl Abort, alloc: Global) -> MemEnvironment {
+    let name = String::from_str(alloc, "SEFUNJARO_TZDATA").expect(rt, "memory");
+    let value = String::from_str(alloc, "zones").expect(rt, "memory");
+    let mut values = Vec::new(alloc);
+    values.push((name, value)).expect(rt, "memory");
+    MemEnvironment::new(values, Vec::new(alloc))
+}
+
+/// Standard input and output, which move three bytes and two at a time.
+fn exchange_of(rt: &impl Abort, alloc: Global, input: Vec<u8>) -> MemExchange {
+    MemExchange::new(
+        alloc,
+        input,
+        3,
+        2,
+        4000,
+        Vec::new(alloc),
+        Vec::new(alloc),
+    )
+    .expect(rt, "memory")
+}
+
+/// Asserts the status of a run, what it wrote, and what went to standard error.
+fn expect_run(rt: &impl Abort, alloc: Global, row: &str, code: u8) {
+    let mut fields = row.split('~');
+    let words = words_of(rt, alloc, fields.next().expect(rt, "no words"));
+    let mut exchange = exchange_of(rt, alloc, bytes_of(rt, alloc, fields.next()));
+    let mut errors = MemSink::new(alloc, 1000, 7, Vec::new(alloc)).expect(rt, "memory");
+    let status = run_zone::<OverSource<AnySource>, _, _, _, _, _>(
+        alloc,
+        &words,
+        &mut shelf_of(rt, alloc),
+        &mut MemClock::new(1_729_989_000_000_000_000, Vec::new(alloc)),
+        &mut environment_of(rt, alloc),
+        &mut exchange,
+        &mut errors,
+    );
+    let output = bytes_of(rt, alloc, fields.next());
+    let told = bytes_of(rt, alloc, fields.next());
+    same_at(
+        rt,
+        row,
+        &(exchange.written(), errors.taken(), status.code()),
+        &(output.as_slice(), told.as_slice(), code),
+    );
+}
+
+#[test]
+fn runs_of_zone(rt: HostRuntime) {
+    let alloc = rt.alloc();
+    for (table, code) in [(RUNS, 0), (FAULTS, 2), (NO_FORM, 1), (UNREAD, 3)] {
+        for row in table.lines() {
+            expect_run(&rt, alloc, row, code);
+        }
+    }
+}
