@@ -1,0 +1,6 @@
+-- Definitions: what public clauses say.
+pub mod Kept
+pub mod Requests
+pub mod Streams
+pub mod Told
+pub mod LogTexts
