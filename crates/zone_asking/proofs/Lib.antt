@@ -1,3 +1,4 @@
 pub mod AnswerLemmas
 pub mod UtcLemmas
 mod OffsetRows
+mod ReplyRows

@@ -1,0 +1,4 @@
+pub mod KeptLemmas
+pub mod RequestLemmas
+mod StreamRows
+mod LogRows

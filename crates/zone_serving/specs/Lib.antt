@@ -1,0 +1,7 @@
+-- Definitions: what public clauses say.
+pub mod Kept
+pub mod Requests
+pub mod Streams
+pub mod Told
+pub mod LogTexts
+pub mod Makes

@@ -1,0 +1,137 @@
+//! The words of a line, and what they ask.
+ghost use Rattle.std.specs.Prelude.{◌≡◌, ◌==◌, [], ◌++◌, map, string_bytes, IfOk, OnOk};
+ghost use Rattle.std.specs.List.{slice_split};
+ghost use Rattle.zone_asking.specs.Refusals.{IsTold};
+ghost use Rattle.zone_serving.specs.Requests.{bare, has_option, request_of, word_in, words_among, words_of};
+ghost use Rattle.zone_serving.specs.Told.{IsRequest};
+ghost use Rattle.zone_words.specs.FaultLines.{fault_line};
+ghost use Rattle.zone_words.specs.Options.{is_option};
+ghost use Rattle.zone_words.specs.Shown.{word_shown};
+ghost use Rattle.zone_words.specs.Told.{fault_shown, is_of_memory};
+
+use std::alloc::{AllocError, Global};
+use zone_asking::Refusal;
+use zone_words::{Asked, WordCause, WordFault, fault_line, read_words};
+
+/// The pieces of a text between spaces.
+fn pieces_of(alloc: Global, text: &str) -> Result<Vec<&str>, AllocError>
+    ensures { IfOk result (λ pieces. map (λ piece. piece.now) pieces.items ≡ slice_split (λ c. c == 32) text.now) }
+{
+    text.split(' ').collect(alloc)
+}
+
+/// Adds a piece that has a byte.
+fn add_word(words: &mut Vec<String>, alloc: Global, piece: &str) -> Result<(), AllocError>
+    ensures { OnOk result (map string_bytes words.new.items ≡ map string_bytes words.old.items ++ word_in piece.now) }
+{
+    if piece.is_empty() {
+        return Ok(());
+    }
+    words.push(String::from_str(alloc, piece)?)?;
+    Ok(())
+}
+
+/// The words among pieces.
+fn words_among(alloc: Global, pieces: &[&str]) -> Result<Vec<String>, AllocError>
+    ensures { IfOk result (λ words. map string_bytes words.items ≡ words_among [] (map word_shown pieces.now)) }
+{
+    let mut words = Vec::new(alloc);
+    for piece in pieces {
+        add_word(&mut words, alloc, *piece)?;
+    }
+    Ok(words)
+}
+
+/// The words of a text.
+pub(crate) fn words_of(alloc: Global, text: &str) -> Result<Vec<String>, AllocError>
+    ensures { IfOk result (λ words. map string_bytes words.items ≡ words_of text.now) }
+{
+    let pieces = pieces_of(alloc, text)?;
+    let words = words_among(alloc, &pieces)?;
+    Ok(words)
+}
+
+/// Whether a word is an option: it begins with `-`, and what follows is no digit.
+fn is_option(word: &str) -> bool
+    ensures { result ≡ is_option word.now }
+{
+    match word.as_bytes() {
+        [first, second, ..] => *first == b'-' && !second.is_ascii_digit(),
+        _ => false,
+    }
+}
+
+/// Whether one of the words is an option.
+fn has_option(words: &[String]) -> bool
+    ensures { result ≡ has_option (map string_bytes words.now) }
+{
+    for word in words {
+        if is_option(word.as_str()) {
+            return true;
+        }
+    }
+    false
+}
+
+/// These words, or want of memory.
+pub(crate) fn refused(alloc: Global, why: &[u8]) -> Refusal
+    ensures { IsTold (λ words. words ≡ why.now) result }
+{
+    let mut words = Vec::new(alloc);
+    match words.extend_from_slice(why) {
+        Ok(()) => Refusal::Why(words),
+        Err(_) => Refusal::NoMemory,
+    }
+}
+
+/// A line of the command without `zone: ` and its end.
+fn bare(line: &[u8]) -> &[u8]
+    ensures { result.now ≡ bare line.now }
+{
+    if line.len() < 7 {
+        return &[];
+    }
+    &line[6..line.len() - 1]
+}
+
+/// The words of a fault, or want of memory.
+fn fault_told(alloc: Global, fault: &WordFault<'_>) -> Refusal
+    ensures { IsTold (λ words. words ≡ bare (fault_line (fault_shown fault.now))) result }
+{
+    match fault_line(alloc, fault) {
+        Ok(line) => refused(alloc, bare(&line)),
+        Err(_) => Refusal::NoMemory,
+    }
+}
+
+/// Whether memory ran out.
+fn is_of_memory(cause: WordCause) -> bool
+    ensures { result ≡ is_of_memory cause }
+{
+    matches!(cause, WordCause::NoMemory)
+}
+
+/// What words ask of the command, without options.
+///
+/// # Errors
+///
+/// The words of the fault, or want of memory.
+pub(crate) fn read_request(alloc: Global, words: &[String]) -> Result<Asked<'_>, Refusal>
+    ensures { IsRequest (request_of (map string_bytes words.now)) result }
+{
+    if words.is_empty() {
+        return Err(refused(alloc, b"a request is missing"));
+    }
+    if has_option(words) {
+        return Err(refused(alloc, b"a request has no options"));
+    }
+    match read_words(alloc, words) {
+        Ok(asked) => Ok(asked),
+        Err(fault) => {
+            if is_of_memory(fault.cause) {
+                return Err(Refusal::NoMemory);
+            }
+            Err(fault_told(alloc, &fault))
+        }
+    }
+}
