@@ -40,7 +40,7 @@ unfolding found value_in two_in size_in offset_in
 named = refl
 
 -- the first name that finds none
-converts : map (λ (names : List ℕ × List ℕ). reply_of found Epoch (pos 0) (converted names.0 names.1 (pos 0))) ((codes "b", codes "c") ∷ (codes "a", codes "c") ∷ [])
+converts : map (λ (names : List ℕ × List ℕ). reply_of found [] Epoch (pos 0) (converted names.0 names.1 (pos 0))) ((codes "b", codes "c") ∷ (codes "a", codes "c") ∷ [])
     ≡ Err (codes "\"b\": none") ∷ Err (codes "\"c\": none") ∷ []
 unfolding found value_in two_in size_in offset_in
 converts = refl
@@ -56,7 +56,7 @@ line : List ℕ → List ℕ
 line second = (64 ∷ second ++ codes ": +00:00 A to +00:00 A, saving 0") ++ 10 ∷ []
 
 -- from now on, and before the other instant
-listed : reply_of found Epoch (pos 5000000000) (list_changes (codes "a") None (Some (pos 9000000000))) ≡ Ok (line (codes "5") ++ (line (codes "8") ++ []))
+listed : reply_of found [] Epoch (pos 5000000000) (list_changes (codes "a") None (Some (pos 9000000000))) ≡ Ok (line (codes "5") ++ (line (codes "8") ++ []))
 unfolding found view line value_in two_in size_in offset_in seconds_of day_part list_lines list_due each_due change_due sides_text epoch_text fraction_text offset_shown digits
 listed = λ i. told (codes "a") (cond (ap (int_lt (pos 2099)) year i) (Err Untold) (Ok (line (codes "5") ++ (line (codes "8") ++ []))))
 
