@@ -129,7 +129,7 @@ fn entries_of<'s>(alloc: Global, source: &'s OpenSource) -> Result<Vec<NameEntry
     ensures { IfOk result (λ entries. map name_seen entries.items ≡ entries_of (table_in source.now)) }
 {
     let mut entries = Vec::new(alloc);
-    for name in source.names().iter() {
+    for name in source.names().as_slice() {
         entries.push(entry_of(source.table(), name.as_str()))?;
     }
     Ok(entries)
@@ -201,7 +201,7 @@ fn string_of(alloc: Global, ever: &EverSet) -> Result<Vec<u8>, Refusal>
     match tail_for_ever(alloc, ever) {
         Ok(tail) => {
             let mut line = tail.text.as_bytes().to_vec(alloc)?;
-            line.push(b'\n')?;
+            line.extend_from_slice(b"\n")?;
             Ok(line)
         }
         Err(EverTailFault::NoMemory) => Err(Refusal::NoMemory),

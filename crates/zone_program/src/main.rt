@@ -1,8 +1,10 @@
 //! `zone [OPTIONS] COMMAND ..`: local times, their instants and changes, for people and for other tools.
 #![tactic(auto)]
 
-use zone_people::{ZoneStarted, start};
+use zone_command::{ZoneStarted, start};
+use zone_people::AnySource;
+use zone_serving::OverSource;
 
 fn main(rt: HostRuntime) -> ZoneStarted {
-    start(rt)
+    start::<OverSource<AnySource>>(rt)
 }
