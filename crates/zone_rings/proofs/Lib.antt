@@ -1,2 +1,3 @@
 pub mod RungLemmas
+mod DayLaws
 mod RingRows

@@ -1,5 +1,5 @@
 -- Alarms at half past two in Berlin in 2024, as Python's `zoneinfo` has their instants.
-use Rattle.std.proofs.Common.{◌≡◌, refl, ap, sym, ◌∙◌, arith, Bool, true, false, not, lit≤, ◌++◌, ◌∷◌, [], List, ℕ, ℤ, map, pos, filter, int_le, int_lt, ◌&&◌, ◌+ℤ◌, ◌-ℤ◌, ◌*ℤ◌, cond, Option, Ok, Err, Some, None}
+use Rattle.std.proofs.Common.{◌≡◌, refl, ap, ◌∙◌, arith, Bool, true, false, not, lit≤, ◌++◌, ◌∷◌, [], List, ℕ, ℤ, map, pos, filter, int_le, int_lt, ◌&&◌, ◌+ℤ◌, ◌-ℤ◌, ◌*ℤ◌, cond, Option, Ok, Err, Some, None}
 use Rattle.std.specs.Prelude.{codes}
 use Rattle.std.specs.Fmt.{digits}
 use Rattle.std.specs.Ordering.{int_eq}
@@ -14,19 +14,15 @@ use Rattle.civil_base.specs.Ranges.{is_in_years}
 use Rattle.zone_moments.specs.Written.{epoch_text, fraction_text}
 use Rattle.zone_moments.specs.declared.answer_form.AnswerForm.TheVariants.{Epoch}
 use Rattle.zone_replies.specs.Faults.{Due, each_due, followed}
-use Rattle.zone_replies.specs.Instants.{at_due, is_untold, kind_at, shown_due}
-use Rattle.zone_replies.specs.Kinds.{kind_of}
+use Rattle.zone_replies.specs.Instants.{is_untold, shown_due}
 use Rattle.zone_replies.specs.Skips.{skipping}
 use Rattle.zone_replies.specs.Views.{InForce, ZoneView}
-use Rattle.zone_replies.specs.declared.fault.ReplyFault.{ReplyFault}
 use Rattle.zone_replies.specs.declared.fault.ReplyFault.TheVariants.{OutOfYears, Untold}
 use Rattle.zone_rings.specs.Days.{days_between, is_dated, is_on, last_of, step_of}
-use Rattle.zone_rings.specs.Rings.{Rung, by_fold, by_gap, counts, first_of, line_due, lines_on, rings_at, rings_due, rung_on, time_on}
+use Rattle.zone_rings.specs.Rings.{by_fold, by_gap, counts, first_of, line_due, lines_on, rings_at, rings_due, rung_on, time_on}
 use Rattle.zone_rings.proofs.RungLemmas.{not_dated, not_on, not_told, told}
 use Rattle.zone_words.specs.Tasks.{AlarmAsked}
-use Rattle.zone_words.specs.declared.task.FoldRule.{FoldRule}
 use Rattle.zone_words.specs.declared.task.FoldRule.TheVariants.{First, Second, Both}
-use Rattle.zone_words.specs.declared.task.GapRule.{GapRule}
 use Rattle.zone_words.specs.declared.task.GapRule.TheVariants.{Skip, Before, After}
 
 -- summer time from 2024-03-31 01:00 UTC up to 2024-10-27 01:00 UTC

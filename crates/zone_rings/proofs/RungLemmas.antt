@@ -1,6 +1,6 @@
 -- What is due of the days of an alarm, one after another.
-use Rattle.std.proofs.Common.{◌≡◌, ℕ, zero, suc, ◌+◌, ◌-◌, ◌<◌, ◌≤◌, ◌==◌, length, Bool, true, false, not, cond, List, [], ◌∷◌, ◌++◌, map, filter, take, append-nil, ℤ, refl, ap, sym, ◌∙◌, arith}
-use Rattle.std.specs.Prelude.{Option, Some, None, Result, Ok, Err}
+use Rattle.std.proofs.Common.{◌≡◌, ℕ, zero, suc, ◌+◌, ◌-◌, ◌<◌, ◌≤◌, ◌==◌, length, Bool, true, false, not, cond, List, [], ◌∷◌, map, append-nil, ℤ, refl, ap, sym, ◌∙◌, arith}
+use Rattle.std.specs.Prelude.{Option, Some, None, Ok, Err}
 use Rattle.std.specs.List.{range_with_len}
 use Rattle.std.proofs.Math.Dec.{eqb-suc-zero}
 use Rattle.zone_moments.specs.declared.answer_form.AnswerForm.{AnswerForm}
@@ -12,7 +12,7 @@ use Rattle.zone_replies.specs.declared.fault.ReplyFault.{ReplyFault}
 use Rattle.zone_replies.specs.declared.fault.ReplyFault.TheVariants.{OutOfYears, Untold}
 use Rattle.zone_rings.specs.Days.{day_after, is_dated, is_on}
 use Rattle.zone_rings.specs.Left.{is_full, left_after}
-use Rattle.zone_rings.specs.Rings.{Rung, counts, first_of, lines_due, lines_on, rings_at, rung_on, time_on}
+use Rattle.zone_rings.specs.Rings.{Rung, counts, lines_due, lines_on, rings_at, rung_on, time_on}
 use Rattle.zone_words.specs.Tasks.{AlarmAsked}
 
 nothing_before : (d : Due) → d ≡ behind [] d

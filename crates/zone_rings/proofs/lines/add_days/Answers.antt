@@ -2,7 +2,7 @@ use Rattle.std.proofs.Common.{◌≡◌, ◌+◌, ◌-◌, ◌<◌, ◌≤◌, a
 use Rattle.std.proofs.lemmas.Result.{err_from_is_err_and}
 use Rattle.zone_replies.specs.Faults.{behind}
 use Rattle.zone_rings.specs.Days.{count_between, days_between, last_of, step_of}
-use Rattle.zone_rings.specs.Rings.{lines_on, rings_due}
+use Rattle.zone_rings.specs.Rings.{lines_on}
 use Rattle.zone_rings.proofs.RungLemmas.{loop_end, loop_fault, loop_full, loop_more, rungs}
 use Rattle.zone_words.specs.TaskShown.{alarm_shown}
 use Rattle.zone_rings.proofs.lines.add_days.Goals as goal
