@@ -1,5 +1,5 @@
 -- Names and words.
-use Rattle.std.proofs.Common.{◌≡◌, ℕ, ◌+◌, ◌-◌, ◌<◌, ◌==◌, List, [], ◌∷◌, ◌++◌, length, map, take, drop, append_assoc, Bool, ◌||◌, false, refl, ap, sym, ◌∙◌}
+use Rattle.std.proofs.Common.{◌≡◌, ℕ, ◌+◌, ◌-◌, ◌<◌, ◌==◌, List, [], ◌∷◌, ◌++◌, length, map, take, drop, append_assoc, ◌||◌, false, refl, ap, sym, ◌∙◌}
 use Rattle.std.proofs.lemmas.List.{at_drop_more, map-append, take-map, take_rest}
 use Rattle.std.specs.Prelude.{codes}
 use Rattle.zone_names.specs.Same.{begins_so, has_word}

@@ -1,5 +1,5 @@
 -- Names that are listed and that are near: worked rows.
-use Rattle.std.proofs.Common.{◌≡◌, refl, map, ℕ, Bool, true, false, List, [], ◌∷◌, ◌++◌, Option, Some, None}
+use Rattle.std.proofs.Common.{◌≡◌, refl, map, ℕ, Bool, true, false, List, [], ◌∷◌, Option, Some, None}
 use Rattle.std.specs.Prelude.{codes}
 use Rattle.zone_moments.specs.declared.answer_form.AnswerForm.TheVariants.{People, Rfc3339, Epoch, Json}
 use Rattle.zone_names.specs.Edits.{is_one_edit}
@@ -51,6 +51,12 @@ first_three : map (near_names (zone (codes "A/x1") ∷ zone (codes "A/x2") ∷ z
     ≡ (codes "a/x" ∷ codes "A/X" ∷ codes "A/x1" ∷ []) ∷ (codes "B/A/X" ∷ codes "a/x" ∷ codes "A/X" ∷ []) ∷ (codes "a/x" ∷ codes "A/X" ∷ codes "A/x1" ∷ []) ∷ []
 unfolding near_names is_one_edit
 first_three = refl
+
+-- the last part is the whole of what stands behind the last slash
+last_parts : map (near_names (zone (codes "America/Indiana/Knox") ∷ [])) (codes "knox" ∷ codes "Indiana/Knox" ∷ codes "/Knox" ∷ codes "nox" ∷ [])
+    ≡ (codes "America/Indiana/Knox" ∷ []) ∷ [] ∷ [] ∷ [] ∷ []
+unfolding near_names is_one_edit
+last_parts = refl
 
 abbrev lines : Option (List ℕ) → List ℕ
 lines = names_text People listed

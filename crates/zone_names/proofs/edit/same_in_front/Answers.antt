@@ -1,5 +1,5 @@
 use Rattle.std.proofs.Common.{arith}
-use Rattle.std.proofs.lemmas.List.Sums.{common_prefix_len-drop_yes, common_prefix_len-drop_no}
+use Rattle.std.proofs.lemmas.List.Sums.{common_prefix_len-drop_yes}
 use Rattle.zone_names.proofs.EditLemmas.{ended}
 use Rattle.zone_names.proofs.edit.same_in_front.Goals as goal
 
