@@ -1,5 +1,5 @@
 -- Requests about Berlin in 2024, as Python's `zoneinfo` has its times, and requests that are faults.
-use Rattle.std.proofs.Common.{◌≡◌, refl, ap, ◌∙◌, arith, Bool, true, false, not, lit≤, ◌++◌, ◌∷◌, [], List, ℕ, ℤ, map, pos, filter, int_le, int_lt, ◌&&◌, ◌+ℤ◌, ◌-ℤ◌, ◌*ℤ◌, cond, Ok, Err}
+use Rattle.std.proofs.Common.{◌≡◌, Some, None, refl, ap, ◌∙◌, arith, Bool, true, false, not, lit≤, ◌++◌, ◌∷◌, [], List, ℕ, ℤ, map, pos, filter, int_le, int_lt, ◌&&◌, ◌+ℤ◌, ◌-ℤ◌, ◌*ℤ◌, cond, Ok, Err}
 use Rattle.std.specs.Prelude.{bytes_eq, codes}
 use Rattle.std.specs.Fmt.{digits}
 use Rattle.std.specs.Ordering.{int_eq}
@@ -20,9 +20,9 @@ use Rattle.zone_asking.specs.Offsets.{offset_in, size_in, two_in}
 use Rattle.zone_moments.specs.Numbers.{moment, seconds_east, counted}
 use Rattle.zone_moments.specs.Pieces.{digit_at, two_at, four_at, date_at, minute_at, second_at, offset_at}
 use Rattle.zone_moments.specs.Readings.{digits_at, fraction_at, front_at, seconds_at, moment_in, local_in, in_years, zoned_at, zoned_in, size_at, count_at, count_in, counted_in, written_in, instant_in, asked_in}
-use Rattle.zone_moments.specs.Written.{epoch_text, fraction_text, offset_shown, people_text}
+use Rattle.zone_moments.specs.Written.{epoch_text, fraction_text, offset_shown, people_text, rfc3339_text}
 use Rattle.zone_moments.specs.declared.answer_form.AnswerForm.{AnswerForm}
-use Rattle.zone_moments.specs.declared.answer_form.AnswerForm.TheVariants.{People, Epoch, Json}
+use Rattle.zone_moments.specs.declared.answer_form.AnswerForm.TheVariants.{People, Rfc3339, Epoch, Json}
 use Rattle.zone_replies.specs.Faults.{Due, behind, each_due, followed}
 use Rattle.zone_replies.specs.Instants.{instant_text, is_untold, shown_due}
 use Rattle.zone_replies.specs.Readings.{convert_due, local_due}
@@ -32,7 +32,8 @@ use Rattle.zone_replies.specs.declared.fault.ReplyFault.TheVariants.{OutOfYears,
 use Rattle.zone_replies.specs.declared.kind.Kind.{Kind}
 use Rattle.zone_replies.specs.declared.kind.Kind.TheVariants.{Fold, One}
 use Rattle.zone_serving.specs.Requests.{request_in, request_of, words_of}
-use Rattle.zone_serving.specs.Streams.{answer_for, closing, is_fault, opening, response_of}
+use Rattle.zone_serving.specs.Streams.{answer_for, between, closing, is_fault, opening, response_of, stream_replies}
+use Rattle.zone_serving.specs.LogTexts.{log_text, text_of}
 use Rattle.zone_words.specs.Arguments.{task_in}
 use Rattle.zone_words.specs.FaultLines.{fault_line}
 use Rattle.zone_words.specs.Sorted.{put_any, put_option, put_word}
@@ -124,28 +125,30 @@ if_told : Bool → Bool → List ℕ → Due
 if_told years untold text = cond (not years) (Err OutOfYears) (cond untold (Err Untold) (Ok text))
 
 -- an instant that clocks show in that year
-shown : (form : AnswerForm) (kind : Kind) (t o : ℤ) → total_in t ≡ o → is_in_years (local_at t o) ≡ true → year_of (day_part (local_at t o)) ≡ pos 2024
-    → shown_due form berlin name kind t ≡ Ok (instant_text form berlin name kind t o)
+shown : (who : List ℕ) (form : AnswerForm) (kind : Kind) (t o : ℤ) → total_in t ≡ o → is_in_years (local_at t o) ≡ true
+    → year_of (day_part (local_at t o)) ≡ pos 2024 → shown_due form berlin who kind t ≡ Ok (instant_text form berlin who kind t o)
 unfolding shown_due berlin if_told
-shown form kind t o is years year =
-    (λ i. if_told (is_in_years (local_at t (is i))) (is_untold berlin (local_at t (is i))) (instant_text form berlin name kind t (is i)))
-    ∙ (λ i. if_told (years i) (ap (int_lt (pos 2099)) year i) (instant_text form berlin name kind t o))
+shown who form kind t o is years year =
+    (λ i. if_told (is_in_years (local_at t (is i))) (is_untold berlin (local_at t (is i))) (instant_text form berlin who kind t (is i)))
+    ∙ (λ i. if_told (years i) (ap (int_lt (pos 2099)) year i) (instant_text form berlin who kind t o))
 
 -- 2024-10-27 02:30 comes twice: 00:30 UTC and 01:30 UTC
-first : (form : AnswerForm) (kind : Kind) → shown_due form berlin name kind (pos 1729989000000000000) ≡ Ok (instant_text form berlin name kind (pos 1729989000000000000) (pos 7200))
+first : (who : List ℕ) (form : AnswerForm) (kind : Kind)
+    → shown_due form berlin who kind (pos 1729989000000000000) ≡ Ok (instant_text form berlin who kind (pos 1729989000000000000) (pos 7200))
 unfolding winter summer in_force total_in seconds_of day_part
-first form kind = shown form kind (pos 1729989000000000000) (pos 7200) refl refl autumn
+first who form kind = shown who form kind (pos 1729989000000000000) (pos 7200) refl refl autumn
 
-second : (form : AnswerForm) (kind : Kind) → shown_due form berlin name kind (pos 1729992600000000000) ≡ Ok (instant_text form berlin name kind (pos 1729992600000000000) (pos 3600))
+second : (who : List ℕ) (form : AnswerForm) (kind : Kind)
+    → shown_due form berlin who kind (pos 1729992600000000000) ≡ Ok (instant_text form berlin who kind (pos 1729992600000000000) (pos 3600))
 unfolding winter summer in_force total_in seconds_of day_part
-second form kind = shown form kind (pos 1729992600000000000) (pos 3600) refl refl autumn
+second who form kind = shown who form kind (pos 1729992600000000000) (pos 3600) refl refl autumn
 
 both : (form : AnswerForm) (separator : List ℕ) → local_due form berlin name separator (pos 1729996200000000000)
     ≡ Ok (instant_text form berlin name Fold (pos 1729989000000000000) (pos 7200)
     ++ ((separator ++ instant_text form berlin name Fold (pos 1729992600000000000) (pos 3600)) ++ []))
 unfolding winter summer in_force total_in instants_in berlin seconds_of day_part each_due convert_due
 both form separator =
-    (λ i. cond (ap (int_lt (pos 2099)) autumn i) (Err Untold) (followed (first form Fold i) (followed (behind separator (second form Fold i)) (Ok []))))
+    (λ i. cond (ap (int_lt (pos 2099)) autumn i) (Err Untold) (followed (first name form Fold i) (followed (behind separator (second name form Fold i)) (Ok []))))
 
 -- for people
 at_instant : answer People (codes " at Europe/Berlin   @1729989000 ") ≡ Ok (people_text (pos 1729996200000000000) (pos 7200) (codes "CEST"))
@@ -153,7 +156,7 @@ unfolding found name winter summer in_force total_in instants_in berlin seconds_
     moment seconds_east counted digit_at two_at four_at date_at minute_at second_at offset_at digits_at fraction_at front_at seconds_at
     moment_in local_in in_years zoned_at zoned_in size_at count_at count_in counted_in written_in instant_in asked_in
     day_part time_part value_in two_in size_in offset_in put_any put_option put_word task_in words_in fault_line
-at_instant = ap (told name) (first People Fold)
+at_instant = ap (told name) (first name People Fold)
 
 -- all readings on one line
 twice : answer Epoch (codes "local Europe/Berlin 2024-10-27 02:30") ≡ Ok (codes "@1729989000 | @1729992600")
@@ -180,7 +183,7 @@ unfolding found name winter summer in_force total_in instants_in berlin seconds_
     moment_in local_in in_years zoned_at zoned_in size_at count_at count_in counted_in written_in instant_in asked_in
     day_part time_part value_in two_in size_in offset_in put_any put_option put_word task_in words_in fault_line
 converted_once =
-    (λ i. told (codes "-01:00") (followed (behind [] (cond (ap (int_lt (pos 9999)) autumn i) (Err Untold) (followed (second Epoch One i) (Ok [])))) (Ok [])))
+    (λ i. told (codes "-01:00") (followed (behind [] (cond (ap (int_lt (pos 9999)) autumn i) (Err Untold) (followed (second name Epoch One i) (Ok [])))) (Ok [])))
 
 -- 2024-03-31 02:30 is skipped
 skipped : answer Epoch (codes "local Europe/Berlin 2024-03-31 02:30") ≡ Ok (codes "none: skipped at @1711846800, from +01:00 to +02:00")
@@ -203,3 +206,24 @@ unfolding found name berlin convert_due is_leap days_in_year days_in_month days_
     moment_in local_in in_years zoned_at zoned_in size_at count_at count_in counted_in written_in instant_in asked_in
     day_part time_part value_in two_in size_in offset_in put_any put_option put_word task_in words_in fault_line
 too_late = ap (λ d. told name (followed (behind [] d) (Ok []))) (if_late _ _ (ap (int_lt (pos 2099)) late))
+
+-- what stands around readings, and between them
+around : map (λ form. opening form ++ between form ++ closing form) (People ∷ Rfc3339 ∷ Epoch ∷ Json ∷ []) ≡ codes " | " ∷ codes " | " ∷ codes " | " ∷ codes "[,]" ∷ []
+around = refl
+
+too_long : (stream_replies found People).to_long ≡ codes "? a request of more than 4,096 bytes" ++ 10 ∷ []
+too_long = refl
+
+-- in a log
+logged : log_text People berlin (pos 1729989000000000000) ≡ Some (people_text (pos 1729996200000000000) (pos 7200) (codes "CEST"))
+unfolding winter summer in_force total_in instants_in berlin seconds_of
+logged = ap text_of (first [] People Fold)
+
+no_object : log_text Json berlin (pos 1729989000000000000) ≡ Some (rfc3339_text (pos 1729996200000000000) (pos 7200))
+unfolding winter summer in_force total_in instants_in berlin seconds_of
+no_object = ap text_of (first [] Rfc3339 Fold)
+
+-- 2100-01-01 00:00 UTC, which the zone doesn't tell
+unlogged : log_text Epoch berlin (pos 4102444800000000000) ≡ None
+unfolding winter summer in_force total_in instants_in berlin seconds_of day_part shown_due if_told
+unlogged = λ i. text_of (if_told true (ap (int_lt (pos 2099)) late i) (instant_text Epoch berlin [] One (pos 4102444800000000000) (pos 3600)))
