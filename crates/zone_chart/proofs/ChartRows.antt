@@ -1,11 +1,13 @@
 -- Charts: worked rows, whose numbers and texts were worked out apart from the definitions.
-use Rattle.std.proofs.Common.{◌≡◌, refl, map, ℕ, ℤ, pos, List, [], ◌∷◌, ◌++◌, Bool, true, false, ◌&&◌, if◌then◌else◌}
+use Rattle.std.proofs.Common.{◌≡◌, refl, map, ℤ, pos, [], ◌∷◌, ◌++◌, ◌&&◌, if◌then◌else◌}
 use Rattle.std.specs.Prelude.{codes, neg_ℤ, int_le, int_lt, Ok, Err}
 use Rattle.std.specs.Fmt.{digits}
 use Rattle.std.specs.List.{filter}
-use Rattle.calendar.specs.Days.{day, days_after_zero, days_before_zero, days_in_month, days_in_year, days_into_year, days_through, is_leap, year_start}
+use Rattle.calendar.specs.Days.{day, days_after_zero, days_in_month, days_in_year, days_into_year, days_through, is_leap, year_start}
+use Rattle.zone_moments.specs.declared.answer_form.AnswerForm.TheVariants.{People}
 use Rattle.zone_replies.specs.Faults.{each_due}
 use Rattle.zone_replies.specs.Fixed.{fixed_view}
+use Rattle.zone_replies.specs.Lists.{change_due, sides_text}
 use Rattle.zone_replies.specs.Views.{InForce, ZoneView}
 use Rattle.zone_replies.specs.declared.fault.ReplyFault.TheVariants.{OutOfYears, Untold}
 use Rattle.zone_replies.specs.declared.kind.Kind.TheVariants.{Gap, Fold}
@@ -15,7 +17,6 @@ use Rattle.zone_chart.specs.Escapes.{escaped_text}
 use Rattle.zone_chart.specs.Frames.{each_numbered}
 use Rattle.zone_chart.specs.Grids.{bottom_of, hour_mark, month_mark, hour_line, month_line, open_text, text_at}
 use Rattle.zone_chart.specs.Lines.{abbreviations, circle_text, colour, group_text, legend_line, legend_text, line_text, mark_due, place_text, step_points, step_text, zone_due}
-use Rattle.zone_chart.specs.Seen.{Named}
 
 abbrev winter : InForce
 winter = record { offset = pos 3600; saving = pos 0; name = codes "CET" }
@@ -76,6 +77,15 @@ circles : circle_text 2024 (pos 2) (berlin (pos 2099)) Gap (pos 1711846800) ∷ 
     ≡ codes "<circle class=\"gap\" cx=\"3361\" cy=\"400\" r=\"60\"><title>" ∷ codes "<circle class=\"fold\" cx=\"8401\" cy=\"1120\" r=\"60\"><title>" ∷ []
 unfolding digits circle_text place_text x_of y_of month_begin day year_start days_after_zero days_in_year is_leap days_into_year days_through days_in_month
 circles = refl
+
+-- the changes of the year, each with its mark
+marks : zone_due 2024 (pos 2) 1120 0 (record { name = []; view = berlin (pos 2099) })
+    ≡ Ok (line_text 2024 (pos 2) 1120 0 (record { name = []; view = berlin (pos 2099) }) ++ (((circle_text 2024 (pos 2) (berlin (pos 2099)) Gap (pos 1711846800)
+    ++ (escaped_text (sides_text People (pos 1711846800000000000) winter summer ++ 10 ∷ []) ++ codes "</title></circle>\n"))
+    ++ ((circle_text 2024 (pos 2) (berlin (pos 2099)) Fold (pos 1729990800)
+    ++ (escaped_text (sides_text People (pos 1729990800000000000) summer winter ++ 10 ∷ []) ++ codes "</title></circle>\n")) ++ [])) ++ codes "</g>\n"))
+unfolding zone_due each_due mark_due change_due month_begin day year_start days_after_zero days_in_year is_leap days_into_year days_through days_in_month
+marks = refl
 
 -- a change that keeps the offset has no mark
 no_mark : mark_due 2024 (pos 2) (berlin (pos 2099)) (pos 1700000000) ≡ Ok []

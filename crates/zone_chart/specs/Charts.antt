@@ -1,5 +1,5 @@
 -- The chart of zones over a year.
-use Rattle.std.specs.Prelude.{ℕ, ◌∷◌, List, ◌++◌, codes, length, Bool, Ok, Err, ℤ, pos, int_lt, nat_lt, if◌then◌else◌}
+use Rattle.std.specs.Prelude.{ℕ, List, ◌++◌, codes, length, Bool, Err, ℤ, pos, int_lt, nat_lt, if◌then◌else◌}
 use Rattle.std.specs.List.{list_any}
 use Rattle.zone_replies.specs.Faults.{Due}
 use Rattle.zone_replies.specs.declared.fault.ReplyFault.TheVariants.{OutOfYears, Untold}

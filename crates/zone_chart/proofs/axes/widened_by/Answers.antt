@@ -1,4 +1,4 @@
-use Rattle.std.proofs.Common.{◌≡◌, ℤ, pos, slice_index_or, to_z, of_z, to_z-of_z, FitsSigned, w64, rules, ap, sym, ◌∙◌}
+use Rattle.std.proofs.Common.{◌≡◌, ℤ, pos, slice_index_or, to_z-of_z, FitsSigned, w64, rules, ap, sym, ◌∙◌}
 use Rattle.zone_chart.specs.Axes.{widened}
 use Rattle.zone_chart.proofs.RangeLemmas.{fold_more}
 use Rattle.zone_replies.specs.Skips.{after_of}

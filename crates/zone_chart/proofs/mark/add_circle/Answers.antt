@@ -1,6 +1,5 @@
-use Rattle.std.proofs.Common.{◌≡◌, ℤ, ◌++◌, to_z, of_z, to_z-of_z, w64, ap, ◌∙◌}
+use Rattle.std.proofs.Common.{◌≡◌, ◌++◌, to_z, of_z, to_z-of_z, w64, ap, ◌∙◌}
 use Rattle.std.specs.Prelude.{codes}
-use Rattle.zone_replies.specs.Kinds.{kind_text}
 use Rattle.zone_replies.specs.Skips.{after_of}
 use Rattle.zone_chart.specs.Axes.{x_of, y_of}
 use Rattle.zone_chart.specs.Lines.{circle_text, place_text}

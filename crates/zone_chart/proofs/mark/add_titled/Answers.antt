@@ -1,4 +1,4 @@
-use Rattle.std.proofs.Common.{◌≡◌, to_z, of_z, to_z-of_z, w64, ap, ◌∙◌}
+use Rattle.std.proofs.Common.{to_z-of_z, ap, ◌∙◌}
 use Rattle.zone_replies.specs.Faults.{behind}
 use Rattle.zone_chart.specs.Lines.{titled_due}
 use Rattle.zone_chart.proofs.DueLemmas.{framed_at}
