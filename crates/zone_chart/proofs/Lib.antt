@@ -1,0 +1,3 @@
+mod ChartRows
+pub mod DueLemmas
+pub mod RangeLemmas
