@@ -1,1 +1,1 @@
-mod ViewLemmas
+pub mod ViewLemmas

@@ -1,5 +1,5 @@
 -- What a name finds, by what is seen of the zone that is opened.
-use Rattle.std.proofs.Common.{◌≡◌, ℕ, List, Bool, Option, Some, None, option_map, Result, Ok, Err, true, false, refl, sym, ap, ◌∙◌, if◌then◌else◌, IsTrue, inl, inr, absurd}
+use Rattle.std.proofs.Common.{◌≡◌, ℕ, List, Bool, Option, Some, None, option_map, Result, Ok, Err, true, false, refl, sym, ap, ◌∙◌, if◌then◌else◌, IsTrue, inl, inr}
 use Rattle.std.specs.Prelude.{IfSome, ◌⊎◌}
 use Rattle.std.specs.FinMap.{get}
 use Rattle.sefunjaro.specs.Replies.{reply_view}

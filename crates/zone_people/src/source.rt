@@ -1,9 +1,10 @@
 //! A source in any form that `zic` reads: its names, its zones, their files and strings, and the tree.
-ghost use Rattle.std.specs.Prelude.{◌≡◌, map, option_map, Ok, Err, IfErr, IfOk};
+ghost use Rattle.std.specs.Prelude.{◌≡◌, map, option_map, Ok, Err, IfErr, IfOk, IfSome};
 ghost use Rattle.sefunjaro.specs.Replies.{reply_view};
 ghost use Rattle.sefunjaro.specs.Sources.{table_in};
 ghost use Rattle.sefunjaro.specs.Zones.{ever_in, set_in};
 ghost use Rattle.tz_ever.specs.EverShown.{ever_seen};
+ghost use Rattle.tz_zone.specs.Sets.{IsAccepted, schedule_of};
 ghost use Rattle.zone_asking.specs.Answers.{IsGiven};
 ghost use Rattle.zone_asking.specs.Refusals.{IsTold};
 ghost use Rattle.zone_names.specs.Seen.{name_seen};
@@ -146,6 +147,18 @@ fn unknown_words(alloc: Global, source: &OpenSource, name: &str) -> Result<Vec<u
     Ok(words)
 }
 
+/// What goes on for ever has offsets of less than 26 hours.
+fn accepted_for_ever(zone: &OpenZone)
+    ensures { IfSome (ever_in zone.now) (λ ever. IsAccepted (schedule_of (ever_seen ever))) }
+{
+    match zone.for_ever() {
+        Some(ever) => {
+            let _set = ever.compact();
+        }
+        None => {}
+    }
+}
+
 /// The zone of a name, or the fault that keeps it from being asked.
 fn opened(alloc: Global, source: &OpenSource, name: &str) -> Result<OpenZone, ZoneFault>
     ensures ok { IfOk result (λ zone. found_in (table_in source.now) name.now ≡ Ok (reply_view (set_in zone) (ever_in zone))) }
@@ -154,9 +167,7 @@ fn opened(alloc: Global, source: &OpenSource, name: &str) -> Result<OpenZone, Zo
 {
     match source.zone(alloc, name) {
         Ok(zone) => {
-            if let Some(ever) = zone.for_ever() {
-                let _set = ever.compact();
-            }
+            accepted_for_ever(&zone);
             Ok(zone)
         }
         Err(fault) => Err(fault),
