@@ -137,6 +137,7 @@ fn entries_of<'s>(alloc: Global, source: &'s OpenSource) -> Result<Vec<NameEntry
 }
 
 /// What is told of a name that finds no zone.
+#[tactic(auto, unfolding(crate::specs::Views::unknown_words))]
 fn unknown_words(alloc: Global, source: &OpenSource, name: &str) -> Result<Vec<u8>, AllocError>
     ensures { IfOk result (λ words. words.items ≡ unknown_words (table_in source.now) name.now) }
 {
