@@ -4,7 +4,7 @@ ghost use Rattle.std.specs.Prelude.{◌≡◌, ◌<◌};
 ghost use Rattle.zone_table.specs.BoundedTables.{IsBoundedTable};
 
 use crate::checks::{same, same_at};
-use crate::fixtures::{NEW_YORK, at, database_of, parser, table_of};
+use crate::fixtures::{NEW_YORK, at, database_of, parser, set_of, table_of};
 use crate::rows::{field, number};
 use civil_base::{OffsetDateTime, PlainDateTime, UtcOffset, read_local, read_zoned};
 use std::alloc::Global;
@@ -17,7 +17,7 @@ use tz_lookup::{
     TimeZone, Tz,
 };
 use tz_posix::{Date, PosixTz, Time};
-use tz_zone::{ZoneFault, compile_zone};
+use tz_zone::ZoneFault;
 use zone_answers::open_zone;
 use zone_list::list_lines;
 use zone_spans::TableTransitions;
@@ -285,10 +285,7 @@ fn a_footer_carries_a_zone_on_for_ever(rt: HostRuntime) {
 #[test]
 fn a_window_of_changes_is_listed(rt: HostRuntime) {
     let alloc = rt.alloc();
-    let table = table_of(&rt, alloc, NEW_YORK);
-    let Ok(set) = compile_zone(alloc, &table, "America/New_York") else {
-        panic!(&rt; "no zone");
-    };
+    let set = set_of(&rt, alloc, NEW_YORK, "America/New_York");
     let Ok(lines) = list_lines(alloc, &set, 1_704_067_200, 1_720_000_000) else {
         panic!(&rt; "no lines");
     };

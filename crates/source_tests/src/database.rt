@@ -2,13 +2,13 @@
 //! compiler `zic` gives for the same text. Daylight saving time is where the saving is above 0, so Dublin, whose winter takes an hour off,
 //! has none.
 use crate::checks::{same, same_at};
-use crate::fixtures::{FIXED, NEW_YORK, at, database_of, parser, table_of};
+use crate::fixtures::{FIXED, at, database_of, parser, table_of};
 use crate::rows::{field, number};
 use owned::Text;
 use std::alloc::Global;
 use std::process::Abort;
 use tz_lookup::{Database, Offset, TimeZone, Tz};
-use zone_answers::{answers, open_zone};
+use zone_answers::answers;
 use zone_table::{Child, Format, Structure};
 
 /// A rule that would fire where its line ends by the wall's clock; an end under the saving of its own line; a saving below 0 at the
@@ -132,16 +132,6 @@ fn abbreviations(rt: HostRuntime) {
     let constant = Format::Constant(Text::new(alloc, "TST").expect(&rt, "memory"));
     let shown = constant.format_constant(alloc).expect(&rt, "memory");
     same(&rt, &shown.as_str(), &"TST");
-}
-
-#[test]
-fn a_zone_is_opened(rt: HostRuntime) {
-    let alloc = rt.alloc();
-    let Ok(set) = open_zone(alloc, &table_of(&rt, alloc, NEW_YORK), "America/New_York") else {
-        panic!(&rt; "not opened");
-    };
-    // The first span, and two changes in each year of 2007 to 2099.
-    same(&rt, &set.span_count(), &187);
 }
 
 #[test]

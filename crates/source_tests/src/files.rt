@@ -1,11 +1,10 @@
 //! Compiled zones as TZif files: whole runs over objects in memory, and their files read by both readers.
 use crate::checks::same;
-use crate::fixtures::{NEW_YORK, parser, table_of};
+use crate::fixtures::{NEW_YORK, parser, set_of};
 use crate::objects::{Given, NONE_FAILING, ONE_REQUEST, Outcome, run_over};
 use crate::runs::expect_end;
 use std::alloc::Global;
 use std::process::Abort;
-use tz_lookup::compile_zone;
 use zone_tzif::{from_set, read_any, read_tzif};
 
 /// The file of a zone of one offset, by the layout of RFC 8536.
@@ -60,9 +59,7 @@ fn new_york_is_written_and_read(rt: HostRuntime) {
 #[test]
 fn a_set_is_a_zone_of_a_file(rt: HostRuntime) {
     let alloc = rt.alloc();
-    let Ok(set) = compile_zone(alloc, &table_of(&rt, alloc, NEW_YORK), "America/New_York") else {
-        panic!(&rt; "no zone");
-    };
+    let set = set_of(&rt, alloc, NEW_YORK, "America/New_York");
     let Ok(zone) = from_set(alloc, &set, "EST5") else {
         panic!(&rt; "memory");
     };

@@ -1,11 +1,12 @@
 //! What many tests begin with.
 ghost use Rattle.std.specs.Prelude.{◌≤◌, length};
 ghost use Rattle.zone_table.specs.BoundedTables.{IsBoundedTable};
+ghost use Rattle.tz_lookup.specs.Sets.{schedule_of, IsAccepted};
 
 use civil_base::OffsetDateTime;
 use std::alloc::Global;
 use std::process::Abort;
-use tz_lookup::Database;
+use tz_lookup::{Database, FixedTimespanSet, compile_zone};
 use zone_line::LineParser;
 use zone_source::{LIMIT, read_table};
 use zone_table::Table;
@@ -45,6 +46,17 @@ pub(crate) fn database_of(rt: &impl Abort, alloc: Global, source: &[u8]) -> Data
         panic!(rt; "no database");
     };
     database
+}
+
+/// The set of a zone of a source.
+pub(crate) fn set_of(rt: &impl Abort, alloc: Global, source: &[u8], name: &str) -> FixedTimespanSet
+    requires { length source.now ≤ LIMIT }
+    ensures { IsAccepted (schedule_of result) }
+{
+    let Ok(set) = compile_zone(alloc, &table_of(rt, alloc, source), name) else {
+        panic!(rt; "no zone");
+    };
+    set
 }
 
 /// The date-time at UTC so many seconds from 1970-01-01 00:00:00.

@@ -12,7 +12,7 @@ use tz_zone::{Offset, TimeZone};
 use zone_tzif_core::{ZoneFile, read_file};
 
 /// A footer and, after `|`, seconds from 1970-01-01 00:00:00 UTC, each with the offset in seconds, 1 for daylight saving time and 0 for
-/// standard time, and the abbreviation.
+/// standard time, and the abbreviation. The last five fire past their year's edges, as the files of `zic -b fat` list their changes.
 const ROWS: &str = "\
 EET-2EEST,M4.5.5/0,M10.5.4/24|1714082399 7200 0 EET;1714082400 10800 1 EEST;1730408399 10800 1 EEST;1730408400 7200 0 EET;5690037599 7200 0 EET;5690037600 10800 1 EEST
 EET-2EEST,M3.4.4/50,M10.4.4/50|1711756799 7200 0 EET;1711756800 10800 1 EEST;1729897199 10800 1 EEST;1729897200 7200 0 EET;5687711999 7200 0 EET;5687712000 10800 1 EEST
@@ -23,10 +23,6 @@ IST-1GMT0,M10.5.0,M3.5.0/1|1711846799 0 1 GMT;1711846800 3600 0 IST;1729990799 3
 EST5EDT,M3.2.0,M11.1.0|1710053999 -18000 0 EST;1710054000 -14400 1 EDT;1730613599 -14400 1 EDT;1730613600 -18000 0 EST;5686009199 -18000 0 EST;5686009200 -14400 1 EDT
 EST5EDT,0/0,J365/25|0 -14400 1 EDT;4102444800 -14400 1 EDT
 <+0330>-3:30|0 12600 0 +0330;4102444800 12600 0 +0330
-";
-
-/// The same of rules that fire past their year's edges, as the files of `zic -b fat` list the changes.
-const PAST_EDGES: &str = "\
 EST5EDT,M12.5.0/150,M3.2.0|1704067200 -18000 0 EST;1704538799 -18000 0 EST;1704538800 -14400 1 EDT;1710050399 -14400 1 EDT;1710050400 -18000 0 EST
 EST5EDT,M10.1.0,M12.5.0/150|1704067200 -14400 1 EDT;1704535199 -14400 1 EDT;1704535200 -18000 0 EST;1728197999 -18000 0 EST;1728198000 -14400 1 EDT
 EST5EDT,M1.1.0/-150,M4.1.0|1704063599 -18000 0 EST;1704063600 -14400 1 EDT;1712469599 -14400 1 EDT;1712469600 -18000 0 EST;1735513200 -14400 1 EDT
@@ -57,15 +53,8 @@ fn expect_held(rt: &impl Abort, row: &str) {
 }
 
 #[test]
-fn footers_put_in_force_what_zoneinfo_has(rt: HostRuntime) {
+fn footers_put_in_force_what_is_due(rt: HostRuntime) {
     for row in ROWS.lines() {
-        expect_held(&rt, row);
-    }
-}
-
-#[test]
-fn footers_fire_past_the_edges_of_their_years(rt: HostRuntime) {
-    for row in PAST_EDGES.lines() {
         expect_held(&rt, row);
     }
 }

@@ -69,13 +69,6 @@ fn a_source_in_plain_form_is_opened(rt: HostRuntime) {
     same(&rt, &Opened::source(alloc, source).is_ok(), &true);
 }
 
-#[test]
-fn a_source_in_any_form_is_opened(rt: HostRuntime) {
-    let alloc = rt.alloc();
-    let zone = zone_of(&rt, alloc, SHORT, "East");
-    expect_new_york(&rt, alloc, &zone);
-}
-
 /// A zone whose rules end in 2150, so that its lines don't go on.
 const ENDING: &[u8] =
     b"R E 1981 2150 - Mar lastSun 1u 1 S\nR E 1996 2150 - O lastSun 1u 0 -\nZ Europe/Ending 1 E CE%sT\n";
