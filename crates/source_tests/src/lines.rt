@@ -132,19 +132,14 @@ fn expect_told(rt: &impl Abort, alloc: Global, reader: &mut LineReader<'_>, row:
     same_at(rt, line, &told(rt, alloc, reader, line).as_str(), &wanted);
 }
 
-/// Asserts what is told of each line.
-fn expect_all_told(rt: &impl Abort, alloc: Global, reader: &mut LineReader<'_>) {
-    for row in LINES.lines() {
-        expect_told(rt, alloc, reader, row);
-    }
-}
-
 #[test]
 fn lines_say_what_is_due(rt: HostRuntime) {
     let alloc = rt.alloc();
     let parser = parser(&rt, alloc);
     let mut reader = parser.reader(alloc).expect(&rt, "memory");
-    expect_all_told(&rt, alloc, &mut reader);
+    for row in LINES.lines() {
+        expect_told(&rt, alloc, &mut reader, row);
+    }
 }
 
 /// A name in an error.
