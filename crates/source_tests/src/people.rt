@@ -32,7 +32,7 @@ log|Test/Berlin|--field|2~a 1729989000 b;no;~a 2024-10-27 02:30:00 +02:00 CEST b
 
 /// Rows that end with status 2.
 const FAULTS: &str = "\
-at|Test/Berln|@0~~~zone: \"Test/Berln\": no zone has this name, did you mean Test/Berlin?;
+at|Test/Paris|@0~~~zone: \"Test/Paris\": no zone has this name;
 local|UTC|2024-10-27~~~zone: \"2024-10-27\": a time of day is missing, as in 2024-10-27 02:30;
 at|Test/Ends|@4102444800~~~zone: \"Test/Ends\": the zone's rules end before that year;
 string|Test/Ends~~~zone: \"Test/Ends\": the rules of this zone end, so it doesn't go on for ever;
@@ -43,9 +43,10 @@ tree~~~zone: \"Test/Ends\": the rules of this zone end, so it doesn't go on for 
 
 /// Rows that end with status 1, and with status 3.
 const NO_FORM: &str = "\
-what~~~zone: \"what\": no command has this name, zone --help tells them;
+at~~~zone: words are missing behind this command;
 --epoch|--epoch|at|UTC|@0~~~zone: \"--epoch\": this option is there twice, or beside one that says the same;
 ";
+
 const UNREAD: &str = "\
 at|UTC|@0|--source|x.zi~~~zone: \"x.zi\": this file can't be read;
 ";
@@ -81,16 +82,9 @@ fn environment_of(rt: &impl Abort, alloc: Global) -> MemEnvironment {
 
 /// Standard input and output, which move three bytes and two at a time.
 fn exchange_of(rt: &impl Abort, alloc: Global, input: Vec<u8>) -> MemExchange {
-    MemExchange::new(
-        alloc,
-        input,
-        3,
-        2,
-        4000,
-        Vec::new(alloc),
-        Vec::new(alloc),
+    MemExchange::new(alloc, input, 3, 2, 4000, Vec::new(alloc), Vec::new(alloc)).expect(
+        rt, "memory",
     )
-    .expect(rt, "memory")
 }
 
 /// Asserts the status of a run, what it wrote, and what went to standard error.
