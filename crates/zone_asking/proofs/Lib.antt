@@ -1,3 +1,4 @@
+pub mod ChartLemmas
 pub mod AnswerLemmas
 pub mod UtcLemmas
 mod OffsetRows

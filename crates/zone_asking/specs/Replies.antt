@@ -1,9 +1,11 @@
 -- What is due of words over zones.
-use Rattle.std.specs.Prelude.{◌≡◌, ◌⊎◌, ◌&&◌, ℕ, List, [], ◌∷◌, map, Option, Ok, Err, unwrap_or, ℤ, if◌then◌else◌}
+use Rattle.std.specs.Prelude.{◌≡◌, ◌⊎◌, ◌&&◌, ℕ, List, [], ◌∷◌, ◌++◌, map, Option, Result, Ok, Err, decimal, unwrap_or, ℤ, if◌then◌else◌}
 use Rattle.civil_base.specs.Ranges.{is_in_years}
 use Rattle.zone_asking.specs.Answers.{Answer, OfName, told, lined, ◌>>=◌}
 use Rattle.zone_asking.specs.Named.{Found, named_in}
 use Rattle.zone_asking.specs.Refusals.{name_words, told_line}
+use Rattle.zone_chart.specs.Charts.{chart_due}
+use Rattle.zone_chart.specs.Seen.{Named}
 use Rattle.zone_command.specs.Due.{Answers, Due as Delivered}
 use Rattle.zone_moments.specs.declared.answer_form.AnswerForm.{AnswerForm}
 use Rattle.zone_replies.specs.Faults.{Due, behind, followed}
@@ -15,7 +17,7 @@ use Rattle.zone_replies.specs.declared.fault.ReplyFault.TheVariants.{OutOfYears}
 use Rattle.zone_names.specs.Seen.{NameSeen}
 use Rattle.zone_names.specs.Texts.{names_text}
 use Rattle.zone_rings.specs.Rings.{rings_due}
-use Rattle.zone_words.specs.Tasks.{TaskAsked, WordsAsked, at_instants, local_time, converted, list_changes, alarm, names, file, posix_string, tree}
+use Rattle.zone_words.specs.Tasks.{TaskAsked, WordsAsked, at_instants, local_time, converted, list_changes, alarm, names, file, posix_string, tree, chart}
 
 -- a reply as a line
 abbrev pub ended : Due → Due
@@ -45,6 +47,25 @@ instants_at now times = map (instant_at now) times
 abbrev pub on_zone : (List ℕ → Found) → List ℕ → (ZoneView → Answer) → Answer
 on_zone found name due = named_in found name >>= due
 
+-- the zones that names find, each under its name; or why the first finds none that does
+unfoldable pub named_zones : (List ℕ → Found) → List (List ℕ) → Result (List Named) (List ℕ)
+named_zones found [] = Ok []
+named_zones found (name ∷ others) =
+    named_in found name >>= (λ view. named_zones found others >>= (λ zones. Ok (record { name = name; view = view } ∷ zones)))
+
+-- a picture of these over a year
+abbrev pub chart_answer : (List ℕ → Found) → List (List ℕ) → ℕ → Answer
+chart_answer found wanted year = named_zones found wanted >>= (λ zones. told (decimal year) (chart_due zones year))
+
+-- zones that were found, and those that the names left find
+abbrev pub behind_found : List Named → Result (List Named) (List ℕ) → Result (List Named) (List ℕ)
+behind_found zones left = left >>= (λ more. Ok (zones ++ more))
+
+-- the zone of a name was found
+abbrev pub IsStep : (List ℕ → Found) → List ℕ → List (List ℕ) → List Named → List Named → Type 0
+IsStep found name others before now =
+    behind_found before (named_zones found (name ∷ others)) ≡ behind_found now (named_zones found others)
+
 -- the answer to a task by what names find, at an instant
 abbrev pub reply_of : (List ℕ → Found) → List NameSeen → AnswerForm → ℤ → TaskAsked → Answer
 reply_of found entries form now (at_instants name times) =
@@ -56,6 +77,7 @@ reply_of found entries form now (list_changes name from to) =
     on_zone found name (λ view. told name (list_lines form view name (instant_at now from) (instant_at now to)))
 reply_of found entries form now (alarm name asked) = on_zone found name (λ view. told name (rings_due form view name asked))
 reply_of found entries form now (names word) = Ok (names_text form entries word)
+reply_of found entries form now (chart wanted year) = chart_answer found wanted year
 reply_of found entries form now _ = Ok []
 
 -- what is said of a zone's file and string by its name, and of the tree

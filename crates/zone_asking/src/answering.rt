@@ -10,6 +10,7 @@ ghost use Rattle.zone_rings.specs.Rings.{rings_due};
 ghost use Rattle.zone_words.specs.TaskShown.{alarm_shown, task_shown, words_shown};
 
 use crate::answers::told;
+use crate::charts::chart_reply;
 use crate::line::{name_words, told_line};
 use crate::named::find_named;
 use crate::replies::{at_lines, convert_lines, list_lines, moment_of, ring_lines};
@@ -177,6 +178,7 @@ fn reply<S: ZoneSource>(
         Task::File(name) => file_reply(alloc, source, *name),
         Task::String(name) => string_reply(alloc, source, *name),
         Task::Tree => source.tree(alloc),
+        Task::Chart(names, year) => chart_reply(alloc, source, names.as_slice(), *year),
         _ => Ok(Vec::new(alloc)),
     }
 }

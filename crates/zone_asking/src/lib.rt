@@ -3,6 +3,7 @@
 
 mod answering;
 mod answers;
+mod charts;
 mod line;
 mod named;
 mod offset;

@@ -9,4 +9,4 @@ pub record Named : Type 0 where
   pub view : ZoneView
 
 abbrev pub named : {Z : Type 0} → (Z → ZoneView) → ChartZone Z → Named
-named view charted = record { name = charted.name.now; view = view charted.zone.now }
+named view charted = record { name = charted.name.now; view = view charted.zone }

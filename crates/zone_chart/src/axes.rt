@@ -137,7 +137,7 @@ pub(crate) fn frame_of<Z: ReplyZone>(
 {
     let mut hours = hours_around(first_offset(zones, year));
     for zone in zones {
-        hours = widened_in(alloc, hours, zone.zone, year)?;
+        hours = widened_in(alloc, hours, &zone.zone, year)?;
     }
     Ok(Frame {
         alloc,

@@ -27,9 +27,9 @@ fn add_zone<Z: ReplyZone>(
     ensures ok { OnOk result (Ok into.new.items ≡ behind into.old.items (zone_due frame.year frame.high (bottom_of frame.low frame.high) number (named Z.view zone.now))) }
     ensures err { IfErr result (IsFaultOf (zone_due frame.year frame.high (bottom_of frame.low frame.high) number (named Z.view zone.now))) }
 {
-    let changes = changes_in(frame.alloc, zone.zone, frame.year)?;
+    let changes = changes_in(frame.alloc, &zone.zone, frame.year)?;
     add_line(into, frame, number, zone, &changes)?;
-    add_marks(into, frame, zone.zone, &changes)?;
+    add_marks(into, frame, &zone.zone, &changes)?;
     into.extend_from_slice(b"</g>\n")?;
     Ok(())
 }

@@ -126,8 +126,8 @@ fn label_of<Z: ReplyZone>(
     changes: &[i64],
 ) -> Result<Vec<u8>, AllocError>
     requires year { frame.year ≤ 9999 }
-    requires changes { changes.now ≡ changes_in frame.year (Z.view zone.now.zone.now) }
-    ensures { IfOk result (λ label. label.items ≡ zone.now.name.now ++ codes ": " ++ abbreviations frame.year (Z.view zone.now.zone.now)) }
+    requires changes { changes.now ≡ changes_in frame.year (Z.view zone.now.zone) }
+    ensures { IfOk result (λ label. label.items ≡ zone.now.name.now ++ codes ": " ++ abbreviations frame.year (Z.view zone.now.zone)) }
 {
     let mut label = Vec::new(frame.alloc);
     label.extend_from_slice(zone.name.as_bytes())?;
@@ -135,10 +135,10 @@ fn label_of<Z: ReplyZone>(
     add_abbreviation(
         &mut label,
         frame.alloc,
-        zone.zone,
+        &zone.zone,
         month_begin(frame.year, 1),
     )?;
-    add_others(&mut label, frame.alloc, zone.zone, changes)?;
+    add_others(&mut label, frame.alloc, &zone.zone, changes)?;
     Ok(label)
 }
 
@@ -162,7 +162,7 @@ fn add_legend<Z: ReplyZone>(
     changes: &[i64],
 ) -> Result<(), AllocError>
     requires year { frame.year ≤ 9999 }
-    requires changes { changes.now ≡ changes_in frame.year (Z.view zone.now.zone.now) }
+    requires changes { changes.now ≡ changes_in frame.year (Z.view zone.now.zone) }
     ensures { OnOk result (into.new.items ≡ into.old.items ++ legend_text frame.year (bottom_of frame.low frame.high) number (named Z.view zone.now)) }
 {
     let y = legend_place(frame, number);
@@ -195,13 +195,13 @@ pub(crate) fn add_line<Z: ReplyZone>(
     changes: &[i64],
 ) -> Result<(), AllocError>
     requires year { frame.year ≤ 9999 }
-    requires changes { changes.now ≡ changes_in frame.year (Z.view zone.now.zone.now) }
+    requires changes { changes.now ≡ changes_in frame.year (Z.view zone.now.zone) }
     ensures { OnOk result (into.new.items ≡ into.old.items ++ line_text frame.year frame.high (bottom_of frame.low frame.high) number (named Z.view zone.now)) }
 {
     add_group(into, number)?;
     add_legend(into, frame, number, zone, changes)?;
     into.extend_from_slice(b"<path class=\"zone\" d=\"")?;
-    add_points(into, frame, zone.zone, changes)?;
+    add_points(into, frame, &zone.zone, changes)?;
     into.extend_from_slice(b"\"/>\n")?;
     Ok(())
 }

@@ -1,8 +1,7 @@
--- What is told of failures, with the status; which file is read; when the clock is asked; which commands are there.
+-- What is told of failures, with the status; which file is read; when the clock is asked; what answers what comes in.
 use Rattle.std.proofs.Common.{◌≡◌, refl, map, ℕ, Bool, true, false, List, [], ◌∷◌, ◌++◌, Option, Some, None, pos}
 use Rattle.std.specs.Prelude.{codes}
-use Rattle.zone_command.specs.Bare.{absent}
-use Rattle.zone_command.specs.Ends.{file_of}
+use Rattle.zone_command.specs.Ends.{file_of, is_served}
 use Rattle.zone_command.specs.Failures.{Failure, bad_words, clock_fails, environment_fails, file_fails, file_long, no_memory, refuses, errors_at, errors_of, status_at, status_of}
 use Rattle.zone_command.specs.Times.{asks_now}
 use Rattle.zone_moments.specs.declared.fault.TextFault.TheVariants.{TimeMissing}
@@ -10,8 +9,8 @@ use Rattle.zone_pieces.specs.declared.running.StreamEnd.{StreamEnd}
 use Rattle.zone_pieces.specs.declared.running.StreamEnd.TheVariants.{Done, Fault, Read, Write, NoMemory, TooLong}
 use Rattle.zone_source.specs.Statuses.{code_of}
 use Rattle.zone_words.specs.FaultLines.{fault_line}
-use Rattle.zone_words.specs.Tasks.{TaskAsked, help, version, at_instants, local_time, list_changes, names, stream, tree}
-use Rattle.zone_words.specs.declared.command.Command.TheVariants.{At, Chart}
+use Rattle.zone_words.specs.Tasks.{TaskAsked, help, at_instants, local_time, list_changes, log, stream, tree}
+use Rattle.zone_words.specs.declared.command.Command.TheVariants.{At}
 use Rattle.zone_words.specs.declared.fault.WordCause.TheVariants.{Text, TooFew, UnknownOption}
 
 abbrev quoted : List ℕ → List ℕ
@@ -56,13 +55,15 @@ worked_ends : map (λ row. (errors_at row.0, code_of (status_at row.0))) ends �
 unfolding errors_at
 worked_ends = refl
 
-abbrev tasks : List (TaskAsked × (Bool × Option (List ℕ)))
+abbrev tasks : List (TaskAsked × Bool)
 tasks =
-    (at_instants [] (Some (pos 1) ∷ None ∷ []), (true, None)) ∷ (at_instants [] (Some (pos 1) ∷ []), (false, None)) ∷
-    (list_changes [] (Some (pos 1)) None, (true, None)) ∷ (local_time [] (pos 1), (false, None)) ∷
-    (help None, (false, None)) ∷ (help (Some At), (false, None)) ∷ (help (Some Chart), (false, Some (codes "chart"))) ∷
-    (version, (false, None)) ∷ (names None, (false, None)) ∷ (stream true, (false, None)) ∷
-    (tree, (false, None)) ∷ []
+    (at_instants [] (Some (pos 1) ∷ None ∷ []), true) ∷ (at_instants [] (Some (pos 1) ∷ []), false) ∷
+    (list_changes [] (Some (pos 1)) None, true) ∷ (list_changes [] None (Some (pos 1)), true) ∷ (local_time [] (pos 1), false) ∷
+    (help (Some At), false) ∷ (stream true, false) ∷ []
 
-worked_tasks : map (λ row. (asks_now row.0, absent row.0)) tasks ≡ map (λ row. row.1) tasks
+worked_tasks : map (λ row. asks_now row.0) tasks ≡ map (λ row. row.1) tasks
 worked_tasks = refl
+
+-- what answers what comes in
+worked_served : map is_served (stream false ∷ log [] None ∷ tree ∷ at_instants [] [] ∷ []) ≡ true ∷ true ∷ false ∷ false ∷ []
+worked_served = refl

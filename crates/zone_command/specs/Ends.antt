@@ -1,7 +1,7 @@
 -- How a run ended.
 use Rattle.std.specs.Prelude.{◌≡◌, ◌⊎◌, ℕ, Bool, true, false, List, [], Option, Some, None, Ok, Err, IfSome, IsErrAnd, IsOkAnd, MatchOption, ℤ, pos, unwrap_or, codes}
 use Rattle.civil_base.specs.Ranges.{is_in_years}
-use Rattle.zone_command.specs.Bare.{bare, there}
+use Rattle.zone_command.specs.Bare.{bare}
 use Rattle.zone_command.specs.Due.{Answers, Makings}
 use Rattle.zone_command.specs.Failures.{Failure, refuses, bad_words, clock_fails, environment_fails, file_fails, file_long, no_memory, errors_at, errors_of, status_at, status_of}
 use Rattle.zone_command.specs.Times.{asks_now}
@@ -188,5 +188,5 @@ pub record Seen : Type 0 where
 -- how a run ended whose words are read so
 pub record EndsZone (due : Answers) (makes : Makings) (words : Reading WordsAsked) (before now : Seen) (end : Status) : Type 0 where
   pub outcome : Outcome
-  pub cause : IsCause due makes (there words) before.read now.read outcome
+  pub cause : IsCause due makes words before.read now.read outcome
   pub delivered : IsDelivered before.written now.written outcome end

@@ -5,7 +5,7 @@ ghost use Rattle.civil_base.specs.Ranges.{is_in_years};
 ghost use Rattle.zone_outside.specs.Outside.{Rose};
 ghost use Rattle.zone_outside.specs.Seen.{shelf_seen};
 ghost use Rattle.zone_command.specs.Times.{asks_now};
-ghost use Rattle.zone_command.specs.Bare.{text_shown, there};
+ghost use Rattle.zone_command.specs.Bare.{text_shown};
 ghost use Rattle.zone_command.specs.Comes.{Comes, ComesBy, ComesTo};
 ghost use Rattle.zone_command.specs.Due.{IsDue};
 ghost use Rattle.zone_command.specs.Ends.{IsAnswer, IsCause, IsFile, IsFound, IsFoundOver, IsOver, IsServing, file_of, is_served};
@@ -13,19 +13,19 @@ ghost use Rattle.zone_command.specs.FailureShown.{failure_shown};
 ghost use Rattle.zone_command.specs.Failures.{environment_fails, no_memory};
 ghost use Rattle.zone_command.specs.InSeen.{clock_seen, environment_seen, in_seen};
 ghost use Rattle.zone_words.specs.TaskShown.{task_shown, words_shown};
-ghost use Rattle.zone_words.specs.Told.{is_of_memory, Reads};
+ghost use Rattle.zone_words.specs.Told.{is_of_memory};
 ghost use Rattle.zone_words.specs.Words.{words_in};
 
 use crate::answerer::{AnswerFault, Answerer};
 use crate::failure::{Failure, copied};
-use crate::help::{absent, bare};
+use crate::help::bare;
 use crate::times::asks_now;
 use civil_base::OffsetDateTime;
 use std::alloc::Global;
 use zone_outside::{Environment, Exchange, WallClock};
 use zone_pieces::StreamEnd;
 use zone_source::{Failed, ReadEnd, Shelf, fetch_all};
-use zone_words::{Asked, Task, WordCause, WordFault, read_words};
+use zone_words::{Asked, Task, WordCause, read_words};
 
 /// The source where nothing names one.
 const SYSTEM_SOURCE: &str = "/usr/share/zoneinfo/tzdata.zi";
@@ -40,21 +40,6 @@ pub enum Found {
     Text(Vec<u8>),
     /// How answering what came in ended.
     Input(StreamEnd),
-}
-
-/// What the words ask, where the command is there.
-fn take_words<'w>(alloc: Global, words: &'w [String]) -> Result<Asked<'w>, WordFault<'w>>
-    ensures { Reads words_shown result (there (words_in (map string_bytes words.now))) }
-{
-    let asked = read_words(alloc, words)?;
-    match absent(&asked.task) {
-        None => Ok(asked),
-        Some(word) => Err(WordFault {
-            word,
-            more: None,
-            cause: WordCause::UnknownCommand,
-        }),
-    }
 }
 
 /// Whether memory ran out.
@@ -256,11 +241,11 @@ pub(crate) fn find<'w, A: Answerer, H: Shelf, K: WallClock, V: Environment, X: E
     exchange: &mut X,
 ) -> Result<Found, Failure<'w>>
     requires { (name : List ℕ) → H.open_to shelf.old name }
-    ensures { Comes (IsCause A.due A.makes (there (words_in (map string_bytes words.now)))
+    ensures { Comes (IsCause A.due A.makes (words_in (map string_bytes words.now))
         (in_seen H.Source K.WallClock V.Environment shelf.old clock.old environment.old)
         (in_seen H.Source K.WallClock V.Environment shelf.new clock.new environment.new)) (X.seen exchange.old) (X.seen exchange.new) result }
 {
-    match take_words(alloc, words) {
+    match read_words(alloc, words) {
         Ok(asked) => {
             find_asked::<A, H, K, V, X>(alloc, &asked, shelf, clock, environment, exchange)
         }

@@ -1,6 +1,6 @@
-//! What is told without a source, and the commands that are not there.
+//! What is told without a source.
 ghost use Rattle.std.specs.Prelude.{◌≡◌, option_map};
-ghost use Rattle.zone_command.specs.Bare.{absent, bare, command_of, help_text, is_there, name_of, text_shown};
+ghost use Rattle.zone_command.specs.Bare.{bare, help_text, text_shown};
 ghost use Rattle.zone_words.specs.TaskShown.{task_shown};
 
 use zone_words::{Command, Task};
@@ -132,70 +132,5 @@ pub(crate) fn bare(task: &Task<'_>) -> Option<&'static str>
         Task::Help(command) => Some(help_text(*command)),
         Task::Version => Some(VERSION),
         _ => None,
-    }
-}
-
-/// The command that a task is of, if it is of one.
-fn command_of(task: &Task<'_>) -> Option<Command>
-    ensures { result ≡ command_of (task_shown task.now) }
-{
-    match task {
-        Task::Help(command) => *command,
-        Task::Version => None,
-        Task::At(_, _) => Some(Command::At),
-        Task::Local(_, _) => Some(Command::Local),
-        Task::Convert(_, _, _) => Some(Command::Convert),
-        Task::List(_, _, _) => Some(Command::List),
-        Task::Alarm(_, _) => Some(Command::Alarm),
-        Task::Names(_) => Some(Command::Names),
-        Task::Stream(_) => Some(Command::Stream),
-        Task::Log(_, _) => Some(Command::Log),
-        Task::Tree => Some(Command::Tree),
-        Task::File(_) => Some(Command::File),
-        Task::String(_) => Some(Command::String),
-        Task::Chart(_, _) => Some(Command::Chart),
-    }
-}
-
-/// The name of a command.
-fn name_of(command: Command) -> &'static str
-    ensures { result.now ≡ name_of command }
-{
-    match command {
-        Command::At => "at",
-        Command::Local => "local",
-        Command::Convert => "convert",
-        Command::List => "list",
-        Command::Alarm => "alarm",
-        Command::Names => "names",
-        Command::Stream => "stream",
-        Command::Log => "log",
-        Command::Tree => "tree",
-        Command::File => "file",
-        Command::String => "string",
-        Command::Chart => "chart",
-    }
-}
-
-/// Whether the command is there.
-fn is_there(command: Command) -> bool
-    ensures { result ≡ is_there command }
-{
-    !matches!(command, Command::Chart)
-}
-
-/// The name of a task's command that is not there.
-pub(crate) fn absent(task: &Task<'_>) -> Option<&'static str>
-    ensures { option_map text_shown result ≡ absent (task_shown task.now) }
-{
-    match command_of(task) {
-        Some(command) => {
-            if is_there(command) {
-                None
-            } else {
-                Some(name_of(command))
-            }
-        }
-        None => None,
     }
 }
