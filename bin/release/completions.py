@@ -1,4 +1,6 @@
 """Completion of the programs' words in bash and in zsh, by how each is called."""
+import re
+
 from manual import sections
 
 BASH = """# Completion of {name} in bash.
@@ -42,6 +44,42 @@ esac
 CASE = """    {name})
         _arguments {options}{words}
         ;;"""
+
+
+# The command for people, which tells the names of the machine's source itself.
+OWN = "zone"
+OWN_BASH = """# Completion of zone in bash.
+_zone() {{
+    local cur=${{COMP_WORDS[COMP_CWORD]}} name
+    case $cur in
+        -*) COMPREPLY=($(compgen -W "{options}" -- "$cur")) ;;
+        *)
+            if [[ $COMP_CWORD -eq 1 ]]; then
+                COMPREPLY=($(compgen -W "{commands}" -- "$cur"))
+            else
+                while IFS= read -r name; do
+                    [[ $name == "$cur"* ]] && COMPREPLY+=("$name")
+                done < <(zone names 2>/dev/null | sed 's/ -> .*//')
+            fi
+            ;;
+    esac
+}}
+complete -F _zone zone
+"""
+OWN_ZSH = """#compdef zone
+# Completion of zone in zsh.
+if (( CURRENT == 2 )); then
+    compadd -- {commands} {options}
+else
+    compadd -- ${{(f)"$(zone names 2>/dev/null | sed 's/ -> .*//')"}}
+fi
+"""
+OPTIONS = "--source --rfc3339 --epoch --json --help --version"
+
+
+def commands_of(section):
+    """The commands of the table in the section of zone: the first word of each."""
+    return sorted(set(re.findall(r"`([a-z]+)", " ".join(row[0] for row in section.tables[0]))))
 
 
 def words_of(call):
@@ -91,5 +129,7 @@ def for_zsh(found):
 def completions():
     """The completions by their paths below share."""
     found = {name: section for name, section in sections().items() if section.calls}
+    words = {"commands": " ".join(commands_of(found.pop(OWN))), "options": OPTIONS}
     made = {f"bash-completion/completions/{name}": for_bash(name, section) for name, section in found.items()}
-    return {**made, "zsh/site-functions/_sefunjaro": for_zsh(found)}
+    own = {f"bash-completion/completions/{OWN}": OWN_BASH.format(**words), f"zsh/site-functions/_{OWN}": OWN_ZSH.format(**words)}
+    return {**made, **own, "zsh/site-functions/_sefunjaro": for_zsh(found)}

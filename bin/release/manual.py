@@ -53,7 +53,7 @@ class Section:
     """The section of a program in docs/PROGRAMS.md, by what a manual page has of it."""
 
     def __init__(self, name, blocks):
-        self.name, self.description, self.options, self.commands = name, [], [], []
+        self.name, self.description, self.options, self.commands, self.tables = name, [], [], [], []
         first = blocks[0].text
         self.calls = re.findall(r"^`([^`]*)`", first)
         self.does = re.sub(r"^`[^`]*` ", "", first)
@@ -69,6 +69,7 @@ class Section:
             self.calls.append(call)
             self.options.append((f"`{call.removeprefix(self.name + ' ')}`", words))
         elif block.kind == "table":
+            self.tables.append(block.rows)
             self.description.append(roff.items(block.rows))
         else:
             self.description.append(roff.text(block.text))
