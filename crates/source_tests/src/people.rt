@@ -36,14 +36,14 @@ at|Test/Paris|@0~~~zone: \"Test/Paris\": no zone has this name;
 local|UTC|2024-10-27~~~zone: \"2024-10-27\": a time of day is missing, as in 2024-10-27 02:30;
 at|Test/Ends|@4102444800~~~zone: \"Test/Ends\": the zone's rules end before that year;
 string|Test/Ends~~~zone: \"Test/Ends\": the rules of this zone end, so it doesn't go on for ever;
-stream~at UTC;at UTC @0;~? words are missing behind this command;1970-01-01 00:00:00 +00:00 UTC;~
+stream~at UTC;at UTC @0;~? \"at\": words are missing behind this command;1970-01-01 00:00:00 +00:00 UTC;~
 log|Nowhere~@0;~~zone: \"Nowhere\": no zone has this name;
 tree~~~zone: \"Test/Ends\": the rules of this zone end, so it doesn't go on for ever;
 ";
 
 /// Rows that end with status 1, and with status 3.
 const NO_FORM: &str = "\
-at~~~zone: words are missing behind this command;
+at~~~zone: \"at\": words are missing behind this command;
 --epoch|--epoch|at|UTC|@0~~~zone: \"--epoch\": this option is there twice, or beside one that says the same;
 ";
 
