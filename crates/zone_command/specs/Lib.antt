@@ -8,3 +8,8 @@ pub mod Comes
 pub mod Starts
 pub mod Ends
 pub mod InSeen
+pub mod Refusals
+pub mod Offsets
+pub mod Named
+pub mod Answers
+pub mod Replies

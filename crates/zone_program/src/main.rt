@@ -2,7 +2,7 @@
 #![tactic(auto)]
 
 use zone_command::{ZoneStarted, start};
-use zone_people::AnySource;
+use zone_serving::AnySource;
 use zone_serving::OverSource;
 
 fn main(rt: HostRuntime) -> ZoneStarted {

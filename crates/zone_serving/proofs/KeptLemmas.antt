@@ -7,7 +7,7 @@ use Rattle.std.specs.FinMap.{FinMap, contains_key, empty, get, get-empty, insert
 use Rattle.std.specs.Str.{bytes_eq}
 use Rattle.owned.specs.Keyed.{text_cmp}
 use Rattle.owned.specs.KeyedLaws.{get-inserted}
-use Rattle.zone_asking.specs.Offsets.{offset_in}
+use Rattle.zone_command.specs.Offsets.{offset_in}
 use Rattle.zone_serving.specs.Kept.{is_kept}
 
 -- nothing is kept of no names

@@ -2,3 +2,5 @@ pub mod KeptLemmas
 pub mod RequestLemmas
 mod StreamRows
 mod LogRows
+pub mod ViewLemmas
+pub mod WholeLemmas

@@ -3,10 +3,10 @@ use Rattle.std.proofs.Common.{◌≡◌, ℕ, true, false, List, cond, refl, sym
 use Rattle.std.specs.Prelude.{Err, codes}
 use Rattle.std.specs.Str.{is_utf8, IsUtf8}
 use Rattle.std.proofs.lemmas.Str.{IsUtf8-from_is_utf8, is_utf8-from_IsUtf8}
-use Rattle.zone_asking.specs.Answers.{Answer, IsAnswer}
-use Rattle.zone_asking.specs.Refusals.{IsTold}
-use Rattle.zone_asking.specs.declared.source.Refusal.{Refusal}
-use Rattle.zone_asking.specs.declared.source.Refusal.TheVariants.{Why, NoMemory}
+use Rattle.zone_command.specs.Answers.{Answer, IsAnswer}
+use Rattle.zone_command.specs.Refusals.{IsTold}
+use Rattle.zone_command.specs.declared.source.Refusal.{Refusal}
+use Rattle.zone_command.specs.declared.source.Refusal.TheVariants.{Why, NoMemory}
 use Rattle.zone_serving.specs.Requests.{Request, request_in, request_of, words_of}
 
 pub of_text : (line text : List ℕ) → text ≡ line → IsUtf8 line → request_of (words_of text) ≡ request_in line

@@ -14,9 +14,9 @@ use Rattle.civil_base.specs.Instants.{local_at, seconds_of}
 use Rattle.civil_base.specs.Layout.{day_part, time_part}
 use Rattle.civil_base.specs.Ranges.{is_in_years}
 use Rattle.text_parts.specs.Numbers.{value_in}
-use Rattle.zone_asking.specs.Answers.{Answer, told}
-use Rattle.zone_asking.specs.Named.{Found}
-use Rattle.zone_asking.specs.Offsets.{offset_in, size_in, two_in}
+use Rattle.zone_command.specs.Answers.{Answer, told}
+use Rattle.zone_command.specs.Named.{Found}
+use Rattle.zone_command.specs.Offsets.{offset_in, size_in, two_in}
 use Rattle.zone_moments.specs.Numbers.{moment, seconds_east, counted}
 use Rattle.zone_moments.specs.Pieces.{digit_at, two_at, four_at, date_at, minute_at, second_at, offset_at}
 use Rattle.zone_moments.specs.Readings.{digits_at, fraction_at, front_at, seconds_at, moment_in, local_in, in_years, zoned_at, zoned_in, size_at, count_at, count_in, counted_in, written_in, instant_in, asked_in}

@@ -5,3 +5,6 @@ pub mod Streams
 pub mod Told
 pub mod LogTexts
 pub mod Makes
+pub mod Sources
+pub mod Views
+pub mod Wholes

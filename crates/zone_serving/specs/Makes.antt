@@ -1,10 +1,10 @@
 -- What is made of an input over the text of a file.
 use Rattle.std.specs.Prelude.{◌≡◌, ◌⊎◌, ℕ, List, true, false, Result, Ok, Err, codes}
-use Rattle.zone_asking.specs.Answers.{◌>>=◌}
-use Rattle.zone_asking.specs.Named.{Found, named_in}
-use Rattle.zone_asking.specs.Refusals.{name_words, told_line}
-use Rattle.zone_asking.specs.declared.source.Refusal.{Refusal}
-use Rattle.zone_asking.specs.declared.source.Refusal.TheVariants.{Why, NoMemory}
+use Rattle.zone_command.specs.Answers.{◌>>=◌}
+use Rattle.zone_command.specs.Named.{Found, named_in}
+use Rattle.zone_command.specs.Refusals.{name_words, told_line}
+use Rattle.zone_command.specs.declared.source.Refusal.{Refusal}
+use Rattle.zone_command.specs.declared.source.Refusal.TheVariants.{Why, NoMemory}
 use Rattle.zone_command.specs.Due.{Making, Makings}
 use Rattle.zone_moments.specs.declared.answer_form.AnswerForm.{AnswerForm}
 use Rattle.zone_outside.specs.Exchanges.{ExchangeSeen}

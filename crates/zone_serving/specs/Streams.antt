@@ -1,8 +1,8 @@
 -- What is answered to requests, by what names find.
 use Rattle.std.specs.Prelude.{ℕ, Bool, true, false, List, [], ◌∷◌, ◌++◌, Option, Some, None, Ok, Err, ℤ, codes}
-use Rattle.zone_asking.specs.Answers.{Answer, told, ◌>>=◌}
-use Rattle.zone_asking.specs.Named.{Found}
-use Rattle.zone_asking.specs.Replies.{on_zone}
+use Rattle.zone_command.specs.Answers.{Answer, told, ◌>>=◌}
+use Rattle.zone_command.specs.Named.{Found}
+use Rattle.zone_command.specs.Replies.{on_zone}
 use Rattle.zone_moments.specs.declared.answer_form.AnswerForm.{AnswerForm}
 use Rattle.zone_moments.specs.declared.answer_form.AnswerForm.TheVariants.{People, Rfc3339, Epoch, Json}
 use Rattle.zone_pieces.specs.Replies.{Replies}

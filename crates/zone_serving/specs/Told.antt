@@ -1,7 +1,7 @@
 -- What the code's results tell of requests.
 use Rattle.std.specs.Prelude.{◌≡◌, Result, Ok, Err}
-use Rattle.zone_asking.specs.declared.source.Refusal.{Refusal}
-use Rattle.zone_asking.specs.declared.source.Refusal.TheVariants.{Why, NoMemory}
+use Rattle.zone_command.specs.declared.source.Refusal.{Refusal}
+use Rattle.zone_command.specs.declared.source.Refusal.TheVariants.{Why, NoMemory}
 use Rattle.zone_serving.specs.Requests.{Request}
 use Rattle.zone_words.specs.TaskShown.{task_shown}
 use Rattle.zone_words.specs.declared.task.Asked.{Asked}

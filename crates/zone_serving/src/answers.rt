@@ -1,8 +1,8 @@
 //! The answers to requests, by zones that are kept.
 ghost use Rattle.std.specs.Prelude.{◌≡◌, map, true};
 ghost use Rattle.civil_base.specs.DateTimes.{instant};
-ghost use Rattle.zone_asking.specs.Answers.{told, IsAnswer};
-ghost use Rattle.zone_asking.specs.Replies.{on_zone};
+ghost use Rattle.zone_command.specs.Answers.{told, IsAnswer};
+ghost use Rattle.zone_command.specs.Replies.{on_zone};
 ghost use Rattle.zone_moments.specs.Shown.{asked};
 ghost use Rattle.zone_replies.specs.Instants.{at_due};
 ghost use Rattle.zone_serving.specs.Kept.{is_kept};
@@ -13,7 +13,7 @@ use crate::readings::{at_told, readings_told};
 use crate::words::refused;
 use civil_base::{OffsetDateTime, PlainDateTime};
 use std::alloc::Global;
-use zone_asking::{Refusal, ZoneSource, offset_in};
+use zone_command::{Refusal, ZoneSource, offset_in};
 use zone_moments::Asked;
 use zone_replies::{FixedZone, ReplyZone, Style};
 

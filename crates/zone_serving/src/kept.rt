@@ -2,13 +2,13 @@
 ghost use Rattle.std.specs.Prelude.{◌≡◌, ℕ, List, true, Ok, Err, IfErr, IfSome, OnOk};
 ghost use Rattle.std.specs.FinMap.{get, contains_key};
 ghost use Rattle.std.proofs.Props.{props};
-ghost use Rattle.zone_asking.specs.Named.{named_in};
-ghost use Rattle.zone_asking.specs.Refusals.{IsTold};
+ghost use Rattle.zone_command.specs.Named.{named_in};
+ghost use Rattle.zone_command.specs.Refusals.{IsTold};
 ghost use Rattle.zone_serving.specs.Kept.{is_kept};
 
 use owned::TextMap;
 use std::alloc::Global;
-use zone_asking::{Refusal, ZoneSource, offset_in, refusal_of};
+use zone_command::{Refusal, ZoneSource, offset_in, refusal_of};
 
 /// The zones of a source that were asked for, by their names. Names that are offsets or find no zone aren't kept, so there are at most as
 /// many as the source has names.

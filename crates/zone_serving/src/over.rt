@@ -8,7 +8,7 @@ use crate::serving::{serve_log, serve_stream};
 use civil_base::OffsetDateTime;
 use std::alloc::Global;
 use std::marker::PhantomData;
-use zone_asking::{Refusal, ZoneSource, answer_over, find_named, name_words, told_line};
+use zone_command::{Refusal, ZoneSource, answer_over, find_named, name_words, told_line};
 use zone_command::{AnswerFault, Answerer};
 use zone_moments::AnswerForm;
 use zone_outside::Exchange;
@@ -62,7 +62,7 @@ pub struct OverSource<S> {
 }
 
 impl<S: ZoneSource> Answerer for OverSource<S> {
-    ghost use Rattle.zone_asking.specs.Replies.{IsDueOver};
+    ghost use Rattle.zone_command.specs.Replies.{IsDueOver};
     ghost use Rattle.zone_serving.specs.Makes.{IsMadeOver};
 
     ghost due = { IsDueOver S.reads S.unread S.found S.entries S.files S.strings S.trees };

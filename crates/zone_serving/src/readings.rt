@@ -1,13 +1,13 @@
 //! The replies to requests, each on one line.
 ghost use Rattle.std.specs.Prelude.{◌≡◌};
 ghost use Rattle.civil_base.specs.DateTimes.{instant};
-ghost use Rattle.zone_asking.specs.Answers.{told, IsAnswer, IsReply};
+ghost use Rattle.zone_command.specs.Answers.{told, IsAnswer, IsReply};
 ghost use Rattle.zone_replies.specs.Instants.{at_due};
 ghost use Rattle.zone_serving.specs.Streams.{between, closing, opening, readings_due};
 
 use civil_base::{OffsetDateTime, PlainDateTime};
 use std::alloc::Global;
-use zone_asking::{Refusal, told};
+use zone_command::{Refusal, told};
 use zone_moments::AnswerForm;
 use zone_replies::{ReplyFault, ReplyZone, Style, add_at, add_converted};
 

@@ -10,7 +10,7 @@ ghost use Rattle.zone_serving.specs.Streams.{stream_replies};
 use crate::log_texts::ZoneTexts;
 use crate::stream::SourceStream;
 use std::alloc::Global;
-use zone_asking::ZoneSource;
+use zone_command::ZoneSource;
 use zone_moments::AnswerForm;
 use zone_outside::Exchange;
 use zone_pieces::{StreamEnd, run_log, run_stream};

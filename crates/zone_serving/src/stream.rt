@@ -1,6 +1,6 @@
 //! What answers requests over a source.
 ghost use Rattle.std.specs.Prelude.{◌≡◌};
-ghost use Rattle.zone_asking.specs.Answers.{IsAnswer};
+ghost use Rattle.zone_command.specs.Answers.{IsAnswer};
 ghost use Rattle.zone_serving.specs.Requests.{request_of, words_of};
 ghost use Rattle.zone_serving.specs.Streams.{answer_for, answer_of, answer_to};
 ghost use Rattle.zone_words.specs.TaskShown.{task_shown};
@@ -9,7 +9,7 @@ use crate::answers::{at_answer, convert_answer, local_answer};
 use crate::kept::KeptZones;
 use crate::words::{read_request, refused, words_of};
 use std::alloc::{AllocError, Global};
-use zone_asking::{Refusal, ZoneSource};
+use zone_command::{Refusal, ZoneSource};
 use zone_moments::AnswerForm;
 use zone_pieces::Responder;
 use zone_replies::Style;

@@ -1,7 +1,7 @@
 //! The words of a line, and what they ask.
 ghost use Rattle.std.specs.Prelude.{◌≡◌, ◌==◌, [], ◌++◌, map, string_bytes, IfOk, OnOk};
 ghost use Rattle.std.specs.List.{slice_split};
-ghost use Rattle.zone_asking.specs.Refusals.{IsTold};
+ghost use Rattle.zone_command.specs.Refusals.{IsTold};
 ghost use Rattle.zone_serving.specs.Requests.{bare, has_option, request_of, word_in, words_among, words_of};
 ghost use Rattle.zone_serving.specs.Told.{IsRequest};
 ghost use Rattle.zone_words.specs.FaultLines.{fault_line};
@@ -10,7 +10,7 @@ ghost use Rattle.zone_words.specs.Shown.{word_shown};
 ghost use Rattle.zone_words.specs.Told.{fault_shown, is_of_memory};
 
 use std::alloc::{AllocError, Global};
-use zone_asking::Refusal;
+use zone_command::Refusal;
 use zone_words::{Asked, WordCause, WordFault, fault_line, read_words};
 
 /// The pieces of a text between spaces.

@@ -1,6 +1,6 @@
 use Rattle.std.proofs.Common.{ap, subst}
 use Rattle.std.specs.Prelude.{codes}
-use Rattle.zone_asking.specs.Answers.{IsAnswer}
+use Rattle.zone_command.specs.Answers.{IsAnswer}
 use Rattle.zone_serving.specs.Requests.{Request}
 use Rattle.zone_serving.specs.Streams.{answer_for, answer_to}
 use Rattle.zone_serving.proofs.RequestLemmas.{no_text, of_text, refused_is}

@@ -1,5 +1,0 @@
-pub mod ChartLemmas
-pub mod AnswerLemmas
-pub mod UtcLemmas
-mod OffsetRows
-mod ReplyRows

@@ -1,3 +1,0 @@
-mod ChartRows
-pub mod DueLemmas
-pub mod RangeLemmas

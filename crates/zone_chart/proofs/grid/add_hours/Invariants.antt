@@ -1,7 +1,0 @@
-use Rattle.std.proofs.Common.{◌≡◌, ◌++◌}
-use Rattle.std.specs.List.{flat_map, range_with_len}
-use Rattle.zone_chart.specs.Grids.{hour_mark}
-use Rattle.zone_chart.proofs.grid.add_hours.Given as goal
-
-abbrev pub invariant-loop-below : goal.invariant-loop-below
-invariant-loop-below l = l.into.items ≡ l.fn.into.items ++ flat_map (hour_mark l.frame.year l.frame.high) (range_with_len 0 l.below)

@@ -1,7 +1,0 @@
-use Rattle.std.proofs.Common.{◌≡◌, ◌++◌, take}
-use Rattle.std.specs.List.{flat_map}
-use Rattle.std.specs.Prelude.{codes}
-use Rattle.zone_chart.proofs.line.add_others.Given as goal
-
-abbrev pub invariant-loop-change : goal.invariant-loop-change
-invariant-loop-change g l = l.into.items ≡ l.fn.into.items ++ flat_map (λ second. codes ", " ++ ((g.Z.ReplyZone.view l.zone).force second).name) (take l.change-index l.changes)

@@ -1,0 +1,58 @@
+-- Zones that names find, one after another.
+use Rattle.std.proofs.Common.{◌≡◌, ℕ, List, [], ◌∷◌, ◌++◌, map, Ok, Err, refl, sym, subst, ap, ◌∙◌, append_assoc, append-nil}
+use Rattle.std.proofs.lemmas.List.{map-append}
+use Rattle.std.specs.Prelude.{Result, Vec, decimal}
+use Rattle.std.specs.declared.alloc.Global.{Global}
+use Rattle.zone_command.specs.Answers.{told, IsAnswer, IsReply, ◌>>=◌}
+use Rattle.zone_command.specs.Named.{Found, named_in}
+use Rattle.zone_command.specs.Replies.{behind_found, chart_answer, named_zones, IsStep}
+use Rattle.zone_command.specs.declared.source.Refusal.{Refusal}
+use Rattle.zone_displays.specs.Charts.{chart_due}
+use Rattle.zone_displays.specs.SeenZones.{Named}
+use Rattle.zone_replies.specs.Faults.{Due}
+use Rattle.zone_replies.specs.Views.{ZoneView}
+use Rattle.zone_replies.specs.declared.fault.ReplyFault.{ReplyFault}
+
+pub nothing : (left : Result (List Named) (List ℕ)) → behind_found [] left ≡ left
+nothing (Ok more) = refl
+nothing (Err words) = refl
+
+more : (zones : List Named) (zone : Named) (left : Result (List Named) (List ℕ))
+    → behind_found zones (left >>= (λ rest. Ok (zone ∷ rest))) ≡ behind_found (zones ++ zone ∷ []) left
+more zones zone (Ok rest) = ap Ok (sym (append_assoc zones (zone ∷ []) rest))
+more zones zone (Err words) = refl
+
+abbrev on : (List ℕ → Found) → List Named → List ℕ → List (List ℕ) → Found → Result (List Named) (List ℕ)
+on found zones name names z =
+    behind_found zones (z >>= (λ view. named_zones found names >>= (λ rest. Ok (record { name = name; view = view } ∷ rest))))
+
+pub stepped : (found : List ℕ → Found) (zones : List Named) (name : List ℕ) (names : List (List ℕ)) (view : ZoneView) → named_in found name ≡ Ok view
+    → behind_found zones (named_zones found (name ∷ names)) ≡ behind_found (zones ++ (record { name = name; view = view }) ∷ []) (named_zones found names)
+unfolding named_zones
+stepped found zones name names view is =
+    ap (on found zones name names) is ∙ more zones (record { name = name; view = view }) (named_zones found names)
+
+pub refused : (found : List ℕ → Found) (zones : List Named) (name : List ℕ) (names : List (List ℕ)) (words : List ℕ) → named_in found name ≡ Err words
+    → behind_found zones (named_zones found (name ∷ names)) ≡ Err words
+unfolding named_zones
+refused found zones name names words is = ap (on found zones name names) is
+
+pub ended : (found : List ℕ → Found) (zones : List Named) → behind_found zones (named_zones found []) ≡ Ok zones
+unfolding named_zones
+ended found zones = ap Ok (append-nil zones)
+
+pub pushed : {X : Type 0} (found : List ℕ → Found) (of : X → Named) (name : List ℕ) (before now : List X) (item : X) (view : ZoneView)
+    → named_in found name ≡ Ok view → of item ≡ record { name = name; view = view } → now ≡ before ++ item ∷ []
+    → (others : List (List ℕ)) → IsStep found name others (map of before) (map of now)
+pushed found of name before now item view is item_is grew others =
+    let zone : Named = record { name = name; view = view } in
+    let mapped : map of now ≡ map of before ++ zone ∷ [] =
+    ap (map of) grew ∙ map-append of before (item ∷ []) ∙ ap (λ z. map of before ++ z ∷ []) item_is in
+    stepped found (map of before) name others view is ∙ ap (λ z. behind_found z (named_zones found others)) (sym mapped)
+
+pub charted_as : (found : List ℕ → Found) (wanted : List (List ℕ)) (year : ℕ) (who : List ℕ) (zones : List Named) (lines : Result (Vec ℕ Global) ReplyFault)
+    (r : Result (Vec ℕ Global) Refusal) → named_zones found wanted ≡ Ok zones → who ≡ decimal year → IsReply (chart_due zones year) lines
+    → ((due : Due) → IsReply due lines → IsAnswer (told who due) r) → IsAnswer (chart_answer found wanted year) r
+charted_as found wanted year who zones lines r is who_is replies tells =
+    let P : Result (List Named) (List ℕ) → Type 0 = λ z. IsAnswer (z >>= (λ zs. told (decimal year) (chart_due zs year))) r in
+    subst P (sym is) (subst (λ w. IsAnswer (told w (chart_due zones year)) r) who_is (tells (chart_due zones year) replies))

@@ -1,0 +1,65 @@
+-- Answers over a source with one zone, which has no saving and lists four seconds.
+use Rattle.std.proofs.Common.{◌≡◌, refl, ap, arith, map, lit≤, ℕ, ℤ, pos, List, [], ◌∷◌, ◌++◌, ◌&&◌, cond, filter, int_le, int_lt, Some, None}
+use Rattle.std.specs.Prelude.{Ok, Err, bytes_eq, codes}
+use Rattle.std.specs.Fmt.{digits}
+use Rattle.calendar.specs.DateLaws.{year_of-day}
+use Rattle.calendar.specs.Dates.{year_of}
+use Rattle.calendar.specs.Days.{is_leap, days_in_year, days_in_month, days_after_zero, days_before_zero, year_start, days_through, days_into_year, day, IsCountedYear}
+use Rattle.calendar.specs.SignedLaws.{signed}
+use Rattle.civil_base.specs.Instants.{seconds_of}
+use Rattle.civil_base.specs.Layout.{day_part}
+use Rattle.text_parts.specs.Numbers.{value_in}
+use Rattle.zone_command.specs.Answers.{lined, told}
+use Rattle.zone_command.specs.Named.{Found, named_in}
+use Rattle.zone_command.specs.Offsets.{two_in, size_in, offset_in}
+use Rattle.zone_command.specs.Replies.{list_lines, reply_of}
+use Rattle.zone_moments.specs.Written.{epoch_text, fraction_text, offset_shown}
+use Rattle.zone_moments.specs.declared.answer_form.AnswerForm.TheVariants.{Epoch}
+use Rattle.zone_replies.specs.Faults.{each_due}
+use Rattle.zone_replies.specs.Fixed.{fixed_view}
+use Rattle.zone_replies.specs.Lists.{change_due, list_due, sides_text}
+use Rattle.zone_replies.specs.Views.{ZoneView}
+use Rattle.zone_replies.specs.declared.fault.ReplyFault.TheVariants.{OutOfYears, Untold}
+use Rattle.zone_words.specs.Tasks.{converted, list_changes}
+
+view : ZoneView
+view = record {
+  total = λ _. pos 0;
+  readings = λ x. x ∷ [];
+  force = λ _. record { offset = pos 0; saving = pos 0; name = codes "A" };
+  changes = λ from to. filter (λ s. int_le from s && int_lt s to) (pos 4 ∷ pos 5 ∷ pos 8 ∷ pos 9 ∷ []);
+  last_year = pos 2099;
+}
+
+found : List ℕ → Found
+found name = cond (bytes_eq name (codes "a")) (Ok view) (Err (codes "none"))
+
+-- an offset comes before the names of the source, and a name that finds none is told
+named : map (named_in found) (codes "a" ∷ codes "+02:00" ∷ codes "b" ∷ []) ≡ Ok view ∷ Ok (fixed_view (pos 7200) (codes "+02:00")) ∷ Err (codes "\"b\": none") ∷ []
+unfolding found value_in two_in size_in offset_in
+named = refl
+
+-- the first name that finds none
+converts : map (λ (names : List ℕ × List ℕ). reply_of found [] Epoch (pos 0) (converted names.0 names.1 (pos 0))) ((codes "b", codes "c") ∷ (codes "a", codes "c") ∷ [])
+    ≡ Err (codes "\"b\": none") ∷ Err (codes "\"c\": none") ∷ []
+unfolding found value_in two_in size_in offset_in
+converts = refl
+
+counted_year : IsCountedYear (pos 1970)
+counted_year = record { first = omega (arith, signed); last = omega (arith, signed) }
+
+year : year_of (pos 0) ≡ pos 1970
+unfolding is_leap days_in_year days_in_month days_after_zero days_before_zero year_start days_through days_into_year day
+year = year_of-day (pos 1970) 1 1 counted_year (record { first_month = lit≤ tt; last_month = lit≤ tt; first_day = lit≤ tt; last_day = lit≤ tt })
+
+line : List ℕ → List ℕ
+line second = (64 ∷ second ++ codes ": +00:00 A to +00:00 A, saving 0") ++ 10 ∷ []
+
+-- from now on, and before the other instant
+listed : reply_of found [] Epoch (pos 5000000000) (list_changes (codes "a") None (Some (pos 9000000000))) ≡ Ok (line (codes "5") ++ (line (codes "8") ++ []))
+unfolding found view line value_in two_in size_in offset_in seconds_of day_part list_lines list_due each_due change_due sides_text epoch_text fraction_text offset_shown digits
+listed = λ i. told (codes "a") (cond (ap (int_lt (pos 2099)) year i) (Err Untold) (Ok (line (codes "5") ++ (line (codes "8") ++ []))))
+
+lines : map lined (Ok (codes "a") ∷ told (codes "x") (Err OutOfYears) ∷ [])
+    ≡ Ok (codes "a") ∷ Err (codes "zone: \"x\": a date lies outside the years -9999 to 9999" ++ 10 ∷ []) ∷ []
+lines = refl

@@ -1,0 +1,13 @@
+use Rattle.std.proofs.Common.{Ok, ap, map, sym, ◌∙◌}
+use Rattle.zone_command.specs.Named.{named_view}
+use Rattle.zone_command.proofs.ChartLemmas.{charted_as}
+use Rattle.zone_command.proofs.charts.chart_reply.Goals as goal
+use Rattle.zone_displays.specs.SeenZones.{named}
+use Rattle.zone_words.specs.Shown.{word_shown}
+
+pub returns : goal.returns
+returns g c =
+    let of = named (named_view g.S.Zone.ReplyZone.view) in
+    charted_as (g.S.ZoneSource.found c.args.source.now) (map word_shown c.args.names.now) c.args.year c.format.result.now (map of c.deref.result.now)
+    c.picture-text.result c.told.result (c.in_ok-zones.ensures.ok ∙ ap (λ zones. Ok (map of zones)) (sym c.deref.ensures.value)) c.format.ensures.text
+    c.picture-text.ensures c.told.ensures

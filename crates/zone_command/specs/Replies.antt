@@ -1,0 +1,112 @@
+-- What is due of words over zones.
+use Rattle.std.specs.Prelude.{◌≡◌, ◌⊎◌, ◌&&◌, ℕ, List, [], ◌∷◌, ◌++◌, map, Option, Result, Ok, Err, decimal, unwrap_or, ℤ, if◌then◌else◌}
+use Rattle.civil_base.specs.Ranges.{is_in_years}
+use Rattle.zone_command.specs.Answers.{Answer, OfName, told, lined, ◌>>=◌}
+use Rattle.zone_command.specs.Named.{Found, named_in}
+use Rattle.zone_command.specs.Refusals.{name_words, told_line}
+use Rattle.zone_displays.specs.Charts.{chart_due}
+use Rattle.zone_displays.specs.SeenZones.{Named}
+use Rattle.zone_command.specs.Due.{Answers, Due as Delivered}
+use Rattle.zone_moments.specs.declared.answer_form.AnswerForm.{AnswerForm}
+use Rattle.zone_replies.specs.Faults.{Due, behind, followed}
+use Rattle.zone_replies.specs.Instants.{at_due}
+use Rattle.zone_replies.specs.Lists.{list_due}
+use Rattle.zone_replies.specs.Readings.{convert_due}
+use Rattle.zone_replies.specs.Views.{ZoneView}
+use Rattle.zone_replies.specs.declared.fault.ReplyFault.TheVariants.{OutOfYears}
+use Rattle.zone_displays.specs.SeenNames.{NameSeen}
+use Rattle.zone_displays.specs.Texts.{names_text}
+use Rattle.zone_displays.specs.Rings.{rings_due}
+use Rattle.zone_words.specs.Tasks.{TaskAsked, WordsAsked, at_instants, local_time, converted, list_changes, alarm, names, file, posix_string, tree, chart}
+
+-- a reply as a line
+abbrev pub ended : Due → Due
+ended due = followed due (Ok (10 ∷ []))
+
+-- a line for each instant, behind those that there are
+abbrev pub at_lines : AnswerForm → ZoneView → List ℕ → List ℕ → List ℤ → Due
+at_lines form view name text [] = Ok text
+at_lines form view name text (t ∷ times) = behind text (ended (at_due form view name t)) >>= (λ more. at_lines form view name more times)
+
+-- a line for each reading
+abbrev pub convert_lines : AnswerForm → ZoneView → List ℕ → ZoneView → List ℕ → ℤ → Due
+convert_lines form from from_name to to_name x = ended (convert_due form from from_name to to_name (10 ∷ []) x)
+
+-- a line for each change from an instant on and before another, whose dates by UTC lie in the years
+unfoldable pub list_lines : AnswerForm → ZoneView → List ℕ → ℤ → ℤ → Due
+list_lines form view name from to = if is_in_years from && is_in_years to then list_due form view name from to else Err OutOfYears
+
+-- the instant that is asked for, at an instant
+abbrev pub instant_at : ℤ → Option ℤ → ℤ
+instant_at now t = unwrap_or t now
+
+abbrev pub instants_at : ℤ → List (Option ℤ) → List ℤ
+instants_at now times = map (instant_at now) times
+
+-- what is due of the zone that a name finds
+abbrev pub on_zone : (List ℕ → Found) → List ℕ → (ZoneView → Answer) → Answer
+on_zone found name due = named_in found name >>= due
+
+-- the zones that names find, each under its name; or why the first finds none that does
+unfoldable pub named_zones : (List ℕ → Found) → List (List ℕ) → Result (List Named) (List ℕ)
+named_zones found [] = Ok []
+named_zones found (name ∷ others) =
+    named_in found name >>= (λ view. named_zones found others >>= (λ zones. Ok (record { name = name; view = view } ∷ zones)))
+
+-- a picture of these over a year
+abbrev pub chart_answer : (List ℕ → Found) → List (List ℕ) → ℕ → Answer
+chart_answer found wanted year = named_zones found wanted >>= (λ zones. told (decimal year) (chart_due zones year))
+
+-- zones that were found, and those that the names left find
+abbrev pub behind_found : List Named → Result (List Named) (List ℕ) → Result (List Named) (List ℕ)
+behind_found zones left = left >>= (λ more. Ok (zones ++ more))
+
+-- the zone of a name was found
+abbrev pub IsStep : (List ℕ → Found) → List ℕ → List (List ℕ) → List Named → List Named → Type 0
+IsStep found name others before now =
+    behind_found before (named_zones found (name ∷ others)) ≡ behind_found now (named_zones found others)
+
+-- the answer to a task by what names find, at an instant
+abbrev pub reply_of : (List ℕ → Found) → List NameSeen → AnswerForm → ℤ → TaskAsked → Answer
+reply_of found entries form now (at_instants name times) =
+    on_zone found name (λ view. told name (at_lines form view name [] (instants_at now times)))
+reply_of found entries form now (local_time name x) = on_zone found name (λ view. told name (convert_lines form view name view name x))
+reply_of found entries form now (converted from to x) =
+    on_zone found from (λ view. on_zone found to (λ other. told from (convert_lines form view from other to x)))
+reply_of found entries form now (list_changes name from to) =
+    on_zone found name (λ view. told name (list_lines form view name (instant_at now from) (instant_at now to)))
+reply_of found entries form now (alarm name asked) = on_zone found name (λ view. told name (rings_due form view name asked))
+reply_of found entries form now (names word) = Ok (names_text form entries word)
+reply_of found entries form now (chart wanted year) = chart_answer found wanted year
+reply_of found entries form now _ = Ok []
+
+-- what is said of a zone's file and string by its name, and of the tree
+abbrev pub Says : Type 1
+Says = Answer → Type 0
+
+abbrev pub IsReplyTo : (List ℕ → Found) → List NameSeen → (List ℕ → Says) → (List ℕ → Says) → Says → AnswerForm → ℤ → TaskAsked → Says
+IsReplyTo found entries files strings trees form now (file name) answer = OfName name (files name) answer
+IsReplyTo found entries files strings trees form now (posix_string name) answer = OfName name (strings name) answer
+IsReplyTo found entries files strings trees form now tree answer = trees answer
+IsReplyTo found entries files strings trees form now task answer = reply_of found entries form now task ≡ answer
+
+-- the source that the text is read as, and what is due over it
+pub record IsReplyOver {S : Type 0} (reads : List ℕ → S → Type 0) (found : S → List ℕ → Found) (entries : S → List NameSeen)
+    (files strings : S → List ℕ → Says) (trees : S → Says) (asked : WordsAsked) (now : ℤ) (text : List ℕ) (due : Delivered) : Type 0 where
+  pub source : S
+  pub read : reads text source
+  pub answer : Answer
+  pub reply : IsReplyTo (found source) (entries source) (files source) (strings source) (trees source) asked.form now asked.task answer
+  pub is : due ≡ lined answer
+
+-- why the text is no source, which is told of the file
+pub record IsNoSource (unread : List ℕ → List ℕ → Type 0) (file text : List ℕ) (due : Delivered) : Type 0 where
+  pub why : List ℕ
+  pub unread_for : unread text why
+  pub line : due ≡ Err (told_line (name_words file why))
+
+-- what is due over the text of a file
+abbrev pub IsDueOver : {S : Type 0} → (List ℕ → S → Type 0) → (List ℕ → List ℕ → Type 0) → (S → List ℕ → Found) → (S → List NameSeen)
+    → (S → List ℕ → Says) → (S → List ℕ → Says) → (S → Says) → Answers
+IsDueOver reads unread found entries files strings trees asked now name text due =
+    IsReplyOver reads found entries files strings trees asked now text due ⊎ IsNoSource unread name text due

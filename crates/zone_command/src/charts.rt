@@ -1,0 +1,91 @@
+//! Pictures of zones.
+ghost use Rattle.std.specs.Prelude.{◌≡◌, ◌∷◌, ℕ, List, map, IfErr, IfOk, OnOk, Ok, Err};
+ghost use Rattle.zone_command.specs.Answers.{IsAnswer, IsReply};
+ghost use Rattle.zone_command.specs.Named.{named_view};
+ghost use Rattle.zone_command.specs.Refusals.{IsTold};
+ghost use Rattle.zone_command.specs.Replies.{behind_found, chart_answer, named_zones, IsStep};
+ghost use Rattle.zone_displays.specs.Charts.{chart_due};
+ghost use Rattle.zone_displays.specs.SeenZones.{Named, named};
+ghost use Rattle.zone_words.specs.Shown.{word_shown};
+
+use crate::answers::told;
+use crate::named::{NamedZone, find_named};
+use crate::source::{Refusal, ZoneSource};
+use itoa::Buffer;
+use std::alloc::Global;
+use zone_displays::{ChartZone, add_chart};
+use zone_replies::{ReplyFault, ReplyZone};
+
+/// Adds the zone that a name finds.
+fn add_charted<'n, S: ZoneSource>(
+    zones: &mut Vec<ChartZone<'n, NamedZone<'n, S::Zone>>>,
+    alloc: Global,
+    source: &S,
+    name: &'n str,
+) -> Result<(), Refusal>
+    ensures ok { OnOk result ((others : List (List ℕ)) → IsStep (S.found source.now) name.now others
+        (map (named (named_view S.Zone.view)) zones.old.items) (map (named (named_view S.Zone.view)) zones.new.items)) }
+    ensures err { IfErr result (IsTold (λ words. (before : List Named) (others : List (List ℕ)) →
+        behind_found before (named_zones (S.found source.now) (name.now ∷ others)) ≡ Err words)) }
+{
+    let zone = match find_named(alloc, source, name) {
+        Ok(zone) => zone,
+        Err(Refusal::Why(words)) => return Err(Refusal::Why(words)),
+        Err(Refusal::NoMemory) => return Err(Refusal::NoMemory),
+    };
+    match zones.push(ChartZone { name, zone }) {
+        Ok(()) => Ok(()),
+        Err(_) => Err(Refusal::NoMemory),
+    }
+}
+
+/// The zones that names find, each under its name.
+fn charted<'n, S: ZoneSource>(
+    alloc: Global,
+    source: &S,
+    names: &[&'n str],
+) -> Result<Vec<ChartZone<'n, NamedZone<'n, S::Zone>>>, Refusal>
+    ensures ok { IfOk result (λ zones. named_zones (S.found source.now) (map word_shown names.now) ≡ Ok (map (named (named_view S.Zone.view)) zones.items)) }
+    ensures err { IfErr result (IsTold (λ words. named_zones (S.found source.now) (map word_shown names.now) ≡ Err words)) }
+{
+    let mut zones = Vec::new(alloc);
+    for name in names {
+        match add_charted(&mut zones, alloc, source, *name) {
+            Ok(()) => {}
+            Err(Refusal::Why(words)) => return Err(Refusal::Why(words)),
+            Err(Refusal::NoMemory) => return Err(Refusal::NoMemory),
+        }
+    }
+    Ok(zones)
+}
+
+/// The picture of zones over a year.
+fn picture<Z: ReplyZone>(
+    alloc: Global,
+    zones: &[ChartZone<'_, Z>],
+    year: u16,
+) -> Result<Vec<u8>, ReplyFault>
+    ensures { IsReply (chart_due (map (named Z.view) zones.now) year) result }
+{
+    let mut text = Vec::new(alloc);
+    match add_chart(&mut text, alloc, zones, year) {
+        Ok(()) => Ok(text),
+        Err(ReplyFault::OutOfYears) => Err(ReplyFault::OutOfYears),
+        Err(ReplyFault::Untold) => Err(ReplyFault::Untold),
+        Err(ReplyFault::NoMemory) => Err(ReplyFault::NoMemory),
+    }
+}
+
+/// The answer to `chart`.
+pub(crate) fn chart_reply<S: ZoneSource>(
+    alloc: Global,
+    source: &S,
+    names: &[&str],
+    year: u16,
+) -> Result<Vec<u8>, Refusal>
+    ensures { IsAnswer (chart_answer (S.found source.now) (map word_shown names.now) year) result }
+{
+    let zones = charted(alloc, source, names)?;
+    let text = picture(alloc, &zones, year);
+    told(alloc, Buffer::new().format(year), text)
+}

@@ -1,0 +1,159 @@
+//! What is due of a task over zones.
+ghost use Rattle.std.specs.Prelude.{◌≡◌, [], map, is_some, IfErr, IfOk, IfSome, OnOk, Ok, Err};
+ghost use Rattle.civil_base.specs.DateTimes.{instant, local_of};
+ghost use Rattle.civil_base.specs.Ranges.{is_in_years};
+ghost use Rattle.zone_command.specs.Answers.{IsReply};
+ghost use Rattle.zone_command.specs.Replies.{at_lines, convert_lines, ended, instant_at, instants_at, list_lines};
+ghost use Rattle.zone_moments.specs.Shown.{asked as asked_of};
+ghost use Rattle.zone_replies.specs.Faults.{behind, IsFaultOf};
+ghost use Rattle.zone_replies.specs.Instants.{at_due};
+ghost use Rattle.zone_displays.specs.Rings.{rings_due};
+ghost use Rattle.zone_words.specs.TaskShown.{alarm_shown};
+
+use civil_base::{OffsetDateTime, PlainDateTime};
+use std::alloc::Global;
+use zone_moments::Asked as Instant;
+use zone_replies::{ReplyFault, ReplyZone, Style, add_at, add_converted, add_list};
+use zone_displays::add_rings;
+use zone_words::Alarm;
+
+/// The instant that is asked for, at an instant.
+pub(crate) fn moment_of(asked: &Instant, now: &OffsetDateTime) -> OffsetDateTime
+    ensures { instant result ≡ instant_at (instant now.now) (asked_of asked.now) }
+{
+    match asked {
+        Instant::Now => *now,
+        Instant::At(value) => *value,
+    }
+}
+
+/// Adds the line of an instant.
+fn add_at_line<Z: ReplyZone>(
+    into: &mut Vec<u8>,
+    alloc: Global,
+    zone: &Z,
+    style: &Style<'_>,
+    at: &OffsetDateTime,
+) -> Result<(), ReplyFault>
+    ensures ok { OnOk result (Ok into.new.items ≡ behind into.old.items (ended (at_due style.now.form (Z.view zone.now) style.now.name.now (instant at.now)))) }
+    ensures err { IfErr result (IsFaultOf (ended (at_due style.now.form (Z.view zone.now) style.now.name.now (instant at.now)))) }
+{
+    match add_at(into, alloc, zone, style, at) {
+        Ok(()) => {
+            into.extend_from_slice(b"\n")?;
+            Ok(())
+        }
+        Err(ReplyFault::OutOfYears) => Err(ReplyFault::OutOfYears),
+        Err(ReplyFault::Untold) => Err(ReplyFault::Untold),
+        Err(ReplyFault::NoMemory) => Err(ReplyFault::NoMemory),
+    }
+}
+
+/// The lines of instants.
+pub(crate) fn at_lines<Z: ReplyZone>(
+    alloc: Global,
+    zone: &Z,
+    style: &Style<'_>,
+    times: &[Instant],
+    now: &OffsetDateTime,
+) -> Result<Vec<u8>, ReplyFault>
+    ensures { IsReply (at_lines style.now.form (Z.view zone.now) style.now.name.now [] (instants_at (instant now.now) (map asked_of times.now))) result }
+{
+    let mut text = Vec::new(alloc);
+    for time in times {
+        let at = moment_of(time, now);
+        match add_at_line(&mut text, alloc, zone, style, &at) {
+            Ok(()) => {}
+            Err(ReplyFault::OutOfYears) => return Err(ReplyFault::OutOfYears),
+            Err(ReplyFault::Untold) => return Err(ReplyFault::Untold),
+            Err(ReplyFault::NoMemory) => return Err(ReplyFault::NoMemory),
+        }
+    }
+    Ok(text)
+}
+
+/// The lines of the readings of a local time.
+pub(crate) fn convert_lines<F: ReplyZone, T: ReplyZone>(
+    alloc: Global,
+    from: &F,
+    from_name: &str,
+    to: &T,
+    style: &Style<'_>,
+    local: &PlainDateTime,
+) -> Result<Vec<u8>, ReplyFault>
+    ensures { IsReply (convert_lines style.now.form (F.view from.now) from_name.now (T.view to.now) style.now.name.now local.now) result }
+{
+    let mut text = Vec::new(alloc);
+    match add_converted(&mut text, alloc, from, from_name, to, style, b"\n", local) {
+        Ok(()) => {
+            text.extend_from_slice(b"\n")?;
+            Ok(text)
+        }
+        Err(ReplyFault::OutOfYears) => Err(ReplyFault::OutOfYears),
+        Err(ReplyFault::Untold) => Err(ReplyFault::Untold),
+        Err(ReplyFault::NoMemory) => Err(ReplyFault::NoMemory),
+    }
+}
+
+/// The date and the time of day of a date-time.
+fn local_of(date: &OffsetDateTime) -> PlainDateTime
+    ensures { result ≡ local_of date.now }
+{
+    PlainDateTime::new(date.date(), date.time())
+}
+
+/// The date and the time of day of an instant at UTC. There are none exactly where that date lies outside the years.
+#[tactic(auto, using(crate::proofs::UtcLemmas::at_utc))]
+fn utc_of(at: &OffsetDateTime) -> Option<PlainDateTime>
+    ensures has { is_some result ≡ is_in_years (instant at.now) }
+    ensures value { IfSome result (λ local. local ≡ instant at.now) }
+{
+    match OffsetDateTime::from_unix_timestamp_nanos(at.unix_timestamp_nanos()) {
+        Ok(utc) => Some(local_of(&utc)),
+        Err(_) => None,
+    }
+}
+
+/// The lines of the changes from an instant on and before another.
+#[tactic(auto, unfolding(crate::specs::Replies::list_lines))]
+pub(crate) fn list_lines<Z: ReplyZone>(
+    alloc: Global,
+    zone: &Z,
+    style: &Style<'_>,
+    from: &OffsetDateTime,
+    to: &OffsetDateTime,
+) -> Result<Vec<u8>, ReplyFault>
+    ensures { IsReply (list_lines style.now.form (Z.view zone.now) style.now.name.now (instant from.now) (instant to.now)) result }
+{
+    let Some(from) = utc_of(from) else {
+        return Err(ReplyFault::OutOfYears);
+    };
+    let Some(to) = utc_of(to) else {
+        return Err(ReplyFault::OutOfYears);
+    };
+    let mut text = Vec::new(alloc);
+    match add_list(&mut text, alloc, zone, style, &from, &to) {
+        Ok(()) => Ok(text),
+        Err(ReplyFault::OutOfYears) => Err(ReplyFault::OutOfYears),
+        Err(ReplyFault::Untold) => Err(ReplyFault::Untold),
+        Err(ReplyFault::NoMemory) => Err(ReplyFault::NoMemory),
+    }
+}
+
+/// The lines of the rings of an alarm.
+pub(crate) fn ring_lines<Z: ReplyZone>(
+    alloc: Global,
+    zone: &Z,
+    style: &Style<'_>,
+    alarm: &Alarm,
+) -> Result<Vec<u8>, ReplyFault>
+    ensures { IsReply (rings_due style.now.form (Z.view zone.now) style.now.name.now (alarm_shown alarm.now)) result }
+{
+    let mut text = Vec::new(alloc);
+    match add_rings(&mut text, alloc, zone, style, alarm) {
+        Ok(()) => Ok(text),
+        Err(ReplyFault::OutOfYears) => Err(ReplyFault::OutOfYears),
+        Err(ReplyFault::Untold) => Err(ReplyFault::Untold),
+        Err(ReplyFault::NoMemory) => Err(ReplyFault::NoMemory),
+    }
+}

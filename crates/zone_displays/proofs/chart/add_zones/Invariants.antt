@@ -1,0 +1,13 @@
+use Rattle.std.proofs.Common.{◌≡◌, drop, map}
+use Rattle.zone_replies.specs.Faults.{behind}
+use Rattle.zone_displays.specs.Frames.{each_numbered}
+use Rattle.zone_displays.specs.Grids.{bottom_of}
+use Rattle.zone_displays.specs.Lines.{zone_due}
+use Rattle.zone_displays.specs.SeenZones.{named}
+use Rattle.zone_displays.proofs.chart.add_zones.Given as goal
+
+abbrev pub invariant-loop-number : goal.invariant-loop-number
+invariant-loop-number g l =
+    let due = zone_due l.frame.year l.frame.high (bottom_of l.frame.low l.frame.high) in
+    behind l.into.items (each_numbered due l.number (map (named g.Z.ReplyZone.view) (drop l.number l.zones)))
+    ≡ behind l.fn.into.items (each_numbered due 0 (map (named g.Z.ReplyZone.view) l.zones))

@@ -1,0 +1,14 @@
+use Rattle.std.proofs.Common.{◌≡◌, ◌++◌, ◌∙◌}
+use Rattle.std.specs.Prelude.{codes}
+use Rattle.zone_displays.specs.Lines.{colour, group_text}
+use Rattle.zone_displays.proofs.RangeLemmas.{three}
+use Rattle.zone_displays.proofs.line.add_group.Goals as goal
+
+pub returns : goal.returns
+unfolding group_text
+returns c =
+    let start = c.args.into.now.items in
+    let seen : c.as_bytes.result.now ≡ colour c.args.number = c.as_bytes.ensures.value ∙ c.colour.ensures in
+    three start c.extend_from_slice.new.self.items c.extend_from_slice-2.new.self.items c.extend_from_slice-3.new.self.items _ _ _
+    c.in_ok-extend_from_slice.ensures.items c.in_ok-extend_from_slice-2.ensures.items c.in_ok-extend_from_slice-3.ensures.items
+    ∙ (λ i. start ++ ((codes "<g stroke=\"" ++ seen i) ++ codes "\">"))

@@ -1,0 +1,77 @@
+use Rattle.std.proofs.Common.{◌≡◌, true, false, not, map, ap, sym, ◌∙◌, Ok}
+use Rattle.std.proofs.lemmas.Result.{err_from_is_err_and}
+use Rattle.civil_base.specs.DateTimes.{instant}
+use Rattle.zone_replies.specs.DueLaws.{moved}
+use Rattle.zone_replies.specs.Faults.{behind, each_due}
+use Rattle.zone_replies.specs.Instants.{is_untold}
+use Rattle.zone_displays.specs.Days.{is_on}
+use Rattle.zone_displays.specs.Rings.{counts, line_due, lines_due, rings_at, time_on}
+use Rattle.zone_displays.proofs.RungLemmas.{not_on, not_told, quiet, some_rings, told}
+use Rattle.zone_words.specs.TaskShown.{alarm_shown}
+use Rattle.zone_displays.proofs.lines.add_day.Goals as goal
+
+pub returns-then-not-is_on-clause-ok : goal.returns-then-not-is_on-clause-ok
+returns-then-not-is_on-clause-ok g c =
+    let view = g.Z.ReplyZone.view c.args.zone.now in
+    let alarm = alarm_shown c.args.alarm.now in
+    let off : is_on alarm.days c.args.date ≡ false = sym c.is_on.ensures ∙ c.if-not-is_on.true in
+    quiet c.args.style.now.form view c.args.style.now.name.now c.args.into.now.items _ (not_on view alarm c.args.date c.requires off)
+
+pub returns-then-not-is_on-clause-rung : goal.returns-then-not-is_on-clause-rung
+returns-then-not-is_on-clause-rung g c =
+    let view = g.Z.ReplyZone.view c.args.zone.now in
+    let alarm = alarm_shown c.args.alarm.now in
+    let off : is_on alarm.days c.args.date ≡ false = sym c.is_on.ensures ∙ c.if-not-is_on.true in
+    sym (ap counts (not_on view alarm c.args.date c.requires off))
+
+pub returns-then-is_untold-clause-err : goal.returns-then-is_untold-clause-err
+returns-then-is_untold-clause-err g c =
+    let view = g.Z.ReplyZone.view c.args.zone.now in
+    let alarm = alarm_shown c.args.alarm.now in
+    let on : is_on alarm.days c.args.date ≡ true = sym c.is_on.ensures ∙ c.if-not-is_on.false in
+    let untold : is_untold view (time_on c.args.date alarm.time) ≡ true =
+    ap (is_untold view) (sym c.new-local.ensures) ∙ sym c.is_untold.ensures ∙ c.if-is_untold.true in
+    ap (lines_due c.args.style.now.form view c.args.style.now.name.now) (not_told view alarm c.args.date c.requires on untold)
+
+pub returns-in_err-add_lines-clause-err : goal.returns-in_err-add_lines-clause-err
+returns-in_err-add_lines-clause-err g c =
+    let view = g.Z.ReplyZone.view c.args.zone.now in
+    let alarm = alarm_shown c.args.alarm.now in
+    let form = c.args.style.now.form in
+    let name = c.args.style.now.name.now in
+    let on : is_on alarm.days c.args.date ≡ true = sym c.is_on.ensures ∙ c.if-not-is_on.false in
+    let in_time : is_untold view (time_on c.args.date alarm.time) ≡ false =
+    ap (is_untold view) (sym c.new-local.ensures) ∙ sym c.is_untold.ensures ∙ c.if-is_untold.false in
+    let is : each_due (line_due form view name) (map instant c.as_slice-dates.result.now) ≡ lines_due form view name _ =
+    ap (each_due (line_due form view name))
+    (ap (map instant) c.as_slice-dates.ensures.value ∙ c.in_ok-rings.ensures ∙ ap (rings_at alarm.gap alarm.fold view) c.new-local.ensures)
+    ∙ sym (ap (lines_due form view name) (told view alarm c.args.date c.requires on in_time)) in
+    let p = err_from_is_err_and c.from_residual-in_err-add_lines.result c.from_residual-in_err-add_lines.ensures.1 in
+    rw (p.1, p.2) (moved _ _ is _ c.in_err-add_lines.ensures.err)
+
+pub returns-clause-ok : goal.returns-clause-ok
+returns-clause-ok g c =
+    let view = g.Z.ReplyZone.view c.args.zone.now in
+    let alarm = alarm_shown c.args.alarm.now in
+    let form = c.args.style.now.form in
+    let name = c.args.style.now.name.now in
+    let on : is_on alarm.days c.args.date ≡ true = sym c.is_on.ensures ∙ c.if-not-is_on.false in
+    let in_time : is_untold view (time_on c.args.date alarm.time) ≡ false =
+    ap (is_untold view) (sym c.new-local.ensures) ∙ sym c.is_untold.ensures ∙ c.if-is_untold.false in
+    let is : each_due (line_due form view name) (map instant c.as_slice-dates.result.now) ≡ lines_due form view name _ =
+    ap (each_due (line_due form view name))
+    (ap (map instant) c.as_slice-dates.ensures.value ∙ c.in_ok-rings.ensures ∙ ap (rings_at alarm.gap alarm.fold view) c.new-local.ensures)
+    ∙ sym (ap (lines_due form view name) (told view alarm c.args.date c.requires on in_time)) in
+    c.in_ok-add_lines.ensures.ok ∙ ap (behind c.args.into.now.items) is
+
+pub returns-clause-rung : goal.returns-clause-rung
+returns-clause-rung g c =
+    let view = g.Z.ReplyZone.view c.args.zone.now in
+    let alarm = alarm_shown c.args.alarm.now in
+    let on : is_on alarm.days c.args.date ≡ true = sym c.is_on.ensures ∙ c.if-not-is_on.false in
+    let in_time : is_untold view (time_on c.args.date alarm.time) ≡ false =
+    ap (is_untold view) (sym c.new-local.ensures) ∙ sym c.is_untold.ensures ∙ c.if-is_untold.false in
+    ap not c.is_empty.ensures ∙ some_rings instant c.as_slice-dates.result.now
+    ∙ ap (λ ts. counts (Ok ts))
+    (ap (map instant) c.as_slice-dates.ensures.value ∙ c.in_ok-rings.ensures ∙ ap (rings_at alarm.gap alarm.fold view) c.new-local.ensures)
+    ∙ sym (ap counts (told view alarm c.args.date c.requires on in_time))

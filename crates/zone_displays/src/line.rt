@@ -1,0 +1,207 @@
+//! The line of a zone in a chart, with its changes and its legend.
+ghost use Rattle.std.specs.Prelude.{◌≡◌, ◌++◌, ◌≤◌, codes, IfOk, OnOk};
+ghost use Rattle.std.specs.List.{flat_map};
+ghost use Rattle.zone_displays.specs.Axes.{changes_in};
+ghost use Rattle.zone_displays.specs.Grids.{bottom_of};
+ghost use Rattle.zone_displays.specs.Lines.{abbreviations, colour, group_text, legend_line, legend_text, line_text, step_points, step_text};
+ghost use Rattle.zone_displays.specs.SeenZones.{named};
+
+use crate::axes::{Frame, month_begin, x_of, y_at};
+use crate::escape::add_escaped;
+use crate::grid::{add_number, add_text_at, legend_place, right_of};
+use crate::zone::ChartZone;
+use std::alloc::{AllocError, Global};
+use zone_replies::ReplyZone;
+
+/// The colour of the zone of that number.
+#[tactic(auto, unfolding(crate::specs::Lines::colour))]
+fn colour(number: usize) -> &'static str
+    ensures { result.now ≡ colour number }
+{
+    match number {
+        0 => "#0072b2",
+        1 => "#e69f00",
+        2 => "#009e73",
+        3 => "#cc79a7",
+        4 => "#d55e00",
+        5 => "#56b4e9",
+        6 => "#000000",
+        _ => "#f0e442",
+    }
+}
+
+/// Adds the way to a change, and to the offset from it on.
+#[tactic(auto, using(std::proofs::Common::append_assoc), unfolding(crate::specs::Lines::step_text))]
+fn add_step<Z: ReplyZone>(
+    into: &mut Vec<u8>,
+    frame: Frame,
+    zone: &Z,
+    second: i64,
+) -> Result<(), AllocError>
+    requires { frame.year ≤ 9999 }
+    ensures { OnOk result (into.new.items ≡ into.old.items ++ step_text frame.year frame.high (Z.view zone.now) second) }
+{
+    let x = x_of(frame.year, second);
+    let y = y_at(frame, zone, second);
+    into.extend_from_slice(b"H")?;
+    add_number(into, x)?;
+    into.extend_from_slice(b"V")?;
+    add_number(into, y)?;
+    Ok(())
+}
+
+fn add_steps<Z: ReplyZone>(
+    into: &mut Vec<u8>,
+    frame: Frame,
+    zone: &Z,
+    changes: &[i64],
+) -> Result<(), AllocError>
+    requires { frame.year ≤ 9999 }
+    ensures { OnOk result (into.new.items ≡ into.old.items ++ flat_map (step_text frame.year frame.high (Z.view zone.now)) changes.now) }
+{
+    for change in changes {
+        add_step(into, frame, zone, *change)?;
+    }
+    Ok(())
+}
+
+/// Adds the points of a zone's line, from the year's beginning to its end.
+#[tactic(auto, using(std::proofs::Common::append_assoc), unfolding(crate::specs::Lines::step_points))]
+fn add_points<Z: ReplyZone>(
+    into: &mut Vec<u8>,
+    frame: Frame,
+    zone: &Z,
+    changes: &[i64],
+) -> Result<(), AllocError>
+    requires year { frame.year ≤ 9999 }
+    requires changes { changes.now ≡ changes_in frame.year (Z.view zone.now) }
+    ensures { OnOk result (into.new.items ≡ into.old.items ++ step_points frame.year frame.high (Z.view zone.now)) }
+{
+    let y = y_at(frame, zone, month_begin(frame.year, 1));
+    let right = right_of(frame.year);
+    into.extend_from_slice(b"M1200 ")?;
+    add_number(into, y)?;
+    add_steps(into, frame, zone, changes)?;
+    into.extend_from_slice(b"H")?;
+    add_number(into, right)?;
+    Ok(())
+}
+
+/// Adds the abbreviation in force at a second.
+fn add_abbreviation<Z: ReplyZone>(
+    into: &mut Vec<u8>,
+    alloc: Global,
+    zone: &Z,
+    second: i64,
+) -> Result<(), AllocError>
+    ensures { OnOk result (into.new.items ≡ into.old.items ++ ((Z.view zone.now).force second).name) }
+{
+    let force = zone.force_at(alloc, second)?;
+    into.extend_from_slice(force.name.as_bytes())?;
+    Ok(())
+}
+
+/// Adds the abbreviations in force from some changes on, each behind a comma.
+#[tactic(auto, using(std::proofs::Common::append_assoc))]
+fn add_others<Z: ReplyZone>(
+    into: &mut Vec<u8>,
+    alloc: Global,
+    zone: &Z,
+    changes: &[i64],
+) -> Result<(), AllocError>
+    ensures { OnOk result (into.new.items ≡ into.old.items ++ flat_map (λ second. codes ", " ++ ((Z.view zone.now).force second).name) changes.now) }
+{
+    for change in changes {
+        into.extend_from_slice(b", ")?;
+        add_abbreviation(into, alloc, zone, *change)?;
+    }
+    Ok(())
+}
+
+/// The name of a zone and its abbreviations.
+#[tactic(auto, using(std::proofs::Common::append_assoc), unfolding(crate::specs::Lines::abbreviations))]
+fn label_of<Z: ReplyZone>(
+    frame: Frame,
+    zone: &ChartZone<'_, Z>,
+    changes: &[i64],
+) -> Result<Vec<u8>, AllocError>
+    requires year { frame.year ≤ 9999 }
+    requires changes { changes.now ≡ changes_in frame.year (Z.view zone.now.zone) }
+    ensures { IfOk result (λ label. label.items ≡ zone.now.name.now ++ codes ": " ++ abbreviations frame.year (Z.view zone.now.zone)) }
+{
+    let mut label = Vec::new(frame.alloc);
+    label.extend_from_slice(zone.name.as_bytes())?;
+    label.extend_from_slice(b": ")?;
+    add_abbreviation(
+        &mut label,
+        frame.alloc,
+        &zone.zone,
+        month_begin(frame.year, 1),
+    )?;
+    add_others(&mut label, frame.alloc, &zone.zone, changes)?;
+    Ok(label)
+}
+
+#[tactic(auto, using(std::proofs::Common::append_assoc), unfolding(crate::specs::Lines::legend_line))]
+fn add_legend_line(into: &mut Vec<u8>, y: u128) -> Result<(), AllocError>
+    ensures { OnOk result (into.new.items ≡ into.old.items ++ legend_line y) }
+{
+    into.extend_from_slice(b"<path class=\"zone\" d=\"M1200 ")?;
+    add_number(into, y)?;
+    into.extend_from_slice(b"H1700\"/>")?;
+    Ok(())
+}
+
+/// Adds the legend of the zone of that number.
+#[tactic(auto, using(std::proofs::Common::append_assoc), unfolding(crate::specs::Lines::legend_text))]
+fn add_legend<Z: ReplyZone>(
+    into: &mut Vec<u8>,
+    frame: Frame,
+    number: usize,
+    zone: &ChartZone<'_, Z>,
+    changes: &[i64],
+) -> Result<(), AllocError>
+    requires year { frame.year ≤ 9999 }
+    requires changes { changes.now ≡ changes_in frame.year (Z.view zone.now.zone) }
+    ensures { OnOk result (into.new.items ≡ into.old.items ++ legend_text frame.year (bottom_of frame.low frame.high) number (named Z.view zone.now)) }
+{
+    let y = legend_place(frame, number);
+    let label = label_of(frame, zone, changes)?;
+    add_legend_line(into, y)?;
+    add_text_at(into, 1800, y + 70)?;
+    add_escaped(into, &label)?;
+    into.extend_from_slice(b"</text>\n")?;
+    Ok(())
+}
+
+/// Adds the begin of a group in the colour of that number.
+#[tactic(auto, using(std::proofs::Common::append_assoc), unfolding(crate::specs::Lines::group_text))]
+fn add_group(into: &mut Vec<u8>, number: usize) -> Result<(), AllocError>
+    ensures { OnOk result (into.new.items ≡ into.old.items ++ group_text number) }
+{
+    into.extend_from_slice(b"<g stroke=\"")?;
+    into.extend_from_slice(colour(number).as_bytes())?;
+    into.extend_from_slice(b"\">")?;
+    Ok(())
+}
+
+/// Adds what stands before the marks of the zone of that number.
+#[tactic(auto, using(std::proofs::Common::append_assoc), unfolding(crate::specs::Lines::line_text))]
+pub(crate) fn add_line<Z: ReplyZone>(
+    into: &mut Vec<u8>,
+    frame: Frame,
+    number: usize,
+    zone: &ChartZone<'_, Z>,
+    changes: &[i64],
+) -> Result<(), AllocError>
+    requires year { frame.year ≤ 9999 }
+    requires changes { changes.now ≡ changes_in frame.year (Z.view zone.now.zone) }
+    ensures { OnOk result (into.new.items ≡ into.old.items ++ line_text frame.year frame.high (bottom_of frame.low frame.high) number (named Z.view zone.now)) }
+{
+    add_group(into, number)?;
+    add_legend(into, frame, number, zone, changes)?;
+    into.extend_from_slice(b"<path class=\"zone\" d=\"")?;
+    add_points(into, frame, &zone.zone, changes)?;
+    into.extend_from_slice(b"\"/>\n")?;
+    Ok(())
+}

@@ -1,0 +1,121 @@
+//! The marks of changes in a chart.
+ghost use Rattle.std.specs.Prelude.{◌≡◌, ◌++◌, ◌≤◌, [], IfErr, Ok, OnOk};
+ghost use Rattle.zone_moments.specs.declared.answer_form.AnswerForm.TheVariants.{People};
+ghost use Rattle.zone_replies.specs.Faults.{behind, each_due, IsFaultOf};
+ghost use Rattle.zone_replies.specs.Lists.{change_due};
+ghost use Rattle.zone_displays.specs.Escapes.{escaped_due};
+ghost use Rattle.zone_displays.specs.Lines.{circle_text, mark_due, place_text, titled_due};
+
+use crate::axes::{Frame, x_of, y_at};
+use crate::escape::add_escaped;
+use crate::grid::add_number;
+use std::alloc::{AllocError, Global};
+use zone_moments::AnswerForm;
+use zone_replies::{Kind, ReplyFault, ReplyZone, Style, add_change_line, kind_between};
+
+#[tactic(auto, using(std::proofs::Common::append_assoc), unfolding(crate::specs::Lines::place_text))]
+fn add_place(into: &mut Vec<u8>, x: u128, y: u128) -> Result<(), AllocError>
+    ensures { OnOk result (into.new.items ≡ into.old.items ++ place_text x y) }
+{
+    into.extend_from_slice(b"\" cx=\"")?;
+    add_number(into, x)?;
+    into.extend_from_slice(b"\" cy=\"")?;
+    add_number(into, y)?;
+    into.extend_from_slice(b"\" r=\"60\"><title>")?;
+    Ok(())
+}
+
+/// Adds the circle of a change, up to its title.
+#[tactic(auto, using(std::proofs::Common::append_assoc), unfolding(crate::specs::Lines::circle_text))]
+fn add_circle<Z: ReplyZone>(
+    into: &mut Vec<u8>,
+    frame: Frame,
+    zone: &Z,
+    kind: Kind,
+    second: i64,
+) -> Result<(), AllocError>
+    requires { frame.year ≤ 9999 }
+    ensures { OnOk result (into.new.items ≡ into.old.items ++ circle_text frame.year frame.high (Z.view zone.now) kind second) }
+{
+    let x = x_of(frame.year, second);
+    let y = y_at(frame, zone, second);
+    into.extend_from_slice(b"<circle class=\"")?;
+    into.extend_from_slice(kind.text())?;
+    add_place(into, x, y)?;
+    Ok(())
+}
+
+/// Adds the line of a change as XML writes it.
+fn add_title<Z: ReplyZone>(
+    into: &mut Vec<u8>,
+    alloc: Global,
+    zone: &Z,
+    second: i64,
+) -> Result<(), ReplyFault>
+    ensures ok { OnOk result (Ok into.new.items ≡ behind into.old.items (escaped_due (change_due People (Z.view zone.now) [] second))) }
+    ensures err { IfErr result (IsFaultOf (escaped_due (change_due People (Z.view zone.now) [] second))) }
+{
+    let style = Style {
+        name: "",
+        form: AnswerForm::People,
+    };
+    let mut title = Vec::new(alloc);
+    add_change_line(&mut title, alloc, zone, &style, second)?;
+    add_escaped(into, &title)?;
+    Ok(())
+}
+
+/// Adds the mark of a change with its title.
+fn add_titled<Z: ReplyZone>(
+    into: &mut Vec<u8>,
+    frame: Frame,
+    zone: &Z,
+    kind: Kind,
+    second: i64,
+) -> Result<(), ReplyFault>
+    requires { frame.year ≤ 9999 }
+    ensures ok { OnOk result (Ok into.new.items ≡ behind into.old.items (titled_due frame.year frame.high (Z.view zone.now) kind second)) }
+    ensures err { IfErr result (IsFaultOf (titled_due frame.year frame.high (Z.view zone.now) kind second)) }
+{
+    add_circle(into, frame, zone, kind, second)?;
+    add_title(into, frame.alloc, zone, second)?;
+    into.extend_from_slice(b"</title></circle>\n")?;
+    Ok(())
+}
+
+/// Adds the mark of a change, if clocks skip local times by it or read some twice.
+#[tactic(auto, unfolding(crate::specs::Lines::mark_due))]
+fn add_mark<Z: ReplyZone>(
+    into: &mut Vec<u8>,
+    frame: Frame,
+    zone: &Z,
+    second: i64,
+) -> Result<(), ReplyFault>
+    requires { frame.year ≤ 9999 }
+    ensures ok { OnOk result (Ok into.new.items ≡ behind into.old.items (mark_due frame.year frame.high (Z.view zone.now) second)) }
+    ensures err { IfErr result (IsFaultOf (mark_due frame.year frame.high (Z.view zone.now) second)) }
+{
+    match kind_between(zone.offset_before(second), zone.offset_at(second)) {
+        Kind::One => Ok(()),
+        Kind::Gap => add_titled(into, frame, zone, Kind::Gap, second),
+        Kind::Fold => add_titled(into, frame, zone, Kind::Fold, second),
+        Kind::More => Ok(()),
+    }
+}
+
+/// Adds the marks of some changes.
+pub(crate) fn add_marks<Z: ReplyZone>(
+    into: &mut Vec<u8>,
+    frame: Frame,
+    zone: &Z,
+    changes: &[i64],
+) -> Result<(), ReplyFault>
+    requires { frame.year ≤ 9999 }
+    ensures ok { OnOk result (Ok into.new.items ≡ behind into.old.items (each_due (mark_due frame.year frame.high (Z.view zone.now)) changes.now)) }
+    ensures err { IfErr result (IsFaultOf (each_due (mark_due frame.year frame.high (Z.view zone.now)) changes.now)) }
+{
+    for change in changes {
+        add_mark(into, frame, zone, *change)?;
+    }
+    Ok(())
+}

@@ -1,4 +1,0 @@
-pub mod EditLemmas
-pub mod NameLemmas
-mod NameRows
-pub mod SameLemmas

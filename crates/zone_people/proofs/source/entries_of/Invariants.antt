@@ -1,9 +1,0 @@
-use Rattle.std.proofs.Common.{◌≡◌, map, take}
-use Rattle.sefunjaro.specs.Sources.{table_in}
-use Rattle.zone_names.specs.Seen.{name_seen}
-use Rattle.zone_people.specs.Views.{entry_of}
-use Rattle.zone_people.proofs.source.entries_of.Given as goal
-
--- the entries of the names so far
-abbrev pub invariant-loop-name : goal.invariant-loop-name
-invariant-loop-name l = map name_seen l.entries.items ≡ map (entry_of (table_in l.source)) (take l.name-index l.name-items)

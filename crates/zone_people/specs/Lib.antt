@@ -1,4 +1,0 @@
--- Definitions: what public clauses say.
-pub mod Sources
-pub mod Views
-pub mod Wholes

@@ -1,3 +1,0 @@
-pub mod RungLemmas
-mod DayLaws
-mod RingRows
