@@ -9,8 +9,7 @@ use std::alloc::Global;
 use std::process::Abort;
 use zone_command::run_zone;
 use zone_outside::{MemClock, MemEnvironment, MemExchange, MemShelf, MemSink};
-use zone_serving::AnySource;
-use zone_serving::OverSource;
+use zone_serving::{AnySource, OverSource};
 
 /// The source: Berlin's rules from 1996 on in compact lines, a link, and a zone that doesn't go on.
 const SOURCE: &str = "\

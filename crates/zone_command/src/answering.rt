@@ -9,6 +9,7 @@ ghost use Rattle.zone_displays.specs.Texts.{names_text};
 ghost use Rattle.zone_displays.specs.Rings.{rings_due};
 ghost use Rattle.zone_words.specs.TaskShown.{alarm_shown, task_shown, words_shown};
 
+use crate::AnswerFault;
 use crate::answers::told;
 use crate::charts::chart_reply;
 use crate::line::{name_words, told_line};
@@ -17,9 +18,8 @@ use crate::replies::{at_lines, convert_lines, list_lines, moment_of, ring_lines}
 use crate::source::{Refusal, ZoneSource};
 use civil_base::{OffsetDateTime, PlainDateTime};
 use std::alloc::Global;
-use crate::AnswerFault;
-use zone_moments::{AnswerForm, Asked as Instant};
 use zone_displays::add_names;
+use zone_moments::{AnswerForm, Asked as Instant};
 use zone_replies::Style;
 use zone_words::{Alarm, Asked, Task};
 

@@ -1,5 +1,5 @@
-//! The run of the command `zone`: its words, its source, its answer, its faults. It knows no zone: what answers is an `Answerer`.
-//! What the command `zone` answers over the text of a source, whatever reads it.
+//! The run of the command `zone`: its words, its source, its answer, its faults; what answers is an `Answerer`. And what is answered over the
+//! text of a source, whatever reads it.
 #![tactic(auto)]
 
 mod answerer;
@@ -20,13 +20,13 @@ mod starting;
 mod times;
 
 pub use answerer::{AnswerFault, Answerer};
-pub use failure::Failure;
-pub use running::run_zone;
-pub use starting::{ZoneStarted, start};
-pub use zone_source::{Failed, Shelf, Sink, Source, Status};
 pub use answering::answer_over;
 pub use answers::{refusal_of, told};
+pub use failure::Failure;
 pub use line::{name_words, told_line};
 pub use named::{NamedZone, find_named};
 pub use offset::offset_in;
+pub use running::run_zone;
 pub use source::{Refusal, ZoneSource};
+pub use starting::{ZoneStarted, start};
+pub use zone_source::{Failed, Shelf, Sink, Source, Status};

@@ -12,9 +12,9 @@ ghost use Rattle.zone_words.specs.TaskShown.{alarm_shown};
 
 use civil_base::{OffsetDateTime, PlainDateTime};
 use std::alloc::Global;
+use zone_displays::add_rings;
 use zone_moments::Asked as Instant;
 use zone_replies::{ReplyFault, ReplyZone, Style, add_at, add_converted, add_list};
-use zone_displays::add_rings;
 use zone_words::Alarm;
 
 /// The instant that is asked for, at an instant.

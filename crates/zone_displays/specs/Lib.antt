@@ -1,16 +1,14 @@
--- Definitions: what public clauses say.
+-- What public clauses say: of rings,
 pub mod Days
 pub mod Rings
--- Words of private clauses.
-pub mod Left
-pub mod Fronts
--- What public clauses say.
+-- of names,
 pub mod Edits
 pub mod Near
 pub mod Same
 pub mod SeenNames
 pub mod Texts
 pub mod Unknown
+-- and of a picture.
 pub mod Axes
 pub mod Charts
 pub mod Escapes
@@ -18,3 +16,6 @@ pub mod Frames
 pub mod Grids
 pub mod Lines
 pub mod SeenZones
+-- Words of private clauses.
+pub mod Fronts
+pub mod Left

@@ -1,6 +1,5 @@
-//! When the alarms of the command `zone` ring.
-//! The names of a source: those that have a word in them, and those that someone may have meant.
-//! A picture of the offsets of zones over a year.
+//! What the command `zone` shows besides readings: when its alarms ring; the names of a source that have a word in them, or that someone
+//! may have meant; a picture of the offsets of zones over a year.
 #![tactic(auto)]
 
 mod axes;
@@ -20,10 +19,10 @@ mod text;
 mod unknown;
 mod zone;
 
-pub use lines::add_rings;
+pub use chart::add_chart;
 pub use entry::NameEntry;
+pub use lines::add_rings;
 pub use near::near_names;
 pub use text::add_names;
 pub use unknown::add_unknown;
-pub use chart::add_chart;
 pub use zone::ChartZone;

@@ -2,8 +2,7 @@
 #![tactic(auto)]
 
 use zone_command::{ZoneStarted, start};
-use zone_serving::AnySource;
-use zone_serving::OverSource;
+use zone_serving::{AnySource, OverSource};
 
 fn main(rt: HostRuntime) -> ZoneStarted {
     start::<OverSource<AnySource>>(rt)

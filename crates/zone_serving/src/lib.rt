@@ -1,5 +1,5 @@
-//! Requests and logs without end, answered over a source.
-//! The command `zone` over the machine's own source: a source in any form that `zic` reads, and zones that go on for ever.
+//! What answers each command of `zone`: requests and logs without end over any source, and the machine's own source, in any form that `zic`
+//! reads, whose zones go on for ever.
 #![tactic(auto)]
 
 mod answers;
@@ -16,5 +16,5 @@ mod words;
 pub use log_texts::ZoneTexts;
 pub use over::OverSource;
 pub use serving::{serve_log, serve_stream};
-pub use stream::SourceStream;
 pub use source::AnySource;
+pub use stream::SourceStream;

@@ -8,8 +8,9 @@ use crate::serving::{serve_log, serve_stream};
 use civil_base::OffsetDateTime;
 use std::alloc::Global;
 use std::marker::PhantomData;
-use zone_command::{Refusal, ZoneSource, answer_over, find_named, name_words, told_line};
-use zone_command::{AnswerFault, Answerer};
+use zone_command::{
+    AnswerFault, Answerer, Refusal, ZoneSource, answer_over, find_named, name_words, told_line,
+};
 use zone_moments::AnswerForm;
 use zone_outside::Exchange;
 use zone_pieces::StreamEnd;
