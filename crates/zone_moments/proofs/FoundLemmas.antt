@@ -16,11 +16,11 @@ use Rattle.civil_base.specs.DigitLaws.{four_digits-halves}
 use Rattle.zone_moments.proofs.NumberLemmas.{run_passes}
 use Rattle.zone_moments.specs.Numbers.{is_separator, fraction_of, moment}
 use Rattle.zone_moments.specs.Pieces.{digit_at, two_at, four_at, date_at, separator_at, minute_at, second_at, run_of, after_run}
-use Rattle.zone_moments.specs.Readings.{digits_at, fraction_at, front_at, seconds_at, moment_in, local_in, is_date, is_time, ended, ◌>>=◌}
+use Rattle.zone_moments.specs.Readings.{digits_at, fraction_at, time_cause, front_at, seconds_at, moment_in, after_time, local_in, is_date, is_time, ended, ◌>>=◌}
 use Rattle.zone_moments.specs.Spells.{SpellsDate, date, SpellsMinute, minute, AreFraction, SpellsFraction, whole, digits, SpellsTime, time, Exist}
 use Rattle.zone_moments.specs.Spells.{SpellsLocal, to_minute, to_second}
 use Rattle.zone_moments.specs.declared.fault.TextFault.{TextFault}
-use Rattle.zone_moments.specs.declared.fault.TextFault.TheVariants.{DateMissing, TimeMissing, SecondMissing, FractionMissing, TooFine, Trailing, NoSuchDate, NoSuchTime}
+use Rattle.zone_moments.specs.declared.fault.TextFault.TheVariants.{DateMissing, TimeMissing, SecondMissing, FractionMissing, TooFine, NoSuchDate, NoSuchTime}
 use Rattle.zone_moments.specs.declared.form.WrittenDate.{WrittenDate}
 use Rattle.zone_moments.specs.declared.form.WrittenTime.{WrittenTime}
 use Rattle.std.specs.Result.{result_unwrap_or}
@@ -174,7 +174,7 @@ unfolding front_at
 front_found text y e =
     let d = bind_ok _ (ok_or (date_at text) DateMissing) y e in
     let s = bind_ok _ (ok_or (separator_at d.0.1) TimeMissing) y d.2 in
-    let m = bind_ok _ (ok_or (minute_at s.0) TimeMissing) y s.2 in
+    let m = bind_ok _ (ok_or (minute_at s.0) (time_cause s.0)) y s.2 in
     let mark = separator_found d.0.1 s.0 (wanted _ _ s.0 s.1) in
     subst (λ (z : (WrittenDate × WrittenTime) × List ℕ). TakesFront text z.0.0 z.0.1 z.1) (same_Ok _ y m.2)
     (front_built mark.0 (date_found text d.0 (wanted _ _ d.0 d.1)) mark.1 mark.2 (minute_found s.0 m.0 (wanted _ _ m.0 m.1)))
@@ -239,9 +239,9 @@ moment_found d t x e =
     (record { date = date; time = time }, same_Ok (moment d t) x shown.1)
 
 -- nothing follows
-pub ended_found : {V : Type 0} (y : V × List ℕ) (x : V) → ended y ≡ Ok x → (y.1 ≡ []) × (y.0 ≡ x)
-ended_found y x e =
-    let last = passed (nat_eq (length y.1) 0) _ Trailing x e in
+pub ended_found : {V : Type 0} (fault : TextFault) (y : V × List ℕ) (x : V) → ended fault y ≡ Ok x → (y.1 ≡ []) × (y.0 ≡ x)
+ended_found fault y x e =
+    let last = passed (nat_eq (length y.1) 0) _ fault x e in
     (nil_from_length y.1 (eqb-true _ 0 last.0), same_Ok y.0 x last.1)
 
 minute_local : {text rest : List ℕ} {d : WrittenDate} {t : WrittenTime} → TakesFront text d t rest → rest ≡ [] → Exist d t → SpellsLocal text (moment d t)
@@ -266,8 +266,8 @@ local_found text x e =
     let f = bind_ok _ (front_at text) x e in
     let front = front_found text f.0 f.1 in
     let w = bind_ok _ _ x f.2 in
-    let n = bind_ok _ (ended w.0) x w.2 in
-    let last = ended_found w.0 n.0 n.1 in
+    let n = bind_ok _ (ended (after_time w.0.1) w.0) x w.2 in
+    let last = ended_found (after_time w.0.1) w.0 n.0 n.1 in
     let made = moment_found f.0.0.0 n.0 x n.2 in
     subst (SpellsLocal text) made.1 (elim (marked (λ _. seconds_at f.0.0.1 f.0.1) 58 f.0.1 _ (Ok w.0) w.1) [
       | inl found ↦

@@ -1,12 +1,13 @@
 -- Instants that are read are spelled.
 use Rattle.std.proofs.Common.{◌≡◌, sym, ap, subst, ◌∙◌, arith, ℕ, ◌^◌, ◌<◌, inl, inr, Bool, true, false, nat_eq, bytes_eq}
-use Rattle.std.proofs.Common.{List, [], ◌∷◌, ◌++◌, length, append_assoc, append-nil, eqb-true, Option, Some, Ok, ok_or, ℤ, codes}
+use Rattle.std.proofs.Common.{List, [], ◌∷◌, ◌++◌, length, append_assoc, append-nil, eqb-true, Option, Some, Result, Ok, Err, ok_or, ℤ, codes}
 use Rattle.std.proofs.lemmas.Bool.Decides.{nat_tests}
 use Rattle.std.proofs.lemmas.List.{take-append-drop}
 use Rattle.std.proofs.lemmas.Slice.Eq.{bytes_eq-Decides}
 use Rattle.std.proofs.lemmas.Option.{same_Some, none-some}
 use Rattle.std.specs.Char.{is_ascii_digit}
 use Rattle.std.specs.List.{prefix_len}
+use Rattle.std.specs.Result.{result_map_both}
 use Rattle.calendar.specs.LogicLaws.{map_some}
 use Rattle.civil_base.specs.Instants.{instant_at}
 use Rattle.civil_base.specs.Ranges.{IsInYears, is_in_years}
@@ -17,10 +18,11 @@ use Rattle.zone_moments.proofs.NumberLemmas.{run_passes}
 use Rattle.zone_moments.specs.Numbers.{is_separator, is_utc, moment, seconds_east, counted}
 use Rattle.zone_moments.specs.Pieces.{offset_at, minute_at, run_of, after_run}
 use Rattle.zone_moments.specs.Readings.{front_at, seconds_at, fraction_at, moment_in, ended, zoned_at, zoned_in, size_at, count_at, count_in, count_of}
-use Rattle.zone_moments.specs.Readings.{counted_in, written_in, instant_in, asked_in, in_years, is_offset}
+use Rattle.zone_moments.specs.Readings.{counted_in, written_in, instant_cause, instant_in, asked_in, in_years, is_offset}
 use Rattle.zone_moments.specs.Spells.{SpellsDate, SpellsMinute, minute, SpellsFraction, SpellsTime, Exist, SpellsOffset, utc, east, west}
 use Rattle.zone_moments.specs.Spells.{AreDigits, SpellsInstant, since, before, zoned, SpellsAsked, now, instant}
-use Rattle.zone_moments.specs.declared.fault.TextFault.TheVariants.{OffsetMissing, CountMissing, OffsetRange, OutOfYears}
+use Rattle.zone_moments.specs.declared.fault.TextFault.{TextFault}
+use Rattle.zone_moments.specs.declared.fault.TextFault.TheVariants.{OffsetMissing, CountMissing, Trailing, OffsetRange, OutOfYears}
 use Rattle.zone_moments.specs.declared.form.WrittenDate.{WrittenDate}
 use Rattle.zone_moments.specs.declared.form.WrittenTime.{WrittenTime}
 use Rattle.zone_moments.specs.declared.form.WrittenOffset.{WrittenOffset}
@@ -120,8 +122,8 @@ written_found : (text : List ℕ) (x : ℤ) → written_in text ≡ Ok x → Spe
 unfolding written_in
 written_found text x e =
     let y = bind_ok _ (zoned_at text) x e in
-    let f = bind_ok _ (ended y.0) x y.2 in
-    let last = ended_found y.0 f.0 f.1 in
+    let f = bind_ok _ (ended Trailing y.0) x y.2 in
+    let last = ended_found Trailing y.0 f.0 f.1 in
     let means = zoned_value_found f.0 x f.2 in
     let form : is_offset y.0.0.offset ≡ true = rw last.1 means.real in
     zoned_whole (subst (λ w. TakesZoned text w y.0.1) last.1 (zoned_form_found text y.0 y.1 form)) last.0 means
@@ -166,8 +168,8 @@ counted_found : (text : List ℕ) (x : ℤ) → counted_in text ≡ Ok x → Spe
 unfolding counted_in count_at count_in
 counted_found text x e =
     let y = bind_ok _ (count_at text) x e in
-    let f = bind_ok _ (ended y.0) x y.2 in
-    let last = ended_found y.0 f.0 f.1 in
+    let f = bind_ok _ (ended Trailing y.0) x y.2 in
+    let last = ended_found Trailing y.0 f.0 f.1 in
     let years = years_found (counted f.0.before f.0.seconds f.0.nanosecond) x f.2 in
     let bound : y.0.0.seconds < 10 ^ 25 = rw last.1 (few f.0.before f.0.seconds f.0.nanosecond years.0) in
     elim (marked (size_at true) 45 text (size_at false text) (Ok y.0) y.1) [
@@ -177,11 +179,15 @@ counted_found text x e =
           since_whole (subst (λ w. TakesCount false text w y.0.1) last.1 (size_found false text y.0 other.1 bound)) last.0 years.0 years.1
     ]
 
+kept : (cause : TextFault → TextFault) (r : Result ℤ TextFault) (x : ℤ) → result_map_both (λ t. t) cause r ≡ Ok x → r ≡ Ok x
+kept cause (Ok t) x e = e
+kept cause (Err fault) x e = absurd cc
+
 pub instant_found : (text : List ℕ) (x : ℤ) → instant_in text ≡ Ok x → SpellsInstant text x
 unfolding instant_in
-instant_found text x e = elim (marked counted_in 64 text (written_in text) (Ok x) e) [
+instant_found text x e = elim (marked counted_in 64 text (result_map_both (λ t. t) (instant_cause text) (written_in text)) (Ok x) e) [
   | inl found ↦ rw found.1 (counted_found found.0 x found.2)
-  | inr other ↦ written_found text x other.1
+  | inr other ↦ written_found text x (kept (instant_cause text) (written_in text) x other.1)
 ]
 
 pub asked_found : (text : List ℕ) (x : Option ℤ) → asked_in text ≡ Ok x → SpellsAsked text x

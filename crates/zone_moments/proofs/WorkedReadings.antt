@@ -7,8 +7,8 @@ use Rattle.zone_moments.specs.Numbers.{moment, seconds_east, counted}
 use Rattle.zone_moments.specs.Pieces.{digit_at, two_at, four_at, date_at, minute_at, second_at, offset_at}
 use Rattle.zone_moments.specs.Readings.{digits_at, fraction_at, front_at, seconds_at, moment_in, local_in, in_years, zoned_at, zoned_in, size_at, count_at, count_in, counted_in, written_in, instant_in, asked_in}
 use Rattle.zone_moments.specs.declared.fault.TextFault.{TextFault}
-use Rattle.zone_moments.specs.declared.fault.TextFault.TheVariants.{DateMissing, TimeMissing, SecondMissing, FractionMissing, TooFine}
-use Rattle.zone_moments.specs.declared.fault.TextFault.TheVariants.{OffsetMissing, CountMissing, Trailing, NoSuchDate, NoSuchTime, OffsetRange, OutOfYears}
+use Rattle.zone_moments.specs.declared.fault.TextFault.TheVariants.{MarkMissing, DateMissing, ClockMissing, HourShort, TimeMissing, SecondMissing, FractionMissing, TooFine}
+use Rattle.zone_moments.specs.declared.fault.TextFault.TheVariants.{OffsetMissing, CountMissing, OffsetThere, Trailing, NoSuchDate, NoSuchTime, OffsetRange, OutOfYears}
 
 abbrev instants : List (List ℕ × Result (Option ℤ) TextFault)
 instants =
@@ -35,8 +35,12 @@ worked_instants = refl
 abbrev faults : List (List ℕ × Result (Option ℤ) TextFault)
 faults =
     (codes "", Err DateMissing) ∷ (codes "Now", Err DateMissing) ∷ (codes "now ", Err DateMissing) ∷
-    (codes "24-10-27T02:30:00Z", Err DateMissing) ∷ (codes "2024-10-27", Err TimeMissing) ∷
-    (codes "2024-10-27x02:30:00Z", Err TimeMissing) ∷ (codes "2024-10-27T2:30:00Z", Err TimeMissing) ∷
+    (codes "24-10-27T02:30:00Z", Err DateMissing) ∷ (codes "2024-10-27", Err ClockMissing) ∷
+    (codes "1729992600", Err MarkMissing) ∷ (codes "-1.5", Err MarkMissing) ∷ (codes "1729992600123", Err MarkMissing) ∷
+    (codes "2024", Err MarkMissing) ∷ (codes "1729992600s", Err DateMissing) ∷ (codes "1.", Err DateMissing) ∷ (codes "-", Err DateMissing) ∷
+    (codes "2024-10-27x02:30:00Z", Err ClockMissing) ∷ (codes "2024-10-27T2:30:00Z", Err HourShort) ∷
+    (codes "2024-10-27T2:", Err HourShort) ∷ (codes "2024-10-27T2", Err ClockMissing) ∷ (codes "2024-10-27T1x:30", Err ClockMissing) ∷
+    (codes "2024-10-27Tx:30", Err ClockMissing) ∷ (codes "2024-10-27T123:00:00Z", Err ClockMissing) ∷
     (codes "2024-10-27T02:30Z", Err SecondMissing) ∷ (codes "2024-10-27T02:30:00.Z", Err FractionMissing) ∷
     (codes "2024-10-27T02:30:00.1234567890Z", Err TooFine) ∷ (codes "2024-10-27T02:30:00", Err OffsetMissing) ∷
     (codes "2024-10-27T02:30:00+02", Err OffsetMissing) ∷ (codes "2024-10-27T02:30:00Zulu", Err Trailing) ∷
@@ -60,8 +64,12 @@ locals =
     (codes "2024-10-27 02:30", Ok (pos 1729996200000000000)) ∷ (codes "2024-10-27T02:30:59.25", Ok (pos 1729996259250000000)) ∷
     (codes "1969-12-31t23:59:59.999999999", Ok (neg_ℤ (pos 1))) ∷ (codes "0000-01-01 00:00", Ok (neg_ℤ (pos 62167219200000000000))) ∷
     (codes "2024-10-27", Err TimeMissing) ∷ (codes "27.10.2024 02:30", Err DateMissing) ∷
+    (codes "1729992600", Err DateMissing) ∷ (codes "2024-10-27 7:00", Err HourShort) ∷ (codes "2024-10-27 0700", Err TimeMissing) ∷
+    (codes "2024-10-27T02:30Z", Err OffsetThere) ∷ (codes "2024-10-27T02:30+02:00", Err OffsetThere) ∷
+    (codes "2024-10-27 02:30:00.5-99:99", Err OffsetThere) ∷ (codes "2024-10-27 02:30 +02:00", Err Trailing) ∷
+    (codes "2024-10-27 02:30+02", Err Trailing) ∷
     (codes "2024-10-27 02:30:", Err SecondMissing) ∷ (codes "2024-10-27 02:30.5", Err Trailing) ∷
-    (codes "2024-10-27 02:30:00Z", Err Trailing) ∷ (codes "2024-10-27 02:30:00.", Err FractionMissing) ∷
+    (codes "2024-10-27 02:30:00Z", Err OffsetThere) ∷ (codes "2024-10-27 02:30:00.", Err FractionMissing) ∷
     (codes "2100-02-29 00:00", Err NoSuchDate) ∷ (codes "2024-00-01 00:00", Err NoSuchDate) ∷
     (codes "2024-10-00 00:00", Err NoSuchDate) ∷ (codes "2024-10-27 24:00", Err NoSuchTime) ∷ []
 

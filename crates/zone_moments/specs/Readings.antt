@@ -1,6 +1,7 @@
 -- What a whole text is read as, or the first fault: its form from the left to the right, then what doesn't exist.
-use Rattle.std.specs.Prelude.{ℕ, ◌^◌, min, Bool, true, false, ◌&&◌, List, length, Option, Some, None, Result, Ok, Err, ok_or}
+use Rattle.std.specs.Prelude.{ℕ, ◌^◌, min, Bool, true, false, ◌&&◌, List, [], ◌∷◌, length, Option, Some, None, Result, Ok, Err, is_ok, is_some, ok_or}
 use Rattle.std.specs.Prelude.{nat_le, nat_lt, nat_eq, if◌then◌else◌, ℤ, pos, bytes_eq, codes}
+use Rattle.std.specs.Char.{is_ascii_digit}
 use Rattle.std.specs.Option.{option_map_or}
 use Rattle.std.specs.Result.{result_map_both}
 use Rattle.std.specs.Borrow.{Bor}
@@ -11,8 +12,8 @@ use Rattle.text_parts.specs.Marks.{after_mark}
 use Rattle.zone_moments.specs.Numbers.{fraction_of, moment, number_after, seconds_east, counted}
 use Rattle.zone_moments.specs.Pieces.{date_at, separator_at, minute_at, second_at, offset_at, run_of, after_run}
 use Rattle.zone_moments.specs.declared.fault.TextFault.{TextFault}
-use Rattle.zone_moments.specs.declared.fault.TextFault.TheVariants.{DateMissing, TimeMissing, SecondMissing, FractionMissing, TooFine}
-use Rattle.zone_moments.specs.declared.fault.TextFault.TheVariants.{OffsetMissing, CountMissing, Trailing, NoSuchDate, NoSuchTime, OffsetRange, OutOfYears}
+use Rattle.zone_moments.specs.declared.fault.TextFault.TheVariants.{MarkMissing, DateMissing, ClockMissing, HourShort, TimeMissing, SecondMissing, FractionMissing, TooFine}
+use Rattle.zone_moments.specs.declared.fault.TextFault.TheVariants.{OffsetMissing, CountMissing, OffsetThere, Trailing, NoSuchDate, NoSuchTime, OffsetRange, OutOfYears}
 use Rattle.zone_moments.specs.declared.form.WrittenDate.{WrittenDate}
 use Rattle.zone_moments.specs.declared.form.WrittenTime.{WrittenTime}
 use Rattle.zone_moments.specs.declared.form.WrittenOffset.{WrittenOffset}
@@ -38,12 +39,18 @@ digits_at text =
 unfoldable pub fraction_at : List ℕ → Result (ℕ × List ℕ) TextFault
 fraction_at text = option_map_or digits_at (after_mark 46 text) (Ok (0, text))
 
+-- what is no hour and minute: an hour may have one digit
+abbrev pub time_cause : List ℕ → TextFault
+time_cause [] = TimeMissing
+time_cause (c ∷ []) = TimeMissing
+time_cause (c ∷ d ∷ rest) = if is_ascii_digit c && nat_eq d 58 then HourShort else TimeMissing
+
 -- a date, a separator, an hour and a minute
 unfoldable pub front_at : List ℕ → Result ((WrittenDate × WrittenTime) × List ℕ) TextFault
 front_at text = do
   date ← ok_or (date_at text) DateMissing
   time ← ok_or (separator_at date.1) TimeMissing
-  minute ← ok_or (minute_at time) TimeMissing
+  minute ← ok_or (minute_at time) (time_cause time)
   Ok ((date.0, record { hour = minute.0.0; minute = minute.0.1; second = 0; nanosecond = 0 }), minute.1)
 
 -- the second of a time and maybe a fraction
@@ -54,8 +61,8 @@ seconds_at time text = do
   Ok (record { hour = time.hour; minute = time.minute; second = second.0; nanosecond = fraction.0 }, fraction.1)
 
 -- nothing may follow
-abbrev pub ended : {V : Type 0} → (V × List ℕ) → Result V TextFault
-ended read = if nat_eq (length read.1) 0 then Ok read.0 else Err Trailing
+abbrev pub ended : {V : Type 0} → TextFault → (V × List ℕ) → Result V TextFault
+ended fault read = if nat_eq (length read.1) 0 then Ok read.0 else Err fault
 
 -- the calendar has such a date, of the years 0 to 9999
 abbrev pub is_date : WrittenDate → Bool
@@ -68,12 +75,16 @@ is_time t = nat_lt t.hour 24 && (nat_lt t.minute 60 && (nat_lt t.second 60 && na
 unfoldable pub moment_in : WrittenDate → WrittenTime → Result ℤ TextFault
 moment_in d t = if is_date d then (if is_time t then Ok (moment d t) else Err NoSuchTime) else Err NoSuchDate
 
+-- what follows a local time: an offset, or anything else
+abbrev pub after_time : List ℕ → TextFault
+after_time rest = if is_some (offset_at rest) then OffsetThere else Trailing
+
 -- `YYYY-MM-DD hh:mm`, maybe `:ss`, maybe a fraction
 unfoldable pub local_in : List ℕ → Result ℤ TextFault
 local_in text = do
   front ← front_at text
   whole ← (option_map_or (λ _. seconds_at front.0.1 front.1) (after_mark 58 front.1) (Ok (front.0.1, front.1)))
-  time ← ended whole
+  time ← ended (after_time whole.1) whole
   moment_in front.0.0 time
 
 -- an offset of less than 24 hours
@@ -119,17 +130,27 @@ count_in form = in_years (counted form.before form.seconds form.nanosecond)
 unfoldable pub counted_in : List ℕ → Result ℤ TextFault
 counted_in text = do
   read ← count_at text
-  form ← ended read
+  form ← ended Trailing read
   count_in form
 
 unfoldable pub written_in : List ℕ → Result ℤ TextFault
 written_in text = do
   read ← zoned_at text
-  form ← ended read
+  form ← ended Trailing read
   zoned_in form
 
+-- a count, from the first byte to the last
+abbrev pub is_count : List ℕ → Bool
+is_count text = is_ok (count_at text >>= ended Trailing)
+
+-- of a text without a date, that a count lacks its `@`; of a date alone, that an instant wants more than a local time
+abbrev pub instant_cause : List ℕ → TextFault → TextFault
+instant_cause text DateMissing = if is_count text then MarkMissing else DateMissing
+instant_cause text TimeMissing = ClockMissing
+instant_cause text fault = fault
+
 unfoldable pub instant_in : List ℕ → Result ℤ TextFault
-instant_in text = option_map_or counted_in (after_mark 64 text) (written_in text)
+instant_in text = option_map_or counted_in (after_mark 64 text) (result_map_both (λ t. t) (instant_cause text) (written_in text))
 
 -- `now`, which is no instant of its own, or an instant
 unfoldable pub asked_in : List ℕ → Result (Option ℤ) TextFault

@@ -6,10 +6,19 @@ use thiserror::Error as ThisError;
 /// from `NoSuchDate` on are those of a text whose form is right, in this order.
 #[derive(Clone, Copy, Debug, PartialEq, Eq, ThisError)]
 pub enum TextFault {
+    /// The text of an instant doesn't begin with a date, and behind an `@` it would be one.
+    #[error("seconds since 1970 have an @ before them, as in @1729989000")]
+    MarkMissing,
     /// The text doesn't begin with a date.
     #[error("a date is missing, as in 2024-10-27")]
     DateMissing,
-    /// What follows the date is no time of day.
+    /// What follows the date of an instant is no time of day.
+    #[error("a time of day and an offset are missing, as in 2024-10-27T02:30:00+02:00")]
+    ClockMissing,
+    /// What follows the date is no time of day, and begins with an hour of one digit.
+    #[error("an hour has two digits, as in 07:30")]
+    HourShort,
+    /// What follows the date of a local time is no time of day.
     #[error("a time of day is missing, as in 2024-10-27 02:30")]
     TimeMissing,
     /// What follows the minute, or the colon after it, is no second.
@@ -27,6 +36,9 @@ pub enum TextFault {
     /// No digit follows the `@`, or the `-` after it.
     #[error("a number of seconds is missing, as in @1729989000")]
     CountMissing,
+    /// An offset follows a local time.
+    #[error("a local time has no offset; zone at takes a time with one, and zone convert has it as FROM")]
+    OffsetThere,
     /// Something follows the time.
     #[error("something follows the time")]
     Trailing,

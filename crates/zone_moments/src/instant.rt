@@ -4,7 +4,7 @@ ghost use Rattle.std.specs.Result.{result_map_both};
 ghost use Rattle.zone_moments.specs.Shown.{asked, IsAtUtc};
 ghost use Rattle.civil_base.specs.DateTimes.{instant, offset_of};
 ghost use Rattle.zone_moments.specs.Spells.{SpellsAsked};
-ghost use Rattle.zone_moments.specs.Readings.{told_as, zoned_at, size_at, count_at, counted_in, written_in, instant_in, asked_in};
+ghost use Rattle.zone_moments.specs.Readings.{told_as, zoned_at, size_at, count_at, counted_in, written_in, is_count, instant_cause, instant_in, asked_in};
 
 use crate::TextFault;
 use crate::form::{WrittenCount, WrittenInstant};
@@ -90,6 +90,33 @@ fn written_in(text: &[u8]) -> Result<OffsetDateTime, TextFault>
     zoned_in(form)
 }
 
+/// Whether a whole text is a count.
+fn is_count(text: &[u8]) -> bool
+    ensures { result ≡ is_count text.now }
+{
+    match count_at(text) {
+        Ok((_, rest)) => rest.is_empty(),
+        Err(_) => false,
+    }
+}
+
+/// Why a text is no instant that has this fault as a text of RFC 3339.
+fn instant_cause(text: &[u8], fault: TextFault) -> TextFault
+    ensures { result ≡ instant_cause text.now fault }
+{
+    match fault {
+        TextFault::DateMissing => {
+            if is_count(text) {
+                TextFault::MarkMissing
+            } else {
+                TextFault::DateMissing
+            }
+        }
+        TextFault::TimeMissing => TextFault::ClockMissing,
+        _ => fault,
+    }
+}
+
 /// The instant that a whole text is.
 #[tactic(auto, unfolding(crate::specs::Readings::instant_in))]
 fn instant_in(text: &[u8]) -> Result<OffsetDateTime, TextFault>
@@ -98,7 +125,10 @@ fn instant_in(text: &[u8]) -> Result<OffsetDateTime, TextFault>
 {
     match after_mark(b'@', text) {
         Some(rest) => counted_in(rest),
-        None => written_in(text),
+        None => match written_in(text) {
+            Ok(value) => Ok(value),
+            Err(fault) => Err(instant_cause(text, fault)),
+        },
     }
 }
 
@@ -109,8 +139,8 @@ fn instant_in(text: &[u8]) -> Result<OffsetDateTime, TextFault>
 /// # Errors
 ///
 /// Behind an `@` the first that holds of: `CountMissing`, `FractionMissing`, `TooFine`, `Trailing`, `OutOfYears`. Else the
-/// first of: `DateMissing`, `TimeMissing`, `SecondMissing`, `FractionMissing`, `TooFine`, `OffsetMissing`, `Trailing`,
-/// `NoSuchDate`, `NoSuchTime`, `OffsetRange`, `OutOfYears`.
+/// first of: `MarkMissing`, `DateMissing`, `HourShort`, `ClockMissing`, `SecondMissing`, `FractionMissing`, `TooFine`, `OffsetMissing`,
+/// `Trailing`, `NoSuchDate`, `NoSuchTime`, `OffsetRange`, `OutOfYears`.
 pub fn read_instant(text: &str) -> Result<Asked, TextFault>
     ensures value { result_map_both asked (λ fault. fault) result ≡ asked_in text.now }
     ensures exact { MatchResult result (λ value. SpellsAsked text.now (asked value)) (λ _. (t : Option ℤ) → ¬ (SpellsAsked text.now t)) }

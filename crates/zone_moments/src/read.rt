@@ -4,12 +4,12 @@ ghost use Rattle.std.specs.Char.{is_ascii_digit};
 ghost use Rattle.std.specs.List.{list_all};
 ghost use Rattle.zone_moments.specs.Numbers.{fraction_of};
 ghost use Rattle.zone_moments.specs.Spells.{SpellsLocal};
-ghost use Rattle.zone_moments.specs.Readings.{told_as, digits_at, fraction_at, front_at, seconds_at, local_in};
+ghost use Rattle.zone_moments.specs.Readings.{told_as, digits_at, fraction_at, time_cause, front_at, seconds_at, after_time, local_in};
 
 use crate::TextFault;
 use crate::form::{WrittenDate, WrittenTime};
 use crate::pieces::{
-    after_mark, date_at, minute_at, number_of, second_at, separator_at, split_digits,
+    after_mark, date_at, minute_at, number_of, offset_at, second_at, separator_at, split_digits,
 };
 use crate::value::moment_in;
 use civil_base::PlainDateTime;
@@ -50,6 +50,22 @@ pub(crate) fn fraction_at(text: &[u8]) -> Result<(u32, &[u8]), TextFault>
     }
 }
 
+/// What a text lacks that is to begin with an hour and a minute.
+fn time_cause(text: &[u8]) -> TextFault
+    ensures { result ≡ time_cause text.now }
+{
+    match text {
+        [first, second, ..] => {
+            if first.is_ascii_digit() && *second == b':' {
+                TextFault::HourShort
+            } else {
+                TextFault::TimeMissing
+            }
+        }
+        _ => TextFault::TimeMissing,
+    }
+}
+
 /// A date, a separator, an hour and a minute.
 #[tactic(auto, unfolding(crate::specs::Readings::front_at))]
 pub(crate) fn front_at(text: &[u8]) -> Result<((WrittenDate, WrittenTime), &[u8]), TextFault>
@@ -57,7 +73,7 @@ pub(crate) fn front_at(text: &[u8]) -> Result<((WrittenDate, WrittenTime), &[u8]
 {
     let (date, rest) = date_at(text).ok_or(TextFault::DateMissing)?;
     let rest = separator_at(rest).ok_or(TextFault::TimeMissing)?;
-    let ((hour, minute), rest) = minute_at(rest).ok_or(TextFault::TimeMissing)?;
+    let ((hour, minute), rest) = minute_at(rest).ok_or(time_cause(rest))?;
     let time = WrittenTime {
         hour,
         minute,
@@ -84,13 +100,24 @@ pub(crate) fn seconds_at(time: WrittenTime, text: &[u8]) -> Result<(WrittenTime,
     Ok((time, rest))
 }
 
+/// What is wrong where this follows a local time.
+fn after_time(text: &[u8]) -> TextFault
+    ensures { result ≡ after_time text.now }
+{
+    if offset_at(text).is_some() {
+        TextFault::OffsetThere
+    } else {
+        TextFault::Trailing
+    }
+}
+
 /// The date and time that the whole text spells: `YYYY-MM-DD hh:mm`, maybe `:ss`, and then maybe a point and one to nine
 /// digits. Between date and time stands a space, a `T` or a `t`.
 ///
 /// # Errors
 ///
-/// The first that holds of: `DateMissing`, `TimeMissing`, `SecondMissing`, `FractionMissing`, `TooFine`, `Trailing`,
-/// `NoSuchDate`, `NoSuchTime`.
+/// The first that holds of: `DateMissing`, `HourShort`, `TimeMissing`, `SecondMissing`, `FractionMissing`, `TooFine`, `OffsetThere`,
+/// `Trailing`, `NoSuchDate`, `NoSuchTime`.
 pub fn read_local(text: &str) -> Result<PlainDateTime, TextFault>
     ensures value { result ≡ local_in text.now }
     ensures exact { MatchResult result (SpellsLocal text.now) (λ _. (x : ℤ) → ¬ (SpellsLocal text.now x)) }
@@ -110,7 +137,7 @@ fn local_of(text: &[u8]) -> Result<PlainDateTime, TextFault>
         (time, rest)
     };
     if !rest.is_empty() {
-        return Err(TextFault::Trailing);
+        return Err(after_time(rest));
     }
     moment_in(date, time)
 }
