@@ -52,7 +52,8 @@ asked =
     (codes "local|Europe/Berlin|2024-10-27|02:30", people (local_time (codes "Europe/Berlin") (pos 1729996200000000000))) ∷
     (codes "convert|-03:30|UTC|2024-10-27T02:30:00", people (converted (codes "-03:30") (codes "UTC") (pos 1729996200000000000))) ∷
     (codes "convert|UTC|a|2024-10-27|02:30|--rfc3339", asks None Rfc3339 (converted (codes "UTC") (codes "a") (pos 1729996200000000000))) ∷
-    (codes "list|UTC|@1|now", people (list_changes (codes "UTC") (Some (pos 1000000000)) None)) ∷ (
+    (codes "list|UTC|@1|now", people (list_changes (codes "UTC") (Some (pos 1000000000)) None (codes "now"))) ∷
+    (codes "list|UTC|now|@1|--json", asks None Json (list_changes (codes "UTC") None (Some (pos 1000000000)) (codes "@1"))) ∷ (
       codes "alarm|UTC|07:30|--from|2024-10-27|--count|7",
       people (alarm (codes "UTC") (record {
         time = 27000000000000;
@@ -88,10 +89,22 @@ asked =
         gap = Before;
         fold = Second;
       })),
+    ) ∷ (
+      codes "alarm|UTC|07:30|--from|2024-10-27|--until|2024-10-27",
+      people (alarm (codes "UTC") (record {
+        time = 27000000000000;
+        first = pos 20023;
+        count = None;
+        until = Some (pos 20023);
+        every = 1;
+        days = every_day;
+        gap = Skip;
+        fold = First;
+      })),
     ) ∷
-    (codes "names", people (names None)) ∷ (codes "names|Berlin", people (names (Some (codes "Berlin")))) ∷
-    (codes "stream", people (stream false)) ∷ (codes "stream|--plain", people (stream true)) ∷
-    (codes "log|UTC", people (log (codes "UTC") None)) ∷ (codes "--field|3|log|UTC", people (log (codes "UTC") (Some 3))) ∷
+    (codes "names", people (names None)) ∷ (codes "names|Berlin|--json", asks None Json (names (Some (codes "Berlin")))) ∷
+    (codes "stream|--json", asks None Json (stream false)) ∷ (codes "stream|--epoch", asks None Epoch (stream false)) ∷ (codes "stream", people (stream false)) ∷ (codes "stream|--plain", people (stream true)) ∷
+    (codes "log|UTC|--rfc3339", asks None Rfc3339 (log (codes "UTC") None)) ∷ (codes "log|UTC", people (log (codes "UTC") None)) ∷ (codes "--field|3|log|UTC", people (log (codes "UTC") (Some 3))) ∷
     (codes "tree", people tree) ∷ (codes "file|UTC", people (file (codes "UTC"))) ∷
     (codes "string|UTC", people (posix_string (codes "UTC"))) ∷
     (codes "chart|UTC|2024", people (chart (codes "UTC" ∷ []) 2024)) ∷
@@ -117,6 +130,13 @@ faults =
     (codes "names|--json|--json|--x", wrong (codes "--json") cause.Twice) ∷
     (codes "names|--json|--epoch", wrong (codes "--epoch") cause.Twice) ∷
     (codes "what|--count|1|--until|x", wrong (codes "--until") cause.Twice) ∷
+    (codes "stream|--plain|--json", wrong (codes "--json") cause.Twice) ∷ (codes "stream|--epoch|--plain", wrong (codes "--plain") cause.Twice) ∷
+    (codes "file|UTC|--json", wrong (codes "--json") cause.OtherOption) ∷ (codes "string|UTC|--epoch", wrong (codes "--epoch") cause.OtherOption) ∷
+    (codes "--rfc3339|tree", wrong (codes "--rfc3339") cause.OtherOption) ∷ (codes "chart|UTC|2024|--json", wrong (codes "--json") cause.OtherOption) ∷
+    (codes "names|--epoch", wrong (codes "--epoch") cause.OtherOption) ∷ (codes "names|--rfc3339", wrong (codes "--rfc3339") cause.OtherOption) ∷
+    (codes "log|UTC|--json", wrong (codes "--json") cause.OtherOption) ∷ (codes "tree|--json", wrong (codes "--json") cause.OtherOption) ∷
+    (codes "string|UTC|--json", wrong (codes "--json") cause.OtherOption) ∷ (codes "file|UTC|--rfc3339", wrong (codes "--rfc3339") cause.OtherOption) ∷
+    (codes "chart|UTC|2024|--epoch", wrong (codes "--epoch") cause.OtherOption) ∷
     (codes "at|UTC|now|--plain", wrong (codes "--plain") cause.OtherOption) ∷
     (codes "names|--from|2024-10-27", wrong (codes "--from") cause.OtherOption) ∷
     (codes "alarm|UTC|07:30|--field|1", wrong (codes "--field") cause.OtherOption) ∷
@@ -129,6 +149,10 @@ faults =
     (codes "local|UTC|2024-10-27|02:30|CEST", wrong (codes "CEST") cause.TooMany) ∷
     (codes "chart|a|b|c|d|e|f|g|h|i|2024", wrong (codes "2024") cause.TooMany) ∷
     (codes "at|UTC|now|@x", bad_text (codes "@x") text.CountMissing) ∷
+    (codes "at|UTC|1729992600", bad_text (codes "1729992600") text.MarkMissing) ∷
+    (codes "at|UTC|2024-10-27|02:30", bad_text (codes "2024-10-27") text.ClockMissing) ∷
+    (codes "list|UTC|@1|-5", bad_text (codes "-5") text.MarkMissing) ∷
+    (codes "local|UTC|2024-10-27T02:30Z", bad_text (codes "2024-10-27T02:30Z") text.OffsetThere) ∷
     (codes "local|UTC|2024-10-27", bad_text (codes "2024-10-27") text.TimeMissing) ∷ (
       codes "local|UTC|2024-10-27|02:70",
       Err (record {
@@ -139,7 +163,8 @@ faults =
     ) ∷
     (codes "log|UTC|--field|0", wrong (codes "0") cause.Number) ∷ (codes "log|UTC|--field|65536", wrong (codes "65536") cause.Number) ∷
     (codes "log|UTC|--field|+1", wrong (codes "+1") cause.Number) ∷
-    (codes "alarm|UTC|7:30|--count|0", bad_text (codes "7:30") text.TimeMissing) ∷
+    (codes "alarm|UTC|7:30|--count|0", bad_text (codes "7:30") text.HourShort) ∷ (codes "alarm|UTC|730|--count|0", bad_text (codes "730") text.TimeMissing) ∷
+    (codes "alarm|UTC|07:30|--from|2024-10-27|--until|2024-10-26|--every|x", wrong (codes "2024-10-26") cause.BeforeFirst) ∷
     (codes "alarm|UTC|07:30|--count|0", wrong (codes "alarm") cause.FirstMissing) ∷
     (codes "alarm|UTC|07:30|--from|2024-02-30", bad_text (codes "2024-02-30") text.NoSuchDate) ∷
     (codes "alarm|UTC|07:30|--from|2024-10-27T00:00", bad_text (codes "2024-10-27T00:00") text.DateMissing) ∷

@@ -1,12 +1,12 @@
 -- The words of an alarm.
-use Rattle.std.specs.Prelude.{ℕ, ◌==◌, Bool, true, ◌&&◌, ◌||◌, List, [], ◌∷◌, Option, Some, None, is_none, Ok, ℤ, bytes_eq, codes, if◌then◌else◌}
+use Rattle.std.specs.Prelude.{ℕ, ◌==◌, Bool, true, ◌&&◌, ◌||◌, List, [], ◌∷◌, Option, Some, None, is_none, Ok, ℤ, int_lt, bytes_eq, codes, if◌then◌else◌}
 use Rattle.std.specs.List.{list_all, list_any, slice_split}
 use Rattle.std.specs.Option.{option_map_or}
 use Rattle.zone_words.specs.Faults.{Reading, wrong, ◌>>=◌}
 use Rattle.zone_words.specs.Options.{GivenOption, value_of}
 use Rattle.zone_words.specs.Tasks.{AlarmAsked}
 use Rattle.zone_words.specs.Values.{date_in, number_in, time_in}
-use Rattle.zone_words.specs.declared.fault.WordCause.TheVariants.{EndMissing, FirstMissing, FoldRule as BadFoldRule, GapRule as BadGapRule, Weekdays}
+use Rattle.zone_words.specs.declared.fault.WordCause.TheVariants.{BeforeFirst, EndMissing, FirstMissing, FoldRule as BadFoldRule, GapRule as BadGapRule, Weekdays}
 use Rattle.zone_words.specs.declared.task.FoldRule.{FoldRule}
 use Rattle.zone_words.specs.declared.task.FoldRule.TheVariants.{First, Second, Both}
 use Rattle.zone_words.specs.declared.task.GapRule.{GapRule}
@@ -52,8 +52,12 @@ if_told read (Some word) = read word >>= (λ value. Ok (Some value))
 abbrev pub count_in : List GivenOption → Reading (Option ℕ)
 count_in given = if_told number_in (value_of given (codes "--count"))
 
-abbrev pub until_in : List GivenOption → Reading (Option ℤ)
-until_in given = if_told date_in (value_of given (codes "--until"))
+-- a last day, which doesn't come before the first
+abbrev pub last_in : ℤ → List ℕ → Reading ℤ
+last_in first word = date_in word >>= (λ last. if int_lt last first then wrong word BeforeFirst else Ok last)
+
+abbrev pub until_in : ℤ → List GivenOption → Reading (Option ℤ)
+until_in first given = if_told (last_in first) (value_of given (codes "--until"))
 
 -- every day where nothing is told
 abbrev pub every_in : List GivenOption → Reading ℕ
@@ -90,7 +94,7 @@ alarm_in command time given = do
   at ← time_in time
   first ← first_in command given
   count ← count_in given
-  until ← until_in given
+  until ← until_in first given
   told ← ends command count until
   every ← every_in given
   days ← days_in given

@@ -53,7 +53,7 @@ list_in name (zone ∷ window) = do
   both ← two_in name window
   from ← instant_in both.0
   to ← instant_in both.1
-  Ok (list_changes zone from to)
+  Ok (list_changes zone from to both.1)
 
 abbrev pub field_in : List GivenOption → Reading (Option ℕ)
 field_in given = if_told number_in (value_of given (codes "--field"))

@@ -35,9 +35,29 @@ abbrev pub is_log : Command → Bool
 is_log Log = true
 is_log _ = false
 
--- the source and the form of the answers go with every command
+-- what is written are times, which have a form
+abbrev pub tells_times : Command → Bool
+tells_times Names = false
+tells_times Tree = false
+tells_times File = false
+tells_times String = false
+tells_times Chart = false
+tells_times _ = true
+
+-- what is written may be objects, which have no place in a log
+abbrev pub has_objects : Command → Bool
+has_objects Log = false
+has_objects Tree = false
+has_objects File = false
+has_objects String = false
+has_objects Chart = false
+has_objects _ = true
+
+-- the source goes with every command
 abbrev pub takes : Command → List ℕ → Bool
 takes command name =
     if is_alarm_option name then is_alarm command
     else (if bytes_eq name (codes "--plain") then is_stream command
-    else (if bytes_eq name (codes "--field") then is_log command else true))
+    else (if bytes_eq name (codes "--field") then is_log command
+    else (if bytes_eq name (codes "--json") then has_objects command
+    else (if bytes_eq name (codes "--rfc3339") || bytes_eq name (codes "--epoch") then tells_times command else true))))

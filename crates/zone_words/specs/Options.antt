@@ -12,9 +12,10 @@ is_option [] = false
 is_option (c ∷ []) = false
 is_option (c ∷ d ∷ rest) = c == 45 && not (is_ascii_digit d)
 
--- a form of the answers
+-- a form of the answers; `--plain` is that of another program
 abbrev pub is_form : List ℕ → Bool
-is_form word = bytes_eq word (codes "--rfc3339") || bytes_eq word (codes "--epoch") || bytes_eq word (codes "--json")
+is_form word =
+    bytes_eq word (codes "--rfc3339") || bytes_eq word (codes "--epoch") || bytes_eq word (codes "--json") || bytes_eq word (codes "--plain")
 
 -- without a word behind it
 abbrev pub is_flag : List ℕ → Bool

@@ -30,7 +30,7 @@ pub data TaskAsked : Type 0 where
   at_instants : Word → List Time → TaskAsked
   local_time : Word → ℤ → TaskAsked
   converted : Word → Word → ℤ → TaskAsked
-  list_changes : Word → Time → Time → TaskAsked
+  list_changes : Word → Time → Time → Word → TaskAsked
   alarm : Word → AlarmAsked → TaskAsked
   names : Option Word → TaskAsked
   stream : Bool → TaskAsked

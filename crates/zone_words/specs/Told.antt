@@ -2,7 +2,7 @@
 use Rattle.std.specs.Prelude.{◌≡◌, Bool, true, false, option_map, Result, Ok, Err}
 use Rattle.zone_words.specs.Faults.{Fault, Reading}
 use Rattle.zone_words.specs.declared.fault.WordCause.{WordCause}
-use Rattle.zone_words.specs.declared.fault.WordCause.TheVariants.{NoMemory, Text, Year}
+use Rattle.zone_words.specs.declared.fault.WordCause.TheVariants.{BeforeFirst, NoMemory, Text, Year}
 use Rattle.zone_words.specs.declared.fault.WordFault.{WordFault}
 
 abbrev pub fault_shown : WordFault → Fault
@@ -16,10 +16,11 @@ abbrev pub is_of_memory : WordCause → Bool
 is_of_memory NoMemory = true
 is_of_memory _ = false
 
--- whether a time can't be read; else the words are in no form, or memory ran out
+-- whether a time can't be read or taken; else the words are in no form, or memory ran out
 abbrev pub is_of_time : WordCause → Bool
 is_of_time (Text fault) = true
 is_of_time Year = true
+is_of_time BeforeFirst = true
 is_of_time _ = false
 
 -- whether memory ran out

@@ -1,6 +1,6 @@
 //! The words of an alarm.
 ghost use Rattle.std.specs.Prelude.{◌≡◌, map, option_map};
-ghost use Rattle.zone_words.specs.Alarms.{alarm_in, are_days, count_in, days_in, days_of, every_in, first_in, fold_in, fold_rule, gap_in, gap_rule, has_day, is_day, until_in};
+ghost use Rattle.zone_words.specs.Alarms.{alarm_in, are_days, count_in, days_in, days_of, every_in, first_in, fold_in, fold_rule, gap_in, gap_rule, has_day, is_day, last_in, until_in};
 ghost use Rattle.zone_words.specs.Shown.{given_shown, word_shown};
 ghost use Rattle.zone_words.specs.TaskShown.{alarm_shown};
 ghost use Rattle.zone_words.specs.Told.{Reads};
@@ -89,13 +89,28 @@ fn count_in<'w>(given: &[Given<'w>]) -> Result<Option<u16>, WordFault<'w>>
     }
 }
 
+/// A last day, which doesn't come before the first.
+fn last_in<'w>(alloc: Global, first: Date, word: &'w str) -> Result<Date, WordFault<'w>>
+    ensures { Reads (λ date. date) result (last_in first word.now) }
+{
+    let last = date_in(alloc, word)?;
+    if last < first {
+        return Err(WordFault::of(word, WordCause::BeforeFirst));
+    }
+    Ok(last)
+}
+
 /// The last day, where that is told.
-fn until_in<'w>(alloc: Global, given: &[Given<'w>]) -> Result<Option<Date>, WordFault<'w>>
-    ensures { Reads (λ date. date) result (until_in (map given_shown given.now)) }
+fn until_in<'w>(
+    alloc: Global,
+    first: Date,
+    given: &[Given<'w>],
+) -> Result<Option<Date>, WordFault<'w>>
+    ensures { Reads (λ date. date) result (until_in first (map given_shown given.now)) }
 {
     match value_of(given, "--until") {
         None => Ok(None),
-        Some(word) => Ok(Some(date_in(alloc, word)?)),
+        Some(word) => Ok(Some(last_in(alloc, first, word)?)),
     }
 }
 
@@ -161,7 +176,7 @@ pub(crate) fn alarm_in<'w>(
     let time = time_in(alloc, time)?;
     let first = first_in(alloc, command, given)?;
     let count = count_in(given)?;
-    let until = until_in(alloc, given)?;
+    let until = until_in(alloc, first, given)?;
     if count.is_none() && until.is_none() {
         return Err(WordFault::of(command, WordCause::EndMissing));
     }

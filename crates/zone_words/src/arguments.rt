@@ -1,5 +1,5 @@
 //! The words behind a command.
-ghost use Rattle.std.specs.Prelude.{◌≡◌, [], map, option_map, IfOk};
+ghost use Rattle.std.specs.Prelude.{◌≡◌, [], map, option_map};
 ghost use Rattle.zone_words.specs.Arguments.{at_in, chart_in, convert_in, field_in, list_in, local_in, maybe_in, none_in, one_in, task_in, two_in};
 ghost use Rattle.zone_words.specs.Shown.{given_shown, word_shown};
 ghost use Rattle.zone_words.specs.TaskShown.{task_shown};
@@ -10,7 +10,7 @@ use crate::given::{Given, has, value_of};
 use crate::task::Task;
 use crate::values::{instant_in, instants_in, number_in, text_in, year_in};
 use crate::{Command, WordCause, WordFault};
-use std::alloc::{AllocError, Global};
+use std::alloc::Global;
 
 /// No word.
 fn none_in<'w>(words: &[&'w str]) -> Result<(), WordFault<'w>>
@@ -103,10 +103,10 @@ fn list_in<'w>(command: &'w str, words: &[&'w str]) -> Result<Task<'w>, WordFaul
     match words {
         [] => Err(WordFault::of(command, WordCause::TooFew)),
         [zone, window @ ..] => {
-            let (from, to) = two_in(command, window)?;
+            let (from, last) = two_in(command, window)?;
             let from = instant_in(from)?;
-            let to = instant_in(to)?;
-            Ok(Task::List(*zone, from, to))
+            let to = instant_in(last)?;
+            Ok(Task::List(*zone, from, to, last))
         }
     }
 }
@@ -119,14 +119,6 @@ fn field_in<'w>(given: &[Given<'w>]) -> Result<Option<u16>, WordFault<'w>>
         None => Ok(None),
         Some(word) => Ok(Some(number_in(word)?)),
     }
-}
-
-fn listed<'w>(alloc: Global, words: &[&'w str]) -> Result<Vec<&'w str>, AllocError>
-    ensures { IfOk result (λ list. map word_shown list.items ≡ map word_shown words.now) }
-{
-    let mut list = Vec::new(alloc);
-    list.extend_from_slice(words)?;
-    Ok(list)
 }
 
 /// One to eight zones, and a year.
@@ -145,7 +137,7 @@ fn chart_in<'w>(
     }
     let last = words.len() - 1;
     let year = year_in(words[last])?;
-    let zones = listed(alloc, &words[..last])?;
+    let zones = Vec::from_slice(alloc, &words[..last])?;
     Ok(Task::Chart(zones, year))
 }
 

@@ -1,6 +1,6 @@
 //! The commands.
 ghost use Rattle.std.specs.Prelude.{◌≡◌};
-ghost use Rattle.zone_words.specs.Commands.{command_named, is_alarm_option, takes};
+ghost use Rattle.zone_words.specs.Commands.{command_named, has_objects, is_alarm_option, takes, tells_times};
 
 /// A command.
 #[derive(Clone, Copy, Debug, PartialEq, Eq)]
@@ -62,6 +62,26 @@ fn is_alarm_option(name: &str) -> bool
     )
 }
 
+/// Whether the command writes times, which have a form.
+fn tells_times(command: Command) -> bool
+    ensures { result ≡ tells_times command }
+{
+    !matches!(
+        command,
+        Command::Names | Command::Tree | Command::File | Command::String | Command::Chart
+    )
+}
+
+/// Whether the command writes what an object can have.
+fn has_objects(command: Command) -> bool
+    ensures { result ≡ has_objects command }
+{
+    !matches!(
+        command,
+        Command::Log | Command::Tree | Command::File | Command::String | Command::Chart
+    )
+}
+
 /// Whether the command takes the option.
 pub(crate) fn takes(command: Command, name: &str) -> bool
     ensures { result ≡ takes command name.now }
@@ -72,6 +92,8 @@ pub(crate) fn takes(command: Command, name: &str) -> bool
     match name {
         "--plain" => matches!(command, Command::Stream),
         "--field" => matches!(command, Command::Log),
+        "--json" => has_objects(command),
+        "--rfc3339" | "--epoch" => tells_times(command),
         _ => true,
     }
 }

@@ -3,14 +3,15 @@
 use std::alloc::AllocError;
 use zone_moments::TextFault;
 
-/// Why words ask nothing. All but `Text`, `Year` and `NoMemory` are of words in no form; these two are of times that can't be read.
+/// Why words ask nothing. All but `Text`, `Year`, `BeforeFirst` and `NoMemory` are of words in no form; these three are of times that can't
+/// be read, or not be taken.
 #[derive(Clone, Copy, Debug, PartialEq, Eq)]
 pub enum WordCause {
     /// No option has the name.
     UnknownOption,
     /// The option stands last, and wants a word.
     ValueMissing,
-    /// The option stands there twice, or beside one that says the same.
+    /// The option stands there twice, or beside another of its kind.
     Twice,
     /// No word names a command.
     CommandMissing,
@@ -26,6 +27,8 @@ pub enum WordCause {
     FirstMissing,
     /// An alarm wants a number of days, or its last.
     EndMissing,
+    /// The last day of an alarm comes before its first.
+    BeforeFirst,
     /// It is no number from 1 on, or too large.
     Number,
     /// They are no weekdays.
@@ -44,13 +47,23 @@ pub enum WordCause {
 
 impl WordCause {
     ghost use Rattle.std.specs.Prelude.{◌≡◌};
-    ghost use Rattle.zone_words.specs.Told.{is_of_time};
+    ghost use Rattle.zone_words.specs.Told.{is_of_memory, is_of_time};
 
-    /// Whether a time can't be read, which ends a run by 2; words in no form end it by 1.
+    /// Whether a time can't be read or taken, which ends a run by 2; words in no form end it by 1.
     pub fn is_of_time(self) -> bool
         ensures { result ≡ is_of_time self }
     {
-        matches!(self, WordCause::Text(_) | WordCause::Year)
+        matches!(
+            self,
+            WordCause::Text(_) | WordCause::Year | WordCause::BeforeFirst
+        )
+    }
+
+    /// Whether memory ran out, whatever the words are.
+    pub fn is_of_memory(self) -> bool
+        ensures { result ≡ is_of_memory self }
+    {
+        matches!(self, WordCause::NoMemory)
     }
 }
 

@@ -12,7 +12,12 @@ fn text_cause(fault: TextFault) -> &'static str
     ensures { result.now ≡ text_cause fault }
 {
     match fault {
+        TextFault::MarkMissing => "seconds since 1970 have an @ before them, as in @1729989000",
         TextFault::DateMissing => "a date is missing, as in 2024-10-27",
+        TextFault::ClockMissing => {
+            "a time of day and an offset are missing, as in 2024-10-27T02:30:00+02:00"
+        }
+        TextFault::HourShort => "an hour has two digits, as in 07:30",
         TextFault::TimeMissing => "a time of day is missing, as in 2024-10-27 02:30",
         TextFault::SecondMissing => "the seconds are missing, as in 02:30:00",
         TextFault::FractionMissing => "digits are missing after the point, as in 02:30:00.25",
@@ -21,6 +26,9 @@ fn text_cause(fault: TextFault) -> &'static str
             "an offset is missing, as in 2024-10-27T02:30:00+02:00 or 2024-10-27T00:30:00Z"
         }
         TextFault::CountMissing => "a number of seconds is missing, as in @1729989000",
+        TextFault::OffsetThere => {
+            "a local time has no offset; zone at takes a time with one, and zone convert has it as FROM"
+        }
         TextFault::Trailing => "something follows the time",
         TextFault::NoSuchDate => "the calendar has no such date",
         TextFault::NoSuchTime => "a time of day goes from 00:00:00 to 23:59:59",
@@ -36,7 +44,7 @@ fn cause_text(cause: WordCause) -> &'static str
     match cause {
         WordCause::UnknownOption => "no option has this name; zone --help tells them",
         WordCause::ValueMissing => "a word is missing behind this option",
-        WordCause::Twice => "this option is there twice, or beside one that says the same",
+        WordCause::Twice => "this option is there twice, or beside another of its kind",
         WordCause::CommandMissing => "a command is missing, as in zone at Europe/Paris now",
         WordCause::UnknownCommand => "no command has this name; zone --help tells them",
         WordCause::OtherOption => "this option goes with another command",
@@ -44,6 +52,7 @@ fn cause_text(cause: WordCause) -> &'static str
         WordCause::TooMany => "this word is one too many",
         WordCause::FirstMissing => "the first day is missing, as in --from 2024-10-27",
         WordCause::EndMissing => "the end is missing, as in --count 7 or --until 2024-12-31",
+        WordCause::BeforeFirst => "the last day comes before the first",
         WordCause::Number => "a number goes from 1 to 65535",
         WordCause::Weekdays => "weekdays are missing, as in mon,thu",
         WordCause::GapRule => "a rule for gaps is skip, before or after",

@@ -13,7 +13,7 @@ pub(crate) struct Given<'w> {
 }
 
 /// Whether a word is to be an option: it begins with `-`, and what follows is no digit.
-pub(crate) fn is_option(word: &str) -> bool
+pub fn is_option(word: &str) -> bool
     ensures { result ≡ is_option word.now }
 {
     match word.as_bytes() {
@@ -50,11 +50,11 @@ pub(crate) fn is_valued(word: &str) -> bool
     )
 }
 
-/// Whether it names a form of the answers.
+/// Whether it names a form of the answers; `--plain` is that of another program.
 fn is_form(word: &str) -> bool
     ensures { result ≡ is_form word.now }
 {
-    matches!(word, "--rfc3339" | "--epoch" | "--json")
+    matches!(word, "--rfc3339" | "--epoch" | "--json" | "--plain")
 }
 
 /// Whether it says when an alarm ends.

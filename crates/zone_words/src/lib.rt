@@ -15,5 +15,6 @@ mod values;
 pub use command::Command;
 pub use fault::{WordCause, WordFault};
 pub use fault_lines::fault_line;
+pub use given::is_option;
 pub use read::read_words;
 pub use task::{Alarm, Asked, FoldRule, GapRule, Task};

@@ -60,8 +60,8 @@ pub enum Task<'w> {
     Local(&'w str, PlainDateTime),
     /// The readings in the second zone of a local time in the first.
     Convert(&'w str, &'w str, PlainDateTime),
-    /// The changes from one instant up to another.
-    List(&'w str, Instant, Instant),
+    /// The changes from one instant up to another, and the word of that.
+    List(&'w str, Instant, Instant, &'w str),
     /// The rings of an alarm.
     Alarm(&'w str, Alarm),
     /// The names that have the word, or all.
