@@ -17,6 +17,10 @@ abbrev pub followed : Due → Due → Due
 followed (Ok text) due = behind text due
 followed (Err fault) due = Err fault
 
+-- what is due as a line
+abbrev pub ended : Due → Due
+ended due = followed due (Ok (10 ∷ []))
+
 -- what is due of each item, one behind another, or the first fault
 unfoldable pub each_due : {A : Type 0} → (A → Due) → List A → Due
 each_due due [] = Ok []

@@ -7,7 +7,7 @@ use Rattle.civil_base.specs.Ranges.{is_in_years}
 use Rattle.zone_moments.specs.Written.{epoch_text, people_text, rfc3339_text}
 use Rattle.zone_moments.specs.declared.answer_form.AnswerForm.{AnswerForm}
 use Rattle.zone_moments.specs.declared.answer_form.AnswerForm.TheVariants.{People, Rfc3339, Epoch, Json}
-use Rattle.zone_replies.specs.Faults.{Due}
+use Rattle.zone_replies.specs.Faults.{Due, ended}
 use Rattle.zone_replies.specs.Kinds.{kind_of}
 use Rattle.zone_replies.specs.Objects.{object_text}
 use Rattle.zone_replies.specs.Views.{ZoneView}
@@ -38,6 +38,10 @@ kind_at view x = kind_of (length (view.readings x))
 -- the reply to `at`
 abbrev pub at_due : AnswerForm → ZoneView → List ℕ → ℤ → Due
 at_due form view name t = shown_due form view name (kind_at view (local_at t (view.total t))) t
+
+-- the line of an instant
+abbrev pub line_due : AnswerForm → ZoneView → List ℕ → ℤ → Due
+line_due form view name t = ended (at_due form view name t)
 
 -- the kind matters in objects alone
 abbrev pub IsKindFor : AnswerForm → Kind → Kind → Type 0

@@ -145,7 +145,7 @@ fn add_change(
 ///
 /// # Errors
 ///
-/// `OutOfYears` exactly where a date of it lies outside the years -9999 to 9999; `NoMemory`. Part of the text may have been added then.
+/// `OutOfYears` exactly where a date of it lies outside the years -9999 to 9999; `NoMemory`. The text is as before then.
 #[tactic(auto, unfolding(crate::specs::Lists::change_due))]
 pub fn add_change_line<Z: ReplyZone>(
     into: &mut Vec<u8>,
@@ -155,7 +155,8 @@ pub fn add_change_line<Z: ReplyZone>(
     second: i64,
 ) -> Result<(), ReplyFault>
     ensures ok { OnOk result (Ok into.new.items ≡ behind into.old.items (change_due style.now.form (Z.view zone.now) style.now.name.now second)) }
-    ensures err { IfErr result (IsFaultOf (change_due style.now.form (Z.view zone.now) style.now.name.now second)) }
+    ensures err { OnErr result (into.new.items ≡ into.old.items) }
+    ensures cause { IfErr result (IsFaultOf (change_due style.now.form (Z.view zone.now) style.now.name.now second)) }
 {
     let old = zone.force_before(alloc, second)?;
     let new = zone.force_at(alloc, second)?;
@@ -165,8 +166,10 @@ pub fn add_change_line<Z: ReplyZone>(
     let Some(after) = date_at(second, new.offset) else {
         return Err(ReplyFault::OutOfYears);
     };
-    add_change(into, style, &before, &old, &after, &new)?;
-    into.extend_from_slice(b"\n")?;
+    let mut line = Vec::new(alloc);
+    add_change(&mut line, style, &before, &old, &after, &new)?;
+    line.extend_from_slice(b"\n")?;
+    into.extend_from_slice(&line)?;
     Ok(())
 }
 

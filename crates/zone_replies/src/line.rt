@@ -24,8 +24,8 @@ pub struct Style<'a> {
     pub form: AnswerForm,
 }
 
-/// The date and the time of day of a date-time.
-pub(crate) fn local_of(date: &OffsetDateTime) -> PlainDateTime
+/// The date and the time of day of a date-time, as clocks at its offset show them.
+pub fn local_of(date: &OffsetDateTime) -> PlainDateTime
     ensures { result ≡ local_of date.now }
 {
     PlainDateTime::new(date.date(), date.time())

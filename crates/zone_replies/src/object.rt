@@ -1,5 +1,5 @@
 //! Objects of JSON.
-ghost use Rattle.std.specs.Prelude.{◌≡◌, ◌++◌, ◌<◌, OnOk};
+ghost use Rattle.std.specs.Prelude.{◌≡◌, ◌++◌, ◌<◌, length, take, is_ok, OnErr, OnOk, if◌then◌else◌};
 ghost use Rattle.civil_base.specs.DateTimes.{instant, offset_of};
 ghost use Rattle.zone_replies.specs.Forces.{force_shown};
 ghost use Rattle.zone_replies.specs.Objects.{change_object_text, clock_members, escaped, force_members, front_members, hex_digit, kind_member, members, object_text, quoted};
@@ -34,27 +34,23 @@ fn hex_digit(number: u8) -> u8
 
 /// Adds a byte of a string.
 fn add_escaped(into: &mut Vec<u8>, byte: u8) -> Result<(), AllocError>
-    ensures { OnOk result (into.new.items ≡ into.old.items ++ escaped byte) }
+    ensures { into.new.items ≡ (if is_ok result then into.old.items ++ escaped byte else into.old.items) }
 {
     if byte == b'"' || byte == b'\\' {
         into.extend_from_slice(&[b'\\', byte])
     } else if byte < 32 {
-        let digits = [hex_digit(byte / 16), hex_digit(byte % 16)];
-        into.extend_from_slice(b"\\u00")?;
-        into.extend_from_slice(&digits)
+        let (high, low) = (hex_digit(byte / 16), hex_digit(byte % 16));
+        into.extend_from_slice(&[b'\\', b'u', b'0', b'0', high, low])
     } else {
         into.extend_from_slice(&[byte])
     }
 }
 
-/// Adds a text as a string.
-///
-/// # Errors
-///
-/// Want of memory alone; what was added by then stays.
+/// Adds a text as a string, or a part of it where memory runs out.
 #[tactic(auto, using(std::proofs::Common::append_assoc), unfolding(crate::specs::Objects::quoted))]
-pub fn add_quoted(into: &mut Vec<u8>, text: &str) -> Result<(), AllocError>
-    ensures { OnOk result (into.new.items ≡ into.old.items ++ quoted text.now) }
+fn add_string(into: &mut Vec<u8>, text: &str) -> Result<(), AllocError>
+    ensures ok { OnOk result (into.new.items ≡ into.old.items ++ quoted text.now) }
+    ensures err { OnErr result (take (length into.old.items) into.new.items ≡ into.old.items) }
 {
     into.extend_from_slice(b"\"")?;
     for byte in text.as_bytes() {
@@ -62,6 +58,23 @@ pub fn add_quoted(into: &mut Vec<u8>, text: &str) -> Result<(), AllocError>
     }
     into.extend_from_slice(b"\"")?;
     Ok(())
+}
+
+/// Adds a text as a string.
+///
+/// # Errors
+///
+/// Want of memory alone. The text is as before then.
+pub fn add_quoted(into: &mut Vec<u8>, text: &str) -> Result<(), AllocError>
+    ensures ok { OnOk result (into.new.items ≡ into.old.items ++ quoted text.now) }
+    ensures err { OnErr result (into.new.items ≡ into.old.items) }
+{
+    let before = into.len();
+    let added = add_string(into, text);
+    if added.is_err() {
+        into.truncate(before);
+    }
+    added
 }
 
 #[tactic(auto, using(std::proofs::Common::append_assoc), unfolding(crate::specs::Objects::front_members))]

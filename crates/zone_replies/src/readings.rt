@@ -2,7 +2,7 @@
 ghost use Rattle.std.specs.Prelude.{◌≡◌, ◌<◌, map, length, IfErr, Ok, OnErr, OnOk};
 ghost use Rattle.civil_base.specs.DateTimes.{instant};
 ghost use Rattle.zone_replies.specs.Faults.{behind, IsFaultOf};
-ghost use Rattle.zone_replies.specs.Instants.{at_due, shown_due};
+ghost use Rattle.zone_replies.specs.Instants.{at_due, line_due, shown_due};
 ghost use Rattle.zone_replies.specs.Readings.{after_each, convert_due, first_due, local_due};
 
 use crate::fault::ReplyFault;
@@ -38,6 +38,29 @@ pub fn add_at<Z: ReplyZone>(
     let mut text = Vec::new(alloc);
     add_shown(&mut text, alloc, zone, style, kind, at)?;
     into.extend_from_slice(&text)?;
+    Ok(())
+}
+
+/// Adds the line of an instant, as [`add_at`] writes it.
+///
+/// # Errors
+///
+/// As [`add_at`]. The text is as before then.
+pub fn add_at_line<Z: ReplyZone>(
+    into: &mut Vec<u8>,
+    alloc: Global,
+    zone: &Z,
+    style: &Style<'_>,
+    at: &OffsetDateTime,
+) -> Result<(), ReplyFault>
+    ensures ok { OnOk result (Ok into.new.items ≡ behind into.old.items (line_due style.now.form (Z.view zone.now) style.now.name.now (instant at.now))) }
+    ensures err { OnErr result (into.new.items ≡ into.old.items) }
+    ensures cause { IfErr result (IsFaultOf (line_due style.now.form (Z.view zone.now) style.now.name.now (instant at.now))) }
+{
+    let mut line = Vec::new(alloc);
+    add_at(&mut line, alloc, zone, style, at)?;
+    line.extend_from_slice(b"\n")?;
+    into.extend_from_slice(&line)?;
     Ok(())
 }
 

@@ -19,6 +19,6 @@ returns-clause-ok g c =
     let same : s ≡ c.args.second = to_z-of_z c.ranges.second in
     let is = change_is form view name s t old new c.in_ok-old.ensures c.in_ok-new.ensures c.in-Some-date_at.ensures.instant c.in-Some.ensures.dates
     c.in-Some-date_at.ensures.dates in
-    ap Ok (c.in_ok-extend_from_slice.ensures.items ∙ ap (λ l. l ++ (10 ∷ [])) c.in_ok-add_change.ensures
-    ∙ append_assoc start (change_text form name t old new) (10 ∷ []))
+    let line = c.in_ok-extend_from_slice.ensures.items ∙ ap (λ l. l ++ (10 ∷ [])) (c.in_ok-add_change.ensures ∙ ap (λ l. l ++ change_text form name t old new) c.new-line.ensures.items) in
+    ap Ok (c.in_ok-extend_from_slice-2.ensures.items ∙ ap (λ l. start ++ l) (c.deref.ensures.value ∙ line))
     ∙ sym (ap (λ x. behind start (change_due form view name x)) (sym same) ∙ ap (behind start) is)

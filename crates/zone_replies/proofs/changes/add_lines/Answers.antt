@@ -17,7 +17,7 @@ returns-in_err-add_change_line-clause-err g c =
     let fits : FitsSigned w64 e = search rules in
     let p = err_from_is_err_and c.from_residual.result c.from_residual.ensures.1 in
     rw (p.1, p.2) (loop_fault due (λ s. s) c.args.changes.now c.loop-change.change-index (pos 0) (to_z w64 (of_z w64 e)) c.args.into.now.items c.loop-change.into.items _
-    c.loop-change-test.true (to_z-of_z fits) c.loop-change.invariant _ c.in_err-add_change_line.ensures.err)
+    c.loop-change-test.true (to_z-of_z fits) c.loop-change.invariant _ c.in_err-add_change_line.ensures.cause)
 
 pub loop-change-preserved : goal.loop-change-preserved
 loop-change-preserved g c =
