@@ -5,13 +5,13 @@
 #include <stdlib.h>
 #include <string.h>
 
-struct named { char *name; struct sefunjaro_handle zone; };
+struct named { char *name; struct sefunjaro_zone zone; };
 
 static struct named *zones;
 static size_t zone_count, zone_room;
 
 /* The handle of a zone, which is opened where it is asked for the first time. */
-static struct sefunjaro_handle *zone_of(struct sefunjaro_handle *source, const char *name, size_t length) {
+static struct sefunjaro_zone *zone_of(struct sefunjaro_source *source, const char *name, size_t length) {
     for (size_t i = zone_count; i-- > 0;)
         if (strlen(zones[i].name) == length && !memcmp(zones[i].name, name, length)) return &zones[i].zone;
     if (zone_count == zone_room) {
@@ -22,7 +22,7 @@ static struct sefunjaro_handle *zone_of(struct sefunjaro_handle *source, const c
     struct named *made = &zones[zone_count];
     struct sefunjaro_fault fault;
     *made = (struct named){ malloc(length + 1), SEFUNJARO_CLOSED };
-    if (!made->name || sefunjaro_zone_open(source, (const uint8_t *)name, length, &made->zone, &fault)) exit(1);
+    if (!made->name || sefunjaro_zone_open(source, name, length, &made->zone, &fault)) exit(1);
     memcpy(made->name, name, length);
     made->name[length] = 0;
     zone_count++;
@@ -36,29 +36,29 @@ static void instant_of(const char *text, int64_t *second, uint32_t *nanosecond) 
     *nanosecond = (uint32_t)(rest < 0 ? rest + 1000000000 : rest);
 }
 
-static void show(struct sefunjaro_handle *zone, int64_t second, uint32_t nanosecond, const char *before) {
-    uint8_t text[40];
+static void show(struct sefunjaro_zone *zone, int64_t second, uint32_t nanosecond, const char *before) {
+    char text[40];
     size_t whole;
     if (sefunjaro_text_at(zone, second, nanosecond, text, sizeof text, &whole)) exit(1);
     fputs(before, stdout);
     fwrite(text, 1, whole, stdout);
 }
 
-static void answer_local(struct sefunjaro_handle *zone, const char *text) {
+static void answer_local(struct sefunjaro_zone *zone, const char *text) {
     struct sefunjaro_clock local;
     struct sefunjaro_reading readings[8];
     struct sefunjaro_gap gap;
     size_t count;
-    if (sefunjaro_read_local((const uint8_t *)text, strlen(text), &local)) exit(1);
+    if (sefunjaro_read_local(text, strlen(text), &local)) exit(1);
     if (sefunjaro_readings(zone, &local, readings, 8, &count, &gap) || count > 8) exit(1);
     if (!count) fputs("none", stdout);
     for (size_t i = 0; i < count; i++) show(zone, readings[i].second, local.nanosecond, i ? " | " : "");
 }
 
-static void answer(struct sefunjaro_handle *source, char *line) {
+static void answer(struct sefunjaro_source *source, char *line) {
     line[strcspn(line, "\n")] = 0;
     char *name = strchr(line, ' ') + 1, *value = strchr(name, ' ') + 1;
-    struct sefunjaro_handle *zone = zone_of(source, name, (size_t)(value - 1 - name));
+    struct sefunjaro_zone *zone = zone_of(source, name, (size_t)(value - 1 - name));
     if (line[0] == 'a') {
         int64_t second;
         uint32_t nanosecond;
@@ -72,18 +72,18 @@ static void answer(struct sefunjaro_handle *source, char *line) {
 
 int main(int argc, char **argv) {
     FILE *file = argc == 2 ? fopen(argv[1], "rb") : NULL;
-    uint8_t *text = malloc(1 << 24);
+    char *text = malloc(1 << 24);
     if (!file || !text) return 1;
     size_t length = fread(text, 1, 1 << 24, file);
     fclose(file);
-    struct sefunjaro_handle source = SEFUNJARO_CLOSED;
+    struct sefunjaro_source source = SEFUNJARO_CLOSED;
     struct sefunjaro_fault fault;
     if (sefunjaro_source_open(text, length, &source, &fault)) return 1;
     free(text);
     char line[512];
     while (fgets(line, sizeof line, stdin)) answer(&source, line);
-    for (size_t i = 0; i < zone_count; i++) sefunjaro_close(&zones[i].zone), free(zones[i].name);
+    for (size_t i = 0; i < zone_count; i++) sefunjaro_zone_close(&zones[i].zone), free(zones[i].name);
     free(zones);
-    sefunjaro_close(&source);
+    sefunjaro_source_close(&source);
     return 0;
 }

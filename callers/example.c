@@ -3,16 +3,17 @@
 #include <stdio.h>
 
 int main(int argc, char **argv) {
-    static uint8_t text[1 << 24];
+    static char text[1 << 24];
     FILE *file = argc == 2 ? fopen(argv[1], "rb") : NULL;
     if (!file) return 1;
     size_t length = fread(text, 1, sizeof text, file), count, whole;
     fclose(file);
-    struct sefunjaro_handle source = SEFUNJARO_CLOSED, zone = SEFUNJARO_CLOSED;
+    struct sefunjaro_source source = SEFUNJARO_CLOSED;
+    struct sefunjaro_zone zone = SEFUNJARO_CLOSED;
     struct sefunjaro_fault fault;
     if (sefunjaro_source_open(text, length, &source, &fault)) return fprintf(stderr, "line %zu: status %u\n", fault.line, fault.status), 2;
-    if (sefunjaro_zone_open(&source, (const uint8_t *)"America/New_York", 16, &zone, &fault)) return 2;
-    sefunjaro_close(&source);
+    if (sefunjaro_zone_open(&source, "America/New_York", 16, &zone, &fault)) return 2;
+    sefunjaro_source_close(&source);
     if (sefunjaro_text_at(&zone, 1710054000, 0, text, 40, &whole)) return 2;
     printf("%.*s\n", (int)whole, (const char *)text);
     struct sefunjaro_clock local = { 2024, 11, 3, 1, 30, 0, 0 };
@@ -24,6 +25,6 @@ int main(int argc, char **argv) {
         printf("%s%.*s", i ? " | " : "", (int)whole, (const char *)text);
     }
     printf("\n");
-    sefunjaro_close(&zone);
+    sefunjaro_zone_close(&zone);
     return 0;
 }

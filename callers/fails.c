@@ -40,21 +40,23 @@ void __wrap_free(void *block) {
     __real_free(block);
 }
 
-static struct sefunjaro_handle source = SEFUNJARO_CLOSED, zone = SEFUNJARO_CLOSED, other = SEFUNJARO_CLOSED;
+static struct sefunjaro_source source = SEFUNJARO_CLOSED;
+static struct sefunjaro_zone zone = SEFUNJARO_CLOSED, other = SEFUNJARO_CLOSED;
 static struct sefunjaro_fault fault;
-static uint8_t found[64];
+static char found[64];
+static uint8_t file[64];
 static size_t length;
 static bool is_posix;
 
-static uint32_t open_plain(void) { return sefunjaro_source_open_plain((const uint8_t *)small_source, strlen(small_source), &source, &fault); }
-static uint32_t open_source(void) { return sefunjaro_source_open((const uint8_t *)"Zone A 1 - A\n", 13, &source, &fault); }
-static uint32_t open_zone(void) { return sefunjaro_zone_open(&source, (const uint8_t *)"Europe/Paris", 12, &zone, &fault); }
+static uint32_t open_plain(void) { return sefunjaro_source_open_plain(small_source, strlen(small_source), &source, &fault); }
+static uint32_t open_source(void) { return sefunjaro_source_open("Zone A 1 - A\n", 13, &source, &fault); }
+static uint32_t open_zone(void) { return sefunjaro_zone_open(&source, "Europe/Paris", 12, &zone, &fault); }
 static uint32_t open_file(void) { return sefunjaro_file_open(small_file, sizeof small_file, &zone, &fault); }
-static uint32_t open_posix(void) { return sefunjaro_posix_open((const uint8_t *)"CET-1CEST,M3.5.0,M10.5.0/3", 26, &zone, &fault); }
+static uint32_t open_posix(void) { return sefunjaro_posix_open("CET-1CEST,M3.5.0,M10.5.0/3", 26, &zone, &fault); }
 static uint32_t tail(void) { return sefunjaro_tail(&zone, found, sizeof found, &length, &is_posix, &fault); }
-static uint32_t tzif(void) { return sefunjaro_tzif(&zone, found, sizeof found, &length, &fault); }
+static uint32_t tzif(void) { return sefunjaro_tzif(&zone, file, sizeof file, &length, &fault); }
 static uint32_t ever_tail(void) { return sefunjaro_tail_for_ever(&zone, found, sizeof found, &length, &is_posix, &fault); }
-static uint32_t ever_file(void) { return sefunjaro_tzif_for_ever(&zone, found, sizeof found, &length, &fault); }
+static uint32_t ever_file(void) { return sefunjaro_tzif_for_ever(&zone, file, sizeof file, &length, &fault); }
 static uint32_t share(void) { return sefunjaro_share(&zone, &other); }
 
 /* How many requests a call makes, which opens a handle, if one is given: each refused in turn; -1 where an answer is wrong or something is
@@ -71,7 +73,7 @@ static long tried(uint32_t (*call)(void), struct sefunjaro_handle *made) {
         if (made && status == SEFUNJARO_DONE) sefunjaro_close(made);
         else if (status != SEFUNJARO_NO_MEMORY) return -1;
         if (live != before) return -1;
-        if (made && sefunjaro_offset_at(made, 0, 0, &offset) != SEFUNJARO_NOT_OPEN) return -1;
+        if (made && sefunjaro_offset_at((const struct sefunjaro_zone *)made, 0, 0, &offset) != SEFUNJARO_NOT_OPEN) return -1;
     }
 }
 
@@ -80,14 +82,14 @@ static bool look_aside(void) {
     struct sefunjaro_clock clock;
     struct sefunjaro_instant instant;
     struct sefunjaro_years years;
-    uint8_t text[40];
+    char text[40];
     size_t whole;
     left = 0;
     sefunjaro_version(text, 40, &whole, &years);
     bool done = !sefunjaro_name_count(&source, &whole) && !sefunjaro_name(&source, 0, text, 40, &whole);
     done = done && sefunjaro_source_version(&source, text, 40, &whole) == SEFUNJARO_NONE;
-    done = done && !sefunjaro_read_local((const uint8_t *)"2024-03-31 02:30:00.000000000", 29, &clock);
-    done = done && !sefunjaro_read_zoned((const uint8_t *)"2024-03-31 02:30:00.000000000 +01:00:00", 39, &instant) && left == 0;
+    done = done && !sefunjaro_read_local("2024-03-31 02:30:00.000000000", 29, &clock);
+    done = done && !sefunjaro_read_zoned("2024-03-31 02:30:00.000000000 +01:00:00", 39, &instant) && left == 0;
     left = -1;
     return done;
 }
@@ -97,7 +99,7 @@ static bool look(void) {
     struct sefunjaro_reading reading;
     struct sefunjaro_gap gap;
     struct sefunjaro_in_force in_force;
-    uint8_t text[40];
+    char text[40];
     size_t whole;
     int32_t offset;
     left = 0;
@@ -118,7 +120,7 @@ static bool look_far(void) {
     struct sefunjaro_clock local = { 2400, 3, 26, 2, 30, 0, 0 };
     struct sefunjaro_reading reading;
     struct sefunjaro_gap gap;
-    uint8_t text[40];
+    char text[40];
     size_t whole;
     left = 0;
     bool done = !sefunjaro_text_at(&zone, 13576813200, 0, text, 40, &whole) && !sefunjaro_readings(&zone, &local, &reading, 1, &whole, &gap);
@@ -130,21 +132,21 @@ static bool look_far(void) {
 int main(void) {
     for (int pass = 0; pass < 2; pass++) {
         for_good = pass;
-        long of_source = tried(open_source, &source);
-        sefunjaro_close(&source);
-        long of_plain = tried(open_plain, &source), of_zone = tried(open_zone, &zone), of_share = tried(share, &other);
+        long of_source = tried(open_source, &source.handle);
+        sefunjaro_source_close(&source);
+        long of_plain = tried(open_plain, &source.handle), of_zone = tried(open_zone, &zone.handle), of_share = tried(share, &other.handle);
         if (of_source < 0 || of_plain < 0 || of_zone < 0 || of_share < 0 || !look() || !look_aside()) return 1;
         long of_tail = tried(tail, NULL), of_tzif = tried(tzif, NULL);
         if (of_tail < 0 || of_tzif < 0 || tried(ever_tail, NULL) < 0 || tried(ever_file, NULL) < 0) return 5;
-        sefunjaro_close(&source);
-        sefunjaro_close(&zone);
-        sefunjaro_close(&other);
-        long of_file = tried(open_file, &zone);
+        sefunjaro_source_close(&source);
+        sefunjaro_zone_close(&zone);
+        sefunjaro_zone_close(&other);
+        long of_file = tried(open_file, &zone.handle);
         if (of_file < 0 || !look_far()) return 3;
-        sefunjaro_close(&zone);
-        long of_posix = tried(open_posix, &zone);
+        sefunjaro_zone_close(&zone);
+        long of_posix = tried(open_posix, &zone.handle);
         if (of_posix < 0 || !look_far()) return 4;
-        sefunjaro_close(&zone);
+        sefunjaro_zone_close(&zone);
         if (live) return 2;
         if (pass) printf("%ld requests of a file and %ld of a string refused in turn\n", of_file, of_posix);
         if (pass) printf("%ld requests for a zone's string and %ld for its file refused in turn\n", of_tail, of_tzif);

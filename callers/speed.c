@@ -7,7 +7,8 @@
 #include <string.h>
 #include <time.h>
 
-static struct sefunjaro_handle source = SEFUNJARO_CLOSED, zone = SEFUNJARO_CLOSED;
+static struct sefunjaro_source source = SEFUNJARO_CLOSED;
+static struct sefunjaro_zone zone = SEFUNJARO_CLOSED;
 static long rounds, sum;
 
 /* Seconds all over the years 1970 to 2034, out of order. */
@@ -39,7 +40,7 @@ static void offsets_rising(void) {
 
 static void in_force(void) {
     struct sefunjaro_in_force found;
-    uint8_t name[8];
+    char name[8];
     for (long i = 0; i < rounds; i++) sum += sefunjaro_in_force(&zone, second_of(i), 0, &found, name, 8) + name[0];
 }
 
@@ -76,7 +77,7 @@ static double taken(void (*part)(void)) {
 }
 
 int main(int argc, char **argv) {
-    static uint8_t text[1 << 24];
+    static char text[1 << 24];
     static void (*const parts[])(void) = { offsets, offsets_any, offsets_rising, in_force, clocks, local_times, of_libc };
     static const char *const names[] = { "offset_at", "offsets_at", "rising", "in_force", "clock_at", "readings", "localtime_r" };
     double best[7];
@@ -87,7 +88,7 @@ int main(int argc, char **argv) {
     rounds = atol(argv[2]);
     struct sefunjaro_fault fault;
     if (sefunjaro_source_open(text, length, &source, &fault)) return 1;
-    if (sefunjaro_zone_open(&source, (const uint8_t *)"America/New_York", 16, &zone, &fault)) return 1;
+    if (sefunjaro_zone_open(&source, "America/New_York", 16, &zone, &fault)) return 1;
     setenv("TZ", "America/New_York", 1);
     tzset();
     for (int turn = 0; turn < 9; turn++)
@@ -96,7 +97,7 @@ int main(int argc, char **argv) {
             if (!turn || nanos < best[i]) best[i] = nanos;
         }
     for (int i = 0; i < 7; i++) printf("%s %.1f\n", names[i], best[i]);
-    sefunjaro_close(&zone);
-    sefunjaro_close(&source);
+    sefunjaro_zone_close(&zone);
+    sefunjaro_source_close(&source);
     return sum == 1;
 }

@@ -7,11 +7,15 @@
 #include <stdlib.h>
 #include <string.h>
 
-static struct sefunjaro_handle source = SEFUNJARO_CLOSED, zone = SEFUNJARO_CLOSED;
+/* A handle that holds the other kind, as no caller passes it who doesn't say so. */
+static const struct sefunjaro_zone *as_zone(const struct sefunjaro_source *source) { return (const struct sefunjaro_zone *)source; }
+
+static struct sefunjaro_source source = SEFUNJARO_CLOSED;
+static struct sefunjaro_zone zone = SEFUNJARO_CLOSED;
 static struct sefunjaro_fault fault;
 
-static uint32_t open_any(const char *text) { return sefunjaro_source_open((const uint8_t *)text, strlen(text), &source, &fault); }
-static uint32_t open_name(const char *name) { return sefunjaro_zone_open(&source, (const uint8_t *)name, strlen(name), &zone, &fault); }
+static uint32_t open_any(const char *text) { return sefunjaro_source_open(text, strlen(text), &source, &fault); }
+static uint32_t open_name(const char *name) { return sefunjaro_zone_open(&source, name, strlen(name), &zone, &fault); }
 static bool is_fault(uint32_t status, uint32_t cause, size_t line) { return fault.status == status && fault.cause == cause && fault.line == line; }
 
 /* Words cut short, times and days in other forms, quotes, comments, a link to a link that comes later, and %z. */
@@ -28,7 +32,7 @@ static const char any_source[] =
 static int any_form(void) {
     size_t count = 9;
     int32_t offset;
-    uint8_t name[9] = "........";
+    char name[9] = "........";
     struct sefunjaro_in_force found;
     if (open_any(any_source) != SEFUNJARO_DONE || !is_fault(0, 0, 0)) return 1;
     if (sefunjaro_name_count(&source, &count) || count != 4) return 2;
@@ -70,7 +74,7 @@ static int faults(void) {
         if (!is_fault(SEFUNJARO_NO_PLAIN_FORM, refused[i].cause, refused[i].line)) return 50 + (int)i;
         if (sefunjaro_name_count(&source, &count) != SEFUNJARO_NOT_OPEN) return 10;
     }
-    if (sefunjaro_source_open((const uint8_t *)many, sizeof many, &source, &fault) != SEFUNJARO_TOO_LONG) return 11;
+    if (sefunjaro_source_open(many, sizeof many, &source, &fault) != SEFUNJARO_TOO_LONG) return 11;
     if (!is_fault(SEFUNJARO_TOO_LONG, 0, 0)) return 12;
     return 0;
 }
@@ -95,14 +99,14 @@ static int tails(void) {
     static const struct { const char *name; uint32_t cause; } none[] = {
         { "Shape", SEFUNJARO_TAIL_SHAPE }, { "Far", SEFUNJARO_TAIL_OFFSET_RANGE }, { "Name", SEFUNJARO_TAIL_NAME }
     };
-    uint8_t text[40];
+    char text[40];
     size_t whole = 9;
     bool is_posix = true;
     memset(text, '.', sizeof text);
-    sefunjaro_close(&zone);
+    sefunjaro_zone_close(&zone);
     if (open_any(whole_source) || sefunjaro_tail(&zone, text, 40, &whole, &is_posix, &fault) != SEFUNJARO_NOT_OPEN) return 80;
     if (!is_fault(SEFUNJARO_NOT_OPEN, 0, 0) || whole != 9 || text[0] != '.' || !is_posix) return 81;
-    if (sefunjaro_tail(&source, text, 40, &whole, &is_posix, &fault) != SEFUNJARO_NOT_OPEN) return 82;
+    if (sefunjaro_tail(as_zone(&source), text, 40, &whole, &is_posix, &fault) != SEFUNJARO_NOT_OPEN) return 82;
     for (size_t i = 0; i < sizeof none / sizeof *none; i++) {
         if (open_name(none[i].name) || sefunjaro_tail(&zone, text, 40, &whole, &is_posix, &fault) != SEFUNJARO_NONE) return 83 + (int)i;
         if (!is_fault(SEFUNJARO_NONE, none[i].cause, 0) || text[0] != '.' || !is_posix) return 86 + (int)i;
@@ -115,8 +119,8 @@ static int tails(void) {
     if (open_name("America/Sao_Paulo") || sefunjaro_tail(&zone, text, 40, &whole, &is_posix, &fault) || whole != 6 || memcmp(text, "<-03>3CET", 6)) return 93;
     if (!is_posix) return 97;
     if (open_name("Underscore") || sefunjaro_tail(&zone, text, 40, &whole, &is_posix, &fault) || memcmp(text, "<A_B>-5", 7) || is_posix) return 98;
-    if (sefunjaro_posix_open((const uint8_t *)"UTC0", 4, &zone, &fault) || sefunjaro_tail(&zone, text, 40, &whole, &is_posix, &fault) != SEFUNJARO_NOT_KEPT) return 94;
-    if (sefunjaro_tzif(&zone, text, 40, &whole, &fault) != SEFUNJARO_NOT_KEPT || !is_fault(SEFUNJARO_NOT_KEPT, 0, 0) || whole != 7) return 95;
+    if (sefunjaro_posix_open("UTC0", 4, &zone, &fault) || sefunjaro_tail(&zone, text, 40, &whole, &is_posix, &fault) != SEFUNJARO_NOT_KEPT) return 94;
+    if (sefunjaro_tzif(&zone, (uint8_t *)text, 40, &whole, &fault) != SEFUNJARO_NOT_KEPT || !is_fault(SEFUNJARO_NOT_KEPT, 0, 0) || whole != 7) return 95;
     return 0;
 }
 
@@ -134,7 +138,7 @@ static uint32_t open_many(int kinds, const char *name) {
 static int files(void) {
     uint8_t file[4] = "....";
     size_t whole = 9;
-    if (sefunjaro_tzif(&source, file, 4, &whole, &fault) != SEFUNJARO_NOT_OPEN || whole != 9 || file[0] != '.') return 100;
+    if (sefunjaro_tzif(as_zone(&source), file, 4, &whole, &fault) != SEFUNJARO_NOT_OPEN || whole != 9 || file[0] != '.') return 100;
     if (open_name("Twice") || sefunjaro_tzif(&zone, file, 4, &whole, &fault) != SEFUNJARO_NONE) return 101;
     if (!is_fault(SEFUNJARO_NONE, SEFUNJARO_TZIF_TIMES, 0) || whole != 9 || file[0] != '.') return 102;
     if (open_name("Shape") || sefunjaro_tzif(&zone, file, 4, &whole, &fault) || memcmp(file, "TZif", 4)) return 103;
@@ -158,12 +162,13 @@ static const char ever_source[] =
     "Z Ends 1 N CE%sT\n";
 
 static int for_ever(void) {
-    uint8_t text[40], file[5] = ".....";
+    char text[40];
+    uint8_t file[5] = ".....";
     size_t whole = 9;
     bool is_posix = false;
     memset(text, '.', sizeof text);
-    if (open_any(ever_source) || sefunjaro_tail_for_ever(&source, text, 40, &whole, &is_posix, &fault) != SEFUNJARO_NOT_OPEN) return 110;
-    if (sefunjaro_tzif_for_ever(&source, file, 5, &whole, &fault) != SEFUNJARO_NOT_OPEN || whole != 9 || file[0] != '.') return 111;
+    if (open_any(ever_source) || sefunjaro_tail_for_ever(as_zone(&source), text, 40, &whole, &is_posix, &fault) != SEFUNJARO_NOT_OPEN) return 110;
+    if (sefunjaro_tzif_for_ever(as_zone(&source), file, 5, &whole, &fault) != SEFUNJARO_NOT_OPEN || whole != 9 || file[0] != '.') return 111;
     if (open_name("Ends") || sefunjaro_tail_for_ever(&zone, text, 40, &whole, &is_posix, &fault) != SEFUNJARO_NONE) return 112;
     if (!is_fault(SEFUNJARO_NONE, SEFUNJARO_EVER_RULES_END, 0) || text[0] != '.' || whole != 9) return 113;
     if (sefunjaro_tzif_for_ever(&zone, file, 5, &whole, &fault) != SEFUNJARO_NONE || !is_fault(SEFUNJARO_NONE, SEFUNJARO_EVER_RULES_END, 0)) return 114;
@@ -173,7 +178,7 @@ static int for_ever(void) {
     if (open_name("Late") || sefunjaro_tail_for_ever(&zone, text, 6, &whole, &is_posix, &fault) || whole != 28 || is_posix) return 118;
     if (memcmp(text, "XST3XDMT0,M10", 13)) return 119;
     if (sefunjaro_tzif_for_ever(&zone, file, 5, &whole, &fault) || memcmp(file, "TZif3", 5)) return 120;
-    if (sefunjaro_posix_open((const uint8_t *)"UTC0", 4, &zone, &fault)) return 121;
+    if (sefunjaro_posix_open("UTC0", 4, &zone, &fault)) return 121;
     if (sefunjaro_tail_for_ever(&zone, text, 40, &whole, &is_posix, &fault) != SEFUNJARO_NOT_KEPT) return 122;
     if (sefunjaro_tzif_for_ever(&zone, file, 5, &whole, &fault) != SEFUNJARO_NOT_KEPT || !is_fault(SEFUNJARO_NOT_KEPT, 0, 0)) return 123;
     return 0;
@@ -185,7 +190,7 @@ static int written(const char *path, const char *name) {
     FILE *from = fopen(path, "rb");
     size_t length = from ? fread(text, 1, sizeof text, from) : 0, whole = 0, room = 0;
     uint8_t *file = malloc(1);
-    if (!from || sefunjaro_source_open((const uint8_t *)text, length, &source, &fault) || open_name(name)) return 1;
+    if (!from || sefunjaro_source_open(text, length, &source, &fault) || open_name(name)) return 1;
     fclose(from);
     while (!sefunjaro_tzif(&zone, file, room, &whole, &fault) && room < whole) file = realloc(file, room = whole);
     bool is_done = !fault.status && fwrite(file, 1, whole, stdout) == whole;
@@ -199,7 +204,7 @@ int main(int count, char **words) {
     if (!failed && count == 1) failed = tails();
     if (!failed && count == 1) failed = files();
     if (!failed && count == 1) failed = for_ever();
-    sefunjaro_close(&source);
-    sefunjaro_close(&zone);
+    sefunjaro_source_close(&source);
+    sefunjaro_zone_close(&zone);
     return failed;
 }

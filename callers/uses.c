@@ -5,11 +5,16 @@
 #include "small_file.h"
 #include <string.h>
 
-static struct sefunjaro_handle source = SEFUNJARO_CLOSED, zone = SEFUNJARO_CLOSED, other = SEFUNJARO_CLOSED;
+/* A handle that holds the other kind, as no caller passes it who doesn't say so. */
+static const struct sefunjaro_zone *as_zone(const struct sefunjaro_source *source) { return (const struct sefunjaro_zone *)source; }
+static const struct sefunjaro_source *as_source(const struct sefunjaro_zone *zone) { return (const struct sefunjaro_source *)zone; }
+
+static struct sefunjaro_source source = SEFUNJARO_CLOSED;
+static struct sefunjaro_zone zone = SEFUNJARO_CLOSED, other = SEFUNJARO_CLOSED;
 static struct sefunjaro_fault fault;
 
-static uint32_t open_text(const char *text, size_t length) { return sefunjaro_source_open_plain((const uint8_t *)text, length, &source, &fault); }
-static uint32_t open_name(const char *name) { return sefunjaro_zone_open(&source, (const uint8_t *)name, strlen(name), &zone, &fault); }
+static uint32_t open_text(const char *text, size_t length) { return sefunjaro_source_open_plain(text, length, &source, &fault); }
+static uint32_t open_name(const char *name) { return sefunjaro_zone_open(&source, name, strlen(name), &zone, &fault); }
 static bool is_fault(uint32_t status, uint32_t cause, size_t line) { return fault.status == status && fault.cause == cause && fault.line == line; }
 
 static int closed_handles(void) {
@@ -17,7 +22,7 @@ static int closed_handles(void) {
     struct sefunjaro_reading reading;
     struct sefunjaro_gap gap;
     struct sefunjaro_in_force found;
-    uint8_t text[40] = { 7 };
+    char text[40] = { 7 };
     size_t count = 9;
     int32_t offset = 9;
     if (sefunjaro_name_count(&source, &count) != SEFUNJARO_NOT_OPEN || count != 9) return 1;
@@ -38,26 +43,26 @@ static int closed_handles(void) {
     if (sefunjaro_ring(&zone, &clock, &reading) != SEFUNJARO_NOT_OPEN) return 63;
     int32_t year = 9;
     if (sefunjaro_years(&zone, &year) != SEFUNJARO_NOT_OPEN || year != 9) return 64;
-    sefunjaro_close(&zone);
+    sefunjaro_zone_close(&zone);
     return 0;
 }
 
 /* A source names its release by its first line, and by no other. */
 static int releases(void) {
     static const char named[] = "# version 2026b\nZone A 1:00 - A\n", later[] = "Zone A 1:00 - A\n# version 2026b\n";
-    uint8_t text[8] = "........";
+    char text[8] = "........";
     size_t whole = 9;
     if (open_text(named, sizeof named - 1) || sefunjaro_source_version(&source, text, 3, &whole) || whole != 5 || memcmp(text, "202.....", 8)) return 230;
     if (sefunjaro_source_version(&source, text, 8, &whole) || whole != 5 || memcmp(text, "2026b...", 8)) return 231;
-    if (sefunjaro_source_open((const uint8_t *)named, sizeof named - 1, &source, &fault)) return 232;
+    if (sefunjaro_source_open(named, sizeof named - 1, &source, &fault)) return 232;
     text[0] = '.';
     if (sefunjaro_source_version(&source, text, 8, &whole) || whole != 5 || memcmp(text, "2026b...", 8)) return 233;
     text[0] = '.', whole = 9;
     if (open_text(later, sizeof later - 1) || sefunjaro_source_version(&source, text, 8, &whole) != SEFUNJARO_NONE) return 234;
     if (whole != 9 || text[0] != '.') return 235;
-    if (open_name("A") || sefunjaro_source_version(&zone, text, 8, &whole) != SEFUNJARO_NOT_OPEN || whole != 9) return 236;
-    sefunjaro_close(&zone);
-    sefunjaro_close(&source);
+    if (open_name("A") || sefunjaro_source_version(as_source(&zone), text, 8, &whole) != SEFUNJARO_NOT_OPEN || whole != 9) return 236;
+    sefunjaro_zone_close(&zone);
+    sefunjaro_source_close(&source);
     return 0;
 }
 
@@ -71,7 +76,7 @@ static int sources(void) {
     if (open_text("", 0) != SEFUNJARO_DONE || sefunjaro_name_count(&source, &count) || count != 0) return 14;
     if (open_text(small_source, strlen(small_source)) != SEFUNJARO_DONE || !is_fault(0, 0, 0)) return 15;
     if (sefunjaro_name_count(&source, &count) || count != 5) return 16;
-    uint8_t name[20];
+    char name[20];
     memset(name, '.', sizeof name);
     if (sefunjaro_name(&source, 2, name, 4, &count) || count != 13 || memcmp(name, "Euro...", 7)) return 17;
     if (sefunjaro_name(&source, 4, name, 20, &count) || count != 5 || memcmp(name, "Fixed", 5)) return 18;
@@ -79,21 +84,34 @@ static int sources(void) {
     return 0;
 }
 
+static int statuses(void) {
+    for (uint32_t status = 0; status <= SEFUNJARO_NO_PLAIN_FORM; status++)
+        if (!*sefunjaro_status_text(status)) return 240;
+    if (*sefunjaro_status_text(SEFUNJARO_NO_PLAIN_FORM + 1) || strcmp(sefunjaro_status_text(SEFUNJARO_NO_MEMORY), "memory ran out")) return 241;
+#if SEFUNJARO_VERSION_MAJOR != 2 || SEFUNJARO_VERSION_MINOR < 0 || SEFUNJARO_VERSION_PATCH < 0
+    return 242;
+#endif
+    sefunjaro_zone_close(&other);
+    sefunjaro_source_close(&source);
+    other = sefunjaro_no_zone(), source = sefunjaro_no_source();
+    return other.handle.is_open || source.handle.is_open ? 243 : 0;
+}
+
 static int zones(void) {
     int32_t offset = 9;
-    if (sefunjaro_offset_at(&source, 0, 0, &offset) != SEFUNJARO_NOT_OPEN) return 20;
+    if (sefunjaro_offset_at(as_zone(&source), 0, 0, &offset) != SEFUNJARO_NOT_OPEN) return 20;
     if (open_name("Europe/Rome") != SEFUNJARO_UNKNOWN_ZONE || !is_fault(SEFUNJARO_UNKNOWN_ZONE, 0, 0)) return 21;
     if (open_name("\xff") != SEFUNJARO_NOT_TEXT) return 22;
     if (open_name("Fixed") != SEFUNJARO_OFFSET_RANGE) return 23;
     if (open_name("Ends") != SEFUNJARO_DONE) return 24;
     if (open_name("Europe/Monaco") != SEFUNJARO_DONE || !is_fault(0, 0, 0)) return 25;
-    if (sefunjaro_zone_open(&zone, (const uint8_t *)"A", 1, &other, &fault) != SEFUNJARO_NOT_OPEN) return 26;
+    if (sefunjaro_zone_open(as_source(&zone), "A", 1, &other, &fault) != SEFUNJARO_NOT_OPEN) return 26;
     if (sefunjaro_share(&zone, &other) != SEFUNJARO_DONE) return 27;
-    sefunjaro_close(&zone);
+    sefunjaro_zone_close(&zone);
     if (sefunjaro_offset_at(&other, 1720000000, 0, &offset) || offset != 7200) return 28;
     if (sefunjaro_share(&other, &zone) != SEFUNJARO_DONE) return 29;
-    sefunjaro_close(&source);
-    sefunjaro_close(&other);
+    sefunjaro_source_close(&source);
+    sefunjaro_zone_close(&other);
     return 0;
 }
 
@@ -114,7 +132,7 @@ static int lists(void) {
     if (sefunjaro_offsets_at(&zone, far, 3, offsets, 3, &place) != SEFUNJARO_OUT_OF_RANGE || place != 1 || offsets[0] != 9) return 4;
     far[1] = 0;
     if (sefunjaro_offsets_at(&zone, far, 3, offsets, 0, &place) != SEFUNJARO_OUT_OF_RANGE || place != 2) return 5;
-    if (sefunjaro_offsets_at(&source, seconds, 1, offsets, 3, &place) != SEFUNJARO_NOT_OPEN || place != 2 || offsets[0] != 9) return 6;
+    if (sefunjaro_offsets_at(as_zone(&source), seconds, 1, offsets, 3, &place) != SEFUNJARO_NOT_OPEN || place != 2 || offsets[0] != 9) return 6;
     return 0;
 }
 
@@ -123,7 +141,7 @@ static int looks(void) {
     struct sefunjaro_clock clock, skipped = { 2024, 3, 31, 2, 30, 0, 5 }, twice = { 2024, 10, 27, 2, 30, 0, 0 }, none = { 2023, 2, 29, 0, 0, 0, 0 };
     struct sefunjaro_reading readings[3] = { { 0, 0 }, { 0, 0 }, { 77, 0 } };
     struct sefunjaro_gap gap = { 0, 0, 0 };
-    uint8_t text[40], name[4] = "....";
+    char text[40], name[4] = "....";
     size_t whole;
     int32_t offset;
     if (sefunjaro_offset_at(&zone, 1711846799, 999999999, &offset) || offset != 3600) return 30;
@@ -146,8 +164,8 @@ static int looks(void) {
     if (gap.second != 1711846800 || gap.before != 3600 || gap.after != 7200) return 46;
     if (sefunjaro_readings(&zone, &none, readings, 3, &whole, &gap) != SEFUNJARO_OUT_OF_RANGE) return 47;
     const char *local = "2024-03-31 02:30:00.000000005";
-    if (sefunjaro_read_local((const uint8_t *)local, 29, &clock) || memcmp(&clock.year, &skipped.year, 4) || clock.day != 31 || clock.nanosecond != 5) return 48;
-    if (sefunjaro_read_local((const uint8_t *)local, 28, &clock) != SEFUNJARO_NOT_READ) return 49;
+    if (sefunjaro_read_local(local, 29, &clock) || memcmp(&clock.year, &skipped.year, 4) || clock.day != 31 || clock.nanosecond != 5) return 48;
+    if (sefunjaro_read_local(local, 28, &clock) != SEFUNJARO_NOT_READ) return 49;
     return 0;
 }
 
@@ -181,7 +199,7 @@ static int edges(void) {
     struct sefunjaro_reading reading = { 0, 0 };
     struct sefunjaro_gap gap;
     struct sefunjaro_in_force found;
-    uint8_t text[40];
+    char text[40];
     int64_t saving = 9;
     int32_t offset = 9;
     size_t count;
@@ -197,7 +215,7 @@ static int edges(void) {
     if (open_name("Europe/Paris") || sefunjaro_readings(&zone, &first, &reading, 1, &count, &gap) || count != 1 || reading.second != -377705118600) return 209;
     if (sefunjaro_text_at(&zone, reading.second, 0, text, 40, &count) || memcmp(text, "-9999-01-01 00:30:00.000000000 +01:00:00", count)) return 210;
     if (sefunjaro_offset_at(&zone, -377705210399, 0, &offset) || sefunjaro_offset_at(&zone, -377705210400, 999999999, &offset) != SEFUNJARO_OUT_OF_RANGE) return 211;
-    sefunjaro_close(&source);
+    sefunjaro_source_close(&source);
     return 0;
 }
 
@@ -219,7 +237,7 @@ static int changes_of_nothing(void) {
     if (sefunjaro_next_change(&zone, 859662000, &change) || change.second != 877806000 || change.offset != 14400 || !change.differs) return 223;
     if (sefunjaro_next_change(&zone, 877806000, &change) || change.offset != 14400 || change.name_length != 3 || !change.differs) return 224;
     if (sefunjaro_next_change(&zone, change.second, &change) != SEFUNJARO_NONE) return 225;
-    sefunjaro_close(&source);
+    sefunjaro_source_close(&source);
     return 0;
 }
 
@@ -228,15 +246,15 @@ static int rings_and_texts(void) {
     struct sefunjaro_reading ring = { 77, 0 };
     struct sefunjaro_instant instant = { 77, 0, 0 };
     struct sefunjaro_years years;
-    uint8_t text[9] = "........";
+    char text[9] = "........";
     size_t whole;
     if (sefunjaro_ring(&zone, &twice, &ring) || ring.second != 1729989000 || ring.offset != 7200) return 90;
     if (sefunjaro_ring(&zone, &skipped, &ring) != SEFUNJARO_NONE || ring.second != 1729989000) return 91;
     if (sefunjaro_ring(&zone, &none, &ring) != SEFUNJARO_OUT_OF_RANGE || ring.second != 1729989000) return 92;
     const char *zoned = "1969-12-31 18:59:59.999999999 -05:00:00";
-    if (sefunjaro_read_zoned((const uint8_t *)zoned, 38, &instant) != SEFUNJARO_NOT_READ || instant.second != 77) return 93;
-    if (sefunjaro_read_zoned((const uint8_t *)"\xff", 1, &instant) != SEFUNJARO_NOT_READ) return 94;
-    if (sefunjaro_read_zoned((const uint8_t *)zoned, 39, &instant) || instant.second != -1 || instant.nanosecond != 999999999 || instant.offset != -18000) return 95;
+    if (sefunjaro_read_zoned(zoned, 38, &instant) != SEFUNJARO_NOT_READ || instant.second != 77) return 93;
+    if (sefunjaro_read_zoned("\xff", 1, &instant) != SEFUNJARO_NOT_READ) return 94;
+    if (sefunjaro_read_zoned(zoned, 39, &instant) || instant.second != -1 || instant.nanosecond != 999999999 || instant.offset != -18000) return 95;
     sefunjaro_version(text, 3, &whole, &years);
     if (whole != strlen(SEFUNJARO_VERSION) || memcmp(text, "2.0.....", 8) || years.first != 1800 || years.last != 2099) return 96;
     sefunjaro_version(text, 8, &whole, &years);
@@ -245,7 +263,7 @@ static int rings_and_texts(void) {
 }
 
 static uint32_t open_file(const uint8_t *bytes, size_t length) { return sefunjaro_file_open(bytes, length, &zone, &fault); }
-static uint32_t open_posix(const char *text) { return sefunjaro_posix_open((const uint8_t *)text, strlen(text), &zone, &fault); }
+static uint32_t open_posix(const char *text) { return sefunjaro_posix_open(text, strlen(text), &zone, &fault); }
 
 /* The file and the string have the same rules. 2400 has its changes on 26 March and 29 October, both at 01:00 UTC. */
 static int far_off(void) {
@@ -254,7 +272,7 @@ static int far_off(void) {
     struct sefunjaro_change change = { 77, 0, 0, 0, false };
     struct sefunjaro_in_force found;
     struct sefunjaro_gap gap = { 0, 0, 0 };
-    uint8_t text[40];
+    char text[40];
     int64_t saving = 77;
     size_t count = 77;
     int32_t offset, year = 9;
@@ -274,14 +292,15 @@ static int far_off(void) {
     if (sefunjaro_changes(&zone, 0, 1, &change, 1, &count) != SEFUNJARO_NOT_KEPT || change.second != 77) return 14;
     if (sefunjaro_years(&zone, &year) != SEFUNJARO_NOT_KEPT || year != 9) return 27;
     if (sefunjaro_share(&zone, &other) || sefunjaro_offset_at(&other, 13576813200, 0, &offset) || offset != 7200) return 15;
-    if (sefunjaro_name_count(&zone, &count) != SEFUNJARO_NOT_OPEN) return 16;
-    sefunjaro_close(&other);
+    if (sefunjaro_name_count(as_source(&zone), &count) != SEFUNJARO_NOT_OPEN) return 16;
+    sefunjaro_zone_close(&other);
     return 0;
 }
 
 static int files(void) {
     struct sefunjaro_in_force found;
-    uint8_t broken[sizeof small_file], name[4] = "....";
+    uint8_t broken[sizeof small_file];
+    char name[4] = "....";
     int32_t offset;
     if (open_file(small_file, sizeof small_file - 1) != SEFUNJARO_NOT_READ || !is_fault(SEFUNJARO_NOT_READ, SEFUNJARO_FILE_REFUSED, 0)) return 100;
     if (sefunjaro_offset_at(&zone, 0, 0, &offset) != SEFUNJARO_NOT_OPEN) return 101;
@@ -312,7 +331,8 @@ int main(void) {
     if (!failed) failed = files();
     if (!failed) failed = edges();
     if (!failed) failed = changes_of_nothing();
-    sefunjaro_close(&zone);
-    sefunjaro_close(&zone);
+    if (!failed) failed = statuses();
+    sefunjaro_zone_close(&zone);
+    sefunjaro_zone_close(&zone);
     return failed;
 }

@@ -5,9 +5,9 @@
 
    What a caller owes. Nothing checks it, and every contract of the library rests on it:
 
-   - A handle begins as SEFUNJARO_CLOSED, that is zeros. Only these functions read or write its fields. It is not copied: what it holds
-     is in this one struct, and two copies that are closed are a double free. It may be moved, as by memcpy, where the old place is
-     used no more.
+   - A handle, which is a struct sefunjaro_source or sefunjaro_zone, begins as SEFUNJARO_CLOSED, that is zeros. Only these functions read or
+     write its fields. It is not copied: what it holds is in this one struct, and two copies that are closed are a double free. It may be
+     moved, as by memcpy, where the old place is used no more.
    - Any number of threads may read one handle at once: a call that takes it as `const` reads it, and leaves it as it is. A call that
      opens or closes it, and whoever moves it, wants it alone: from the start of a call that reads it to its end none of these happens.
      A lock, a thread's start or its join orders them.
@@ -15,21 +15,21 @@
      the length is 0. Every other pointer is valid and aligned. No two arguments of a call overlap where one of them is written, and the
      two handles of a call are not one.
    - No function is called in a signal handler.
-   - In the forked child of a process that had threads, a handle may be used that no thread was opening, closing or moving when the
-     process forked. What takes memory or gives it back (each call that opens or closes, sefunjaro_tail, sefunjaro_tzif and theirs for ever) needs a malloc
-     that may be called there, as that of the GNU C library.
+   - In the forked child of a process that had threads, a handle may be used that no thread was opening, closing or moving when the process
+     forked. What takes memory or gives it back (each call that opens or closes, sefunjaro_tail, sefunjaro_tzif and theirs for ever) needs a
+     malloc that may be called there, as that of the GNU C library.
 
-   A handle that holds nothing, was closed, or holds a source where a zone is asked, answers SEFUNJARO_NOT_OPEN; closing it again does
-   nothing. A handle that was never set to SEFUNJARO_CLOSED has no meaning, and no function can tell.
+   A handle that holds nothing or was closed answers SEFUNJARO_NOT_OPEN, and so does one that was made to hold the other kind; closing it
+   again does nothing. A handle that was never set to SEFUNJARO_CLOSED has no meaning, and no function can tell.
 
    Every answer is a status. Where it is SEFUNJARO_DONE, what goes out through pointers is written: text and lists as far as there is room,
    and their whole length is told. Where it is another, every place that a pointer leads to stays as it was, but for a fault, which tells
    the status, the cause and the line in either case, the place that sefunjaro_offsets_at tells, and the handle that a call was to open,
-   which is closed. Text is UTF-8 and ends without a zero byte. Seconds are counted from 1970-01-01 00:00:00 UTC, offsets in seconds east of
-   UTC (at most 93,599 to either side), and the years of dates are -9999 to 9999. An instant may lie outside these years by so much as the
-   greatest offset, so that each local time of them has its instants: clocks in New York show 23:30 on the last day of 9999 at an instant of
-   the year 10000 in UTC. `local` lines of the program zone_answers are the same there; its `at` lines take instants of those years in UTC
-   alone. */
+   which is closed. Text is UTF-8 and ends without a zero byte; the bytes of files are uint8_t. Seconds are counted from 1970-01-01 00:00:00
+   UTC, offsets in seconds east of UTC (at most 93,599 to either side), and the years of dates are -9999 to 9999. An instant may lie outside
+   these years by so much as the greatest offset, so that each local time of them has its instants: clocks in New York show 23:30 on the
+   last day of 9999 at an instant of the year 10000 in UTC. `local` lines of the program zone_answers are the same there; its `at` lines
+   take instants of those years in UTC alone. */
 #ifndef SEFUNJARO_H
 #define SEFUNJARO_H
 
@@ -41,18 +41,33 @@
 extern "C" {
 #endif
 
-/* Holds a source or a zone from a call that opens it until sefunjaro_close. */
+/* Holds a source or a zone, whichever, from a call that opens it until one that closes it. */
 struct sefunjaro_handle {
     void *at;
     bool is_open;
 };
 
-#define SEFUNJARO_CLOSED { 0, false }
+/* Holds a source. */
+struct sefunjaro_source {
+    struct sefunjaro_handle handle;
+};
+
+/* Holds a zone. */
+struct sefunjaro_zone {
+    struct sefunjaro_handle handle;
+};
+
+/* As each of both begins: `struct sefunjaro_zone zone = SEFUNJARO_CLOSED;`. Where it is assigned in place of a declaration, to a zone that
+   is closed, it is sefunjaro_no_zone() or sefunjaro_no_source(). */
+#define SEFUNJARO_CLOSED { { 0, false } }
 
 /* The version of the calls that are declared here. A later one of the same first number has all of these, with the same meaning. What was
    called how in version 1 stands in docs/VERSIONS.md: sefunjaro_source_open is what was sefunjaro_source_open_any, and
    sefunjaro_source_open_plain what was sefunjaro_source_open. */
 #define SEFUNJARO_VERSION "2.0.0"
+#define SEFUNJARO_VERSION_MAJOR 2
+#define SEFUNJARO_VERSION_MINOR 0
+#define SEFUNJARO_VERSION_PATCH 0
 
 enum sefunjaro_status {
     SEFUNJARO_DONE = 0,
@@ -227,69 +242,69 @@ struct sefunjaro_instant {
 
 /* What reads a handle, over a copy of its two fields that serves one call at a time, and is then forgotten: it is never opened or closed.
    In C and C++ the functions below make the copy on the stack; other languages make it themselves. */
-uint32_t sefunjaro_name_count_by(struct sefunjaro_handle *copy, size_t *count);
-uint32_t sefunjaro_name_by(struct sefunjaro_handle *copy, size_t place, uint8_t *name, size_t room, size_t *whole);
-uint32_t sefunjaro_source_version_by(struct sefunjaro_handle *copy, uint8_t *version, size_t room, size_t *whole);
-uint32_t sefunjaro_zone_open_by(struct sefunjaro_handle *copy, const uint8_t *name, size_t length, struct sefunjaro_handle *zone,
+uint32_t sefunjaro_name_count_by(struct sefunjaro_source *copy, size_t *count);
+uint32_t sefunjaro_name_by(struct sefunjaro_source *copy, size_t place, char *name, size_t room, size_t *whole);
+uint32_t sefunjaro_source_version_by(struct sefunjaro_source *copy, char *version, size_t room, size_t *whole);
+uint32_t sefunjaro_zone_open_by(struct sefunjaro_source *copy, const char *name, size_t length, struct sefunjaro_zone *zone,
                                 struct sefunjaro_fault *fault);
-uint32_t sefunjaro_share_by(struct sefunjaro_handle *copy, struct sefunjaro_handle *other);
-uint32_t sefunjaro_offset_at_by(struct sefunjaro_handle *copy, int64_t second, uint32_t nanosecond, int32_t *offset);
-uint32_t sefunjaro_offsets_at_by(struct sefunjaro_handle *copy, const int64_t *seconds, size_t count, int32_t *offsets, size_t room,
+uint32_t sefunjaro_share_by(struct sefunjaro_zone *copy, struct sefunjaro_zone *other);
+uint32_t sefunjaro_offset_at_by(struct sefunjaro_zone *copy, int64_t second, uint32_t nanosecond, int32_t *offset);
+uint32_t sefunjaro_offsets_at_by(struct sefunjaro_zone *copy, const int64_t *seconds, size_t count, int32_t *offsets, size_t room,
                                  size_t *place);
-uint32_t sefunjaro_in_force_by(struct sefunjaro_handle *copy, int64_t second, uint32_t nanosecond, struct sefunjaro_in_force *found,
-                               uint8_t *name, size_t room);
-uint32_t sefunjaro_clock_at_by(struct sefunjaro_handle *copy, int64_t second, uint32_t nanosecond, struct sefunjaro_clock *clock,
+uint32_t sefunjaro_in_force_by(struct sefunjaro_zone *copy, int64_t second, uint32_t nanosecond, struct sefunjaro_in_force *found,
+                               char *name, size_t room);
+uint32_t sefunjaro_clock_at_by(struct sefunjaro_zone *copy, int64_t second, uint32_t nanosecond, struct sefunjaro_clock *clock,
                                int32_t *offset);
-uint32_t sefunjaro_text_at_by(struct sefunjaro_handle *copy, int64_t second, uint32_t nanosecond, uint8_t *text, size_t room,
+uint32_t sefunjaro_text_at_by(struct sefunjaro_zone *copy, int64_t second, uint32_t nanosecond, char *text, size_t room,
                               size_t *whole);
-uint32_t sefunjaro_readings_by(struct sefunjaro_handle *copy, const struct sefunjaro_clock *local, struct sefunjaro_reading *readings,
+uint32_t sefunjaro_readings_by(struct sefunjaro_zone *copy, const struct sefunjaro_clock *local, struct sefunjaro_reading *readings,
                                size_t room, size_t *count, struct sefunjaro_gap *gap);
-uint32_t sefunjaro_saving_at_by(struct sefunjaro_handle *copy, int64_t second, uint32_t nanosecond, int64_t *saving);
-uint32_t sefunjaro_next_change_by(struct sefunjaro_handle *copy, int64_t second, struct sefunjaro_change *change);
-uint32_t sefunjaro_changes_by(struct sefunjaro_handle *copy, int64_t from, int64_t to, struct sefunjaro_change *changes, size_t room,
+uint32_t sefunjaro_saving_at_by(struct sefunjaro_zone *copy, int64_t second, uint32_t nanosecond, int64_t *saving);
+uint32_t sefunjaro_next_change_by(struct sefunjaro_zone *copy, int64_t second, struct sefunjaro_change *change);
+uint32_t sefunjaro_changes_by(struct sefunjaro_zone *copy, int64_t from, int64_t to, struct sefunjaro_change *changes, size_t room,
                               size_t *count);
-uint32_t sefunjaro_ring_by(struct sefunjaro_handle *copy, const struct sefunjaro_clock *local, struct sefunjaro_reading *ring);
-uint32_t sefunjaro_years_by(struct sefunjaro_handle *copy, int32_t *year);
-uint32_t sefunjaro_tail_by(struct sefunjaro_handle *copy, uint8_t *text, size_t room, size_t *whole, bool *is_posix,
+uint32_t sefunjaro_ring_by(struct sefunjaro_zone *copy, const struct sefunjaro_clock *local, struct sefunjaro_reading *ring);
+uint32_t sefunjaro_years_by(struct sefunjaro_zone *copy, int32_t *year);
+uint32_t sefunjaro_tail_by(struct sefunjaro_zone *copy, char *text, size_t room, size_t *whole, bool *is_posix,
                            struct sefunjaro_fault *fault);
-uint32_t sefunjaro_tzif_by(struct sefunjaro_handle *copy, uint8_t *file, size_t room, size_t *whole, struct sefunjaro_fault *fault);
-uint32_t sefunjaro_tail_for_ever_by(struct sefunjaro_handle *copy, uint8_t *text, size_t room, size_t *whole, bool *is_posix,
+uint32_t sefunjaro_tzif_by(struct sefunjaro_zone *copy, uint8_t *file, size_t room, size_t *whole, struct sefunjaro_fault *fault);
+uint32_t sefunjaro_tail_for_ever_by(struct sefunjaro_zone *copy, char *text, size_t room, size_t *whole, bool *is_posix,
                                     struct sefunjaro_fault *fault);
-uint32_t sefunjaro_tzif_for_ever_by(struct sefunjaro_handle *copy, uint8_t *file, size_t room, size_t *whole,
+uint32_t sefunjaro_tzif_for_ever_by(struct sefunjaro_zone *copy, uint8_t *file, size_t room, size_t *whole,
                                     struct sefunjaro_fault *fault);
 
 /* The version of the calls that the library has, as SEFUNJARO_VERSION, and its whole length; and the years of the rules. */
-void sefunjaro_version(uint8_t *text, size_t room, size_t *whole, struct sefunjaro_years *years);
+void sefunjaro_version(char *text, size_t room, size_t *whole, struct sefunjaro_years *years);
 
 /* Opens a source from its text in any form that zic reads: words cut short, times and days in each form of zic's manual, quotes, links to
    links, %z. What is opened is its plain form, as the program zone_plain writes it. What the handle held before is closed first. The text
    is used no more after the call.
    TOO_LONG; NO_PLAIN_FORM, with the first line that is refused and why; NOT_TEXT, BAD_LINE or BAD_JOIN, of the plain form, in which the
    line is counted, and not in the text; NO_MEMORY. */
-uint32_t sefunjaro_source_open(const uint8_t *text, size_t length, struct sefunjaro_handle *source, struct sefunjaro_fault *fault);
+uint32_t sefunjaro_source_open(const char *text, size_t length, struct sefunjaro_source *source, struct sefunjaro_fault *fault);
 
 /* Opens a source from its text in plain form, and in no other: what zone_plain wrote, which it reads in less time. A line of another form
    is refused, or has the meaning that the plain form gives it: `%z` is then an abbreviation like any other. What the handle held before
    is closed first. The text is used no more after the call.
    TOO_LONG, NOT_TEXT, BAD_LINE, BAD_JOIN (of the first line that is refused), NO_MEMORY. */
-uint32_t sefunjaro_source_open_plain(const uint8_t *text, size_t length, struct sefunjaro_handle *source, struct sefunjaro_fault *fault);
+uint32_t sefunjaro_source_open_plain(const char *text, size_t length, struct sefunjaro_source *source, struct sefunjaro_fault *fault);
 
 /* How many names of a source find a zone: those of its zones, and of the links to them. NOT_OPEN. */
-static inline uint32_t sefunjaro_name_count(const struct sefunjaro_handle *source, size_t *count) {
-    struct sefunjaro_handle copy = *source;
+static inline uint32_t sefunjaro_name_count(const struct sefunjaro_source *source, size_t *count) {
+    struct sefunjaro_source copy = *source;
     return sefunjaro_name_count_by(&copy, count);
 }
 
 /* The name at a place of the byte order, which counts from 0, and its whole length. NOT_OPEN, NONE. */
-static inline uint32_t sefunjaro_name(const struct sefunjaro_handle *source, size_t place, uint8_t *name, size_t room, size_t *whole) {
-    struct sefunjaro_handle copy = *source;
+static inline uint32_t sefunjaro_name(const struct sefunjaro_source *source, size_t place, char *name, size_t room, size_t *whole) {
+    struct sefunjaro_source copy = *source;
     return sefunjaro_name_by(&copy, place, name, room, whole);
 }
 
 /* The release that a source names by its first line, as 2026b in `# version 2026b`, and its whole length: all that stands behind
    `# version `, where that is something, UTF-8 and without control characters. NOT_OPEN, NONE. */
-static inline uint32_t sefunjaro_source_version(const struct sefunjaro_handle *source, uint8_t *version, size_t room, size_t *whole) {
-    struct sefunjaro_handle copy = *source;
+static inline uint32_t sefunjaro_source_version(const struct sefunjaro_source *source, char *version, size_t room, size_t *whole) {
+    struct sefunjaro_source copy = *source;
     return sefunjaro_source_version_by(&copy, version, room, whole);
 }
 
@@ -299,9 +314,9 @@ static inline uint32_t sefunjaro_source_version(const struct sefunjaro_handle *s
    sefunjaro_years tells.
    It takes one to two milliseconds and some 17 KB where rules go on; all 597 names of a tz database a quarter of a second and 5 MB.
    NOT_OPEN (of the source), NOT_TEXT (the name), UNKNOWN_ZONE, NO_SCHEDULE, OFFSET_RANGE, NO_MEMORY. */
-static inline uint32_t sefunjaro_zone_open(const struct sefunjaro_handle *source, const uint8_t *name, size_t length,
-                                           struct sefunjaro_handle *zone, struct sefunjaro_fault *fault) {
-    struct sefunjaro_handle copy = *source;
+static inline uint32_t sefunjaro_zone_open(const struct sefunjaro_source *source, const char *name, size_t length,
+                                           struct sefunjaro_zone *zone, struct sefunjaro_fault *fault) {
+    struct sefunjaro_source copy = *source;
     return sefunjaro_zone_open_by(&copy, name, length, zone, fault);
 }
 
@@ -309,28 +324,72 @@ static inline uint32_t sefunjaro_zone_open(const struct sefunjaro_handle *source
    /usr/share/zoneinfo, with what its footer says from its last change on. What the handle held before is closed first. The bytes are
    used no more after the call. Daylight saving time is what the file marks as such.
    NOT_READ (with its cause), NO_MEMORY. */
-uint32_t sefunjaro_file_open(const uint8_t *bytes, size_t length, struct sefunjaro_handle *zone, struct sefunjaro_fault *fault);
+uint32_t sefunjaro_file_open(const uint8_t *bytes, size_t length, struct sefunjaro_zone *zone, struct sefunjaro_fault *fault);
 
 /* Opens the zone that a POSIX string stands for at all times, as `CET-1CEST,M3.5.0,M10.5.0/3`: standard time alone, or with daylight
    saving time and its rule, whose times may have a sign and up to 167 hours. What the handle held before is closed first.
    NOT_TEXT, NOT_READ, NO_MEMORY. */
-uint32_t sefunjaro_posix_open(const uint8_t *text, size_t length, struct sefunjaro_handle *zone, struct sefunjaro_fault *fault);
+uint32_t sefunjaro_posix_open(const char *text, size_t length, struct sefunjaro_zone *zone, struct sefunjaro_fault *fault);
 
 /* Opens another handle on the same zone, for another thread. What the other handle held before is closed first. The zone itself is
    there once, until its last handle is closed. NOT_OPEN, NO_MEMORY. */
-static inline uint32_t sefunjaro_share(const struct sefunjaro_handle *zone, struct sefunjaro_handle *other) {
-    struct sefunjaro_handle copy = *zone;
+static inline uint32_t sefunjaro_share(const struct sefunjaro_zone *zone, struct sefunjaro_zone *other) {
+    struct sefunjaro_zone copy = *zone;
     return sefunjaro_share_by(&copy, other);
 }
 
 /* Closes a handle, whatever it holds. */
 void sefunjaro_close(struct sefunjaro_handle *handle);
 
+/* Closes a source; its zones stay open. */
+static inline void sefunjaro_source_close(struct sefunjaro_source *source) {
+    sefunjaro_close(&source->handle);
+}
+
+/* Closes a zone. */
+static inline void sefunjaro_zone_close(struct sefunjaro_zone *zone) {
+    sefunjaro_close(&zone->handle);
+}
+
+/* A source that is closed. */
+static inline struct sefunjaro_source sefunjaro_no_source(void) {
+    struct sefunjaro_source closed = SEFUNJARO_CLOSED;
+    return closed;
+}
+
+/* A zone that is closed. */
+static inline struct sefunjaro_zone sefunjaro_no_zone(void) {
+    struct sefunjaro_zone closed = SEFUNJARO_CLOSED;
+    return closed;
+}
+
+/* What a status says, in words; "" for a number that is none. */
+static inline const char *sefunjaro_status_text(uint32_t status) {
+    switch (status) {
+        case SEFUNJARO_DONE: return "done";
+        case SEFUNJARO_NOT_OPEN: return "it isn't open";
+        case SEFUNJARO_NO_MEMORY: return "memory ran out";
+        case SEFUNJARO_TOO_LONG: return "the source has more than 16,777,216 bytes";
+        case SEFUNJARO_NOT_TEXT: return "the text is not UTF-8";
+        case SEFUNJARO_BAD_LINE: return "a line of the source can't be read";
+        case SEFUNJARO_BAD_JOIN: return "a line of the source may not follow those before it";
+        case SEFUNJARO_UNKNOWN_ZONE: return "no zone has this name";
+        case SEFUNJARO_NO_SCHEDULE: return "the zone has no schedule";
+        case SEFUNJARO_OFFSET_RANGE: return "an offset of the zone is 26 hours or more";
+        case SEFUNJARO_OUT_OF_RANGE: return "out of range";
+        case SEFUNJARO_NONE: return "there is none";
+        case SEFUNJARO_NOT_READ: return "this text is none of those that are read";
+        case SEFUNJARO_NOT_KEPT: return "a zone of a file or of a POSIX string isn't asked this";
+        case SEFUNJARO_NO_PLAIN_FORM: return "the source has no plain form";
+        default: return "";
+    }
+}
+
 /* The offset in force at an instant, of which the nanosecond is from 0 to 999,999,999. It takes no memory, nor does one below
    that doesn't say so: in the proved code behind it none of these is passed an allocator, and none answers NO_MEMORY.
    NOT_OPEN, OUT_OF_RANGE. */
-static inline uint32_t sefunjaro_offset_at(const struct sefunjaro_handle *zone, int64_t second, uint32_t nanosecond, int32_t *offset) {
-    struct sefunjaro_handle copy = *zone;
+static inline uint32_t sefunjaro_offset_at(const struct sefunjaro_zone *zone, int64_t second, uint32_t nanosecond, int32_t *offset) {
+    struct sefunjaro_zone copy = *zone;
     return sefunjaro_offset_at_by(&copy, second, nanosecond, offset);
 }
 
@@ -338,78 +397,78 @@ static inline uint32_t sefunjaro_offset_at(const struct sefunjaro_handle *zone, 
    sefunjaro_offset_at tells it at the nanosecond 0. In a zone of a source a second costs least where no change lies between it and the one
    before it in the list, so seconds that rise cost less than others. Where a second lies outside those years `place` is set to the place of
    the first such one, from 0, and the offsets stay as they were; else `place` stays. NOT_OPEN, OUT_OF_RANGE. */
-static inline uint32_t sefunjaro_offsets_at(const struct sefunjaro_handle *zone, const int64_t *seconds, size_t count, int32_t *offsets,
+static inline uint32_t sefunjaro_offsets_at(const struct sefunjaro_zone *zone, const int64_t *seconds, size_t count, int32_t *offsets,
                                             size_t room, size_t *place) {
-    struct sefunjaro_handle copy = *zone;
+    struct sefunjaro_zone copy = *zone;
     return sefunjaro_offsets_at_by(&copy, seconds, count, offsets, room, place);
 }
 
 /* The offset, whether it is daylight saving time, and the abbreviation at an instant. NOT_OPEN, OUT_OF_RANGE. */
-static inline uint32_t sefunjaro_in_force(const struct sefunjaro_handle *zone, int64_t second, uint32_t nanosecond,
-                                          struct sefunjaro_in_force *found, uint8_t *name, size_t room) {
-    struct sefunjaro_handle copy = *zone;
+static inline uint32_t sefunjaro_in_force(const struct sefunjaro_zone *zone, int64_t second, uint32_t nanosecond,
+                                          struct sefunjaro_in_force *found, char *name, size_t room) {
+    struct sefunjaro_zone copy = *zone;
     return sefunjaro_in_force_by(&copy, second, nanosecond, found, name, room);
 }
 
 /* The local date and time of an instant, and the offset in force. NOT_OPEN, OUT_OF_RANGE. */
-static inline uint32_t sefunjaro_clock_at(const struct sefunjaro_handle *zone, int64_t second, uint32_t nanosecond,
+static inline uint32_t sefunjaro_clock_at(const struct sefunjaro_zone *zone, int64_t second, uint32_t nanosecond,
                                           struct sefunjaro_clock *clock, int32_t *offset) {
-    struct sefunjaro_handle copy = *zone;
+    struct sefunjaro_zone copy = *zone;
     return sefunjaro_clock_at_by(&copy, second, nanosecond, clock, offset);
 }
 
 /* The text of an instant, `YYYY-MM-DD hh:mm:ss.nnnnnnnnn +hh:mm:ss` with a `-` before a year below 0, and its whole length: 39 bytes
    or 40. NOT_OPEN, OUT_OF_RANGE. */
-static inline uint32_t sefunjaro_text_at(const struct sefunjaro_handle *zone, int64_t second, uint32_t nanosecond, uint8_t *text,
+static inline uint32_t sefunjaro_text_at(const struct sefunjaro_zone *zone, int64_t second, uint32_t nanosecond, char *text,
                                          size_t room, size_t *whole) {
-    struct sefunjaro_handle copy = *zone;
+    struct sefunjaro_zone copy = *zone;
     return sefunjaro_text_at_by(&copy, second, nanosecond, text, room, whole);
 }
 
 /* All instants at which clocks show a local time, by time, and how many there are: most often one, two where clocks are set back over
    it, more in zones without order. Where there are none, `gap` is the change that skips the local time; else it stays as it is.
    NOT_OPEN, OUT_OF_RANGE (also where the parts are no date or no time). */
-static inline uint32_t sefunjaro_readings(const struct sefunjaro_handle *zone, const struct sefunjaro_clock *local,
+static inline uint32_t sefunjaro_readings(const struct sefunjaro_zone *zone, const struct sefunjaro_clock *local,
                                           struct sefunjaro_reading *readings, size_t room, size_t *count, struct sefunjaro_gap *gap) {
-    struct sefunjaro_handle copy = *zone;
+    struct sefunjaro_zone copy = *zone;
     return sefunjaro_readings_by(&copy, local, readings, room, count, gap);
 }
 
 /* How many seconds of the offset at an instant are the saving: above 0 in daylight saving time, and below 0 where winter time is the
    one with a saving. NOT_OPEN, NOT_KEPT, OUT_OF_RANGE. */
-static inline uint32_t sefunjaro_saving_at(const struct sefunjaro_handle *zone, int64_t second, uint32_t nanosecond, int64_t *saving) {
-    struct sefunjaro_handle copy = *zone;
+static inline uint32_t sefunjaro_saving_at(const struct sefunjaro_zone *zone, int64_t second, uint32_t nanosecond, int64_t *saving) {
+    struct sefunjaro_zone copy = *zone;
     return sefunjaro_saving_at_by(&copy, second, nanosecond, saving);
 }
 
 /* The last year up to whose end a zone of a source says what is in force: 9999 where it goes on for ever, and 2099 where the lines of its
    name don't, since a line or a rule ends or begins later, a day of theirs lies in another year, or they come to an offset of 26 hours or
    more. (Zones of POSIX strings go on for ever, and so do those of files that have a footer.) NOT_OPEN, NOT_KEPT. */
-static inline uint32_t sefunjaro_years(const struct sefunjaro_handle *zone, int32_t *year) {
-    struct sefunjaro_handle copy = *zone;
+static inline uint32_t sefunjaro_years(const struct sefunjaro_zone *zone, int32_t *year) {
+    struct sefunjaro_zone copy = *zone;
     return sefunjaro_years_by(&copy, year);
 }
 
 /* The first change after a second, also where it changes nothing: `differs` tells. Those of a zone that goes on for ever are told up to the
    end of 10501, and none after it. NOT_OPEN, NOT_KEPT, NONE. */
-static inline uint32_t sefunjaro_next_change(const struct sefunjaro_handle *zone, int64_t second, struct sefunjaro_change *change) {
-    struct sefunjaro_handle copy = *zone;
+static inline uint32_t sefunjaro_next_change(const struct sefunjaro_zone *zone, int64_t second, struct sefunjaro_change *change) {
+    struct sefunjaro_zone copy = *zone;
     return sefunjaro_next_change_by(&copy, second, change);
 }
 
 /* The changes from the second `from` on and before `to`, by time, and how many there are: none where `from` is not below `to`. Those that
    change nothing are among them. Those of a zone that goes on for ever are told up to the end of 10501. NOT_OPEN, NOT_KEPT. */
-static inline uint32_t sefunjaro_changes(const struct sefunjaro_handle *zone, int64_t from, int64_t to, struct sefunjaro_change *changes,
+static inline uint32_t sefunjaro_changes(const struct sefunjaro_zone *zone, int64_t from, int64_t to, struct sefunjaro_change *changes,
                                          size_t room, size_t *count) {
-    struct sefunjaro_handle copy = *zone;
+    struct sefunjaro_zone copy = *zone;
     return sefunjaro_changes_by(&copy, from, to, changes, room, count);
 }
 
 /* When a daily alarm rings on the day and at the time of day of a local time: at the first instant at which clocks show it, at its
    nanosecond. NONE where clocks skip it. NOT_OPEN, OUT_OF_RANGE (also where the parts are no date or no time). */
-static inline uint32_t sefunjaro_ring(const struct sefunjaro_handle *zone, const struct sefunjaro_clock *local,
+static inline uint32_t sefunjaro_ring(const struct sefunjaro_zone *zone, const struct sefunjaro_clock *local,
                                       struct sefunjaro_reading *ring) {
-    struct sefunjaro_handle copy = *zone;
+    struct sefunjaro_zone copy = *zone;
     return sefunjaro_ring_by(&copy, local, ring);
 }
 
@@ -418,9 +477,9 @@ static inline uint32_t sefunjaro_ring(const struct sefunjaro_handle *zone, const
    bytes or more, ASCII letters, digits, `+` and `-`. Other strings, as `<CD>-2` or `<A_B>-5`, are read as UTC by the GNU C library. It
    takes memory.
    NOT_OPEN; NOT_KEPT; NONE, with why there is no string: enum sefunjaro_tail_cause; NO_MEMORY. */
-static inline uint32_t sefunjaro_tail(const struct sefunjaro_handle *zone, uint8_t *text, size_t room, size_t *whole, bool *is_posix,
+static inline uint32_t sefunjaro_tail(const struct sefunjaro_zone *zone, char *text, size_t room, size_t *whole, bool *is_posix,
                                       struct sefunjaro_fault *fault) {
-    struct sefunjaro_handle copy = *zone;
+    struct sefunjaro_zone copy = *zone;
     return sefunjaro_tail_by(&copy, text, room, whole, is_posix, fault);
 }
 
@@ -429,9 +488,9 @@ static inline uint32_t sefunjaro_tail(const struct sefunjaro_handle *zone, uint8
    where its daylight saving time ends in the first week of January, so that as a footer the string may end it before 2099 is over. It takes
    memory: each call writes the file whole, and then as much of it into the room as fits.
    NOT_OPEN; NOT_KEPT; NONE, with why there is no file: enum sefunjaro_tzif_cause; NO_MEMORY. */
-static inline uint32_t sefunjaro_tzif(const struct sefunjaro_handle *zone, uint8_t *file, size_t room, size_t *whole,
+static inline uint32_t sefunjaro_tzif(const struct sefunjaro_zone *zone, uint8_t *file, size_t room, size_t *whole,
                                       struct sefunjaro_fault *fault) {
-    struct sefunjaro_handle copy = *zone;
+    struct sefunjaro_zone copy = *zone;
     return sefunjaro_tzif_by(&copy, file, room, whole, fault);
 }
 
@@ -439,9 +498,9 @@ static inline uint32_t sefunjaro_tzif(const struct sefunjaro_handle *zone, uint8
    hours, and a saving below 0 as zic writes it. `is_posix` is whether it is a string of sefunjaro_tail's grammar with such names. It takes
    memory.
    NOT_OPEN; NOT_KEPT; NONE, with why there is no string: enum sefunjaro_ever_cause; NO_MEMORY. */
-static inline uint32_t sefunjaro_tail_for_ever(const struct sefunjaro_handle *zone, uint8_t *text, size_t room, size_t *whole,
+static inline uint32_t sefunjaro_tail_for_ever(const struct sefunjaro_zone *zone, char *text, size_t room, size_t *whole,
                                                bool *is_posix, struct sefunjaro_fault *fault) {
-    struct sefunjaro_handle copy = *zone;
+    struct sefunjaro_zone copy = *zone;
     return sefunjaro_tail_for_ever_by(&copy, text, room, whole, is_posix, fault);
 }
 
@@ -449,19 +508,19 @@ static inline uint32_t sefunjaro_tail_for_ever(const struct sefunjaro_handle *zo
    whoever reads the file has the zone's offset in each year up to 9999. It is of version 3 where the string needs it, and daylight saving
    time is what has a saving other than 0. It takes memory.
    NOT_OPEN; NOT_KEPT; NONE, with why there is no file: enum sefunjaro_ever_cause; NO_MEMORY. */
-static inline uint32_t sefunjaro_tzif_for_ever(const struct sefunjaro_handle *zone, uint8_t *file, size_t room, size_t *whole,
+static inline uint32_t sefunjaro_tzif_for_ever(const struct sefunjaro_zone *zone, uint8_t *file, size_t room, size_t *whole,
                                                struct sefunjaro_fault *fault) {
-    struct sefunjaro_handle copy = *zone;
+    struct sefunjaro_zone copy = *zone;
     return sefunjaro_tzif_for_ever_by(&copy, file, room, whole, fault);
 }
 
 /* The local time that a text `YYYY-MM-DD hh:mm:ss.nnnnnnnnn` names. Each local time has one such text, and nothing stands before or
    after it. NOT_READ. */
-uint32_t sefunjaro_read_local(const uint8_t *text, size_t length, struct sefunjaro_clock *clock);
+uint32_t sefunjaro_read_local(const char *text, size_t length, struct sefunjaro_clock *clock);
 
 /* The instant and the offset that a text `YYYY-MM-DD hh:mm:ss.nnnnnnnnn +hh:mm:ss` names, as sefunjaro_text_at writes it. Each pair of
    an instant and an offset has one such text, and nothing stands before or after it. NOT_READ. */
-uint32_t sefunjaro_read_zoned(const uint8_t *text, size_t length, struct sefunjaro_instant *instant);
+uint32_t sefunjaro_read_zoned(const char *text, size_t length, struct sefunjaro_instant *instant);
 
 #ifdef __cplusplus
 }

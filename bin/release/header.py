@@ -8,8 +8,10 @@ from checkout import read
 WIDTH = 72
 HEAD = re.compile(r"/\*(.*?)\*/\n#ifndef", re.S)
 # A comment, and what it stands before: a struct, an enum or a call, up to its end.
-ITEM = re.compile(r"^/\* (.*?) \*/\n((?:struct|enum|static inline|uint32_t|void)\b.*?(?:^\}.*?;|\);|^\}$))", re.S | re.M)
-ANSWERED = ("Each call but `sefunjaro_version` and `sefunjaro_close` answers a status of `enum sefunjaro_status`, of which 0, "
+ITEM = re.compile(
+    r"^/\* ((?:(?!\*/).)*) \*/\n((?:struct|enum)\b.*?^\};|static inline\b.*?^\}$|(?:uint32_t|void)\b.*?\);)", re.S | re.M
+)
+ANSWERED = ("Each call of the library but `sefunjaro_version` and `sefunjaro_close` answers a status of `enum sefunjaro_status`, of which 0, "
             "`SEFUNJARO_DONE`, says that all was written.")
 SHOWN = "A source is opened, a zone of it, which is asked both ways, and both are closed:"
 INSIDE = re.compile(r"^#ifdef __cplusplus\n.*?^#endif\n", re.S | re.M)

@@ -11,7 +11,7 @@
 enum { FIRST = 1 << 18, MOST = 1 << 24 };
 
 /* The source is opened below the lock, and never closed or moved, so it is read without one. */
-static struct sefunjaro_handle machine = SEFUNJARO_CLOSED;
+static struct sefunjaro_source machine = SEFUNJARO_CLOSED;
 static bool is_read;
 static pthread_mutex_t lock = PTHREAD_MUTEX_INITIALIZER;
 static pthread_once_t watched = PTHREAD_ONCE_INIT;
@@ -36,11 +36,11 @@ const char *sefunjaro_named_path(void) {
 }
 
 static uint32_t read_text(FILE *file, struct sefunjaro_fault *fault) {
-    uint8_t *text = NULL;
+    char *text = NULL;
     size_t length = 0, room = FIRST / 2;
     do {
         room *= 2;
-        uint8_t *more = realloc(text, room);
+        char *more = realloc(text, room);
         if (!more) {
             free(text);
             return refused(SEFUNJARO_NO_MEMORY, 0, fault);
@@ -63,7 +63,7 @@ static uint32_t read_file(struct sefunjaro_fault *fault) {
     return status;
 }
 
-uint32_t sefunjaro_named_source(const struct sefunjaro_handle **source, struct sefunjaro_fault *fault) {
+uint32_t sefunjaro_named_source(const struct sefunjaro_source **source, struct sefunjaro_fault *fault) {
     pthread_once(&watched, watch);
     if (unwatched) return refused(SEFUNJARO_NO_MEMORY, 0, fault);
     take();
@@ -74,9 +74,9 @@ uint32_t sefunjaro_named_source(const struct sefunjaro_handle **source, struct s
     return status;
 }
 
-uint32_t sefunjaro_named_open(const uint8_t *name, size_t length, struct sefunjaro_handle *zone, struct sefunjaro_fault *fault) {
-    const struct sefunjaro_handle *source = NULL;
-    sefunjaro_close(zone);
+uint32_t sefunjaro_named_open(const char *name, size_t length, struct sefunjaro_zone *zone, struct sefunjaro_fault *fault) {
+    const struct sefunjaro_source *source = NULL;
+    sefunjaro_zone_close(zone);
     if (memchr(name, 0, length)) return refused(SEFUNJARO_NAMED_ZERO_BYTE, 0, fault);
     uint32_t status = sefunjaro_named_source(&source, fault);
     return status ? status : sefunjaro_zone_open(source, name, length, zone, fault);

@@ -30,11 +30,11 @@ const char *sefunjaro_named_path(void);
    threads ask at once, and nobody closes it; one that can't be read is looked for again by the next call. The pointer stays as it was
    where there is none.
    SEFUNJARO_NAMED_NO_FILE, NO_MEMORY, and what sefunjaro_source_open answers. */
-uint32_t sefunjaro_named_source(const struct sefunjaro_handle **source, struct sefunjaro_fault *fault);
+uint32_t sefunjaro_named_source(const struct sefunjaro_source **source, struct sefunjaro_fault *fault);
 
 /* Opens the zone of a name of that source. What the zone's handle held before is closed first.
    SEFUNJARO_NAMED_ZERO_BYTE, what sefunjaro_named_source answers, and what sefunjaro_zone_open does. */
-uint32_t sefunjaro_named_open(const uint8_t *name, size_t length, struct sefunjaro_handle *zone, struct sefunjaro_fault *fault);
+uint32_t sefunjaro_named_open(const char *name, size_t length, struct sefunjaro_zone *zone, struct sefunjaro_fault *fault);
 
 #ifdef __cplusplus
 }

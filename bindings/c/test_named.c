@@ -19,11 +19,11 @@ enum { CHILDREN = 20 };
 #endif
 enum { THREADS = 8, SUMMER = 1720000000, TOO_MANY = (1 << 24) + 1 };
 
-static struct sefunjaro_handle zone = SEFUNJARO_CLOSED;
+static struct sefunjaro_zone zone = SEFUNJARO_CLOSED;
 static struct sefunjaro_fault fault;
 static pthread_barrier_t barrier;
 
-static uint32_t open_length(const char *name, size_t length) { return sefunjaro_named_open((const uint8_t *)name, length, &zone, &fault); }
+static uint32_t open_length(const char *name, size_t length) { return sefunjaro_named_open(name, length, &zone, &fault); }
 static uint32_t open_name(const char *name) { return open_length(name, strlen(name)); }
 static bool is_closed(void) { int32_t offset; return sefunjaro_offset_at(&zone, 0, 0, &offset) == SEFUNJARO_NOT_OPEN; }
 static bool is_fault(uint32_t status, uint32_t cause, size_t line) {
@@ -40,14 +40,14 @@ static void use(const char *folder, const char *text, size_t length) {
 
 static int without_source(const char *folder) {
     static char many[TOO_MANY];
-    const struct sefunjaro_handle *source = &zone;
+    const struct sefunjaro_source nothing = SEFUNJARO_CLOSED, *source = &nothing;
     unsetenv("SEFUNJARO_TZDATA");
     if (strcmp(sefunjaro_named_path(), SEFUNJARO_NAMED_FILE)) return 1;
     setenv("SEFUNJARO_TZDATA", "", 1);
     if (strcmp(sefunjaro_named_path(), SEFUNJARO_NAMED_FILE)) return 2;
     setenv("SEFUNJARO_TZDATA", "/nowhere/tzdata.zi", 1);
     if (strcmp(sefunjaro_named_path(), "/nowhere/tzdata.zi")) return 3;
-    if (sefunjaro_posix_open((const uint8_t *)"UTC0", 4, &zone, &fault) || is_closed()) return 4;
+    if (sefunjaro_posix_open("UTC0", 4, &zone, &fault) || is_closed()) return 4;
     if (open_name("Europe/Paris") != SEFUNJARO_NAMED_NO_FILE || !is_fault(SEFUNJARO_NAMED_NO_FILE, ENOENT, 0) || !is_closed()) return 5;
     setenv("SEFUNJARO_TZDATA", folder, 1);
     if (open_name("Europe/Paris") != SEFUNJARO_NAMED_NO_FILE || !is_fault(SEFUNJARO_NAMED_NO_FILE, EISDIR, 0)) return 6;
@@ -55,7 +55,7 @@ static int without_source(const char *folder) {
     if (open_name("Europe/Paris") != SEFUNJARO_NO_PLAIN_FORM || !is_fault(SEFUNJARO_NO_PLAIN_FORM, SEFUNJARO_PLAIN_LINE_TYPE, 2)) return 7;
     memset(many, '#', sizeof many);
     use(folder, many, sizeof many);
-    if (sefunjaro_named_source(&source, &fault) != SEFUNJARO_TOO_LONG || !is_fault(SEFUNJARO_TOO_LONG, 0, 0) || source != &zone) return 8;
+    if (sefunjaro_named_source(&source, &fault) != SEFUNJARO_TOO_LONG || !is_fault(SEFUNJARO_TOO_LONG, 0, 0) || source != &nothing) return 8;
     /* The name is refused before the source is asked for. */
     if (open_length("Europe\0Paris", 12) != SEFUNJARO_NAMED_ZERO_BYTE || !is_fault(SEFUNJARO_NAMED_ZERO_BYTE, 0, 0)) return 9;
     return 0;
@@ -63,11 +63,11 @@ static int without_source(const char *folder) {
 
 /* The offset of Paris in summer by a handle of one's own, or 0. */
 static int32_t paris(void) {
-    struct sefunjaro_handle own = SEFUNJARO_CLOSED;
+    struct sefunjaro_zone own = SEFUNJARO_CLOSED;
     struct sefunjaro_fault why;
     int32_t offset = 0;
-    if (!sefunjaro_named_open((const uint8_t *)"Europe/Paris", 12, &own, &why)) sefunjaro_offset_at(&own, SUMMER, 0, &offset);
-    sefunjaro_close(&own);
+    if (!sefunjaro_named_open("Europe/Paris", 12, &own, &why)) sefunjaro_offset_at(&own, SUMMER, 0, &offset);
+    sefunjaro_zone_close(&own);
     return offset;
 }
 
@@ -79,7 +79,7 @@ static void *first_at_once(void *source) {
 
 /* What threads ask first at once is read once; children of fork ask it too, and wait for no thread of their parent. */
 static int at_once(void) {
-    const struct sefunjaro_handle *sources[THREADS];
+    const struct sefunjaro_source *sources[THREADS];
     pthread_t threads[THREADS];
     pid_t children[CHILDREN + 1];
     pthread_barrier_init(&barrier, NULL, THREADS + 1);
@@ -107,7 +107,7 @@ static int at_once(void) {
 }
 
 static int with_source(void) {
-    const struct sefunjaro_handle *source = NULL;
+    const struct sefunjaro_source *source = NULL;
     size_t count = 0;
     int32_t offset = 0;
     if (open_name("Europe/Paris") || !is_fault(0, 0, 0) || sefunjaro_offset_at(&zone, SUMMER, 0, &offset) || offset != 7200) return 30;
@@ -148,7 +148,7 @@ static int refusing(const char *folder) {
         granted = -1;
         if (status == SEFUNJARO_NO_MEMORY && (!is_fault(status, 0, 0) || !is_closed())) return 40;
     }
-    sefunjaro_close(&zone);
+    sefunjaro_zone_close(&zone);
     return status == SEFUNJARO_DONE && requests > 2 ? 0 : 41;
 }
 #endif

@@ -11,11 +11,27 @@
 #define NAME_ROOM 16
 #define KEPT_DELTAS 256
 
+/* How many stretches are kept, and which seconds have one place among them: 2^22 of them, or 48 days. */
+#define KEPT_STRETCHES 2048
+#define BITS_OF_PLACE 22
+
+/* A stretch is known up to so many seconds before and after the one that was asked, half a year, if no change comes before. */
+#define REACH ((int64_t)1 << 24)
+#define ROOM_OF_CHANGES 16
+
+/* Two offsets lie less apart than this, so a local time has one reading alone where no change lies nearer to it. */
+#define APART (2 * 93599 + 1)
+
+/* The first second of -9999 and the one after 9999, in UTC. */
+#define FIRST_SECOND (-377705116800)
+#define END_SECOND 253402300800
+
 typedef uint32_t offset_at_call(struct sefunjaro_handle *, int64_t, uint32_t, int32_t *);
 typedef uint32_t in_force_call(struct sefunjaro_handle *, int64_t, uint32_t, struct sefunjaro_in_force *, uint8_t *, size_t);
 typedef uint32_t saving_at_call(struct sefunjaro_handle *, int64_t, uint32_t, int64_t *);
 typedef uint32_t readings_call(struct sefunjaro_handle *, const struct sefunjaro_clock *, struct sefunjaro_reading *, size_t, size_t *,
                                struct sefunjaro_gap *);
+typedef uint32_t changes_call(struct sefunjaro_handle *, int64_t, int64_t, struct sefunjaro_change *, size_t, size_t *);
 
 /* The library's calls, and what sefunjaro.py does of its own: raise the exception of a status, and make the timedelta of seconds that are
    too many for this module's. */
@@ -24,6 +40,7 @@ static struct {
     in_force_call *in_force;
     saving_at_call *saving_at;
     readings_call *readings;
+    changes_call *changes;
     PyObject *refuse;
     PyObject *delta;
 } bound;
@@ -33,7 +50,22 @@ static PyObject *second_fold;
 struct zone {
     PyDateTime_TZInfo base;
     struct sefunjaro_handle lent;
+    uint64_t lending;   /* its number, which no other has: what is kept of a zone that was closed is nobody's */
+    bool tells_changes; /* until the library says that it doesn't, as of a file */
 };
+
+/* The seconds between two changes, in which one offset, one saving and one abbreviation are in force. */
+struct stretch {
+    uint64_t lending; /* whose they are, or 0 */
+    int64_t from;
+    int64_t to; /* the second after the last */
+    int32_t offset;
+    PyObject *delta;  /* what was told of it, or NULL */
+    PyObject *saving;
+    PyObject *name;
+};
+
+static struct stretch kept_stretches[KEPT_STRETCHES];
 
 /* An instant at which a local time's offset is in force. */
 struct chosen {
@@ -76,6 +108,19 @@ static PyObject *delta_of(int64_t seconds) {
     return kept[place].delta;
 }
 
+/* The days from 1970-01-01 to a date of the years from 1 on. */
+static int64_t day_number(int year, int month, int day) {
+    int64_t from_march = month > 2 ? year : year - 1;
+    int64_t months = month > 2 ? month - 3 : month + 9;
+    return from_march * 365 + from_march / 4 - from_march / 100 + from_march / 400 + (months * 153 + 2) / 5 + day - 719469;
+}
+
+/* The seconds from 1970-01-01 00:00:00 to a date and time, both by the same clock. */
+static int64_t second_of(PyObject *utc) {
+    int64_t day = day_number(PyDateTime_GET_YEAR(utc), PyDateTime_GET_MONTH(utc), PyDateTime_GET_DAY(utc));
+    return day * DAY + PyDateTime_DATE_GET_HOUR(utc) * 3600 + PyDateTime_DATE_GET_MINUTE(utc) * 60 + PyDateTime_DATE_GET_SECOND(utc);
+}
+
 static struct sefunjaro_clock clock_of(PyObject *local) {
     struct sefunjaro_clock clock = {
         .year = PyDateTime_GET_YEAR(local),
@@ -87,6 +132,86 @@ static struct sefunjaro_clock clock_of(PyObject *local) {
         .nanosecond = (uint32_t)PyDateTime_DATE_GET_MICROSECOND(local) * 1000,
     };
     return clock;
+}
+
+/* Where the stretch of a second, in UTC or as clocks show it, is kept, if it is. */
+static struct stretch *place_of(PyObject *self, int64_t second) {
+    uint64_t lending = ((struct zone *)self)->lending;
+    return &kept_stretches[((uint64_t)(second >> BITS_OF_PLACE) + lending * 769) % KEPT_STRETCHES];
+}
+
+/* Keeps at a place what the library tells of a second of the years -9999 to 9999, and returns whether it could. */
+static bool keep(PyObject *self, struct stretch *place, int64_t second) {
+    struct zone *zone = (struct zone *)self;
+    struct sefunjaro_change changes[ROOM_OF_CHANGES];
+    struct sefunjaro_handle copy = copy_of(self);
+    size_t count, of = 0;
+    int32_t offset;
+    if (!zone->tells_changes || zone->lending == 0) {
+        return false;
+    }
+    uint32_t status = bound.changes(&copy, second - REACH, second + REACH, changes, ROOM_OF_CHANGES, &count);
+    zone->tells_changes = status != SEFUNJARO_NOT_KEPT;
+    if (status != SEFUNJARO_DONE || count > ROOM_OF_CHANGES) {
+        return false;
+    }
+    while (of < count && changes[of].second <= second) {
+        of++;
+    }
+    if (of > 0) {
+        offset = changes[of - 1].offset;
+    } else {
+        copy = copy_of(self);
+        if (bound.offset_at(&copy, second, 0, &offset) != SEFUNJARO_DONE) {
+            return false;
+        }
+    }
+    Py_CLEAR(place->delta);
+    Py_CLEAR(place->saving);
+    Py_CLEAR(place->name);
+    place->lending = zone->lending;
+    place->from = of > 0 ? changes[of - 1].second : second - REACH;
+    place->to = of < count ? changes[of].second : second + REACH;
+    place->offset = offset;
+    return true;
+}
+
+/* Whether a stretch is the zone's, and the second lies in it, so far from both ends that clocks show its local time once alone. */
+static bool lies_within(PyObject *self, const struct stretch *place, int64_t second) {
+    return place->lending == ((struct zone *)self)->lending && place->from + APART <= second && second < place->to - APART;
+}
+
+/* The same where a change may be near. */
+static bool lies_near(PyObject *self, const struct stretch *place, int64_t second) {
+    return place->lending == ((struct zone *)self)->lending && place->from - APART <= second && second < place->to + APART;
+}
+
+/* The stretch in which clocks show a local time, by its seconds from 1970-01-01 00:00:00 by the same clock, where they do so once and
+   no change is near; else NULL. */
+static struct stretch *only_stretch(PyObject *self, int64_t shown) {
+    struct stretch *place = place_of(self, shown);
+    return place->lending != 0 && lies_within(self, place, shown - place->offset) ? place : NULL;
+}
+
+/* Keeps the stretch of an instant where it is looked for by a second near it, if what is kept there isn't as near. */
+static void keep_for(PyObject *self, int64_t asked, int64_t second) {
+    struct stretch *place = place_of(self, asked);
+    if (FIRST_SECOND + REACH <= second && second < END_SECOND - REACH && !lies_near(self, place, second)) {
+        keep(self, place, second);
+    }
+}
+
+/* What was told of a stretch, told again; or what is told now, which may be NULL with an exception. */
+static PyObject *told_again(PyObject **place, PyObject *told) {
+    if (*place == NULL) {
+        *place = told;
+    }
+    Py_XINCREF(*place);
+    return *place;
+}
+
+static PyObject *delta_in(struct stretch *stretch) {
+    return told_again(&stretch->delta, stretch->delta != NULL ? NULL : delta_of(stretch->offset));
 }
 
 /* The offset of a local time by PEP 495, and an instant at which it is in force. */
@@ -105,6 +230,7 @@ static bool choose(PyObject *self, PyObject *local, struct chosen *chosen) {
     if (count > 0) {
         struct sefunjaro_reading reading = readings[second_one && count > 1 ? 1 : 0];
         *chosen = (struct chosen){reading.offset, reading.second, clock.nanosecond};
+        keep_for(self, second_of(local), reading.second);
     } else if (second_one) {
         *chosen = (struct chosen){gap.after, gap.second, 0};
     } else {
@@ -127,7 +253,14 @@ static PyObject *zone_utcoffset(PyObject *self, PyObject *local) {
     if (local == Py_None) {
         return PyObject_CallMethod(self, "_utcoffset_of_none", NULL);
     }
-    return is_datetime(local) && choose(self, local, &chosen) ? delta_of(chosen.offset) : NULL;
+    if (!is_datetime(local)) {
+        return NULL;
+    }
+    struct stretch *only = only_stretch(self, second_of(local));
+    if (only != NULL) {
+        return delta_in(only);
+    }
+    return choose(self, local, &chosen) ? delta_of(chosen.offset) : NULL;
 }
 
 /* The abbreviation at an instant. */
@@ -164,36 +297,42 @@ static PyObject *zone_tzname(PyObject *self, PyObject *local) {
     if (local == Py_None) {
         return PyObject_CallMethod(self, "_tzname_of_none", NULL);
     }
-    return is_datetime(local) && choose(self, local, &chosen) ? name_at(self, chosen.second, chosen.nanosecond) : NULL;
-}
-
-static PyObject *zone_dst(PyObject *self, PyObject *local) {
-    struct chosen chosen;
-    int64_t saving;
-    if (local == Py_None) {
-        return PyObject_CallMethod(self, "_dst_of_none", NULL);
-    }
-    if (!is_datetime(local) || !choose(self, local, &chosen)) {
+    if (!is_datetime(local)) {
         return NULL;
     }
+    int64_t shown = second_of(local);
+    struct stretch *only = only_stretch(self, shown);
+    if (only != NULL) {
+        return told_again(&only->name, only->name != NULL ? NULL : name_at(self, shown - only->offset, 0));
+    }
+    return choose(self, local, &chosen) ? name_at(self, chosen.second, chosen.nanosecond) : NULL;
+}
+
+/* The saving at an instant as a timedelta, or None in a zone that tells none. */
+static PyObject *saving_at(PyObject *self, int64_t second, uint32_t nanosecond) {
     struct sefunjaro_handle copy = copy_of(self);
-    uint32_t status = bound.saving_at(&copy, chosen.second, chosen.nanosecond, &saving);
+    int64_t saving;
+    uint32_t status = bound.saving_at(&copy, second, nanosecond, &saving);
     if (status == SEFUNJARO_NOT_KEPT) {
         Py_RETURN_NONE;
     }
     return status == SEFUNJARO_DONE ? delta_of(saving) : refused(self, status);
 }
 
-/* The days from 1970-01-01 to a date of the years from 1 on. */
-static int64_t day_number(int year, int month, int day) {
-    int64_t from_march = month > 2 ? year : year - 1;
-    int64_t months = month > 2 ? month - 3 : month + 9;
-    return from_march * 365 + from_march / 4 - from_march / 100 + from_march / 400 + (months * 153 + 2) / 5 + day - 719469;
-}
-
-static int64_t second_of(PyObject *utc) {
-    int64_t day = day_number(PyDateTime_GET_YEAR(utc), PyDateTime_GET_MONTH(utc), PyDateTime_GET_DAY(utc));
-    return day * DAY + PyDateTime_DATE_GET_HOUR(utc) * 3600 + PyDateTime_DATE_GET_MINUTE(utc) * 60 + PyDateTime_DATE_GET_SECOND(utc);
+static PyObject *zone_dst(PyObject *self, PyObject *local) {
+    struct chosen chosen;
+    if (local == Py_None) {
+        return PyObject_CallMethod(self, "_dst_of_none", NULL);
+    }
+    if (!is_datetime(local)) {
+        return NULL;
+    }
+    int64_t shown = second_of(local);
+    struct stretch *only = only_stretch(self, shown);
+    if (only != NULL) {
+        return told_again(&only->saving, only->saving != NULL ? NULL : saving_at(self, shown - only->offset, 0));
+    }
+    return choose(self, local, &chosen) ? saving_at(self, chosen.second, chosen.nanosecond) : NULL;
 }
 
 /* The local time, or its second reading where the instant is that. */
@@ -229,20 +368,132 @@ static PyObject *zone_fromutc(PyObject *self, PyObject *utc) {
         PyErr_SetString(PyExc_ValueError, "fromutc: dt.tzinfo is not self");
         return NULL;
     }
-    struct sefunjaro_handle copy = copy_of(self);
     int64_t second = second_of(utc);
-    uint32_t nanosecond = (uint32_t)PyDateTime_DATE_GET_MICROSECOND(utc) * 1000;
-    int32_t offset;
-    uint32_t status = bound.offset_at(&copy, second, nanosecond, &offset);
-    if (status != SEFUNJARO_DONE) {
-        return refused(self, status);
+    struct stretch *place = place_of(self, second);
+    bool is_first = place->lending != 0 && lies_within(self, place, second);
+    int32_t offset = place->offset;
+    if (!is_first) {
+        struct sefunjaro_handle copy = copy_of(self);
+        uint32_t status = bound.offset_at(&copy, second, (uint32_t)PyDateTime_DATE_GET_MICROSECOND(utc) * 1000, &offset);
+        if (status != SEFUNJARO_DONE) {
+            return refused(self, status);
+        }
+        keep_for(self, second, second);
     }
-    PyObject *delta = delta_of(offset);
+    PyObject *delta = is_first ? delta_in(place) : delta_of(offset);
     PyObject *local = delta == NULL ? NULL : PyNumber_Add(utc, delta);
-    PyObject *told = local == NULL ? NULL : folded(self, local, second);
+    PyObject *told = local == NULL || is_first ? local : folded(self, local, second);
     Py_XDECREF(delta);
-    Py_XDECREF(local);
+    if (told != local) {
+        Py_XDECREF(local);
+    }
     return told;
+}
+
+/* The offset at a second of the years -9999 to 9999, by what is kept where it is. */
+static uint32_t offset_by(PyObject *self, int64_t second, int32_t *offset) {
+    struct stretch *place = place_of(self, second);
+    bool is_near = place->lending != 0 && lies_near(self, place, second);
+    if (!is_near) {
+        keep_for(self, second, second);
+    }
+    if (place->lending != 0 && place->lending == ((struct zone *)self)->lending && place->from <= second && second < place->to) {
+        *offset = place->offset;
+        return SEFUNJARO_DONE;
+    }
+    struct sefunjaro_handle copy = copy_of(self);
+    return bound.offset_at(&copy, second, 0, offset);
+}
+
+/* The date and time that is so many seconds after 1970-01-01 00:00:00 by the same clock. */
+static struct sefunjaro_clock clock_after(int64_t shown) {
+    int64_t day = shown / DAY - (shown % DAY < 0), of_day = shown - day * DAY;
+    /* Counted from 0000-03-01, in cycles of 400 years. */
+    int64_t from_march = day + 719468;
+    int64_t cycle = from_march / 146097 - (from_march % 146097 < 0), of_cycle = from_march - cycle * 146097;
+    int64_t of_400 = (of_cycle - of_cycle / 1460 + of_cycle / 36524 - of_cycle / 146096) / 365;
+    int64_t of_year = of_cycle - (of_400 * 365 + of_400 / 4 - of_400 / 100), months = (of_year * 5 + 2) / 153;
+    struct sefunjaro_clock clock = {
+        .year = (int32_t)(cycle * 400 + of_400 + (months >= 10)),
+        .month = (uint8_t)(months < 10 ? months + 3 : months - 9),
+        .day = (uint8_t)(of_year - (months * 153 + 2) / 5 + 1),
+        .hour = (uint8_t)(of_day / 3600),
+        .minute = (uint8_t)(of_day / 60 % 60),
+        .second = (uint8_t)(of_day % 60),
+    };
+    return clock;
+}
+
+/* What is wanted of a local time that clocks show twice, or skip. */
+enum { FIRST_READING, SECOND_READING };
+enum { BEFORE_GAP, AFTER_GAP, NO_GAP };
+
+/* The instant of a local time, by what is wanted; NONE where clocks skip it and none is. */
+static uint32_t instant_by(PyObject *self, int64_t shown, int fold, int gap_rule, int64_t *second) {
+    struct stretch *only = only_stretch(self, shown);
+    if (only != NULL) {
+        *second = shown - only->offset;
+        return SEFUNJARO_DONE;
+    }
+    struct sefunjaro_handle copy = copy_of(self);
+    struct sefunjaro_clock clock = clock_after(shown);
+    struct sefunjaro_reading readings[2];
+    struct sefunjaro_gap gap;
+    size_t count;
+    uint32_t status = bound.readings(&copy, &clock, readings, 2, &count, &gap);
+    if (status != SEFUNJARO_DONE) {
+        return status;
+    }
+    if (count > 0) {
+        *second = readings[fold == SECOND_READING && count > 1 ? 1 : 0].second;
+        keep_for(self, shown, *second);
+    } else if (gap_rule == NO_GAP) {
+        return SEFUNJARO_NONE;
+    } else {
+        *second = shown - (gap_rule == BEFORE_GAP ? gap.before : gap.after);
+    }
+    return SEFUNJARO_DONE;
+}
+
+/* What is asked of each of many seconds. */
+enum { OFFSETS, LOCALS, INSTANTS };
+
+static uint32_t answer(PyObject *self, int kind, int64_t asked, int fold, int gap_rule, int64_t *told) {
+    int32_t offset = 0;
+    uint32_t status;
+    if (asked < FIRST_SECOND || asked >= END_SECOND) {
+        return SEFUNJARO_OUT_OF_RANGE;
+    }
+    if (kind == INSTANTS) {
+        return instant_by(self, asked, fold, gap_rule, told);
+    }
+    status = offset_by(self, asked, &offset);
+    *told = kind == LOCALS ? asked + offset : offset;
+    return status;
+}
+
+/* Answers each second of a buffer into another, up to the first that is refused: the status, and how many were answered. */
+static PyObject *zone_answer_all(PyObject *self, PyObject *given) {
+    int kind, fold, gap_rule;
+    Py_buffer asked, told;
+    if (!PyArg_ParseTuple(given, "iy*w*ii", &kind, &asked, &told, &fold, &gap_rule)) {
+        return NULL;
+    }
+    size_t width = kind == OFFSETS ? sizeof(int32_t) : sizeof(int64_t), count = (size_t)told.len / width, place = 0;
+    uint32_t status = SEFUNJARO_DONE;
+    for (; place < count && place < (size_t)asked.len / sizeof(int64_t); place++) {
+        int64_t second, value;
+        memcpy(&second, (char *)asked.buf + place * sizeof(int64_t), sizeof second);
+        status = answer(self, kind, second, fold, gap_rule, &value);
+        if (status != SEFUNJARO_DONE) {
+            break;
+        }
+        int32_t narrow = (int32_t)value;
+        memcpy((char *)told.buf + place * width, kind == OFFSETS ? (void *)&narrow : (void *)&value, width);
+    }
+    PyBuffer_Release(&asked);
+    PyBuffer_Release(&told);
+    return Py_BuildValue("In", (unsigned int)status, (Py_ssize_t)place);
 }
 
 static PyObject *zone_lend(PyObject *self, PyObject *fields) {
@@ -251,7 +502,11 @@ static PyObject *zone_lend(PyObject *self, PyObject *fields) {
     if (!PyArg_ParseTuple(fields, "Kp", &at, &is_open)) {
         return NULL;
     }
-    ((struct zone *)self)->lent = (struct sefunjaro_handle){(void *)(uintptr_t)at, is_open != 0};
+    static uint64_t lendings;
+    struct zone *zone = (struct zone *)self;
+    zone->lent = (struct sefunjaro_handle){(void *)(uintptr_t)at, is_open != 0};
+    zone->lending = is_open ? ++lendings : 0;
+    zone->tells_changes = true;
     Py_RETURN_NONE;
 }
 
@@ -266,6 +521,7 @@ static PyMethodDef zone_methods[] = {
     {"fromutc", zone_fromutc, METH_O,
      "The local time of a UTC time to which this zone is attached, with its fold. Raises OffsetTooLarge, and OverflowError where\n"
      "the local date lies outside the years 1 to 9999."},
+    {"_answer_all", zone_answer_all, METH_VARARGS, "Answers each second of a buffer into another: the status, and how many were answered."},
     {"_lend", zone_lend, METH_VARARGS, "Lends the handle's two fields, or takes them back as 0 and False."},
     {NULL, NULL, 0, NULL},
 };
@@ -280,15 +536,16 @@ static PyType_Spec zone_spec = {
 };
 
 static PyObject *bind(PyObject *Py_UNUSED(module), PyObject *given) {
-    unsigned long long offset_at, in_force, saving_at, readings;
+    unsigned long long offset_at, in_force, saving, readings, changes;
     PyObject *refuse, *delta;
-    if (!PyArg_ParseTuple(given, "KKKKOO", &offset_at, &in_force, &saving_at, &readings, &refuse, &delta)) {
+    if (!PyArg_ParseTuple(given, "KKKKKOO", &offset_at, &in_force, &saving, &readings, &changes, &refuse, &delta)) {
         return NULL;
     }
     bound.offset_at = (offset_at_call *)(uintptr_t)offset_at;
     bound.in_force = (in_force_call *)(uintptr_t)in_force;
-    bound.saving_at = (saving_at_call *)(uintptr_t)saving_at;
+    bound.saving_at = (saving_at_call *)(uintptr_t)saving;
     bound.readings = (readings_call *)(uintptr_t)readings;
+    bound.changes = (changes_call *)(uintptr_t)changes;
     Py_INCREF(refuse);
     Py_INCREF(delta);
     Py_XSETREF(bound.refuse, refuse);

@@ -49,7 +49,7 @@ from typing import (
 __all__ = [
     "BadJoin", "BadLine", "Change", "Clock", "Error", "EverCause", "FileCause", "FIRST_YEAR", "Gap", "InForce", "Instant", "IS_IN_C",
     "JoinCause", "LAST_YEAR", "LineCause", "NoPlainForm", "NoSchedule", "NoTail", "NotKept", "NotOpen", "NotRead", "NoTzdata", "NoTzif", "OffsetRange",
-    "OffsetTooLarge", "OutOfRange", "PlainCause", "PosixTail", "ScheduleCause", "Source", "SourceError", "Status", "TailCause", "TzifCause",
+    "OffsetTooLarge", "OutOfRange", "PlainCause", "PosixTail", "ScheduleCause", "Skipped", "Source", "SourceError", "Status", "TailCause", "TzifCause",
     "UnknownZone", "VERSION", "Zone", "ZoneError", "available_zones", "machine_source", "read_local", "read_zoned", "zone",
 ]
 
@@ -204,6 +204,12 @@ class NotKept(Error):
 
 class NoTzdata(Error):
     """The machine has no source of the tz database where one is looked for; the text names the place. Its `__cause__` is the OSError."""
+
+
+class Skipped(Error, ValueError):
+    """Clocks never show the local time; `to_instants` was asked to refuse such ones."""
+
+    status = Status.NONE
 
 
 class OffsetTooLarge(Error, ValueError):
@@ -377,6 +383,11 @@ goes on where its lines do, as `Zone.last_year` tells."""
 
 # How many seconds are asked in one call.
 _AT_ONCE = 1 << 16
+# The first second of -9999, and the one after 9999, in UTC.
+_FIRST_SECOND, _END_SECOND = -377705116800, 253402300800
+# What is asked of each of many seconds, and the rules of `to_instants`, as the module in C numbers them.
+_OFFSETS, _LOCALS, _INSTANTS = range(3)
+_FOLDS, _GAPS = ("first", "second"), ("before", "after", "refuse")
 
 
 def _seconds_of(seconds: Any) -> memoryview:
@@ -453,6 +464,15 @@ def _raw_clock(local: Union[datetime.datetime, Clock]) -> Any:
         return _RawClock(local.year, local.month, local.day, local.hour, local.minute, local.second, local.microsecond * 1000)
     year, *parts, nanosecond = local
     return _RawClock(_within(year, -(2**31), 2**31 - 1), *(_within(part, 0, 255) for part in parts), _within(nanosecond, 0, 2**32 - 1))
+
+
+def _clock_after(shown: int) -> Any:
+    """The date and time so many seconds after 1970-01-01 00:00:00 by the same clock, also of years that `datetime` doesn't have."""
+    days, of_day = divmod(shown, 86400)
+    # The calendar repeats after 400 years, which are 146,097 days.
+    cycles, days = divmod(days + _EPOCH_DAY - 1, 146097)
+    date, minutes = datetime.date.fromordinal(days + 1), of_day // 60
+    return _RawClock(date.year + 400 * cycles, date.month, date.day, minutes // 60, minutes % 60, of_day % 60, 0)
 
 
 def _clock(raw: Any) -> Clock:
@@ -783,6 +803,32 @@ class _ByCtypes(datetime.tzinfo):
         found: Optional[datetime.timedelta] = self._dst_of_none() if dt is None else self._saving_of(*self._chosen(dt)[1:])
         return found
 
+    def _answer_all(self: Any, kind: int, asked: bytes, told: bytearray, fold: int, gap: int) -> Tuple[int, int]:
+        """Answers each second of a buffer into another: the status, and how many were answered."""
+        seconds = array.array("q", asked)
+        if kind == _INSTANTS:
+            return self._instants_of(seconds, told, fold, gap)
+        offsets, place = (ctypes.c_int32 * len(seconds))(), ctypes.c_size_t()
+        status = self._handle.ask(_offsets_at, asked, len(seconds), offsets, len(seconds), ctypes.byref(place))
+        if not status:
+            told[:] = offsets if kind == _OFFSETS else array.array("q", map(operator.add, seconds, offsets)).tobytes()
+        return status, place.value
+
+    def _instants_of(self: Any, shown: array.array[int], told: bytearray, fold: int, gap: int) -> Tuple[int, int]:
+        found = array.array("q")
+        for place, local in enumerate(shown):
+            if not _FIRST_SECOND <= local < _END_SECOND:
+                return Status.OUT_OF_RANGE, place
+            readings, count, skipped = self._read(_clock_after(local))
+            if count:
+                found.append(readings[1 if fold and count > 1 else 0].second)
+            elif _GAPS[gap] == "refuse":
+                return Status.NONE, place
+            else:
+                found.append(local - (skipped.after if gap else skipped.before))
+        told[:] = found.tobytes()
+        return Status.DONE, len(shown)
+
     def fromutc(self: Any, dt: datetime.datetime) -> datetime.datetime:
         """The local time of a UTC time to which this zone is attached, with its fold. Raises OffsetTooLarge, and OverflowError where
         the local date lies outside the years 1 to 9999."""
@@ -808,7 +854,7 @@ def _module_in_c() -> Any:
         found = importlib.import_module(f"{__name__}._sefunjaro" if __package__ == __name__ else "_sefunjaro")
     except ImportError:
         return None
-    calls: Tuple[Any, ...] = (_offset_at, _in_force, _saving_at, _readings)
+    calls: Tuple[Any, ...] = (_offset_at, _in_force, _saving_at, _readings, _changes)
     found.bind(*(ctypes.cast(call, ctypes.c_void_p).value for call in calls), _refuse, _delta)
     return found
 
@@ -986,21 +1032,39 @@ class Zone(_Asked, _Opened):
 
     def offsets_at(self, seconds: Any) -> array.array[int]:
         """The offsets in force at many seconds, in their order, as an `array('i')`. They stand in a buffer of one dimension and 64-bit
-        integers, as `array('q')` or numpy's int64, or come of anything that gives integers. Seconds that rise cost least. Raises
-        TypeError of another buffer, and OutOfRange where one lies outside the years -9999 to 9999 in UTC, with its place in the text."""
-        view, found = _seconds_of(seconds), array.array("i")
-        room, place, handle = (ctypes.c_int32 * min(len(view), _AT_ONCE))(), ctypes.c_size_t(), self._handle
-        with memoryview(room) as offsets:
-            for begin in range(0, len(view), _AT_ONCE):
-                # A copy, so that nobody changes what is asked while it is.
-                asked = view[begin : begin + _AT_ONCE].tobytes()
-                count = len(asked) // 8
-                status = handle.ask(_offsets_at, asked, count, room, count, ctypes.byref(place))
-                if status == Status.OUT_OF_RANGE:
-                    raise OutOfRange(f"{self._name!r}: out of range at place {begin + place.value}")
-                if status:
-                    _raise(status, repr(self._name))
-                found.frombytes(offsets[:count].tobytes())
+        integers, as `array('q')` or numpy's int64, or come of anything that gives integers. Raises TypeError of another buffer, and
+        OutOfRange where one lies outside the years -9999 to 9999 in UTC, with its place in the text."""
+        return self._answers(_OFFSETS, seconds)
+
+    def to_local(self, seconds: Any) -> array.array[int]:
+        """What clocks show at many seconds, in their order, as an `array('q')`: each as the seconds from 1970-01-01 00:00:00 by the same
+        clocks, so that numpy's `view("datetime64[s]")` of it are the local times. Takes and raises what `offsets_at` does."""
+        return self._answers(_LOCALS, seconds)
+
+    def to_instants(self, shown: Any, *, fold: str = "first", gap: str = "before") -> array.array[int]:
+        """The seconds at which clocks show many local times, in their order, as an `array('q')`. The local times are given as `to_local`
+        gives them. Of one that clocks show twice or more often it is the "first" or the "second"; one that they skip is taken by the
+        offset "before" the change or by that "after" it, or with "refuse" raises Skipped. Takes and raises what `offsets_at` does, and
+        ValueError of another rule."""
+        if fold not in _FOLDS or gap not in _GAPS:
+            raise ValueError(f"fold is one of {', '.join(_FOLDS)}, and gap one of {', '.join(_GAPS)}")
+        return self._answers(_INSTANTS, shown, _FOLDS.index(fold), _GAPS.index(gap))
+
+    def _answers(self: Any, kind: int, seconds: Any, fold: int = 0, gap: int = 0) -> array.array[int]:
+        """What is asked of each of many seconds."""
+        view, found = _seconds_of(seconds), array.array("i" if kind == _OFFSETS else "q")
+        for begin in range(0, len(view), _AT_ONCE):
+            # A copy, so that nobody changes what is asked while it is.
+            asked = view[begin : begin + _AT_ONCE].tobytes()
+            told = bytearray(len(asked) // 8 * found.itemsize)
+            status, place = self._answer_all(kind, asked, told, fold, gap)
+            if status == Status.OUT_OF_RANGE:
+                raise OutOfRange(f"{self._name!r}: out of range at place {begin + place}")
+            if status == Status.NONE:
+                raise Skipped(f"{self._name!r}: clocks skip the local time at place {begin + place}")
+            if status:
+                _raise(status, repr(self._name))
+            found.frombytes(told)
         return found
 
     def _number_at(self, call: Callable[..., int], number: Any, second: int, nanosecond: int) -> int:

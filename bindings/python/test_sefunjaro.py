@@ -205,6 +205,65 @@ class Zones(unittest.TestCase):
             self.zone.offsets_at([0] * 70_001 + [253402300800, 0])
         self.assertEqual(list(sefunjaro.Zone.from_posix("EST5").offsets_at([0, 1])), [-18000, -18000])
 
+    def test_to_local(self):
+        zone = Source(SOURCE).zone("Here/Middle")
+        theirs = zoneinfo.ZoneInfo.from_file(io.BytesIO(zone.to_tzif()))
+        seconds = [SPRING - 1, SPRING, AUTUMN - 1, AUTUMN, *range(10**9, 2 * 10**9, 4_999_999)]
+        epoch = datetime(1970, 1, 1)
+        due = [int((datetime.fromtimestamp(second, theirs).replace(tzinfo=None) - epoch).total_seconds()) for second in seconds]
+        self.assertEqual(zone.to_local(seconds), array.array("q", due))
+        shown = zone.to_local([-377705116800, 253402300799])
+        self.assertEqual(list(shown), [second + zone.offset_at(second) for second in (-377705116800, 253402300799)])
+        for asked in ([253402300800], [-377705116801], [2**63]):
+            with self.assertRaises(sefunjaro.OutOfRange):
+                zone.to_local(asked)
+        with self.assertRaises(TypeError):
+            zone.to_local(array.array("d", [1.0]))
+        self.assertEqual(list(sefunjaro.Zone.from_posix("EST5").to_local([0, 1])), [-18000, -17999])
+
+    def test_to_instants(self):
+        zone = Source(SOURCE).zone("Here/Middle")
+        theirs = zoneinfo.ZoneInfo.from_file(io.BytesIO(zone.to_tzif()))
+        epoch = datetime(1970, 1, 1)
+        shown = [SPRING + 3600 + minute * 60 for minute in range(-90, 150, 7)] + [AUTUMN + minute * 60 for minute in range(-90, 250, 7)]
+        shown += range(10**9, 2 * 10**9, 4_999_999)
+        for fold in (0, 1):
+            clocks = [(epoch + timedelta(seconds=second)).replace(tzinfo=theirs, fold=fold) for second in shown]
+            due = array.array("q", (int(clock.timestamp()) for clock in clocks))
+            self.assertEqual(zone.to_instants(shown, fold=("first", "second")[fold], gap=("before", "after")[fold]), due)
+        skipped = [0, SPRING + 3600 + 1800]
+        self.assertEqual(list(zone.to_instants(skipped, gap="before")), [-3600, SPRING + 1800])
+        self.assertEqual(list(zone.to_instants(skipped, gap="after")), [-3600, SPRING - 1800])
+        with self.assertRaisesRegex(sefunjaro.Skipped, "place 1"):
+            zone.to_instants(skipped, gap="refuse")
+        for words in ({"fold": "third"}, {"gap": "none"}):
+            with self.assertRaises(ValueError):
+                zone.to_instants([0], **words)
+        for asked, second in ((Clock(-9999, 1, 1), -377705116800), (Clock(0, 1, 1), -62167219200), (Clock(9999, 12, 31, 23, 59, 59), 253402300799)):
+            self.assertEqual(list(zone.to_instants([second])), [zone.instants(asked)[0].second])
+        with self.assertRaises(sefunjaro.OutOfRange):
+            zone.to_instants([0, 253402300800])
+        self.assertEqual(list(sefunjaro.Zone.from_posix("EST5").to_instants([0])), [18000])
+
+    def test_what_is_kept(self):
+        """What a zone is asked again is told as before, near changes and far from them, whoever asks between."""
+        zone = Source(SOURCE).zone("Here/Middle")
+        theirs = zoneinfo.ZoneInfo.from_file(io.BytesIO(zone.to_tzif()))
+        fixed = sefunjaro.Zone.from_posix("EST5")
+        moments = [datetime(2024, 3, 31) + timedelta(minutes=minutes) for change in (0, 301_500, 525_600) for minutes in range(change - 4000, change + 4000, 331)]
+        for _ in range(3):
+            for moment in moments:
+                for fold in (0, 1):
+                    mine, other = moment.replace(tzinfo=zone, fold=fold), moment.replace(tzinfo=theirs, fold=fold)
+                    self.assertEqual((mine.utcoffset(), mine.tzname(), mine.dst()), (other.utcoffset(), other.tzname(), other.dst()))
+                    self.assertEqual(moment.replace(tzinfo=fixed).utcoffset(), timedelta(hours=-5))
+                utc = moment.replace(tzinfo=timezone.utc)
+                mine, other = utc.astimezone(zone), utc.astimezone(theirs)
+                self.assertEqual((mine.replace(tzinfo=None), mine.fold), (other.replace(tzinfo=None), other.fold))
+        zone.close()
+        with self.assertRaises(sefunjaro.NotOpen):
+            moments[0].replace(tzinfo=zone).utcoffset()
+
     def test_whole(self):
         self.assertEqual(self.zone.posix_tail(), ("CET-1CEST,M3.5.0,M10.5.0/3", True))
         short = Source("Zone Letters 2 - CD\nZone Signs -3 - %z\nZone Underscore 5 - A_B\nZone Umlauts 5 - ÄÄÄ\n")
