@@ -14,6 +14,8 @@ PROCESSOR = "x86-64-v2"
 # A program: its name, the lines of its script in bin/, what these set, and the path of what is built.
 Program = namedtuple("Program", "name lines settings path")
 SETTING = re.compile(r'^(\w+)=(?:"((?:[^"\\]|\\.)*)"|(\S*))$', re.M)
+# The line by which a script in bin/ starts a program.
+STARTS = re.compile(r"^\. .*/zone_program\b", re.M)
 
 
 class Stop(Exception):
@@ -63,14 +65,18 @@ def maintainer():
     return git("log", "-1", "--format=%cn <%ce>")
 
 
+def built(name):
+    """The file of the program NAME. Where several have one file, that looks at the name which it is called by, a release has it once."""
+    return os.path.join(ROOT, "crates", f"{name}_program", "out", f"{name}_program")
+
+
 def programs():
-    """Every program that has a script in bin/ and a crate of its own, in the order of crates.txt."""
+    """Every program that has a script in bin/, by name."""
     found = []
-    for name in re.findall(r"^(\w+)_program\b", read("crates.txt"), re.M):
-        path = os.path.join(ROOT, "crates", f"{name}_program", "out", f"{name}_program")
-        if os.path.exists(os.path.join(ROOT, "bin", name)):
-            lines = read("bin", name)
-            found.append(Program(name, lines, {key: one or other for key, one, other in SETTING.findall(lines)}, path))
+    for name in sorted(os.listdir(os.path.join(ROOT, "bin"))):
+        lines = read("bin", name) if os.path.isfile(os.path.join(ROOT, "bin", name)) else ""
+        if STARTS.search(lines):
+            found.append(Program(name, lines, {key: one or other for key, one, other in SETTING.findall(lines)}, built(name)))
     return found
 
 

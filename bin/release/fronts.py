@@ -10,15 +10,17 @@ inside=${self%/*}/../libexec/sefunjaro
 """
 # A script in bin/ that goes on in this one tells by its own lines what the front has to know.
 SHARED = re.compile(r"^\. .*zone_program.*\n", re.M)
-# One that looks at its words itself.
-PASSES = re.compile(r"^passes=yes$", re.M)
 OF_CHECKOUT = re.compile(r"^# How it is proved.*\n", re.M)
 
 
+def is_bare(program):
+    """Whether a program says by itself what a front would: its script in bin/ has no lines for one."""
+    return program.settings.get("passes") == "yes"
+
+
 def front(program):
-    """The front of a program: the lines of its script in bin/, and then the shared ones. A program whose script has no such lines says
-    by itself what they would, so that its front only starts it."""
-    if not SHARED.search(program.lines) or PASSES.search(program.lines):
+    """The front of a program: the lines of its script in bin/, and then the shared ones; that of a bare one only starts it."""
+    if is_bare(program):
         return f'#!/bin/sh\n{START}exec "$inside/{program.name}" "$@"\n'
     lines = OF_CHECKOUT.sub("", SHARED.sub("", program.lines))
     lines = re.sub(r"^#!.*\n", "#!/bin/sh\n", re.sub(r"(?<![/\w])bin/", "", lines))

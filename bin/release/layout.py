@@ -40,12 +40,14 @@ def pkg_config(prefix, libdir):
 
 
 def of_programs():
-    """The programs as they are, and their fronts."""
-    found = {"libexec/sefunjaro/front": plain(fronts.shared())}
+    """The programs as they are, and their fronts; one that has a file with another is a link to that."""
+    found, first = {"libexec/sefunjaro/front": plain(fronts.shared())}, {}
     for program in programs():
         if not os.path.exists(program.path):
             raise Stop(f"there is no {program.path}")
-        found[f"libexec/sefunjaro/{program.name}"] = plain(read_bytes(program.path), 0o755)
+        name = first.setdefault(os.path.realpath(program.path), program.name)
+        file = plain(read_bytes(program.path), 0o755) if name == program.name else link(name)
+        found[f"libexec/sefunjaro/{program.name}"] = file
         found[f"bin/{program.name}"] = plain(fronts.front(program), 0o755)
     return found
 

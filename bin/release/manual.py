@@ -40,8 +40,8 @@ def pages_of_programs():
 
 
 def installed(command):
-    """A command as it is where the programs are installed."""
-    return re.sub(r"\bbin/(?=[a-z_]+\b)", "", command)
+    """A command as it is where the programs are installed, over the system's own source."""
+    return re.sub(r"\bbin/(?=[a-z_]+\b)", "", re.sub(r" --source crates/\S+", "", command))
 
 
 def is_made_for(words, name):

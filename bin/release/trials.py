@@ -2,13 +2,16 @@
 import glob
 import os
 import re
+import shutil
+import subprocess
 import tarfile
 
 import deb
+import fronts
 import markdown
 import tree
-from checkout import ROOT, Stop, major, run
-from manual import MACHINE, all_examples
+from checkout import ROOT, Stop, major, programs, run, version
+from manual import MACHINE, all_examples, installed
 from tree import File, plain
 
 PREFIX = "/opt/sefunjaro"
@@ -16,6 +19,9 @@ OLDER = "1.99.0-1"
 # What stands in each package of the older version alone.
 STALE = {"usr/share/doc/{name}/older": plain("older\n")}
 TESTS = ["test_sefunjaro", "test_named"]
+# The kind of wheel over ctypes, for any Python.
+ANY = "py3"
+IN_C = "import sefunjaro; print(sefunjaro.IS_IN_C)"
 LIBRARY = f"libsefunjaro{major()}"
 PROGRAMS = ["sefunjaro", LIBRARY, "python3-sefunjaro"]
 FOR_C = [LIBRARY, "libsefunjaro-dev"]
@@ -26,7 +32,7 @@ class Release:
 
     def __init__(self, folder):
         self.folder = folder
-        self.archive, self.wheel, self.crate = (self.one(pattern) for pattern in ("*.tar.gz", "*.whl", "*.crate"))
+        self.archive, self.crate = self.one("*.tar.gz"), self.one("*.crate")
 
     def one(self, pattern):
         found = glob.glob(os.path.join(self.folder, pattern))
@@ -36,6 +42,10 @@ class Release:
 
     def packages(self, names):
         return [self.one(f"{name}_*.deb") for name in names]
+
+    def wheel(self, kind):
+        """The wheel of a kind: ANY, or a version of Python, as cp311, with the module in C."""
+        return self.one(f"*-{kind}-*.whl")
 
     def files(self):
         """The files of the archive, by their paths below its prefix."""
@@ -63,9 +73,14 @@ def requests():
 
 
 def answers(root):
-    """The README's requests over the root's own source."""
+    """The README's requests over the root's own source, and what it asks `zone`."""
     command, lines = requests()
     due("the requests of README.md", lines, root.ask(f"cd /tmp && zone_plain {MACHINE} > zones.txt && {command}"))
+    asked = [found for found in markdown.of_page("README.md") if "bin/zone " in found.command]
+    for command, lines in asked:
+        due(command, "\n".join(lines) + "\n", root.ask(installed(command)))
+    if not asked or not re.fullmatch(r"\d{4}-\d\d-\d\d \d\d:\d\d:\d\d(\.\d+)? \+0[12]:00 CES?T\n", root.ask("zone at Europe/Paris now")):
+        raise Stop("zone doesn't tell what time it is")
 
 
 def page(root, name, section):
@@ -88,21 +103,24 @@ def pages(root):
 
 
 def words(root):
-    """What the fronts say by themselves: the usage, the version and the meaning of a status."""
-    for name in all_examples():
-        if f"usage: {name}" not in root.ask(f"{name} --help") or not re.search(r"\d+\.\d+\.\d+", root.ask(f"{name} --version")):
+    """What the fronts, or the bare programs, say by themselves: the usage, the version and the meaning of a status."""
+    for program in programs():
+        name, is_bare = program.name, fronts.is_bare(program)
+        begins = f"{name} [" if is_bare else f"usage: {name}"
+        if not root.ask(f"{name} --help").startswith(begins) or version() not in root.ask(f"{name} --version"):
             raise Stop(f"{name} doesn't know --help or --version")
         told, status = root.run(name)
-        due(f"{name} without a word", (True, 1), (told.startswith(f"usage: {name}"), status))
+        due(f"{name} without a word", (True, 1), (told.startswith(f"{name}: " if is_bare else begins), status))
     due("a file that isn't there", ("zone_tree: there is no file /none\n", 3), root.run("zone_tree /none"))
     due("a link to a front", root.ask("zone_tree --version"), root.ask("ln -s $(command -v zone_tree) /tmp/linked && /tmp/linked --version"))
 
 
 def completed(root, prefix):
-    """The names of zones that bash completes."""
-    words = "COMP_WORDS=(zone_list zones.txt Europe/Par) COMP_CWORD=2"
-    told = root.ask(f"cd /tmp && . {prefix}/share/bash-completion/completions/zone_list && {words} && _zone_list && echo ${{COMPREPLY[*]}}")
-    due("what bash completes", "Europe/Paris\n", told)
+    """The names of zones that bash completes, over a file and over the system's own source, and a command."""
+    for name, words, wanted in (("zone_list", "zones.txt Europe/Par", "Europe/Paris"), ("zone", "at Europe/Par", "Europe/Paris"), ("zone", "conv", "convert")):
+        line = f"COMP_WORDS=({name} {words}) COMP_CWORD={len(words.split())}"
+        told = root.ask(f"cd /tmp && . {prefix}/share/bash-completion/completions/{name} && {line} && _{name} && echo ${{COMPREPLY[*]}}")
+        due(f"what bash completes of {name} {words}", f"{wanted}\n", told)
 
 
 def installed_whole(root, prefix):
@@ -155,12 +173,31 @@ def named(root, **settings):
     root.ask(f"mkdir -p /tmp/named && /tmp/test_named /tmp/named {MACHINE}")
 
 
-def python_tests(root, python):
-    """The tests of the module by an interpreter that has it."""
+def python_tests(root, python, is_in_c=False):
+    """The tests of the module by an interpreter that has it, with what it has in C or without."""
     root.put(*(os.path.join(ROOT, "bindings", "python", f"{name}.py") for name in TESTS))
-    told = root.ask(f"cd /tmp && PYTHONDONTWRITEBYTECODE=1 {python} -m unittest {' '.join(TESTS)}")
+    due("whether the module is in C", f"{is_in_c}\n", root.ask(f"cd /tmp && {python} -Bc '{IN_C}'"))
+    told = root.ask(f"cd /tmp && {python} -B -m unittest {' '.join(TESTS)} 2>&1")
     if not re.search(r"^OK\b", told, re.M):
         raise Stop(told[-2000:])
+
+
+def kind_of(root):
+    """The kind of the wheels for the root's own Python, as cp311."""
+    return root.ask("python3 -c 'import sys; print(\"cp{}{}\".format(*sys.version_info))'").strip()
+
+
+def wheel_here(release, python, folder):
+    """The wheel with the module in C for the version that a command of this machine starts: the tests of the module in a fresh environment."""
+    kind = python.replace("python", "cp").replace(".", "")
+    place = os.path.join(folder, kind)
+    inside = os.path.join(place, "bin", "python")
+    run(python, "-m", "venv", place)
+    run(inside, "-m", "pip", "install", "-q", "--no-index", "--disable-pip-version-check", release.wheel(kind))
+    for name in TESTS:
+        shutil.copy(os.path.join(ROOT, "bindings", "python", f"{name}.py"), place)
+    due("whether the module is in C", "True\n", run(inside, "-Bc", IN_C, cwd=place))
+    run(inside, "-B", "-m", "unittest", "-q", *TESTS, cwd=place, stderr=subprocess.DEVNULL)
 
 
 def older(release, folder):

@@ -4,6 +4,8 @@ import hashlib
 import io
 import os
 import re
+import shutil
+import subprocess
 import tempfile
 import time
 import zipfile
@@ -14,6 +16,14 @@ from layout import shared_object
 LICENSES = ["LICENSE-MIT", "LICENSE-APACHE", "NOTICES"]
 # The least version of the GNU C library that a tag can name on this processor.
 LEAST = (2, 5)
+# Up to which minor version of Python 3 a command is looked for.
+MOST = 30
+# Ends with 0 where a Python is what its command says, a release of the common kind, and has the headers that a module in C takes.
+HAS_HEADERS = """
+import os, sys, sysconfig
+fits = "python3.%d" % sys.version_info[1] == sys.argv[1] and sys.version_info[3] == "final" and not sysconfig.get_config_var("Py_GIL_DISABLED")
+sys.exit(0 if fits and os.path.exists(os.path.join(sysconfig.get_paths()["include"], "Python.h")) else 1)
+"""
 GENERATOR = "Wheel-Version: 1.0\nGenerator: sefunjaro\nRoot-Is-Purelib: false\nTag: {tag}\n"
 
 
@@ -66,6 +76,14 @@ def zipped(files):
             entry.external_attr, entry.compress_type, entry.create_system = 0o100644 << 16, zipfile.ZIP_DEFLATED, 3
             archive.writestr(entry, data, compresslevel=9)
     return made.getvalue()
+
+
+def pythons():
+    """The commands of PATH, as python3.11, that start a version which the module allows and for which one in C can be built here."""
+    least = int(project("requires-python").rpartition(".")[2])
+    there = [command for command in (f"python3.{minor}" for minor in range(least, MOST)) if shutil.which(command)]
+    quiet = {"stdin": subprocess.DEVNULL, "stdout": subprocess.DEVNULL, "stderr": subprocess.DEVNULL}
+    return [command for command in there if subprocess.run([command, "-c", HAS_HEADERS, command], **quiet).returncode == 0]
 
 
 def in_c(python, folder):
