@@ -2,6 +2,7 @@
 import re
 import time
 
+import fronts
 import header
 import markdown
 import roff
@@ -20,6 +21,10 @@ COMMON = [
     ("`--help`", "as the only word: writes the usage, the statuses and an example, and ends with status 0."),
     ("`--version`", "as the only word: writes the version, and ends with status 0. A file of such a name is asked for as `./--help`."),
 ]
+# Where a bare program's section tells its options, and its statuses.
+OF_OPTIONS, OF_STATUSES = re.compile(r"`--(?!help)[a-z]"), re.compile(r"\bwith status 1\b")
+# A picture beside the words of a cell.
+PICTURE = re.compile(r", \[[^]]*\]\([^)]*\.svg\)")
 # What is said of a checkout alone.
 OF_CHECKOUT = re.compile(r"`bin/|stored here")
 
@@ -50,10 +55,12 @@ def is_made_for(words, name):
 
 
 class Section:
-    """The section of a program in docs/PROGRAMS.md, by what a manual page has of it."""
+    """The section of a program in docs/PROGRAMS.md, by what a manual page has of it. A bare program, which no front speaks for, tells its
+    options and statuses there too, a paragraph each."""
 
-    def __init__(self, name, blocks):
-        self.name, self.description, self.options, self.commands, self.tables = name, [], [], [], []
+    def __init__(self, name, blocks, is_bare=False):
+        self.name, self.is_bare = name, is_bare
+        self.description, self.options, self.statuses, self.commands, self.tables = [], [], [], [], []
         first = blocks[0].text
         self.calls = re.findall(r"^`([^`]*)`", first)
         self.does = re.sub(r"^`[^`]*` ", "", first)
@@ -67,10 +74,14 @@ class Section:
         elif is_made_for(block.text, self.name):
             call, words = re.match(r"`([^`]*)`,? ?(.*)", block.text).groups()
             self.calls.append(call)
-            self.options.append((f"`{call.removeprefix(self.name + ' ')}`", words))
+            self.options.append(roff.items([(f"`{call.removeprefix(self.name + ' ')}`", words)]))
         elif block.kind == "table":
             self.tables.append(block.rows)
-            self.description.append(roff.items(block.rows))
+            self.description.append(roff.items([[PICTURE.sub("", cell) for cell in row] for row in block.rows]))
+        elif self.is_bare and OF_STATUSES.search(block.text):
+            self.statuses.append(roff.text(block.text))
+        elif self.is_bare and OF_OPTIONS.search(block.text):
+            self.options.append(roff.text(block.text))
         else:
             self.description.append(roff.text(block.text))
 
@@ -82,7 +93,7 @@ class Section:
 def sections():
     """The sections of the programs, by their names."""
     found = markdown.sections(read("docs", "PROGRAMS.md"))
-    return {program.name: Section(program.name, found[program.name]) for program in programs()}
+    return {program.name: Section(program.name, found[program.name], fronts.is_bare(program)) for program in programs()}
 
 
 def made_by(commands):
@@ -109,12 +120,12 @@ def examples(found, name):
     return made
 
 
-def statuses():
-    """The table of statuses, without that of a program that couldn't be built, and what stands behind it."""
+def statuses(own=()):
+    """The table of statuses, without that of a program that couldn't be built, and what stands behind it, or what a program tells of its own."""
     table, *others = markdown.sections(read("docs", "PROGRAMS.md"))["Statuses"]
     rows = [row for row in table.rows if row[0] != BUILT_HERE]
     said = [block.text.partition(" `--help`")[0].replace("The script", "The program's front") for block in others]
-    return roff.items(rows) + "".join(map(roff.text, said))
+    return roff.items(rows) + "".join(own or map(roff.text, said))
 
 
 def of_program(found, name):
@@ -124,8 +135,8 @@ def of_program(found, name):
         ("NAME", f"{name} \\- {section.summary()}\n"),
         ("SYNOPSIS", f"{synopsis}\n"),
         ("DESCRIPTION", "".join(section.description) + roff.text(ELSEWHERE)),
-        ("OPTIONS", roff.items([*section.options, *COMMON])),
-        ("EXIT STATUS", statuses()),
+        ("OPTIONS", "".join([*section.options, "" if section.is_bare else roff.items(COMMON)])),
+        ("EXIT STATUS", statuses(section.statuses)),
         ("EXAMPLES", roff.example(examples(found, name))),
         ("SEE ALSO", see(f"{name}(1)", *pages_of_programs(), "sefunjaro(3)", *OUTSIDE, "sefunjaro(7)")),
     ]
