@@ -25,6 +25,8 @@ Libs: -L${{libdir}} -lsefunjaro
 PAGES = ["PROGRAMS.md", "DIFFERENCES.md", "DECISIONS.md", "GLOSSARY.md", "VERSIONS.md"]
 DOCUMENTS = ["NOTICES", "LICENSE-MIT", "LICENSE-APACHE", "CHANGELOG.md", *(f"docs/{name}" for name in PAGES)]
 DOC = "share/doc/sefunjaro"
+# Beside the files of a release: what was proved, and the checksum of each.
+SUMS = "SHA256SUMS"
 
 
 def name():
@@ -85,9 +87,14 @@ def proved(gate):
     return f"# sefunjaro {version()}\n# commit {commit()}\n# kit {run('rt', 'version').strip()}\n# gate {gate}\n"
 
 
+def line(data, path):
+    """The checksum of a file, in the form that sha256sum reads."""
+    return f"{sum_of(data)}  {path}\n"
+
+
 def sums(files):
-    """A checksum of each file, in the form that sha256sum reads."""
-    return "".join(f"{sum_of(tree.bytes_of(files, path))}  {path}\n" for path in sorted(files))
+    """The checksums of all files."""
+    return "".join(line(tree.bytes_of(files, path), path) for path in sorted(files))
 
 
 def files(library, gate):

@@ -237,17 +237,32 @@ def no_bytecode(listing):
     return {path.split(" ")[0] if "__pycache__" in path else path for path in listing}
 
 
-def crate(release, folder):
-    """The first caller in Rust over the crate, which finds the library by pkg-config; and the layouts of what it passes."""
+def unpacked(release, folder):
+    """A prefix in a folder of this machine, with the archive below it."""
     prefix = os.path.join(folder, "prefix")
     os.mkdir(prefix)
     run("tar", "-xzf", release.archive, "-C", prefix, "--strip-components=1")
+    return prefix
+
+
+def completed_by_zsh(prefix, folder):
+    """What zsh completes, over a file and over this machine's own source."""
+    run("sh", "-c", f"{prefix}/bin/zone_plain {MACHINE} > zones.txt", cwd=folder)
+    for words, wanted in (("zone at Europe/Par", "Europe/Paris"), ("zone conv", "convert"), ("zone --rf", "--rfc3339"), ("zone_ever li", "list"),
+                          ("zone_list zones.txt Europe/Par", "Europe/Paris"), ("zone_ever list zones.txt Europe/Par", "Europe/Paris")):
+        line = " ".join([*words.split()[:-1], wanted])
+        due("what zsh completes", line, run("zsh", "-f", os.path.join(ROOT, "bin", "release", "complete.zsh"), prefix, folder, words).strip())
+
+
+def crate(release, prefix, folder):
+    """The first caller in Rust over the crate, which finds the library by pkg-config, and then by a path; and the layouts of what it passes."""
     run("tar", "-xzf", release.crate, "-C", folder)
-    copy = os.path.join(folder, os.path.basename(release.crate).removesuffix(".crate"))
-    library = f"{prefix}/lib"
-    settings = {**os.environ, "PKG_CONFIG_PATH": f"{library}/pkgconfig", "LD_LIBRARY_PATH": library, "CARGO_TARGET_DIR": f"{folder}/target"}
-    settings.pop("SEFUNJARO_FOLDER", None)
+    copy, library = os.path.join(folder, os.path.basename(release.crate).removesuffix(".crate")), f"{prefix}/lib"
+    known = {key: word for key, word in os.environ.items() if key not in ("SEFUNJARO_FOLDER", "PKG_CONFIG_PATH")}
+    known["CARGO_TARGET_DIR"] = f"{folder}/target"
     source = os.path.join(ROOT, "crates", "zone_answers_program", "data", "tz.txt")
-    told = run("cargo", "run", "-q", "--offline", "--example", "first", "--", source, cwd=copy, env=settings)
-    due("the caller in Rust", requests()[1].replace(" | ", "\n"), told)
-    run("cargo", "test", "-q", "--offline", "--lib", cwd=copy, env=settings)
+    for more in ({"PKG_CONFIG_PATH": f"{library}/pkgconfig", "LD_LIBRARY_PATH": library}, {"SEFUNJARO_FOLDER": library}):
+        settings = {**known, **more}
+        told = run("cargo", "run", "-q", "--offline", "--example", "first", "--", source, cwd=copy, env=settings)
+        due("the caller in Rust", requests()[1].replace(" | ", "\n"), told)
+        run("cargo", "test", "-q", "--offline", "--lib", cwd=copy, env=settings)
