@@ -11,9 +11,9 @@
 #define NAME_ROOM 16
 #define KEPT_DELTAS 256
 
-/* How many stretches are kept, and which seconds have one place among them: 2^22 of them, or 48 days. */
-#define KEPT_STRETCHES 2048
-#define BITS_OF_PLACE 22
+/* Stretches are kept in pairs, since a change has two beside it: how many pairs, and which seconds share one, 2^22 of them, or 48 days. */
+#define KEPT_PAIRS 1024
+#define BITS_OF_PAIR 22
 
 /* A stretch is known up to so many seconds before and after the one that was asked, half a year, if no change comes before. */
 #define REACH ((int64_t)1 << 24)
@@ -65,7 +65,11 @@ struct stretch {
     PyObject *name;
 };
 
-static struct stretch kept_stretches[KEPT_STRETCHES];
+struct pair {
+    struct stretch one, other;
+};
+
+static struct pair kept_pairs[KEPT_PAIRS];
 
 /* An instant at which a local time's offset is in force. */
 struct chosen {
@@ -135,9 +139,8 @@ static struct sefunjaro_clock clock_of(PyObject *local) {
 }
 
 /* Where the stretch of a second, in UTC or as clocks show it, is kept, if it is. */
-static struct stretch *place_of(PyObject *self, int64_t second) {
-    uint64_t lending = ((struct zone *)self)->lending;
-    return &kept_stretches[((uint64_t)(second >> BITS_OF_PLACE) + lending * 769) % KEPT_STRETCHES];
+static struct pair *pair_of(PyObject *self, int64_t second) {
+    return &kept_pairs[((uint64_t)(second >> BITS_OF_PAIR) + ((struct zone *)self)->lending * 769) % KEPT_PAIRS];
 }
 
 /* Keeps at a place what the library tells of a second of the years -9999 to 9999, and returns whether it could. */
@@ -176,28 +179,41 @@ static bool keep(PyObject *self, struct stretch *place, int64_t second) {
     return true;
 }
 
-/* Whether a stretch is the zone's, and the second lies in it, so far from both ends that clocks show its local time once alone. */
-static bool lies_within(PyObject *self, const struct stretch *place, int64_t second) {
-    return place->lending == ((struct zone *)self)->lending && place->from + APART <= second && second < place->to - APART;
+/* Whether a stretch is the zone's, and a second lies in it, so many seconds at least from both its ends. */
+static bool has(PyObject *self, const struct stretch *stretch, int64_t second, int64_t from_ends) {
+    return stretch->lending != 0 && stretch->lending == ((struct zone *)self)->lending && stretch->from + from_ends <= second &&
+           second < stretch->to - from_ends;
 }
 
-/* The same where a change may be near. */
-static bool lies_near(PyObject *self, const struct stretch *place, int64_t second) {
-    return place->lending == ((struct zone *)self)->lending && place->from - APART <= second && second < place->to + APART;
+/* The stretch that is kept of a second in UTC, if it lies so far from both its ends, or NULL. */
+static struct stretch *kept_at(PyObject *self, int64_t second, int64_t from_ends) {
+    struct pair *pair = pair_of(self, second);
+    if (has(self, &pair->one, second, from_ends)) {
+        return &pair->one;
+    }
+    return has(self, &pair->other, second, from_ends) ? &pair->other : NULL;
 }
 
 /* The stretch in which clocks show a local time, by its seconds from 1970-01-01 00:00:00 by the same clock, where they do so once and
    no change is near; else NULL. */
 static struct stretch *only_stretch(PyObject *self, int64_t shown) {
-    struct stretch *place = place_of(self, shown);
-    return place->lending != 0 && lies_within(self, place, shown - place->offset) ? place : NULL;
+    struct pair *pair = pair_of(self, shown);
+    if (has(self, &pair->one, shown - pair->one.offset, APART)) {
+        return &pair->one;
+    }
+    return has(self, &pair->other, shown - pair->other.offset, APART) ? &pair->other : NULL;
 }
 
-/* Keeps the stretch of an instant where it is looked for by a second near it, if what is kept there isn't as near. */
+/* Keeps the stretch of an instant where it is looked for by a second near it, if it isn't kept there. */
 static void keep_for(PyObject *self, int64_t asked, int64_t second) {
-    struct stretch *place = place_of(self, asked);
-    if (FIRST_SECOND + REACH <= second && second < END_SECOND - REACH && !lies_near(self, place, second)) {
-        keep(self, place, second);
+    struct pair *pair = pair_of(self, asked);
+    if (FIRST_SECOND + REACH <= second && second < END_SECOND - REACH && !has(self, &pair->one, second, 0) &&
+        !has(self, &pair->other, second, 0)) {
+        /* What was kept last becomes the other. */
+        struct stretch other = pair->other;
+        pair->other = pair->one;
+        pair->one = other;
+        keep(self, &pair->one, second);
     }
 }
 
@@ -369,10 +385,9 @@ static PyObject *zone_fromutc(PyObject *self, PyObject *utc) {
         return NULL;
     }
     int64_t second = second_of(utc);
-    struct stretch *place = place_of(self, second);
-    bool is_first = place->lending != 0 && lies_within(self, place, second);
-    int32_t offset = place->offset;
-    if (!is_first) {
+    struct stretch *only = kept_at(self, second, APART);
+    int32_t offset;
+    if (only == NULL) {
         struct sefunjaro_handle copy = copy_of(self);
         uint32_t status = bound.offset_at(&copy, second, (uint32_t)PyDateTime_DATE_GET_MICROSECOND(utc) * 1000, &offset);
         if (status != SEFUNJARO_DONE) {
@@ -380,9 +395,9 @@ static PyObject *zone_fromutc(PyObject *self, PyObject *utc) {
         }
         keep_for(self, second, second);
     }
-    PyObject *delta = is_first ? delta_in(place) : delta_of(offset);
+    PyObject *delta = only != NULL ? delta_in(only) : delta_of(offset);
     PyObject *local = delta == NULL ? NULL : PyNumber_Add(utc, delta);
-    PyObject *told = local == NULL || is_first ? local : folded(self, local, second);
+    PyObject *told = local == NULL || only != NULL ? local : folded(self, local, second);
     Py_XDECREF(delta);
     if (told != local) {
         Py_XDECREF(local);
@@ -392,13 +407,13 @@ static PyObject *zone_fromutc(PyObject *self, PyObject *utc) {
 
 /* The offset at a second of the years -9999 to 9999, by what is kept where it is. */
 static uint32_t offset_by(PyObject *self, int64_t second, int32_t *offset) {
-    struct stretch *place = place_of(self, second);
-    bool is_near = place->lending != 0 && lies_near(self, place, second);
-    if (!is_near) {
+    struct stretch *kept = kept_at(self, second, 0);
+    if (kept == NULL) {
         keep_for(self, second, second);
+        kept = kept_at(self, second, 0);
     }
-    if (place->lending != 0 && place->lending == ((struct zone *)self)->lending && place->from <= second && second < place->to) {
-        *offset = place->offset;
+    if (kept != NULL) {
+        *offset = kept->offset;
         return SEFUNJARO_DONE;
     }
     struct sefunjaro_handle copy = copy_of(self);
