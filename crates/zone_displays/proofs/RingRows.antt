@@ -14,12 +14,12 @@ use Rattle.civil_base.specs.Ranges.{is_in_years}
 use Rattle.zone_moments.specs.Written.{epoch_text, fraction_text}
 use Rattle.zone_moments.specs.declared.answer_form.AnswerForm.TheVariants.{Epoch}
 use Rattle.zone_replies.specs.Faults.{Due, each_due, followed}
-use Rattle.zone_replies.specs.Instants.{is_untold, shown_due}
+use Rattle.zone_replies.specs.Instants.{is_untold, line_due, shown_due}
 use Rattle.zone_replies.specs.Skips.{skipping}
 use Rattle.zone_replies.specs.Views.{InForce, ZoneView}
 use Rattle.zone_replies.specs.declared.fault.ReplyFault.TheVariants.{OutOfYears, Untold}
 use Rattle.zone_displays.specs.Days.{days_between, is_dated, is_on, last_of, step_of}
-use Rattle.zone_displays.specs.Rings.{by_fold, by_gap, counts, first_of, line_due, lines_on, rings_at, rings_due, rung_on, time_on}
+use Rattle.zone_displays.specs.Rings.{by_fold, by_gap, counts, first_of, lines_on, rings_at, rings_due, rung_on, time_on}
 use Rattle.zone_displays.proofs.RungLemmas.{not_dated, not_on, not_told, told}
 use Rattle.zone_words.specs.Tasks.{AlarmAsked}
 use Rattle.zone_words.specs.declared.task.FoldRule.TheVariants.{First, Second, Both}

@@ -3,8 +3,8 @@ use Rattle.std.specs.Prelude.{ℕ, Bool, true, false, not, List, [], ◌∷◌, 
 use Rattle.civil_base.specs.Clock.{nanos_per_day}
 use Rattle.civil_base.specs.Instants.{instant_at}
 use Rattle.zone_moments.specs.declared.answer_form.AnswerForm.{AnswerForm}
-use Rattle.zone_replies.specs.Faults.{Due, each_due, followed}
-use Rattle.zone_replies.specs.Instants.{at_due, is_untold}
+use Rattle.zone_replies.specs.Faults.{Due, each_due}
+use Rattle.zone_replies.specs.Instants.{is_untold, line_due}
 use Rattle.zone_replies.specs.Skips.{after_of, before_of, skipping}
 use Rattle.zone_replies.specs.Views.{ZoneView}
 use Rattle.zone_replies.specs.declared.fault.ReplyFault.{ReplyFault}
@@ -69,10 +69,6 @@ counts (Err fault) = true
 abbrev pub first_of : {A : Type 0} → Option ℕ → List A → List A
 first_of (Some count) xs = take count xs
 first_of None xs = xs
-
--- the reply to `at`, and the end of its line
-abbrev pub line_due : AnswerForm → ZoneView → List ℕ → ℤ → Due
-line_due form view name t = followed (at_due form view name t) (Ok (10 ∷ []))
 
 -- the lines of a day's rings
 abbrev pub lines_due : AnswerForm → ZoneView → List ℕ → Rung → Due

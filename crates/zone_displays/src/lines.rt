@@ -4,31 +4,16 @@ ghost use Rattle.civil_base.specs.DateTimes.{instant};
 ghost use Rattle.zone_replies.specs.Faults.{behind, each_due, IsFaultOf};
 ghost use Rattle.zone_displays.specs.Days.{day_after, is_dated, step_of};
 ghost use Rattle.zone_displays.specs.Left.{is_full, left_after};
-ghost use Rattle.zone_displays.specs.Rings.{counts, line_due, lines_due, rings_due, rung_on};
+ghost use Rattle.zone_replies.specs.Instants.{line_due};
+ghost use Rattle.zone_displays.specs.Rings.{counts, lines_due, rings_due, rung_on};
 ghost use Rattle.zone_words.specs.TaskShown.{alarm_shown};
 
 use crate::days::{count_between, day_after, is_on, step_of};
 use crate::instants::rings_at;
 use civil_base::{Date, OffsetDateTime, PlainDateTime};
 use std::alloc::Global;
-use zone_replies::{ReplyFault, ReplyZone, Style, add_at, is_untold};
+use zone_replies::{ReplyFault, ReplyZone, Style, add_at_line, is_untold};
 use zone_words::Alarm;
-
-/// Adds the line of an instant.
-fn add_line<Z: ReplyZone>(
-    into: &mut Vec<u8>,
-    alloc: Global,
-    zone: &Z,
-    style: &Style<'_>,
-    at: &OffsetDateTime,
-) -> Result<(), ReplyFault>
-    ensures ok { OnOk result (Ok into.new.items ≡ behind into.old.items (line_due style.now.form (Z.view zone.now) style.now.name.now (instant at.now))) }
-    ensures err { IfErr result (IsFaultOf (line_due style.now.form (Z.view zone.now) style.now.name.now (instant at.now))) }
-{
-    add_at(into, alloc, zone, style, at)?;
-    into.extend_from_slice(b"\n")?;
-    Ok(())
-}
 
 /// Adds the lines of some instants.
 fn add_lines<Z: ReplyZone>(
@@ -42,7 +27,7 @@ fn add_lines<Z: ReplyZone>(
     ensures err { IfErr result (IsFaultOf (each_due (line_due style.now.form (Z.view zone.now) style.now.name.now) (map instant dates.now))) }
 {
     for date in dates {
-        add_line(into, alloc, zone, style, date)?;
+        add_at_line(into, alloc, zone, style, date)?;
     }
     Ok(())
 }
@@ -138,7 +123,7 @@ fn add_days<Z: ReplyZone>(
     Ok(())
 }
 
-/// Adds a line for each ring of an alarm in a zone: what clocks show then, as of [`add_at`], the days in their order and the rings of a day
+/// Adds a line for each ring of an alarm in a zone: what clocks show then, as of [`zone_replies::add_at`], the days in their order and the rings of a day
 /// by time. The days are the first, each `every` days after it (one where that is 0) whose weekday is wanted, up to and with the last; where
 /// a count is told, the days on which it rings are no more than that, and one on which clocks skip the time doesn't count where it doesn't
 /// ring then.
@@ -146,7 +131,7 @@ fn add_days<Z: ReplyZone>(
 /// # Errors
 ///
 /// What is due first: `Untold` exactly where a local time of a wanted day that is reached lies past the zone's last year; `OutOfYears`
-/// exactly where a day is reached outside the years -9999 to 9999, which a last day rules out; what [`add_at`] tells of a ring;
+/// exactly where a day is reached outside the years -9999 to 9999, which a last day rules out; what [`zone_replies::add_at`] tells of a ring;
 /// `NoMemory`. The text is as before then.
 pub fn add_rings<Z: ReplyZone>(
     into: &mut Vec<u8>,
