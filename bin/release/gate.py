@@ -59,4 +59,9 @@ def build_archive():
     words += ["--antt-project", f"{kit}/rattle/logic/antt-project.json", "--logic-built", f"{kit}/logic_built"]
     words += ["--toolchain", f"{kit}/toolchain", "--backend", "llvm", "-o", f"out/lib{CRATE}.a"]
     say(f"{CRATE} is proved and built over what the gate proved")
-    run(os.path.join(kit, "bin", "rattle"), "build", *words, cwd=os.path.join(ROOT, "crates", CRATE), stdin=subprocess.DEVNULL)
+    folder = os.path.join(ROOT, "crates", CRATE)
+    os.makedirs(os.path.join(folder, "out"), exist_ok=True)
+    how = {"stdin": subprocess.DEVNULL, "stdout": subprocess.PIPE, "stderr": subprocess.STDOUT, "encoding": "utf-8", "errors": "replace"}
+    done = subprocess.run([os.path.join(kit, "bin", "rattle"), "build", *words], cwd=folder, **how)
+    if done.returncode != 0 or not re.search(r"^logic=proved ", done.stdout, re.M):
+        raise Stop(f"{CRATE} couldn't be built:\n{done.stdout[-3000:]}")
