@@ -1,11 +1,12 @@
 -- Answers by the zones that names found.
-use Rattle.std.proofs.Common.{◌≡◌, ℕ, List, Ok, sym, subst}
+use Rattle.std.proofs.Common.{◌≡◌, ℕ, ℤ, List, Ok, Bool, true, false, cond, refl, sym, subst, int_cmp, int_lt, is_lt, Less, Equal, Greater}
 use Rattle.std.specs.Prelude.{Result, Vec}
 use Rattle.std.specs.declared.alloc.Global.{Global}
 use Rattle.zone_command.specs.Answers.{told, IsAnswer, IsReply, ◌>>=◌}
 use Rattle.zone_command.specs.Named.{Found, named_in}
-use Rattle.zone_command.specs.Replies.{on_zone}
+use Rattle.zone_command.specs.Replies.{list_answer, list_lines, on_zone}
 use Rattle.zone_command.specs.declared.source.Refusal.{Refusal}
+use Rattle.zone_moments.specs.declared.answer_form.AnswerForm.{AnswerForm}
 use Rattle.zone_replies.specs.Faults.{Due}
 use Rattle.zone_replies.specs.Views.{ZoneView}
 use Rattle.zone_replies.specs.declared.fault.ReplyFault.{ReplyFault}
@@ -26,3 +27,14 @@ pub answered_both : (found : List ℕ → Found) (from to who : List ℕ) (reply
 answered_both found from to who reply {view = view} lines r is is_other replies tells =
     let P : Found → Type 0 = λ z. IsAnswer (z >>= (λ v. on_zone found to (λ o. told who (reply v o)))) r in
     subst P (sym is) (answered found to who (reply view) lines r is_other replies tells)
+
+-- of a window that ends after it begins
+pub in_window : (found : List ℕ → Found) (form : AnswerForm) (name : List ℕ) (from to : ℤ) (word : List ℕ) (r : Result (Vec ℕ Global) Refusal)
+    → is_lt (int_cmp from to) ≡ true → IsAnswer (on_zone found name (λ view. told name (list_lines form view name from to))) r
+    → IsAnswer (list_answer found form name from to word) r
+in_window found form name from to word r after answers = rw (below (int_lt from to) (int_lt to from) after) answers
+  where
+    below : (b c : Bool) → is_lt (cond b Less (cond c Greater Equal)) ≡ true → b ≡ true
+    below true c e = refl
+    below false true e = absurd cc
+    below false false e = absurd cc

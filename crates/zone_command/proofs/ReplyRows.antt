@@ -56,9 +56,16 @@ line : List ℕ → List ℕ
 line second = (64 ∷ second ++ codes ": +00:00 A to +00:00 A, saving 0") ++ 10 ∷ []
 
 -- from now on, and before the other instant
-listed : reply_of found [] Epoch (pos 5000000000) (list_changes (codes "a") None (Some (pos 9000000000))) ≡ Ok (line (codes "5") ++ (line (codes "8") ++ []))
+listed : reply_of found [] Epoch (pos 5000000000) (list_changes (codes "a") None (Some (pos 9000000000)) (codes "@9")) ≡ Ok (line (codes "5") ++ (line (codes "8") ++ []))
 unfolding found view line value_in two_in size_in offset_in seconds_of day_part list_lines list_due each_due change_due sides_text epoch_text fraction_text offset_shown digits
 listed = λ i. told (codes "a") (cond (ap (int_lt (pos 2099)) year i) (Err Untold) (Ok (line (codes "5") ++ (line (codes "8") ++ []))))
+
+-- a second that isn't after the first, before the zone is looked for
+backwards : map (λ to. reply_of found [] Epoch (pos 5) (list_changes (codes "b") None to (codes "x"))) (None ∷ Some (pos 5) ∷ Some (pos 4) ∷ Some (pos 6) ∷ [])
+    ≡ Err (codes "\"x\": this isn't after FROM") ∷ Err (codes "\"x\": this isn't after FROM") ∷ Err (codes "\"x\": this isn't after FROM")
+    ∷ Err (codes "\"b\": none") ∷ []
+unfolding found value_in two_in size_in offset_in
+backwards = refl
 
 lines : map lined (Ok (codes "a") ∷ told (codes "x") (Err OutOfYears) ∷ [])
     ≡ Ok (codes "a") ∷ Err (codes "zone: \"x\": a date lies outside the years -9999 to 9999" ++ 10 ∷ []) ∷ []

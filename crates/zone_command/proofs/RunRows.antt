@@ -11,7 +11,7 @@ use Rattle.zone_source.specs.Statuses.{code_of}
 use Rattle.zone_words.specs.FaultLines.{fault_line}
 use Rattle.zone_words.specs.Tasks.{TaskAsked, help, at_instants, local_time, list_changes, log, stream, tree}
 use Rattle.zone_words.specs.declared.command.Command.TheVariants.{At}
-use Rattle.zone_words.specs.declared.fault.WordCause.TheVariants.{Text, TooFew, UnknownOption}
+use Rattle.zone_words.specs.declared.fault.WordCause.TheVariants.{BeforeFirst, Text, TooFew, UnknownOption}
 
 abbrev quoted : List ℕ → List ℕ
 quoted word = 34 ∷ word ++ 34 ∷ []
@@ -30,6 +30,9 @@ failures =
     ) ∷ (
       bad_words (record { word = []; more = None; cause = TooFew }),
       (codes "zone: words are missing behind this command" ++ 10 ∷ [], 1),
+    ) ∷ (
+      bad_words (record { word = codes "2024-10-26"; more = None; cause = BeforeFirst }),
+      (codes "zone: " ++ quoted (codes "2024-10-26") ++ codes ": the last day comes before the first" ++ 10 ∷ [], 2),
     ) ∷
     (clock_fails, (codes "zone: the clock can't be read" ++ 10 ∷ [], 3)) ∷
     (environment_fails, (codes "zone: the value of SEFUNJARO_TZDATA can't be read" ++ 10 ∷ [], 3)) ∷
@@ -58,7 +61,8 @@ worked_ends = refl
 abbrev tasks : List (TaskAsked × Bool)
 tasks =
     (at_instants [] (Some (pos 1) ∷ None ∷ []), true) ∷ (at_instants [] (Some (pos 1) ∷ []), false) ∷
-    (list_changes [] (Some (pos 1)) None, true) ∷ (list_changes [] None (Some (pos 1)), true) ∷ (local_time [] (pos 1), false) ∷
+    (list_changes [] (Some (pos 1)) None [], true) ∷ (list_changes [] None (Some (pos 1)) [], true) ∷ (local_time [] (pos 1), false) ∷
+    (list_changes [] (Some (pos 1)) (Some (pos 2)) [], false) ∷
     (help (Some At), false) ∷ (stream true, false) ∷ []
 
 worked_tasks : map (λ row. asks_now row.0) tasks ≡ map (λ row. row.1) tasks

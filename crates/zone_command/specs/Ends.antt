@@ -1,5 +1,5 @@
 -- How a run ended.
-use Rattle.std.specs.Prelude.{◌≡◌, ◌⊎◌, ℕ, Bool, true, false, List, [], Option, Some, None, Ok, Err, IfSome, IsErrAnd, IsOkAnd, MatchOption, ℤ, pos, unwrap_or, codes}
+use Rattle.std.specs.Prelude.{◌≡◌, ◌⊎◌, ◌≤◌, ℕ, Bool, true, false, List, [], Option, Some, None, Ok, Err, IfSome, IsErrAnd, IsOkAnd, MatchOption, ℤ, pos, unwrap_or, codes}
 use Rattle.civil_base.specs.Ranges.{is_in_years}
 use Rattle.zone_command.specs.Bare.{bare}
 use Rattle.zone_command.specs.Due.{Answers, Makings}
@@ -99,14 +99,24 @@ IsOver due makes asked at file before now outcome =
     ((is_served asked.task ≡ false) × IsAnswer due asked at file before now outcome)
     ⊎ ((is_served asked.task ≡ true) × IsServing makes asked file before now outcome)
 
--- over the file that is meant, at the instant that the clock tells where words ask for it; where they don't, the clock is not asked
+-- a shelf that may have been read: it tells the same texts, and its faults don't fall
+pub record MayBeRead (before now : ShelfSeen) : Type 0 where
+  pub texts : (name : List ℕ) → now.told name ≡ before.told name
+  pub faults : before.faults ≤ now.faults
+
+-- where words don't ask for the instant, the clock is not asked
+abbrev pub IsUnasked : WordsAsked → InSeen → InSeen → Type 0
+IsUnasked asked before now = asks_now asked.task ≡ false → now.clock ≡ before.clock
+
+-- over the file that is meant, at the instant that the clock tells where words ask for it
 pub record IsOverAt (due : Answers) (makes : Makings) (asked : WordsAsked) (before now : InSeen) (outcome : Outcome) : Type 0 where
   pub at : ℤ
   pub told : asks_now asked.task ≡ true → IfSome before.clock.told (λ nanos. at ≡ pos nanos)
-  pub unasked : asks_now asked.task ≡ false → now.clock ≡ before.clock
+  pub unasked : IsUnasked asked before now
   pub file : List ℕ
   pub named : IsFile asked.source before.environment now.environment file
   pub over : IsOver due makes asked at file before.shelf now.shelf outcome
+  pub read : MayBeRead before.shelf now.shelf
 
 -- the clock failed, or tells an instant past the years, which comes before the environment and the file
 pub record ClockFailed (asked : WordsAsked) (before now : InSeen) (outcome : Outcome) : Type 0 where
@@ -119,14 +129,22 @@ pub record ClockFailed (asked : WordsAsked) (before now : InSeen) (outcome : Out
 -- the environment failed, which comes before the file
 pub record EnvironmentFailed (asked : WordsAsked) (before now : InSeen) (outcome : Outcome) : Type 0 where
   pub outcome_is : outcome ≡ failed environment_fails
+  pub unasked : IsUnasked asked before now
   pub unnamed : asked.source ≡ None
   pub rose : Rose before.environment.faults now.environment.faults
+  pub shelf : now.shelf ≡ before.shelf
+
+-- memory ran out before the file was known; a source that is named is not asked of the environment
+pub record IsShort (asked : WordsAsked) (before now : InSeen) (outcome : Outcome) : Type 0 where
+  pub outcome_is : outcome ≡ failed no_memory
+  pub unasked : IsUnasked asked before now
+  pub named : IfSome asked.source (λ _. now.environment ≡ before.environment)
   pub shelf : now.shelf ≡ before.shelf
 
 abbrev pub IsFoundOver : Answers → Makings → WordsAsked → InSeen → InSeen → Outcome → Type 0
 IsFoundOver due makes asked before now outcome =
     IsOverAt due makes asked before now outcome
-    ⊎ (ClockFailed asked before now outcome ⊎ (EnvironmentFailed asked before now outcome ⊎ (outcome ≡ failed no_memory)))
+    ⊎ (ClockFailed asked before now outcome ⊎ (EnvironmentFailed asked before now outcome ⊎ IsShort asked before now outcome))
 
 -- without a source, and nothing is read; or memory ran out
 abbrev pub IsBare : List ℕ → InSeen → InSeen → Outcome → Type 0
@@ -142,11 +160,11 @@ IsFound due makes asked before now outcome = MatchOption (bare asked.task)
 abbrev pub IsRefused : Reading WordsAsked → InSeen → InSeen → Outcome → Type 0
 IsRefused read before now outcome = IsErrAnd read (λ fault. outcome ≡ failed (bad_words fault)) × (now ≡ before)
 
--- what words come to that are read so; or memory ran out
+-- what words come to that are read so; or memory ran out, and nothing is read
 abbrev pub IsCause : Answers → Makings → Reading WordsAsked → InSeen → InSeen → Outcome → Type 0
 IsCause due makes read before now outcome =
     IsOkAnd read (λ asked. IsFound due makes asked before now outcome)
-    ⊎ (IsRefused read before now outcome ⊎ (outcome ≡ failed no_memory))
+    ⊎ (IsRefused read before now outcome ⊎ ((outcome ≡ failed no_memory) × (now ≡ before)))
 
 -- ---- what is written
 

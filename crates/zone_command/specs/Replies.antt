@@ -1,5 +1,5 @@
 -- What is due of words over zones.
-use Rattle.std.specs.Prelude.{◌≡◌, ◌⊎◌, ◌&&◌, ℕ, List, [], ◌∷◌, ◌++◌, map, Option, Result, Ok, Err, decimal, unwrap_or, ℤ, if◌then◌else◌}
+use Rattle.std.specs.Prelude.{◌≡◌, ◌⊎◌, ◌&&◌, ℕ, List, [], ◌∷◌, ◌++◌, map, Option, Result, Ok, Err, codes, decimal, int_lt, unwrap_or, ℤ, if◌then◌else◌}
 use Rattle.civil_base.specs.Ranges.{is_in_years}
 use Rattle.zone_command.specs.Answers.{Answer, OfName, told, lined, ◌>>=◌}
 use Rattle.zone_command.specs.Named.{Found, named_in}
@@ -8,8 +8,8 @@ use Rattle.zone_displays.specs.Charts.{chart_due}
 use Rattle.zone_displays.specs.SeenZones.{Named}
 use Rattle.zone_command.specs.Due.{Answers, Due as Delivered}
 use Rattle.zone_moments.specs.declared.answer_form.AnswerForm.{AnswerForm}
-use Rattle.zone_replies.specs.Faults.{Due, behind, followed}
-use Rattle.zone_replies.specs.Instants.{at_due}
+use Rattle.zone_replies.specs.Faults.{Due, behind, ended}
+use Rattle.zone_replies.specs.Instants.{line_due}
 use Rattle.zone_replies.specs.Lists.{list_due}
 use Rattle.zone_replies.specs.Readings.{convert_due}
 use Rattle.zone_replies.specs.Views.{ZoneView}
@@ -19,14 +19,10 @@ use Rattle.zone_displays.specs.Texts.{names_text}
 use Rattle.zone_displays.specs.Rings.{rings_due}
 use Rattle.zone_words.specs.Tasks.{TaskAsked, WordsAsked, at_instants, local_time, converted, list_changes, alarm, names, file, posix_string, tree, chart}
 
--- a reply as a line
-abbrev pub ended : Due → Due
-ended due = followed due (Ok (10 ∷ []))
-
 -- a line for each instant, behind those that there are
 abbrev pub at_lines : AnswerForm → ZoneView → List ℕ → List ℕ → List ℤ → Due
 at_lines form view name text [] = Ok text
-at_lines form view name text (t ∷ times) = behind text (ended (at_due form view name t)) >>= (λ more. at_lines form view name more times)
+at_lines form view name text (t ∷ times) = behind text (line_due form view name t) >>= (λ more. at_lines form view name more times)
 
 -- a line for each reading
 abbrev pub convert_lines : AnswerForm → ZoneView → List ℕ → ZoneView → List ℕ → ℤ → Due
@@ -57,6 +53,12 @@ named_zones found (name ∷ others) =
 abbrev pub chart_answer : (List ℕ → Found) → List (List ℕ) → ℕ → Answer
 chart_answer found wanted year = named_zones found wanted >>= (λ zones. told (decimal year) (chart_due zones year))
 
+-- the changes of a zone from an instant on and before another, whose word is told where it isn't after the first
+abbrev pub list_answer : (List ℕ → Found) → AnswerForm → List ℕ → ℤ → ℤ → List ℕ → Answer
+list_answer found form name from to word =
+    if int_lt from to then on_zone found name (λ view. told name (list_lines form view name from to))
+    else Err (name_words word (codes "this isn't after FROM"))
+
 -- zones that were found, and those that the names left find
 abbrev pub behind_found : List Named → Result (List Named) (List ℕ) → Result (List Named) (List ℕ)
 behind_found zones left = left >>= (λ more. Ok (zones ++ more))
@@ -73,8 +75,7 @@ reply_of found entries form now (at_instants name times) =
 reply_of found entries form now (local_time name x) = on_zone found name (λ view. told name (convert_lines form view name view name x))
 reply_of found entries form now (converted from to x) =
     on_zone found from (λ view. on_zone found to (λ other. told from (convert_lines form view from other to x)))
-reply_of found entries form now (list_changes name from to) =
-    on_zone found name (λ view. told name (list_lines form view name (instant_at now from) (instant_at now to)))
+reply_of found entries form now (list_changes name from to word) = list_answer found form name (instant_at now from) (instant_at now to) word
 reply_of found entries form now (alarm name asked) = on_zone found name (λ view. told name (rings_due form view name asked))
 reply_of found entries form now (names word) = Ok (names_text form entries word)
 reply_of found entries form now (chart wanted year) = chart_answer found wanted year

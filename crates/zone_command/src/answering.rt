@@ -2,7 +2,7 @@
 ghost use Rattle.std.specs.Prelude.{◌≡◌, ◌≤◌, length, [], map, option_map, Ok};
 ghost use Rattle.civil_base.specs.DateTimes.{instant};
 ghost use Rattle.zone_command.specs.Answers.{OfName, lined, told, IsAnswer, IsGiven};
-ghost use Rattle.zone_command.specs.Replies.{at_lines, convert_lines, instant_at, instants_at, list_lines, on_zone, reply_of, IsDueOver, IsReplyTo};
+ghost use Rattle.zone_command.specs.Replies.{at_lines, convert_lines, instants_at, list_answer, on_zone, reply_of, IsDueOver, IsReplyTo};
 ghost use Rattle.zone_command.specs.Due.{IsDue};
 ghost use Rattle.zone_moments.specs.Shown.{asked as asked_of};
 ghost use Rattle.zone_displays.specs.Texts.{names_text};
@@ -10,7 +10,7 @@ ghost use Rattle.zone_displays.specs.Rings.{rings_due};
 ghost use Rattle.zone_words.specs.TaskShown.{alarm_shown, task_shown, words_shown};
 
 use crate::AnswerFault;
-use crate::answers::told;
+use crate::answers::{refusal_of, told};
 use crate::charts::chart_reply;
 use crate::line::{name_words, told_line};
 use crate::named::find_named;
@@ -71,20 +71,24 @@ fn convert_reply<S: ZoneSource>(
     told(alloc, from_name, lines)
 }
 
-/// The answer to `list`.
+/// The answer to `list`, of which the second instant has that word.
 fn list_reply<S: ZoneSource>(
     alloc: Global,
     source: &S,
     style: &Style<'_>,
     from: &OffsetDateTime,
     to: &OffsetDateTime,
+    word: &str,
 ) -> Result<Vec<u8>, Refusal>
-    ensures { IsAnswer (on_zone (S.found source.now) style.now.name.now (λ view.
-        told style.now.name.now (list_lines style.now.form view style.now.name.now (instant from.now) (instant to.now)))) result }
+    ensures { IsAnswer (list_answer (S.found source.now) style.now.form style.now.name.now (instant from.now) (instant to.now) word.now) result }
 {
-    let zone = find_named(alloc, source, style.name)?;
-    let lines = list_lines(alloc, &zone, style, from, to);
-    told(alloc, style.name, lines)
+    if *from < *to {
+        let zone = find_named(alloc, source, style.name)?;
+        let lines = list_lines(alloc, &zone, style, from, to);
+        told(alloc, style.name, lines)
+    } else {
+        Err(refusal_of(alloc, word, b"this isn't after FROM"))
+    }
 }
 
 /// The answer to `alarm`.
@@ -164,12 +168,13 @@ fn reply<S: ZoneSource>(
         Task::Convert(from, to, local) => {
             convert_reply(alloc, source, *from, &Style { name: *to, form }, local)
         }
-        Task::List(name, from, to) => list_reply(
+        Task::List(name, from, to, word) => list_reply(
             alloc,
             source,
             &Style { name: *name, form },
             &moment_of(from, now),
             &moment_of(to, now),
+            *word,
         ),
         Task::Alarm(name, alarm) => {
             alarm_reply(alloc, source, &Style { name: *name, form }, alarm)

@@ -51,29 +51,17 @@ fn file_line(alloc: Global, file: &str, why: &str) -> Result<Vec<u8>, AllocError
     Ok(line)
 }
 
-/// The bytes again.
-pub(crate) fn copied(alloc: Global, text: &[u8]) -> Result<Vec<u8>, AllocError>
-    ensures { IfOk result (λ copy. copy.items ≡ text.now) }
-{
-    let mut copy = Vec::new(alloc);
-    copy.extend_from_slice(text)?;
-    Ok(copy)
-}
-
 /// The line that tells it.
 #[tactic(auto, unfolding(crate::specs::Failures::errors_of))]
 pub(crate) fn line_of(alloc: Global, failure: &Failure<'_>) -> Result<Vec<u8>, AllocError>
     ensures { IfOk result (λ line. line.items ≡ errors_of (failure_shown failure.now)) }
 {
     match failure {
-        Failure::Refuses(line) => copied(alloc, line.as_slice()),
+        Failure::Refuses(line) => line.as_slice().to_vec(alloc),
         Failure::BadWords(fault) => fault_line(alloc, fault),
-        Failure::Clock => copied(alloc, b"zone: the clock can't be read\n"),
+        Failure::Clock => b"zone: the clock can't be read\n".to_vec(alloc),
         Failure::Environment => {
-            copied(
-                alloc,
-                b"zone: the value of SEFUNJARO_TZDATA can't be read\n",
-            )
+            b"zone: the value of SEFUNJARO_TZDATA can't be read\n".to_vec(alloc)
         }
         Failure::File(file) => file_line(alloc, file.as_str(), "this file can't be read"),
         Failure::Long(file) => file_line(

@@ -8,16 +8,15 @@ ghost use Rattle.zone_command.specs.Times.{asks_now};
 ghost use Rattle.zone_command.specs.Bare.{text_shown};
 ghost use Rattle.zone_command.specs.Comes.{Comes, ComesBy, ComesTo};
 ghost use Rattle.zone_command.specs.Due.{IsDue};
-ghost use Rattle.zone_command.specs.Ends.{IsAnswer, IsCause, IsFile, IsFound, IsFoundOver, IsOver, IsServing, file_of, is_served};
+ghost use Rattle.zone_command.specs.Ends.{IsAnswer, IsCause, IsFile, IsFound, IsFoundOver, IsOver, IsServing, MayBeRead, file_of, is_served};
 ghost use Rattle.zone_command.specs.FailureShown.{failure_shown};
 ghost use Rattle.zone_command.specs.Failures.{environment_fails, no_memory};
 ghost use Rattle.zone_command.specs.InSeen.{clock_seen, environment_seen, in_seen};
 ghost use Rattle.zone_words.specs.TaskShown.{task_shown, words_shown};
-ghost use Rattle.zone_words.specs.Told.{is_of_memory};
 ghost use Rattle.zone_words.specs.Words.{words_in};
 
 use crate::answerer::{AnswerFault, Answerer};
-use crate::failure::{Failure, copied};
+use crate::failure::Failure;
 use crate::help::bare;
 use crate::times::asks_now;
 use civil_base::OffsetDateTime;
@@ -25,7 +24,7 @@ use std::alloc::Global;
 use zone_outside::{Environment, Exchange, WallClock};
 use zone_pieces::StreamEnd;
 use zone_source::{Failed, ReadEnd, Shelf, fetch_all};
-use zone_words::{Asked, Task, WordCause, read_words};
+use zone_words::{Asked, Task, read_words};
 
 /// The source where nothing names one.
 const SYSTEM_SOURCE: &str = "/usr/share/zoneinfo/tzdata.zi";
@@ -40,13 +39,6 @@ pub enum Found {
     Text(Vec<u8>),
     /// How answering what came in ended.
     Input(StreamEnd),
-}
-
-/// Whether memory ran out.
-fn is_of_memory(cause: WordCause) -> bool
-    ensures { result ≡ is_of_memory cause }
-{
-    matches!(cause, WordCause::NoMemory)
 }
 
 /// Whether the task answers what comes in.
@@ -101,7 +93,8 @@ fn answer_over<'w, A: Answerer, H: Shelf>(
     shelf: &mut H,
 ) -> Result<Vec<u8>, Failure<'w>>
     requires { H.open_to shelf.old file.now }
-    ensures { ComesTo (IsAnswer A.due (words_shown asked.now) (instant now.now) file.now (shelf_seen H.Source shelf.old) (shelf_seen H.Source shelf.new)) result }
+    ensures due { ComesTo (IsAnswer A.due (words_shown asked.now) (instant now.now) file.now (shelf_seen H.Source shelf.old) (shelf_seen H.Source shelf.new)) result }
+    ensures read { MayBeRead (shelf_seen H.Source shelf.old) (shelf_seen H.Source shelf.new) }
 {
     match fetch_all(alloc, shelf, file) {
         Ok(text) => match A::answer(alloc, asked, now, file, &text) {
@@ -124,8 +117,9 @@ fn serve_over<'w, A: Answerer, H: Shelf, X: Exchange>(
     exchange: &mut X,
 ) -> Result<StreamEnd, Failure<'w>>
     requires { H.open_to shelf.old file.now }
-    ensures { ComesBy (IsServing A.makes (words_shown asked.now) file.now (shelf_seen H.Source shelf.old) (shelf_seen H.Source shelf.new))
+    ensures made { ComesBy (IsServing A.makes (words_shown asked.now) file.now (shelf_seen H.Source shelf.old) (shelf_seen H.Source shelf.new))
         (X.seen exchange.old) (X.seen exchange.new) result }
+    ensures read { MayBeRead (shelf_seen H.Source shelf.old) (shelf_seen H.Source shelf.new) }
 {
     match fetch_all(alloc, shelf, file) {
         Ok(text) => match A::serve(alloc, asked, file, &text, exchange) {
@@ -149,8 +143,9 @@ fn over_file<'w, A: Answerer, H: Shelf, X: Exchange>(
     exchange: &mut X,
 ) -> Result<Found, Failure<'w>>
     requires { H.open_to shelf.old file.now }
-    ensures { Comes (IsOver A.due A.makes (words_shown asked.now) (instant now.now) file.now (shelf_seen H.Source shelf.old) (shelf_seen H.Source shelf.new))
+    ensures over { Comes (IsOver A.due A.makes (words_shown asked.now) (instant now.now) file.now (shelf_seen H.Source shelf.old) (shelf_seen H.Source shelf.new))
         (X.seen exchange.old) (X.seen exchange.new) result }
+    ensures read { MayBeRead (shelf_seen H.Source shelf.old) (shelf_seen H.Source shelf.new) }
 {
     if is_served(&asked.task) {
         match serve_over::<A, H, X>(alloc, asked, file, shelf, exchange) {
@@ -173,6 +168,7 @@ fn source_file<V: Environment>(
 ) -> Result<String, ReadEnd>
     ensures ok { IfOk result (λ file. IsFile (option_map text_shown named.entry) (environment_seen V.Environment environment.old)
         (environment_seen V.Environment environment.new) (string_bytes file)) }
+    ensures named { IfSome (option_map text_shown named.entry) (λ _. environment_seen V.Environment environment.new ≡ environment_seen V.Environment environment.old) }
     ensures unnamed { IsErrOf result ReadEnd.Failed → option_map text_shown named.entry ≡ None }
     ensures failed { IsErrOf result ReadEnd.Failed → Rose (V.faults environment.old) (V.faults environment.new) }
 {
@@ -226,7 +222,7 @@ fn find_asked<'w, A: Answerer, H: Shelf, K: WallClock, V: Environment, X: Exchan
         (in_seen H.Source K.WallClock V.Environment shelf.new clock.new environment.new)) (X.seen exchange.old) (X.seen exchange.new) result }
 {
     match bare(&asked.task) {
-        Some(text) => Ok(Found::Text(copied(alloc, text.as_bytes())?)),
+        Some(text) => Ok(Found::Text(text.as_bytes().to_vec(alloc)?)),
         None => over_source::<A, H, K, V, X>(alloc, asked, shelf, clock, environment, exchange),
     }
 }
@@ -250,7 +246,7 @@ pub(crate) fn find<'w, A: Answerer, H: Shelf, K: WallClock, V: Environment, X: E
             find_asked::<A, H, K, V, X>(alloc, &asked, shelf, clock, environment, exchange)
         }
         Err(fault) => {
-            if is_of_memory(fault.cause) {
+            if fault.cause.is_of_memory() {
                 Err(Failure::NoMemory)
             } else {
                 Err(Failure::BadWords(fault))

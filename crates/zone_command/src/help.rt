@@ -49,7 +49,7 @@ A TEXT is 2024-10-27 02:30, maybe with seconds, with a T or a space.
 pub const HELP_LIST: &str =
     "zone list NAME FROM TO writes a line for each change from the instant FROM on and before TO:
 its instant, what clocks show up to it and from it on, and the saving in seconds from it on.
-FROM and TO are each now, @1729989000, or 2024-10-27T02:30:00+02:00.
+FROM and TO are each now, @1729989000, or 2024-10-27T02:30:00+02:00, and TO is after FROM.
 ";
 
 /// What `zone alarm --help` writes.
@@ -65,7 +65,7 @@ TIME is a time of day, as 07:30. The last day counts too; a day without a ring i
 /// What `zone names --help` writes.
 pub const HELP_NAMES: &str =
     "zone names [WORD] writes the names that have the word, in any case, or all names, a line each.
-A link has the zone that it leads to behind ->.
+A link has the zone that it leads to behind ->. Of the forms it takes --json alone.
 ";
 
 /// What `zone stream --help` writes.
@@ -80,6 +80,7 @@ has an answer that begins with ?, and the status is then 2 at the end.
 pub const HELP_LOG: &str =
     "zone log NAME [--field K] writes standard input with the local time in place of the time
 at each line's beginning, or in field K, which counts from 1. Other lines stay as they are.
+It takes --rfc3339 and --epoch.
 A time is 2024-10-27T02:30:00+02:00, @1729989000, or a number of 9 to 11 digits of seconds,
 12 to 14 of milliseconds, 15 to 17 of microseconds, or 18 to 20 of nanoseconds.
 ";

@@ -1,12 +1,10 @@
 //! What is due of a task over zones.
-ghost use Rattle.std.specs.Prelude.{◌≡◌, [], map, is_some, IfErr, IfOk, IfSome, OnOk, Ok, Err};
-ghost use Rattle.civil_base.specs.DateTimes.{instant, local_of};
+ghost use Rattle.std.specs.Prelude.{◌≡◌, [], map, is_some, IfOk, IfSome, Ok, Err};
+ghost use Rattle.civil_base.specs.DateTimes.{instant};
 ghost use Rattle.civil_base.specs.Ranges.{is_in_years};
 ghost use Rattle.zone_command.specs.Answers.{IsReply};
-ghost use Rattle.zone_command.specs.Replies.{at_lines, convert_lines, ended, instant_at, instants_at, list_lines};
+ghost use Rattle.zone_command.specs.Replies.{at_lines, convert_lines, instant_at, instants_at, list_lines};
 ghost use Rattle.zone_moments.specs.Shown.{asked as asked_of};
-ghost use Rattle.zone_replies.specs.Faults.{behind, IsFaultOf};
-ghost use Rattle.zone_replies.specs.Instants.{at_due};
 ghost use Rattle.zone_displays.specs.Rings.{rings_due};
 ghost use Rattle.zone_words.specs.TaskShown.{alarm_shown};
 
@@ -14,7 +12,7 @@ use civil_base::{OffsetDateTime, PlainDateTime};
 use std::alloc::Global;
 use zone_displays::add_rings;
 use zone_moments::Asked as Instant;
-use zone_replies::{ReplyFault, ReplyZone, Style, add_at, add_converted, add_list};
+use zone_replies::{ReplyFault, ReplyZone, Style, add_at_line, add_converted, add_list, local_of};
 use zone_words::Alarm;
 
 /// The instant that is asked for, at an instant.
@@ -24,28 +22,6 @@ pub(crate) fn moment_of(asked: &Instant, now: &OffsetDateTime) -> OffsetDateTime
     match asked {
         Instant::Now => *now,
         Instant::At(value) => *value,
-    }
-}
-
-/// Adds the line of an instant.
-fn add_at_line<Z: ReplyZone>(
-    into: &mut Vec<u8>,
-    alloc: Global,
-    zone: &Z,
-    style: &Style<'_>,
-    at: &OffsetDateTime,
-) -> Result<(), ReplyFault>
-    ensures ok { OnOk result (Ok into.new.items ≡ behind into.old.items (ended (at_due style.now.form (Z.view zone.now) style.now.name.now (instant at.now)))) }
-    ensures err { IfErr result (IsFaultOf (ended (at_due style.now.form (Z.view zone.now) style.now.name.now (instant at.now)))) }
-{
-    match add_at(into, alloc, zone, style, at) {
-        Ok(()) => {
-            into.extend_from_slice(b"\n")?;
-            Ok(())
-        }
-        Err(ReplyFault::OutOfYears) => Err(ReplyFault::OutOfYears),
-        Err(ReplyFault::Untold) => Err(ReplyFault::Untold),
-        Err(ReplyFault::NoMemory) => Err(ReplyFault::NoMemory),
     }
 }
 
@@ -93,13 +69,6 @@ pub(crate) fn convert_lines<F: ReplyZone, T: ReplyZone>(
         Err(ReplyFault::Untold) => Err(ReplyFault::Untold),
         Err(ReplyFault::NoMemory) => Err(ReplyFault::NoMemory),
     }
-}
-
-/// The date and the time of day of a date-time.
-fn local_of(date: &OffsetDateTime) -> PlainDateTime
-    ensures { result ≡ local_of date.now }
-{
-    PlainDateTime::new(date.date(), date.time())
 }
 
 /// The date and the time of day of an instant at UTC. There are none exactly where that date lies outside the years.

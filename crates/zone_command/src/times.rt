@@ -31,7 +31,7 @@ pub(crate) fn asks_now(task: &Task<'_>) -> bool
 {
     match task {
         Task::At(_, instants) => has_now(instants.as_slice()),
-        Task::List(_, from, to) => is_now(from) || is_now(to),
+        Task::List(_, from, to, _) => is_now(from) || is_now(to),
         _ => false,
     }
 }

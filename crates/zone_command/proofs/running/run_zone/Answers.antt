@@ -1,12 +1,13 @@
-use Rattle.std.proofs.Common.{refl, inl, inr}
+use Rattle.std.proofs.Common.{inl, inr}
+use Rattle.zone_command.proofs.ShortLemmas.{short}
 use Rattle.zone_command.specs.Ends.{failed}
 use Rattle.zone_command.specs.FailureShown.{failure_shown}
 use Rattle.zone_command.specs.Failures.{no_memory}
 use Rattle.zone_command.proofs.running.run_zone.Goals as goal
 
--- its line was told, or that memory ran out, which any run may come to
+-- its line was told, or that memory ran out
 pub returns-in-Err : goal.returns-in-Err
 returns-in-Err g c = elim c.tell_failure.ensures [
   | inl told ↦ record { outcome = failed (failure_shown c.in-Err.failure); cause = c.in-Err.ensures.0; delivered = (told, c.in-Err.ensures.1) }
-  | inr short ↦ record { outcome = failed no_memory; cause = inr (inr refl); delivered = (short, c.in-Err.ensures.1) }
+  | inr shortage ↦ record { outcome = failed no_memory; cause = short _ _ _ _ _ (failure_shown c.in-Err.failure) c.in-Err.ensures.0; delivered = (shortage, c.in-Err.ensures.1) }
 ]
