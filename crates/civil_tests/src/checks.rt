@@ -1,24 +1,21 @@
-//! Assertions: each is proved here once, with what it prints, and not again in every test that makes it.
+//! Assertions: each is proved here once, with what it prints, and not again in every test that makes it. What is claimed of
+//! values stands in functions that give a `bool`, which a test hands to `holds` by its name. They join claims by `&`, which looks at each of
+//! them, as a proof has it a good deal simpler.
 
 use std::alloc::Global;
-use std::fmt::{Debug, Display};
+use std::fmt::Display;
 use std::hash::{DefaultHasher, Hash, Hasher};
 use std::process::Abort;
 
-/// Ends the test, and shows both, where what was found isn't what is wanted.
-pub(crate) fn same<T: PartialEq + Debug>(rt: &impl Abort, found: &T, wanted: &T) {
-    assert_eq!(rt; found, wanted);
+/// Ends the test, and shows what was claimed, where that doesn't hold.
+pub(crate) fn holds(rt: &impl Abort, what: &str, claim: bool) {
+    assert!(rt; claim, "{what}");
 }
 
-/// Ends the test where the claim doesn't hold.
-pub(crate) fn holds(rt: &impl Abort, claim: bool) {
-    assert!(rt; claim);
-}
-
-/// The same of what a value prints.
+/// Ends the test, and shows what a value prints, where that isn't what is wanted.
 pub(crate) fn prints<T: Display>(rt: &impl Abort, alloc: Global, value: &T, wanted: &str) {
     let shown = format!(in alloc; "{value}").expect(rt, "memory");
-    same(rt, &shown.as_str(), &wanted);
+    holds(rt, shown.as_str(), shown.as_str() == wanted);
 }
 
 /// What a hasher of its own makes of a value.

@@ -4,41 +4,48 @@ ghost use Rattle.calendar.specs.Days.{day as day_at};
 ghost use Rattle.civil_base.specs.Clock.{time_at};
 ghost use Rattle.civil_base.specs.DateTimes.{instant, offset_of};
 
-use crate::checks::{hash_of, holds, same};
+use crate::checks::{hash_of, holds};
 use civil_base::Month::{December, February, January, March, October};
 use civil_base::Weekday::{Friday, Monday, Sunday, Thursday, Tuesday, Wednesday};
 use civil_base::{
     Date, Month, OffsetDateTime, PlainDateTime, SignedDuration, Time, Timestamp, UtcDateTime,
     UtcOffset, Weekday, read_local, read_zoned, write_local, write_zoned,
 };
-use std::process::Abort;
 
-// What is read from a text, written again.
-fn local_again<'a>(text: &str, into: &'a mut [u8; 30]) -> Option<&'a str> {
-    let end = write_local(&read_local(text)?, into);
-    std::str::from_utf8(&into[..end]).ok()
-}
-
-fn zoned_again<'a>(text: &str, into: &'a mut [u8; 40]) -> Option<&'a str> {
-    let end = write_zoned(&read_zoned(text)?, into);
-    std::str::from_utf8(&into[..end]).ok()
-}
-
-/// Texts, with `|` between them.
-const TEXTS: &str = "\
-1970-01-01 01:30:00.000000000 +01:30:00|\
--9999-01-01 00:00:00.000000000 +01:30:00|\
-9999-12-31 23:59:59.999999999 -25:59:59|\
-0000-02-29 12:34:56.789012345 +00:00:00|\
--0001-12-31 00:00:00.000000001 -00:00:01";
-
-#[test]
-fn texts_are_read_and_written(rt: HostRuntime) {
-    for text in TEXTS.split('|') {
-        let local = text.rsplit_once(' ').map_or("", |(local, _)| local);
-        same(&rt, &local_again(local, &mut [0; 30]), &Some(local));
-        same(&rt, &zoned_again(text, &mut [0; 40]), &Some(text));
+// Whether what is read from a text is written as that text again.
+fn is_local_again(text: &str) -> bool {
+    let mut into = [0; 30];
+    match read_local(text) {
+        Some(local) => {
+            let end = write_local(&local, &mut into);
+            &into[..end] == text.as_bytes()
+        }
+        None => false,
     }
+}
+
+fn is_zoned_again(text: &str) -> bool {
+    let mut into = [0; 40];
+    match read_zoned(text) {
+        Some(zoned) => {
+            let end = write_zoned(&zoned, &mut into);
+            &into[..end] == text.as_bytes()
+        }
+        None => false,
+    }
+}
+
+fn texts() -> bool {
+    is_local_again("1970-01-01 01:30:00.000000000")
+        & is_zoned_again("1970-01-01 01:30:00.000000000 +01:30:00")
+        & is_local_again("-9999-01-01 00:00:00.000000000")
+        & is_zoned_again("-9999-01-01 00:00:00.000000000 +01:30:00")
+        & is_local_again("9999-12-31 23:59:59.999999999")
+        & is_zoned_again("9999-12-31 23:59:59.999999999 -25:59:59")
+        & is_local_again("0000-02-29 12:34:56.789012345")
+        & is_zoned_again("0000-02-29 12:34:56.789012345 +00:00:00")
+        & is_local_again("-0001-12-31 00:00:00.000000001")
+        & is_zoned_again("-0001-12-31 00:00:00.000000001 -00:00:01")
 }
 
 // Year, month, day, day of the year, Julian day and weekday, by Python's `datetime`, in cycles of 400 years before year 1.
@@ -72,25 +79,23 @@ const DATES: [(i32, Month, u8, u16, i32, Weekday); 27] = [
     (9999, December, 31, 365, 5_373_484, Friday),
 ];
 
-/// The day of the year, the Julian day and the weekday of a date.
-fn counted(date: Date) -> ((i32, u16), i32, Weekday) {
-    (date.to_ordinal_date(), date.to_julian_day(), date.weekday())
+/// Whether the date of a row is counted as the row says, and is the date of its counts.
+fn is_counted(row: &(i32, Month, u8, u16, i32, Weekday)) -> bool {
+    let (year, month, day, ordinal, julian_day, weekday) = *row;
+    let Ok(date) = Date::from_calendar_date(year, month, day) else {
+        return false;
+    };
+    (date.to_ordinal_date() == (year, ordinal))
+        & (date.to_julian_day() == julian_day)
+        & (date.weekday() == weekday)
+        & (Date::from_ordinal_date(year, ordinal) == Ok(date))
+        & (Date::from_julian_day(julian_day) == Ok(date))
 }
 
 #[test]
 fn days_are_counted(rt: HostRuntime) {
-    for (year, month, day, ordinal, julian_day, weekday) in &DATES {
-        let date = Date::from_calendar_date(*year, *month, *day).expect(&rt, "refused");
-        same(
-            &rt,
-            &counted(date),
-            &((*year, *ordinal), *julian_day, *weekday),
-        );
-        let back = (
-            Date::from_ordinal_date(*year, *ordinal),
-            Date::from_julian_day(*julian_day),
-        );
-        same(&rt, &back, &(Ok(date), Ok(date)));
+    for row in &DATES {
+        holds(&rt, "counts of a day", is_counted(row));
     }
 }
 
@@ -140,126 +145,120 @@ fn instant_epoch() -> Timestamp
     Timestamp::UNIX_EPOCH
 }
 
-#[test]
-fn dates_and_times(rt: HostRuntime) {
+/// The first and the last day, and the one after the first.
+fn ends_of_all_days() -> bool {
     let (first, last) = (first_date(), last_date());
-    same(&rt, &first.to_calendar_date(), &(-9999, January, 1));
-    same(
-        &rt,
-        &(last.year(), last.month(), last.day(), last.ordinal()),
-        &(9999, December, 31, 365),
-    );
-    let second = first.next_day().expect(&rt, "no day");
-    same(&rt, &second.previous_day(), &Some(Date::MIN));
-    let day = SignedDuration::from_whole_nanoseconds(86_400_000_000_000).expect(&rt, "refused");
-    same(
-        &rt,
-        &(first.checked_add(day), second.checked_sub(day)),
-        &(Some(second), Some(first)),
-    );
-    let time = Time::from_hms_nano(23, 59, 58, 7).expect(&rt, "refused");
-    same(
-        &rt,
-        &(time.hour(), time.minute(), time.second(), time.nanosecond()),
-        &(23, 59, 58, 7),
-    );
-    same(
-        &rt,
-        &(Time::from_hms(0, 0, 0), midnight().as_hms_nano()),
-        &(Ok(midnight()), (0, 0, 0, 0)),
-    );
+    let Some(second) = first.next_day() else {
+        return false;
+    };
+    let Some(day) = SignedDuration::from_whole_nanoseconds(86_400_000_000_000) else {
+        return false;
+    };
+    (first.to_calendar_date() == (-9999, January, 1))
+        & (last.year() == 9999)
+        & (last.month() == December)
+        & (last.day() == 31)
+        & (last.ordinal() == 365)
+        & (second.previous_day() == Some(Date::MIN))
+        & (first.checked_add(day) == Some(second))
+        & (second.checked_sub(day) == Some(first))
 }
 
-#[test]
-fn offsets(rt: HostRuntime) {
-    let behind = UtcOffset::from_whole_seconds(-5415).expect(&rt, "refused");
-    same(&rt, &UtcOffset::from_hms(-1, 30, 15), &Ok(behind));
-    same(
-        &rt,
-        &(
-            behind.as_hms(),
-            behind.whole_hours(),
-            behind.minutes_past_hour(),
-            behind.seconds_past_minute(),
-        ),
-        &((-1, -30, -15), -1, -30, -15),
-    );
-    same(
-        &rt,
-        &(
-            behind.is_negative(),
-            behind.is_positive(),
-            behind.is_utc(),
-            no_offset().whole_seconds(),
-        ),
-        &(true, false, false, 0),
-    );
+fn times() -> bool {
+    let Ok(time) = Time::from_hms_nano(23, 59, 58, 7) else {
+        return false;
+    };
+    (time.hour() == 23)
+        & (time.minute() == 59)
+        & (time.second() == 58)
+        & (time.nanosecond() == 7)
+        & (Time::from_hms(0, 0, 0) == Ok(midnight()))
+        & (midnight().as_hms_nano() == (0, 0, 0, 0))
 }
 
-/// The epoch where clocks show half past one.
-fn half_past_one(rt: &impl Abort) -> OffsetDateTime {
-    let offset = UtcOffset::from_whole_seconds(5400).expect(rt, "refused");
-    epoch().to_offset(offset).expect(rt, "out of range")
+fn offsets() -> bool {
+    let Ok(behind) = UtcOffset::from_whole_seconds(-5415) else {
+        return false;
+    };
+    (UtcOffset::from_hms(-1, 30, 15) == Ok(behind))
+        & (behind.as_hms() == (-1, -30, -15))
+        & (behind.whole_hours() == -1)
+        & (behind.minutes_past_hour() == -30)
+        & (behind.seconds_past_minute() == -15)
+        & behind.is_negative()
+        & !behind.is_positive()
+        & !behind.is_utc()
+        & (no_offset().whole_seconds() == 0)
 }
 
-#[test]
-fn date_times_are_one_at_one_instant(rt: HostRuntime) {
-    same(&rt, &half_past_one(&rt), &epoch());
-    same(&rt, &hash_of(&half_past_one(&rt)), &hash_of(&epoch()));
-    let offset = half_past_one(&rt).offset();
-    let time = half_past_one(&rt).time();
-    let found = (
-        offset.whole_seconds(),
-        time.as_hms(),
-        half_past_one(&rt).year(),
-    );
-    same(&rt, &found, &(5400, (1, 30, 0), 1970));
-    let plain = PlainDateTime::new(half_past_one(&rt).date(), Time::MIDNIGHT);
-    same(&rt, &(plain.time(), plain.year()), &(midnight(), 1970));
-    same(&rt, &plain.date(), &OffsetDateTime::UNIX_EPOCH.date());
-    same(&rt, &plain.assume_utc(), &epoch());
-    holds(&rt, plain.assume_offset(offset) < epoch());
+/// Of the epoch where clocks show half past one.
+fn has_parts(shown: &OffsetDateTime) -> bool {
+    let plain = PlainDateTime::new(shown.date(), Time::MIDNIGHT);
+    (*shown == epoch())
+        & (hash_of(shown) == hash_of(&epoch()))
+        & (shown.offset().whole_seconds() == 5400)
+        & (shown.time().as_hms() == (1, 30, 0))
+        & (shown.year() == 1970)
+        & (plain.time() == midnight())
+        & (plain.year() == 1970)
+        & (plain.date() == OffsetDateTime::UNIX_EPOCH.date())
+        & (plain.assume_utc() == epoch())
+        & (plain.assume_offset(shown.offset()) < epoch())
 }
 
-/// The first instant of all years, at UTC.
-fn first_instant(rt: &impl Abort) -> OffsetDateTime {
+/// Whether date-times are one at one instant.
+fn date_times() -> bool {
+    let Ok(offset) = UtcOffset::from_whole_seconds(5400) else {
+        return false;
+    };
+    match epoch().to_offset(offset) {
+        Some(shown) => has_parts(&shown),
+        None => false,
+    }
+}
+
+/// An instant 5001 milliseconds before the epoch, and the epoch.
+fn instants() -> bool {
+    let Ok(early) = Timestamp::from_milliseconds(-5001) else {
+        return false;
+    };
+    (early.as_nanoseconds() == -5_001_000_000)
+        & (early < Timestamp::UNIX_EPOCH)
+        & (hash_of(&early) != hash_of(&Timestamp::UNIX_EPOCH))
+        & (Timestamp::new(-6, 999_000_000) == Ok(early))
+        & (Timestamp::from_nanoseconds(-5_001_000_000) == Ok(early))
+        & (Timestamp::from_seconds(0) == Ok(instant_epoch()))
+        & (UtcDateTime::from_unix_timestamp_nanos(0) == Ok(utc_epoch()))
+        & (OffsetDateTime::from_unix_timestamp(0) == Ok(epoch()))
+        & (OffsetDateTime::from_unix_timestamp_nanos(0) == Ok(epoch()))
+}
+
+/// Of the first instant of all years, at UTC.
+fn is_first(shown: &OffsetDateTime) -> bool {
+    let Ok(first) = UtcDateTime::from_unix_timestamp(-377_705_116_800) else {
+        return false;
+    };
+    (first.unix_timestamp() == -377_705_116_800)
+        & (first.unix_timestamp_nanos() == -377_705_116_800_000_000_000)
+        & (shown.unix_timestamp() == -377_705_116_800)
+        & (shown.unix_timestamp_nanos() == -377_705_116_800_000_000_000)
+}
+
+fn first_instants() -> bool {
     let first = UtcDateTime::new(Date::MIN, Time::MIDNIGHT);
-    first.to_offset(UtcOffset::UTC).expect(rt, "out of range")
+    match first.to_offset(UtcOffset::UTC) {
+        Some(shown) => is_first(&shown),
+        None => false,
+    }
 }
 
 #[test]
-fn instants(rt: HostRuntime) {
-    let early = Timestamp::from_milliseconds(-5001).expect(&rt, "refused");
-    same(&rt, &Timestamp::new(-6, 999_000_000), &Ok(early));
-    same(&rt, &Timestamp::from_seconds(0), &Ok(instant_epoch()));
-    same(
-        &rt,
-        &Timestamp::from_nanoseconds(-5_001_000_000),
-        &Ok(early),
-    );
-    holds(
-        &rt,
-        early < Timestamp::UNIX_EPOCH && hash_of(&early) != hash_of(&Timestamp::UNIX_EPOCH),
-    );
-    same(&rt, &early.as_nanoseconds(), &-5_001_000_000);
-    let first = UtcDateTime::from_unix_timestamp(-377_705_116_800).expect(&rt, "refused");
-    same(
-        &rt,
-        &(first.unix_timestamp(), first.unix_timestamp_nanos()),
-        &(-377_705_116_800, -377_705_116_800_000_000_000),
-    );
-    same(
-        &rt,
-        &UtcDateTime::from_unix_timestamp_nanos(0),
-        &Ok(utc_epoch()),
-    );
-    same(&rt, &first_instant(&rt).unix_timestamp(), &-377_705_116_800);
-    let nanos = first_instant(&rt).unix_timestamp_nanos();
-    same(&rt, &nanos, &-377_705_116_800_000_000_000);
-    same(&rt, &OffsetDateTime::from_unix_timestamp(0), &Ok(epoch()));
-    same(
-        &rt,
-        &OffsetDateTime::from_unix_timestamp_nanos(0),
-        &Ok(epoch()),
-    );
+fn values(rt: HostRuntime) {
+    holds(&rt, "texts that are written again", texts());
+    holds(&rt, "ends of all days", ends_of_all_days());
+    holds(&rt, "times", times());
+    holds(&rt, "offsets", offsets());
+    holds(&rt, "date-times", date_times());
+    holds(&rt, "instants", instants());
+    holds(&rt, "first instants", first_instants());
 }

@@ -3,7 +3,7 @@
 ghost use Rattle.std.specs.Prelude.{◌≡◌, Some, IfSome, pos};
 ghost use Rattle.civil_items.specs.Defaults.{default_config};
 
-use crate::checks::{holds, prints, same};
+use crate::checks::{holds, prints};
 use civil_base::{OffsetDateTime, SignedDuration, StdDuration, Timestamp, UtcDateTime};
 use civil_items::{
     BorrowedFormatItem, Component, ComponentRange, Config, ConversionRange, DateKind,
@@ -14,119 +14,62 @@ use civil_items::{
 use std::alloc::Global;
 use std::process::Abort;
 
+/// Asserts the texts of an error of each cause, and of causes alone.
+fn expect_errors(rt: &impl Abort, alloc: Global) {
+    let error = Error::from(ConversionRange);
+    prints(rt, alloc, &error, "conversion out of range");
+    let error = Error::from(ComponentRange);
+    prints(rt, alloc, &error, "component out of range");
+    let error = Error::from(InvalidVariant);
+    prints(rt, alloc, &error, "value was not a valid variant");
+    let text = "The system's UTC offset could not be determined";
+    prints(rt, alloc, &Error::from(IndeterminateOffset), text);
+    prints(rt, alloc, &IndeterminateOffset, text);
+    let text = "value was of a different variant than required";
+    prints(rt, alloc, &Error::from(DifferentVariant), text);
+    prints(rt, alloc, &DifferentVariant, text);
+}
+
 #[test]
 fn errors_are_printed_as_what_is_inside(rt: HostRuntime) {
-    let alloc = rt.alloc();
-    prints(
-        &rt,
-        alloc,
-        &Error::from(ConversionRange),
-        "conversion out of range",
-    );
-    prints(
-        &rt,
-        alloc,
-        &Error::from(ComponentRange),
-        "component out of range",
-    );
-    prints(
-        &rt,
-        alloc,
-        &Error::from(InvalidVariant),
-        "value was not a valid variant",
-    );
-    let text = "The system's UTC offset could not be determined";
-    prints(&rt, alloc, &Error::from(IndeterminateOffset), text);
-    prints(&rt, alloc, &IndeterminateOffset, text);
-    let text = "value was of a different variant than required";
-    prints(&rt, alloc, &Error::from(DifferentVariant), text);
-    prints(&rt, alloc, &DifferentVariant, text);
+    expect_errors(&rt, rt.alloc());
     let inside = ComponentRange::try_from(Error::from(ComponentRange));
-    same(&rt, &inside.is_ok(), &true);
+    holds(&rt, "inside", inside.is_ok());
 }
 
-#[test]
-fn lengths_of_numbers(rt: HostRuntime) {
-    let found = (
-        (-7).nanoseconds(),
-        7.microseconds(),
-        7.milliseconds(),
-        7.seconds(),
-    );
-    let wanted = (
-        SignedDuration::from_parts(0, -7),
-        SignedDuration::from_parts(0, 7_000),
-        SignedDuration::from_parts(0, 7_000_000),
-        SignedDuration::from_parts(7, 0),
-    );
-    same(
-        &rt,
-        &(Some(found.0), Some(found.1), Some(found.2), Some(found.3)),
-        &wanted,
-    );
-    let longer = (
-        3.minutes().whole_seconds(),
-        (-3).hours().whole_seconds(),
-        3.days().whole_seconds(),
-        (-3).weeks().whole_seconds(),
-    );
-    same(&rt, &longer, &(180, -10_800, 259_200, -1_814_400));
-    same(
-        &rt,
-        &(
-            3.fits_minutes(),
-            3.fits_hours(),
-            3.fits_days(),
-            i64::MAX.fits_weeks(),
-        ),
-        &(true, true, true, false),
-    );
+fn lengths() -> bool {
+    (Some((-7).nanoseconds()) == SignedDuration::from_parts(0, -7))
+        & (Some(7.microseconds()) == SignedDuration::from_parts(0, 7_000))
+        & (Some(7.milliseconds()) == SignedDuration::from_parts(0, 7_000_000))
+        & (Some(7.seconds()) == SignedDuration::from_parts(7, 0))
+        & (3.minutes().whole_seconds() == 180)
+        & ((-3).hours().whole_seconds() == -10_800)
+        & (3.days().whole_seconds() == 259_200)
+        & ((-3).weeks().whole_seconds() == -1_814_400)
+        & 3.fits_minutes()
+        & 3.fits_hours()
+        & 3.fits_days()
+        & !i64::MAX.fits_weeks()
 }
 
-/// The seconds and nanoseconds of a length without a sign.
-fn parts(length: StdDuration) -> (u64, u32) {
-    (length.as_secs(), length.subsec_nanos())
+/// Whether a length without a sign has those seconds and nanoseconds.
+fn has(length: StdDuration, seconds: u64, nanoseconds: u32) -> bool {
+    (length.as_secs() == seconds) & (length.subsec_nanos() == nanoseconds)
 }
 
-#[test]
-fn unsigned_lengths_of_numbers(rt: HostRuntime) {
-    let found = (
-        parts(u64::MAX.std_nanoseconds()),
-        parts(1_000_007.std_microseconds()),
-        parts(1_007.std_milliseconds()),
-        parts(7.std_seconds()),
-    );
-    same(
-        &rt,
-        &found,
-        &(
-            (18_446_744_073, 709_551_615),
-            (1, 7_000),
-            (1, 7_000_000),
-            (7, 0),
-        ),
-    );
-    let longer = (
-        parts(3.std_minutes()),
-        parts(3.std_hours()),
-        parts(3.std_days()),
-        parts(3.std_weeks()),
-    );
-    same(
-        &rt,
-        &longer,
-        &((180, 0), (10_800, 0), (259_200, 0), (1_814_400, 0)),
-    );
-    same(
-        &rt,
-        &(
-            3.fits_std_minutes(),
-            3.fits_std_hours(),
-            3.fits_std_days(),
-            u64::MAX.fits_std_weeks(),
-        ),
-        &(true, true, true, false),
-    );
+fn unsigned_lengths() -> bool {
+    has(u64::MAX.std_nanoseconds(), 18_446_744_073, 709_551_615)
+        & has(1_000_007.std_microseconds(), 1, 7_000)
+        & has(1_007.std_milliseconds(), 1, 7_000_000)
+        & has(7.std_seconds(), 7, 0)
+        & has(3.std_minutes(), 180, 0)
+        & has(3.std_hours(), 10_800, 0)
+        & has(3.std_days(), 259_200, 0)
+        & has(3.std_weeks(), 1_814_400, 0)
+        & 3.fits_std_minutes()
+        & 3.fits_std_hours()
+        & 3.fits_std_days()
+        & !u64::MAX.fits_std_weeks()
 }
 
 // What the constant is.
@@ -136,40 +79,35 @@ fn epoch() -> SysTime
     SysTime::UNIX_EPOCH
 }
 
-#[test]
-fn system_times(rt: HostRuntime) {
-    let time = SysTime::from_nanoseconds(-5_001_000_000).expect(&rt, "no time");
-    same(
-        &rt,
-        &epoch().checked_sub_signed(5001.milliseconds()),
-        &Some(time),
-    );
-    same(
-        &rt,
-        &epoch().checked_add_signed((-5001).milliseconds()),
-        &Some(time),
-    );
-    let length = (-5001).milliseconds();
-    same(&rt, &time.signed_duration_since(epoch()), &length);
-    let stamp = Timestamp::try_from(time).expect(&rt, "out of range");
-    same(&rt, &Timestamp::from_milliseconds(-5001), &Ok(stamp));
-    let utc = UtcDateTime::try_from(time).expect(&rt, "out of range");
-    let shown = OffsetDateTime::try_from(time).expect(&rt, "out of range");
-    same(
-        &rt,
-        &(
-            SysTime::from(stamp),
-            SysTime::from(utc),
-            SysTime::from(shown),
-        ),
-        &(time, time, time),
-    );
-    same(
-        &rt,
-        &(stamp.since_sys(epoch()), utc.sys_since(time)),
-        &(Some(length), Some(SignedDuration::ZERO)),
-    );
-    holds(&rt, shown.eq_sys(time) && stamp.cmp_sys(epoch()).is_lt());
+/// Of a time 5001 milliseconds before the epoch, as an instant and as date-times.
+fn has_forms(time: SysTime, stamp: Timestamp, utc: UtcDateTime, shown: &OffsetDateTime) -> bool {
+    (epoch().checked_sub_signed(5001.milliseconds()) == Some(time))
+        & (epoch().checked_add_signed((-5001).milliseconds()) == Some(time))
+        & (time.signed_duration_since(epoch()) == (-5001).milliseconds())
+        & (Timestamp::from_milliseconds(-5001) == Ok(stamp))
+        & (SysTime::from(stamp) == time)
+        & (SysTime::from(utc) == time)
+        & (SysTime::from(*shown) == time)
+        & (stamp.since_sys(epoch()) == Some((-5001).milliseconds()))
+        & (utc.sys_since(time) == Some(SignedDuration::ZERO))
+        & shown.eq_sys(time)
+        & stamp.cmp_sys(epoch()).is_lt()
+}
+
+fn system_times() -> bool {
+    let Some(time) = SysTime::from_nanoseconds(-5_001_000_000) else {
+        return false;
+    };
+    let Ok(stamp) = Timestamp::try_from(time) else {
+        return false;
+    };
+    let Ok(utc) = UtcDateTime::try_from(time) else {
+        return false;
+    };
+    match OffsetDateTime::try_from(time) {
+        Ok(shown) => has_forms(time, stamp, utc, &shown),
+        Err(_) => false,
+    }
 }
 
 fn default() -> Config
@@ -205,32 +143,28 @@ fn changed() -> Config {
         .set_offset_precision(OffsetPrecision::Hour)
 }
 
-#[test]
-fn configurations(rt: HostRuntime) {
-    same(
-        &rt,
-        &default().encode(),
-        &0x05010000020901000000000000000000,
-    );
+fn configurations() -> bool {
     let changed = changed();
-    same(
-        &rt,
-        &(changed.encode(), decoded_again(&changed)),
-        &(0x00000102010000000000000000000000, Some(changed)),
-    );
     let encoded = 0x0601010100ff00000000000000000000;
-    same(&rt, &encoded_again(encoded), &Some(encoded));
-    same(
-        &rt,
-        &Config::decode(0x07000000000000000000000000000000),
-        &None,
-    );
-    let digits = Digits::new(255).expect(&rt, "no digits");
-    same(
-        &rt,
-        &(digits.get(), Rfc2822, Rfc3339),
-        &(255, Rfc2822, Rfc3339),
-    );
+    let Some(digits) = Digits::new(255) else {
+        return false;
+    };
+    (default().encode() == 0x05010000020901000000000000000000)
+        & (changed.encode() == 0x00000102010000000000000000000000)
+        & (decoded_again(&changed) == Some(changed))
+        & (encoded_again(encoded) == Some(encoded))
+        & Config::decode(0x07000000000000000000000000000000).is_none()
+        & (digits.get() == 255)
+        & (Rfc2822 == Rfc2822)
+        & (Rfc3339 == Rfc3339)
+}
+
+#[test]
+fn values(rt: HostRuntime) {
+    holds(&rt, "lengths", lengths());
+    holds(&rt, "unsigned lengths", unsigned_lengths());
+    holds(&rt, "system times", system_times());
+    holds(&rt, "configurations", configurations());
 }
 
 /// An item that owns its parts.
@@ -238,12 +172,11 @@ fn owned(rt: &impl Abort, alloc: Global, item: BorrowedFormatItem<'_>) -> OwnedF
     OwnedFormatItem::from_borrowed(alloc, &item).expect(rt, "memory")
 }
 
-/// Asserts that a list, owned as a compound, is the compound of the list, owned, and no text.
-fn expect_compound(rt: &impl Abort, alloc: Global, items: &[BorrowedFormatItem<'_>]) {
+/// Whether a list, owned as a compound, is the compound of the list, owned, and no component.
+fn are_owned(rt: &impl Abort, alloc: Global, items: &[BorrowedFormatItem<'_>]) -> bool {
     let found = OwnedFormatItem::from_slice(alloc, items).expect(rt, "memory");
     let compound = owned(rt, alloc, BorrowedFormatItem::Compound(items));
-    holds(rt, found == compound);
-    holds(rt, !found.is_component(&Component::Year));
+    (found == compound) & !found.is_component(&Component::Year)
 }
 
 #[test]
@@ -257,7 +190,7 @@ fn items_of_each_kind_are_owned(rt: HostRuntime) {
         BorrowedFormatItem::First(&inner),
         BorrowedFormatItem::Optional(&a),
     ];
-    expect_compound(&rt, rt.alloc(), &items);
+    holds(&rt, "a compound", are_owned(&rt, rt.alloc(), &items));
 }
 
 /// The text of an item that is one.
@@ -268,26 +201,32 @@ fn text_in(item: &OwnedFormatItem) -> Option<&str> {
     }
 }
 
-/// Asserts that an item is the compound of one text, and is compared as one.
-fn expect_text(rt: &impl Abort, compound: OwnedFormatItem, text: &str) {
+/// Whether an item is the compound of one text, and is compared as one.
+fn is_text(compound: OwnedFormatItem, text: &str) -> bool {
     let Ok(items) = compound.into_items() else {
-        panic!(rt; "a compound has items");
+        return false;
     };
-    assert!(rt; items.len() == 1);
-    same(rt, &text_in(&items[0]), &Some(text));
-    let again = OwnedFormatItem::from(items);
-    holds(rt, !again.is_compound(&[]));
+    let is_text = items.len() == 1 && text_in(&items[0]) == Some(text);
+    is_text & !OwnedFormatItem::from(items).is_compound(&[])
+}
+
+/// The compound of an empty text, owned from a slice, and of the text `a`, owned from a vector.
+fn compound_of(rt: &impl Abort, alloc: Global) -> OwnedFormatItem {
+    let empty = [BorrowedFormatItem::StringLiteral("")];
+    OwnedFormatItem::from_slice(alloc, &empty).expect(rt, "memory")
+}
+
+fn compound_of_vector(rt: &impl Abort, alloc: Global) -> OwnedFormatItem {
+    let list = vec![in alloc; BorrowedFormatItem::StringLiteral("a")].expect(rt, "memory");
+    OwnedFormatItem::from_borrowed_vec(alloc, list).expect(rt, "memory")
 }
 
 #[test]
 fn compounds_are_taken_apart(rt: HostRuntime) {
-    let alloc = rt.alloc();
-    let empty = [BorrowedFormatItem::StringLiteral("")];
-    let compound = OwnedFormatItem::from_slice(alloc, &empty).expect(&rt, "memory");
-    expect_text(&rt, compound, "");
-    let list = vec![in alloc; BorrowedFormatItem::StringLiteral("a")].expect(&rt, "memory");
-    let compound = OwnedFormatItem::from_borrowed_vec(alloc, list).expect(&rt, "memory");
-    expect_text(&rt, compound, "a");
-    let month = OwnedFormatItem::from(Component::Month);
-    same(&rt, &Component::try_from(month), &Ok(Component::Month));
+    let is_empty = is_text(compound_of(&rt, rt.alloc()), "");
+    holds(&rt, "an empty text", is_empty);
+    let is_a = is_text(compound_of_vector(&rt, rt.alloc()), "a");
+    holds(&rt, "a text", is_a);
+    let month = Component::try_from(OwnedFormatItem::from(Component::Month));
+    holds(&rt, "a component", month == Ok(Component::Month));
 }

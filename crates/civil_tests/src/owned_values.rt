@@ -3,7 +3,7 @@ ghost use Rattle.std.specs.Prelude.{◌≡◌, ◌==◌, not, length};
 ghost use Rattle.std.specs.List.{list_all};
 ghost use Rattle.std.specs.FinMap as map;
 
-use crate::checks::{holds, same};
+use crate::checks::holds;
 use owned::{Items, Text, TextMap};
 use std::alloc::Global;
 use std::process::Abort;
@@ -24,39 +24,57 @@ fn lists_of(rt: &impl Abort, alloc: Global) -> TextMap<Items<u8>> {
     lists
 }
 
-/// Asserts the names of the lists.
-fn expect_names(rt: &impl Abort, alloc: Global, lists: &TextMap<Items<u8>>, names: &[&str]) {
+/// Whether the lists are those, by name and by item.
+fn are_lists(lists: &TextMap<Items<u8>>) -> bool {
+    let Some(list) = lists.get("b") else {
+        return false;
+    };
+    (list.as_slice() == [1, 3].as_slice()) & has_no_empty_list(lists) & !lists.contains_key("c")
+}
+
+/// Whether those are the names of the lists.
+fn have_names(rt: &impl Abort, alloc: Global, lists: &TextMap<Items<u8>>) -> bool {
     let found = lists.keys(alloc).expect(rt, "memory");
-    same(rt, &found.as_slice(), &names);
+    found.as_slice() == ["a", "b"].as_slice()
 }
 
 #[test]
 fn a_map_keeps_lists(rt: HostRuntime) {
     let lists = lists_of(&rt, rt.alloc());
-    let list = lists.get("b").expect(&rt, "b");
-    same(&rt, &list.as_slice(), &[1, 3].as_slice());
-    holds(&rt, has_no_empty_list(&lists) && !lists.contains_key("c"));
-    let hashed = lists.into_hash_map();
-    expect_names(
-        &rt,
-        rt.alloc(),
-        &TextMap::from_hash_map(hashed),
-        &["a", "b"],
-    );
+    holds(&rt, "lists", are_lists(&lists));
+    let again = TextMap::from_hash_map(lists.into_hash_map());
+    holds(&rt, "names", have_names(&rt, rt.alloc(), &again));
+}
+
+/// A map of one text.
+fn targets_of(rt: &impl Abort, alloc: Global) -> TextMap<Text> {
+    let string = String::from_str(alloc, "Europe/Madrid").expect(rt, "memory");
+    let mut targets = TextMap::new(alloc);
+    targets
+        .insert(alloc, "Test/M", Text::from_string(string))
+        .expect(rt, "memory");
+    targets
+}
+
+/// Whether the map lends that text.
+fn is_lent(targets: &TextMap<Text>) -> bool {
+    match targets.get("Test/M") {
+        Some(found) => found.as_str() == "Europe/Madrid",
+        None => false,
+    }
+}
+
+/// Whether a text is the string that was put in.
+fn is_kept(rt: &impl Abort, alloc: Global) -> bool {
+    let text = Text::new(alloc, "abc").expect(rt, "memory");
+    text.into_string().as_str() == "abc"
 }
 
 #[test]
 fn a_map_lends_its_texts(rt: HostRuntime) {
-    let alloc = rt.alloc();
-    let string = String::from_str(alloc, "Europe/Madrid").expect(&rt, "memory");
-    let mut targets = TextMap::new(alloc);
-    targets
-        .insert(alloc, "Test/M", Text::from_string(string))
-        .expect(&rt, "memory");
-    let found = targets.get("Test/M").expect(&rt, "target");
-    same(&rt, &found.as_str(), &"Europe/Madrid");
-    let text = Text::new(alloc, "abc").expect(&rt, "memory");
-    same(&rt, &text.into_string().as_str(), &"abc");
+    let is_lent = is_lent(&targets_of(&rt, rt.alloc()));
+    holds(&rt, "lent", is_lent);
+    holds(&rt, "kept", is_kept(&rt, rt.alloc()));
 }
 
 /// The items of a slice.
@@ -66,29 +84,32 @@ fn items_of(rt: &impl Abort, alloc: Global, items: &[(u8, char)]) -> Items<(u8, 
     Items::from_vec(items.to_vec(alloc).expect(rt, "memory"))
 }
 
-#[test]
-fn items_are_sorted(rt: HostRuntime) {
+fn are_sorted(rt: &impl Abort, alloc: Global) -> bool {
     let shuffled = [(3, 'a'), (1, 'b'), (3, 'c'), (2, 'd'), (1, 'e')];
-    let mut items = items_of(&rt, rt.alloc(), &shuffled);
-    items.sort_by_key(|item| item.0).expect(&rt, "memory");
-    holds(
-        &rt,
-        items.into_vec().as_slice()
-            == [(1, 'b'), (1, 'e'), (2, 'd'), (3, 'a'), (3, 'c')].as_slice(),
-    );
+    let mut items = items_of(rt, alloc, &shuffled);
+    items.sort_by_key(|item| item.0).expect(rt, "memory");
+    let sorted = [(1, 'b'), (1, 'e'), (2, 'd'), (3, 'a'), (3, 'c')];
+    items.into_vec().as_slice() == sorted.as_slice()
+}
+
+/// Of four items, which become two.
+fn are_moved(items: &mut Items<(u8, char)>) -> bool
+    requires { length items.old ≡ 4 }
+{
+    items.swap(0, 3);
+    let (removed, replaced) = (items.remove(1), items.replace(1, (7, 'x')));
+    items.truncate(2);
+    (removed == (2, 'b'))
+        & (replaced == (3, 'c'))
+        & (items.len() == 2)
+        & !items.is_empty()
+        & items.get(2).is_none()
+        & (items.as_slice() == [(4, 'd'), (7, 'x')].as_slice())
 }
 
 #[test]
-fn items_are_moved_and_cut(rt: HostRuntime) {
+fn items_are_sorted_moved_and_cut(rt: HostRuntime) {
+    holds(&rt, "sorted", are_sorted(&rt, rt.alloc()));
     let mut items = items_of(&rt, rt.alloc(), &[(1, 'a'), (2, 'b'), (3, 'c'), (4, 'd')]);
-    items.swap(0, 3);
-    same(&rt, &items.remove(1), &(2, 'b'));
-    same(&rt, &items.replace(1, (7, 'x')), &(3, 'c'));
-    items.truncate(2);
-    same(
-        &rt,
-        &(items.len(), items.is_empty(), items.get(2)),
-        &(2, false, None),
-    );
-    holds(&rt, items.as_slice() == [(4, 'd'), (7, 'x')].as_slice());
+    holds(&rt, "moved", are_moved(&mut items));
 }

@@ -3,10 +3,12 @@ ghost use Rattle.std.specs.Prelude.{◌≡◌, IfSome, pos};
 ghost use Rattle.civil_parts.specs.Durations.{longest, shortest};
 ghost use Rattle.civil_parts.specs.declared.weekday.Weekday.TheVariants.{Monday};
 
-use crate::checks::{hash_of, prints, same};
+use crate::checks::{hash_of, holds, prints};
 use civil_parts::{
     ComponentRange, ConversionRange, InvalidVariant, Month, SignedDuration, StdDuration, Weekday,
 };
+use std::alloc::Global;
+use std::process::Abort;
 
 // The names of the months and of the weekdays, in order.
 const MONTHS: &str =
@@ -14,20 +16,35 @@ const MONTHS: &str =
 
 const WEEKDAYS: &str = "Monday Tuesday Wednesday Thursday Friday Saturday Sunday";
 
-#[test]
-fn names(rt: HostRuntime) {
+fn expect_months(rt: &impl Abort, alloc: Global) {
     let mut month = Month::December;
     for name in MONTHS.split_whitespace() {
         month = month.next();
-        prints(&rt, rt.alloc(), &month, name);
-        same(&rt, &name.parse::<Month>(), &Ok(month));
+        prints(rt, alloc, &month, name);
+        holds(rt, name, name.parse::<Month>() == Ok(month));
     }
+}
+
+fn expect_weekdays(rt: &impl Abort, alloc: Global) {
     let mut day = Weekday::Sunday;
     for name in WEEKDAYS.split_whitespace() {
         day = day.next();
-        prints(&rt, rt.alloc(), &day, name);
-        same(&rt, &name.parse::<Weekday>(), &Ok(day));
+        prints(rt, alloc, &day, name);
+        holds(rt, name, name.parse::<Weekday>() == Ok(day));
     }
+}
+
+fn expect_causes(rt: &impl Abort, alloc: Global) {
+    prints(rt, alloc, &ComponentRange, "component out of range");
+    prints(rt, alloc, &ConversionRange, "conversion out of range");
+    prints(rt, alloc, &InvalidVariant, "value was not a valid variant");
+}
+
+#[test]
+fn names_and_causes(rt: HostRuntime) {
+    expect_months(&rt, rt.alloc());
+    expect_weekdays(&rt, rt.alloc());
+    expect_causes(&rt, rt.alloc());
 }
 
 // What the clauses say of known days and lengths.
@@ -64,94 +81,52 @@ fn greatest() -> SignedDuration
     SignedDuration::MAX
 }
 
-#[test]
-fn months_and_weekdays(rt: HostRuntime) {
+fn months_and_weekdays() -> bool {
     let (may, sunday) = (Month::May, Weekday::Sunday);
-    same(
-        &rt,
-        &(
-            may.previous(),
-            may.length(2000),
-            Month::try_from(5),
-            u8::from(may),
-        ),
-        &(Month::April, 31, Ok(may), 5),
-    );
-    same(
-        &rt,
-        &(
-            three_days_before_thursday(),
-            sunday.nth_next(255),
-            sunday.nth_prev(255),
-            sunday.previous(),
-        ),
-        &(
-            Weekday::Monday,
-            Weekday::Wednesday,
-            Weekday::Thursday,
-            Weekday::Saturday,
-        ),
-    );
-    same(
-        &rt,
-        &(
-            sunday.number_from_sunday(),
-            sunday.number_days_from_sunday(),
-            sunday.number_from_monday(),
-            sunday.number_days_from_monday(),
-        ),
-        &(1, 0, 7, 6),
-    );
-    same(
-        &rt,
-        &(hash_of(&may), hash_of(&sunday)),
-        &(hash_of(&Month::May), hash_of(&Weekday::Sunday)),
-    );
+    (may.previous() == Month::April)
+        & (may.length(2000) == 31)
+        & (Month::try_from(5) == Ok(may))
+        & (u8::from(may) == 5)
+        & (hash_of(&may) == hash_of(&Month::May))
+        & (three_days_before_thursday() == Weekday::Monday)
+        & (sunday.nth_next(255) == Weekday::Wednesday)
+        & (sunday.nth_prev(255) == Weekday::Thursday)
+        & (sunday.previous() == Weekday::Saturday)
+        & (sunday.number_from_sunday() == 1)
+        & (sunday.number_days_from_sunday() == 0)
+        & (sunday.number_from_monday() == 7)
+        & (sunday.number_days_from_monday() == 6)
+        & (hash_of(&sunday) == hash_of(&Weekday::Sunday))
 }
 
-/// The seconds, days and nanoseconds past the second of a length, and whether it is none, behind and ahead.
-fn cut(length: SignedDuration) -> (i64, i64, i32, bool, bool, bool) {
-    (
-        length.whole_seconds(),
-        length.whole_days(),
-        length.subsec_nanoseconds(),
-        length.is_zero(),
-        length.is_negative(),
-        length.is_positive(),
-    )
+fn lengths() -> bool {
+    let least = least();
+    (SignedDuration::from_parts(0, 2) == five_less_three())
+        & (zero().checked_add(greatest()) == Some(greatest()))
+        & (least.whole_seconds() == i64::MIN)
+        & (least.whole_days() == -106_751_991_167_300)
+        & (least.subsec_nanoseconds() == -999_999_999)
+        & !least.is_zero()
+        & least.is_negative()
+        & !least.is_positive()
+        & (hash_of(&least) == hash_of(&SignedDuration::MIN))
+}
+
+fn lengths_without_a_sign() -> bool {
+    let Some(unsigned) = StdDuration::new(5, 1) else {
+        return false;
+    };
+    let Ok(signed) = SignedDuration::try_from(unsigned) else {
+        return false;
+    };
+    (unsigned.as_secs() == 5)
+        & (unsigned.subsec_nanos() == 1)
+        & (signed.whole_nanoseconds() == 5_000_000_001)
 }
 
 #[test]
-fn lengths(rt: HostRuntime) {
-    let (made, two) = (SignedDuration::from_parts(0, 2), five_less_three());
-    same(
-        &rt,
-        &(made, zero().checked_add(greatest())),
-        &(two, Some(greatest())),
-    );
-    same(
-        &rt,
-        &cut(least()),
-        &(
-            i64::MIN,
-            -106_751_991_167_300,
-            -999_999_999,
-            false,
-            true,
-            false,
-        ),
-    );
-    same(&rt, &hash_of(&least()), &hash_of(&SignedDuration::MIN));
-    let unsigned = StdDuration::new(5, 1).expect(&rt, "no length");
-    same(&rt, &(unsigned.as_secs(), unsigned.subsec_nanos()), &(5, 1));
-    let signed = SignedDuration::try_from(unsigned).expect(&rt, "too long");
-    same(&rt, &signed.whole_nanoseconds(), &5_000_000_001);
-}
-
-#[test]
-fn causes_are_printed(rt: HostRuntime) {
-    let alloc = rt.alloc();
-    prints(&rt, alloc, &ComponentRange, "component out of range");
-    prints(&rt, alloc, &ConversionRange, "conversion out of range");
-    prints(&rt, alloc, &InvalidVariant, "value was not a valid variant");
+fn values(rt: HostRuntime) {
+    holds(&rt, "months and weekdays", months_and_weekdays());
+    holds(&rt, "lengths", lengths());
+    holds(&rt, "lengths without a sign", lengths_without_a_sign());
 }
