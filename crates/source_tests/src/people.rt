@@ -33,6 +33,13 @@ log|Test/Berlin|--field|2~a 1729989000 b;no;~a 2024-10-27 02:30:00 +02:00 CEST b
 const FAULTS: &str = "\
 at|Test/Paris|@0~~~zone: \"Test/Paris\": no zone has this name;
 local|UTC|2024-10-27~~~zone: \"2024-10-27\": a time of day is missing, as in 2024-10-27 02:30;
+local|UTC|2024-10-27T02:30Z~~~zone: \"2024-10-27T02:30Z\": a local time has no offset; zone at takes a time with one, and zone convert has it as FROM;
+at|UTC|2024-10-27|02:30~~~zone: \"2024-10-27\": a time of day and an offset are missing, as in 2024-10-27T02:30:00+02:00;
+at|UTC|1729992600~~~zone: \"1729992600\": a date is missing, as in 2024-10-27, or an @ before seconds, as in @1729989000;
+alarm|UTC|7:30|--from|2024-10-27|--count|1~~~zone: \"7:30\": an hour has two digits, as in 07:30;
+alarm|UTC|07:30|--from|2024-10-27|--until|2024-10-26~~~zone: \"2024-10-26\": the last day comes before the first;
+list|UTC|@1729989000|now~~~zone: \"now\": this isn't after FROM;
+list|Nowhere|now|2024-10-27T02:29:59+02:00~~~zone: \"2024-10-27T02:29:59+02:00\": this isn't after FROM;
 at|Test/Ends|@4102444800~~~zone: \"Test/Ends\": the zone's rules end before that year;
 string|Test/Ends~~~zone: \"Test/Ends\": the rules of this zone end, so it doesn't go on for ever;
 stream~at UTC;at UTC @0;~? \"at\": words are missing behind this command;1970-01-01 00:00:00 +00:00 UTC;~
@@ -43,7 +50,8 @@ tree~~~zone: \"Test/Ends\": the rules of this zone end, so it doesn't go on for 
 /// Rows that end with status 1, and with status 3.
 const NO_FORM: &str = "\
 at~~~zone: \"at\": words are missing behind this command;
---epoch|--epoch|at|UTC|@0~~~zone: \"--epoch\": this option is there twice, or beside one that says the same;
+--epoch|--epoch|at|UTC|@0~~~zone: \"--epoch\": this option is there twice, or beside another of its kind;
+file|UTC|--json~~~zone: \"--json\": this option goes with another command;
 ";
 
 const UNREAD: &str = "\
