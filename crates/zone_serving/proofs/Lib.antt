@@ -4,3 +4,5 @@ mod StreamRows
 mod LogRows
 pub mod ViewLemmas
 pub mod WholeLemmas
+mod SourceRows
+mod ViewRows

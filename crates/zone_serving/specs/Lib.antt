@@ -5,6 +5,7 @@ pub mod Streams
 pub mod Told
 pub mod LogTexts
 pub mod Makes
+pub mod Causes
 pub mod Sources
 pub mod Views
 pub mod Wholes

@@ -1,9 +1,9 @@
 -- What is told of a text that is no source.
-use Rattle.std.specs.Prelude.{◌≡◌, ◌⊎◌, ℕ, List, ◌++◌, Bool, true, false, codes, bytes_eq, take, decimal}
+use Rattle.std.specs.Prelude.{◌≡◌, ◌⊎◌, ℕ, List, Bool, true, false, codes, bytes_eq, take}
 use Rattle.sefunjaro.specs.AnySources.{IsAnyFault}
 use Rattle.sefunjaro.specs.declared.any_source.AnySourceFault.{AnySourceFault}
 use Rattle.sefunjaro.specs.declared.any_source.AnySourceFault.TheVariants as source
-use Rattle.zone_plain_lines.specs.Causes.{cause_name}
+use Rattle.zone_serving.specs.Causes.{cause_words, form_words, line_words}
 
 -- it begins as compiled files do
 abbrev pub is_compiled : List ℕ → Bool
@@ -12,9 +12,9 @@ is_compiled text = bytes_eq (take 4 text) (codes "TZif")
 -- what is told of a text that is no source
 abbrev pub fault_words : AnySourceFault → List ℕ
 fault_words source.TooLong = codes "this source has more than 16,777,216 bytes"
-fault_words (source.Line n cause) = (codes "line " ++ decimal n) ++ (codes " of this source can't be read: " ++ cause_name cause)
+fault_words (source.Line n cause) = line_words n false (cause_words cause)
 fault_words source.PlainTooLong = codes "this source has more than 16,777,216 bytes in plain form"
-fault_words (source.Plain error) = codes "this source can't be read"
+fault_words (source.Plain error) = form_words error
 fault_words source.NoMemory = codes "out of memory"
 
 -- a compiled file is told as one; any other text by its first fault

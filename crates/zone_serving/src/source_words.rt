@@ -1,15 +1,19 @@
 //! What is told of faults, in words.
-ghost use Rattle.std.specs.Prelude.{◌≡◌, ◌++◌, codes, decimal, IfOk};
+ghost use Rattle.std.specs.Prelude.{◌≡◌, IfOk};
+ghost use Rattle.zone_serving.specs.Causes.{cause_words, form_words, join_words, kind_words, line_words, of_text};
 ghost use Rattle.zone_serving.specs.Sources.{fault_words};
 ghost use Rattle.zone_serving.specs.Views.{schedule_words};
 ghost use Rattle.zone_serving.specs.Wholes.{changes_words, file_words, tail_words, why_words};
 
 use itoa::Buffer;
-use sefunjaro::{AnySourceFault, EverFileFault, EverTailFault, Why};
+use sefunjaro::{AnySourceFault, EverFileFault, EverTailFault, SourceError, Why};
 use std::alloc::{AllocError, Global};
+use zone_plain_lines::PlainCause;
+use zone_source::BuildKind;
 use zone_spans::SpanFault;
 use zone_tzif_core::WriteFault;
 use zone_tzif_set::FileFault;
+use zone_values::FaultKind;
 
 /// What is told of a text that is no source.
 pub(crate) fn fault_words(alloc: Global, fault: &AnySourceFault) -> Result<Vec<u8>, AllocError>
@@ -17,24 +21,118 @@ pub(crate) fn fault_words(alloc: Global, fault: &AnySourceFault) -> Result<Vec<u
 {
     match fault {
         AnySourceFault::TooLong => b"this source has more than 16,777,216 bytes".to_vec(alloc),
-        AnySourceFault::Line(number, cause) => line_words(alloc, *number, cause.name()),
+        AnySourceFault::Line(number, cause) => {
+            line_words(alloc, *number, false, cause_words(*cause))
+        }
         AnySourceFault::PlainTooLong =>
             b"this source has more than 16,777,216 bytes in plain form".to_vec(alloc),
-        AnySourceFault::Plain(_) => b"this source can't be read".to_vec(alloc),
+        AnySourceFault::Plain(error) => form_words(alloc, error),
         AnySourceFault::NoMemory => b"out of memory".to_vec(alloc),
     }
 }
 
-/// What is told of a line by its number and the name of its cause.
-#[tactic(auto, using(std::proofs::Common::append_assoc))]
-fn line_words(alloc: Global, number: usize, cause: &str) -> Result<Vec<u8>, AllocError>
-    ensures { IfOk result (λ words. words.items ≡ (codes "line " ++ decimal number) ++ (codes " of this source can't be read: " ++ cause.now)) }
+/// What is told between the number of a line of a source, or of its plain form, and why it is refused.
+fn of_text(in_form: bool) -> &'static [u8]
+    ensures { result.now ≡ of_text in_form }
+{
+    if in_form {
+        b" of this source in plain form can't be read: "
+    } else {
+        b" of this source can't be read: "
+    }
+}
+
+/// What is told of a source whose plain form is refused.
+fn form_words(alloc: Global, error: &SourceError) -> Result<Vec<u8>, AllocError>
+    ensures { IfOk result (λ words. words.items ≡ form_words error.now) }
+{
+    match error {
+        SourceError::NotText(number) => {
+            line_words(alloc, *number, true, cause_words(PlainCause::NotText))
+        }
+        SourceError::Line(number, error) => match error.kind() {
+            Some(kind) => line_words(alloc, *number, true, kind_words(kind)),
+            None => b"out of memory".to_vec(alloc),
+        },
+        SourceError::Build(number, kind) => line_words(alloc, *number, true, join_words(*kind)),
+        SourceError::NoMemory => b"out of memory".to_vec(alloc),
+    }
+}
+
+/// What is told of a line of a source, or of its plain form, by its number, and why.
+#[tactic(auto, using(std::proofs::Common::append_assoc), unfolding(crate::specs::Causes::line_words))]
+fn line_words(
+    alloc: Global,
+    number: usize,
+    in_form: bool,
+    why: &[u8],
+) -> Result<Vec<u8>, AllocError>
+    ensures { IfOk result (λ words. words.items ≡ line_words number in_form why.now) }
 {
     let mut words = b"line ".to_vec(alloc)?;
     words.extend_from_slice(Buffer::new().format(number).as_bytes())?;
-    words.extend_from_slice(b" of this source can't be read: ")?;
-    words.extend_from_slice(cause.as_bytes())?;
+    words.extend_from_slice(of_text(in_form))?;
+    words.extend_from_slice(why)?;
     Ok(words)
+}
+
+/// Why a line has no plain form.
+fn cause_words(cause: PlainCause) -> &'static [u8]
+    ensures { result.now ≡ cause_words cause }
+{
+    match cause {
+        PlainCause::NotText => b"it isn't text in UTF-8",
+        PlainCause::Quotes => b"quotes are left open, or around nothing",
+        PlainCause::LineType => b"its first word is none of Rule, Zone and Link",
+        PlainCause::FieldCount => b"it has too few words, or too many",
+        PlainCause::RulesetName => b"no rules have such a name",
+        PlainCause::Year => b"a year of it is none",
+        PlainCause::YearOrder => b"its last year comes before its first",
+        PlainCause::Type => b"its TYPE isn't -",
+        PlainCause::Month => b"a month of it is none, or two",
+        PlainCause::Day => b"a day of it is none of its month",
+        PlainCause::Time => b"a time of it is none",
+        PlainCause::Saving => b"the letter behind its saving changes which time is standard",
+        PlainCause::Format => b"its FORMAT is empty, or has a % that can't be filled",
+        PlainCause::Unsayable => b"it would be read as something else than it means",
+        PlainCause::Continuation => b"a line that goes on with it is missing",
+        PlainCause::UnknownRuleset =>
+            b"its RULES are no amount of time, and no rules have that name",
+        PlainCause::DuplicateZone => b"an earlier zone has its name",
+        PlainCause::LinkIsZone => b"a zone has the name of this link",
+        PlainCause::DuplicateLink => b"an earlier link has its name and leads elsewhere",
+        PlainCause::Target => b"this link leads to no zone",
+        PlainCause::Name => b"no zone has such a name",
+    }
+}
+
+/// Why a line in plain form is refused by itself.
+fn kind_words(kind: FaultKind) -> &'static [u8]
+    ensures { result.now ≡ kind_words kind }
+{
+    match kind {
+        FaultKind::FailedYearParse => b"a year of it is none",
+        FaultKind::FailedMonthParse => b"a month of it is none",
+        FaultKind::FailedWeekdayParse => b"a weekday of it is none",
+        FaultKind::InvalidLineType => b"it is no rule, zone, link or line that goes on with one",
+        FaultKind::TypeColumnContainedNonHyphen => b"its TYPE isn't -",
+        FaultKind::CouldNotParseSaving => b"a saving of it is none",
+        FaultKind::InvalidDaySpec => b"a day of it is none",
+        FaultKind::InvalidTimeSpecAndType => b"a time of it is none",
+        FaultKind::NonWallClockInTimeSpec => b"a time of it is none by the wall's clock",
+    }
+}
+
+/// Why a line in plain form is refused behind those before it.
+fn join_words(kind: BuildKind) -> &'static [u8]
+    ensures { result.now ≡ join_words kind }
+{
+    match kind {
+        BuildKind::SurpriseContinuationLine => b"no zone stands before it",
+        BuildKind::UnknownRuleset => b"no rules before it have the name that it is under",
+        BuildKind::DuplicateLink => b"an earlier link has its name",
+        BuildKind::DuplicateZone => b"an earlier zone has its name",
+    }
 }
 
 /// What is told of a zone without a schedule.

@@ -5,13 +5,12 @@ ghost use Rattle.zone_command.specs.Refusals.{IsTold};
 ghost use Rattle.zone_serving.specs.Requests.{bare, has_option, request_of, word_in, words_among, words_of};
 ghost use Rattle.zone_serving.specs.Told.{IsRequest};
 ghost use Rattle.zone_words.specs.FaultLines.{fault_line};
-ghost use Rattle.zone_words.specs.Options.{is_option};
 ghost use Rattle.zone_words.specs.Shown.{word_shown};
-ghost use Rattle.zone_words.specs.Told.{fault_shown, is_of_memory};
+ghost use Rattle.zone_words.specs.Told.{fault_shown};
 
 use std::alloc::{AllocError, Global};
 use zone_command::Refusal;
-use zone_words::{Asked, WordCause, WordFault, fault_line, read_words};
+use zone_words::{Asked, WordFault, fault_line, is_option, read_words};
 
 /// The pieces of a text between spaces.
 fn pieces_of(alloc: Global, text: &str) -> Result<Vec<&str>, AllocError>
@@ -49,16 +48,6 @@ pub(crate) fn words_of(alloc: Global, text: &str) -> Result<Vec<String>, AllocEr
     let pieces = pieces_of(alloc, text)?;
     let words = words_among(alloc, &pieces)?;
     Ok(words)
-}
-
-/// Whether a word is an option: it begins with `-`, and what follows is no digit.
-fn is_option(word: &str) -> bool
-    ensures { result ≡ is_option word.now }
-{
-    match word.as_bytes() {
-        [first, second, ..] => *first == b'-' && !second.is_ascii_digit(),
-        _ => false,
-    }
 }
 
 /// Whether one of the words is an option.
@@ -104,13 +93,6 @@ fn fault_told(alloc: Global, fault: &WordFault<'_>) -> Refusal
     }
 }
 
-/// Whether memory ran out.
-fn is_of_memory(cause: WordCause) -> bool
-    ensures { result ≡ is_of_memory cause }
-{
-    matches!(cause, WordCause::NoMemory)
-}
-
 /// What words ask of the command, without options.
 ///
 /// # Errors
@@ -128,7 +110,7 @@ pub(crate) fn read_request(alloc: Global, words: &[String]) -> Result<Asked<'_>,
     match read_words(alloc, words) {
         Ok(asked) => Ok(asked),
         Err(fault) => {
-            if is_of_memory(fault.cause) {
+            if fault.cause.is_of_memory() {
                 return Err(Refusal::NoMemory);
             }
             Err(fault_told(alloc, &fault))
