@@ -138,8 +138,8 @@ worked_whys = refl
 
 -- which line, of which text; a plain form has lines of its own
 worked_faults : map fault_words (
-      source.TooLong ∷ source.Line 12 plain.Month ∷ source.PlainTooLong ∷ source.Plain (error.NotText 3) ∷ source.Plain (error.Build 4 join.DuplicateZone)
-      ∷ source.Plain (error.Line 5 line.NoMemory) ∷ source.Plain error.NoMemory ∷ source.NoMemory ∷ []
+    source.TooLong ∷ source.Line 12 plain.Month ∷ source.PlainTooLong ∷ source.Plain (error.NotText 3) ∷ source.Plain (error.Build 4 join.DuplicateZone)
+    ∷ source.Plain (error.Line 5 line.NoMemory) ∷ source.Plain error.NoMemory ∷ source.NoMemory ∷ []
     ) ≡ codes "this source has more than 16,777,216 bytes" ∷ codes "line 12 of this source can't be read: a month of it is none, or two"
     ∷ codes "this source has more than 16,777,216 bytes in plain form"
     ∷ codes "line 3 of this source in plain form can't be read: it isn't text in UTF-8"
