@@ -25,6 +25,7 @@ alarm|Test/Berlin|02:30|--from|2024-03-30|--count|2~~2024-03-30 02:30:00 +01:00 
 names|TEST/L~~Test/Link -> Test/Berlin;~
 string|Test/Link~~CET-1CEST,M3.5.0,M10.5.0/3;~
 stream~at UTC @0;local Test/Berlin 2024-10-27 02:30~1970-01-01 00:00:00 +00:00 UTC;2024-10-27 02:30:00 +02:00 CEST | 2024-10-27 02:30:00 +01:00 CET;~
+stream|--plain~at Test/Berlin 1729989000000000000;local Test/Link 2150-07-01 12:00:00.000000000;at Test/Ends 4102444799999999999~2024-10-27 02:30:00.000000000 +02:00:00;2150-07-01 12:00:00.000000000 +02:00:00;2099-12-31 23:59:59.999999999 +00:00:00;~
 log|Test/Berlin|--field|2~a 1729989000 b;no;~a 2024-10-27 02:30:00 +02:00 CEST b;no;~
 --version~~zone 2.0.0 of Sefunjaro;~
 ";
@@ -43,6 +44,7 @@ list|Nowhere|now|2024-10-27T02:29:59+02:00~~~zone: \"2024-10-27T02:29:59+02:00\"
 at|Test/Ends|@4102444800~~~zone: \"Test/Ends\": the zone's rules end before that year;
 string|Test/Ends~~~zone: \"Test/Ends\": the rules of this zone end, so it doesn't go on for ever;
 stream~at UTC;at UTC @0;~? \"at\": words are missing behind this command;1970-01-01 00:00:00 +00:00 UTC;~
+stream|--plain~at Test/Ends 4102444800000000000;at UTC 0;at Test/Berlin @0;at Test/Berlin 0~? \"Test/Ends\": the zone's rules end before that year;? \"UTC\": no zone has this name;? a request is at NAME N, or local NAME YYYY-MM-DD hh:mm:ss.fffffffff;1970-01-01 01:00:00.000000000 +01:00:00;~
 log|Nowhere~@0;~~zone: \"Nowhere\": no zone has this name;
 tree~~~zone: \"Test/Ends\": the rules of this zone end, so it doesn't go on for ever;
 ";

@@ -74,6 +74,8 @@ pub const HELP_STREAM: &str =
 at NAME TIME, local NAME TEXT and convert FROM TO TEXT, without now.
 Several readings stand on one line, with | between them. A request that can't be answered
 has an answer that begins with ?, and the status is then 2 at the end.
+--plain  requests and answers are those of zone_answers: at NAME N, in nanoseconds, and
+local NAME YYYY-MM-DD hh:mm:ss.fffffffff; from the year 2100 on by the rules
 ";
 
 /// What `zone log --help` writes.

@@ -9,6 +9,7 @@ mod zone;
 
 pub use running::run;
 pub use starting::start;
+pub use zone::EverZone;
 pub use zone_answers::{
     FileShelf, MemShelf, MemSink, MemSource, Shelf, Sink, Source, Started, Status, StdSink,
     StdSource,

@@ -12,7 +12,7 @@ use zone_table::Table;
 
 /// A zone that goes on for ever, kept compactly.
 #[derive(Drop)]
-pub(crate) struct EverZone {
+pub struct EverZone {
     pub(crate) set: EverSet,
 }
 

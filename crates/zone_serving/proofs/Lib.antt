@@ -1,7 +1,9 @@
 pub mod KeptLemmas
+pub mod PlainLemmas
 pub mod RequestLemmas
 mod StreamRows
 mod LogRows
+mod PlainRows
 pub mod ViewLemmas
 pub mod WholeLemmas
 mod SourceRows

@@ -4,6 +4,8 @@ pub mod Requests
 pub mod Streams
 pub mod Told
 pub mod LogTexts
+pub mod Plain
+pub mod PlainLaws
 pub mod Makes
 pub mod Causes
 pub mod Sources

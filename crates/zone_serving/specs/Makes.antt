@@ -11,18 +11,19 @@ use Rattle.zone_outside.specs.Exchanges.{ExchangeSeen}
 use Rattle.zone_pieces.specs.Filters.{Made, replied}
 use Rattle.zone_pieces.specs.Fronts.{fronts_rewritten}
 use Rattle.zone_pieces.specs.Logs.{log_front}
+use Rattle.zone_pieces.specs.Replies.{Replies}
 use Rattle.zone_pieces.specs.Runs.{Ends}
 use Rattle.zone_pieces.specs.declared.running.StreamEnd.{StreamEnd}
 use Rattle.zone_serving.specs.LogTexts.{field_of, log_text}
 use Rattle.zone_serving.specs.Streams.{stream_replies}
 use Rattle.zone_words.specs.Tasks.{TaskAsked, WordsAsked, stream, log}
 
--- what a task makes of an input by what names find, or the words that tell why nothing
-abbrev pub made_of : (List ℕ → Found) → AnswerForm → TaskAsked → Making
-made_of found form (stream false) = Ok (replied (stream_replies found form))
-made_of found form (stream true) = Err (codes "--plain isn't there; zone_ever answers such requests")
-made_of found form (log name field) = named_in found name >>= (λ view. Ok (fronts_rewritten (log_front (field_of field) (log_text form view))))
-made_of found form _ = Err (codes "this command answers no input")
+-- what a task makes of an input by what names find, or by the replies to requests of `zone_answers`; or the words that tell why nothing
+abbrev pub made_of : (List ℕ → Found) → Replies → AnswerForm → TaskAsked → Making
+made_of found plain form (stream false) = Ok (replied (stream_replies found form))
+made_of found plain form (stream true) = Ok (replied plain)
+made_of found plain form (log name field) = named_in found name >>= (λ view. Ok (fronts_rewritten (log_front (field_of field) (log_text form view))))
+made_of found plain form _ = Err (codes "this command answers no input")
 
 -- the words as a line
 abbrev pub lined : Making → Making
@@ -36,11 +37,11 @@ IsServedBy making before now (Err (Why words)) = (making ≡ Err words.items) ×
 IsServedBy making before now (Err NoMemory) = now ≡ before
 
 -- the source that the text is read as, and what is made of an input over it
-pub record IsMadeBy {S : Type 0} (reads : List ℕ → S → Type 0) (found : S → List ℕ → Found) (asked : WordsAsked) (text : List ℕ)
+pub record IsMadeBy {S : Type 0} (reads : List ℕ → S → Type 0) (found : S → List ℕ → Found) (plain : S → Replies) (asked : WordsAsked) (text : List ℕ)
     (making : Making) : Type 0 where
   pub source : S
   pub read : reads text source
-  pub is : making ≡ lined (made_of (found source) asked.form asked.task)
+  pub is : making ≡ lined (made_of (found source) (plain source) asked.form asked.task)
 
 -- or why the text is no source, which is told of the file
 pub record IsMadeNot (unread : List ℕ → List ℕ → Type 0) (file text : List ℕ) (making : Making) : Type 0 where
@@ -48,5 +49,5 @@ pub record IsMadeNot (unread : List ℕ → List ℕ → Type 0) (file text : Li
   pub unread_for : unread text why
   pub is : making ≡ Err (told_line (name_words file why))
 
-abbrev pub IsMadeOver : {S : Type 0} → (List ℕ → S → Type 0) → (List ℕ → List ℕ → Type 0) → (S → List ℕ → Found) → Makings
-IsMadeOver reads unread found asked file text making = IsMadeBy reads found asked text making ⊎ IsMadeNot unread file text making
+abbrev pub IsMadeOver : {S : Type 0} → (List ℕ → S → Type 0) → (List ℕ → List ℕ → Type 0) → (S → List ℕ → Found) → (S → Replies) → Makings
+IsMadeOver reads unread found plain asked file text making = IsMadeBy reads found plain asked text making ⊎ IsMadeNot unread file text making

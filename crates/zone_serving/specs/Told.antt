@@ -1,5 +1,7 @@
 -- What the code's results tell of requests.
-use Rattle.std.specs.Prelude.{◌≡◌, Result, Ok, Err}
+use Rattle.std.specs.Prelude.{◌≡◌, ℕ, List, Result, Ok, Err}
+use Rattle.zone_command.specs.Answers.{Answer}
+use Rattle.zone_command.specs.Refusals.{IsTold}
 use Rattle.zone_command.specs.declared.source.Refusal.{Refusal}
 use Rattle.zone_command.specs.declared.source.Refusal.TheVariants.{Why, NoMemory}
 use Rattle.zone_serving.specs.Requests.{Request}
@@ -11,3 +13,8 @@ abbrev pub IsRequest : Request → Result Asked Refusal → Type 0
 IsRequest request (Ok asked) = request ≡ Ok (task_shown asked.task)
 IsRequest request (Err (Why words)) = request ≡ Err words.items
 IsRequest request (Err NoMemory) = Unit {0}
+
+-- the text is the answer; or the words are why there is none, or memory ran out
+abbrev pub IsPut : Answer → List ℕ → Result (Unit {0}) Refusal → Type 0
+IsPut answer text (Ok done) = answer ≡ Ok text
+IsPut answer text (Err refusal) = IsTold (λ words. answer ≡ Err words) refusal

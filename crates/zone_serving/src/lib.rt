@@ -6,6 +6,7 @@ mod answers;
 mod kept;
 mod log_texts;
 mod over;
+mod plain;
 mod readings;
 mod serving;
 mod source;
@@ -14,7 +15,7 @@ mod stream;
 mod words;
 
 pub use log_texts::ZoneTexts;
-pub use over::OverSource;
+pub use over::{OverSource, PlainSource};
 pub use serving::{serve_log, serve_stream};
 pub use source::AnySource;
 pub use stream::SourceStream;

@@ -1,5 +1,8 @@
 //! What answers over sources of a kind: at once, or what comes in.
 ghost use Rattle.std.specs.Prelude.{◌≡◌};
+ghost use Rattle.zone_pieces.specs.Filters.{replied};
+ghost use Rattle.zone_pieces.specs.Replies.{Replies};
+ghost use Rattle.zone_pieces.specs.Runs.{Ends};
 ghost use Rattle.zone_serving.specs.Makes.{IsServedBy, made_of};
 ghost use Rattle.zone_words.specs.TaskShown.{task_shown};
 ghost use Rattle.zone_words.specs.Tasks.{log};
@@ -16,14 +19,21 @@ use zone_outside::Exchange;
 use zone_pieces::StreamEnd;
 use zone_words::{Asked, Task};
 
-/// What is told of requests of another form.
-const PLAIN: &[u8] = b"--plain isn't there; zone_ever answers such requests";
-
 /// What is told of a command without an input.
 const NO_INPUT: &[u8] = b"this command answers no input";
 
+/// A source that answers requests of the program `zone_answers`.
+pub trait PlainSource {
+    /// The response to each.
+    ghost plain: { Self → Replies };
+
+    /// Answers such requests as they come in.
+    fn serve_plain<X: Exchange>(&self, alloc: Global, exchange: &mut X) -> StreamEnd
+        ensures { Ends (replied (plain self.now)) (X.seen exchange.old) (X.seen exchange.new) result };
+}
+
 /// Rewrites a log that comes in.
-fn log_served<S: ZoneSource, X: Exchange>(
+fn log_served<S: ZoneSource + PlainSource, X: Exchange>(
     alloc: Global,
     source: &S,
     form: AnswerForm,
@@ -31,7 +41,7 @@ fn log_served<S: ZoneSource, X: Exchange>(
     field: Option<u16>,
     exchange: &mut X,
 ) -> Result<StreamEnd, Refusal>
-    ensures { IsServedBy (made_of (S.found source.now) form (log name.now field)) (X.seen exchange.old) (X.seen exchange.new) result }
+    ensures { IsServedBy (made_of (S.found source.now) (S.plain source.now) form (log name.now field)) (X.seen exchange.old) (X.seen exchange.new) result }
 {
     match find_named(alloc, source, name) {
         Ok(zone) => Ok(serve_log(alloc, &zone, form, field, exchange)),
@@ -40,18 +50,18 @@ fn log_served<S: ZoneSource, X: Exchange>(
 }
 
 /// Answers what comes in, as a task asks.
-fn served<S: ZoneSource, X: Exchange>(
+fn served<S: ZoneSource + PlainSource, X: Exchange>(
     alloc: Global,
     source: &S,
     form: AnswerForm,
     task: &Task<'_>,
     exchange: &mut X,
 ) -> Result<StreamEnd, Refusal>
-    ensures { IsServedBy (made_of (S.found source.now) form (task_shown task.now)) (X.seen exchange.old) (X.seen exchange.new) result }
+    ensures { IsServedBy (made_of (S.found source.now) (S.plain source.now) form (task_shown task.now)) (X.seen exchange.old) (X.seen exchange.new) result }
 {
     match task {
         Task::Stream(false) => Ok(serve_stream(alloc, source, form, exchange)),
-        Task::Stream(true) => Err(Refusal::Why(PLAIN.to_vec(alloc)?)),
+        Task::Stream(true) => Ok(source.serve_plain(alloc, exchange)),
         Task::Log(name, field) => log_served(alloc, source, form, *name, *field, exchange),
         _ => Err(Refusal::Why(NO_INPUT.to_vec(alloc)?)),
     }
@@ -62,13 +72,13 @@ pub struct OverSource<S> {
     source: PhantomData<S>,
 }
 
-impl<S: ZoneSource> Answerer for OverSource<S> {
+impl<S: ZoneSource + PlainSource> Answerer for OverSource<S> {
     ghost use Rattle.zone_command.specs.Replies.{IsDueOver};
     ghost use Rattle.zone_serving.specs.Makes.{IsMadeOver};
 
     ghost due = { IsDueOver S.reads S.unread S.found S.entries S.files S.strings S.trees };
 
-    ghost makes = { IsMadeOver S.reads S.unread S.found };
+    ghost makes = { IsMadeOver S.reads S.unread S.found S.plain };
 
     fn answer(
         alloc: Global,

@@ -12,6 +12,8 @@ ghost use Rattle.zone_serving.specs.Sources.{is_compiled};
 ghost use Rattle.zone_serving.specs.Views.{IsToldAs, entries_of, entry_of, ever_found, found_in, unknown_words};
 ghost use Rattle.zone_serving.specs.Wholes.{IsFileOf, IsStringOf};
 
+use crate::over::PlainSource;
+use crate::plain::PlainStream;
 use crate::source_words::{fault_words, file_words, schedule_words, tail_words, why_words};
 use sefunjaro::{
     AnySourceFault, EverFileFault, EverSet, EverTailFault, OpenSource, OpenZone, Table, TreeFault,
@@ -19,6 +21,8 @@ use sefunjaro::{
 };
 use std::alloc::{AllocError, Global};
 use zone_command::{Refusal, ZoneSource, name_words};
+use zone_outside::Exchange;
+use zone_pieces::{StreamEnd, run_stream};
 use zone_displays::{NameEntry, add_unknown, near_names};
 use zone_tree::tree_of_table_for_ever;
 use zone_tzif_set::FileFault;
@@ -100,6 +104,17 @@ impl ZoneSource for AnySource {
     }
 }
 
+impl PlainSource for AnySource {
+    ghost use Rattle.sefunjaro.specs.Sources.{table_in};
+    ghost use Rattle.zone_serving.specs.Plain.{plain_replies};
+
+    ghost plain = { λ source. plain_replies (table_in source.source) };
+
+    fn serve_plain<X: Exchange>(&self, alloc: Global, exchange: &mut X) -> StreamEnd {
+        run_stream(alloc, PlainStream::new(alloc, &self.source), exchange)
+    }
+}
+
 /// What is told of a zone that doesn't go on.
 const ENDING: &[u8] = b"the rules of this zone end, so it doesn't go on for ever";
 
@@ -138,7 +153,7 @@ fn entries_of<'s>(alloc: Global, source: &'s OpenSource) -> Result<Vec<NameEntry
 
 /// What is told of a name that finds no zone.
 #[tactic(auto, unfolding(crate::specs::Views::unknown_words))]
-fn unknown_words(alloc: Global, source: &OpenSource, name: &str) -> Result<Vec<u8>, AllocError>
+pub(crate) fn unknown_words(alloc: Global, source: &OpenSource, name: &str) -> Result<Vec<u8>, AllocError>
     ensures { IfOk result (λ words. words.items ≡ unknown_words (table_in source.now) name.now) }
 {
     let entries = entries_of(alloc, source)?;
