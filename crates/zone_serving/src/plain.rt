@@ -155,9 +155,21 @@ impl<'s> PlainStream<'s> {
         ensures answer { IsPut (asked_answer (table_in self.old.source.now) (Some (asked request.now))) self.new.text.items result }
     {
         if is_to_2099(request) {
-            answer(self.alloc, self.source, &mut self.today, request, &mut self.text)
+            answer(
+                self.alloc,
+                self.source,
+                &mut self.today,
+                request,
+                &mut self.text,
+            )
         } else {
-            answer(self.alloc, self.source, &mut self.ever, request, &mut self.text)
+            answer(
+                self.alloc,
+                self.source,
+                &mut self.ever,
+                request,
+                &mut self.text,
+            )
         }
     }
 

@@ -21,9 +21,9 @@ use sefunjaro::{
 };
 use std::alloc::{AllocError, Global};
 use zone_command::{Refusal, ZoneSource, name_words};
+use zone_displays::{NameEntry, add_unknown, near_names};
 use zone_outside::Exchange;
 use zone_pieces::{StreamEnd, run_stream};
-use zone_displays::{NameEntry, add_unknown, near_names};
 use zone_tree::tree_of_table_for_ever;
 use zone_tzif_set::FileFault;
 
@@ -153,7 +153,11 @@ fn entries_of<'s>(alloc: Global, source: &'s OpenSource) -> Result<Vec<NameEntry
 
 /// What is told of a name that finds no zone.
 #[tactic(auto, unfolding(crate::specs::Views::unknown_words))]
-pub(crate) fn unknown_words(alloc: Global, source: &OpenSource, name: &str) -> Result<Vec<u8>, AllocError>
+pub(crate) fn unknown_words(
+    alloc: Global,
+    source: &OpenSource,
+    name: &str,
+) -> Result<Vec<u8>, AllocError>
     ensures { IfOk result (λ words. words.items ≡ unknown_words (table_in source.now) name.now) }
 {
     let entries = entries_of(alloc, source)?;
