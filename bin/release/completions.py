@@ -58,7 +58,7 @@ _zone() {{
                 COMPREPLY=($(compgen -W "{commands}" -- "$cur"))
             else
                 while IFS= read -r name; do
-                    [[ $name == "$cur"* ]] && COMPREPLY+=("$name")
+                    if [[ $name == "$cur"* ]]; then COMPREPLY+=("$name"); fi
                 done < <(zone names 2>/dev/null | sed 's/ -> .*//')
             fi
             ;;
