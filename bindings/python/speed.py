@@ -2,8 +2,8 @@
 """usage: speed.py SOURCE [ROUNDS]
 
 The processor time of a call in nanoseconds, the best of nine turns: of a function of the library that does nothing, which is
-ctypes' own cost, of an offset at an instant, of one of many at once, in any order and rising, and of a datetime's utcoffset and astimezone with a zone of sefunjaro.py and with
-Python's zoneinfo."""
+ctypes' own cost, of an offset at an instant, of one of many at once, in any order and rising, of one of many local times and instants, and of a datetime's
+utcoffset, tzname, dst and astimezone with a zone of sefunjaro.py and with Python's zoneinfo."""
 import ctypes
 import time
 from array import array
@@ -29,6 +29,7 @@ def main():
     nothing, closed = sefunjaro._close, ctypes.byref(sefunjaro._RawHandle())
     seconds = [turn * 7919 * 3600 % 2030000000 for turn in range(rounds)]
     many, rising = array("q", seconds), array("q", sorted(seconds))
+    shown = mine.to_local(many)
     in_utc = locals_in(timezone.utc, rounds)
     in_mine, in_theirs = locals_in(mine, rounds), locals_in(theirs, rounds)
     parts = {
@@ -37,8 +38,14 @@ def main():
         "offset_at": lambda: [mine.offset_at(second) for second in seconds],
         "offsets_at": lambda: mine.offsets_at(many),
         "offsets_at, rising": lambda: mine.offsets_at(rising),
+        "to_local": lambda: mine.to_local(many),
+        "to_instants": lambda: mine.to_instants(shown),
         "utcoffset": lambda: [moment.utcoffset() for moment in in_mine],
         "utcoffset, zoneinfo": lambda: [moment.utcoffset() for moment in in_theirs],
+        "tzname": lambda: [moment.tzname() for moment in in_mine],
+        "tzname, zoneinfo": lambda: [moment.tzname() for moment in in_theirs],
+        "dst": lambda: [moment.dst() for moment in in_mine],
+        "dst, zoneinfo": lambda: [moment.dst() for moment in in_theirs],
         "astimezone": lambda: [moment.astimezone(mine) for moment in in_utc],
         "astimezone, zoneinfo": lambda: [moment.astimezone(theirs) for moment in in_utc],
     }
