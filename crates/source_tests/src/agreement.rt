@@ -12,7 +12,7 @@ ghost use Rattle.tz_lookup.specs.Sets.{schedule_of, IsAccepted};
 ghost use Rattle.tz_posix.specs.Agreement.{IsCovered, RuledValue, SaysTheSame, TwoRuleZone, value_of};
 ghost use Rattle.tz_posix_core.specs.Parses.{IsInRange};
 
-use crate::checks::same_at;
+use crate::checks::holds;
 use crate::fixtures::{at, database_of, table_of};
 use crate::rows::{field, number};
 use civil_base::{OffsetDateTime, UtcOffset};
@@ -126,13 +126,12 @@ fn expect_given(rt: &impl Abort, alloc: Global, table: &Table, zones: &Database)
     requires { IsBoundedTable table.now }
 {
     for row in OFFSETS.lines() {
-        same_at(rt, row, &is_given(rt, alloc, table, zones, row), &true);
+        holds(rt, row, is_given(rt, alloc, table, zones, row));
     }
 }
 
 #[test]
 fn zones_agree_with_their_strings(rt: HostRuntime) {
-    let alloc = rt.alloc();
-    let table = table_of(&rt, alloc, ZONES);
-    expect_given(&rt, alloc, &table, &database_of(&rt, alloc, b""));
+    let table = table_of(&rt, rt.alloc(), ZONES);
+    expect_given(&rt, rt.alloc(), &table, &database_of(&rt, rt.alloc(), b""));
 }

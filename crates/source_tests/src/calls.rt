@@ -3,18 +3,18 @@
 ghost use Rattle.std.specs.Prelude.{◌≡◌, ◌<◌};
 ghost use Rattle.zone_table.specs.BoundedTables.{IsBoundedTable};
 
-use crate::checks::{same, same_at};
-use crate::fixtures::{NEW_YORK, at, database_of, parser, set_of, table_of};
+use crate::checks::{holds, is_written, reads};
+use crate::fixtures::{NEW_YORK, at, compact_of, database_of, set_of, table_of};
 use crate::rows::{field, number};
-use civil_base::{OffsetDateTime, PlainDateTime, UtcOffset, read_local, read_zoned};
+use civil_base::{OffsetDateTime, PlainDateTime, UtcOffset, read_local};
 use std::alloc::Global;
 use std::marker::Brand;
 use std::process::Abort;
 use std::sync::ledger::{Blank, Ledger};
 use tz_ever::{EverFault, EverSet, EverTz};
 use tz_lookup::{
-    CompactSet, CompactTz, Offset, OffsetDateTimeExt, OffsetResult, PrimitiveDateTimeExt, Steps,
-    TimeZone, Tz,
+    CompactTz, Database, FixedTimespanSet, Offset, OffsetDateTimeExt, OffsetResult,
+    PrimitiveDateTimeExt, Steps, TimeZone, Tz,
 };
 use tz_posix::{Date, PosixTz, Time};
 use tz_zone::ZoneFault;
@@ -24,24 +24,21 @@ use zone_spans::TableTransitions;
 use zone_table::Table;
 use zone_tail_core::laws::both_offsets;
 use zone_tail_ever::tail_for_ever;
-use zone_uses::{Moved, next_change, zone_of_source};
+use zone_tzif::from_set;
+use zone_uses::{Moved, next_change};
 use zone_values::{DaySpec, Month, Weekday, Year};
+
+fn fields(alloc: Global) -> bool {
+    let day = DaySpec::Last(Weekday::Sunday).to_concrete_day(2024, Month::October);
+    (Month::parse(alloc, "oCT").ok() == Some(Month::October))
+        & (Weekday::parse(alloc, "sunday").ok() == Some(Weekday::Sunday))
+        & (Year::parse(alloc, "2024").ok() == Some(Year::Number(2024)))
+        & (day == Some((Month::October, 27)))
+}
 
 #[test]
 fn fields_of_lines(rt: HostRuntime) {
-    let alloc = rt.alloc();
-    let month = Month::parse(alloc, "oCT").ok().expect(&rt, "a month");
-    let weekday = Weekday::parse(alloc, "sunday")
-        .ok()
-        .expect(&rt, "a weekday");
-    let year = Year::parse(alloc, "2024").ok().expect(&rt, "a year");
-    same(
-        &rt,
-        &(month, weekday, year),
-        &(Month::October, Weekday::Sunday, Year::Number(2024)),
-    );
-    let day = DaySpec::Last(Weekday::Sunday).to_concrete_day(2024, Month::October);
-    same(&rt, &day, &Some((Month::October, 27)));
+    holds(&rt, "fields", fields(rt.alloc()));
 }
 
 /// The seconds of 01:30 at the end of New York's summer of 2024, a time that is shown twice.
@@ -79,111 +76,157 @@ fn found_compactly(compact: &CompactTz<'_>, local: PlainDateTime) -> bool {
     finds_two_compactly::<Brand>(compact, local, Blank::new(1))
 }
 
-/// Asserts the later instant of that local time, and the earlier one.
-fn expect_two(rt: &impl Abort, zone: &Tz<'_>) {
-    same(rt, &found(zone, fold(rt)), &true);
-    let later = read_zoned("2024-11-03 01:30:00.000000000 -05:00:00");
-    same(rt, &fold(rt).assume_timezone(zone).take_second(), &later);
-    let as_utc = read_zoned("2024-11-03 01:30:00.000000000 -04:00:00");
-    same(rt, &Some(fold(rt).assume_timezone_utc(zone)), &as_utc);
+/// Whether that local time is shown twice, the later time at the offset of winter, and read as UTC lies in summer.
+fn has_two(zone: &Tz<'_>, fold: PlainDateTime) -> bool {
+    let as_utc = fold.assume_timezone_utc(zone);
+    found(zone, fold)
+        & fold
+            .assume_timezone(zone)
+            .take_second()
+            .is_some_and(is_later)
+        & is_written(&as_utc, "2024-11-03 01:30:00.000000000 -04:00:00")
 }
 
-#[test]
-fn a_fold_has_two_offsets(rt: HostRuntime) {
-    let database = database_of(&rt, rt.alloc(), NEW_YORK);
-    let zone = database
-        .get_by_name("America/New_York")
-        .expect(&rt, "no zone");
-    expect_two(&rt, &zone);
-}
-
-fn compact_new_york(rt: &impl Abort, alloc: Global) -> CompactSet {
-    let Ok(set) = zone_of_source(alloc, &parser(rt, alloc), NEW_YORK, "America/New_York") else {
-        panic!(rt; "no zone");
-    };
-    set
+fn is_later(found: OffsetDateTime) -> bool {
+    is_written(&found, "2024-11-03 01:30:00.000000000 -05:00:00")
 }
 
 #[test]
 fn a_fold_has_two_offsets_in_a_compact_set(rt: HostRuntime) {
-    let set = compact_new_york(&rt, rt.alloc());
+    let set = compact_of(&rt, rt.alloc(), NEW_YORK);
     let is_found = found_compactly(&CompactTz::new(&set), fold(&rt));
-    same(&rt, &is_found, &true);
+    holds(&rt, "two offsets", is_found);
+}
+
+fn are_told_apart(two: OffsetResult<i32>) -> bool {
+    (two.unwrap_first() == 1) & (two.unwrap_second() == 2)
 }
 
 #[test]
 fn two_offsets_are_told_apart(rt: HostRuntime) {
-    let two = OffsetResult::Ambiguous(1, 2);
-    same(&rt, &(two.unwrap_first(), two.unwrap_second()), &(1, 2));
+    holds(&rt, "two", are_told_apart(OffsetResult::Ambiguous(1, 2)));
 }
 
-/// Half an hour after midnight of 1 July 2024 at UTC, by the clocks of a string's summer.
-fn converted(rt: &impl Abort, zone: &PosixTz<'_>) -> Option<OffsetDateTime> {
-    zone.convert(&at(rt, 1_719_793_800)).ok()
+/// Whether a string's summer moves half an hour after midnight of 1 July 2024 at UTC to its clocks.
+fn moves_an_instant(database: &Database, instant: &OffsetDateTime) -> bool {
+    match PosixTz::parse("CET-1CEST,M3.5.0,M10.5.0/3", database) {
+        Ok(zone) => zone.convert(instant).is_ok_and(is_summer),
+        Err(_) => false,
+    }
 }
 
-#[test]
-fn a_string_moves_an_instant(rt: HostRuntime) {
-    let database = database_of(&rt, rt.alloc(), NEW_YORK);
-    let Ok(zone) = PosixTz::parse("CET-1CEST,M3.5.0,M10.5.0/3", &database) else {
-        panic!(&rt; "refused");
-    };
-    let summer = read_zoned("2024-07-01 02:30:00.000000000 +02:00:00");
-    same(&rt, &converted(&rt, &zone), &summer);
+fn is_summer(found: OffsetDateTime) -> bool {
+    is_written(&found, "2024-07-01 02:30:00.000000000 +02:00:00")
+}
+
+fn times() -> bool {
     let time = Time {
         hh: 2,
         mm: Some(30),
         ss: None,
     };
-    same(
-        &rt,
-        &Some(time.to_time()),
-        &civil_base::Time::from_hms(2, 30, 0).ok(),
-    );
+    civil_base::Time::from_hms(2, 30, 0) == Ok(time.to_time())
+}
+
+/// Whether a zone and its string have daylight saving time at an instant.
+fn agree(zone: &Tz<'_>, database: &Database, instant: &OffsetDateTime) -> bool {
+    match PosixTz::parse("EST5EDT,M3.2.0,M11.1.0", database) {
+        Ok(string) => {
+            let (of_zone, of_string) = both_offsets(zone, &string, instant);
+            is_daylight(of_zone) & of_string.is_some_and(is_daylight)
+        }
+        Err(_) => false,
+    }
+}
+
+fn is_daylight(offset: UtcOffset) -> bool {
+    offset.whole_seconds() == -14_400
+}
+
+/// Asserts what New York and strings over its database give.
+fn expect_database(rt: &impl Abort, database: &Database) {
+    let zone = database
+        .get_by_name("America/New_York")
+        .expect(rt, "no zone");
+    let instant = at(rt, 1_719_793_800);
+    holds(rt, "a fold has two offsets", has_two(&zone, fold(rt)));
+    holds(rt, "a string moves", moves_an_instant(database, &instant));
+    holds(rt, "both agree", agree(&zone, database, &instant));
+}
+
+#[test]
+fn a_database_and_its_strings(rt: HostRuntime) {
+    expect_database(&rt, &database_of(&rt, rt.alloc(), NEW_YORK));
+    holds(&rt, "times of rules", times());
+}
+
+/// Whether the second Sunday of March is day 70 of 2024.
+fn is_day_70(day: Date) -> bool {
+    if !day.is_in_range() {
+        return false;
+    }
+    match day.to_date(2024) {
+        Ok(date) => (date.year() == 2024) & (date.ordinal() == 70),
+        Err(_) => false,
+    }
 }
 
 #[test]
 fn a_day_of_a_rule_has_a_date(rt: HostRuntime) {
-    let day = Date::M { m: 3, n: 2, d: 0 };
-    if !day.is_in_range() {
-        panic!(&rt; "out of range");
-    }
-    let Ok(date) = day.to_date(2024) else {
-        panic!(&rt; "no date");
-    };
-    same(&rt, &(date.year(), date.ordinal()), &(2024, 70));
+    holds(&rt, "a date", is_day_70(Date::M { m: 3, n: 2, d: 0 }));
 }
 
-#[test]
-fn a_zone_and_its_string_agree(rt: HostRuntime) {
-    let database = database_of(&rt, rt.alloc(), NEW_YORK);
-    let zone = database
-        .get_by_name("America/New_York")
-        .expect(&rt, "no zone");
-    let Ok(string) = PosixTz::parse("EST5EDT,M3.2.0,M11.1.0", &database) else {
-        panic!(&rt; "refused");
+/// Asserts the change of New York after an instant.
+fn expect_change(rt: &impl Abort, alloc: Global, table: &Table)
+    requires { IsBoundedTable table.now }
+{
+    let Ok(set) = open_zone(alloc, table, "America/New_York") else {
+        panic!(rt; "no zone");
     };
-    let (of_zone, of_string) = both_offsets(&zone, &string, &at(&rt, 1_719_793_800));
-    let seconds = of_string.map(|offset| offset.whole_seconds());
-    same(
-        &rt,
-        &(of_zone.whole_seconds(), seconds),
-        &(-14_400, Some(-14_400)),
-    );
+    let is_found = next_change(&set, 1_700_000_000) == Some(1_710_054_000);
+    holds(rt, "next change", is_found);
+}
+
+/// Whether an instant is shown an hour later.
+fn is_moved(instant: &OffsetDateTime, hour: UtcOffset) -> bool {
+    let moved = Moved::new("Moved", instant, UtcOffset::UTC, hour);
+    instant.to_timezone(&moved).is_some_and(is_one_o_clock)
+}
+
+fn is_one_o_clock(found: OffsetDateTime) -> bool {
+    is_written(&found, "1970-01-01 01:00:00.000000000 +01:00:00")
 }
 
 #[test]
 fn callers_answer(rt: HostRuntime) {
-    let alloc = rt.alloc();
-    let table = table_of(&rt, alloc, NEW_YORK);
-    let Ok(set) = open_zone(alloc, &table, "America/New_York") else {
-        panic!(&rt; "no zone");
-    };
-    same(&rt, &next_change(&set, 1_700_000_000), &Some(1_710_054_000));
+    expect_change(&rt, rt.alloc(), &table_of(&rt, rt.alloc(), NEW_YORK));
     let hour = UtcOffset::from_whole_seconds(3600).expect(&rt, "no offset");
-    let moved = Moved::new("Moved", &at(&rt, 0), UtcOffset::UTC, hour);
-    let first = read_zoned("1970-01-01 01:00:00.000000000 +01:00:00");
-    same(&rt, &at(&rt, 0).to_timezone(&moved), &first);
+    holds(&rt, "moved", is_moved(&at(&rt, 0), hour));
+}
+
+/// Asserts what is listed of New York's spring of 2024.
+fn expect_lines(rt: &impl Abort, alloc: Global, set: &FixedTimespanSet) {
+    let Ok(lines) = list_lines(alloc, set, 1_704_067_200, 1_720_000_000) else {
+        panic!(rt; "no lines");
+    };
+    let due = b"1710054000  EDT  2024-03-10 03:00:00.000000000 -04:00:00\n";
+    holds(rt, "lines", lines.as_bytes() == due.as_slice());
+}
+
+/// Asserts the changes and the footer of New York as the zone of a file.
+fn expect_file(rt: &impl Abort, alloc: Global, set: &FixedTimespanSet) {
+    let Ok(zone) = from_set(alloc, set, "EST5") else {
+        panic!(rt; "memory");
+    };
+    let is_kept = (zone.rest.len() == 186) & (zone.footer.as_str() == "EST5");
+    holds(rt, "file", is_kept);
+}
+
+#[test]
+fn a_set_is_listed_and_is_a_zone_of_a_file(rt: HostRuntime) {
+    let set = set_of(&rt, rt.alloc(), NEW_YORK, "America/New_York");
+    expect_lines(&rt, rt.alloc(), &set);
+    expect_file(&rt, rt.alloc(), &set);
 }
 
 /// Zones that go on: New York's last line, a still one, and one whose saving alternates from year to year. Others that don't: a rule of
@@ -233,25 +276,69 @@ fn offset_for_ever(
     }
 }
 
-/// At both sides of a change in the year 9999 and in 2151: a name, a second, and the offset from it on.
+/// At both sides of a change in the year 9999 and in 2151: a name, a second, and the offset from it on; and why other zones have none.
 const OFFSETS: &str = "\
 Made/York 253377010799 -18000
 Made/York 253377010800 -14400
 Made/Still 253377010800 19800
 Made/Cross 5716920599 3600
-Made/Cross 5716920600 0";
+Made/Cross 5716920600 0
+Made/Late 0 RulesEnd
+Made/Long 0 RulesEnd
+Made/Ended 0 RulesEnd
+Made/Leap 0 LaterDay
+Made/Far 0 LaterOffset
+Made/None 0 UnknownZone";
+
+/// The name of a cause.
+fn cause(fault: EverFault) -> &'static str {
+    match fault {
+        EverFault::Zone(ZoneFault::UnknownZone) => "UnknownZone",
+        EverFault::Zone(_) => "Zone",
+        EverFault::LaterDay => "LaterDay",
+        EverFault::RulesEnd => "RulesEnd",
+        EverFault::LaterOffset => "LaterOffset",
+    }
+}
+
+/// Whether the zone of a row has the offset that the row says, or none for its cause.
+fn is_given(rt: &impl Abort, alloc: Global, table: &Table, row: &str) -> bool
+    requires { IsBoundedTable table.now }
+{
+    let mut fields = row.split(' ');
+    let name = field(rt, &mut fields);
+    let second = at(rt, number(rt, &mut fields));
+    let due = field(rt, &mut fields);
+    match offset_for_ever(alloc, table, name, &second) {
+        Ok(offset) => due.parse::<i64>() == Ok(offset),
+        Err(fault) => due == cause(fault),
+    }
+}
+
+/// Asserts each row.
+fn expect_given(rt: &impl Abort, alloc: Global, table: &Table)
+    requires { IsBoundedTable table.now }
+{
+    for row in OFFSETS.lines() {
+        holds(rt, row, is_given(rt, alloc, table, row));
+    }
+}
+
+/// Whether the still zone has the offset of its line in its first span.
+fn has_spans(alloc: Global, table: &Table) -> bool
+    requires { IsBoundedTable table.now }
+{
+    match table.timespans(alloc, "Made/Still") {
+        Ok(Some(spans)) => spans.first.utc_offset == 19_800,
+        _ => false,
+    }
+}
 
 #[test]
-fn zones_are_opened_for_ever(rt: HostRuntime) {
-    let alloc = rt.alloc();
-    let table = table_of(&rt, alloc, FOR_EVER);
-    for row in OFFSETS.lines() {
-        let mut fields = row.split(' ');
-        let name = field(&rt, &mut fields);
-        let second = at(&rt, number(&rt, &mut fields));
-        let offset = offset_for_ever(alloc, &table, name, &second);
-        same_at(&rt, row, &offset, &Ok(number(&rt, &mut fields)));
-    }
+fn zones_are_opened_for_ever_or_refused(rt: HostRuntime) {
+    let table = table_of(&rt, rt.alloc(), FOR_EVER);
+    expect_given(&rt, rt.alloc(), &table);
+    holds(&rt, "spans", has_spans(rt.alloc(), &table));
 }
 
 /// The rules of Ireland, whose saving lies below 0.
@@ -273,47 +360,10 @@ fn expect_footer(rt: &impl Abort, alloc: Global, ever: &EverSet) {
     let Ok(tail) = tail_for_ever(alloc, ever) else {
         panic!(rt; "no footer");
     };
-    same(rt, &tail.text.as_str(), &"IST-1GMT0,M10.5.0,M3.5.0/1");
+    reads(rt, tail.text.as_str(), "IST-1GMT0,M10.5.0,M3.5.0/1");
 }
 
 #[test]
 fn a_footer_carries_a_zone_on_for_ever(rt: HostRuntime) {
-    let alloc = rt.alloc();
-    expect_footer(&rt, alloc, &ireland(&rt, alloc));
-}
-
-#[test]
-fn a_window_of_changes_is_listed(rt: HostRuntime) {
-    let alloc = rt.alloc();
-    let set = set_of(&rt, alloc, NEW_YORK, "America/New_York");
-    let Ok(lines) = list_lines(alloc, &set, 1_704_067_200, 1_720_000_000) else {
-        panic!(&rt; "no lines");
-    };
-    let due = b"1710054000  EDT  2024-03-10 03:00:00.000000000 -04:00:00\n";
-    same(&rt, &lines.as_bytes(), &due.as_slice());
-}
-
-#[test]
-fn a_name_has_spans_in_a_table(rt: HostRuntime) {
-    let alloc = rt.alloc();
-    match table_of(&rt, alloc, FOR_EVER).timespans(alloc, "Made/Still") {
-        Ok(Some(spans)) => same(&rt, &spans.first.utc_offset, &19_800),
-        _ => panic!(&rt; "no spans"),
-    }
-}
-
-#[test]
-fn other_zones_are_refused(rt: HostRuntime) {
-    let alloc = rt.alloc();
-    let table = table_of(&rt, alloc, FOR_EVER);
-    for name in "Made/Late Made/Long Made/Ended".split(' ') {
-        let ends = offset_for_ever(alloc, &table, name, &at(&rt, 0));
-        same_at(&rt, name, &ends, &Err(EverFault::RulesEnd));
-    }
-    let leaves = offset_for_ever(alloc, &table, "Made/Leap", &at(&rt, 0));
-    same(&rt, &leaves, &Err(EverFault::LaterDay));
-    let far = offset_for_ever(alloc, &table, "Made/Far", &at(&rt, 0));
-    same(&rt, &far, &Err(EverFault::LaterOffset));
-    let unknown = offset_for_ever(alloc, &table, "Made/None", &at(&rt, 0));
-    same(&rt, &unknown, &Err(EverFault::Zone(ZoneFault::UnknownZone)));
+    expect_footer(&rt, rt.alloc(), &ireland(&rt, rt.alloc()));
 }

@@ -1,15 +1,16 @@
 //! A database of zones by names and parts of names, and schedules at the edges of their rules: the offsets and names that the reference
 //! compiler `zic` gives for the same text. Daylight saving time is where the saving is above 0, so Dublin, whose winter takes an hour off,
 //! has none.
-use crate::checks::{same, same_at};
+use crate::checks::{holds, reads};
 use crate::fixtures::{FIXED, at, database_of, parser, table_of};
-use crate::rows::{field, number};
+use crate::rows::due_of;
 use owned::Text;
 use std::alloc::Global;
 use std::process::Abort;
-use tz_lookup::{Database, Offset, TimeZone, Tz};
+use tz_lookup::{Database, TimeZone, Tz};
 use zone_answers::answers;
-use zone_table::{Child, Format, Structure};
+use zone_line::LineParser;
+use zone_table::{Child, Format, Structure, Table};
 
 /// A rule that would fire where its line ends by the wall's clock; an end under the saving of its own line; a saving below 0 at the
 /// beginning of a zone, and of a line.
@@ -51,21 +52,21 @@ Test/Late 667785600 3600 0 LAST
 
 /// Whether the zone of a row has in force what the row says.
 fn has_in_force(rt: &impl Abort, database: &Database, row: &str) -> bool {
-    let mut fields = row.split(' ');
-    let name = field(rt, &mut fields);
+    let (name, due) = row.split_once(' ').expect(rt, "nothing is due");
     let zone = database.get_by_name(name).expect(rt, "no zone");
-    let offset = zone.get_offset_utc(&at(rt, number(rt, &mut fields)));
-    i64::from(offset.to_utc().whole_seconds()) == number(rt, &mut fields)
-        && offset.is_dst() == (field(rt, &mut fields) == "1")
-        && offset.name() == field(rt, &mut fields)
+    let due = due_of(rt, due);
+    due.is(&zone.get_offset_utc(&at(rt, due.second)))
+}
+
+fn expect_in_force(rt: &impl Abort, database: &Database) {
+    for row in ROWS.lines() {
+        holds(rt, row, has_in_force(rt, database, row));
+    }
 }
 
 #[test]
 fn edges_of_rules(rt: HostRuntime) {
-    let database = database_of(&rt, rt.alloc(), SOURCE);
-    for row in ROWS.lines() {
-        same_at(&rt, row, &has_in_force(&rt, &database, row), &true);
-    }
+    expect_in_force(&rt, &database_of(&rt, rt.alloc(), SOURCE));
 }
 
 const ZONES: &[u8] = b"\
@@ -83,17 +84,24 @@ fn expect_names(rt: &impl Abort, alloc: Global, zones: &[Tz<'_>], names: &str) {
         found.push_str(zone.name()).expect(rt, "memory");
         found.push(' ').expect(rt, "memory");
     }
-    same(rt, &found.as_str(), &names);
+    reads(rt, found.as_str(), names);
+}
+
+fn expect_every_name(rt: &impl Abort, alloc: Global, database: &Database) {
+    let every: Vec<Tz<'_>> = database.iter().collect(alloc).expect(rt, "memory");
+    expect_names(rt, alloc, &every, "A/York B/York C Z/Link ");
+}
+
+fn expect_york(rt: &impl Abort, alloc: Global, database: &Database) {
+    let found = database.find_by_name(alloc, "York").expect(rt, "memory");
+    expect_names(rt, alloc, &found, "A/York B/York ");
 }
 
 #[test]
 fn zones_by_names(rt: HostRuntime) {
-    let alloc = rt.alloc();
-    let database = database_of(&rt, alloc, ZONES);
-    let every: Vec<Tz<'_>> = database.iter().collect(alloc).expect(&rt, "memory");
-    expect_names(&rt, alloc, &every, "A/York B/York C Z/Link ");
-    let found = database.find_by_name(alloc, "York").expect(&rt, "memory");
-    expect_names(&rt, alloc, &found, "A/York B/York ");
+    let database = database_of(&rt, rt.alloc(), ZONES);
+    expect_every_name(&rt, rt.alloc(), &database);
+    expect_york(&rt, rt.alloc(), &database);
 }
 
 /// Writes a part of a hierarchy and its children, with a slash after a submodule.
@@ -108,39 +116,53 @@ fn push_children(rt: &impl Abort, text: &mut String, children: &[Child<'_>]) {
     }
 }
 
+fn expect_hierarchy(rt: &impl Abort, alloc: Global, table: &Table) {
+    let mut text = String::new(alloc);
+    for entry in table.structure(alloc).expect(rt, "memory") {
+        push_children(rt, &mut text, &entry.children);
+    }
+    reads(rt, text.as_str(), "b/ e c d ");
+}
+
 #[test]
 fn names_have_a_hierarchy(rt: HostRuntime) {
-    let alloc = rt.alloc();
-    let table = table_of(
-        &rt,
-        alloc,
-        b"Zone a/b/d 0 - A\nZone a/e 0 - A\nZone a/b/c 0 - A\n",
-    );
-    let mut text = String::new(alloc);
-    for entry in table.structure(alloc).expect(&rt, "memory") {
-        push_children(&rt, &mut text, &entry.children);
-    }
-    same(&rt, &text.as_str(), &"b/ e c d ");
+    let source = b"Zone a/b/d 0 - A\nZone a/e 0 - A\nZone a/b/c 0 - A\n";
+    expect_hierarchy(&rt, rt.alloc(), &table_of(&rt, rt.alloc(), source));
+}
+
+fn expect_letters(rt: &impl Abort, alloc: Global, format: &Format) {
+    let shown = format.format(alloc, 3600, Some("D")).expect(rt, "memory");
+    reads(rt, shown.as_str(), "EDT");
+}
+
+fn expect_constant(rt: &impl Abort, alloc: Global, text: Text) {
+    let format = Format::Constant(text);
+    let shown = format.format_constant(alloc).expect(rt, "memory");
+    reads(rt, shown.as_str(), "TST");
 }
 
 #[test]
 fn abbreviations(rt: HostRuntime) {
-    let alloc = rt.alloc();
-    let format = Format::new(alloc, "E%sT").expect(&rt, "memory");
-    let shown = format.format(alloc, 3600, Some("D")).expect(&rt, "memory");
-    same(&rt, &shown.as_str(), &"EDT");
-    let constant = Format::Constant(Text::new(alloc, "TST").expect(&rt, "memory"));
-    let shown = constant.format_constant(alloc).expect(&rt, "memory");
-    same(&rt, &shown.as_str(), &"TST");
+    let format = Format::new(rt.alloc(), "E%sT").expect(&rt, "memory");
+    expect_letters(&rt, rt.alloc(), &format);
+    let text = Text::new(rt.alloc(), "TST").expect(&rt, "memory");
+    expect_constant(&rt, rt.alloc(), text);
+}
+
+fn expect_answers(rt: &impl Abort, alloc: Global, parser: &LineParser) {
+    let asked = b"at Test/Fixed -1\n";
+    let Ok(lines) = answers(alloc, parser, FIXED, asked) else {
+        panic!(rt; "refused");
+    };
+    let line = b"1970-01-01 01:29:59.999999999 +01:30:00".as_slice();
+    holds(
+        rt,
+        "answers",
+        (lines.len() == 1) & (lines.get(0) == Some(line)),
+    );
 }
 
 #[test]
 fn requests_are_answered(rt: HostRuntime) {
-    let alloc = rt.alloc();
-    let asked = b"at Test/Fixed -1\n";
-    let Ok(lines) = answers(alloc, &parser(&rt, alloc), FIXED, asked) else {
-        panic!(rt; "refused");
-    };
-    let line = b"1970-01-01 01:29:59.999999999 +01:30:00".as_slice();
-    same(&rt, &(lines.len(), lines.get(0)), &(1, Some(line)));
+    expect_answers(&rt, rt.alloc(), &parser(&rt, rt.alloc()));
 }

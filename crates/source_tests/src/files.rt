@@ -1,11 +1,12 @@
 //! Compiled zones as TZif files: whole runs over objects in memory, and their files read by both readers.
-use crate::checks::same;
-use crate::fixtures::{NEW_YORK, parser, set_of};
+use crate::checks::holds;
+use crate::fixtures::{NEW_YORK, parser};
 use crate::objects::{Given, NONE_FAILING, ONE_REQUEST, Outcome, run_over};
 use crate::runs::expect_end;
 use std::alloc::Global;
 use std::process::Abort;
-use zone_tzif::{from_set, read_any, read_tzif};
+use zone_line::LineParser;
+use zone_tzif::{TzifZone, read_any, read_tzif};
 
 /// The file of a zone of one offset, by the layout of RFC 8536.
 const FIXED_FILE: &[u8] = b"\
@@ -24,63 +25,81 @@ const END: &[u8] =
 const EVER_COUNTS: &[u8] = b"\0\0\0\0\0\0\0\0\0\0\0\0\0\0\0\xbe\0\0\0\x02\0\0\0\x08";
 
 /// What the program writes for a zone of a source.
-fn written(rt: &impl Abort, alloc: Global, words: &str, source: &[u8]) -> Outcome {
+fn written(
+    rt: &impl Abort,
+    alloc: Global,
+    parser: &LineParser,
+    words: &str,
+    source: &[u8],
+) -> Outcome {
     let given = Given {
         words,
         source,
         requests: b"",
     };
-    run_over(rt, alloc, &parser(rt, alloc), &given, 1000, &NONE_FAILING)
+    run_over(rt, alloc, parser, &given, 1000, &NONE_FAILING)
+}
+
+/// Whether a file has the length, the counts and the end of New York's.
+fn is_new_york(file: &[u8]) -> bool {
+    (file.len() == 1813) & (file.get(71..95) == Some(COUNTS)) & file.ends_with(END)
+}
+
+/// Whether the zone of that file has its first and its last change, the count of changes, and its string.
+fn is_zone(zone: &TzifZone) -> bool {
+    matches!(zone.rest.first(), Some((1_173_596_400, _)))
+        & matches!(zone.rest.last(), Some((4_097_196_000, _)))
+        & (zone.rest.len() == 186)
+        & (zone.footer.as_str() == "EST5EDT,M3.2.0,M11.1.0")
+}
+
+/// Asserts the file of New York, and what is read of it.
+fn expect_new_york(rt: &impl Abort, alloc: Global, file: &[u8]) {
+    holds(rt, "written", is_new_york(file));
+    match read_any(alloc, file) {
+        Ok(zone) => holds(rt, "read", is_zone(&zone)),
+        Err(_) => panic!(rt; "not read"),
+    }
+}
+
+/// Whether an archive has New York's file for ever.
+fn is_archive(archive: &[u8]) -> bool {
+    match archive.get(512..2361) {
+        Some(file) => {
+            (archive.len() == 3584) & (file.get(71..95) == Some(EVER_COUNTS)) & file.ends_with(END)
+        }
+        None => false,
+    }
+}
+
+/// Asserts what is written of New York.
+fn expect_written(rt: &impl Abort, alloc: Global, parser: &LineParser) {
+    let outcome = written(rt, alloc, parser, "tzif zones America/New_York", NEW_YORK);
+    expect_new_york(rt, alloc, outcome.sink.taken());
+    let outcome = written(rt, alloc, parser, "tree --for-ever zones", NEW_YORK);
+    holds(rt, "archive", is_archive(outcome.sink.taken()));
+}
+
+/// Asserts the bytes of a file of one offset.
+fn expect_fixed(rt: &impl Abort, alloc: Global, parser: &LineParser) {
+    let outcome = written(
+        rt,
+        alloc,
+        parser,
+        "tzif zones Test/Fixed",
+        ONE_REQUEST.source,
+    );
+    expect_end(rt, "Test/Fixed", &outcome, 0, FIXED_FILE);
 }
 
 #[test]
-fn new_york_is_written_and_read(rt: HostRuntime) {
-    let alloc = rt.alloc();
-    let outcome = written(&rt, alloc, "tzif zones America/New_York", NEW_YORK);
-    let file = outcome.sink.taken();
-    let parts = (file.len(), file.get(71..95), file.ends_with(END));
-    same(&rt, &parts, &(1813, Some(COUNTS), true));
-    let Ok(zone) = read_any(alloc, file) else {
-        panic!(&rt; "not read");
-    };
-    let (first, last) = (zone.rest.first(), zone.rest.last());
-    let ends = (
-        matches!(first, Some((1_173_596_400, _))),
-        matches!(last, Some((4_097_196_000, _))),
-    );
-    same(&rt, &ends, &(true, true));
-    same(
-        &rt,
-        &(zone.rest.len(), zone.footer.as_str()),
-        &(186, "EST5EDT,M3.2.0,M11.1.0"),
-    );
+fn files_are_written(rt: HostRuntime) {
+    let parser = parser(&rt, rt.alloc());
+    expect_written(&rt, rt.alloc(), &parser);
+    expect_fixed(&rt, rt.alloc(), &parser);
 }
 
-#[test]
-fn a_set_is_a_zone_of_a_file(rt: HostRuntime) {
-    let alloc = rt.alloc();
-    let set = set_of(&rt, alloc, NEW_YORK, "America/New_York");
-    let Ok(zone) = from_set(alloc, &set, "EST5") else {
-        panic!(&rt; "memory");
-    };
-    same(
-        &rt,
-        &(zone.rest.len(), zone.footer.as_str()),
-        &(186, "EST5"),
-    );
-}
-
-#[test]
-fn a_tree_goes_on_for_ever(rt: HostRuntime) {
-    let alloc = rt.alloc();
-    let outcome = written(&rt, alloc, "tree --for-ever zones", NEW_YORK);
-    let archive = outcome.sink.taken();
-    let file = archive.get(512..2361).expect(&rt, "no file");
-    let parts = (archive.len(), file.get(71..95), file.ends_with(END));
-    same(&rt, &parts, &(3584, Some(EVER_COUNTS), true));
-}
-
-/// Whether `read_any` and `read_tzif` take the bytes.
+/// Whether `read_any` takes the bytes, and whether `read_tzif` does.
 fn takers(alloc: Global, file: &[u8]) -> (bool, bool) {
     (
         read_any(alloc, file).is_ok(),
@@ -88,21 +107,23 @@ fn takers(alloc: Global, file: &[u8]) -> (bool, bool) {
     )
 }
 
-#[test]
-fn a_file_is_its_bytes(rt: HostRuntime) {
-    let alloc = rt.alloc();
-    let outcome = written(&rt, alloc, "tzif zones Test/Fixed", ONE_REQUEST.source);
-    expect_end(&rt, "Test/Fixed", &outcome, 0, FIXED_FILE);
-    same(
-        &rt,
-        &(takers(alloc, FIXED_FILE), takers(alloc, &FIXED_FILE[..114])),
-        &((true, true), (false, false)),
-    );
-    let mut file = FIXED_FILE.to_vec(alloc).expect(&rt, "memory");
+/// The same file of version 3.
+fn third(rt: &impl Abort, alloc: Global) -> Vec<u8> {
+    let mut file = FIXED_FILE.to_vec(alloc).expect(rt, "memory");
     for place in [4, 55] {
         if let Some(version) = file.get_mut(place) {
             *version = 0x33;
         }
     }
-    same(&rt, &takers(alloc, &file), &(true, false));
+    file
+}
+
+#[test]
+fn a_file_is_its_bytes(rt: HostRuntime) {
+    let alloc = rt.alloc();
+    holds(&rt, "whole", takers(alloc, FIXED_FILE) == (true, true));
+    let cut = takers(alloc, &FIXED_FILE[..114]);
+    holds(&rt, "cut", cut == (false, false));
+    let third = third(&rt, alloc);
+    holds(&rt, "version 3", takers(alloc, &third) == (true, false));
 }

@@ -6,10 +6,11 @@ ghost use Rattle.tz_lookup.specs.Sets.{schedule_of, IsAccepted};
 use civil_base::OffsetDateTime;
 use std::alloc::Global;
 use std::process::Abort;
-use tz_lookup::{Database, FixedTimespanSet, compile_zone};
+use tz_lookup::{CompactSet, Database, FixedTimespanSet, compile_zone};
 use zone_line::LineParser;
 use zone_source::{LIMIT, read_table};
 use zone_table::Table;
+use zone_uses::zone_of_source;
 
 /// A zone of one offset.
 pub(crate) const FIXED: &[u8] = b"Zone Test/Fixed 1:30 - TST";
@@ -54,6 +55,14 @@ pub(crate) fn set_of(rt: &impl Abort, alloc: Global, source: &[u8], name: &str) 
     ensures { IsAccepted (schedule_of result) }
 {
     let Ok(set) = compile_zone(alloc, &table_of(rt, alloc, source), name) else {
+        panic!(rt; "no zone");
+    };
+    set
+}
+
+/// The compact set of New York in a source.
+pub(crate) fn compact_of(rt: &impl Abort, alloc: Global, source: &[u8]) -> CompactSet {
+    let Ok(set) = zone_of_source(alloc, &parser(rt, alloc), source, "America/New_York") else {
         panic!(rt; "no zone");
     };
     set

@@ -1,14 +1,14 @@
 //! What the strings after compiled zones put in force, as Python's zoneinfo has it, and past a year's edges as `zic -b fat` has it; and a
 //! zone of a few changes with such a string.
-use crate::checks::same_at;
+use crate::checks::holds;
 use crate::fixtures::at;
-use crate::rows::{field, number};
-use civil_base::read_local;
+use crate::rows::due_of;
+use civil_base::{OffsetDateTime, PlainDateTime, read_local};
 use std::alloc::Global;
 use std::process::Abort;
 use tz_footer::Footer;
 use tz_tzif::{TzifOwner, TzifTz};
-use tz_zone::{Offset, TimeZone};
+use tz_zone::TimeZone;
 use zone_tzif_core::{ZoneFile, read_file};
 
 /// A footer and, after `|`, seconds from 1970-01-01 00:00:00 UTC, each with the offset in seconds, 1 for daylight saving time and 0 for
@@ -32,13 +32,9 @@ EST-10EDT,J365/167,J365/100|1704153600 39600 1 EDT;1704301199 39600 1 EDT;170430
 
 /// Whether a footer puts in force at a second what is said of it.
 fn holds_at(rt: &impl Abort, footer: &Footer<'_>, answer: &str) -> bool {
-    let mut fields = answer.split(' ');
-    let second = number(rt, &mut fields);
-    assert!(rt; second.unsigned_abs() <= 800_000_000_000);
-    let held = footer.held_at(second);
-    i64::from(held.to_utc().whole_seconds()) == number(rt, &mut fields)
-        && held.is_dst() == (field(rt, &mut fields) == "1")
-        && held.name() == field(rt, &mut fields)
+    let due = due_of(rt, answer);
+    assert!(rt; due.second.unsigned_abs() <= 800_000_000_000);
+    due.is(&footer.held_at(due.second))
 }
 
 /// Asserts all answers of a row.
@@ -48,7 +44,7 @@ fn expect_held(rt: &impl Abort, row: &str) {
         panic!(rt; "{row}");
     };
     for answer in answers.split(';') {
-        same_at(rt, answer, &holds_at(rt, &footer, answer), &true);
+        holds(rt, answer, holds_at(rt, &footer, answer));
     }
 }
 
@@ -75,38 +71,55 @@ fn new_york(rt: &impl Abort, alloc: Global) -> ZoneFile {
 
 /// Seconds at which it is asked, with what is in force: the last lies past its changes.
 const HELD: &str =
-    "-2717650801 -17762 LMT;-2717650800 -18000 EST;1173596399 -18000 EST;1173596400 -14400 EDT;5695977600 -14400 EDT";
+    "-2717650801 -17762 0 LMT;-2717650800 -18000 0 EST;1173596399 -18000 0 EST;1173596400 -14400 1 EDT;5695977600 -14400 1 EDT";
 
-/// Asserts what the zone has in force, and the instants of a local time in a fold past its changes.
+/// Whether the zone has in force at a second what is said of it.
+fn has_in_force(rt: &impl Abort, tz: &TzifTz<'_>, row: &str) -> bool {
+    let due = due_of(rt, row);
+    due.is(&tz.get_offset_utc(&at(rt, due.second)))
+}
+
+/// Whether a local time in a fold past the changes of the zone has two instants.
+fn has_fold(tz: &TzifTz<'_>, fold: &PlainDateTime) -> bool {
+    let mut instants = tz.instants_local(fold);
+    instants.next().is_some_and(is_first) & instants.next().is_some_and(is_second)
+}
+
+fn is_first(instant: OffsetDateTime) -> bool {
+    instant.unix_timestamp() == 1_730_611_800
+}
+
+fn is_second(instant: OffsetDateTime) -> bool {
+    instant.unix_timestamp() == 1_730_615_400
+}
+
+/// Asserts what the zone has in force, and the instants of that local time.
 fn expect_new_york(rt: &impl Abort, tz: &TzifTz<'_>) {
     for row in HELD.split(';') {
-        let mut fields = row.split(' ');
-        let held = tz.get_offset_utc(&at(rt, number(rt, &mut fields)));
-        let found = (i64::from(held.to_utc().whole_seconds()), held.name());
-        same_at(
-            rt,
-            row,
-            &found,
-            &(number(rt, &mut fields), field(rt, &mut fields)),
-        );
+        holds(rt, row, has_in_force(rt, tz, row));
     }
-    let local = read_local("2024-11-03 01:30:00.000000000").expect(rt, "no local time");
-    let mut instants = tz.instants_local(&local);
-    let first = instants.next().map_or(0, |date| date.unix_timestamp());
-    let other = instants.next().map_or(0, |date| date.unix_timestamp());
-    same_at(rt, tz.name(), &(first, other), &(1730611800, 1730615400));
+    let fold = read_local("2024-11-03 01:30:00.000000000").expect(rt, "no local time");
+    holds(rt, "fold", has_fold(tz, &fold));
+}
+
+/// Asserts the same of a zone of the file.
+fn expect_zone(rt: &impl Abort, alloc: Global, zone: &ZoneFile) {
+    match TzifTz::new(alloc, "America/New_York", zone) {
+        Ok(tz) => expect_new_york(rt, &tz),
+        Err(_) => panic!(rt; "refused"),
+    }
+}
+
+/// Asserts the same of what owns the file.
+fn expect_owner(rt: &impl Abort, alloc: Global, zone: ZoneFile) {
+    match TzifOwner::new(alloc, zone) {
+        Ok(owner) => expect_new_york(rt, &owner.lend("America/New_York")),
+        Err(_) => panic!(rt; "refused"),
+    }
 }
 
 #[test]
 fn a_slim_file_answers_past_its_last_change(rt: HostRuntime) {
-    let alloc = rt.alloc();
-    let zone = new_york(&rt, alloc);
-    let Ok(tz) = TzifTz::new(alloc, "America/New_York", &zone) else {
-        panic!(rt; "refused");
-    };
-    expect_new_york(&rt, &tz);
-    let Ok(owner) = TzifOwner::new(alloc, new_york(&rt, alloc)) else {
-        panic!(rt; "refused");
-    };
-    expect_new_york(&rt, &owner.lend("America/New_York"));
+    expect_zone(&rt, rt.alloc(), &new_york(&rt, rt.alloc()));
+    expect_owner(&rt, rt.alloc(), new_york(&rt, rt.alloc()));
 }

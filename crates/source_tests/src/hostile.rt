@@ -1,5 +1,5 @@
 //! Hostile use: a file cut at each byte, bytes that are no text, each call of the outside failing in turn, and builders after a refusal.
-use crate::checks::same;
+use crate::checks::holds;
 use crate::fixtures::{FIXED, NEW_YORK, parser};
 use crate::objects::{Failing, Given, NONE_FAILING, ONE_REQUEST, run_over};
 use crate::runs::expect_end;
@@ -19,37 +19,48 @@ fn due_of_cut(length: usize) -> (u8, &'static [u8]) {
     }
 }
 
-#[test]
-fn a_file_cut_at_each_byte(rt: HostRuntime) {
-    let alloc = rt.alloc();
-    let parser = parser(&rt, alloc);
+fn expect_cuts(rt: &impl Abort, alloc: Global, parser: &LineParser) {
     for length in 0..27 {
         let given = Given {
             source: &FIXED[..length],
             ..ONE_REQUEST
         };
         let (code, output) = due_of_cut(length);
-        let outcome = run_over(&rt, alloc, &parser, &given, 7, &NONE_FAILING);
-        expect_end(&rt, "cut", &outcome, code, output);
+        let outcome = run_over(rt, alloc, parser, &given, 7, &NONE_FAILING);
+        expect_end(rt, "cut", &outcome, code, output);
     }
 }
 
-#[test]
-fn bytes_that_are_no_text(rt: HostRuntime) {
-    let alloc = rt.alloc();
-    let parser = parser(&rt, alloc);
+/// Asserts the line of a fault that a run ends with.
+fn expect_fault(
+    rt: &impl Abort,
+    alloc: Global,
+    parser: &LineParser,
+    given: &Given<'_>,
+    line: &[u8],
+) {
+    let outcome = run_over(rt, alloc, parser, given, 7, &NONE_FAILING);
+    expect_end(rt, "no text", &outcome, 2, line);
+}
+
+fn expect_no_text(rt: &impl Abort, alloc: Global, parser: &LineParser) {
     let source = Given {
         source: b"\xff",
         ..ONE_REQUEST
     };
-    let outcome = run_over(&rt, alloc, &parser, &source, 7, &NONE_FAILING);
-    expect_end(&rt, "source", &outcome, 2, b"source 1: not text\n");
+    expect_fault(rt, alloc, parser, &source, b"source 1: not text\n");
     let requests = Given {
         requests: b"\xff",
         ..ONE_REQUEST
     };
-    let outcome = run_over(&rt, alloc, &parser, &requests, 7, &NONE_FAILING);
-    expect_end(&rt, "requests", &outcome, 2, b"request 1: not text\n");
+    expect_fault(rt, alloc, parser, &requests, b"request 1: not text\n");
+}
+
+#[test]
+fn files_that_are_cut_and_bytes_that_are_no_text(rt: HostRuntime) {
+    let parser = parser(&rt, rt.alloc());
+    expect_cuts(&rt, rt.alloc(), &parser);
+    expect_no_text(&rt, rt.alloc(), &parser);
 }
 
 /// A run over the last second before a change, and the change.
@@ -81,65 +92,61 @@ fn expect_failed(
     expect_end(rt, "failing", &outcome, code, front);
 }
 
-/// A clean run asks for the file, reads its 117 bytes in 17 calls, and asks for more; reads the 80 bytes of the requests in 12, and
-/// asks for more; and writes 80 bytes in 12.
-#[test]
-fn each_call_fails(rt: HostRuntime) {
-    let alloc = rt.alloc();
-    let parser = parser(&rt, alloc);
+/// Asserts the runs in which a call of the shelf, or of the input, fails.
+fn expect_failed_reads(rt: &impl Abort, alloc: Global, parser: &LineParser) {
     for shelf in 1..20 {
-        expect_failed(
-            &rt,
-            alloc,
-            &parser,
-            Failing {
-                shelf,
-                ..NONE_FAILING
-            },
-            3,
-            0,
-        );
+        let failing = Failing {
+            shelf,
+            ..NONE_FAILING
+        };
+        expect_failed(rt, alloc, parser, failing, 3, 0);
     }
     for input in 1..14 {
-        expect_failed(
-            &rt,
-            alloc,
-            &parser,
-            Failing {
-                input,
-                ..NONE_FAILING
-            },
-            3,
-            0,
-        );
+        let failing = Failing {
+            input,
+            ..NONE_FAILING
+        };
+        expect_failed(rt, alloc, parser, failing, 3, 0);
     }
+}
+
+/// Asserts the runs in which a call of the output fails, each after seven bytes more.
+fn expect_failed_writes(rt: &impl Abort, alloc: Global, parser: &LineParser) {
     let mut taken: usize = 0;
     for output in 1..13 {
-        expect_failed(
-            &rt,
-            alloc,
-            &parser,
-            Failing {
-                output,
-                ..NONE_FAILING
-            },
-            4,
-            taken,
-        );
+        let failing = Failing {
+            output,
+            ..NONE_FAILING
+        };
+        expect_failed(rt, alloc, parser, failing, 4, taken);
         taken = taken.saturating_add(7);
     }
+}
+
+/// Asserts the run in which only calls past its last would fail, and one that writes a byte at a time.
+fn expect_ends(rt: &impl Abort, alloc: Global, parser: &LineParser) {
     let past = Failing {
         shelf: 20,
         input: 14,
         output: 13,
     };
-    expect_failed(&rt, alloc, &parser, past, 0, 80);
+    expect_failed(rt, alloc, parser, past, 0, 80);
     let eleventh = Failing {
         output: 11,
         ..NONE_FAILING
     };
-    let outcome = run_over(&rt, alloc, &parser, &ONE_REQUEST, 1, &eleventh);
-    expect_end(&rt, "a byte at a time", &outcome, 4, b"1970-01-01");
+    let outcome = run_over(rt, alloc, parser, &ONE_REQUEST, 1, &eleventh);
+    expect_end(rt, "a byte at a time", &outcome, 4, b"1970-01-01");
+}
+
+/// A clean run asks for the file, reads its 117 bytes in 17 calls, and asks for more; reads the 80 bytes of the requests in 12, and
+/// asks for more; and writes 80 bytes in 12.
+#[test]
+fn each_call_fails(rt: HostRuntime) {
+    let parser = parser(&rt, rt.alloc());
+    expect_failed_reads(&rt, rt.alloc(), &parser);
+    expect_failed_writes(&rt, rt.alloc(), &parser);
+    expect_ends(&rt, rt.alloc(), &parser);
 }
 
 /// Lines with `;` between them, of which the last but one alone is refused.
@@ -163,21 +170,38 @@ fn takes(
     builder.add_line(line).is_ok()
 }
 
+/// How many of some lines a builder refuses.
+fn refusals(
+    rt: &impl Abort,
+    alloc: Global,
+    parser: &LineParser,
+    builder: &mut TableBuilder,
+    lines: &str,
+) -> u8 {
+    let mut count = 0u8;
+    for line in lines.split(';') {
+        if !takes(rt, alloc, parser, builder, line) {
+            count = count.saturating_add(1);
+        }
+    }
+    count
+}
+
+/// Whether a builder refuses one of some lines, and takes the one after it.
+fn is_one_refused(rt: &impl Abort, alloc: Global, parser: &LineParser, lines: &str) -> bool {
+    let mut builder = TableBuilder::new(alloc);
+    let count = refusals(rt, alloc, parser, &mut builder, lines);
+    builder.build().get_zoneset("Test/Fixed").is_some() & (count == 1)
+}
+
+fn expect_refused(rt: &impl Abort, alloc: Global, parser: &LineParser) {
+    for lines in REFUSED.lines() {
+        holds(rt, lines, is_one_refused(rt, alloc, parser, lines));
+    }
+}
+
 /// A builder that refused a line takes the next one as if the refused line had not been there.
 #[test]
 fn refused_builders_take_one_more(rt: HostRuntime) {
-    let alloc = rt.alloc();
-    let parser = parser(&rt, alloc);
-    for lines in REFUSED.lines() {
-        let mut builder = TableBuilder::new(alloc);
-        let mut refusals = 0u8;
-        for line in lines.split(';') {
-            if !takes(&rt, alloc, &parser, &mut builder, line) {
-                refusals = refusals.saturating_add(1);
-            }
-        }
-        let table = builder.build();
-        let found = (refusals, table.get_zoneset("Test/Fixed").is_some());
-        same(&rt, &found, &(1, true));
-    }
+    expect_refused(&rt, rt.alloc(), &parser(&rt, rt.alloc()));
 }

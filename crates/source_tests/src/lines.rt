@@ -1,12 +1,14 @@
 //! Lines and what they say, and the texts of faults: lines of every form; lines that are refused; and lines that stand at the edges of
 //! the patterns, as each mark of a time and what no mark is, blanks, comments, and columns that are missing or too many. What they say is
 //! by the patterns as the crate `regex` reads them, and by the zic manual where it speaks of the form.
-use crate::checks::{prints, same, same_at};
+use crate::checks::{holds, prints, reads};
 use crate::fixtures::parser;
 use std::alloc::Global;
 use std::process::Abort;
 use tz_posix::RangeError;
-use zone_line::{ChangeTime, DaySpec, Error, LineReader, Month, TimeSpec, TimeType, Weekday, Year};
+use zone_line::{
+    ChangeTime, DaySpec, Error, LineParser, LineReader, Month, TimeSpec, TimeType, Weekday, Year,
+};
 
 /// A line and, after `~`, the text that `Debug` gives of its value, or that of its fault.
 const LINES: &str = "\
@@ -129,17 +131,20 @@ fn told(rt: &impl Abort, alloc: Global, reader: &mut LineReader<'_>, line: &str)
 /// Asserts what is told of the line of a row.
 fn expect_told(rt: &impl Abort, alloc: Global, reader: &mut LineReader<'_>, row: &str) {
     let (line, wanted) = row.split_once('~').expect(rt, "no value");
-    same_at(rt, line, &told(rt, alloc, reader, line).as_str(), &wanted);
+    reads(rt, told(rt, alloc, reader, line).as_str(), wanted);
+}
+
+/// Asserts each row.
+fn expect_rows(rt: &impl Abort, alloc: Global, parser: &LineParser) {
+    let mut reader = parser.reader(alloc).expect(rt, "memory");
+    for row in LINES.lines() {
+        expect_told(rt, alloc, &mut reader, row);
+    }
 }
 
 #[test]
 fn lines_say_what_is_due(rt: HostRuntime) {
-    let alloc = rt.alloc();
-    let parser = parser(&rt, alloc);
-    let mut reader = parser.reader(alloc).expect(&rt, "memory");
-    for row in LINES.lines() {
-        expect_told(&rt, alloc, &mut reader, row);
-    }
+    expect_rows(&rt, rt.alloc(), &parser(&rt, rt.alloc()));
 }
 
 /// A name in an error.
@@ -147,36 +152,39 @@ fn name(rt: &impl Abort, alloc: Global) -> String {
     String::from_str(alloc, "x").expect(rt, "memory")
 }
 
+fn expect_faults(rt: &impl Abort, alloc: Global) {
+    prints(rt, alloc, &Error::NoMemory, "out of memory");
+    prints(rt, alloc, &RangeError::Time, "time field out of range");
+    prints(rt, alloc, &RangeError::Date, "date field out of range");
+}
+
+/// Asserts the text of a fault of a table.
+fn expect_fault(rt: &impl Abort, alloc: Global, fault: zone_table::Error, text: &str) {
+    prints(rt, alloc, &fault, text);
+}
+
+fn expect_faults_of_tables(rt: &impl Abort, alloc: Global) {
+    expect_fault(rt, alloc, zone_table::Error::NoMemory, "out of memory");
+    let fault = zone_table::Error::SurpriseContinuationLine;
+    let text = "continuation line follows line that isn't a zone definition line";
+    expect_fault(rt, alloc, fault, text);
+    let fault = zone_table::Error::UnknownRuleset(name(rt, alloc));
+    let text = "zone definition refers to a ruleset that isn't defined";
+    expect_fault(rt, alloc, fault, text);
+    let fault = zone_table::Error::DuplicateLink(name(rt, alloc));
+    expect_fault(rt, alloc, fault, "link line with name that already exists");
+    let fault = zone_table::Error::DuplicateZone;
+    expect_fault(rt, alloc, fault, "zone line with name that already exists");
+}
+
 #[test]
 fn faults_are_printed(rt: HostRuntime) {
-    let alloc = rt.alloc();
-    prints(&rt, alloc, &Error::NoMemory, "out of memory");
-    prints(&rt, alloc, &zone_table::Error::NoMemory, "out of memory");
-    let text = "continuation line follows line that isn't a zone definition line";
-    prints(
-        &rt,
-        alloc,
-        &zone_table::Error::SurpriseContinuationLine,
-        text,
-    );
-    let text = "zone definition refers to a ruleset that isn't defined";
-    prints(
-        &rt,
-        alloc,
-        &zone_table::Error::UnknownRuleset(name(&rt, alloc)),
-        text,
-    );
-    let text = "link line with name that already exists";
-    prints(
-        &rt,
-        alloc,
-        &zone_table::Error::DuplicateLink(name(&rt, alloc)),
-        text,
-    );
-    let text = "zone line with name that already exists";
-    prints(&rt, alloc, &zone_table::Error::DuplicateZone, text);
-    prints(&rt, alloc, &RangeError::Time, "time field out of range");
-    prints(&rt, alloc, &RangeError::Date, "date field out of range");
+    expect_faults(&rt, rt.alloc());
+    expect_faults_of_tables(&rt, rt.alloc());
+}
+
+fn is_second(end: &ChangeTime) -> bool {
+    end.is_dated() && end.to_timestamp() == 951_642_000
 }
 
 #[test]
@@ -184,6 +192,5 @@ fn an_end_is_a_second(rt: HostRuntime) {
     let time = TimeSpec::Hours(9).with_type(TimeType::Wall);
     let sunday = DaySpec::Last(Weekday::Sunday);
     let end = ChangeTime::UntilTime(Year::Number(2000), Month::February, sunday, time);
-    assert!(rt; end.is_dated());
-    same(&rt, &end.to_timestamp(), &951_642_000);
+    holds(&rt, "a second", is_second(&end));
 }

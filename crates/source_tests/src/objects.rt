@@ -52,6 +52,13 @@ pub(crate) struct Outcome {
     pub(crate) sink: MemSink,
 }
 
+impl Outcome {
+    /// Whether a run ended with that status and wrote those bytes.
+    pub(crate) fn is(&self, code: u8, output: &[u8]) -> bool {
+        (self.status.code() == code) & (self.sink.taken() == output)
+    }
+}
+
 /// The words between spaces.
 pub(crate) fn words_of(rt: &impl Abort, alloc: Global, text: &str) -> Vec<String> {
     let mut words = Vec::new(alloc);
@@ -99,6 +106,20 @@ fn ended(
     }
 }
 
+/// An input of these requests.
+fn input_of(rt: &impl Abort, alloc: Global, requests: &[u8], step: usize, failing: u64) -> MemSource
+    requires { 0 < step }
+{
+    let requests = requests.to_vec(alloc).expect(rt, "memory");
+    MemSource::new(requests, step, call(rt, alloc, failing))
+}
+
+fn sink_of(rt: &impl Abort, alloc: Global, step: usize, failing: u64) -> MemSink
+    requires { 0 < step }
+{
+    MemSink::new(alloc, ROOM, step, call(rt, alloc, failing)).expect(rt, "memory")
+}
+
 /// Runs a program with all objects moving at most a step at a time.
 pub(crate) fn run_over(
     rt: &impl Abort,
@@ -113,11 +134,8 @@ pub(crate) fn run_over(
     let (program, words) = given.words.split_once(' ').unwrap_or((given.words, ""));
     let words = words_of(rt, alloc, words);
     let mut shelf = shelf_of(rt, alloc, given.source, step, failing.shelf);
-    let requests = given.requests.to_vec(alloc).expect(rt, "memory");
-    let mut input = MemSource::new(requests, step, call(rt, alloc, failing.input));
-    let mut sink = MemSink::new(alloc, ROOM, step, call(rt, alloc, failing.output)).expect(
-        rt, "memory",
-    );
+    let mut input = input_of(rt, alloc, given.requests, step, failing.input);
+    let mut sink = sink_of(rt, alloc, step, failing.output);
     let status = ended(
         alloc, parser, program, &words, &mut shelf, &mut input, &mut sink,
     );

@@ -1,38 +1,48 @@
 //! The adapters of the real file and streams.
 
-use crate::checks::same;
+use crate::checks::holds;
+use std::alloc::Global;
 use std::fmt::Display;
 use std::io;
 use std::io::Read;
-use std::process::Abort;
 use zone_outside::{
     FileShelf, ReadEnd, Shelf, Sink, Source, StdSink, StdSource, fetch_all, read_all, write_all,
 };
 
-/// Asserts what a shelf gives once the file of a name was asked for: whether it is there, and the count of bytes.
-fn expect_shelf(
-    rt: &impl Abort,
+/// Whether a shelf gives what is due once the file of a name was asked for: whether it is there, and the count of bytes.
+fn gives(
     shelf: &mut FileShelf<HostRuntime>,
     name: &str,
-    found: bool,
+    is_there: bool,
     count: Option<usize>,
-) {
-    same(rt, &shelf.fetch(name).is_ok(), &found);
+) -> bool {
     let mut piece = [7; 4];
-    same(rt, &shelf.read(&mut piece).ok(), &count);
-    same(rt, &(piece == [0; 4]), &(count == Some(4)));
+    (shelf.fetch(name).is_ok() == is_there)
+        & (shelf.read(&mut piece).ok() == count)
+        & ((piece == [0; 4]) == (count == Some(4)))
 }
 
 /// A file gives its bytes, a missing one is a fault, and a directory is refused and not told as the end.
+fn gives_files(shelf: &mut FileShelf<HostRuntime>) -> bool {
+    gives(shelf, "/dev/null/missing", false, Some(0))
+        & gives(shelf, "/dev/null", true, Some(0))
+        & gives(shelf, "/dev/zero", true, Some(4))
+        & gives(shelf, "/", true, None)
+}
+
+/// Whether a directory is read as a refusal.
+fn refuses_directory(alloc: Global, shelf: &mut FileShelf<HostRuntime>) -> bool {
+    match fetch_all(alloc, shelf, "/") {
+        Ok(_) => false,
+        Err(end) => end == ReadEnd::Failed,
+    }
+}
+
 #[test]
 fn real_files(rt: HostRuntime) {
     let mut shelf = FileShelf::new(rt);
-    expect_shelf(&rt, &mut shelf, "/dev/null/missing", false, Some(0));
-    expect_shelf(&rt, &mut shelf, "/dev/null", true, Some(0));
-    expect_shelf(&rt, &mut shelf, "/dev/zero", true, Some(4));
-    expect_shelf(&rt, &mut shelf, "/", true, None);
-    let read = fetch_all(rt.alloc(), &mut shelf, "/");
-    same(&rt, &read.err(), &Some(ReadEnd::Failed));
+    holds(&rt, "files", gives_files(&mut shelf));
+    holds(&rt, "directory", refuses_directory(rt.alloc(), &mut shelf));
 }
 
 /// A reader that is always refused, and a printer that takes at most so many bytes at a time or is refused.
@@ -68,29 +78,41 @@ impl Print for Partial {
     }
 }
 
-#[test]
-fn a_refused_read_is_not_the_end(rt: HostRuntime) {
+fn refuses_read(alloc: Global) -> bool {
     let mut source = StdSource::new(Partial { most: None });
-    same(&rt, &source.read(&mut [0; 8]).is_err(), &true);
-    let read = read_all(rt.alloc(), &mut source);
-    same(&rt, &read.err(), &Some(ReadEnd::Failed));
-    let mut source = StdSource::new(b"ab".as_slice());
-    let read = read_all(rt.alloc(), &mut source).expect(&rt, "not read");
-    same(&rt, &read.as_slice(), &b"ab".as_slice());
+    let is_refused = source.read(&mut [0; 8]).is_err();
+    match read_all(alloc, &mut source) {
+        Ok(_) => false,
+        Err(end) => is_refused & (end == ReadEnd::Failed),
+    }
 }
 
-/// Asserts how many bytes of three a printer takes, and whether it takes all by and by.
-fn expect_taken(rt: &impl Abort, most: Option<usize>, count: Option<usize>, takes_all: bool) {
+fn reads_all(alloc: Global) -> bool {
+    match read_all(alloc, &mut StdSource::new(b"ab".as_slice())) {
+        Ok(read) => read.as_slice() == b"ab".as_slice(),
+        Err(_) => false,
+    }
+}
+
+#[test]
+fn a_refused_read_is_not_the_end(rt: HostRuntime) {
+    holds(&rt, "refused", refuses_read(rt.alloc()));
+    holds(&rt, "read", reads_all(rt.alloc()));
+}
+
+/// Whether a printer takes so many bytes of three, and all by and by.
+fn takes(most: Option<usize>, count: Option<usize>, takes_all: bool) -> bool {
     let mut sink = StdSink::new(Partial { most });
-    same(rt, &sink.write(b"abc").ok(), &count);
-    same(rt, &write_all(&mut sink, b"abcde").is_ok(), &takes_all);
+    (sink.write(b"abc").ok() == count) & (write_all(&mut sink, b"abcde").is_ok() == takes_all)
+}
+
+fn printers() -> bool {
+    takes(None, None, false) & takes(Some(0), None, false) & takes(Some(2), Some(2), true)
 }
 
 #[test]
 fn a_refused_write_takes_nothing(rt: HostRuntime) {
-    expect_taken(&rt, None, None, false);
-    expect_taken(&rt, Some(0), None, false);
-    expect_taken(&rt, Some(2), Some(2), true);
+    holds(&rt, "printers", printers());
     let mut sink = StdSink::new(rt);
-    same(&rt, &sink.write(b"\n").ok(), &Some(1));
+    holds(&rt, "output", sink.write(b"\n").ok() == Some(1));
 }

@@ -1,5 +1,5 @@
 //! Sources in any form that `zic` reads, and what is written of them.
-use crate::checks::same_at;
+use crate::checks::holds;
 use crate::fixtures::parser;
 use crate::runs::bytes_of;
 use std::alloc::Global;
@@ -90,27 +90,38 @@ pub(crate) fn refused_line(rt: &impl Abort, alloc: Global, number: usize, cause:
         .into_bytes()
 }
 
-/// Asserts what is told of each source of a table.
-fn expect_told(rt: &impl Abort, alloc: Global, table: &str) {
-    let parser = parser(rt, alloc);
-    for row in table.lines() {
-        let mut fields = row.split('~');
-        let source = bytes_of(rt, alloc, fields.next());
-        let due = bytes_of(rt, alloc, fields.next());
-        same_at(rt, row, &told(rt, alloc, &parser, &source), &due);
+/// Asserts what is told of the source of a row.
+fn expect_row(rt: &impl Abort, alloc: Global, parser: &LineParser, row: &str) {
+    let (source, due) = row.split_once('~').expect(rt, "nothing is due");
+    let source = bytes_of(rt, alloc, Some(source));
+    let due = bytes_of(rt, alloc, Some(due));
+    let told = told(rt, alloc, parser, &source);
+    holds(rt, row, told.as_slice() == due.as_slice());
+}
+
+/// Asserts each row.
+fn expect_rows(rt: &impl Abort, alloc: Global, parser: &LineParser) {
+    for row in SOURCES.lines() {
+        expect_row(rt, alloc, parser, row);
     }
+    for row in REFUSED.lines() {
+        expect_row(rt, alloc, parser, row);
+    }
+}
+
+/// Asserts that the chain is led to its beginning.
+fn expect_chain(rt: &impl Abort, alloc: Global, parser: &LineParser) {
+    let written = told(rt, alloc, parser, &chain(rt, alloc));
+    let is_led = written.ends_with(b"\nLink n0 n100000\n");
+    holds(rt, "a long chain", is_led);
 }
 
 #[test]
 fn sources_are_written_or_refused(rt: HostRuntime) {
-    expect_told(&rt, rt.alloc(), SOURCES);
-    expect_told(&rt, rt.alloc(), REFUSED);
+    expect_rows(&rt, rt.alloc(), &parser(&rt, rt.alloc()));
 }
 
 #[test]
 fn a_long_chain_is_led(rt: HostRuntime) {
-    let alloc = rt.alloc();
-    let parser = parser(&rt, alloc);
-    let written = told(&rt, alloc, &parser, &chain(&rt, alloc));
-    assert!(rt; written.ends_with(b"\nLink n0 n100000\n"));
+    expect_chain(&rt, rt.alloc(), &parser(&rt, rt.alloc()));
 }

@@ -1,10 +1,10 @@
 //! POSIX TZ strings over the zones of a database. What the strings give is what Python's zoneinfo gives for them; 21 of them `zic` writes
 //! after the zones of the tz database.
-use crate::checks::same_at;
+use crate::checks::holds;
 use crate::fixtures::{NEW_YORK, at, database_of};
-use crate::rows::{field, number};
+use crate::rows::due_of;
 use std::process::Abort;
-use tz_lookup::{Database, Offset, TimeZone};
+use tz_lookup::{Database, TimeZone};
 use tz_posix::{ParseError, PosixTz, RangeError};
 
 /// A string and, after `|`, seconds from 1970-01-01 00:00:00 UTC, each with the offset in seconds, 1 for daylight saving time and 0 for
@@ -58,19 +58,11 @@ IST-2IDT,M3.4.4/26,M10.5.0|time
 EET-2EEST,M3.4.4/50,M10.4.4/50|time
 ";
 
-/// Whether a string gives what is said of a second: the offset in seconds, whether it is daylight saving time, and the abbreviation.
+/// Whether a string gives what is said of a second.
 fn gives(rt: &impl Abort, tz: &PosixTz<'_>, answer: &str) -> bool {
-    let mut fields = answer.split(' ');
-    let date_time = at(rt, number(rt, &mut fields));
-    let seconds = number(rt, &mut fields);
-    let saving = field(rt, &mut fields) == "1";
-    let name = field(rt, &mut fields);
-    match tz.get_offset(&date_time) {
-        Ok(offset) => {
-            i64::from(offset.to_utc().whole_seconds()) == seconds
-                && offset.is_dst() == saving
-                && offset.name() == name
-        }
+    let due = due_of(rt, answer);
+    match tz.get_offset(&at(rt, due.second)) {
+        Ok(offset) => due.is(&offset),
         Err(_) => false,
     }
 }
@@ -82,7 +74,7 @@ fn expect_given<'x>(rt: &impl Abort, database: &'x Database, row: &'x str) {
         panic!(rt; "{row}");
     };
     for answer in answers.split(';') {
-        same_at(rt, answer, &gives(rt, &tz, answer), &true);
+        holds(rt, answer, gives(rt, &tz, answer));
     }
 }
 
@@ -108,23 +100,32 @@ fn is_zone<'x>(text: &'x str, database: &'x Database, name: &str) -> bool {
     }
 }
 
-#[test]
-fn strings_give_what_another_reader_gives(rt: HostRuntime) {
-    let database = database_of(&rt, rt.alloc(), NEW_YORK);
+/// Asserts each row of both tables.
+fn expect_rows(rt: &impl Abort, database: &Database) {
     for row in ANSWERS.lines() {
-        expect_given(&rt, &database, row);
+        expect_given(rt, database, row);
+    }
+    for row in REFUSED.lines() {
+        let (text, wanted) = row.split_once('|').expect(rt, "no cause");
+        holds(rt, text, told(text, database) == wanted);
     }
 }
 
+/// Whether a short name stands for its zone.
+fn is_new_york(database: &Database) -> bool {
+    is_zone(":<America/New_York>", database, "America/New_York")
+}
+
 #[test]
-fn strings_are_refused(rt: HostRuntime) {
+fn strings_give_what_another_reader_gives(rt: HostRuntime) {
     let database = database_of(&rt, rt.alloc(), NEW_YORK);
-    for row in REFUSED.lines() {
-        let (text, wanted) = row.split_once('|').expect(&rt, "no cause");
-        same_at(&rt, text, &told(text, &database), &wanted);
-    }
-    let is_zone = is_zone(":<America/New_York>", &database, "America/New_York");
-    same_at(&rt, "short", &is_zone, &true);
+    expect_rows(&rt, &database);
+    holds(&rt, "short", is_new_york(&database));
+}
+
+#[test]
+fn an_empty_database_has_no_zone(rt: HostRuntime) {
     let empty = database_of(&rt, rt.alloc(), b"");
-    same_at(&rt, "empty", &told("EST5EDT", &empty), &"America/New_York");
+    let is_told = told("EST5EDT", &empty) == "America/New_York";
+    holds(&rt, "empty", is_told);
 }

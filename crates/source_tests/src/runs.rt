@@ -3,7 +3,7 @@
 //!
 //! A row has the program and its words, the source in the file `zones`, the requests and the output, with `~` between them and `;` for
 //! each line feed. A row without a source has that of the row above it.
-use crate::checks::same_at;
+use crate::checks::holds;
 use crate::fixtures::parser;
 use crate::objects::{Given, NONE_FAILING, Outcome, run_over};
 use std::alloc::Global;
@@ -178,44 +178,67 @@ pub(crate) fn bytes_of(rt: &impl Abort, alloc: Global, field: Option<&str>) -> V
 
 /// Asserts what a run wrote and how it ended.
 pub(crate) fn expect_end(rt: &impl Abort, row: &str, outcome: &Outcome, code: u8, output: &[u8]) {
-    same_at(
-        rt,
-        row,
-        &(outcome.sink.taken(), outcome.status.code()),
-        &(output, code),
-    );
+    holds(rt, row, outcome.is(code, output));
 }
 
-/// Asserts each row of a table, with objects that move a byte at a time, and seven.
+/// Asserts a run with objects that move a byte at a time, and with such that move seven.
+fn expect_runs(
+    rt: &impl Abort,
+    alloc: Global,
+    parser: &LineParser,
+    given: &Given<'_>,
+    row: &str,
+    code: u8,
+    output: &[u8],
+) {
+    for step in [1, 7] {
+        let outcome = run_over(rt, alloc, parser, given, step, &NONE_FAILING);
+        expect_end(rt, row, &outcome, code, output);
+    }
+}
+
+/// Asserts the runs of a row, whose source is kept for the rows below it.
+fn expect_row(
+    rt: &impl Abort,
+    alloc: Global,
+    parser: &LineParser,
+    source: &mut Vec<u8>,
+    row: &str,
+    code: u8,
+) {
+    let mut fields = row.split('~');
+    let words = fields.next().expect(rt, "no words");
+    let own = bytes_of(rt, alloc, fields.next());
+    if !own.is_empty() {
+        *source = own;
+    }
+    let requests = bytes_of(rt, alloc, fields.next());
+    let output = bytes_of(rt, alloc, fields.next());
+    let given = Given {
+        words,
+        source: source.as_slice(),
+        requests: &requests,
+    };
+    expect_runs(rt, alloc, parser, &given, row, code, &output);
+}
+
+/// Asserts each row of a table.
 fn expect_all(rt: &impl Abort, alloc: Global, parser: &LineParser, table: &str, code: u8) {
     let mut source = Vec::new(alloc);
     for row in table.lines() {
-        let mut fields = row.split('~');
-        let words = fields.next().expect(rt, "no words");
-        let own = bytes_of(rt, alloc, fields.next());
-        if !own.is_empty() {
-            source = own;
-        }
-        let requests = bytes_of(rt, alloc, fields.next());
-        let output = bytes_of(rt, alloc, fields.next());
-        let given = Given {
-            words,
-            source: &source,
-            requests: &requests,
-        };
-        for step in [1, 7] {
-            let outcome = run_over(rt, alloc, parser, &given, step, &NONE_FAILING);
-            expect_end(rt, row, &outcome, code, &output);
-        }
+        expect_row(rt, alloc, parser, &mut source, row, code);
     }
+}
+
+/// Asserts all tables.
+fn expect_tables(rt: &impl Abort, alloc: Global, parser: &LineParser) {
+    expect_all(rt, alloc, parser, RUNS, 0);
+    expect_all(rt, alloc, parser, FAULTS, 2);
+    expect_all(rt, alloc, parser, NO_FORM, 1);
+    expect_all(rt, alloc, parser, MISSING, 3);
 }
 
 #[test]
 fn rows(rt: HostRuntime) {
-    let alloc = rt.alloc();
-    let parser = parser(&rt, alloc);
-    expect_all(&rt, alloc, &parser, RUNS, 0);
-    expect_all(&rt, alloc, &parser, FAULTS, 2);
-    expect_all(&rt, alloc, &parser, NO_FORM, 1);
-    expect_all(&rt, alloc, &parser, MISSING, 3);
+    expect_tables(&rt, rt.alloc(), &parser(&rt, rt.alloc()));
 }

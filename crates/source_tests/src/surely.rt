@@ -1,6 +1,6 @@
 //! Runs over objects that never fail: texts past the limit, made texts, and a task of one's own.
 
-use crate::checks::same;
+use crate::checks::holds;
 use crate::fixtures::parser;
 use crate::objects::words_of;
 use std::alloc::{AllocError, Global};
@@ -13,31 +13,31 @@ fn spaces(rt: &impl Abort, alloc: Global, count: usize) -> Vec<u8> {
     vec![in alloc; b' '; count].expect(rt, "memory")
 }
 
-/// Asserts how a run over so many spaces as source and as requests ends.
-fn expect_spaces(
+/// How a run over so many spaces as source and as requests ends.
+fn code_of(
     rt: &impl Abort,
     alloc: Global,
+    parser: &LineParser,
     words: &str,
     source: usize,
     requests: usize,
-    code: u8,
-) {
-    let parser = parser(rt, alloc);
+) -> u8 {
     let words = words_of(rt, alloc, words);
     let mut shelf = SureShelf::new(spaces(rt, alloc, source));
     let mut input = SureSource::new(spaces(rt, alloc, requests));
     let mut output = SureSink::new();
-    let status = run_surely(alloc, &parser, &words, &mut shelf, &mut input, &mut output);
-    same(rt, &status.code(), &code);
+    run_surely(alloc, parser, &words, &mut shelf, &mut input, &mut output).code()
 }
 
-#[test]
-fn texts_past_the_limit_and_made_texts(rt: HostRuntime) {
-    let alloc = rt.alloc();
-    expect_spaces(&rt, alloc, "any", 16_777_216, 0, 0);
-    expect_spaces(&rt, alloc, "any", 16_777_217, 0, 6);
-    expect_spaces(&rt, alloc, "any", 0, 16_777_217, 6);
-    expect_spaces(&rt, alloc, "--generate 12", 0, 0, 0);
+fn expect_codes(rt: &impl Abort, alloc: Global, parser: &LineParser) {
+    let at_limit = code_of(rt, alloc, parser, "any", 16_777_216, 0);
+    holds(rt, "source", at_limit == 0);
+    let past = code_of(rt, alloc, parser, "any", 16_777_217, 0);
+    holds(rt, "long source", past == 6);
+    let past = code_of(rt, alloc, parser, "any", 0, 16_777_217);
+    holds(rt, "long requests", past == 6);
+    let made = code_of(rt, alloc, parser, "--generate 12", 0, 0);
+    holds(rt, "made texts", made == 0);
 }
 
 /// Writes what the file holds.
@@ -73,12 +73,17 @@ impl FileTask for Copied<'_> {
     }
 }
 
-#[test]
-fn a_task_of_ones_own(rt: HostRuntime) {
-    let alloc = rt.alloc();
-    let parser = parser(&rt, alloc);
-    let mut shelf = SureShelf::new(spaces(&rt, alloc, 3));
+/// How a run of that task ends.
+fn code_of_task(rt: &impl Abort, alloc: Global, parser: &LineParser) -> u8 {
+    let mut shelf = SureShelf::new(spaces(rt, alloc, 3));
     let task = Some(Copied { file: "any" });
-    let status = run_task_surely(alloc, &parser, task, &mut shelf, &mut SureSink::new());
-    same(&rt, &status.code(), &0);
+    run_task_surely(alloc, parser, task, &mut shelf, &mut SureSink::new()).code()
+}
+
+#[test]
+fn texts_past_the_limit_made_texts_and_a_task(rt: HostRuntime) {
+    let parser = parser(&rt, rt.alloc());
+    expect_codes(&rt, rt.alloc(), &parser);
+    let code = code_of_task(&rt, rt.alloc(), &parser);
+    holds(&rt, "a task of one's own", code == 0);
 }
