@@ -1,7 +1,7 @@
 //! What the short callers of the library answer over a source of two zones. Expected values are those of Python's `zoneinfo`.
 ghost use Rattle.zone_table.specs.BoundedTables.{IsBoundedTable};
 
-use crate::checks::{error_in, holds, is_written, prints, reads};
+use crate::checks::{holds, is_written, prints, reads, refused};
 use crate::fixtures::{at, compact_of, parser};
 use crate::runs::bytes_of;
 use civil_base::{
@@ -29,17 +29,11 @@ Zone Asia/Tokyo 9:00 - JST
 fn table(rt: &impl Abort, alloc: Global) -> Table
     ensures { IsBoundedTable result }
 {
-    let Ok(table) = open_source(alloc, &parser(rt, alloc), SOURCE) else {
-        panic!(rt; "no table");
-    };
-    table
+    open_source(alloc, &parser(rt, alloc), SOURCE).expect(rt, "no table")
 }
 
 fn database(rt: &impl Abort, alloc: Global) -> Database {
-    let Ok(database) = open_database(alloc, &table(rt, alloc)) else {
-        panic!(rt; "no database");
-    };
-    database
+    open_database(alloc, &table(rt, alloc)).expect(rt, "no database")
 }
 
 fn local(rt: &impl Abort, text: &str) -> PlainDateTime {
@@ -105,9 +99,7 @@ fn march_9(rt: &impl Abort) -> Date {
 
 /// Asserts the rings of three days, of which the second has none.
 fn expect_wake_ups(rt: &impl Abort, alloc: Global, zone: &CompactTz<'_>) {
-    let Ok(found) = wake_ups(alloc, zone, half_past_two(rt), march_9(rt), 3) else {
-        panic!(rt; "no instants");
-    };
+    let found = wake_ups(alloc, zone, half_past_two(rt), march_9(rt), 3).expect(rt, "no instants");
     let first_ring = "2024-03-09 02:30:00.000000000 -05:00:00";
     let last_ring = "2024-03-11 02:30:00.000000000 -04:00:00";
     holds(rt, "wake-ups", are_written(&found, first_ring, last_ring));
@@ -181,9 +173,9 @@ fn expect_rings(rt: &impl Abort, rings: &[Ring], wanted: &str) {
 fn alarms_of_a_fixed_zone(rt: HostRuntime) {
     let offset = UtcOffset::from_whole_seconds(5400).expect(&rt, "no offset");
     let zone = Fixed::new("Test/Fixed", offset);
-    let Ok(rings) = alarms(rt.alloc(), &zone, half_past_two(&rt), march_9(&rt), 1) else {
-        panic!(&rt; "no rings");
-    };
+    let rings = alarms(rt.alloc(), &zone, half_past_two(&rt), march_9(&rt), 1).expect(
+        &rt, "no rings",
+    );
     expect_rings(&rt, &rings, "2024-03-09 02:30:00.000000000 +01:30:00");
 }
 
@@ -205,8 +197,8 @@ fn expect_errors(rt: &impl Abort, alloc: Global, parser: &LineParser) {
     for row in ERRORS.lines() {
         let (source, wanted) = row.split_once('|').expect(rt, "no text");
         let source = bytes_of(rt, alloc, Some(source));
-        let error = error_in(rt, zone_of_source(alloc, parser, &source, "A"));
-        prints(rt, alloc, &error, wanted);
+        let found = zone_of_source(alloc, parser, &source, "A");
+        refused(rt, alloc, found, wanted);
     }
 }
 

@@ -2,6 +2,7 @@
 //! Python's `zoneinfo`.
 ghost use Rattle.std.specs.Prelude.{◌≡◌, ◌<◌};
 ghost use Rattle.zone_table.specs.BoundedTables.{IsBoundedTable};
+ghost use Rattle.tz_lookup.specs.Sets.{schedule_of, IsAccepted};
 
 use crate::checks::{holds, is_written, reads};
 use crate::fixtures::{NEW_YORK, at, compact_of, database_of, set_of, table_of};
@@ -98,13 +99,14 @@ fn a_fold_has_two_offsets_in_a_compact_set(rt: HostRuntime) {
     holds(&rt, "two offsets", is_found);
 }
 
-fn are_told_apart(two: OffsetResult<i32>) -> bool {
+fn are_told_apart() -> bool {
+    let two = OffsetResult::Ambiguous(1, 2);
     (two.unwrap_first() == 1) & (two.unwrap_second() == 2)
 }
 
 #[test]
 fn two_offsets_are_told_apart(rt: HostRuntime) {
-    holds(&rt, "two", are_told_apart(OffsetResult::Ambiguous(1, 2)));
+    holds(&rt, "two", are_told_apart());
 }
 
 /// Whether a string's summer moves half an hour after midnight of 1 July 2024 at UTC to its clocks.
@@ -180,9 +182,7 @@ fn a_day_of_a_rule_has_a_date(rt: HostRuntime) {
 fn expect_change(rt: &impl Abort, alloc: Global, table: &Table)
     requires { IsBoundedTable table.now }
 {
-    let Ok(set) = open_zone(alloc, table, "America/New_York") else {
-        panic!(rt; "no zone");
-    };
+    let set = open_zone(alloc, table, "America/New_York").expect(rt, "no zone");
     let is_found = next_change(&set, 1_700_000_000) == Some(1_710_054_000);
     holds(rt, "next change", is_found);
 }
@@ -205,19 +205,19 @@ fn callers_answer(rt: HostRuntime) {
 }
 
 /// Asserts what is listed of New York's spring of 2024.
-fn expect_lines(rt: &impl Abort, alloc: Global, set: &FixedTimespanSet) {
-    let Ok(lines) = list_lines(alloc, set, 1_704_067_200, 1_720_000_000) else {
-        panic!(rt; "no lines");
-    };
+fn expect_lines(rt: &impl Abort, alloc: Global, set: &FixedTimespanSet)
+    requires { IsAccepted (schedule_of set.now) }
+{
+    let lines = list_lines(alloc, set, 1_704_067_200, 1_720_000_000).expect(rt, "no lines");
     let due = b"1710054000  EDT  2024-03-10 03:00:00.000000000 -04:00:00\n";
     holds(rt, "lines", lines.as_bytes() == due.as_slice());
 }
 
 /// Asserts the changes and the footer of New York as the zone of a file.
-fn expect_file(rt: &impl Abort, alloc: Global, set: &FixedTimespanSet) {
-    let Ok(zone) = from_set(alloc, set, "EST5") else {
-        panic!(rt; "memory");
-    };
+fn expect_file(rt: &impl Abort, alloc: Global, set: &FixedTimespanSet)
+    requires { IsAccepted (schedule_of set.now) }
+{
+    let zone = from_set(alloc, set, "EST5").expect(rt, "memory");
     let is_kept = (zone.rest.len() == 186) & (zone.footer.as_str() == "EST5");
     holds(rt, "file", is_kept);
 }
@@ -349,17 +349,12 @@ Zone A 1:00 E IST/GMT
 ";
 
 fn ireland(rt: &impl Abort, alloc: Global) -> EverSet {
-    let Ok(ever) = EverSet::open(alloc, &table_of(rt, alloc, IRELAND), "A") else {
-        panic!(rt; "not opened");
-    };
-    ever
+    EverSet::open(alloc, &table_of(rt, alloc, IRELAND), "A").expect(rt, "not opened")
 }
 
 /// The footer that `zic` writes of them.
 fn expect_footer(rt: &impl Abort, alloc: Global, ever: &EverSet) {
-    let Ok(tail) = tail_for_ever(alloc, ever) else {
-        panic!(rt; "no footer");
-    };
+    let tail = tail_for_ever(alloc, ever).expect(rt, "no footer");
     reads(rt, tail.text.as_str(), "IST-1GMT0,M10.5.0,M3.5.0/1");
 }
 

@@ -24,11 +24,16 @@ pub(crate) fn prints<T: Display>(rt: &impl Abort, alloc: Global, value: &T, want
     reads(rt, shown.as_str(), wanted);
 }
 
-/// The error of a call that has to be refused.
-pub(crate) fn error_in<T: Drop>(rt: &impl Abort, found: Result<T, Error>) -> Error {
+/// Ends the test where a call isn't refused, or its error prints another text. It alone takes such an error apart, which is a large one.
+pub(crate) fn refused<T: Drop>(
+    rt: &impl Abort,
+    alloc: Global,
+    found: Result<T, Error>,
+    wanted: &str,
+) {
     match found {
         Ok(_) => panic!(rt; "not refused"),
-        Err(error) => error,
+        Err(error) => prints(rt, alloc, &error, wanted),
     }
 }
 

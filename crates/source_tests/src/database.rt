@@ -151,9 +151,7 @@ fn abbreviations(rt: HostRuntime) {
 
 fn expect_answers(rt: &impl Abort, alloc: Global, parser: &LineParser) {
     let asked = b"at Test/Fixed -1\n";
-    let Ok(lines) = answers(alloc, parser, FIXED, asked) else {
-        panic!(rt; "refused");
-    };
+    let lines = answers(alloc, parser, FIXED, asked).expect(rt, "refused");
     let line = b"1970-01-01 01:29:59.999999999 +01:30:00".as_slice();
     holds(
         rt,

@@ -33,20 +33,14 @@ pub(crate) fn table_of(rt: &impl Abort, alloc: Global, source: &[u8]) -> Table
     ensures { IsBoundedTable result }
 {
     let parser = parser(rt, alloc);
-    let Ok(table) = read_table(alloc, &parser, source) else {
-        panic!(rt; "no table");
-    };
-    table
+    read_table(alloc, &parser, source).expect(rt, "no table")
 }
 
 /// The database of a source.
 pub(crate) fn database_of(rt: &impl Abort, alloc: Global, source: &[u8]) -> Database
     requires { length source.now ≤ LIMIT }
 {
-    let Ok(database) = Database::build(alloc, &table_of(rt, alloc, source)) else {
-        panic!(rt; "no database");
-    };
-    database
+    Database::build(alloc, &table_of(rt, alloc, source)).expect(rt, "no database")
 }
 
 /// The set of a zone of a source.
@@ -54,18 +48,12 @@ pub(crate) fn set_of(rt: &impl Abort, alloc: Global, source: &[u8], name: &str) 
     requires { length source.now ≤ LIMIT }
     ensures { IsAccepted (schedule_of result) }
 {
-    let Ok(set) = compile_zone(alloc, &table_of(rt, alloc, source), name) else {
-        panic!(rt; "no zone");
-    };
-    set
+    compile_zone(alloc, &table_of(rt, alloc, source), name).expect(rt, "no zone")
 }
 
 /// The compact set of New York in a source.
 pub(crate) fn compact_of(rt: &impl Abort, alloc: Global, source: &[u8]) -> CompactSet {
-    let Ok(set) = zone_of_source(alloc, &parser(rt, alloc), source, "America/New_York") else {
-        panic!(rt; "no zone");
-    };
-    set
+    zone_of_source(alloc, &parser(rt, alloc), source, "America/New_York").expect(rt, "no zone")
 }
 
 /// The date-time at UTC so many seconds from 1970-01-01 00:00:00.

@@ -1,7 +1,7 @@
 //! What a program in another language holds: each call that takes memory, with ample memory. The values are those of the tz database for
 //! New York and for the rules of Europe, as Python's `zoneinfo` gives them, the string is that of `zic -b slim`, and the archive that of
 //! Python's `tarfile`.
-use crate::checks::{error_in, holds, prints, reads};
+use crate::checks::{holds, reads, refused};
 use crate::fixtures::{NEW_YORK, at};
 use crate::plain::{self, refused_line};
 use crate::runs::bytes_of;
@@ -16,24 +16,15 @@ use std::sync::Arc;
 use zone_source::source_fault_bytes;
 
 fn plain_source(rt: &impl Abort, alloc: Global, text: &[u8]) -> OpenSource {
-    let Ok(source) = OpenSource::open_plain(alloc, text) else {
-        panic!(rt; "not opened");
-    };
-    source
+    OpenSource::open_plain(alloc, text).expect(rt, "not opened")
 }
 
 fn source_of(rt: &impl Abort, alloc: Global, text: &[u8]) -> OpenSource {
-    let Ok(source) = OpenSource::open(alloc, text) else {
-        panic!(rt; "not opened");
-    };
-    source
+    OpenSource::open(alloc, text).expect(rt, "not opened")
 }
 
 fn zone_in(rt: &impl Abort, alloc: Global, source: &OpenSource, name: &str) -> OpenZone {
-    let Ok(zone) = source.zone(alloc, name) else {
-        panic!(rt; "no zone");
-    };
-    zone
+    source.zone(alloc, name).expect(rt, "no zone")
 }
 
 /// Opens a source in any form, and its zone of that name.
@@ -47,18 +38,14 @@ const SHORT: &[u8] =
 
 /// Asserts the string of New York.
 fn expect_string(rt: &impl Abort, alloc: Global, zone: &OpenZone) {
-    let Ok(tail) = zone.tail(alloc) else {
-        panic!(rt; "no string");
-    };
+    let tail = zone.tail(alloc).expect(rt, "no string");
     holds(rt, "from", tail.from == Some(1_173_596_400));
     reads(rt, tail.text.as_str(), "EST5EDT,M3.2.0,M11.1.0");
 }
 
 /// Asserts the length of its file.
 fn expect_file(rt: &impl Abort, alloc: Global, zone: &OpenZone) {
-    let Ok(file) = zone.tzif(alloc) else {
-        panic!(rt; "no file");
-    };
+    let file = zone.tzif(alloc).expect(rt, "no file");
     holds(rt, "length", file.len() == 1813);
 }
 
@@ -319,17 +306,11 @@ fn expect_far_off(rt: &impl Abort, zone: &FileZone) {
 }
 
 fn file_of(rt: &impl Abort, alloc: Global) -> FileZone {
-    let Ok(zone) = FileZone::read(alloc, FILE) else {
-        panic!(rt; "not read");
-    };
-    zone
+    FileZone::read(alloc, FILE).expect(rt, "not read")
 }
 
 fn string_of(rt: &impl Abort, alloc: Global) -> FileZone {
-    let Ok(zone) = FileZone::posix(alloc, "CET-1CEST,M3.5.0,M10.5.0/3") else {
-        panic!(rt; "refused");
-    };
-    zone
+    FileZone::posix(alloc, "CET-1CEST,M3.5.0,M10.5.0/3").expect(rt, "refused")
 }
 
 #[test]
@@ -368,9 +349,9 @@ fn expect_changes(rt: &impl Abort, alloc: Global, zone: &OpenZone) {
 
 /// Asserts why changes up to that of a zone at the end of all years aren't listed.
 fn expect_no_date(rt: &impl Abort, alloc: Global, zone: &OpenZone) {
-    let error = error_in(rt, zone.lines(alloc, 0, 999_999_999_999));
+    let found = zone.lines(alloc, 0, 999_999_999_999);
     let wanted = "a change of the window has no date in the years -9999 to 9999";
-    prints(rt, alloc, &error, wanted);
+    refused(rt, alloc, found, wanted);
 }
 
 /// The second of a ring.
@@ -401,9 +382,9 @@ fn expect_rings(rt: &impl Abort, alloc: Global, zone: &AnyZone) {
 /// Asserts that none rings past all years.
 fn expect_no_rings(rt: &impl Abort, alloc: Global, zone: &AnyZone) {
     let last = Date::from_calendar_date(9999, Month::December, 31).expect(rt, "a date");
-    let error = error_in(rt, zone.alarms(alloc, half_past_two(rt), last, 2));
+    let found = zone.alarms(alloc, half_past_two(rt), last, 2);
     let wanted = "the last day of the alarm is past 9999-12-31";
-    prints(rt, alloc, &error, wanted);
+    refused(rt, alloc, found, wanted);
 }
 
 /// Asserts the rings in a zone of a source.
@@ -462,8 +443,7 @@ fn expect_archive(rt: &impl Abort, alloc: Global, source: &OpenSource) {
 
 /// Asserts that a source whose link leads to nothing has none.
 fn expect_no_archive(rt: &impl Abort, alloc: Global, source: &OpenSource) {
-    let error = error_in(rt, source.tree(alloc));
-    prints(rt, alloc, &error, "tree C: link");
+    refused(rt, alloc, source.tree(alloc), "tree C: link");
 }
 
 #[test]
