@@ -54,15 +54,16 @@ struct zone {
     bool tells_changes; /* until the library says that it doesn't, as of a file */
 };
 
+/* What is told of a local time. */
+enum { OFFSET, SAVING, NAME, KINDS };
+
 /* The seconds between two changes, in which one offset, one saving and one abbreviation are in force. */
 struct stretch {
     uint64_t lending; /* whose they are, or 0 */
     int64_t from;
     int64_t to; /* the second after the last */
     int32_t offset;
-    PyObject *delta;  /* what was told of it, or NULL */
-    PyObject *saving;
-    PyObject *name;
+    PyObject *told[KINDS]; /* what was told of it, or NULL */
 };
 
 struct pair {
@@ -169,9 +170,9 @@ static bool keep(PyObject *self, struct stretch *place, int64_t second) {
             return false;
         }
     }
-    Py_CLEAR(place->delta);
-    Py_CLEAR(place->saving);
-    Py_CLEAR(place->name);
+    for (int kind = 0; kind < KINDS; kind++) {
+        Py_CLEAR(place->told[kind]);
+    }
     place->lending = zone->lending;
     place->from = of > 0 ? changes[of - 1].second : second - REACH;
     place->to = of < count ? changes[of].second : second + REACH;
@@ -217,19 +218,6 @@ static void keep_for(PyObject *self, int64_t asked, int64_t second) {
     }
 }
 
-/* What was told of a stretch, told again; or what is told now, which may be NULL with an exception. */
-static PyObject *told_again(PyObject **place, PyObject *told) {
-    if (*place == NULL) {
-        *place = told;
-    }
-    Py_XINCREF(*place);
-    return *place;
-}
-
-static PyObject *delta_in(struct stretch *stretch) {
-    return told_again(&stretch->delta, stretch->delta != NULL ? NULL : delta_of(stretch->offset));
-}
-
 /* The offset of a local time by PEP 495, and an instant at which it is in force. */
 static bool choose(PyObject *self, PyObject *local, struct chosen *chosen) {
     struct sefunjaro_handle copy = copy_of(self);
@@ -264,19 +252,12 @@ static bool is_datetime(PyObject *local) {
     return false;
 }
 
-static PyObject *zone_utcoffset(PyObject *self, PyObject *local) {
-    struct chosen chosen;
-    if (local == Py_None) {
-        return PyObject_CallMethod(self, "_utcoffset_of_none", NULL);
-    }
-    if (!is_datetime(local)) {
-        return NULL;
-    }
-    struct stretch *only = only_stretch(self, second_of(local));
-    if (only != NULL) {
-        return delta_in(only);
-    }
-    return choose(self, local, &chosen) ? delta_of(chosen.offset) : NULL;
+/* The offset at an instant as a timedelta. */
+static PyObject *offset_at(PyObject *self, int64_t second, uint32_t nanosecond) {
+    struct sefunjaro_handle copy = copy_of(self);
+    int32_t offset;
+    uint32_t status = bound.offset_at(&copy, second, nanosecond, &offset);
+    return status == SEFUNJARO_DONE ? delta_of(offset) : refused(self, status);
 }
 
 /* The abbreviation at an instant. */
@@ -308,22 +289,6 @@ static PyObject *name_at(PyObject *self, int64_t second, uint32_t nanosecond) {
     return told;
 }
 
-static PyObject *zone_tzname(PyObject *self, PyObject *local) {
-    struct chosen chosen;
-    if (local == Py_None) {
-        return PyObject_CallMethod(self, "_tzname_of_none", NULL);
-    }
-    if (!is_datetime(local)) {
-        return NULL;
-    }
-    int64_t shown = second_of(local);
-    struct stretch *only = only_stretch(self, shown);
-    if (only != NULL) {
-        return told_again(&only->name, only->name != NULL ? NULL : name_at(self, shown - only->offset, 0));
-    }
-    return choose(self, local, &chosen) ? name_at(self, chosen.second, chosen.nanosecond) : NULL;
-}
-
 /* The saving at an instant as a timedelta, or None in a zone that tells none. */
 static PyObject *saving_at(PyObject *self, int64_t second, uint32_t nanosecond) {
     struct sefunjaro_handle copy = copy_of(self);
@@ -335,20 +300,47 @@ static PyObject *saving_at(PyObject *self, int64_t second, uint32_t nanosecond) 
     return status == SEFUNJARO_DONE ? delta_of(saving) : refused(self, status);
 }
 
-static PyObject *zone_dst(PyObject *self, PyObject *local) {
+static PyObject *(*const told_at[KINDS])(PyObject *, int64_t, uint32_t) = {offset_at, saving_at, name_at};
+
+/* What is told of a stretch, kept with it; or NULL with an exception. */
+static PyObject *told_in(PyObject *self, struct stretch *stretch, int kind) {
+    if (stretch->told[kind] == NULL) {
+        PyObject *told = told_at[kind](self, stretch->from, 0);
+        if (told == NULL) {
+            return NULL;
+        }
+        stretch->told[kind] = told;
+    }
+    Py_INCREF(stretch->told[kind]);
+    return stretch->told[kind];
+}
+
+/* What is told of a local time; of None it is asked of sefunjaro.py. */
+static PyObject *told_of(PyObject *self, PyObject *local, int kind, const char *of_none) {
     struct chosen chosen;
     if (local == Py_None) {
-        return PyObject_CallMethod(self, "_dst_of_none", NULL);
+        return PyObject_CallMethod(self, of_none, NULL);
     }
     if (!is_datetime(local)) {
         return NULL;
     }
-    int64_t shown = second_of(local);
-    struct stretch *only = only_stretch(self, shown);
+    struct stretch *only = only_stretch(self, second_of(local));
     if (only != NULL) {
-        return told_again(&only->saving, only->saving != NULL ? NULL : saving_at(self, shown - only->offset, 0));
+        return told_in(self, only, kind);
     }
-    return choose(self, local, &chosen) ? saving_at(self, chosen.second, chosen.nanosecond) : NULL;
+    return choose(self, local, &chosen) ? told_at[kind](self, chosen.second, chosen.nanosecond) : NULL;
+}
+
+static PyObject *zone_utcoffset(PyObject *self, PyObject *local) {
+    return told_of(self, local, OFFSET, "_utcoffset_of_none");
+}
+
+static PyObject *zone_tzname(PyObject *self, PyObject *local) {
+    return told_of(self, local, NAME, "_tzname_of_none");
+}
+
+static PyObject *zone_dst(PyObject *self, PyObject *local) {
+    return told_of(self, local, SAVING, "_dst_of_none");
 }
 
 /* The local time, or its second reading where the instant is that. */
@@ -395,7 +387,7 @@ static PyObject *zone_fromutc(PyObject *self, PyObject *utc) {
         }
         keep_for(self, second, second);
     }
-    PyObject *delta = only != NULL ? delta_in(only) : delta_of(offset);
+    PyObject *delta = only != NULL ? told_in(self, only, OFFSET) : delta_of(offset);
     PyObject *local = delta == NULL ? NULL : PyNumber_Add(utc, delta);
     PyObject *told = local == NULL || only != NULL ? local : folded(self, local, second);
     Py_XDECREF(delta);

@@ -96,8 +96,10 @@ TailCause = enum.IntEnum("TailCause", "SHAPE OFFSET_RANGE NAME", module=__name__
 """Why a zone has no string that carries it on."""
 
 TzifCause = enum.IntEnum("TzifCause", "TIMES TYPES NAMES", module=__name__)
-EverCause = enum.IntEnum("EverCause", "SHAPE OFFSET_RANGE NAME NO_RULE TIMES TYPES NAMES RULES_END", module=__name__)
 """Why a zone has no TZif file."""
+
+EverCause = enum.IntEnum("EverCause", "SHAPE OFFSET_RANGE NAME NO_RULE TIMES TYPES NAMES RULES_END", module=__name__)
+"""Why a zone has no string or no TZif file for ever."""
 
 
 class Error(Exception):
