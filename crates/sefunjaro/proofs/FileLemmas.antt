@@ -5,10 +5,10 @@ use Rattle.std.proofs.lemmas.Int.{ints}
 use Rattle.calendar.specs.ComparisonLaws.{le_pass}
 use Rattle.civil_base.specs.Ranges.{IsOffset}
 use Rattle.civil_base.specs.RangeLaws.{offset_least, offset_greatest}
-use Rattle.tz_footer.specs.InForce.{FooterZone, standard_total}
-use Rattle.tz_footer.specs.Ranges.{IsFooterOf}
-use Rattle.tz_footer.specs.Standing.{kind_of, stands_for, with_saving}
-use Rattle.tz_footer.specs.Values.{FooterValue, SavingValue}
+use Rattle.tz_tzif.specs.FooterForce.{FooterZone, standard_total}
+use Rattle.tz_tzif.specs.Ranges.{IsFooterOf}
+use Rattle.tz_tzif.specs.Standing.{kind_of, stands_for, with_saving}
+use Rattle.tz_tzif.specs.Values.{FooterValue, SavingValue}
 use Rattle.tz_posix_core.specs.Seconds.{east_of}
 use Rattle.tz_tzif.specs.Zones.{value_of, says_of, IsZoneOf}
 use Rattle.tz_tzif.specs.declared.zone.TzifTz.{TzifTz}

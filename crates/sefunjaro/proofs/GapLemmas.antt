@@ -5,7 +5,7 @@ use Rattle.std.proofs.lemmas.List.{length-map}
 use Rattle.civil_base.specs.Instants.{instant_at, local_at, nanos_of, seconds_of}
 use Rattle.civil_base.specs.Ranges.{IsOffset}
 use Rattle.civil_base.specs.RangeLaws.{offset_least, offset_greatest}
-use Rattle.tz_footer.specs.InForce.{FooterZone}
+use Rattle.tz_tzif.specs.FooterForce.{FooterZone}
 use Rattle.tz_tzif.specs.InForce.{kind_at, kind_in, told_total_at}
 use Rattle.zone_spans.specs.Schedules.{Schedule, instants, last_total, total_at}
 use Rattle.tz_zone.specs.InForce.{all_in_force, in_force}

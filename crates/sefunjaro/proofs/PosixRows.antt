@@ -2,7 +2,7 @@
 use Rattle.std.proofs.Common.{◌≡◌, true, false, pos, negsuc, refl}
 use Rattle.std.specs.Prelude.{Some, None, codes}
 use Rattle.tz_posix_core.specs.Seconds.{offset_seconds, time_seconds}
-use Rattle.tz_footer.specs.Values.{FooterValue}
+use Rattle.tz_tzif.specs.Values.{FooterValue}
 use Rattle.sefunjaro.specs.Posix.{standard_kind}
 
 -- `CET-1` lies an hour east of UTC, and is no daylight saving time

@@ -1,8 +1,8 @@
 -- What is seen of a zone of a compiled file or of a POSIX string.
 use Rattle.std.specs.Prelude.{◌≡◌, ℕ, ℤ, Bool, List, [], Option}
-use Rattle.tz_footer.specs.InForce.{FooterZone}
-use Rattle.tz_footer.specs.Ranges.{IsFooterOf}
-use Rattle.tz_footer.specs.Values.{FooterValue}
+use Rattle.tz_tzif.specs.FooterForce.{FooterZone}
+use Rattle.tz_tzif.specs.Ranges.{IsFooterOf}
+use Rattle.tz_tzif.specs.Values.{FooterValue}
 use Rattle.tz_tzif.specs.Faults.{IsAcceptedFile, IsNoFooter, SaysInFooter}
 use Rattle.tz_tzif.specs.InForce.{kind_at}
 use Rattle.tz_tzif.specs.Owners.{value_in}

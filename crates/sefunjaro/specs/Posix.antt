@@ -1,8 +1,8 @@
 -- POSIX strings as zones.
 use Rattle.std.specs.Prelude.{◌≡◌, ℕ, List, false, true}
-use Rattle.tz_footer.specs.Ranges.{IsFooterOf}
-use Rattle.tz_footer.specs.Standing.{kind_of}
-use Rattle.tz_footer.specs.Values.{FooterValue}
+use Rattle.tz_tzif.specs.Ranges.{IsFooterOf}
+use Rattle.tz_tzif.specs.Standing.{kind_of}
+use Rattle.tz_tzif.specs.Values.{FooterValue}
 use Rattle.tz_posix_core.specs.Seconds.{east_of}
 use Rattle.zone_tzif_core.specs.Zones.{KindValue, is_small}
 use Rattle.sefunjaro.specs.declared.file.PosixFault.{PosixFault}

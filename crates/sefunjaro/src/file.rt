@@ -15,9 +15,8 @@ use crate::zone::{
 use civil_base::{OffsetDateTime, PlainDateTime, UtcOffset};
 use std::alloc::Global;
 use thiserror::Error;
-use tz_footer::{Footer, footer_text, one_footer};
 use tz_lookup::OffsetDateTimeExt;
-use tz_tzif::{TzifFault, TzifOwner, TzifTz, read_footer};
+use tz_tzif::{Footer, TzifFault, TzifOwner, TzifTz, footer_text, one_footer, read_footer};
 use zone_tzif_core::{Kind, ReadFault, Record, ZoneFile, read_file, said_bounds, said_footer};
 
 /// A zone of a compiled file, or of a POSIX string, that owns all that it is asked for.

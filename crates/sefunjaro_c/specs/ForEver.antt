@@ -3,14 +3,14 @@ use Rattle.std.specs.Prelude.{◌≡◌, ◌⊎◌, ℕ, ℤ, Bool, false, true,
 use Rattle.tz_ever.specs.Ever.{ever_total}
 use Rattle.tz_ever.specs.EverShown.{ever_seen}
 use Rattle.tz_ever.specs.declared.ever_set.EverSet.{EverSet}
-use Rattle.tz_footer.specs.InForce.{FooterZone}
+use Rattle.tz_tzif.specs.FooterForce.{FooterZone}
 use Rattle.tz_posix_core.specs.Spells.{Spells}
 use Rattle.tz_posix_core.specs.Values.{TzValue}
 use Rattle.tz_tzif.specs.Faults.{SaysInFooter}
 use Rattle.tz_tzif.specs.InForce.{told_total_at}
-use Rattle.zone_tail_ever.specs.Tails.{IsFaultForEver, IsTailForEver}
-use Rattle.zone_tail_ever.specs.declared.outcome.EverTailFault.{EverTailFault}
-use Rattle.zone_tail_ever.specs.declared.outcome.EverTailFault.TheVariants as tail
+use Rattle.zone_tzif_set.specs.Tails.{IsFaultForEver, IsTailForEver}
+use Rattle.zone_tzif_set.specs.declared.outcome.EverTailFault.{EverTailFault}
+use Rattle.zone_tzif_set.specs.declared.outcome.EverTailFault.TheVariants as tail
 use Rattle.zone_tzif_core.specs.Denotes.{Denotes}
 use Rattle.zone_tzif_core.specs.Zones.{ZoneValue}
 use Rattle.zone_tzif_set.specs.EverFiles.{IsEverFile, IsEverFileFault, IsInReach}

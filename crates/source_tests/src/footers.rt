@@ -6,8 +6,7 @@ use crate::rows::due_of;
 use civil_base::{OffsetDateTime, PlainDateTime, read_local};
 use std::alloc::Global;
 use std::process::Abort;
-use tz_footer::Footer;
-use tz_tzif::{TzifOwner, TzifTz};
+use tz_tzif::{Footer, TzifOwner, TzifTz};
 use tz_zone::TimeZone;
 use zone_tzif_core::{ZoneFile, read_file};
 

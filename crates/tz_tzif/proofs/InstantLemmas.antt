@@ -9,15 +9,15 @@ use Rattle.calendar.specs.ComparisonLaws.{eq_from_pass}
 use Rattle.civil_base.specs.DateTimes.{at_offset}
 use Rattle.civil_base.specs.Instants.{instant_at, seconds_of}
 use Rattle.civil_base.specs.Ranges.{IsOffset}
-use Rattle.tz_footer.specs.InForce.{FooterZone}
+use Rattle.tz_tzif.specs.FooterForce.{FooterZone}
 use Rattle.zone_spans.specs.Schedules.{instants}
 use Rattle.tz_zone.specs.InForce.{in_force, all_in_force, shown_of, totals_at}
 use Rattle.tz_zone.specs.InForceLaws.{shown_at_offset}
 use Rattle.tz_zone.specs.InstantLaws.{few_pass, instants_one}
 use Rattle.tz_zone.specs.SecondLaws.{seconds_of-instant_at}
 use Rattle.zone_tzif_core.specs.Zones.{KindValue, ZoneValue}
-use Rattle.tz_footer.specs.FooterShown.{held_shown}
-use Rattle.tz_footer.specs.declared.held.Held.{Held}
+use Rattle.tz_tzif.specs.FooterShown.{held_shown}
+use Rattle.tz_tzif.specs.declared.held.Held.{Held}
 use Rattle.tz_tzif.specs.InForce.{kind_at, kind_in, total_in, told_total_at}
 use Rattle.tz_tzif.specs.Next.{IsHeldFor}
 use Rattle.tz_tzif.specs.Zones.{IsOfKind}

@@ -6,7 +6,7 @@ use Rattle.calendar.specs.SignedLaws.{one_sided, signed}
 use Rattle.calendar.specs.ComparisonLaws.{le_from_pass}
 use Rattle.civil_base.specs.Ranges.{IsOffset}
 use Rattle.civil_base.specs.RangeLaws.{offset_by_size}
-use Rattle.tz_footer.specs.InForce.{FooterZone, fixed, yearly, held_at, is_footer_saving}
+use Rattle.tz_tzif.specs.FooterForce.{FooterZone, fixed, yearly, held_at, is_footer_saving}
 use Rattle.zone_tzif_core.specs.Totals.{last_kind}
 use Rattle.zone_tzif_core.specs.Zones.{KindValue, ZoneValue, is_small}
 use Rattle.tz_tzif.specs.Faults.{are_small}

@@ -1,3 +1,8 @@
+pub mod ChangeLemmas
+mod RangeLemmas
+mod FooterReadLemmas
+mod WorkedFooters
+mod WorkedForce
 mod GivenLemmas
 mod InstantLemmas
 mod KindLemmas

@@ -1,10 +1,10 @@
 -- Which compiled zones can be looked up, and why others can't.
 use Rattle.std.specs.Prelude.{◌≡◌, ◌≢◌, ℕ, Bool, true, false, ◌&&◌, List, [], Option, Some, None}
 use Rattle.std.specs.List.{list_all}
-use Rattle.tz_footer.specs.InForce.{FooterZone}
-use Rattle.tz_footer.specs.Ranges.{IsFooterOf}
-use Rattle.tz_footer.specs.Standing.{StandsFor}
-use Rattle.tz_footer.specs.Values.{FooterValue}
+use Rattle.tz_tzif.specs.FooterForce.{FooterZone}
+use Rattle.tz_tzif.specs.Ranges.{IsFooterOf}
+use Rattle.tz_tzif.specs.Standing.{StandsFor}
+use Rattle.tz_tzif.specs.Values.{FooterValue}
 use Rattle.zone_tzif_core.specs.Zones.{ZoneValue, is_small, rises}
 use Rattle.tz_tzif.specs.declared.fault.TzifFault.{TzifFault}
 use Rattle.tz_tzif.specs.declared.fault.TzifFault.TheVariants.{Times, Offset, Footer, NoMemory}

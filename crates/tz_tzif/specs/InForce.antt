@@ -3,7 +3,7 @@
 use Rattle.std.specs.Prelude.{Bool, ℤ, int_le, List, filter, Option, Some, None, if◌then◌else◌}
 use Rattle.std.specs.List.{list_all}
 use Rattle.civil_base.specs.Instants.{seconds_of}
-use Rattle.tz_footer.specs.InForce.{FooterZone, held_at}
+use Rattle.tz_tzif.specs.FooterForce.{FooterZone, held_at}
 use Rattle.zone_tzif_core.specs.Totals.{last_kind}
 use Rattle.zone_tzif_core.specs.Zones.{KindValue, ZoneValue}
 

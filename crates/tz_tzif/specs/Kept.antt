@@ -1,6 +1,6 @@
 -- The offsets that a zone remembers.
 use Rattle.std.specs.Prelude.{◌≡◌, ℤ, List, Option}
-use Rattle.tz_footer.specs.InForce.{FooterZone}
+use Rattle.tz_tzif.specs.FooterForce.{FooterZone}
 use Rattle.tz_tzif.specs.Faults.{IsAcceptedFile}
 use Rattle.tz_tzif.specs.Offsets.{offsets_of, AreOffsets}
 use Rattle.tz_tzif.specs.declared.kept.KeptOffsets.{KeptOffsets}

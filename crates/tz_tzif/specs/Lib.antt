@@ -1,4 +1,11 @@
 -- Definitions: what public clauses say.
+pub mod Values
+pub mod Spells
+pub mod Shown
+pub mod Ranges
+pub mod Standing
+pub mod FooterForce
+pub mod FooterShown
 pub mod Faults
 pub mod InForce
 pub mod InstantsLeft
@@ -6,6 +13,8 @@ pub mod Instants
 pub mod Offsets
 pub mod Owners
 pub mod Zones
+-- Laws: what a caller may use.
+pub mod FooterLaws
 -- Words of private clauses.
 pub mod Kept
 pub mod Next

@@ -1,7 +1,7 @@
 -- The next offset of a zone that is read at a local second.
 use Rattle.std.specs.Prelude.{◌≡◌, ℕ, ◌≤◌, ◌<◌, ◌+◌, List, ◌∷◌, drop, length, ℤ, ◌-ℤ◌}
-use Rattle.tz_footer.specs.FooterShown.{held_shown}
-use Rattle.tz_footer.specs.declared.held.Held.{Held}
+use Rattle.tz_tzif.specs.FooterShown.{held_shown}
+use Rattle.tz_tzif.specs.declared.held.Held.{Held}
 use Rattle.zone_tzif_core.specs.Zones.{KindValue}
 use Rattle.tz_tzif.specs.Instants.{read_at}
 

@@ -2,7 +2,7 @@
 use Rattle.std.specs.Prelude.{Bool, false, cond, ⊤, List, [], ◌∷◌, Some, None, Option, ℤ, int_lt}
 use Rattle.std.specs.Ordering.{int_eq}
 use Rattle.civil_base.specs.Ranges.{IsOffset}
-use Rattle.tz_footer.specs.InForce.{FooterZone, standard_total, saving_total}
+use Rattle.tz_tzif.specs.FooterForce.{FooterZone, standard_total, saving_total}
 use Rattle.zone_tzif_core.specs.Zones.{KindValue, ZoneValue}
 
 abbrev pub begins_with : ℤ → List ℤ → Bool

@@ -1,6 +1,6 @@
 -- What is seen of an owner of a compiled zone.
 use Rattle.std.specs.Prelude.{◌≡◌, Option}
-use Rattle.tz_footer.specs.InForce.{FooterZone}
+use Rattle.tz_tzif.specs.FooterForce.{FooterZone}
 use Rattle.tz_tzif.specs.Faults.{IsAcceptedFile}
 use Rattle.tz_tzif.specs.declared.owner.TzifOwner.{TzifOwner}
 use Rattle.zone_tzif_core.specs.ZoneFiles.{zone_seen}

@@ -1,7 +1,7 @@
 -- What is seen of a compiled zone that can be looked up.
 use Rattle.std.specs.Prelude.{◌≡◌, ℕ, Bool, List, Option, option_map, ℤ}
-use Rattle.tz_footer.specs.FooterShown.{footer_shown}
-use Rattle.tz_footer.specs.InForce.{FooterZone}
+use Rattle.tz_tzif.specs.FooterShown.{footer_shown}
+use Rattle.tz_tzif.specs.FooterForce.{FooterZone}
 use Rattle.zone_tzif_core.specs.ZoneFiles.{zone_seen}
 use Rattle.zone_tzif_core.specs.Zones.{KindValue, ZoneValue}
 use Rattle.tz_tzif.specs.Faults.{IsAcceptedFile}

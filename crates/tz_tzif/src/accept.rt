@@ -3,11 +3,11 @@ ghost use Rattle.std.specs.Prelude.{◌≡◌, MatchOption, MatchResult, option_
 ghost use Rattle.std.specs.List.{list_all};
 ghost use Rattle.zone_tzif_core.specs.ZoneFiles.{zone_seen};
 ghost use Rattle.zone_tzif_core.specs.Zones.{is_small, rises};
-ghost use Rattle.tz_footer.specs.FooterShown.{footer_shown};
+ghost use Rattle.tz_tzif.specs.FooterShown.{footer_shown};
 ghost use Rattle.tz_tzif.specs.Faults.{are_small, IsAcceptedFile, IsTzifFault, IsNoFooter, SaysInFooter};
 
 use crate::fault::TzifFault;
-use tz_footer::Footer;
+use crate::footer::Footer;
 use zone_tzif_core::{ZoneFile, do_rise, is_small};
 
 /// What the footer of a zone that can be looked up says.

@@ -1,8 +1,10 @@
-//! What a compiled zone's totals are beside those of its changes alone.
-ghost use Rattle.std.specs.Prelude.{◌≡◌, ℤ, true, false, Some, None};
+//! What the grammar of footers says, and what a compiled zone's totals are beside those of its changes alone.
+ghost use Rattle.std.specs.Prelude.{◌≡◌, ℕ, ℤ, List, true, false, Some, None};
 ghost use Rattle.civil_base.specs.Instants.{seconds_of};
-ghost use Rattle.tz_footer.specs.InForce.{FooterZone, held_at};
+ghost use Rattle.tz_tzif.specs.FooterForce.{FooterZone, held_at};
 ghost use Rattle.tz_tzif.specs.InForce.{are_over, told_total_at};
+ghost use Rattle.tz_tzif.specs.Spells.{SpellsFooter};
+ghost use Rattle.tz_tzif.specs.Values.{FooterValue};
 ghost use Rattle.zone_tzif_core.specs.Totals.{file_total_at};
 ghost use Rattle.zone_tzif_core.specs.Zones.{ZoneValue};
 
@@ -14,4 +16,9 @@ pub fn file_totals()
         → told_total_at zone (Some footer) t ≡ file_total_at zone t }
     ensures after { (zone : ZoneValue) (footer : FooterZone) (t : ℤ) → are_over zone.rest (seconds_of t) ≡ true
         → told_total_at zone (Some footer) t ≡ (held_at footer (seconds_of t)).utoff }
+{}
+
+/// A text is the footer of one value at most.
+pub fn one_footer()
+    ensures { (text : List ℕ) (x y : FooterValue) → SpellsFooter text x → SpellsFooter text y → x ≡ y }
 {}

@@ -1,21 +1,34 @@
 //! Compiled zone files as time zones: the offset at an instant and the instants of a local time, also past the last change, where
 //! the rules of today stand in the footer alone.
+//!
+//! A footer is a POSIX TZ string of standard time alone, or with daylight saving time and its rule, whose times may have a
+//! sign and up to 167 hours (RFC 8536, 3.3.1). It is read by a written grammar, and takes no memory.
 #![tactic(auto)]
 
 mod accept;
 mod fault;
+mod footer;
+mod held;
 mod instants;
 mod kept;
 mod laws;
+mod moments;
 mod offsets;
 mod owner;
+mod range;
+mod read;
+mod rule;
 mod search;
+mod values;
 mod zone;
 
 pub use accept::read_footer;
 pub use fault::TzifFault;
+pub use footer::Footer;
+pub use held::Held;
 pub use instants::{TzifCursor, TzifInstants};
-pub use laws::file_totals;
+pub use laws::{file_totals, one_footer};
 pub use owner::TzifOwner;
-pub use tz_footer::{Footer, Held};
+pub use read::footer_text;
+pub use values::{FooterRule, FooterText, Saving};
 pub use zone::TzifTz;

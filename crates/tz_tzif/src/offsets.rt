@@ -1,11 +1,11 @@
 //! The distinct offsets of a compiled zone, the greatest first.
 ghost use Rattle.std.specs.Prelude.{◌≡◌, ◌≤◌, OnOk, IfOk, cond, insert, length, drop, option_map};
-ghost use Rattle.tz_footer.specs.FooterShown.{footer_shown};
+ghost use Rattle.tz_tzif.specs.FooterShown.{footer_shown};
 ghost use Rattle.tz_tzif.specs.Offsets.{AreOffsets, begins_with, offsets_of, put, put_all, put_footer};
 ghost use Rattle.zone_tzif_core.specs.ZoneFiles.{zone_seen};
 
+use crate::footer::Footer;
 use std::alloc::{AllocError, Global};
-use tz_footer::Footer;
 use zone_tzif_core::ZoneFile;
 
 /// The distinct offsets of a zone and its footer, the greatest first.

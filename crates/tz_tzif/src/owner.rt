@@ -1,7 +1,7 @@
 //! Compiled zones that own what they are asked for.
 ghost use Rattle.std.specs.Prelude.{◌≡◌, ℤ, MatchResult, Option, true};
 ghost use Rattle.civil_base.specs.Ranges.{IsOffset};
-ghost use Rattle.tz_footer.specs.InForce.{FooterZone};
+ghost use Rattle.tz_tzif.specs.FooterForce.{FooterZone};
 ghost use Rattle.tz_tzif.specs.Faults.{are_small, IsTzifFault, IsNoFooter, SaysInFooter};
 ghost use Rattle.tz_tzif.specs.InForce.{told_total_at};
 ghost use Rattle.tz_tzif.specs.Kept.{AreKept};
@@ -11,11 +11,12 @@ ghost use Rattle.zone_tzif_core.specs.Zones.{rises};
 
 use crate::accept::{accepted_footer, read_footer};
 use crate::fault::TzifFault;
+use crate::footer::Footer;
 use crate::kept::KeptOffsets;
+use crate::laws::one_footer;
 use crate::offsets::offsets_of;
 use crate::zone::TzifTz;
 use std::alloc::Global;
-use tz_footer::{Footer, one_footer};
 use zone_tzif_core::ZoneFile;
 
 /// A compiled zone with its distinct offsets, which owns both and lends a zone to ask. To lend takes no memory: the footer is
@@ -33,7 +34,7 @@ pub struct TzifOwner {
 
 impl TzifOwner {
     ghost use Rattle.std.specs.Prelude.{option_map};
-    ghost use Rattle.tz_footer.specs.FooterShown.{footer_shown};
+    ghost use Rattle.tz_tzif.specs.FooterShown.{footer_shown};
     ghost use Rattle.tz_tzif.specs.Owners.{value_in, IsOwnerOf};
     ghost use Rattle.tz_tzif.specs.Zones.{IsZoneOf};
 

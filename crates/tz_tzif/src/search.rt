@@ -1,7 +1,7 @@
 //! What holds at a second, by a search among the changes.
 ghost use Rattle.std.specs.Prelude.{◌≡◌, ◌≤◌, ◌<◌, ℤ, int_le, nat_eq, length, take, true, filter};
 ghost use Rattle.std.specs.List.{list_all};
-ghost use Rattle.tz_footer.specs.FooterShown.{held_shown};
+ghost use Rattle.tz_tzif.specs.FooterShown.{held_shown};
 ghost use Rattle.tz_tzif.specs.InForce.{are_over};
 ghost use Rattle.zone_tzif_core.specs.Shown.{record_shown};
 ghost use Rattle.zone_tzif_core.specs.Totals.{last_kind};
@@ -9,8 +9,8 @@ ghost use Rattle.zone_tzif_core.specs.ZoneFiles.{zone_seen};
 ghost use Rattle.zone_tzif_core.specs.Zones.{is_small, rises};
 ghost use Rattle.tz_tzif.specs.Faults.{are_small};
 
+use crate::held::Held;
 use civil_base::UtcOffset;
-use tz_footer::Held;
 use zone_tzif_core::{Record, ZoneFile};
 
 /// How many changes are at or before a second, of changes whose times rise.

@@ -4,7 +4,7 @@ ghost use Rattle.civil_base.specs.Ranges.{IsOffset};
 ghost use Rattle.zone_spans.specs.Schedules.{instants};
 ghost use Rattle.zone_tzif_core.specs.ZoneFiles.{zone_seen};
 ghost use Rattle.zone_tzif_core.specs.Zones.{rises};
-ghost use Rattle.tz_footer.specs.FooterShown.{footer_shown};
+ghost use Rattle.tz_tzif.specs.FooterShown.{footer_shown};
 ghost use Rattle.tz_tzif.specs.Faults.{are_small};
 ghost use Rattle.tz_tzif.specs.InForce.{told_total_at};
 ghost use Rattle.tz_tzif.specs.Kept.{items_of};
@@ -12,13 +12,14 @@ ghost use Rattle.tz_tzif.specs.Offsets.{offsets_of};
 
 use crate::accept::accepted_footer;
 use crate::fault::TzifFault;
+use crate::footer::Footer;
+use crate::held::Held;
 use crate::instants::{TzifInstants, next_read};
 use crate::kept::KeptOffsets;
 use crate::offsets::offsets_of;
 use crate::search::{changes_until, held_after};
 use civil_base::{OffsetDateTime, PlainDateTime};
 use std::alloc::Global;
-use tz_footer::{Footer, Held};
 use tz_zone::{InstantsOf, OffsetResult, TimeZone};
 use zone_tzif_core::ZoneFile;
 
@@ -41,7 +42,7 @@ impl<'a> TzifTz<'a> {
     ghost use Rattle.civil_base.specs.DateTimes.{instant};
     ghost use Rattle.tz_zone.specs.AllLeft.{all_left};
     ghost use Rattle.tz_zone.specs.InForce.{all_in_force, shown_of, AreInstants};
-    ghost use Rattle.tz_footer.specs.FooterShown.{held_shown};
+    ghost use Rattle.tz_tzif.specs.FooterShown.{held_shown};
     ghost use Rattle.tz_tzif.specs.Faults.{IsTzifFault};
     ghost use Rattle.tz_tzif.specs.InForce.{kind_in};
     ghost use Rattle.tz_tzif.specs.Zones.{value_of, says_of, IsZoneOf};

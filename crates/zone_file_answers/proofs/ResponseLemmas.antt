@@ -1,8 +1,8 @@
 -- What was found of a file and its requests, and what was written of it.
 use Rattle.std.proofs.Common.{◌≡◌, ℕ, ℤ, List, [], ◌∷◌, ◌++◌, map, Option, Some, None, Result, Ok, Err, IfOk, IfErr, OnOk, MatchResult, IfSome, true, is_some, inr, refl, sym, ◌∙◌, subst}
 use Rattle.std.specs.Prelude.{IsSomeAnd}
-use Rattle.tz_footer.specs.InForce.{FooterZone}
-use Rattle.tz_footer.specs.Standing.{stands_for}
+use Rattle.tz_tzif.specs.FooterForce.{FooterZone}
+use Rattle.tz_tzif.specs.Standing.{stands_for}
 use Rattle.tz_tzif.specs.Faults.{HasOffsets, IsAcceptedFile, IsNoFooter, IsTzifFault, SaysInFooter}
 use Rattle.tz_tzif.specs.InForce.{told_total_at}
 use Rattle.tz_tzif.specs.declared.fault.TzifFault.{TzifFault}

@@ -1,6 +1,6 @@
 -- The zone that a file is.
 use Rattle.std.specs.Prelude.{◌≡◌, ℕ, ℤ, List, Option}
-use Rattle.tz_footer.specs.InForce.{FooterZone}
+use Rattle.tz_tzif.specs.FooterForce.{FooterZone}
 use Rattle.tz_tzif.specs.Faults.{IsAcceptedFile}
 use Rattle.tz_tzif.specs.InForce.{told_total_at}
 use Rattle.zone_tzif_core.specs.Denotes.{Says}

@@ -18,8 +18,8 @@ use Rattle.zone_source.specs.declared.error.SourceError.{SourceError}
 use Rattle.zone_source.specs.declared.error.SourceError.TheVariants as error
 use Rattle.zone_spans.specs.declared.fault.SpanFault.{SpanFault}
 use Rattle.zone_spans.specs.declared.fault.SpanFault.TheVariants as span
-use Rattle.zone_tail_ever.specs.declared.outcome.EverTailFault.{EverTailFault}
-use Rattle.zone_tail_ever.specs.declared.outcome.EverTailFault.TheVariants as tail
+use Rattle.zone_tzif_set.specs.declared.outcome.EverTailFault.{EverTailFault}
+use Rattle.zone_tzif_set.specs.declared.outcome.EverTailFault.TheVariants as tail
 use Rattle.zone_tree.specs.declared.refusal.Why.{Why}
 use Rattle.zone_tree.specs.declared.refusal.Why.TheVariants as why
 use Rattle.zone_tzif_core.specs.declared.values.WriteFault.TheVariants as write

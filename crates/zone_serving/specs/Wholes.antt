@@ -6,9 +6,9 @@ use Rattle.zone_command.specs.Refusals.{name_words}
 use Rattle.zone_serving.specs.Views.{ever_found, found_in, range_words, schedule_words}
 use Rattle.zone_replies.specs.Views.{ZoneView}
 use Rattle.zone_table.specs.declared.table.Table.{Table}
-use Rattle.zone_tail_ever.specs.Tails.{IsFaultForEver, IsTailForEver}
-use Rattle.zone_tail_ever.specs.declared.outcome.EverTailFault.{EverTailFault}
-use Rattle.zone_tail_ever.specs.declared.outcome.EverTailFault.TheVariants as tail
+use Rattle.zone_tzif_set.specs.Tails.{IsFaultForEver, IsTailForEver}
+use Rattle.zone_tzif_set.specs.declared.outcome.EverTailFault.{EverTailFault}
+use Rattle.zone_tzif_set.specs.declared.outcome.EverTailFault.TheVariants as tail
 use Rattle.zone_tree.specs.EverTrees.{OfTree}
 use Rattle.zone_tree.specs.declared.refusal.Why.{Why}
 use Rattle.zone_tree.specs.declared.refusal.Why.TheVariants as why

@@ -13,8 +13,8 @@ use Rattle.zone_source.specs.Zones.{values_of}
 use Rattle.zone_spans.specs.declared.fault.SpanFault.TheVariants.{DayRange}
 use Rattle.zone_table.specs.Tables.{IsTableOf}
 use Rattle.zone_table.specs.declared.table.Table.{Table}
-use Rattle.zone_tail_ever.specs.declared.outcome.EverTailFault.{EverTailFault}
-use Rattle.zone_tail_ever.specs.declared.outcome.EverTailFault.TheVariants as tail
+use Rattle.zone_tzif_set.specs.declared.outcome.EverTailFault.{EverTailFault}
+use Rattle.zone_tzif_set.specs.declared.outcome.EverTailFault.TheVariants as tail
 use Rattle.zone_tree.specs.Contents.{is_marked}
 use Rattle.zone_tree.specs.Names.{finds_by_table}
 use Rattle.zone_tree.specs.Trees.{Cause, Refused, of_source, or_cause, tree_by}

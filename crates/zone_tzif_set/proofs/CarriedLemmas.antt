@@ -9,10 +9,10 @@ use Rattle.zone_spans.specs.Schedules.{total_at as set_total_at}
 use Rattle.tz_zone.specs.Sets.{schedule_of, shift_of, shifts_of}
 use Rattle.tz_zone.specs.Spans.{shift_at}
 use Rattle.tz_zone.specs.declared.set.FixedTimespanSet.{FixedTimespanSet}
-use Rattle.tz_footer.specs.InForce.{FooterZone, held_at, is_of_one_year}
-use Rattle.tz_footer.specs.Spells.{SpellsFooter}
-use Rattle.tz_footer.specs.Standing.{StandsFor, stands_for}
-use Rattle.tz_footer.specs.Values.{FooterValue}
+use Rattle.tz_tzif.specs.FooterForce.{FooterZone, held_at, is_of_one_year}
+use Rattle.tz_tzif.specs.Spells.{SpellsFooter}
+use Rattle.tz_tzif.specs.Standing.{StandsFor, stands_for}
+use Rattle.tz_tzif.specs.Values.{FooterValue}
 use Rattle.tz_tzif.specs.InForce.{are_over, told_total_at}
 use Rattle.zone_tail_core.specs.Candidates.{IsAllowed}
 use Rattle.zone_tail_core.specs.Carried.{CarriesOn, IsCovered, IsFrom}

@@ -4,9 +4,9 @@ use Rattle.civil_base.specs.Instants.{seconds_of}
 use Rattle.zone_spans.specs.Schedules.{total_at as set_total_at}
 use Rattle.tz_zone.specs.Sets.{schedule_of}
 use Rattle.tz_zone.specs.declared.set.FixedTimespanSet.{FixedTimespanSet}
-use Rattle.tz_footer.specs.FooterLaws.{no_text}
-use Rattle.tz_footer.specs.InForce.{FooterZone, is_of_one_year}
-use Rattle.tz_footer.specs.Standing.{StandsFor}
+use Rattle.tz_tzif.specs.FooterLaws.{no_text}
+use Rattle.tz_tzif.specs.FooterForce.{FooterZone, is_of_one_year}
+use Rattle.tz_tzif.specs.Standing.{StandsFor}
 use Rattle.tz_tzif.specs.Faults.{SaysInFooter}
 use Rattle.tz_tzif.specs.InForce.{are_over, told_total_at}
 use Rattle.zone_tail_core.specs.Carried.{CarriesOn}

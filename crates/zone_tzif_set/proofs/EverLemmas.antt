@@ -11,20 +11,20 @@ use Rattle.zone_spans.specs.Schedules.{last_total, total_at}
 use Rattle.tz_ever.specs.Ever.{ever_total}
 use Rattle.tz_ever.specs.Seam.{next_seam}
 use Rattle.tz_ever.specs.SeamLaws.{back_is}
-use Rattle.tz_footer.specs.FooterLaws.{no_text}
-use Rattle.tz_footer.specs.InForce.{FooterZone, held_at}
-use Rattle.tz_footer.specs.Spells.{SpellsFooter}
-use Rattle.tz_footer.specs.Standing.{stands_for}
-use Rattle.tz_footer.specs.Values.{FooterValue}
+use Rattle.tz_tzif.specs.FooterLaws.{no_text}
+use Rattle.tz_tzif.specs.FooterForce.{FooterZone, held_at}
+use Rattle.tz_tzif.specs.Spells.{SpellsFooter}
+use Rattle.tz_tzif.specs.Standing.{stands_for}
+use Rattle.tz_tzif.specs.Values.{FooterValue}
 use Rattle.tz_tzif.specs.Faults.{SaysInFooter}
 use Rattle.tz_tzif.specs.InForce.{are_over, told_total_at}
 use Rattle.tz_zone.specs.SecondLaws.{same_test}
 use Rattle.tz_zone.specs.Sets.{schedule_of, shift_of, shifts_of}
 use Rattle.tz_zone.specs.Spans.{Shift, shift_at}
 use Rattle.tz_zone.specs.declared.set.FixedTimespanSet.{FixedTimespanSet}
-use Rattle.zone_tail_ever.specs.Agreement.{IsCovered, cycle_begin}
-use Rattle.zone_tail_ever.specs.Tails.{IsTailForEver, beginning_of}
-use Rattle.zone_tail_ever.specs.Tells.{Tells}
+use Rattle.zone_tzif_set.specs.Agreement.{IsCovered, cycle_begin}
+use Rattle.zone_tzif_set.specs.Tails.{IsTailForEver, beginning_of}
+use Rattle.zone_tzif_set.specs.Tells.{Tells}
 use Rattle.zone_tzif_core.specs.Denotes.{Denotes}
 use Rattle.zone_tzif_core.specs.Format.{is_one_line}
 use Rattle.zone_tzif_core.specs.Totals.{file_total_at}

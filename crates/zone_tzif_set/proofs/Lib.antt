@@ -13,3 +13,14 @@ mod ConsistentLemmas
 pub mod EverLemmas
 pub mod FrontLemmas
 pub mod LineLemmas
+-- Of the footer that carries a zone on for ever.
+pub mod CycleLemmas
+pub mod StepLemmas
+pub mod TailEverLemmas
+pub mod EarliestLemmas
+pub mod AnswerLemmas
+pub mod FormLemmas
+pub mod TextLemmas
+pub mod DayLemmas
+mod WorkedTried
+mod WorkedAgreement

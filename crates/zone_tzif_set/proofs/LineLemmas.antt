@@ -11,7 +11,7 @@ use Rattle.tz_zone.specs.declared.set.FixedTimespanSet.{FixedTimespanSet}
 use Rattle.zone_tail_core.specs.LastYear.{Form, steady, yearly, other}
 use Rattle.zone_tail_core.specs.Tails.{can_be_written, is_name, is_name_byte}
 use Rattle.zone_tail_core.specs.Texts.{is_plain, minute_text, name_text, offset_text, saving_text, second_text, time_text, two_digits}
-use Rattle.zone_tail_ever.specs.Tried.{change_by, changes_by, ever_fault, ever_form, form_fault, moment_text, parts_text, signed_text, totals_for, tried, tried_for, written_or}
+use Rattle.zone_tzif_set.specs.Tried.{change_by, changes_by, ever_fault, ever_form, form_fault, moment_text, parts_text, signed_text, totals_for, tried, tried_for, written_or}
 
 abbrev pub IsClean : List ℕ → Type 0
 IsClean text = list_all (λ c. not (c == 10) && not (c == 0)) text ≡ true

@@ -22,11 +22,11 @@ use Rattle.tz_posix_core.specs.declared.time.Offset.{Offset}
 use Rattle.tz_posix_core.specs.declared.time.Time.{Time}
 use Rattle.tz_posix_core.specs.declared.values.Rule.{Rule}
 use Rattle.tz_zone.specs.declared.set.FixedTimespanSet.{FixedTimespanSet}
-use Rattle.tz_footer.specs.InForce.{held_at, yearly, is_footer_saving, is_of_one_year, is_saved, is_saved_by, has_begun}
-use Rattle.tz_footer.specs.InForce.{year_after, year_before}
-use Rattle.tz_footer.specs.Ranges.{IsFooterOf}
-use Rattle.tz_footer.specs.Standing.{stands_for}
-use Rattle.tz_footer.specs.Values.{FooterValue}
+use Rattle.tz_tzif.specs.FooterForce.{held_at, yearly, is_footer_saving, is_of_one_year, is_saved, is_saved_by, has_begun}
+use Rattle.tz_tzif.specs.FooterForce.{year_after, year_before}
+use Rattle.tz_tzif.specs.Ranges.{IsFooterOf}
+use Rattle.tz_tzif.specs.Standing.{stands_for}
+use Rattle.tz_tzif.specs.Values.{FooterValue}
 use Rattle.zone_tail_core.specs.Settled.{IsOfLastYear, IsSettled}
 
 -- a time without a sign

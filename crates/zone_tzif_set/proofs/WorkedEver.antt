@@ -3,7 +3,7 @@ use Rattle.std.proofs.Common.{◌≡◌, Bool, true, false, [], ◌∷◌, map, 
 use Rattle.tz_posix_core.specs.declared.date.Date.TheVariants.{M}
 use Rattle.tz_posix_core.specs.declared.time.Offset.{Offset}
 use Rattle.zone_spans.specs.declared.span.FixedTimespan.{FixedTimespan}
-use Rattle.tz_footer.specs.Values.{FooterValue}
+use Rattle.tz_tzif.specs.Values.{FooterValue}
 use Rattle.tz_zone.specs.declared.set.FixedTimespanSet.{FixedTimespanSet}
 use Rattle.zone_tzif_core.specs.Zones.{KindValue}
 use Rattle.zone_tzif_core.specs.declared.values.Version.TheVariants.{Two, Three}

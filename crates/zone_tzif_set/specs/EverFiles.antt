@@ -1,12 +1,12 @@
 -- The file of a zone for ever, and why there is none.
 use Rattle.std.specs.Prelude.{ℕ, Bool, true, ◌&&◌, nat_le, List, filter, Option, Some, None, if◌then◌else◌, ℤ, int_le}
-use Rattle.tz_footer.specs.InForce.{FooterZone}
-use Rattle.tz_footer.specs.Values.{FooterValue, SavingValue}
+use Rattle.tz_tzif.specs.FooterForce.{FooterZone}
+use Rattle.tz_tzif.specs.Values.{FooterValue, SavingValue}
 use Rattle.tz_posix_core.specs.declared.time.Offset.{Offset}
 use Rattle.tz_zone.specs.declared.set.FixedTimespanSet.{FixedTimespanSet}
 use Rattle.zone_spans.specs.Entries.{Entry}
-use Rattle.zone_tail_ever.specs.Agreement.{IsCovered, cycle_begin}
-use Rattle.zone_tail_ever.specs.Tails.{IsFaultForEver, IsTailForEver}
+use Rattle.zone_tzif_set.specs.Agreement.{IsCovered, cycle_begin}
+use Rattle.zone_tzif_set.specs.Tails.{IsFaultForEver, IsTailForEver}
 use Rattle.zone_tzif_core.specs.Tzif.{IsTzifBy, write_fault}
 use Rattle.zone_tzif_core.specs.Zones.{ZoneValue}
 use Rattle.zone_tzif_core.specs.declared.values.Version.{Version}

@@ -4,8 +4,8 @@ ghost use Rattle.civil_base.specs.Instants.{seconds_of};
 ghost use Rattle.zone_spans.specs.Schedules.{total_at as set_total_at};
 ghost use Rattle.tz_zone.specs.Sets.{schedule_of};
 ghost use Rattle.tz_zone.specs.declared.set.FixedTimespanSet.{FixedTimespanSet};
-ghost use Rattle.tz_footer.specs.InForce.{FooterZone, is_of_one_year};
-ghost use Rattle.tz_footer.specs.Standing.{StandsFor};
+ghost use Rattle.tz_tzif.specs.FooterForce.{FooterZone, is_of_one_year};
+ghost use Rattle.tz_tzif.specs.Standing.{StandsFor};
 ghost use Rattle.tz_tzif.specs.Faults.{SaysInFooter};
 ghost use Rattle.tz_tzif.specs.InForce.{are_over, told_total_at};
 ghost use Rattle.zone_tail_core.specs.Carried.{CarriesOn};
@@ -18,8 +18,7 @@ ghost use Rattle.zone_tzif_set.specs.Values.{value_of};
 ghost use Rattle.zone_tzif_set.specs.Footers.{IsFooterText, IsSaid};
 
 use crate::laws::totals_kept;
-use tz_footer::one_footer;
-use tz_tzif::file_totals;
+use tz_tzif::{file_totals, one_footer};
 use zone_tzif_core::{one_reading, written_denotes};
 
 /// The string that `tail` gives for a set is a footer, and of the zone that `from_set` makes of the set with it, the total is the

@@ -2,24 +2,24 @@
 ghost use Rattle.std.specs.Prelude.{◌≡◌, ℕ, ℤ, IfOk, List, MatchResult, Option, string_bytes};
 ghost use Rattle.tz_ever.specs.Ever.{ever_total};
 ghost use Rattle.tz_ever.specs.EverShown.{ever_seen};
-ghost use Rattle.tz_footer.specs.InForce.{FooterZone};
+ghost use Rattle.tz_tzif.specs.FooterForce.{FooterZone};
 ghost use Rattle.tz_tzif.specs.Faults.{SaysInFooter};
 ghost use Rattle.tz_tzif.specs.InForce.{told_total_at};
 ghost use Rattle.tz_zone.specs.declared.set.FixedTimespanSet.{FixedTimespanSet};
-ghost use Rattle.zone_tail_ever.specs.Tails.{IsTailForEver};
+ghost use Rattle.zone_tzif_set.specs.Tails.{IsTailForEver};
 ghost use Rattle.zone_tzif_core.specs.Denotes.{Denotes};
 ghost use Rattle.zone_tzif_core.specs.Zones.{ZoneValue};
 ghost use Rattle.zone_tzif_set.specs.EverFiles.{IsEverFile, IsEverFileFault, IsInReach};
 
+use crate::call::tail_for_ever;
 use crate::convert::Saves;
 use crate::file::{FileFault, with_footer};
+use crate::outcome::{EverTail, EverTailFault};
 use crate::until::Until;
 use crate::version::version_of;
 use std::alloc::Global;
 use tz_ever::EverSet;
-use tz_footer::one_footer;
-use tz_tzif::file_totals;
-use zone_tail_ever::{EverTail, EverTailFault, tail_for_ever};
+use tz_tzif::{file_totals, one_footer};
 use zone_tzif_core::{each_denotes, one_reading};
 
 /// Why a zone for ever has no file.
@@ -44,13 +44,13 @@ pub fn ever_totals()
 }
 
 /// The TZif file of a zone that goes on for ever: its changes up to 2102-01-01 00:00:00 UTC, from which on each year comes again, and the
-/// footer of [`tail_for_ever`](zone_tail_ever::tail_for_ever), which says the same from one of these changes on, or from the beginning of time.
+/// footer of [`tail_for_ever`], which says the same from one of these changes on, or from the beginning of time.
 /// So the last change and the footer agree. A saving below 0 is daylight saving time too. The version is 3 where a rule's time in the footer
 /// lies below 0 or has more than 24 hours, and else 2.
 ///
 /// # Errors
 ///
-/// `Footer` with the cause of [`tail_for_ever`](zone_tail_ever::tail_for_ever); then `File`, of these changes and exactly: `Times`, `Types`,
+/// `Footer` with the cause of [`tail_for_ever`]; then `File`, of these changes and exactly: `Times`, `Types`,
 /// `Names`, or `NoMemory`, and never where one of these is due.
 pub fn tzif_for_ever(alloc: Global, set: &EverSet) -> Result<Vec<u8>, EverFileFault>
     ensures told { MatchResult result (λ file. IsEverFile (ever_seen set.now) file.items) (IsEverFileFault (ever_seen set.now)) }

@@ -23,7 +23,7 @@ impl<'a> Until<'a> {
     ghost use Rattle.std.specs.Prelude.{◌≡◌};
     ghost use Rattle.tz_ever.specs.EverShown.{ever_seen};
     ghost use Rattle.tz_zone.specs.Sets.{IsAccepted, schedule_of};
-    ghost use Rattle.zone_tail_ever.specs.Agreement.{cycle_begin};
+    ghost use Rattle.zone_tzif_set.specs.Agreement.{cycle_begin};
     ghost use Rattle.zone_tzif_set.specs.EverFiles.{until};
     ghost use Rattle.zone_tzif_set.specs.Until.{until_of};
 

@@ -1,12 +1,12 @@
 //! The version of a file by its footer.
 ghost use Rattle.std.specs.Prelude.{◌≡◌};
-ghost use Rattle.tz_footer.specs.Shown.{text_shown};
-ghost use Rattle.tz_footer.specs.Spells.{SpellsFooter};
-ghost use Rattle.tz_footer.specs.Values.{FooterValue};
+ghost use Rattle.tz_tzif.specs.Shown.{text_shown};
+ghost use Rattle.tz_tzif.specs.Spells.{SpellsFooter};
+ghost use Rattle.tz_tzif.specs.Values.{FooterValue};
 ghost use Rattle.zone_tzif_set.specs.EverFiles.{is_posix_time, version_for};
 
-use tz_footer::{FooterText, footer_text, one_footer};
 use tz_posix_core::Offset;
+use tz_tzif::{FooterText, footer_text, one_footer};
 use zone_tzif_core::Version;
 
 /// The least version that has a text as its footer.

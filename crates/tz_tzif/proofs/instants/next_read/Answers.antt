@@ -2,7 +2,7 @@
 use Rattle.std.proofs.Common.{◌≡◌, ℕ, ◌≤◌, ◌<◌, ◌+◌, true, cond, List, ◌∷◌, length, drop, get_or, ℤ, pos, ◌-ℤ◌, refl, sym, ap, ◌∙◌, arith, to_z-of_z}
 use Rattle.std.proofs.lemmas.List.{drop_more}
 use Rattle.calendar.specs.ComparisonLaws.{eq_pass}
-use Rattle.tz_footer.specs.declared.held.Held.{Held}
+use Rattle.tz_tzif.specs.declared.held.Held.{Held}
 use Rattle.zone_tzif_core.specs.Zones.{KindValue}
 use Rattle.tz_tzif.specs.Instants.{is_read, read_at}
 use Rattle.tz_tzif.specs.Next.{IsHeldFor, IsNext}

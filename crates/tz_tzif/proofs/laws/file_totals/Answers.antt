@@ -3,7 +3,7 @@ use Rattle.std.proofs.Common.{◌≡◌, ℤ, pos, ◌*ℤ◌, int_le, Bool, tru
 use Rattle.std.proofs.lemmas.Int.{ints}
 use Rattle.civil_base.specs.Instants.{seconds_of}
 use Rattle.tz_zone.specs.SecondLaws.{IsSecond, second_is}
-use Rattle.tz_footer.specs.InForce.{FooterZone, held_at}
+use Rattle.tz_tzif.specs.FooterForce.{FooterZone, held_at}
 use Rattle.zone_tzif_core.specs.Totals.{last_kind, file_total_at}
 use Rattle.zone_tzif_core.specs.Zones.{KindValue, ZoneValue}
 use Rattle.tz_tzif.specs.InForce.{are_over, changed_kind, kind_in, kind_at, told_total_at}

@@ -1,5 +1,5 @@
 use Rattle.std.proofs.Common.{option_map}
-use Rattle.tz_footer.specs.FooterShown.{footer_shown}
+use Rattle.tz_tzif.specs.FooterShown.{footer_shown}
 use Rattle.zone_file_answers.proofs.ResponseLemmas.{has_file, no_footer}
 use Rattle.zone_file_answers.proofs.answering.wanting.Goals as goal
 

@@ -1,11 +1,11 @@
 -- What the footer of an owned value says is one thing.
 use Rattle.std.proofs.Common.{◌≡◌, ℕ, List, Option, Some, None, ℤ, refl, sym, ap, ◌∙◌, subst}
 use Rattle.civil_base.specs.Ranges.{IsOffset}
-use Rattle.tz_footer.specs.FooterLaws.{no_text}
-use Rattle.tz_footer.specs.InForce.{FooterZone}
-use Rattle.tz_footer.specs.Spells.{SpellsFooter}
-use Rattle.tz_footer.specs.Standing.{stands_for}
-use Rattle.tz_footer.specs.Values.{FooterValue}
+use Rattle.tz_tzif.specs.FooterLaws.{no_text}
+use Rattle.tz_tzif.specs.FooterForce.{FooterZone}
+use Rattle.tz_tzif.specs.Spells.{SpellsFooter}
+use Rattle.tz_tzif.specs.Standing.{stands_for}
+use Rattle.tz_tzif.specs.Values.{FooterValue}
 use Rattle.tz_tzif.specs.Faults.{SaysInFooter, IsNoFooter}
 use Rattle.tz_tzif.specs.InForce.{told_total_at}
 use Rattle.tz_tzif.specs.Kept.{AreKept}

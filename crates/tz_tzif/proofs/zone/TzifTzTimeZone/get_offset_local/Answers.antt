@@ -1,6 +1,6 @@
 use Rattle.std.proofs.Common.{◌∙◌, ◌∷◌, w64, SFits, rules, take, refl, sym, ap}
 use Rattle.civil_base.specs.DateTimes.{local_of}
-use Rattle.tz_footer.specs.FooterShown.{held_shown}
+use Rattle.tz_tzif.specs.FooterShown.{held_shown}
 use Rattle.tz_zone.specs.AnswerLaws.{instants_of_offsets}
 use Rattle.tz_tzif.specs.Kept.{items_of}
 use Rattle.tz_tzif.specs.Zones.{value_of, says_of}

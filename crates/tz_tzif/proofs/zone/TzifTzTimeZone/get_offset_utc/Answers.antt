@@ -1,7 +1,7 @@
 use Rattle.std.proofs.Common.{◌≡◌, ◌∙◌, w64, SFits, rules, ap}
 use Rattle.std.proofs.lemmas.Int.{to_z-of_z}
 use Rattle.civil_base.specs.DateTimes.{instant}
-use Rattle.tz_footer.specs.FooterShown.{held_shown}
+use Rattle.tz_tzif.specs.FooterShown.{held_shown}
 use Rattle.zone_tzif_core.specs.Zones.{KindValue}
 use Rattle.tz_tzif.specs.InForce.{kind_in, kind_at}
 use Rattle.tz_tzif.specs.Zones.{value_of, says_of}

@@ -1,5 +1,0 @@
-pub mod ChangeLemmas
-mod RangeLemmas
-mod ReadLemmas
-mod WorkedFooters
-mod WorkedForce

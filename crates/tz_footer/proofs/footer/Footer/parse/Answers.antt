@@ -1,7 +1,0 @@
-use Rattle.tz_footer.specs.Shown.{text_shown}
-use Rattle.tz_footer.proofs.ReadLemmas.{refused}
-use Rattle.tz_footer.proofs.footer.Footer.parse.Goals as goal
-
-pub returns-in-Err : goal.returns-in-Err
-returns-in-Err c =
-    refused c.args.text.now (text_shown c.in-Some.read) c.check.result c.in-Err._error c.in-Err.is c.check.ensures c.in-Some.ensures.exact

@@ -1,0 +1,18 @@
+-- What is seen of the code's footers.
+use Rattle.std.specs.Prelude.{Option, Some, None}
+use Rattle.zone_tzif_core.specs.Zones.{KindValue}
+use Rattle.tz_tzif.specs.FooterForce.{FooterZone, fixed, yearly}
+use Rattle.tz_posix_core.specs.Yearly.{time_shown}
+use Rattle.tz_tzif.specs.declared.footer.Footer.{Footer}
+use Rattle.tz_tzif.specs.declared.footer.Yearly.{Yearly}
+use Rattle.tz_tzif.specs.declared.held.Held.{Held}
+
+abbrev pub held_shown : Held → KindValue
+held_shown held = record { utoff = held.offset; is_dst = held.is_dst; name = held.name.now }
+
+abbrev pub zone_shown : KindValue → Option Yearly → FooterZone
+zone_shown standard None = fixed standard
+zone_shown standard (Some y) = yearly standard (held_shown y.held) (time_shown y.rule.start) (time_shown y.rule.end)
+
+abbrev pub footer_shown : Footer → FooterZone
+footer_shown footer = zone_shown (held_shown footer.standard) footer.saving
