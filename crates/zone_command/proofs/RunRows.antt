@@ -20,7 +20,7 @@ abbrev failures : List (Failure × (List ℕ × ℕ))
 failures =
     (refuses (codes "why"), (codes "why", 2)) ∷ (
       bad_words (record { word = codes "--x"; more = None; cause = UnknownOption }),
-      (codes "zone: " ++ quoted (codes "--x") ++ codes ": no option has this name; zone --help tells them" ++ 10 ∷ [], 1),
+      (codes "zone: " ++ quoted (codes "--x") ++ codes ": no option has this name; zone --help tells them, and a value is a word of its own, as in --from 2024-10-27" ++ 10 ∷ [], 1),
     ) ∷ (
       bad_words (record { word = codes "2024-10-27"; more = None; cause = Text TimeMissing }),
       (codes "zone: " ++ quoted (codes "2024-10-27") ++ codes ": a time of day is missing, as in 2024-10-27 02:30" ++ 10 ∷ [], 2),

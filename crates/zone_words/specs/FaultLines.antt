@@ -8,7 +8,7 @@ use Rattle.zone_words.specs.declared.fault.WordCause.{WordCause}
 use Rattle.zone_words.specs.declared.fault.WordCause.TheVariants as cause
 
 abbrev pub text_cause : TextFault → List ℕ
-text_cause text.MarkMissing = codes "seconds since 1970 have an @ before them, as in @1729989000"
+text_cause text.MarkMissing = codes "a number alone is no time: seconds since 1970 have an @ before them, as in @1729989000, and a date has a month and a day, as in 2024-10-27"
 text_cause text.DateMissing = codes "a date is missing, as in 2024-10-27"
 text_cause text.ClockMissing = codes "a time of day and an offset are missing, as in 2024-10-27T02:30:00+02:00"
 text_cause text.HourShort = codes "an hour has two digits, as in 07:30"
@@ -26,7 +26,7 @@ text_cause text.OffsetRange = codes "an offset goes from -23:59 to +23:59"
 text_cause text.OutOfYears = codes "the time lies outside the years -9999 to 9999"
 
 abbrev pub cause_text : WordCause → List ℕ
-cause_text cause.UnknownOption = codes "no option has this name; zone --help tells them"
+cause_text cause.UnknownOption = codes "no option has this name; zone --help tells them, and a value is a word of its own, as in --from 2024-10-27"
 cause_text cause.ValueMissing = codes "a word is missing behind this option"
 cause_text cause.Twice = codes "this option is there twice, or beside another of its kind"
 cause_text cause.CommandMissing = codes "a command is missing, as in zone at Europe/Paris now"

@@ -12,7 +12,8 @@ fn text_cause(fault: TextFault) -> &'static str
     ensures { result.now ≡ text_cause fault }
 {
     match fault {
-        TextFault::MarkMissing => "seconds since 1970 have an @ before them, as in @1729989000",
+        TextFault::MarkMissing =>
+            "a number alone is no time: seconds since 1970 have an @ before them, as in @1729989000, and a date has a month and a day, as in 2024-10-27",
         TextFault::DateMissing => "a date is missing, as in 2024-10-27",
         TextFault::ClockMissing => {
             "a time of day and an offset are missing, as in 2024-10-27T02:30:00+02:00"
@@ -42,7 +43,8 @@ fn cause_text(cause: WordCause) -> &'static str
     ensures { result.now ≡ cause_text cause }
 {
     match cause {
-        WordCause::UnknownOption => "no option has this name; zone --help tells them",
+        WordCause::UnknownOption =>
+            "no option has this name; zone --help tells them, and a value is a word of its own, as in --from 2024-10-27",
         WordCause::ValueMissing => "a word is missing behind this option",
         WordCause::Twice => "this option is there twice, or beside another of its kind",
         WordCause::CommandMissing => "a command is missing, as in zone at Europe/Paris now",
