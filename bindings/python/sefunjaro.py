@@ -809,7 +809,8 @@ class _ByCtypes(datetime.tzinfo):
         """Answers each second of a buffer into another: the status, and how many were answered."""
         seconds = array.array("q", asked)
         if kind == _INSTANTS:
-            return self._instants_of(seconds, told, fold, gap)
+            found: Tuple[int, int] = self._instants_of(seconds, told, fold, gap)
+            return found
         offsets, place = (ctypes.c_int32 * len(seconds))(), ctypes.c_size_t()
         status = self._handle.ask(_offsets_at, asked, len(seconds), offsets, len(seconds), ctypes.byref(place))
         if not status:
