@@ -1,6 +1,7 @@
 pub mod LineLemmas
 pub mod ReadingLemmas
 pub mod MetLemmas
+pub mod UnderLemmas
 pub mod PlainLemmas
 pub mod RespondLemmas
 pub mod TargetLaws

@@ -83,10 +83,10 @@ nothing_read source mark is = record {
   goes_on = before_none _ ∙ ap (λ d. values_from (named d) false 1 (lines_of source)) is;
 }
 
-pub one_more : (source : List ℕ) (old new : List (List ℕ)) (mark : List ℕ) (is_open is_open_now : Bool) (n : ℕ) (line : List ℕ) (left : List (List ℕ))
-    → HasRead source old mark is_open n (line ∷ left) → IsReadLine old new mark is_open line is_open_now
+pub one_more : (source : List ℕ) (old new : List (List ℕ)) (mark : List ℕ) (is_open is_open_now : Bool) (n : ℕ) (line : List ℕ) (left : List (List ℕ)) (is_marked : Bool)
+    → HasRead source old mark is_open n (line ∷ left) → IsReadLine old new mark is_open line is_marked is_open_now
     → HasRead source new mark is_open_now (suc n) left
-one_more source old new mark is_open is_open_now n line left so_far line_read =
+one_more source old new mark is_open is_open_now n line left is_marked so_far line_read =
     let v = line_read.value in
     let w = renamed mark v in record {
       values = so_far.values ++ w ∷ [];

@@ -1,5 +1,5 @@
 -- What the code's answers tell.
-use Rattle.std.specs.Prelude.{◌≡◌, ℕ, List, [], ◌∷◌, ◌++◌, Bool, true, Result, Ok, Err}
+use Rattle.std.specs.Prelude.{◌≡◌, ℕ, List, [], ◌∷◌, ◌++◌, Bool, true, false, Result, Ok, Err}
 use Rattle.zone_values.specs.Values.{LineValue}
 use Rattle.zone_plain_base.specs.PlainTexts.{plain_text}
 use Rattle.zone_plain_base.specs.LineFaults.{LineFault, at}
@@ -8,7 +8,8 @@ use Rattle.zone_plain_base.specs.declared.error.PlainFault.{PlainFault}
 use Rattle.zone_plain_base.specs.declared.error.PlainFault.TheVariants as fault
 use Rattle.zone_values.specs.Results.{◌>>=◌}
 use Rattle.zone_plain_lines.specs.declared.cause.PlainCause.{PlainCause}
-use Rattle.zone_plain_base.specs.Renamed.{renamed}
+use Rattle.zone_plain_base.specs.Marks.{behind}
+use Rattle.zone_plain_base.specs.Renamed.{renamed, ruleset_of}
 use Rattle.zone_plain.specs.LineValues.{line_meaning, is_open_after, named}
 
 -- what is added of a line of a source of that mark, if it can be said
@@ -17,12 +18,18 @@ added_line mark is_open line = do
   meant ← line_meaning is_open line
   named mark meant
 
--- a line was read and added, after which a line of the zone has to follow or not
-pub record IsReadLine (old new : List (List ℕ)) (mark : List ℕ) (is_open : Bool) (line : List ℕ) (is_open_now : Bool) : Type 0 where
+-- the text of a value that can be said was added; one that can't be said adds nothing
+pub record IsAddedLine (old new : List (List ℕ)) (v : LineValue) (said : Bool) : Type 0 where
+  pub told : said ≡ is_said v
+  pub added : said ≡ true → new ≡ old ++ plain_text v ∷ []
+
+-- a line was read and added, the name of whose ruleset begins with `_` or not, and after which a line of the zone has to follow or not
+pub record IsReadLine (old new : List (List ℕ)) (mark : List ℕ) (is_open : Bool) (line : List ℕ) (is_marked is_open_now : Bool) : Type 0 where
   pub value : LineValue
   pub meant : line_meaning is_open line ≡ Ok value
   pub said : is_said (renamed mark value) ≡ true
   pub added : new ≡ old ++ plain_text (renamed mark value) ∷ []
+  pub marked : is_marked ≡ false → behind 95 (ruleset_of value) ≡ []
   pub open_now : is_open_now ≡ is_open_after is_open value
 
 -- the error tells the line's fault, or memory ran out

@@ -1,8 +1,8 @@
 //! The plain form of a source: the line of its release; its mark; its lines, read, led through the stages and written out.
-ghost use Rattle.std.specs.Prelude.{◌≡◌, IfOk, IfErr, ◌≤◌, Ok, map, length, Some, ◌++◌, string_bytes, OnOk};
-ghost use Rattle.zone_values.specs.Values.{line_value};
+ghost use Rattle.std.specs.Prelude.{◌≡◌, IfOk, IfErr, ◌≤◌, Ok, map, length, Some, ◌++◌, codes, false, string_bytes, OnOk};
+ghost use Rattle.zone_values.specs.Values.{line_value, space};
 ghost use Rattle.zone_plain.specs.LineValues.{is_open_after, mark_in, values_in, known, meant_in};
-ghost use Rattle.zone_plain.specs.Told.{IsReadLine, added_line, IsLineFault};
+ghost use Rattle.zone_plain.specs.Told.{IsAddedLine, IsReadLine, added_line, IsLineFault};
 ghost use Rattle.zone_plain_base.specs.Told.{IsRefused};
 ghost use Rattle.zone_source.specs.Zones.{source_value};
 ghost use Rattle.zone_plain_base.specs.LineFaults.{IsFaultOf};
@@ -10,7 +10,8 @@ ghost use Rattle.zone_plain.specs.Plain.{plain_of};
 ghost use Rattle.zone_plain.specs.Rebuilt.{IsRebuilt};
 ghost use Rattle.zone_plain.specs.Heads.{is_silent, head_with, head_of};
 ghost use Rattle.zone_plain_base.specs.Marks.{behind, tails};
-ghost use Rattle.zone_plain_base.specs.Renamed.{ruleset_of};
+ghost use Rattle.zone_plain_base.specs.Renamed.{renamed, ruleset_of};
+ghost use Rattle.zone_plain_base.specs.Said.{is_said};
 
 use crate::links::settle;
 use std::alloc::{AllocError, Global};
@@ -130,73 +131,168 @@ fn is_open_after(is_open: bool, line: &Line<'_>) -> bool
     }
 }
 
+/// Adds the plain text of what a line means to the lines, with its ruleset by its name in the plain form of a source of that mark.
+/// Answers whether it can be said.
+fn add_plain(
+    alloc: Global,
+    reader: &mut LineReader<'_>,
+    mark: &str,
+    meant: &Line<'_>,
+    plain: &mut Vec<u8>,
+    lines: &mut LineList,
+) -> Result<bool, AllocError>
+    ensures { IfOk result (IsAddedLine lines.old lines.new (renamed mark.now (line_value meant.now))) }
+{
+    let name = said_name_of(alloc, mark, meant)?;
+    if !write_said(alloc, reader, &under(meant, name.as_str()), plain)? {
+        return Ok(false);
+    }
+    lines.push(plain.as_slice())?;
+    Ok(true)
+}
+
+/// The same, where it is told whether a line that says nothing can be said, as most do.
+fn add_line(
+    alloc: Global,
+    reader: &mut LineReader<'_>,
+    mark: &str,
+    is_blank_said: bool,
+    meant: &Line<'_>,
+    plain: &mut Vec<u8>,
+    lines: &mut LineList,
+) -> Result<bool, AllocError>
+    requires { is_blank_said ≡ is_said space }
+    ensures { IfOk result (IsAddedLine lines.old lines.new (renamed mark.now (line_value meant.now))) }
+{
+    match meant {
+        Line::Space => {
+            if is_blank_said {
+                lines.push(b"")?;
+            }
+            Ok(is_blank_said)
+        }
+        Line::Zone(_) | Line::Continuation(_) | Line::Rule(_) | Line::Link(_) => {
+            let is_said = add_plain(alloc, reader, mark, meant, plain, lines)?;
+            Ok(is_said)
+        }
+    }
+}
+
+/// What became of a line that was read.
+#[derive(Clone, Copy)]
+struct LineRead {
+    /// Whether a line of the zone has to follow.
+    is_open: bool,
+    /// Whether the name of its ruleset begins with `_`.
+    is_marked: bool,
+}
+
 /// Reads a line in its place, and adds its plain text to the lines, with its ruleset by its name in the plain form of a source of that
-/// mark. Answers whether a line of the zone has to follow.
+/// mark.
 fn read_line(
     alloc: Global,
     reader: &mut LineReader<'_>,
     mark: &str,
+    is_blank_said: bool,
     is_open: bool,
     line: &[u8],
     laid: &mut Vec<u8>,
     plain: &mut Vec<u8>,
     lines: &mut LineList,
-) -> Result<bool, Refused>
-    ensures ok { IfOk result (IsReadLine lines.old lines.new mark.now is_open line.now) }
+) -> Result<LineRead, Refused>
+    requires { is_blank_said ≡ is_said space }
+    ensures ok { IfOk result (λ read. IsReadLine lines.old lines.new mark.now is_open line.now read.is_marked read.is_open) }
     ensures err { IfErr result (IsRefused (added_line mark.now is_open line.now)) }
 {
     let meant = match line_meant(alloc, is_open, line, laid) {
         Ok(meant) => meant,
         Err(refused) => return Err(refused),
     };
-    let name = said_name_of(alloc, mark, &meant)?;
-    if !write_said(alloc, reader, &under(&meant, name.as_str()), plain)? {
+    if !add_line(alloc, reader, mark, is_blank_said, &meant, plain, lines)? {
         return Err(Refused::Cause(PlainCause::Unsayable));
     }
-    lines.push(plain.as_slice())?;
-    Ok(is_open_after(is_open, &meant))
+    Ok(LineRead {
+        is_open: is_open_after(is_open, &meant),
+        is_marked: behind_underscore(&meant).is_some(),
+    })
 }
 
-/// The plain texts of a source's lines, each as it stands, or the first line that is refused.
+/// The plain texts of a source's lines, each as it stands, or the first line that is refused. They are read as those of a source that has
+/// no name of a ruleset with a `_` in front, as most have none, and again where it has one or a line is refused.
 fn read_lines(alloc: Global, parser: &LineParser, source: &[u8]) -> Result<LineList, PlainFault>
     requires { length source.now ≤ LIMIT }
     ensures ok { IfOk result (λ lines. values_in source.now ≡ Ok (map source_value lines)) }
     ensures err { IfErr result (IsLineFault (values_in source.now)) }
 {
-    let mark = mark_in(alloc, source)?;
-    read_named(alloc, parser, source, mark.as_str())
+    match read_under(alloc, parser, source, "_") {
+        Ok(read) => {
+            if !read.is_marked {
+                return Ok(read.lines);
+            }
+        }
+        Err(_) => (),
+    }
+    read_marked(alloc, parser, source)
 }
 
-/// The same of a source of that mark.
-fn read_named(
+/// The same of any source, by its own mark.
+fn read_marked(alloc: Global, parser: &LineParser, source: &[u8]) -> Result<LineList, PlainFault>
+    requires { length source.now ≤ LIMIT }
+    ensures ok { IfOk result (λ lines. values_in source.now ≡ Ok (map source_value lines)) }
+    ensures err { IfErr result (IsLineFault (values_in source.now)) }
+{
+    let mark = mark_in(alloc, source)?;
+    match read_under(alloc, parser, source, mark.as_str()) {
+        Ok(read) => Ok(read.lines),
+        Err(fault) => Err(fault),
+    }
+}
+
+/// What was read of a source.
+#[derive(Drop)]
+struct LinesRead {
+    /// The plain text of each line.
+    lines: LineList,
+    /// Whether the name of some ruleset begins with `_`.
+    is_marked: bool,
+}
+
+/// The same as of a source of that mark.
+fn read_under(
     alloc: Global,
     parser: &LineParser,
     source: &[u8],
     mark: &str,
-) -> Result<LineList, PlainFault>
-    requires length { length source.now ≤ LIMIT }
-    requires mark { mark.now ≡ mark_in source.now }
-    ensures ok { IfOk result (λ lines. values_in source.now ≡ Ok (map source_value lines)) }
-    ensures err { IfErr result (IsLineFault (values_in source.now)) }
+) -> Result<LinesRead, PlainFault>
+    requires { length source.now ≤ LIMIT }
+    ensures ok { IfOk result (λ read. mark.now ≡ mark_in source.now → values_in source.now ≡ Ok (map source_value read.lines)) }
+    ensures mark { IfOk result (λ read. read.is_marked ≡ false → codes "_" ≡ mark_in source.now) }
+    ensures err { IfErr result (λ fault. mark.now ≡ mark_in source.now → IsLineFault (values_in source.now) fault) }
 {
     let mut reader = parser.reader(alloc)?;
     let mut laid = Vec::new(alloc);
     let mut plain = Vec::new(alloc);
+    let is_blank_said = write_said(alloc, &mut reader, &Line::Space, &mut plain)?;
     let mut lines = LineList::new(alloc);
     let mut is_open = false;
+    let mut is_marked = false;
     let mut number = 1;
     for line in Lines::new(source) {
         match read_line(
             alloc,
             &mut reader,
             mark,
+            is_blank_said,
             is_open,
             line,
             &mut laid,
             &mut plain,
             &mut lines,
         ) {
-            Ok(open_now) => is_open = open_now,
+            Ok(read) => {
+                is_open = read.is_open;
+                is_marked = is_marked || read.is_marked;
+            }
             Err(refused) => return Err(fault_at(number, refused)),
         }
         number += 1;
@@ -204,7 +300,7 @@ fn read_named(
     if is_open {
         return Err(PlainFault::Line(number, PlainCause::Continuation));
     }
-    Ok(lines)
+    Ok(LinesRead { lines, is_marked })
 }
 
 /// The plain form of a source in any form that `zic` reads: the line of its release, if its first line names one, as `# version 2026b`;

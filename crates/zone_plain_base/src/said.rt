@@ -38,6 +38,22 @@ fn line_of<'t>(
     }
 }
 
+/// What a line says, where it is told what an empty one says.
+fn line_or_blank<'t>(
+    alloc: Global,
+    reader: &mut LineReader<'_>,
+    blank: &Line<'t>,
+    bytes: &'t [u8],
+) -> Result<Line<'t>, AllocError>
+    requires { line_value blank.now ≡ source_value [] }
+    ensures { IfOk result (λ line. line_value line ≡ source_value bytes.now) }
+{
+    if bytes.is_empty() {
+        return Ok(*blank);
+    }
+    line_of(alloc, reader, bytes)
+}
+
 /// The line at a place, which counts from 0.
 pub fn line_at(lines: &LineList, place: usize) -> &[u8]
     requires { place < length lines.now }
@@ -62,8 +78,9 @@ pub fn lines_read<'t>(
     ensures { IfOk result (λ read. map line_value read.items ≡ map source_value lines.now) }
 {
     let mut read = Vec::with_capacity(alloc, lines.len())?;
+    let blank = line_of(alloc, reader, b"")?;
     for place in 0..lines.len() {
-        let line = line_of(alloc, reader, line_at(lines, place))?;
+        let line = line_or_blank(alloc, reader, &blank, line_at(lines, place))?;
         read.push(line)?;
     }
     Ok(read)

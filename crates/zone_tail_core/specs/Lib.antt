@@ -12,6 +12,8 @@ pub mod Values
 pub mod Settled
 pub mod Carried
 pub mod Found
+-- Laws: what a caller may use.
+pub mod CleanLaws
 -- Words of private clauses.
 pub mod Shapes
 pub mod Ready

@@ -1,6 +1,0 @@
-use Rattle.zone_source.specs.LinesLeft.{lines_left}
-use Rattle.zone_plain.proofs.ReadingLemmas.{HasRead}
-use Rattle.zone_plain.proofs.whole.read_named.Given as goal
-
-abbrev pub invariant-loop-line : goal.invariant-loop-line
-invariant-loop-line l = HasRead l.fn.source l.lines l.fn.mark l.is_open l.number (lines_left l.line-iterator)
