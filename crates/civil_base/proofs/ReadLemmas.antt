@@ -1,5 +1,5 @@
 -- What the bytes of a text are, one by one.
-use Rattle.std.proofs.Common.{◌≡◌, refl, arith, ℕ, zero, suc, ◌≤◌, ◌<◌, nat_lt, Bool, true, false, nat_eq, ◌&&◌, List, [], ◌∷◌, ◌++◌, length, get_or, sym, ap, ◌∙◌, pos, unsigned_abs, int_lt}
+use Rattle.std.proofs.Common.{◌≡◌, refl, arith, ℕ, zero, suc, ◌+◌, ◌*◌, ◌/◌, ◌%◌, ◌≤◌, ◌<◌, nat_lt, Bool, true, false, nat_eq, ◌&&◌, List, [], ◌∷◌, ◌++◌, length, get_or, sym, ap, ◌∙◌, pos, unsigned_abs, int_lt}
 use Rattle.std.proofs.Common.{drop}
 use Rattle.std.proofs.Common.{Option, Some, None, Result, Ok, Err}
 use Rattle.std.specs.Prelude.{IsOk, IfOk, IfSome}
@@ -74,6 +74,12 @@ ok_gives (Err e) accepts known gives = tt
 
 pub byte-is : (a b : ℕ) → nat_eq a b ≡ true → a ≡ b
 byte-is a b h = grind (arith, nat_tests)
+
+pub below-halves : (n : ℕ) → n < 10000 → (n / 100 < 100) × (n % 100 < 100)
+below-halves n small = (omega arith, omega arith)
+
+pub joined-halves : (n front back : ℕ) → front ≡ n / 100 → back ≡ n % 100 → 100 * front + back ≡ n
+joined-halves n front back is rest = omega arith
 
 pub not-both : (a b most : ℕ) → a < most → b < most → (nat_lt a most && nat_lt b most) ≡ false → ⊥
 not-both a b most p q h = grind (arith, nat_tests)

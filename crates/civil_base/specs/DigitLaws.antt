@@ -1,14 +1,14 @@
 -- The digits of a number in parts.
-use Rattle.std.proofs.Common.{◌≡◌, arith, ℕ, ◌/◌, ◌%◌, [], ◌∷◌, ◌++◌}
+use Rattle.std.proofs.Common.{◌≡◌, refl, arith, ℕ, ◌/◌, ◌%◌, [], ◌∷◌, ◌++◌}
 use Rattle.civil_base.specs.Layout.{digit, two_digits, four_digits, nine_digits}
 
+-- the digits of a number are those of its hundreds and of what is left
+pub digits-halves : (n : ℕ) → (digit n 1000 ≡ digit (n / 100) 10) × (digit n 100 ≡ digit (n / 100) 1)
+    × (digit n 10 ≡ digit (n % 100) 10) × (digit n 1 ≡ digit (n % 100) 1)
+digits-halves n = (omega arith, omega arith, omega arith, omega arith)
+
 pub four_digits-halves : (n : ℕ) → four_digits n ≡ two_digits (n / 100) ++ two_digits (n % 100)
-four_digits-halves n =
-    let thousands : digit n 1000 ≡ digit (n / 100) 10 = omega arith in
-    let hundreds : digit n 100 ≡ digit (n / 100) 1 = omega arith in
-    let tens : digit n 10 ≡ digit (n % 100) 10 = omega arith in
-    let ones : digit n 1 ≡ digit (n % 100) 1 = omega arith in
-    (cc)
+four_digits-halves n = let halves = digits-halves n in rw (halves.0, halves.1, halves.2, halves.3) refl
 
 pub nine_digits-parts : (n : ℕ) → nine_digits n ≡ four_digits (n / 100000) ++ four_digits (n / 10 % 10000) ++ digit n 1 ∷ []
 nine_digits-parts n =
