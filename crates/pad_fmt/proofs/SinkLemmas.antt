@@ -76,5 +76,3 @@ pub pieces_after : {S : Type 0} {text : S → List ℕ} {room : S → ℕ} {a b 
     → Took text room a b xs → WroteInPieces text room b c ys r → WroteInPieces text room a c (xs ++ ys) r
 pieces_after c ys (Ok _) first more = both_taken first more
 pieces_after c ys (Err _) first more = prefix_after first more
-
-pub ruleset writing = (both_taken, nothing_is_prefix, prefix_before, prefix_after)

@@ -7,7 +7,7 @@ ghost use Rattle.pad_fmt.specs.Buffer.{are_same_bytes, cmp_by_bytes, partial_cmp
 ghost use Rattle.pad_fmt.specs.BufferLaws.{same_bytes_equivalence, same_bytes_partial_equivalence, bytes_total_order, same_bytes_same_hash};
 
 use crate::sink::{Full, TextSink};
-use arrayvec::ArrayString;
+use arrayvec::{ArrayString, CapacityError};
 use std::cmp::Ordering;
 use std::fmt::{Display, Formatter, Result as Printed, Write};
 use std::hash::{Hash, Hasher};
@@ -72,7 +72,7 @@ impl<const SIZE: usize> WriteBuffer<SIZE> {
         ensures ok { OnOk result (self.new ≡ self.old ++ text.now) }
         ensures full { OnErr result (self.new ≡ self.old) }
     {
-        self.written.try_push_str(text).map_err(|_| Full)
+        self.written.try_push_str(text).map_err(full)
     }
 
     /// Whether both texts have the same bytes, whatever the two sizes are.
@@ -104,11 +104,11 @@ impl<const SIZE: usize> TextSink for WriteBuffer<SIZE> {
     ghost room = { λ buffer. SIZE - length buffer };
 
     fn write_str(&mut self, string: &str) -> Result<(), Full> {
-        self.written.try_push_str(string).map_err(|_| Full)
+        self.written.try_push_str(string).map_err(full)
     }
 
     fn write_char(&mut self, c: char) -> Result<(), Full> {
-        self.written.try_push(c).map_err(|_| Full)
+        self.written.try_push(c).map_err(full)
     }
 }
 
@@ -168,4 +168,9 @@ impl<const SIZE: usize> Display for WriteBuffer<SIZE> {
     fn fmt<W: Write>(&self, f: &mut Formatter<W>) -> Printed {
         f.pad(self.as_str())
     }
+}
+
+// The refusal of what doesn't fit.
+fn full<T: Copy>(_error: CapacityError<T>) -> Full {
+    Full
 }

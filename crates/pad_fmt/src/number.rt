@@ -36,7 +36,6 @@ pub(crate) fn write_number<S: TextSink>(
 }
 
 // Writes the sign, so many zeros, and the digits.
-#[tactic(auto, using(crate::proofs::SinkLemmas::writing))]
 fn write_with_zeros<S: TextSink>(
     out: &mut S,
     sign: &str,

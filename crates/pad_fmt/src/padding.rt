@@ -43,7 +43,6 @@ pub(crate) fn pad_on<S: TextSink>(
 }
 
 // Writes the text with so many of the character before and after it.
-#[tactic(auto, using(crate::proofs::SinkLemmas::writing))]
 pub(crate) fn write_between<S: TextSink>(
     out: &mut S,
     c: char,
