@@ -216,7 +216,7 @@ pub record IsCut (says : Header) (bytes : List ℕ) (cuts : Cuts) : Type 0 where
   pub char_count : length cuts.names ≡ says.char
   pub flag_count : length flags ≡ says.isstd + says.isut
 
-block_found : (wide : Bool) (says : Header) (bytes : List ℕ) (cuts : Cuts) → block_in wide says bytes ≡ Some cuts → IsCut says bytes cuts × (cuts.wide ≡ wide)
+pub block_found : (wide : Bool) (says : Header) (bytes : List ℕ) (cuts : Cuts) → block_in wide says bytes ≡ Some cuts → IsCut says bytes cuts × (cuts.wide ≡ wide)
 unfolding block_in
 block_found wide says bytes cuts e =
     let times = bind_some _ (cut (time_size wide * says.time) bytes) cuts e in

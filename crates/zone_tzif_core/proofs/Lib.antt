@@ -1,5 +1,6 @@
 mod AgainLemmas
 mod CheckLemmas
+mod CutLemmas
 mod DistinctLemmas
 mod ExactLemmas
 mod FileLemmas

@@ -20,6 +20,13 @@ put_kept view bytes begun all i so_far grown x within at more is =
     ∙ append_assoc so_far (bytes (view x)) (flat_map bytes (map view (drop (i + 1) all)))
     ∙ sym (ap (λ l. so_far ++ flat_map bytes (map view l)) front) ∙ is
 
+-- the same, where the item is read at its place
+pub put_kept_at : {A B : Type 0} (view : B → A) (bytes : A → List ℕ) (begun : List ℕ) (all : List B) (i : ℕ) (so_far grown : List ℕ) (d : B) → i < length all → grown ≡ so_far ++ bytes (view (get_or all i d)) → PutSoFar view bytes begun all i so_far → PutSoFar view bytes begun all (i + 1) grown
+put_kept_at view bytes begun all i so_far grown d within more is =
+    let rest = flat_map bytes (map view (drop (i + 1) all)) in
+    ap (λ l. l ++ rest) more ∙ append_assoc so_far (bytes (view (get_or all i d))) rest
+    ∙ sym (ap (λ l. so_far ++ flat_map bytes (map view l)) (drop_more all i d within)) ∙ is
+
 pub put_end : {A B : Type 0} (view : B → A) (bytes : A → List ℕ) (begun : List ℕ) (all : List B) (i : ℕ) (so_far : List ℕ) → length all ≤ i → PutSoFar view bytes begun all i so_far → so_far ≡ begun ++ flat_map bytes (map view all)
 put_end view bytes begun all i so_far over is = sym (append-nil so_far) ∙ sym (ap (λ l. so_far ++ flat_map bytes (map view l)) (drop_all i all over)) ∙ is
 

@@ -137,17 +137,22 @@ pub(crate) fn time_at(wide: bool, times: &[u8], place: usize) -> i64
 }
 
 /// The parts of the block of a header, and of what follows it.
-#[tactic(auto, unfolding(crate::specs::Reading::block_in))]
 fn block<'a>(wide: bool, header: &Header, bytes: &'a [u8]) -> Option<Parts<'a>>
     ensures parts { option_map parts_shown result ≡ block_in wide header.now bytes.now }
     ensures counted { IfSome result (λ parts. AreCounted (parts_shown parts)) }
 {
-    let (times, rest) = cut(bytes, times_len(wide, header.time))?;
-    let (numbers, rest) = cut(rest, header.time as usize)?;
-    let (records, rest) = cut(rest, 6 * header.kind as usize)?;
-    let (names, rest) = cut(rest, header.char as usize)?;
-    let (_, rest) = cut(rest, header.isstd as usize + header.isut as usize)?;
-    let footer = ending(wide, rest)?;
+    let times = times_len(wide, header.time);
+    let (time, kind) = (header.time as usize, header.kind as usize);
+    let char = header.char as usize;
+    let flags = header.isstd as usize + header.isut as usize;
+    if times + time + 6 * kind + char + flags > bytes.len() {
+        return None;
+    }
+    let (times, rest) = bytes.split_at(times);
+    let (numbers, rest) = rest.split_at(time);
+    let (records, rest) = rest.split_at(6 * kind);
+    let (names, rest) = rest.split_at(char);
+    let footer = ending(wide, &rest[flags..])?;
     Some(Parts {
         wide,
         kinds: header.kind,

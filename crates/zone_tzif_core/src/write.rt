@@ -35,8 +35,8 @@ fn put_eight(into: &mut Vec<u8>, number: i64) -> Result<(), AllocError>
     into.extend_from_slice(&number.to_be_bytes())
 }
 
-/// Puts a header of a version with these three counts at the end.
-#[tactic(auto, using(std::proofs::Common::append_assoc), unfolding(crate::specs::Tzif::header_bytes))]
+/// Puts a header of a version with these three counts at the end. What is reserved is zero, and so are the counts of flags and leap seconds.
+#[tactic(auto, unfolding(crate::specs::Tzif::header_bytes))]
 pub(crate) fn put_header(
     into: &mut Vec<u8>,
     version: Version,
@@ -48,14 +48,10 @@ pub(crate) fn put_header(
 {
     into.extend_from_slice(b"TZif".as_slice())?;
     into.push(version.byte())?;
-    into.extend_from_slice(&[0; 15])?;
-    put_count(into, 0)?;
-    put_count(into, 0)?;
-    put_count(into, 0)?;
+    into.extend_from_slice(&[0; 27])?;
     put_count(into, times)?;
     put_count(into, kinds)?;
-    put_count(into, chars)?;
-    Ok(())
+    put_count(into, chars)
 }
 
 /// The time of a change.

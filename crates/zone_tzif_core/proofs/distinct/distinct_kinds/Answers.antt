@@ -24,6 +24,17 @@ returns-in_err-check_few c =
     let seen = subst (λ l. length (kinds_seen l) ≤ length (kinds_of (zone_shown c.args.zone.now))) (sym c.as_slice.ensures.value) more in
     rw (p.1, p.2) (too_many c.in_err-check_few.field-0.0 (length (kinds_seen c.as_slice.result.now)) (length (kinds_of (zone_shown c.args.zone.now))) seen c.in_err-check_few.ensures)
 
+pub loop-shift-preserved : goal.loop-shift-preserved
+loop-shift-preserved c =
+    let items = c.args.zone.now.rest.items in
+    let same = c.as_slice-shift-items.ensures.value in
+    let x = c.shift-item.result in (
+      once_kept (λ (shift : ℤ × Kind). kind_shown shift.1) is_same (added is_same [] (kind_shown c.args.zone.now.first)) items c.loop-shift.shift-index
+          (kinds_seen c.loop-shift.kinds.items) (kinds_seen c.add_kind-in-loop-shift.new.kinds.items) x (subst (λ l. c.loop-shift.shift-index < length l) same c.loop-shift-test.true)
+          (c.shift-item.is ∙ ap (λ l. get_or l c.loop-shift.shift-index x) same) c.in_ok-add_kind-2.ensures c.loop-shift.invariant.0,
+      subst (λ l. length (kinds_seen l) ≤ 256) c.as_slice.ensures.value c.in_ok-check_few.ensures,
+    )
+
 pub returns : goal.returns
 unfolding kinds_of
 returns c = (

@@ -1,8 +1,16 @@
-use Rattle.std.proofs.Common.{◌∙◌, sym, ap, [], bytes_eq}
+use Rattle.std.proofs.Common.{◌∙◌, sym, ap, [], Bor, bytes_eq, string_bytes}
 use Rattle.std.proofs.lemmas.Simd.{map-map}
-use Rattle.zone_tzif_core.specs.Tzif.{each_once, names_of}
-use Rattle.zone_tzif_core.proofs.DistinctLemmas.{once_end}
+use Rattle.zone_tzif_core.specs.Shown.{names_seen}
+use Rattle.zone_tzif_core.specs.Tzif.{added, each_once, names_of}
+use Rattle.zone_tzif_core.specs.declared.values.Kind.{Kind}
+use Rattle.zone_tzif_core.proofs.DistinctLemmas.{once_kept, once_end}
 use Rattle.zone_tzif_core.proofs.distinct.distinct_names.Goals as goal
+
+pub loop-kind-preserved : goal.loop-kind-preserved
+loop-kind-preserved c =
+    once_kept (λ (kind : Bor Kind). string_bytes kind.now.name) bytes_eq [] c.args.kinds.now c.loop-kind.kind-index (names_seen c.loop-kind.names.items)
+    (names_seen c.add_name.new.names.items) c.kind-item.result c.loop-kind-test.true c.kind-item.is
+    (c.in_ok-add_name.ensures ∙ ap (added bytes_eq (names_seen c.loop-kind.names.items)) c.as_str.ensures.value) c.loop-kind.invariant
 
 pub returns : goal.returns
 unfolding names_of
