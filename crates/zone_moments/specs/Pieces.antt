@@ -32,6 +32,12 @@ four_at text = do
   back ← two_at front.1
   Some (100 * front.0 + back.0, back.1)
 
+-- two digits behind a byte
+abbrev pub two_after : ℕ → List ℕ → Option (ℕ × List ℕ)
+two_after mark text = do
+  rest ← after_mark mark text
+  two_at rest
+
 -- `YYYY-MM-DD`
 unfoldable pub date_at : List ℕ → Option (WrittenDate × List ℕ)
 date_at text = do

@@ -1,7 +1,7 @@
 //! Times as they are written, whether there are such or not.
 
 /// The numbers of `YYYY-MM-DD`.
-#[derive(Clone, Copy, Debug)]
+#[derive(Clone, Copy)]
 pub struct WrittenDate {
     /// Up to 9999.
     pub year: u16,
@@ -12,7 +12,7 @@ pub struct WrittenDate {
 }
 
 /// The numbers of `hh:mm:ss` and of a fraction. What isn't written is 0.
-#[derive(Clone, Copy, Debug)]
+#[derive(Clone, Copy)]
 pub struct WrittenTime {
     /// Up to 99.
     pub hour: u8,
@@ -25,7 +25,7 @@ pub struct WrittenTime {
 }
 
 /// The numbers of `+hh:mm` or `-hh:mm`; `Z` is 0.
-#[derive(Clone, Copy, Debug)]
+#[derive(Clone, Copy)]
 pub struct WrittenOffset {
     /// Whether a `-` stands before them.
     pub west: bool,
@@ -36,7 +36,7 @@ pub struct WrittenOffset {
 }
 
 /// The parts of a text of RFC 3339.
-#[derive(Clone, Copy, Debug)]
+#[derive(Clone, Copy)]
 pub struct WrittenInstant {
     /// The date.
     pub date: WrittenDate,
@@ -47,7 +47,7 @@ pub struct WrittenInstant {
 }
 
 /// A number of seconds and a fraction.
-#[derive(Clone, Copy, Debug)]
+#[derive(Clone, Copy)]
 pub struct WrittenCount {
     /// Whether a `-` stands before them.
     pub before: bool,

@@ -29,7 +29,9 @@ pub(crate) fn zoned_at(text: &[u8]) -> Result<(WrittenInstant, &[u8]), TextFault
 {
     let ((date, time), rest) = front_at(text)?;
     let (time, rest) = seconds_at(time, rest)?;
-    let (offset, rest) = offset_at(rest).ok_or(TextFault::OffsetMissing)?;
+    let Some((offset, rest)) = offset_at(rest) else {
+        return Err(TextFault::OffsetMissing);
+    };
     Ok((WrittenInstant { date, time, offset }, rest))
 }
 

@@ -4,7 +4,7 @@ ghost use Rattle.std.specs.Char.{is_ascii_digit};
 ghost use Rattle.std.specs.List.{list_all, prefix_len};
 ghost use Rattle.text_parts.specs.Marks.{after_mark};
 ghost use Rattle.zone_moments.specs.Numbers.{is_separator, is_utc, number_after};
-ghost use Rattle.zone_moments.specs.Pieces.{read_as, digit_at, two_at, four_at, date_at, separator_at, minute_at, second_at, sized_at, offset_at, run_of, after_run};
+ghost use Rattle.zone_moments.specs.Pieces.{read_as, digit_at, two_at, four_at, two_after, date_at, separator_at, minute_at, second_at, sized_at, offset_at, run_of, after_run};
 
 use crate::form::{WrittenDate, WrittenOffset};
 
@@ -59,14 +59,21 @@ pub(crate) fn after_mark(mark: u8, text: &[u8]) -> Option<&[u8]>
     }
 }
 
+/// The number of two digits that follow that byte.
+fn two_after(mark: u8, text: &[u8]) -> Option<(u8, &[u8])>
+    ensures { read_as result ≡ two_after mark text.now }
+{
+    two_at(after_mark(mark, text)?)
+}
+
 /// The numbers of `YYYY-MM-DD`.
 #[tactic(auto, unfolding(crate::specs::Pieces::date_at))]
 pub(crate) fn date_at(text: &[u8]) -> Option<(WrittenDate, &[u8])>
     ensures { read_as result ≡ date_at text.now }
 {
     let (year, rest) = four_at(text)?;
-    let (month, rest) = two_at(after_mark(b'-', rest)?)?;
-    let (day, rest) = two_at(after_mark(b'-', rest)?)?;
+    let (month, rest) = two_after(b'-', rest)?;
+    let (day, rest) = two_after(b'-', rest)?;
     Some((WrittenDate { year, month, day }, rest))
 }
 
@@ -98,7 +105,7 @@ pub(crate) fn minute_at(text: &[u8]) -> Option<((u8, u8), &[u8])>
     ensures { read_as result ≡ minute_at text.now }
 {
     let (hour, rest) = two_at(text)?;
-    let (minute, rest) = two_at(after_mark(b':', rest)?)?;
+    let (minute, rest) = two_after(b':', rest)?;
     Some(((hour, minute), rest))
 }
 
@@ -107,7 +114,7 @@ pub(crate) fn minute_at(text: &[u8]) -> Option<((u8, u8), &[u8])>
 pub(crate) fn second_at(text: &[u8]) -> Option<(u8, &[u8])>
     ensures { read_as result ≡ second_at text.now }
 {
-    two_at(after_mark(b':', text)?)
+    two_after(b':', text)
 }
 
 /// The offset whose numbers follow its sign.

@@ -71,9 +71,15 @@ fn time_cause(text: &[u8]) -> TextFault
 pub(crate) fn front_at(text: &[u8]) -> Result<((WrittenDate, WrittenTime), &[u8]), TextFault>
     ensures { told_as result ≡ front_at text.now }
 {
-    let (date, rest) = date_at(text).ok_or(TextFault::DateMissing)?;
-    let rest = separator_at(rest).ok_or(TextFault::TimeMissing)?;
-    let ((hour, minute), rest) = minute_at(rest).ok_or(time_cause(rest))?;
+    let Some((date, rest)) = date_at(text) else {
+        return Err(TextFault::DateMissing);
+    };
+    let Some(rest) = separator_at(rest) else {
+        return Err(TextFault::TimeMissing);
+    };
+    let Some(((hour, minute), rest)) = minute_at(rest) else {
+        return Err(time_cause(rest));
+    };
     let time = WrittenTime {
         hour,
         minute,
@@ -88,7 +94,9 @@ pub(crate) fn front_at(text: &[u8]) -> Result<((WrittenDate, WrittenTime), &[u8]
 pub(crate) fn seconds_at(time: WrittenTime, text: &[u8]) -> Result<(WrittenTime, &[u8]), TextFault>
     ensures { told_as result ≡ seconds_at time text.now }
 {
-    let (second, rest) = second_at(text).ok_or(TextFault::SecondMissing)?;
+    let Some((second, rest)) = second_at(text) else {
+        return Err(TextFault::SecondMissing);
+    };
     let (nanosecond, rest) = fraction_at(rest)?;
     let WrittenTime { hour, minute, .. } = time;
     let time = WrittenTime {

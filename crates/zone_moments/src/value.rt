@@ -1,10 +1,11 @@
 //! Dates and times of day that are written and exist.
-ghost use Rattle.std.specs.Prelude.{◌≡◌, ◌≤ℤ◌, unsigned_abs, ◌≤◌, ◌^◌, Some, None, pos, IfOk, if◌then◌else◌};
+ghost use Rattle.std.specs.Prelude.{◌≡◌, ◌<◌, ◌≤◌, ◌^◌, true, Some, None, pos, IfOk, if◌then◌else◌};
 ghost use Rattle.std.specs.Result.{result_map_both};
 ghost use Rattle.calendar.specs.Days.{day};
 ghost use Rattle.civil_base.specs.Clock.{time_at};
 ghost use Rattle.civil_base.specs.Instants.{instant_at};
 ghost use Rattle.civil_base.specs.Offsets.{signed_by};
+ghost use Rattle.civil_base.specs.Ranges.{is_offset as in_offsets};
 ghost use Rattle.zone_moments.specs.Numbers.{seconds_east};
 ghost use Rattle.zone_moments.specs.Readings.{is_date, is_time, is_offset, moment_in, in_years, zoned_in, count_in};
 ghost use Rattle.civil_base.specs.DateTimes.{instant, offset_of};
@@ -31,17 +32,26 @@ fn time_of(time: WrittenTime) -> Option<Time>
 pub(crate) fn moment_in(date: WrittenDate, time: WrittenTime) -> Result<PlainDateTime, TextFault>
     ensures { result ≡ moment_in date time }
 {
-    let date = date_of(date).ok_or(TextFault::NoSuchDate)?;
-    let time = time_of(time).ok_or(TextFault::NoSuchTime)?;
+    let Some(date) = date_of(date) else {
+        return Err(TextFault::NoSuchDate);
+    };
+    let Some(time) = time_of(time) else {
+        return Err(TextFault::NoSuchTime);
+    };
     Ok(PlainDateTime::new(date, time))
 }
 
-/// The size, below zero where that is asked.
-fn signed(negative: bool, size: i32) -> i32
-    requires { pos 0 ≤ℤ size }
-    ensures { result ≡ signed_by negative (unsigned_abs size) }
+/// The seconds, below zero where that is asked, which an offset can have.
+fn signed(negative: bool, size: u32) -> i32
+    requires { size < 86_400 }
+    ensures value { result ≡ signed_by negative size }
+    ensures offset { in_offsets result ≡ true }
 {
-    if negative { -size } else { size }
+    if negative {
+        -(size as i32)
+    } else {
+        size as i32
+    }
 }
 
 /// The offset, where it is less than 24 hours.
@@ -52,7 +62,7 @@ fn east_of(offset: WrittenOffset) -> Option<UtcOffset>
     if offset.hours > 23 || offset.minutes > 59 {
         return None;
     }
-    let size = (i32::from(offset.hours) * 60 + i32::from(offset.minutes)) * 60;
+    let size = (u32::from(offset.hours) * 60 + u32::from(offset.minutes)) * 60;
     UtcOffset::from_whole_seconds(signed(offset.west, size)).ok()
 }
 
@@ -84,8 +94,10 @@ pub(crate) fn zoned_in(form: WrittenInstant) -> Result<OffsetDateTime, TextFault
     ensures utc { IfOk result (λ value. offset_of value ≡ pos 0) }
 {
     let local = moment_in(form.date, form.time)?;
-    let offset = east_of(form.offset).ok_or(TextFault::OffsetRange)?;
-    instant_of(local, offset)
+    match east_of(form.offset) {
+        Some(offset) => instant_of(local, offset),
+        None => Err(TextFault::OffsetRange),
+    }
 }
 
 /// The instant of a count.
