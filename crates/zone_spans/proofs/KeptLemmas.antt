@@ -1,5 +1,5 @@
 -- Firings that no end cuts are those of a line up to its end, and summaries stand for them.
-use Rattle.std.proofs.Common.{◌≡◌, ℕ, zero, suc, ◌+◌, ◌<◌, ◌≤◌, ◌≤ℤ◌, inl, inr, Bool, true, false, ◌&&◌, cond, if◌then◌else◌, List, [], ◌∷◌, ◌++◌, length, take, filter, Option, Some, None, ℤ, pos, int_le, int_lt, get_or, IsTrue, refl, sym, ap, ◌∙◌, subst, arith}
+use Rattle.std.proofs.Common.{◌≡◌, ℕ, zero, suc, ◌+◌, ◌<◌, ◌≤◌, ◌≤ℤ◌, inl, inr, Bool, true, false, ◌&&◌, cond, if◌then◌else◌, List, [], ◌∷◌, ◌++◌, length, take, filter, Option, Some, None, Result, Ok, Err, ℤ, pos, int_le, int_lt, get_or, IsTrue, refl, sym, ap, ◌∙◌, subst, arith}
 use Rattle.std.proofs.Math.Nat.{eq-or-lt_of_le}
 use Rattle.std.proofs.Math.Seq.{get_or-append_seam}
 use Rattle.std.proofs.lemmas.Int.{ints}
@@ -8,6 +8,7 @@ use Rattle.std.proofs.lemmas.List.Folds.{list_all-append, list_all_more}
 use Rattle.std.proofs.lemmas.List.Sums.{AllPass-from_list_all, list_all-from_AllPass}
 use Rattle.std.specs.List.{AllByRecursion, last_or, list_all}
 use Rattle.std.specs.Option.{option_to_list}
+use Rattle.std.specs.Result.{OnOk}
 use Rattle.zone_values.specs.Bounds.{are_small_seconds}
 use Rattle.zone_values.specs.Ends.{time_type, wall}
 use Rattle.zone_values.specs.declared.change.ChangeTime.{ChangeTime}
@@ -17,12 +18,14 @@ use Rattle.zone_table.specs.Bounds.{is_bounded_rule}
 use Rattle.zone_table.specs.Moments.{applies_to_year, instant_of, moment}
 use Rattle.zone_table.specs.declared.rule.RuleInfo.{RuleInfo}
 use Rattle.zone_spans.specs.Bounds.{IsSound, is_bounded_firing}
+use Rattle.zone_spans.specs.Fires.{AreSmall, StandFor}
 use Rattle.zone_spans.specs.Firings.{Fired, Firing, earliest, fired, firings_of_years, is_earlier, is_over, year_firings}
 use Rattle.zone_spans.specs.Kept.{AreBelow, AreSummaries, IsLastSummary, IsLimit, IsSummary, summed, unended}
 use Rattle.zone_spans.specs.Lines.{Line}
 use Rattle.zone_spans.specs.Quiet.{AppliesToNone}
 use Rattle.zone_spans.specs.Stands.{StandsFor}
 use Rattle.zone_spans.specs.Windows.{line_end}
+use Rattle.zone_spans.specs.declared.firing.Firings.{Firings}
 use Rattle.zone_spans.specs.declared.kept.Summary.{Summary}
 use Rattle.zone_spans.proofs.BoundLemmas.{both, first, second}
 use Rattle.zone_spans.proofs.ListingLemmas.{last_stands, stands_same}
@@ -338,3 +341,10 @@ pub quiet_stands : (start : Option ℤ) (offset : ℤ) (end : Option ChangeTime)
     → StandsFor start [] (firings_of_years offset end rules quiet).0
 quiet_stands start offset end rules quiet none =
     subst (λ (l : Fired). StandsFor start [] l.0) (sym (quiet_years offset end rules quiet none)) (stands_same start [])
+
+-- what the last call leaves, where it doesn't fail
+pub stand_on_ok : {T E : Type 0} (r : Result T E) (start : Option ℤ) (firings : Firings) (due : Fired)
+    → OnOk r (StandsFor start firings.fired.items due.0) → OnOk r (firings.saving ≡ due.1) → OnOk r (AreSmall firings)
+    → OnOk r (StandFor start firings due)
+stand_on_ok (Ok x) start firings due stands saving small = record { fired = stands; saving = saving; small = small }
+stand_on_ok (Err e) start firings due stands saving small = tt

@@ -111,8 +111,7 @@ fn push_listed(
     ensures { IfOk result (λ _. entries.new ≡ entries.old ++ map (entry_of line.now) (listed_from start fired.now)) }
 {
     push_above(entries, alloc, line, start, &fired[..place])?;
-    push_all(entries, alloc, line, &fired[place..])?;
-    Ok(())
+    push_all(entries, alloc, line, &fired[place..])
 }
 
 /// Adds the entry at the start, where there is one. The first firing at the start has that place.
@@ -127,10 +126,10 @@ fn push_start(
     requires { place ≡ position_or_len (is_at start) fired.now }
     ensures { IfOk result (λ _. entries.new ≡ entries.old ++ at_start (Some start) (option_map (span_of line.now) (start_firing start fired.now))) }
 {
-    if let Some(firing) = start_firing(start, place, fired) {
-        entries.push((start, span_of(alloc, line, firing)?))?;
+    match start_firing(start, place, fired) {
+        Some(firing) => entries.push((start, span_of(alloc, line, firing)?)),
+        None => Ok(()),
     }
-    Ok(())
 }
 
 /// Adds the entries of a ruled line with that start and these firings.
@@ -175,10 +174,10 @@ fn push_fixed(
 ) -> Result<(), AllocError>
     ensures { IfOk result (λ _. entries.new ≡ entries.old ++ at_start start (Some (fixed_span line.now))) }
 {
-    if let Some(start) = start {
-        entries.push((start, fixed_span(alloc, line)?))?;
+    match start {
+        Some(start) => entries.push((start, fixed_span(alloc, line)?)),
+        None => Ok(()),
     }
-    Ok(())
 }
 
 /// Adds the entries of a line with that start over so many years, and gives the start of the next line.
@@ -271,8 +270,7 @@ pub(crate) fn sort(entries: &mut Entries) -> Result<(), AllocError>
     ensures sorted { IfOk result (λ _. entries.new ≡ stable_sort is_sooner entries.old) }
     ensures bounded { IfOk result (λ _. IsTrue (list_all is_bounded_entry entries.new)) }
 {
-    entries.sort_by_key(|entry| entry.0)?;
-    Ok(())
+    entries.sort_by_key(|entry| entry.0)
 }
 
 /// What holds before all entries: what the first line puts in force, or the first entry with no saving where that line is

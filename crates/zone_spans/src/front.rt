@@ -155,8 +155,7 @@ impl<'a> YearRules<'a> {
     {
         sort(&mut self.wall)?;
         sort(&mut self.standard)?;
-        sort(&mut self.utc)?;
-        Ok(())
+        sort(&mut self.utc)
     }
 
     /// The fronts.
@@ -175,8 +174,7 @@ impl<'a> YearRules<'a> {
 fn sort(items: &mut Items<Placed<'_>>) -> Result<(), AllocError>
     ensures { IfOk result (λ _. items.new ≡ stable_sort is_below items.old) }
 {
-    items.sort_by_key(|placed| placed.local)?;
-    Ok(())
+    items.sort_by_key(|placed| placed.local)
 }
 
 /// What is left of three fronts.

@@ -58,8 +58,7 @@ fn last_goes_on<'a>(
     if is_still(last) {
         return Ok(true);
     }
-    let turns = turns(alloc, lines, front, last, entries)?;
-    Ok(turns)
+    turns(alloc, lines, front, last, entries)
 }
 
 /// Whether each line but the last ends by 2099 and the last has no end, and its rules are settled and stay in their years.

@@ -221,8 +221,7 @@ impl<'a> Summaries<'a> {
         let count = count_below(summaries, second, usize::from(years - self.quiet));
         let summary = last_summary(&summaries[..count]);
         firings.begin(summary.last, summary.saving)?;
-        firings.fire_years(alloc, line, self.quiet + count as u16, years)?;
-        Ok(())
+        firings.fire_years(alloc, line, self.quiet + count as u16, years)
     }
 }
 
@@ -242,8 +241,7 @@ fn fire_all<'a>(
         (firings_of_years line.now.info.offset line.now.end line.now.rules years)) }
 {
     firings.begin(None, 0)?;
-    firings.fire_years(alloc, line, quiet, years)?;
-    Ok(())
+    firings.fire_years(alloc, line, quiet, years)
 }
 
 /// What a ruleset has fired under an offset after each year, as far as a line of them asked for it. Rules that differ late are told
@@ -361,7 +359,6 @@ impl<'a> Expander<'a> {
         let years = years_over(most, line.end);
         self.kept.take_for(alloc, line, years)?;
         let kept = &mut self.kept.current;
-        kept.fire(alloc, &mut self.firings, line, start, years)?;
-        Ok(())
+        kept.fire(alloc, &mut self.firings, line, start, years)
     }
 }

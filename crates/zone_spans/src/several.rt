@@ -65,8 +65,7 @@ impl<'a, T: Serve<'a>> Several<T> {
         if self.find_for(line, years)? {
             return Ok(());
         }
-        self.put(T::begin(alloc, line, years))?;
-        Ok(())
+        self.put(T::begin(alloc, line, years))
     }
 
     /// Takes one into use that is for the line, which expands so many years, and says whether there is one.
@@ -99,8 +98,7 @@ impl<'a, T: Serve<'a>> Several<T> {
         if self.others.len() >= MOST_OTHERS {
             drop(self.others.remove(0));
         }
-        self.put_in_use(next)?;
-        Ok(())
+        self.put_in_use(next)
     }
 
     /// Takes a value into use. The one that was goes behind the others.

@@ -185,8 +185,7 @@ fn compile(
     ensures law { IfOk result (λ set. LocalEndsRise set.rest) }
 {
     let lines = sound_lines(alloc, table, infos, years)?;
-    let set = expand(alloc, lines.as_slice(), years)?;
-    Ok(set)
+    expand(alloc, lines.as_slice(), years)
 }
 
 /// Whether a zone with these lines goes on for ever.

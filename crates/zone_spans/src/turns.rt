@@ -53,8 +53,7 @@ pub(crate) fn turns<'a>(
     if !is_in_order(start, entries.as_slice(), cycle.as_slice()) {
         return Ok(false);
     }
-    let ends = has_same_ends(alloc, lines, entries, cycle.as_slice())?;
-    Ok(ends)
+    has_same_ends(alloc, lines, entries, cycle.as_slice())
 }
 
 /// Adds the cycle's entries of a last line. Whether the saving at its end is that at its begin, and a firing before it ends a saving.

@@ -1,4 +1,5 @@
-use Rattle.std.proofs.Common.{rules, ℤ, ◌∙◌}
+use Rattle.std.proofs.Common.{rules, ℤ}
+use Rattle.std.proofs.lemmas.Result.{IfOk-equal}
 use Rattle.std.proofs.lemmas.List.Sorted.{answers_always}
 use Rattle.owned.specs.Sorted.{stable_sort}
 use Rattle.zone_spans.specs.Placed.{Placed}
@@ -8,5 +9,5 @@ use Rattle.zone_spans.proofs.front.sort.Goals as goal
 pub returns : goal.returns
 returns c =
     let local : Placed → ℤ = λ p. p.local in
-    c.in_ok-sort_by_key.ensures.ok local (answers_always _ _ _ (λ f a r g h. search rules))
-    ∙ (λ i. stable_sort (λ a b. below_is a b i) c.args.items.now)
+    IfOk-equal c.sort_by_key.result _ _ _ (c.sort_by_key.ensures.ok local (answers_always _ _ _ (λ f a r g h. search rules)))
+    (λ i. stable_sort (λ a b. below_is a b i) c.args.items.now)

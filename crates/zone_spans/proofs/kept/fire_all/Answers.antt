@@ -1,7 +1,8 @@
 use Rattle.std.proofs.Common.{List, None, sym, ap, ◌∙◌, subst}
+use Rattle.std.proofs.lemmas.Result.{IfOk-weaker}
 use Rattle.zone_spans.specs.Firings.{Fired, Firing, firings_of_years}
 use Rattle.zone_spans.specs.Stands.{StandsFor}
-use Rattle.zone_spans.proofs.KeptLemmas.{quiet_stands}
+use Rattle.zone_spans.proofs.KeptLemmas.{quiet_stands, stand_on_ok}
 use Rattle.zone_spans.proofs.QuietLemmas.{quiet_years}
 use Rattle.zone_spans.proofs.kept.fire_all.Goals as goal
 
@@ -13,10 +14,8 @@ fire_years-requires-clause-saving c =
 pub returns : goal.returns
 returns c =
     let line = c.args.line.now in
-    record {
-      fired = c.in_ok-fire_years.ensures.stands None
-          (subst (λ (fs : List Firing). StandsFor None fs (firings_of_years line.info.offset line.end line.rules c.args.quiet).0)
-          (sym c.in_ok-begin.ensures.fired) (quiet_stands None line.info.offset line.end line.rules c.args.quiet c.requires.quiet));
-      saving = c.in_ok-fire_years.ensures.saving;
-      small = c.in_ok-fire_years.ensures.small;
-    }
+    let first : StandsFor None c.begin.new.self.fired.items (firings_of_years line.info.offset line.end line.rules c.args.quiet).0 =
+    subst (λ (fs : List Firing). StandsFor None fs (firings_of_years line.info.offset line.end line.rules c.args.quiet).0)
+    (sym c.in_ok-begin.ensures.fired) (quiet_stands None line.info.offset line.end line.rules c.args.quiet c.requires.quiet) in
+    stand_on_ok c.fire_years.result None _ _ (IfOk-weaker c.fire_years.result _ _ (λ _ stands. stands None first) c.fire_years.ensures.stands)
+    c.fire_years.ensures.saving c.fire_years.ensures.small

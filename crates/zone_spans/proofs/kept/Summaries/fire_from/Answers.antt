@@ -1,5 +1,6 @@
 use Rattle.std.proofs.Common.{◌≡◌, ℕ, ◌+◌, ◌≤◌, ◌≤ℤ◌, List, Option, Some, ℤ, IsTrue, sym, ap, ◌∙◌, subst, length, take, rules, to_z, of_z, w64, SFits}
 use Rattle.std.proofs.lemmas.Int.{to_z-of_z}
+use Rattle.std.proofs.lemmas.Result.{IfOk-weaker}
 use Rattle.std.specs.List.{list_all}
 use Rattle.zone_values.specs.Bounds.{are_small_seconds}
 use Rattle.zone_values.specs.declared.change.ChangeTime.{ChangeTime}
@@ -9,7 +10,7 @@ use Rattle.zone_spans.specs.Kept.{AreBelow, AreSummaries, IsLastSummary, IsLimit
 use Rattle.zone_spans.specs.Lines.{Line}
 use Rattle.zone_spans.specs.Stands.{StandsFor}
 use Rattle.zone_spans.specs.declared.kept.Summary.{Summary}
-use Rattle.zone_spans.proofs.KeptLemmas.{Serves, summary_serves, sooner_limit, sound_savings}
+use Rattle.zone_spans.proofs.KeptLemmas.{Serves, stand_on_ok, summary_serves, sooner_limit, sound_savings}
 use Rattle.zone_spans.proofs.SoundLemmas.{bounded_offset, sound_end}
 use Rattle.zone_spans.proofs.kept.Summaries.fire_from.Goals as goal
 
@@ -70,10 +71,9 @@ returns-clause-stand c =
     c.sooner_of-second.ensures.other c.in_ok-add_years.ensures.are c.as_slice-summaries.ensures.value c.count_below-count.ensures.len
     c.count_below-count.ensures.below c.last_summary-summary.ensures in
     let years = c.add_years.new.self.quiet + c.count_below-count.result in
-    record {
-      fired = c.in_ok-fire_years.ensures.stands (Some c.args.start)
-          (subst (λ (fs : List Firing). StandsFor (Some c.args.start) fs (firings_of_years line.info.offset line.end line.rules years).0)
-          (sym c.in_ok-begin.ensures.fired) serving.stands);
-      saving = c.in_ok-fire_years.ensures.saving;
-      small = c.in_ok-fire_years.ensures.small;
-    }
+    let start = Some c.args.start in
+    let first : StandsFor start c.begin.new.self.fired.items (firings_of_years line.info.offset line.end line.rules years).0 =
+    subst (λ (fs : List Firing). StandsFor start fs (firings_of_years line.info.offset line.end line.rules years).0)
+    (sym c.in_ok-begin.ensures.fired) serving.stands in
+    stand_on_ok c.fire_years.result start _ _ (IfOk-weaker c.fire_years.result _ _ (λ _ stands. stands start first) c.fire_years.ensures.stands)
+    c.fire_years.ensures.saving c.fire_years.ensures.small
