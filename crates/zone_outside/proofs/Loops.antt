@@ -2,7 +2,7 @@
 use Rattle.std.proofs.Common.{◌≡◌, ℕ, ◌+◌, ◌≤◌, List, ◌++◌, length, take, drop, Option, Some, None, IfSome, refl, sym, ap, ◌∙◌, subst, arith}
 use Rattle.std.proofs.Math.Seq.{drop-append_seam}
 use Rattle.std.proofs.lemmas.List.{append_assoc, take-take, drop-take, take-append-drop, length-take-le, drop-drop, take_at, nil_from_length}
-use Rattle.zone_outside.specs.Outside.{Consumes, LeavesRest}
+use Rattle.zone_outside.specs.Outside.{Consumes, KeepsNames, LeavesRest}
 
 -- of these bytes, some were read and the rest is left
 pub record HasRead (read : List ℕ) (left : Option (List ℕ)) (bytes : List ℕ) : Type 0 where
@@ -25,6 +25,32 @@ rest_left (Some bytes) mid new read into n had more = (
 
     parts : bytes ≡ (read ++ take n into) ++ step.rest
     parts = had.parts ∙ ap (λ t. read ++ t) step.parts ∙ sym (append_assoc read (take n into) step.rest)
+
+-- what holds of all that is left holds of the text that was fetched
+pub of_fetched : (P : List ℕ → Type 0) (told left : Option (List ℕ)) → IfSome told (λ text. left ≡ Some text) → IfSome left P → IfSome told P
+of_fetched P None left fetched holds = tt
+of_fetched P (Some text) left fetched holds = subst (λ o. IfSome o P) fetched holds
+
+-- one call keeps what another kept
+pub keeps_on : {told mid now : List ℕ → Option (List ℕ)} {open_to open_mid open_now : List ℕ → Type 0}
+    → KeepsNames told mid open_to open_mid → KeepsNames mid now open_mid open_now → KeepsNames told now open_to open_now
+keeps_on first then = record {
+  texts = λ name. then.texts name ∙ first.texts name;
+  names = λ name. (λ is. (then.names name).0 ((first.names name).0 is), λ is. (first.names name).1 ((then.names name).1 is));
+}
+
+-- after n more bytes, those were read too
+pub has_read_more : (first mid new : Option (List ℕ)) (read into : List ℕ) (n : ℕ) → IfSome first (HasRead read mid)
+    → IfSome mid (λ bytes. Consumes bytes new into n) → IfSome first (HasRead (read ++ take n into) new)
+has_read_more None mid new read into n had more = tt
+has_read_more (Some bytes) mid new read into n had more = record {
+  rest = step.rest;
+  parts = had.parts ∙ ap (λ t. read ++ t) step.parts ∙ sym (append_assoc read (take n into) step.rest);
+  left_is = step.left_is;
+}
+  where
+    step : Consumes had.rest new into n
+    step = subst (λ o. IfSome o (λ bytes. Consumes bytes new into n)) had.left_is more
 
 -- after the first bytes of a text, a sink took the next n
 pub taken_more : (bytes piece : List ℕ) (at n : ℕ) (first mid new : Option (List ℕ)) → piece ≡ drop at bytes
