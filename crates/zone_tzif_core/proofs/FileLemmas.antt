@@ -64,6 +64,15 @@ whole_kept names name kind same text from long =
     (λ i. take (long i) (drop (from i) (same i))) ∙ ap (take (length name)) (sym (append-nil name)) ∙ take_at name [] (length name) refl in
     (omega (arith, from, long, ap length same), ap is_utf8 all ∙ is_utf8-from_IsUtf8 name text)
 
+-- one kind whose name is all names, and no change
+pub steady_is : (kind : KindValue) (stored : Stored) (kinds : List Stored) (changes : List (ℤ × ℕ)) (names footer : List ℕ) → kinds ≡ stored ∷ [] → changes ≡ []
+    → names ≡ kind.name → stored.utoff ≡ kind.utoff → stored.is_dst ≡ kind.is_dst → stored.from ≡ 0 → stored.length ≡ length kind.name
+    → file_with (map (stored_kind names) kinds) changes footer ≡ record { first = kind; rest = []; footer = footer }
+steady_is kind stored kinds changes names footer one none same offset flag from long =
+    let name : stored_name names stored ≡ kind.name =
+    (λ i. take (long i) (drop (from i) (same i))) ∙ ap (take (length kind.name)) (sym (append-nil kind.name)) ∙ take_at kind.name [] (length kind.name) refl in
+    rw (one, none) (λ i. record { first = record { utoff = offset i; is_dst = flag i; name = name i }; rest = []; footer = footer })
+
 -- there is no zone without a kind
 pub no_zone : (parts : Cuts) (kinds : List KindValue) → Some kinds ≡ kinds_in parts.names parts.kinds parts.records → length kinds ≡ 0 → None ≡ joined_in parts
 unfolding joined_in

@@ -78,7 +78,7 @@ fn read_changes(
 }
 
 /// The bytes once more.
-pub(crate) fn copied(alloc: Global, bytes: &[u8]) -> Result<Vec<u8>, AllocError>
+fn copied(alloc: Global, bytes: &[u8]) -> Result<Vec<u8>, AllocError>
     ensures { IfOk result (λ copy. copy.items ≡ bytes.now) }
 {
     let mut copy = Vec::new(alloc);
@@ -87,7 +87,7 @@ pub(crate) fn copied(alloc: Global, bytes: &[u8]) -> Result<Vec<u8>, AllocError>
 }
 
 /// The zone of kinds, changes and a footer.
-fn zone_file(
+pub(crate) fn zone_file(
     alloc: Global,
     names: &[u8],
     kinds: Vec<Stored>,

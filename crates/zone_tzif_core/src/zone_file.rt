@@ -3,7 +3,7 @@ ghost use Rattle.std.specs.Prelude.{◌≡◌, ◌<◌, length};
 ghost use Rattle.zone_tzif_core.specs.Shown.{record_shown};
 ghost use Rattle.zone_tzif_core.specs.Stored.{stored_kind, AreNumbered, AreStored, IsStored};
 
-use crate::file_reader::copied;
+use crate::file_reader::zone_file;
 use crate::kinds::Record;
 use crate::stored::Stored;
 use std::alloc::{AllocError, Global};
@@ -29,19 +29,14 @@ impl ZoneFile {
     pub fn steady(alloc: Global, kind: &Record<'_>, footer: &str) -> Result<ZoneFile, AllocError>
         ensures { IfOk result (λ file. zone_seen file ≡ record { first = record_shown kind.now; rest = []; footer = footer.now }) }
     {
-        let mut kinds = Vec::new(alloc);
-        kinds.push(Stored {
+        let stored = Stored {
             utoff: kind.utoff,
             is_dst: kind.is_dst,
             from: 0,
             length: kind.name.len(),
-        })?;
-        Ok(ZoneFile {
-            names: copied(alloc, kind.name.as_bytes())?,
-            kinds,
-            changes: Vec::new(alloc),
-            footer: String::from_str(alloc, footer)?,
-        })
+        };
+        let kinds = Vec::from_slice(alloc, &[stored])?;
+        zone_file(alloc, kind.name.as_bytes(), kinds, Vec::new(alloc), footer)
     }
 
     /// The times in seconds from 1970-01-01 00:00:00 UTC, with the numbers of their kinds.
