@@ -168,7 +168,7 @@ pub(crate) fn if_there(
 }
 
 /// A number of seconds with a sign.
-#[derive(Clone, Copy, Debug, PartialEq, Eq)]
+#[derive(Clone, Copy)]
 pub(crate) struct Amount {
     pub(crate) is_negative: bool,
     pub(crate) seconds: u32,

@@ -189,7 +189,7 @@ fn is_letter(is_ruled: bool, text: &[u8]) -> bool
 fn has_byte(byte: u8, text: &[u8]) -> bool
     ensures { result ≡ has_byte byte text.now }
 {
-    text.iter().any(|other| *other == byte)
+    text.contains(&byte)
 }
 
 /// Whether the text is a format under a ruleset or none.

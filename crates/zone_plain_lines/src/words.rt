@@ -5,6 +5,50 @@ ghost use Rattle.zone_plain_lines.specs.Words.{begins, meant, shown, line_word, 
 use crate::cause::PlainCause;
 use zone_values::{Month, Weekday, Year};
 
+/// The words that lines begin with.
+const LINES: [(&str, LineWord); 3] = [
+    ("Rule", LineWord::Rule),
+    ("Zone", LineWord::Zone),
+    ("Link", LineWord::Link),
+];
+
+/// The words of months.
+const MONTHS: [(&str, Month); 12] = [
+    ("January", Month::January),
+    ("February", Month::February),
+    ("March", Month::March),
+    ("April", Month::April),
+    ("May", Month::May),
+    ("June", Month::June),
+    ("July", Month::July),
+    ("August", Month::August),
+    ("September", Month::September),
+    ("October", Month::October),
+    ("November", Month::November),
+    ("December", Month::December),
+];
+
+/// The words of weekdays.
+const WEEKDAYS: [(&str, Weekday); 7] = [
+    ("Sunday", Weekday::Sunday),
+    ("Monday", Weekday::Monday),
+    ("Tuesday", Weekday::Tuesday),
+    ("Wednesday", Weekday::Wednesday),
+    ("Thursday", Weekday::Thursday),
+    ("Friday", Weekday::Friday),
+    ("Saturday", Weekday::Saturday),
+];
+
+/// The words of a first year.
+const FIRST_YEARS: [(&str, Year); 2] = [("minimum", Year::Minimum), ("maximum", Year::Maximum)];
+
+/// The words of a last year.
+const LAST_YEARS: [(&str, Option<Year>); 3] = [
+    ("minimum", Some(Year::Minimum)),
+    ("maximum", Some(Year::Maximum)),
+    ("only", None),
+];
+
 /// What a line is by its first word.
 #[derive(Clone, Copy, Debug, PartialEq, Eq)]
 pub enum LineWord {
@@ -50,12 +94,7 @@ fn meant<T: Copy>(text: &[u8], words: &[(&str, T)]) -> Option<T>
 pub fn line_word(text: &str) -> Result<LineWord, PlainCause>
     ensures { result ≡ line_word text.now }
 {
-    let words = [
-        ("Rule", LineWord::Rule),
-        ("Zone", LineWord::Zone),
-        ("Link", LineWord::Link),
-    ];
-    meant(text.as_bytes(), &words).ok_or(PlainCause::LineType)
+    meant(text.as_bytes(), &LINES).ok_or(PlainCause::LineType)
 }
 
 /// The month of the word, if there is one.
@@ -63,21 +102,7 @@ pub fn line_word(text: &str) -> Result<LineWord, PlainCause>
 fn month_word(text: &[u8]) -> Option<Month>
     ensures { result ≡ month_word text.now }
 {
-    let words = [
-        ("January", Month::January),
-        ("February", Month::February),
-        ("March", Month::March),
-        ("April", Month::April),
-        ("May", Month::May),
-        ("June", Month::June),
-        ("July", Month::July),
-        ("August", Month::August),
-        ("September", Month::September),
-        ("October", Month::October),
-        ("November", Month::November),
-        ("December", Month::December),
-    ];
-    meant(text, &words)
+    meant(text, &MONTHS)
 }
 
 /// The month of the word.
@@ -93,16 +118,7 @@ pub(crate) fn month_of(text: &str) -> Result<Month, PlainCause>
 pub(crate) fn weekday_of(text: &[u8]) -> Option<Weekday>
     ensures { result ≡ weekday_of text.now }
 {
-    let words = [
-        ("Sunday", Weekday::Sunday),
-        ("Monday", Weekday::Monday),
-        ("Tuesday", Weekday::Tuesday),
-        ("Wednesday", Weekday::Wednesday),
-        ("Thursday", Weekday::Thursday),
-        ("Friday", Weekday::Friday),
-        ("Saturday", Weekday::Saturday),
-    ];
-    meant(text, &words)
+    meant(text, &WEEKDAYS)
 }
 
 /// The weekday of a word that follows `last`.
@@ -122,8 +138,7 @@ pub(crate) fn last_weekday_of(text: &str) -> Option<Weekday>
 pub(crate) fn from_word(text: &str) -> Option<Year>
     ensures { result ≡ from_word text.now }
 {
-    let words = [("minimum", Year::Minimum), ("maximum", Year::Maximum)];
-    meant(text.as_bytes(), &words)
+    meant(text.as_bytes(), &FIRST_YEARS)
 }
 
 /// The last year of a rule, by its word: `only` is none of its own.
@@ -131,10 +146,5 @@ pub(crate) fn from_word(text: &str) -> Option<Year>
 pub(crate) fn to_word(text: &str) -> Option<Option<Year>>
     ensures { result ≡ to_word text.now }
 {
-    let words = [
-        ("minimum", Some(Year::Minimum)),
-        ("maximum", Some(Year::Maximum)),
-        ("only", None),
-    ];
-    meant(text.as_bytes(), &words)
+    meant(text.as_bytes(), &LAST_YEARS)
 }
