@@ -153,7 +153,10 @@ fn some_leaves_year<'a>(alloc: Global, lines: &[Line<'a>], most: u16) -> Result<
 fn ends_in_no_year(line: &Line<'_>) -> bool
     ensures { result ≡ ends_in_no_year line.now }
 {
-    line.end.is_some_and(|end| !end.has_year())
+    match line.end {
+        Some(end) => !end.has_year(),
+        None => false,
+    }
 }
 
 /// Whether a rule of the line has years that can't be compared.
@@ -166,7 +169,7 @@ fn lacks_years(line: &Line<'_>) -> bool
 fn have_years(rules: &[RuleInfo]) -> bool
     ensures { result ≡ list_all has_years rules.now }
 {
-    rules.iter().all(|rule| rule.has_years())
+    rules.iter().all(RuleInfo::has_years)
 }
 
 /// How many of the first years from the earliest on, up to a number of them, come before the first of each rule.

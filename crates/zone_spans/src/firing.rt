@@ -80,16 +80,24 @@ impl<'a> Firings<'a> {
         }
     }
 
+    /// Leaves none, with that saving in force.
+    pub(crate) fn restart(&mut self, saving: i64)
+        ensures fired { self.new.fired.items ≡ [] }
+        ensures saving { self.new.saving ≡ saving }
+    {
+        self.fired.clear();
+        self.saving = saving;
+    }
+
     /// Leaves that firing alone, or none, with that saving in force after it.
     pub(crate) fn begin(&mut self, last: Option<Firing<'a>>, saving: i64) -> Result<(), AllocError>
         ensures fired { IfOk result (λ _. self.new.fired.items ≡ option_to_list last.entry) }
         ensures saving { IfOk result (λ _. self.new.saving ≡ saving) }
     {
-        self.fired.clear();
+        self.restart(saving);
         if let Some(firing) = last {
             self.fired.push(firing)?;
         }
-        self.saving = saving;
         Ok(())
     }
 }

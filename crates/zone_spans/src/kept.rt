@@ -159,7 +159,7 @@ impl<'a> Summaries<'a> {
         ensures quiet { self.new.quiet ≡ self.old.quiet }
     {
         let summary = last_summary(self.years.as_slice());
-        firings.begin(None, summary.saving)?;
+        firings.restart(summary.saving);
         let year = i64::from(EARLIEST_YEAR + count);
         firings.fire_year(alloc, line, None, year)?;
         let latest = latest_of(summary.latest, firings.fired.as_slice());
@@ -240,7 +240,7 @@ fn fire_all<'a>(
     ensures { IfOk result (λ _. StandFor None firings.new
         (firings_of_years line.now.info.offset line.now.end line.now.rules years)) }
 {
-    firings.begin(None, 0)?;
+    firings.restart(0);
     firings.fire_years(alloc, line, quiet, years)
 }
 

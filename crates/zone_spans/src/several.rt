@@ -80,15 +80,15 @@ impl<'a, T: Serve<'a>> Several<T> {
         match place_for(self.others.as_slice(), line, years) {
             Some(place) => {
                 let next = self.others.remove(place);
-                self.put_in_use(next)?;
+                self.put(next)?;
                 Ok(true)
             }
             None => Ok(false),
         }
     }
 
-    /// Takes a new one into use. Of the others the one that was in use longest ago is let go, where there are as many as may
-    /// be.
+    /// Takes a value into use. The one that was goes behind the others. Of these the one that was in use longest ago is let go,
+    /// where there are as many as may be.
     fn put(&mut self, next: T) -> Result<(), AllocError>
         requires kept { AreAll T.Holds self.old }
         requires next { T.Holds next }
@@ -98,16 +98,6 @@ impl<'a, T: Serve<'a>> Several<T> {
         if self.others.len() >= MOST_OTHERS {
             drop(self.others.remove(0));
         }
-        self.put_in_use(next)
-    }
-
-    /// Takes a value into use. The one that was goes behind the others.
-    fn put_in_use(&mut self, next: T) -> Result<(), AllocError>
-        requires kept { AreAll T.Holds self.old }
-        requires next { T.Holds next }
-        ensures kept { IfOk result (λ _. AreAll T.Holds self.new) }
-        ensures current { IfOk result (λ _. self.new.current ≡ next) }
-    {
         let used = mem::replace(&mut self.current, next);
         self.others.push(used)?;
         Ok(())

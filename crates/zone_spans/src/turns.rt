@@ -176,7 +176,12 @@ fn is_sooner(one: &(i64, FixedTimespan), other: &(i64, FixedTimespan)) -> bool
 fn none_after(entries: &[(i64, FixedTimespan)], second: i64) -> bool
     ensures { result ≡ list_all (λ e. not (int_lt second e.0)) entries.now }
 {
-    entries.iter().all(|entry| !is_after(entry, second))
+    for entry in entries {
+        if is_after(entry, second) {
+            return false;
+        }
+    }
+    true
 }
 
 fn is_after(entry: &(i64, FixedTimespan), second: i64) -> bool

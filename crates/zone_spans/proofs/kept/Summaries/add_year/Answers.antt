@@ -30,8 +30,8 @@ fire_year-requires-clause-small c =
     let last = last_is line.info.offset line.rules c.args.self.now.quiet summaries summary c.requires.are
     (subst (λ (ms : List Summary). IsLastSummary ms summary) c.as_slice.ensures.value c.last_summary-summary.ensures) in
     record {
-      fired = ap (list_all is_bounded_firing) c.in_ok-begin.ensures.fired;
-      saving = ap are_small_seconds (c.in_ok-begin.ensures.saving ∙ to_z-of_z w64 summary.saving f ∙ last.saving)
+      fired = ap (list_all is_bounded_firing) c.restart.ensures.fired;
+      saving = ap are_small_seconds (c.restart.ensures.saving ∙ to_z-of_z w64 summary.saving f ∙ last.saving)
           ∙ unended_small line.info.offset line.rules (c.args.self.now.quiet + length summaries) (sound_savings line c.requires.line);
     }
 
@@ -49,7 +49,7 @@ returns-clause-are c =
     let h : SFits w64 c.fire_year.new.self.saving = search rules in
     let k : SFits w64 summary.latest = search rules in
     let m : SFits w64 c.latest_of-latest.result = search rules in
-    let saving_is = c.in_ok-begin.ensures.saving ∙ to_z-of_z w64 summary.saving g in
+    let saving_is = c.restart.ensures.saving ∙ to_z-of_z w64 summary.saving g in
     let later_is = sym (to_z-of_z w64 c.latest_of-latest.result m) in
     let here = c.in_ok-fire_year.ensures.fired in
     subst (λ (ms : List Summary). AreSummaries offset line.rules quiet ms) (sym c.in_ok-push.ensures.items)
@@ -57,7 +57,7 @@ returns-clause-are c =
     c.last_of-last.result (omega (arith, c.requires.count, c.requires.most))
     (to_z-of_z w64 c.from-year.result f ∙ c.from-year.ensures ∙ ap (λ n. pos (earliest_year + n)) c.requires.count)
     (subst (λ (ms : List Summary). IsLastSummary ms summary) c.as_slice.ensures.value c.last_summary-summary.ensures) c.requires.are
-    (here.fired ∙ (λ i. c.in_ok-begin.ensures.fired i ++ (year_firings year offset None (saving_is i) line.rules).0))
+    (here.fired ∙ (λ i. c.restart.ensures.fired i ++ (year_firings year offset None (saving_is i) line.rules).0))
     (to_z-of_z w64 c.fire_year.new.self.saving h ∙ here.saving ∙ (λ i. (year_firings year offset None (saving_is i) line.rules).1))
     (subst (λ l. IsTrue (list_all (λ g. int_le g.time l) fired)) later_is
     (subst (λ (fs : List Firing). IsTrue (list_all (λ g. int_le g.time c.latest_of-latest.result) fs)) c.as_slice-2.ensures.value
