@@ -33,8 +33,7 @@ fn is_silent(alloc: Global, parser: &LineParser, line: &[u8]) -> Result<bool, Al
         return Ok(false);
     };
     let mut reader = parser.reader(alloc)?;
-    let is_read = is_read(alloc, &mut reader, &Line::Space, text)?;
-    Ok(is_read)
+    is_read(alloc, &mut reader, &Line::Space, text)
 }
 
 /// The line that names a release, with its line feed.
@@ -172,8 +171,7 @@ fn add_line(
             Ok(is_blank_said)
         }
         Line::Zone(_) | Line::Continuation(_) | Line::Rule(_) | Line::Link(_) => {
-            let is_said = add_plain(alloc, reader, mark, meant, plain, lines)?;
-            Ok(is_said)
+            add_plain(alloc, reader, mark, meant, plain, lines)
         }
     }
 }

@@ -71,8 +71,7 @@ fn put_clock(into: &mut Vec<u8>, sign: &str, hours: i8, minutes: i8) -> Result<(
     put(into, sign)?;
     put_count(into, hours.unsigned_abs())?;
     put(into, ":")?;
-    put_two(into, minutes.unsigned_abs())?;
-    Ok(())
+    put_two(into, minutes.unsigned_abs())
 }
 
 /// Writes a time.
@@ -147,8 +146,7 @@ fn put_sided(into: &mut Vec<u8>, weekday: Weekday, side: &str, number: i8) -> Re
 {
     put(into, weekday_text(weekday))?;
     put(into, side)?;
-    put_number(into, i64::from(number))?;
-    Ok(())
+    put_number(into, i64::from(number))
 }
 
 /// Writes a day of a month.
@@ -226,8 +224,7 @@ fn put_years(into: &mut Vec<u8>, rule: &Rule<'_>) -> Result<(), AllocError>
     put(into, " ")?;
     put_year(into, rule.from_year)?;
     put(into, " ")?;
-    put_to(into, rule.to_year)?;
-    Ok(())
+    put_to(into, rule.to_year)
 }
 
 /// Writes the day of a month, and a time of that day.
@@ -245,8 +242,7 @@ fn put_moment(
     put_day(into, day)?;
     put(into, " ")?;
     put_time(into, time.0)?;
-    put(into, mark_text(time.1))?;
-    Ok(())
+    put(into, mark_text(time.1))
 }
 
 /// Writes a rule.
@@ -259,8 +255,7 @@ fn put_rule(into: &mut Vec<u8>, rule: &Rule<'_>) -> Result<(), AllocError>
     put_moment(into, rule.month, rule.day, rule.time)?;
     put(into, " ")?;
     put_time(into, rule.time_to_add)?;
-    put_field(into, letters_text(rule.letters))?;
-    Ok(())
+    put_field(into, letters_text(rule.letters))
 }
 
 /// Writes an end.
@@ -298,8 +293,7 @@ fn put_stretch(into: &mut Vec<u8>, info: &ZoneInfo<'_>) -> Result<(), AllocError
     put_time(into, info.utc_offset)?;
     put(into, " ")?;
     put_saving(into, &info.saving)?;
-    put_field(into, info.format)?;
-    Ok(())
+    put_field(into, info.format)
 }
 
 /// Writes what a zone's line says of a stretch of time.

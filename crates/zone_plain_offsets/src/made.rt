@@ -72,8 +72,7 @@ fn put_minutes(into: &mut String, seconds: u64) -> Result<(), AllocError>
         return Ok(());
     }
     put_two(into, seconds / 60)?;
-    put_seconds(into, seconds % 60)?;
-    Ok(())
+    put_seconds(into, seconds % 60)
 }
 
 /// Writes a sign and hours.
@@ -83,8 +82,7 @@ fn put_hours(into: &mut String, is_negative: bool, hours: u64) -> Result<(), All
     ensures { OnOk result (string_bytes into.new ≡ string_bytes into.old ++ (if is_negative then 45 else 43) ∷ two_digits hours) }
 {
     into.push(if is_negative { '-' } else { '+' })?;
-    put_two(into, hours)?;
-    Ok(())
+    put_two(into, hours)
 }
 
 /// The text of a total in seconds: `+hh`, `+hhmm` or `+hhmmss`, the shortest that says all.

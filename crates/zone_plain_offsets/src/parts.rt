@@ -46,22 +46,10 @@ pub(crate) fn put_in_part(parts: &mut Parts, line: &Line<'_>) -> Result<(), Allo
 {
     match line {
         Line::Space => Ok(()),
-        Line::Zone(_) => {
-            put_line(&mut parts.zones, line)?;
-            Ok(())
-        }
-        Line::Continuation(_) => {
-            put_line(&mut parts.zones, line)?;
-            Ok(())
-        }
-        Line::Rule(_) => {
-            put_line(&mut parts.rules, line)?;
-            Ok(())
-        }
-        Line::Link(_) => {
-            put_line(&mut parts.links, line)?;
-            Ok(())
-        }
+        Line::Zone(_) => { put_line(&mut parts.zones, line) }
+        Line::Continuation(_) => { put_line(&mut parts.zones, line) }
+        Line::Rule(_) => { put_line(&mut parts.rules, line) }
+        Line::Link(_) => { put_line(&mut parts.links, line) }
     }
 }
 

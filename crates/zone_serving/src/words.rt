@@ -46,8 +46,7 @@ pub(crate) fn words_of(alloc: Global, text: &str) -> Result<Vec<String>, AllocEr
     ensures { IfOk result (λ words. map string_bytes words.items ≡ words_of text.now) }
 {
     let pieces = pieces_of(alloc, text)?;
-    let words = words_among(alloc, &pieces)?;
-    Ok(words)
+    words_among(alloc, &pieces)
 }
 
 /// Whether one of the words is an option.
