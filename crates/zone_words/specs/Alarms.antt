@@ -89,6 +89,23 @@ fold_in given = option_map_or fold_of (value_of given (codes "--fold")) (Ok Firs
 abbrev pub ends : List ℕ → Option ℕ → Option ℤ → Reading (Unit {0})
 ends command count until = if is_none count && is_none until then wrong command EndMissing else Ok tt
 
+-- a time of day, a first day and an end, with what the other options tell
+abbrev pub ringing_in : ℕ → ℤ → Option ℕ → Option ℤ → List GivenOption → Reading AlarmAsked
+ringing_in time first count until given = do
+  every ← every_in given
+  days ← days_in given
+  gap ← gap_in given
+  fold ← fold_in given
+  Ok (record { time = time; first = first; count = count; until = until; every = every; days = days; gap = gap; fold = fold })
+
+-- a time of day and a first day, with what the other options tell
+abbrev pub ending_in : List ℕ → ℕ → ℤ → List GivenOption → Reading AlarmAsked
+ending_in command time first given = do
+  count ← count_in given
+  until ← until_in first given
+  told ← ends command count until
+  ringing_in time first count until given
+
 abbrev pub alarm_in : List ℕ → List ℕ → List GivenOption → Reading AlarmAsked
 alarm_in command time given = do
   at ← time_in time

@@ -46,6 +46,14 @@ convert_in name [] = wrong name TooFew
 convert_in name (from ∷ []) = wrong name TooFew
 convert_in name (from ∷ to ∷ text) = text_in name text >>= (λ local. Ok (converted from to local))
 
+-- FROM TO, behind a name
+abbrev pub changes_in : Word → Word → List Word → Reading TaskAsked
+changes_in name zone window = do
+  both ← two_in name window
+  from ← instant_in both.0
+  to ← instant_in both.1
+  Ok (list_changes zone from to both.1)
+
 -- NAME FROM TO
 abbrev pub list_in : Word → List Word → Reading TaskAsked
 list_in name [] = wrong name TooFew

@@ -1,15 +1,15 @@
 //! The words of an alarm.
 ghost use Rattle.std.specs.Prelude.{◌≡◌, map, option_map};
-ghost use Rattle.zone_words.specs.Alarms.{alarm_in, are_days, count_in, days_in, days_of, every_in, first_in, fold_in, fold_rule, gap_in, gap_rule, has_day, is_day, last_in, until_in};
+ghost use Rattle.zone_words.specs.Alarms.{alarm_in, are_days, days_in, ending_in, days_of, every_in, first_in, fold_in, fold_rule, gap_in, gap_rule, has_day, is_day, last_in, ringing_in, until_in};
 ghost use Rattle.zone_words.specs.Shown.{given_shown, word_shown};
 ghost use Rattle.zone_words.specs.TaskShown.{alarm_shown};
 ghost use Rattle.zone_words.specs.Told.{Reads};
 
 use crate::given::{Given, value_of};
 use crate::task::{Alarm, FoldRule, GapRule};
-use crate::values::{date_in, number_in, time_in};
+use crate::values::{date_in, number_in, number_told, time_in};
 use crate::{WordCause, WordFault};
-use civil_base::Date;
+use civil_base::{Date, Time};
 use std::alloc::Global;
 
 /// Whether a text is a weekday's name in three letters.
@@ -76,16 +76,6 @@ fn first_in<'w>(alloc: Global, command: &'w str, given: &[Given<'w>]) -> Result<
     match value_of(given, "--from") {
         None => Err(WordFault::of(command, WordCause::FirstMissing)),
         Some(word) => date_in(alloc, word),
-    }
-}
-
-/// How many days it rings on, where that is told.
-fn count_in<'w>(given: &[Given<'w>]) -> Result<Option<u16>, WordFault<'w>>
-    ensures { Reads (λ count. count) result (count_in (map given_shown given.now)) }
-{
-    match value_of(given, "--count") {
-        None => Ok(None),
-        Some(word) => Ok(Some(number_in(word)?)),
     }
 }
 
@@ -175,11 +165,37 @@ pub(crate) fn alarm_in<'w>(
 {
     let time = time_in(alloc, time)?;
     let first = first_in(alloc, command, given)?;
-    let count = count_in(given)?;
+    ending_in(alloc, command, time, first, given)
+}
+
+/// The alarm of a time of day and a first day, by its end and the other options.
+fn ending_in<'w>(
+    alloc: Global,
+    command: &'w str,
+    time: Time,
+    first: Date,
+    given: &[Given<'w>],
+) -> Result<Alarm, WordFault<'w>>
+    ensures { Reads alarm_shown result (ending_in command.now time first (map given_shown given.now)) }
+{
+    let count = number_told(given, "--count")?;
     let until = until_in(alloc, first, given)?;
     if count.is_none() && until.is_none() {
         return Err(WordFault::of(command, WordCause::EndMissing));
     }
+    ringing_in(time, first, count, until, given)
+}
+
+/// The alarm of a time of day, a first day and an end, by the other options.
+fn ringing_in<'w>(
+    time: Time,
+    first: Date,
+    count: Option<u16>,
+    until: Option<Date>,
+    given: &[Given<'w>],
+) -> Result<Alarm, WordFault<'w>>
+    ensures { Reads alarm_shown result (ringing_in time first count until (map given_shown given.now)) }
+{
     let every = every_in(given)?;
     let days = days_in(given)?;
     let gap = gap_in(given)?;

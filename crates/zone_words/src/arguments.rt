@@ -1,14 +1,14 @@
 //! The words behind a command.
 ghost use Rattle.std.specs.Prelude.{◌≡◌, [], map, option_map};
-ghost use Rattle.zone_words.specs.Arguments.{at_in, chart_in, convert_in, field_in, list_in, local_in, maybe_in, none_in, one_in, task_in, two_in};
+ghost use Rattle.zone_words.specs.Arguments.{at_in, changes_in, chart_in, convert_in, list_in, local_in, maybe_in, none_in, one_in, task_in, two_in};
 ghost use Rattle.zone_words.specs.Shown.{given_shown, word_shown};
 ghost use Rattle.zone_words.specs.TaskShown.{task_shown};
 ghost use Rattle.zone_words.specs.Told.{Reads};
 
 use crate::alarm::alarm_in;
-use crate::given::{Given, has, value_of};
+use crate::given::{Given, has};
 use crate::task::Task;
-use crate::values::{instant_in, instants_in, number_in, text_in, year_in};
+use crate::values::{instant_in, instants_in, number_told, text_in, year_in};
 use crate::{Command, WordCause, WordFault};
 use std::alloc::Global;
 
@@ -96,28 +96,27 @@ fn convert_in<'w>(
     }
 }
 
+/// The changes of a zone between two instants.
+fn changes_in<'w>(
+    command: &'w str,
+    zone: &'w str,
+    window: &[&'w str],
+) -> Result<Task<'w>, WordFault<'w>>
+    ensures { Reads task_shown result (changes_in command.now zone.now (map word_shown window.now)) }
+{
+    let (from, last) = two_in(command, window)?;
+    let from = instant_in(from)?;
+    let to = instant_in(last)?;
+    Ok(Task::List(zone, from, to, last))
+}
+
 /// A zone and two instants.
 fn list_in<'w>(command: &'w str, words: &[&'w str]) -> Result<Task<'w>, WordFault<'w>>
     ensures { Reads task_shown result (list_in command.now (map word_shown words.now)) }
 {
     match words {
         [] => Err(WordFault::of(command, WordCause::TooFew)),
-        [zone, window @ ..] => {
-            let (from, last) = two_in(command, window)?;
-            let from = instant_in(from)?;
-            let to = instant_in(last)?;
-            Ok(Task::List(*zone, from, to, last))
-        }
-    }
-}
-
-/// The number of a field, where it is told.
-fn field_in<'w>(given: &[Given<'w>]) -> Result<Option<u16>, WordFault<'w>>
-    ensures { Reads (λ field. field) result (field_in (map given_shown given.now)) }
-{
-    match value_of(given, "--field") {
-        None => Ok(None),
-        Some(word) => Ok(Some(number_in(word)?)),
+        [zone, window @ ..] => changes_in(command, *zone, window),
     }
 }
 
@@ -168,7 +167,7 @@ pub(crate) fn task_in<'w>(
         }
         Command::Log => {
             let zone = one_in(name, words)?;
-            Ok(Task::Log(zone, field_in(given)?))
+            Ok(Task::Log(zone, number_told(given, "--field")?))
         }
         Command::Tree => {
             none_in(words)?;

@@ -1,5 +1,5 @@
 //! The line that tells a fault of words.
-ghost use Rattle.std.specs.Prelude.{◌≡◌, ◌++◌, ◌∷◌, [], IfOk};
+ghost use Rattle.std.specs.Prelude.{◌≡◌, ◌++◌, ◌∷◌, [], IfOk, OnOk};
 ghost use Rattle.zone_words.specs.FaultLines.{cause_text, fault_line, quoted, text_cause};
 ghost use Rattle.zone_words.specs.Told.{fault_shown};
 
@@ -65,22 +65,22 @@ fn cause_text(cause: WordCause) -> &'static str
     }
 }
 
-/// The words at fault in quotes, with a colon and a space; nothing where no word is.
-fn quoted(alloc: Global, fault: &WordFault<'_>) -> Result<Vec<u8>, AllocError>
-    ensures { IfOk result (λ text. text.items ≡ quoted (fault_shown fault.now)) }
+/// Adds the words at fault in quotes, with a colon and a space; nothing where no word is.
+#[tactic(auto, using(std::proofs::Common::append_assoc))]
+fn add_quoted(into: &mut Vec<u8>, fault: &WordFault<'_>) -> Result<(), AllocError>
+    ensures { OnOk result (into.new.items ≡ into.old.items ++ quoted (fault_shown fault.now)) }
 {
-    let mut text = Vec::new(alloc);
     if fault.word.is_empty() {
-        return Ok(text);
+        return Ok(());
     }
-    text.push(b'"')?;
-    text.extend_from_slice(fault.word.as_bytes())?;
+    into.extend_from_slice(b"\"")?;
+    into.extend_from_slice(fault.word.as_bytes())?;
     if let Some(more) = fault.more {
-        text.push(b' ')?;
-        text.extend_from_slice(more.as_bytes())?;
+        into.extend_from_slice(b" ")?;
+        into.extend_from_slice(more.as_bytes())?;
     }
-    text.extend_from_slice(b"\": ")?;
-    Ok(text)
+    into.extend_from_slice(b"\": ")?;
+    Ok(())
 }
 
 /// The line that tells a fault, with its line feed, as in `zone: "2024-10-27": a time of day is missing, as in 2024-10-27 02:30`.
@@ -92,11 +92,10 @@ fn quoted(alloc: Global, fault: &WordFault<'_>) -> Result<Vec<u8>, AllocError>
 pub fn fault_line(alloc: Global, fault: &WordFault<'_>) -> Result<Vec<u8>, AllocError>
     ensures { IfOk result (λ line. line.items ≡ fault_line (fault_shown fault.now)) }
 {
-    let words = quoted(alloc, fault)?;
     let mut line = Vec::new(alloc);
     line.extend_from_slice(b"zone: ")?;
-    line.extend_from_slice(&words)?;
+    add_quoted(&mut line, fault)?;
     line.extend_from_slice(cause_text(fault.cause).as_bytes())?;
-    line.push(b'\n')?;
+    line.extend_from_slice(b"\n")?;
     Ok(line)
 }

@@ -2,10 +2,13 @@
 ghost use Rattle.std.specs.Prelude.{◌≡◌, ◌++◌, ◌∷◌, [], IfOk, OnOk, map, string_bytes};
 ghost use Rattle.zone_moments.specs.Readings.{local_in};
 ghost use Rattle.zone_moments.specs.Shown.{asked};
-ghost use Rattle.zone_words.specs.Shown.{word_shown};
+ghost use Rattle.zone_words.specs.Alarms.{if_told};
+ghost use Rattle.zone_words.specs.Options.{value_of};
+ghost use Rattle.zone_words.specs.Shown.{given_shown, word_shown};
 ghost use Rattle.zone_words.specs.Told.{Reads};
 ghost use Rattle.zone_words.specs.Values.{date_cause, date_in, instant_in, instants_in, number_in, number_of, of_one, of_two, text_in, time_in, year_in, year_of};
 
+use crate::given::{Given, value_of};
 use crate::{WordCause, WordFault};
 use civil_base::{Date, PlainDateTime, Time};
 use std::alloc::{AllocError, Global};
@@ -154,6 +157,16 @@ pub(crate) fn number_in(word: &str) -> Result<u16, WordFault<'_>>
     match number_of(word) {
         Some(number) => Ok(number),
         None => Err(WordFault::of(word, WordCause::Number)),
+    }
+}
+
+/// The number behind an option, where it is given.
+pub(crate) fn number_told<'w>(given: &[Given<'w>], name: &str) -> Result<Option<u16>, WordFault<'w>>
+    ensures { Reads (λ number. number) result (if_told number_in (value_of (map given_shown given.now) name.now)) }
+{
+    match value_of(given, name) {
+        None => Ok(None),
+        Some(word) => Ok(Some(number_in(word)?)),
     }
 }
 
