@@ -110,11 +110,4 @@ abbrev pub alarm_in : List ℕ → List ℕ → List GivenOption → Reading Ala
 alarm_in command time given = do
   at ← time_in time
   first ← first_in command given
-  count ← count_in given
-  until ← until_in first given
-  told ← ends command count until
-  every ← every_in given
-  days ← days_in given
-  gap ← gap_in given
-  fold ← fold_in given
-  Ok (record { time = at; first = first; count = count; until = until; every = every; days = days; gap = gap; fold = fold })
+  ending_in command at first given

@@ -57,11 +57,7 @@ changes_in name zone window = do
 -- NAME FROM TO
 abbrev pub list_in : Word → List Word → Reading TaskAsked
 list_in name [] = wrong name TooFew
-list_in name (zone ∷ window) = do
-  both ← two_in name window
-  from ← instant_in both.0
-  to ← instant_in both.1
-  Ok (list_changes zone from to both.1)
+list_in name (zone ∷ window) = changes_in name zone window
 
 abbrev pub field_in : List GivenOption → Reading (Option ℕ)
 field_in given = if_told number_in (value_of given (codes "--field"))
