@@ -1,6 +1,6 @@
 //! The patterns' matchers, for many lines in turn, and the values of the lines and columns that they match.
-ghost use Rattle.std.specs.Prelude.{◌≡◌, option_map, IfOk, IsTrue};
-ghost use Rattle.zone_line.specs.Patterns.{Searches};
+ghost use Rattle.std.specs.Prelude.{◌≡◌, ℕ, List, option_map, IfOk, IsTrue};
+ghost use Rattle.zone_line.specs.Patterns.{Searches, found_in};
 ghost use Rattle.zone_line.specs.Texts.{empty_text, zone_text, continuation_text, rule_text, link_text, day_text, hm_text, hms_text};
 ghost use Rattle.zone_values.specs.Faults.{told};
 ghost use Rattle.zone_line.specs.Fields.{sided, sided_day, last_weekday};
@@ -9,7 +9,7 @@ ghost use Rattle.zone_values.specs.Values.{saving_value};
 ghost use Rattle.zone_line.specs.Shown.{clock_shown, day_shown};
 
 use crate::columns::{
-    ClockColumns, DayColumns, InfoColumns, Kind, LinkColumns, MinuteClock, RuleColumns,
+    ClockColumns, Columns, DayColumns, InfoColumns, Kind, LinkColumns, MinuteClock, RuleColumns,
     SecondClock, ZoneColumns, found,
 };
 use crate::fields::{
@@ -87,7 +87,7 @@ impl<'p> LineReader<'p> {
     pub(crate) fn zone_columns<'a>(&mut self, line: &'a str) -> Option<ZoneColumns<'a>>
         ensures { option_map zone_shown result ≡ zone_columns line.now }
     {
-        found(&mut self.zone, line)
+        find(&mut self.zone, line)
     }
 
     /// The columns of a continuation.
@@ -95,7 +95,7 @@ impl<'p> LineReader<'p> {
     pub(crate) fn continuation_columns<'a>(&mut self, line: &'a str) -> Option<InfoColumns<'a>>
         ensures { option_map info_shown result ≡ continuation_columns line.now }
     {
-        found(&mut self.continuation, line)
+        find(&mut self.continuation, line)
     }
 
     /// The columns of a Rule line.
@@ -103,7 +103,7 @@ impl<'p> LineReader<'p> {
     pub(crate) fn rule_columns<'a>(&mut self, line: &'a str) -> Option<RuleColumns<'a>>
         ensures { option_map rule_shown result ≡ rule_columns line.now }
     {
-        found(&mut self.rule, line)
+        find(&mut self.rule, line)
     }
 
     /// The columns of a Link line.
@@ -111,7 +111,7 @@ impl<'p> LineReader<'p> {
     pub(crate) fn link_columns<'a>(&mut self, line: &'a str) -> Option<LinkColumns<'a>>
         ensures { option_map link_shown result ≡ link_columns line.now }
     {
-        found(&mut self.link, line)
+        find(&mut self.link, line)
     }
 
     /// The parts of a day on one side of a number.
@@ -119,7 +119,7 @@ impl<'p> LineReader<'p> {
     pub(crate) fn day_columns<'a>(&mut self, text: &'a str) -> Option<DayColumns<'a>>
         ensures { option_map day_shown result ≡ day_columns text.now }
     {
-        found(&mut self.day, text)
+        find(&mut self.day, text)
     }
 
     /// The parts of hours and minutes.
@@ -127,8 +127,8 @@ impl<'p> LineReader<'p> {
     pub(crate) fn minute_clock<'a>(&mut self, text: &'a str) -> Option<ClockColumns<'a>>
         ensures { option_map clock_shown result ≡ minute_clock text.now }
     {
-        let found: MinuteClock<'a> = found(&mut self.hm, text)?;
-        Some(found.0)
+        let clock: MinuteClock<'a> = find(&mut self.hm, text)?;
+        Some(clock.0)
     }
 
     /// The parts of hours, minutes and seconds.
@@ -136,8 +136,8 @@ impl<'p> LineReader<'p> {
     pub(crate) fn second_clock<'a>(&mut self, text: &'a str) -> Option<ClockColumns<'a>>
         ensures { option_map clock_shown result ≡ second_clock text.now }
     {
-        let found: SecondClock<'a> = found(&mut self.hms, text)?;
-        Some(found.0)
+        let clock: SecondClock<'a> = find(&mut self.hms, text)?;
+        Some(clock.0)
     }
 }
 
@@ -420,6 +420,14 @@ impl LineReader<'_> {
             }),
         }
     }
+}
+
+/// What `found` gives of a matcher that lies on the heap.
+fn find<'a, C: Columns<'a>>(matcher: &mut Box<Matcher<'_>>, line: &'a str) -> Option<C>
+    ensures found { (pattern : List ℕ) → Searches pattern matcher.old.value → option_map C.shown result ≡ found_in C.texts_of pattern line.now }
+    ensures kept { (pattern : List ℕ) → Searches pattern matcher.old.value → Searches pattern matcher.new.value }
+{
+    found(matcher, line)
 }
 
 /// A saving that holds as long as the line: hours and minutes by the wall's clock.
