@@ -77,15 +77,6 @@ fn read_changes(
     Ok(changes)
 }
 
-/// The bytes once more.
-fn copied(alloc: Global, bytes: &[u8]) -> Result<Vec<u8>, AllocError>
-    ensures { IfOk result (λ copy. copy.items ≡ bytes.now) }
-{
-    let mut copy = Vec::new(alloc);
-    copy.extend_from_slice(bytes)?;
-    Ok(copy)
-}
-
 /// The zone of kinds, changes and a footer.
 pub(crate) fn zone_file(
     alloc: Global,
@@ -100,7 +91,7 @@ pub(crate) fn zone_file(
     ensures { IfOk result (λ file. zone_seen file ≡ file_with (map (stored_kind names.now) kinds.items) changes.items footer.now) }
 {
     Ok(ZoneFile {
-        names: copied(alloc, names)?,
+        names: Vec::from_slice(alloc, names)?,
         kinds,
         changes,
         footer: String::from_str(alloc, footer)?,
