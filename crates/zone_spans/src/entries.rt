@@ -21,46 +21,44 @@ use crate::transitions::Line;
 use crate::year::line_end;
 use owned::{Items, Text};
 use std::alloc::{AllocError, Global};
-use zone_table::Format;
 
 /// Entries in order of time, or on the way there: a time in seconds from 1970-01-01 00:00 UTC, and what is in force from
 /// then on.
 pub(crate) type Entries = Items<(i64, FixedTimespan)>;
 
-/// The name under a saving and the letters of a rule.
-fn name_of(
+/// What a line puts in force under a saving and the letters of a rule.
+fn span_under(
     alloc: Global,
-    format: &Format,
+    line: &Line<'_>,
     saving: i64,
     letters: Option<&str>,
-) -> Result<Text, AllocError>
-    ensures { IfOk result (λ name. name ≡ abbreviation format.now saving (option_map (λ t. t.now) letters.entry)) }
+) -> Result<FixedTimespan, AllocError>
+    ensures { IfOk result (λ span. span ≡ record {
+      utc_offset = line.now.info.offset;
+      dst_offset = saving;
+      name = abbreviation line.now.info.format saving (option_map (λ t. t.now) letters.entry);
+    }) }
 {
-    Ok(Text::from_string(format.format(alloc, saving, letters)?))
+    let name = line.info.format.format(alloc, saving, letters)?;
+    Ok(FixedTimespan {
+        utc_offset: line.info.offset,
+        dst_offset: saving,
+        name: Text::from_string(name),
+    })
 }
 
 /// What a firing puts in force.
 fn span_of(alloc: Global, line: &Line<'_>, firing: &Firing<'_>) -> Result<FixedTimespan, AllocError>
     ensures { IfOk result (λ span. span ≡ span_of line.now firing.now) }
 {
-    let saving = firing.rule.time_to_add;
-    Ok(FixedTimespan {
-        utc_offset: line.info.offset,
-        dst_offset: saving,
-        name: name_of(alloc, &line.info.format, saving, firing.rule.letters())?,
-    })
+    span_under(alloc, line, firing.rule.time_to_add, firing.rule.letters())
 }
 
 /// What a line that is not ruled puts in force.
 fn fixed_span(alloc: Global, line: &Line<'_>) -> Result<FixedTimespan, AllocError>
     ensures { IfOk result (λ span. span ≡ fixed_span line.now) }
 {
-    let saving = line.fixed_saving();
-    Ok(FixedTimespan {
-        utc_offset: line.info.offset,
-        dst_offset: saving,
-        name: name_of(alloc, &line.info.format, saving, None)?,
-    })
+    span_under(alloc, line, line.fixed_saving(), None)
 }
 
 /// Adds an entry for each of the firings.
