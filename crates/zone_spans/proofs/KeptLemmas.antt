@@ -145,6 +145,9 @@ below_of latest limit less fs all =
     list_all-from_AllPass (λ f. int_lt f.time limit) fs (λ k d l. at_most_below _ latest limit
     (AllPass-from_list_all (λ f. int_le f.time latest) fs all k d l) less)
 
+pub at_most : {time later : ℤ} → time ≤ℤ later → IsTrue (int_le time later)
+at_most h = grind (arith, ints)
+
 at_most_more : (time early later : ℤ) → int_le time early ≡ true → early ≤ℤ later → int_le time later ≡ true
 at_most_more time early later h k = grind (arith, ints)
 

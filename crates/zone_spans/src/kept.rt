@@ -67,29 +67,9 @@ fn latest_of(second: i64, fired: &[Firing<'_>]) -> i64
 {
     let mut latest = second;
     for firing in fired {
-        latest = later_of(latest, firing);
+        latest = latest.max(firing.time);
     }
     latest
-}
-
-/// A second that the firing is not after, nor that second.
-fn later_of(second: i64, firing: &Firing<'_>) -> i64
-    ensures firing { IsTrue (int_le firing.now.time result) }
-    ensures second { second ≤ℤ result }
-{
-    if firing.is_above(second) {
-        firing.time
-    } else {
-        second
-    }
-}
-
-/// The sooner of two seconds.
-fn sooner_of(one: i64, other: i64) -> i64
-    ensures one { result ≤ℤ one }
-    ensures other { result ≤ℤ other }
-{
-    if one < other { one } else { other }
 }
 
 /// The last of the firings, or else that one.
@@ -215,7 +195,7 @@ impl<'a> Summaries<'a> {
         ensures stand { IfOk result (λ _. StandFor (Some start) firings.new
             (firings_of_years line.now.info.offset line.now.end line.now.rules years)) }
     {
-        let second = sooner_of(start, limit_of(line.end, line.info.offset));
+        let second = start.min(limit_of(line.end, line.info.offset));
         self.add_years(alloc, firings, line, years, second)?;
         let summaries = self.years.as_slice();
         let count = count_below(summaries, second, usize::from(years - self.quiet));

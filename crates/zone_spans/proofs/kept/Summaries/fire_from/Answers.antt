@@ -49,15 +49,15 @@ pub fire_years-requires-clause-saving : goal.fire_years-requires-clause-saving
 fire_years-requires-clause-saving c =
     let f : SFits w64 c.last_summary-summary.result.saving = search rules in
     c.in_ok-begin.ensures.saving ∙ to_z-of_z w64 c.last_summary-summary.result.saving f
-    ∙ (taken c.requires.line c.line.view_is (search rules) (search rules) (search rules) c.ranges.start c.limit_of.ensures c.sooner_of-second.ensures.one
-    c.sooner_of-second.ensures.other c.in_ok-add_years.ensures.are c.as_slice-summaries.ensures.value c.count_below-count.ensures.len
+    ∙ (taken c.requires.line c.line.view_is (search rules) (search rules) (search rules) c.ranges.start c.limit_of.ensures c.min-second.ensures.self_bound
+    c.min-second.ensures.other_bound c.in_ok-add_years.ensures.are c.as_slice-summaries.ensures.value c.count_below-count.ensures.len
     c.count_below-count.ensures.below c.last_summary-summary.ensures).saving
 
 pub fire_years-requires-clause-small : goal.fire_years-requires-clause-small
 fire_years-requires-clause-small c =
     let f : SFits w64 c.last_summary-summary.result.saving = search rules in
-    let serving = taken c.requires.line c.line.view_is (search rules) (search rules) (search rules) c.ranges.start c.limit_of.ensures c.sooner_of-second.ensures.one
-    c.sooner_of-second.ensures.other c.in_ok-add_years.ensures.are c.as_slice-summaries.ensures.value c.count_below-count.ensures.len
+    let serving = taken c.requires.line c.line.view_is (search rules) (search rules) (search rules) c.ranges.start c.limit_of.ensures c.min-second.ensures.self_bound
+    c.min-second.ensures.other_bound c.in_ok-add_years.ensures.are c.as_slice-summaries.ensures.value c.count_below-count.ensures.len
     c.count_below-count.ensures.below c.last_summary-summary.ensures in
     record {
       fired = ap (list_all is_bounded_firing) c.in_ok-begin.ensures.fired ∙ serving.bounded;
@@ -67,8 +67,8 @@ fire_years-requires-clause-small c =
 pub returns-clause-stand : goal.returns-clause-stand
 returns-clause-stand c =
     let line = c.args.line.now in
-    let serving = taken c.requires.line c.line.view_is (search rules) (search rules) (search rules) c.ranges.start c.limit_of.ensures c.sooner_of-second.ensures.one
-    c.sooner_of-second.ensures.other c.in_ok-add_years.ensures.are c.as_slice-summaries.ensures.value c.count_below-count.ensures.len
+    let serving = taken c.requires.line c.line.view_is (search rules) (search rules) (search rules) c.ranges.start c.limit_of.ensures c.min-second.ensures.self_bound
+    c.min-second.ensures.other_bound c.in_ok-add_years.ensures.are c.as_slice-summaries.ensures.value c.count_below-count.ensures.len
     c.count_below-count.ensures.below c.last_summary-summary.ensures in
     let years = c.add_years.new.self.quiet + c.count_below-count.result in
     let start = Some c.args.start in
