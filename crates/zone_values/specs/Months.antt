@@ -46,17 +46,6 @@ month_named text =
     else if is_name (codes "dec") (codes "december") text then Some December
     else None
 
--- the same, of the months from July on
-unfoldable pub late_month_named : List ℕ → Option Month
-late_month_named text =
-    if is_name (codes "jul") (codes "july") text then Some July
-    else if is_name (codes "aug") (codes "august") text then Some August
-    else if is_name (codes "sep") (codes "september") text then Some September
-    else if is_name (codes "oct") (codes "october") text then Some October
-    else if is_name (codes "nov") (codes "november") text then Some November
-    else if is_name (codes "dec") (codes "december") text then Some December
-    else None
-
 -- the fault holds the text in ASCII lower case
 abbrev pub month_field : List ℕ → Result Month Fault
 month_field text = ok_or (month_named text) (refused FailedMonthParse (lower text))

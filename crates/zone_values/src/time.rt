@@ -1,5 +1,5 @@
 //! Times of day and amounts of time, as the columns of a line write them.
-ghost use Rattle.std.specs.Prelude.{◌≡◌, pos, neg_ℤ, ◌≤ℤ◌, ◌+ℤ◌, ◌*ℤ◌};
+ghost use Rattle.std.specs.Prelude.{◌≡◌, pos, neg_ℤ, ◌≤ℤ◌};
 ghost use Rattle.zone_values.specs.Seconds.{seconds_of, with_type};
 
 /// A time of day or an amount of time, as it was written. A negative one has each of its parts
@@ -39,10 +39,10 @@ impl TimeSpec {
         ensures greatest { result ≤ℤ pos 500_000 }
     {
         match self {
-            TimeSpec::Hours(hours) => seconds_in(hours, 0, 0),
-            TimeSpec::HoursMinutes(hours, minutes) => seconds_in(hours, minutes, 0),
+            TimeSpec::Hours(hours) => hours as i64 * 3_600,
+            TimeSpec::HoursMinutes(hours, minutes) => hours as i64 * 3_600 + minutes as i64 * 60,
             TimeSpec::HoursMinutesSeconds(hours, minutes, seconds) => {
-                seconds_in(hours, minutes, seconds)
+                hours as i64 * 3_600 + minutes as i64 * 60 + seconds as i64
             }
             TimeSpec::Zero => 0,
         }
@@ -54,13 +54,4 @@ impl TimeSpec {
     {
         TimeSpecAndType(self, timetype)
     }
-}
-
-/// That many hours, minutes and seconds, in seconds.
-fn seconds_in(hours: i8, minutes: i8, seconds: i8) -> i64
-    ensures value { result ≡ hours *ℤ pos 3600 +ℤ minutes *ℤ pos 60 +ℤ seconds }
-    ensures least { neg_ℤ (pos 500_000) ≤ℤ result }
-    ensures greatest { result ≤ℤ pos 500_000 }
-{
-    hours as i64 * 3_600 + minutes as i64 * 60 + seconds as i64
 }

@@ -3,7 +3,7 @@ ghost use Rattle.std.specs.Prelude.{◌≡◌, bytes_eq};
 ghost use Rattle.zone_values.specs.Faults.{Tells, told};
 ghost use Rattle.zone_values.specs.Years.{year_field, year_named};
 ghost use Rattle.zone_values.specs.Names.{is_name, lower};
-ghost use Rattle.zone_values.specs.Months.{month_named, late_month_named};
+ghost use Rattle.zone_values.specs.Months.{month_named};
 ghost use Rattle.zone_values.specs.Weekdays.{weekday_named};
 
 use crate::error::Error;
@@ -50,7 +50,7 @@ impl Year {
 }
 
 /// The month of that English name.
-#[tactic(auto, unfolding(crate::specs::Months::month_named, crate::specs::Months::late_month_named))]
+#[tactic(auto, unfolding(crate::specs::Months::month_named))]
 pub(crate) fn month_named(text: &str) -> Option<Month>
     ensures { result ≡ month_named text.now }
 {
@@ -66,17 +66,7 @@ pub(crate) fn month_named(text: &str) -> Option<Month>
         Month::May
     } else if is_name(text, "jun", "june") {
         Month::June
-    } else {
-        return late_month_named(text);
-    })
-}
-
-/// The month of that English name, of those from July on.
-#[tactic(auto, unfolding(crate::specs::Months::late_month_named))]
-fn late_month_named(text: &str) -> Option<Month>
-    ensures { result ≡ late_month_named text.now }
-{
-    Some(if is_name(text, "jul", "july") {
+    } else if is_name(text, "jul", "july") {
         Month::July
     } else if is_name(text, "aug", "august") {
         Month::August
