@@ -1,6 +1,7 @@
 //! What the command `zone` answers people about a zone, as exact texts.
 #![tactic(auto)]
 
+mod add;
 mod changes;
 mod fault;
 mod fixed;

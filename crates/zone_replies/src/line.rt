@@ -63,8 +63,7 @@ fn add_named<Z: ReplyZone>(
         ++ people_text local.now (offset_of date.now) ((Z.view zone.now).force (seconds_of (instant date.now))).name) }
 {
     let force = zone.force_at(alloc, date.unix_timestamp())?;
-    add_people(into, local, date.offset(), force.name.as_str())?;
-    Ok(())
+    add_people(into, local, date.offset(), force.name.as_str())
 }
 
 /// Adds an instant as an object.
@@ -88,8 +87,7 @@ fn add_whole<Z: ReplyZone>(
         force: &force,
         kind,
     };
-    add_object(into, &told)?;
-    Ok(())
+    add_object(into, &told)
 }
 
 /// Whether a local time lies past the last year that a zone is told for.

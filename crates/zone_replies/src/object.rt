@@ -4,6 +4,7 @@ ghost use Rattle.civil_base.specs.DateTimes.{instant, offset_of};
 ghost use Rattle.zone_replies.specs.Forces.{force_shown};
 ghost use Rattle.zone_replies.specs.Objects.{change_object_text, clock_members, escaped, force_members, front_members, hex_digit, kind_member, members, object_text, quoted};
 
+use crate::add::add;
 use crate::force::Force;
 use crate::kind::Kind;
 use civil_base::{OffsetDateTime, PlainDateTime, UtcOffset};
@@ -81,45 +82,41 @@ pub fn add_quoted(into: &mut Vec<u8>, text: &str) -> Result<(), AllocError>
 fn add_front(into: &mut Vec<u8>, name: &str, at: &OffsetDateTime) -> Result<(), AllocError>
     ensures { OnOk result (into.new.items ≡ into.old.items ++ front_members name.now (instant at.now)) }
 {
-    into.extend_from_slice(b"{\"zone\":")?;
+    add(into, b"{\"zone\":")?;
     add_quoted(into, name)?;
-    into.extend_from_slice(b",\"instant\":")?;
+    add(into, b",\"instant\":")?;
     add_seconds(into, at)?;
-    into.extend_from_slice(b",")?;
-    Ok(())
+    add(into, b",")
 }
 
 #[tactic(auto, using(std::proofs::Common::append_assoc), unfolding(crate::specs::Objects::clock_members))]
 fn add_clock(into: &mut Vec<u8>, local: &PlainDateTime, offset: UtcOffset) -> Result<(), AllocError>
     ensures { OnOk result (into.new.items ≡ into.old.items ++ clock_members local.now offset) }
 {
-    into.extend_from_slice(b"\"local\":\"")?;
+    add(into, b"\"local\":\"")?;
     add_local(into, local)?;
-    into.extend_from_slice(b"\",\"offset\":\"")?;
+    add(into, b"\",\"offset\":\"")?;
     add_offset(into, offset)?;
-    into.extend_from_slice(b"\",")?;
-    Ok(())
+    add(into, b"\",")
 }
 
 #[tactic(auto, using(std::proofs::Common::append_assoc), unfolding(crate::specs::Objects::force_members))]
 fn add_force(into: &mut Vec<u8>, force: &Force) -> Result<(), AllocError>
     ensures { OnOk result (into.new.items ≡ into.old.items ++ force_members (force_shown force.now)) }
 {
-    into.extend_from_slice(b"\"abbreviation\":")?;
+    add(into, b"\"abbreviation\":")?;
     add_quoted(into, force.name.as_str())?;
-    into.extend_from_slice(b",\"saving\":")?;
-    into.extend_from_slice(Buffer::new().format(force.saving).as_bytes())?;
-    Ok(())
+    add(into, b",\"saving\":")?;
+    add(into, Buffer::new().format(force.saving).as_bytes())
 }
 
 #[tactic(auto, using(std::proofs::Common::append_assoc), unfolding(crate::specs::Objects::kind_member))]
 fn add_kind(into: &mut Vec<u8>, kind: Kind) -> Result<(), AllocError>
     ensures { OnOk result (into.new.items ≡ into.old.items ++ kind_member kind) }
 {
-    into.extend_from_slice(b",\"kind\":\"")?;
-    into.extend_from_slice(kind.text())?;
-    into.extend_from_slice(b"\"")?;
-    Ok(())
+    add(into, b",\"kind\":\"")?;
+    add(into, kind.text())?;
+    add(into, b"\"")
 }
 
 /// Adds an object, but for its end.
@@ -131,8 +128,7 @@ fn add_members(into: &mut Vec<u8>, told: &Told<'_>) -> Result<(), AllocError>
     add_front(into, told.name, told.at)?;
     add_clock(into, told.local, told.at.offset())?;
     add_force(into, told.force)?;
-    add_kind(into, told.kind)?;
-    Ok(())
+    add_kind(into, told.kind)
 }
 
 /// Adds the object of an instant.
@@ -142,8 +138,7 @@ pub(crate) fn add_object(into: &mut Vec<u8>, told: &Told<'_>) -> Result<(), Allo
         ++ object_text told.now.name.now (instant told.now.at.now) told.now.local.now (offset_of told.now.at.now) (force_shown told.now.force.now) told.now.kind) }
 {
     add_members(into, told)?;
-    into.extend_from_slice(b"}")?;
-    Ok(())
+    add(into, b"}")
 }
 
 /// Adds the object of a change from that offset.
@@ -157,8 +152,7 @@ pub(crate) fn add_change_object(
         ++ change_object_text told.now.name.now (instant told.now.at.now) told.now.local.now (offset_of told.now.at.now) (force_shown told.now.force.now) told.now.kind before) }
 {
     add_members(into, told)?;
-    into.extend_from_slice(b",\"before\":\"")?;
+    add(into, b",\"before\":\"")?;
     add_offset(into, before)?;
-    into.extend_from_slice(b"\"}")?;
-    Ok(())
+    add(into, b"\"}")
 }

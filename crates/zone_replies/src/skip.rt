@@ -8,6 +8,7 @@ ghost use Rattle.zone_replies.specs.Objects.{change_object_text};
 ghost use Rattle.zone_replies.specs.declared.kind.Kind.TheVariants.{Gap};
 ghost use Rattle.zone_replies.specs.Skips.{after_of, before_of, from_to_text, gap_due, has_dates, none_text, skipped_text, skipping, skips};
 
+use crate::add::add;
 use crate::fault::ReplyFault;
 use crate::kind::Kind;
 use crate::line::{Style, add_instant};
@@ -100,11 +101,10 @@ pub(crate) fn date_at(second: i64, offset: UtcOffset) -> Option<OffsetDateTime>
 fn add_from_to<Z: ReplyZone>(into: &mut Vec<u8>, zone: &Z, second: i64) -> Result<(), AllocError>
     ensures { OnOk result (into.new.items ≡ into.old.items ++ from_to_text (Z.view zone.now) second) }
 {
-    into.extend_from_slice(b", from ")?;
+    add(into, b", from ")?;
     add_offset(into, before_of(zone, second))?;
-    into.extend_from_slice(b" to ")?;
-    add_offset(into, after_of(zone, second))?;
-    Ok(())
+    add(into, b" to ")?;
+    add_offset(into, after_of(zone, second))
 }
 
 /// Adds a change that skips a local time, at its date.
@@ -143,10 +143,9 @@ fn add_skip_line<Z: ReplyZone>(
         ++ (codes "none: skipped at " ++ instant_text style.now.form (Z.view zone.now) style.now.name.now Gap (instant date.now) (offset_of date.now)
         ++ from_to_text (Z.view zone.now) second)) }
 {
-    into.extend_from_slice(b"none: skipped at ")?;
+    add(into, b"none: skipped at ")?;
     add_instant(into, alloc, zone, style, Kind::Gap, date)?;
-    add_from_to(into, zone, second)?;
-    Ok(())
+    add_from_to(into, zone, second)
 }
 
 /// Adds the object of a change that skips a local time.
@@ -170,8 +169,7 @@ fn add_skip_object<Z: ReplyZone>(
         force: &force,
         kind: Kind::Gap,
     };
-    add_change_object(into, &told, before_of(zone, second))?;
-    Ok(())
+    add_change_object(into, &told, before_of(zone, second))
 }
 
 /// That no change skips a local time.
@@ -198,7 +196,7 @@ pub(crate) fn add_gap<Z: ReplyZone>(
     ensures err { IfErr result (IsFaultOf (gap_due style.now.form (Z.view zone.now) style.now.name.now local.now)) }
 {
     let Some(second) = skipping(alloc, zone, local)? else {
-        into.extend_from_slice(none_text(style.form))?;
+        add(into, none_text(style.form))?;
         return Ok(());
     };
     let Some(date) = date_at(second, after_of(zone, second)) else {
