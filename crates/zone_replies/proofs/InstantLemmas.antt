@@ -1,5 +1,5 @@
 -- What is due of an instant that a zone shows.
-use Rattle.std.proofs.Common.{◌≡◌, ℕ, ℤ, List, Bool, true, false, not, cond, ap, sym, ◌∙◌, refl, length}
+use Rattle.std.proofs.Common.{◌≡◌, ℕ, ℤ, List, Bool, true, false, not, cond, ap, sym, ◌∙◌, refl}
 use Rattle.std.specs.Prelude.{Ok, Err}
 use Rattle.civil_base.specs.DateTimes.{instant, local_of, offset_of}
 use Rattle.civil_base.specs.Instants.{local_at}

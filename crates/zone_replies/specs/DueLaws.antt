@@ -1,7 +1,7 @@
 -- Texts that are due, one behind another.
 use Rattle.std.proofs.Common.{◌≡◌, ℕ, ◌+◌, ◌<◌, ◌≤◌, List, [], ◌++◌, length, map, drop, slice_index_or, append_assoc, append-nil, ap, subst, sym, ◌∙◌, refl}
 use Rattle.std.proofs.lemmas.List.{at_drop_more, at_drop_all}
-use Rattle.std.specs.Prelude.{Result, Ok, Err}
+use Rattle.std.specs.Prelude.{Ok, Err}
 use Rattle.std.specs.Result.{result_unwrap_or}
 use Rattle.zone_replies.specs.Faults.{Due, behind, each_due, followed, IsFaultOf}
 use Rattle.zone_replies.specs.declared.fault.ReplyFault.{ReplyFault}

@@ -1,5 +1,5 @@
 -- The reply to `list`.
-use Rattle.std.specs.Prelude.{Bool, ◌&&◌, ℕ, List, [], ◌∷◌, ◌++◌, codes, Ok, Err, int_lt, ℤ, pos, ◌+ℤ◌, ◌-ℤ◌, if◌then◌else◌}
+use Rattle.std.specs.Prelude.{◌&&◌, ℕ, List, [], ◌∷◌, ◌++◌, codes, Ok, Err, int_lt, ℤ, pos, ◌+ℤ◌, ◌-ℤ◌, if◌then◌else◌}
 use Rattle.std.specs.Fmt.{signed_decimal}
 use Rattle.civil_base.specs.Instants.{local_at, nanos_of, seconds_of}
 use Rattle.zone_moments.specs.Written.{epoch_text, offset_shown, people_text, rfc3339_text}

@@ -1,5 +1,5 @@
 -- The replies to `local` and `convert`.
-use Rattle.std.specs.Prelude.{ℕ, ◌+◌, List, [], ◌∷◌, length, map, Ok, Err, ℤ, if◌then◌else◌}
+use Rattle.std.specs.Prelude.{ℕ, ◌+◌, List, [], ◌∷◌, length, Err, ℤ, if◌then◌else◌}
 use Rattle.zone_moments.specs.declared.answer_form.AnswerForm.{AnswerForm}
 use Rattle.zone_replies.specs.Faults.{Due, behind, each_due, followed}
 use Rattle.zone_replies.specs.Instants.{is_untold, shown_due}

@@ -1,4 +1,4 @@
-use Rattle.std.proofs.Common.{◌≡◌, to_z, of_z, to_z-of_z, w64, [], ◌∷◌, ◌++◌, append_assoc, ap, sym, ◌∙◌, Ok}
+use Rattle.std.proofs.Common.{◌≡◌, to_z, of_z, to_z-of_z, w64, [], ◌∷◌, ◌++◌, ap, sym, ◌∙◌, Ok}
 use Rattle.zone_replies.specs.Faults.{behind}
 use Rattle.zone_replies.specs.Forces.{force_shown}
 use Rattle.zone_replies.specs.Lists.{change_due, change_text}

@@ -3,7 +3,6 @@ use Rattle.std.proofs.lemmas.Result.{err_from_is_err_and}
 use Rattle.civil_base.specs.DateTimes.{instant}
 use Rattle.zone_replies.specs.Faults.{Due, behind}
 use Rattle.zone_replies.specs.Instants.{shown_due}
-use Rattle.zone_replies.specs.Readings.{after_each}
 use Rattle.zone_replies.specs.DueLaws.{loop_end, loop_fault, loop_more}
 use Rattle.zone_replies.proofs.readings.add_after.Goals as goal
 
