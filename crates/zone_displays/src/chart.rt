@@ -13,7 +13,7 @@ use crate::line::add_line;
 use crate::mark::add_marks;
 use crate::zone::ChartZone;
 use std::alloc::Global;
-use zone_replies::{ReplyFault, ReplyZone};
+use zone_replies::{ReplyFault, ReplyZone, add_bytes};
 
 /// Adds the zone of that number.
 #[tactic(auto, unfolding(crate::specs::Lines::zone_due))]
@@ -30,7 +30,7 @@ fn add_zone<Z: ReplyZone>(
     let changes = changes_in(frame.alloc, &zone.zone, frame.year)?;
     add_line(into, frame, number, zone, &changes)?;
     add_marks(into, frame, &zone.zone, &changes)?;
-    into.extend_from_slice(b"</g>\n")?;
+    add_bytes(into, b"</g>\n")?;
     Ok(())
 }
 
@@ -63,7 +63,7 @@ fn add_picture<Z: ReplyZone>(
 {
     add_grid(into, frame, zones.len())?;
     add_zones(into, frame, zones)?;
-    into.extend_from_slice(b"</svg>\n")?;
+    add_bytes(into, b"</svg>\n")?;
     Ok(())
 }
 

@@ -7,6 +7,7 @@ ghost use Rattle.zone_displays.specs.Grids.{bottom_of, hour_line, hour_mark, hou
 use crate::axes::{Frame, month_begin, x_of};
 use itoa::Buffer;
 use std::alloc::AllocError;
+use zone_replies::add_bytes;
 
 /// The right edge of the plot.
 pub(crate) fn right_of(year: u16) -> u128
@@ -37,12 +38,11 @@ pub(crate) fn add_number(into: &mut Vec<u8>, number: u128) -> Result<(), AllocEr
 pub(crate) fn add_text_at(into: &mut Vec<u8>, x: u128, y: u128) -> Result<(), AllocError>
     ensures { OnOk result (into.new.items ≡ into.old.items ++ text_at x y) }
 {
-    into.extend_from_slice(b"<text x=\"")?;
+    add_bytes(into, b"<text x=\"")?;
     add_number(into, x)?;
-    into.extend_from_slice(b"\" y=\"")?;
+    add_bytes(into, b"\" y=\"")?;
     add_number(into, y)?;
-    into.extend_from_slice(b"\">")?;
-    Ok(())
+    add_bytes(into, b"\">")
 }
 
 /// The place of the line of the legend that so many stand above.
@@ -74,12 +74,11 @@ fn add_open(into: &mut Vec<u8>, frame: Frame, count: usize) -> Result<(), AllocE
 fn add_month_line(into: &mut Vec<u8>, x: u128, bottom: u128) -> Result<(), AllocError>
     ensures { OnOk result (into.new.items ≡ into.old.items ++ month_line x bottom) }
 {
-    into.extend_from_slice(b"<path class=\"grid\" d=\"M")?;
+    add_bytes(into, b"<path class=\"grid\" d=\"M")?;
     add_number(into, x)?;
-    into.extend_from_slice(b" 400V")?;
+    add_bytes(into, b" 400V")?;
     add_number(into, bottom)?;
-    into.extend_from_slice(b"\"/>")?;
-    Ok(())
+    add_bytes(into, b"\"/>")
 }
 
 /// Adds the line at the first of a month.
@@ -95,8 +94,7 @@ fn add_month(into: &mut Vec<u8>, frame: Frame, month: u8) -> Result<(), AllocErr
     add_month_line(into, x, bottom)?;
     add_text_at(into, x, bottom + 250)?;
     add_number(into, u128::from(month))?;
-    into.extend_from_slice(b"</text>\n")?;
-    Ok(())
+    add_bytes(into, b"</text>\n")
 }
 
 /// Adds the lines of the months.
@@ -122,12 +120,11 @@ fn add_hour_text(into: &mut Vec<u8>, high: i8, below: u8) -> Result<(), AllocErr
 fn add_hour_line(into: &mut Vec<u8>, y: u128, right: u128) -> Result<(), AllocError>
     ensures { OnOk result (into.new.items ≡ into.old.items ++ hour_line y right) }
 {
-    into.extend_from_slice(b"<path class=\"grid\" d=\"M1200 ")?;
+    add_bytes(into, b"<path class=\"grid\" d=\"M1200 ")?;
     add_number(into, y)?;
-    into.extend_from_slice(b"H")?;
+    add_bytes(into, b"H")?;
     add_number(into, right)?;
-    into.extend_from_slice(b"\"/>")?;
-    Ok(())
+    add_bytes(into, b"\"/>")
 }
 
 /// Adds the line of the hour so many below the highest.
@@ -140,8 +137,7 @@ fn add_hour(into: &mut Vec<u8>, frame: Frame, below: u8) -> Result<(), AllocErro
     add_hour_line(into, y, right_of(frame.year))?;
     add_text_at(into, 700, y + 70)?;
     add_hour_text(into, frame.high, below)?;
-    into.extend_from_slice(b"</text>\n")?;
-    Ok(())
+    add_bytes(into, b"</text>\n")
 }
 
 /// Adds the lines of the hours.
@@ -164,6 +160,5 @@ pub(crate) fn add_grid(into: &mut Vec<u8>, frame: Frame, count: usize) -> Result
 {
     add_open(into, frame, count)?;
     add_months(into, frame)?;
-    add_hours(into, frame)?;
-    Ok(())
+    add_hours(into, frame)
 }

@@ -11,7 +11,7 @@ use crate::escape::add_escaped;
 use crate::grid::{add_number, add_text_at, legend_place, right_of};
 use crate::zone::ChartZone;
 use std::alloc::{AllocError, Global};
-use zone_replies::ReplyZone;
+use zone_replies::{ReplyZone, add_bytes};
 
 /// The colour of the zone of that number.
 #[tactic(auto, unfolding(crate::specs::Lines::colour))]
@@ -43,11 +43,10 @@ fn add_step<Z: ReplyZone>(
 {
     let x = x_of(frame.year, second);
     let y = y_at(frame, zone, second);
-    into.extend_from_slice(b"H")?;
+    add_bytes(into, b"H")?;
     add_number(into, x)?;
-    into.extend_from_slice(b"V")?;
-    add_number(into, y)?;
-    Ok(())
+    add_bytes(into, b"V")?;
+    add_number(into, y)
 }
 
 fn add_steps<Z: ReplyZone>(
@@ -79,12 +78,11 @@ fn add_points<Z: ReplyZone>(
 {
     let y = y_at(frame, zone, month_begin(frame.year, 1));
     let right = right_of(frame.year);
-    into.extend_from_slice(b"M1200 ")?;
+    add_bytes(into, b"M1200 ")?;
     add_number(into, y)?;
     add_steps(into, frame, zone, changes)?;
-    into.extend_from_slice(b"H")?;
-    add_number(into, right)?;
-    Ok(())
+    add_bytes(into, b"H")?;
+    add_number(into, right)
 }
 
 /// Adds the abbreviation in force at a second.
@@ -97,8 +95,7 @@ fn add_abbreviation<Z: ReplyZone>(
     ensures { OnOk result (into.new.items ≡ into.old.items ++ ((Z.view zone.now).force second).name) }
 {
     let force = zone.force_at(alloc, second)?;
-    into.extend_from_slice(force.name.as_bytes())?;
-    Ok(())
+    add_bytes(into, force.name.as_bytes())
 }
 
 /// Adds the abbreviations in force from some changes on, each behind a comma.
@@ -146,10 +143,9 @@ fn label_of<Z: ReplyZone>(
 fn add_legend_line(into: &mut Vec<u8>, y: u128) -> Result<(), AllocError>
     ensures { OnOk result (into.new.items ≡ into.old.items ++ legend_line y) }
 {
-    into.extend_from_slice(b"<path class=\"zone\" d=\"M1200 ")?;
+    add_bytes(into, b"<path class=\"zone\" d=\"M1200 ")?;
     add_number(into, y)?;
-    into.extend_from_slice(b"H1700\"/>")?;
-    Ok(())
+    add_bytes(into, b"H1700\"/>")
 }
 
 /// Adds the legend of the zone of that number.
@@ -170,8 +166,7 @@ fn add_legend<Z: ReplyZone>(
     add_legend_line(into, y)?;
     add_text_at(into, 1800, y + 70)?;
     add_escaped(into, &label)?;
-    into.extend_from_slice(b"</text>\n")?;
-    Ok(())
+    add_bytes(into, b"</text>\n")
 }
 
 /// Adds the begin of a group in the colour of that number.
@@ -200,8 +195,7 @@ pub(crate) fn add_line<Z: ReplyZone>(
 {
     add_group(into, number)?;
     add_legend(into, frame, number, zone, changes)?;
-    into.extend_from_slice(b"<path class=\"zone\" d=\"")?;
+    add_bytes(into, b"<path class=\"zone\" d=\"")?;
     add_points(into, frame, &zone.zone, changes)?;
-    into.extend_from_slice(b"\"/>\n")?;
-    Ok(())
+    add_bytes(into, b"\"/>\n")
 }

@@ -11,18 +11,17 @@ use crate::escape::add_escaped;
 use crate::grid::add_number;
 use std::alloc::{AllocError, Global};
 use zone_moments::AnswerForm;
-use zone_replies::{Kind, ReplyFault, ReplyZone, Style, add_change_line, kind_between};
+use zone_replies::{Kind, ReplyFault, ReplyZone, Style, add_bytes, add_change_line, kind_between};
 
 #[tactic(auto, using(std::proofs::Common::append_assoc), unfolding(crate::specs::Lines::place_text))]
 fn add_place(into: &mut Vec<u8>, x: u128, y: u128) -> Result<(), AllocError>
     ensures { OnOk result (into.new.items ≡ into.old.items ++ place_text x y) }
 {
-    into.extend_from_slice(b"\" cx=\"")?;
+    add_bytes(into, b"\" cx=\"")?;
     add_number(into, x)?;
-    into.extend_from_slice(b"\" cy=\"")?;
+    add_bytes(into, b"\" cy=\"")?;
     add_number(into, y)?;
-    into.extend_from_slice(b"\" r=\"60\"><title>")?;
-    Ok(())
+    add_bytes(into, b"\" r=\"60\"><title>")
 }
 
 /// Adds the circle of a change, up to its title.

@@ -9,7 +9,7 @@ use crate::edit::same;
 use crate::entry::NameEntry;
 use std::alloc::{AllocError, Global};
 use zone_moments::AnswerForm;
-use zone_replies::add_quoted;
+use zone_replies::{add_bytes, add_quoted};
 
 /// Whether a text has a word in it, blind to the case of ASCII letters.
 fn has_word(text: &[u8], word: &[u8]) -> bool
@@ -44,10 +44,10 @@ fn is_asked(name: &str, word: Option<&str>) -> bool
 fn add_plain(into: &mut Vec<u8>, entry: &NameEntry<'_>) -> Result<(), AllocError>
     ensures { OnOk result (into.new.items ≡ into.old.items ++ plain_text (name_seen entry.now).name (name_seen entry.now).zone) }
 {
-    into.extend_from_slice(entry.name.as_bytes())?;
+    add_bytes(into, entry.name.as_bytes())?;
     if let Some(zone) = entry.zone {
-        into.extend_from_slice(b" -> ")?;
-        into.extend_from_slice(zone.as_bytes())?;
+        add_bytes(into, b" -> ")?;
+        add_bytes(into, zone.as_bytes())?;
     }
     Ok(())
 }
@@ -59,7 +59,7 @@ fn add_zone(into: &mut Vec<u8>, zone: Option<&str>) -> Result<(), AllocError>
 {
     match zone {
         Some(zone) => {
-            into.extend_from_slice(b",\"zone\":")?;
+            add_bytes(into, b",\"zone\":")?;
             add_quoted(into, zone)
         }
         None => Ok(()),
@@ -71,11 +71,10 @@ fn add_zone(into: &mut Vec<u8>, zone: Option<&str>) -> Result<(), AllocError>
 fn add_object(into: &mut Vec<u8>, entry: &NameEntry<'_>) -> Result<(), AllocError>
     ensures { OnOk result (into.new.items ≡ into.old.items ++ name_object (name_seen entry.now).name (name_seen entry.now).zone) }
 {
-    into.extend_from_slice(b"{\"name\":")?;
+    add_bytes(into, b"{\"name\":")?;
     add_quoted(into, entry.name)?;
     add_zone(into, entry.zone)?;
-    into.extend_from_slice(b"}")?;
-    Ok(())
+    add_bytes(into, b"}")
 }
 
 fn add_entry(into: &mut Vec<u8>, form: AnswerForm, entry: &NameEntry<'_>) -> Result<(), AllocError>
@@ -103,8 +102,7 @@ fn add_line(
         return Ok(());
     }
     add_entry(into, form, entry)?;
-    into.extend_from_slice(b"\n")?;
-    Ok(())
+    add_bytes(into, b"\n")
 }
 
 fn add_lines(

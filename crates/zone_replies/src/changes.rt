@@ -6,7 +6,7 @@ ghost use Rattle.zone_replies.specs.Forces.{force_shown};
 ghost use Rattle.zone_replies.specs.Lists.{change_due, change_text, kind_between, list_due, second_from, side_text, sides_text};
 ghost use Rattle.zone_replies.specs.Objects.{change_object_text};
 
-use crate::add::add;
+use crate::bytes::add_bytes;
 use crate::fault::ReplyFault;
 use crate::force::Force;
 use crate::kind::Kind;
@@ -24,8 +24,8 @@ use zone_moments::{AnswerForm, add_epoch, add_offset, add_people, add_rfc3339};
 fn add_name(into: &mut Vec<u8>, name: &str) -> Result<(), AllocError>
     ensures { OnOk result (into.new.items ≡ into.old.items ++ 32 ∷ name.now) }
 {
-    add(into, b" ")?;
-    add(into, name.as_bytes())
+    add_bytes(into, b" ")?;
+    add_bytes(into, name.as_bytes())
 }
 
 /// Adds what clocks show by what is in force on one side of a change.
@@ -74,12 +74,12 @@ fn add_sides(
     ensures { OnOk result (into.new.items ≡ into.old.items ++ sides_text form (instant after.now) (force_shown old.now) (force_shown new.now)) }
 {
     add_epoch(into, after)?;
-    add(into, b": ")?;
+    add_bytes(into, b": ")?;
     add_side(into, form, before, old)?;
-    add(into, b" to ")?;
+    add_bytes(into, b" to ")?;
     add_side(into, form, after, new)?;
-    add(into, b", saving ")?;
-    add(into, Buffer::new().format(new.saving).as_bytes())
+    add_bytes(into, b", saving ")?;
+    add_bytes(into, Buffer::new().format(new.saving).as_bytes())
 }
 
 /// What a change from one offset to another does to local times: `Gap` where clocks skip some, `Fold` where they read some twice, else `One`.

@@ -1,7 +1,7 @@
 //! What the command `zone` answers people about a zone, as exact texts.
 #![tactic(auto)]
 
-mod add;
+mod bytes;
 mod changes;
 mod fault;
 mod fixed;
@@ -13,6 +13,7 @@ mod readings;
 mod skip;
 mod view;
 
+pub use bytes::add_bytes;
 pub use changes::{add_change_line, add_list, kind_between};
 pub use fault::ReplyFault;
 pub use fixed::FixedZone;

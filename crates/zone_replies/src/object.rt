@@ -4,7 +4,7 @@ ghost use Rattle.civil_base.specs.DateTimes.{instant, offset_of};
 ghost use Rattle.zone_replies.specs.Forces.{force_shown};
 ghost use Rattle.zone_replies.specs.Objects.{change_object_text, clock_members, escaped, force_members, front_members, hex_digit, kind_member, members, object_text, quoted};
 
-use crate::add::add;
+use crate::bytes::add_bytes;
 use crate::force::Force;
 use crate::kind::Kind;
 use civil_base::{OffsetDateTime, PlainDateTime, UtcOffset};
@@ -82,41 +82,41 @@ pub fn add_quoted(into: &mut Vec<u8>, text: &str) -> Result<(), AllocError>
 fn add_front(into: &mut Vec<u8>, name: &str, at: &OffsetDateTime) -> Result<(), AllocError>
     ensures { OnOk result (into.new.items ≡ into.old.items ++ front_members name.now (instant at.now)) }
 {
-    add(into, b"{\"zone\":")?;
+    add_bytes(into, b"{\"zone\":")?;
     add_quoted(into, name)?;
-    add(into, b",\"instant\":")?;
+    add_bytes(into, b",\"instant\":")?;
     add_seconds(into, at)?;
-    add(into, b",")
+    add_bytes(into, b",")
 }
 
 #[tactic(auto, using(std::proofs::Common::append_assoc), unfolding(crate::specs::Objects::clock_members))]
 fn add_clock(into: &mut Vec<u8>, local: &PlainDateTime, offset: UtcOffset) -> Result<(), AllocError>
     ensures { OnOk result (into.new.items ≡ into.old.items ++ clock_members local.now offset) }
 {
-    add(into, b"\"local\":\"")?;
+    add_bytes(into, b"\"local\":\"")?;
     add_local(into, local)?;
-    add(into, b"\",\"offset\":\"")?;
+    add_bytes(into, b"\",\"offset\":\"")?;
     add_offset(into, offset)?;
-    add(into, b"\",")
+    add_bytes(into, b"\",")
 }
 
 #[tactic(auto, using(std::proofs::Common::append_assoc), unfolding(crate::specs::Objects::force_members))]
 fn add_force(into: &mut Vec<u8>, force: &Force) -> Result<(), AllocError>
     ensures { OnOk result (into.new.items ≡ into.old.items ++ force_members (force_shown force.now)) }
 {
-    add(into, b"\"abbreviation\":")?;
+    add_bytes(into, b"\"abbreviation\":")?;
     add_quoted(into, force.name.as_str())?;
-    add(into, b",\"saving\":")?;
-    add(into, Buffer::new().format(force.saving).as_bytes())
+    add_bytes(into, b",\"saving\":")?;
+    add_bytes(into, Buffer::new().format(force.saving).as_bytes())
 }
 
 #[tactic(auto, using(std::proofs::Common::append_assoc), unfolding(crate::specs::Objects::kind_member))]
 fn add_kind(into: &mut Vec<u8>, kind: Kind) -> Result<(), AllocError>
     ensures { OnOk result (into.new.items ≡ into.old.items ++ kind_member kind) }
 {
-    add(into, b",\"kind\":\"")?;
-    add(into, kind.text())?;
-    add(into, b"\"")
+    add_bytes(into, b",\"kind\":\"")?;
+    add_bytes(into, kind.text())?;
+    add_bytes(into, b"\"")
 }
 
 /// Adds an object, but for its end.
@@ -138,7 +138,7 @@ pub(crate) fn add_object(into: &mut Vec<u8>, told: &Told<'_>) -> Result<(), Allo
         ++ object_text told.now.name.now (instant told.now.at.now) told.now.local.now (offset_of told.now.at.now) (force_shown told.now.force.now) told.now.kind) }
 {
     add_members(into, told)?;
-    add(into, b"}")
+    add_bytes(into, b"}")
 }
 
 /// Adds the object of a change from that offset.
@@ -152,7 +152,7 @@ pub(crate) fn add_change_object(
         ++ change_object_text told.now.name.now (instant told.now.at.now) told.now.local.now (offset_of told.now.at.now) (force_shown told.now.force.now) told.now.kind before) }
 {
     add_members(into, told)?;
-    add(into, b",\"before\":\"")?;
+    add_bytes(into, b",\"before\":\"")?;
     add_offset(into, before)?;
-    add(into, b"\"}")
+    add_bytes(into, b"\"}")
 }

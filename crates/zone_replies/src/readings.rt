@@ -5,7 +5,7 @@ ghost use Rattle.zone_replies.specs.Faults.{behind, IsFaultOf};
 ghost use Rattle.zone_replies.specs.Instants.{at_due, line_due, shown_due};
 ghost use Rattle.zone_replies.specs.Readings.{after_each, convert_due, first_due, local_due};
 
-use crate::add::add;
+use crate::bytes::add_bytes;
 use crate::fault::ReplyFault;
 use crate::kind::Kind;
 use crate::line::{Style, add_shown, is_untold, kind_for, local_of};
@@ -97,7 +97,7 @@ fn add_behind<Z: ReplyZone>(
     ensures ok { OnOk result (Ok into.new.items ≡ behind into.old.items (behind separator.now (shown_due style.now.form (Z.view zone.now) style.now.name.now kind (instant date.now)))) }
     ensures err { IfErr result (IsFaultOf (behind separator.now (shown_due style.now.form (Z.view zone.now) style.now.name.now kind (instant date.now)))) }
 {
-    add(into, separator)?;
+    add_bytes(into, separator)?;
     add_shown(into, alloc, zone, style, kind, date)
 }
 

@@ -8,7 +8,7 @@ ghost use Rattle.zone_replies.specs.Objects.{change_object_text};
 ghost use Rattle.zone_replies.specs.declared.kind.Kind.TheVariants.{Gap};
 ghost use Rattle.zone_replies.specs.Skips.{after_of, before_of, from_to_text, gap_due, has_dates, none_text, skipped_text, skipping, skips};
 
-use crate::add::add;
+use crate::bytes::add_bytes;
 use crate::fault::ReplyFault;
 use crate::kind::Kind;
 use crate::line::{Style, add_instant};
@@ -101,9 +101,9 @@ pub(crate) fn date_at(second: i64, offset: UtcOffset) -> Option<OffsetDateTime>
 fn add_from_to<Z: ReplyZone>(into: &mut Vec<u8>, zone: &Z, second: i64) -> Result<(), AllocError>
     ensures { OnOk result (into.new.items ≡ into.old.items ++ from_to_text (Z.view zone.now) second) }
 {
-    add(into, b", from ")?;
+    add_bytes(into, b", from ")?;
     add_offset(into, before_of(zone, second))?;
-    add(into, b" to ")?;
+    add_bytes(into, b" to ")?;
     add_offset(into, after_of(zone, second))
 }
 
@@ -143,7 +143,7 @@ fn add_skip_line<Z: ReplyZone>(
         ++ (codes "none: skipped at " ++ instant_text style.now.form (Z.view zone.now) style.now.name.now Gap (instant date.now) (offset_of date.now)
         ++ from_to_text (Z.view zone.now) second)) }
 {
-    add(into, b"none: skipped at ")?;
+    add_bytes(into, b"none: skipped at ")?;
     add_instant(into, alloc, zone, style, Kind::Gap, date)?;
     add_from_to(into, zone, second)
 }
@@ -196,7 +196,7 @@ pub(crate) fn add_gap<Z: ReplyZone>(
     ensures err { IfErr result (IsFaultOf (gap_due style.now.form (Z.view zone.now) style.now.name.now local.now)) }
 {
     let Some(second) = skipping(alloc, zone, local)? else {
-        add(into, none_text(style.form))?;
+        add_bytes(into, none_text(style.form))?;
         return Ok(());
     };
     let Some(date) = date_at(second, after_of(zone, second)) else {

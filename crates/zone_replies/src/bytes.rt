@@ -4,7 +4,11 @@ ghost use Rattle.std.specs.Prelude.{◌≡◌, ◌++◌, OnOk};
 use std::alloc::AllocError;
 
 /// Adds bytes.
-pub(crate) fn add(into: &mut Vec<u8>, bytes: &[u8]) -> Result<(), AllocError>
+///
+/// # Errors
+///
+/// Want of memory alone.
+pub fn add_bytes(into: &mut Vec<u8>, bytes: &[u8]) -> Result<(), AllocError>
     ensures { OnOk result (into.new.items ≡ into.old.items ++ bytes.now) }
 {
     into.extend_from_slice(bytes)?;
