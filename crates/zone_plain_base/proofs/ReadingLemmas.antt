@@ -1,5 +1,5 @@
 -- The values of the lines that were read.
-use Rattle.std.proofs.Common.{◌≡◌, ℕ, ◌+◌, ◌<◌, List, [], ◌∷◌, ◌++◌, map, length, take, get_or, sym, ap, ◌∙◌, arith}
+use Rattle.std.proofs.Common.{◌≡◌, ◌==◌, ℕ, ◌+◌, ◌<◌, List, [], ◌∷◌, ◌++◌, map, length, take, get_or, true, true≢false, refl, sym, ap, ◌∙◌, arith}
 use Rattle.std.proofs.lemmas.List.{get_or-map, length-map, map-append, take_more}
 use Rattle.zone_values.specs.declared.line.Line.{Line}
 use Rattle.zone_source.specs.Zones.{source_value}
@@ -14,3 +14,8 @@ one_read lines items line i inside so_far is =
     map-append line_value items (line ∷ []) ∙ ap (λ vs. vs ++ line_value line ∷ []) so_far
     ∙ ap (λ v. take i (map source_value lines) ++ v ∷ []) (is ∙ sym (get_or-map source_value lines i [] (source_value []) inside))
     ∙ sym (take_more (map source_value lines) i (source_value []) few)
+
+-- a text of no length
+pub nothing_in : (text : List ℕ) → (length text == 0) ≡ true → text ≡ []
+nothing_in [] e = refl
+nothing_in (byte ∷ text) e = absurd (true≢false (sym e))
