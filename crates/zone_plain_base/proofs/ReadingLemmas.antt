@@ -1,5 +1,6 @@
 -- The values of the lines that were read.
-use Rattle.std.proofs.Common.{◌≡◌, ◌==◌, ℕ, ◌+◌, ◌<◌, List, [], ◌∷◌, ◌++◌, map, length, take, get_or, true, true≢false, refl, sym, ap, ◌∙◌, arith}
+use Rattle.std.proofs.Common.{◌≡◌, ◌==◌, ℕ, ◌+◌, ◌<◌, List, [], ◌∷◌, ◌++◌, map, length, take, get_or, true, refl, sym, ap, ◌∙◌, arith}
+use Rattle.std.proofs.lemmas.Bool.{eqb-true}
 use Rattle.std.proofs.lemmas.List.{get_or-map, length-map, map-append, take_more}
 use Rattle.zone_values.specs.declared.line.Line.{Line}
 use Rattle.zone_source.specs.Zones.{source_value}
@@ -18,4 +19,4 @@ one_read lines items line i inside so_far is =
 -- a text of no length
 pub nothing_in : (text : List ℕ) → (length text == 0) ≡ true → text ≡ []
 nothing_in [] e = refl
-nothing_in (byte ∷ text) e = absurd (true≢false (sym e))
+nothing_in (byte ∷ text) e = absurd (omega (arith, eqb-true _ _ e))
