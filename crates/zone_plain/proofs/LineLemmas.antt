@@ -1,17 +1,19 @@
 -- What a line means, step by step.
-use Rattle.std.proofs.Common.{◌≡◌, ℕ, List, [], ◌∷◌, ◌++◌, Bool, false, cond, Ok, Err, sym, ap, ◌∙◌}
-use Rattle.zone_values.specs.Values.{LineValue, line_value}
+use Rattle.std.proofs.Common.{◌≡◌, ℕ, List, [], ◌∷◌, ◌++◌, Bool, false, true≢false, cond, Ok, Err, sym, ap, subst, ◌∙◌}
+use Rattle.std.specs.Prelude.{Option, Some, None, is_some, option_map, option_to_list}
+use Rattle.zone_values.specs.Values.{LineValue, line_value, space}
 use Rattle.zone_values.specs.declared.line.Line.{Line}
+use Rattle.zone_values.specs.declared.line.Line.TheVariants.{Space}
 use Rattle.zone_values.specs.Results.{◌>>=◌}
 use Rattle.zone_plain_lines.specs.declared.cause.PlainCause.TheVariants as cause
 use Rattle.zone_plain_base.specs.Said.{is_said, if_said}
 use Rattle.zone_plain_base.specs.Told.{IsToldBy, IsRefused}
 use Rattle.zone_plain_base.specs.declared.error.Refused.{Refused}
 use Rattle.zone_plain_base.specs.declared.error.Refused.TheVariants.{Cause, NoMemory}
-use Rattle.zone_plain_base.specs.Names.{said_name}
-use Rattle.zone_plain_base.specs.Renamed.{ruleset_of, under, renamed}
+use Rattle.zone_plain_base.specs.Renamed.{renamed}
 use Rattle.zone_plain.specs.LineValues.{line_meaning, named}
-use Rattle.zone_plain.specs.Told.{added_line}
+use Rattle.zone_plain_base.specs.PlainTexts.{plain_text}
+use Rattle.zone_plain.specs.Told.{IsAddedLine, added_line}
 
 -- the cause that was told of a line
 pub told_refused : (mark : List ℕ) (is_open : Bool) (line : List ℕ) (r : Refused) → IsToldBy {A = Line} line_value (Err r) (line_meaning is_open line)
@@ -24,9 +26,15 @@ pub unsaid : (mark : List ℕ) (is_open : Bool) (line : List ℕ) (v w : LineVal
 unsaid mark is_open line v w meant same unread =
     ap (λ m. ◌>>=◌ m (named mark)) meant ∙ ap if_said (sym same) ∙ ap (λ b. cond b (Ok w) (Err cause.Unsayable)) unread
 
-pub read_and_added : (old new : List (List ℕ)) (text plain : List ℕ) → new ≡ old ++ text ∷ [] → text ≡ plain → new ≡ old ++ plain ∷ []
-read_and_added old new text plain added same = added ∙ ap (λ t. old ++ t ∷ []) same
+-- the empty text of a line that says nothing was added, where it can be said
+pub blank_added : (old new : List (List ℕ)) (mark : List ℕ) (said : Bool) (meant : Line) → meant ≡ Space → said ≡ is_said space → new ≡ old ++ [] ∷ []
+    → IsAddedLine old new (renamed mark (line_value meant)) said
+unfolding plain_text
+blank_added old new mark said meant is told added =
+    subst (λ m. IsAddedLine old new (renamed mark (line_value m)) said) (sym is) (record { told = told; added = λ _. added })
 
--- the name that was written gives the line that is meant
-pub under_is : (mark : List ℕ) (v w : LineValue) (name : List ℕ) → name ≡ said_name mark (ruleset_of v) → w ≡ under v name → w ≡ renamed mark v
-under_is mark v w name named is = is ∙ ap (under v) named
+-- no name begins with `_` where nothing stands behind one
+pub none_behind : {A : Type 0} (f : A → List ℕ) (found : Option A) (rests : List (List ℕ)) → option_to_list (option_map f found) ≡ rests
+    → is_some found ≡ false → rests ≡ []
+none_behind f None rests is none = sym is
+none_behind f (Some rest) rests is none = absurd (true≢false none)

@@ -289,7 +289,7 @@ fn read_under(
         ) {
             Ok(read) => {
                 is_open = read.is_open;
-                is_marked = is_marked || read.is_marked;
+                is_marked |= read.is_marked;
             }
             Err(refused) => return Err(fault_at(number, refused)),
         }
