@@ -35,7 +35,7 @@ const FAULTS: &str = "\
 at|Test/Paris|@0~~~zone: \"Test/Paris\": no zone has this name;
 local|UTC|2024-10-27~~~zone: \"2024-10-27\": a time of day is missing, as in 2024-10-27 02:30;
 at|UTC|2024-10-27|02:30~~~zone: \"2024-10-27\": a time of day and an offset are missing, as in 2024-10-27T02:30:00+02:00;
-at|UTC|1729992600~~~zone: \"1729992600\": a number alone is no time: seconds since 1970 have an @ before them, as in @1729989000, and a date has a month and a day, as in 2024-10-27;
+at|UTC|1729992600~~~zone: \"1729992600\": a number alone is no time: seconds since 1970 have an @ before them, as in @1729989000, and an instant of a date is written as 2024-10-27T00:30:00Z;
 alarm|UTC|7:30|--from|2024-10-27|--count|1~~~zone: \"7:30\": an hour has two digits, as in 07:30;
 alarm|UTC|07:30|--from|2024-10-27|--until|2024-10-26~~~zone: \"2024-10-26\": the last day comes before the first;
 list|UTC|@1729989000|now~~~zone: \"now\": this isn't after FROM;

@@ -7,7 +7,7 @@ use thiserror::Error as ThisError;
 #[derive(Clone, Copy, Debug, PartialEq, Eq, ThisError)]
 pub enum TextFault {
     /// The text of an instant doesn't begin with a date, and behind an `@` it would be one.
-    #[error("a number alone is no time: seconds since 1970 have an @ before them, as in @1729989000, and a date has a month and a day, as in 2024-10-27")]
+    #[error("a number alone is no time: seconds since 1970 have an @ before them, as in @1729989000, and an instant of a date is written as 2024-10-27T00:30:00Z")]
     MarkMissing,
     /// The text doesn't begin with a date.
     #[error("a date is missing, as in 2024-10-27")]

@@ -18,7 +18,7 @@ added_line mark is_open line = do
   meant ← line_meaning is_open line
   named mark meant
 
--- the text of a value that can be said was added; one that can't be said adds nothing
+-- it is told whether the value can be said, and where it can its text was added
 pub record IsAddedLine (old new : List (List ℕ)) (v : LineValue) (said : Bool) : Type 0 where
   pub told : said ≡ is_said v
   pub added : said ≡ true → new ≡ old ++ plain_text v ∷ []

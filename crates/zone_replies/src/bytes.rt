@@ -1,5 +1,5 @@
 //! Bytes at the end of a text.
-ghost use Rattle.std.specs.Prelude.{◌≡◌, ◌++◌, OnOk};
+ghost use Rattle.std.specs.Prelude.{◌≡◌, ◌++◌, OnErr, OnOk};
 
 use std::alloc::AllocError;
 
@@ -7,9 +7,10 @@ use std::alloc::AllocError;
 ///
 /// # Errors
 ///
-/// Want of memory alone.
+/// Want of memory alone. The text is as before then.
 pub fn add_bytes(into: &mut Vec<u8>, bytes: &[u8]) -> Result<(), AllocError>
-    ensures { OnOk result (into.new.items ≡ into.old.items ++ bytes.now) }
+    ensures ok { OnOk result (into.new.items ≡ into.old.items ++ bytes.now) }
+    ensures err { OnErr result (into.new.items ≡ into.old.items) }
 {
     into.extend_from_slice(bytes)?;
     Ok(())

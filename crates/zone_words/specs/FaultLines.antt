@@ -8,7 +8,7 @@ use Rattle.zone_words.specs.declared.fault.WordCause.{WordCause}
 use Rattle.zone_words.specs.declared.fault.WordCause.TheVariants as cause
 
 abbrev pub text_cause : TextFault → List ℕ
-text_cause text.MarkMissing = codes "a number alone is no time: seconds since 1970 have an @ before them, as in @1729989000, and a date has a month and a day, as in 2024-10-27"
+text_cause text.MarkMissing = codes "a number alone is no time: seconds since 1970 have an @ before them, as in @1729989000, and an instant of a date is written as 2024-10-27T00:30:00Z"
 text_cause text.DateMissing = codes "a date is missing, as in 2024-10-27"
 text_cause text.ClockMissing = codes "a time of day and an offset are missing, as in 2024-10-27T02:30:00+02:00"
 text_cause text.HourShort = codes "an hour has two digits, as in 07:30"

@@ -13,7 +13,7 @@ fn text_cause(fault: TextFault) -> &'static str
 {
     match fault {
         TextFault::MarkMissing =>
-            "a number alone is no time: seconds since 1970 have an @ before them, as in @1729989000, and a date has a month and a day, as in 2024-10-27",
+            "a number alone is no time: seconds since 1970 have an @ before them, as in @1729989000, and an instant of a date is written as 2024-10-27T00:30:00Z",
         TextFault::DateMissing => "a date is missing, as in 2024-10-27",
         TextFault::ClockMissing => {
             "a time of day and an offset are missing, as in 2024-10-27T02:30:00+02:00"
