@@ -1,5 +1,5 @@
 -- Answers by the zones that names found.
-use Rattle.std.proofs.Common.{◌≡◌, ℕ, ℤ, List, Ok, Bool, true, false, cond, refl, sym, subst, int_cmp, int_lt, is_lt, Less, Equal, Greater}
+use Rattle.std.proofs.Common.{◌≡◌, ℕ, ℤ, List, [], Option, Some, None, IfSome, Ok, Bool, true, false, cond, refl, sym, subst, ◌∙◌, int_cmp, int_lt, is_lt, Less, Equal, Greater}
 use Rattle.std.specs.Prelude.{Result, Vec}
 use Rattle.std.specs.declared.alloc.Global.{Global}
 use Rattle.zone_command.specs.Answers.{told, IsAnswer, IsReply, ◌>>=◌}
@@ -38,3 +38,9 @@ in_window found form name from to word r after answers = rw (below (int_lt from 
     below true c e = refl
     below false true e = absurd cc
     below false false e = absurd cc
+
+-- what is due of the text that was read whole is due over its file
+pub over_text : {D : Type 0} (due : List ℕ → D → Type 0) (told left : Option (List ℕ)) (items read : List ℕ) (it : D)
+    → IfSome told (λ text. (items ≡ text) × (left ≡ Some [])) → read ≡ items → due read it → IfSome told (λ text. (left ≡ Some []) × due text it)
+over_text due None left items read it whole same is = tt
+over_text due (Some text) left items read it whole same is = (whole.1, subst (λ t. due t it) (same ∙ whole.0) is)

@@ -1,5 +1,5 @@
 -- Answers over a source with one zone, which has no saving and lists four seconds.
-use Rattle.std.proofs.Common.{◌≡◌, refl, ap, arith, map, lit≤, ℕ, ℤ, pos, List, [], ◌∷◌, ◌++◌, ◌&&◌, cond, filter, int_le, int_lt, Some, None}
+use Rattle.std.proofs.Common.{◌≡◌, refl, ap, arith, map, lit≤, ℕ, pos, List, [], ◌∷◌, ◌++◌, ◌&&◌, cond, filter, int_le, int_lt, Some, None}
 use Rattle.std.specs.Prelude.{Ok, Err, bytes_eq, codes}
 use Rattle.std.specs.Fmt.{digits}
 use Rattle.calendar.specs.DateLaws.{year_of-day}

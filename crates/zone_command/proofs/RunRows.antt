@@ -1,5 +1,5 @@
 -- What is told of failures, with the status; which file is read; when the clock is asked; what answers what comes in.
-use Rattle.std.proofs.Common.{◌≡◌, refl, map, ℕ, Bool, true, false, List, [], ◌∷◌, ◌++◌, Option, Some, None, pos}
+use Rattle.std.proofs.Common.{◌≡◌, refl, map, ℕ, Bool, true, false, List, [], ◌∷◌, ◌++◌, Some, None, pos}
 use Rattle.std.specs.Prelude.{codes}
 use Rattle.zone_command.specs.Ends.{file_of, is_served}
 use Rattle.zone_command.specs.Failures.{Failure, bad_words, clock_fails, environment_fails, file_fails, file_long, no_memory, refuses, errors_at, errors_of, status_at, status_of}

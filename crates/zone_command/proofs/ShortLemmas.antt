@@ -1,9 +1,9 @@
 -- Memory that runs out where a failure is told.
-use Rattle.std.proofs.Common.{◌≡◌, ◌⊎◌, inl, inr, refl, Bool, true, false, List, ℕ, ℤ, Option, Some, None, Ok, Err}
+use Rattle.std.proofs.Common.{◌≡◌, inl, inr, refl, Bool, true, false, List, ℕ, ℤ, Option, Some, None, Ok, Err}
 use Rattle.std.specs.Prelude.{IfSome, MatchOption}
 use Rattle.zone_command.specs.Bare.{bare}
 use Rattle.zone_command.specs.Due.{Answers, Makings}
-use Rattle.zone_command.specs.Ends.{InSeen, Outcome, failed, IsBare, IsCause, IsFound, IsFoundOver, IsOver, IsOverAt, IsShort, ClockFailed, EnvironmentFailed}
+use Rattle.zone_command.specs.Ends.{InSeen, failed, IsBare, IsCause, IsFound, IsFoundOver, IsOver, IsOverAt, IsShort, ClockFailed, EnvironmentFailed}
 use Rattle.zone_command.specs.Failures.{Failure, no_memory}
 use Rattle.zone_command.specs.Times.{asks_now}
 use Rattle.zone_outside.specs.Seen.{ShelfSeen}

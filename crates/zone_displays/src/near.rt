@@ -10,7 +10,7 @@ use std::alloc::{AllocError, Global};
 fn has_slash(text: &[u8]) -> bool
     ensures { result ≡ has_slash text.now }
 {
-    text.iter().any(|byte| *byte == b'/')
+    text.contains(&b'/')
 }
 
 /// Whether a word stands behind the last slash of a name.

@@ -6,3 +6,4 @@ pub mod Spells
 pub mod Shown
 pub mod Stamps
 pub mod Written
+pub mod FaultTexts

@@ -26,6 +26,12 @@ rest_left (Some bytes) mid new read into n had more = (
     parts : bytes ≡ (read ++ take n into) ++ step.rest
     parts = had.parts ∙ ap (λ t. read ++ t) step.parts ∙ sym (append_assoc read (take n into) step.rest)
 
+-- the same where no more was read
+pub rest_is : (first mid new : Option (List ℕ)) (read : List ℕ) → IfSome first (HasRead read mid) → new ≡ mid → LeavesRest first new
+rest_is None mid new read had same = tt
+rest_is (Some bytes) mid new read had same =
+    (length read, same ∙ had.left_is ∙ ap Some (sym (ap (drop (length read)) had.parts ∙ drop-append_seam read had.rest)))
+
 -- what holds of all that is left holds of the text that was fetched
 pub of_fetched : (P : List ℕ → Type 0) (told left : Option (List ℕ)) → IfSome told (λ text. left ≡ Some text) → IfSome left P → IfSome told P
 of_fetched P None left fetched holds = tt

@@ -1,5 +1,5 @@
 -- The lines of changes.
-use Rattle.std.proofs.Common.{◌≡◌, ℕ, ℤ, pos, ◌-ℤ◌, List, [], ◌∷◌, ◌++◌, Bool, ◌&&◌, true, false, cond, ap, sym, ◌∙◌}
+use Rattle.std.proofs.Common.{◌≡◌, ℕ, ℤ, pos, ◌-ℤ◌, List, [], ◌∷◌, ◌++◌, Bool, ◌&&◌, true, false, cond, refl, ap, sym, ◌∙◌}
 use Rattle.std.specs.Prelude.{Ok, Err}
 use Rattle.civil_base.specs.Instants.{nanos_of}
 use Rattle.zone_moments.specs.declared.answer_form.AnswerForm.{AnswerForm}
@@ -21,6 +21,27 @@ change_is form view name second t old new up_to from at before after =
     (λ i. line_if (has_dates second (sym up_to i).offset && has_dates second (sym from i).offset)
     (change_text form name (sym at i) (sym up_to i) (sym from i)))
     ∙ (λ i. line_if (sym before i && sym after i) (change_text form name t old new))
+
+-- a date of it lies outside the years
+no_line : (first : Bool) (text : List ℕ) → line_if (first && false) text ≡ Err OutOfYears
+no_line true text = refl
+no_line false text = refl
+
+pub old_out : (form : AnswerForm) (view : ZoneView) (name : List ℕ) (second : ℤ) (old : InForce) → old ≡ view.force (second -ℤ pos 1)
+    → false ≡ has_dates second old.offset → change_due form view name second ≡ Err OutOfYears
+unfolding change_due
+old_out form view name second old up_to out =
+    let text = change_text form name (nanos_of second) (view.force (second -ℤ pos 1)) (view.force second) in
+    let after = has_dates second (view.force second).offset in
+    (λ i. line_if (has_dates second (sym up_to i).offset && after) text) ∙ (λ i. line_if (sym out i && after) text)
+
+pub new_out : (form : AnswerForm) (view : ZoneView) (name : List ℕ) (second : ℤ) (new : InForce) → new ≡ view.force second
+    → false ≡ has_dates second new.offset → change_due form view name second ≡ Err OutOfYears
+unfolding change_due
+new_out form view name second new from out =
+    let text = change_text form name (nanos_of second) (view.force (second -ℤ pos 1)) (view.force second) in
+    let before = has_dates second (view.force (second -ℤ pos 1)).offset in
+    (λ i. line_if (before && has_dates second (sym from i).offset) text) ∙ (λ i. line_if (before && sym out i) text) ∙ no_line before text
 
 -- the lines of a window
 pub list_is : (form : AnswerForm) (view : ZoneView) (name : List ℕ) (from to : ℤ) (changes : List ℤ) → is_untold view to ≡ false

@@ -9,9 +9,10 @@ use Rattle.zone_words.specs.declared.command.Command.{Command}
 use Rattle.zone_words.specs.declared.command.Command.TheVariants as command
 use Rattle.zone_words.specs.declared.fault.WordCause.TheVariants.{TooFew, TooMany}
 
-abbrev pub none_in : List Word → Reading (Unit {0})
-none_in [] = Ok tt
-none_in (more ∷ words) = wrong more TooMany
+-- what is asked where no word stands behind
+abbrev pub alone : List Word → TaskAsked → Reading TaskAsked
+alone [] task = Ok task
+alone (more ∷ words) task = wrong more TooMany
 
 abbrev pub maybe_in : List Word → Reading (Option Word)
 maybe_in [] = Ok None
@@ -62,6 +63,20 @@ list_in name (zone ∷ window) = changes_in name zone window
 abbrev pub field_in : List GivenOption → Reading (Option ℕ)
 field_in given = if_told number_in (value_of given (codes "--field"))
 
+-- NAME TIME, with the options of an alarm
+abbrev pub zone_alarm_in : Word → List Word → List GivenOption → Reading TaskAsked
+zone_alarm_in name words given = do
+  both ← two_in name words
+  asked ← alarm_in name both.1 given
+  Ok (alarm both.0 asked)
+
+-- NAME, with the option of a field
+abbrev pub zone_log_in : Word → List Word → List GivenOption → Reading TaskAsked
+zone_log_in name words given = do
+  zone ← one_in name words
+  field ← field_in given
+  Ok (log zone field)
+
 -- NAME.. YEAR, of one to eight names
 abbrev pub chart_in : Word → List Word → Reading TaskAsked
 chart_in name words =
@@ -74,17 +89,11 @@ task_in command.At name words given = at_in name words
 task_in command.Local name words given = local_in name words
 task_in command.Convert name words given = convert_in name words
 task_in command.List name words given = list_in name words
-task_in command.Alarm name words given = do
-  both ← two_in name words
-  asked ← alarm_in name both.1 given
-  Ok (alarm both.0 asked)
+task_in command.Alarm name words given = zone_alarm_in name words given
 task_in command.Names name words given = maybe_in words >>= (λ word. Ok (names word))
-task_in command.Stream name words given = none_in words >>= (λ _. Ok (stream (has given (codes "--plain"))))
-task_in command.Log name words given = do
-  zone ← one_in name words
-  field ← field_in given
-  Ok (log zone field)
-task_in command.Tree name words given = none_in words >>= (λ _. Ok tree)
+task_in command.Stream name words given = alone words (stream (has given (codes "--plain")))
+task_in command.Log name words given = zone_log_in name words given
+task_in command.Tree name words given = alone words tree
 task_in command.File name words given = one_in name words >>= (λ zone. Ok (file zone))
 task_in command.String name words given = one_in name words >>= (λ zone. Ok (posix_string zone))
 task_in command.Chart name words given = chart_in name words

@@ -1,29 +1,10 @@
 -- The line that tells a fault of words.
 use Rattle.std.specs.Prelude.{ℕ, List, [], ◌∷◌, ◌++◌, length, nat_eq, codes, if◌then◌else◌}
 use Rattle.std.specs.Option.{option_map_or}
-use Rattle.zone_moments.specs.declared.fault.TextFault.{TextFault}
-use Rattle.zone_moments.specs.declared.fault.TextFault.TheVariants as text
+use Rattle.zone_moments.specs.FaultTexts.{fault_text}
 use Rattle.zone_words.specs.Faults.{Fault}
 use Rattle.zone_words.specs.declared.fault.WordCause.{WordCause}
 use Rattle.zone_words.specs.declared.fault.WordCause.TheVariants as cause
-
-abbrev pub text_cause : TextFault → List ℕ
-text_cause text.MarkMissing = codes "a number alone is no time: seconds since 1970 have an @ before them, as in @1729989000, and an instant of a date is written as 2024-10-27T00:30:00Z"
-text_cause text.DateMissing = codes "a date is missing, as in 2024-10-27"
-text_cause text.ClockMissing = codes "a time of day and an offset are missing, as in 2024-10-27T02:30:00+02:00"
-text_cause text.HourShort = codes "an hour has two digits, as in 07:30"
-text_cause text.TimeMissing = codes "a time of day is missing, as in 2024-10-27 02:30"
-text_cause text.SecondMissing = codes "the seconds are missing, as in 02:30:00"
-text_cause text.FractionMissing = codes "digits are missing after the point, as in 02:30:00.25"
-text_cause text.TooFine = codes "a fraction has at most nine digits, as in 02:30:00.123456789"
-text_cause text.OffsetMissing = codes "an offset is missing, as in 2024-10-27T02:30:00+02:00 or 2024-10-27T00:30:00Z"
-text_cause text.CountMissing = codes "a number of seconds is missing, as in @1729989000"
-text_cause text.OffsetThere = codes "a local time has no offset; zone at takes a time with one, and zone convert has it as FROM"
-text_cause text.Trailing = codes "something follows the time"
-text_cause text.NoSuchDate = codes "the calendar has no such date"
-text_cause text.NoSuchTime = codes "a time of day goes from 00:00:00 to 23:59:59"
-text_cause text.OffsetRange = codes "an offset goes from -23:59 to +23:59"
-text_cause text.OutOfYears = codes "the time lies outside the years -9999 to 9999"
 
 abbrev pub cause_text : WordCause → List ℕ
 cause_text cause.UnknownOption = codes "no option has this name; zone --help tells them, and a value is a word of its own, as in --from 2024-10-27"
@@ -42,7 +23,7 @@ cause_text cause.Weekdays = codes "weekdays are missing, as in mon,thu"
 cause_text cause.GapRule = codes "a rule for gaps is skip, before or after"
 cause_text cause.FoldRule = codes "a rule for folds is first, second or both"
 cause_text cause.Year = codes "a year goes from 0 to 9999"
-cause_text (cause.Text fault) = text_cause fault
+cause_text (cause.Text fault) = fault_text fault
 cause_text cause.NoMemory = codes "out of memory"
 
 -- the word and the one behind it in quotes, and `: `; nothing for no word

@@ -1,6 +1,6 @@
 //! The words behind a command.
 ghost use Rattle.std.specs.Prelude.{◌≡◌, [], map, option_map};
-ghost use Rattle.zone_words.specs.Arguments.{at_in, changes_in, chart_in, convert_in, list_in, local_in, maybe_in, none_in, one_in, task_in, two_in};
+ghost use Rattle.zone_words.specs.Arguments.{alone, at_in, changes_in, chart_in, convert_in, list_in, local_in, maybe_in, one_in, task_in, two_in, zone_alarm_in, zone_log_in};
 ghost use Rattle.zone_words.specs.Shown.{given_shown, word_shown};
 ghost use Rattle.zone_words.specs.TaskShown.{task_shown};
 ghost use Rattle.zone_words.specs.Told.{Reads};
@@ -12,12 +12,12 @@ use crate::values::{instant_in, instants_in, number_told, text_in, year_in};
 use crate::{Command, WordCause, WordFault};
 use std::alloc::Global;
 
-/// No word.
-fn none_in<'w>(words: &[&'w str]) -> Result<(), WordFault<'w>>
-    ensures { Reads (λ done. done) result (none_in (map word_shown words.now)) }
+/// What is asked where no word stands behind the command.
+fn alone<'w>(words: &[&'w str], task: Task<'w>) -> Result<Task<'w>, WordFault<'w>>
+    ensures { Reads task_shown result (alone (map word_shown words.now) (task_shown task.entry)) }
 {
     match words {
-        [] => Ok(()),
+        [] => Ok(task),
         [more, ..] => Err(WordFault::of(*more, WordCause::TooMany)),
     }
 }
@@ -120,6 +120,31 @@ fn list_in<'w>(command: &'w str, words: &[&'w str]) -> Result<Task<'w>, WordFaul
     }
 }
 
+/// A zone and a time of day, with options.
+fn zone_alarm_in<'w>(
+    alloc: Global,
+    command: &'w str,
+    words: &[&'w str],
+    given: &[Given<'w>],
+) -> Result<Task<'w>, WordFault<'w>>
+    ensures { Reads task_shown result (zone_alarm_in command.now (map word_shown words.now) (map given_shown given.now)) }
+{
+    let (zone, time) = two_in(command, words)?;
+    Ok(Task::Alarm(zone, alarm_in(alloc, command, time, given)?))
+}
+
+/// A zone, with the option of a field.
+fn zone_log_in<'w>(
+    command: &'w str,
+    words: &[&'w str],
+    given: &[Given<'w>],
+) -> Result<Task<'w>, WordFault<'w>>
+    ensures { Reads task_shown result (zone_log_in command.now (map word_shown words.now) (map given_shown given.now)) }
+{
+    let zone = one_in(command, words)?;
+    Ok(Task::Log(zone, number_told(given, "--field")?))
+}
+
 /// One to eight zones, and a year.
 fn chart_in<'w>(
     alloc: Global,
@@ -156,25 +181,13 @@ pub(crate) fn task_in<'w>(
         Command::Local => local_in(alloc, name, words),
         Command::Convert => convert_in(alloc, name, words),
         Command::List => list_in(name, words),
-        Command::Alarm => {
-            let (zone, time) = two_in(name, words)?;
-            Ok(Task::Alarm(zone, alarm_in(alloc, name, time, given)?))
-        }
-        Command::Names => Ok(Task::Names(maybe_in(words)?)),
-        Command::Stream => {
-            none_in(words)?;
-            Ok(Task::Stream(has(given, "--plain")))
-        }
-        Command::Log => {
-            let zone = one_in(name, words)?;
-            Ok(Task::Log(zone, number_told(given, "--field")?))
-        }
-        Command::Tree => {
-            none_in(words)?;
-            Ok(Task::Tree)
-        }
-        Command::File => Ok(Task::File(one_in(name, words)?)),
-        Command::String => Ok(Task::String(one_in(name, words)?)),
+        Command::Alarm => zone_alarm_in(alloc, name, words, given),
+        Command::Names => maybe_in(words).map(Task::Names),
+        Command::Stream => alone(words, Task::Stream(has(given, "--plain"))),
+        Command::Log => zone_log_in(name, words, given),
+        Command::Tree => alone(words, Task::Tree),
+        Command::File => one_in(name, words).map(Task::File),
+        Command::String => one_in(name, words).map(Task::String),
         Command::Chart => chart_in(alloc, name, words),
     }
 }

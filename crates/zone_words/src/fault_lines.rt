@@ -1,42 +1,10 @@
 //! The line that tells a fault of words.
 ghost use Rattle.std.specs.Prelude.{◌≡◌, ◌++◌, ◌∷◌, [], IfOk, OnOk};
-ghost use Rattle.zone_words.specs.FaultLines.{cause_text, fault_line, quoted, text_cause};
+ghost use Rattle.zone_words.specs.FaultLines.{cause_text, fault_line, quoted};
 ghost use Rattle.zone_words.specs.Told.{fault_shown};
 
 use crate::{WordCause, WordFault};
 use std::alloc::{AllocError, Global};
-use zone_moments::TextFault;
-
-/// What is told of a text that is no time.
-fn text_cause(fault: TextFault) -> &'static str
-    ensures { result.now ≡ text_cause fault }
-{
-    match fault {
-        TextFault::MarkMissing =>
-            "a number alone is no time: seconds since 1970 have an @ before them, as in @1729989000, and an instant of a date is written as 2024-10-27T00:30:00Z",
-        TextFault::DateMissing => "a date is missing, as in 2024-10-27",
-        TextFault::ClockMissing => {
-            "a time of day and an offset are missing, as in 2024-10-27T02:30:00+02:00"
-        }
-        TextFault::HourShort => "an hour has two digits, as in 07:30",
-        TextFault::TimeMissing => "a time of day is missing, as in 2024-10-27 02:30",
-        TextFault::SecondMissing => "the seconds are missing, as in 02:30:00",
-        TextFault::FractionMissing => "digits are missing after the point, as in 02:30:00.25",
-        TextFault::TooFine => "a fraction has at most nine digits, as in 02:30:00.123456789",
-        TextFault::OffsetMissing => {
-            "an offset is missing, as in 2024-10-27T02:30:00+02:00 or 2024-10-27T00:30:00Z"
-        }
-        TextFault::CountMissing => "a number of seconds is missing, as in @1729989000",
-        TextFault::OffsetThere => {
-            "a local time has no offset; zone at takes a time with one, and zone convert has it as FROM"
-        }
-        TextFault::Trailing => "something follows the time",
-        TextFault::NoSuchDate => "the calendar has no such date",
-        TextFault::NoSuchTime => "a time of day goes from 00:00:00 to 23:59:59",
-        TextFault::OffsetRange => "an offset goes from -23:59 to +23:59",
-        TextFault::OutOfYears => "the time lies outside the years -9999 to 9999",
-    }
-}
 
 /// What is told of a cause.
 fn cause_text(cause: WordCause) -> &'static str
@@ -60,7 +28,7 @@ fn cause_text(cause: WordCause) -> &'static str
         WordCause::GapRule => "a rule for gaps is skip, before or after",
         WordCause::FoldRule => "a rule for folds is first, second or both",
         WordCause::Year => "a year goes from 0 to 9999",
-        WordCause::Text(fault) => text_cause(fault),
+        WordCause::Text(fault) => fault.text(),
         WordCause::NoMemory => "out of memory",
     }
 }

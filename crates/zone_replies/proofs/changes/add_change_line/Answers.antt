@@ -3,8 +3,24 @@ use Rattle.zone_replies.specs.Faults.{behind}
 use Rattle.zone_replies.specs.Forces.{force_shown}
 use Rattle.zone_replies.specs.Lists.{change_due, change_text}
 use Rattle.civil_base.specs.DateTimes.{instant}
-use Rattle.zone_replies.proofs.ListLemmas.{change_is}
+use Rattle.zone_replies.proofs.ListLemmas.{change_is, new_out, old_out}
 use Rattle.zone_replies.proofs.changes.add_change_line.Goals as goal
+
+pub returns-in_default-clause-cause : goal.returns-in_default-clause-cause
+returns-in_default-clause-cause g c =
+    let view = g.Z.ReplyZone.view c.args.zone.now in
+    let form = c.args.style.now.form in
+    let name = c.args.style.now.name.now in
+    ap (change_due form view name) (sym (to_z-of_z c.ranges.second))
+    ∙ old_out form view name (to_z w64 (of_z w64 c.args.second)) (force_shown c.in_ok-old.old) c.in_ok-old.ensures c.in_default.ensures.dates
+
+pub returns-in_default-date_at-clause-cause : goal.returns-in_default-date_at-clause-cause
+returns-in_default-date_at-clause-cause g c =
+    let view = g.Z.ReplyZone.view c.args.zone.now in
+    let form = c.args.style.now.form in
+    let name = c.args.style.now.name.now in
+    ap (change_due form view name) (sym (to_z-of_z c.ranges.second))
+    ∙ new_out form view name (to_z w64 (of_z w64 c.args.second)) (force_shown c.in_ok-new.new) c.in_ok-new.ensures c.in_default-date_at.ensures.dates
 
 pub returns-clause-ok : goal.returns-clause-ok
 returns-clause-ok g c =

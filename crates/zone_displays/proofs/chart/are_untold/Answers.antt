@@ -1,0 +1,47 @@
+use Rattle.std.proofs.Common.{◌≡◌, ℕ, ◌+◌, ◌<◌, Bool, ◌||◌, List, ◌∷◌, length, map, drop, slice_index_or, refl, ℤ, pos, int_lt, to_z, of_z, to_z-of_z, FitsSigned, w32, ap, sym, ◌∙◌, arith, rules}
+use Rattle.std.proofs.lemmas.List.{at_drop_more, at_drop_all}
+use Rattle.calendar.specs.SignedLaws.{signed_casts}
+use Rattle.zone_displays.specs.Charts.{are_untold}
+use Rattle.zone_displays.specs.SeenZones.{named}
+use Rattle.zone_displays.specs.declared.zone.ChartZone.{ChartZone}
+use Rattle.zone_displays.proofs.chart.are_untold.Goals as goal
+
+-- the test of the code is that of the numbers
+tested : (last year told : ℤ) (n : ℕ) (b : Bool) → FitsSigned w32 last → n < 65536 → last ≡ told → year ≡ pos n
+    → int_lt (to_z w32 (of_z w32 last)) (to_z w32 (of_z w32 year)) ≡ b → int_lt told (pos n) ≡ b
+tested last year told n b fits small is by test =
+    let short : FitsSigned w32 year = omega (arith, signed_casts) in
+    ap (λ x. int_lt x (pos n)) (sym (to_z-of_z fits ∙ is)) ∙ ap (int_lt (to_z w32 (of_z w32 last))) (sym (to_z-of_z short ∙ by)) ∙ test
+
+-- what the test of a zone says of all that are left
+found : {Z : Type 0} → (untold : List Z → Bool) (test : Z → Bool) (zones : List Z) (n : ℕ) (zone : Z) (b : Bool) → n < length zones
+    → zone ≡ slice_index_or zones n zone → ((z : Z) (zs : List Z) → untold (z ∷ zs) ≡ (test z || untold zs)) → test zone ≡ b
+    → untold (drop n zones) ≡ (b || untold (drop (n + 1) zones))
+found untold test zones n zone b l is step passed =
+    at_drop_more untold zones n zone l ∙ ap (λ z. untold (z ∷ drop (n + 1) zones)) (sym is) ∙ step zone (drop (n + 1) zones)
+    ∙ ap (λ t. t || untold (drop (n + 1) zones)) passed
+
+pub returns-then-last_year-from : goal.returns-then-last_year-from
+returns-then-last_year-from g c =
+    let view = g.Z.ReplyZone.view in
+    let untold : List (ChartZone _) → Bool = λ zones. are_untold c.args.year (map (named view) zones) in
+    let test : ChartZone _ → Bool = λ zone. int_lt (view zone.zone).last_year (pos c.args.year) in
+    let passed = tested c.last_year.result c.from.result (view c.zone-item.result.zone).last_year c.args.year _ (search rules) c.ranges.year.fits
+    c.last_year.ensures c.from.ensures c.if-last_year-from.true in
+    sym (found untold test c.args.zones.now c.loop-zone.zone-index c.zone-item.result _ c.loop-zone-test.true c.zone-item.is (λ _ _. refl) passed)
+    ∙ c.loop-zone.invariant
+
+pub loop-zone-preserved : goal.loop-zone-preserved
+loop-zone-preserved g c =
+    let view = g.Z.ReplyZone.view in
+    let untold : List (ChartZone _) → Bool = λ zones. are_untold c.args.year (map (named view) zones) in
+    let test : ChartZone _ → Bool = λ zone. int_lt (view zone.zone).last_year (pos c.args.year) in
+    let passed = tested c.last_year.result c.from.result (view c.zone-item.result.zone).last_year c.args.year _ (search rules) c.ranges.year.fits
+    c.last_year.ensures c.from.ensures c.if-last_year-from.false in
+    sym (found untold test c.args.zones.now c.loop-zone.zone-index c.zone-item.result _ c.loop-zone-test.true c.zone-item.is (λ _ _. refl) passed)
+    ∙ c.loop-zone.invariant
+
+pub returns : goal.returns
+returns g c =
+    let untold : List (ChartZone _) → Bool = λ zones. are_untold c.args.year (map (named g.Z.ReplyZone.view) zones) in
+    sym (at_drop_all untold c.args.zones.now c.loop-zone.zone-index c.loop-zone-test.false) ∙ c.loop-zone.invariant
