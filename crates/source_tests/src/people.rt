@@ -15,6 +15,9 @@ use zone_serving::{AnySource, OverSource};
 const SOURCE: &str = "\
 R E 1996 ma - Mar lastSu 1u 1 S;R E 1996 ma - O lastSu 1u 0 -;Z Test/Berlin 1 E CE%sT;L Test/Berlin Test/Link;R X 2000 2200 - Jul 1 0 1 S;R X 2000 2200 - Au 1 0 0 -;Z Test/Ends 0 X X%sT;";
 
+/// A source in plain form, in which a link leads to a link: `zic` takes the zone behind it, and `zone_answers` finds none.
+const PLAIN: &str = "Zone Test/One 1:00 - ONE;Link Test/One Test/Two;Link Test/Two Other/Three;";
+
 /// Rows that end with status 0.
 const RUNS: &str = "\
 at|Test/Berlin|now|@0.5~~2024-10-27 02:30:00 +02:00 CEST;1970-01-01 01:00:00.5 +01:00 CET;~
@@ -26,6 +29,7 @@ names|TEST/L~~Test/Link -> Test/Berlin;~
 string|Test/Link~~CET-1CEST,M3.5.0,M10.5.0/3;~
 stream~at UTC @0;local Test/Berlin 2024-10-27 02:30~1970-01-01 00:00:00 +00:00 UTC;2024-10-27 02:30:00 +02:00 CEST | 2024-10-27 02:30:00 +01:00 CET;~
 stream|--plain~at Test/Berlin 1729989000000000000;local Test/Link 2150-07-01 12:00:00.000000000;at Test/Ends 4102444799999999999~2024-10-27 02:30:00.000000000 +02:00:00;2150-07-01 12:00:00.000000000 +02:00:00;2099-12-31 23:59:59.999999999 +00:00:00;~
+stream|--source|plain~at Other/Three @0~1970-01-01 01:00:00 +01:00 ONE;~
 log|Test/Berlin|--field|2~a 1729989000 b;no;~a 2024-10-27 02:30:00 +02:00 CEST b;no;~
 --version~~zone 2.0.0 of Sefunjaro;~
 ";
@@ -44,6 +48,7 @@ at|Test/Ends|@4102444800~~~zone: \"Test/Ends\": the zone's rules end before that
 string|Test/Ends~~~zone: \"Test/Ends\": the rules of this zone end, so it doesn't go on for ever;
 stream~at UTC;at UTC @0;~? \"at\": words are missing behind this command;1970-01-01 00:00:00 +00:00 UTC;~
 stream|--plain~at Test/Ends 4102444800000000000;at UTC 0;at Test/Berlin @0;at Test/Berlin 0~? \"Test/Ends\": the zone's rules end before that year;? \"UTC\": no zone has this name;? a request is at NAME N, or local NAME YYYY-MM-DD hh:mm:ss.fffffffff;1970-01-01 01:00:00.000000000 +01:00:00;~
+stream|--plain|--source|plain~at Other/Three 0;at Test/Two 0~? \"Other/Three\": no zone has this name;1970-01-01 01:00:00.000000000 +01:00:00;~
 log|Nowhere~@0;~~zone: \"Nowhere\": no zone has this name;
 tree~~~zone: \"Test/Ends\": the rules of this zone end, so it doesn't go on for ever;
 ";
@@ -69,17 +74,29 @@ fn words_of(rt: &impl Abort, alloc: Global, field: &str) -> Vec<String> {
     words
 }
 
-/// A shelf of the one file `zones`.
-fn shelf_of(rt: &impl Abort, alloc: Global) -> MemShelf {
-    let name = String::from_str(alloc, "zones").expect(rt, "memory");
-    let mut files = Vec::new(alloc);
+/// Adds a file of that name and text.
+fn add_file(
+    rt: &impl Abort,
+    alloc: Global,
+    files: &mut Vec<(String, Vec<u8>)>,
+    name: &str,
+    text: &str,
+) {
+    let name = String::from_str(alloc, name).expect(rt, "memory");
     files
-        .push((name, bytes_of(rt, alloc, Some(SOURCE))))
+        .push((name, bytes_of(rt, alloc, Some(text))))
         .expect(rt, "memory");
+}
+
+/// A shelf of the files `zones` and `plain`.
+fn shelf_of(rt: &impl Abort, alloc: Global) -> MemShelf {
+    let mut files = Vec::new(alloc);
+    add_file(rt, alloc, &mut files, "zones", SOURCE);
+    add_file(rt, alloc, &mut files, "plain", PLAIN);
     MemShelf::new(files, 7, Vec::new(alloc))
 }
 
-/// An environment that names it.
+/// An environment that names `zones`.
 fn environment_of(rt: &impl Abort, alloc: Global) -> MemEnvironment {
     let name = String::from_str(alloc, "SEFUNJARO_TZDATA").expect(rt, "memory");
     let value = String::from_str(alloc, "zones").expect(rt, "memory");

@@ -1,5 +1,5 @@
 -- What is made of an input over the text of a file.
-use Rattle.std.specs.Prelude.{◌≡◌, ◌⊎◌, ℕ, List, true, false, Result, Ok, Err, codes}
+use Rattle.std.specs.Prelude.{◌≡◌, ◌⊎◌, ℕ, List, Bool, true, false, Result, Ok, Err, codes}
 use Rattle.zone_command.specs.Answers.{◌>>=◌}
 use Rattle.zone_command.specs.Named.{Found, named_in}
 use Rattle.zone_command.specs.Refusals.{name_words, told_line}
@@ -36,6 +36,16 @@ IsServedBy making before now (Ok end) = (made : Made) × (making ≡ Ok made) ×
 IsServedBy making before now (Err (Why words)) = (making ≡ Err words.items) × (now ≡ before)
 IsServedBy making before now (Err NoMemory) = now ≡ before
 
+-- whether requests of `zone_answers` come in
+abbrev pub is_plain : TaskAsked → Bool
+is_plain (stream plain) = plain
+is_plain _ = false
+
+-- the one for such requests, or the one for all else
+abbrev pub chosen : {A : Type 1} → Bool → A → A → A
+chosen true plain other = plain
+chosen false plain other = other
+
 -- the source that the text is read as, and what is made of an input over it
 pub record IsMadeBy {S : Type 0} (reads : List ℕ → S → Type 0) (found : S → List ℕ → Found) (plain : S → Replies) (asked : WordsAsked) (text : List ℕ)
     (making : Making) : Type 0 where
@@ -49,5 +59,11 @@ pub record IsMadeNot (unread : List ℕ → List ℕ → Type 0) (file text : Li
   pub unread_for : unread text why
   pub is : making ≡ Err (told_line (name_words file why))
 
-abbrev pub IsMadeOver : {S : Type 0} → (List ℕ → S → Type 0) → (List ℕ → List ℕ → Type 0) → (S → List ℕ → Found) → (S → Replies) → Makings
-IsMadeOver reads unread found plain asked file text making = IsMadeBy reads found plain asked text making ⊎ IsMadeNot unread file text making
+abbrev pub IsMadeAs : {S : Type 0} → (List ℕ → S → Type 0) → (List ℕ → List ℕ → Type 0) → (S → List ℕ → Found) → (S → Replies) → Makings
+IsMadeAs reads unread found plain asked file text making = IsMadeBy reads found plain asked text making ⊎ IsMadeNot unread file text making
+
+-- a text is read in its own way for the requests of `zone_answers`
+abbrev pub IsMadeOver : {S : Type 0} → (List ℕ → S → Type 0) → (List ℕ → S → Type 0) → (List ℕ → List ℕ → Type 0) → (List ℕ → List ℕ → Type 0)
+    → (S → List ℕ → Found) → (S → Replies) → Makings
+IsMadeOver plainly reads unplainly unread found plain asked =
+    IsMadeAs (chosen (is_plain asked.task) plainly reads) (chosen (is_plain asked.task) unplainly unread) found plain asked

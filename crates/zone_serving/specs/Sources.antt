@@ -1,8 +1,10 @@
--- What is told of a text that is no source.
-use Rattle.std.specs.Prelude.{◌≡◌, ◌⊎◌, ℕ, List, Bool, true, false, codes, bytes_eq, take}
-use Rattle.sefunjaro.specs.AnySources.{IsAnyFault}
+-- What a text is read as for the requests of `zone_answers`, and what is told of a text that is no source.
+use Rattle.std.specs.Prelude.{◌≡◌, ◌≢◌, ◌⊎◌, ℕ, List, Bool, true, false, None, codes, bytes_eq, take}
+use Rattle.sefunjaro.specs.AnySources.{IsAnyFault, IsAnySource, IsSourceOfForm}
 use Rattle.sefunjaro.specs.declared.any_source.AnySourceFault.{AnySourceFault}
 use Rattle.sefunjaro.specs.declared.any_source.AnySourceFault.TheVariants as source
+use Rattle.sefunjaro.specs.declared.source.OpenSource.{OpenSource}
+use Rattle.zone_source.specs.Faults.{source_fault}
 use Rattle.zone_serving.specs.Causes.{cause_words, form_words, line_words}
 
 -- it begins as compiled files do
@@ -27,3 +29,11 @@ abbrev pub IsUnread : List ℕ → List ℕ → Type 0
 IsUnread text why =
     ((is_compiled text ≡ true) × (why ≡ codes "this is a compiled file, and a source is wanted"))
     ⊎ ((is_compiled text ≡ false) × HasFault text why)
+
+-- a text in plain form is read as it stands, as `zone_answers` reads it, and any other in any form
+abbrev pub IsReadPlainly : List ℕ → OpenSource → Type 0
+IsReadPlainly text source = IsSourceOfForm text source ⊎ ((source_fault text ≢ None) × IsAnySource text source)
+
+-- what is told of a text that is neither
+abbrev pub IsUnreadPlainly : List ℕ → List ℕ → Type 0
+IsUnreadPlainly text why = (source_fault text ≢ None) × IsUnread text why

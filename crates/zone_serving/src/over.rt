@@ -1,9 +1,10 @@
 //! What answers over sources of a kind: at once, or what comes in.
-ghost use Rattle.std.specs.Prelude.{◌≡◌};
+ghost use Rattle.std.specs.Prelude.{◌≡◌, ◌≤◌, ℕ, List, IfErr, IfOk, length};
 ghost use Rattle.zone_pieces.specs.Filters.{replied};
 ghost use Rattle.zone_pieces.specs.Replies.{Replies};
 ghost use Rattle.zone_pieces.specs.Runs.{Ends};
-ghost use Rattle.zone_serving.specs.Makes.{IsServedBy, made_of};
+ghost use Rattle.zone_command.specs.Refusals.{IsTold};
+ghost use Rattle.zone_serving.specs.Makes.{IsServedBy, chosen, is_plain, made_of};
 ghost use Rattle.zone_words.specs.TaskShown.{task_shown};
 ghost use Rattle.zone_words.specs.Tasks.{log};
 
@@ -23,9 +24,25 @@ use zone_words::{Asked, Task};
 const NO_INPUT: &[u8] = b"this command answers no input";
 
 /// A source that answers requests of the program `zone_answers`.
-pub trait PlainSource {
+pub trait PlainSource: Drop {
+    /// The source is what a text is read as for such requests.
+    ghost plainly: { List ℕ → Self → Type 0 };
+
+    /// Why a text is no source for them.
+    ghost unplainly: { List ℕ → List ℕ → Type 0 };
+
     /// The response to each.
     ghost plain: { Self → Replies };
+
+    /// Reads a source for such requests, of at most 16,777,216 bytes.
+    ///
+    /// # Errors
+    ///
+    /// Why the text is none, or want of memory.
+    fn open_plainly(alloc: Global, text: &[u8]) -> Result<Self, Refusal>
+        requires { length text.now ≤ 16777216 }
+        ensures ok { IfOk result (plainly text.now) }
+        ensures err { IfErr result (IsTold (unplainly text.now)) };
 
     /// Answers such requests as they come in.
     fn serve_plain<X: Exchange>(&self, alloc: Global, exchange: &mut X) -> StreamEnd
@@ -67,6 +84,30 @@ fn served<S: ZoneSource + PlainSource, X: Exchange>(
     }
 }
 
+/// Whether requests of the program `zone_answers` come in.
+fn is_plain(task: &Task<'_>) -> bool
+    ensures { result ≡ is_plain (task_shown task.now) }
+{
+    matches!(task, Task::Stream(true))
+}
+
+/// The source that a text is read as for a task.
+fn opened<S: ZoneSource + PlainSource>(
+    alloc: Global,
+    task: &Task<'_>,
+    text: &[u8],
+) -> Result<S, Refusal>
+    requires { length text.now ≤ 16777216 }
+    ensures ok { IfOk result (chosen (is_plain (task_shown task.now)) S.plainly S.reads text.now) }
+    ensures err { IfErr result (IsTold (chosen (is_plain (task_shown task.now)) S.unplainly S.unread text.now)) }
+{
+    if is_plain(task) {
+        S::open_plainly(alloc, text)
+    } else {
+        S::open(alloc, text)
+    }
+}
+
 /// What answers over sources of a kind: each command at once, `stream` and `log` as their input comes.
 pub struct OverSource<S> {
     source: PhantomData<S>,
@@ -78,7 +119,7 @@ impl<S: ZoneSource + PlainSource> Answerer for OverSource<S> {
 
     ghost due = { IsDueOver S.reads S.unread S.found S.entries S.files S.strings S.trees };
 
-    ghost makes = { IsMadeOver S.reads S.unread S.found S.plain };
+    ghost makes = { IsMadeOver S.plainly S.reads S.unplainly S.unread S.found S.plain };
 
     fn answer(
         alloc: Global,
@@ -97,7 +138,7 @@ impl<S: ZoneSource + PlainSource> Answerer for OverSource<S> {
         text: &[u8],
         exchange: &mut X,
     ) -> Result<StreamEnd, AnswerFault> {
-        match S::open(alloc, text) {
+        match opened::<S>(alloc, &asked.task, text) {
             Ok(source) => match served(alloc, &source, asked.form, &asked.task, exchange) {
                 Ok(end) => Ok(end),
                 Err(Refusal::Why(words)) => Err(AnswerFault::Line(told_line(alloc, &words)?)),

@@ -16,8 +16,8 @@ use crate::over::PlainSource;
 use crate::plain::PlainStream;
 use crate::source_words::{fault_words, file_words, schedule_words, tail_words, why_words};
 use sefunjaro::{
-    AnySourceFault, EverFileFault, EverSet, EverTailFault, OpenSource, OpenZone, Table, TreeFault,
-    ZoneFault, tail_for_ever, tzif_for_ever,
+    AnySourceFault, EverFileFault, EverSet, EverTailFault, OpenFault, OpenSource, OpenZone, Table,
+    TreeFault, ZoneFault, tail_for_ever, tzif_for_ever,
 };
 use std::alloc::{AllocError, Global};
 use zone_command::{Refusal, ZoneSource, name_words};
@@ -107,8 +107,22 @@ impl ZoneSource for AnySource {
 impl PlainSource for AnySource {
     ghost use Rattle.sefunjaro.specs.Sources.{table_in};
     ghost use Rattle.zone_serving.specs.Plain.{plain_replies};
+    ghost use Rattle.zone_serving.specs.Sources.{IsReadPlainly, IsUnreadPlainly};
+
+    ghost plainly = { λ text source. IsReadPlainly text source.source };
+
+    ghost unplainly = { IsUnreadPlainly };
 
     ghost plain = { λ source. plain_replies (table_in source.source) };
+
+    fn open_plainly(alloc: Global, text: &[u8]) -> Result<AnySource, Refusal> {
+        match OpenSource::open_plain(alloc, text) {
+            Ok(source) => Ok(AnySource { source }),
+            Err(OpenFault::Source(_)) => AnySource::open(alloc, text),
+            Err(OpenFault::TooLong) => unreachable!(),
+            Err(OpenFault::NoMemory) => Err(Refusal::NoMemory),
+        }
+    }
 
     fn serve_plain<X: Exchange>(&self, alloc: Global, exchange: &mut X) -> StreamEnd {
         run_stream(alloc, PlainStream::new(alloc, &self.source), exchange)
