@@ -21,7 +21,7 @@ with_saving : (standard : StdPart) (name : List ℕ) (offset : Option Offset) (r
 with_saving standard name offset (Some rule) f e = ap tz_of (same_Some _ f e)
 with_saving standard name offset None f e = absurd (none-some f e)
 
-is_tz_of : (v : Value Offset) (f : FooterValue) → footer_in v ≡ Some f → v ≡ tz_of f
+pub is_tz_of : (v : Value Offset) (f : FooterValue) → footer_in v ≡ Some f → v ≡ tz_of f
 is_tz_of (short name) f e = absurd (none-some f e)
 is_tz_of (expanded standard None) f e = ap tz_of (same_Some _ f e)
 is_tz_of (expanded standard (Some dst)) f e = with_saving standard dst.name dst.offset dst.rule f e

@@ -1,6 +1,7 @@
 pub mod ChangeLemmas
 mod RangeLemmas
 mod FooterReadLemmas
+mod FooterSaidLemmas
 mod WorkedFooters
 mod WorkedForce
 mod GivenLemmas

@@ -13,8 +13,14 @@ pub mod Instants
 pub mod Offsets
 pub mod Owners
 pub mod Zones
+pub mod Lasting
 -- Laws: what a caller may use.
 pub mod FooterLaws
 -- Words of private clauses.
+pub mod OwnShown
+pub mod FooterReading
+pub mod Steady
+pub mod Cells
+pub mod OwnZones
 pub mod Kept
 pub mod Next

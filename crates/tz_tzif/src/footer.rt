@@ -21,15 +21,15 @@ use tz_posix_core::parts::{YearlyRule, saving_offset};
 /// What a footer puts in force at each second.
 #[derive(Clone, Debug, Drop, PartialEq, Eq)]
 pub struct Footer<'a> {
-    standard: Held<'a>,
-    saving: Option<Yearly<'a>>,
+    pub(crate) standard: Held<'a>,
+    pub(crate) saving: Option<Yearly<'a>>,
 }
 
 /// Daylight saving time, and when it holds.
 #[derive(Clone, Debug, Drop, PartialEq, Eq)]
-struct Yearly<'a> {
-    held: Held<'a>,
-    rule: YearlyRule,
+pub(crate) struct Yearly<'a> {
+    pub(crate) held: Held<'a>,
+    pub(crate) rule: YearlyRule,
 }
 
 impl<'a> Footer<'a> {

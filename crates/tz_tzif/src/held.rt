@@ -6,9 +6,9 @@ use tz_zone::Offset;
 /// An offset from UTC that a compiled zone puts in force, with its abbreviation and whether it is daylight saving time.
 #[derive(Clone, Copy, Debug, Drop, PartialEq, Eq)]
 pub struct Held<'a> {
-    name: &'a str,
-    offset: UtcOffset,
-    is_dst: bool,
+    pub(crate) name: &'a str,
+    pub(crate) offset: UtcOffset,
+    pub(crate) is_dst: bool,
 }
 
 impl<'a> Held<'a> {

@@ -21,9 +21,9 @@ fn held_by<'a>(tz: &TzifTz<'a>, second: i64, place: usize) -> Option<Held<'a>>
         (IsHeldFor (kind_in (value_of tz.now) (says_of tz.now)) second (slice_index_or (items_of tz.now.offsets) place (pos 0))) }
 {
     let offset = tz.offsets.as_slice()[place];
-    let held = tz.held_at(second - i64::from(offset));
-    if held.offset().whole_seconds() == offset {
-        Some(held)
+    let at = second - i64::from(offset);
+    if tz.total_at(at) == offset {
+        Some(tz.held_at(at))
     } else {
         None
     }

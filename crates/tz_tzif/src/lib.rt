@@ -6,6 +6,7 @@
 #![tactic(auto)]
 
 mod accept;
+mod cells;
 mod fault;
 mod footer;
 mod held;
@@ -14,6 +15,8 @@ mod kept;
 mod laws;
 mod moments;
 mod offsets;
+mod own_footer;
+mod own_zone;
 mod owner;
 mod range;
 mod read;

@@ -1,41 +1,32 @@
 //! Compiled zones that own what they are asked for.
-ghost use Rattle.std.specs.Prelude.{◌≡◌, ℤ, MatchResult, Option, true};
+ghost use Rattle.std.specs.Prelude.{◌≡◌, ◌≤◌, IfOk, MatchResult, option_map, unsigned_abs};
 ghost use Rattle.civil_base.specs.Ranges.{IsOffset};
-ghost use Rattle.tz_tzif.specs.FooterForce.{FooterZone};
-ghost use Rattle.tz_tzif.specs.Faults.{are_small, IsTzifFault, IsNoFooter, SaysInFooter};
-ghost use Rattle.tz_tzif.specs.InForce.{told_total_at};
-ghost use Rattle.tz_tzif.specs.Kept.{AreKept};
-ghost use Rattle.tz_tzif.specs.Offsets.{offsets_of};
+ghost use Rattle.tz_tzif.specs.Cells.{AreCells};
+ghost use Rattle.tz_tzif.specs.Faults.{IsNoFooter, IsTzifFault};
+ghost use Rattle.tz_tzif.specs.InForce.{total_in};
+ghost use Rattle.tz_tzif.specs.OwnShown.{own_shown};
 ghost use Rattle.zone_tzif_core.specs.ZoneFiles.{zone_seen};
-ghost use Rattle.zone_tzif_core.specs.Zones.{rises};
 
-use crate::accept::{accepted_footer, read_footer};
+use crate::cells::{Cell, cells_of, told_among};
 use crate::fault::TzifFault;
-use crate::footer::Footer;
 use crate::kept::KeptOffsets;
-use crate::laws::one_footer;
-use crate::offsets::offsets_of;
+use crate::own_footer::lent_footer;
+use crate::own_zone::OwnZone;
 use crate::zone::TzifTz;
-use std::alloc::Global;
+use std::alloc::{AllocError, Global};
 use zone_tzif_core::ZoneFile;
 
-/// A compiled zone with its distinct offsets, which owns both and lends a zone to ask. To lend takes no memory: the footer is
-/// read anew, where it stands.
+/// A compiled zone with its distinct offsets, what its footer says, and its totals from 1901 to 2038, which owns all of them and lends a
+/// zone to ask. To lend takes no memory.
 #[derive(Debug, Drop)]
 pub struct TzifOwner {
-    zone: ZoneFile,
-    offsets: Vec<i32>,
-    ghost rising: { rises (zone_seen zone).rest ≡ true },
-    ghost small: { are_small (zone_seen zone) ≡ true },
-    ghost readable: { ¬ (IsNoFooter (zone_seen zone).footer) },
-    ghost made: { (footer : Option FooterZone) → SaysInFooter (zone_seen zone).footer footer → offsets.items ≡ offsets_of (zone_seen zone) footer },
-    ghost range: { (footer : Option FooterZone) → SaysInFooter (zone_seen zone).footer footer → (t : ℤ) → IsOffset (told_total_at (zone_seen zone) footer t) },
+    own: OwnZone,
+    cells: Vec<Cell>,
+    ghost told: { AreCells (total_in (zone_seen own.zone) (option_map own_shown own.kept.footer)) cells.items },
 }
 
 impl TzifOwner {
-    ghost use Rattle.std.specs.Prelude.{option_map};
-    ghost use Rattle.tz_tzif.specs.FooterShown.{footer_shown};
-    ghost use Rattle.tz_tzif.specs.Owners.{value_in, IsOwnerOf};
+    ghost use Rattle.tz_tzif.specs.Owners.{value_in, IsOwnerOf, IsTotalIn};
     ghost use Rattle.tz_tzif.specs.Zones.{IsZoneOf};
 
     /// The owner of a value that can be looked up.
@@ -48,9 +39,11 @@ impl TzifOwner {
     pub fn new(alloc: Global, zone: ZoneFile) -> Result<TzifOwner, TzifFault>
         ensures { MatchResult result (IsOwnerOf (zone_seen zone)) (IsTzifFault (zone_seen zone)) }
     {
-        one_footer();
-        match kept_offsets(alloc, &zone) {
-            Ok(offsets) => Ok(TzifOwner { zone, offsets }),
+        match OwnZone::new(alloc, zone) {
+            Ok(own) => match own_cells(alloc, &own) {
+                Ok(cells) => Ok(TzifOwner { own, cells }),
+                Err(_) => Err(TzifFault::NoMemory),
+            },
             Err(fault) => Err(fault),
         }
     }
@@ -61,32 +54,30 @@ impl TzifOwner {
     {
         TzifTz {
             name,
-            zone: &self.zone,
-            footer: self.says(),
-            offsets: KeptOffsets::Lent(self.offsets.as_slice()),
+            zone: &self.own.zone,
+            footer: lent_footer(&self.own.kept.footer),
+            offsets: KeptOffsets::Lent(self.own.kept.offsets.as_slice()),
+            cells: self.cells.as_slice(),
         }
     }
 
-    /// What the footer says.
-    fn says(&self) -> Option<Footer<'_>>
-        ensures { SaysInFooter (value_in self.now).footer (option_map footer_shown result) }
+    /// The seconds east of UTC at a second from 1970-01-01 00:00:00 UTC, of some 25,000 years to each side, by what the footer says.
+    pub fn total_at(&self, second: i64) -> i32
+        requires { unsigned_abs second ≤ 800_000_000_000 }
+        ensures total { IsTotalIn (value_in self.now) second result }
+        ensures range { IsOffset result }
     {
-        match read_footer(self.zone.footer()) {
-            Some(footer) => footer,
-            None => unreachable!(),
+        match told_among(self.cells.as_slice(), second) {
+            Some((total, _)) => total,
+            None => self.own.lend().total_at(second),
         }
     }
 }
 
-/// The distinct offsets of a value that can be looked up.
-fn kept_offsets(alloc: Global, zone: &ZoneFile) -> Result<Vec<i32>, TzifFault>
-    ensures { MatchResult result (λ offsets. AreKept (zone_seen zone.now) offsets.items) (IsTzifFault (zone_seen zone.now)) }
+/// The cells of a zone that is owned.
+fn own_cells(alloc: Global, own: &OwnZone) -> Result<Vec<Cell>, AllocError>
+    ensures cells { IfOk result (λ cells. AreCells (total_in (zone_seen own.now.zone) (option_map own_shown own.now.kept.footer)) cells.items) }
+    ensures readable { ¬ (IsNoFooter (zone_seen own.now.zone).footer) }
 {
-    match accepted_footer(zone) {
-        Ok(footer) => match offsets_of(alloc, zone, &footer) {
-            Ok(offsets) => Ok(offsets),
-            Err(_) => Err(TzifFault::NoMemory),
-        },
-        Err(fault) => Err(fault),
-    }
+    cells_of(alloc, &own.lend())
 }

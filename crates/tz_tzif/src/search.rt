@@ -1,11 +1,12 @@
 //! What holds at a second, by a search among the changes.
-ghost use Rattle.std.specs.Prelude.{◌≡◌, ◌≤◌, ◌<◌, ℤ, int_le, nat_eq, length, take, true, filter};
+ghost use Rattle.std.specs.Prelude.{◌≡◌, ◌≤◌, ◌<◌, ◌<ℤ◌, ℤ, int_le, nat_eq, length, pos, slice_index_or, take, true, filter};
 ghost use Rattle.std.specs.List.{list_all};
 ghost use Rattle.tz_tzif.specs.FooterShown.{held_shown};
 ghost use Rattle.tz_tzif.specs.InForce.{are_over};
 ghost use Rattle.zone_tzif_core.specs.Shown.{record_shown};
 ghost use Rattle.zone_tzif_core.specs.Totals.{last_kind};
-ghost use Rattle.zone_tzif_core.specs.ZoneFiles.{zone_seen};
+ghost use Rattle.tz_tzif.specs.Steady.{IsSteady};
+ghost use Rattle.zone_tzif_core.specs.ZoneFiles.{unnumbered, zone_seen};
 ghost use Rattle.zone_tzif_core.specs.Zones.{is_small, rises};
 ghost use Rattle.tz_tzif.specs.Faults.{are_small};
 
@@ -19,12 +20,22 @@ pub(crate) fn changes_until(zone: &ZoneFile, second: i64) -> usize
     ensures within { result ≤ length (zone_seen zone.now).rest }
     ensures over { are_over (zone_seen zone.now).rest second ≡ nat_eq result (length (zone_seen zone.now).rest) }
     ensures before { take result (zone_seen zone.now).rest ≡ filter (λ change. int_le change.0 second) (zone_seen zone.now).rest }
+    ensures next { result < length (zone_seen zone.now).rest → second <ℤ (slice_index_or (zone_seen zone.now).rest result (pos 0, unnumbered)).0 }
+    ensures same { IsSteady (zone_seen zone.now).rest result second }
 {
     zone.changes().partition_point(
         |change: &(i64, u8)| -> bool
             ensures { result ≡ int_le change.now.0 second }
         { change.0 <= second },
     )
+}
+
+/// The second of the change at a place, which counts from 0.
+pub(crate) fn time_at(zone: &ZoneFile, place: usize) -> i64
+    requires { place < length (zone_seen zone.now).rest }
+    ensures { result ≡ (slice_index_or (zone_seen zone.now).rest place (pos 0, unnumbered)).0 }
+{
+    zone.changes()[place].0
 }
 
 /// The kind in force after so many changes.

@@ -6,18 +6,21 @@ ghost use Rattle.zone_tzif_core.specs.ZoneFiles.{zone_seen};
 ghost use Rattle.zone_tzif_core.specs.Zones.{rises};
 ghost use Rattle.tz_tzif.specs.FooterShown.{footer_shown};
 ghost use Rattle.tz_tzif.specs.Faults.{are_small};
-ghost use Rattle.tz_tzif.specs.InForce.{told_total_at};
+ghost use Rattle.tz_tzif.specs.Cells.{AreCells};
+ghost use Rattle.tz_tzif.specs.Lasting.{IsTold};
+ghost use Rattle.tz_tzif.specs.InForce.{told_total_at, total_in};
 ghost use Rattle.tz_tzif.specs.Kept.{items_of};
 ghost use Rattle.tz_tzif.specs.Offsets.{offsets_of};
 
 use crate::accept::accepted_footer;
+use crate::cells::{Cell, told_among};
 use crate::fault::TzifFault;
 use crate::footer::Footer;
 use crate::held::Held;
 use crate::instants::{TzifInstants, next_read};
 use crate::kept::KeptOffsets;
 use crate::offsets::offsets_of;
-use crate::search::{changes_until, held_after};
+use crate::search::{changes_until, held_after, time_at};
 use civil_base::{OffsetDateTime, PlainDateTime};
 use std::alloc::Global;
 use tz_zone::{InstantsOf, OffsetResult, TimeZone};
@@ -31,14 +34,16 @@ pub struct TzifTz<'a> {
     pub(crate) zone: &'a ZoneFile,
     pub(crate) footer: Option<Footer<'a>>,
     pub(crate) offsets: KeptOffsets<'a>,
+    pub(crate) cells: &'a [Cell],
     ghost rising: { rises (zone_seen zone.now).rest ≡ true },
     ghost small: { are_small (zone_seen zone.now) ≡ true },
     ghost made: { items_of offsets ≡ offsets_of (zone_seen zone.now) (option_map footer_shown footer) },
     ghost range: { (t : ℤ) → IsOffset (told_total_at (zone_seen zone.now) (option_map footer_shown footer) t) },
+    ghost told: { AreCells (total_in (zone_seen zone.now) (option_map footer_shown footer)) cells.now },
 }
 
 impl<'a> TzifTz<'a> {
-    ghost use Rattle.std.specs.Prelude.{MatchResult, map, unsigned_abs};
+    ghost use Rattle.std.specs.Prelude.{IfSome, MatchResult, map, unsigned_abs, ◌≤ℤ◌, ◌<ℤ◌};
     ghost use Rattle.civil_base.specs.DateTimes.{instant};
     ghost use Rattle.tz_zone.specs.AllLeft.{all_left};
     ghost use Rattle.tz_zone.specs.InForce.{all_in_force, shown_of, AreInstants};
@@ -63,6 +68,7 @@ impl<'a> TzifTz<'a> {
                     zone,
                     footer,
                     offsets: KeptOffsets::Owned(offsets),
+                    cells: &[],
                 }),
                 Err(_) => Err(TzifFault::NoMemory),
             },
@@ -78,6 +84,51 @@ impl<'a> TzifTz<'a> {
         ensures exact { AreInstants (told_total_at (value_of self.now) (says_of self.now)) date_time.now (map instant (all_left result)) }
     {
         InstantsOf::new(self, date_time)
+    }
+
+    /// The seconds east of UTC at a second from 1970-01-01 00:00:00 UTC, of some 25,000 years to each side.
+    pub fn total_at(&self, second: i64) -> i32
+        requires { unsigned_abs second ≤ 800_000_000_000 }
+        ensures { result ≡ total_in (value_of self.now) (says_of self.now) second }
+    {
+        match self.told_at(second) {
+            Some((total, _)) => total,
+            None => self.held_at(second).offset().whole_seconds(),
+        }
+    }
+
+    /// The seconds east of UTC at a second, and a later second up to which they are the same, where that is known without a search.
+    pub fn told_at(&self, second: i64) -> Option<(i32, i64)>
+        ensures { IfSome result (λ told. IsTold (total_in (value_of self.now) (says_of self.now)) second told.0 told.1) }
+    {
+        told_among(self.cells, second)
+    }
+
+    /// The seconds east of UTC at a second of the years -4000 to 8000, and a later second up to which they are the same.
+    pub fn total_until(&self, second: i64) -> (i32, i64)
+        requires { unsigned_abs second ≤ 200_000_000_000 }
+        ensures { IsTold (total_in (value_of self.now) (says_of self.now)) second result.0 result.1 }
+    {
+        let until = self.next_change(second);
+        (self.total_at(second), until)
+    }
+
+    /// A later second up to which the same holds as at a second of the years -4000 to 8000.
+    #[tactic(auto, unfolding(crate::specs::InForce::kind_in))]
+    pub fn next_change(&self, second: i64) -> i64
+        requires { unsigned_abs second ≤ 200_000_000_000 }
+        ensures later { second <ℤ result }
+        ensures same { (t : ℤ) → second ≤ℤ t → t <ℤ result
+            → kind_in (value_of self.now) (says_of self.now) t ≡ kind_in (value_of self.now) (says_of self.now) second }
+    {
+        let count = changes_until(self.zone, second);
+        if count < self.zone.change_count() {
+            return time_at(self.zone, count);
+        }
+        match &self.footer {
+            Some(footer) => footer.next_change(second),
+            None => i64::MAX,
+        }
     }
 
     /// What holds at a second.

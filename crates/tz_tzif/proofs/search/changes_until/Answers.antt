@@ -1,15 +1,16 @@
 -- A search among changes whose times rise gives those that are at or before a second.
-use Rattle.std.proofs.Common.{◌≡◌, ℕ, zero, suc, ◌≤◌, ◌<◌, Bool, true, false, cond, List, [], ◌∷◌, length, map, take, get_or, ℤ, ◌≤ℤ◌, int_lt, int_le, nat_eq, refl, sym, ap, ◌∙◌, subst, arith, rules, of_calls}
+use Rattle.std.proofs.Common.{◌≡◌, ℕ, zero, suc, ◌≤◌, ◌<◌, Bool, true, false, cond, List, [], ◌∷◌, length, map, take, get_or, slice_index_or, ℤ, pos, ◌≤ℤ◌, ◌<ℤ◌, int_lt, int_le, nat_eq, refl, sym, ap, ◌∙◌, subst, arith, rules, of_calls}
 use Rattle.std.specs.List.{filter, list_all}
 use Rattle.std.proofs.lemmas.Bool.{and_parts}
 use Rattle.std.proofs.lemmas.Bool.Decides.{nat_tests}
 use Rattle.std.proofs.lemmas.Int.{ints}
 use Rattle.std.proofs.lemmas.Simd.{map-map}
 use Rattle.calendar.specs.ComparisonLaws.{le_itself}
-use Rattle.zone_tzif_core.specs.ZoneFiles.{change_with, changes_with, kinds_kept}
+use Rattle.zone_tzif_core.specs.ZoneFiles.{change_with, changes_with, kinds_kept, unnumbered}
 use Rattle.zone_tzif_core.specs.Zones.{KindValue, go_up, rises}
 use Rattle.std.proofs.lemmas.Fn.{always_returns_same}
 use Rattle.std.proofs.lemmas.List.{length-map}
+use Rattle.tz_tzif.specs.Steady.{IsSteady}
 use Rattle.tz_tzif.proofs.search.changes_until.Goals as goal
 
 -- where the first i items pass a test and no others do, they are what passes
@@ -45,6 +46,13 @@ all_front f p (x ∷ xs) (suc i) l before after =
     let same : nat_eq (suc i) (length (x ∷ xs)) ≡ nat_eq i (length xs) = grind (arith, nat_tests) in
     rw (passes, same) more
 
+-- a change has the time that it had before it got its kind
+timed : (kinds : List KindValue) (xs : List (ℤ × ℕ)) (i : ℕ) (d : ℤ × ℕ) → i < length xs
+    → (slice_index_or (changes_with kinds xs) i (pos 0, unnumbered)).0 ≡ (get_or xs i d).0
+timed kinds [] i d m = absurd (omega (arith, m))
+timed kinds (x ∷ xs) zero d m = refl
+timed kinds (x ∷ xs) (suc i) d m = timed kinds xs i d (omega (arith, m))
+
 lt_le : (a b c : ℤ) → int_lt a b ≡ true → b ≤ℤ c → a ≤ℤ c
 lt_le a b c h k = grind (arith, ints)
 
@@ -72,6 +80,55 @@ parted kinds changes s h i j d l m passes =
     let up : go_up (map (λ (c : ℤ × ℕ). c.0) changes) ≡ true =
     subst (λ ts. go_up ts ≡ true) (map-map (λ (shift : ℤ × KindValue). shift.0) (change_with kinds) changes) h in
     before_too _ _ s (later (λ (c : ℤ × ℕ). c.0) changes up i j d l m) passes
+
+int_le_lt : (a s t : ℤ) → s ≤ℤ t → int_le a s ≡ true → int_le a t ≡ true
+int_le_lt a s t h k = grind (arith, ints)
+
+above : (a b t : ℤ) → t <ℤ a → a ≤ℤ b → int_le b t ≡ false
+above a b t h k = grind (arith, ints)
+
+-- at a later second before the next change, the same have come
+steady : (kinds : List KindValue) (xs : List (ℤ × ℕ)) (s : ℤ) (i : ℕ) → rises (changes_with kinds xs) ≡ true → i ≤ length xs
+    → ((j : ℕ) (d : ℤ × ℕ) → j < i → int_le (get_or xs j d).0 s ≡ true) → IsSteady (changes_with kinds xs) i s
+steady kinds xs s i up l before t order next =
+    let times : go_up (map (λ (c : ℤ × ℕ). c.0) xs) ≡ true =
+    subst (λ ts. go_up ts ≡ true) (map-map (λ (shift : ℤ × KindValue). shift.0) (change_with kinds) xs) up in
+    let comes : (j : ℕ) (d : ℤ × ℕ) → j < i → int_le (get_or xs j d).0 t ≡ true = λ j d m. int_le_lt _ s t order (before j d m) in
+    let waits : (j : ℕ) (d : ℤ × ℕ) → i ≤ j → j < length xs → int_le (get_or xs j d).0 t ≡ false = λ j d m n.
+    above (get_or xs i d).0 (get_or xs j d).0 t (first_waits kinds xs i t d (omega (arith, m, n)) next) (later (λ (c : ℤ × ℕ). c.0) xs times i j d m n) in
+    record {
+      before = front (change_with kinds) (λ change. int_le change.0 t) xs i l comes waits;
+      over = all_front (change_with kinds) (λ change. int_le change.0 t) xs i l comes waits ∙ ap (nat_eq i) (sym (length-map xs (change_with kinds)));
+    }
+  where
+    first_waits : (kinds : List KindValue) (xs : List (ℤ × ℕ)) (i : ℕ) (t : ℤ) (d : ℤ × ℕ) → i < length xs
+        → (i < length (changes_with kinds xs) → t <ℤ (slice_index_or (changes_with kinds xs) i (pos 0, unnumbered)).0) → t <ℤ (get_or xs i d).0
+    first_waits kinds xs i t d m next = subst (λ a. t <ℤ a) (timed kinds xs i d m) (next (subst (λ n. i < n) (sym (length-map xs (change_with kinds))) m))
+
+not_yet : (a s : ℤ) → int_le a s ≡ false → s <ℤ a
+not_yet a s h = grind (arith, ints)
+
+pub returns-clause-next : goal.returns-clause-next
+returns-clause-next c =
+    let kinds = kinds_kept c.args.zone.now in
+    let xs = c.changes.result.now in
+    let up = subst (λ l. rises l ≡ true) (sym c.changes.ensures) c.requires in
+    let cut = c.partition_point.ensures.partitioned (λ t. int_le t.0 c.args.second) (always_returns_same _ _ _ (λ a r f k. search (rules, of_calls)))
+    (λ i j d l m e. parted kinds xs c.args.second up i j d l m e) in
+    subst (λ l. c.partition_point.result < length l → c.args.second <ℤ (slice_index_or l c.partition_point.result (pos 0, unnumbered)).0) c.changes.ensures
+    (λ m. let n = subst (λ l. c.partition_point.result < l) (length-map xs (change_with kinds)) m in
+    subst (λ a. c.args.second <ℤ a) (sym (timed kinds xs c.partition_point.result (pos 0, 0) n))
+    (not_yet _ c.args.second (cut.1 c.partition_point.result (pos 0, 0) (omega arith) n)))
+
+pub returns-clause-same : goal.returns-clause-same
+returns-clause-same c =
+    let kinds = kinds_kept c.args.zone.now in
+    let xs = c.changes.result.now in
+    let up = subst (λ l. rises l ≡ true) (sym c.changes.ensures) c.requires in
+    let cut = c.partition_point.ensures.partitioned (λ t. int_le t.0 c.args.second) (always_returns_same _ _ _ (λ a r f k. search (rules, of_calls)))
+    (λ i j d l m e. parted kinds xs c.args.second up i j d l m e) in
+    subst (λ l. IsSteady l c.partition_point.result c.args.second) c.changes.ensures
+    (steady kinds xs c.args.second c.partition_point.result up c.partition_point.ensures.bound (λ j d l. cut.0 j d (omega arith) l))
 
 pub returns-clause-within : goal.returns-clause-within
 returns-clause-within c =

@@ -1,4 +1,4 @@
-use Rattle.std.proofs.Common.{◌≡◌, true, rules}
+use Rattle.std.proofs.Common.{◌≡◌, true, rules, arith}
 use Rattle.zone_tzif_core.specs.ZoneFiles.{zone_seen}
 use Rattle.tz_tzif.specs.Faults.{are_small}
 use Rattle.tz_tzif.proofs.KindLemmas.{in_range}
@@ -12,4 +12,5 @@ invariant_of-result c =
       small = is_small;
       made = c.in-Ok-offsets_of.ensures.value;
       range = λ t. in_range _ _ t is_small c.in-Ok-offsets_of.ensures.range;
+      told = λ place cell within. absurd (omega (arith, within));
     }

@@ -1,0 +1,16 @@
+use Rattle.std.proofs.Common.{◌≡◌, IfOk, Option, subst}
+use Rattle.tz_tzif.specs.Cells.{AreCells}
+use Rattle.tz_tzif.specs.FooterForce.{FooterZone}
+use Rattle.tz_tzif.specs.InForce.{total_in}
+use Rattle.tz_tzif.specs.OwnShown.{own_shown}
+use Rattle.tz_tzif.specs.Zones.{value_of}
+use Rattle.std.specs.Prelude.{option_map}
+use Rattle.zone_tzif_core.specs.Zones.{ZoneValue}
+use Rattle.tz_tzif.proofs.owner.own_cells.Goals as goal
+
+pub returns-clause-cells : goal.returns-clause-cells
+returns-clause-cells c =
+    let found = c.cells_of.result in
+    subst (λ (value : ZoneValue). IfOk found (λ cells. AreCells (total_in value (option_map own_shown c.args.own.now.kept.footer)) cells.items)) c.lend.ensures.zone.is
+    (subst (λ (footer : Option FooterZone). IfOk found (λ cells. AreCells (total_in (value_of c.lend.result) footer) cells.items)) c.lend.ensures.footer
+    c.cells_of.ensures)
