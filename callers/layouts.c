@@ -15,6 +15,10 @@ int main(void) {
     FIELD(sefunjaro_clock, hour), FIELD(sefunjaro_clock, minute), FIELD(sefunjaro_clock, second), FIELD(sefunjaro_clock, nanosecond), END();
     SIZE("Reading", sefunjaro_reading), FIELD(sefunjaro_reading, second), FIELD(sefunjaro_reading, offset), END();
     SIZE("Gap", sefunjaro_gap), FIELD(sefunjaro_gap, second), FIELD(sefunjaro_gap, before), FIELD(sefunjaro_gap, after), END();
+    SIZE("Found", sefunjaro_found), FIELD(sefunjaro_found, second), FIELD(sefunjaro_found, offset), FIELD(sefunjaro_found, kind), END();
+    SIZE("Answer", sefunjaro_answer), FIELD(sefunjaro_answer, offset), FIELD(sefunjaro_answer, is_saving), FIELD(sefunjaro_answer, is_kept);
+    FIELD(sefunjaro_answer, saving), FIELD(sefunjaro_answer, clock), FIELD(sefunjaro_answer, name_length), FIELD(sefunjaro_answer, from);
+    FIELD(sefunjaro_answer, until), END();
     SIZE("Years", sefunjaro_years), FIELD(sefunjaro_years, first), FIELD(sefunjaro_years, last), END();
     SIZE("Change", sefunjaro_change), FIELD(sefunjaro_change, second), FIELD(sefunjaro_change, offset), FIELD(sefunjaro_change, saving);
     FIELD(sefunjaro_change, name_length), FIELD(sefunjaro_change, differs), END();

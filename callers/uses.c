@@ -136,6 +136,120 @@ static int lists(void) {
     return 0;
 }
 
+static bool is_clock(const struct sefunjaro_clock *a, const struct sefunjaro_clock *b) {
+    return a->year == b->year && a->month == b->month && a->day == b->day && a->hour == b->hour && a->minute == b->minute && a->second == b->second &&
+           a->nanosecond == b->nanosecond;
+}
+
+/* What clocks show, and its texts, of lists in Paris. Paris enters the year 10000 an hour before UTC does. */
+static int clock_lists(void) {
+    static const int64_t seconds[] = { 1711846799, 1711846800, 0, 253402297199, -377705116800, 13576813200 };
+    static const struct sefunjaro_clock due[] = { { 2024, 3, 31, 1, 59, 59, 0 },   { 2024, 3, 31, 3, 0, 0, 0 }, { 1970, 1, 1, 1, 0, 0, 0 },
+                                                  { 9999, 12, 31, 23, 59, 59, 0 }, { -9999, 1, 1, 1, 0, 0, 0 }, { 2400, 3, 26, 3, 0, 0, 0 } };
+    static const char texts[] = "2024-03-31 01:59:59.000000000 +01:00:00\n2024-03-31 03:00:00.000000000 +02:00:00\n"
+                                "1970-01-01 01:00:00.000000000 +01:00:00\n9999-12-31 23:59:59.000000000 +01:00:00\n"
+                                "-9999-01-01 01:00:00.000000000 +01:00:00\n2400-03-26 03:00:00.000000000 +02:00:00\n";
+    static const int64_t far[][3] = { { 0, 253402300800, 0 }, { 0, 0, -377705116801 }, { 253402297200, 0, 0 }, { 0, INT64_MAX, INT64_MIN } };
+    static const size_t places[] = { 1, 2, 0, 1 };
+    struct sefunjaro_clock clocks[6], other_clock = { 7, 7, 7, 7, 7, 7, 7 };
+    char text[sizeof texts];
+    size_t place = 7, whole = 7;
+    for (size_t room = 0; room <= 6; room++) {
+        for (size_t i = 0; i < 6; i++) clocks[i] = other_clock;
+        if (sefunjaro_clocks_at(&zone, seconds, 6, clocks, room, &place) || place != 7) return 1;
+        for (size_t i = 0; i < 6; i++)
+            if (!is_clock(&clocks[i], i < room ? &due[i] : &other_clock)) return 2;
+    }
+    for (size_t room = 0; room < sizeof texts; room++) {
+        memset(text, '.', sizeof text);
+        if (sefunjaro_texts_at(&zone, seconds, 6, text, room, &whole, &place) || whole != sizeof texts - 1 || place != 7) return 3;
+        for (size_t i = 0; i < sizeof texts; i++)
+            if (text[i] != (i < room ? texts[i] : '.')) return 4;
+    }
+    for (size_t i = 0; i < 4; i++) {
+        clocks[0] = other_clock, text[0] = '.', whole = 7;
+        if (sefunjaro_clocks_at(&zone, far[i], 3, clocks, 6, &place) != SEFUNJARO_OUT_OF_RANGE || place != places[i] || !is_clock(clocks, &other_clock)) return 5;
+        place = 7;
+        if (sefunjaro_texts_at(&zone, far[i], 3, text, 40, &whole, &place) != SEFUNJARO_OUT_OF_RANGE || place != places[i] || whole != 7 || text[0] != '.') return 6;
+    }
+    place = 7;
+    if (sefunjaro_clocks_at(&zone, seconds, 0, clocks, 6, &place) || place != 7 || !is_clock(clocks, &other_clock)) return 7;
+    if (sefunjaro_texts_at(&zone, seconds, 0, text, 40, &whole, &place) || place != 7 || whole != 0 || text[0] != '.') return 8;
+    if (sefunjaro_clocks_at(as_zone(&source), seconds, 1, clocks, 6, &place) != SEFUNJARO_NOT_OPEN || place != 7 || !is_clock(clocks, &other_clock)) return 9;
+    if (sefunjaro_texts_at(as_zone(&source), seconds, 1, text, 40, &whole, &place) != SEFUNJARO_NOT_OPEN || place != 7 || whole != 0 || text[0] != '.') return 10;
+    return 0;
+}
+
+static bool is_found(const struct sefunjaro_found *found, int64_t second, int32_t offset, uint32_t kind) {
+    return found->second == second && found->offset == offset && found->kind == kind;
+}
+
+/* New York in 2024: clocks go from 02:00 to 03:00 on 10 March, at 07:00 UTC, and back from 02:00 to 01:00 on 3 November, at 06:00 UTC. */
+static int local_lists(void) {
+    static const struct sefunjaro_clock clocks[] = { { 2024, 7, 4, 12, 0, 0, 5 }, { 2024, 11, 3, 1, 30, 0, 0 }, { 2024, 3, 10, 2, 30, 0, 0 }, { 2024, 1, 15, 12, 0, 0, 0 } };
+    static const struct sefunjaro_clock none[] = { { 2024, 2, 29, 0, 0, 0, 0 }, { 2024, 2, 30, 0, 0, 0, 0 }, { 2024, 1, 1, 24, 0, 0, 0 } };
+    static const int64_t folds[] = { 1730611800, 1730615400 }, gaps[] = { 1710055800, 1710052200, 1710054000 };
+    static const int32_t fold_offsets[] = { -14400, -18000 }, gap_offsets[] = { -18000, -14400, -18000 };
+    struct sefunjaro_found found[5];
+    size_t place = 7;
+    for (uint32_t fold = 0; fold < 2; fold++)
+        for (uint32_t gap = 0; gap < 3; gap++)
+            for (size_t room = 0; room <= 5; room++) {
+                for (size_t i = 0; i < 5; i++) found[i] = (struct sefunjaro_found){ 7, 7, 7 };
+                if (sefunjaro_instants_of(&zone, clocks, 4, fold, gap, found, room, &place) || place != 7) return 1;
+                if (room > 0 && !is_found(&found[0], 1720108800, -14400, SEFUNJARO_KIND_ONE)) return 2;
+                if (room > 1 && !is_found(&found[1], folds[fold], fold_offsets[fold], SEFUNJARO_KIND_FOLD)) return 3;
+                if (room > 2 && !is_found(&found[2], gaps[gap], gap_offsets[gap], SEFUNJARO_KIND_GAP)) return 4;
+                if (room > 3 && !is_found(&found[3], 1705338000, -18000, SEFUNJARO_KIND_ONE)) return 5;
+                for (size_t i = room < 4 ? room : 4; i < 5; i++)
+                    if (!is_found(&found[i], 7, 7, 7)) return 6;
+            }
+    found[0] = (struct sefunjaro_found){ 7, 7, 7 };
+    if (sefunjaro_instants_of(&zone, none, 3, SEFUNJARO_FOLD_FIRST, SEFUNJARO_GAP_BEFORE, found, 5, &place) != SEFUNJARO_OUT_OF_RANGE || place != 1) return 7;
+    if (sefunjaro_instants_of(&zone, none + 2, 1, SEFUNJARO_FOLD_SECOND, SEFUNJARO_GAP_NONE, found, 5, &place) != SEFUNJARO_OUT_OF_RANGE || place != 0) return 8;
+    place = 7;
+    if (sefunjaro_instants_of(&zone, clocks, 4, 2, SEFUNJARO_GAP_AFTER, found, 5, &place) != SEFUNJARO_OUT_OF_RANGE || place != 7) return 9;
+    if (sefunjaro_instants_of(&zone, clocks, 4, SEFUNJARO_FOLD_FIRST, 3, found, 5, &place) != SEFUNJARO_OUT_OF_RANGE || place != 7) return 10;
+    if (sefunjaro_instants_of(&zone, clocks, 0, SEFUNJARO_FOLD_FIRST, SEFUNJARO_GAP_BEFORE, found, 5, &place) || place != 7) return 11;
+    if (sefunjaro_instants_of(as_zone(&source), clocks, 4, SEFUNJARO_FOLD_FIRST, SEFUNJARO_GAP_BEFORE, found, 5, &place) != SEFUNJARO_NOT_OPEN || place != 7) return 12;
+    return is_found(found, 7, 7, 7) ? 0 : 13;
+}
+
+/* Summer in New York in 2024, from 07:00 UTC on 10 March to 06:00 UTC on 3 November. */
+static int answers(void) {
+    static const struct sefunjaro_clock noon = { 2024, 7, 4, 12, 0, 0, 5 };
+    struct sefunjaro_answer answer, kept;
+    char name[5];
+    for (size_t room = 0; room <= 5; room++) {
+        memset(name, '.', sizeof name);
+        if (sefunjaro_answer_at(&zone, 1720108800, 5, &answer, name, room)) return 1;
+        if (answer.offset != -14400 || !answer.is_saving || !answer.is_kept || answer.saving != 3600 || !is_clock(&answer.clock, &noon)) return 2;
+        if (answer.name_length != 3 || answer.from != 1710054000 || answer.until != 1730613600) return 3;
+        for (size_t i = 0; i < 5; i++)
+            if (name[i] != (i < room && i < 3 ? "EDT"[i] : '.')) return 4;
+    }
+    if (sefunjaro_answer_at(&zone, 1710053999, 999999999, &answer, name, 5) || answer.offset != -18000 || answer.is_saving || answer.saving != 0 || answer.until != 1710054000) return 5;
+    if (answer.from != 1699164000 || answer.clock.hour != 1 || memcmp(name, "EST", 3)) return 6;
+    if (sefunjaro_answer_at(&zone, 0, 0, &answer, name, 5) || answer.from != INT64_MIN || answer.until != 1173596400) return 7;
+    memset(&answer, 7, sizeof answer), kept = answer, name[0] = '.';
+    if (sefunjaro_answer_at(&zone, 0, 1000000000, &answer, name, 5) != SEFUNJARO_OUT_OF_RANGE || memcmp(&answer, &kept, sizeof answer) || name[0] != '.') return 8;
+    if (sefunjaro_answer_at(&zone, -377705116800, 0, &answer, name, 5) != SEFUNJARO_OUT_OF_RANGE || memcmp(&answer, &kept, sizeof answer) || name[0] != '.') return 9;
+    if (sefunjaro_answer_at(as_zone(&source), 0, 0, &answer, name, 5) != SEFUNJARO_NOT_OPEN || memcmp(&answer, &kept, sizeof answer) || name[0] != '.') return 10;
+    return 0;
+}
+
+/* Clocks go back by an hour, and half an hour later by one more: they show 02:15 three times. */
+static int three_times(void) {
+    static const char text[] = "Zone A 3:00 - A 2000 Jan 1 0:00u\n 2:00 - B 2000 Jan 1 0:30u\n 1:00 - C\n";
+    static const struct sefunjaro_clock clock = { 2000, 1, 1, 2, 15, 0, 0 };
+    struct sefunjaro_found found;
+    size_t place = 7;
+    if (open_text(text, sizeof text - 1) || open_name("A")) return 185;
+    if (sefunjaro_instants_of(&zone, &clock, 1, SEFUNJARO_FOLD_FIRST, SEFUNJARO_GAP_BEFORE, &found, 1, &place) || !is_found(&found, 946682100, 10800, SEFUNJARO_KIND_MORE)) return 186;
+    if (sefunjaro_instants_of(&zone, &clock, 1, SEFUNJARO_FOLD_SECOND, SEFUNJARO_GAP_BEFORE, &found, 1, &place) || !is_found(&found, 946685700, 7200, SEFUNJARO_KIND_MORE)) return 187;
+    return 0;
+}
+
 static int looks(void) {
     struct sefunjaro_in_force found;
     struct sefunjaro_clock clock, skipped = { 2024, 3, 31, 2, 30, 0, 5 }, twice = { 2024, 10, 27, 2, 30, 0, 0 }, none = { 2023, 2, 29, 0, 0, 0, 0 };
@@ -149,6 +263,8 @@ static int looks(void) {
     if (sefunjaro_offset_at(&zone, 0, 1000000000, &offset) != SEFUNJARO_OUT_OF_RANGE) return 32;
     if (sefunjaro_offset_at(&zone, INT64_MAX, 0, &offset) != SEFUNJARO_OUT_OF_RANGE) return 33;
     if (lists()) return 29;
+    int failed = clock_lists();
+    if (failed) return 160 + failed;
     if (sefunjaro_in_force(&zone, 1711846800, 0, &found, name, 3) || found.offset != 7200 || !found.is_saving) return 34;
     if (found.name_length != 4 || memcmp(name, "CES.", 4)) return 35;
     if (sefunjaro_clock_at(&zone, -1, 1, &clock, &offset) || offset != 3600) return 36;
@@ -203,7 +319,15 @@ static int edges(void) {
     int64_t saving = 9;
     int32_t offset = 9;
     size_t count;
+    struct sefunjaro_clock begins = { -9999, 1, 1, 0, 0, 0, 0 };
+    int64_t seconds[] = { -377705098800, -377705098801 };
     if (open_text(small_source, strlen(small_source)) || open_name("America/New_York")) return 200;
+    int failed = local_lists();
+    if (failed) return 170 + failed;
+    failed = answers();
+    if (failed) return 187 + failed;
+    if (sefunjaro_clocks_at(&zone, seconds, 1, &clock, 1, &count) || !is_clock(&clock, &begins)) return 212;
+    if (sefunjaro_clocks_at(&zone, seconds, 2, &clock, 1, &count) != SEFUNJARO_OUT_OF_RANGE || count != 1) return 213;
     if (sefunjaro_readings(&zone, &last, &reading, 1, &count, &gap) || count != 1 || reading.second != 253402317000 || reading.offset != -18000) return 201;
     if (sefunjaro_offset_at(&zone, reading.second, 7, &offset) || offset != -18000) return 202;
     if (sefunjaro_in_force(&zone, reading.second, 7, &found, text, 40) || found.offset != -18000 || memcmp(text, "EST", 3)) return 203;
@@ -291,6 +415,10 @@ static int far_off(void) {
     if (sefunjaro_next_change(&zone, 0, &change) != SEFUNJARO_NOT_KEPT || change.second != 77) return 13;
     if (sefunjaro_changes(&zone, 0, 1, &change, 1, &count) != SEFUNJARO_NOT_KEPT || change.second != 77) return 14;
     if (sefunjaro_years(&zone, &year) != SEFUNJARO_NOT_KEPT || year != 9) return 27;
+    struct sefunjaro_answer answer;
+    if (sefunjaro_answer_at(&zone, 13576813200, 5, &answer, text, 4) || answer.offset != 7200 || !answer.is_saving || answer.is_kept || answer.saving != 0) return 17;
+    if (answer.clock.year != 2400 || answer.clock.hour != 3 || answer.clock.nanosecond != 5 || answer.name_length != 4 || memcmp(text, "CEST", 4)) return 18;
+    if (answer.from != 13576813200 || answer.until != 13576813201) return 19;
     if (sefunjaro_share(&zone, &other) || sefunjaro_offset_at(&other, 13576813200, 0, &offset) || offset != 7200) return 15;
     if (sefunjaro_name_count(as_source(&zone), &count) != SEFUNJARO_NOT_OPEN) return 16;
     sefunjaro_zone_close(&other);
@@ -330,6 +458,7 @@ int main(void) {
     if (!failed) failed = rings_and_texts();
     if (!failed) failed = files();
     if (!failed) failed = edges();
+    if (!failed) failed = three_times();
     if (!failed) failed = changes_of_nothing();
     if (!failed) failed = statuses();
     sefunjaro_zone_close(&zone);

@@ -24,7 +24,7 @@
 
    Every answer is a status. Where it is SEFUNJARO_DONE, what goes out through pointers is written: text and lists as far as there is room,
    and their whole length is told. Where it is another, every place that a pointer leads to stays as it was, but for a fault, which tells
-   the status, the cause and the line in either case, the place that sefunjaro_offsets_at tells, and the handle that a call was to open,
+   the status, the cause and the line in either case, the `place` that a call of a list tells, and the handle that a call was to open,
    which is closed. Text is UTF-8 and ends without a zero byte; the bytes of files are uint8_t. Seconds are counted from 1970-01-01 00:00:00
    UTC, offsets in seconds east of UTC (at most 93,599 to either side), and the years of dates are -9999 to 9999. An instant may lie outside
    these years by so much as the greatest offset, so that each local time of them has its instants: clocks in New York show 23:30 on the
@@ -178,6 +178,27 @@ enum sefunjaro_ever_cause {
     SEFUNJARO_EVER_RULES_END = 8     /* the zone doesn't go on: sefunjaro_years */
 };
 
+/* Which instant is meant of a local time that has more than one. */
+enum sefunjaro_fold {
+    SEFUNJARO_FOLD_FIRST = 0,
+    SEFUNJARO_FOLD_SECOND = 1
+};
+
+/* What is meant by a local time that clocks skip. */
+enum sefunjaro_gap_rule {
+    SEFUNJARO_GAP_BEFORE = 0, /* the instant by the offset in force up to the change that skips it */
+    SEFUNJARO_GAP_AFTER = 1,  /* the instant by the offset in force from that change on */
+    SEFUNJARO_GAP_NONE = 2    /* no instant: that change is told */
+};
+
+/* How many instants a local time has. */
+enum sefunjaro_kind {
+    SEFUNJARO_KIND_GAP = 0, /* none: clocks skip it */
+    SEFUNJARO_KIND_ONE = 1,
+    SEFUNJARO_KIND_FOLD = 2, /* two: clocks are set back over it */
+    SEFUNJARO_KIND_MORE = 3  /* more, as in zones without order */
+};
+
 /* What a call refuses that opens something, or asks for a zone's string or file. */
 struct sefunjaro_fault {
     uint32_t status; /* the status that the call answers */
@@ -216,6 +237,25 @@ struct sefunjaro_gap {
     int32_t after;  /* the offset in force from it on */
 };
 
+/* One instant of a local time. */
+struct sefunjaro_found {
+    int64_t second; /* the instant; by SEFUNJARO_GAP_NONE the second of the change that skips the local time */
+    int32_t offset; /* the offset by which the local time is that instant; by SEFUNJARO_GAP_NONE the one in force up to the change */
+    uint32_t kind;  /* enum sefunjaro_kind */
+};
+
+/* All that a zone says of an instant, and seconds around it throughout which all of it but the local time holds. */
+struct sefunjaro_answer {
+    int32_t offset;
+    bool is_saving;     /* whether the saving is above 0; of a file, whether it marks daylight saving time */
+    bool is_kept;       /* whether the zone keeps its saving: those of sources do, and those of files and of POSIX strings don't */
+    int64_t saving;     /* how many seconds of the offset are the saving, where it is kept, and else 0 */
+    struct sefunjaro_clock clock;
+    size_t name_length; /* how many bytes the abbreviation has */
+    int64_t from;       /* the first of those seconds; where nothing comes before, INT64_MIN */
+    int64_t until;      /* the one after the last of them */
+};
+
 /* The years that the rules of a source are worked out for. Before the first nothing changes in a zone; after the last no rule fires in one
    that doesn't go on for ever, and sefunjaro_years tells which. */
 struct sefunjaro_years {
@@ -251,10 +291,18 @@ uint32_t sefunjaro_share_by(struct sefunjaro_zone *copy, struct sefunjaro_zone *
 uint32_t sefunjaro_offset_at_by(struct sefunjaro_zone *copy, int64_t second, uint32_t nanosecond, int32_t *offset);
 uint32_t sefunjaro_offsets_at_by(struct sefunjaro_zone *copy, const int64_t *seconds, size_t count, int32_t *offsets, size_t room,
                                  size_t *place);
+uint32_t sefunjaro_clocks_at_by(struct sefunjaro_zone *copy, const int64_t *seconds, size_t count, struct sefunjaro_clock *clocks,
+                                size_t room, size_t *place);
+uint32_t sefunjaro_texts_at_by(struct sefunjaro_zone *copy, const int64_t *seconds, size_t count, char *text, size_t room, size_t *whole,
+                               size_t *place);
+uint32_t sefunjaro_instants_of_by(struct sefunjaro_zone *copy, const struct sefunjaro_clock *clocks, size_t count, uint32_t fold,
+                                  uint32_t gap, struct sefunjaro_found *found, size_t room, size_t *place);
 uint32_t sefunjaro_in_force_by(struct sefunjaro_zone *copy, int64_t second, uint32_t nanosecond, struct sefunjaro_in_force *found,
                                char *name, size_t room);
 uint32_t sefunjaro_clock_at_by(struct sefunjaro_zone *copy, int64_t second, uint32_t nanosecond, struct sefunjaro_clock *clock,
                                int32_t *offset);
+uint32_t sefunjaro_answer_at_by(struct sefunjaro_zone *copy, int64_t second, uint32_t nanosecond, struct sefunjaro_answer *answer,
+                                char *name, size_t room);
 uint32_t sefunjaro_text_at_by(struct sefunjaro_zone *copy, int64_t second, uint32_t nanosecond, char *text, size_t room,
                               size_t *whole);
 uint32_t sefunjaro_readings_by(struct sefunjaro_zone *copy, const struct sefunjaro_clock *local, struct sefunjaro_reading *readings,
@@ -403,6 +451,36 @@ static inline uint32_t sefunjaro_offsets_at(const struct sefunjaro_zone *zone, c
     return sefunjaro_offsets_at_by(&copy, seconds, count, offsets, room, place);
 }
 
+/* What clocks show at so many seconds, in their order, as far as there is room: each as sefunjaro_clock_at tells it at the nanosecond 0. It
+   costs what sefunjaro_offsets_at does, and the calendar. Where a second lies outside the years -9999 to 9999 in UTC, or its local date
+   does, `place` is set to the place of the first such one, from 0, and the clocks stay as they were; else `place` stays. NOT_OPEN,
+   OUT_OF_RANGE. */
+static inline uint32_t sefunjaro_clocks_at(const struct sefunjaro_zone *zone, const int64_t *seconds, size_t count,
+                                           struct sefunjaro_clock *clocks, size_t room, size_t *place) {
+    struct sefunjaro_zone copy = *zone;
+    return sefunjaro_clocks_at_by(&copy, seconds, count, clocks, room, place);
+}
+
+/* The texts of so many seconds, one after another, and their whole length: each as sefunjaro_text_at writes it at the nanosecond 0, with a
+   line feed behind it, so 40 bytes or 41. Room for 41 bytes a second is always enough; where there is less, a text may be cut. `place` is
+   told as by sefunjaro_clocks_at; of more than 2^58 seconds it is that of the first too many. NOT_OPEN, OUT_OF_RANGE. */
+static inline uint32_t sefunjaro_texts_at(const struct sefunjaro_zone *zone, const int64_t *seconds, size_t count, char *text, size_t room,
+                                          size_t *whole, size_t *place) {
+    struct sefunjaro_zone copy = *zone;
+    return sefunjaro_texts_at_by(&copy, seconds, count, text, room, whole, place);
+}
+
+/* One instant of each of so many local times, in their order, as far as there is room, at its nanosecond: of one with more than one
+   instant that of `fold`, of enum sefunjaro_fold, and of one that clocks skip what `gap` names, of enum sefunjaro_gap_rule. With
+   SEFUNJARO_GAP_NONE the item of a local time that is skipped holds no instant, but the second of the change that skips it and the offset
+   up to it. Where some parts are no date or no time `place` is set to the place of the first such ones, from 0, and the items stay as they
+   were; else `place` stays, also where `fold` or `gap` is none of those numbers, which is OUT_OF_RANGE too. NOT_OPEN, OUT_OF_RANGE. */
+static inline uint32_t sefunjaro_instants_of(const struct sefunjaro_zone *zone, const struct sefunjaro_clock *clocks, size_t count,
+                                             uint32_t fold, uint32_t gap, struct sefunjaro_found *found, size_t room, size_t *place) {
+    struct sefunjaro_zone copy = *zone;
+    return sefunjaro_instants_of_by(&copy, clocks, count, fold, gap, found, room, place);
+}
+
 /* The offset, whether it is daylight saving time, and the abbreviation at an instant. NOT_OPEN, OUT_OF_RANGE. */
 static inline uint32_t sefunjaro_in_force(const struct sefunjaro_zone *zone, int64_t second, uint32_t nanosecond,
                                           struct sefunjaro_in_force *found, char *name, size_t room) {
@@ -415,6 +493,19 @@ static inline uint32_t sefunjaro_clock_at(const struct sefunjaro_zone *zone, int
                                           struct sefunjaro_clock *clock, int32_t *offset) {
     struct sefunjaro_zone copy = *zone;
     return sefunjaro_clock_at_by(&copy, second, nanosecond, clock, offset);
+}
+
+/* All that a zone says of an instant, in one call: what sefunjaro_in_force, sefunjaro_saving_at and sefunjaro_clock_at tell of it, and how
+   long it holds. At each instant of the seconds from `from` on and before `until`, of which the instant's own is one, the same offset, saving
+   and abbreviation are in force. In a zone of a source these are all seconds between two entries of it, up to the end of 10501; the next
+   entry may change nothing, as sefunjaro_changes tells. In a zone of a file or of a POSIX string they
+   begin with the instant's own and end with the next change, or with the year where a rule goes on; outside the years -4000 to 8000 they are
+   that second alone.
+   NOT_OPEN, OUT_OF_RANGE (also where the local date lies outside the years -9999 to 9999). */
+static inline uint32_t sefunjaro_answer_at(const struct sefunjaro_zone *zone, int64_t second, uint32_t nanosecond,
+                                           struct sefunjaro_answer *answer, char *name, size_t room) {
+    struct sefunjaro_zone copy = *zone;
+    return sefunjaro_answer_at_by(&copy, second, nanosecond, answer, name, room);
 }
 
 /* The text of an instant, `YYYY-MM-DD hh:mm:ss.nnnnnnnnn +hh:mm:ss` with a `-` before a year below 0, and its whole length: 39 bytes

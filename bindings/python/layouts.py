@@ -9,7 +9,7 @@ from given import words
 words(__doc__)
 import sefunjaro  # noqa: E402
 
-for name in ("Handle", "Fault", "InForce", "Clock", "Reading", "Gap", "Years", "Change", "Instant"):
+for name in ("Handle", "Fault", "InForce", "Clock", "Reading", "Gap", "Found", "Answer", "Years", "Change", "Instant"):
     struct = getattr(sefunjaro, f"_Raw{name}")
     fields = (f"{field} {getattr(struct, field).offset}" for field, _ in struct._fields_)
     print(f"{name} {ctypes.sizeof(struct)}:", *fields)

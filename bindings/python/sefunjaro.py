@@ -47,10 +47,11 @@ from typing import (
 )
 
 __all__ = [
-    "BadJoin", "BadLine", "Change", "Clock", "Error", "EverCause", "FileCause", "FIRST_YEAR", "Gap", "InForce", "Instant", "IS_IN_C",
-    "JoinCause", "LAST_YEAR", "LineCause", "NoPlainForm", "NoSchedule", "NoTail", "NotKept", "NotOpen", "NotRead", "NoTzdata", "NoTzif", "OffsetRange",
-    "OffsetTooLarge", "OutOfRange", "PlainCause", "PosixTail", "ScheduleCause", "Skipped", "Source", "SourceError", "Status", "TailCause", "TzifCause",
-    "UnknownZone", "VERSION", "Zone", "ZoneError", "available_zones", "machine_source", "read_local", "read_zoned", "zone",
+    "Answer", "BadJoin", "BadLine", "Change", "Clock", "Error", "EverCause", "FileCause", "FIRST_YEAR", "Fold", "Found", "Gap", "GapRule",
+    "InForce", "Instant", "IS_IN_C", "JoinCause", "Kind", "LAST_YEAR", "LineCause", "NoPlainForm", "NoSchedule", "NoTail", "NotKept",
+    "NotOpen", "NotRead", "NoTzdata", "NoTzif", "OffsetRange", "OffsetTooLarge", "OutOfRange", "PlainCause", "PosixTail", "ScheduleCause",
+    "Skipped", "Source", "SourceError", "Status", "TailCause", "TzifCause", "UnknownZone", "VERSION", "Zone", "ZoneError",
+    "available_zones", "machine_source", "read_local", "read_zoned", "zone",
 ]
 
 
@@ -100,6 +101,16 @@ TzifCause = enum.IntEnum("TzifCause", "TIMES TYPES NAMES", module=__name__)
 
 EverCause = enum.IntEnum("EverCause", "SHAPE OFFSET_RANGE NAME NO_RULE TIMES TYPES NAMES RULES_END", module=__name__)
 """Why a zone has no string or no TZif file for ever."""
+
+Fold = enum.IntEnum("Fold", "FIRST SECOND", module=__name__, start=0)
+"""Which instant is meant of a local time that has more than one."""
+
+GapRule = enum.IntEnum("GapRule", "BEFORE AFTER NONE", module=__name__, start=0)
+"""What is meant by a local time that clocks skip: the instant by the offset before the change, that by the one after it, or none: then the
+change is told."""
+
+Kind = enum.IntEnum("Kind", "GAP ONE FOLD MORE", module=__name__, start=0)
+"""How many instants a local time has: none, one, two, or more."""
 
 
 class Error(Exception):
@@ -256,6 +267,15 @@ class Gap(NamedTuple):
     after: int
 
 
+class Found(NamedTuple):
+    """One instant of a local time, to the second; the offset by which it is that; and how many instants the local time has. By
+    `GapRule.NONE` the second of the change that skips it, and the offset up to that."""
+
+    second: int
+    offset: int
+    kind: Kind
+
+
 class Change(NamedTuple):
     """What is in force in a zone from a second on: the offset, how many seconds of it are the saving, and the abbreviation; and whether
     one of them is another than just before."""
@@ -288,6 +308,21 @@ class InForce(NamedTuple):
     name: str
 
 
+class Answer(NamedTuple):
+    """All that a zone says of an instant: the offset, whether there is daylight saving time, how many seconds of the offset are the saving
+    (None in a zone of a file or of a POSIX string), what clocks show, and the abbreviation; and the first of the seconds throughout which
+    all this but the local time holds, and the one after the last of them: in a zone of a source those between two entries of it, and else
+    those from the instant's own up to the next change, or the year's end where a rule goes on."""
+
+    offset: int
+    is_saving: bool
+    saving: Optional[int]
+    clock: Clock
+    name: str
+    begin: int
+    end: int
+
+
 def _struct(name: str, **fields: Any) -> Any:
     """A struct of the header, by its fields in order."""
     return type(name, (ctypes.Structure,), {"_fields_": list(fields.items())})
@@ -303,6 +338,12 @@ _RawClock = _struct(
 )
 _RawReading = _struct("_RawReading", second=ctypes.c_int64, offset=ctypes.c_int32)
 _RawGap = _struct("_RawGap", second=ctypes.c_int64, before=ctypes.c_int32, after=ctypes.c_int32)
+_RawFound = _struct("_RawFound", second=ctypes.c_int64, offset=ctypes.c_int32, kind=ctypes.c_uint32)
+_RawAnswer = _struct(
+    "_RawAnswer",
+    offset=ctypes.c_int32, is_saving=ctypes.c_bool, is_kept=ctypes.c_bool, saving=ctypes.c_int64, clock=_RawClock,
+    name_length=ctypes.c_size_t, **{"from": ctypes.c_int64}, until=ctypes.c_int64,
+)
 _RawYears = _struct("_RawYears", first=ctypes.c_int32, last=ctypes.c_int32)
 _RawChange = _struct(
     "_RawChange",
@@ -354,6 +395,10 @@ _share = _function("sefunjaro_share_by", _at, _at)
 _close = _function("sefunjaro_close", _at, answer=None)
 _offset_at = _function("sefunjaro_offset_at_by", _at, *_instant, _at)
 _offsets_at = _function("sefunjaro_offsets_at_by", _at, _at, _size, _at, _size, _at)
+_clocks_at = _function("sefunjaro_clocks_at_by", _at, _at, _size, _at, _size, _at)
+_texts_at = _function("sefunjaro_texts_at_by", _at, _at, _size, _at, _size, _at, _at)
+_instants_of = _function("sefunjaro_instants_of_by", _at, _at, _size, ctypes.c_uint32, ctypes.c_uint32, _at, _size, _at)
+_answer_at = _function("sefunjaro_answer_at_by", _at, *_instant, _at, _at, _size)
 _in_force = _function("sefunjaro_in_force_by", _at, *_instant, _at, _at, _size)
 _clock_at = _function("sefunjaro_clock_at_by", _at, *_instant, _at, _at)
 _text_at = _function("sefunjaro_text_at_by", _at, *_instant, _at, _size, _at)
@@ -1053,6 +1098,46 @@ class Zone(_Asked, _Opened):
             raise ValueError(f"fold is one of {', '.join(_FOLDS)}, and gap one of {', '.join(_GAPS)}")
         return self._answers(_INSTANTS, shown, _FOLDS.index(fold), _GAPS.index(gap))
 
+    def clocks_at(self, seconds: Any) -> List[Clock]:
+        """What clocks show at many seconds, in their order. Takes and raises what `offsets_at` does, and raises OutOfRange also where a
+        local date lies outside the years -9999 to 9999."""
+        asked = _seconds_of(seconds).tobytes()
+        count = len(asked) // 8
+        clocks = (_RawClock * count)()
+        self._ask_all(_clocks_at, asked, count, clocks, count)
+        return [_clock(clock) for clock in clocks]
+
+    def texts_at(self, seconds: Any) -> str:
+        """The texts of many seconds, one after another, each as `text_at` has it, with a line feed behind it. Takes and raises what
+        `clocks_at` does."""
+        asked = _seconds_of(seconds).tobytes()
+        count, whole = len(asked) // 8, ctypes.c_size_t()
+        room = 41 * count
+        text = ctypes.create_string_buffer(room or 1)
+        self._ask_all(_texts_at, asked, count, text, room, ctypes.byref(whole))
+        return text.raw[: whole.value].decode()
+
+    def instants_of(
+        self, shown: Iterable[Union[datetime.datetime, Clock]], *, fold: Fold = Fold.FIRST, gap: GapRule = GapRule.BEFORE
+    ) -> List[Found]:
+        """One instant of each of many local times, in their order, by the rules. Raises OutOfRange, with the place in the text, and
+        ValueError as `instants`."""
+        fold, gap = Fold(fold), GapRule(gap)
+        clocks = [self._asked(local) for local in shown]
+        count = len(clocks)
+        found = (_RawFound * count)()
+        self._ask_all(_instants_of, (_RawClock * count)(*clocks), count, fold, gap, found, count)
+        return [Found(one.second, one.offset, Kind(one.kind)) for one in found]
+
+    def _ask_all(self, call: Callable[..., int], *asked: Any) -> None:
+        """Asks a call that takes a list, and tells a place last."""
+        place = ctypes.c_size_t()
+        status = self._handle.ask(call, *asked, ctypes.byref(place))
+        if status == Status.OUT_OF_RANGE:
+            raise OutOfRange(f"{self._name!r}: out of range at place {place.value}")
+        if status:
+            _raise(status, repr(self._name))
+
     def _answers(self: Any, kind: int, seconds: Any, fold: int = 0, gap: int = 0) -> array.array[int]:
         """What is asked of each of many seconds."""
         view, found = _seconds_of(seconds), array.array("i" if kind == _OFFSETS else "q")
@@ -1089,6 +1174,21 @@ class Zone(_Asked, _Opened):
                 _raise(status, repr(self._name))
             if found.name_length <= room:
                 return InForce(found.offset, found.is_saving, bytes(name[: found.name_length]).decode())
+            room = found.name_length
+            name = (ctypes.c_uint8 * room)()
+
+    def answer_at(self, second: int, nanosecond: int = 0) -> Answer:
+        """All that the zone says of an instant, in one call. Raises OutOfRange as `clock_at`."""
+        found, name, room = _RawAnswer(), _Name(), _NAME_ROOM
+        handle, second, nanosecond = self._handle, _second(second), _nanosecond(nanosecond)
+        while True:
+            status = handle.ask(_answer_at, second, nanosecond, ctypes.byref(found), name, room)
+            if status:
+                _raise(status, repr(self._name))
+            if found.name_length <= room:
+                saving = found.saving if found.is_kept else None
+                said = bytes(name[: found.name_length]).decode()
+                return Answer(found.offset, found.is_saving, saving, _clock(found.clock), said, getattr(found, "from"), found.until)
             room = found.name_length
             name = (ctypes.c_uint8 * room)()
 

@@ -205,6 +205,41 @@ class Zones(unittest.TestCase):
             self.zone.offsets_at([0] * 70_001 + [253402300800, 0])
         self.assertEqual(list(sefunjaro.Zone.from_posix("EST5").offsets_at([0, 1])), [-18000, -18000])
 
+    def test_clocks_at(self):
+        seconds = [SPRING - 1, SPRING, AUTUMN - 1, AUTUMN, 4_000_000_000, -(10**11)]
+        self.assertEqual(self.zone.clocks_at(seconds), [self.zone.clock_at(second)[0] for second in seconds])
+        self.assertEqual(self.zone.texts_at(seconds), "".join(self.zone.text_at(second) + "\n" for second in seconds))
+        self.assertEqual((self.zone.clocks_at([]), self.zone.texts_at([])), ([], ""))
+        for ask in (self.zone.clocks_at, self.zone.texts_at):
+            for asked in ([0, 253402300800], [0, 253402300799], [0, -377705116801]):
+                with self.assertRaisesRegex(sefunjaro.OutOfRange, "place 1"):
+                    ask(asked)
+
+    def test_answer_at(self):
+        answer = self.zone.answer_at(SPRING, 5)
+        self.assertEqual(answer[:5], (7200, True, 3600, Clock(2024, 3, 31, 3, 0, 0, 5), "CEST"))
+        self.assertEqual(answer[5:], (SPRING, AUTUMN))
+        self.assertEqual(sefunjaro.Zone.from_posix("EST5").answer_at(7)[2:], (None, Clock(1969, 12, 31, 19, 0, 7), "EST", 7, 8))
+        self.assertEqual(Source(SOURCE).zone("Here/Long").answer_at(0).name, "AbbreviationOfTwentySix")
+        with self.assertRaises(sefunjaro.OutOfRange):
+            self.zone.answer_at(253402300799)
+
+    def test_instants_of(self):
+        shown = [Clock(2024, 3, 31, 2, 30), datetime(2024, 10, 27, 2, 30), Clock(2024, 7, 1, 12)]
+        Fold, GapRule, Kind = sefunjaro.Fold, sefunjaro.GapRule, sefunjaro.Kind
+        found = self.zone.instants_of(shown)
+        self.assertEqual(found[0], (SPRING + 1800, 3600, Kind.GAP))
+        self.assertEqual(found[1], (AUTUMN - 1800, 7200, Kind.FOLD))
+        self.assertEqual(found[2], (1719828000, 7200, Kind.ONE))
+        found = self.zone.instants_of(shown, fold=Fold.SECOND, gap=GapRule.AFTER)
+        self.assertEqual(found[:2], [(SPRING - 1800, 7200, Kind.GAP), (AUTUMN + 1800, 3600, Kind.FOLD)])
+        self.assertEqual(self.zone.instants_of(shown[:1], gap=GapRule.NONE), [(SPRING, 3600, Kind.GAP)])
+        self.assertEqual(self.zone.instants_of([]), [])
+        with self.assertRaisesRegex(sefunjaro.OutOfRange, "place 1"):
+            self.zone.instants_of([Clock(2024, 2, 29), Clock(2023, 2, 29)])
+        with self.assertRaises(ValueError):
+            self.zone.instants_of(shown, gap=3)
+
     def test_to_local(self):
         zone = Source(SOURCE).zone("Here/Middle")
         theirs = zoneinfo.ZoneInfo.from_file(io.BytesIO(zone.to_tzif()))

@@ -27,6 +27,7 @@
 mod changes;
 mod error;
 mod instant;
+mod lists;
 mod named;
 mod raw;
 mod source;
@@ -36,10 +37,11 @@ mod zone;
 pub use changes::{Change, Changes};
 pub use error::{Error, EverCause, FileCause, JoinCause, LineCause, PlainCause, ScheduleCause, TailCause, TzifCause};
 pub use instant::Instant;
+pub use lists::{Fold, Found, GapRule, Kind};
 pub use named::{machine_source, NamedError};
 pub use source::{Names, Source};
 pub use whole::PosixTail;
-pub use zone::{Choice, InForce, Instants, LocalTime, Zone};
+pub use zone::{Answer, Choice, InForce, Instants, LocalTime, Zone};
 
 use raw::{RawHandle, DONE};
 use std::ops::RangeInclusive;

@@ -36,6 +36,19 @@ pub struct RawInForce {
 }
 
 #[repr(C)]
+#[derive(Default)]
+pub struct RawAnswer {
+    pub offset: i32,
+    pub is_saving: bool,
+    pub is_kept: bool,
+    pub saving: i64,
+    pub clock: crate::Clock,
+    pub name_length: usize,
+    pub from: i64,
+    pub until: i64,
+}
+
+#[repr(C)]
 #[derive(Clone, Copy, Default)]
 pub struct RawReading {
     pub second: i64,
@@ -98,12 +111,47 @@ extern "C" {
         room: usize,
         place: *mut usize,
     ) -> u32;
+    pub fn sefunjaro_clocks_at_by(
+        copy: *mut RawHandle,
+        seconds: *const i64,
+        count: usize,
+        clocks: *mut crate::Clock,
+        room: usize,
+        place: *mut usize,
+    ) -> u32;
+    pub fn sefunjaro_texts_at_by(
+        copy: *mut RawHandle,
+        seconds: *const i64,
+        count: usize,
+        text: *mut u8,
+        room: usize,
+        whole: *mut usize,
+        place: *mut usize,
+    ) -> u32;
+    pub fn sefunjaro_instants_of_by(
+        copy: *mut RawHandle,
+        clocks: *const crate::Clock,
+        count: usize,
+        fold: u32,
+        gap: u32,
+        found: *mut crate::Found,
+        room: usize,
+        place: *mut usize,
+    ) -> u32;
     pub fn sefunjaro_offset_at_by(copy: *mut RawHandle, second: i64, nanosecond: u32, offset: *mut i32) -> u32;
     pub fn sefunjaro_in_force_by(
         copy: *mut RawHandle,
         second: i64,
         nanosecond: u32,
         found: *mut RawInForce,
+        name: *mut u8,
+        room: usize,
+    ) -> u32;
+    pub fn sefunjaro_answer_at_by(
+        copy: *mut RawHandle,
+        second: i64,
+        nanosecond: u32,
+        answer: *mut RawAnswer,
         name: *mut u8,
         room: usize,
     ) -> u32;
@@ -160,7 +208,7 @@ extern "C" {
 #[cfg(test)]
 mod tests {
     use super::*;
-    use crate::{Change, Clock, Gap};
+    use crate::{Change, Clock, Found, Gap};
     use std::mem::{size_of, MaybeUninit};
     use std::ptr::addr_of;
 
@@ -188,6 +236,8 @@ mod tests {
             layout!("Clock", Clock: year month day hour minute second nanosecond),
             layout!("Reading", RawReading: second offset),
             layout!("Gap", Gap: second before after),
+            layout!("Found", Found: second offset kind),
+            layout!("Answer", RawAnswer: offset is_saving is_kept saving clock name_length from until),
             layout!("Years", RawYears: first last),
             layout!("Change", Change: second offset saving name_length differs),
             layout!("Instant", RawInstant: second nanosecond offset),

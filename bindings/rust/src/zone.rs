@@ -1,9 +1,10 @@
 //! A zone.
 
-use crate::raw::{self, RawFault, RawHandle, RawInForce, RawReading, DONE};
+use crate::raw::{self, RawAnswer, RawFault, RawHandle, RawInForce, RawReading, DONE};
 use crate::{done, Clock, Error, Gap, Handle, Instant};
 use std::fmt;
 use std::iter::FusedIterator;
+use std::ops::Range;
 use std::time::SystemTime;
 
 /// A zone of the tz database.
@@ -36,6 +37,23 @@ pub struct InForce {
     pub is_saving: bool,
     /// The abbreviation.
     pub name: String,
+}
+
+/// All that a zone says of an instant.
+#[derive(Clone, Debug, PartialEq, Eq, Hash)]
+pub struct Answer {
+    pub offset: i32,
+    /// Whether there is daylight saving time, as [`InForce`] tells it.
+    pub is_saving: bool,
+    /// How many seconds of the offset are the saving; of a zone of a file or of a POSIX string, none.
+    pub saving: Option<i64>,
+    /// What clocks show.
+    pub clock: Clock,
+    /// The abbreviation.
+    pub name: String,
+    /// Seconds, among them the instant's, throughout which all this but the local time holds: in a zone of a source those between two
+    /// entries of it, and else the instant's alone.
+    pub seconds: Range<i64>,
 }
 
 /// What a zone makes of a local time: its instants, or the change that skips it.
@@ -184,27 +202,6 @@ impl Zone {
         Ok(offset)
     }
 
-    /// The offsets at many seconds, in their order, as far as there is room. Seconds that rise cost least.
-    ///
-    /// # Errors
-    ///
-    /// [`Error::OutOfRange`] where one lies outside the years -9999 to 9999 in UTC; the room is as it was then.
-    ///
-    /// ```
-    /// let zone = sefunjaro::Source::open(b"Zone A 1:00 - A 2000\n 2:00 - B\n")?.zone("A")?;
-    /// let mut offsets = [0; 2];
-    /// zone.offsets_at(&[0, 1711846800], &mut offsets)?;
-    /// assert_eq!(offsets, [3600, 7200]);
-    /// # Ok::<(), sefunjaro::Error>(())
-    /// ```
-    pub fn offsets_at(&self, seconds: &[i64], offsets: &mut [i32]) -> Result<(), Error> {
-        let (mut copy, mut place) = (self.handle.copy(), 0);
-        // SAFETY: the copy serves this call alone, both lists are as long as is said, and nothing overlaps.
-        done(unsafe {
-            raw::sefunjaro_offsets_at_by(&mut copy, seconds.as_ptr(), seconds.len(), offsets.as_mut_ptr(), offsets.len(), &mut place)
-        })
-    }
-
     /// The offset, whether there is daylight saving time, and the abbreviation at an instant.
     ///
     /// # Errors
@@ -230,6 +227,43 @@ impl Zone {
             if is_whole {
                 let name = String::from_utf8(name).map_err(|_| Error::Unexpected { status: 0, cause: 0 })?;
                 return Ok(InForce { offset: found.offset, is_saving: found.is_saving, name });
+            }
+        }
+    }
+
+    /// All that the zone says of an instant, in one call.
+    ///
+    /// # Errors
+    ///
+    /// As [`Zone::clock_at`].
+    ///
+    /// ```
+    /// let zone = sefunjaro::Source::open(b"Zone A 1:00 - A 2000\n 2:00 - B\n")?.zone("A")?;
+    /// let answer = zone.answer_at(0, 0)?;
+    /// assert_eq!((answer.offset, answer.saving, answer.name.as_str()), (3600, Some(0), "A"));
+    /// assert_eq!((answer.clock.hour, answer.seconds), (1, i64::MIN..946681200));
+    /// # Ok::<(), sefunjaro::Error>(())
+    /// ```
+    pub fn answer_at(&self, second: i64, nanosecond: u32) -> Result<Answer, Error> {
+        let mut name = vec![0; 16];
+        loop {
+            let mut told = RawAnswer::default();
+            // SAFETY: the copy serves this call alone, and the room is as long as is said.
+            done(unsafe {
+                raw::sefunjaro_answer_at_by(&mut self.handle.copy(), second, nanosecond, &mut told, name.as_mut_ptr(), name.len())
+            })?;
+            let is_whole = told.name_length <= name.len();
+            name.resize(told.name_length, 0);
+            if is_whole {
+                let name = String::from_utf8(name).map_err(|_| Error::Unexpected { status: 0, cause: 0 })?;
+                return Ok(Answer {
+                    offset: told.offset,
+                    is_saving: told.is_saving,
+                    saving: told.is_kept.then_some(told.saving),
+                    clock: told.clock,
+                    name,
+                    seconds: told.from..told.until,
+                });
             }
         }
     }

@@ -6,13 +6,16 @@ use Rattle.civil_base.specs.Instants.{instant_at, local_at, nanos_of, seconds_of
 use Rattle.civil_base.specs.Ranges.{IsOffset}
 use Rattle.civil_base.specs.RangeLaws.{offset_least, offset_greatest}
 use Rattle.tz_tzif.specs.FooterForce.{FooterZone}
-use Rattle.tz_tzif.specs.InForce.{kind_at, kind_in, told_total_at}
+use Rattle.calendar.specs.ComparisonLaws.{le_itself}
+use Rattle.tz_tzif.specs.Lasting.{IsTold}
+use Rattle.tz_tzif.specs.InForce.{kind_at, kind_in, told_total_at, total_in}
 use Rattle.zone_spans.specs.Schedules.{Schedule, instants, last_total, total_at}
 use Rattle.tz_zone.specs.InForce.{all_in_force, in_force}
 use Rattle.tz_zone.specs.InstantLaws.{instants_are}
 use Rattle.tz_zone.specs.SecondLaws.{IsSecond, second_is, one_second}
 use Rattle.zone_tzif_core.specs.Zones.{ZoneValue}
 use Rattle.sefunjaro.specs.Gaps.{IsSkippedBy}
+use Rattle.sefunjaro.specs.Stretches.{IsStretch}
 use Rattle.sefunjaro.specs.GapPlaces.{nth_offset, HoldsSeconds, IsNeverRead}
 
 reads : (x k total : ℤ) → total ≡ k → (instant_at x k +ℤ pos 1000000000 *ℤ total) ≡ x
@@ -77,7 +80,7 @@ unfolding HoldsSeconds total_at
 schedule_holds schedule t =
     ap (λ (p : ℤ × ℤ → Bool). last_total schedule.first (filter p schedule.shifts)) (λ i shift. test_same shift.0 t (seconds_of t) (second_is t) i)
 
-whole_second : (s : ℤ) → seconds_of (nanos_of s) ≡ s
+pub whole_second : (s : ℤ) → seconds_of (nanos_of s) ≡ s
 whole_second s = one_second (nanos_of s) _ s (second_is (nanos_of s)) (record { low = omega (arith, ints); high = omega (arith, ints) })
 
 -- a file speaks of seconds alone
@@ -91,3 +94,32 @@ unfolding IsNeverRead all_in_force
 never_read total x range none t e =
     let found = ((instants_are total x range).exact t).1 e in
     absurd (omega (arith, found.1, none, length-map (instants total x) (in_force total)))
+
+passes : (x s shown a : ℤ) → IsSecond x shown → (s +ℤ a) ≤ℤ shown → local_at (nanos_of s) a ≤ℤ x
+passes x s shown a h le = omega (arith, ints, h.low, le)
+
+stays : (x s shown a : ℤ) → IsSecond x shown → shown <ℤ (s +ℤ a) → x <ℤ local_at (nanos_of s) a
+stays x s shown a h lt = omega (arith, ints, h.high, lt)
+
+-- a change at the end of seconds throughout which one total is in force, where clocks go on from up to a local time to past it
+pub skipped_at : (total : ℤ → ℤ) (x shown second from until before after : ℤ) → HoldsSeconds total → shown ≡ seconds_of x
+    → from ≤ℤ second → second <ℤ until → ((u : ℤ) → from ≤ℤ u → u <ℤ until → total (nanos_of u) ≡ before) → total (nanos_of until) ≡ after
+    → (until +ℤ before) ≤ℤ shown → shown <ℤ (until +ℤ after) → IsSkippedBy total x (record { second = until; before = before; after = after })
+skipped_at total x shown second from until before after holds is begun later same next behind ahead =
+    let here : IsSecond x shown = subst (IsSecond x) (sym is) (second_is x) in record {
+      before = sym (same (until -ℤ pos 1) (omega (arith, ints, begun, later)) (omega (arith, ints)))
+          ∙ sym (same_second total (nanos_of until -ℤ pos 1) (until -ℤ pos 1) holds (just_before until));
+      after = sym next;
+      behind = passes x until shown before here behind;
+      ahead = stays x until shown after here ahead;
+    }
+
+-- what a zone of a file tells of a second, and how long, is a stretch
+pub stretch_told : (value : ZoneValue) (footer : Option FooterZone) (s offset until : ℤ) → IsTold (total_in value footer) s offset until
+    → IsStretch (told_total_at value footer) s (record { from = s; until = until; offset = offset })
+unfolding kind_at
+stretch_told value footer s offset until told = record {
+  begun = le_itself s;
+  here = ap (total_in value footer) (whole_second s) ∙ told.here;
+  throughout = λ u low high. ap (total_in value footer) (whole_second u) ∙ told.same u low high;
+}

@@ -1,3 +1,5 @@
+mod AnswerLemmas
+pub mod AnswerRows
 mod AnySourceLemmas
 mod AskLemmas
 mod CaseLemmas
@@ -5,6 +7,8 @@ mod ChangeLemmas
 pub mod ChangeRows
 mod FileLemmas
 pub mod FileRows
+mod FoundLemmas
+pub mod FoundRows
 mod GapLemmas
 pub mod GapRows
 pub mod PosixNameRows
@@ -14,5 +18,7 @@ mod ReleaseLemmas
 mod ReplyLemmas
 mod StretchLemmas
 mod RoomLemmas
+mod ShownLemmas
+pub mod ShownRows
 pub mod YearRows
 mod ZoneLemmas

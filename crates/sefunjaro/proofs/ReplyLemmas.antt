@@ -1,5 +1,5 @@
 -- What replies see of a zone.
-use Rattle.std.proofs.Common.{◌≡◌, ◌<◌, ◌≤◌, ◌+◌, ℕ, zero, suc, ℤ, pos, ◌-ℤ◌, List, [], ◌∷◌, ◌++◌, length, map, filter, Bool, cond, refl, ap, sym, ◌∙◌, arith, true, false}
+use Rattle.std.proofs.Common.{◌≡◌, ◌≤◌, ℕ, zero, suc, ℤ, pos, ◌-ℤ◌, List, [], ◌∷◌, ◌++◌, length, map, filter, Bool, cond, refl, ap, sym, ◌∙◌, arith, true, false}
 use Rattle.std.specs.Prelude.{int_le, int_lt}
 use Rattle.calendar.specs.ComparisonLaws.{lt_pass, lt_fail, le_from_pass, le_from_fail}
 use Rattle.std.proofs.lemmas.Int.{ints}
@@ -7,10 +7,8 @@ use Rattle.civil_base.specs.DateTimes.{instant}
 use Rattle.civil_base.specs.declared.offset_date_time.OffsetDateTime.{OffsetDateTime}
 use Rattle.zone_spans.specs.Entries.{Entry, total}
 use Rattle.zone_spans.specs.Schedules.{instants}
-use Rattle.zone_spans.specs.declared.span.FixedTimespan.{FixedTimespan}
 use Rattle.tz_zone.specs.InForce.{all_in_force, in_force, shown_of}
-use Rattle.tz_zone.specs.Sets.{shift_of, shifts_of, span_in, total_of_span}
-use Rattle.tz_zone.specs.Spans.{shift_at}
+use Rattle.tz_zone.specs.Sets.{span_in, total_of_span}
 use Rattle.tz_zone.specs.declared.set.FixedTimespanSet.{FixedTimespanSet}
 use Rattle.sefunjaro.specs.Changes.{last_span, span_before}
 use Rattle.sefunjaro.specs.Replies.{span_on}

@@ -1,5 +1,5 @@
 -- The total throughout a span, and throughout seconds of one cycle.
-use Rattle.std.proofs.Common.{◌≡◌, ℕ, ◌+◌, ◌*◌, ℤ, pos, ◌+ℤ◌, ◌-ℤ◌, ◌≤ℤ◌, ◌<ℤ◌, sym, ap, ◌∙◌, arith}
+use Rattle.std.proofs.Common.{◌≡◌, ℕ, ◌*◌, ℤ, pos, ◌+ℤ◌, ◌-ℤ◌, ◌≤ℤ◌, ◌<ℤ◌, sym, ap, ◌∙◌, arith}
 use Rattle.calendar.specs.ComparisonLaws.{lt_pass}
 use Rattle.calendar.specs.SignedLaws.{signed}
 use Rattle.civil_base.specs.Instants.{nanos_of}

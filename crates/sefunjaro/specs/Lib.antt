@@ -1,5 +1,6 @@
 -- Definitions: what public clauses say.
 pub mod AnySources
+pub mod Answers
 pub mod Answered
 pub mod Any
 pub mod Asked
@@ -9,6 +10,7 @@ pub mod Clocks
 pub mod Errors
 pub mod Faults
 pub mod Files
+pub mod Found
 pub mod Gaps
 pub mod Offsets
 pub mod Posix
@@ -16,9 +18,12 @@ pub mod PosixNames
 pub mod Releases
 pub mod Replies
 pub mod Rooms
+pub mod Shown
 pub mod Sources
 pub mod Zones
 -- Words of private clauses.
+pub mod AnswerSteps
 pub mod ChangeSteps
+pub mod FoundSteps
 pub mod GapPlaces
 pub mod Stretches

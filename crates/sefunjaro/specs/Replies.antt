@@ -1,5 +1,5 @@
 -- What replies see of a zone that is kept open.
-use Rattle.std.specs.Prelude.{◌≡◌, ℤ, List, map, filter, int_le, Option}
+use Rattle.std.specs.Prelude.{ℤ, List, map, filter, int_le, Option}
 use Rattle.zone_replies.specs.Views.{InForce, ZoneView}
 use Rattle.zone_spans.specs.Entries.{total}
 use Rattle.zone_spans.specs.Schedules.{instants}

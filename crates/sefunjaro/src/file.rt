@@ -7,8 +7,12 @@ ghost use Rattle.sefunjaro.specs.Files.{IsFileFault};
 ghost use Rattle.sefunjaro.specs.Posix.{IsPosixFault, IsStandardOf};
 ghost use Rattle.sefunjaro.specs.declared.file.PosixFault.TheVariants.{NoMemory as NoPosixMemory};
 
+use crate::answer::{Answer, lent_answer};
+use crate::clock::Clock;
+use crate::found::{FoldRule, Found, GapRule, instants_of};
 use crate::gap::Gap;
 use crate::offsets::offsets_at;
+use crate::shown::{clocks_at, texts_at};
 use crate::zone::{
     InForce, Reading, first_reading, in_force, lent_readings, offset_at, reading_of,
 };
@@ -53,14 +57,17 @@ pub enum PosixFault {
 }
 
 impl FileZone {
-    ghost use Rattle.std.specs.Prelude.{[]};
+    ghost use Rattle.std.specs.Prelude.{[], pos, IfSome};
     ghost use Rattle.civil_base.specs.DateTimes.{instant};
     ghost use Rattle.tz_tzif.specs.Faults.{HasOffsets, IsAcceptedFile};
     ghost use Rattle.tz_tzif.specs.InForce.{told_total_at};
     ghost use Rattle.tz_tzif.specs.Zones.{IsZoneOf};
+    ghost use Rattle.sefunjaro.specs.Answers.{IsAnswered};
     ghost use Rattle.sefunjaro.specs.Answered.{first_of, AreReadings, IsInForce, IsShown};
     ghost use Rattle.sefunjaro.specs.Offsets.{offsets_of, AreInYears};
     ghost use Rattle.sefunjaro.specs.Rooms.{filled};
+    ghost use Rattle.sefunjaro.specs.Shown.{AreClocks, AreTexts};
+    ghost use Rattle.sefunjaro.specs.Found.{AreToldOf};
     ghost use Rattle.sefunjaro.specs.Files.{file_value, given_at, IsFileFault, IsFileOf, IsPosixOf, IsValueFault, SaysOf};
 
     /// The zone of a compiled file (RFC 8536, any version), with what its footer, if it has one, says from the last change on. It
@@ -144,7 +151,7 @@ impl FileZone {
     pub fn offset_at(&self, at: &OffsetDateTime) -> i32
         ensures { SaysOf self.now (λ footer. result ≡ told_total_at (file_value self.now) footer (instant at.now)) }
     {
-        offset_at(&self.zone(), at)
+        self.owner.total_at(at.unix_timestamp())
     }
 
     /// The seconds east of UTC that are in force at each of some seconds from 1970-01-01 00:00:00 UTC, in their order, as far as they fit
@@ -154,6 +161,39 @@ impl FileZone {
         ensures { SaysOf self.now (λ footer. room.new ≡ filled (offsets_of (told_total_at (file_value self.now) footer) seconds.now) room.old) }
     {
         offsets_at(&self.zone(), seconds, room)
+    }
+
+    /// What clocks show at each of some seconds from 1970-01-01 00:00:00 UTC, in their order, as far as it fits in the room.
+    ///
+    /// # Errors
+    ///
+    /// As [`AnyZone::clocks_at`](crate::AnyZone::clocks_at).
+    pub fn clocks_at(&self, seconds: &[i64], room: &mut [Clock]) -> Result<(), usize>
+        ensures { SaysOf self.now (λ footer. AreClocks (told_total_at (file_value self.now) footer) seconds.now room.old room.new result) }
+    {
+        clocks_at(&self.zone(), seconds, room)
+    }
+
+    /// The zoned texts of some seconds from 1970-01-01 00:00:00 UTC, one after another, each with a line feed behind it, as far as they
+    /// fit in the room, and their whole length.
+    ///
+    /// # Errors
+    ///
+    /// As [`AnyZone::texts_at`](crate::AnyZone::texts_at).
+    pub fn texts_at(&self, seconds: &[i64], room: &mut [u8]) -> Result<usize, usize>
+        ensures { SaysOf self.now (λ footer. AreTexts (told_total_at (file_value self.now) footer) seconds.now room.old room.new result) }
+    {
+        texts_at(&self.zone(), seconds, room)
+    }
+
+    /// All that the zone says of an instant, from its second on up to the next change, or up to the year's end where a rule goes on;
+    /// outside the years -4000 to 8000 throughout its second. The abbreviation goes into the room, as far as it fits. There is no answer
+    /// exactly where the local date lies outside the years -9999 to 9999.
+    pub fn answer_at(&self, at: &OffsetDateTime, room: &mut [u8]) -> Option<Answer>
+        ensures answer { SaysOf self.now (λ footer. IsAnswered (told_total_at (file_value self.now) footer) (given_at (file_value self.now) footer) (instant at.now) room.old room.new result) }
+        ensures saving { IfSome result (λ answer. (answer.is_kept ≡ false) × (answer.saving ≡ pos 0)) }
+    {
+        lent_answer(&self.zone(), at, room)
     }
 
     /// What is in force at an instant. The abbreviation goes into the room, as far as it fits.
@@ -167,7 +207,10 @@ impl FileZone {
     pub fn shown_at(&self, at: &OffsetDateTime) -> Option<OffsetDateTime>
         ensures { SaysOf self.now (λ footer. IsShown (told_total_at (file_value self.now) footer) (instant at.now) result) }
     {
-        at.to_timezone(&self.zone())
+        match UtcOffset::from_whole_seconds(self.owner.total_at(at.unix_timestamp())) {
+            Ok(offset) => at.to_offset(offset),
+            Err(_) => unreachable!(),
+        }
     }
 
     /// All instants at which clocks show a local time, by time, as far as they fit in the room, and how many there are. Where
@@ -177,6 +220,23 @@ impl FileZone {
         ensures gap { 0 < result → gap.new ≡ gap.old }
     {
         lent_readings(&self.zone(), local, room, gap)
+    }
+
+    /// One instant of each of some local times, in their order, as far as they fit in the room, by the rules.
+    ///
+    /// # Errors
+    ///
+    /// As [`AnyZone::instants_of`](crate::AnyZone::instants_of).
+    pub fn instants_of(
+        &self,
+        clocks: &[Clock],
+        fold: FoldRule,
+        gap: GapRule,
+        room: &mut [Found],
+    ) -> Result<(), usize>
+        ensures { SaysOf self.now (λ footer. AreToldOf (told_total_at (file_value self.now) footer) fold gap clocks.now room.old room.new result) }
+    {
+        instants_of(&self.zone(), clocks, fold, gap, room)
     }
 
     /// The ring of a daily alarm on the day and at the time of day of a local time: the first of the instants at which clocks

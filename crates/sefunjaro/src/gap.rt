@@ -1,10 +1,13 @@
 //! The change by which clocks skip a local time.
-ghost use Rattle.std.specs.Prelude.{◌≡◌, ◌-◌, ◌<◌, ◌<ℤ◌, int_lt};
+ghost use Rattle.std.specs.Prelude.{◌≡◌, ◌-◌, ◌<◌, ◌+ℤ◌, ◌≤ℤ◌, ◌<ℤ◌, IfSome, IsTrue, int_lt};
 ghost use Rattle.civil_base.specs.DateTimes.{instant};
-ghost use Rattle.civil_base.specs.Instants.{instant_at};
+ghost use Rattle.civil_base.specs.Instants.{instant_at, nanos_of};
+ghost use Rattle.civil_base.specs.Ranges.{IsInYears};
 ghost use Rattle.sefunjaro.specs.Gaps.{IsSkippedBy};
 ghost use Rattle.sefunjaro.specs.GapPlaces.{nth_offset, HoldsSeconds, IsNeverRead};
 
+use crate::offsets::Stretches;
+use crate::shown::is_in_years;
 use civil_base::{OffsetDateTime, PlainDateTime, UtcOffset};
 use tz_lookup::{Offset, TimeZone};
 
@@ -22,6 +25,54 @@ pub struct Gap {
 
 /// The seconds of an offset past the greatest.
 const SPREAD: u32 = 93_600;
+
+/// The most changes that are looked at for the one that skips a local time.
+const MOST_CHANGES: usize = 8;
+
+/// The change by which the clocks of a zone skip a local time, where it is one of the few within 26 hours before the time by UTC and after
+/// it.
+pub(crate) fn near_gap<Z: Stretches>(zone: &Z, local: &PlainDateTime) -> Option<Gap>
+    requires { HoldsSeconds (Z.total_at zone.now) }
+    ensures { IfSome result (IsSkippedBy (Z.total_at zone.now) local.now) }
+{
+    let shown = local.assume_utc().unix_timestamp();
+    let mut second = shown - i64::from(SPREAD);
+    for place in 0..MOST_CHANGES {
+        if !is_in_years(second) {
+            return None;
+        }
+        let before = zone.longest(second);
+        if before.until <= second || !is_in_years(before.until) {
+            return None;
+        }
+        let after = zone.around(before.until).offset;
+        if is_skipped(shown, before.until, before.offset, after) {
+            return Some(Gap {
+                second: before.until,
+                before: before.offset,
+                after,
+            });
+        }
+        second = before.until;
+    }
+    None
+}
+
+/// Whether clocks that are set from one offset to another at a second skip a local second.
+fn is_skipped(shown: i64, change: i64, before: i32, after: i32) -> bool
+    requires { IsInYears (nanos_of change) }
+    ensures { IsTrue result → ((change +ℤ before) ≤ℤ shown) × (shown <ℤ (change +ℤ after)) }
+{
+    local_second(change, before) <= shown && shown < local_second(change, after)
+}
+
+/// The local second that clocks at an offset show at a second.
+fn local_second(second: i64, offset: i32) -> i64
+    requires { IsInYears (nanos_of second) }
+    ensures { result ≡ second +ℤ offset }
+{
+    second + i64::from(offset)
+}
 
 /// The change by which the clocks of a zone skip a local time that they never show.
 pub(crate) fn find_gap<T: TimeZone>(zone: &T, local: &PlainDateTime) -> Gap

@@ -8,11 +8,13 @@
 //! and proved. One [`Error`] has the cause of each call, typed and with a text, and `?` reaches it from each.
 #![tactic(auto)]
 
+mod answer;
 mod any_source;
 mod changes;
 mod clock;
 mod error;
 mod file;
+mod found;
 mod gap;
 mod offsets;
 mod opening;
@@ -20,6 +22,7 @@ mod posix_names;
 mod replies;
 mod rings;
 mod room;
+mod shown;
 mod source;
 mod stretch;
 mod texts;
@@ -27,6 +30,7 @@ mod tree;
 mod whole;
 mod zone;
 
+pub use answer::Answer;
 pub use any_source::AnySourceFault;
 pub use changes::Change;
 pub use civil_base::{
@@ -36,10 +40,12 @@ pub use civil_base::{
 pub use clock::Clock;
 pub use error::Error;
 pub use file::{FileFault, FileZone, PosixFault};
+pub use found::{FoldRule, Found, GapRule};
 pub use gap::Gap;
 pub use opening::{open_database, open_source, open_zone};
 pub use posix_names::{has_posix_names, is_posix_string};
 pub use room::fill;
+pub use shown::is_in_years;
 pub use source::{OpenFault, OpenSource};
 pub use tz_ever::EverSet;
 pub use tz_lookup::{

@@ -1,15 +1,15 @@
 //! The offsets of many seconds, by a cursor that remembers what was in force at the last one.
-ghost use Rattle.std.specs.Prelude.{◌≡◌, ◌<◌, length, pos, slice_index_or, ℤ};
+ghost use Rattle.std.specs.Prelude.{◌≡◌, ◌<◌, ◌≤◌, IsTrue, length, pos, slice_index_or, unsigned_abs, ℤ};
 ghost use Rattle.civil_base.specs.Instants.{nanos_of};
 ghost use Rattle.tz_ever.specs.Ever.{ever_total};
 ghost use Rattle.tz_ever.specs.EverShown.{ever_seen};
 ghost use Rattle.tz_lookup.specs.CompactShown.{seen};
-ghost use Rattle.sefunjaro.specs.Stretches.{IsKnown, IsStretch};
+ghost use Rattle.sefunjaro.specs.Stretches.{ever_in_range, IsKnown, IsStretch};
 ghost use Rattle.tz_tzif.specs.InForce.{told_total_at};
 ghost use Rattle.tz_tzif.specs.Zones.{value_of, says_of};
 ghost use Rattle.tz_zone.specs.Sets.{schedule_of};
 ghost use Rattle.zone_spans.specs.Schedules.{total_at};
-ghost use Rattle.civil_base.specs.Ranges.{IsInYears};
+ghost use Rattle.civil_base.specs.Ranges.{IsInYears, IsOffset};
 ghost use Rattle.sefunjaro.specs.Offsets.{offsets_of, AreInYears};
 ghost use Rattle.sefunjaro.specs.Rooms.{filled};
 
@@ -30,7 +30,21 @@ pub(crate) trait Stretches {
     fn around(&self, second: i64) -> Stretch
         requires { IsInYears (nanos_of second) }
         ensures { IsStretch (total_at self.now) second result };
+
+    /// The same, as long as can be told.
+    fn longest(&self, second: i64) -> Stretch
+        requires { IsInYears (nanos_of second) }
+        ensures { IsStretch (total_at self.now) second result };
+
+    ghost in_range: { (zone : Self) (t : ℤ) → IsOffset (total_at zone t) };
 }
+
+/// A stretch of no seconds.
+pub(crate) const UNKNOWN: Stretch = Stretch {
+    from: 0,
+    until: 0,
+    offset: 0,
+};
 
 impl Stretches for CompactSet {
     ghost total_at = { λ set. total_at (schedule_of (seen set)) };
@@ -38,6 +52,12 @@ impl Stretches for CompactSet {
     fn around(&self, second: i64) -> Stretch {
         stretch_of(self, second)
     }
+
+    fn longest(&self, second: i64) -> Stretch {
+        stretch_of(self, second)
+    }
+
+    ghost in_range = { λ set t. set.range t };
 }
 
 impl Stretches for EverSet {
@@ -46,18 +66,53 @@ impl Stretches for EverSet {
     fn around(&self, second: i64) -> Stretch {
         ever_stretch(self, second)
     }
+
+    fn longest(&self, second: i64) -> Stretch {
+        ever_stretch(self, second)
+    }
+
+    ghost in_range = { ever_in_range };
 }
 
 impl<'a> Stretches for TzifTz<'a> {
     ghost total_at = { λ zone. told_total_at (value_of zone) (says_of zone) };
 
     fn around(&self, second: i64) -> Stretch {
-        Stretch {
-            from: second,
-            until: second,
-            offset: offset_in(self, second),
+        match self.told_at(second) {
+            Some((offset, until)) => Stretch {
+                from: second,
+                until,
+                offset,
+            },
+            None => Stretch {
+                from: second,
+                until: second,
+                offset: offset_in(self, second),
+            },
         }
     }
+
+    fn longest(&self, second: i64) -> Stretch {
+        if is_near(second) {
+            let (offset, until) = self.total_until(second);
+            Stretch {
+                from: second,
+                until,
+                offset,
+            }
+        } else {
+            self.around(second)
+        }
+    }
+
+    ghost in_range = { λ zone t. zone.range t };
+}
+
+/// Whether a second lies so near to 1970 that a zone of a file tells how long its total lasts.
+pub(crate) fn is_near(second: i64) -> bool
+    ensures { IsTrue result → unsigned_abs second ≤ 200000000000 }
+{
+    -200_000_000_000 <= second && second <= 200_000_000_000
 }
 
 /// The seconds east of UTC that a zone has in force at a second.
@@ -76,18 +131,15 @@ pub(crate) fn offsets_at<Z: Stretches>(zone: &Z, seconds: &[i64], room: &mut [i3
     requires { AreInYears seconds.now }
     ensures { room.new ≡ filled (offsets_of (Z.total_at zone.now) seconds.now) room.old }
 {
-    let mut known = Stretch {
-        from: 0,
-        until: 0,
-        offset: 0,
-    };
+    let mut known = UNKNOWN;
     for i in 0..seconds.len() {
         known = next(zone, known, second_at(seconds, i));
         put(known.offset, i, room);
     }
 }
 
-fn second_at(seconds: &[i64], place: usize) -> i64
+/// The second at a place.
+pub(crate) fn second_at(seconds: &[i64], place: usize) -> i64
     requires { place < length seconds.now }
     ensures { result ≡ slice_index_or seconds.now place (pos 0) }
 {
@@ -95,7 +147,7 @@ fn second_at(seconds: &[i64], place: usize) -> i64
 }
 
 /// The stretch of a second: the last one, or that which the zone tells.
-fn next<Z: Stretches>(zone: &Z, known: Stretch, second: i64) -> Stretch
+pub(crate) fn next<Z: Stretches>(zone: &Z, known: Stretch, second: i64) -> Stretch
     requires near { IsInYears (nanos_of second) }
     requires known { IsKnown (Z.total_at zone.now) known }
     ensures here { Z.total_at zone.now (nanos_of second) ≡ result.offset }

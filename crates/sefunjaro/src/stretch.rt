@@ -2,7 +2,7 @@
 ghost use Rattle.std.specs.Prelude.{◌≡◌, ◌<◌, ◌≤◌, ◌+◌, ◌*◌, ◌≤ℤ◌, ◌<ℤ◌, ◌+ℤ◌, ◌-ℤ◌, pos, length, ℕ, ℤ};
 ghost use Rattle.civil_base.specs.Ranges.{far_seconds};
 ghost use Rattle.zone_spans.specs.Schedules.{total_at};
-ghost use Rattle.tz_zone.specs.Sets.{schedule_of, shifts_of};
+ghost use Rattle.tz_zone.specs.Sets.{schedule_of, shifts_of, IsAccepted};
 ghost use Rattle.tz_zone.specs.Spans.{shift_at, IsCut};
 ghost use Rattle.tz_lookup.specs.CompactShown.{seen};
 ghost use Rattle.tz_ever.specs.Ever.{ever_total};
@@ -69,10 +69,11 @@ fn span_of<L: Ledger>(set: &CompactSet, second: i64, steps: &mut Steps<L>) -> us
 }
 
 /// The second from which the span in force at a second is in force.
-fn begin_of(set: &CompactSet, span: usize, second: i64) -> i64
-    requires { IsCut (shifts_of (seen set.now)) span second }
+pub(crate) fn begin_of<S: SpanTable>(set: &S, span: usize, second: i64) -> i64
+    requires accepted { IsAccepted (schedule_of (S.seen set.now)) }
+    requires cut { IsCut (shifts_of (S.seen set.now)) span second }
     ensures begun { result ≤ℤ second }
-    ensures before { (u : ℤ) → result ≤ℤ u → (j : ℕ) → j < span → (shift_at (shifts_of (seen set.now)) j).0 ≤ℤ u }
+    ensures before { (u : ℤ) → result ≤ℤ u → (j : ℕ) → j < span → (shift_at (shifts_of (S.seen set.now)) j).0 ≤ℤ u }
 {
     if span == 0 {
         i64::MIN
@@ -82,9 +83,11 @@ fn begin_of(set: &CompactSet, span: usize, second: i64) -> i64
 }
 
 /// The second up to which it is.
-fn end_of(set: &CompactSet, span: usize, second: i64) -> i64
-    requires { IsCut (shifts_of (seen set.now)) span second }
-    ensures { (u : ℤ) → u <ℤ result → (j : ℕ) → span ≤ j → j < length (shifts_of (seen set.now)) → u <ℤ (shift_at (shifts_of (seen set.now)) j).0 }
+pub(crate) fn end_of<S: SpanTable>(set: &S, span: usize, second: i64) -> i64
+    requires accepted { IsAccepted (schedule_of (S.seen set.now)) }
+    requires cut { IsCut (shifts_of (S.seen set.now)) span second }
+    ensures lasts { second <ℤ i64.MAX → second <ℤ result }
+    ensures after { (u : ℤ) → u <ℤ result → (j : ℕ) → span ≤ j → j < length (shifts_of (S.seen set.now)) → u <ℤ (shift_at (shifts_of (S.seen set.now)) j).0 }
 {
     if span < set.entry_count() {
         set.time(span)

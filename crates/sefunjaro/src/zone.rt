@@ -3,6 +3,12 @@ ghost use Rattle.std.specs.Prelude.{◌≡◌, ◌<◌, length, map, option_map}
 ghost use Rattle.tz_tzif.specs.InForce.{told_total_at};
 ghost use Rattle.tz_tzif.specs.Zones.{value_of, says_of};
 ghost use Rattle.sefunjaro.specs.Answered.{AreReadings};
+ghost use Rattle.sefunjaro.specs.Gaps.{IsSkippedBy};
+ghost use Rattle.tz_ever.specs.Ever.{ever_total};
+ghost use Rattle.tz_ever.specs.EverShown.{ever_seen};
+ghost use Rattle.tz_lookup.specs.CompactShown.{seen};
+ghost use Rattle.tz_zone.specs.Sets.{schedule_of};
+ghost use Rattle.zone_spans.specs.Schedules.{total_at};
 ghost use Rattle.std.specs.List.{slice_get};
 ghost use Rattle.civil_base.specs.DateTimes.{instant};
 ghost use Rattle.tz_lookup.specs.InForce.{all_in_force, shown_of};
@@ -10,11 +16,15 @@ ghost use Rattle.sefunjaro.specs.Asked.{reading_of, IsNamed};
 ghost use Rattle.sefunjaro.specs.Rooms.{filled};
 ghost use Rattle.sefunjaro.specs.Zones.{total_in};
 
+use crate::answer::{Answer, answer_at};
 use crate::changes::{Change, changes, next_change, saving_at};
+use crate::clock::Clock;
 use crate::file::FileZone;
-use crate::gap::{Gap, find_gap};
+use crate::found::{FoldRule, Found, GapRule, instants_of};
+use crate::gap::{Gap, find_gap, near_gap};
 use crate::offsets::offsets_at;
 use crate::room::{fill, put};
+use crate::shown::{clocks_at, texts_at};
 use civil_base::{OffsetDateTime, PlainDateTime};
 use std::alloc::{AllocError, Global};
 use tz_ever::{EverSet, EverTable, EverTz, laws};
@@ -37,9 +47,43 @@ pub(crate) fn lent_readings(
 {
     let count = readings(zone, local, room);
     if count == 0 {
-        *gap = find_gap(zone, local);
+        *gap = lent_gap(zone, local);
     }
     count
+}
+
+/// The change by which the clocks of a zone of a file skip a local time that they never show.
+fn lent_gap(zone: &TzifTz<'_>, local: &PlainDateTime) -> Gap
+    requires { length (all_in_force (told_total_at (value_of zone.now) (says_of zone.now)) local.now) ≡ 0 }
+    ensures { IsSkippedBy (told_total_at (value_of zone.now) (says_of zone.now)) local.now result }
+{
+    match near_gap(zone, local) {
+        Some(gap) => gap,
+        None => find_gap(zone, local),
+    }
+}
+
+/// The same of a zone that goes on for ever.
+fn ever_gap(ever: &EverSet, local: &PlainDateTime) -> Gap
+    requires { length (all_in_force (ever_total (ever_seen ever.now)) local.now) ≡ 0 }
+    ensures { IsSkippedBy (ever_total (ever_seen ever.now)) local.now result }
+{
+    laws::holds_in_seconds();
+    match near_gap(ever, local) {
+        Some(gap) => gap,
+        None => find_gap(&EverTz::new(ever), local),
+    }
+}
+
+/// The same of a set.
+fn set_gap(set: &CompactSet, local: &PlainDateTime) -> Gap
+    requires { length (all_in_force (total_at (schedule_of (seen set.now))) local.now) ≡ 0 }
+    ensures { IsSkippedBy (total_at (schedule_of (seen set.now))) local.now result }
+{
+    match near_gap(set, local) {
+        Some(gap) => gap,
+        None => find_gap(&CompactTz::new(set), local),
+    }
 }
 
 /// What is in force in a zone.
@@ -129,11 +173,15 @@ pub enum AnyZone {
 }
 
 impl AnyZone {
+    ghost use Rattle.std.specs.Prelude.{IfSome};
     ghost use Rattle.civil_base.specs.DateTimes.{instant};
     ghost use Rattle.sefunjaro.specs.Answered.{first_of, IsInForce, IsShown};
+    ghost use Rattle.sefunjaro.specs.Answers.{IsAnswered, TellsSaving};
     ghost use Rattle.sefunjaro.specs.Any.{Seen};
+    ghost use Rattle.sefunjaro.specs.Found.{AreToldOf};
     ghost use Rattle.sefunjaro.specs.Offsets.{offsets_of, AreInYears};
     ghost use Rattle.sefunjaro.specs.Rooms.{filled};
+    ghost use Rattle.sefunjaro.specs.Shown.{AreClocks, AreTexts};
 
     /// The seconds east of UTC that are in force at an instant.
     pub fn offset_at(&self, at: &OffsetDateTime) -> i32
@@ -154,6 +202,50 @@ impl AnyZone {
         match self {
             AnyZone::Source(zone) => zone.offsets_at(seconds, room),
             AnyZone::File(zone) => zone.offsets_at(seconds, room),
+        }
+    }
+
+    /// What clocks show at each of some seconds from 1970-01-01 00:00:00 UTC, in their order, as far as it fits in the room.
+    ///
+    /// # Errors
+    ///
+    /// The place, from 0, of the first second that lies outside the years -9999 to 9999 in UTC, or whose local date does. The room is then
+    /// as it was.
+    pub fn clocks_at(&self, seconds: &[i64], room: &mut [Clock]) -> Result<(), usize>
+        ensures { Seen self.now (λ total _. AreClocks total seconds.now room.old room.new result) }
+    {
+        match self {
+            AnyZone::Source(zone) => zone.clocks_at(seconds, room),
+            AnyZone::File(zone) => zone.clocks_at(seconds, room),
+        }
+    }
+
+    /// The zoned texts of some seconds from 1970-01-01 00:00:00 UTC, one after another, each with a line feed behind it, as far as they
+    /// fit in the room, and their whole length.
+    ///
+    /// # Errors
+    ///
+    /// The place, from 0, of the first second that lies outside the years -9999 to 9999 in UTC, or whose local date does; of more than
+    /// 2^58 seconds that of the first too many. The room is then as it was.
+    pub fn texts_at(&self, seconds: &[i64], room: &mut [u8]) -> Result<usize, usize>
+        ensures { Seen self.now (λ total _. AreTexts total seconds.now room.old room.new result) }
+    {
+        match self {
+            AnyZone::Source(zone) => zone.texts_at(seconds, room),
+            AnyZone::File(zone) => zone.texts_at(seconds, room),
+        }
+    }
+
+    /// All that the zone says of an instant, with seconds around it throughout which that holds: of a zone of a source those in which no
+    /// entry of it lies, up to the end of 10501, and of any other as [`FileZone::answer_at`] tells. The abbreviation goes into the room, as far
+    /// as it fits. There is no answer exactly where the local date lies outside the years -9999 to 9999.
+    pub fn answer_at(&self, at: &OffsetDateTime, room: &mut [u8]) -> Option<Answer>
+        ensures answer { Seen self.now (λ total gives. IsAnswered total gives (instant at.now) room.old room.new result) }
+        ensures saving { IfSome result (TellsSaving self.now) }
+    {
+        match self {
+            AnyZone::Source(zone) => zone.answer_at(at, room),
+            AnyZone::File(zone) => zone.answer_at(at, room),
         }
     }
 
@@ -189,6 +281,27 @@ impl AnyZone {
         }
     }
 
+    /// One instant of each of some local times, in their order, as far as they fit in the room: of one with more than one instant that
+    /// of the rule for folds, of one that clocks skip that of the rule for gaps.
+    ///
+    /// # Errors
+    ///
+    /// The place, from 0, of the first parts that are no local time. The room is then as it was.
+    pub fn instants_of(
+        &self,
+        clocks: &[Clock],
+        fold: FoldRule,
+        gap: GapRule,
+        room: &mut [Found],
+    ) -> Result<(), usize>
+        ensures { Seen self.now (λ total _. AreToldOf total fold gap clocks.now room.old room.new result) }
+    {
+        match self {
+            AnyZone::Source(zone) => zone.instants_of(clocks, fold, gap, room),
+            AnyZone::File(zone) => zone.instants_of(clocks, fold, gap, room),
+        }
+    }
+
     /// The ring of a daily alarm on the day and at the time of day of a local time: the first of the instants at which clocks
     /// show it, or none where they skip it.
     pub fn ring(&self, local: &PlainDateTime) -> Option<Reading>
@@ -202,7 +315,7 @@ impl AnyZone {
 }
 
 /// The readings of a zone of a source, or the change that skips a local time.
-fn source_readings(
+pub(crate) fn source_readings(
     zone: &OpenZone,
     local: &PlainDateTime,
     room: &mut [Reading],
@@ -229,18 +342,21 @@ pub struct OpenZone {
 }
 
 impl OpenZone {
-    ghost use Rattle.std.specs.Prelude.{◌≡◌, IfOk, IfSome, is_some, length, map, option_map};
+    ghost use Rattle.std.specs.Prelude.{◌≡◌, ◌≤ℤ◌, ◌<ℤ◌, ℤ, true, IfOk, IfSome, is_some, length, map, option_map};
     ghost use Rattle.std.specs.List.{slice_get};
     ghost use Rattle.civil_base.specs.DateTimes.{instant};
     ghost use Rattle.civil_base.specs.Instants.{local_at};
     ghost use Rattle.civil_base.specs.Ranges.{is_in_years};
     ghost use Rattle.tz_zone.specs.InForce.{all_in_force, in_force as force_at, shown_of};
     ghost use Rattle.tz_zone.specs.Sets.{schedule_of, IsAccepted};
+    ghost use Rattle.sefunjaro.specs.Answers.{IsAnswered};
     ghost use Rattle.sefunjaro.specs.Asked.{reading_of, IsNamed};
     ghost use Rattle.sefunjaro.specs.Changes.{next_after, saving_at as saving_of, window};
+    ghost use Rattle.sefunjaro.specs.Found.{AreToldOf};
     ghost use Rattle.sefunjaro.specs.Gaps.{IsSkippedBy};
     ghost use Rattle.sefunjaro.specs.Offsets.{offsets_of, AreInYears};
     ghost use Rattle.sefunjaro.specs.Rooms.{filled};
+    ghost use Rattle.sefunjaro.specs.Shown.{AreClocks, AreTexts};
     ghost use Rattle.sefunjaro.specs.Zones.{ever_in, given_in, last_year, set_in, spans_in, total_in};
     ghost use Rattle.tz_lookup.specs.CompactShown.{seen};
     ghost use Rattle.tz_lookup.specs.CompactZones.{compact_of};
@@ -312,6 +428,53 @@ impl OpenZone {
         }
     }
 
+    /// What clocks show at each of some seconds from 1970-01-01 00:00:00 UTC, in their order, as far as it fits in the room. One that lies
+    /// in the span of the one before it is looked up nowhere.
+    ///
+    /// # Errors
+    ///
+    /// As [`AnyZone::clocks_at`].
+    pub fn clocks_at(&self, seconds: &[i64], room: &mut [Clock]) -> Result<(), usize>
+        ensures { AreClocks (total_in self.now) seconds.now room.old room.new result }
+    {
+        match &self.for_ever {
+            Some(ever) => clocks_at(ever, seconds, room),
+            None => clocks_at(&self.set, seconds, room),
+        }
+    }
+
+    /// The zoned texts of some seconds from 1970-01-01 00:00:00 UTC, one after another, each with a line feed behind it, as far as they
+    /// fit in the room, and their whole length.
+    ///
+    /// # Errors
+    ///
+    /// As [`AnyZone::texts_at`].
+    pub fn texts_at(&self, seconds: &[i64], room: &mut [u8]) -> Result<usize, usize>
+        ensures { AreTexts (total_in self.now) seconds.now room.old room.new result }
+    {
+        match &self.for_ever {
+            Some(ever) => texts_at(ever, seconds, room),
+            None => texts_at(&self.set, seconds, room),
+        }
+    }
+
+    /// All that the zone says of an instant, with the seconds around it in which no entry of the zone lies, up to the end of 10501. The
+    /// abbreviation goes into the room, as far as it fits. There is no answer exactly where the local date lies outside the years -9999 to
+    /// 9999.
+    pub fn answer_at(&self, at: &OffsetDateTime, room: &mut [u8]) -> Option<Answer>
+        ensures answer { IsAnswered (total_in self.now) (given_in self.now) (instant at.now) room.old room.new result }
+        ensures saving { IfSome result (λ answer. (answer.is_kept ≡ true) × ((u : ℤ) → answer.from ≤ℤ u → u <ℤ answer.until → saving_of (spans_in self.now) u ≡ answer.saving)) }
+    {
+        match &self.for_ever {
+            Some(ever) => {
+                laws::unrolled_shows();
+                laws::of_each_set(ever);
+                answer_at(&EverTable::new(ever), at, room)
+            }
+            None => answer_at(&self.set, at, room),
+        }
+    }
+
     /// What is in force at an instant. The abbreviation goes into the room, as far as it fits.
     pub fn in_force(&self, at: &OffsetDateTime, room: &mut [u8]) -> InForce
         ensures offset { result.offset ≡ total_in self.now (instant at.now) }
@@ -380,17 +543,31 @@ impl OpenZone {
         }
     }
 
+    /// One instant of each of some local times, in their order, as far as they fit in the room, by the rules.
+    ///
+    /// # Errors
+    ///
+    /// As [`AnyZone::instants_of`].
+    pub fn instants_of(
+        &self,
+        clocks: &[Clock],
+        fold: FoldRule,
+        gap: GapRule,
+        room: &mut [Found],
+    ) -> Result<(), usize>
+        ensures { AreToldOf (total_in self.now) fold gap clocks.now room.old room.new result }
+    {
+        instants_of(self, clocks, fold, gap, room)
+    }
+
     /// The change by which clocks skip a local time that they never show.
     pub fn gap(&self, local: &PlainDateTime) -> Gap
         requires { length (all_in_force (total_in self.now) local.now) ≡ 0 }
         ensures { IsSkippedBy (total_in self.now) local.now result }
     {
         match &self.for_ever {
-            Some(ever) => {
-                laws::holds_in_seconds();
-                find_gap(&EverTz::new(ever), local)
-            }
-            None => find_gap(&CompactTz::new(&self.set), local),
+            Some(ever) => ever_gap(ever, local),
+            None => set_gap(&self.set, local),
         }
     }
 

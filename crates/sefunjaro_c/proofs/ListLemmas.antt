@@ -1,11 +1,11 @@
 -- Which seconds of a list may be asked.
-use Rattle.std.proofs.Common.{◌≡◌, ℕ, zero, suc, ◌<◌, Bool, true, false, cond, List, [], ◌∷◌, length, get_or, ℤ, pos, refl, sym, ap, ◌∙◌, inl, inr, arith}
+use Rattle.std.proofs.Common.{◌≡◌, ℕ, zero, suc, ◌<◌, true, false, cond, List, [], ◌∷◌, length, get_or, ℤ, pos, refl, sym, subst, ap, ◌∙◌, inl, inr, arith}
 use Rattle.std.specs.Prelude.{Option, Some, None, option_map}
 use Rattle.std.proofs.lemmas.Bool.{cases_Bool}
 use Rattle.civil_base.specs.Instants.{nanos_of}
 use Rattle.civil_base.specs.Ranges.{is_in_years}
 use Rattle.sefunjaro.specs.Offsets.{AreInYears}
-use Rattle.sefunjaro_c.specs.Lists.{far_place}
+use Rattle.sefunjaro_c.specs.Lists.{far_place, OfPlace}
 
 -- the first outside the years
 pub found : (seconds : List ℤ) (i : ℕ) → i < length seconds → ((j : ℕ) (d : ℤ) → j < i → is_in_years (nanos_of (get_or seconds j d)) ≡ true)
@@ -42,3 +42,10 @@ all_in_years (s ∷ ss) e = elim (cases_Bool (is_in_years (nanos_of s))) [
       (all_in_years ss (no_more (far_place ss) (sym (ap (λ b. cond b (option_map suc (far_place ss)) (Some 0)) inside) ∙ e)))
   | inr far ↦ absurd (let f = sym (ap (λ b. cond b (option_map suc (far_place ss)) (Some 0)) far) ∙ e in cc)
 ]
+
+-- where no place is told they are answered for, and else it is
+pub no_place : (found : Option ℕ) (place : ℕ) (kept P : Type 0) → found ≡ None → P → OfPlace found 0 place place kept P
+no_place found place kept P e h = subst (λ o. OfPlace o 0 place place kept P) (sym e) (refl, (refl, h))
+
+pub one_place : (found : Option ℕ) (old new : ℕ) (kept P : Type 0) → found ≡ Some new → kept → OfPlace found 10 old new kept P
+one_place found old new kept P e h = subst (λ o. OfPlace o 10 old new kept P) (sym e) (refl, (refl, h))

@@ -1,8 +1,11 @@
 -- What calls tell, beside the names of the header: each number is the one that the table has.
-use Rattle.std.proofs.Common.{◌≡◌, refl, [], ◌∷◌, codes}
+use Rattle.std.proofs.Common.{◌≡◌, refl, ℕ, List, [], ◌∷◌, codes, map, pos, Some}
 use Rattle.sefunjaro_handles.specs.Statuses as status
 use Rattle.zone_values.specs.declared.fault.FaultKind.TheVariants as line
+use Rattle.sefunjaro.specs.Found.{by_offset, kind_of}
 use Rattle.sefunjaro.specs.declared.file.FileFault.TheVariants as file
+use Rattle.sefunjaro.specs.declared.found.FoldRule.TheVariants as fold
+use Rattle.sefunjaro.specs.declared.found.GapRule.TheVariants as gap
 use Rattle.zone_plain_lines.specs.declared.cause.PlainCause.TheVariants as cause
 use Rattle.zone_source.specs.declared.error.BuildKind.TheVariants as join
 use Rattle.zone_spans.specs.declared.fault.SpanFault.TheVariants as span
@@ -13,7 +16,8 @@ use Rattle.sefunjaro_c.specs.AnySources.{line_told, long_form}
 use Rattle.sefunjaro_c.specs.Faults.{join_number, kind_number, schedule_number}
 use Rattle.sefunjaro_c.specs.Files.{file_told}
 use Rattle.sefunjaro_c.specs.ForEver.{ever_file_told, ever_tail_told, rules_end}
-use Rattle.sefunjaro_c.specs.Numbers.{statuses, line_causes, join_causes, schedule_causes, plain_causes, ever_causes, file_causes, tail_causes, tzif_causes}
+use Rattle.sefunjaro_c.specs.Found.{fold_of, gap_of}
+use Rattle.sefunjaro_c.specs.Numbers.{folds, gap_rules, kinds, statuses, line_causes, join_causes, schedule_causes, plain_causes, ever_causes, file_causes, tail_causes, tzif_causes}
 use Rattle.sefunjaro_c.specs.Whole.{tail_told, tzif_told}
 
 status_numbers : (codes "DONE", status.done) ∷ (codes "NOT_OPEN", status.not_open) ∷ (codes "NO_MEMORY", status.out_of_memory) ∷ (codes "TOO_LONG", status.too_long)
@@ -75,3 +79,13 @@ ever_numbers : (codes "SHAPE", (ever_tail_told ever.Shape).cause) ∷ (codes "OF
     ∷ (codes "NAMES", (ever_file_told written.Names).cause) ∷ (codes "RULES_END", rules_end.cause) ∷ []
     ≡ ever_causes
 ever_numbers = refl
+
+-- the rules of the table's numbers, in its order
+fold_numbers : map (λ (row : List ℕ × ℕ). fold_of row.1) folds ≡ Some fold.First ∷ Some fold.Second ∷ []
+fold_numbers = refl
+
+gap_numbers : map (λ (row : List ℕ × ℕ). gap_of row.1) gap_rules ≡ Some gap.Before ∷ Some gap.After ∷ Some gap.None ∷ []
+gap_numbers = refl
+
+kind_numbers : (codes "GAP", (by_offset (pos 0) (pos 0)).kind) ∷ (codes "ONE", kind_of 1) ∷ (codes "FOLD", kind_of 2) ∷ (codes "MORE", kind_of 3) ∷ [] ≡ kinds
+kind_numbers = refl

@@ -1,13 +1,16 @@
 -- What is seen of zones of any kind, and instants at the offset in force.
-use Rattle.std.proofs.Common.{◌≡◌, ℕ, Bool, List, ℤ, refl, ap, subst, arith}
+use Rattle.std.proofs.Common.{◌≡◌, ℕ, Bool, false, List, ℤ, refl, sym, ap, subst, arith}
 use Rattle.std.specs.Prelude.{Some, None}
 use Rattle.std.proofs.lemmas.Int.{ints}
 use Rattle.civil_base.specs.DateTimes.{instant, local_of, offset_of}
 use Rattle.civil_base.specs.Instants.{instant_at, local_at}
 use Rattle.civil_base.specs.declared.offset_date_time.OffsetDateTime.{OffsetDateTime}
 use Rattle.tz_zone.specs.InForce.{in_force, shown_of}
+use Rattle.civil_base.specs.Ranges.{is_in_years}
 use Rattle.sefunjaro.specs.Answered.{IsShown}
+use Rattle.sefunjaro.specs.Answers.{IsAnswer}
 use Rattle.sefunjaro.specs.Any.{Seen}
+use Rattle.sefunjaro.specs.declared.answer.Answer.{Answer}
 use Rattle.sefunjaro.specs.declared.zone.AnyZone.{AnyZone}
 use Rattle.sefunjaro.specs.declared.zone.AnyZone.TheVariants.{Source, File}
 use Rattle.sefunjaro_c.specs.Answers.{is_shown, IsShownAs, Where}
@@ -38,3 +41,12 @@ where_shown total t value kept P h f = subst (λ b. Where b 0 kept P) h.years (r
 pub where_none : (total : ℤ → ℤ) (t : ℤ) (kept P : Type 0) → IsShown total t None → kept → Where (is_shown total t) 10 kept P
 unfolding is_shown
 where_none total t kept P h k = subst (λ b. Where b 10 kept P) h.years (refl, k)
+
+pub where_answered : (total : ℤ → ℤ) (gives : ℤ → List ℕ → Bool → Type 0) (t : ℤ) (answer : Answer) (old new : List ℕ) (kept : Type 0)
+    → IsAnswer total gives t answer old new → Where (is_shown total t) 0 kept (IsAnswer total gives t answer old new)
+unfolding is_shown
+where_answered total gives t answer old new kept h = subst (λ b. Where b 0 kept (IsAnswer total gives t answer old new)) (sym h.years) (refl, h)
+
+pub where_unanswered : (total : ℤ → ℤ) (t : ℤ) (kept P : Type 0) → is_in_years (local_at t (total t)) ≡ false → kept → Where (is_shown total t) 10 kept P
+unfolding is_shown
+where_unanswered total t kept P h k = subst (λ b. Where b 10 kept P) (sym h) (refl, k)

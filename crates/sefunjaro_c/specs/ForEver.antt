@@ -1,5 +1,5 @@
 -- The string that carries a zone on for ever, and the zone's file with it; and why there is none, in numbers.
-use Rattle.std.specs.Prelude.{◌≡◌, ◌⊎◌, ℕ, ℤ, Bool, false, true, List, length, Option, Some, None}
+use Rattle.std.specs.Prelude.{◌≡◌, ◌⊎◌, ℕ, ℤ, Bool, true, List, length, Option, Some, None}
 use Rattle.tz_ever.specs.Ever.{ever_total}
 use Rattle.tz_ever.specs.EverShown.{ever_seen}
 use Rattle.tz_ever.specs.declared.ever_set.EverSet.{EverSet}
@@ -20,8 +20,6 @@ use Rattle.zone_tzif_set.specs.declared.file.FileFault.{FileFault}
 use Rattle.zone_tzif_set.specs.declared.file.FileFault.TheVariants as file
 use Rattle.sefunjaro.specs.PosixNames.{is_posix_string, IsSpelled}
 use Rattle.sefunjaro.specs.Rooms.{filled}
-use Rattle.sefunjaro.specs.Zones.{ever_in}
-use Rattle.sefunjaro.specs.declared.zone.OpenZone.{OpenZone}
 use Rattle.sefunjaro_handles.specs.Statuses.{done, out_of_memory}
 use Rattle.sefunjaro_c.specs.Faults.{plain}
 use Rattle.sefunjaro_c.specs.Whole.{none_for}

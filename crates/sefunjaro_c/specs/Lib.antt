@@ -5,6 +5,7 @@ pub mod Changes
 pub mod Faults
 pub mod Files
 pub mod ForEver
+pub mod Found
 pub mod Lists
 pub mod Names
 pub mod Numbers

@@ -1,4 +1,4 @@
--- The statuses and the causes by the names of the header, with their numbers: the one table of them. That calls tell these numbers is
+-- The statuses, the causes, the rules and the kinds by the names of the header, with their numbers: the one table of them. That calls tell these numbers is
 -- computed in NumberRows of proofs/; bin/try_numbers finds them in the header and in the modules for Python and Rust.
 use Rattle.std.specs.Prelude.{ℕ, List, [], ◌∷◌, codes}
 
@@ -50,3 +50,15 @@ abbrev pub ever_causes : List (List ℕ × ℕ)
 ever_causes =
     (codes "SHAPE", 1) ∷ (codes "OFFSET_RANGE", 2) ∷ (codes "NAME", 3) ∷ (codes "NO_RULE", 4) ∷ (codes "TIMES", 5) ∷ (codes "TYPES", 6) ∷ (codes "NAMES", 7)
     ∷ (codes "RULES_END", 8) ∷ []
+
+-- enum sefunjaro_fold, after FOLD_
+abbrev pub folds : List (List ℕ × ℕ)
+folds = (codes "FIRST", 0) ∷ (codes "SECOND", 1) ∷ []
+
+-- enum sefunjaro_gap_rule, after GAP_
+abbrev pub gap_rules : List (List ℕ × ℕ)
+gap_rules = (codes "BEFORE", 0) ∷ (codes "AFTER", 1) ∷ (codes "NONE", 2) ∷ []
+
+-- enum sefunjaro_kind, after KIND_
+abbrev pub kinds : List (List ℕ × ℕ)
+kinds = (codes "GAP", 0) ∷ (codes "ONE", 1) ∷ (codes "FOLD", 2) ∷ (codes "MORE", 3) ∷ []

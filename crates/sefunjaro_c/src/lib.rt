@@ -3,12 +3,14 @@
 //! Each export hands on a call of the libraries below and states its clauses again.
 #![tactic(auto)]
 
+mod answer;
 mod any_source;
 mod changes;
 mod fault;
 mod files;
 mod for_ever;
 mod lists;
+mod local_lists;
 mod sources;
 mod version;
 mod whole;

@@ -2,8 +2,6 @@ use Rattle.std.proofs.Common.{◌≡◌, to_z, of_z, to_z-of_z, w64, sym, ap, �
 use Rattle.std.proofs.lemmas.Result.{IfOk-weaker}
 use Rattle.zone_replies.specs.Forces.{force_shown}
 use Rattle.zone_replies.specs.declared.force.Force.{Force}
-use Rattle.zone_spans.specs.Entries.{total}
-use Rattle.zone_spans.specs.declared.span.FixedTimespan.{FixedTimespan}
 use Rattle.tz_zone.specs.Sets.{shifts_of}
 use Rattle.tz_zone.specs.Spans.{IsCut}
 use Rattle.sefunjaro.specs.Replies.{force_of, span_on}

@@ -1,4 +1,4 @@
-use Rattle.std.proofs.Common.{◌≡◌, ◌∙◌, ℤ, ◌≤ℤ◌, SFits, rules, to_z, of_z, w32, w64, sym, subst}
+use Rattle.std.proofs.Common.{◌≤ℤ◌, SFits, rules, w32, w64, subst}
 use Rattle.std.proofs.lemmas.Int.{to_z-of_z}
 use Rattle.zone_spans.specs.Schedules.{total_at}
 use Rattle.tz_ever.specs.EverShown.{ever_seen}

@@ -1,4 +1,4 @@
-use Rattle.std.proofs.Common.{◌≡◌, ◌≤ℤ◌, ◌<ℤ◌, ℤ, SFits, rules, sym, ◌∙◌, subst, to_z, of_z, w32, w64}
+use Rattle.std.proofs.Common.{◌≤ℤ◌, ◌<ℤ◌, SFits, rules, sym, ◌∙◌, subst, w32, w64}
 use Rattle.std.proofs.lemmas.Int.{to_z-of_z}
 use Rattle.tz_zone.specs.Sets.{schedule_of, shifts_of}
 use Rattle.tz_zone.specs.Spans.{IsCut}
@@ -24,6 +24,6 @@ returns g c =
       throughout = λ u low high. at_second zone span u (record {
         within = cut.within;
         before = c.begin_of-from.ensures.before u (subst (λ t. t ≤ℤ u) from low);
-        after = c.end_of-until.ensures u (subst (λ t. u <ℤ t) until high);
+        after = c.end_of-until.ensures.after u (subst (λ t. u <ℤ t) until high);
       }) ∙ total;
     }

@@ -1,13 +1,5 @@
 use Rattle.std.proofs.Common.{◌∙◌, sym}
-use Rattle.tz_tzif.specs.InForce.{told_total_at}
-use Rattle.tz_tzif.specs.Zones.{value_of, says_of}
-use Rattle.sefunjaro.proofs.GapLemmas.{file_holds, never_read}
 use Rattle.sefunjaro.proofs.zone.lent_readings.Goals as goal
 
-pub find_gap-requires-clause-never : goal.find_gap-requires-clause-never
-find_gap-requires-clause-never c =
-    never_read (told_total_at (value_of c.args.zone.now) (says_of c.args.zone.now)) c.args.local.now c.args.zone.now.range
-    (sym c.readings-count.ensures.count ∙ c.if-count-eq0.true)
-
-pub find_gap-requires-clause-seconds : goal.find_gap-requires-clause-seconds
-find_gap-requires-clause-seconds c = file_holds (value_of c.args.zone.now) (says_of c.args.zone.now)
+pub lent_gap-requires : goal.lent_gap-requires
+lent_gap-requires c = sym c.readings-count.ensures.count ∙ c.if-count-eq0.true

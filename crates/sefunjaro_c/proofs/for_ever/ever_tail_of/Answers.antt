@@ -1,4 +1,4 @@
-use Rattle.std.proofs.Common.{◌∙◌, inl, inr, refl, length, string_bytes, sym, ap, subst}
+use Rattle.std.proofs.Common.{◌∙◌, inl, length, string_bytes, sym, ap, subst}
 use Rattle.sefunjaro.specs.PosixNames.{IsSpelled}
 use Rattle.tz_posix_core.specs.Spells.{Spells}
 use Rattle.sefunjaro.specs.Rooms.{filled}

@@ -1,4 +1,3 @@
-use Rattle.std.proofs.Common.{◌≡◌}
 use Rattle.sefunjaro_c.proofs.AskedLemmas.{handed}
 use Rattle.sefunjaro_c.proofs.lists.sefunjaro_offsets_at_by.Goals as goal
 

@@ -1,11 +1,16 @@
-use Rattle.std.proofs.Common.{◌≡◌, ◌∙◌, to_z, of_z, to_z-of_z, FitsSigned, w32, rules}
-use Rattle.civil_base.specs.DateTimes.{instant}
-use Rattle.tz_tzif.specs.InForce.{told_total_at}
-use Rattle.sefunjaro.proofs.FileLemmas.{lent}
+use Rattle.std.proofs.Common.{◌≡◌, ◌∙◌, to_z-of_z, FitsSigned, w32, w64, rules, sym, ap}
+use Rattle.tz_tzif.specs.InForce.{kind_at, total_in}
+use Rattle.sefunjaro.specs.Files.{file_value}
 use Rattle.sefunjaro.proofs.file.FileZone.offset_at.Goals as goal
 
 pub returns : goal.returns
+unfolding kind_at
 returns c =
-    let fits : FitsSigned w32 c.offset_at.result = search rules in
-    lent c.args.self.now c.zone.result c.zone.ensures
-    (λ value footer. to_z w32 (of_z w32 c.offset_at.result) ≡ told_total_at value footer (instant c.args.at.now)) (to_z-of_z fits ∙ c.offset_at.ensures)
+    let told = c.total_at.ensures.total in
+    let fits : FitsSigned w32 c.total_at.result = search rules in
+    let second : FitsSigned w64 c.unix_timestamp.result = search rules in
+    record {
+      footer = told.footer;
+      says = told.says;
+      holds = to_z-of_z fits ∙ told.is ∙ ap (total_in (file_value c.args.self.now) told.footer) (to_z-of_z second ∙ c.unix_timestamp.ensures.value);
+    }

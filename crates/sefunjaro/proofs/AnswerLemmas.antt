@@ -1,0 +1,171 @@
+-- All that a zone says of an instant, by the span in force and by the kind of a file.
+use Rattle.std.proofs.Common.{◌≡◌, ◌∙◌, ◌≤◌, ℕ, Bool, true, false, cond, List, [], ◌∷◌, length, filter, ℤ, pos, ◌+ℤ◌, ◌*ℤ◌, ◌≤ℤ◌, ◌<ℤ◌, int_le, int_lt, to_z, of_z, FitsSigned, w64, refl, sym, ap, subst, arith}
+use Rattle.std.specs.Prelude.{IfSome, Option, Some, None}
+use Rattle.std.proofs.lemmas.Int.{ints}
+use Rattle.std.proofs.lemmas.List.{length-map}
+use Rattle.calendar.specs.ComparisonLaws.{lt_le}
+use Rattle.calendar.specs.SignedLaws.{signed_casts}
+use Rattle.civil_base.specs.DateTimes.{instant, local_of, offset_of}
+use Rattle.civil_base.specs.Instants.{local_at, seconds_of}
+use Rattle.civil_base.specs.Layout.{day_part, time_part}
+use Rattle.civil_base.specs.RangeLaws.{offset_least, years_end}
+use Rattle.civil_base.specs.Ranges.{is_in_years, IsInYears, IsOffset}
+use Rattle.civil_base.specs.declared.offset_date_time.OffsetDateTime.{OffsetDateTime}
+use Rattle.zone_spans.specs.Entries.{Entry}
+use Rattle.zone_spans.specs.declared.span.FixedTimespan.{FixedTimespan}
+use Rattle.zone_spans.specs.Schedules.{total_at}
+use Rattle.tz_ever.specs.Ever.{ever_span, ever_total}
+use Rattle.tz_ever.specs.EverShown.{ever_seen}
+use Rattle.tz_ever.specs.InForce.{span_at, span_by}
+use Rattle.tz_ever.specs.Unrolled.{unrolled, unrolled_end}
+use Rattle.tz_ever.specs.declared.ever_set.EverSet.{EverSet}
+use Rattle.tz_tzif.specs.FooterForce.{FooterZone}
+use Rattle.tz_tzif.specs.InForce.{kind_at, kind_in}
+use Rattle.tz_zone.specs.Compiles.{spans_of}
+use Rattle.tz_zone.specs.InForce.{in_force, shown_of}
+use Rattle.tz_zone.specs.SecondLaws.{IsSecond, second_is, total_is}
+use Rattle.tz_zone.specs.Sets.{schedule_of, shift_of, shifts_of, span_in, total_of_span}
+use Rattle.tz_zone.specs.SpanLaws.{total_from_cut}
+use Rattle.tz_zone.specs.Spans.{IsCut}
+use Rattle.tz_zone.specs.declared.set.FixedTimespanSet.{FixedTimespanSet}
+use Rattle.zone_tzif_core.specs.Zones.{ZoneValue}
+use Rattle.sefunjaro.specs.Answers.{IsAnswered}
+use Rattle.sefunjaro.specs.AnswerSteps.{end_second, IsAround, IsOfSpan, IsToldBySpan}
+use Rattle.sefunjaro.specs.Changes.{last_span, saving_at}
+use Rattle.sefunjaro.specs.Clocks.{clock_at}
+use Rattle.sefunjaro.specs.Replies.{span_on}
+use Rattle.sefunjaro.specs.Zones.{given_with, spans_with, total_with}
+use Rattle.sefunjaro.specs.declared.answer.Answer.{Answer}
+use Rattle.sefunjaro.specs.declared.answer.Around.{Around}
+use Rattle.sefunjaro.proofs.ChangeLemmas.{on_is, saving_is}
+
+-- each instant with a local date lies before the end
+pub early_second : (t o s : ℤ) → IsInYears (local_at t o) → IsOffset o → s ≡ seconds_of t → s <ℤ end_second
+early_second t o s years range e =
+    let low = (second_is t).low in omega (arith, ints, years_end (local_at t o) years, offset_least o range, low, e)
+
+-- the span is one of the set
+pub within : (set : FixedTimespanSet) (second : ℤ) (around : Around) → IsAround set second around → around.span ≤ length set.others
+within set second around is =
+    omega (arith, (is.throughout second is.begun is.lasts).within, length-map set.others shift_of)
+
+test_same : (a t s : ℤ) → IsSecond t s → int_le (a *ℤ pos 1000000000) t ≡ int_le a s
+test_same a t s h = grind (arith, ints, h.low, h.high)
+
+came_by : (t : ℤ) (first : FixedTimespan) (e : Entry) (es come : List Entry) (b : Bool) → span_by e.1 es t ≡ last_span e.1 come → span_by first es t ≡ last_span first come
+    → span_by (cond b e.1 first) es t ≡ last_span first (cond b (e ∷ come) come)
+came_by t first e es come true one other = one
+came_by t first e es come false one other = other
+
+-- what has come at an instant has come at its second
+came : (t : ℤ) (first : FixedTimespan) (entries : List Entry)
+    → span_by first entries t ≡ last_span first (filter (λ entry. int_le entry.0 (seconds_of t)) entries)
+unfolding span_by
+came t first [] = refl
+came t first (e ∷ es) =
+    ap (λ b. span_by (cond b e.1 first) es t) (test_same e.0 t (seconds_of t) (second_is t))
+    ∙ came_by t first e es (filter (λ entry. int_le entry.0 (seconds_of t)) es) (int_le e.0 (seconds_of t)) (came t e.1 es) (came t first es)
+
+-- what is in force at an instant is the span at the cut
+pub span_at_is : (set : FixedTimespanSet) (t : ℤ) (k : ℕ) → IsCut (shifts_of set) k (seconds_of t) → span_at (spans_of set) t ≡ span_in set k
+unfolding span_on
+span_at_is set t k cut = came t set.first set.others ∙ on_is set (seconds_of t) k cut
+
+-- an instant at the offset in force
+pub local_is : (total : ℤ → ℤ) (t : ℤ) (value : OffsetDateTime) → shown_of value ≡ in_force total t → local_of value ≡ local_at t (total t)
+unfolding shown_of instant
+local_is total t value shown = omega (arith, ints, ap (λ p. p.0) shown, ap (λ p. p.1) shown)
+
+local_by : (value : OffsetDateTime) (t o : ℤ) → instant value ≡ t → offset_of value ≡ o → local_of value ≡ local_at t o
+unfolding instant
+local_by value t o at offset = omega (arith, ints, at, offset)
+
+-- a file has one kind in force throughout a second
+pub kept_kind : (value : ZoneValue) (footer : Option FooterZone) (t u : ℤ) → kind_in value footer (seconds_of u) ≡ kind_in value footer (seconds_of t)
+    → kind_at value footer u ≡ kind_at value footer t
+unfolding kind_at
+kept_kind value footer t u e = e
+
+-- Up to the end a set of spans that lists the entries of a zone shows what the zone does.
+pub record ShowsListed (set : FixedTimespanSet) (found : Option EverSet) : Type 0 where
+  pub total : (t : ℤ) → seconds_of t <ℤ end_second → total_at (schedule_of (spans_with set found)) t ≡ total_with set found t
+  pub gives : (t : ℤ) (k : ℕ) (name : List ℕ) (saving : Bool) → seconds_of t <ℤ end_second → IsCut (shifts_of (spans_with set found)) k (seconds_of t)
+      → name ≡ (span_in (spans_with set found) k).name → saving ≡ int_lt (pos 0) (span_in (spans_with set found) k).dst_offset → given_with set found t name saving
+
+-- a zone that doesn't go on
+pub shows_itself : (set : FixedTimespanSet) → ShowsListed set None
+shows_itself set = record {
+  total = λ t early. refl;
+  gives = λ t k name saving early cut named saves. record { span = k; in_force = cut; named = named; saves = saves };
+}
+
+abbrev pub UnrolledLaw : FixedTimespanSet → Type 0
+UnrolledLaw set = (t : ℤ) → t <ℤ unrolled_end
+    → (span_at (spans_of (unrolled set)) t ≡ ever_span set t) × (total_at (schedule_of (unrolled set)) t ≡ ever_total set t)
+
+before_end : (t : ℤ) → seconds_of t <ℤ end_second → t <ℤ unrolled_end
+before_end t early = let high = (second_is t).high in omega (arith, ints, early, high)
+
+-- and one that does
+pub shows_unrolled : (set : FixedTimespanSet) (ever : EverSet) → UnrolledLaw (ever_seen ever) → ShowsListed set (Some ever)
+shows_unrolled set ever law = record {
+  total = λ t early. (law t (before_end t early)).1;
+  gives = λ t k name saving early cut named saves.
+      let span = sym (span_at_is (unrolled (ever_seen ever)) t k cut) ∙ (law t (before_end t early)).0 in record {
+        named = named ∙ ap (λ (s : FixedTimespan). s.name) span;
+        saves = saves ∙ ap (λ (s : FixedTimespan). int_lt (pos 0) s.dst_offset) span;
+      };
+}
+
+-- the total at an instant at which a span is in force
+pub total_is_of : (set : FixedTimespanSet) (t : ℤ) (k : ℕ) → IsCut (shifts_of set) k (seconds_of t) → total_at (schedule_of set) t ≡ total_of_span set k
+total_is_of set t k cut = total_is (schedule_of set) t ∙ total_from_cut (schedule_of set).first (schedule_of set).shifts k (seconds_of t) cut
+
+-- the answer of a span is that of the zone
+pub answered : (set : FixedTimespanSet) (found : Option EverSet) (t : ℤ) (old new : List ℕ) (result : Option Answer) → ShowsListed set found
+    → IsToldBySpan (spans_with set found) t old new result → IsAnswered (total_with set found) (given_with set found) t old new result
+answered set found t old new None shows told =
+    let is = told.0.is_around in
+    let cut = is.throughout (seconds_of t) is.begun is.lasts in
+    let early = lt_le (seconds_of t) _ _ is.lasts is.early in
+    let total = sym (shows.total t early) ∙ total_is_of (spans_with set found) t told.0.around.span cut in
+    (ap (λ o. is_in_years (local_at t o)) total ∙ told.0.years, told.1)
+answered set found t old new (Some answer) shows told =
+    let is = told.is_around in let made = told.made in let around = told.around in let listed = spans_with set found in
+    let cut : (u : ℤ) → around.from ≤ℤ u → u <ℤ around.until → IsCut (shifts_of listed) around.span u = is.throughout in
+    let early : (u : ℤ) → u <ℤ around.until → u <ℤ end_second = (λ u l. lt_le u around.until end_second l is.early) in
+    let totals : (u : ℤ) → around.from ≤ℤ seconds_of u → seconds_of u <ℤ around.until → total_with set found u ≡ total_of_span listed around.span =
+    (λ u low high. sym (shows.total u (early (seconds_of u) high)) ∙ total_is_of listed u around.span (cut (seconds_of u) low high)) in
+    let total = totals t is.begun is.lasts in
+    let low_is : (u : ℤ) → answer.from ≤ℤ u → around.from ≤ℤ u = (λ u l. subst (λ s. s ≤ℤ u) made.from l) in
+    let high_is : (u : ℤ) → u <ℤ answer.until → u <ℤ around.until = (λ u l. subst (λ s. u <ℤ s) made.until l) in
+    record {
+      years = ap (λ o. is_in_years (local_at t o)) total ∙ told.years;
+      offset = made.offset ∙ told.offset ∙ sym total;
+      clock = made.clock ∙ ap (λ x. clock_at (day_part x) (time_part x)) (local_by told.shown t (total_with set found t) told.instant (told.offset ∙ sym total));
+      name = (span_in listed around.span).name;
+      length = made.length;
+      room = made.room;
+      begun = subst (λ s. s ≤ℤ seconds_of t) (sym made.from) is.begun;
+      lasts = subst (λ s. seconds_of t <ℤ s) (sym made.until) is.lasts;
+      throughout = λ u low high. (
+        totals u (low_is (seconds_of u) low) (high_is (seconds_of u) high) ∙ sym total,
+        shows.gives u around.span (span_in listed around.span).name answer.is_saving (early (seconds_of u) (high_is (seconds_of u) high))
+            (cut (seconds_of u) (low_is (seconds_of u) low) (high_is (seconds_of u) high)) refl made.is_saving,
+      );
+    }
+
+-- and so is its saving
+saves : (set : FixedTimespanSet) (t : ℤ) (answer : Answer) (old new : List ℕ) → IsOfSpan set t answer old new
+    → (answer.is_kept ≡ true) × ((u : ℤ) → answer.from ≤ℤ u → u <ℤ answer.until → saving_at set u ≡ answer.saving)
+saves set t answer old new told =
+    let made = told.made in (
+      made.is_kept,
+      λ u low high. saving_is set u told.around.span
+          (told.is_around.throughout u (subst (λ s. s ≤ℤ u) made.from low) (subst (λ s. u <ℤ s) made.until high)) ∙ sym made.saving,
+    )
+
+pub saved : (set : FixedTimespanSet) (t : ℤ) (old new : List ℕ) (result : Option Answer) → IsToldBySpan set t old new result
+    → IfSome result (λ answer. (answer.is_kept ≡ true) × ((u : ℤ) → answer.from ≤ℤ u → u <ℤ answer.until → saving_at set u ≡ answer.saving))
+saved set t old new None told = tt
+saved set t old new (Some answer) told = saves set t answer old new told

@@ -1,0 +1,74 @@
+-- Worked examples: how long an answer holds. At 1970-01-01 00:00:00 UTC clocks are set ahead from offset 0 to one hour.
+use Rattle.std.proofs.Common.{◌≡◌, cond, ℕ, ℤ, pos, negsuc, ◌≤ℤ◌, Bool, false, List, [], ◌∷◌, int_lt, refl, ap, arith}
+use Rattle.std.specs.Prelude.{None}
+use Rattle.std.proofs.lemmas.Int.{ints}
+use Rattle.calendar.specs.ComparisonLaws.{lt_fail}
+use Rattle.civil_base.specs.Instants.{seconds_of}
+use Rattle.civil_base.specs.Layout.{day_part, time_part}
+use Rattle.tz_zone.specs.SecondLaws.{second_is}
+use Rattle.sefunjaro.specs.Answers.{IsAnswer, IsAnswered}
+use Rattle.sefunjaro.specs.Clocks.{clock_at}
+use Rattle.sefunjaro.specs.Rooms.{filled}
+use Rattle.sefunjaro.specs.declared.answer.Answer.{Answer}
+
+abbrev jump : ℤ → ℤ
+jump t = cond (int_lt t (pos 0)) (pos 0) (pos 3600)
+
+-- one abbreviation is in force at all times
+abbrev named : ℤ → List ℕ → Bool → Type 0
+named t name saving = name ≡ 65 ∷ []
+
+abbrev answer : ℤ → ℤ → Answer
+answer from until = record {
+  offset = pos 3600;
+  is_saving = false;
+  is_kept = false;
+  saving = pos 0;
+  clock = clock_at (pos 0) 3605000000000;
+  name_length = 1;
+  from = from;
+  until = until;
+}
+
+-- what is in force five seconds after the change, with these seconds
+abbrev Holds : ℤ → ℤ → Type 0
+Holds from until = IsAnswer jump named (pos 5000000000) (answer from until) (7 ∷ 7 ∷ []) (65 ∷ 7 ∷ [])
+
+after_it : (u : ℤ) → pos 0 ≤ℤ seconds_of u → jump u ≡ pos 3600
+after_it u low =
+    let begun = (second_is u).low in ap (λ b. cond b (pos 0) (pos 3600)) (lt_fail u (pos 0) (omega (arith, ints, low, begun)))
+
+from_the_change_on : Holds (pos 0) (pos 100)
+unfolding filled seconds_of day_part time_part
+from_the_change_on = record {
+  years = refl;
+  offset = refl;
+  clock = refl;
+  name = 65 ∷ [];
+  length = refl;
+  room = refl;
+  begun = omega (arith, ints);
+  lasts = omega (arith, ints);
+  throughout = λ u low high. (after_it u low, refl);
+}
+
+-- a second before the change it was another
+not_before_it : Holds (negsuc 0) (pos 100) → ⊥
+unfolding seconds_of
+not_before_it h = apart (h.throughout (negsuc 999999999) (omega (arith, ints)) (omega (arith, ints))).0
+  where
+    apart : ◌≡◌ {A = ℤ} (pos 0) (pos 3600) → ⊥
+    apart e = cc
+
+-- the instant's second is one of those that are told
+not_without_it : Holds (pos 0) (pos 5) → ⊥
+unfolding seconds_of
+not_without_it h = absurd (omega (arith, ints, h.lasts))
+
+not_after_it : Holds (pos 6) (pos 100) → ⊥
+unfolding seconds_of
+not_after_it h = absurd (omega (arith, ints, h.begun))
+
+-- an hour before the end of the years clocks show the next one
+no_local_date : IsAnswered jump named (pos 253402297200000000000) (7 ∷ []) (7 ∷ []) None
+no_local_date = (refl, refl)

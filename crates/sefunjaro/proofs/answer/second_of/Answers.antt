@@ -1,0 +1,15 @@
+use Rattle.std.proofs.Common.{◌∙◌, SFits, rules, subst, w64}
+use Rattle.std.proofs.lemmas.Int.{to_z-of_z}
+use Rattle.civil_base.specs.DateTimes.{instant, offset_of}
+use Rattle.civil_base.specs.Instants.{local_at}
+use Rattle.civil_base.specs.Ranges.{IsInYears}
+use Rattle.sefunjaro.proofs.AnswerLemmas.{early_second}
+use Rattle.sefunjaro.proofs.answer.second_of.Goals as goal
+
+pub returns-clause-early : goal.returns-clause-early
+returns-clause-early c =
+    let fits : SFits w64 c.unix_timestamp.result = search rules in
+    let nanos = c.unix_timestamp_nanos-nanos in
+    let t = instant c.args.at.now in
+    let o = offset_of c.args.at.now in
+    early_second t o _ (subst (λ n. IsInYears (local_at n o)) nanos.ensures.value nanos.ensures.years) nanos.ensures.offset (to_z-of_z w64 _ fits ∙ c.unix_timestamp.ensures.value)

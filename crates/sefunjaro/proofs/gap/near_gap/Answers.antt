@@ -1,0 +1,25 @@
+use Rattle.std.proofs.Common.{◌≡◌, ℤ, pos, ◌-ℤ◌, IsTrue, FitsSigned, w32, w64, to_z, of_z, to_z-of_z, rules, sym, ap, ◌∙◌, subst, arith}
+use Rattle.std.proofs.lemmas.Int.{ints}
+use Rattle.calendar.specs.ComparisonLaws.{le_from_fail}
+use Rattle.civil_base.specs.Instants.{instant_at, seconds_of}
+use Rattle.sefunjaro.proofs.FoundLemmas.{at_utc}
+use Rattle.sefunjaro.proofs.GapLemmas.{skipped_at}
+use Rattle.sefunjaro.proofs.gap.near_gap.Goals as goal
+
+pub returns-then-is_skipped : goal.returns-then-is_skipped
+returns-then-is_skipped g c =
+    let total = g.Z.Stretches.total_at c.args.zone.now in
+    let x = c.args.local.now in
+    let before = c.longest-before in
+    let after = c.around-after in
+    let shown : FitsSigned w64 c.unix_timestamp-shown.result = search rules in
+    let until : FitsSigned w64 before.result.until = search rules in
+    let offset : FitsSigned w32 before.result.offset = search rules in
+    let next : FitsSigned w32 after.result.offset = search rules in
+    let utc = c.assume_utc in
+    let is = c.unix_timestamp-shown.ensures.value ∙ ap seconds_of (at_utc utc.result x utc.ensures.local utc.ensures.offset) in
+    let passed = c.is_skipped.ensures (search rules) in
+    rw (to_z-of_z until, to_z-of_z offset, to_z-of_z next)
+    (skipped_at total x c.unix_timestamp-shown.result _ before.result.from before.result.until before.result.offset after.result.offset
+    c.requires is before.ensures.begun (search rules) before.ensures.throughout (rw (to_z-of_z until) at after.ensures.here)
+    (omega (arith, ints, passed.0, to_z-of_z shown)) (omega (arith, ints, passed.1, to_z-of_z shown)))

@@ -1,1 +1,0 @@
-use Rattle.sefunjaro.proofs.offsets.next.Goals as goal

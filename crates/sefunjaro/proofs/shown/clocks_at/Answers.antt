@@ -1,0 +1,7 @@
+use Rattle.std.proofs.Common.{◌∙◌, sym}
+use Rattle.sefunjaro.proofs.ShownLemmas.{all_shown}
+use Rattle.sefunjaro.proofs.shown.clocks_at.Goals as goal
+
+pub fill_clocks-requires : goal.fill_clocks-requires
+fill_clocks-requires g c =
+    all_shown (g.Z.Stretches.total_at c.args.zone.now) c.args.seconds.now (sym c.unshown_place.ensures ∙ c.in-None.is)

@@ -1,0 +1,44 @@
+use Rattle.std.proofs.Common.{◌∙◌, pos, get_or, length, take, SFits, to_z, of_z, w32, w64, rules, refl, sym, ap, subst, arith, length-append}
+use Rattle.std.proofs.lemmas.Int.{to_z-of_z}
+use Rattle.calendar.specs.SignedLaws.{signed}
+use Rattle.civil_base.specs.Instants.{local_at, nanos_of}
+use Rattle.civil_base.specs.Ranges.{IsOffset}
+use Rattle.sefunjaro.specs.Rooms.{filled, filled_from}
+use Rattle.sefunjaro.specs.Shown.{line_of, texts_of}
+use Rattle.sefunjaro.proofs.RoomLemmas.{filled_behind}
+use Rattle.sefunjaro.proofs.ShownLemmas.{line_is, texts_taken}
+use Rattle.sefunjaro.proofs.shown.fill_texts.Goals as goal
+
+pub loop-i-init : goal.loop-i-init
+unfolding filled texts_of
+loop-i-init g c =
+    record { known = λ u low high. absurd (omega (arith, signed, low, high)); whole = refl; bound = omega arith; room = refl }
+
+pub put_line-whole-requires-clause-offset : goal.put_line-whole-requires-clause-offset
+put_line-whole-requires-clause-offset g c =
+    let fits : SFits w32 c.next-known.result.offset = search rules in
+    subst IsOffset (c.next-known.ensures.here ∙ sym (to_z-of_z w32 _ fits)) (g.met.Z.Stretches.in_range c.args.zone.now _)
+
+pub loop-i-preserved : goal.loop-i-preserved
+loop-i-preserved g c =
+    let seconds = c.args.seconds.now in
+    let i = c.loop-i.i in
+    let second = get_or seconds i (pos 0) in
+    let total = g.Z.Stretches.total_at c.args.zone.now in
+    let offset_fits : SFits w32 c.next-known.result.offset = search rules in
+    let second_fits : SFits w64 c.second_at-second.result = search rules in
+    let here = to_z-of_z w64 _ second_fits ∙ c.second_at-second.ensures in
+    let told = to_z-of_z w32 _ offset_fits ∙ sym c.next-known.ensures.here ∙ ap (λ s. total (nanos_of s)) here in
+    let line = line_is total second c.local_at.result (to_z w32 (of_z w32 c.next-known.result.offset))
+    (c.local_at.ensures ∙ ap (λ s. local_at (nanos_of s) (to_z w32 (of_z w32 c.next-known.result.offset))) here) told in
+    let so_far = texts_of total (take i seconds) in
+    let all = texts_taken total seconds i c.loop-i-test.true in
+    record {
+      known = c.next-known.ensures.known;
+      whole = omega (arith, c.loop-i.invariant.whole, c.put_line-whole.ensures.length, ap length line, ap length all, length-append so_far (line_of total second));
+      bound = omega (arith, c.loop-i.invariant.bound, c.put_line-whole.ensures.bound);
+      room =
+          c.put_line-whole.ensures.room ∙ ap (λ l. filled_from c.loop-i.whole l c.loop-i.room) line
+          ∙ (λ j. filled_from (c.loop-i.invariant.whole j) (line_of total second) (c.loop-i.invariant.room j))
+          ∙ filled_behind so_far (line_of total second) c.args.room.now ∙ ap (λ l. filled l c.args.room.now) (sym all);
+    }

@@ -1,0 +1,14 @@
+use Rattle.std.proofs.Common.{◌≡◌, ◌≤◌, ◌*◌, length, take}
+use Rattle.sefunjaro.specs.Rooms.{filled}
+use Rattle.sefunjaro.specs.Shown.{texts_of}
+use Rattle.sefunjaro.specs.Stretches.{IsKnown}
+use Rattle.sefunjaro.proofs.shown.fill_texts.Given as goal
+
+-- the texts of the seconds so far stand in the room, as far as they fit, and what is remembered is so
+abbrev pub invariant-loop-i : goal.invariant-loop-i
+invariant-loop-i g l = record {
+  known : IsKnown (g.Z.Stretches.total_at l.zone) l.known;
+  whole : l.whole ≡ length (texts_of (g.Z.Stretches.total_at l.zone) (take l.i l.seconds));
+  bound : l.whole ≤ 41 * l.i;
+  room : l.room ≡ filled (texts_of (g.Z.Stretches.total_at l.zone) (take l.i l.seconds)) l.fn.room;
+}

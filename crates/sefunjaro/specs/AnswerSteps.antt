@@ -1,0 +1,56 @@
+-- What the span in force at an instant says, and how long it is in force.
+use Rattle.std.specs.Prelude.{◌≡◌, ℕ, ℤ, pos, ◌≤ℤ◌, ◌<ℤ◌, true, false, int_lt, List, length, Option, Some, None}
+use Rattle.civil_base.specs.DateTimes.{instant, local_of, offset_of}
+use Rattle.civil_base.specs.Instants.{local_at, seconds_of}
+use Rattle.civil_base.specs.Layout.{day_part, time_part}
+use Rattle.civil_base.specs.Ranges.{is_in_years}
+use Rattle.civil_base.specs.declared.offset_date_time.OffsetDateTime.{OffsetDateTime}
+use Rattle.zone_spans.specs.declared.span.FixedTimespan.{FixedTimespan}
+use Rattle.tz_zone.specs.Sets.{shifts_of, span_in, total_of_span}
+use Rattle.tz_zone.specs.Spans.{IsCut}
+use Rattle.tz_zone.specs.declared.set.FixedTimespanSet.{FixedTimespanSet}
+use Rattle.sefunjaro.specs.Clocks.{clock_at}
+use Rattle.sefunjaro.specs.Rooms.{filled}
+use Rattle.sefunjaro.specs.declared.answer.Answer.{Answer}
+use Rattle.sefunjaro.specs.declared.answer.Around.{Around}
+
+-- 10502-01-01 00:00:00 UTC: up to then the entries of a zone that goes on are listed
+abbrev pub end_second : ℤ
+end_second = pos 269243913600
+
+-- a span of a set is in force throughout some seconds before that, among them this one
+pub record IsAround (set : FixedTimespanSet) (second : ℤ) (around : Around) : Type 0 where
+  pub begun : around.from ≤ℤ second
+  pub lasts : second <ℤ around.until
+  pub early : around.until ≤ℤ end_second
+  pub throughout : (u : ℤ) → around.from ≤ℤ u → u <ℤ around.until → IsCut (shifts_of set) around.span u
+
+-- the answer is made of a span that is in force throughout those seconds, and of the instant at its offset
+pub record IsMadeOf (span : FixedTimespan) (around : Around) (shown : OffsetDateTime) (answer : Answer) (old new : List ℕ) : Type 0 where
+  pub offset : answer.offset ≡ offset_of shown
+  pub clock : answer.clock ≡ clock_at (day_part (local_of shown)) (time_part (local_of shown))
+  pub is_saving : answer.is_saving ≡ int_lt (pos 0) span.dst_offset
+  pub is_kept : answer.is_kept ≡ true
+  pub saving : answer.saving ≡ span.dst_offset
+  pub length : answer.name_length ≡ length span.name
+  pub room : new ≡ filled span.name old
+  pub from : answer.from ≡ around.from
+  pub until : answer.until ≡ around.until
+
+pub record IsOfSpan (set : FixedTimespanSet) (t : ℤ) (answer : Answer) (old new : List ℕ) : Type 0 where
+  pub around : Around
+  pub is_around : IsAround set (seconds_of t) around
+  pub shown : OffsetDateTime
+  pub instant : instant shown ≡ t
+  pub offset : offset_of shown ≡ total_of_span set around.span
+  pub years : is_in_years (local_at t (total_of_span set around.span)) ≡ true
+  pub made : IsMadeOf (span_in set around.span) around shown answer old new
+
+pub record HasNoDate (set : FixedTimespanSet) (t : ℤ) : Type 0 where
+  pub around : Around
+  pub is_around : IsAround set (seconds_of t) around
+  pub years : is_in_years (local_at t (total_of_span set around.span)) ≡ false
+
+abbrev pub IsToldBySpan : FixedTimespanSet → ℤ → List ℕ → List ℕ → Option Answer → Type 0
+IsToldBySpan set t old new (Some answer) = IsOfSpan set t answer old new
+IsToldBySpan set t old new None = HasNoDate set t × (new ≡ old)
