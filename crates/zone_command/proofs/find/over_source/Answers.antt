@@ -14,11 +14,13 @@ returns-in-Err g c =
     (inr (inl (record { outcome_is = refl; asks = c.in-Err.ensures.asked; why = c.in-Err.ensures.failed; environment = refl; shelf = refl })), refl)
 
 pub returns-in-Err-Failed : goal.returns-in-Err-Failed
-returns-in-Err-Failed g c =
-    (inr (inr (inl (record {
-      outcome_is = refl;
-      unasked = c.in-Ok.ensures.unasked;
-      unnamed = c.in-Err-Failed.ensures.unnamed (ap Err c.in-Err-Failed.field-0-is);
-      rose = c.in-Err-Failed.ensures.failed (ap Err c.in-Err-Failed.field-0-is);
-      shelf = refl;
-    }))), refl)
+returns-in-Err-Failed g c = (
+  inr (inr (inl (record {
+    outcome_is = refl;
+    unasked = c.in-Ok.ensures.unasked;
+    unnamed = c.in-Err-Failed.ensures.unnamed (ap Err c.in-Err-Failed.field-0-is);
+    rose = c.in-Err-Failed.ensures.failed (ap Err c.in-Err-Failed.field-0-is);
+    shelf = refl;
+  }))),
+  refl,
+)
