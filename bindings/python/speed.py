@@ -3,7 +3,8 @@
 
 The processor time of a call in nanoseconds, the best of nine turns: of a function of the library that does nothing, which is
 ctypes' own cost, of an offset at an instant, of one of many at once, in any order and rising, of one of many local times and instants, and of a datetime's
-utcoffset, tzname, dst and astimezone with a zone of sefunjaro.py and with Python's zoneinfo."""
+utcoffset, tzname, dst and astimezone with a zone of sefunjaro.py and with Python's zoneinfo. Where pandas is installed, of the
+same local times and instants by it too."""
 import ctypes
 import time
 from array import array
@@ -21,6 +22,22 @@ NAME = "America/New_York"
 def locals_in(zone, rounds):
     start = datetime(1970, 1, 1, tzinfo=zone)
     return [start + timedelta(seconds=turn * 7919 * 3600 % 2030000000) for turn in range(rounds)]
+
+
+def of_pandas(seconds, shown):
+    """Local times and instants by pandas, of which each local time in a fold is the first and each in a gap the one after it."""
+    try:
+        import numpy
+        import pandas
+    except ImportError:
+        return {}
+    instants = pandas.DatetimeIndex(numpy.frombuffer(seconds, numpy.int64).astype("datetime64[s]"), tz="UTC")
+    locals_ = pandas.DatetimeIndex(numpy.frombuffer(shown, numpy.int64).astype("datetime64[s]"))
+    first = numpy.ones(len(locals_), bool)
+    return {
+        "to_local, pandas": lambda: instants.tz_convert(NAME).tz_localize(None),
+        "to_instants, pandas": lambda: locals_.tz_localize(NAME, ambiguous=first, nonexistent="shift_forward"),
+    }
 
 
 def main():
@@ -49,6 +66,7 @@ def main():
         "astimezone": lambda: [moment.astimezone(mine) for moment in in_utc],
         "astimezone, zoneinfo": lambda: [moment.astimezone(theirs) for moment in in_utc],
     }
+    parts.update(of_pandas(many, shown))
     best = dict.fromkeys(parts, float("inf"))
     for _ in range(9):
         for name, part in parts.items():

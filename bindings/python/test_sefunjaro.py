@@ -4,6 +4,7 @@ import base64
 import copy
 import ctypes
 import enum
+import importlib.util
 import inspect
 import io
 import os
@@ -45,6 +46,25 @@ Zone Asia/Tbilisi 4:00 E +04/+05 1996 Oct lastSun
 """
 SPRING, AUTUMN = 1711846800, 1729990800  # 2024-03-31 and 2024-10-27, 01:00 UTC
 SKIPPED, TWICE = datetime(2024, 3, 31, 2, 30), datetime(2024, 10, 27, 2, 30)
+
+
+REFUSES = importlib.util.find_spec("_testcapi") is not None
+
+
+def refusals_of(call):
+    """How often a call ends with MemoryError where its first allocation is refused, then its second alone, and so on until none is."""
+    import _testcapi
+
+    for number in range(10_000):
+        _testcapi.set_nomemory(number, number + 1)
+        try:
+            call()
+        except MemoryError:
+            continue
+        finally:
+            _testcapi.remove_mem_hooks()
+        return number
+    raise AssertionError("a call that never ends with an answer")
 
 
 def hours(number):
@@ -219,7 +239,8 @@ class Zones(unittest.TestCase):
         answer = self.zone.answer_at(SPRING, 5)
         self.assertEqual(answer[:5], (7200, True, 3600, Clock(2024, 3, 31, 3, 0, 0, 5), "CEST"))
         self.assertEqual(answer[5:], (SPRING, AUTUMN))
-        self.assertEqual(sefunjaro.Zone.from_posix("EST5").answer_at(7)[2:], (None, Clock(1969, 12, 31, 19, 0, 7), "EST", 7, 8))
+        self.assertEqual(sefunjaro.Zone.from_posix("EST5").answer_at(7)[2:], (None, Clock(1969, 12, 31, 19, 0, 7), "EST", 7, 2**63 - 1))
+        self.assertEqual(sefunjaro.Zone.from_posix("CET-1CEST,M3.5.0,M10.5.0/3").answer_at(SPRING)[5:], (SPRING, AUTUMN))
         self.assertEqual(Source(SOURCE).zone("Here/Long").answer_at(0).name, "AbbreviationOfTwentySix")
         with self.assertRaises(sefunjaro.OutOfRange):
             self.zone.answer_at(253402300799)
@@ -767,6 +788,23 @@ class Lifetimes(unittest.TestCase):
         for thread in threads:
             thread.join()
         self.assertEqual(children, [True] * 20)
+
+    @unittest.skipUnless(REFUSES, "this Python has no _testcapi, which refuses memory")
+    def test_refused_memory(self):
+        # Each allocation of Python's refused in turn, up to the first call that needs no more: the answer is MemoryError, and the
+        # next one is as before.
+        zone = Source(SOURCE).zone("Here/Middle")
+        local, instant = datetime(2024, 7, 1, tzinfo=zone), datetime(2024, 7, 1, tzinfo=timezone.utc)
+        seconds = array.array("q", range(0, SPRING, 10_000_000))
+        shown = zone.to_local(seconds)
+        calls = (
+            local.utcoffset, local.dst, local.tzname, lambda: instant.astimezone(zone), lambda: zone.offsets_at(seconds),
+            lambda: zone.to_local(seconds), lambda: zone.to_instants(shown), lambda: Source(SOURCE).zone("Here/Long").tzname(local),
+        )
+        for call in calls:
+            due = call()
+            self.assertGreater(refusals_of(call), 0)
+            self.assertEqual(call(), due)
 
     def test_memory(self):
         # A million zones, most of one line, closed or only dropped; with sources, shared zones and some that are refused.
