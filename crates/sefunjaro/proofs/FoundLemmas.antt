@@ -21,7 +21,7 @@ use Rattle.sefunjaro.specs.declared.zone.Reading.{Reading}
 second_back : (x o s : ℤ) → IsSecond x s → IsSecond (instant_at x o) (s -ℤ o)
 second_back x o s h = record { low = omega (arith, ints, h.low); high = omega (arith, ints, h.high) }
 
-second_by : (x o : ℤ) → seconds_of x -ℤ o ≡ seconds_of (instant_at x o)
+pub second_by : (x o : ℤ) → seconds_of x -ℤ o ≡ seconds_of (instant_at x o)
 second_by x o = one_second (instant_at x o) (seconds_of x -ℤ o) (seconds_of (instant_at x o)) (second_back x o (seconds_of x) (second_is x)) (second_is (instant_at x o))
 
 -- as the machine takes it away

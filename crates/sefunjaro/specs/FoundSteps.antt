@@ -1,10 +1,14 @@
--- One of so many readings, of which the first two are given.
-use Rattle.std.specs.Prelude.{ℕ, nat_lt, if◌then◌else◌}
-use Rattle.sefunjaro.specs.Found.{found_of}
+-- One of so many readings, of which the first two are given; and the only one by what is known of a zone.
+use Rattle.std.specs.Prelude.{ℕ, ℤ, nat_lt, if◌then◌else◌}
+use Rattle.sefunjaro.specs.Found.{found_of, IsFound}
 use Rattle.sefunjaro.specs.declared.found.FoldRule.{FoldRule}
 use Rattle.sefunjaro.specs.declared.found.FoldRule.TheVariants.{First, Second}
 use Rattle.sefunjaro.specs.declared.found.Found.{Found}
+use Rattle.sefunjaro.specs.declared.found.GapRule.{GapRule}
+use Rattle.sefunjaro.specs.declared.stretch.Stretch.{Stretch}
 use Rattle.sefunjaro.specs.declared.zone.Reading.{Reading}
+use Rattle.sefunjaro.specs.Steadiness.{IsSteady}
+use Rattle.sefunjaro.specs.Stretches.{IsKnown}
 
 -- the second only where the rule says so and there is one
 abbrev pub taken : FoldRule → ℕ → Reading → Reading → Reading
@@ -13,3 +17,7 @@ taken Second count first second = if nat_lt count 2 then first else second
 
 abbrev pub by_count : FoldRule → ℕ → Reading → Reading → Found
 by_count fold count first second = found_of (taken fold count first second) count
+
+-- whatever the rules, this is found of the local time x in each zone that has this total in force throughout these seconds
+abbrev pub IsOnly : Stretch → ℤ → Found → Type 0
+IsOnly known x found = (total : ℤ → ℤ) (fold : FoldRule) (gap : GapRule) → IsSteady total → IsKnown total known → IsFound total fold gap x found

@@ -26,4 +26,5 @@ pub mod AnswerSteps
 pub mod ChangeSteps
 pub mod FoundSteps
 pub mod GapPlaces
+pub mod Steadiness
 pub mod Stretches

@@ -1,18 +1,25 @@
 //! One instant of each of many local times, by rules for those that clocks show more than once or never.
-ghost use Rattle.std.specs.Prelude.{◌≡◌, ◌<◌, ℤ, MatchOption, length, slice_index_or};
-ghost use Rattle.civil_base.specs.Instants.{instant_at, seconds_of};
+ghost use Rattle.std.specs.Prelude.{◌≡◌, ◌<◌, ℤ, IfSome, MatchOption, length, slice_index_or};
+ghost use Rattle.civil_base.specs.Instants.{nanos_of};
+ghost use Rattle.civil_base.specs.Ranges.{IsInYears};
 ghost use Rattle.tz_tzif.specs.InForce.{told_total_at};
 ghost use Rattle.tz_tzif.specs.Zones.{value_of, says_of};
 ghost use Rattle.sefunjaro.specs.Answered.{AreReadings};
 ghost use Rattle.sefunjaro.specs.Clocks.{clock_shown};
 ghost use Rattle.sefunjaro.specs.Found.{by_gap, by_offset, AreFound, AreLocalTimes, AreToldOf, IsFirstFaulty, IsFound};
-ghost use Rattle.sefunjaro.specs.FoundSteps.{by_count};
+ghost use Rattle.sefunjaro.specs.FoundSteps.{by_count, IsOnly};
+ghost use Rattle.sefunjaro.specs.Steadiness.{IsSteady};
+ghost use Rattle.sefunjaro.specs.Stretches.{IsKnown, IsStretch};
 ghost use Rattle.sefunjaro.specs.Zones.{total_in};
 
 use crate::clock::Clock;
 use crate::gap::Gap;
-use crate::zone::{OpenZone, Reading, lent_readings, source_readings};
+use crate::offsets::{Stretches, UNKNOWN};
+use crate::shown::is_in_years;
+use crate::stretch::Stretch;
+use crate::zone::{OpenZone, Reading, lent_readings, source_readings, source_stretch};
 use civil_base::PlainDateTime;
+use tz_ever::laws;
 use tz_tzif::TzifTz;
 
 /// Which instant of a local time is meant that clocks show more than once.
@@ -67,6 +74,15 @@ pub(crate) trait LocalTimes {
     /// The instants, as far as they fit, and how many there are; where there is none the change is told.
     fn all_readings(&self, local: &PlainDateTime, room: &mut [Reading], gap: &mut Gap) -> usize
         ensures { AreReadings (total_at self.now) local.now room.old room.new result gap.new };
+
+    /// The total at a second, and seconds around it at which it is the same.
+    fn stretch_at(&self, second: i64) -> Stretch
+        requires { IsInYears (nanos_of second) }
+        ensures { IsStretch (total_at self.now) second result };
+
+    /// A law: one total is in force throughout each second, and each is an offset.
+    fn is_steady(&self)
+        ensures { IsSteady (total_at self.now) };
 }
 
 impl LocalTimes for OpenZone {
@@ -74,6 +90,14 @@ impl LocalTimes for OpenZone {
 
     fn all_readings(&self, local: &PlainDateTime, room: &mut [Reading], gap: &mut Gap) -> usize {
         source_readings(self, local, room, gap)
+    }
+
+    fn stretch_at(&self, second: i64) -> Stretch {
+        source_stretch(self, second)
+    }
+
+    fn is_steady(&self) {
+        laws::holds_in_seconds();
     }
 }
 
@@ -83,6 +107,12 @@ impl<'a> LocalTimes for TzifTz<'a> {
     fn all_readings(&self, local: &PlainDateTime, room: &mut [Reading], gap: &mut Gap) -> usize {
         lent_readings(self, local, room, gap)
     }
+
+    fn stretch_at(&self, second: i64) -> Stretch {
+        self.around(second)
+    }
+
+    fn is_steady(&self) {}
 }
 
 /// One instant of each of some local times, by the rules, in their order, as far as they fit.
@@ -131,8 +161,76 @@ fn fill_found<Z: LocalTimes>(
     requires { AreLocalTimes clocks.now }
     ensures { AreFound (Z.total_at zone.now) fold gap clocks.now room.old room.new }
 {
+    let mut known = UNKNOWN;
     for i in 0..clocks.len().min(room.len()) {
-        room[i] = find(zone, &local_in(clocks, i), fold, gap);
+        let local = local_in(clocks, i);
+        known = stretch_near(zone, known, &local);
+        room[i] = find_by(zone, &known, &local, fold, gap);
+    }
+}
+
+/// One instant of a local time, by a stretch of the zone where it lies well within that.
+fn find_by<Z: LocalTimes>(
+    zone: &Z,
+    known: &Stretch,
+    local: &PlainDateTime,
+    fold: FoldRule,
+    gap: GapRule,
+) -> Found
+    requires { IsKnown (Z.total_at zone.now) known.now }
+    ensures { IsFound (Z.total_at zone.now) fold gap local.now result }
+{
+    zone.is_steady();
+    match only_instant(known, local) {
+        Some(found) => found,
+        None => find(zone, local, fold, gap),
+    }
+}
+
+/// Seconds around the one that a local time is in UTC, more than three offsets past the greatest.
+const AROUND: i64 = 300_000;
+
+/// A stretch in which a local time may lie well within: the last one where it does, or the one that the zone tells of a second some
+/// days earlier; one of no seconds where that second lies outside the years.
+fn stretch_near<Z: LocalTimes>(zone: &Z, known: Stretch, local: &PlainDateTime) -> Stretch
+    requires { IsKnown (Z.total_at zone.now) known }
+    ensures { IsKnown (Z.total_at zone.now) result }
+{
+    let second = local.assume_utc().unix_timestamp();
+    if known.from <= second - AROUND && second + AROUND < known.until {
+        known
+    } else {
+        stretch_from(zone, second - AROUND)
+    }
+}
+
+/// The stretch that a zone tells of a second, or one of no seconds where it lies outside the years.
+fn stretch_from<Z: LocalTimes>(zone: &Z, second: i64) -> Stretch
+    ensures { IsKnown (Z.total_at zone.now) result }
+{
+    if is_in_years(second) {
+        zone.stretch_at(second)
+    } else {
+        UNKNOWN
+    }
+}
+
+/// Twice the seconds of an offset past the greatest.
+const TWICE: i64 = 187_200;
+
+/// The instant of a local time that lies so far within a stretch that no other offset is near: its only one.
+fn only_instant(known: &Stretch, local: &PlainDateTime) -> Option<Found>
+    ensures { IfSome result (IsOnly known.now local.now) }
+{
+    let second = local.assume_utc().unix_timestamp() - i64::from(known.offset);
+    if known.from <= second - TWICE && second + TWICE < known.until {
+        Some(Found {
+            second,
+            offset: known.offset,
+            kind: 1,
+        })
+    } else {
+        None
     }
 }
 

@@ -1,9 +1,12 @@
 //! A zone of any kind that is kept open, and what it is asked.
 ghost use Rattle.std.specs.Prelude.{◌≡◌, ◌<◌, length, map, option_map};
+ghost use Rattle.civil_base.specs.Instants.{nanos_of};
+ghost use Rattle.civil_base.specs.Ranges.{IsInYears};
 ghost use Rattle.tz_tzif.specs.InForce.{told_total_at};
 ghost use Rattle.tz_tzif.specs.Zones.{value_of, says_of};
 ghost use Rattle.sefunjaro.specs.Answered.{AreReadings};
 ghost use Rattle.sefunjaro.specs.Gaps.{IsSkippedBy};
+ghost use Rattle.sefunjaro.specs.Stretches.{IsStretch};
 ghost use Rattle.tz_ever.specs.Ever.{ever_total};
 ghost use Rattle.tz_ever.specs.EverShown.{ever_seen};
 ghost use Rattle.tz_lookup.specs.CompactShown.{seen};
@@ -22,9 +25,10 @@ use crate::clock::Clock;
 use crate::file::FileZone;
 use crate::found::{FoldRule, Found, GapRule, instants_of};
 use crate::gap::{Gap, find_gap, near_gap};
-use crate::offsets::offsets_at;
+use crate::offsets::{Stretches, offsets_at};
 use crate::room::{fill, put};
 use crate::shown::{clocks_at, texts_at};
+use crate::stretch::Stretch;
 use civil_base::{OffsetDateTime, PlainDateTime};
 use std::alloc::{AllocError, Global};
 use tz_ever::{EverSet, EverTable, EverTz, laws};
@@ -329,6 +333,17 @@ pub(crate) fn source_readings(
         *gap = zone.gap(local);
     }
     count
+}
+
+/// The total of a zone of a source at a second, and seconds around it at which it is the same.
+pub(crate) fn source_stretch(zone: &OpenZone, second: i64) -> Stretch
+    requires { IsInYears (nanos_of second) }
+    ensures { IsStretch (total_in zone.now) second result }
+{
+    match &zone.for_ever {
+        Some(ever) => ever.around(second),
+        None => zone.set.around(second),
+    }
 }
 
 /// A zone that owns all that it is asked for.
