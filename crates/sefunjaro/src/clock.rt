@@ -1,4 +1,7 @@
 //! Local times by their parts.
+ghost use Rattle.std.specs.Prelude.{IsTrue};
+ghost use Rattle.civil_base.specs.Ranges.{IsYear};
+
 use civil_base::{Date, Month, PlainDateTime, Time};
 
 /// A local date and a time of day, as a calendar and a clock show them.
@@ -22,7 +25,7 @@ pub struct Clock {
 }
 
 impl Clock {
-    ghost use Rattle.std.specs.Prelude.{◌≡◌, IfNone, IfSome};
+    ghost use Rattle.std.specs.Prelude.{◌≡◌, IfNone, IfSome, IsFalse, IsTrue};
     ghost use Rattle.sefunjaro.specs.Clocks.{clock_at, clock_shown, IsClock};
 
     /// What is shown on a date at a time of day.
@@ -51,10 +54,22 @@ impl Clock {
         let time = self.time()?;
         Some(PlainDateTime::new(date, time))
     }
+
+    /// Whether a calendar and a clock show these parts.
+    pub(crate) fn is_local(self) -> bool
+        ensures yes { IsTrue result → IsClock self }
+        ensures no { IsFalse result → IsClock self → ⊥ }
+    {
+        if self.is_in_each_month() {
+            self.time().is_some()
+        } else {
+            self.local().is_some()
+        }
+    }
 }
 
 impl Clock {
-    ghost use Rattle.std.specs.Prelude.{◌≡◌, IfNone, IfSome};
+    ghost use Rattle.std.specs.Prelude.{◌≡◌, IfNone, IfSome, IsTrue};
     ghost use Rattle.calendar.specs.Days.{day as day_at, IsDate};
     ghost use Rattle.civil_base.specs.Clock.{time_at, IsClockTime};
     ghost use Rattle.civil_base.specs.Ranges.{IsYear};
@@ -77,4 +92,21 @@ impl Clock {
     {
         Time::from_hms_nano(self.hour, self.minute, self.second, self.nanosecond).ok()
     }
+
+    /// Whether its date is one that each month has, which is told in less time.
+    fn is_in_each_month(self) -> bool
+        ensures { IsTrue result → IsYear self.year × IsDate self.year self.month self.day }
+    {
+        match (self.month, self.day) {
+            (1..=12, 1..=28) => is_year(self.year),
+            _ => false,
+        }
+    }
+}
+
+/// Whether a year is from -9999 to 9999.
+fn is_year(year: i32) -> bool
+    ensures { IsTrue result → IsYear year }
+{
+    -9999 <= year && year <= 9999
 }

@@ -143,7 +143,7 @@ fn faulty_place(clocks: &[Clock]) -> Option<usize>
     ensures { MatchOption result (AreLocalTimes clocks.now) (IsFirstFaulty clocks.now) }
 {
     for i in 0..clocks.len() {
-        if clocks[i].local().is_none() {
+        if !clocks[i].is_local() {
             return Some(i);
         }
     }
