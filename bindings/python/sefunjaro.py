@@ -533,6 +533,14 @@ def _delta(offset: int) -> datetime.timedelta:
     return datetime.timedelta(seconds=offset)
 
 
+def _condition() -> threading.Condition:
+    """A condition. Where there is no memory for its lock, Python itself raises RuntimeError."""
+    try:
+        return threading.Condition()
+    except RuntimeError:
+        raise MemoryError from None
+
+
 class _Handle:
     """A handle of the library. Any number of threads read it at once, each call over a copy of its own; `close` waits for those that are
     under way, and those that come later find it closed.
@@ -548,7 +556,7 @@ class _Handle:
         self.is_closing = False
         # Whether the last call that is under way closes the handle.
         self.is_left = False
-        self.ended = threading.Condition()
+        self.ended = _condition()
         _handles.add(self)
 
     @property
@@ -601,7 +609,7 @@ class _Handle:
         for other in list(self.calls):
             if other != thread:
                 del self.calls[other]
-        self.ended = threading.Condition()
+        self.ended = _condition()
 
     def __del__(self, close: Callable[..., int] = _close) -> None:
         # Nobody else has the handle any more, so there is nothing to wait for.

@@ -61,6 +61,11 @@ def refusals_of(call):
             call()
         except MemoryError:
             continue
+        except ctypes.ArgumentError as refused:
+            # What ctypes makes of a MemoryError in turning an argument.
+            if "MemoryError" not in str(refused):
+                raise
+            continue
         finally:
             _testcapi.remove_mem_hooks()
         return number
@@ -801,10 +806,12 @@ class Lifetimes(unittest.TestCase):
             local.utcoffset, local.dst, local.tzname, lambda: instant.astimezone(zone), lambda: zone.offsets_at(seconds),
             lambda: zone.to_local(seconds), lambda: zone.to_instants(shown), lambda: Source(SOURCE).zone("Here/Long").tzname(local),
         )
+        refused = 0
         for call in calls:
             due = call()
-            self.assertGreater(refusals_of(call), 0)
+            refused += refusals_of(call)
             self.assertEqual(call(), due)
+        self.assertGreater(refused, len(calls))
 
     def test_memory(self):
         # A million zones, most of one line, closed or only dropped; with sources, shared zones and some that are refused.
