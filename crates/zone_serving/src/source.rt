@@ -1,5 +1,5 @@
 //! A source in any form that `zic` reads: its names, its zones, their files and strings, and the tree.
-ghost use Rattle.std.specs.Prelude.{◌≡◌, map, option_map, Ok, Err, IfErr, IfOk, IfSome};
+ghost use Rattle.std.specs.Prelude.{◌≡◌, ℕ, List, map, option_map, Ok, Err, IfErr, IfOk, IfSome};
 ghost use Rattle.sefunjaro.specs.Replies.{reply_view};
 ghost use Rattle.sefunjaro.specs.Sources.{table_in};
 ghost use Rattle.sefunjaro.specs.Zones.{ever_in, set_in};
@@ -10,7 +10,8 @@ ghost use Rattle.zone_command.specs.Refusals.{IsTold};
 ghost use Rattle.zone_displays.specs.SeenNames.{name_seen};
 ghost use Rattle.zone_serving.specs.Sources.{is_compiled};
 ghost use Rattle.zone_serving.specs.Views.{IsToldAs, entries_of, entry_of, ever_found, found_in, unknown_words};
-ghost use Rattle.zone_serving.specs.Wholes.{IsFileOf, IsStringOf};
+ghost use Rattle.zone_serving.specs.Wholes.{IsFileOf, IsStringOf, IsWhole};
+ghost use Rattle.zone_table.specs.declared.table.Table.{Table};
 
 use crate::over::PlainSource;
 use crate::plain::PlainStream;
@@ -78,18 +79,12 @@ impl ZoneSource for AnySource {
 
     fn file(&self, alloc: Global, name: &str) -> Result<Vec<u8>, Refusal> {
         let zone = zone_of(alloc, &self.source, name)?;
-        match zone.for_ever() {
-            Some(ever) => file_of(alloc, ever),
-            None => Err(Refusal::Why(ENDING.to_vec(alloc)?)),
-        }
+        file_in(alloc, &zone)
     }
 
     fn string(&self, alloc: Global, name: &str) -> Result<Vec<u8>, Refusal> {
         let zone = zone_of(alloc, &self.source, name)?;
-        match zone.for_ever() {
-            Some(ever) => string_of(alloc, ever),
-            None => Err(Refusal::Why(ENDING.to_vec(alloc)?)),
-        }
+        string_in(alloc, &zone)
     }
 
     fn tree(&self, alloc: Global) -> Result<Vec<u8>, Refusal> {
@@ -227,6 +222,17 @@ fn zone_of(alloc: Global, source: &OpenSource, name: &str) -> Result<OpenZone, R
     }
 }
 
+/// The file of a zone, if it goes on.
+fn file_in(alloc: Global, zone: &OpenZone) -> Result<Vec<u8>, Refusal>
+    ensures { (table : Table) (name : List ℕ) → found_in table name ≡ Ok (reply_view (set_in zone.now) (ever_in zone.now))
+        → ever_found table name ≡ option_map ever_seen (ever_in zone.now) → IsGiven (IsWhole IsFileOf table name) result }
+{
+    match zone.for_ever() {
+        Some(ever) => file_of(alloc, ever),
+        None => Err(Refusal::Why(ENDING.to_vec(alloc)?)),
+    }
+}
+
 /// The file of a zone that goes on.
 fn file_of(alloc: Global, ever: &EverSet) -> Result<Vec<u8>, Refusal>
     ensures { IsGiven (IsFileOf (ever_seen ever.now)) result }
@@ -236,6 +242,17 @@ fn file_of(alloc: Global, ever: &EverSet) -> Result<Vec<u8>, Refusal>
         Err(EverFileFault::Footer(EverTailFault::NoMemory)) => Err(Refusal::NoMemory),
         Err(EverFileFault::File(FileFault::NoMemory)) => Err(Refusal::NoMemory),
         Err(fault) => Err(Refusal::Why(file_words(fault).to_vec(alloc)?)),
+    }
+}
+
+/// The line of the string of a zone, if it goes on.
+fn string_in(alloc: Global, zone: &OpenZone) -> Result<Vec<u8>, Refusal>
+    ensures { (table : Table) (name : List ℕ) → found_in table name ≡ Ok (reply_view (set_in zone.now) (ever_in zone.now))
+        → ever_found table name ≡ option_map ever_seen (ever_in zone.now) → IsGiven (IsWhole IsStringOf table name) result }
+{
+    match zone.for_ever() {
+        Some(ever) => string_of(alloc, ever),
+        None => Err(Refusal::Why(ENDING.to_vec(alloc)?)),
     }
 }
 
