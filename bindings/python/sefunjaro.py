@@ -1172,33 +1172,31 @@ class Zone(_Asked, _Opened):
         value: int = number.value
         return value
 
-    def in_force(self, second: int, nanosecond: int = 0) -> InForce:
-        """The offset, whether there is daylight saving time, and the abbreviation at an instant. Raises OutOfRange as `offset_at`."""
-        found, name, room = _RawInForce(), _Name(), _NAME_ROOM
+    def _named_at(self, call: Callable[..., int], found: Any, second: int, nanosecond: int) -> str:
+        """The abbreviation at an instant, by a call that tells its length with the rest."""
+        name, room = _Name(), _NAME_ROOM
         handle, second, nanosecond = self._handle, _second(second), _nanosecond(nanosecond)
         while True:
-            status = handle.ask(_in_force, second, nanosecond, ctypes.byref(found), name, room)
+            status = handle.ask(call, second, nanosecond, ctypes.byref(found), name, room)
             if status:
                 _raise(status, repr(self._name))
             if found.name_length <= room:
-                return InForce(found.offset, found.is_saving, bytes(name[: found.name_length]).decode())
+                return bytes(name[: found.name_length]).decode()
             room = found.name_length
             name = (ctypes.c_uint8 * room)()
 
+    def in_force(self, second: int, nanosecond: int = 0) -> InForce:
+        """The offset, whether there is daylight saving time, and the abbreviation at an instant. Raises OutOfRange as `offset_at`."""
+        found = _RawInForce()
+        name = self._named_at(_in_force, found, second, nanosecond)
+        return InForce(found.offset, found.is_saving, name)
+
     def answer_at(self, second: int, nanosecond: int = 0) -> Answer:
         """All that the zone says of an instant, in one call. Raises OutOfRange as `clock_at`."""
-        found, name, room = _RawAnswer(), _Name(), _NAME_ROOM
-        handle, second, nanosecond = self._handle, _second(second), _nanosecond(nanosecond)
-        while True:
-            status = handle.ask(_answer_at, second, nanosecond, ctypes.byref(found), name, room)
-            if status:
-                _raise(status, repr(self._name))
-            if found.name_length <= room:
-                saving = found.saving if found.is_kept else None
-                said = bytes(name[: found.name_length]).decode()
-                return Answer(found.offset, found.is_saving, saving, _clock(found.clock), said, getattr(found, "from"), found.until)
-            room = found.name_length
-            name = (ctypes.c_uint8 * room)()
+        found = _RawAnswer()
+        name = self._named_at(_answer_at, found, second, nanosecond)
+        saving = found.saving if found.is_kept else None
+        return Answer(found.offset, found.is_saving, saving, _clock(found.clock), name, getattr(found, "from"), found.until)
 
     def clock_at(self, second: int, nanosecond: int = 0) -> Tuple[Clock, int]:
         """The local date and time of an instant, and the offset in force. Raises OutOfRange where the local date lies outside the years
