@@ -497,10 +497,10 @@ static inline uint32_t sefunjaro_clock_at(const struct sefunjaro_zone *zone, int
 
 /* All that a zone says of an instant, in one call: what sefunjaro_in_force, sefunjaro_saving_at and sefunjaro_clock_at tell of it, and how
    long it holds. At each instant of the seconds from `from` on and before `until`, of which the instant's own is one, the same offset, saving
-   and abbreviation are in force. In a zone of a source these are all seconds between two entries of it, up to the end of 10501; the next
-   entry may change nothing, as sefunjaro_changes tells. In a zone of a file or of a POSIX string they begin with the instant's own
-   and end with the next change (INT64_MAX where none comes), or with the year where a rule goes on; outside the years -4000 to 8000 they
-   are that second alone.
+   and abbreviation are in force. In a zone of a source `from` is the second of its last entry up to then, or INT64_MIN, and `until` that of
+   the next change, as sefunjaro_next_change tells it, which may change nothing, or the end of 10501. In a zone of a file or of a POSIX
+   string `from` is the instant's own second, and at `until` another offset, abbreviation or kind of time comes; where none comes up to the
+   year 8307, `until` lies past it. Outside the years -4000 to 8000 such a zone tells that second alone.
    NOT_OPEN, OUT_OF_RANGE (also where the local date lies outside the years -9999 to 9999). */
 static inline uint32_t sefunjaro_answer_at(const struct sefunjaro_zone *zone, int64_t second, uint32_t nanosecond,
                                            struct sefunjaro_answer *answer, char *name, size_t room) {

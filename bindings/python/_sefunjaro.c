@@ -11,16 +11,16 @@
 #define NAME_ROOM 16
 #define KEPT_DELTAS 256
 
-/* Stretches are kept in pairs, since a change has two beside it: how many pairs, and which seconds share one, 2^22 of them, or 48 days. */
-#define KEPT_PAIRS 1024
-#define BITS_OF_PAIR 22
+/* What is kept of a zone is kept in cells: how many, and which seconds share one, 2^22 of them, or 48 days. */
+#define KEPT_CELLS 1024
+#define BITS_OF_CELL 22
 
-/* A stretch is known up to so many seconds before and after the one that was asked, half a year, if no change comes before. */
+/* Changes are asked for up to so many seconds before and after the middle of a cell, half a year. */
 #define REACH ((int64_t)1 << 24)
 #define ROOM_OF_CHANGES 16
 
-/* Two offsets lie less apart than this, so a local time has one reading alone where no change lies nearer to it. */
-#define APART (2 * 93599 + 1)
+/* The greatest offset, so that no reading of a local time lies further from it by its seconds. */
+#define FARTHEST 93599
 
 /* The first second of -9999 and the one after 9999, in UTC. */
 #define FIRST_SECOND (-377705116800)
@@ -55,22 +55,24 @@ struct zone {
 };
 
 /* What is told of a local time. */
-enum { OFFSET, SAVING, NAME, KINDS };
+enum { NAME, OFFSET, SAVING, KINDS };
 
-/* The seconds between two changes, in which one offset, one saving and one abbreviation are in force. */
-struct stretch {
-    uint64_t lending; /* whose they are, or 0 */
+/* The two sides of a change. */
+enum { BEFORE, AFTER, SIDES, NO_SIDE = -1 };
+
+/* Seconds in which there is one change, or none: then it is their end. Each side has one offset, one saving and one abbreviation. What a
+   look-up reads stands in the first 64 bytes, which come to the processor as one. */
+struct cell {
+    _Alignas(64) uint64_t lending; /* whose they are, or 0 */
     int64_t from;
+    int64_t change;
     int64_t to; /* the second after the last */
-    int32_t offset;
-    PyObject *told[KINDS]; /* what was told of it, or NULL */
+    int32_t offset[SIDES];
+    PyObject *told[KINDS][SIDES]; /* what was told of a side, or NULL */
+    int64_t place;                /* that of the seconds that it is kept for */
 };
 
-struct pair {
-    struct stretch one, other;
-};
-
-static struct pair kept_pairs[KEPT_PAIRS];
+static struct cell kept_cells[KEPT_CELLS];
 
 /* An instant at which a local time's offset is in force. */
 struct chosen {
@@ -139,83 +141,100 @@ static struct sefunjaro_clock clock_of(PyObject *local) {
     return clock;
 }
 
-/* Where the stretch of a second, in UTC or as clocks show it, is kept, if it is. */
-static struct pair *pair_of(PyObject *self, int64_t second) {
-    return &kept_pairs[((uint64_t)(second >> BITS_OF_PAIR) + ((struct zone *)self)->lending * 769) % KEPT_PAIRS];
+/* The place of a second, in UTC or as clocks show it; those of a cell have one. */
+static int64_t place_of(int64_t second) {
+    return second >> BITS_OF_CELL;
 }
 
-/* Keeps at a place what the library tells of a second of the years -9999 to 9999, and returns whether it could. */
-static bool keep(PyObject *self, struct stretch *place, int64_t second) {
+/* Where the cell of a second is kept, if it is. */
+static struct cell *cell_of(PyObject *self, int64_t second) {
+    return &kept_cells[((uint64_t)place_of(second) + ((struct zone *)self)->lending * 769) % KEPT_CELLS];
+}
+
+/* Puts what lies around the change that is the nearest to a second into a cell, and returns whether it could. */
+static bool fill(PyObject *self, struct cell *cell, int64_t middle) {
     struct zone *zone = (struct zone *)self;
     struct sefunjaro_change changes[ROOM_OF_CHANGES];
     struct sefunjaro_handle copy = copy_of(self);
+    int64_t from = middle - REACH, to = middle + REACH;
     size_t count, of = 0;
-    int32_t offset;
-    if (!zone->tells_changes || zone->lending == 0) {
-        return false;
-    }
-    uint32_t status = bound.changes(&copy, second - REACH, second + REACH, changes, ROOM_OF_CHANGES, &count);
+    int32_t first;
+    uint32_t status = bound.changes(&copy, from, to, changes, ROOM_OF_CHANGES, &count);
     zone->tells_changes = status != SEFUNJARO_NOT_KEPT;
     if (status != SEFUNJARO_DONE || count > ROOM_OF_CHANGES) {
         return false;
     }
-    while (of < count && changes[of].second <= second) {
+    copy = copy_of(self);
+    if (bound.offset_at(&copy, from, 0, &first) != SEFUNJARO_DONE) {
+        return false;
+    }
+    while (of + 1 < count && changes[of + 1].second - middle <= middle - changes[of].second) {
         of++;
     }
-    if (of > 0) {
-        offset = changes[of - 1].offset;
-    } else {
-        copy = copy_of(self);
-        if (bound.offset_at(&copy, second, 0, &offset) != SEFUNJARO_DONE) {
-            return false;
-        }
-    }
     for (int kind = 0; kind < KINDS; kind++) {
-        Py_CLEAR(place->told[kind]);
+        Py_CLEAR(cell->told[kind][BEFORE]);
+        Py_CLEAR(cell->told[kind][AFTER]);
     }
-    place->lending = zone->lending;
-    place->from = of > 0 ? changes[of - 1].second : second - REACH;
-    place->to = of < count ? changes[of].second : second + REACH;
-    place->offset = offset;
+    cell->from = of > 0 ? changes[of - 1].second : from;
+    cell->change = of < count ? changes[of].second : to;
+    cell->to = of + 1 < count ? changes[of + 1].second : to;
+    cell->offset[BEFORE] = of > 0 ? changes[of - 1].offset : first;
+    cell->offset[AFTER] = of < count ? changes[of].offset : first;
     return true;
 }
 
-/* Whether a stretch is the zone's, and a second lies in it, so many seconds at least from both its ends. */
-static bool has(PyObject *self, const struct stretch *stretch, int64_t second, int64_t from_ends) {
-    return stretch->lending != 0 && stretch->lending == ((struct zone *)self)->lending && stretch->from + from_ends <= second &&
-           second < stretch->to - from_ends;
+/* Whether a cell is the zone's. */
+static bool is_of(PyObject *self, const struct cell *cell) {
+    return cell->lending != 0 && cell->lending == ((struct zone *)self)->lending;
 }
 
-/* The stretch that is kept of a second in UTC, if it lies so far from both its ends, or NULL. */
-static struct stretch *kept_at(PyObject *self, int64_t second, int64_t from_ends) {
-    struct pair *pair = pair_of(self, second);
-    if (has(self, &pair->one, second, from_ends)) {
-        return &pair->one;
+/* Makes the cell of a second anew, and returns whether it did: not where it is kept already, or the zone tells no changes. */
+static bool renew(PyObject *self, struct cell *cell, int64_t second) {
+    struct zone *zone = (struct zone *)self;
+    int64_t place = place_of(second), middle = (place * 2 + 1) * ((int64_t)1 << (BITS_OF_CELL - 1));
+    if (!zone->tells_changes || zone->lending == 0 || (is_of(self, cell) && cell->place == place) || middle < FIRST_SECOND + REACH ||
+        middle >= END_SECOND - REACH) {
+        return false;
     }
-    return has(self, &pair->other, second, from_ends) ? &pair->other : NULL;
+    cell->lending = 0;
+    if (!fill(self, cell, middle)) {
+        return false;
+    }
+    cell->lending = zone->lending;
+    cell->place = place;
+    return true;
 }
 
-/* The stretch in which clocks show a local time, by its seconds from 1970-01-01 00:00:00 by the same clock, where they do so once and
-   no change is near; else NULL. */
-static struct stretch *only_stretch(PyObject *self, int64_t shown) {
-    struct pair *pair = pair_of(self, shown);
-    if (has(self, &pair->one, shown - pair->one.offset, APART)) {
-        return &pair->one;
-    }
-    return has(self, &pair->other, shown - pair->other.offset, APART) ? &pair->other : NULL;
+/* The cell of a second in UTC, where it has the second and as many around it; else NULL. */
+static struct cell *cell_at(PyObject *self, int64_t second, int64_t around) {
+    struct cell *cell = cell_of(self, second);
+    do {
+        if (is_of(self, cell) && cell->from + around <= second && second < cell->to - around) {
+            return cell;
+        }
+    } while (renew(self, cell, second));
+    return NULL;
 }
 
-/* Keeps the stretch of an instant where it is looked for by a second near it, if it isn't kept there. */
-static void keep_for(PyObject *self, int64_t asked, int64_t second) {
-    struct pair *pair = pair_of(self, asked);
-    if (FIRST_SECOND + REACH <= second && second < END_SECOND - REACH && !has(self, &pair->one, second, 0) &&
-        !has(self, &pair->other, second, 0)) {
-        /* What was kept last becomes the other. */
-        struct stretch other = pair->other;
-        pair->other = pair->one;
-        pair->one = other;
-        keep(self, &pair->one, second);
-    }
+/* The cell of a local time, by its seconds from 1970-01-01 00:00:00 by the same clock, where it has all that may be its readings; else
+   NULL. */
+static struct cell *cell_shown(PyObject *self, int64_t shown) {
+    return cell_at(self, shown, FARTHEST);
+}
+
+static int side_at(const struct cell *cell, int64_t second) {
+    return second < cell->change ? BEFORE : AFTER;
+}
+
+/* Whether the clocks of a side show a local time on that side. */
+static bool shows(const struct cell *cell, int side, int64_t shown) {
+    return side_at(cell, shown - cell->offset[side]) == side;
+}
+
+/* The side on which clocks show a local time; where both do, or none, NO_SIDE. */
+static int only_side(const struct cell *cell, int64_t shown) {
+    bool before = shows(cell, BEFORE, shown), after = shows(cell, AFTER, shown);
+    return before == after ? NO_SIDE : after ? AFTER : BEFORE;
 }
 
 /* The offset of a local time by PEP 495, and an instant at which it is in force. */
@@ -234,7 +253,6 @@ static bool choose(PyObject *self, PyObject *local, struct chosen *chosen) {
     if (count > 0) {
         struct sefunjaro_reading reading = readings[second_one && count > 1 ? 1 : 0];
         *chosen = (struct chosen){reading.offset, reading.second, clock.nanosecond};
-        keep_for(self, second_of(local), reading.second);
     } else if (second_one) {
         *chosen = (struct chosen){gap.after, gap.second, 0};
     } else {
@@ -300,22 +318,24 @@ static PyObject *saving_at(PyObject *self, int64_t second, uint32_t nanosecond) 
     return status == SEFUNJARO_DONE ? delta_of(saving) : refused(self, status);
 }
 
-static PyObject *(*const told_at[KINDS])(PyObject *, int64_t, uint32_t) = {offset_at, saving_at, name_at};
+static PyObject *(*const told_at[KINDS])(PyObject *, int64_t, uint32_t) = {name_at, offset_at, saving_at};
 
-/* What is told of a stretch, kept with it; or NULL with an exception. */
-static PyObject *told_in(PyObject *self, struct stretch *stretch, int kind) {
-    if (stretch->told[kind] == NULL) {
-        PyObject *told = told_at[kind](self, stretch->from, 0);
-        if (told == NULL) {
-            return NULL;
+/* What is told of a side of a cell, kept with it; or NULL with an exception. */
+static PyObject *told_in(PyObject *self, struct cell *cell, int side, int kind) {
+    if (cell->told[kind][side] == NULL) {
+        int64_t place = cell->place;
+        PyObject *told = told_at[kind](self, side == BEFORE ? cell->from : cell->change, 0);
+        /* What was called may have put another cell there. */
+        if (told == NULL || !is_of(self, cell) || cell->place != place || cell->told[kind][side] != NULL) {
+            return told;
         }
-        stretch->told[kind] = told;
+        cell->told[kind][side] = told;
     }
-    Py_INCREF(stretch->told[kind]);
-    return stretch->told[kind];
+    Py_INCREF(cell->told[kind][side]);
+    return cell->told[kind][side];
 }
 
-/* What is told of a local time; of None it is asked of sefunjaro.py. */
+/* What is told of a local time, of which `fold` names the side where two show it or none; of None it is asked of sefunjaro.py. */
 static PyObject *told_of(PyObject *self, PyObject *local, int kind, const char *of_none) {
     struct chosen chosen;
     if (local == Py_None) {
@@ -324,9 +344,11 @@ static PyObject *told_of(PyObject *self, PyObject *local, int kind, const char *
     if (!is_datetime(local)) {
         return NULL;
     }
-    struct stretch *only = only_stretch(self, second_of(local));
-    if (only != NULL) {
-        return told_in(self, only, kind);
+    int64_t shown = second_of(local);
+    struct cell *cell = cell_shown(self, shown);
+    if (cell != NULL) {
+        int side = only_side(cell, shown);
+        return told_in(self, cell, side != NO_SIDE ? side : PyDateTime_DATE_GET_FOLD(local) ? AFTER : BEFORE, kind);
     }
     return choose(self, local, &chosen) ? told_at[kind](self, chosen.second, chosen.nanosecond) : NULL;
 }
@@ -343,21 +365,8 @@ static PyObject *zone_dst(PyObject *self, PyObject *local) {
     return told_of(self, local, SAVING, "_dst_of_none");
 }
 
-/* The local time, or its second reading where the instant is that. */
-static PyObject *folded(PyObject *self, PyObject *local, int64_t second) {
-    struct sefunjaro_handle copy = copy_of(self);
-    struct sefunjaro_clock clock = clock_of(local);
-    struct sefunjaro_reading readings[2];
-    struct sefunjaro_gap gap;
-    size_t count;
-    uint32_t status = bound.readings(&copy, &clock, readings, 2, &count, &gap);
-    if (status != SEFUNJARO_DONE) {
-        return refused(self, status);
-    }
-    if (count > 0 && readings[0].second == second) {
-        Py_INCREF(local);
-        return local;
-    }
+/* The second reading of a local time. */
+static PyObject *second_reading(PyObject *local) {
     PyObject *replace = PyObject_GetAttrString(local, "replace"), *none = PyTuple_New(0), *later = NULL;
     if (replace != NULL && none != NULL) {
         later = PyObject_Call(replace, none, second_fold);
@@ -365,6 +374,21 @@ static PyObject *folded(PyObject *self, PyObject *local, int64_t second) {
     Py_XDECREF(replace);
     Py_XDECREF(none);
     return later;
+}
+
+/* Whether an instant isn't the first at which clocks show a local time, or -1 with an exception. */
+static int is_later(PyObject *self, PyObject *local, int64_t second) {
+    struct sefunjaro_handle copy = copy_of(self);
+    struct sefunjaro_clock clock = clock_of(local);
+    struct sefunjaro_reading readings[2];
+    struct sefunjaro_gap gap;
+    size_t count;
+    uint32_t status = bound.readings(&copy, &clock, readings, 2, &count, &gap);
+    if (status != SEFUNJARO_DONE) {
+        refused(self, status);
+        return -1;
+    }
+    return count == 0 || readings[0].second != second;
 }
 
 static PyObject *zone_fromutc(PyObject *self, PyObject *utc) {
@@ -377,35 +401,34 @@ static PyObject *zone_fromutc(PyObject *self, PyObject *utc) {
         return NULL;
     }
     int64_t second = second_of(utc);
-    struct stretch *only = kept_at(self, second, APART);
-    int32_t offset;
-    if (only == NULL) {
-        struct sefunjaro_handle copy = copy_of(self);
-        uint32_t status = bound.offset_at(&copy, second, (uint32_t)PyDateTime_DATE_GET_MICROSECOND(utc) * 1000, &offset);
-        if (status != SEFUNJARO_DONE) {
-            return refused(self, status);
-        }
-        keep_for(self, second, second);
+    struct cell *cell = cell_at(self, second, 2 * FARTHEST);
+    int side = cell != NULL ? side_at(cell, second) : NO_SIDE;
+    /* It is known of a cell before what Python runs may change it. */
+    int later = side == AFTER && shows(cell, BEFORE, second + cell->offset[AFTER]);
+    PyObject *delta;
+    if (cell != NULL) {
+        delta = told_in(self, cell, side, OFFSET);
+    } else {
+        delta = offset_at(self, second, (uint32_t)PyDateTime_DATE_GET_MICROSECOND(utc) * 1000);
     }
-    PyObject *delta = only != NULL ? told_in(self, only, OFFSET) : delta_of(offset);
     PyObject *local = delta == NULL ? NULL : PyNumber_Add(utc, delta);
-    PyObject *told = local == NULL || only != NULL ? local : folded(self, local, second);
     Py_XDECREF(delta);
-    if (told != local) {
-        Py_XDECREF(local);
+    if (local != NULL && cell == NULL) {
+        later = is_later(self, local, second);
     }
+    if (local == NULL || !later) {
+        return local;
+    }
+    PyObject *told = later > 0 ? second_reading(local) : NULL;
+    Py_DECREF(local);
     return told;
 }
 
 /* The offset at a second of the years -9999 to 9999, by what is kept where it is. */
 static uint32_t offset_by(PyObject *self, int64_t second, int32_t *offset) {
-    struct stretch *kept = kept_at(self, second, 0);
-    if (kept == NULL) {
-        keep_for(self, second, second);
-        kept = kept_at(self, second, 0);
-    }
-    if (kept != NULL) {
-        *offset = kept->offset;
+    struct cell *cell = cell_at(self, second, 0);
+    if (cell != NULL) {
+        *offset = cell->offset[side_at(cell, second)];
         return SEFUNJARO_DONE;
     }
     struct sefunjaro_handle copy = copy_of(self);
@@ -435,12 +458,25 @@ static struct sefunjaro_clock clock_after(int64_t shown) {
 enum { FIRST_READING, SECOND_READING };
 enum { BEFORE_GAP, AFTER_GAP, NO_GAP };
 
-/* The instant of a local time, by what is wanted; NONE where clocks skip it and none is. */
+/* The instant of a local time, by what is wanted, where a cell has all that may be its readings. */
+static uint32_t instant_in(const struct cell *cell, int64_t shown, int fold, int gap_rule, int64_t *second) {
+    int side = only_side(cell, shown);
+    if (side == NO_SIDE && shows(cell, BEFORE, shown)) {
+        side = fold == SECOND_READING ? AFTER : BEFORE;
+    } else if (side == NO_SIDE && gap_rule == NO_GAP) {
+        return SEFUNJARO_NONE;
+    } else if (side == NO_SIDE) {
+        side = gap_rule == BEFORE_GAP ? BEFORE : AFTER;
+    }
+    *second = shown - cell->offset[side];
+    return SEFUNJARO_DONE;
+}
+
+/* The same of any local time; NONE where clocks skip it and none is wanted. */
 static uint32_t instant_by(PyObject *self, int64_t shown, int fold, int gap_rule, int64_t *second) {
-    struct stretch *only = only_stretch(self, shown);
-    if (only != NULL) {
-        *second = shown - only->offset;
-        return SEFUNJARO_DONE;
+    struct cell *cell = cell_shown(self, shown);
+    if (cell != NULL) {
+        return instant_in(cell, shown, fold, gap_rule, second);
     }
     struct sefunjaro_handle copy = copy_of(self);
     struct sefunjaro_clock clock = clock_after(shown);
@@ -453,7 +489,6 @@ static uint32_t instant_by(PyObject *self, int64_t shown, int fold, int gap_rule
     }
     if (count > 0) {
         *second = readings[fold == SECOND_READING && count > 1 ? 1 : 0].second;
-        keep_for(self, shown, *second);
     } else if (gap_rule == NO_GAP) {
         return SEFUNJARO_NONE;
     } else {

@@ -312,7 +312,7 @@ class Answer(NamedTuple):
     """All that a zone says of an instant: the offset, whether there is daylight saving time, how many seconds of the offset are the saving
     (None in a zone of a file or of a POSIX string), what clocks show, and the abbreviation; and the first of the seconds throughout which
     all this but the local time holds, and the one after the last of them: in a zone of a source those between two entries of it, and else
-    those from the instant's own up to the next change, or the year's end where a rule goes on."""
+    those from the instant's own up to that at which another offset, abbreviation or kind of time comes."""
 
     offset: int
     is_saving: bool

@@ -52,7 +52,7 @@ pub struct Answer {
     /// The abbreviation.
     pub name: String,
     /// Seconds, among them the instant's, throughout which all this but the local time holds: in a zone of a source those between two
-    /// entries of it, and else the instant's alone.
+    /// entries of it, and else those from the instant's on up to that at which another offset, abbreviation or kind of time comes.
     pub seconds: Range<i64>,
 }
 
@@ -215,20 +215,15 @@ impl Zone {
     /// # Ok::<(), sefunjaro::Error>(())
     /// ```
     pub fn in_force(&self, second: i64, nanosecond: u32) -> Result<InForce, Error> {
-        let mut name = vec![0; 16];
-        loop {
+        let (found, name) = with_name(|name| {
             let mut found = RawInForce::default();
             // SAFETY: the copy serves this call alone, and the room is as long as is said.
             done(unsafe {
                 raw::sefunjaro_in_force_by(&mut self.handle.copy(), second, nanosecond, &mut found, name.as_mut_ptr(), name.len())
             })?;
-            let is_whole = found.name_length <= name.len();
-            name.resize(found.name_length, 0);
-            if is_whole {
-                let name = String::from_utf8(name).map_err(|_| Error::Unexpected { status: 0, cause: 0 })?;
-                return Ok(InForce { offset: found.offset, is_saving: found.is_saving, name });
-            }
-        }
+            Ok((found, found.name_length))
+        })?;
+        Ok(InForce { offset: found.offset, is_saving: found.is_saving, name })
     }
 
     /// All that the zone says of an instant, in one call.
@@ -245,27 +240,22 @@ impl Zone {
     /// # Ok::<(), sefunjaro::Error>(())
     /// ```
     pub fn answer_at(&self, second: i64, nanosecond: u32) -> Result<Answer, Error> {
-        let mut name = vec![0; 16];
-        loop {
+        let (told, name) = with_name(|name| {
             let mut told = RawAnswer::default();
             // SAFETY: the copy serves this call alone, and the room is as long as is said.
             done(unsafe {
                 raw::sefunjaro_answer_at_by(&mut self.handle.copy(), second, nanosecond, &mut told, name.as_mut_ptr(), name.len())
             })?;
-            let is_whole = told.name_length <= name.len();
-            name.resize(told.name_length, 0);
-            if is_whole {
-                let name = String::from_utf8(name).map_err(|_| Error::Unexpected { status: 0, cause: 0 })?;
-                return Ok(Answer {
-                    offset: told.offset,
-                    is_saving: told.is_saving,
-                    saving: told.is_kept.then_some(told.saving),
-                    clock: told.clock,
-                    name,
-                    seconds: told.from..told.until,
-                });
-            }
-        }
+            Ok((told, told.name_length))
+        })?;
+        Ok(Answer {
+            offset: told.offset,
+            is_saving: told.is_saving,
+            saving: told.is_kept.then_some(told.saving),
+            clock: told.clock,
+            name,
+            seconds: told.from..told.until,
+        })
     }
 
     /// The local date and time of an instant, and the offset in force.
@@ -393,6 +383,21 @@ impl Zone {
             raw::sefunjaro_readings_by(&mut self.handle.copy(), local, room.as_mut_ptr(), room.len(), &mut count, &mut gap)
         })?;
         Ok((count, gap))
+    }
+}
+
+/// What a call tells that writes an abbreviation, with the whole of it: where it is longer than the room, the call is made again with
+/// room for all. The call answers how long it is.
+fn with_name<T>(mut call: impl FnMut(&mut [u8]) -> Result<(T, usize), Error>) -> Result<(T, String), Error> {
+    let mut name = vec![0; 16];
+    loop {
+        let (told, length) = call(&mut name)?;
+        let is_whole = length <= name.len();
+        name.resize(length, 0);
+        if is_whole {
+            let name = String::from_utf8(name).map_err(|_| Error::Unexpected { status: 0, cause: 0 })?;
+            return Ok((told, name));
+        }
     }
 }
 

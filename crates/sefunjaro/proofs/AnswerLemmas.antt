@@ -29,8 +29,8 @@ use Rattle.tz_zone.specs.SpanLaws.{total_from_cut}
 use Rattle.tz_zone.specs.Spans.{IsCut}
 use Rattle.tz_zone.specs.declared.set.FixedTimespanSet.{FixedTimespanSet}
 use Rattle.zone_tzif_core.specs.Zones.{ZoneValue}
-use Rattle.sefunjaro.specs.Answers.{IsAnswered}
-use Rattle.sefunjaro.specs.AnswerSteps.{end_second, IsAround, IsOfSpan, IsToldBySpan}
+use Rattle.sefunjaro.specs.Answers.{end_second, IsAnswered}
+use Rattle.sefunjaro.specs.AnswerSteps.{IsAround, IsOfSpan, IsToldBySpan}
 use Rattle.sefunjaro.specs.Changes.{last_span, saving_at}
 use Rattle.sefunjaro.specs.Clocks.{clock_at}
 use Rattle.sefunjaro.specs.Replies.{span_on}

@@ -1,12 +1,17 @@
 -- Worked examples: how long an answer holds. At 1970-01-01 00:00:00 UTC clocks are set ahead from offset 0 to one hour.
-use Rattle.std.proofs.Common.{◌≡◌, cond, ℕ, ℤ, pos, negsuc, ◌≤ℤ◌, Bool, false, List, [], ◌∷◌, int_lt, refl, ap, arith}
+use Rattle.std.proofs.Common.{◌≡◌, cond, ℕ, ℤ, pos, negsuc, ◌≤ℤ◌, Bool, false, List, [], ◌∷◌, map, filter, int_le, int_lt, refl, ap, arith}
 use Rattle.std.specs.Prelude.{None}
 use Rattle.std.proofs.lemmas.Int.{ints}
 use Rattle.calendar.specs.ComparisonLaws.{lt_fail}
 use Rattle.civil_base.specs.Instants.{seconds_of}
 use Rattle.civil_base.specs.Layout.{day_part, time_part}
 use Rattle.tz_zone.specs.SecondLaws.{second_is}
-use Rattle.sefunjaro.specs.Answers.{IsAnswer, IsAnswered}
+use Rattle.zone_spans.specs.Entries.{Entry}
+use Rattle.zone_spans.specs.declared.span.FixedTimespan.{FixedTimespan}
+use Rattle.tz_zone.specs.declared.set.FixedTimespanSet.{FixedTimespanSet}
+use Rattle.zone_tzif_core.specs.Zones.{KindValue}
+use Rattle.sefunjaro.specs.Answers.{end_second, last_second, least_second, second_of_change, IsAnswer, IsAnswered, IsHeldOn}
+use Rattle.sefunjaro.specs.Changes.{next_after, settled_changes}
 use Rattle.sefunjaro.specs.Clocks.{clock_at}
 use Rattle.sefunjaro.specs.Rooms.{filled}
 use Rattle.sefunjaro.specs.declared.answer.Answer.{Answer}
@@ -72,3 +77,54 @@ not_after_it h = absurd (omega (arith, ints, h.begun))
 -- an hour before the end of the years clocks show the next one
 no_local_date : IsAnswered jump named (pos 253402297200000000000) (7 ∷ []) (7 ∷ []) None
 no_local_date = (refl, refl)
+
+-- ---- how long it holds
+abbrev span : ℤ → FixedTimespan
+span offset = record { utc_offset = offset; dst_offset = pos 0; name = 65 ∷ [] }
+
+abbrev entry : ℤ → Entry
+entry second = (second, span second)
+
+-- two entries lie at one second, and the last lies past the end
+abbrev set : FixedTimespanSet
+set = record { name = []; first = span (pos 1); others = entry (pos 10) ∷ entry (pos 20) ∷ entry (pos 20) ∷ entry (pos 269243913601) ∷ [] }
+
+abbrev begins : ℤ → ℤ
+begins second = last_second least_second (filter (λ (e : Entry). int_le e.0 second) set.others)
+
+abbrev ends : ℤ → ℤ
+ends second = second_of_change (next_after set second)
+
+-- before the first entry, at it, before the next, and from it on
+worked_begins : map begins (pos 9 ∷ pos 10 ∷ pos 19 ∷ pos 20 ∷ []) ≡ least_second ∷ pos 10 ∷ pos 10 ∷ pos 20 ∷ []
+worked_begins = refl
+
+worked_ends : map ends (pos 9 ∷ pos 10 ∷ pos 19 ∷ pos 20 ∷ pos 269243913601 ∷ []) ≡ pos 10 ∷ pos 20 ∷ pos 20 ∷ end_second ∷ end_second ∷ []
+unfolding next_after settled_changes
+worked_ends = refl
+
+-- one kind of time at all seconds, and another from 100 on
+abbrev same_kind : ℤ → KindValue
+same_kind second = record { utoff = pos 0; is_dst = false; name = [] }
+
+abbrev changed_kind : ℤ → KindValue
+changed_kind second = record { utoff = cond (int_lt second (pos 100)) (pos 0) (pos 3600); is_dst = false; name = [] }
+
+-- it holds to where the other comes
+held_to_change : IsHeldOn changed_kind (pos 5) (answer (pos 5) (pos 100))
+held_to_change = record { from = refl; until = λ near same. cc; alone = λ far. absurd (omega (arith, far)) }
+
+-- and not to a second before that
+not_held_shorter : IsHeldOn changed_kind (pos 5) (answer (pos 5) (pos 99)) → ⊥
+not_held_shorter h = absurd (omega (arith, ints, h.until (omega arith) refl))
+
+not_begun_earlier : IsHeldOn changed_kind (pos 5) (answer (pos 4) (pos 100)) → ⊥
+not_begun_earlier h = cc (h.from)
+
+-- where none comes, past the last year in which changes are looked for
+not_held_short : IsHeldOn same_kind (pos 5) (answer (pos 5) (pos 200000000000)) → ⊥
+not_held_short h = absurd (omega (arith, ints, h.until (omega arith) refl))
+
+-- outside these years it is a second alone
+not_held_far : IsHeldOn same_kind (pos 200000000001) (answer (pos 200000000001) (pos 200000000003)) → ⊥
+not_held_far h = cc (h.alone (omega arith))

@@ -22,4 +22,5 @@ mod RoomLemmas
 mod ShownLemmas
 pub mod ShownRows
 pub mod YearRows
+mod UntilLemmas
 mod ZoneLemmas

@@ -1,5 +1,5 @@
 -- What the span in force at an instant says, and how long it is in force.
-use Rattle.std.specs.Prelude.{◌≡◌, ℕ, ℤ, pos, ◌≤ℤ◌, ◌<ℤ◌, true, false, int_lt, List, length, Option, Some, None}
+use Rattle.std.specs.Prelude.{◌≡◌, ◌<◌, ◌≤◌, ℕ, zero, suc, ℤ, pos, ◌≤ℤ◌, ◌<ℤ◌, true, false, int_lt, List, length, Option, Some, None}
 use Rattle.civil_base.specs.DateTimes.{instant, local_of, offset_of}
 use Rattle.civil_base.specs.Instants.{local_at, seconds_of}
 use Rattle.civil_base.specs.Layout.{day_part, time_part}
@@ -7,23 +7,28 @@ use Rattle.civil_base.specs.Ranges.{is_in_years}
 use Rattle.civil_base.specs.declared.offset_date_time.OffsetDateTime.{OffsetDateTime}
 use Rattle.zone_spans.specs.declared.span.FixedTimespan.{FixedTimespan}
 use Rattle.tz_zone.specs.Sets.{shifts_of, span_in, total_of_span}
-use Rattle.tz_zone.specs.Spans.{IsCut}
+use Rattle.tz_zone.specs.Spans.{Shift, shift_at, IsCut}
 use Rattle.tz_zone.specs.declared.set.FixedTimespanSet.{FixedTimespanSet}
+use Rattle.sefunjaro.specs.Answers.{end_second, least_second, up_to_end}
 use Rattle.sefunjaro.specs.Clocks.{clock_at}
 use Rattle.sefunjaro.specs.Rooms.{filled}
 use Rattle.sefunjaro.specs.declared.answer.Answer.{Answer}
 use Rattle.sefunjaro.specs.declared.answer.Around.{Around}
 
--- 10502-01-01 00:00:00 UTC: up to then the entries of a zone that goes on are listed
-abbrev pub end_second : ℤ
-end_second = pos 269243913600
+-- the second from which a span is in force, by its number: the first from the least of all on
+abbrev pub begin_second : ℤ → List Shift → ℕ → ℤ
+begin_second least shifts zero = least
+begin_second least shifts (suc k) = (shift_at shifts k).0
 
--- a span of a set is in force throughout some seconds before that, among them this one
+-- a span of a set is in force throughout some seconds before the end, among them this one: up to the entry behind it
 pub record IsAround (set : FixedTimespanSet) (second : ℤ) (around : Around) : Type 0 where
   pub begun : around.from ≤ℤ second
   pub lasts : second <ℤ around.until
   pub early : around.until ≤ℤ end_second
   pub throughout : (u : ℤ) → around.from ≤ℤ u → u <ℤ around.until → IsCut (shifts_of set) around.span u
+  pub from : around.from ≡ begin_second least_second (shifts_of set) around.span
+  pub until : around.span < length (shifts_of set) → around.until ≡ up_to_end (shift_at (shifts_of set) around.span).0
+  pub at_end : length (shifts_of set) ≤ around.span → around.until ≡ end_second
 
 -- the answer is made of a span that is in force throughout those seconds, and of the instant at its offset
 pub record IsMadeOf (span : FixedTimespan) (around : Around) (shown : OffsetDateTime) (answer : Answer) (old new : List ℕ) : Type 0 where

@@ -1,13 +1,19 @@
 -- All that a zone says of an instant, and how long it holds.
-use Rattle.std.specs.Prelude.{◌≡◌, ℕ, ℤ, pos, ◌≤ℤ◌, ◌<ℤ◌, Bool, true, false, List, length, Option, Some, None}
+use Rattle.std.specs.Prelude.{◌≡◌, ◌<◌, ◌≤◌, ℕ, ℤ, pos, negsuc, unsigned_abs, ◌+ℤ◌, ◌≤ℤ◌, ◌<ℤ◌, int_le, int_lt, if◌then◌else◌, Bool, true, false, List, [], ◌∷◌, filter, length, Option, Some, None}
 use Rattle.civil_base.specs.Instants.{local_at, seconds_of}
 use Rattle.civil_base.specs.Layout.{day_part, time_part}
 use Rattle.civil_base.specs.Ranges.{is_in_years}
-use Rattle.sefunjaro.specs.Changes.{saving_at}
+use Rattle.zone_spans.specs.Entries.{Entry}
+use Rattle.tz_zone.specs.declared.set.FixedTimespanSet.{FixedTimespanSet}
+use Rattle.tz_tzif.specs.InForce.{kind_in}
+use Rattle.zone_tzif_core.specs.Zones.{KindValue}
+use Rattle.sefunjaro.specs.Changes.{next_after, saving_at}
 use Rattle.sefunjaro.specs.Clocks.{clock_at}
+use Rattle.sefunjaro.specs.Files.{file_value, SaysOf}
 use Rattle.sefunjaro.specs.Rooms.{filled}
 use Rattle.sefunjaro.specs.Zones.{spans_in}
 use Rattle.sefunjaro.specs.declared.answer.Answer.{Answer}
+use Rattle.sefunjaro.specs.declared.changes.Change.{Change}
 use Rattle.sefunjaro.specs.declared.zone.AnyZone.{AnyZone}
 use Rattle.sefunjaro.specs.declared.zone.AnyZone.TheVariants.{Source, File}
 
@@ -34,3 +40,41 @@ abbrev pub TellsSaving : AnyZone → Answer → Type 0
 TellsSaving (Source zone) answer =
     (answer.is_kept ≡ true) × ((u : ℤ) → answer.from ≤ℤ u → u <ℤ answer.until → saving_at (spans_in zone) u ≡ answer.saving)
 TellsSaving (File zone) answer = (answer.is_kept ≡ false) × (answer.saving ≡ pos 0)
+
+-- 10502-01-01 00:00:00 UTC: up to then the entries of a zone that goes on are listed
+abbrev pub end_second : ℤ
+end_second = pos 269243913600
+
+-- the second, or the end where that comes first
+abbrev pub up_to_end : ℤ → ℤ
+up_to_end second = if int_lt second end_second then second else end_second
+
+-- the second of a change, or the end where there is none before it
+abbrev pub second_of_change : Option Change → ℤ
+second_of_change (Some change) = up_to_end change.second
+second_of_change None = end_second
+
+-- the second of the last of some entries, or the least of all seconds where there is none
+abbrev pub last_second : ℤ → List Entry → ℤ
+last_second second [] = second
+last_second second (entry ∷ entries) = last_second entry.0 entries
+
+abbrev pub least_second : ℤ
+least_second = negsuc 9223372036854775807
+
+-- the seconds that are told begin with the last entry of a set at or before this one, and end with the next change after it
+pub record IsBetween (set : FixedTimespanSet) (second : ℤ) (answer : Answer) : Type 0 where
+  pub from : answer.from ≡ last_second least_second (filter (λ entry. int_le entry.0 second) set.others)
+  pub until : answer.until ≡ second_of_change (next_after set second)
+
+-- They begin with this one, and end where another kind of time comes; where none comes up to the year 8307, past that. Outside the years
+-- -4000 to 8000 it is this second alone.
+pub record IsHeldOn (kind : ℤ → KindValue) (second : ℤ) (answer : Answer) : Type 0 where
+  pub from : answer.from ≡ second
+  pub until : unsigned_abs second ≤ 200000000000 → kind answer.until ≡ kind second → pos 200000000000 <ℤ answer.until
+  pub alone : 200000000000 < unsigned_abs second → answer.until ≡ second +ℤ pos 1
+
+-- how long the answer of an instant holds: of a zone of a source between two entries, of another up to the next kind of time
+abbrev pub TellsUntil : AnyZone → ℤ → Answer → Type 0
+TellsUntil (Source zone) t answer = IsBetween (spans_in zone) (seconds_of t) answer
+TellsUntil (File zone) t answer = SaysOf zone (λ footer. IsHeldOn (kind_in (file_value zone) footer) (seconds_of t) answer)

@@ -1,12 +1,12 @@
 //! All that a zone says of an instant, and how long it holds.
-ghost use Rattle.std.specs.Prelude.{◌≡◌, ◌≤◌, ◌≤ℤ◌, ◌<ℤ◌, ℤ, false, length, pos, IfSome};
+ghost use Rattle.std.specs.Prelude.{◌≡◌, ◌<◌, ◌≤◌, ◌+ℤ◌, ◌≤ℤ◌, ◌<ℤ◌, ℤ, false, length, pos, unsigned_abs, IfSome};
 ghost use Rattle.civil_base.specs.DateTimes.{instant};
 ghost use Rattle.civil_base.specs.Instants.{seconds_of};
 ghost use Rattle.tz_tzif.specs.InForce.{kind_in, told_total_at};
 ghost use Rattle.tz_tzif.specs.Zones.{value_of, says_of};
 ghost use Rattle.tz_zone.specs.Sets.{schedule_of, span_in, IsAccepted};
-ghost use Rattle.sefunjaro.specs.Answers.{IsAnswered};
-ghost use Rattle.sefunjaro.specs.AnswerSteps.{end_second, IsAround, IsMadeOf, IsToldBySpan};
+ghost use Rattle.sefunjaro.specs.Answers.{end_second, up_to_end, IsAnswered, IsHeldOn};
+ghost use Rattle.sefunjaro.specs.AnswerSteps.{IsAround, IsMadeOf, IsToldBySpan};
 ghost use Rattle.sefunjaro.specs.Files.{given_at};
 
 use crate::changes::span_in_force_at;
@@ -114,6 +114,7 @@ fn to_end(second: i64) -> i64
     ensures end { result ≤ℤ end_second }
     ensures second { result ≤ℤ second }
     ensures greatest { (u : ℤ) → u <ℤ second → u <ℤ end_second → u <ℤ result }
+    ensures is { result ≡ up_to_end second }
 {
     if second < END { second } else { END }
 }
@@ -128,14 +129,16 @@ fn second_of(at: &OffsetDateTime) -> i64
     at.unix_timestamp()
 }
 
-/// A later second up to which the same is in force in a zone of a file as at a second.
+/// The second up to which the same is in force in a zone of a file as at a second.
 fn same_until(zone: &TzifTz<'_>, second: i64) -> i64
     requires { second <ℤ end_second }
     ensures later { second <ℤ result }
     ensures same { (u : ℤ) → second ≤ℤ u → u <ℤ result → kind_in (value_of zone.now) (says_of zone.now) u ≡ kind_in (value_of zone.now) (says_of zone.now) second }
+    ensures ends { unsigned_abs second ≤ 200000000000 → kind_in (value_of zone.now) (says_of zone.now) result ≡ kind_in (value_of zone.now) (says_of zone.now) second → pos 200000000000 <ℤ result }
+    ensures alone { 200000000000 < unsigned_abs second → result ≡ second +ℤ pos 1 }
 {
     if is_near(second) {
-        zone.next_change(second)
+        zone.holds_until(second)
     } else {
         second + 1
     }
@@ -145,6 +148,7 @@ fn same_until(zone: &TzifTz<'_>, second: i64) -> i64
 pub(crate) fn lent_answer(zone: &TzifTz<'_>, at: &OffsetDateTime, room: &mut [u8]) -> Option<Answer>
     ensures answer { IsAnswered (told_total_at (value_of zone.now) (says_of zone.now)) (given_at (value_of zone.now) (says_of zone.now)) (instant at.now) room.old room.new result }
     ensures saving { IfSome result (λ answer. (answer.is_kept ≡ false) × (answer.saving ≡ pos 0)) }
+    ensures until { IfSome result (IsHeldOn (kind_in (value_of zone.now) (says_of zone.now)) (seconds_of (instant at.now))) }
 {
     let shown = at.to_timezone(zone)?;
     let second = second_of(at);

@@ -60,9 +60,10 @@ impl FileZone {
     ghost use Rattle.std.specs.Prelude.{[], pos, IfSome};
     ghost use Rattle.civil_base.specs.DateTimes.{instant};
     ghost use Rattle.tz_tzif.specs.Faults.{HasOffsets, IsAcceptedFile};
-    ghost use Rattle.tz_tzif.specs.InForce.{told_total_at};
+    ghost use Rattle.civil_base.specs.Instants.{seconds_of};
+    ghost use Rattle.tz_tzif.specs.InForce.{kind_in, told_total_at};
     ghost use Rattle.tz_tzif.specs.Zones.{IsZoneOf};
-    ghost use Rattle.sefunjaro.specs.Answers.{IsAnswered};
+    ghost use Rattle.sefunjaro.specs.Answers.{IsAnswered, IsHeldOn};
     ghost use Rattle.sefunjaro.specs.Answered.{first_of, AreReadings, IsInForce, IsShown};
     ghost use Rattle.sefunjaro.specs.Offsets.{offsets_of, AreInYears};
     ghost use Rattle.sefunjaro.specs.Rooms.{filled};
@@ -186,12 +187,13 @@ impl FileZone {
         texts_at(&self.zone(), seconds, room)
     }
 
-    /// All that the zone says of an instant, from its second on up to the next change, or up to the year's end where a rule goes on;
-    /// outside the years -4000 to 8000 throughout its second. The abbreviation goes into the room, as far as it fits. There is no answer
+    /// All that the zone says of an instant, from its second on up to that at which another offset, abbreviation or kind of time comes, or
+    /// past the year 8307 where none comes up to it; outside the years -4000 to 8000 throughout its second. The abbreviation goes into the room, as far as it fits. There is no answer
     /// exactly where the local date lies outside the years -9999 to 9999.
     pub fn answer_at(&self, at: &OffsetDateTime, room: &mut [u8]) -> Option<Answer>
         ensures answer { SaysOf self.now (λ footer. IsAnswered (told_total_at (file_value self.now) footer) (given_at (file_value self.now) footer) (instant at.now) room.old room.new result) }
         ensures saving { IfSome result (λ answer. (answer.is_kept ≡ false) × (answer.saving ≡ pos 0)) }
+        ensures until { IfSome result (λ answer. SaysOf self.now (λ footer. IsHeldOn (kind_in (file_value self.now) footer) (seconds_of (instant at.now)) answer)) }
     {
         lent_answer(&self.zone(), at, room)
     }

@@ -1,5 +1,5 @@
 //! The offsets of many seconds, by a cursor that remembers what was in force at the last one.
-ghost use Rattle.std.specs.Prelude.{◌≡◌, ◌<◌, ◌≤◌, IsTrue, length, pos, slice_index_or, unsigned_abs, ℤ};
+ghost use Rattle.std.specs.Prelude.{◌≡◌, ◌<◌, ◌≤◌, false, IsTrue, length, pos, slice_index_or, unsigned_abs, ℤ};
 ghost use Rattle.civil_base.specs.Instants.{nanos_of};
 ghost use Rattle.tz_ever.specs.Ever.{ever_total};
 ghost use Rattle.tz_ever.specs.EverShown.{ever_seen};
@@ -110,7 +110,8 @@ impl<'a> Stretches for TzifTz<'a> {
 
 /// Whether a second lies so near to 1970 that a zone of a file tells how long its total lasts.
 pub(crate) fn is_near(second: i64) -> bool
-    ensures { IsTrue result → unsigned_abs second ≤ 200000000000 }
+    ensures near { IsTrue result → unsigned_abs second ≤ 200000000000 }
+    ensures far { result ≡ false → 200000000000 < unsigned_abs second }
 {
     -200_000_000_000 <= second && second <= 200_000_000_000
 }

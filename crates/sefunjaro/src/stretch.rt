@@ -7,6 +7,8 @@ ghost use Rattle.tz_zone.specs.Spans.{shift_at, IsCut};
 ghost use Rattle.tz_lookup.specs.CompactShown.{seen};
 ghost use Rattle.tz_ever.specs.Ever.{ever_total};
 ghost use Rattle.tz_ever.specs.EverShown.{ever_seen};
+ghost use Rattle.sefunjaro.specs.Answers.{least_second};
+ghost use Rattle.sefunjaro.specs.AnswerSteps.{begin_second};
 ghost use Rattle.sefunjaro.specs.Stretches.{IsStretch};
 ghost use Rattle.tz_ever.specs.Unrolled.{next_seam_second, seam_second};
 
@@ -74,6 +76,7 @@ pub(crate) fn begin_of<S: SpanTable>(set: &S, span: usize, second: i64) -> i64
     requires cut { IsCut (shifts_of (S.seen set.now)) span second }
     ensures begun { result ≤ℤ second }
     ensures before { (u : ℤ) → result ≤ℤ u → (j : ℕ) → j < span → (shift_at (shifts_of (S.seen set.now)) j).0 ≤ℤ u }
+    ensures is { result ≡ begin_second least_second (shifts_of (S.seen set.now)) span }
 {
     if span == 0 {
         i64::MIN
@@ -88,6 +91,8 @@ pub(crate) fn end_of<S: SpanTable>(set: &S, span: usize, second: i64) -> i64
     requires cut { IsCut (shifts_of (S.seen set.now)) span second }
     ensures lasts { second <ℤ i64.MAX → second <ℤ result }
     ensures after { (u : ℤ) → u <ℤ result → (j : ℕ) → span ≤ j → j < length (shifts_of (S.seen set.now)) → u <ℤ (shift_at (shifts_of (S.seen set.now)) j).0 }
+    ensures next { span < length (shifts_of (S.seen set.now)) → result ≡ (shift_at (shifts_of (S.seen set.now)) span).0 }
+    ensures last { length (shifts_of (S.seen set.now)) ≤ span → result ≡ i64.MAX }
 {
     if span < set.entry_count() {
         set.time(span)

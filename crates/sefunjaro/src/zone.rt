@@ -180,7 +180,7 @@ impl AnyZone {
     ghost use Rattle.std.specs.Prelude.{IfSome};
     ghost use Rattle.civil_base.specs.DateTimes.{instant};
     ghost use Rattle.sefunjaro.specs.Answered.{first_of, IsInForce, IsShown};
-    ghost use Rattle.sefunjaro.specs.Answers.{IsAnswered, TellsSaving};
+    ghost use Rattle.sefunjaro.specs.Answers.{IsAnswered, TellsSaving, TellsUntil};
     ghost use Rattle.sefunjaro.specs.Any.{Seen};
     ghost use Rattle.sefunjaro.specs.Found.{AreToldOf};
     ghost use Rattle.sefunjaro.specs.Offsets.{offsets_of, AreInYears};
@@ -246,6 +246,7 @@ impl AnyZone {
     pub fn answer_at(&self, at: &OffsetDateTime, room: &mut [u8]) -> Option<Answer>
         ensures answer { Seen self.now (λ total gives. IsAnswered total gives (instant at.now) room.old room.new result) }
         ensures saving { IfSome result (TellsSaving self.now) }
+        ensures until { IfSome result (TellsUntil self.now (instant at.now)) }
     {
         match self {
             AnyZone::Source(zone) => zone.answer_at(at, room),
@@ -364,7 +365,8 @@ impl OpenZone {
     ghost use Rattle.civil_base.specs.Ranges.{is_in_years};
     ghost use Rattle.tz_zone.specs.InForce.{all_in_force, in_force as force_at, shown_of};
     ghost use Rattle.tz_zone.specs.Sets.{schedule_of, IsAccepted};
-    ghost use Rattle.sefunjaro.specs.Answers.{IsAnswered};
+    ghost use Rattle.civil_base.specs.Instants.{seconds_of};
+    ghost use Rattle.sefunjaro.specs.Answers.{IsAnswered, IsBetween};
     ghost use Rattle.sefunjaro.specs.Asked.{reading_of, IsNamed};
     ghost use Rattle.sefunjaro.specs.Changes.{next_after, saving_at as saving_of, window};
     ghost use Rattle.sefunjaro.specs.Found.{AreToldOf};
@@ -479,6 +481,7 @@ impl OpenZone {
     pub fn answer_at(&self, at: &OffsetDateTime, room: &mut [u8]) -> Option<Answer>
         ensures answer { IsAnswered (total_in self.now) (given_in self.now) (instant at.now) room.old room.new result }
         ensures saving { IfSome result (λ answer. (answer.is_kept ≡ true) × ((u : ℤ) → answer.from ≤ℤ u → u <ℤ answer.until → saving_of (spans_in self.now) u ≡ answer.saving)) }
+        ensures until { IfSome result (IsBetween (spans_in self.now) (seconds_of (instant at.now))) }
     {
         match &self.for_ever {
             Some(ever) => {

@@ -1,7 +1,7 @@
 //! All that a zone says of an instant, in one call.
 ghost use Rattle.std.specs.Prelude.{◌≡◌, IfSome};
 ghost use Rattle.civil_base.specs.DateTimes.{instant};
-ghost use Rattle.sefunjaro.specs.Answers.{IsAnswer, TellsSaving};
+ghost use Rattle.sefunjaro.specs.Answers.{IsAnswer, TellsSaving, TellsUntil};
 ghost use Rattle.sefunjaro.specs.Any.{Seen};
 ghost use Rattle.sefunjaro_c.specs.Answers.{is_shown, Where, Within};
 ghost use Rattle.sefunjaro_c.specs.Times.{is_instant, nanos_at};
@@ -30,6 +30,7 @@ pub extern "C" fn sefunjaro_answer_at_by(
         Where (is_shown total (nanos_at second nanosecond)) result (name.new ≡ name.old)
         (IsAnswer total gives (nanos_at second nanosecond) answer.new name.old name.new)))) }
     ensures saving { OnZone zone.old.part.opened result (Unit {0}) (λ held. result ≡ done → TellsSaving held answer.new) }
+    ensures until { OnZone zone.old.part.opened result (Unit {0}) (λ held. result ≡ done → TellsUntil held (nanos_at second nanosecond) answer.new) }
     ensures kept { IfRefused result ((answer.new ≡ answer.old) × (name.new ≡ name.old)) }
 {
     let Some(reading) = zone.take() else {
@@ -52,6 +53,7 @@ fn answer_at(
         Where (is_shown total (nanos_at second nanosecond)) result (name.new ≡ name.old)
         (IsAnswer total gives (nanos_at second nanosecond) answer.new name.old name.new)))) }
     ensures saving { OfZone opened.now result (Unit {0}) (λ held. result ≡ done → TellsSaving held answer.new) }
+    ensures until { OfZone opened.now result (Unit {0}) (λ held. result ≡ done → TellsUntil held (nanos_at second nanosecond) answer.new) }
     ensures kept { IfRefused result ((answer.new ≡ answer.old) × (name.new ≡ name.old)) }
 {
     let Opened::Zone(zone) = opened else {
@@ -67,6 +69,7 @@ fn answer_in(zone: &AnyZone, at: &OffsetDateTime, answer: &mut Answer, name: &mu
     ensures answer { Seen zone.now (λ total gives. Where (is_shown total (instant at.now)) result (name.new ≡ name.old)
         (IsAnswer total gives (instant at.now) answer.new name.old name.new)) }
     ensures saving { result ≡ done → TellsSaving zone.now answer.new }
+    ensures until { result ≡ done → TellsUntil zone.now (instant at.now) answer.new }
     ensures kept { IfRefused result ((answer.new ≡ answer.old) × (name.new ≡ name.old)) }
 {
     match zone.answer_at(at, name) {

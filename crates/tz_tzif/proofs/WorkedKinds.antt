@@ -1,11 +1,13 @@
 -- What holds in a zone of two changes, by hand.
-use Rattle.std.proofs.Common.{◌≡◌, refl, ℤ, pos, neg_ℤ, List, [], ◌∷◌, map, Some, None, true, false, codes}
+use Rattle.std.proofs.Common.{◌≡◌, refl, ℤ, pos, neg_ℤ, List, [], ◌∷◌, map, Some, None, true, false, codes, ap, arith}
+use Rattle.std.proofs.lemmas.Int.{ints}
 use Rattle.civil_base.specs.Instants.{seconds_of}
 use Rattle.tz_tzif.specs.FooterForce.{fixed, held_at, yearly}
 use Rattle.tz_posix_core.specs.declared.date.Date.TheVariants.{J}
 use Rattle.zone_tzif_core.specs.Zones.{KindValue, ZoneValue}
 use Rattle.tz_tzif.specs.Faults.{are_small, IsNoFooter, IsTzifFault, SaysInFooter}
 use Rattle.tz_tzif.specs.InForce.{kind_at, kind_in, told_total_at}
+use Rattle.tz_tzif.specs.Lasting.{HoldsUntil}
 use Rattle.tz_tzif.specs.Offsets.{offsets_of}
 use Rattle.tz_tzif.specs.declared.fault.TzifFault.TheVariants.{Times, Offset, Footer}
 
@@ -23,6 +25,18 @@ worked_kinds : map (λ s. (kind_in zone None s).utoff) (pos 9 ∷ pos 10 ∷ pos
     ≡ pos 1 ∷ pos 2 ∷ pos 2 ∷ pos 3 ∷ pos 3 ∷ []
 unfolding kind_in
 worked_kinds = refl
+
+-- what holds between them holds up to the second: no shorter, and no longer
+not_shorter : HoldsUntil (kind_in zone None) (pos 12) (pos 15) → ⊥
+unfolding kind_in
+not_shorter h = absurd (omega (arith, ints, h.ends refl))
+
+not_longer : HoldsUntil (kind_in zone None) (pos 12) (pos 21) → ⊥
+unfolding kind_in
+not_longer h = apart (ap (λ (k : KindValue). k.utoff) (h.same (pos 20) (omega (arith, ints)) (omega (arith, ints))))
+  where
+    apart : ◌≡◌ {A = ℤ} (pos 3) (pos 2) → ⊥
+    apart e = cc
 
 -- a footer speaks from the last change on
 worked_footer : map (λ s. (kind_in zone (Some (fixed (kind (pos 4)))) s).utoff) (pos 9 ∷ pos 10 ∷ pos 19 ∷ pos 20 ∷ pos 99 ∷ [])

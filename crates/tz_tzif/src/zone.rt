@@ -7,7 +7,7 @@ ghost use Rattle.zone_tzif_core.specs.Zones.{rises};
 ghost use Rattle.tz_tzif.specs.FooterShown.{footer_shown};
 ghost use Rattle.tz_tzif.specs.Faults.{are_small};
 ghost use Rattle.tz_tzif.specs.Cells.{AreCells};
-ghost use Rattle.tz_tzif.specs.Lasting.{IsTold};
+ghost use Rattle.tz_tzif.specs.Lasting.{HoldsUntil, IsTold};
 ghost use Rattle.tz_tzif.specs.InForce.{told_total_at, total_in};
 ghost use Rattle.tz_tzif.specs.Kept.{items_of};
 ghost use Rattle.tz_tzif.specs.Offsets.{offsets_of};
@@ -16,7 +16,7 @@ use crate::accept::accepted_footer;
 use crate::cells::{Cell, told_among};
 use crate::fault::TzifFault;
 use crate::footer::Footer;
-use crate::held::Held;
+use crate::held::{Held, is_same};
 use crate::instants::{TzifInstants, next_read};
 use crate::kept::KeptOffsets;
 use crate::offsets::offsets_of;
@@ -25,6 +25,9 @@ use civil_base::{OffsetDateTime, PlainDateTime};
 use std::alloc::Global;
 use tz_zone::{InstantsOf, OffsetResult, TimeZone};
 use zone_tzif_core::ZoneFile;
+
+/// The last second of those around 1970 in which changes are looked for: one of the year 8307.
+const LAST_NEAR: i64 = 200_000_000_000;
 
 /// A compiled zone that can be looked up, with what its footer says from the last change on. It borrows the value, and
 /// remembers its distinct offsets, or borrows them too.
@@ -43,7 +46,7 @@ pub struct TzifTz<'a> {
 }
 
 impl<'a> TzifTz<'a> {
-    ghost use Rattle.std.specs.Prelude.{IfSome, MatchResult, map, unsigned_abs, ◌≤ℤ◌, ◌<ℤ◌};
+    ghost use Rattle.std.specs.Prelude.{◌↔◌, IfSome, IsTrue, MatchResult, map, unsigned_abs, ◌≤ℤ◌, ◌<ℤ◌};
     ghost use Rattle.civil_base.specs.DateTimes.{instant};
     ghost use Rattle.tz_zone.specs.AllLeft.{all_left};
     ghost use Rattle.tz_zone.specs.InForce.{all_in_force, shown_of, AreInstants};
@@ -129,6 +132,34 @@ impl<'a> TzifTz<'a> {
             Some(footer) => footer.next_change(second),
             None => i64::MAX,
         }
+    }
+
+    /// The first second after one of the years -4000 to 8000 at which another kind of time holds; where none comes in these years, a
+    /// second past them.
+    pub fn holds_until(&self, second: i64) -> i64
+        requires { unsigned_abs second ≤ 200_000_000_000 }
+        ensures { HoldsUntil (kind_in (value_of self.now) (says_of self.now)) second result }
+    {
+        let mut until = self.next_change(second);
+        'changes: while until <= LAST_NEAR {
+            if !self.is_same_at(second, until) {
+                return until;
+            }
+            until = self.next_change(until);
+        }
+        until
+    }
+
+    /// Whether the same holds at two seconds. Most often the totals tell it, which take no search.
+    fn is_same_at(&self, one: i64, other: i64) -> bool
+        requires one { unsigned_abs one ≤ 800_000_000_000 }
+        requires other { unsigned_abs other ≤ 800_000_000_000 }
+        ensures { IsTrue result ↔ kind_in (value_of self.now) (says_of self.now) one ≡ kind_in (value_of self.now) (says_of self.now) other }
+    {
+        if self.total_at(one) != self.total_at(other) {
+            return false;
+        }
+        is_same(&self.held_at(one), &self.held_at(other))
     }
 
     /// What holds at a second.

@@ -1,4 +1,4 @@
-use Rattle.std.proofs.Common.{◌≡◌, ◌∙◌, ℤ, pos, ◌+ℤ◌, ◌≤ℤ◌, ◌<ℤ◌, SFits, rules, sym, ap, subst, to_z, of_z, w32, w64, arith}
+use Rattle.std.proofs.Common.{◌≡◌, ◌<◌, ◌≤◌, ◌∙◌, ℤ, pos, unsigned_abs, ◌+ℤ◌, ◌≤ℤ◌, ◌<ℤ◌, SFits, rules, sym, ap, subst, to_z, of_z, w32, w64, arith}
 use Rattle.std.proofs.lemmas.Int.{to_z-of_z, ints}
 use Rattle.civil_base.specs.DateTimes.{instant}
 use Rattle.civil_base.specs.Instants.{seconds_of}
@@ -38,4 +38,20 @@ returns-clause-answer c =
         ap (λ (k : KindValue). k.utoff) (same u low high),
         subst (λ k. IsOfKind k named.name found.result.is_saving) (sym (same u low high)) named.is_given,
       );
+    }
+
+pub returns-clause-until : goal.returns-clause-until
+returns-clause-until c =
+    let value = value_of c.args.zone.now in let says = says_of c.args.zone.now in
+    let second_fits : SFits w64 c.second_of-second.result = search rules in
+    let second = to_z-of_z w64 _ second_fits ∙ c.second_of-second.ensures.second in
+    let until_fits : SFits w64 c.same_until.result = search rules in
+    let until = to_z-of_z w64 _ until_fits in
+    let kind = kind_in value says in
+    record {
+      from = second;
+      until = λ near same. subst (λ s. pos 200000000000 <ℤ s) (sym until)
+          (c.same_until.ensures.ends (subst (λ s. unsigned_abs s ≤ 200000000000) (sym second) near)
+          (ap kind (sym until) ∙ same ∙ ap kind (sym second)));
+      alone = λ far. until ∙ c.same_until.ensures.alone (subst (λ s. 200000000000 < unsigned_abs s) (sym second) far) ∙ ap (λ s. s +ℤ pos 1) second;
     }

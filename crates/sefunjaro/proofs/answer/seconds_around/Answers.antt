@@ -1,9 +1,9 @@
-use Rattle.std.proofs.Common.{◌≤ℤ◌, ◌<ℤ◌, SFits, rules, sym, subst, w64, arith}
+use Rattle.std.proofs.Common.{◌≤ℤ◌, ◌<ℤ◌, SFits, rules, sym, ap, ◌∙◌, subst, w64, arith}
 use Rattle.std.proofs.lemmas.Int.{to_z-of_z, ints}
 use Rattle.calendar.specs.ComparisonLaws.{lt_le}
 use Rattle.tz_zone.specs.Sets.{shifts_of}
 use Rattle.tz_zone.specs.Spans.{IsCut}
-use Rattle.sefunjaro.specs.AnswerSteps.{end_second}
+use Rattle.sefunjaro.specs.Answers.{end_second, up_to_end}
 use Rattle.sefunjaro.proofs.answer.seconds_around.Goals as goal
 
 pub returns : goal.returns
@@ -29,4 +29,7 @@ returns g c =
         before = c.begin_of-from.ensures.before u (subst (λ t. t ≤ℤ u) from low);
         after = c.end_of.ensures.after u (lt_le u _ _ (subst (λ t. u <ℤ t) until high) ends);
       };
+      from = from ∙ c.begin_of-from.ensures.is;
+      until = λ l. until ∙ c.to_end-until.ensures.is ∙ ap up_to_end (end ∙ c.end_of.ensures.next l);
+      at_end = λ l. until ∙ c.to_end-until.ensures.is ∙ ap up_to_end (end ∙ c.end_of.ensures.last l);
     }

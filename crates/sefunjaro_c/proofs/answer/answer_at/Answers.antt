@@ -1,7 +1,7 @@
 use Rattle.std.proofs.Common.{◌≡◌, ◌∙◌, to_z-of_z, ℤ, true, ap, subst}
 use Rattle.std.specs.Arc.{arc_value}
 use Rattle.civil_base.specs.DateTimes.{instant}
-use Rattle.sefunjaro.specs.Answers.{IsAnswer, TellsSaving}
+use Rattle.sefunjaro.specs.Answers.{IsAnswer, TellsSaving, TellsUntil}
 use Rattle.sefunjaro.specs.Any.{Seen}
 use Rattle.sefunjaro.specs.declared.zone.AnyZone.{AnyZone}
 use Rattle.sefunjaro_handles.specs.declared.opened.Opened.TheVariants.{Zone}
@@ -28,3 +28,11 @@ returns-in-Some-clause-saving c =
     let zone = arc_value c.in-Zone.zone in let told = c.answer_in in
     of_zone c.args.opened.now (Zone c.in-Zone.zone) told.result (Unit {0}) (λ held. told.result ≡ 0 → TellsSaving held told.new.answer) c.in-Zone.is
     (λ e. subst (λ z. TellsSaving z told.new.answer) c.deref.ensures (told.ensures.saving e))
+
+pub returns-in-Some-clause-until : goal.returns-in-Some-clause-until
+returns-in-Some-clause-until c =
+    let s = c.args.second in let n = c.args.nanosecond in
+    let zone = arc_value c.in-Zone.zone in let told = c.answer_in in let answer = told.new.answer in
+    let at = c.in-Some.ensures.some.1 ∙ ap (λ u. nanos_at u n) (to_z-of_z c.ranges.second) in
+    of_zone c.args.opened.now (Zone c.in-Zone.zone) told.result (Unit {0}) (λ held. told.result ≡ 0 → TellsUntil held (nanos_at s n) answer) c.in-Zone.is
+    (λ e. subst (λ t. TellsUntil zone t answer) at (subst (λ z. TellsUntil z (instant c.in-Some.at) answer) c.deref.ensures (told.ensures.until e)))

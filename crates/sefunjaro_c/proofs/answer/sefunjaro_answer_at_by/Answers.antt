@@ -1,5 +1,5 @@
 use Rattle.std.proofs.Common.{◌≡◌, to_z-of_z, subst}
-use Rattle.sefunjaro.specs.Answers.{IsAnswer}
+use Rattle.sefunjaro.specs.Answers.{IsAnswer, TellsUntil}
 use Rattle.sefunjaro.specs.Any.{Seen}
 use Rattle.sefunjaro_handles.specs.Held.{OnZone}
 use Rattle.sefunjaro_c.specs.Answers.{is_shown, Where, Within}
@@ -20,3 +20,10 @@ returns-clause-saving c =
     let told = c.answer_at-status in
     handed c.in-Some.reading (λ reading. reading.opened) c.args.zone.now.part.opened c.get.result.now told.result _ _
     c.in-Some.ensures.reading c.get.ensures told.ensures.saving
+
+pub returns-clause-until : goal.returns-clause-until
+returns-clause-until c =
+    let told = c.answer_at-status in let zone = c.args.zone.now.part.opened in
+    subst (λ s. OnZone zone told.result (Unit {0}) (λ held. told.result ≡ 0 → TellsUntil held (nanos_at s c.args.nanosecond) told.new.answer))
+    (to_z-of_z c.ranges.second)
+    (handed c.in-Some.reading (λ reading. reading.opened) zone c.get.result.now told.result _ _ c.in-Some.ensures.reading c.get.ensures told.ensures.until)

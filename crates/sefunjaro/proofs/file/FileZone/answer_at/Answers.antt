@@ -1,7 +1,15 @@
+use Rattle.std.specs.Prelude.{ℤ, IfSome, [], Option, Some, None}
 use Rattle.civil_base.specs.DateTimes.{instant}
-use Rattle.tz_tzif.specs.InForce.{told_total_at}
-use Rattle.sefunjaro.specs.Answers.{IsAnswered}
-use Rattle.sefunjaro.specs.Files.{given_at}
+use Rattle.civil_base.specs.Instants.{seconds_of}
+use Rattle.tz_tzif.specs.FooterForce.{FooterZone}
+use Rattle.tz_tzif.specs.InForce.{kind_in, told_total_at}
+use Rattle.tz_tzif.specs.Zones.{value_of, says_of, IsZoneOf}
+use Rattle.tz_tzif.specs.declared.zone.TzifTz.{TzifTz}
+use Rattle.zone_tzif_core.specs.Zones.{ZoneValue}
+use Rattle.sefunjaro.specs.Answers.{IsAnswered, IsHeldOn}
+use Rattle.sefunjaro.specs.Files.{file_value, given_at, SaysOf}
+use Rattle.sefunjaro.specs.declared.answer.Answer.{Answer}
+use Rattle.sefunjaro.specs.declared.file.FileZone.{FileZone}
 use Rattle.sefunjaro.proofs.FileLemmas.{lent}
 use Rattle.sefunjaro.proofs.file.FileZone.answer_at.Goals as goal
 
@@ -10,3 +18,13 @@ returns-clause-answer c =
     lent c.args.self.now c.zone.result c.zone.ensures
     (λ value footer. IsAnswered (told_total_at value footer) (given_at value footer) (instant c.args.at.now) c.args.room.now c.lent_answer.new.room c.lent_answer.result)
     c.lent_answer.ensures.answer
+
+told : (zone : FileZone) (tz : TzifTz) (second : ℤ) (result : Option Answer) → IsZoneOf [] (file_value zone) tz
+    → IfSome result (IsHeldOn (kind_in (value_of tz) (says_of tz)) second)
+    → IfSome result (λ answer. SaysOf zone (λ footer. IsHeldOn (kind_in (file_value zone) footer) second answer))
+told zone tz second None of is = tt
+told zone tz second (Some answer) of is = lent zone tz of (λ (value : ZoneValue) (footer : Option FooterZone). IsHeldOn (kind_in value footer) second answer) is
+
+pub returns-clause-until : goal.returns-clause-until
+returns-clause-until c =
+    told c.args.self.now c.zone.result (seconds_of (instant c.args.at.now)) c.lent_answer.result c.zone.ensures c.lent_answer.ensures.until

@@ -4,11 +4,13 @@ use Rattle.civil_base.specs.DateTimes.{instant}
 use Rattle.tz_ever.specs.EverShown.{ever_seen}
 use Rattle.tz_ever.specs.Unrolled.{unrolled}
 use Rattle.tz_ever.specs.declared.ever_set.EverSet.{EverSet}
-use Rattle.sefunjaro.specs.Answers.{IsAnswered}
+use Rattle.civil_base.specs.Instants.{seconds_of}
+use Rattle.sefunjaro.specs.Answers.{IsAnswered, IsBetween}
 use Rattle.sefunjaro.specs.AnswerSteps.{IsToldBySpan}
 use Rattle.sefunjaro.specs.Changes.{saving_at}
 use Rattle.sefunjaro.specs.Zones.{given_with, set_in, spans_with, total_with}
 use Rattle.sefunjaro.proofs.AnswerLemmas.{answered, saved, shows_itself, shows_unrolled}
+use Rattle.sefunjaro.proofs.UntilLemmas.{held}
 use Rattle.sefunjaro.proofs.zone.OpenZone.answer_at.Goals as goal
 
 pub returns-in-Some-clause-answer : goal.returns-in-Some-clause-answer
@@ -41,3 +43,17 @@ returns-in-None-clause-saving c =
     let new = c.answer_at-in-None.new.room in let result = c.answer_at-in-None.result in
     subst (λ (found : Option EverSet). IfSome result (λ answer. (answer.is_kept ≡ true) × ((u : ℤ) → answer.from ≤ℤ u → u <ℤ answer.until → saving_at (spans_with set found) u ≡ answer.saving)))
     (sym c.in-None.is) (saved set t old new result c.answer_at-in-None.ensures)
+
+pub returns-in-Some-clause-until : goal.returns-in-Some-clause-until
+returns-in-Some-clause-until c =
+    let set = set_in c.args.self.now in let t = instant c.args.at.now in let old = c.args.room.now in
+    let new = c.answer_at.new.room in let result = c.answer_at.result in
+    subst (λ (found : Option EverSet). IfSome result (IsBetween (spans_with set found) (seconds_of t))) (sym c.in-Some.is)
+    (held (unrolled (ever_seen c.in-Some.ever)) t old new result (subst (λ s. IsToldBySpan s t old new result) c.new.ensures.seen c.answer_at.ensures))
+
+pub returns-in-None-clause-until : goal.returns-in-None-clause-until
+returns-in-None-clause-until c =
+    let set = set_in c.args.self.now in let t = instant c.args.at.now in let old = c.args.room.now in
+    let new = c.answer_at-in-None.new.room in let result = c.answer_at-in-None.result in
+    subst (λ (found : Option EverSet). IfSome result (IsBetween (spans_with set found) (seconds_of t))) (sym c.in-None.is)
+    (held set t old new result c.answer_at-in-None.ensures)
