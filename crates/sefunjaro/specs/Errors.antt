@@ -21,8 +21,8 @@ use Rattle.zone_list.specs.declared.listing.ListFault.{ListFault}
 use Rattle.zone_list.specs.declared.listing.ListFault.TheVariants as listed
 use Rattle.zone_source.specs.declared.error.SourceError.{SourceError}
 use Rattle.zone_source.specs.declared.error.SourceError.TheVariants as source
-use Rattle.zone_tail_core.specs.declared.outcome.TailFault.{TailFault}
-use Rattle.zone_tail_core.specs.declared.outcome.TailFault.TheVariants as tail
+use Rattle.zone_tail.specs.declared.outcome.TailFault.{TailFault}
+use Rattle.zone_tail.specs.declared.outcome.TailFault.TheVariants as tail
 use Rattle.zone_tzif_set.specs.declared.outcome.EverTailFault.{EverTailFault}
 use Rattle.zone_tzif_set.specs.declared.outcome.EverTailFault.TheVariants as ever_tail
 use Rattle.zone_tree.specs.declared.refusal.TreeFault.{TreeFault}

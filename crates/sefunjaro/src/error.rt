@@ -13,7 +13,7 @@ use zone_alarm::AlarmFault;
 use zone_line::NotBuilt;
 use zone_list::ListFault;
 use zone_plain_lines::PlainCause;
-use zone_tail_core::TailFault;
+use zone_tail::TailFault;
 use zone_tree::TreeFault;
 use zone_tzif_core::ReadFault;
 use zone_tzif_set::{EverFileFault, EverTailFault, FileFault};

@@ -61,7 +61,7 @@ pub use zone_line::LineParser;
 pub use zone_list::{ListFault, Listing, lines_of, list_lines};
 pub use zone_source::SourceError;
 pub use zone_table::Table;
-pub use zone_tail_core::{Tail, TailFault, tail};
+pub use zone_tail::{Tail, TailFault, tail};
 pub use zone_tree::{TreeFault, Why};
 pub use zone_tzif_core::{ReadFault, TzifZone, ZoneFile, read_any, read_file};
 pub use zone_tzif_set::{EverFileFault, EverTail, EverTailFault, tail_for_ever, tzif_for_ever};

@@ -1,9 +1,9 @@
 -- The string that carries a zone on, and the zone's file; and why there is none, in numbers.
 use Rattle.std.specs.Prelude.{◌≡◌, ◌⊎◌, ℕ, ℤ, Bool, List, length, Option, None, option_map}
-use Rattle.zone_tail_core.specs.Carried.{CarriesOn}
-use Rattle.zone_tail_core.specs.Tails.{tail_fault, IsTail}
-use Rattle.zone_tail_core.specs.declared.outcome.TailFault.{TailFault}
-use Rattle.zone_tail_core.specs.declared.outcome.TailFault.TheVariants as tail
+use Rattle.zone_tail.specs.Carried.{CarriesOn}
+use Rattle.zone_tail.specs.Tails.{tail_fault, IsTail}
+use Rattle.zone_tail.specs.declared.outcome.TailFault.{TailFault}
+use Rattle.zone_tail.specs.declared.outcome.TailFault.TheVariants as tail
 use Rattle.zone_tzif_core.specs.Denotes.{Denotes}
 use Rattle.zone_tzif_core.specs.Totals.{file_total_at}
 use Rattle.zone_tzif_core.specs.Zones.{ZoneValue}

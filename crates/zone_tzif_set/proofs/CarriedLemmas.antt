@@ -14,9 +14,9 @@ use Rattle.tz_tzif.specs.Spells.{SpellsFooter}
 use Rattle.tz_tzif.specs.Standing.{StandsFor, stands_for}
 use Rattle.tz_tzif.specs.Values.{FooterValue}
 use Rattle.tz_tzif.specs.InForce.{are_over, told_total_at}
-use Rattle.zone_tail_core.specs.Candidates.{IsAllowed}
-use Rattle.zone_tail_core.specs.Carried.{CarriesOn, IsCovered, IsFrom}
-use Rattle.zone_tail_core.specs.Tails.{IsTail, beginning, end_of_last_year, is_ending_early}
+use Rattle.zone_tail.specs.Candidates.{IsAllowed}
+use Rattle.zone_tail.specs.Carried.{CarriesOn, IsCovered, IsFrom}
+use Rattle.zone_tail.specs.Tails.{IsTail, beginning, end_of_last_year, is_ending_early}
 use Rattle.zone_tzif_core.specs.Totals.{file_total_at}
 use Rattle.zone_tzif_core.specs.Zones.{KindValue, ZoneValue}
 use Rattle.zone_tzif_set.specs.Values.{change_by, value_by, value_of}

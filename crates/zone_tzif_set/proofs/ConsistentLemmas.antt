@@ -9,10 +9,10 @@ use Rattle.tz_tzif.specs.FooterForce.{FooterZone, is_of_one_year}
 use Rattle.tz_tzif.specs.Standing.{StandsFor}
 use Rattle.tz_tzif.specs.Faults.{SaysInFooter}
 use Rattle.tz_tzif.specs.InForce.{are_over, told_total_at}
-use Rattle.zone_tail_core.specs.Carried.{CarriesOn}
-use Rattle.zone_tail_core.specs.Found.{found_from, found_text}
-use Rattle.zone_tail_core.specs.Tails.{IsTail, end_of_last_year, is_ending_early, is_outlasting, tail_fault}
-use Rattle.zone_tail_core.specs.declared.outcome.TailFault.{TailFault}
+use Rattle.zone_tail.specs.Carried.{CarriesOn}
+use Rattle.zone_tail.specs.Found.{found_from, found_text}
+use Rattle.zone_tail.specs.Tails.{IsTail, end_of_last_year, is_ending_early, is_outlasting, tail_fault}
+use Rattle.zone_tail.specs.declared.outcome.TailFault.{TailFault}
 use Rattle.zone_tzif_core.specs.Totals.{file_total_at}
 use Rattle.zone_tzif_core.specs.Zones.{ZoneValue}
 use Rattle.zone_tzif_set.specs.Files.{consistent_footer, consistent_zone, footer_of, is_contradicted, IsCarriedOn}

@@ -8,8 +8,8 @@ use Rattle.civil_base.specs.Ranges.{is_offset}
 use Rattle.zone_spans.specs.Entries.{Entry, total}
 use Rattle.tz_zone.specs.Sets.{IsAccepted, schedule_of, shift_of}
 use Rattle.tz_zone.specs.declared.set.FixedTimespanSet.{FixedTimespanSet}
-use Rattle.zone_tail_core.specs.Found.{found_text}
-use Rattle.zone_tail_core.specs.Tails.{tail_fault}
+use Rattle.zone_tail.specs.Found.{found_text}
+use Rattle.zone_tail.specs.Tails.{tail_fault}
 use Rattle.zone_tzif_core.specs.Format.{is_one_line}
 use Rattle.zone_tzif_core.specs.Tzif.{added, are_names, are_times, each_once, first_fault, is_same, kinds_of, names_of, write_fault}
 use Rattle.zone_tzif_core.specs.Zones.{KindValue, ZoneValue, is_small}

@@ -9,9 +9,9 @@ use Rattle.zone_spans.specs.declared.span.FixedTimespan.{FixedTimespan}
 use Rattle.tz_zone.specs.Sets.{shift_of, shifts_of, span_in, total_of_span}
 use Rattle.tz_zone.specs.Spans.{Shift, shift_at}
 use Rattle.tz_zone.specs.declared.set.FixedTimespanSet.{FixedTimespanSet}
-use Rattle.zone_tail_core.specs.LastYear.{Form, steady, yearly, other}
-use Rattle.zone_tail_core.specs.Shapes.{entry_in}
-use Rattle.zone_tail_core.specs.Tails.{can_be_written, is_name}
+use Rattle.zone_tail.specs.LastYear.{Form, steady, yearly, other}
+use Rattle.zone_tail.specs.Shapes.{entry_in}
+use Rattle.zone_tail.specs.Tails.{can_be_written, is_name}
 use Rattle.zone_tzif_set.specs.Agreement.{cycle_begin}
 use Rattle.zone_tzif_set.specs.Tails.{IsFaultForEver}
 use Rattle.zone_tzif_set.specs.Tried.{ever_fault, ever_form, first_from, form_fault, form_of_two, named_or, next_year, written_or}

@@ -27,7 +27,7 @@ use Rattle.tz_tzif.specs.FooterForce.{year_after, year_before}
 use Rattle.tz_tzif.specs.Ranges.{IsFooterOf}
 use Rattle.tz_tzif.specs.Standing.{stands_for}
 use Rattle.tz_tzif.specs.Values.{FooterValue}
-use Rattle.zone_tail_core.specs.Settled.{IsOfLastYear, IsSettled}
+use Rattle.zone_tail.specs.Settled.{IsOfLastYear, IsSettled}
 
 -- a time without a sign
 abbrev signed : Time → Offset

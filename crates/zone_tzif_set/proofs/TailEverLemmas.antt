@@ -17,7 +17,7 @@ use Rattle.tz_zone.specs.SecondLaws.{IsSecond, one_second, second_is, total_is}
 use Rattle.tz_zone.specs.Sets.{schedule_of, shifts_of}
 use Rattle.tz_zone.specs.Spans.{total_from}
 use Rattle.tz_zone.specs.declared.set.FixedTimespanSet.{FixedTimespanSet}
-use Rattle.zone_tail_core.specs.Carried.{IsFrom}
+use Rattle.zone_tail.specs.Carried.{IsFrom}
 use Rattle.zone_tzif_set.specs.Agreement.{AgreesForEver, IsCovered, cycle_begin, cycle_end, footer_total}
 use Rattle.zone_tzif_set.specs.Walked.{Agrees}
 use Rattle.zone_tzif_set.specs.Years.{IsInYears}

@@ -3,8 +3,8 @@ use Rattle.std.proofs.Common.{◌≡◌, true, false, List, [], ◌∷◌, map, 
 use Rattle.zone_spans.specs.Entries.{Entry}
 use Rattle.zone_spans.specs.declared.span.FixedTimespan.{FixedTimespan}
 use Rattle.tz_zone.specs.declared.set.FixedTimespanSet.{FixedTimespanSet}
-use Rattle.zone_tail_core.specs.LastYear.{form, standard_of}
-use Rattle.zone_tail_core.specs.Tails.{is_ending_early, is_outlasting}
+use Rattle.zone_tail.specs.LastYear.{form, standard_of}
+use Rattle.zone_tail.specs.Tails.{is_ending_early, is_outlasting}
 use Rattle.zone_tzif_set.specs.Files.{is_contradicted}
 
 abbrev span : ℤ → FixedTimespan

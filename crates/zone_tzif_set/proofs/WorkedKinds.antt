@@ -3,7 +3,7 @@ use Rattle.std.proofs.Common.{◌≡◌, Bool, true, false, [], ◌∷◌, map, 
 use Rattle.std.proofs.lemmas.Option.{none-some}
 use Rattle.zone_spans.specs.declared.span.FixedTimespan.{FixedTimespan}
 use Rattle.tz_zone.specs.declared.set.FixedTimespanSet.{FixedTimespanSet}
-use Rattle.zone_tail_core.specs.LastYear.{form, standard_of}
+use Rattle.zone_tail.specs.LastYear.{form, standard_of}
 use Rattle.zone_tzif_core.specs.Zones.{KindValue}
 use Rattle.zone_tzif_core.specs.declared.values.WriteFault.{WriteFault}
 use Rattle.zone_tzif_core.specs.declared.values.WriteFault.TheVariants as write

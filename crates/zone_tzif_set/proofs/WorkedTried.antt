@@ -5,8 +5,8 @@ use Rattle.std.specs.Fmt.{digits}
 use Rattle.zone_spans.specs.Entries.{Entry}
 use Rattle.zone_spans.specs.declared.span.FixedTimespan.{FixedTimespan}
 use Rattle.tz_zone.specs.declared.set.FixedTimespanSet.{FixedTimespanSet}
-use Rattle.zone_tail_core.specs.LastYear.{steady, yearly, other}
-use Rattle.zone_tail_core.specs.Texts.{time_text}
+use Rattle.zone_tail.specs.LastYear.{steady, yearly, other}
+use Rattle.zone_tail.specs.Texts.{time_text}
 use Rattle.zone_tzif_set.specs.Tried.{days_back, ever_form, first_from, form_fault, how_many, is_past_noon, signed_text, week_of}
 use Rattle.zone_tzif_set.specs.declared.outcome.EverTailFault.TheVariants.{Shape, OffsetRange, Name}
 

@@ -9,7 +9,7 @@ use Rattle.tz_lookup.specs.YearSeconds.{rules_begin}
 use Rattle.tz_zone.specs.Sets.{shifts_of}
 use Rattle.tz_zone.specs.Spans.{shift_at}
 use Rattle.tz_zone.specs.declared.set.FixedTimespanSet.{FixedTimespanSet}
-use Rattle.zone_tail_core.specs.Carried.{IsFrom}
+use Rattle.zone_tail.specs.Carried.{IsFrom}
 
 -- the seconds east of UTC that a footer gives a second
 abbrev pub footer_total : FooterZone → ℤ → ℤ

@@ -1,9 +1,9 @@
 -- The file of a compiled set, and why there is none.
 use Rattle.std.specs.Prelude.{◌≡◌, ℕ, Bool, ◌||◌, List, [], Option, Some, None, Result, Ok, Err, if◌then◌else◌, is_none}
 use Rattle.tz_zone.specs.declared.set.FixedTimespanSet.{FixedTimespanSet}
-use Rattle.zone_tail_core.specs.Carried.{CarriesOn}
-use Rattle.zone_tail_core.specs.Found.{found_from, found_text}
-use Rattle.zone_tail_core.specs.Tails.{is_ending_early, is_outlasting, tail_fault, IsTail}
+use Rattle.zone_tail.specs.Carried.{CarriesOn}
+use Rattle.zone_tail.specs.Found.{found_from, found_text}
+use Rattle.zone_tail.specs.Tails.{is_ending_early, is_outlasting, tail_fault, IsTail}
 use Rattle.zone_tzif_core.specs.Tzif.{tzif, tzif_by, write_fault}
 use Rattle.zone_tzif_core.specs.Zones.{ZoneValue}
 use Rattle.zone_tzif_core.specs.declared.values.Version.{Version}

@@ -4,7 +4,7 @@ use Rattle.civil_base.specs.Instants.{seconds_of}
 use Rattle.tz_tzif.specs.FooterForce.{FooterZone}
 use Rattle.tz_tzif.specs.Standing.{StandsFor}
 use Rattle.tz_zone.specs.declared.set.FixedTimespanSet.{FixedTimespanSet}
-use Rattle.zone_tail_core.specs.Tails.{end_of_last_year, tail_fault}
+use Rattle.zone_tail.specs.Tails.{end_of_last_year, tail_fault}
 use Rattle.zone_tzif_set.specs.Files.{is_contradicted}
 
 -- it stands for something

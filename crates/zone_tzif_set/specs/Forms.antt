@@ -2,8 +2,8 @@
 use Rattle.std.specs.Prelude.{◌≡◌, ℕ, ◌<◌, ◌≤◌, ◌&&◌, length, true}
 use Rattle.tz_zone.specs.Sets.{span_in}
 use Rattle.tz_zone.specs.declared.set.FixedTimespanSet.{FixedTimespanSet}
-use Rattle.zone_tail_core.specs.LastYear as year
-use Rattle.zone_tail_core.specs.Shapes.{entry_in}
+use Rattle.zone_tail.specs.LastYear as year
+use Rattle.zone_tail.specs.Shapes.{entry_in}
 use Rattle.zone_tzif_set.specs.Tried.{is_of_year}
 use Rattle.zone_tzif_set.specs.declared.form.Form.{Form}
 use Rattle.zone_tzif_set.specs.declared.form.Form.TheVariants.{Steady, Yearly, Other}

@@ -10,10 +10,10 @@ use Rattle.zone_spans.specs.Entries.{Entry, total}
 use Rattle.tz_zone.specs.Sets.{shifts_of, span_in}
 use Rattle.tz_zone.specs.Spans.{Shift}
 use Rattle.tz_zone.specs.declared.set.FixedTimespanSet.{FixedTimespanSet}
-use Rattle.zone_tail_core.specs.LastYear.{Form, steady, yearly, other}
-use Rattle.zone_tail_core.specs.Shapes.{entry_in}
-use Rattle.zone_tail_core.specs.Tails.{can_be_written, is_name}
-use Rattle.zone_tail_core.specs.Texts.{name_text, offset_text, saving_text, time_text}
+use Rattle.zone_tail.specs.LastYear.{Form, steady, yearly, other}
+use Rattle.zone_tail.specs.Shapes.{entry_in}
+use Rattle.zone_tail.specs.Tails.{can_be_written, is_name}
+use Rattle.zone_tail.specs.Texts.{name_text, offset_text, saving_text, time_text}
 use Rattle.zone_tzif_set.specs.Agreement.{cycle_begin}
 use Rattle.zone_tzif_set.specs.declared.outcome.EverTailFault.{EverTailFault}
 use Rattle.zone_tzif_set.specs.declared.outcome.EverTailFault.TheVariants as fault

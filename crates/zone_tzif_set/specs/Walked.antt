@@ -6,7 +6,7 @@ use Rattle.tz_lookup.specs.YearSeconds.{rules_begin}
 use Rattle.tz_zone.specs.Sets.{shifts_of}
 use Rattle.tz_zone.specs.Spans.{total_from}
 use Rattle.tz_zone.specs.declared.set.FixedTimespanSet.{FixedTimespanSet}
-use Rattle.zone_tail_core.specs.Carried.{IsFrom}
+use Rattle.zone_tail.specs.Carried.{IsFrom}
 use Rattle.zone_tzif_set.specs.Agreement.{cycle_end, footer_total, time_of_entry}
 
 module _ (zone : FooterZone) (set : FixedTimespanSet) where

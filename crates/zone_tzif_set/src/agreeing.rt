@@ -13,7 +13,7 @@ use crate::walk::walk;
 use civil_base::UtcOffset;
 use tz_lookup::SpanTable;
 use tz_tzif::Footer;
-use zone_tail_core::parts::total_of;
+use zone_tail::parts::total_of;
 
 /// 2102-01-01 00:00:00 UTC.
 const CYCLE_BEGIN: i64 = 4_165_516_800;

@@ -3,15 +3,15 @@ ghost use Rattle.std.specs.Prelude.{◌≡◌, ◌<◌, ◌&&◌, length, pos, n
 ghost use Rattle.civil_base.specs.Ranges.{greatest_offset};
 ghost use Rattle.tz_zone.specs.Sets.{IsAccepted, schedule_of};
 ghost use Rattle.zone_spans.specs.Entries.{total};
-ghost use Rattle.zone_tail_core.specs.Shapes.{entry_in};
-ghost use Rattle.zone_tail_core.specs.Tails.{can_be_written, is_name};
+ghost use Rattle.zone_tail.specs.Shapes.{entry_in};
+ghost use Rattle.zone_tail.specs.Tails.{can_be_written, is_name};
 ghost use Rattle.zone_tzif_set.specs.Forms.{ArePlaced, Shows};
 ghost use Rattle.zone_tzif_set.specs.Tried.{ever_fault, ever_form, written_or};
 
 use crate::form::Form;
 use crate::outcome::EverTailFault;
 use tz_lookup::SpanTable;
-use zone_tail_core::parts::{can_be_written, entry_span, is_name, total_of};
+use zone_tail::parts::{can_be_written, entry_span, is_name, total_of};
 
 /// The first cause, or none.
 pub(crate) fn fault_in<S: SpanTable>(set: &S, form: &Form) -> Option<EverTailFault>

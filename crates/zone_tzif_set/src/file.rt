@@ -2,9 +2,9 @@
 ghost use Rattle.std.specs.Prelude.{◌≡◌, ◌≢◌, ℤ, None, Some, IfOk, string_bytes};
 ghost use Rattle.zone_spans.specs.Schedules.{total_at as set_total_at};
 ghost use Rattle.tz_zone.specs.Sets.{schedule_of, IsAccepted};
-ghost use Rattle.zone_tail_core.specs.Carried.{CarriesOn};
-ghost use Rattle.zone_tail_core.specs.Found.{found_from};
-ghost use Rattle.zone_tail_core.specs.Tails.{tail_fault};
+ghost use Rattle.zone_tail.specs.Carried.{CarriesOn};
+ghost use Rattle.zone_tail.specs.Found.{found_from};
+ghost use Rattle.zone_tail.specs.Tails.{tail_fault};
 ghost use Rattle.zone_tzif_core.specs.Denotes.{Denotes};
 ghost use Rattle.zone_tzif_core.specs.Totals.{file_total_at};
 ghost use Rattle.zone_tzif_core.specs.Tzif.{IsTzif, IsTzifBy, write_fault};
@@ -18,8 +18,8 @@ use crate::laws::few_causes;
 use std::alloc::{AllocError, Global};
 use thiserror::Error;
 use tz_zone::SpanTable;
-use zone_tail_core::laws::one_tail;
-use zone_tail_core::{TailFault, is_ending_early, is_outlasting, tail};
+use zone_tail::laws::one_tail;
+use zone_tail::{TailFault, is_ending_early, is_outlasting, tail};
 use zone_tzif_core::{Version, WriteFault, each_denotes, one_reading, write_version};
 
 /// Why a set has no file, the first cause that holds.
@@ -134,7 +134,7 @@ pub(crate) fn with_footer<S: SpanTable>(
 }
 
 /// The TZif file of a compiled set, the one that [`write_tzif`](zone_tzif_core::write_tzif) writes: each span as what holds from
-/// its time on, and as the footer the POSIX TZ string that [`tail`](zone_tail_core::tail) gives, or nothing where the set has
+/// its time on, and as the footer the POSIX TZ string that [`tail`](zone_tail::tail) gives, or nothing where the set has
 /// none. The set is a `FixedTimespanSet`, a `CompactSet` or whatever else gives spans by number, and one that a `Tz` can be made of.
 /// Whatever zone is read from the file has the set's offset at each instant, as long as its footer is left out of account: where the
 /// set changes at or past the end of the year 2099, the footer takes that back.

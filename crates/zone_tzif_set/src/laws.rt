@@ -10,7 +10,7 @@ ghost use Rattle.zone_tzif_core.specs.Zones.{ZoneValue};
 ghost use Rattle.zone_tzif_set.specs.Files.{consistent_fault, file_fault};
 ghost use Rattle.zone_tzif_set.specs.Values.{value_of};
 
-use zone_tail_core::laws::one_line;
+use zone_tail::laws::one_line;
 use zone_tzif_core::{WriteFault, one_reading, one_value, written_denotes};
 
 /// At each instant the zone of a set has the set's offset.

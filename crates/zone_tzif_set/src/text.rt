@@ -1,13 +1,13 @@
 //! The texts of the footers that are tried.
 ghost use Rattle.std.specs.Prelude.{◌≡◌, ◌++◌, ◌<◌, ◌≤◌, ◌/◌, OnOk, IfOk, IsTrue, string_bytes, pos, neg_ℤ, ◌+ℤ◌, ◌-ℤ◌, ◌*ℤ◌, ◌<ℤ◌, ◌≤ℤ◌, unsigned_abs};
 ghost use Rattle.std.specs.Int.{int_div_euclid};
-ghost use Rattle.zone_tail_core.specs.Tails.{can_be_written};
-ghost use Rattle.zone_tail_core.specs.Texts.{name_text, offset_text, saving_text};
+ghost use Rattle.zone_tail.specs.Tails.{can_be_written};
+ghost use Rattle.zone_tail.specs.Texts.{name_text, offset_text, saving_text};
 ghost use Rattle.zone_tzif_set.specs.Tried.{change_by, days_back, is_past_noon, moment_text, parts_text, signed_text, week_of};
 
 use calendar::{date_of, month_length, weekday};
 use std::alloc::{AllocError, Global};
-use zone_tail_core::parts::{add, add_name, add_number, add_offset, add_saving, add_time};
+use zone_tail::parts::{add, add_name, add_number, add_offset, add_saving, add_time};
 
 const SECONDS_PER_DAY: i64 = 86_400;
 

@@ -3,9 +3,9 @@ ghost use Rattle.std.specs.Prelude.{◌≡◌, ◌<◌, ◌&&◌, ◌++◌, IfOk
 ghost use Rattle.civil_base.specs.Ranges.{greatest_offset};
 ghost use Rattle.tz_zone.specs.Sets.{IsAccepted, schedule_of};
 ghost use Rattle.zone_spans.specs.Entries.{total};
-ghost use Rattle.zone_tail_core.specs.LastYear.{yearly};
-ghost use Rattle.zone_tail_core.specs.Shapes.{entry_in};
-ghost use Rattle.zone_tail_core.specs.Tails.{can_be_written};
+ghost use Rattle.zone_tail.specs.LastYear.{yearly};
+ghost use Rattle.zone_tail.specs.Shapes.{entry_in};
+ghost use Rattle.zone_tail.specs.Tails.{can_be_written};
 ghost use Rattle.zone_tzif_set.specs.Forms.{ArePlaced, Shows};
 ghost use Rattle.zone_tzif_set.specs.Tried.{changes_by, ever_fault, ever_form, how_many, is_of_year, next_year, tried, tried_for};
 ghost use Rattle.zone_tzif_set.specs.Agreement.{cycle_begin};
@@ -15,7 +15,7 @@ use crate::form::Form;
 use crate::text::{add_change, steady_text, totals_text};
 use std::alloc::{AllocError, Global};
 use tz_lookup::SpanTable;
-use zone_tail_core::parts::{add, entry_span, entry_time, total_of};
+use zone_tail::parts::{add, entry_span, entry_time, total_of};
 
 /// How many ways there are to name a change.
 const WAYS: u32 = 28;

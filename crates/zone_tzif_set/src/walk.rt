@@ -8,7 +8,7 @@ ghost use Rattle.zone_tzif_set.specs.Walked.{AgreesAt, IsNear, IsWalked, Lasts};
 
 use tz_lookup::{RULES_BEGIN, SpanTable};
 use tz_tzif::Footer;
-use zone_tail_core::parts::total_of;
+use zone_tail::parts::total_of;
 
 /// 2502-01-01 00:00:00 UTC.
 const CYCLE_END: i64 = 16_788_297_600;

@@ -1,6 +1,6 @@
 use Rattle.std.proofs.Common.{FitsSigned, w64, rules, to_z-of_z, sym, ap, ◌∙◌}
 use Rattle.zone_spans.specs.declared.span.FixedTimespan.{FixedTimespan}
-use Rattle.zone_tail_core.specs.Tails.{can_be_written, is_name}
+use Rattle.zone_tail.specs.Tails.{can_be_written, is_name}
 use Rattle.zone_tzif_set.specs.Tried.{form_fault, written_or}
 use Rattle.zone_tzif_set.proofs.FormLemmas.{total_of_span-is}
 use Rattle.zone_tzif_set.proofs.faults.fault_in.Goals as goal

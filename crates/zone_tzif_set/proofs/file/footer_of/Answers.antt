@@ -1,6 +1,6 @@
 use Rattle.std.proofs.Common.{◌∙◌, subst, string_bytes}
-use Rattle.zone_tail_core.specs.Tails.{IsFaultOf}
-use Rattle.zone_tail_core.specs.declared.outcome.TailFault.TheVariants as fault
+use Rattle.zone_tail.specs.Tails.{IsFaultOf}
+use Rattle.zone_tail.specs.declared.outcome.TailFault.TheVariants as fault
 use Rattle.zone_tzif_set.proofs.FooterLemmas.{carried, footer_is, no_footer, uncarried}
 use Rattle.zone_tzif_set.proofs.file.footer_of.Goals as goal
 

@@ -1,6 +1,6 @@
 use Rattle.std.proofs.Common.{◌≡◌, suc, ◌+◌, sym, subst, ◌∙◌, arith}
 use Rattle.tz_zone.specs.Sets.{shifts_of}
-use Rattle.zone_tail_core.specs.Shapes.{entry_in}
+use Rattle.zone_tail.specs.Shapes.{entry_in}
 use Rattle.zone_tzif_set.specs.Agreement.{cycle_begin}
 use Rattle.zone_tzif_set.specs.Forms.{Shows}
 use Rattle.zone_tzif_set.specs.Tried.{first_from, form_of_two, next_year}

@@ -1,8 +1,8 @@
 use Rattle.std.proofs.Common.{◌≡◌, ◌++◌, IfOk, string_bytes, true, FitsSigned, w64, rules, to_z-of_z, sym, ap, ◌∙◌, subst}
 use Rattle.zone_spans.specs.Entries.{total}
 use Rattle.zone_spans.specs.declared.span.FixedTimespan.{FixedTimespan}
-use Rattle.zone_tail_core.specs.Tails.{can_be_written}
-use Rattle.zone_tail_core.specs.Texts.{name_text, offset_text}
+use Rattle.zone_tail.specs.Tails.{can_be_written}
+use Rattle.zone_tail.specs.Texts.{name_text, offset_text}
 use Rattle.zone_tzif_set.specs.Tried.{tried_for}
 use Rattle.zone_tzif_set.proofs.FormLemmas.{other_fails, steady_written, total_of_span-is, yearly_written}
 use Rattle.zone_tzif_set.proofs.tried.tried_text.Goals as goal
