@@ -63,5 +63,5 @@ pub use zone_source::SourceError;
 pub use zone_table::Table;
 pub use zone_tail::{Tail, TailFault, tail};
 pub use zone_tree::{TreeFault, Why};
+pub use zone_tzif::{EverFileFault, EverTail, EverTailFault, tail_for_ever, tzif_for_ever};
 pub use zone_tzif_core::{ReadFault, TzifZone, ZoneFile, read_any, read_file};
-pub use zone_tzif_set::{EverFileFault, EverTail, EverTailFault, tail_for_ever, tzif_for_ever};

@@ -5,7 +5,7 @@ use std::alloc::Global;
 use tz_ever::EverTable;
 use zone_list::{ListFault, Listing, lines_of};
 use zone_tail::{Tail, TailFault, tail};
-use zone_tzif_set::{FileFault, consistent_tzif_of};
+use zone_tzif::{FileFault, consistent_tzif_of};
 
 impl OpenZone {
     ghost use Rattle.std.specs.Prelude.{◌≡◌, ℤ, IfErr, IfOk, IsErrOf, MatchResult, OnOk, string_bytes, false, true};
@@ -21,7 +21,7 @@ impl OpenZone {
     ghost use Rattle.zone_tzif_core.specs.Totals.{file_total_at};
     ghost use Rattle.zone_tzif_core.specs.Tzif.{IsTzif};
     ghost use Rattle.zone_tzif_core.specs.Zones.{ZoneValue};
-    ghost use Rattle.zone_tzif_set.specs.Files.{consistent_zone, IsCarriedOn, MakesZone};
+    ghost use Rattle.zone_tzif.specs.Files.{consistent_zone, IsCarriedOn, MakesZone};
     ghost use Rattle.sefunjaro.specs.Zones.{set_in, spans_in};
 
     /// The lines of the changes from a second on and before another, as [`list_lines`](zone_list::list_lines) has those of a set: the

@@ -9,9 +9,9 @@ use Rattle.zone_tzif_core.specs.Totals.{file_total_at}
 use Rattle.zone_tzif_core.specs.Zones.{ZoneValue}
 use Rattle.zone_tzif_core.specs.declared.values.WriteFault.{WriteFault}
 use Rattle.zone_tzif_core.specs.declared.values.WriteFault.TheVariants as write
-use Rattle.zone_tzif_set.specs.Files.{consistent_fault, consistent_file, IsCarriedOn}
-use Rattle.zone_tzif_set.specs.declared.file.FileFault.{FileFault}
-use Rattle.zone_tzif_set.specs.declared.file.FileFault.TheVariants as file
+use Rattle.zone_tzif.specs.Files.{consistent_fault, consistent_file, IsCarriedOn}
+use Rattle.zone_tzif.specs.declared.file.FileFault.{FileFault}
+use Rattle.zone_tzif.specs.declared.file.FileFault.TheVariants as file
 use Rattle.sefunjaro.specs.PosixNames.{has_posix_names}
 use Rattle.sefunjaro.specs.Rooms.{filled}
 use Rattle.sefunjaro.specs.Zones.{set_in}
