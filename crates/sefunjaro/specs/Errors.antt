@@ -21,18 +21,18 @@ use Rattle.zone_list.specs.declared.listing.ListFault.{ListFault}
 use Rattle.zone_list.specs.declared.listing.ListFault.TheVariants as listed
 use Rattle.zone_source.specs.declared.error.SourceError.{SourceError}
 use Rattle.zone_source.specs.declared.error.SourceError.TheVariants as source
-use Rattle.zone_tail_core.specs.declared.outcome.TailFault.{TailFault}
-use Rattle.zone_tail_core.specs.declared.outcome.TailFault.TheVariants as tail
-use Rattle.zone_tzif_set.specs.declared.outcome.EverTailFault.{EverTailFault}
-use Rattle.zone_tzif_set.specs.declared.outcome.EverTailFault.TheVariants as ever_tail
+use Rattle.zone_tail.specs.declared.outcome.TailFault.{TailFault}
+use Rattle.zone_tail.specs.declared.outcome.TailFault.TheVariants as tail
+use Rattle.zone_tzif.specs.declared.outcome.EverTailFault.{EverTailFault}
+use Rattle.zone_tzif.specs.declared.outcome.EverTailFault.TheVariants as ever_tail
 use Rattle.zone_tree.specs.declared.refusal.TreeFault.{TreeFault}
 use Rattle.zone_tree.specs.declared.refusal.TreeFault.TheVariants as tree
 use Rattle.zone_tzif_core.specs.declared.values.ReadFault.{ReadFault}
 use Rattle.zone_tzif_core.specs.declared.values.ReadFault.TheVariants as read
-use Rattle.zone_tzif_set.specs.declared.ever.EverFileFault.{EverFileFault}
-use Rattle.zone_tzif_set.specs.declared.ever.EverFileFault.TheVariants as ever_file
-use Rattle.zone_tzif_set.specs.declared.file.FileFault as made
-use Rattle.zone_tzif_set.specs.declared.file.FileFault.TheVariants as made_file
+use Rattle.zone_tzif.specs.declared.ever.EverFileFault.{EverFileFault}
+use Rattle.zone_tzif.specs.declared.ever.EverFileFault.TheVariants as ever_file
+use Rattle.zone_tzif.specs.declared.file.FileFault as made
+use Rattle.zone_tzif.specs.declared.file.FileFault.TheVariants as made_file
 
 abbrev pub of_source : SourceError → Error
 of_source source.NoMemory = NoMemory

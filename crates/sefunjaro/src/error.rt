@@ -13,10 +13,10 @@ use zone_alarm::AlarmFault;
 use zone_line::NotBuilt;
 use zone_list::ListFault;
 use zone_plain_lines::PlainCause;
-use zone_tail_core::TailFault;
+use zone_tail::TailFault;
 use zone_tree::TreeFault;
+use zone_tzif::{EverFileFault, EverTailFault, FileFault};
 use zone_tzif_core::ReadFault;
-use zone_tzif_set::{EverFileFault, EverTailFault, FileFault};
 
 /// Why a call of this library has no answer: the fault of the call that refused. `?` reaches it from each of these faults, and of
 /// each want of memory becomes `NoMemory`.

@@ -3,8 +3,8 @@
 use crate::error::Error;
 use std::{error, fmt};
 use tz_lookup::{DatabaseFault, SpanFault, TzFault, ZoneFault};
-use zone_tail_core::TailFault;
-use zone_tzif_set::EverTailFault;
+use zone_tail::TailFault;
+use zone_tzif::EverTailFault;
 
 const FAR_OFFSET: &str = "an offset of the zone is 26 hours or more in size";
 

@@ -4,8 +4,8 @@ use crate::zone::OpenZone;
 use std::alloc::Global;
 use tz_ever::EverTable;
 use zone_list::{ListFault, Listing, lines_of};
-use zone_tail_core::{Tail, TailFault, tail};
-use zone_tzif_set::{FileFault, consistent_tzif_of};
+use zone_tail::{Tail, TailFault, tail};
+use zone_tzif::{FileFault, consistent_tzif_of};
 
 impl OpenZone {
     ghost use Rattle.std.specs.Prelude.{◌≡◌, ℤ, IfErr, IfOk, IsErrOf, MatchResult, OnOk, string_bytes, false, true};
@@ -15,13 +15,13 @@ impl OpenZone {
     ghost use Rattle.sefunjaro.specs.Causes.{IsListCause};
     ghost use Rattle.zone_spans.specs.Schedules.{total_at as set_total_at};
     ghost use Rattle.tz_zone.specs.Sets.{schedule_of};
-    ghost use Rattle.zone_tail_core.specs.Carried.{CarriesOn};
-    ghost use Rattle.zone_tail_core.specs.Tails.{IsFaultOf, IsTail};
+    ghost use Rattle.zone_tail.specs.Carried.{CarriesOn};
+    ghost use Rattle.zone_tail.specs.Tails.{IsFaultOf, IsTail};
     ghost use Rattle.zone_tzif_core.specs.Denotes.{Denotes};
     ghost use Rattle.zone_tzif_core.specs.Totals.{file_total_at};
     ghost use Rattle.zone_tzif_core.specs.Tzif.{IsTzif};
     ghost use Rattle.zone_tzif_core.specs.Zones.{ZoneValue};
-    ghost use Rattle.zone_tzif_set.specs.Files.{consistent_zone, IsCarriedOn, MakesZone};
+    ghost use Rattle.zone_tzif.specs.Files.{consistent_zone, IsCarriedOn, MakesZone};
     ghost use Rattle.sefunjaro.specs.Zones.{set_in, spans_in};
 
     /// The lines of the changes from a second on and before another, as [`list_lines`](zone_list::list_lines) has those of a set: the
@@ -55,7 +55,7 @@ impl OpenZone {
         }
     }
 
-    /// The POSIX TZ string that carries the zone on, as [`tail`](zone_tail_core::tail) gives it of the zone's spans. It takes
+    /// The POSIX TZ string that carries the zone on, as [`tail`](zone_tail::tail) gives it of the zone's spans. It takes
     /// memory for the string alone.
     ///
     /// # Errors

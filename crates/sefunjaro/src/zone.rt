@@ -413,7 +413,7 @@ impl OpenZone {
         }
     }
 
-    /// What goes on for ever, where it does: [`tail_for_ever`](zone_tzif_set::tail_for_ever) gives its string.
+    /// What goes on for ever, where it does: [`tail_for_ever`](zone_tzif::tail_for_ever) gives its string.
     pub fn for_ever(&self) -> Option<&EverSet>
         ensures { option_map (λ ever. ever.now) result ≡ ever_in self.now }
     {

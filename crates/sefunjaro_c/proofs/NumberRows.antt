@@ -9,9 +9,9 @@ use Rattle.sefunjaro.specs.declared.found.GapRule.TheVariants as gap
 use Rattle.zone_plain_lines.specs.declared.cause.PlainCause.TheVariants as cause
 use Rattle.zone_source.specs.declared.error.BuildKind.TheVariants as join
 use Rattle.zone_spans.specs.declared.fault.SpanFault.TheVariants as span
-use Rattle.zone_tail_core.specs.declared.outcome.TailFault.TheVariants as tail
-use Rattle.zone_tzif_set.specs.declared.outcome.EverTailFault.TheVariants as ever
-use Rattle.zone_tzif_set.specs.declared.file.FileFault.TheVariants as written
+use Rattle.zone_tail.specs.declared.outcome.TailFault.TheVariants as tail
+use Rattle.zone_tzif.specs.declared.outcome.EverTailFault.TheVariants as ever
+use Rattle.zone_tzif.specs.declared.file.FileFault.TheVariants as written
 use Rattle.sefunjaro_c.specs.AnySources.{line_told, long_form}
 use Rattle.sefunjaro_c.specs.Faults.{join_number, kind_number, schedule_number}
 use Rattle.sefunjaro_c.specs.Files.{file_told}

@@ -1,7 +1,7 @@
 -- Worked examples: why a zone has no string or no file, as it is told. The numbers are those of the header.
 use Rattle.std.proofs.Common.{◌≡◌, refl}
-use Rattle.zone_tail_core.specs.declared.outcome.TailFault.TheVariants as tail
-use Rattle.zone_tzif_set.specs.declared.file.FileFault.TheVariants as file
+use Rattle.zone_tail.specs.declared.outcome.TailFault.TheVariants as tail
+use Rattle.zone_tzif.specs.declared.file.FileFault.TheVariants as file
 use Rattle.sefunjaro_c.specs.Whole.{tzif_told, tail_told}
 
 -- there is none of what is asked for, and no line is to blame

@@ -8,16 +8,16 @@ use Rattle.tz_posix_core.specs.Spells.{Spells}
 use Rattle.tz_posix_core.specs.Values.{TzValue}
 use Rattle.tz_tzif.specs.Faults.{SaysInFooter}
 use Rattle.tz_tzif.specs.InForce.{told_total_at}
-use Rattle.zone_tzif_set.specs.Tails.{IsFaultForEver, IsTailForEver}
-use Rattle.zone_tzif_set.specs.declared.outcome.EverTailFault.{EverTailFault}
-use Rattle.zone_tzif_set.specs.declared.outcome.EverTailFault.TheVariants as tail
+use Rattle.zone_tzif.specs.Tails.{IsFaultForEver, IsTailForEver}
+use Rattle.zone_tzif.specs.declared.outcome.EverTailFault.{EverTailFault}
+use Rattle.zone_tzif.specs.declared.outcome.EverTailFault.TheVariants as tail
 use Rattle.zone_tzif_core.specs.Denotes.{Denotes}
 use Rattle.zone_tzif_core.specs.Zones.{ZoneValue}
-use Rattle.zone_tzif_set.specs.EverFiles.{IsEverFile, IsEverFileFault, IsInReach}
-use Rattle.zone_tzif_set.specs.declared.ever.EverFileFault.{EverFileFault}
-use Rattle.zone_tzif_set.specs.declared.ever.EverFileFault.TheVariants as ever_fault
-use Rattle.zone_tzif_set.specs.declared.file.FileFault.{FileFault}
-use Rattle.zone_tzif_set.specs.declared.file.FileFault.TheVariants as file
+use Rattle.zone_tzif.specs.EverFiles.{IsEverFile, IsEverFileFault, IsInReach}
+use Rattle.zone_tzif.specs.declared.ever.EverFileFault.{EverFileFault}
+use Rattle.zone_tzif.specs.declared.ever.EverFileFault.TheVariants as ever_fault
+use Rattle.zone_tzif.specs.declared.file.FileFault.{FileFault}
+use Rattle.zone_tzif.specs.declared.file.FileFault.TheVariants as file
 use Rattle.sefunjaro.specs.PosixNames.{is_posix_string, IsSpelled}
 use Rattle.sefunjaro.specs.Rooms.{filled}
 use Rattle.sefunjaro_handles.specs.Statuses.{done, out_of_memory}

@@ -1,17 +1,17 @@
 -- The string that carries a zone on, and the zone's file; and why there is none, in numbers.
 use Rattle.std.specs.Prelude.{◌≡◌, ◌⊎◌, ℕ, ℤ, Bool, List, length, Option, None, option_map}
-use Rattle.zone_tail_core.specs.Carried.{CarriesOn}
-use Rattle.zone_tail_core.specs.Tails.{tail_fault, IsTail}
-use Rattle.zone_tail_core.specs.declared.outcome.TailFault.{TailFault}
-use Rattle.zone_tail_core.specs.declared.outcome.TailFault.TheVariants as tail
+use Rattle.zone_tail.specs.Carried.{CarriesOn}
+use Rattle.zone_tail.specs.Tails.{tail_fault, IsTail}
+use Rattle.zone_tail.specs.declared.outcome.TailFault.{TailFault}
+use Rattle.zone_tail.specs.declared.outcome.TailFault.TheVariants as tail
 use Rattle.zone_tzif_core.specs.Denotes.{Denotes}
 use Rattle.zone_tzif_core.specs.Totals.{file_total_at}
 use Rattle.zone_tzif_core.specs.Zones.{ZoneValue}
 use Rattle.zone_tzif_core.specs.declared.values.WriteFault.{WriteFault}
 use Rattle.zone_tzif_core.specs.declared.values.WriteFault.TheVariants as write
-use Rattle.zone_tzif_set.specs.Files.{consistent_fault, consistent_file, IsCarriedOn}
-use Rattle.zone_tzif_set.specs.declared.file.FileFault.{FileFault}
-use Rattle.zone_tzif_set.specs.declared.file.FileFault.TheVariants as file
+use Rattle.zone_tzif.specs.Files.{consistent_fault, consistent_file, IsCarriedOn}
+use Rattle.zone_tzif.specs.declared.file.FileFault.{FileFault}
+use Rattle.zone_tzif.specs.declared.file.FileFault.TheVariants as file
 use Rattle.sefunjaro.specs.PosixNames.{has_posix_names}
 use Rattle.sefunjaro.specs.Rooms.{filled}
 use Rattle.sefunjaro.specs.Zones.{set_in}

@@ -14,7 +14,7 @@ use sefunjaro::{
 };
 use sefunjaro_handles::{Opened, View};
 use std::alloc::Global;
-use zone_tzif_set::FileFault;
+use zone_tzif::FileFault;
 
 /// The string that carries a zone on for ever. It goes into the room, as far as it fits, and its whole length is told, with whether it
 /// is one of POSIX.

@@ -9,8 +9,8 @@ use crate::fault::{DONE, Fault, NO_MEMORY, NONE_THERE, NOT_KEPT, NOT_OPEN, plain
 use sefunjaro::{AnyZone, OpenZone, fill, has_posix_names};
 use sefunjaro_handles::{Opened, View};
 use std::alloc::Global;
-use zone_tail_core::TailFault;
-use zone_tzif_set::FileFault;
+use zone_tail::TailFault;
+use zone_tzif::FileFault;
 
 /// The POSIX TZ string that carries a zone on. It goes into the room, as far as it fits, and its whole length is told, with whether
 /// POSIX has a place for the names in it.

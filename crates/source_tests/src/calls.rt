@@ -23,9 +23,8 @@ use zone_answers::open_zone;
 use zone_list::list_lines;
 use zone_spans::TableTransitions;
 use zone_table::Table;
-use zone_tail_core::laws::both_offsets;
-use zone_tzif::from_set;
-use zone_tzif_set::tail_for_ever;
+use zone_tail::laws::both_offsets;
+use zone_tzif::{from_set, tail_for_ever};
 use zone_uses::{Moved, next_change};
 use zone_values::{DaySpec, Month, Weekday, Year};
 

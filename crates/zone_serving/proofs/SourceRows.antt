@@ -18,14 +18,14 @@ use Rattle.zone_source.specs.declared.error.SourceError.{SourceError}
 use Rattle.zone_source.specs.declared.error.SourceError.TheVariants as error
 use Rattle.zone_spans.specs.declared.fault.SpanFault.{SpanFault}
 use Rattle.zone_spans.specs.declared.fault.SpanFault.TheVariants as span
-use Rattle.zone_tzif_set.specs.declared.outcome.EverTailFault.{EverTailFault}
-use Rattle.zone_tzif_set.specs.declared.outcome.EverTailFault.TheVariants as tail
+use Rattle.zone_tzif.specs.declared.outcome.EverTailFault.{EverTailFault}
+use Rattle.zone_tzif.specs.declared.outcome.EverTailFault.TheVariants as tail
 use Rattle.zone_tree.specs.declared.refusal.Why.{Why}
 use Rattle.zone_tree.specs.declared.refusal.Why.TheVariants as why
 use Rattle.zone_tzif_core.specs.declared.values.WriteFault.TheVariants as write
-use Rattle.zone_tzif_set.specs.declared.ever.EverFileFault.TheVariants as file
-use Rattle.zone_tzif_set.specs.declared.file.FileFault.{FileFault}
-use Rattle.zone_tzif_set.specs.declared.file.FileFault.TheVariants as changes
+use Rattle.zone_tzif.specs.declared.ever.EverFileFault.TheVariants as file
+use Rattle.zone_tzif.specs.declared.file.FileFault.{FileFault}
+use Rattle.zone_tzif.specs.declared.file.FileFault.TheVariants as changes
 use Rattle.zone_values.specs.declared.fault.FaultKind.{FaultKind}
 use Rattle.zone_values.specs.declared.fault.FaultKind.TheVariants as kind
 use Rattle.zone_values.specs.declared.error.Error.TheVariants as line

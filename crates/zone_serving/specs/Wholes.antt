@@ -6,19 +6,19 @@ use Rattle.zone_command.specs.Refusals.{name_words}
 use Rattle.zone_serving.specs.Views.{ever_found, found_in, range_words, schedule_words}
 use Rattle.zone_replies.specs.Views.{ZoneView}
 use Rattle.zone_table.specs.declared.table.Table.{Table}
-use Rattle.zone_tzif_set.specs.Tails.{IsFaultForEver, IsTailForEver}
-use Rattle.zone_tzif_set.specs.declared.outcome.EverTailFault.{EverTailFault}
-use Rattle.zone_tzif_set.specs.declared.outcome.EverTailFault.TheVariants as tail
+use Rattle.zone_tzif.specs.Tails.{IsFaultForEver, IsTailForEver}
+use Rattle.zone_tzif.specs.declared.outcome.EverTailFault.{EverTailFault}
+use Rattle.zone_tzif.specs.declared.outcome.EverTailFault.TheVariants as tail
 use Rattle.zone_tree.specs.EverTrees.{OfTree}
 use Rattle.zone_tree.specs.declared.refusal.Why.{Why}
 use Rattle.zone_tree.specs.declared.refusal.Why.TheVariants as why
 use Rattle.zone_tree.specs.Trees.{refused}
 use Rattle.zone_tzif_core.specs.declared.values.WriteFault.TheVariants as write
-use Rattle.zone_tzif_set.specs.EverFiles.{IsEverFile, IsEverFileFault}
-use Rattle.zone_tzif_set.specs.declared.ever.EverFileFault.{EverFileFault}
-use Rattle.zone_tzif_set.specs.declared.ever.EverFileFault.TheVariants as file
-use Rattle.zone_tzif_set.specs.declared.file.FileFault.{FileFault}
-use Rattle.zone_tzif_set.specs.declared.file.FileFault.TheVariants as changes
+use Rattle.zone_tzif.specs.EverFiles.{IsEverFile, IsEverFileFault}
+use Rattle.zone_tzif.specs.declared.ever.EverFileFault.{EverFileFault}
+use Rattle.zone_tzif.specs.declared.ever.EverFileFault.TheVariants as file
+use Rattle.zone_tzif.specs.declared.file.FileFault.{FileFault}
+use Rattle.zone_tzif.specs.declared.file.FileFault.TheVariants as changes
 
 abbrev pub ending_words : List ℕ
 ending_words = codes "the rules of this zone end, so it doesn't go on for ever"

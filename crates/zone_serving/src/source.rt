@@ -26,7 +26,7 @@ use zone_displays::{NameEntry, add_unknown, near_names};
 use zone_outside::Exchange;
 use zone_pieces::{StreamEnd, run_stream};
 use zone_tree::tree_of_table_for_ever;
-use zone_tzif_set::FileFault;
+use zone_tzif::FileFault;
 
 /// A source in any form, whose zones go on for ever where their lines do.
 #[derive(Drop)]

@@ -11,8 +11,8 @@ use std::alloc::{AllocError, Global};
 use zone_plain_lines::PlainCause;
 use zone_source::BuildKind;
 use zone_spans::SpanFault;
+use zone_tzif::FileFault;
 use zone_tzif_core::WriteFault;
-use zone_tzif_set::FileFault;
 use zone_values::FaultKind;
 
 /// What is told of a text that is no source.

@@ -1,16 +1,22 @@
 -- Definitions: what public clauses say.
-pub use Rattle.zone_tail_core.specs.Rules
-pub use Rattle.zone_tail_core.specs.Totals
-pub use Rattle.zone_tail_core.specs.Candidates
-pub use Rattle.zone_tail_core.specs.Agreement
-pub use Rattle.zone_tail_core.specs.Choices
-pub use Rattle.zone_tail_core.specs.LastYear
-pub use Rattle.zone_tail_core.specs.Changes
-pub use Rattle.zone_tail_core.specs.Texts
-pub use Rattle.zone_tail_core.specs.Values
-pub use Rattle.zone_tail_core.specs.Tails
-pub use Rattle.zone_tail_core.specs.Carried
-pub use Rattle.zone_tail_core.specs.Found
+pub mod Rules
+pub mod Totals
+pub mod Candidates
+pub mod Agreement
+pub mod Choices
+pub mod LastYear
+pub mod Changes
+pub mod Texts
+pub mod Tails
+pub mod Values
+pub mod Settled
+pub mod Carried
+pub mod Found
 pub mod Lines
 pub mod Asks
 pub mod Starts
+-- Laws: what a caller may use.
+pub mod CleanLaws
+-- Words of private clauses.
+pub mod Shapes
+pub mod Ready

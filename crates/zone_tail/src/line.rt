@@ -2,9 +2,9 @@
 ghost use Rattle.std.specs.Prelude.{◌≡◌, ◌++◌, IfOk, OnOk, string_bytes};
 ghost use Rattle.zone_tail.specs.Lines.{from_word, tail_line};
 
+use crate::outcome::Tail;
 use itoa::Buffer;
 use std::alloc::{AllocError, Global};
-use zone_tail_core::Tail;
 
 /// The second from which on a string agrees, or `all`, a space, the string and a line feed.
 pub(crate) fn line_of(alloc: Global, tail: &Tail) -> Result<Vec<u8>, AllocError>

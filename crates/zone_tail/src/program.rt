@@ -7,13 +7,14 @@ ghost use Rattle.zone_run.specs.Tasks.{task_of};
 ghost use Rattle.zone_tail.specs.Asks.{asks, form};
 ghost use Rattle.zone_tail.specs.Starts.{StartsTail};
 
+use crate::call::tail;
+use crate::laws::one_tail;
 use crate::line::line_of;
+use crate::outcome::TailFault;
 use std::alloc::Global;
 use tz_lookup::FixedTimespanSet;
 use zone_line::LineParser;
 use zone_run::{Refusal, Shelf, Sink, Started, Status, ZoneProgram, run_program, start_program};
-use zone_tail_core::laws::one_tail;
-use zone_tail_core::{TailFault, tail};
 
 /// The string that carries a zone on. There is nothing more to ask.
 #[derive(Clone, Copy, Debug, PartialEq, Eq)]

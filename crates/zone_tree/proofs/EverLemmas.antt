@@ -37,8 +37,8 @@ use Rattle.zone_tree.specs.declared.refusal.TreeFault.{TreeFault}
 use Rattle.zone_tree.specs.declared.refusal.TreeFault.TheVariants as tree
 use Rattle.zone_tree.specs.declared.refusal.Why.{Why}
 use Rattle.zone_tree.specs.declared.refusal.Why.TheVariants.{Name}
-use Rattle.zone_tzif_set.specs.EverFiles.{IsEverFileFault}
-use Rattle.zone_tzif_set.specs.declared.ever.EverFileFault.{EverFileFault}
+use Rattle.zone_tzif.specs.EverFiles.{IsEverFileFault}
+use Rattle.zone_tzif.specs.declared.ever.EverFileFault.{EverFileFault}
 use Rattle.zone_tree.specs.TreeShape.{IsTree}
 use Rattle.zone_tree.proofs.LawLemmas.{HasFiles, IsFile, ok_same, tree_with}
 use Rattle.zone_tree.proofs.NameLemmas.{finds_same}

@@ -49,7 +49,7 @@ use Rattle.zone_tree.specs.Trees.{Refused, onto, entries_of, first_entries, befo
 use Rattle.zone_tree.specs.declared.refusal.Why.{Why}
 use Rattle.zone_tree.specs.declared.refusal.Why.TheVariants.{OffsetRange, Link, Name}
 use Rattle.zone_tzif_core.specs.declared.values.WriteFault.{WriteFault}
-use Rattle.zone_tzif_set.specs.Files.{consistent_fault}
+use Rattle.zone_tzif.specs.Files.{consistent_fault}
 use Rattle.zone_tree.proofs.NameLemmas.{text_same, zones_given, links_given, names_given}
 
 -- what is Ok, and else another value

@@ -16,7 +16,7 @@ use Rattle.zone_tree.specs.Names.{Finds, archive_names}
 use Rattle.zone_tree.specs.Trees.{entries_of, first_entries, joined, refused, tree_by}
 use Rattle.zone_tree.specs.declared.refusal.Why.TheVariants.{Schedule, OffsetRange, Format, File, Link, Name, Size}
 use Rattle.zone_tzif_core.specs.declared.values.WriteFault.TheVariants as write
-use Rattle.zone_tzif_set.specs.Files.{consistent_fault, consistent_file}
+use Rattle.zone_tzif.specs.Files.{consistent_fault, consistent_file}
 
 -- ---- which names others stand in
 

@@ -3,7 +3,7 @@ use Rattle.std.proofs.Common.{◌≡◌, [], ◌∷◌, ◌++◌, map, replicate
 use Rattle.std.specs.Fmt.{digits}
 use Rattle.zone_source.specs.Faults.{not_text}
 use Rattle.zone_spans.specs.declared.fault.SpanFault.TheVariants as span
-use Rattle.zone_tzif_set.specs.declared.outcome.EverTailFault.TheVariants as tail
+use Rattle.zone_tzif.specs.declared.outcome.EverTailFault.TheVariants as tail
 use Rattle.zone_tree.specs.Causes.{name_line, cause_line, cause_in, bytes_for}
 use Rattle.zone_tree.specs.Trees.{of_source, of_name, refused, after_source}
 use Rattle.zone_tree.specs.declared.refusal.Why.TheVariants.{Schedule, OffsetRange, RulesEnd, String, Format, File, Link, Name, Size}

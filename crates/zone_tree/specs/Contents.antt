@@ -10,7 +10,7 @@ use Rattle.zone_spans.specs.declared.span.FixedTimespanSet as spans
 use Rattle.zone_tree.specs.declared.refusal.Why.{Why}
 use Rattle.zone_tree.specs.declared.refusal.Why.TheVariants.{Schedule, OffsetRange, Format, File, Name}
 use Rattle.zone_tzif_core.specs.declared.values.WriteFault.{WriteFault}
-use Rattle.zone_tzif_set.specs.Files.{consistent_fault, consistent_file}
+use Rattle.zone_tzif.specs.Files.{consistent_fault, consistent_file}
 
 -- what a zone is compiled to, if there is one
 abbrev pub Found : Type 0

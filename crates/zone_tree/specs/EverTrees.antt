@@ -13,18 +13,18 @@ use Rattle.zone_source.specs.Zones.{values_of}
 use Rattle.zone_spans.specs.declared.fault.SpanFault.TheVariants.{DayRange}
 use Rattle.zone_table.specs.Tables.{IsTableOf}
 use Rattle.zone_table.specs.declared.table.Table.{Table}
-use Rattle.zone_tzif_set.specs.declared.outcome.EverTailFault.{EverTailFault}
-use Rattle.zone_tzif_set.specs.declared.outcome.EverTailFault.TheVariants as tail
+use Rattle.zone_tzif.specs.declared.outcome.EverTailFault.{EverTailFault}
+use Rattle.zone_tzif.specs.declared.outcome.EverTailFault.TheVariants as tail
 use Rattle.zone_tree.specs.Contents.{is_marked}
 use Rattle.zone_tree.specs.Names.{finds_by_table}
 use Rattle.zone_tree.specs.Trees.{Cause, Refused, of_source, or_cause, tree_by}
 use Rattle.zone_tree.specs.declared.refusal.Why.{Why}
 use Rattle.zone_tree.specs.declared.refusal.Why.TheVariants as why
 use Rattle.zone_tzif_core.specs.declared.values.WriteFault.TheVariants as write
-use Rattle.zone_tzif_set.specs.EverFiles.{IsEverFile, IsEverFileFault}
-use Rattle.zone_tzif_set.specs.declared.ever.EverFileFault.{EverFileFault}
-use Rattle.zone_tzif_set.specs.declared.ever.EverFileFault.TheVariants.{Footer, File}
-use Rattle.zone_tzif_set.specs.declared.file.FileFault.TheVariants as file
+use Rattle.zone_tzif.specs.EverFiles.{IsEverFile, IsEverFileFault}
+use Rattle.zone_tzif.specs.declared.ever.EverFileFault.{EverFileFault}
+use Rattle.zone_tzif.specs.declared.ever.EverFileFault.TheVariants.{Footer, File}
+use Rattle.zone_tzif.specs.declared.file.FileFault.TheVariants as file
 
 -- ---- what a zone has
 

@@ -1,8 +1,8 @@
 -- Why a name has no entry, and what the line of that says.
 use Rattle.std.specs.Prelude.{ℕ, List, [], codes}
 use Rattle.zone_spans.specs.FaultNames.{fault_name}
-use Rattle.zone_tzif_set.specs.declared.outcome.EverTailFault.{EverTailFault}
-use Rattle.zone_tzif_set.specs.declared.outcome.EverTailFault.TheVariants as tail
+use Rattle.zone_tzif.specs.declared.outcome.EverTailFault.{EverTailFault}
+use Rattle.zone_tzif.specs.declared.outcome.EverTailFault.TheVariants as tail
 use Rattle.zone_tree.specs.declared.refusal.Why.{Why}
 use Rattle.zone_tree.specs.declared.refusal.Why.TheVariants.{Schedule, OffsetRange, RulesEnd, String, Format, File, Link, Name, Size}
 use Rattle.zone_tzif.specs.Asks.{fault_word}

@@ -15,8 +15,8 @@ use tz_ever::{EverFault, EverSet};
 use tz_lookup::ZoneFault;
 use zone_spans::SpanFault;
 use zone_table::Table;
+use zone_tzif::{EverFileFault, EverTailFault, FileFault, tzif_for_ever};
 use zone_tzif_core::WriteFault;
-use zone_tzif_set::{EverFileFault, EverTailFault, FileFault, tzif_for_ever};
 
 /// What was made of a zone: its file, or why there is none.
 #[derive(Drop)]

@@ -7,14 +7,14 @@ ghost use Rattle.zone_table.specs.BoundedTables.{IsBoundedTable};
 ghost use Rattle.zone_tree.specs.Contents.{has_mark, is_marked, file_or, file_unless, zone_content};
 ghost use Rattle.zone_tree.specs.Told.{IsWhy};
 ghost use Rattle.zone_tree.specs.declared.refusal.Why.{Why as WhyNot};
-ghost use Rattle.zone_tzif_set.specs.Files.{consistent_fault};
+ghost use Rattle.zone_tzif.specs.Files.{consistent_fault};
 
 use crate::refusal::{NameFault, Why};
 use std::alloc::Global;
 use tz_lookup::{FixedTimespanSet, SpanTable, ZoneFault, compile_zone};
 use zone_table::Table;
+use zone_tzif::{FileFault, consistent_tzif_of};
 use zone_tzif_core::WriteFault;
-use zone_tzif_set::{FileFault, consistent_tzif_of};
 
 /// How the zones of a table get their files.
 pub(crate) trait ZoneFiles {

@@ -8,8 +8,8 @@ use std::alloc::AllocError;
 use std::{error, fmt};
 use zone_source::SourceError;
 use zone_spans::SpanFault;
+use zone_tzif::EverTailFault;
 use zone_tzif_core::WriteFault;
-use zone_tzif_set::EverTailFault;
 
 /// Why a name has no entry in an archive.
 #[derive(Clone, Copy, Debug, PartialEq, Eq)]

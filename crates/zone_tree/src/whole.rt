@@ -150,7 +150,7 @@ pub fn tree(alloc: Global, parser: &LineParser, source: &[u8]) -> Result<Vec<u8>
     Ok(bytes)
 }
 
-/// As [`tree_of_table`], where each zone goes on for ever: its file is that of [`tzif_for_ever`](zone_tzif_set::tzif_for_ever).
+/// As [`tree_of_table`], where each zone goes on for ever: its file is that of [`tzif_for_ever`](zone_tzif::tzif_for_ever).
 ///
 /// # Errors
 ///

@@ -3,7 +3,7 @@ use Rattle.std.specs.Prelude.{ℕ, List, [], ◌∷◌, Option, Some, None, opti
 use Rattle.zone_run.specs.Asked.{Asked}
 use Rattle.zone_tzif_core.specs.declared.values.WriteFault.{WriteFault}
 use Rattle.zone_tzif_core.specs.declared.values.WriteFault.TheVariants.{Times, Types, Names, Offset, Footer, NoMemory}
-use Rattle.zone_tzif_set.specs.Files.{file_fault, file_of_set}
+use Rattle.zone_tzif.specs.Files.{file_fault, file_of_set}
 
 -- what stands after `tzif: `; the file of a set is refused neither for an offset nor for the footer, and want of memory has no line
 abbrev pub fault_word : WriteFault → List ℕ

@@ -5,7 +5,19 @@ pub use Rattle.zone_tzif_core.specs.Denotes
 pub use Rattle.zone_tzif_core.specs.Tzif
 pub use Rattle.zone_tzif_core.specs.Totals
 pub use Rattle.zone_tzif_core.specs.Shown
-pub use Rattle.zone_tzif_set.specs.Values
-pub use Rattle.zone_tzif_set.specs.Files
+pub mod Values
+pub mod Files
+pub mod Footers
+pub mod EverFiles
+pub mod Years
+pub mod Agreement
+pub mod Tried
+pub mod Tails
+pub mod Tells
 pub mod Asks
 pub mod Starts
+-- Words of private clauses.
+pub mod Causes
+pub mod Until
+pub mod Forms
+pub mod Walked

@@ -7,11 +7,11 @@ ghost use Rattle.zone_run.specs.Tasks.{task_of};
 ghost use Rattle.zone_tzif.specs.Asks.{asks, form};
 ghost use Rattle.zone_tzif.specs.Starts.{StartsTzif};
 
+use crate::file::{FileFault, tzif_of};
 use std::alloc::Global;
 use tz_lookup::FixedTimespanSet;
 use zone_line::LineParser;
 use zone_run::{Refusal, Shelf, Sink, Started, Status, ZoneProgram, run_program, start_program};
-use zone_tzif_set::{FileFault, tzif_of};
 
 /// The file of a zone. There is nothing more to ask.
 #[derive(Clone, Copy, Debug, PartialEq, Eq)]

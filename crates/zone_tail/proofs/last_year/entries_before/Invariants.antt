@@ -1,0 +1,8 @@
+use Rattle.std.proofs.Common.{ℕ, ◌<◌, ◌-ℤ◌, ◌<ℤ◌}
+use Rattle.tz_zone.specs.Sets.{shifts_of}
+use Rattle.tz_zone.specs.Spans.{shift_at}
+use Rattle.zone_tail.proofs.last_year.entries_before.Given as goal
+
+-- the entries so far lie before
+abbrev pub invariant-loop-i : goal.invariant-loop-i
+invariant-loop-i g l = (j : ℕ) → j < l.i → (shift_at (shifts_of (g.S.SpanTable.seen l.set)) j).0 <ℤ (l.local -ℤ l.offset)

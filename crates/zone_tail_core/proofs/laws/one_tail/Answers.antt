@@ -1,5 +1,0 @@
-use Rattle.zone_tail_core.proofs.FoundLemmas.{found}
-use Rattle.zone_tail_core.proofs.laws.one_tail.Goals as goal
-
-pub returns : goal.returns
-returns c set from text accepted tail = found set from text accepted tail

@@ -1,0 +1,43 @@
+-- A footer that gives a set's totals for ever gives them from each entry from which another does.
+use Rattle.std.proofs.Common.{◌≡◌, ℕ, Some, ℤ, ◌≤ℤ◌, ◌<ℤ◌, sym, ap, ◌∙◌, arith}
+use Rattle.std.proofs.lemmas.Int.{ints, by_lt_z}
+use Rattle.calendar.specs.ComparisonLaws.{le_le}
+use Rattle.civil_base.specs.Ranges.{IsOffset}
+use Rattle.zone_spans.specs.Cycle.{seconds_on}
+use Rattle.zone_spans.specs.Entries.{total}
+use Rattle.tz_tzif.specs.FooterForce.{FooterZone, standard_total}
+use Rattle.tz_zone.specs.Sets.{shifts_of}
+use Rattle.tz_zone.specs.Spans.{total_from}
+use Rattle.tz_zone.specs.declared.set.FixedTimespanSet.{FixedTimespanSet}
+use Rattle.zone_tzif.specs.Agreement.{AgreesForEver, MayBegin, cycle_begin, cycle_end, footer_total, time_of_entry}
+use Rattle.zone_tzif.specs.Walked.{Agrees, AgreesAt}
+use Rattle.zone_tzif.proofs.TailEverLemmas.{Repeats, cycle_later, until_end}
+
+module _ (repeats : Repeats) (zone other : FooterZone) (offset : IsOffset (standard_total zone)) (other_offset : IsOffset (standard_total other))
+    (set : FixedTimespanSet) (second : ℤ) (last : second ≤ℤ cycle_begin) (here : Agrees zone set (Some second))
+    (i : ℕ) (may : MayBegin set i) (agrees : AgreesForEver other set (Some (time_of_entry set i))) where
+  there : Agrees other set (Some (time_of_entry set i))
+  there = until_end repeats other other_offset set (Some (time_of_entry set i)) (λ s h. le_le _ _ _ may.last h) agrees
+
+  in_cycle_before : (s : ℤ) → time_of_entry set i ≤ℤ s → s <ℤ cycle_begin → footer_total zone s ≡ total_from (total set.first) (shifts_of set) s
+  in_cycle_before s begun before =
+      let from = le_le _ _ _ may.first begun in
+      let to : s <ℤ cycle_end = omega (arith, ints, before) in
+      let end : seconds_on s <ℤ cycle_end = omega (arith, ints, before) in
+      let past : cycle_begin ≤ℤ seconds_on s = omega (arith, ints, from) in
+      sym (ap (λ held. held.utoff) (cycle_later repeats zone offset s from to))
+      ∙ here.alike (seconds_on s) (le_le _ _ _ last past) end
+      ∙ sym (there.alike (seconds_on s) (le_le _ _ _ may.last past) end)
+      ∙ ap (λ held. held.utoff) (cycle_later repeats other other_offset s from to)
+      ∙ there.alike s begun to
+
+  pub earlier : AgreesAt zone set i
+  earlier = record {
+    first = may.first;
+    from = record {
+      alike = λ s begun before.
+          by_lt_z {P = footer_total zone s ≡ total_from (total set.first) (shifts_of set) s} s cycle_begin
+          (λ lt. in_cycle_before s begun lt)
+          (λ le. here.alike s (le_le _ _ _ last le) before);
+    };
+  }

@@ -1,0 +1,6 @@
+use Rattle.std.proofs.Common.{sym, ◌∙◌}
+use Rattle.zone_tzif.proofs.FormLemmas.{fault_is}
+use Rattle.zone_tzif.proofs.call.tail_of.Goals as goal
+
+pub returns-in-Some : goal.returns-in-Some
+returns-in-Some g c = fault_is (g.S.SpanTable.seen c.args.set.now) c.in-Some.fault (sym c.fault_in.ensures ∙ c.in-Some.is)

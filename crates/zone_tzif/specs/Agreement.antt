@@ -1,0 +1,65 @@
+-- Where a footer gives the totals of a set that goes on for ever.
+use Rattle.std.specs.Prelude.{◌≡◌, ℕ, ◌<◌, length, Option, Some, None, ℤ, pos, ◌+ℤ◌, ◌*ℤ◌, ◌≤ℤ◌, ◌<ℤ◌}
+use Rattle.calendar.specs.Days.{day}
+use Rattle.civil_base.specs.Instants.{seconds_of}
+use Rattle.civil_base.specs.Ranges.{IsOffset}
+use Rattle.tz_ever.specs.Ever.{ever_total}
+use Rattle.tz_tzif.specs.FooterForce.{FooterZone, held_at, saving_total, standard_total}
+use Rattle.tz_lookup.specs.YearSeconds.{rules_begin}
+use Rattle.tz_zone.specs.Sets.{shifts_of}
+use Rattle.tz_zone.specs.Spans.{shift_at}
+use Rattle.tz_zone.specs.declared.set.FixedTimespanSet.{FixedTimespanSet}
+use Rattle.zone_tail.specs.Carried.{IsFrom}
+
+-- the seconds east of UTC that a footer gives a second
+abbrev pub footer_total : FooterZone → ℤ → ℤ
+footer_total zone second = (held_at zone second).utoff
+
+-- an instant from a second on, or at any time where there is none, up to the end of the year 9999 by the footer's standard time
+pub record IsCovered (zone : FooterZone) (from : Option ℤ) (t : ℤ) : Type 0 where
+  pub begun : IsFrom from (seconds_of t)
+  pub not_over : (seconds_of t +ℤ standard_total zone) <ℤ (pos 86400 *ℤ (day (pos 9999) 12 31 +ℤ pos 1))
+
+-- at each of these instants the footer's total is what the set shows for ever
+abbrev pub AgreesForEver : FooterZone → FixedTimespanSet → Option ℤ → Type 0
+AgreesForEver zone set from = (t : ℤ) → IsCovered zone from t → footer_total zone (seconds_of t) ≡ ever_total set t
+
+-- 2102-01-01 00:00:00 UTC, from which on each year comes again
+abbrev pub cycle_begin : ℤ
+cycle_begin = pos 4165516800
+
+-- 2502-01-01 00:00:00 UTC
+abbrev pub cycle_end : ℤ
+cycle_end = pos 16788297600
+
+abbrev pub time_of_entry : FixedTimespanSet → ℕ → ℤ
+time_of_entry set i = (shift_at (shifts_of set) i).0
+
+-- a footer may begin at an entry from 1800 to 2101
+pub record MayBegin (set : FixedTimespanSet) (i : ℕ) : Type 0 where
+  pub within : i < length (shifts_of set)
+  pub first : rules_begin ≤ℤ time_of_entry set i
+  pub last : time_of_entry set i ≤ℤ cycle_begin
+
+-- one total for good
+abbrev pub IsFlat : FooterZone → Type 0
+IsFlat zone = standard_total zone ≡ saving_total zone
+
+-- from this entry on; and no footer at all, whose offset is in range, does so from an entry before it
+pub record AgreesFirstFrom (zone : FooterZone) (set : FixedTimespanSet) (second : ℤ) : Type 0 where
+  pub entry : ℕ
+  pub may : MayBegin set entry
+  pub at : second ≡ time_of_entry set entry
+  pub agrees : AgreesForEver zone set (Some second)
+  pub none_before : (other : FooterZone) (i : ℕ) → IsOffset (standard_total other) → i < entry → MayBegin set i
+      → AgreesForEver other set (Some (time_of_entry set i)) → ⊥
+
+-- from no entry on
+abbrev pub AgreesNowhere : FooterZone → FixedTimespanSet → Type 0
+AgreesNowhere zone set = (i : ℕ) → MayBegin set i → AgreesForEver zone set (Some (time_of_entry set i)) → ⊥
+
+-- one total for good, no entry before 1800, and so from the beginning of time on
+pub record AgreesAlways (zone : FooterZone) (set : FixedTimespanSet) : Type 0 where
+  pub flat : IsFlat zone
+  pub early : (i : ℕ) → i < length (shifts_of set) → rules_begin ≤ℤ time_of_entry set i
+  pub agrees : AgreesForEver zone set None

@@ -1,0 +1,36 @@
+-- How far back a footer gives the totals of a set, by the set's entries, up to the end of the cycle.
+use Rattle.std.specs.Prelude.{◌≡◌, ℕ, suc, ◌<◌, ◌≤◌, length, Option, Some, ℤ, pos, neg_ℤ, ◌≤ℤ◌, ◌<ℤ◌}
+use Rattle.zone_spans.specs.Entries.{total}
+use Rattle.tz_tzif.specs.FooterForce.{FooterZone}
+use Rattle.tz_lookup.specs.YearSeconds.{rules_begin}
+use Rattle.tz_zone.specs.Sets.{shifts_of}
+use Rattle.tz_zone.specs.Spans.{total_from}
+use Rattle.tz_zone.specs.declared.set.FixedTimespanSet.{FixedTimespanSet}
+use Rattle.zone_tail.specs.Carried.{IsFrom}
+use Rattle.zone_tzif.specs.Agreement.{cycle_end, footer_total, time_of_entry}
+
+module _ (zone : FooterZone) (set : FixedTimespanSet) where
+  -- up to the end of the cycle
+  pub record Agrees (from : Option ℤ) : Type 0 where
+    pub alike : (s : ℤ) → IsFrom from s → s <ℤ cycle_end → footer_total zone s ≡ total_from (total set.first) (shifts_of set) s
+
+  -- from entry i on
+  pub record AgreesAt (i : ℕ) : Type 0 where
+    pub first : rules_begin ≤ℤ time_of_entry set i
+    pub from : Agrees (Some (time_of_entry set i))
+
+  -- the entries from n on agree, and the one before them doesn't
+  pub record IsWalked (n : ℕ) : Type 0 where
+    pub within : n ≤ length (shifts_of set)
+    pub later : (i : ℕ) → n ≤ i → i < length (shifts_of set) → AgreesAt i
+    pub stops : (i : ℕ) → suc i ≡ n → AgreesAt i → ⊥
+
+-- a second at which what an entry puts in force has not ended, up to the end of the cycle
+pub record Lasts (set : FixedTimespanSet) (i : ℕ) (s : ℤ) : Type 0 where
+  pub next : suc i < length (shifts_of set) → s <ℤ time_of_entry set (suc i)
+  pub cycle : s <ℤ cycle_end
+
+-- at most 20,000,000,000 in size
+pub record IsNear (second : ℤ) : Type 0 where
+  pub least : neg_ℤ (pos 20000000000) ≤ℤ second
+  pub greatest : second ≤ℤ pos 20000000000

@@ -1,5 +1,0 @@
-use Rattle.zone_tzif_set.proofs.CauseLemmas.{RiseSoFar}
-use Rattle.zone_tzif_set.proofs.causes.do_rise.Given as goal
-
-abbrev pub invariant-loop-place : goal.invariant-loop-place
-invariant-loop-place g l = RiseSoFar (g.S.SpanTable.seen l.set).others l.place

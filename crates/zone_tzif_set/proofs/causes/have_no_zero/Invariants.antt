@@ -1,8 +1,0 @@
-use Rattle.std.specs.Prelude.{◌==◌, not}
-use Rattle.std.specs.List.{list_all}
-use Rattle.zone_tzif_set.specs.Causes.{name_in}
-use Rattle.zone_tzif_set.proofs.CauseLemmas.{AllLeft}
-use Rattle.zone_tzif_set.proofs.causes.have_no_zero.Given as goal
-
-abbrev pub invariant-loop-number : goal.invariant-loop-number
-invariant-loop-number g l = AllLeft (name_in (g.S.SpanTable.seen l.set)) (list_all (λ c. not (c == 0))) l.numbers l.number-index

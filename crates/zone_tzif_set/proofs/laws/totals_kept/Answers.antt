@@ -1,6 +1,0 @@
-use Rattle.zone_tzif_set.specs.declared.convert.Saves.TheVariants.{Above}
-use Rattle.zone_tzif_set.proofs.TotalLemmas.{totals_kept}
-use Rattle.zone_tzif_set.proofs.laws.totals_kept.Goals as goal
-
-pub returns : goal.returns
-returns c = totals_kept Above
