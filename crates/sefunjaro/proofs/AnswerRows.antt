@@ -112,14 +112,21 @@ changed_kind second = record { utoff = cond (int_lt second (pos 100)) (pos 0) (p
 
 -- it holds to where the other comes
 held_to_change : IsHeldOn changed_kind (pos 5) (answer (pos 5) (pos 100))
-held_to_change = record { from = refl; until = λ near same. cc; alone = λ far. absurd (omega (arith, far)) }
+held_to_change = record {
+  from = refl;
+  until = λ near same. absurd (apart (ap (λ (k : KindValue). k.utoff) same));
+  alone = λ far. absurd (omega (arith, far));
+}
+  where
+    apart : ◌≡◌ {A = ℤ} (pos 3600) (pos 0) → ⊥
+    apart e = cc
 
 -- and not to a second before that
 not_held_shorter : IsHeldOn changed_kind (pos 5) (answer (pos 5) (pos 99)) → ⊥
 not_held_shorter h = absurd (omega (arith, ints, h.until (omega arith) refl))
 
 not_begun_earlier : IsHeldOn changed_kind (pos 5) (answer (pos 4) (pos 100)) → ⊥
-not_begun_earlier h = cc (h.from)
+not_begun_earlier h = absurd (omega (arith, ints, h.from))
 
 -- where none comes, past the last year in which changes are looked for
 not_held_short : IsHeldOn same_kind (pos 5) (answer (pos 5) (pos 200000000000)) → ⊥
@@ -127,4 +134,4 @@ not_held_short h = absurd (omega (arith, ints, h.until (omega arith) refl))
 
 -- outside these years it is a second alone
 not_held_far : IsHeldOn same_kind (pos 200000000001) (answer (pos 200000000001) (pos 200000000003)) → ⊥
-not_held_far h = cc (h.alone (omega arith))
+not_held_far h = absurd (omega (arith, ints, h.alone (omega arith)))
