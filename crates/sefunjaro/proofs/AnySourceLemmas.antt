@@ -4,11 +4,11 @@ use Rattle.std.specs.Prelude.{Result, Ok, Err, IfErr}
 use Rattle.zone_values.specs.Results.{◌>>=◌}
 use Rattle.zone_plain_base.specs.LineFaults.{Refusal, by_line, too_long}
 use Rattle.zone_plain.specs.Settled.{settled}
-use Rattle.zone_plain_offsets.specs.WrittenOut.{written_out}
+use Rattle.zone_plain.specs.WrittenOut.{written_out}
 use Rattle.zone_plain.specs.Heads.{head_of}
 use Rattle.zone_plain.specs.LineValues.{values_in}
 use Rattle.zone_plain.specs.Plain.{if_short, plain_of}
-use Rattle.zone_plain_offsets.specs.Written.{written}
+use Rattle.zone_plain.specs.Written.{written}
 use Rattle.sefunjaro.proofs.CaseLemmas.{not_ok}
 use Rattle.sefunjaro.specs.AnySources.{IsAnyFault, IsFormFault}
 use Rattle.sefunjaro.specs.declared.any_source.AnySourceFault.{AnySourceFault}

@@ -9,7 +9,7 @@ use Rattle.tz_tzif.specs.FooterForce.{FooterZone, standard_total}
 use Rattle.tz_tzif.specs.Ranges.{IsFooterOf}
 use Rattle.tz_tzif.specs.Standing.{kind_of, stands_for, with_saving}
 use Rattle.tz_tzif.specs.Values.{FooterValue, SavingValue}
-use Rattle.tz_posix_core.specs.Seconds.{east_of}
+use Rattle.tz_posix.specs.Seconds.{east_of}
 use Rattle.tz_tzif.specs.Zones.{value_of, says_of, IsZoneOf}
 use Rattle.tz_tzif.specs.declared.zone.TzifTz.{TzifTz}
 use Rattle.zone_tzif_core.specs.Shown.{kind_shown}

@@ -3,7 +3,7 @@ use Rattle.std.specs.Prelude.{◌≡◌, ℕ, List, false, true}
 use Rattle.tz_tzif.specs.Ranges.{IsFooterOf}
 use Rattle.tz_tzif.specs.Standing.{kind_of}
 use Rattle.tz_tzif.specs.Values.{FooterValue}
-use Rattle.tz_posix_core.specs.Seconds.{east_of}
+use Rattle.tz_posix.specs.Seconds.{east_of}
 use Rattle.zone_tzif_core.specs.Zones.{KindValue, is_small}
 use Rattle.sefunjaro.specs.declared.file.PosixFault.{PosixFault}
 use Rattle.sefunjaro.specs.declared.file.PosixFault.TheVariants.{Refused, NoMemory}

@@ -2,11 +2,11 @@
 use Rattle.std.specs.Prelude.{ℕ, Bool, false, true, ◌&&◌, ◌||◌, ◌==◌, nat_le, List, length, Option, Some, None}
 use Rattle.std.specs.Char.{is_ascii_alphabetic, is_ascii_digit}
 use Rattle.std.specs.List.{list_all}
-use Rattle.tz_posix_core.specs.Marks.{plus_sign, minus_sign}
-use Rattle.tz_posix_core.specs.Spells.{Spells}
-use Rattle.tz_posix_core.specs.Values.{DstPart, TzValue, short, expanded}
-use Rattle.tz_posix_core.specs.declared.time.Time.{Time}
-use Rattle.tz_posix_core.specs.declared.values.Rule.{Rule}
+use Rattle.tz_posix.specs.Marks.{plus_sign, minus_sign}
+use Rattle.tz_posix.specs.Spells.{Spells}
+use Rattle.tz_posix.specs.Values.{DstPart, TzValue, short, expanded}
+use Rattle.tz_posix.specs.declared.time.Time.{Time}
+use Rattle.tz_posix.specs.declared.values.Rule.{Rule}
 
 -- an ASCII letter or digit, `+` or `-`
 abbrev pub is_posix_byte : ℕ → Bool

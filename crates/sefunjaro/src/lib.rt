@@ -53,7 +53,7 @@ pub use tz_lookup::{
     InstantsLocal, InstantsOf, Offset, OffsetDateTimeExt, OffsetResult, PrimitiveDateTimeExt,
     TimeZone, Tz, TzFault, ZoneFault,
 };
-pub use tz_posix_core::PosixTz;
+pub use tz_posix::PosixTz;
 pub use tz_tzif::{TzifFault, TzifTz};
 pub use zone::{AnyZone, InForce, OpenZone, Reading};
 pub use zone_alarm::{AlarmFault, Ring, alarms};

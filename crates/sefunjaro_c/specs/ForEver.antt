@@ -4,8 +4,8 @@ use Rattle.tz_ever.specs.Ever.{ever_total}
 use Rattle.tz_ever.specs.EverShown.{ever_seen}
 use Rattle.tz_ever.specs.declared.ever_set.EverSet.{EverSet}
 use Rattle.tz_tzif.specs.FooterForce.{FooterZone}
-use Rattle.tz_posix_core.specs.Spells.{Spells}
-use Rattle.tz_posix_core.specs.Values.{TzValue}
+use Rattle.tz_posix.specs.Spells.{Spells}
+use Rattle.tz_posix.specs.Values.{TzValue}
 use Rattle.tz_tzif.specs.Faults.{SaysInFooter}
 use Rattle.tz_tzif.specs.InForce.{told_total_at}
 use Rattle.zone_tzif.specs.Tails.{IsFaultForEver, IsTailForEver}

@@ -10,15 +10,15 @@ use Rattle.zone_spans.specs.Lines.{Rulesets}
 use Rattle.tz_lookup.specs.Compiles.{compiled_in, spans_of, IsCompiledAs}
 use Rattle.tz_zone.specs.declared.set.FixedTimespanSet.{FixedTimespanSet}
 use Rattle.tz_posix.specs.Agreement.{RuledValue, value_of}
-use Rattle.tz_posix_core.specs.Parses.{IsInRange, IsParsed}
-use Rattle.tz_posix_core.specs.PosixShown.{posix_of}
-use Rattle.tz_posix_core.specs.Ranges.{posix_range}
-use Rattle.tz_posix_core.specs.Resolved.{resolved}
-use Rattle.tz_posix_core.specs.Spells.{Spells}
-use Rattle.tz_posix_core.specs.Values.{TzValue}
-use Rattle.tz_posix_core.specs.declared.error.ParseError.{ParseError}
-use Rattle.tz_posix_core.specs.declared.error.ParseError.TheVariants.{Grammar, UnknownName, Range}
-use Rattle.tz_posix_core.specs.declared.posix.PosixTz.{PosixTz}
+use Rattle.tz_posix.specs.Parses.{IsInRange, IsParsed}
+use Rattle.tz_posix.specs.PosixShown.{posix_of}
+use Rattle.tz_posix.specs.Ranges.{posix_range}
+use Rattle.tz_posix.specs.Resolved.{resolved}
+use Rattle.tz_posix.specs.Spells.{Spells}
+use Rattle.tz_posix.specs.Values.{TzValue}
+use Rattle.tz_posix.specs.declared.error.ParseError.{ParseError}
+use Rattle.tz_posix.specs.declared.error.ParseError.TheVariants.{Grammar, UnknownName, Range}
+use Rattle.tz_posix.specs.declared.posix.PosixTz.{PosixTz}
 
 module _ (text : List ℕ) (zones : List FixedTimespanSet) (q : RuledValue) (one : (t : List ℕ) (x y : TzValue) → Spells t x → Spells t y → x ≡ y) (is : IsInRange text (value_of q)) where
   -- it is parsed as what the value stands for

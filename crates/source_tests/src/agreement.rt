@@ -10,7 +10,7 @@ ghost use Rattle.zone_table.specs.Resolved.{resolved_in};
 ghost use Rattle.tz_lookup.specs.Compiles.{compiled_in, spans_of, IsZoneFault};
 ghost use Rattle.tz_lookup.specs.Sets.{schedule_of, IsAccepted};
 ghost use Rattle.tz_posix.specs.Agreement.{IsCovered, RuledValue, SaysTheSame, TwoRuleZone, value_of};
-ghost use Rattle.tz_posix_core.specs.Parses.{IsInRange};
+ghost use Rattle.tz_posix.specs.Parses.{IsInRange};
 
 use crate::checks::holds;
 use crate::fixtures::{at, database_of, table_of};
@@ -20,8 +20,7 @@ use std::alloc::Global;
 use std::process::Abort;
 use tz_lookup::{Database, FixedTimespanSet, Tz, ZoneFault, compile_zone, is_orderly};
 use tz_posix::PosixTz;
-use tz_posix::laws::agreed_offset;
-use tz_posix_core::laws::one_reading;
+use tz_posix::laws::{agreed_offset, one_reading};
 use zone_table::Table;
 
 /// Three pairs of rules of the tz database, each with a zone of one line; Moldova's as it was in 2025.

@@ -18,7 +18,7 @@ use Rattle.tz_posix.proofs.TwoRuleFiringLemmas.{wall_moment}
 use Rattle.zone_spans.specs.declared.fault.SpanFault.{SpanFault}
 use Rattle.zone_spans.specs.declared.span.FixedTimespanSet.{FixedTimespanSet}
 use Rattle.tz_posix.specs.Agreement.{IsChange, IsInRuleYears, IsRuleYear, IsSameTime, RuledValue, SaysTheSame, TwoRuleZone, end_in, first_year, start_in, value_total}
-use Rattle.tz_posix_core.specs.InForce.{YearlyTime, instant_in, is_saving, is_within, posix_total, year_at, yearly_time}
+use Rattle.tz_posix.specs.InForce.{YearlyTime, instant_in, is_saving, is_within, posix_total, year_at, yearly_time}
 use Rattle.tz_posix.proofs.HemisphereLemmas.{savings_differ}
 use Rattle.tz_posix.proofs.NamedDayLemmas.{named_day-is, never_outside}
 use Rattle.tz_posix.proofs.StandardYearLemmas.{ArePlaces, IsNear, applies_from, are_places, earlier_year, near-counted, near_year, not_before, place_in, place_in-is, rule_year, year_at-is, years_before}

@@ -15,14 +15,14 @@ use Rattle.tz_lookup.specs.Compiles.{spans_of}
 use Rattle.tz_lookup.specs.Sets.{schedule_of as schedule_in}
 use Rattle.tz_zone.specs.declared.set.FixedTimespanSet.{FixedTimespanSet}
 use Rattle.tz_posix.specs.Agreement.{IsCovered, IsInRuleYears, IsSameDay, RuledValue, SaysTheSame, TwoRuleZone, from_first, from_eighth, from_fifteenth, from_twenty_second, last_of_month, first_year, value_of, value_total}
-use Rattle.tz_posix_core.specs.Days.{day_refusal}
-use Rattle.tz_posix_core.specs.InForce.{is_year, rule_refusal, year_at, yearly_time}
-use Rattle.tz_posix_core.specs.PosixZones.{Given, Gives, GivesTotal, PosixZone, ruled, posix_refusal}
-use Rattle.tz_posix_core.specs.Ranges.{first_some}
-use Rattle.tz_posix_core.specs.Resolved.{resolved}
-use Rattle.tz_posix_core.specs.Seconds.{east_of}
-use Rattle.tz_posix_core.specs.declared.date.Date.{Date}
-use Rattle.tz_posix_core.specs.declared.error.Error.TheVariants.{ComponentRange}
+use Rattle.tz_posix.specs.Days.{day_refusal}
+use Rattle.tz_posix.specs.InForce.{is_year, rule_refusal, year_at, yearly_time}
+use Rattle.tz_posix.specs.PosixZones.{Given, Gives, GivesTotal, PosixZone, ruled, posix_refusal}
+use Rattle.tz_posix.specs.Ranges.{first_some}
+use Rattle.tz_posix.specs.Resolved.{resolved}
+use Rattle.tz_posix.specs.Seconds.{east_of}
+use Rattle.tz_posix.specs.declared.date.Date.{Date}
+use Rattle.tz_posix.specs.declared.error.Error.TheVariants.{ComponentRange}
 use Rattle.tz_posix.proofs.AgreementLemmas.{found_place, near}
 use Rattle.tz_posix.proofs.NorthernLemmas.{northern_agrees}
 use Rattle.tz_posix.proofs.SouthernLemmas.{southern_agrees, southern_covered}

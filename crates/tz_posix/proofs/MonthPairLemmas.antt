@@ -11,11 +11,11 @@ use Rattle.zone_values.specs.Months.{month_number}
 use Rattle.zone_values.specs.declared.time.TimeType.TheVariants.{Wall}
 use Rattle.zone_values.specs.declared.weekday.Weekday.{Weekday}
 use Rattle.zone_table.specs.declared.rule.RuleInfo.{RuleInfo}
-use Rattle.tz_posix_core.specs.DayLaws.{days_into_year-is}
+use Rattle.tz_posix.specs.DayLaws.{days_into_year-is}
 use Rattle.tz_posix.specs.TwoRules.{written}
 use Rattle.tz_posix.proofs.TwoRuleFiringLemmas.{wall_moment}
 use Rattle.tz_posix.specs.Agreement.{IsChange, IsInRuleYears, IsNorthern, IsRuleYear, IsSameDay, IsSouthern, IsTimeOfDay, TwoRuleZone, end_in, start_in}
-use Rattle.tz_posix_core.specs.declared.date.Date.{Date}
+use Rattle.tz_posix.specs.declared.date.Date.{Date}
 use Rattle.tz_posix.proofs.NamedDayLemmas.{is_named}
 use Rattle.tz_posix.proofs.StandardYearLemmas.{IsNear, near-counted, near_year, year_starts-rise}
 

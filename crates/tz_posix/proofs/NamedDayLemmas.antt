@@ -23,8 +23,8 @@ use Rattle.zone_table.specs.Moments.{applies_to_year}
 use Rattle.zone_table.specs.declared.rule.RuleInfo.{RuleInfo}
 use Rattle.zone_spans.specs.Faults.{is_outside}
 use Rattle.tz_posix.specs.Agreement.{IsSameDay, from_first, from_eighth, from_fifteenth, from_twenty_second, last_of_month}
-use Rattle.tz_posix_core.specs.Days.{nth_weekday, rule_day}
-use Rattle.tz_posix_core.specs.declared.date.Date.{Date}
+use Rattle.tz_posix.specs.Days.{nth_weekday, rule_day}
+use Rattle.tz_posix.specs.declared.date.Date.{Date}
 
 -- the day of the month that the first such weekday from its day s on is, which is the last up to its day l
 record IsPlace (y : ℤ) (m w s l : ℕ) : Type 0 where

@@ -12,7 +12,7 @@ use Rattle.tz_posix.proofs.TwoRuleSetLemmas.{two_rules_compile}
 use Rattle.tz_posix.proofs.TwoRuleTotalLemmas.{two_rules_total}
 use Rattle.zone_spans.specs.declared.span.FixedTimespanSet.{FixedTimespanSet}
 use Rattle.tz_posix.specs.Agreement.{IsInRuleYears, IsNorthern, RuledValue, SaysTheSame, TwoRuleZone, end_in, first_year, start_in, value_total}
-use Rattle.tz_posix_core.specs.InForce.{is_within}
+use Rattle.tz_posix.specs.InForce.{is_within}
 use Rattle.tz_posix.proofs.HemisphereLemmas.{northern_total, start_before_end, end_before_start, up_le}
 use Rattle.tz_posix.proofs.StandardYearLemmas.{years_before}
 use Rattle.tz_posix.proofs.AgreementLemmas.{a_start, an_end, at, compiled_line, differ, end-written, end_expandable, found_place, in_order, known, line_of, schedule-is, start-written, start_expandable, start_first, value_total-is, year_of_place}

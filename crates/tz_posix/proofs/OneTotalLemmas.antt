@@ -6,7 +6,7 @@ use Rattle.tz_lookup.specs.InForce.{GivesAt}
 use Rattle.tz_lookup.specs.Sets.{span_in}
 use Rattle.tz_lookup.specs.Spans.{IsCut, Shift}
 use Rattle.tz_zone.specs.declared.set.FixedTimespanSet.{FixedTimespanSet}
-use Rattle.tz_posix_core.specs.PosixZones.{Given, Gives, GivesTotal, PosixZone, either, borrowed, fixed, ruled, zone}
+use Rattle.tz_posix.specs.PosixZones.{Given, Gives, GivesTotal, PosixZone, either, borrowed, fixed, ruled, zone}
 
 -- no span ends before another begins at a second that both are in force at
 not_less : (shifts : List Shift) (k l : ℕ) (s : ℤ) → IsCut shifts k s → IsCut shifts l s → k < l → ⊥

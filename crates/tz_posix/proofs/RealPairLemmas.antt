@@ -18,17 +18,17 @@ use Rattle.zone_spans.specs.Lines.{Rulesets}
 use Rattle.zone_spans.specs.Schedules.{schedule_of_lines, total_at}
 use Rattle.tz_posix.proofs.TwoRuleFiringLemmas.{wall_moment}
 use Rattle.tz_posix.specs.Agreement.{IsChange, IsNorthern, IsSameDay, IsSameTime, IsSouthern, IsTimeOfDay, RuledValue, SaysTheSame, TwoRuleZone, start_in, value_of, value_total, from_first, from_eighth, last_of_month}
-use Rattle.tz_posix_core.specs.DayLaws.{day-2100}
-use Rattle.tz_posix_core.specs.Reading.{number_at, part_at, clock_time_at, sign_at, offset_at, letters_at, enclosed_at, name_at, weekday_at, date_at, moment_at, rule_in, own_offset_at, own_rule_in, dst_in, short_in, expanded_in, entry_in}
+use Rattle.tz_posix.specs.DayLaws.{day-2100}
+use Rattle.tz_posix.specs.Reading.{number_at, part_at, clock_time_at, sign_at, offset_at, letters_at, enclosed_at, name_at, weekday_at, date_at, moment_at, rule_in, own_offset_at, own_rule_in, dst_in, short_in, expanded_in, entry_in}
 use Rattle.tz_posix.specs.RealPairs.{IsRuledBy, on_the_wall, lord_howe_rules, lord_howe_text, lord_howe_value, moldova_rules, moldova_text, moldova_value, new_york_text, new_york_value, us_rules}
-use Rattle.tz_posix_core.specs.InForce.{yearly_time}
-use Rattle.tz_posix_core.specs.Seconds.{IsWritten, east_of, offset_seconds, time_seconds}
-use Rattle.tz_posix_core.specs.declared.date.Date.{Date}
-use Rattle.tz_posix_core.specs.Spells.{Spells}
+use Rattle.tz_posix.specs.InForce.{yearly_time}
+use Rattle.tz_posix.specs.Seconds.{IsWritten, east_of, offset_seconds, time_seconds}
+use Rattle.tz_posix.specs.declared.date.Date.{Date}
+use Rattle.tz_posix.specs.Spells.{Spells}
 use Rattle.tz_posix.proofs.NorthernLemmas.{northern_agrees}
 use Rattle.tz_posix.proofs.SouthernLemmas.{southern_agrees}
-use Rattle.tz_posix_core.specs.FoundLaws.{entry_found}
-use Rattle.tz_posix_core.specs.TimeLaws.{day_times_read}
+use Rattle.tz_posix.specs.FoundLaws.{entry_found}
+use Rattle.tz_posix.specs.TimeLaws.{day_times_read}
 use Rattle.tz_posix.proofs.MonthPairLemmas.{AreInnerRules, IsInner, end_inside, northern_apart, northern_order, southern_apart, southern_order, start_inside}
 
 pub new_york_spelled : Spells new_york_text (value_of new_york_value)

@@ -13,7 +13,7 @@ use Rattle.tz_posix.proofs.TwoRuleFiringLemmas.{wall_moment}
 use Rattle.tz_posix.proofs.TwoRuleTotalLemmas.{two_rules_total}
 use Rattle.zone_spans.specs.declared.span.FixedTimespanSet.{FixedTimespanSet}
 use Rattle.tz_posix.specs.Agreement.{IsFromFirstStart, IsInRuleYears, IsSouthern, RuledValue, SaysTheSame, TwoRuleZone, end_in, first_year, start_in, value_total}
-use Rattle.tz_posix_core.specs.InForce.{is_within}
+use Rattle.tz_posix.specs.InForce.{is_within}
 use Rattle.tz_posix.proofs.HemisphereLemmas.{southern_total, start_before_end, end_before_start, up_le, up_lt, later_end}
 use Rattle.tz_posix.proofs.StandardYearLemmas.{years_before}
 use Rattle.tz_posix.proofs.AgreementLemmas.{a_start, an_end, at, compiled_line, differ, end-written, end_expandable, end_first, first_place, first_rule_year, found_place, in_order, known, line_of, schedule-is, start-written, start_expandable, value_total-is, year_of_place}

@@ -12,7 +12,7 @@ use Rattle.zone_table.specs.Moments.{applies_to_year, last_year, is_at_most, is_
 use Rattle.zone_table.specs.declared.rule.RuleInfo.{RuleInfo}
 use Rattle.tz_posix.specs.TwoRules.{year_from}
 use Rattle.tz_posix.specs.Agreement.{first_year, IsInRuleYears, IsRuleYear}
-use Rattle.tz_posix_core.specs.InForce.{year_at}
+use Rattle.tz_posix.specs.InForce.{year_at}
 use Rattle.civil_base.specs.DayRangeLaws.{new_year}
 
 -- ---- years in order

@@ -14,7 +14,7 @@ use Rattle.zone_table.specs.declared.zone.Saving.TheVariants.{Multiple}
 use Rattle.zone_table.specs.declared.zone.ZoneInfo.{ZoneInfo}
 use Rattle.tz_posix.specs.Agreement.{IsInRuleYears, IsRuleYear, IsSameDay, IsTimeOfDay, end_in, first_year, start_in, from_first, from_eighth, from_fifteenth, from_twenty_second, last_of_month}
 use Rattle.tz_posix.specs.RealPairs.{lord_howe_rules, moldova_rules, us_rules}
-use Rattle.tz_posix_core.specs.declared.date.Date.TheVariants.{M}
+use Rattle.tz_posix.specs.declared.date.Date.TheVariants.{M}
 
 -- days of rules of the tz database, each with the date that `zic` writes for it
 worked_days : IsSameDay November Sunday (FirstOnOrAfter Sunday (pos 1)) (M 11 1 0)

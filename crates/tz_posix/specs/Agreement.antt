@@ -17,14 +17,14 @@ use Rattle.zone_table.specs.declared.zone.ZoneInfo.{ZoneInfo}
 use Rattle.zone_spans.specs.Lines.{Rulesets}
 use Rattle.zone_spans.specs.Years.{earliest_year, latest_year}
 use Rattle.tz_posix.specs.TwoRules.{AreBoth}
-use Rattle.tz_posix_core.specs.InForce.{YearlyTime, posix_total, yearly_time}
-use Rattle.tz_posix_core.specs.Seconds.{IsWritten, east_of}
-use Rattle.tz_posix_core.specs.Values.{TzValue, expanded}
-use Rattle.tz_posix_core.specs.declared.date.Date.{Date}
-use Rattle.tz_posix_core.specs.declared.date.Date.TheVariants.{M}
-use Rattle.tz_posix_core.specs.declared.time.Offset.{Offset}
-use Rattle.tz_posix_core.specs.declared.time.Time.{Time}
-use Rattle.tz_posix_core.specs.declared.values.Rule.{Rule}
+use Rattle.tz_posix.specs.InForce.{YearlyTime, posix_total, yearly_time}
+use Rattle.tz_posix.specs.Seconds.{IsWritten, east_of}
+use Rattle.tz_posix.specs.Values.{TzValue, expanded}
+use Rattle.tz_posix.specs.declared.date.Date.{Date}
+use Rattle.tz_posix.specs.declared.date.Date.TheVariants.{M}
+use Rattle.tz_posix.specs.declared.time.Offset.{Offset}
+use Rattle.tz_posix.specs.declared.time.Time.{Time}
+use Rattle.tz_posix.specs.declared.values.Rule.{Rule}
 
 -- a POSIX value with both offsets and a rule written
 pub record RuledValue : Type 0 where

@@ -13,8 +13,8 @@ use Rattle.zone_table.specs.declared.zone.ZoneInfo.{ZoneInfo}
 use Rattle.zone_spans.specs.Lines.{Rulesets}
 use Rattle.tz_posix.specs.TwoRules.{AreBoth}
 use Rattle.tz_posix.specs.Agreement.{RuledValue, TwoRuleZone}
-use Rattle.tz_posix_core.specs.declared.date.Date.TheVariants.{M}
-use Rattle.tz_posix_core.specs.declared.time.Offset.{Offset}
+use Rattle.tz_posix.specs.declared.date.Date.TheVariants.{M}
+use Rattle.tz_posix.specs.declared.time.Offset.{Offset}
 
 -- a rule from a year on to max, so many seconds after midnight by the wall's clock
 abbrev pub on_the_wall : ℤ → Month → DaySpec → ℤ → ℤ → Option (List ℕ) → RuleInfo

@@ -1,4 +1,4 @@
-//! Laws of zones and strings that say the same.
+//! Laws of the texts, and of zones and strings that say the same.
 ghost use Rattle.std.specs.Prelude.{◌≡◌, ℕ, ℤ, pos, neg_ℤ, ◌≤ℤ◌, ◌<ℤ◌, true, List, [], ◌∷◌, Option, None, is_some, IfSome, Ok};
 ghost use Rattle.civil_base.specs.DateTimes.{instant};
 ghost use Rattle.civil_base.specs.Instants.{seconds_of};
@@ -13,16 +13,26 @@ ghost use Rattle.tz_lookup.specs.Sets.{schedule_of as schedule_in};
 ghost use Rattle.tz_lookup.specs.Zones.{set_of};
 ghost use Rattle.tz_zone.specs.declared.set.FixedTimespanSet.{FixedTimespanSet};
 ghost use Rattle.tz_posix.specs.Agreement.{IsCovered, IsFromFirstStart, IsInRuleYears, IsNorthern, IsSouthern, RuledValue, SaysTheSame, TwoRuleZone, first_year, value_of, value_total};
-ghost use Rattle.tz_posix_core.specs.PosixShown.{posix_of};
-ghost use Rattle.tz_posix_core.specs.PosixZones.{GivesTotal, posix_refusal};
+ghost use Rattle.tz_posix.specs.PosixShown.{posix_of};
+ghost use Rattle.tz_posix.specs.PosixZones.{GivesTotal, posix_refusal};
 ghost use Rattle.tz_posix.specs.RealPairs.{IsRuledBy, lord_howe_rules, lord_howe_text, lord_howe_value, moldova_rules, moldova_text, moldova_value, new_york_text, new_york_value, us_rules};
-ghost use Rattle.tz_posix_core.specs.Resolved.{resolved};
-ghost use Rattle.tz_posix_core.specs.Spells.{Spells};
-ghost use Rattle.tz_posix_core.specs.Values.{TzValue};
+ghost use Rattle.tz_posix.specs.Resolved.{resolved};
+ghost use Rattle.tz_posix.specs.Spells.{Spells, RunsAreLongest, day_times};
+ghost use Rattle.tz_posix.specs.Values.{TzValue};
 
+use crate::posix::PosixTz;
 use civil_base::{OffsetDateTime, UtcOffset};
 use tz_lookup::{Offset, TimeZone, Tz};
-use tz_posix_core::PosixTz;
+
+/// A text spells at most one value.
+pub fn one_reading()
+    ensures { (text : List ℕ) (x y : TzValue) → Spells text x → Spells text y → x ≡ y }
+{}
+
+/// What may follow a name or a number in a text doesn't go on with its letters or digits, so each is a longest run.
+pub fn longest_runs()
+    ensures { RunsAreLongest day_times }
+{}
 
 /// A zone of one line and two yearly rules and the POSIX TZ string that says the same give each instant the same offset.
 ///

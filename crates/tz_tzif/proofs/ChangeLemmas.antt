@@ -13,7 +13,7 @@ use Rattle.calendar.specs.YearLaws.{cycle_days-suc, day-cycle}
 use Rattle.civil_base.specs.DayRangeLaws.{day-first, day-last, counted}
 use Rattle.civil_base.specs.RangeLaws.{offset_greatest, offset_least}
 use Rattle.civil_base.specs.Ranges.{IsOffset, IsYear}
-use Rattle.tz_posix_core.specs.InForce.{YearlyTime, moments_in, year_at}
+use Rattle.tz_posix.specs.InForce.{YearlyTime, moments_in, year_at}
 use Rattle.tz_tzif.specs.FooterForce.{has_begun, is_footer_saving, is_saved, is_saved_by, year_after, year_before}
 
 -- ---- comparisons

@@ -2,13 +2,13 @@
 use Rattle.std.proofs.Common.{◌≡◌, ℕ, List, Option, Some, None, option_map, MatchOption, Result, Err, refl, sym, ap, ◌∙◌, subst}
 use Rattle.std.proofs.lemmas.Option.{same_Some, none-some}
 use Rattle.std.specs.Result.{result_err}
-use Rattle.tz_posix_core.specs.EntryLaws.{one_reading}
-use Rattle.tz_posix_core.specs.Spells.{SpellsIn, signed_times}
-use Rattle.tz_posix_core.specs.TimeLaws.{signed_times_read}
-use Rattle.tz_posix_core.specs.Values.{StdPart, Value, short, expanded}
-use Rattle.tz_posix_core.specs.declared.error.RangeError.{RangeError}
-use Rattle.tz_posix_core.specs.declared.time.Offset.{Offset}
-use Rattle.tz_posix_core.specs.declared.values.Rule.{Rule}
+use Rattle.tz_posix.specs.EntryLaws.{one_reading}
+use Rattle.tz_posix.specs.Spells.{SpellsIn, signed_times}
+use Rattle.tz_posix.specs.TimeLaws.{signed_times_read}
+use Rattle.tz_posix.specs.Values.{StdPart, Value, short, expanded}
+use Rattle.tz_posix.specs.declared.error.RangeError.{RangeError}
+use Rattle.tz_posix.specs.declared.time.Offset.{Offset}
+use Rattle.tz_posix.specs.declared.values.Rule.{Rule}
 use Rattle.tz_tzif.specs.Ranges.{IsFooterOf, footer_miss}
 use Rattle.tz_tzif.specs.Shown.{text_shown}
 use Rattle.tz_tzif.specs.Spells.{SpellsFooter}

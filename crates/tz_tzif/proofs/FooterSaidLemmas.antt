@@ -2,14 +2,14 @@
 use Rattle.std.proofs.Common.{◌≡◌, ℕ, List, [], ◌∷◌, Option, Some, None, length, option_map, arith, refl, sym, ap, ◌∙◌, subst}
 use Rattle.std.proofs.lemmas.Option.{same_Some, none-some}
 use Rattle.std.specs.Option.{option_and_then}
-use Rattle.tz_posix_core.specs.AgainLaws.{entry_again}
-use Rattle.tz_posix_core.specs.FoundLaws.{entry_found}
-use Rattle.tz_posix_core.specs.Reading.{entry_in, offset_at}
-use Rattle.tz_posix_core.specs.Spells.{SpellsIn, signed_times}
-use Rattle.tz_posix_core.specs.TimeLaws.{signed_times_read}
-use Rattle.tz_posix_core.specs.Values.{Value}
-use Rattle.tz_posix_core.specs.declared.error.RangeError.{RangeError}
-use Rattle.tz_posix_core.specs.declared.time.Offset.{Offset}
+use Rattle.tz_posix.specs.AgainLaws.{entry_again}
+use Rattle.tz_posix.specs.FoundLaws.{entry_found}
+use Rattle.tz_posix.specs.Reading.{entry_in, offset_at}
+use Rattle.tz_posix.specs.Spells.{SpellsIn, signed_times}
+use Rattle.tz_posix.specs.TimeLaws.{signed_times_read}
+use Rattle.tz_posix.specs.Values.{Value}
+use Rattle.tz_posix.specs.declared.error.RangeError.{RangeError}
+use Rattle.tz_posix.specs.declared.time.Offset.{Offset}
 use Rattle.tz_tzif.specs.Faults.{SaysInFooter}
 use Rattle.tz_tzif.specs.FooterForce.{FooterZone}
 use Rattle.tz_tzif.specs.FooterLaws.{no_text}

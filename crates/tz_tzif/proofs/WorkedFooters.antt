@@ -4,16 +4,16 @@ use Rattle.text_parts.specs.Numbers.{value_in}
 use Rattle.calendar.specs.Dates.{last_with}
 use Rattle.calendar.specs.Days.{day, days_after_zero, days_in_month, days_in_year, days_into_year, days_through, is_leap, year_start}
 use Rattle.calendar.specs.Weekdays.{weekday_of}
-use Rattle.tz_posix_core.specs.Days.{nth_weekday, rule_day}
-use Rattle.tz_posix_core.specs.InForce.{instant_in}
-use Rattle.tz_posix_core.specs.Ranges.{first_miss, rule_time_miss}
-use Rattle.tz_posix_core.specs.Reading.{number_at, part_at, clock_time_at, sign_at, offset_at, letters_at, enclosed_at, name_at, weekday_at, date_at, own_offset_at, moment_at, rule_in, own_rule_in, dst_in, short_in, expanded_in, entry_in}
-use Rattle.tz_posix_core.specs.Seconds.{offset_seconds, time_seconds}
-use Rattle.tz_posix_core.specs.Spells.{signed_times}
-use Rattle.tz_posix_core.specs.declared.error.RangeError.TheVariants as miss
-use Rattle.tz_posix_core.specs.declared.date.Date.{Date}
-use Rattle.tz_posix_core.specs.declared.date.Date.TheVariants.{J, M}
-use Rattle.tz_posix_core.specs.declared.time.Offset.{Offset}
+use Rattle.tz_posix.specs.Days.{nth_weekday, rule_day}
+use Rattle.tz_posix.specs.InForce.{instant_in}
+use Rattle.tz_posix.specs.Ranges.{first_miss, rule_time_miss}
+use Rattle.tz_posix.specs.Reading.{number_at, part_at, clock_time_at, sign_at, offset_at, letters_at, enclosed_at, name_at, weekday_at, date_at, own_offset_at, moment_at, rule_in, own_rule_in, dst_in, short_in, expanded_in, entry_in}
+use Rattle.tz_posix.specs.Seconds.{offset_seconds, time_seconds}
+use Rattle.tz_posix.specs.Spells.{signed_times}
+use Rattle.tz_posix.specs.declared.error.RangeError.TheVariants as miss
+use Rattle.tz_posix.specs.declared.date.Date.{Date}
+use Rattle.tz_posix.specs.declared.date.Date.TheVariants.{J, M}
+use Rattle.tz_posix.specs.declared.time.Offset.{Offset}
 use Rattle.zone_tzif_core.specs.Zones.{KindValue}
 use Rattle.tz_tzif.specs.FooterForce.{fixed, yearly}
 use Rattle.tz_tzif.specs.Ranges.{footer_miss}

@@ -7,9 +7,9 @@ use Rattle.calendar.specs.DateLaws.{year_of-day}
 use Rattle.calendar.specs.Days.{is_leap, days_in_year, days_in_month, days_after_zero, year_start, days_through, days_into_year, day, IsCountedYear}
 use Rattle.calendar.specs.SignedLaws.{signed}
 use Rattle.calendar.specs.Weekdays.{weekday_of}
-use Rattle.tz_posix_core.specs.Days.{nth_weekday, rule_day}
-use Rattle.tz_posix_core.specs.InForce.{YearlyTime, instant_in, year_at}
-use Rattle.tz_posix_core.specs.declared.date.Date.TheVariants.{M, N}
+use Rattle.tz_posix.specs.Days.{nth_weekday, rule_day}
+use Rattle.tz_posix.specs.InForce.{YearlyTime, instant_in, year_at}
+use Rattle.tz_posix.specs.declared.date.Date.TheVariants.{M, N}
 use Rattle.zone_tzif_core.specs.Zones.{KindValue}
 use Rattle.tz_tzif.specs.FooterForce.{is_saved_by, is_footer_saving, year_after, year_before, FooterZone, fixed, yearly, held_at, is_of_one_year, standard_total, saving_total}
 

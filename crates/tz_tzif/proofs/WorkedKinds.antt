@@ -3,7 +3,7 @@ use Rattle.std.proofs.Common.{◌≡◌, refl, ℤ, pos, neg_ℤ, List, [], ◌�
 use Rattle.std.proofs.lemmas.Int.{ints}
 use Rattle.civil_base.specs.Instants.{seconds_of}
 use Rattle.tz_tzif.specs.FooterForce.{fixed, held_at, yearly}
-use Rattle.tz_posix_core.specs.declared.date.Date.TheVariants.{J}
+use Rattle.tz_posix.specs.declared.date.Date.TheVariants.{J}
 use Rattle.zone_tzif_core.specs.Zones.{KindValue, ZoneValue}
 use Rattle.tz_tzif.specs.Faults.{are_small, IsNoFooter, IsTzifFault, SaysInFooter}
 use Rattle.tz_tzif.specs.InForce.{kind_at, kind_in, told_total_at}

@@ -1,6 +1,6 @@
 -- What a footer puts in force. Seconds are from 1970-01-01 00:00 UTC.
 use Rattle.std.specs.Prelude.{Bool, true, ◌&&◌, ◌||◌, not, if◌then◌else◌, ℤ, pos, neg_ℤ, ◌+ℤ◌, ◌-ℤ◌, int_le, int_lt}
-use Rattle.tz_posix_core.specs.InForce.{YearlyTime, moments_in, year_at}
+use Rattle.tz_posix.specs.InForce.{YearlyTime, moments_in, year_at}
 use Rattle.zone_tzif_core.specs.Zones.{KindValue}
 
 -- the start or the end is at or before the second

@@ -1,9 +1,9 @@
 -- A footer is not empty.
 use Rattle.std.proofs.Common.{◌≡◌, ℕ, ◌<◌, List, [], ◌++◌, length, ap, arith}
 use Rattle.std.proofs.lemmas.List.{length-append}
-use Rattle.tz_posix_core.specs.Spells.{SpellsName, enclosed, letters, SpellsIn, short_form, full_form, signed_times}
-use Rattle.tz_posix_core.specs.Values.{Value}
-use Rattle.tz_posix_core.specs.declared.time.Offset.{Offset}
+use Rattle.tz_posix.specs.Spells.{SpellsName, enclosed, letters, SpellsIn, short_form, full_form, signed_times}
+use Rattle.tz_posix.specs.Values.{Value}
+use Rattle.tz_posix.specs.declared.time.Offset.{Offset}
 use Rattle.tz_tzif.specs.FooterForce.{FooterZone}
 use Rattle.tz_tzif.specs.Standing.{StandsFor}
 

@@ -2,7 +2,7 @@
 use Rattle.std.specs.Prelude.{Option, Some, None}
 use Rattle.zone_tzif_core.specs.Zones.{KindValue}
 use Rattle.tz_tzif.specs.FooterForce.{FooterZone, fixed, yearly}
-use Rattle.tz_posix_core.specs.Yearly.{time_shown}
+use Rattle.tz_posix.specs.Yearly.{time_shown}
 use Rattle.tz_tzif.specs.declared.footer.Footer.{Footer}
 use Rattle.tz_tzif.specs.declared.footer.Yearly.{Yearly}
 use Rattle.tz_tzif.specs.declared.held.Held.{Held}

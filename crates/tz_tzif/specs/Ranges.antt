@@ -1,8 +1,8 @@
 -- The ranges of a footer's parts.
 use Rattle.std.specs.Prelude.{◌≡◌, ℕ, List, Option, None}
-use Rattle.tz_posix_core.specs.Ranges.{first_miss}
-use Rattle.tz_posix_core.specs.Spells.{signed_times}
-use Rattle.tz_posix_core.specs.declared.error.RangeError.{RangeError}
+use Rattle.tz_posix.specs.Ranges.{first_miss}
+use Rattle.tz_posix.specs.Spells.{signed_times}
+use Rattle.tz_posix.specs.declared.error.RangeError.{RangeError}
 use Rattle.tz_tzif.specs.Spells.{SpellsFooter}
 use Rattle.tz_tzif.specs.Values.{FooterValue, tz_of}
 

@@ -1,6 +1,6 @@
 -- What the values of the code show.
 use Rattle.std.specs.Prelude.{option_map}
-use Rattle.tz_posix_core.specs.Shown.{std_shown}
+use Rattle.tz_posix.specs.Shown.{std_shown}
 use Rattle.tz_tzif.specs.Values.{SavingValue, FooterValue}
 use Rattle.tz_tzif.specs.declared.values.FooterText.{FooterText}
 use Rattle.tz_tzif.specs.declared.values.Saving.{Saving}

@@ -1,9 +1,9 @@
 -- What the value of a footer stands for.
 use Rattle.std.specs.Prelude.{◌≡◌, ℕ, Bool, true, false, List, Option, Some, None, ℤ, pos, ◌+ℤ◌}
 use Rattle.std.specs.Option.{option_map_or}
-use Rattle.tz_posix_core.specs.InForce.{moment_of}
-use Rattle.tz_posix_core.specs.Seconds.{east_of}
-use Rattle.tz_posix_core.specs.Spells.{signed_times}
+use Rattle.tz_posix.specs.InForce.{moment_of}
+use Rattle.tz_posix.specs.Seconds.{east_of}
+use Rattle.tz_posix.specs.Spells.{signed_times}
 use Rattle.tz_tzif.specs.FooterForce.{FooterZone, fixed, yearly}
 use Rattle.tz_tzif.specs.Ranges.{IsFooterOf}
 use Rattle.tz_tzif.specs.Values.{SavingValue, FooterValue}

@@ -4,11 +4,11 @@ ghost use Rattle.tz_tzif.specs.Ranges.{footer_miss};
 ghost use Rattle.tz_tzif.specs.Shown.{saving_shown, text_shown};
 ghost use Rattle.tz_tzif.specs.FooterShown.{held_shown};
 ghost use Rattle.tz_tzif.specs.Standing.{saving_kind};
-ghost use Rattle.tz_posix_core.specs.InForce.{moment_of};
-ghost use Rattle.tz_posix_core.specs.Ranges.{offset_miss, rule_range};
-ghost use Rattle.tz_posix_core.specs.Seconds.{IsWritten};
-ghost use Rattle.tz_posix_core.specs.Spells.{signed_times};
-ghost use Rattle.tz_posix_core.specs.Yearly.{time_shown};
+ghost use Rattle.tz_posix.specs.InForce.{moment_of};
+ghost use Rattle.tz_posix.specs.Ranges.{offset_miss, rule_range};
+ghost use Rattle.tz_posix.specs.Seconds.{IsWritten};
+ghost use Rattle.tz_posix.specs.Spells.{signed_times};
+ghost use Rattle.tz_posix.specs.Yearly.{time_shown};
 
 use crate::held::Held;
 use crate::range::check;
@@ -16,7 +16,7 @@ use crate::read::footer_text;
 use crate::rule::{is_saving, next_change};
 use crate::values::{FooterText, Saving};
 use civil_base::UtcOffset;
-use tz_posix_core::parts::{YearlyRule, saving_offset};
+use tz_posix::parts::{YearlyRule, saving_offset};
 
 /// What a footer puts in force at each second.
 #[derive(Clone, Debug, Drop, PartialEq, Eq)]

@@ -2,9 +2,9 @@
 ghost use Rattle.std.specs.Prelude.{◌≡◌, int_lt, ◌<ℤ◌, ◌≤ℤ◌};
 ghost use Rattle.calendar.specs.Days.{IsCountedYear};
 ghost use Rattle.tz_tzif.specs.FooterForce.{has_begun as begun_by, is_saved as saved_by, year_after as next_of, year_before as last_of};
-ghost use Rattle.tz_posix_core.specs.Yearly.{moments_shown};
+ghost use Rattle.tz_posix.specs.Yearly.{moments_shown};
 
-use tz_posix_core::parts::Moments;
+use tz_posix::parts::Moments;
 
 /// The first and the last year in which days are counted.
 const FIRST_YEAR: i32 = -10_000;

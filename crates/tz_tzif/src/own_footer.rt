@@ -7,7 +7,7 @@ use crate::footer::{Footer, Yearly};
 use crate::held::Held;
 use civil_base::UtcOffset;
 use std::alloc::{AllocError, Global};
-use tz_posix_core::parts::YearlyRule;
+use tz_posix::parts::YearlyRule;
 
 /// What a footer puts in force at each second.
 #[derive(Debug, Drop)]

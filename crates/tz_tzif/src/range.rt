@@ -5,11 +5,11 @@ ghost use Rattle.tz_tzif.specs.Ranges.{footer_miss};
 ghost use Rattle.tz_tzif.specs.Shown.{text_shown};
 
 use crate::values::FooterText;
-use tz_posix_core::RangeError;
-use tz_posix_core::parts::{check_offset, check_own_offset, check_rule};
+use tz_posix::RangeError;
+use tz_posix::parts::{check_offset, check_own_offset, check_rule};
 
 /// The first part that is out of its range.
-#[tactic(auto, unfolding(tz_posix_core::specs::Ranges::first_miss))]
+#[tactic(auto, unfolding(tz_posix::specs::Ranges::first_miss))]
 pub(crate) fn check(footer: &FooterText<'_>) -> Result<(), RangeError>
     ensures { result_err result ≡ footer_miss (text_shown footer.now) }
 {

@@ -3,10 +3,10 @@ ghost use Rattle.std.specs.Prelude.{◌≡◌, option_map, MatchOption};
 ghost use Rattle.tz_tzif.specs.Shown.{text_shown};
 ghost use Rattle.tz_tzif.specs.Spells.{SpellsFooter};
 ghost use Rattle.tz_tzif.specs.Values.{FooterValue, footer_in};
-ghost use Rattle.tz_posix_core.specs.Shown.{tz_shown};
+ghost use Rattle.tz_posix.specs.Shown.{tz_shown};
 
 use crate::values::{FooterRule, FooterText, Saving};
-use tz_posix_core::{Dst, Offset, Tz, value};
+use tz_posix::{Dst, Offset, Tz, value};
 
 /// The value that a whole footer spells. There is none exactly where it spells none.
 ///

@@ -3,13 +3,13 @@ ghost use Rattle.std.specs.Prelude.{◌≡◌, ◌≤◌, unsigned_abs, ℤ, pos
 ghost use Rattle.calendar.specs.Days.{IsCountedYear, day as day_at};
 ghost use Rattle.civil_base.specs.Ranges.{IsOffset};
 ghost use Rattle.tz_tzif.specs.FooterForce.{is_footer_saving, is_saved_since as since_by, year_before as last_of};
-ghost use Rattle.tz_posix_core.specs.InForce.{moments_in};
-ghost use Rattle.tz_posix_core.specs.Yearly.{time_shown};
+ghost use Rattle.tz_posix.specs.InForce.{moments_in};
+ghost use Rattle.tz_posix.specs.Yearly.{time_shown};
 
 use crate::moments::{has_begun, is_reversed, is_saved, next_of, year_after, year_before};
 use civil_base::UtcOffset;
-use tz_posix_core::Date;
-use tz_posix_core::parts::{YearlyRule, YearlyTime, counted_year_at};
+use tz_posix::Date;
+use tz_posix::parts::{YearlyRule, YearlyTime, counted_year_at};
 
 /// Whether daylight saving time is in force at a second, where it and standard time have these offsets. A start or an end may lie
 /// past its year's edges, so the year after and the two before are looked at too.
@@ -79,7 +79,7 @@ pub(crate) fn next_change(
 }
 
 /// The second at which a year begins, where clocks have that offset, which is in range.
-#[tactic(auto, unfolding(tz_posix_core::specs::InForce::instant_in, tz_posix_core::specs::Days::rule_day))]
+#[tactic(auto, unfolding(tz_posix::specs::InForce::instant_in, tz_posix::specs::Days::rule_day))]
 fn first_second(year: i32, offset: UtcOffset) -> i64
     requires { IsCountedYear year }
     ensures is { result ≡ pos 86_400 *ℤ day_at year 1 1 -ℤ offset }

@@ -1,6 +1,6 @@
 //! What a footer is read as.
 
-use tz_posix_core::{Offset, Rule, Std};
+use tz_posix::{Offset, Rule, Std};
 
 /// When daylight saving time begins and ends in each year: a day, and a time where one is written, which counts from the
 /// day's midnight back after `-`.

@@ -12,7 +12,7 @@ use Rattle.zone_table.specs.declared.zone.ZoneInfo.{ZoneInfo}
 use Rattle.zone_plain.proofs.TargetLaws.{or_none, or_assoc}
 use Rattle.zone_plain.proofs.PartLemmas.{GivesIn, parts_give}
 use Rattle.zone_plain.proofs.Placed.{are_placed}
-use Rattle.zone_plain_offsets.specs.Written.{Rules, Zones, Links, is_in}
+use Rattle.zone_plain.specs.Written.{Rules, Zones, Links, is_in}
 use Rattle.zone_plain.specs.WrittenLines.{in_parts, JoinAlike}
 
 -- the first of some lines, behind those before it

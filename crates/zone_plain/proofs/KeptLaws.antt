@@ -17,15 +17,15 @@ use Rattle.zone_plain_base.specs.Renamed.{saved_by, ruleset_of, saving_by, under
 use Rattle.zone_plain.specs.Needs.{IsPlain}
 use Rattle.zone_plain.specs.Settled.{settled}
 use Rattle.zone_plain.proofs.CleanLaws.{plain_stays}
-use Rattle.zone_plain_offsets.specs.Made.{changed_by, changed, is_changed_said, name_in, made_for, made}
-use Rattle.zone_plain_offsets.specs.Pairs.{Pair, joined_by, pairs_from}
-use Rattle.zone_plain_offsets.specs.WrittenOut.{made_size, refused_from, written_unless, written_out}
+use Rattle.zone_plain.specs.Made.{changed_by, changed, is_changed_said, name_in, made_for, made}
+use Rattle.zone_plain.specs.Pairs.{Pair, joined_by, pairs_from}
+use Rattle.zone_plain.specs.WrittenOut.{made_size, refused_from, written_unless, written_out}
 use Rattle.zone_plain.specs.Heads.{head_of}
 use Rattle.zone_plain.specs.Kept.{HasNoOffsets}
 use Rattle.zone_plain.specs.LineValues.{line_meaning, is_open_after, values_from, meant_in, mark_in, named, values_in}
 use Rattle.zone_plain.specs.Named.{IsSaidAsMeant}
 use Rattle.zone_plain.specs.Plain.{plain_of}
-use Rattle.zone_plain_offsets.specs.Written.{written}
+use Rattle.zone_plain.specs.Written.{written}
 
 no_pairs : (pairs : List Pair) (values : List LineValue) → HasNoOffsets values → pairs_from pairs values ≡ pairs
 unfolding pairs_from

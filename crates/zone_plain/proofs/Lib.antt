@@ -29,3 +29,14 @@ pub mod PlacedLaws
 pub mod ReadBackLaws
 pub mod RebuiltLaws
 pub mod WrittenLinesLaws
+-- Of `%z`.
+pub mod PairLemmas
+pub mod MadeNameLemmas
+pub mod GroupLemmas
+pub mod MadeLemmas
+pub mod RuleLemmas
+pub mod OutLemmas
+pub mod OffsetStageLemmas
+mod WorkedOffsets
+mod WorkedSources
+pub mod OffsetTextLaws

@@ -28,14 +28,14 @@ use Rattle.zone_plain.proofs.CleanLaws.{declares_is, names_append, clean_stays, 
 use Rattle.zone_plain.specs.Declares.{zone_name, ruleset_name, has_zone, has_ruleset}
 use Rattle.zone_plain.specs.Settled.{lacks_rules, link_size, settled}
 use Rattle.zone_plain.proofs.SettledLaws.{no_ok, zones_stay}
-use Rattle.zone_plain_offsets.specs.AbbreviationLaws.{among_stays}
-use Rattle.zone_plain_offsets.specs.Formats.{Around, around_mark}
-use Rattle.zone_plain_offsets.specs.Made.{made_rule, rules_named, rules_for, changed_by, changed, name_in, made_for, made}
-use Rattle.zone_plain_offsets.specs.MadeLaws.{written_is}
-use Rattle.zone_plain_offsets.specs.NoneLeftLaws.{none_left}
-use Rattle.zone_plain_offsets.specs.PairLaws.{same_pair, among_with}
-use Rattle.zone_plain_offsets.specs.Pairs.{Pair, Asked, nothing, total, under, asked_under, asked_by, asked, is_same, is_among, joined_by, pairs_from, pairs_of}
-use Rattle.zone_plain_offsets.specs.WrittenOut.{written_out}
+use Rattle.zone_plain.specs.AbbreviationLaws.{among_stays}
+use Rattle.zone_plain.specs.Formats.{Around, around_mark}
+use Rattle.zone_plain.specs.Made.{made_rule, rules_named, rules_for, changed_by, changed, name_in, made_for, made}
+use Rattle.zone_plain.specs.MadeLaws.{written_is}
+use Rattle.zone_plain.specs.NoneLeftLaws.{none_left}
+use Rattle.zone_plain.specs.PairLaws.{same_pair, among_with}
+use Rattle.zone_plain.specs.Pairs.{Pair, Asked, nothing, total, under, asked_under, asked_by, asked, is_same, is_among, joined_by, pairs_from, pairs_of}
+use Rattle.zone_plain.specs.WrittenOut.{written_out}
 use Rattle.zone_plain_base.specs.PlainTexts.{plain_text}
 use Rattle.zone_plain.specs.Heads.{head_of, head_with, head_values}
 use Rattle.zone_plain.specs.Kept.{HasNoOffsets}
@@ -49,7 +49,7 @@ use Rattle.zone_plain.specs.Plain.{plain_of}
 use Rattle.zone_plain.proofs.ReadBackLaws.{IsPlaced, read_as_meant}
 use Rattle.zone_plain.proofs.PlacedLaws.{parts_followed}
 use Rattle.zone_plain.proofs.RebuiltLaws.{headed}
-use Rattle.zone_plain_offsets.specs.Written.{Part, Rules, Zones, Links, is_in, written}
+use Rattle.zone_plain.specs.Written.{Part, Rules, Zones, Links, is_in, written}
 use Rattle.zone_plain.specs.WrittenLines.{in_parts}
 use Rattle.zone_plain.proofs.WrittenLinesLaws.{written_is as written_in_parts, in_all_parts}
 

@@ -6,12 +6,12 @@ use Rattle.zone_values.specs.Values.{InfoValue, RuleValue, LineValue, zone, cont
 use Rattle.zone_plain.proofs.Clean.{new_name, names_by}
 use Rattle.zone_plain.proofs.CleanLaws.{names_append}
 use Rattle.zone_plain.specs.Declares.{zone_name, ruleset_name}
-use Rattle.zone_plain_offsets.specs.Made.{made_rule, rules_named, rules_for, changed_by, changed, name_in, made_for, made}
-use Rattle.zone_plain_offsets.specs.MadeLaws.{written_is}
-use Rattle.zone_plain_offsets.specs.Pairs.{Pair, Asked, total, under, asked, pairs_of}
-use Rattle.zone_plain_offsets.specs.WrittenOut.{written_out}
+use Rattle.zone_plain.specs.Made.{made_rule, rules_named, rules_for, changed_by, changed, name_in, made_for, made}
+use Rattle.zone_plain.specs.MadeLaws.{written_is}
+use Rattle.zone_plain.specs.Pairs.{Pair, Asked, total, under, asked, pairs_of}
+use Rattle.zone_plain.specs.WrittenOut.{written_out}
 use Rattle.zone_plain.proofs.PartLemmas.{GivesIn, parts_give}
-use Rattle.zone_plain_offsets.specs.Written.{Rules, Zones, Links}
+use Rattle.zone_plain.specs.Written.{Rules, Zones, Links}
 use Rattle.zone_plain.specs.WrittenLines.{in_parts}
 
 -- what a line gives as a name

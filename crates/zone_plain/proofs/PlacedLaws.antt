@@ -15,13 +15,13 @@ use Rattle.zone_plain_base.specs.Renamed.{renamed}
 use Rattle.zone_plain.specs.Declares.{has_zone, target_of}
 use Rattle.zone_plain.specs.Leads.{zone_behind}
 use Rattle.zone_plain.specs.Settled.{lacks_rules, link_to, link_after, settled_link, settled_line, link_size, settled_from, settled}
-use Rattle.zone_plain_offsets.specs.Made.{changed_by, changed, made_rule, name_in, rules_named, made_for, made}
-use Rattle.zone_plain_offsets.specs.Pairs.{Pair, Asked, nothing, total, under, asked, pairs_of}
-use Rattle.zone_plain_offsets.specs.WrittenOut.{refused_from, written_unless, written_out}
+use Rattle.zone_plain.specs.Made.{changed_by, changed, made_rule, name_in, rules_named, made_for, made}
+use Rattle.zone_plain.specs.Pairs.{Pair, Asked, nothing, total, under, asked, pairs_of}
+use Rattle.zone_plain.specs.WrittenOut.{refused_from, written_unless, written_out}
 use Rattle.zone_plain.specs.LineValues.{line_meaning, is_open_after, values_from, mark_in, named, values_in}
 use Rattle.zone_plain.proofs.Followed.{are_followed}
 use Rattle.zone_plain.proofs.Placed.{are_placed}
-use Rattle.zone_plain_offsets.specs.Written.{Rules, Zones, Links, is_in}
+use Rattle.zone_plain.specs.Written.{Rules, Zones, Links, is_in}
 use Rattle.zone_plain.specs.WrittenLines.{in_parts}
 
 -- lines that follow where they have to follow a line of a zone

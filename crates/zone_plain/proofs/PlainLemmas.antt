@@ -3,7 +3,7 @@ use Rattle.std.proofs.Common.{◌≡◌, ◌<◌, ◌≤◌, ℕ, List, ◌++◌
 use Rattle.std.proofs.lemmas.Bool.{le-ltb, lt-ltb}
 use Rattle.zone_values.specs.Values.{LineValue}
 use Rattle.zone_plain_base.specs.LineFaults.{too_long}
-use Rattle.zone_plain_offsets.specs.WrittenOut.{IsWrittenAs}
+use Rattle.zone_plain.specs.WrittenOut.{IsWrittenAs}
 use Rattle.zone_plain.specs.Heads.{head_of}
 use Rattle.zone_plain.specs.LineValues.{values_in}
 use Rattle.zone_plain.specs.Settled.{settled}

@@ -9,8 +9,8 @@ use Rattle.zone_plain_base.specs.MeantLaws.{then_ok, either}
 use Rattle.zone_plain_base.specs.SaidLaws.{read_back, one_line}
 use Rattle.zone_plain.proofs.SettledSaidLaws.{settled_said}
 use Rattle.zone_plain.specs.Settled.{settled}
-use Rattle.zone_plain_offsets.specs.SaidLaws.{written_out_said}
-use Rattle.zone_plain_offsets.specs.WrittenOut.{written_out}
+use Rattle.zone_plain.specs.SaidLaws.{written_out_said}
+use Rattle.zone_plain.specs.WrittenOut.{written_out}
 use Rattle.zone_plain.specs.Heads.{head_of}
 use Rattle.zone_plain.specs.LineValues.{values_in}
 use Rattle.zone_plain.specs.Named.{IsSaid, named_lines}
@@ -19,7 +19,7 @@ use Rattle.zone_plain.proofs.Followed.{are_followed}
 use Rattle.zone_plain.proofs.PlacedLaws.{StaysFollowed, source_followed, settled_followed, out_followed}
 use Rattle.zone_plain.specs.Plain.{plain_of}
 use Rattle.zone_plain.specs.ReadBack.{IsReadAsMeant, IsReadBack}
-use Rattle.zone_plain_offsets.specs.Written.{written}
+use Rattle.zone_plain.specs.Written.{written}
 
 -- what can be said is read as it is meant
 pub said_is_read : (v : LineValue) → IsSaid v → IsReadAsMeant v

@@ -28,7 +28,7 @@ use Rattle.zone_plain.specs.Plain.{plain_of}
 use Rattle.zone_plain.specs.ReadBack.{IsReadAsMeant}
 use Rattle.zone_plain.proofs.ReadBackLaws.{read_as_meant}
 use Rattle.zone_plain.specs.Rebuilt.{IsRebuilt}
-use Rattle.zone_plain_offsets.specs.Written.{written}
+use Rattle.zone_plain.specs.Written.{written}
 use Rattle.zone_plain.specs.WrittenLines.{IsLine, JoinAlike, in_parts}
 use Rattle.zone_plain.proofs.WrittenLinesLaws.{line_text, written_is, lines_are, texts_are, all_lines, all_say, in_all_parts}
 

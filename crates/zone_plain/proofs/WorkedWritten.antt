@@ -13,7 +13,7 @@ use Rattle.zone_values.specs.declared.time.TimeSpec.TheVariants.{Hours, HoursMin
 use Rattle.zone_values.specs.declared.time.TimeType.TheVariants.{Standard}
 use Rattle.zone_values.specs.declared.year.Year.TheVariants.{Minimum, Number}
 use Rattle.zone_plain_base.specs.PlainTexts.{plain_text, rule_text, years_text, year_text, to_text, moment_text, day_text, time_text, clock_text, info_text, stretch_text, saving_text, end_text}
-use Rattle.zone_plain_offsets.specs.Written.{written}
+use Rattle.zone_plain.specs.Written.{written}
 use Rattle.zone_plain.specs.WrittenLines.{IsOneLine}
 
 -- two links, a zone of two lines, and a rule behind them

@@ -11,7 +11,7 @@ use Rattle.zone_source.specs.Zones.{source_value}
 use Rattle.zone_values.specs.Values.{LineValue}
 use Rattle.zone_plain_base.specs.PlainTexts.{plain_text}
 use Rattle.zone_plain.specs.ReadBack.{IsReadAsMeant}
-use Rattle.zone_plain_offsets.specs.Written.{Part, Rules, Zones, Links, is_in, part_text, written}
+use Rattle.zone_plain.specs.Written.{Part, Rules, Zones, Links, is_in, part_text, written}
 use Rattle.zone_plain.specs.WrittenLines.{IsLine, in_parts}
 
 -- a source says of a line that is read as meant what is meant

@@ -1,7 +1,7 @@
 -- Sources that ask for nothing.
 use Rattle.std.specs.Prelude.{◌≡◌, List, [], ◌∷◌}
 use Rattle.zone_values.specs.Values.{LineValue}
-use Rattle.zone_plain_offsets.specs.Pairs.{asked, nothing}
+use Rattle.zone_plain.specs.Pairs.{asked, nothing}
 
 -- no line has a `%z`
 abbrev pub HasNoOffsets : List LineValue → Type 0

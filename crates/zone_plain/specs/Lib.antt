@@ -5,6 +5,14 @@ pub mod Declares
 pub mod Leads
 pub mod Settled
 pub mod Needs
+pub mod OffsetTexts
+pub mod MadeNames
+pub mod Formats
+pub mod Pairs
+pub mod Made
+pub mod Written
+pub mod WrittenOut
+pub mod Abbreviations
 pub mod Plain
 pub mod Named
 pub mod ReadBack
@@ -14,6 +22,16 @@ pub mod Kept
 pub mod Causes
 pub mod Ends
 pub mod Starts
+-- Laws: what a caller may use.
+pub mod MadeNameLaws
+pub mod PairLaws
+pub mod SaidLaws
+pub mod MadeLaws
+pub mod TableLaws
+pub mod AbbreviationLaws
+pub mod NoneLeftLaws
 -- Words of private clauses.
+pub mod Shown
 pub mod Told
+pub mod ToldOffsets
 pub mod Stands

@@ -4,10 +4,10 @@ use Rattle.zone_outside.specs.Limit.{text_limit}
 use Rattle.zone_values.specs.Results.{◌>>=◌}
 use Rattle.zone_plain_base.specs.LineFaults.{Refusal, too_long, by_line}
 use Rattle.zone_plain.specs.Settled.{settled}
-use Rattle.zone_plain_offsets.specs.WrittenOut.{written_out}
+use Rattle.zone_plain.specs.WrittenOut.{written_out}
 use Rattle.zone_plain.specs.Heads.{head_of}
 use Rattle.zone_plain.specs.LineValues.{values_in}
-use Rattle.zone_plain_offsets.specs.Written.{written}
+use Rattle.zone_plain.specs.Written.{written}
 
 abbrev pub if_short : List ℕ → Result (List ℕ) Refusal
 if_short bytes = if nat_lt text_limit (length bytes) then Err too_long else Ok bytes

@@ -5,11 +5,11 @@ use Rattle.zone_line.specs.LineValues.{value}
 use Rattle.zone_values.specs.Values.{LineValue}
 use Rattle.zone_plain_base.specs.PlainTexts.{plain_text}
 use Rattle.zone_plain.specs.Settled.{settled}
-use Rattle.zone_plain_offsets.specs.WrittenOut.{written_out}
+use Rattle.zone_plain.specs.WrittenOut.{written_out}
 use Rattle.zone_plain.specs.Heads.{head_of}
 use Rattle.zone_plain.specs.LineValues.{meant_in}
 use Rattle.zone_plain.specs.Named.{named_lines}
-use Rattle.zone_plain_offsets.specs.Written.{written}
+use Rattle.zone_plain.specs.Written.{written}
 use Rattle.zone_plain.specs.WrittenLines.{IsOneLine}
 
 -- what is written of a value is UTF-8 and one line, and is read as this value

@@ -5,7 +5,7 @@ use Rattle.zone_values.specs.Values.{LineValue}
 use Rattle.zone_source.specs.Lines.{is_line_feed}
 use Rattle.zone_table.specs.Joined.{rules_of, zone_of, link_of}
 use Rattle.zone_plain_base.specs.PlainTexts.{plain_text}
-use Rattle.zone_plain_offsets.specs.Written.{Rules, Zones, Links, is_in}
+use Rattle.zone_plain.specs.Written.{Rules, Zones, Links, is_in}
 
 -- the text has no line feed, and no carriage return at its end
 pub record IsLine (text : List ℕ) : Type 0 where

@@ -14,6 +14,7 @@ ghost use Rattle.zone_plain_base.specs.Renamed.{renamed, ruleset_of};
 ghost use Rattle.zone_plain_base.specs.Said.{is_said};
 
 use crate::links::settle;
+use crate::offsets::write_out;
 use std::alloc::{AllocError, Global};
 use zone_line::{Line, LineParser, LineReader};
 use zone_plain_base::{
@@ -21,7 +22,6 @@ use zone_plain_base::{
     mark_behind, said_name_of, under, write_said,
 };
 use zone_plain_lines::PlainCause;
-use zone_plain_offsets::write_out;
 use zone_source::{LIMIT, LineList, Lines, put_release_line, release_of, text_of};
 
 /// Whether the line is read as one that says nothing.

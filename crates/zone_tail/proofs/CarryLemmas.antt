@@ -2,7 +2,7 @@
 use Rattle.std.proofs.Common.{◌≡◌, false, None, ℤ, pos, refl, arith, ℕ, zero, suc, true, cond, List, [], ◌∷◌, Option, Some, neg_ℤ, ◌<ℤ◌, sym, ◌∙◌, subst}
 use Rattle.std.specs.Ordering.{int_eq}
 use Rattle.std.proofs.lemmas.Int.{ints}
-use Rattle.tz_posix_core.specs.Days.{day_refusal}
+use Rattle.tz_posix.specs.Days.{day_refusal}
 use Rattle.zone_tail.specs.Rules.{IsNearYear, date_of, IsReach, rule_total}
 use Rattle.zone_tail.specs.declared.rule.Change.{Change}
 use Rattle.std.proofs.lemmas.Bool.{and_from}
@@ -11,11 +11,11 @@ use Rattle.civil_base.specs.Instants.{seconds_of}
 use Rattle.tz_zone.specs.Sets.{schedule_of, shifts_of}
 use Rattle.tz_zone.specs.Spans.{Shift}
 use Rattle.tz_zone.specs.declared.set.FixedTimespanSet.{FixedTimespanSet}
-use Rattle.tz_posix_core.specs.InForce.{is_year, rule_refusal, year_at}
-use Rattle.tz_posix_core.specs.PosixZones.{Given, Gives, posix_refusal}
-use Rattle.tz_posix_core.specs.Ranges.{first_some}
-use Rattle.tz_posix_core.specs.Spells.{Spells}
-use Rattle.tz_posix_core.specs.declared.error.Error.TheVariants.{ComponentRange}
+use Rattle.tz_posix.specs.InForce.{is_year, rule_refusal, year_at}
+use Rattle.tz_posix.specs.PosixZones.{Given, Gives, posix_refusal}
+use Rattle.tz_posix.specs.Ranges.{first_some}
+use Rattle.tz_posix.specs.Spells.{Spells}
+use Rattle.tz_posix.specs.declared.error.Error.TheVariants.{ComponentRange}
 use Rattle.zone_tail.specs.Agreement.{Agrees}
 use Rattle.zone_tail.specs.Candidates.{candidate_total, IsAllowed, IsLast, IsSoundCandidate}
 use Rattle.zone_tail.specs.Carried.{CarriesOn, IsCovered, IsFrom}

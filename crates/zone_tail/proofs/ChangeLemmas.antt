@@ -12,11 +12,11 @@ use Rattle.calendar.specs.MonthLaws.{days_in_month-bounds}
 use Rattle.calendar.specs.SignedLaws.{signed, floored}
 use Rattle.calendar.specs.WeekdayLaws.{day-from_first, last_with_weekday, weekday_in_month, weekday_of-small}
 use Rattle.calendar.specs.Weekdays.{weekday_of}
-use Rattle.tz_posix_core.specs.Days.{nth_weekday, rule_day}
-use Rattle.tz_posix_core.specs.InForce.{instant_in}
-use Rattle.tz_posix_core.specs.Ranges.{is_rule_date}
-use Rattle.tz_posix_core.specs.WeekdayLaws.{first_weekday-is}
-use Rattle.tz_posix_core.specs.declared.date.Date.TheVariants.{M}
+use Rattle.tz_posix.specs.Days.{nth_weekday, rule_day}
+use Rattle.tz_posix.specs.InForce.{instant_in}
+use Rattle.tz_posix.specs.Ranges.{is_rule_date}
+use Rattle.tz_posix.specs.WeekdayLaws.{first_weekday-is}
+use Rattle.tz_posix.specs.declared.date.Date.TheVariants.{M}
 use Rattle.zone_tail.specs.Changes.{change_with, changes_at, weeks}
 use Rattle.zone_tail.specs.LastYear.{second_week, year_begin, year_end}
 use Rattle.zone_tail.specs.Rules.{IsChange, time_of}

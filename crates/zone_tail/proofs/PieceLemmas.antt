@@ -3,7 +3,7 @@ use Rattle.std.proofs.Common.{◌≡◌, ℤ, pos, cond, ◌+ℤ◌, ◌-ℤ◌,
 use Rattle.std.specs.Prelude.{◌&&◌, ◌||◌}
 use Rattle.std.proofs.lemmas.Int.{ints}
 use Rattle.calendar.specs.Days.{day}
-use Rattle.tz_posix_core.specs.InForce.{instant_in, is_saving, is_within, posix_total, year_at}
+use Rattle.tz_posix.specs.InForce.{instant_in, is_saving, is_within, posix_total, year_at}
 use Rattle.zone_tail.specs.declared.rule.YearlyRule.{YearlyRule}
 use Rattle.civil_base.specs.Ranges.{IsOffset}
 use Rattle.zone_tail.specs.Rules.{IsReach, rule_total, time_of}

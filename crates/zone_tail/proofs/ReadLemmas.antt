@@ -16,14 +16,14 @@ use Rattle.calendar.specs.ComparisonLaws.{lt_from_fail, lt_from_pass}
 use Rattle.calendar.specs.SignedLaws.{signed, one_sided}
 use Rattle.civil_base.specs.Offsets.{signed_by}
 use Rattle.tz_zone.specs.declared.set.FixedTimespanSet.{FixedTimespanSet}
-use Rattle.tz_posix_core.specs.InForce.{yearly_time}
-use Rattle.tz_posix_core.specs.Marks.{colon, comma, dot, greater, less, letter_M}
-use Rattle.tz_posix_core.specs.PosixZones.{fixed, ruled}
-use Rattle.tz_posix_core.specs.Ranges.{date_miss, first_miss, first_some, is_time, offset_miss, posix_range, rule_range, rule_time_miss}
-use Rattle.tz_posix_core.specs.Resolved.{resolved}
-use Rattle.tz_posix_core.specs.Seconds.{east_of, offset_seconds, part, time_seconds}
-use Rattle.tz_posix_core.specs.Spells.{absent, date, day_times, dst, enclosed, full_form, hours, is_enclosed, letters, minus, minutes, bare, present, rule, seconds, timed, weekday, SpellsDate, SpellsMoment, SpellsName, SpellsNumber, SpellsOffset, SpellsRule, SpellsTime, Optional, Spells}
-use Rattle.tz_posix_core.specs.declared.error.RangeError.TheVariants as miss
+use Rattle.tz_posix.specs.InForce.{yearly_time}
+use Rattle.tz_posix.specs.Marks.{colon, comma, dot, greater, less, letter_M}
+use Rattle.tz_posix.specs.PosixZones.{fixed, ruled}
+use Rattle.tz_posix.specs.Ranges.{date_miss, first_miss, first_some, is_time, offset_miss, posix_range, rule_range, rule_time_miss}
+use Rattle.tz_posix.specs.Resolved.{resolved}
+use Rattle.tz_posix.specs.Seconds.{east_of, offset_seconds, part, time_seconds}
+use Rattle.tz_posix.specs.Spells.{absent, date, day_times, dst, enclosed, full_form, hours, is_enclosed, letters, minus, minutes, bare, present, rule, seconds, timed, weekday, SpellsDate, SpellsMoment, SpellsName, SpellsNumber, SpellsOffset, SpellsRule, SpellsTime, Optional, Spells}
+use Rattle.tz_posix.specs.declared.error.RangeError.TheVariants as miss
 use Rattle.zone_tail.specs.Candidates.{IsSoundCandidate}
 use Rattle.zone_tail.specs.Ready.{CanBeWritten, IsNamedBy}
 use Rattle.zone_tail.specs.Rules.{IsChange, date_of, time_of}

@@ -12,7 +12,7 @@ use Rattle.zone_spans.specs.Entries.{Entry, total}
 use Rattle.tz_zone.specs.Sets.{IsAccepted, IsSpanTime, schedule_of, shift_of, shifts_of, span_in, total_of_span}
 use Rattle.tz_zone.specs.Spans.{Shift, shift_at}
 use Rattle.tz_zone.specs.declared.set.FixedTimespanSet.{FixedTimespanSet}
-use Rattle.tz_posix_core.specs.InForce.{instant_in}
+use Rattle.tz_posix.specs.InForce.{instant_in}
 use Rattle.zone_tail.specs.Agreement.{Agrees}
 use Rattle.zone_tail.specs.Candidates.{IsAllowed, IsLast, IsSoundCandidate}
 use Rattle.zone_tail.specs.Changes.{changes_at}

@@ -10,10 +10,10 @@ use Rattle.calendar.specs.MonthLaws.{days_through-rise, days_through-two}
 use Rattle.calendar.specs.SignedLaws.{signed}
 use Rattle.calendar.specs.WeekdayLaws.{day-from_first}
 use Rattle.zone_spans.specs.Entries.{Entry}
-use Rattle.tz_posix_core.specs.DayLaws.{day-2100, days_into_year-is}
-use Rattle.tz_posix_core.specs.Days.{nth_weekday, rule_day}
-use Rattle.tz_posix_core.specs.InForce.{instant_in}
-use Rattle.tz_posix_core.specs.WeekdayLaws.{first_weekday-is, nth_weekday-is, weekday_parts}
+use Rattle.tz_posix.specs.DayLaws.{day-2100, days_into_year-is}
+use Rattle.tz_posix.specs.Days.{nth_weekday, rule_day}
+use Rattle.tz_posix.specs.InForce.{instant_in}
+use Rattle.tz_posix.specs.WeekdayLaws.{first_weekday-is, nth_weekday-is, weekday_parts}
 use Rattle.zone_tail.specs.LastYear.{year_begin, year_end}
 use Rattle.civil_base.specs.RangeLaws.{offset_greatest, offset_least}
 use Rattle.civil_base.specs.Ranges.{IsOffset}

@@ -7,8 +7,8 @@ use Rattle.calendar.specs.ComparisonLaws.{le_le, lt_le}
 use Rattle.calendar.specs.SignedLaws.{signed}
 use Rattle.zone_spans.specs.Schedules.{Schedule}
 use Rattle.tz_zone.specs.Spans.{IsCut, Shift, TimesDontFall, shift_at, total_of, total_from}
-use Rattle.tz_posix_core.specs.DayLaws.{day-2100}
-use Rattle.tz_posix_core.specs.InForce.{instant_in, is_within, year_at}
+use Rattle.tz_posix.specs.DayLaws.{day-2100}
+use Rattle.tz_posix.specs.InForce.{instant_in, is_within, year_at}
 use Rattle.zone_tail.specs.Agreement.{Agrees, AgreesFrom}
 use Rattle.zone_tail.specs.Candidates.{IsAllowed}
 use Rattle.zone_tail.specs.Choices.{candidate_at, IsChoice}

@@ -8,7 +8,7 @@ use Rattle.calendar.specs.Days.{day, is_leap, days_in_year, days_in_month, days_
 use Rattle.calendar.specs.MonthLaws.{days_through-two}
 use Rattle.calendar.specs.SignedLaws.{signed, natural}
 use Rattle.calendar.specs.YearLaws.{cycle_days-rise, day-cycle}
-use Rattle.tz_posix_core.specs.InForce.{year_at}
+use Rattle.tz_posix.specs.InForce.{year_at}
 use Rattle.civil_base.specs.RangeLaws.{offset_greatest, offset_least}
 use Rattle.civil_base.specs.Ranges.{IsOffset}
 use Rattle.zone_tail.specs.Rules.{IsNearYear, IsReach}

@@ -4,11 +4,11 @@ use Rattle.civil_base.specs.Instants.{seconds_of}
 use Rattle.zone_spans.specs.Schedules.{total_at}
 use Rattle.tz_zone.specs.Sets.{schedule_of}
 use Rattle.tz_zone.specs.declared.set.FixedTimespanSet.{FixedTimespanSet}
-use Rattle.tz_posix_core.specs.PosixZones.{Given, Gives, PosixZone, posix_refusal}
-use Rattle.tz_posix_core.specs.Ranges.{posix_range}
-use Rattle.tz_posix_core.specs.Resolved.{resolved}
-use Rattle.tz_posix_core.specs.Spells.{Spells}
-use Rattle.tz_posix_core.specs.Values.{TzValue}
+use Rattle.tz_posix.specs.PosixZones.{Given, Gives, PosixZone, posix_refusal}
+use Rattle.tz_posix.specs.Ranges.{posix_range}
+use Rattle.tz_posix.specs.Resolved.{resolved}
+use Rattle.tz_posix.specs.Spells.{Spells}
+use Rattle.tz_posix.specs.Values.{TzValue}
 use Rattle.zone_tail.specs.Settled.{IsPastChanges, IsSettled}
 use Rattle.zone_tail.specs.Tails.{end_of_last_year, is_ending_early}
 

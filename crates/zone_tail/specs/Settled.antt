@@ -3,8 +3,8 @@ use Rattle.std.specs.Prelude.{◌≡◌, Bool, true, false, ◌||◌, ℤ, pos, 
 use Rattle.std.specs.List.{list_all}
 use Rattle.zone_spans.specs.Entries.{Entry}
 use Rattle.tz_zone.specs.declared.set.FixedTimespanSet.{FixedTimespanSet}
-use Rattle.tz_posix_core.specs.InForce.{YearlyTime, instant_in, year_at}
-use Rattle.tz_posix_core.specs.PosixZones.{PosixZone, ruled}
+use Rattle.tz_posix.specs.InForce.{YearlyTime, instant_in, year_at}
+use Rattle.tz_posix.specs.PosixZones.{PosixZone, ruled}
 use Rattle.zone_tail.specs.Rules.{time_of}
 use Rattle.zone_tail.specs.Tails.{end_of_last_year, is_ending_early}
 use Rattle.zone_tail.specs.declared.candidate.Candidate.{Candidate}

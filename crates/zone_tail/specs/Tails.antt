@@ -5,7 +5,7 @@ use Rattle.zone_spans.specs.Entries.{Entry, total}
 use Rattle.tz_zone.specs.Sets.{schedule_of, shifts_of}
 use Rattle.tz_zone.specs.Spans.{Shift, shift_at}
 use Rattle.tz_zone.specs.declared.set.FixedTimespanSet.{FixedTimespanSet}
-use Rattle.tz_posix_core.specs.Marks.{less, greater}
+use Rattle.tz_posix.specs.Marks.{less, greater}
 use Rattle.zone_tail.specs.Changes.{changes_at}
 use Rattle.zone_tail.specs.Choices.{candidate_at, IsChoice}
 use Rattle.zone_tail.specs.LastYear.{Form, steady, yearly, other, form, second_week, standard_of, year_end}

@@ -1,12 +1,12 @@
 -- The value that a candidate's text spells, and the time zone that it stands for.
 use Rattle.std.specs.Prelude.{ℕ, ◌/◌, ◌%◌, ◌&&◌, ◌==◌, not, List, Option, Some, None, if◌then◌else◌, ℤ, pos, ◌+ℤ◌, int_lt, unsigned_abs}
 use Rattle.std.specs.Ordering.{int_eq}
-use Rattle.tz_posix_core.specs.PosixZones.{Named, PosixZone, fixed, ruled}
-use Rattle.tz_posix_core.specs.Values.{TzValue, expanded}
-use Rattle.tz_posix_core.specs.declared.date.Date.{Date}
-use Rattle.tz_posix_core.specs.declared.time.Offset.{Offset}
-use Rattle.tz_posix_core.specs.declared.time.Time.{Time}
-use Rattle.tz_posix_core.specs.declared.values.Rule.{Rule}
+use Rattle.tz_posix.specs.PosixZones.{Named, PosixZone, fixed, ruled}
+use Rattle.tz_posix.specs.Values.{TzValue, expanded}
+use Rattle.tz_posix.specs.declared.date.Date.{Date}
+use Rattle.tz_posix.specs.declared.time.Offset.{Offset}
+use Rattle.tz_posix.specs.declared.time.Time.{Time}
+use Rattle.tz_posix.specs.declared.values.Rule.{Rule}
 use Rattle.zone_tail.specs.Rules.{date_of, time_of}
 use Rattle.zone_tail.specs.declared.candidate.Candidate.{Candidate}
 use Rattle.zone_tail.specs.declared.candidate.Candidate.TheVariants.{Fixed, Ruled}

@@ -6,15 +6,15 @@ ghost use Rattle.zone_spans.specs.Schedules.{total_at};
 ghost use Rattle.tz_zone.specs.Sets.{IsAccepted, schedule_of};
 ghost use Rattle.tz_zone.specs.Zones.{set_of};
 ghost use Rattle.tz_zone.specs.declared.set.FixedTimespanSet.{FixedTimespanSet};
-ghost use Rattle.tz_posix_core.specs.Parses.{IsParsed};
+ghost use Rattle.tz_posix.specs.Parses.{IsParsed};
 ghost use Rattle.zone_tail.specs.Carried.{CarriesOn, IsCovered};
 ghost use Rattle.zone_tail.specs.Found.{found_from, found_text};
 ghost use Rattle.zone_tail.specs.Tails.{IsTail, tail_fault};
 
 use civil_base::{OffsetDateTime, UtcOffset};
 use tz_lookup::{Offset, TimeZone, Tz};
-use tz_posix_core::PosixTz;
-use tz_posix_core::laws::one_reading;
+use tz_posix::PosixTz;
+use tz_posix::laws::one_reading;
 
 /// The offset that a zone gives a date-time, and that of a POSIX TZ string, or none where it refuses the date-time.
 ///

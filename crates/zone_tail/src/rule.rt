@@ -2,13 +2,13 @@
 ghost use Rattle.std.specs.Prelude.{◌≡◌, ℤ, pos, ◌-ℤ◌, ◌*ℤ◌, ◌≤ℤ◌, ◌<ℤ◌};
 ghost use Rattle.calendar.specs.Days.{day as day_at, IsCountedYear};
 ghost use Rattle.civil_base.specs.Ranges.{IsOffset};
-ghost use Rattle.tz_posix_core.specs.InForce.{moments_in, year_at};
-ghost use Rattle.tz_posix_core.specs.Yearly.{moments_shown, time_shown};
+ghost use Rattle.tz_posix.specs.InForce.{moments_in, year_at};
+ghost use Rattle.tz_posix.specs.Yearly.{moments_shown, time_shown};
 ghost use Rattle.zone_tail.specs.Rules.{IsChange, IsNearYear, IsReach, IsSound, rule_total, time_of};
 
 use civil_base::UtcOffset;
-use tz_posix_core::Date;
-use tz_posix_core::parts::{Moments, YearlyTime, counted_year_at};
+use tz_posix::Date;
+use tz_posix::parts::{Moments, YearlyTime, counted_year_at};
 
 /// When a change comes in each year.
 #[derive(Clone, Copy, Debug, PartialEq, Eq)]
@@ -63,7 +63,7 @@ impl YearlyRule {
     }
 
     /// The second at which a year begins, by clocks of standard time.
-    #[tactic(auto, unfolding(tz_posix_core::specs::InForce::instant_in, tz_posix_core::specs::Days::rule_day))]
+    #[tactic(auto, unfolding(tz_posix::specs::InForce::instant_in, tz_posix::specs::Days::rule_day))]
     fn first_second(&self, year: i32) -> i64
         requires standard { IsOffset self.now.standard }
         requires year { IsCountedYear year }
@@ -85,7 +85,7 @@ impl YearlyRule {
     }
 
     /// The total at a second.
-    #[tactic(auto, unfolding(crate::specs::Rules::rule_total, tz_posix_core::specs::InForce::posix_total, tz_posix_core::specs::InForce::is_saving))]
+    #[tactic(auto, unfolding(crate::specs::Rules::rule_total, tz_posix::specs::InForce::posix_total, tz_posix::specs::InForce::is_saving))]
     pub(crate) fn total(&self, second: i64) -> i64
         requires sound { IsSound self.now }
         requires reach { IsReach second }

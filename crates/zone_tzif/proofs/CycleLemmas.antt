@@ -10,11 +10,11 @@ use Rattle.calendar.specs.Days.{day, days_in_month, IsCountedYear, IsDate}
 use Rattle.calendar.specs.SignedLaws.{signed}
 use Rattle.calendar.specs.Weekdays.{weekday_of}
 use Rattle.zone_spans.specs.Cycle.{days_on, next_cycle, seconds_on}
-use Rattle.tz_posix_core.specs.Days.{julian_day, nth_weekday, rule_day}
-use Rattle.tz_posix_core.specs.InForce.{YearlyTime, instant_in, is_saving, is_within, moments_in, posix_total, year_at}
-use Rattle.tz_posix_core.specs.PosixZones.{Given, GivesByRule, Named}
-use Rattle.tz_posix_core.specs.declared.date.Date.{Date}
-use Rattle.tz_posix_core.specs.declared.date.Date.TheVariants.{J, N, M}
+use Rattle.tz_posix.specs.Days.{julian_day, nth_weekday, rule_day}
+use Rattle.tz_posix.specs.InForce.{YearlyTime, instant_in, is_saving, is_within, moments_in, posix_total, year_at}
+use Rattle.tz_posix.specs.PosixZones.{Given, GivesByRule, Named}
+use Rattle.tz_posix.specs.declared.date.Date.{Date}
+use Rattle.tz_posix.specs.declared.date.Date.TheVariants.{J, N, M}
 use Rattle.tz_tzif.specs.FooterForce.{FooterZone, fixed, yearly, has_begun, held_at, is_footer_saving, is_saved, is_saved_by, standard_total, year_after, year_before}
 use Rattle.zone_tzif.specs.Years.{IsInYears}
 

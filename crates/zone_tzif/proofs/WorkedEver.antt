@@ -1,7 +1,7 @@
 -- The file of a zone for ever, at worked rows.
 use Rattle.std.proofs.Common.{◌≡◌, Bool, true, false, [], ◌∷◌, map, Option, Some, None, codes, refl, ℤ, pos, negsuc, ℕ}
-use Rattle.tz_posix_core.specs.declared.date.Date.TheVariants.{M}
-use Rattle.tz_posix_core.specs.declared.time.Offset.{Offset}
+use Rattle.tz_posix.specs.declared.date.Date.TheVariants.{M}
+use Rattle.tz_posix.specs.declared.time.Offset.{Offset}
 use Rattle.zone_spans.specs.declared.span.FixedTimespan.{FixedTimespan}
 use Rattle.tz_tzif.specs.Values.{FooterValue}
 use Rattle.tz_zone.specs.declared.set.FixedTimespanSet.{FixedTimespanSet}

@@ -2,7 +2,7 @@
 use Rattle.std.specs.Prelude.{ℕ, Bool, true, ◌&&◌, nat_le, List, filter, Option, Some, None, if◌then◌else◌, ℤ, int_le}
 use Rattle.tz_tzif.specs.FooterForce.{FooterZone}
 use Rattle.tz_tzif.specs.Values.{FooterValue, SavingValue}
-use Rattle.tz_posix_core.specs.declared.time.Offset.{Offset}
+use Rattle.tz_posix.specs.declared.time.Offset.{Offset}
 use Rattle.tz_zone.specs.declared.set.FixedTimespanSet.{FixedTimespanSet}
 use Rattle.zone_spans.specs.Entries.{Entry}
 use Rattle.zone_tzif.specs.Agreement.{IsCovered, cycle_begin}

@@ -5,7 +5,7 @@ ghost use Rattle.tz_tzif.specs.Spells.{SpellsFooter};
 ghost use Rattle.tz_tzif.specs.Values.{FooterValue};
 ghost use Rattle.zone_tzif.specs.EverFiles.{is_posix_time, version_for};
 
-use tz_posix_core::Offset;
+use tz_posix::Offset;
 use tz_tzif::{FooterText, footer_text, one_footer};
 use zone_tzif_core::Version;
 

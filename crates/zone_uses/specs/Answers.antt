@@ -1,10 +1,10 @@
 -- What the callers answer.
 use Rattle.std.specs.Prelude.{◌≡◌, ℕ, ℤ, int_lt, List, [], ◌∷◌, Option, Some, None, Ok}
 use Rattle.std.specs.List.{find}
-use Rattle.tz_posix_core.specs.Parses.{IsParsed}
-use Rattle.tz_posix_core.specs.PosixShown.{posix_of}
-use Rattle.tz_posix_core.specs.PosixZones.{GivesTotal}
-use Rattle.tz_posix_core.specs.declared.posix.PosixTz.{PosixTz}
+use Rattle.tz_posix.specs.Parses.{IsParsed}
+use Rattle.tz_posix.specs.PosixShown.{posix_of}
+use Rattle.tz_posix.specs.PosixZones.{GivesTotal}
+use Rattle.tz_posix.specs.declared.posix.PosixTz.{PosixTz}
 use Rattle.tz_zone.specs.declared.set.FixedTimespanSet.{FixedTimespanSet}
 use Rattle.tz_tzif.specs.Faults.{SaysInFooter}
 use Rattle.tz_tzif.specs.InForce.{told_total_at}

@@ -7,12 +7,12 @@ use Rattle.sefunjaro.specs.declared.any_source.AnySourceFault.TheVariants as any
 use Rattle.sefunjaro.specs.declared.source.OpenSource.{OpenSource}
 use Rattle.sefunjaro.specs.declared.error.Error.{Error}
 use Rattle.sefunjaro.specs.declared.error.Error.TheVariants as error
-use Rattle.tz_posix_core.specs.Parses.{IsParsed}
-use Rattle.tz_posix_core.specs.PosixShown.{posix_of}
-use Rattle.tz_posix_core.specs.PosixZones.{posix_refusal}
-use Rattle.tz_posix_core.specs.declared.error.Error as range
-use Rattle.tz_posix_core.specs.declared.error.ParseError.{ParseError}
-use Rattle.tz_posix_core.specs.declared.posix.PosixTz.{PosixTz}
+use Rattle.tz_posix.specs.Parses.{IsParsed}
+use Rattle.tz_posix.specs.PosixShown.{posix_of}
+use Rattle.tz_posix.specs.PosixZones.{posix_refusal}
+use Rattle.tz_posix.specs.declared.error.Error as range
+use Rattle.tz_posix.specs.declared.error.ParseError.{ParseError}
+use Rattle.tz_posix.specs.declared.posix.PosixTz.{PosixTz}
 use Rattle.tz_tzif.specs.Faults.{IsTzifFault}
 use Rattle.tz_tzif.specs.declared.fault.TzifFault.{TzifFault}
 use Rattle.tz_tzif.specs.declared.fault.TzifFault.TheVariants as file_zone

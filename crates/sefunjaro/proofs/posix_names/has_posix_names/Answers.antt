@@ -1,5 +1,5 @@
 use Rattle.std.proofs.Common.{◌∙◌, ap}
-use Rattle.tz_posix_core.specs.Shown.{tz_shown}
+use Rattle.tz_posix.specs.Shown.{tz_shown}
 use Rattle.sefunjaro.specs.PosixNames.{has_posix_names}
 use Rattle.sefunjaro.proofs.posix_names.has_posix_names.Goals as goal
 

@@ -1,5 +1,5 @@
 use Rattle.std.proofs.Common.{◌∙◌, ap}
-use Rattle.tz_posix_core.specs.Shown.{tz_shown}
+use Rattle.tz_posix.specs.Shown.{tz_shown}
 use Rattle.sefunjaro.specs.PosixNames.{is_posix_string}
 use Rattle.sefunjaro.proofs.posix_names.is_posix_string.Goals as goal
 

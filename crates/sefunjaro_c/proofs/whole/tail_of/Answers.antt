@@ -1,5 +1,5 @@
 use Rattle.std.proofs.Common.{◌∙◌, inl, length, string_bytes, sym, ap, subst}
-use Rattle.tz_posix_core.specs.Spells.{Spells}
+use Rattle.tz_posix.specs.Spells.{Spells}
 use Rattle.sefunjaro.specs.Rooms.{filled}
 use Rattle.sefunjaro_c.proofs.whole.tail_of.Goals as goal
 

@@ -1,4 +1,4 @@
-use Rattle.tz_posix_core.specs.Shown.{tz_shown}
+use Rattle.tz_posix.specs.Shown.{tz_shown}
 use Rattle.tz_tzif.proofs.FooterReadLemmas.{exact}
 use Rattle.tz_tzif.proofs.read.footer_text.Goals as goal
 

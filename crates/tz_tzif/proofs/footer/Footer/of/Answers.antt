@@ -1,5 +1,5 @@
 use Rattle.std.proofs.Common.{◌≡◌, None, option_map, subst}
-use Rattle.tz_posix_core.specs.Shown.{std_shown}
+use Rattle.tz_posix.specs.Shown.{std_shown}
 use Rattle.tz_tzif.specs.Ranges.{footer_miss}
 use Rattle.tz_tzif.specs.Shown.{saving_shown}
 use Rattle.tz_tzif.proofs.RangeLemmas.{standard_offset, saving_parts}

@@ -1,5 +1,0 @@
-use Rattle.tz_posix_core.specs.EntryLaws.{exact}
-use Rattle.tz_posix_core.proofs.read.value.Goals as goal
-
-pub returns : goal.returns
-returns g c = record { exact = exact g.met.T.RuleTime.reads c.args.text.now c.whole.result c.whole.ensures }

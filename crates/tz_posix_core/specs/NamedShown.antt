@@ -1,6 +1,0 @@
--- What is seen of the code's abbreviations.
-use Rattle.tz_posix_core.specs.PosixZones as zones
-use Rattle.tz_posix_core.specs.declared.posix.Named.{Named}
-
-abbrev pub named_of : Named → zones.Named
-named_of named = record { name = named.name.now; total = named.offset }

@@ -1,8 +1,0 @@
-use Rattle.std.proofs.Common.{map}
-use Rattle.zone_values.specs.Values.{line_value}
-use Rattle.zone_plain_offsets.specs.Told.{value_in}
-use Rattle.zone_plain_offsets.proofs.MadeLemmas.{HasMade}
-use Rattle.zone_plain_offsets.proofs.made.add_rules.Given as goal
-
-abbrev pub invariant-loop-index : goal.invariant-loop-index
-invariant-loop-index l = HasMade l.fn.name l.fn.offset (map (value_in (map line_value l.fn.lines)) l.fn.places) l.fn.made.items l.made.items l.index

@@ -1,7 +1,0 @@
-use Rattle.std.proofs.Common.{map}
-use Rattle.zone_values.specs.Values.{line_value}
-use Rattle.zone_plain_offsets.proofs.GroupLemmas.{HasGrouped}
-use Rattle.zone_plain_offsets.proofs.stage.places_by_name.Given as goal
-
-abbrev pub invariant-loop-place : goal.invariant-loop-place
-invariant-loop-place l = HasGrouped (map line_value l.fn.lines) l.groups l.place
