@@ -4,3 +4,4 @@ pub mod ReadLemmas
 pub mod LocalTimeLemmas
 pub mod WorkedTexts
 pub mod OrdinalLemmas
+pub mod TableLemmas

@@ -1,7 +1,7 @@
 //! Values written as texts, and read back from them.
 //!
 //! A local text is read exactly. A zoned text is read loosely, the value found is written, and the two texts are compared.
-ghost use Rattle.std.specs.Prelude.{◌≡◌, ◌≢◌, ℕ, ℤ, ◌<◌, ◌≤◌, pos, ◌+ℤ◌, ◌*ℤ◌, int_lt, unsigned_abs, ◌+◌, ◌*◌, [], ◌∷◌, ◌++◌, List, length, slice_index, true, false, IfSome, IsSomeAnd, MatchOption, take, if◌then◌else◌};
+ghost use Rattle.std.specs.Prelude.{◌≡◌, ◌≢◌, ℕ, ℤ, ◌<◌, ◌≤◌, pos, ◌+ℤ◌, ◌*ℤ◌, int_lt, unsigned_abs, ◌+◌, ◌*◌, ◌/◌, ◌%◌, [], ◌∷◌, ◌++◌, List, length, slice_index, true, false, IfSome, IsSomeAnd, MatchOption, take, if◌then◌else◌};
 ghost use Rattle.calendar.specs.Dates.{year_of};
 ghost use Rattle.civil_base.specs.DateParts.{HasParts};
 ghost use Rattle.civil_base.specs.Clock.{nanos_per_day, hour_of, minute_of, second_of};
@@ -177,10 +177,68 @@ fn two(tens: u8, ones: u8) -> u8
     ensures value { (n : ℕ) → n < 100 → tens ≡ digit_of n 10 → ones ≡ digit_of n 1 → result ≡ n }
     ensures spelled { result < 100 → (tens ≡ digit_of result 10) × (ones ≡ digit_of result 1) }
 {
-    let (tens, ones) = (digit_value(tens), digit_value(ones));
-    let are_digits = (tens < 10) & (ones < 10);
-    if are_digits { 10 * tens + ones } else { 255 }
+    tens_value(tens) + ones_value(ones)
 }
+
+// Ten times the value of a digit; 100 for any other byte.
+fn tens_value(byte: u8) -> u8
+    ensures digit { (d : ℕ) → d < 10 → byte ≡ 48 + d → result ≡ 10 * d }
+    ensures other { result < 100 → byte ≡ 48 + result / 10 }
+    ensures whole { result % 10 ≡ 0 }
+    ensures most { result ≤ 100 }
+{
+    TENS[byte as usize]
+}
+
+// The value of a digit; 100 for any other byte.
+fn ones_value(byte: u8) -> u8
+    ensures digit { (d : ℕ) → d < 10 → byte ≡ 48 + d → result ≡ d }
+    ensures other { result < 100 → byte ≡ 48 + result }
+    ensures one { result < 100 → result < 10 }
+    ensures most { result ≤ 100 }
+{
+    ONES[byte as usize]
+}
+
+// Ten times the value of each byte that is a digit, and 100.
+const TENS: &[u8] = b"\
+    \x64\x64\x64\x64\x64\x64\x64\x64\x64\x64\x64\x64\x64\x64\x64\x64\
+    \x64\x64\x64\x64\x64\x64\x64\x64\x64\x64\x64\x64\x64\x64\x64\x64\
+    \x64\x64\x64\x64\x64\x64\x64\x64\x64\x64\x64\x64\x64\x64\x64\x64\
+    \x00\x0a\x14\x1e\x28\x32\x3c\x46\x50\x5a\x64\x64\x64\x64\x64\x64\
+    \x64\x64\x64\x64\x64\x64\x64\x64\x64\x64\x64\x64\x64\x64\x64\x64\
+    \x64\x64\x64\x64\x64\x64\x64\x64\x64\x64\x64\x64\x64\x64\x64\x64\
+    \x64\x64\x64\x64\x64\x64\x64\x64\x64\x64\x64\x64\x64\x64\x64\x64\
+    \x64\x64\x64\x64\x64\x64\x64\x64\x64\x64\x64\x64\x64\x64\x64\x64\
+    \x64\x64\x64\x64\x64\x64\x64\x64\x64\x64\x64\x64\x64\x64\x64\x64\
+    \x64\x64\x64\x64\x64\x64\x64\x64\x64\x64\x64\x64\x64\x64\x64\x64\
+    \x64\x64\x64\x64\x64\x64\x64\x64\x64\x64\x64\x64\x64\x64\x64\x64\
+    \x64\x64\x64\x64\x64\x64\x64\x64\x64\x64\x64\x64\x64\x64\x64\x64\
+    \x64\x64\x64\x64\x64\x64\x64\x64\x64\x64\x64\x64\x64\x64\x64\x64\
+    \x64\x64\x64\x64\x64\x64\x64\x64\x64\x64\x64\x64\x64\x64\x64\x64\
+    \x64\x64\x64\x64\x64\x64\x64\x64\x64\x64\x64\x64\x64\x64\x64\x64\
+    \x64\x64\x64\x64\x64\x64\x64\x64\x64\x64\x64\x64\x64\x64\x64\x64\
+";
+
+// The value of each byte that is a digit, and 100.
+const ONES: &[u8] = b"\
+    \x64\x64\x64\x64\x64\x64\x64\x64\x64\x64\x64\x64\x64\x64\x64\x64\
+    \x64\x64\x64\x64\x64\x64\x64\x64\x64\x64\x64\x64\x64\x64\x64\x64\
+    \x64\x64\x64\x64\x64\x64\x64\x64\x64\x64\x64\x64\x64\x64\x64\x64\
+    \x00\x01\x02\x03\x04\x05\x06\x07\x08\x09\x64\x64\x64\x64\x64\x64\
+    \x64\x64\x64\x64\x64\x64\x64\x64\x64\x64\x64\x64\x64\x64\x64\x64\
+    \x64\x64\x64\x64\x64\x64\x64\x64\x64\x64\x64\x64\x64\x64\x64\x64\
+    \x64\x64\x64\x64\x64\x64\x64\x64\x64\x64\x64\x64\x64\x64\x64\x64\
+    \x64\x64\x64\x64\x64\x64\x64\x64\x64\x64\x64\x64\x64\x64\x64\x64\
+    \x64\x64\x64\x64\x64\x64\x64\x64\x64\x64\x64\x64\x64\x64\x64\x64\
+    \x64\x64\x64\x64\x64\x64\x64\x64\x64\x64\x64\x64\x64\x64\x64\x64\
+    \x64\x64\x64\x64\x64\x64\x64\x64\x64\x64\x64\x64\x64\x64\x64\x64\
+    \x64\x64\x64\x64\x64\x64\x64\x64\x64\x64\x64\x64\x64\x64\x64\x64\
+    \x64\x64\x64\x64\x64\x64\x64\x64\x64\x64\x64\x64\x64\x64\x64\x64\
+    \x64\x64\x64\x64\x64\x64\x64\x64\x64\x64\x64\x64\x64\x64\x64\x64\
+    \x64\x64\x64\x64\x64\x64\x64\x64\x64\x64\x64\x64\x64\x64\x64\x64\
+    \x64\x64\x64\x64\x64\x64\x64\x64\x64\x64\x64\x64\x64\x64\x64\x64\
+";
 
 // The number of four digits, which is below 10,000; 10,000 or more where one of the bytes is no digit.
 fn four(thousands: u8, hundreds: u8, tens: u8, ones: u8) -> u16
@@ -227,10 +285,7 @@ fn digit_value(byte: u8) -> u8
     ensures value { (d : ℕ) → d < 10 → byte ≡ 48 + d → result ≡ d }
     ensures spelled { result < 10 → byte ≡ 48 + result }
 {
-    match byte {
-        b'0'..=b'9' => byte - b'0',
-        _ => 255,
-    }
+    byte.wrapping_sub(b'0')
 }
 
 /// Writes the local text `YYYY-MM-DD hh:mm:ss.nnnnnnnnn` at the front of the array, and answers its length: 29 bytes, or
@@ -342,7 +397,8 @@ fn nanosecond_bytes(nanosecond: u32) -> [u8; 9]
     [n1, n2, n3, n4, n5, n6, n7, n8, n9]
 }
 
-fn spaced_offset(offset: UtcOffset) -> [u8; 10]
+/// A space and the offset as `+hh:mm:ss` or `-hh:mm:ss`: what stands behind the local text in a zoned text.
+pub fn spaced_offset(offset: UtcOffset) -> [u8; 10]
     ensures text { result ≡ 32 ∷ offset_text offset }
     ensures bound { IsOffset offset }
 {
@@ -364,6 +420,15 @@ fn pair(number: u32) -> (u8, u8)
     ensures tens { result.0 ≡ digit_of number 10 }
     ensures ones { result.1 ≡ digit_of number 1 }
 {
-    let tens = number / 10;
-    (b'0' + tens as u8, b'0' + (number - 10 * tens) as u8)
+    let place = 2 * number as usize;
+    (PAIRS[place], PAIRS[place + 1])
 }
+
+// The digits of the numbers below 100, two each.
+const PAIRS: &[u8] = b"\
+    0001020304050607080910111213141516171819\
+    2021222324252627282930313233343536373839\
+    4041424344454647484950515253545556575859\
+    6061626364656667686970717273747576777879\
+    8081828384858687888990919293949596979899\
+";

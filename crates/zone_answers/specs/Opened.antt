@@ -1,6 +1,6 @@
 -- The zones that were asked for so far.
 use Rattle.std.specs.FinMap.{get}
-use Rattle.std.specs.Prelude.{◌≡◌, IfSome, ℕ, List, Ok}
+use Rattle.std.specs.Prelude.{◌≡◌, IfSome, IsSomeAnd, ℕ, List, Ok, slice_get}
 use Rattle.zone_table.specs.BoundedTables.{IsBoundedTable}
 use Rattle.zone_table.specs.declared.table.Table.{Table}
 use Rattle.zone_answers.specs.Found.{found_in_table}
@@ -11,11 +11,16 @@ use Rattle.zone_answers.specs.declared.opened.OpenedZone.{Ghosts}
 abbrev pub IsOpened : {Z : Type 0} → Ghosts Z → Table → List ℕ → Z → Type 0
 IsOpened kind table name zone = found_in_table kind.read table name ≡ Ok (kind.total_at zone)
 
+-- a zone of the name stands at the place
+abbrev pub IsPlaced : {Z : Type 0} → Ghosts Z → Table → List Z → List ℕ → ℕ → Type 0
+IsPlaced kind table opened name place = IsSomeAnd (slice_get opened place) (IsOpened kind table name)
+
 -- the table whose zones they are
 abbrev pub table_of : {Z : Type 0} → Zones Z → Table
 table_of zones = zones.table.now
 
--- they are zones of a bounded table, each under its name
+-- they are zones of a bounded table, each at the places of its names
 pub record AreOpened {Z : Type 0} (kind : Ghosts Z) (zones : Zones Z) : Type 0 where
   pub bounded : IsBoundedTable (table_of zones)
-  pub each : (name : List ℕ) → IfSome (get zones.opened name) (IsOpened kind (table_of zones) name)
+  pub each : (name : List ℕ) → IfSome (get zones.places name) (IsPlaced kind (table_of zones) zones.opened name)
+  pub last : IfSome zones.last (λ last. IsPlaced kind (table_of zones) zones.opened last.name.now last.place)

@@ -120,18 +120,18 @@ fn answer_all<Z: OpenedZone>(
 }
 
 /// Puts the line of the nth request into the text, in place of what is there.
-fn answer<Z: OpenedZone>(
-    zones: &mut Zones<'_, Z>,
+fn answer<'r, Z: OpenedZone>(
+    zones: &mut Zones<'_, 'r, Z>,
     number: usize,
-    line: &[u8],
+    line: &'r [u8],
     text: &mut Vec<u8>,
 ) -> Result<(), ReadingError>
     requires { AreOpened Z.OpenedZone zones.old }
     ensures accepted { OnOk result (request_refusal (found_in_table Z.read (table_of zones.old)) number line.now ≡ None) }
     ensures text { OnOk result (text.new.items ≡ answer_line (found_in_table Z.read (table_of zones.old)) line.now) }
     ensures read_back { OnOk result (All IsReadBack (shown_for (found_in_table Z.read (table_of zones.old)) line.now)) }
-    ensures same { table_of zones.new ≡ table_of zones.old }
-    ensures opened { AreOpened Z.OpenedZone zones.new }
+    ensures same { OnOk result (table_of zones.new ≡ table_of zones.old) }
+    ensures opened { OnOk result (AreOpened Z.OpenedZone zones.new) }
     ensures err { IfErr result (TellsReading (request_refusal (found_in_table Z.read (table_of zones.old)) number line.now)) }
 {
     let Some(asked) = text_of(line) else {
@@ -140,11 +140,8 @@ fn answer<Z: OpenedZone>(
     let Some(request) = Request::read(asked) else {
         return Err(ReadingError::Answer(AnswerError::Request(number)));
     };
-    if let Some(zone) = zones.known(request.name()) {
-        return show_line(zone, &request, number, text);
-    }
-    zones.open(request.name(), number)?;
-    show_line(zones.find(request.name()), &request, number, text)
+    let place = zones.place_of(request.name(), number)?;
+    show_line(zones.zone_at(place), &request, number, text)
 }
 
 /// Puts the line of the nth request at a zone into the text, in place of what is there.

@@ -2,6 +2,7 @@
 ghost use Rattle.std.specs.Prelude.{◌≡◌, ◌++◌, ℤ, IfErr, IfOk, IsTrue, Ok};
 ghost use Rattle.civil_base.specs.Ranges.{IsOffset};
 ghost use Rattle.zone_table.specs.BoundedTables.{IsBoundedTable};
+ghost use Rattle.zone_table.specs.Resolved.{resolved_in};
 ghost use Rattle.zone_answers.specs.Asked.{asked};
 ghost use Rattle.zone_answers.specs.Due.{answer_text, shown_at};
 ghost use Rattle.zone_answers.specs.Faults.{has_dates, zone_refusal};
@@ -10,7 +11,7 @@ ghost use Rattle.zone_answers.specs.Told.{TellsReading};
 
 use crate::error::ReadingError;
 use crate::request::Request;
-use owned::TextMap;
+use owned::{Items, TextMap};
 use std::alloc::{AllocError, Global};
 use zone_table::Table;
 
@@ -45,25 +46,34 @@ pub trait OpenedZone: Drop {
         ensures range { (t : ℤ) → IsOffset (total_at self.now t) };
 }
 
-/// The zones that were asked for so far, found again by their names.
+/// The zones that were asked for so far, found again by their names. Names that lead to one zone's lines share it.
 #[derive(Drop)]
-pub(crate) struct Zones<'t, Z> {
+pub(crate) struct Zones<'t, 'r, Z> {
     alloc: Global,
     table: &'t Table,
-    opened: TextMap<Z>,
+    opened: Items<Z>,
+    // where the zone of a name stands among them
+    places: TextMap<usize>,
+    last: Option<Last<'r>>,
 }
 
-impl<'t, Z: OpenedZone> Zones<'t, Z> {
-    ghost use Rattle.std.specs.Prelude.{◌≡◌, true, is_some, IfErr, IfSome, OnOk};
-    ghost use Rattle.std.specs.FinMap.{get};
+/// The name that was asked for last, and where its zone stands.
+#[derive(Clone, Copy)]
+struct Last<'r> {
+    name: &'r str,
+    place: usize,
+}
+
+impl<'t, 'r, Z: OpenedZone> Zones<'t, 'r, Z> {
+    ghost use Rattle.std.specs.Prelude.{◌≡◌, ◌<◌, IfErr, IfOk, IfSome, OnOk, Some, length, slice_get};
     ghost use Rattle.zone_table.specs.BoundedTables.{IsBoundedTable};
     ghost use Rattle.zone_answers.specs.Faults.{zone_refusal};
     ghost use Rattle.zone_answers.specs.Found.{found_in_table};
-    ghost use Rattle.zone_answers.specs.Opened.{table_of, AreOpened, IsOpened};
+    ghost use Rattle.zone_answers.specs.Opened.{table_of, AreOpened, IsOpened, IsPlaced};
     ghost use Rattle.zone_answers.specs.Told.{TellsReading};
 
     /// No zone of this table was asked for yet.
-    pub(crate) fn new(alloc: Global, table: &'t Table) -> Zones<'t, Z>
+    pub(crate) fn new(alloc: Global, table: &'t Table) -> Zones<'t, 'r, Z>
         requires { IsBoundedTable table.now }
         ensures table { table_of result ≡ table.now }
         ensures opened { AreOpened Z.OpenedZone result }
@@ -71,40 +81,105 @@ impl<'t, Z: OpenedZone> Zones<'t, Z> {
         Zones {
             alloc,
             table,
-            opened: TextMap::new(alloc),
+            opened: Items::new(alloc),
+            places: TextMap::new(alloc),
+            last: None,
         }
     }
 
-    /// The zone of that name, if it was opened.
-    pub(crate) fn known(&self, name: &str) -> Option<&Z>
-        requires { AreOpened Z.OpenedZone self.now }
-        ensures { IfSome result (λ zone. IsOpened Z.OpenedZone (table_of self.now) name.now zone.now) }
-    {
-        self.opened.get(name)
-    }
-
-    /// Opens the zone that the nth request names. On an error the zones are as before.
-    pub(crate) fn open(&mut self, name: &str, number: usize) -> Result<(), ReadingError>
+    /// Where the zone stands that the nth request names. It is opened where it wasn't asked for yet.
+    pub(crate) fn place_of(&mut self, name: &'r str, number: usize) -> Result<usize, ReadingError>
         requires { AreOpened Z.OpenedZone self.old }
-        ensures there { OnOk result (is_some (get self.new.opened name.now) ≡ true) }
+        ensures placed { IfOk result (IsPlaced Z.OpenedZone (table_of self.old) self.new.opened name.now) }
         ensures err { IfErr result (TellsReading (zone_refusal number (found_in_table Z.read (table_of self.old) name.now))) }
-        ensures same { table_of self.new ≡ table_of self.old }
-        ensures opened { AreOpened Z.OpenedZone self.new }
+        ensures same { OnOk result (table_of self.new ≡ table_of self.old) }
+        ensures opened { OnOk result (AreOpened Z.OpenedZone self.new) }
     {
-        let zone = Z::open(self.alloc, self.table, name, number)?;
-        self.opened.insert(self.alloc, name, zone)?;
-        Ok(())
+        if let Some(place) = self.last_place(name) {
+            return Ok(place);
+        }
+        let place = match self.places.get(name) {
+            Some(place) => *place,
+            None => self.open(name, number)?,
+        };
+        self.last = Some(Last { name, place });
+        Ok(place)
     }
 
-    /// The opened zone that a name finds.
-    pub(crate) fn find(&self, name: &str) -> &Z
-        requires opened { AreOpened Z.OpenedZone self.now }
-        requires there { is_some (get self.now.opened name.now) ≡ true }
-        ensures { IsOpened Z.OpenedZone (table_of self.now) name.now result.now }
+    /// Where the zone of the name stands, if it was asked for last.
+    fn last_place(&self, name: &str) -> Option<usize>
+        requires { AreOpened Z.OpenedZone self.now }
+        ensures { IfSome result (IsPlaced Z.OpenedZone (table_of self.now) self.now.opened name.now) }
     {
-        match self.opened.get(name) {
-            Some(opened) => opened,
-            None => unreachable!(),
+        let last = self.last?;
+        if last.name == name {
+            Some(last.place)
+        } else {
+            None
         }
+    }
+
+    /// Opens the zone that the nth request names, or finds it where another name opened it, and answers where it stands.
+    fn open(&mut self, name: &str, number: usize) -> Result<usize, ReadingError>
+        requires { AreOpened Z.OpenedZone self.old }
+        ensures placed { IfOk result (IsPlaced Z.OpenedZone (table_of self.old) self.new.opened name.now) }
+        ensures err { IfErr result (TellsReading (zone_refusal number (found_in_table Z.read (table_of self.old) name.now))) }
+        ensures same { OnOk result (table_of self.new ≡ table_of self.old) }
+        ensures opened { OnOk result (AreOpened Z.OpenedZone self.new) }
+    {
+        let stem = stem_of(self.table, name);
+        let place = self.stem_place(stem, number)?;
+        self.places.insert(self.alloc, name, place)?;
+        Ok(place)
+    }
+
+    /// Where the zone stands that stands under a name. It is opened where it wasn't yet.
+    fn stem_place(&mut self, stem: &str, number: usize) -> Result<usize, ReadingError>
+        requires { AreOpened Z.OpenedZone self.old }
+        ensures placed { IfOk result (IsPlaced Z.OpenedZone (table_of self.old) self.new.opened stem.now) }
+        ensures err { IfErr result (TellsReading (zone_refusal number (found_in_table Z.read (table_of self.old) stem.now))) }
+        ensures same { OnOk result (table_of self.new ≡ table_of self.old) }
+        ensures opened { OnOk result (AreOpened Z.OpenedZone self.new) }
+    {
+        match self.places.get(stem) {
+            Some(place) => Ok(*place),
+            None => self.open_stem(stem, number),
+        }
+    }
+
+    /// Opens the zone that stands under a name, and answers where it stands.
+    fn open_stem(&mut self, stem: &str, number: usize) -> Result<usize, ReadingError>
+        requires { AreOpened Z.OpenedZone self.old }
+        ensures placed { IfOk result (IsPlaced Z.OpenedZone (table_of self.old) self.new.opened stem.now) }
+        ensures err { IfErr result (TellsReading (zone_refusal number (found_in_table Z.read (table_of self.old) stem.now))) }
+        ensures same { OnOk result (table_of self.new ≡ table_of self.old) }
+        ensures opened { OnOk result (AreOpened Z.OpenedZone self.new) }
+    {
+        let zone = Z::open(self.alloc, self.table, stem, number)?;
+        let place = self.opened.len();
+        self.opened.push(zone)?;
+        self.places.insert(self.alloc, stem, place)?;
+        Ok(place)
+    }
+
+    /// The zone at a place.
+    pub(crate) fn zone_at(&self, place: usize) -> &Z
+        requires { place < length self.now.opened }
+        ensures { slice_get self.now.opened place ≡ Some result.now }
+    {
+        &self.opened[place]
+    }
+}
+
+/// The name that the zone of a name stands under in a table: that to which a link of this name leads, or the name itself.
+fn stem_of<'t>(table: &'t Table, name: &'t str) -> &'t str
+    ensures { resolved_in table.now result.now ≡ resolved_in table.now name.now }
+{
+    if table.zonesets.contains_key(name) {
+        return name;
+    }
+    match table.links.get(name) {
+        Some(existing) if table.zonesets.contains_key(existing.as_str()) => existing.as_str(),
+        _ => name,
     }
 }

@@ -4,10 +4,11 @@ use Rattle.zone_answers.specs.Asked.{asked}
 use Rattle.zone_answers.specs.AskedLaws.{asks}
 use Rattle.zone_answers.specs.Faults.{range}
 use Rattle.zone_answers.specs.Found.{found_in_table}
-use Rattle.zone_answers.specs.Opened.{table_of}
-use Rattle.zone_answers.specs.Requests.{request_of}
+use Rattle.zone_answers.specs.Opened.{IsOpened, table_of}
+use Rattle.zone_answers.specs.Requests.{name_of, request_of}
 use Rattle.zone_answers.proofs.ReadBackLemmas.{line_back}
 use Rattle.zone_answers.proofs.RefusalLemmas.{not_text_refused, bad_request_refused, refusal_is, dates_are, line_is, zone_refused}
+use Rattle.zone_answers.proofs.ZoneLemmas.{placed_there, placed_within}
 use Rattle.zone_answers.proofs.answering.answer.Goals as goal
 
 pub returns-in_default-clause-err : goal.returns-in_default-clause-err
@@ -18,81 +19,53 @@ returns-in_default-read-clause-err g c =
     let text = c.in-Some.ensures.text in
     bad_request_refused _ c.args.number c.args.line.now c.in-Some.asked.now text.1 text.0 c.in_default-read.ensures
 
-pub returns-in_err-open-clause-err : goal.returns-in_err-open-clause-err
-returns-in_err-open-clause-err g c =
+pub returns-in_err-place-clause-err : goal.returns-in_err-place-clause-err
+returns-in_err-place-clause-err g c =
     let text = c.in-Some.ensures.text in
     let request = c.in-Some-read.request in
     let reads = asks request_of c.args.line.now c.in-Some.asked.now (asked request) text.1 text.0 c.in-Some-read.ensures in
     let error = err_from_is_err_and c.from_residual.result c.from_residual.ensures.1 in
-    rw (refusal_is (found_in_table g.Z.OpenedZone.read (table_of c.args.zones.now)) c.args.number c.args.line.now (asked request) reads, ← c.name-2.ensures, error.1, error.2)
-    (zone_refused _ c.args.number (asked request) _ c.in_err-open.ensures.err)
+    rw (refusal_is (found_in_table g.Z.OpenedZone.read (table_of c.args.zones.now)) c.args.number c.args.line.now (asked request) reads, ← c.name.ensures, error.1, error.2)
+    (zone_refused _ c.args.number (asked request) _ c.in_err-place.ensures.err)
 
-pub returns-in-Some-known-clause-accepted : goal.returns-in-Some-known-clause-accepted
-returns-in-Some-known-clause-accepted g c =
-    let text = c.in-Some.ensures.text in
-    let request = c.in-Some-read.request in
-    let reads = asks request_of c.args.line.now c.in-Some.asked.now (asked request) text.1 text.0 c.in-Some-read.ensures in
-    let found = rw c.name.ensures at c.in-Some-known.ensures in
-    on_ok_weaker c.show_line.result (λ dates. dates_are (found_in_table g.Z.OpenedZone.read (table_of c.args.zones.now)) c.args.number c.args.line.now (asked request) _
-    reads found ∙ ap (λ b. cond b None (Some (range c.args.number))) dates) c.show_line.ensures.dates
-
-pub returns-in-Some-known-clause-text : goal.returns-in-Some-known-clause-text
-returns-in-Some-known-clause-text g c =
-    let text = c.in-Some.ensures.text in
-    let request = c.in-Some-read.request in
-    let reads = asks request_of c.args.line.now c.in-Some.asked.now (asked request) text.1 text.0 c.in-Some-read.ensures in
-    let found = rw c.name.ensures at c.in-Some-known.ensures in
-    on_ok_weaker c.show_line.result (λ text. text ∙ sym (line_is (found_in_table g.Z.OpenedZone.read (table_of c.args.zones.now)) c.args.line.now (asked request) _ reads found))
-    c.show_line.ensures.text
-
-pub returns-in-Some-known-clause-read_back : goal.returns-in-Some-known-clause-read_back
-returns-in-Some-known-clause-read_back g c =
-    let text = c.in-Some.ensures.text in
-    let request = c.in-Some-read.request in
-    let reads = asks request_of c.args.line.now c.in-Some.asked.now (asked request) text.1 text.0 c.in-Some-read.ensures in
-    let found = rw c.name.ensures at c.in-Some-known.ensures in
-    on_ok_weaker c.show_line.result (line_back (found_in_table g.Z.OpenedZone.read (table_of c.args.zones.now)) c.args.line.now (asked request) _ reads found
-    c.show_line.ensures.range) c.show_line.ensures.dates
-
-pub returns-in-Some-known-clause-err : goal.returns-in-Some-known-clause-err
-returns-in-Some-known-clause-err g c =
-    let text = c.in-Some.ensures.text in
-    let request = c.in-Some-read.request in
-    let reads = asks request_of c.args.line.now c.in-Some.asked.now (asked request) text.1 text.0 c.in-Some-read.ensures in
-    let found = rw c.name.ensures at c.in-Some-known.ensures in
-    rw (dates_are (found_in_table g.Z.OpenedZone.read (table_of c.args.zones.now)) c.args.number c.args.line.now (asked request) _ reads found) c.show_line.ensures.err
+pub zone_at-requires : goal.zone_at-requires
+zone_at-requires g c = placed_within _ c.place_of.new.self.opened c.in_ok-place.place c.in_ok-place.ensures.placed
 
 pub returns-clause-accepted : goal.returns-clause-accepted
 returns-clause-accepted g c =
     let text = c.in-Some.ensures.text in
     let request = c.in-Some-read.request in
     let reads = asks request_of c.args.line.now c.in-Some.asked.now (asked request) text.1 text.0 c.in-Some-read.ensures in
-    let found = rw (c.in_ok-open.ensures.same, c.name-3.ensures) at c.find.ensures in
-    on_ok_weaker c.show_line-2.result (λ dates. dates_are (found_in_table g.Z.OpenedZone.read (table_of c.args.zones.now)) c.args.number c.args.line.now (asked request) _
-    reads found ∙ ap (λ b. cond b None (Some (range c.args.number))) dates) c.show_line-2.ensures.dates
+    let there = placed_there _ c.place_of.new.self.opened c.in_ok-place.place _ c.zone_at.ensures c.in_ok-place.ensures.placed in
+    let found = rw c.name.ensures at there in
+    on_ok_weaker c.show_line.result (λ dates. dates_are (found_in_table g.Z.OpenedZone.read (table_of c.args.zones.now)) c.args.number c.args.line.now (asked request) _
+    reads found ∙ ap (λ b. cond b None (Some (range c.args.number))) dates) c.show_line.ensures.dates
 
 pub returns-clause-text : goal.returns-clause-text
 returns-clause-text g c =
     let text = c.in-Some.ensures.text in
     let request = c.in-Some-read.request in
     let reads = asks request_of c.args.line.now c.in-Some.asked.now (asked request) text.1 text.0 c.in-Some-read.ensures in
-    let found = rw (c.in_ok-open.ensures.same, c.name-3.ensures) at c.find.ensures in
-    on_ok_weaker c.show_line-2.result (λ text. text ∙ sym (line_is (found_in_table g.Z.OpenedZone.read (table_of c.args.zones.now)) c.args.line.now (asked request) _ reads found))
-    c.show_line-2.ensures.text
+    let there = placed_there _ c.place_of.new.self.opened c.in_ok-place.place _ c.zone_at.ensures c.in_ok-place.ensures.placed in
+    let found = rw c.name.ensures at there in
+    on_ok_weaker c.show_line.result (λ text. text ∙ sym (line_is (found_in_table g.Z.OpenedZone.read (table_of c.args.zones.now)) c.args.line.now (asked request) _ reads found))
+    c.show_line.ensures.text
 
 pub returns-clause-read_back : goal.returns-clause-read_back
 returns-clause-read_back g c =
     let text = c.in-Some.ensures.text in
     let request = c.in-Some-read.request in
     let reads = asks request_of c.args.line.now c.in-Some.asked.now (asked request) text.1 text.0 c.in-Some-read.ensures in
-    let found = rw (c.in_ok-open.ensures.same, c.name-3.ensures) at c.find.ensures in
-    on_ok_weaker c.show_line-2.result (line_back (found_in_table g.Z.OpenedZone.read (table_of c.args.zones.now)) c.args.line.now (asked request) _ reads found
-    c.show_line-2.ensures.range) c.show_line-2.ensures.dates
+    let there = placed_there _ c.place_of.new.self.opened c.in_ok-place.place _ c.zone_at.ensures c.in_ok-place.ensures.placed in
+    let found = rw c.name.ensures at there in
+    on_ok_weaker c.show_line.result (line_back (found_in_table g.Z.OpenedZone.read (table_of c.args.zones.now)) c.args.line.now (asked request) _ reads found
+    c.show_line.ensures.range) c.show_line.ensures.dates
 
 pub returns-clause-err : goal.returns-clause-err
 returns-clause-err g c =
     let text = c.in-Some.ensures.text in
     let request = c.in-Some-read.request in
     let reads = asks request_of c.args.line.now c.in-Some.asked.now (asked request) text.1 text.0 c.in-Some-read.ensures in
-    let found = rw (c.in_ok-open.ensures.same, c.name-3.ensures) at c.find.ensures in
-    rw (dates_are (found_in_table g.Z.OpenedZone.read (table_of c.args.zones.now)) c.args.number c.args.line.now (asked request) _ reads found) c.show_line-2.ensures.err
+    let there = placed_there _ c.place_of.new.self.opened c.in_ok-place.place _ c.zone_at.ensures c.in_ok-place.ensures.placed in
+    let found = rw c.name.ensures at there in
+    rw (dates_are (found_in_table g.Z.OpenedZone.read (table_of c.args.zones.now)) c.args.number c.args.line.now (asked request) _ reads found) c.show_line.ensures.err

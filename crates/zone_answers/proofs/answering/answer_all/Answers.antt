@@ -12,8 +12,8 @@ overflow_add-number g c = omega (arith, c.new-line-items.ensures.few, c.loop-lin
 
 pub loop-line-preserved : goal.loop-line-preserved
 loop-line-preserved g c = record {
-  table = c.answer.ensures.same ∙ c.loop-line.invariant.table;
-  opened = c.answer.ensures.opened;
+  table = c.in_ok-answer.ensures.same ∙ c.loop-line.invariant.table;
+  opened = c.in_ok-answer.ensures.opened;
   number = omega (arith, c.loop-line.invariant.number, ap length c.in-Some.ensures.steps);
   refused = grind (arith, common_steps);
   lines = grind (arith, common_steps);
