@@ -221,7 +221,7 @@ impl Zone {
             done(unsafe {
                 raw::sefunjaro_in_force_by(&mut self.handle.copy(), second, nanosecond, &mut found, name.as_mut_ptr(), name.len())
             })?;
-            Ok((found, found.name_length))
+            Ok((found.name_length, found))
         })?;
         Ok(InForce { offset: found.offset, is_saving: found.is_saving, name })
     }
@@ -246,7 +246,7 @@ impl Zone {
             done(unsafe {
                 raw::sefunjaro_answer_at_by(&mut self.handle.copy(), second, nanosecond, &mut told, name.as_mut_ptr(), name.len())
             })?;
-            Ok((told, told.name_length))
+            Ok((told.name_length, told))
         })?;
         Ok(Answer {
             offset: told.offset,
@@ -387,11 +387,11 @@ impl Zone {
 }
 
 /// What a call tells that writes an abbreviation, with the whole of it: where it is longer than the room, the call is made again with
-/// room for all. The call answers how long it is.
-fn with_name<T>(mut call: impl FnMut(&mut [u8]) -> Result<(T, usize), Error>) -> Result<(T, String), Error> {
+/// room for all. The call answers how long it is, too.
+fn with_name<T>(mut call: impl FnMut(&mut [u8]) -> Result<(usize, T), Error>) -> Result<(T, String), Error> {
     let mut name = vec![0; 16];
     loop {
-        let (told, length) = call(&mut name)?;
+        let (length, told) = call(&mut name)?;
         let is_whole = length <= name.len();
         name.resize(length, 0);
         if is_whole {
