@@ -51,6 +51,15 @@ from_more (suc place) xs x [] = refl
 from_more (suc place) xs x (r ∷ room) =
     ap (λ k. filled_at k x (r ∷ filled_from place xs room)) (next_place place (length xs)) ∙ ap (λ l. r ∷ l) (from_more place xs x room)
 
+-- items behind items from a place on
+pub from_behind : {A : Type 0} → (place : ℕ) (xs ys room : List A)
+    → filled_from (place + length xs) ys (filled_from place xs room) ≡ filled_from place (xs ++ ys) room
+unfolding filled_from
+from_behind zero xs ys room = ap (λ k. filled_from k ys (filled xs room)) (zero-add (length xs)) ∙ filled_behind xs ys room
+from_behind (suc place) xs ys [] = ap (λ k. filled_from k ys []) (next_place place (length xs))
+from_behind (suc place) xs ys (r ∷ room) =
+    ap (λ k. filled_from k ys (r ∷ filled_from place xs room)) (next_place place (length xs)) ∙ ap (λ l. r ∷ l) (from_behind place xs ys room)
+
 from_is : {A : Type 0} → (place : ℕ) (xs room : List A) → take place room ++ filled xs (drop place room) ≡ filled_from place xs room
 unfolding filled filled_from
 from_is zero xs [] = refl

@@ -9,7 +9,7 @@ use Rattle.std.proofs.lemmas.Int.{ints}
 use Rattle.calendar.specs.SignedLaws.{signed_casts}
 use Rattle.civil_base.specs.DateTimes.{instant, local_of, offset_of}
 use Rattle.civil_base.specs.Instants.{instant_at, local_at, nanos_of}
-use Rattle.civil_base.specs.Layout.{day_part, time_part, zoned_text}
+use Rattle.civil_base.specs.Layout.{day_part, local_text, offset_text, time_part, zoned_text}
 use Rattle.civil_base.specs.RangeLaws.{years_begin, years_end}
 use Rattle.civil_base.specs.Ranges.{is_in_years, IsInYears}
 use Rattle.civil_base.specs.declared.offset_date_time.OffsetDateTime.{OffsetDateTime}
@@ -86,11 +86,13 @@ pub clock_is : (total : ℤ → ℤ) (second x : ℤ) → x ≡ local_at (nanos_
 unfolding clock_shown_at
 clock_is total second x e = ap (λ y. clock_at (day_part y) (time_part y)) e
 
--- the text of a date-time by its local time and its offset
-pub text_by_local : (value : OffsetDateTime) (x o : ℤ) → local_of value ≡ x → offset_of value ≡ o
-    → zoned_text (instant value) (offset_of value) ≡ zoned_text (instant_at x o) o
-unfolding instant
-text_by_local value x o local at = λ i. zoned_text (instant_at (local i) (at i)) (at i)
+-- the zoned text of a local time at an offset, by its parts
+there_is : (x o : ℤ) → local_at (instant_at x o) o ≡ x
+there_is x o = omega (arith, ints)
+
+pub text_by_local : (x o : ℤ) → local_text x ++ 32 ∷ offset_text o ≡ zoned_text (instant_at x o) o
+unfolding zoned_text
+text_by_local x o = ap (λ y. local_text y ++ 32 ∷ offset_text o) (sym (there_is x o))
 
 back_is : (t o : ℤ) → instant_at (local_at t o) o ≡ t
 back_is t o = omega (arith, ints)

@@ -2,7 +2,7 @@
 ghost use Rattle.std.specs.Prelude.{◌≡◌, ℤ, IsTrue, ◌≤◌, ◌*◌, ◌++◌, ◌∷◌, [], length};
 ghost use Rattle.civil_base.specs.DateTimes.{local_of};
 ghost use Rattle.civil_base.specs.Instants.{instant_at, local_at, nanos_of};
-ghost use Rattle.civil_base.specs.Layout.{day_part, time_part, zoned_text};
+ghost use Rattle.civil_base.specs.Layout.{day_part, time_part, offset_text, zoned_text};
 ghost use Rattle.civil_base.specs.Ranges.{is_in_years, IsInYears, IsOffset};
 ghost use Rattle.sefunjaro.specs.Clocks.{clock_at};
 ghost use Rattle.sefunjaro.specs.Rooms.{filled, filled_from};
@@ -11,7 +11,7 @@ ghost use Rattle.sefunjaro.specs.Shown.{clocks_of, is_shown, most_texts, textles
 use crate::clock::Clock;
 use crate::offsets::{Stretches, UNKNOWN, next, second_at};
 use crate::room::{fill_from, put};
-use civil_base::{OffsetDateTime, PlainDateTime, UtcOffset, write_zoned};
+use civil_base::{OffsetDateTime, PlainDateTime, UtcOffset, spaced_offset, write_local};
 
 /// -9999-01-01 00:00:00 UTC.
 const FIRST: i64 = -377_705_116_800;
@@ -143,11 +143,13 @@ fn fill_texts<Z: Stretches>(zone: &Z, seconds: &[i64], room: &mut [u8]) -> usize
     ensures whole { result ≡ length (texts_of (Z.total_at zone.now) seconds.now) }
 {
     let mut known = UNKNOWN;
+    let mut east = east_of(0);
     let mut whole = 0;
     for i in 0..seconds.len() {
         let second = second_at(seconds, i);
         known = next(zone, known, second);
-        whole += put_line(&local_at(second, known.offset), known.offset, whole, room);
+        east = east_for(east, known.offset);
+        whole += put_line(&local_at(second, known.offset), &east, whole, room);
     }
     whole
 }
@@ -178,21 +180,56 @@ pub(crate) fn clock_of(local: PlainDateTime) -> Clock
     Clock::at(local.date(), local.time())
 }
 
+/// An offset, and what stands behind the local time in its zoned texts.
+#[derive(Clone, Copy)]
+pub struct East {
+    /// The seconds east of UTC.
+    pub offset: i32,
+    /// A space, and the offset as `+hh:mm:ss`.
+    pub text: [u8; 10],
+}
+
+fn east_of(offset: i32) -> East
+    requires { IsOffset offset }
+    ensures offset { result.offset ≡ offset }
+    ensures text { result.text ≡ 32 ∷ offset_text offset }
+{
+    match UtcOffset::from_whole_seconds(offset) {
+        Ok(east) => East {
+            offset,
+            text: spaced_offset(east),
+        },
+        Err(_) => unreachable!(),
+    }
+}
+
+/// That of an offset, which may be the known one.
+fn east_for(known: East, offset: i32) -> East
+    requires known { known.text ≡ 32 ∷ offset_text known.offset }
+    requires offset { IsOffset offset }
+    ensures offset { result.offset ≡ offset }
+    ensures text { result.text ≡ 32 ∷ offset_text offset }
+{
+    if known.offset == offset {
+        known
+    } else {
+        east_of(offset)
+    }
+}
+
 /// Puts the zoned text of a local time at an offset, with a line feed behind it, into the room from a place on, as far as it fits, and
 /// answers its length.
-fn put_line(local: &PlainDateTime, offset: i32, place: usize, room: &mut [u8]) -> usize
-    requires offset { IsOffset offset }
+fn put_line(local: &PlainDateTime, east: &East, place: usize, room: &mut [u8]) -> usize
+    requires east { east.now.text ≡ 32 ∷ offset_text east.now.offset }
     requires place { place ≤ 41 * most_texts }
-    ensures room { room.new ≡ filled_from place (zoned_text (instant_at local.now offset) offset ++ 10 ∷ []) room.old }
-    ensures length { result ≡ length (zoned_text (instant_at local.now offset) offset ++ 10 ∷ []) }
+    ensures room { room.new ≡ filled_from place (zoned_text (instant_at local.now east.now.offset) east.now.offset ++ 10 ∷ []) room.old }
+    ensures length { result ≡ length (zoned_text (instant_at local.now east.now.offset) east.now.offset ++ 10 ∷ []) }
     ensures bound { result ≤ 41 }
 {
-    let Ok(offset) = UtcOffset::from_whole_seconds(offset) else {
-        unreachable!();
-    };
-    let mut text = [0; 40];
-    let length = write_zoned(&local.assume_offset(offset), &mut text);
+    let mut text = [0; 30];
+    let length = write_local(local, &mut text);
     fill_from(&text[..length], place, room);
-    put(b'\n', place + length, room);
-    length + 1
+    fill_from(&east.text, place + length, room);
+    put(b'\n', place + length + 10, room);
+    length + 11
 }

@@ -1,7 +1,8 @@
-use Rattle.std.proofs.Common.{◌∙◌, pos, get_or, length, take, SFits, to_z, of_z, w32, w64, rules, refl, sym, ap, subst, arith, length-append}
+use Rattle.std.proofs.Common.{◌∙◌, ◌∷◌, pos, get_or, length, take, SFits, to_z, of_z, w32, w64, rules, refl, sym, ap, subst, arith, length-append}
 use Rattle.std.proofs.lemmas.Int.{to_z-of_z}
 use Rattle.calendar.specs.SignedLaws.{signed}
 use Rattle.civil_base.specs.Instants.{local_at, nanos_of}
+use Rattle.civil_base.specs.Layout.{offset_text}
 use Rattle.civil_base.specs.Ranges.{IsOffset}
 use Rattle.sefunjaro.specs.Rooms.{filled, filled_from}
 use Rattle.sefunjaro.specs.Shown.{line_of, texts_of}
@@ -12,10 +13,10 @@ use Rattle.sefunjaro.proofs.shown.fill_texts.Goals as goal
 pub loop-i-init : goal.loop-i-init
 unfolding filled texts_of
 loop-i-init g c =
-    record { known = λ u low high. absurd (omega (arith, signed, low, high)); whole = refl; bound = omega arith; room = refl }
+    record { known = λ u low high. absurd (omega (arith, signed, low, high)); east = c.east_of-east.ensures.text ∙ ap (λ o. 32 ∷ offset_text o) (sym c.east_of-east.ensures.offset); whole = refl; bound = omega arith; room = refl }
 
-pub put_line-whole-requires-clause-offset : goal.put_line-whole-requires-clause-offset
-put_line-whole-requires-clause-offset g c =
+pub east_for-east-requires-clause-offset : goal.east_for-east-requires-clause-offset
+east_for-east-requires-clause-offset g c =
     let fits : SFits w32 c.next-known.result.offset = search rules in
     subst IsOffset (c.next-known.ensures.here ∙ sym (to_z-of_z w32 _ fits)) (g.met.Z.Stretches.in_range c.args.zone.now _)
 
@@ -29,12 +30,14 @@ loop-i-preserved g c =
     let second_fits : SFits w64 c.second_at-second.result = search rules in
     let here = to_z-of_z w64 _ second_fits ∙ c.second_at-second.ensures in
     let told = to_z-of_z w32 _ offset_fits ∙ sym c.next-known.ensures.here ∙ ap (λ s. total (nanos_of s)) here in
-    let line = line_is total second c.local_at.result (to_z w32 (of_z w32 c.next-known.result.offset))
-    (c.local_at.ensures ∙ ap (λ s. local_at (nanos_of s) (to_z w32 (of_z w32 c.next-known.result.offset))) here) told in
+    let east = c.east_for-east.ensures.offset in
+    let line = line_is total second c.local_at.result c.east_for-east.result.offset
+    (c.local_at.ensures ∙ ap (λ s. local_at (nanos_of s) (to_z w32 (of_z w32 c.next-known.result.offset))) here ∙ ap (local_at (nanos_of second)) (sym east)) (east ∙ told) in
     let so_far = texts_of total (take i seconds) in
     let all = texts_taken total seconds i c.loop-i-test.true in
     record {
       known = c.next-known.ensures.known;
+      east = c.east_for-east.ensures.text ∙ ap (λ o. 32 ∷ offset_text o) (sym east);
       whole = omega (arith, c.loop-i.invariant.whole, c.put_line-whole.ensures.length, ap length line, ap length all, length-append so_far (line_of total second));
       bound = omega (arith, c.loop-i.invariant.bound, c.put_line-whole.ensures.bound);
       room =

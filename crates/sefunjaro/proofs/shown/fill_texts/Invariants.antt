@@ -1,4 +1,5 @@
-use Rattle.std.proofs.Common.{◌≡◌, ◌≤◌, ◌*◌, length, take}
+use Rattle.std.proofs.Common.{◌≡◌, ◌≤◌, ◌*◌, ◌∷◌, length, take}
+use Rattle.civil_base.specs.Layout.{offset_text}
 use Rattle.sefunjaro.specs.Rooms.{filled}
 use Rattle.sefunjaro.specs.Shown.{texts_of}
 use Rattle.sefunjaro.specs.Stretches.{IsKnown}
@@ -8,6 +9,7 @@ use Rattle.sefunjaro.proofs.shown.fill_texts.Given as goal
 abbrev pub invariant-loop-i : goal.invariant-loop-i
 invariant-loop-i g l = record {
   known : IsKnown (g.Z.Stretches.total_at l.zone) l.known;
+  east : l.east.text ≡ 32 ∷ offset_text l.east.offset;
   whole : l.whole ≡ length (texts_of (g.Z.Stretches.total_at l.zone) (take l.i l.seconds));
   bound : l.whole ≤ 41 * l.i;
   room : l.room ≡ filled (texts_of (g.Z.Stretches.total_at l.zone) (take l.i l.seconds)) l.fn.room;
