@@ -1,7 +1,8 @@
 -- What a request line asks.
-use Rattle.std.specs.Prelude.{ℕ, ℤ, Bool, ◌==◌, ◌&&◌, List, length, drop, Option, Some, None, option_map, pos, neg_ℤ, codes, bytes_eq, nat_lt, nat_le, if◌then◌else◌, slice_index}
+use Rattle.std.specs.Prelude.{◌≡◌, ℕ, ℤ, Bool, ◌==◌, ◌&&◌, List, length, drop, Option, Some, None, option_map, pos, neg_ℤ, codes, bytes_eq, nat_lt, nat_le, if◌then◌else◌, slice_index}
 use Rattle.std.specs.Char.{is_digit}
 use Rattle.std.specs.List.{before_first, after_first, list_all}
+use Rattle.civil_base.specs.Layout.{local_text}
 use Rattle.civil_base.specs.LocalTimes.{local_time_in}
 use Rattle.std.specs.Str.Parse.{digits_value}
 
@@ -14,6 +15,11 @@ pub data Request : Type 0 where
 abbrev pub name_of : Request → List ℕ
 name_of (at name instant) = name
 name_of (local name time) = name
+
+-- the text is that of a request's local time
+abbrev pub IsSpelled : Request → List ℕ → Type 0
+IsSpelled (at name instant) text = Unit {0}
+IsSpelled (local name time) text = local_text time ≡ text
 
 abbrev pub is_space : ℕ → Bool
 is_space byte = byte == 32

@@ -13,6 +13,7 @@ ghost use Rattle.zone_answers.specs.Faults.{IsValid, IsValidWith, dates_refusal,
 ghost use Rattle.zone_answers.specs.Found.{found_in_table};
 ghost use Rattle.zone_answers.specs.Opened.{table_of, AreOpened};
 ghost use Rattle.zone_answers.specs.ReadBack.{IsReadBack};
+ghost use Rattle.zone_answers.specs.Requests.{IsSpelled};
 ghost use Rattle.zone_answers.specs.Told.{TellsOf, TellsReading, reading_told};
 ghost use Rattle.zone_answers.specs.Ends.{writes_with};
 ghost use Rattle.zone_answers.specs.Responses.{RespondsError, due_in, lines_in};
@@ -23,7 +24,7 @@ ghost use Rattle.zone_outside.specs.Seen.{Grew, GrewBySome, output_seen};
 use crate::error::{AnswerError, ReadingError, Side};
 use crate::fault::write_reading_fault;
 use crate::opened::{OpenedZone, Zones};
-use crate::request::Request;
+use crate::request::Spelled;
 use crate::summary::summary_line;
 use std::alloc::Global;
 use std::marker::PhantomData;
@@ -137,27 +138,28 @@ fn answer<'r, Z: OpenedZone>(
     let Some(asked) = text_of(line) else {
         return Err(ReadingError::Answer(AnswerError::NotText(Side::Requests, number)));
     };
-    let Some(request) = Request::read(asked) else {
+    let Some(spelled) = Spelled::read(asked) else {
         return Err(ReadingError::Answer(AnswerError::Request(number)));
     };
-    let place = zones.place_of(request.name(), number)?;
-    show_line(zones.zone_at(place), &request, number, text)
+    let place = zones.place_of(spelled.request.name(), number)?;
+    show_line(zones.zone_at(place), &spelled, number, text)
 }
 
 /// Puts the line of the nth request at a zone into the text, in place of what is there.
 fn show_line<Z: OpenedZone>(
     zone: &Z,
-    request: &Request<'_>,
+    spelled: &Spelled<'_>,
     number: usize,
     text: &mut Vec<u8>,
 ) -> Result<(), ReadingError>
-    ensures dates { OnOk result (has_dates (Z.total_at zone.now) (asked request.now) ≡ true) }
-    ensures text { OnOk result (text.new.items ≡ answer_text (shown_at (Z.total_at zone.now) (asked request.now))) }
-    ensures err { IfErr result (TellsReading (dates_refusal number (asked request.now) (Z.total_at zone.now))) }
+    requires { IsSpelled (asked spelled.now.request) spelled.now.value.now }
+    ensures dates { OnOk result (has_dates (Z.total_at zone.now) (asked spelled.now.request) ≡ true) }
+    ensures text { OnOk result (text.new.items ≡ answer_text (shown_at (Z.total_at zone.now) (asked spelled.now.request))) }
+    ensures err { IfErr result (TellsReading (dates_refusal number (asked spelled.now.request) (Z.total_at zone.now))) }
     ensures range { (t : ℤ) → IsOffset (Z.total_at zone.now t) }
 {
     text.clear();
-    match zone.show(request, text) {
+    match zone.show_spelled(&spelled.request, spelled.value.as_bytes(), text) {
         Ok(true) => Ok(()),
         Ok(false) => Err(ReadingError::Answer(AnswerError::Range(number))),
         Err(_) => Err(ReadingError::Answer(AnswerError::NoMemory)),

@@ -18,7 +18,7 @@ pub use fault::write_fault;
 pub use opened::OpenedZone;
 pub use request::{Request, cut_at_space, nanoseconds};
 pub use running::{run, run_surely, start};
-pub use showing::{add_instant, add_instants, show};
+pub use showing::{add_instant, add_instants, show, show_spelled};
 pub use to_2099::open_zone;
 pub use tz_lookup::ZoneFault;
 /// One line per request, in order. Contracts see the list of the lines' bytes.

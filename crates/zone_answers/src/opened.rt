@@ -7,6 +7,7 @@ ghost use Rattle.zone_answers.specs.Asked.{asked};
 ghost use Rattle.zone_answers.specs.Due.{answer_text, shown_at};
 ghost use Rattle.zone_answers.specs.Faults.{has_dates, zone_refusal};
 ghost use Rattle.zone_answers.specs.Found.{Reading, found_in_table};
+ghost use Rattle.zone_answers.specs.Requests.{IsSpelled};
 ghost use Rattle.zone_answers.specs.Told.{TellsReading};
 
 use crate::error::ReadingError;
@@ -44,6 +45,22 @@ pub trait OpenedZone: Drop {
         ensures line { IfOk result (λ has. IsTrue has →
             text.new.items ≡ text.old.items ++ answer_text (shown_at (total_at self.now) (asked request.now))) }
         ensures range { (t : ℤ) → IsOffset (total_at self.now t) };
+
+    /// The same, where the text is at hand that names the request's local time.
+    fn show_spelled(
+        &self,
+        request: &Request<'_>,
+        spelled: &[u8],
+        text: &mut Vec<u8>,
+    ) -> Result<bool, AllocError>
+        requires { IsSpelled (asked request.now) spelled.now }
+        ensures dates { IfOk result (λ has. has ≡ has_dates (total_at self.now) (asked request.now)) }
+        ensures line { IfOk result (λ has. IsTrue has →
+            text.new.items ≡ text.old.items ++ answer_text (shown_at (total_at self.now) (asked request.now))) }
+        ensures range { (t : ℤ) → IsOffset (total_at self.now t) }
+    {
+        self.show(request, text)
+    }
 }
 
 /// The zones that were asked for so far, found again by their names. Names that lead to one zone's lines share it.

@@ -1,10 +1,11 @@
 //! A request line.
-ghost use Rattle.std.specs.Prelude.{◌≡◌, ◌<◌, ◌≤◌, ◌^◌, true, length, slice_index, take, option_map, if◌then◌else◌, pos, neg_ℤ};
+ghost use Rattle.std.specs.Prelude.{◌≡◌, ◌<◌, ◌≤◌, ◌^◌, true, IfSome, length, slice_index, take, option_map, if◌then◌else◌, pos, neg_ℤ};
 ghost use Rattle.std.specs.Str.Parse.{digits_value};
 ghost use Rattle.std.specs.Char.{is_digit};
 ghost use Rattle.std.specs.List.{before_first, after_first, list_all, position_or_len};
+ghost use Rattle.civil_base.specs.Layout.{local_text};
 ghost use Rattle.civil_base.specs.LocalTimes.{local_time_in};
-ghost use Rattle.zone_answers.specs.Requests.{request_of, request_with, nanoseconds_in, is_negative, is_number, is_space, name_of, without_minus};
+ghost use Rattle.zone_answers.specs.Requests.{IsSpelled, request_of, request_with, nanoseconds_in, is_negative, is_number, is_space, name_of, without_minus};
 
 use civil_base::{PlainDateTime, read_local};
 use memchr::memchr;
@@ -35,22 +36,20 @@ impl<'a> Request<'a> {
     }
 
     /// Reads `at NAME N`, N being an optional `-` and 1 to 30 digits, or `local NAME TEXT`, TEXT being a local text.
-    #[tactic(auto, unfolding(crate::specs::Requests::request_of))]
     pub fn read(text: &'a str) -> Option<Request<'a>>
         ensures { option_map asked result ≡ request_of text.now }
     {
-        let (word, rest) = cut_at_space(text);
-        let (name, value) = cut_at_space(rest);
-        if name.is_empty() {
-            return None;
+        match Spelled::read(text) {
+            Some(spelled) => Some(spelled.request),
+            None => None,
         }
-        Request::of_words(word, name, value)
     }
 
     /// What the word `at` or `local` asks of the zone of that name by its value, if it is one.
     #[tactic(auto, unfolding(crate::specs::Requests::request_with))]
     pub fn of_words(word: &str, name: &'a str, value: &str) -> Option<Request<'a>>
-        ensures { option_map asked result ≡ request_with word.now name.now value.now }
+        ensures read { option_map asked result ≡ request_with word.now name.now value.now }
+        ensures spelled { IfSome result (λ request. IsSpelled (asked request) value.now) }
     {
         match word {
             "at" => Some(Request::At(name, nanoseconds(value)?)),
@@ -60,13 +59,59 @@ impl<'a> Request<'a> {
     }
 }
 
+/// A request, and the text that names its instant or its local time.
+#[derive(Clone, Copy)]
+pub(crate) struct Spelled<'a> {
+    pub(crate) request: Request<'a>,
+    pub(crate) value: &'a str,
+}
+
+impl<'a> Spelled<'a> {
+    ghost use Rattle.zone_answers.specs.Asked.{asked};
+
+    /// Reads a request as `Request::read` does.
+    #[tactic(auto, unfolding(crate::specs::Requests::request_of))]
+    pub(crate) fn read(text: &'a str) -> Option<Spelled<'a>>
+        ensures read { option_map (λ spelled. asked spelled.request) result ≡ request_of text.now }
+        ensures spelled { IfSome result (λ spelled. IsSpelled (asked spelled.request) spelled.value.now) }
+    {
+        let (word, rest) = cut_word(text);
+        let (name, value) = cut_at_space(rest);
+        if name.is_empty() {
+            return None;
+        }
+        match Request::of_words(word, name, value) {
+            Some(request) => Some(Spelled { request, value }),
+            None => None,
+        }
+    }
+}
+
 /// The text before the first space, and the text after it: none where there is no space.
-#[tactic(auto, using(std::proofs::lemmas::Str::lead_after_ascii))]
 pub fn cut_at_space(text: &str) -> (&str, &str)
     ensures front { result.0.now ≡ before_first is_space text.now }
     ensures back { result.1.now ≡ after_first is_space text.now }
 {
-    let end = space_in(text.as_bytes());
+    cut_at(text, space_in(text.as_bytes()))
+}
+
+/// The same, where the first space is likely to be among the first few bytes.
+fn cut_word(text: &str) -> (&str, &str)
+    ensures front { result.0.now ≡ before_first is_space text.now }
+    ensures back { result.1.now ≡ after_first is_space text.now }
+{
+    cut_at(text, near_space_in(text.as_bytes()))
+}
+
+/// The same at the place of the first space, or at the end where there is none.
+#[tactic(auto, using(std::proofs::lemmas::Str::lead_after_ascii))]
+fn cut_at(text: &str, end: usize) -> (&str, &str)
+    requires place { end ≡ position_or_len is_space text.now }
+    requires bound { end ≤ length text.now }
+    requires space { end < length text.now → slice_index text.now end ≡ 32 }
+    ensures front { result.0.now ≡ before_first is_space text.now }
+    ensures back { result.1.now ≡ after_first is_space text.now }
+{
     if end < text.len() {
         (&text[..end], &text[end + 1..])
     } else {
@@ -83,9 +128,24 @@ fn space_in(text: &[u8]) -> usize
     memchr(b' ', text).unwrap_or(text.len())
 }
 
+/// The same, byte by byte.
+fn near_space_in(text: &[u8]) -> usize
+    ensures place { result ≡ position_or_len is_space text.now }
+    ensures bound { result ≤ length text.now }
+    ensures space { result < length text.now → slice_index text.now result ≡ 32 }
+{
+    for i in 0..text.len() {
+        if text[i] == b' ' {
+            return i;
+        }
+    }
+    text.len()
+}
+
 /// The local time with that text.
 fn local_time(text: &str) -> Option<PlainDateTime>
-    ensures { result ≡ local_time_in text.now }
+    ensures value { result ≡ local_time_in text.now }
+    ensures spelled { IfSome result (λ time. local_text time ≡ text.now) }
 {
     read_local(text)
 }
@@ -166,5 +226,16 @@ fn is_number(digits: &[u8]) -> bool
 fn all_digits(text: &[u8]) -> bool
     ensures { result ≡ list_all (λ c. is_digit c 10) text.now }
 {
-    text.iter().all(|byte| char::from(*byte).is_digit(10))
+    // Each is looked at, whatever the others are, so that many are looked at at once.
+    let mut all = true;
+    for i in 0..text.len() {
+        all &= is_digit(text[i]);
+    }
+    all
+}
+
+fn is_digit(byte: u8) -> bool
+    ensures { result ≡ is_digit byte 10 }
+{
+    b'0' <= byte && byte <= b'9'
 }

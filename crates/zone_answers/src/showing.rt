@@ -1,13 +1,17 @@
 //! The text that answers a request.
-ghost use Rattle.std.specs.Prelude.{◌≡◌, ◌++◌, ◌∷◌, [], ℤ, true, false, IfOk, IfNone, IfSome, IsTrue, OnErr, OnOk, length, take};
+ghost use Rattle.std.specs.Prelude.{◌≡◌, ◌++◌, ◌∷◌, [], ℤ, true, false, IfOk, IfNone, IfSome, IsTrue, OnErr, OnOk, length, take, ◌≤◌};
 ghost use Rattle.tz_lookup.specs.InForce.{all_in_force, in_force, shown_of};
+ghost use Rattle.civil_base.specs.DateTimes.{instant, offset_of};
+ghost use Rattle.civil_base.specs.Instants.{local_at};
+ghost use Rattle.civil_base.specs.Layout.{local_text};
 ghost use Rattle.civil_base.specs.Ranges.{IsOffset};
 ghost use Rattle.zone_answers.specs.Asked.{asked};
+ghost use Rattle.zone_answers.specs.Requests.{IsSpelled};
 ghost use Rattle.zone_answers.specs.Due.{answer_text, shown_at, text_shown};
 ghost use Rattle.zone_answers.specs.Faults.{are_in_years, has_dates};
 
 use crate::request::Request;
-use civil_base::{OffsetDateTime, PlainDateTime, write_zoned};
+use civil_base::{OffsetDateTime, PlainDateTime, spaced_offset, write_local, write_zoned};
 use std::alloc::AllocError;
 use tz_lookup::{AllInstants, InstantsOf, OffsetDateTimeExt, TimeZone};
 
@@ -28,6 +32,29 @@ pub fn show<T: AllInstants>(
         Request::At(_, nanoseconds) => Ok(add_instant(zone, nanoseconds, text)?),
         Request::Local(_, local) => {
             add_instants(zone, local, text)?;
+            Ok(true)
+        }
+    }
+}
+
+/// The same, where the text is at hand that names the request's local time.
+#[tactic(auto, unfolding(crate::specs::Due::shown_at, crate::specs::Faults::has_dates))]
+pub fn show_spelled<T: AllInstants>(
+    zone: &T,
+    request: &Request<'_>,
+    spelled: &[u8],
+    text: &mut Vec<u8>,
+) -> Result<bool, AllocError>
+    requires { IsSpelled (asked request.now) spelled.now }
+    ensures dates { IfOk result (λ has. has ≡ has_dates (T.total_at zone.now) (asked request.now)) }
+    ensures line { IfOk result (λ has. IsTrue has →
+        text.new.items ≡ text.old.items ++ answer_text (shown_at (T.total_at zone.now) (asked request.now))) }
+    ensures range { (t : ℤ) → IsOffset (T.total_at zone.now t) }
+{
+    match request {
+        Request::At(_, nanoseconds) => Ok(add_instant(zone, nanoseconds, text)?),
+        Request::Local(_, local) => {
+            add_each(zone, local, spelled, text)?;
             Ok(true)
         }
     }
@@ -88,7 +115,9 @@ pub fn add_instants<T: AllInstants>(
     ensures err { OnErr result (text.new.items ≡ text.old.items) }
 {
     let before = text.len();
-    match add_each(zone, local, text) {
+    let mut spelled = [0; 30];
+    let end = write_local(local, &mut spelled);
+    match add_each(zone, local, &spelled[..end], text) {
         Ok(()) => Ok(()),
         Err(refused) => {
             text.truncate(before);
@@ -97,12 +126,14 @@ pub fn add_instants<T: AllInstants>(
     }
 }
 
-/// Adds them, some of them where memory runs out.
+/// Adds them, some of them where memory runs out. All begin with the text of the local time.
 fn add_each<T: AllInstants>(
     zone: &T,
     local: &PlainDateTime,
+    spelled: &[u8],
     text: &mut Vec<u8>,
 ) -> Result<(), AllocError>
+    requires { local_text local.now ≡ spelled.now }
     ensures added { OnOk result (text.new.items ≡ text.old.items ++ answer_text (all_in_force (T.total_at zone.now) local.now)) }
     ensures front { take (length text.old.items) text.new.items ≡ text.old.items }
 {
@@ -111,7 +142,7 @@ fn add_each<T: AllInstants>(
         if !is_first {
             add_bytes(b" | ", text)?;
         }
-        add_text(&date, text)?;
+        add_spelled(&date, spelled, text)?;
         is_first = false;
     }
     if is_first {
@@ -130,11 +161,32 @@ fn add_text(shown: &OffsetDateTime, text: &mut Vec<u8>) -> Result<(), AllocError
     add_bytes(&zoned[..end], text)
 }
 
+/// The same of a date-time whose local text is at hand.
+fn add_spelled(shown: &OffsetDateTime, spelled: &[u8], text: &mut Vec<u8>) -> Result<(), AllocError>
+    requires { local_text (local_at (instant shown.now) (offset_of shown.now)) ≡ spelled.now }
+    ensures added { OnOk result (text.new.items ≡ text.old.items ++ text_shown (shown_of shown.now)) }
+    ensures err { OnErr result (text.new.items ≡ text.old.items) }
+{
+    add_both(spelled, &spaced_offset(shown.offset()), text)
+}
+
 /// Adds some bytes.
 fn add_bytes(bytes: &[u8], text: &mut Vec<u8>) -> Result<(), AllocError>
     ensures added { OnOk result (text.new.items ≡ text.old.items ++ bytes.now) }
     ensures err { OnErr result (text.new.items ≡ text.old.items) }
 {
     text.extend_from_slice(bytes)?;
+    Ok(())
+}
+
+/// Adds some bytes, and others behind them.
+fn add_both(first: &[u8], second: &[u8], text: &mut Vec<u8>) -> Result<(), AllocError>
+    requires { length second.now ≤ 10 }
+    ensures added { OnOk result (text.new.items ≡ text.old.items ++ (first.now ++ second.now)) }
+    ensures err { OnErr result (text.new.items ≡ text.old.items) }
+{
+    text.reserve(first.len() + second.len())?;
+    text.extend_from_slice(first).unwrap();
+    text.extend_from_slice(second).unwrap();
     Ok(())
 }

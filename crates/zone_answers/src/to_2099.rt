@@ -8,7 +8,7 @@ ghost use Rattle.tz_lookup.specs.Sets.{schedule_of, IsAccepted};
 use crate::error::{AnswerError, ReadingError};
 use crate::opened::OpenedZone;
 use crate::request::Request;
-use crate::showing::show;
+use crate::showing::{show, show_spelled};
 use std::alloc::{AllocError, Global};
 use tz_lookup::{CompactFault, CompactSet, CompactTz, FixedTimespanSet, ZoneFault, compile_zone};
 use zone_table::Table;
@@ -65,5 +65,14 @@ impl OpenedZone for CompactSet {
 
     fn show(&self, request: &Request<'_>, text: &mut Vec<u8>) -> Result<bool, AllocError> {
         show(&CompactTz::new(self), request, text)
+    }
+
+    fn show_spelled(
+        &self,
+        request: &Request<'_>,
+        spelled: &[u8],
+        text: &mut Vec<u8>,
+    ) -> Result<bool, AllocError> {
+        show_spelled(&CompactTz::new(self), request, spelled, text)
     }
 }

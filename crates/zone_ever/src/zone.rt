@@ -5,7 +5,7 @@ ghost use Rattle.zone_ever.specs.Refused.{Refuses, find_fault};
 use std::alloc::{AllocError, Global};
 use tz_ever::{EverFault, EverSet, EverTz, laws};
 use tz_lookup::ZoneFault;
-use zone_answers::{AnswerError, OpenedZone, ReadingError, Request, show};
+use zone_answers::{AnswerError, OpenedZone, ReadingError, Request, show, show_spelled};
 use zone_run::{FindFault, FoundZone};
 use zone_spans::SpanFault;
 use zone_table::Table;
@@ -60,6 +60,15 @@ impl OpenedZone for EverZone {
 
     fn show(&self, request: &Request<'_>, text: &mut Vec<u8>) -> Result<bool, AllocError> {
         show(&EverTz::new(&self.set), request, text)
+    }
+
+    fn show_spelled(
+        &self,
+        request: &Request<'_>,
+        spelled: &[u8],
+        text: &mut Vec<u8>,
+    ) -> Result<bool, AllocError> {
+        show_spelled(&EverTz::new(&self.set), request, spelled, text)
     }
 }
 

@@ -17,13 +17,13 @@ returns-in_default-clause-err g c = not_text_refused _ c.args.number c.args.line
 pub returns-in_default-read-clause-err : goal.returns-in_default-read-clause-err
 returns-in_default-read-clause-err g c =
     let text = c.in-Some.ensures.text in
-    bad_request_refused _ c.args.number c.args.line.now c.in-Some.asked.now text.1 text.0 c.in_default-read.ensures
+    bad_request_refused _ c.args.number c.args.line.now c.in-Some.asked.now text.1 text.0 c.in_default-read.ensures.read
 
 pub returns-in_err-place-clause-err : goal.returns-in_err-place-clause-err
 returns-in_err-place-clause-err g c =
     let text = c.in-Some.ensures.text in
-    let request = c.in-Some-read.request in
-    let reads = asks request_of c.args.line.now c.in-Some.asked.now (asked request) text.1 text.0 c.in-Some-read.ensures in
+    let request = c.in-Some-read.spelled.request in
+    let reads = asks request_of c.args.line.now c.in-Some.asked.now (asked request) text.1 text.0 c.in-Some-read.ensures.read in
     let error = err_from_is_err_and c.from_residual.result c.from_residual.ensures.1 in
     rw (refusal_is (found_in_table g.Z.OpenedZone.read (table_of c.args.zones.now)) c.args.number c.args.line.now (asked request) reads, ← c.name.ensures, error.1, error.2)
     (zone_refused _ c.args.number (asked request) _ c.in_err-place.ensures.err)
@@ -34,8 +34,8 @@ zone_at-requires g c = placed_within _ c.place_of.new.self.opened c.in_ok-place.
 pub returns-clause-accepted : goal.returns-clause-accepted
 returns-clause-accepted g c =
     let text = c.in-Some.ensures.text in
-    let request = c.in-Some-read.request in
-    let reads = asks request_of c.args.line.now c.in-Some.asked.now (asked request) text.1 text.0 c.in-Some-read.ensures in
+    let request = c.in-Some-read.spelled.request in
+    let reads = asks request_of c.args.line.now c.in-Some.asked.now (asked request) text.1 text.0 c.in-Some-read.ensures.read in
     let there = placed_there _ c.place_of.new.self.opened c.in_ok-place.place _ c.zone_at.ensures c.in_ok-place.ensures.placed in
     let found = rw c.name.ensures at there in
     on_ok_weaker c.show_line.result (λ dates. dates_are (found_in_table g.Z.OpenedZone.read (table_of c.args.zones.now)) c.args.number c.args.line.now (asked request) _
@@ -44,8 +44,8 @@ returns-clause-accepted g c =
 pub returns-clause-text : goal.returns-clause-text
 returns-clause-text g c =
     let text = c.in-Some.ensures.text in
-    let request = c.in-Some-read.request in
-    let reads = asks request_of c.args.line.now c.in-Some.asked.now (asked request) text.1 text.0 c.in-Some-read.ensures in
+    let request = c.in-Some-read.spelled.request in
+    let reads = asks request_of c.args.line.now c.in-Some.asked.now (asked request) text.1 text.0 c.in-Some-read.ensures.read in
     let there = placed_there _ c.place_of.new.self.opened c.in_ok-place.place _ c.zone_at.ensures c.in_ok-place.ensures.placed in
     let found = rw c.name.ensures at there in
     on_ok_weaker c.show_line.result (λ text. text ∙ sym (line_is (found_in_table g.Z.OpenedZone.read (table_of c.args.zones.now)) c.args.line.now (asked request) _ reads found))
@@ -54,8 +54,8 @@ returns-clause-text g c =
 pub returns-clause-read_back : goal.returns-clause-read_back
 returns-clause-read_back g c =
     let text = c.in-Some.ensures.text in
-    let request = c.in-Some-read.request in
-    let reads = asks request_of c.args.line.now c.in-Some.asked.now (asked request) text.1 text.0 c.in-Some-read.ensures in
+    let request = c.in-Some-read.spelled.request in
+    let reads = asks request_of c.args.line.now c.in-Some.asked.now (asked request) text.1 text.0 c.in-Some-read.ensures.read in
     let there = placed_there _ c.place_of.new.self.opened c.in_ok-place.place _ c.zone_at.ensures c.in_ok-place.ensures.placed in
     let found = rw c.name.ensures at there in
     on_ok_weaker c.show_line.result (line_back (found_in_table g.Z.OpenedZone.read (table_of c.args.zones.now)) c.args.line.now (asked request) _ reads found
@@ -64,8 +64,8 @@ returns-clause-read_back g c =
 pub returns-clause-err : goal.returns-clause-err
 returns-clause-err g c =
     let text = c.in-Some.ensures.text in
-    let request = c.in-Some-read.request in
-    let reads = asks request_of c.args.line.now c.in-Some.asked.now (asked request) text.1 text.0 c.in-Some-read.ensures in
+    let request = c.in-Some-read.spelled.request in
+    let reads = asks request_of c.args.line.now c.in-Some.asked.now (asked request) text.1 text.0 c.in-Some-read.ensures.read in
     let there = placed_there _ c.place_of.new.self.opened c.in_ok-place.place _ c.zone_at.ensures c.in_ok-place.ensures.placed in
     let found = rw c.name.ensures at there in
     rw (dates_are (found_in_table g.Z.OpenedZone.read (table_of c.args.zones.now)) c.args.number c.args.line.now (asked request) _ reads found) c.show_line.ensures.err
