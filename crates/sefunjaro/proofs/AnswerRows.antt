@@ -10,7 +10,7 @@ use Rattle.zone_spans.specs.Entries.{Entry}
 use Rattle.zone_spans.specs.declared.span.FixedTimespan.{FixedTimespan}
 use Rattle.tz_zone.specs.declared.set.FixedTimespanSet.{FixedTimespanSet}
 use Rattle.zone_tzif_core.specs.Zones.{KindValue}
-use Rattle.sefunjaro.specs.Answers.{end_second, last_second, least_second, second_of_change, IsAnswer, IsAnswered, IsHeldOn}
+use Rattle.sefunjaro.specs.Answers.{begun_at, end_second, ended_at, least_second, IsAnswer, IsAnswered, IsHeldOn}
 use Rattle.sefunjaro.specs.Changes.{next_after, settled_changes}
 use Rattle.sefunjaro.specs.Clocks.{clock_at}
 use Rattle.sefunjaro.specs.Rooms.{filled}
@@ -89,17 +89,11 @@ entry second = (second, span second)
 abbrev set : FixedTimespanSet
 set = record { name = []; first = span (pos 1); others = entry (pos 10) ∷ entry (pos 20) ∷ entry (pos 20) ∷ entry (pos 269243913601) ∷ [] }
 
-abbrev begins : ℤ → ℤ
-begins second = last_second least_second (filter (λ (e : Entry). int_le e.0 second) set.others)
-
-abbrev ends : ℤ → ℤ
-ends second = second_of_change (next_after set second)
-
 -- before the first entry, at it, before the next, and from it on
-worked_begins : map begins (pos 9 ∷ pos 10 ∷ pos 19 ∷ pos 20 ∷ []) ≡ least_second ∷ pos 10 ∷ pos 10 ∷ pos 20 ∷ []
+worked_begins : map (begun_at set) (pos 9 ∷ pos 10 ∷ pos 19 ∷ pos 20 ∷ []) ≡ least_second ∷ pos 10 ∷ pos 10 ∷ pos 20 ∷ []
 worked_begins = refl
 
-worked_ends : map ends (pos 9 ∷ pos 10 ∷ pos 19 ∷ pos 20 ∷ pos 269243913601 ∷ []) ≡ pos 10 ∷ pos 20 ∷ pos 20 ∷ end_second ∷ end_second ∷ []
+worked_ends : map (ended_at set) (pos 9 ∷ pos 10 ∷ pos 19 ∷ pos 20 ∷ pos 269243913601 ∷ []) ≡ pos 10 ∷ pos 20 ∷ pos 20 ∷ end_second ∷ end_second ∷ []
 unfolding next_after settled_changes
 worked_ends = refl
 

@@ -12,7 +12,7 @@ use Rattle.zone_spans.specs.Entries.{Entry}
 use Rattle.tz_zone.specs.Sets.{shift_of, shifts_of}
 use Rattle.tz_zone.specs.Spans.{shift_at, IsCut}
 use Rattle.tz_zone.specs.declared.set.FixedTimespanSet.{FixedTimespanSet}
-use Rattle.sefunjaro.specs.Answers.{end_second, last_second, least_second, second_of_change, up_to_end, IsBetween}
+use Rattle.sefunjaro.specs.Answers.{begun_at, end_second, ended_at, last_second, least_second, second_of_change, up_to_end, IsBetween}
 use Rattle.sefunjaro.specs.AnswerSteps.{begin_second, IsAround, IsOfSpan, IsToldBySpan}
 use Rattle.sefunjaro.specs.Changes.{change_of, changes_of, next_after, settled_changes}
 use Rattle.sefunjaro.specs.declared.answer.Answer.{Answer}
@@ -45,7 +45,7 @@ last_passed test least (e ∷ es) (suc k) l before after =
     ∙ one_on least e es k
 
 begun : (set : FixedTimespanSet) (second : ℤ) (k : ℕ) → IsCut (shifts_of set) k second
-    → last_second least_second (filter (λ entry. int_le entry.0 second) set.others) ≡ begin_second least_second (shifts_of set) k
+    → begun_at set second ≡ begin_second least_second (shifts_of set) k
 begun set second k cut =
     let size = length-map set.others shift_of in
     last_passed (λ s. int_le s second) least_second set.others k (omega (arith, cut.within, size))
@@ -98,7 +98,7 @@ pub between : (set : FixedTimespanSet) (second : ℤ) (answer : Answer) (around 
 between set second answer around is from until =
     let cut = is.throughout second is.begun is.lasts in record {
       from = from ∙ is.from ∙ sym (begun set second around.span cut);
-      until = until ∙ ⊎_elim {C = around.until ≡ second_of_change (next_after set second)}
+      until = until ∙ ⊎_elim {C = around.until ≡ ended_at set second}
           (λ l. is.until l ∙ next_is set second around.span cut l)
           (λ l. is.at_end l ∙ none_is set second around.span cut l)
           (cases_lt around.span (length (shifts_of set)));

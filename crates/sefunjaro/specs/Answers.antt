@@ -62,10 +62,17 @@ last_second second (entry ∷ entries) = last_second entry.0 entries
 abbrev pub least_second : ℤ
 least_second = negsuc 9223372036854775807
 
--- the seconds that are told begin with the last entry of a set at or before this one, and end with the next change after it
+-- the second of the last entry of a set at or before this one, and that of the next change after it
+abbrev pub begun_at : FixedTimespanSet → ℤ → ℤ
+begun_at set second = last_second least_second (filter (λ entry. int_le entry.0 second) set.others)
+
+abbrev pub ended_at : FixedTimespanSet → ℤ → ℤ
+ended_at set second = second_of_change (next_after set second)
+
+-- the seconds that are told lie between these two
 pub record IsBetween (set : FixedTimespanSet) (second : ℤ) (answer : Answer) : Type 0 where
-  pub from : answer.from ≡ last_second least_second (filter (λ entry. int_le entry.0 second) set.others)
-  pub until : answer.until ≡ second_of_change (next_after set second)
+  pub from : answer.from ≡ begun_at set second
+  pub until : answer.until ≡ ended_at set second
 
 -- They begin with this one, and end where another kind of time comes; where none comes up to the year 8307, past that. Outside the years
 -- -4000 to 8000 it is this second alone.
