@@ -66,14 +66,14 @@ all_in_front ds zero h = tt
 all_in_front [] (suc i) h = tt
 all_in_front (d ∷ ds) (suc i) h = (h.0, all_in_front ds i h.1)
 
-pub front_step : (ds : List ℕ) (i size : ℕ) → is_number ds ≡ true → i < length ds → i < 18 → size ≡ digits_value 10 (take i ds)
+pub front_step : (ds : List ℕ) (i size : ℕ) → is_number ds ≡ true → i < length ds → i < 19 → size ≡ digits_value 10 (take i ds)
     → IsStep (2 ^ 64) ds i size
 front_step ds i size is l few same =
     let all = digits_from ds (and_parts (nat_lt 0 (length ds) && nat_le (length ds) 30) _ is).1 in
     let below = digits_value-lt 10 (take (i + 1) ds) (all_in_front ds (i + 1) all) in
-    let long : length (take (i + 1) ds) ≤ 18 = omega (arith, length-take {A = ℕ}) in
-    let most : 10 ^ length (take (i + 1) ds) ≤ 10 ^ 18 = pow-le-pow_right (lit< tt) long in
-    let room : 10 ^ 18 ≤ 2 ^ 64 = lit≤ tt in
+    let long : length (take (i + 1) ds) ≤ 19 = omega (arith, length-take {A = ℕ}) in
+    let most : 10 ^ length (take (i + 1) ds) ≤ 10 ^ 19 = pow-le-pow_right (lit< tt) long in
+    let room : 10 ^ 19 ≤ 2 ^ 64 = lit≤ tt in
     step_below (2 ^ 64) ds i size is l same (omega (arith, below, most, room))
 
 -- where the first space was looked for, the place of it, or the end where there is none

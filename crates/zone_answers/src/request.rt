@@ -170,7 +170,7 @@ fn size_of(digits: &[u8]) -> u128
     ensures value { result ≡ digits_value 10 digits.now }
     ensures bound { result < 2 ^ 127 }
 {
-    let first = digits.len().min(18);
+    let first = digits.len().min(19);
     let mut size = u128::from(front_of(digits, first));
     for i in first..digits.len() {
         size = 10 * size + u128::from(digits[i] - b'0');
@@ -178,11 +178,11 @@ fn size_of(digits: &[u8]) -> u128
     size
 }
 
-/// The number that the first digits write, at most 18 of them.
+/// The number that the first digits write, at most 19 of them.
 fn front_of(digits: &[u8], count: usize) -> u64
     requires digits { is_number digits.now ≡ true }
     requires within { count ≤ length digits.now }
-    requires few { count ≤ 18 }
+    requires few { count ≤ 19 }
     ensures { result ≡ digits_value 10 (take count digits.now) }
 {
     let mut front = 0;
