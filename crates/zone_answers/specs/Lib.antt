@@ -2,6 +2,7 @@
 pub mod Requests
 pub mod Asked
 pub mod Found
+pub mod Opened
 pub mod Faults
 pub mod FaultLines
 pub mod Told
@@ -21,4 +22,3 @@ pub mod FoundLaws
 pub mod EndLaws
 -- Words of private clauses.
 pub mod Tasks
-pub mod Opened

@@ -65,7 +65,7 @@ pub trait OpenedZone: Drop {
 
 /// The zones that were asked for so far, found again by their names. Names that lead to one zone's lines share it.
 #[derive(Drop)]
-pub(crate) struct Zones<'t, 'r, Z> {
+pub struct Zones<'t, 'r, Z> {
     alloc: Global,
     table: &'t Table,
     opened: Items<Z>,
@@ -90,7 +90,7 @@ impl<'t, 'r, Z: OpenedZone> Zones<'t, 'r, Z> {
     ghost use Rattle.zone_answers.specs.Told.{TellsReading};
 
     /// No zone of this table was asked for yet.
-    pub(crate) fn new(alloc: Global, table: &'t Table) -> Zones<'t, 'r, Z>
+    pub fn new(alloc: Global, table: &'t Table) -> Zones<'t, 'r, Z>
         requires { IsBoundedTable table.now }
         ensures table { table_of result ≡ table.now }
         ensures opened { AreOpened Z.OpenedZone result }
@@ -115,12 +115,27 @@ impl<'t, 'r, Z: OpenedZone> Zones<'t, 'r, Z> {
         if let Some(place) = self.last_place(name) {
             return Ok(place);
         }
-        let place = match self.places.get(name) {
-            Some(place) => *place,
-            None => self.open(name, number)?,
-        };
+        let place = self.place_for(name, number)?;
         self.last = Some(Last { name, place });
         Ok(place)
+    }
+
+    /// The same of a name whose text needn't live on. After an error all zones stand where they did.
+    ///
+    /// # Errors
+    ///
+    /// Why the zone can't be asked, or want of memory.
+    pub fn place_for(&mut self, name: &str, number: usize) -> Result<usize, ReadingError>
+        requires { AreOpened Z.OpenedZone self.old }
+        ensures placed { IfOk result (IsPlaced Z.OpenedZone (table_of self.old) self.new.opened name.now) }
+        ensures err { IfErr result (TellsReading (zone_refusal number (found_in_table Z.read (table_of self.old) name.now))) }
+        ensures same { table_of self.new ≡ table_of self.old }
+        ensures opened { AreOpened Z.OpenedZone self.new }
+    {
+        match self.places.get(name) {
+            Some(place) => Ok(*place),
+            None => self.open(name, number),
+        }
     }
 
     /// Where the zone of the name stands, if it was asked for last.
@@ -141,8 +156,8 @@ impl<'t, 'r, Z: OpenedZone> Zones<'t, 'r, Z> {
         requires { AreOpened Z.OpenedZone self.old }
         ensures placed { IfOk result (IsPlaced Z.OpenedZone (table_of self.old) self.new.opened name.now) }
         ensures err { IfErr result (TellsReading (zone_refusal number (found_in_table Z.read (table_of self.old) name.now))) }
-        ensures same { OnOk result (table_of self.new ≡ table_of self.old) }
-        ensures opened { OnOk result (AreOpened Z.OpenedZone self.new) }
+        ensures same { table_of self.new ≡ table_of self.old }
+        ensures opened { AreOpened Z.OpenedZone self.new }
     {
         let stem = stem_of(self.table, name);
         let place = self.stem_place(stem, number)?;
@@ -155,8 +170,8 @@ impl<'t, 'r, Z: OpenedZone> Zones<'t, 'r, Z> {
         requires { AreOpened Z.OpenedZone self.old }
         ensures placed { IfOk result (IsPlaced Z.OpenedZone (table_of self.old) self.new.opened stem.now) }
         ensures err { IfErr result (TellsReading (zone_refusal number (found_in_table Z.read (table_of self.old) stem.now))) }
-        ensures same { OnOk result (table_of self.new ≡ table_of self.old) }
-        ensures opened { OnOk result (AreOpened Z.OpenedZone self.new) }
+        ensures same { table_of self.new ≡ table_of self.old }
+        ensures opened { AreOpened Z.OpenedZone self.new }
     {
         match self.places.get(stem) {
             Some(place) => Ok(*place),
@@ -169,8 +184,8 @@ impl<'t, 'r, Z: OpenedZone> Zones<'t, 'r, Z> {
         requires { AreOpened Z.OpenedZone self.old }
         ensures placed { IfOk result (IsPlaced Z.OpenedZone (table_of self.old) self.new.opened stem.now) }
         ensures err { IfErr result (TellsReading (zone_refusal number (found_in_table Z.read (table_of self.old) stem.now))) }
-        ensures same { OnOk result (table_of self.new ≡ table_of self.old) }
-        ensures opened { OnOk result (AreOpened Z.OpenedZone self.new) }
+        ensures same { table_of self.new ≡ table_of self.old }
+        ensures opened { AreOpened Z.OpenedZone self.new }
     {
         let zone = Z::open(self.alloc, self.table, stem, number)?;
         let place = self.opened.len();
@@ -180,7 +195,7 @@ impl<'t, 'r, Z: OpenedZone> Zones<'t, 'r, Z> {
     }
 
     /// The zone at a place.
-    pub(crate) fn zone_at(&self, place: usize) -> &Z
+    pub fn zone_at(&self, place: usize) -> &Z
         requires { place < length self.now.opened }
         ensures { slice_get self.now.opened place ≡ Some result.now }
     {

@@ -61,9 +61,11 @@ impl<'a> Request<'a> {
 
 /// A request, and the text that names its instant or its local time.
 #[derive(Clone, Copy)]
-pub(crate) struct Spelled<'a> {
-    pub(crate) request: Request<'a>,
-    pub(crate) value: &'a str,
+pub struct Spelled<'a> {
+    /// What is asked.
+    pub request: Request<'a>,
+    /// The text of its number, or of its local time.
+    pub value: &'a str,
 }
 
 impl<'a> Spelled<'a> {
@@ -71,7 +73,7 @@ impl<'a> Spelled<'a> {
 
     /// Reads a request as `Request::read` does.
     #[tactic(auto, unfolding(crate::specs::Requests::request_of))]
-    pub(crate) fn read(text: &'a str) -> Option<Spelled<'a>>
+    pub fn read(text: &'a str) -> Option<Spelled<'a>>
         ensures read { option_map (λ spelled. asked spelled.request) result ≡ request_of text.now }
         ensures spelled { IfSome result (λ spelled. IsSpelled (asked spelled.request) spelled.value.now) }
     {
