@@ -120,7 +120,8 @@ impl<'t, 'r, Z: OpenedZone> Zones<'t, 'r, Z> {
         Ok(place)
     }
 
-    /// The same of a name whose text needn't live on. After an error all zones stand where they did.
+    /// Where the zone stands that the nth request names, whose text needn't live on. It is opened where it wasn't asked for yet; after an
+    /// error all zones stand where they did.
     ///
     /// # Errors
     ///

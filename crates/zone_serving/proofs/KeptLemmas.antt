@@ -1,5 +1,5 @@
 -- What is kept once a zone was put in.
-use Rattle.std.proofs.Common.{◌≡◌, ℕ, ℤ, Bool, true, false, ◌||◌, List, Some, cond, refl, sym, ap, subst, ◌∙◌}
+use Rattle.std.proofs.Common.{◌≡◌, ℕ, Bool, true, false, ◌||◌, List, Some, cond, refl, sym, ap, subst, ◌∙◌}
 use Rattle.std.specs.Prelude.{IfSome, OnErr, OnOk, Result, Ok, Err, is_some}
 use Rattle.std.specs.declared.alloc.AllocError.{AllocError}
 use Rattle.std.specs.Cmp.Lexicographic.{bytes_decides}
@@ -8,9 +8,7 @@ use Rattle.std.specs.Str.{bytes_eq}
 use Rattle.owned.specs.Keyed.{text_cmp}
 use Rattle.owned.specs.KeyedLaws.{get-inserted}
 use Rattle.zone_command.specs.Offsets.{offset_in}
-use Rattle.zone_answers.specs.Found.{Reading, found_in_table}
-use Rattle.zone_serving.specs.Kept.{AreOf, is_kept}
-use Rattle.zone_table.specs.declared.table.Table.{Table}
+use Rattle.zone_serving.specs.Kept.{is_kept}
 
 -- nothing is kept of no names
 pub none_known : {Z : Type 0} → (Is : List ℕ → Z → Type 0) (m : FinMap text_cmp Z) → m ≡ empty → (n : List ℕ) → IfSome (get m n) (Is n)
@@ -50,13 +48,3 @@ pub now_kept : {Z : Type 0} → (m : FinMap text_cmp Z) (name : List ℕ) (z : Z
 now_kept m name z =
     either_true (is_some (offset_in name)) (contains_key (insert m name z) name)
     (ap is_some (get-inserted m name name z ∙ ap (λ b. cond b (Some z) (get m name)) ((bytes_decides name name).1 refl)))
-
--- ---- of a table
-pub none_of : {Z : Type 0} → (read : Reading) (total : Z → ℤ → ℤ) (table : Table) (m : FinMap text_cmp Z) → m ≡ empty → AreOf read total table m
-none_of read total table m none = none_known (λ name zone. found_in_table read table name ≡ Ok (total zone)) m none
-
-pub put_of : {Z : Type 0} → (read : Reading) (total : Z → ℤ → ℤ) (table : Table) (m new : FinMap text_cmp Z) (name : List ℕ) (z : Z)
-    (r : Result (Unit {0}) AllocError) → OnOk r (new ≡ insert m name z) → OnErr r (new ≡ m) → found_in_table read table name ≡ Ok (total z)
-    → AreOf read total table m → AreOf read total table new
-put_of read total table m new name z r ok err is known =
-    put_in (λ other zone. found_in_table read table other ≡ Ok (total zone)) m new name z r ok err is known

@@ -1,8 +1,11 @@
 -- Names whose zones are at hand.
-use Rattle.std.specs.Prelude.{◌≡◌, ℕ, ℤ, Bool, ◌||◌, List, Ok, is_some, IfSome}
-use Rattle.std.specs.FinMap.{FinMap, contains_key, get}
+use Rattle.std.specs.Prelude.{◌≡◌, ℕ, Bool, ◌||◌, List, is_some}
+use Rattle.std.specs.FinMap.{FinMap, contains_key}
 use Rattle.owned.specs.Keyed.{text_cmp}
-use Rattle.zone_answers.specs.Found.{Reading, found_in_table}
+use Rattle.zone_answers.specs.Found.{found_in_table}
+use Rattle.zone_answers.specs.Opened.{AreOpened, table_of}
+use Rattle.zone_answers.specs.declared.opened.OpenedZone.{Ghosts}
+use Rattle.zone_answers.specs.declared.opened.Zones.{Zones}
 use Rattle.zone_command.specs.Offsets.{offset_in}
 use Rattle.zone_table.specs.declared.table.Table.{Table}
 
@@ -10,6 +13,7 @@ use Rattle.zone_table.specs.declared.table.Table.{Table}
 abbrev pub is_kept : {Z : Type 0} → FinMap text_cmp Z → List ℕ → Bool
 is_kept zones name = is_some (offset_in name) || contains_key zones name
 
--- each zone has the totals that its name finds in the table
-abbrev pub AreOf : {Z : Type 0} → Reading → (Z → ℤ → ℤ) → Table → FinMap text_cmp Z → Type 0
-AreOf read total table zones = (name : List ℕ) → IfSome (get zones name) (λ zone. found_in_table read table name ≡ Ok (total zone))
+-- opened zones, each name finding what it finds in the table
+pub record AreOf {Z : Type 0} (kind : Ghosts Z) (table : Table) (zones : Zones Z) : Type 0 where
+  pub opened : AreOpened kind zones
+  pub found : (name : List ℕ) → found_in_table kind.read (table_of zones) name ≡ found_in_table kind.read table name

@@ -1,5 +1,6 @@
 -- Definitions: what public clauses say.
 pub mod Kept
+pub mod KeptLaws
 pub mod Requests
 pub mod Streams
 pub mod Told

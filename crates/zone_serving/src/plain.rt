@@ -1,25 +1,24 @@
 //! Requests of `zone_answers`, answered as they come: to 2099 as that program does, from 2100 on by what goes on for ever.
-ghost use Rattle.std.proofs.Props.{props};
 ghost use Rattle.std.specs.Prelude.{◌≡◌, Err};
 ghost use Rattle.sefunjaro.specs.Sources.{table_in};
 ghost use Rattle.zone_answers.specs.Asked.{asked};
 ghost use Rattle.zone_answers.specs.Faults.{zone_refusal};
-ghost use Rattle.zone_answers.specs.Found.{Found, to_2099};
+ghost use Rattle.zone_answers.specs.Found.{Found};
+ghost use Rattle.zone_answers.specs.Requests.{IsSpelled};
 ghost use Rattle.zone_answers.specs.Told.{TellsReading};
 ghost use Rattle.zone_command.specs.Refusals.{IsTold};
-ghost use Rattle.zone_ever.specs.Readings.{for_ever};
 ghost use Rattle.zone_serving.specs.Kept.{AreOf};
+ghost use Rattle.zone_serving.specs.KeptLaws.{AreOf-prop};
 ghost use Rattle.zone_serving.specs.Plain.{found_answer, is_to_2099, read_answer, shown_answer};
 ghost use Rattle.zone_serving.specs.Told.{IsPut};
 
 use crate::source::unknown_words;
 use crate::source_words::schedule_words;
 use crate::words::refused;
-use owned::TextMap;
 use sefunjaro::OpenSource;
 use std::alloc::{AllocError, Global};
 use tz_lookup::CompactSet;
-use zone_answers::{AnswerError, OpenedZone, ReadingError, Request};
+use zone_answers::{AnswerError, OpenedZone, ReadingError, Request, Spelled, Zones};
 use zone_command::{Refusal, refusal_of};
 use zone_ever::EverZone;
 use zone_pieces::Responder;
@@ -73,17 +72,18 @@ fn refusal_for(
 fn show<Z: OpenedZone>(
     alloc: Global,
     zone: &Z,
-    request: &Request<'_>,
+    spelled: &Spelled<'_>,
     text: &mut Vec<u8>,
 ) -> Result<(), Refusal>
-    ensures { IsPut (shown_answer (asked request.now) (Z.total_at zone.now)) text.new.items result }
+    requires { IsSpelled (asked spelled.now.request) spelled.now.value.now }
+    ensures { IsPut (shown_answer (asked spelled.now.request) (Z.total_at zone.now)) text.new.items result }
 {
     text.clear();
-    match zone.show(request, text) {
+    match zone.show_spelled(&spelled.request, spelled.value.as_bytes(), text) {
         Ok(true) => Ok(()),
         Ok(false) => Err(refusal_of(
             alloc,
-            request.name(),
+            spelled.request.name(),
             b"a date lies outside the years -9999 to 9999",
         )),
         Err(_) => Err(Refusal::NoMemory),
@@ -94,25 +94,18 @@ fn show<Z: OpenedZone>(
 fn answer<Z: OpenedZone>(
     alloc: Global,
     source: &OpenSource,
-    zones: &mut TextMap<Z>,
-    request: &Request<'_>,
+    zones: &mut Zones<'_, '_, Z>,
+    spelled: &Spelled<'_>,
     text: &mut Vec<u8>,
 ) -> Result<(), Refusal>
-    requires { AreOf Z.read Z.total_at (table_in source.now) zones.old }
-    ensures known { AreOf Z.read Z.total_at (table_in source.now) zones.new }
-    ensures answer { IsPut (read_answer Z.read (table_in source.now) (asked request.now)) text.new.items result }
+    requires spelled { IsSpelled (asked spelled.now.request) spelled.now.value.now }
+    requires known { AreOf Z.OpenedZone (table_in source.now) zones.old }
+    ensures known { AreOf Z.OpenedZone (table_in source.now) zones.new }
+    ensures answer { IsPut (read_answer Z.read (table_in source.now) (asked spelled.now.request)) text.new.items result }
 {
-    let name = request.name();
-    if let Some(zone) = zones.get(name) {
-        return show(alloc, zone, request, text);
-    }
-    match Z::open(alloc, source.table(), name, 1) {
-        Ok(zone) => {
-            let shown = show(alloc, &zone, request, text);
-            zones.insert(alloc, name, zone)?;
-            shown
-        }
-        Err(error) => Err(refusal_for(alloc, source, request, error)),
+    match zones.place_for(spelled.request.name(), 1) {
+        Ok(place) => show(alloc, zones.zone_at(place), spelled, text),
+        Err(error) => Err(refusal_for(alloc, source, &spelled.request, error)),
     }
 }
 
@@ -120,19 +113,19 @@ fn answer<Z: OpenedZone>(
 #[derive(Drop)]
 pub(crate) struct PlainStream<'s> {
     source: &'s OpenSource,
-    today: TextMap<CompactSet>,
-    ever: TextMap<EverZone>,
+    today: Zones<'s, 's, CompactSet>,
+    ever: Zones<'s, 's, EverZone>,
     text: Vec<u8>,
     alloc: Global,
-    ghost of_today: { AreOf to_2099 ⟦<CompactSet as OpenedZone>⟧.total_at (table_in source.now) today } by { Prim.hlevel props },
-    ghost of_ever: { AreOf for_ever ⟦<EverZone as OpenedZone>⟧.total_at (table_in source.now) ever } by { Prim.hlevel props },
+    ghost of_today: { AreOf ⟦<CompactSet as OpenedZone>⟧ (table_in source.now) today } by { AreOf-prop _ _ today },
+    ghost of_ever: { AreOf ⟦<EverZone as OpenedZone>⟧ (table_in source.now) ever } by { AreOf-prop _ _ ever },
 }
 
 impl<'s> PlainStream<'s> {
     ghost use Rattle.std.specs.Prelude.{◌≡◌, Some};
     ghost use Rattle.sefunjaro.specs.Sources.{table_in};
     ghost use Rattle.zone_answers.specs.Asked.{asked};
-    ghost use Rattle.zone_answers.specs.Requests.{request_of};
+    ghost use Rattle.zone_answers.specs.Requests.{IsSpelled, request_of};
     ghost use Rattle.zone_serving.specs.Plain.{asked_answer, plain_answer, plain_replies};
     ghost use Rattle.zone_serving.specs.Told.{IsPut};
 
@@ -142,24 +135,25 @@ impl<'s> PlainStream<'s> {
     {
         PlainStream {
             source,
-            today: TextMap::new(alloc),
-            ever: TextMap::new(alloc),
+            today: Zones::new(alloc, source.table()),
+            ever: Zones::new(alloc, source.table()),
             text: Vec::new(alloc),
             alloc,
         }
     }
 
     /// Puts the answer to a request into the text.
-    fn answer(&mut self, request: &Request<'_>) -> Result<(), Refusal>
+    fn answer(&mut self, spelled: &Spelled<'_>) -> Result<(), Refusal>
+        requires { IsSpelled (asked spelled.now.request) spelled.now.value.now }
         ensures source { self.new.source.now ≡ self.old.source.now }
-        ensures answer { IsPut (asked_answer (table_in self.old.source.now) (Some (asked request.now))) self.new.text.items result }
+        ensures answer { IsPut (asked_answer (table_in self.old.source.now) (Some (asked spelled.now.request))) self.new.text.items result }
     {
-        if is_to_2099(request) {
+        if is_to_2099(&spelled.request) {
             answer(
                 self.alloc,
                 self.source,
                 &mut self.today,
-                request,
+                spelled,
                 &mut self.text,
             )
         } else {
@@ -167,7 +161,7 @@ impl<'s> PlainStream<'s> {
                 self.alloc,
                 self.source,
                 &mut self.ever,
-                request,
+                spelled,
                 &mut self.text,
             )
         }
@@ -178,8 +172,8 @@ impl<'s> PlainStream<'s> {
         ensures source { self.new.source.now ≡ self.old.source.now }
         ensures answer { IsPut (asked_answer (table_in self.old.source.now) (request_of text.now)) self.new.text.items result }
     {
-        match Request::read(text) {
-            Some(request) => self.answer(&request),
+        match Spelled::read(text) {
+            Some(spelled) => self.answer(&spelled),
             None => Err(refused(self.alloc, FORM)),
         }
     }
