@@ -35,16 +35,6 @@ impl<'a> Request<'a> {
         }
     }
 
-    /// Reads `at NAME N`, N being an optional `-` and 1 to 30 digits, or `local NAME TEXT`, TEXT being a local text.
-    pub fn read(text: &'a str) -> Option<Request<'a>>
-        ensures { option_map asked result ≡ request_of text.now }
-    {
-        match Spelled::read(text) {
-            Some(spelled) => Some(spelled.request),
-            None => None,
-        }
-    }
-
     /// What the word `at` or `local` asks of the zone of that name by its value, if it is one.
     #[tactic(auto, unfolding(crate::specs::Requests::request_with))]
     pub fn of_words(word: &str, name: &'a str, value: &str) -> Option<Request<'a>>
@@ -71,7 +61,7 @@ pub struct Spelled<'a> {
 impl<'a> Spelled<'a> {
     ghost use Rattle.zone_answers.specs.Asked.{asked};
 
-    /// Reads a request as `Request::read` does.
+    /// Reads `at NAME N`, N being an optional `-` and 1 to 30 digits, or `local NAME TEXT`, TEXT being a local text.
     #[tactic(auto, unfolding(crate::specs::Requests::request_of))]
     pub fn read(text: &'a str) -> Option<Spelled<'a>>
         ensures read { option_map (λ spelled. asked spelled.request) result ≡ request_of text.now }
